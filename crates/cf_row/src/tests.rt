@@ -1,0 +1,128 @@
+use super::*;
+use std::alloc::Global;
+use std::test::Fail;
+
+fn attrs(alloc: Global, kinds: &[(&str, Kind)]) -> Result<Vec<Attr>, Memory> {
+    let mut attrs = Vec::new(alloc);
+    for (name, kind) in kinds {
+        attrs.push(Attr {
+            name: Name::new(alloc, name)?,
+            kind: *kind,
+        })?;
+    }
+    Ok(attrs)
+}
+
+#[test]
+fn schemas_have_a_time_different_names_and_short_strings(rt: HostRuntime) -> Result<(), Fail> {
+    let alloc = rt.alloc();
+    let ts = ("ts", Kind::U64);
+    let many = [("a", Kind::U8); 25];
+    let table: [(&[(&str, Kind)], Option<SchemaFault>); 7] = [
+        (&[ts], None),
+        (&[("a", Kind::Bytes(1)), ts, ("b", Kind::Bytes(16))], None),
+        (&[], Some(SchemaFault::NoTs)),
+        (&[("ts", Kind::U32)], Some(SchemaFault::NoTs)),
+        (&[ts, ts], Some(SchemaFault::NameTwice)),
+        (&[("a", Kind::Bytes(17)), ts], Some(SchemaFault::BadSize)),
+        (&many, Some(SchemaFault::TooMany)),
+    ];
+    for (kinds, fault) in table {
+        let answer = Schema::new(attrs(alloc, kinds)?);
+        assert_eq!(rt; answer.err(), fault, "{} attributes", kinds.len());
+    }
+    Ok(())
+}
+
+fn bytes_of(first: u8) -> Value {
+    let mut bytes = [0; 16];
+    bytes[0] = first;
+    Value::Raw { len: 2, bytes }
+}
+
+fn atom(attr: u8, op: Op, low: Value, high: Value) -> Atom {
+    Atom {
+        attr,
+        op,
+        low,
+        high,
+    }
+}
+
+// the conjunctions of the first and of the last two atoms
+fn two_of(alloc: Global, atoms: &[Atom; 3]) -> Result<Expr, Memory> {
+    let mut conjunctions = Vec::new(alloc);
+    conjunctions.push(Conjunction::new(atoms[..1].to_vec(alloc)?))?;
+    conjunctions.push(Conjunction::new(atoms[1..].to_vec(alloc)?))?;
+    Ok(Expr::new(conjunctions))
+}
+
+#[test]
+fn an_expression_holds_where_a_conjunction_does(rt: HostRuntime) -> Result<(), Fail> {
+    let alloc = rt.alloc();
+    let kinds = [("a", Kind::U8), ("ts", Kind::U64), ("m", Kind::Bytes(2))];
+    let schema = Schema::new(attrs(alloc, &kinds)?)?;
+    let expr = two_of(
+        alloc,
+        &[
+            atom(0, Op::Lt, Value::Num(2), Value::Num(2)),
+            atom(1, Op::Within, Value::Num(5), Value::Num(7)),
+            atom(2, Op::Ne, bytes_of(9), bytes_of(9)),
+        ],
+    )?;
+    assert!(rt; is_of_schema(&schema, &expr));
+    assert!(rt; is_of_schema(&schema.copy(alloc)?, &expr.copy(alloc)?));
+    for (a, ts, first, answer) in [
+        (1, 0, 9, true),
+        (2, 0, 9, false),
+        (2, 5, 8, true),
+        (2, 7, 8, true),
+        (2, 8, 8, false),
+        (2, 7, 9, false),
+    ] {
+        let values = [Value::Num(a), Value::Num(ts), bytes_of(first)].to_vec(alloc)?;
+        let row = Row::new(3, values).copy(alloc)?;
+        assert!(rt; fits(&schema, &row));
+        assert_eq!(rt; row.num(), 3);
+        assert_eq!(rt; schema.attrs().len(), 3);
+        assert_eq!(rt; row.get(&schema, 2), bytes_of(first));
+        assert_eq!(rt; row.time(&schema), ts);
+        assert_eq!(rt; holds(&schema, &expr, &row), answer, "at {a} {ts} {first}");
+    }
+    Ok(())
+}
+
+#[test]
+fn a_row_fits_with_values_of_each_kind(rt: HostRuntime) -> Result<(), Fail> {
+    let alloc = rt.alloc();
+    let schema = Schema::new(attrs(alloc, &[("m", Kind::Bytes(2)), ("ts", Kind::U64)])?)?;
+    let mut long = [0; 16];
+    long[2] = 1;
+    let raw = |len| Value::Raw { len, bytes: long };
+    for (values, answer) in [
+        ([bytes_of(1), Value::Num(0)].as_slice(), true),
+        (&[raw(2), Value::Num(0)], false),
+        (&[raw(3), Value::Num(0)], false),
+        (&[Value::Num(0), Value::Num(0)], false),
+        (&[bytes_of(1), bytes_of(1)], false),
+        (&[bytes_of(1)], false),
+    ] {
+        let row = Row::new(0, values.to_vec(alloc)?);
+        assert_eq!(rt; fits(&schema, &row), answer, "{values:?}");
+    }
+    Ok(())
+}
+
+#[test]
+fn packets_have_their_time_and_lengths(rt: HostRuntime) -> Result<(), Fail> {
+    let alloc = rt.alloc();
+    let schema = packet_schema(alloc)?;
+    let mut text = String::new(alloc);
+    for attr in schema.attrs() {
+        text.push_str(attr.name.as_str())?;
+        text.push_str(" ")?;
+    }
+    assert_eq!(rt; text.as_str(), "ts caplen len ");
+    assert_eq!(rt; Name::from_ascii(alloc, b"k0")?.as_str(), "k0");
+    Ok(())
+}
