@@ -1,0 +1,4 @@
+pub mod Spelled
+pub mod Logs
+pub mod OneWriter
+pub mod Orders

@@ -1,0 +1,4 @@
+pub mod History
+pub mod Order
+pub mod Tails
+pub mod Laws

@@ -1,0 +1,29 @@
+-- What the devices in memory show.
+use Rattle.std.specs.Prelude.{◌≡◌, ℕ, ◌==◌, [], Bool, ◌||◌, ◌&&◌, not, List, length}
+use Rattle.cf_outside.specs.Files.{File}
+use Rattle.cf_outside.specs.Script.{Scripted, fails_next, script_of}
+
+-- `most` is the most bytes that a read moves
+pub record ShelfShown : Type 0 where
+  pub files : List File
+  pub rest : List ℕ
+  pub most : ℕ
+  pub script : Scripted
+
+-- `room` is what is left of the sink's room, and `most` the most bytes that a write moves
+pub record SinkShown : Type 0 where
+  pub held : List ℕ
+  pub room : ℕ
+  pub most : ℕ
+  pub script : Scripted
+
+-- whether a write of that piece fails: its call is to fail, or there is a byte and no room
+abbrev pub refuses : SinkShown → List ℕ → Bool
+refuses sink piece = fails_next sink.script || ((sink.room == 0) && not (length piece == 0))
+
+-- a sink of that room, before the first call
+pub record IsFresh (room most : ℕ) (failing : List ℕ) (sink : SinkShown) : Type 0 where
+  pub held : sink.held ≡ []
+  pub room_is : sink.room ≡ room
+  pub most_is : sink.most ≡ most
+  pub script : sink.script ≡ script_of failing

@@ -1,0 +1,49 @@
+// Files that are opened by name and read to their end.
+ghost use Rattle.std.specs.Prelude.{◌≡◌, ℕ, List};
+ghost use Rattle.std.specs.declared.option.Option.{Option};
+ghost use Rattle.std.specs.Io.{ReadsAtMost};
+ghost use Rattle.std.specs.Io.KnownBytes.{ReadConsumes};
+ghost use Rattle.cf_outside.specs.Causes.{HasCause, HasOpenCause};
+ghost use Rattle.cf_outside.specs.Files.{File, Opens};
+
+/// A device has failed.
+#[derive(Clone, Copy, Debug, PartialEq, Eq)]
+pub struct Failed;
+
+/// Why a file was not opened.
+#[derive(Clone, Copy, Debug, PartialEq, Eq)]
+pub enum OpenFault {
+    /// The name has no file. This is no fault of the device.
+    Missing,
+    /// The device has failed.
+    Failed,
+    /// Want of memory, which is no fault of the device.
+    Memory,
+}
+
+/// Files by name, of which one at a time is open.
+pub trait Shelf {
+    /// The files by name, where the shelf tells them.
+    ghost files: { Self → Option (List File) };
+
+    /// What is left of the opened file, where the shelf tells it.
+    ghost rest: { Self → Option (List ℕ) };
+
+    /// How often the device has failed. The count stops at 2^64 - 1.
+    ghost faults: { Self → ℕ };
+
+    /// Opens the file of that name at its first byte. After a refusal the file that was open stays
+    /// open.
+    fn open(&mut self, name: &str) -> Result<(), OpenFault>
+        ensures files { files self.new ≡ files self.old }
+        ensures opens { Opens (files self.old) name.now (rest self.old) (rest self.new) result }
+        ensures cause { HasOpenCause (faults self.old) (faults self.new) result };
+
+    /// Moves bytes of the opened file to the front of the buffer, and answers how many. An answer
+    /// of 0 into a buffer that isn't empty is the end of the file.
+    fn read(&mut self, buf: &mut [u8]) -> Result<usize, Failed>
+        ensures files { files self.new ≡ files self.old }
+        ensures bound { ReadsAtMost result buf.new }
+        ensures bytes { ReadConsumes (rest self.old) (rest self.new) result buf.new }
+        ensures cause { HasCause (faults self.old) (faults self.new) result };
+}

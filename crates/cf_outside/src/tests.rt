@@ -1,0 +1,89 @@
+// Each device once, by tables.
+use crate::{
+    Failed, FileShelf, FreeGate, Gate, MemShelf, MemSink, OpenFault, Shelf, Sink, SteadyShelf,
+    SteadySink,
+};
+use std::fs;
+use std::test::Fail;
+
+#[test]
+fn mem_shelf_reads_the_newest_file(rt: HostRuntime) -> Result<(), Fail> {
+    let mut shelf = MemShelf::new(rt.alloc(), vec![in rt.alloc(); 1, 5]?, 7);
+    shelf.put("capture", b"an older file")?;
+    shelf.put("setup", b"another file")?;
+    shelf.put("capture", b"0123456789abcdef")?;
+    let opens = [
+        ("capture", Err(OpenFault::Failed)),
+        ("absent", Err(OpenFault::Missing)),
+        ("capture", Ok(())),
+    ];
+    for (name, wanted) in opens {
+        assert_eq!(rt; shelf.open(name), wanted);
+    }
+    let reads = [Some("0123456"), None, Some("789abcd"), Some("ef"), Some("")];
+    for wanted in reads {
+        let mut buf = [0u8; 16];
+        match shelf.read(&mut buf) {
+            Ok(count) => assert_eq!(rt; Some(&buf[..count]), wanted.map(|text| text.as_bytes())),
+            Err(Failed) => assert_eq!(rt; wanted, None),
+        }
+    }
+    Ok(())
+}
+
+#[test]
+fn mem_sink_keeps_what_it_takes(rt: HostRuntime) -> Result<(), Fail> {
+    let mut sink = MemSink::new(rt.alloc(), 12, vec![in rt.alloc(); 2]?, 5)?;
+    let writes = [
+        ("0123456789", Ok(5)),
+        ("abcdefghij", Err(Failed)),
+        ("abc", Ok(3)),
+        ("ABCDEFGHIJ", Ok(4)),
+        ("x", Err(Failed)),
+        ("", Ok(0)),
+    ];
+    for (piece, wanted) in writes {
+        assert_eq!(rt; sink.write(piece.as_bytes()), wanted);
+    }
+    assert_eq!(rt; sink.held(), b"01234abcABCD".as_slice());
+    Ok(())
+}
+
+#[test]
+fn steady_devices_never_fail(rt: HostRuntime) -> Result<(), Fail> {
+    let mut shelf = SteadyShelf::new(rt.alloc());
+    shelf.put("setup", b"0123456789")?;
+    assert_eq!(rt; shelf.open("absent"), Err(OpenFault::Missing));
+    assert_eq!(rt; shelf.open("setup"), Ok(()));
+    let mut buf = [0u8; 8];
+    assert_eq!(rt; shelf.read(&mut buf), Ok(8));
+    assert_eq!(rt; shelf.read(&mut buf), Ok(2));
+    assert_eq!(rt; &buf, b"89234567");
+    assert_eq!(rt; SteadySink::new().write(b"0123456789"), Ok(10));
+    FreeGate.before_append(0, 0);
+    FreeGate.after_ask(0);
+    Ok(())
+}
+
+#[test]
+fn file_shelf_reads_a_file(rt: HostRuntime) -> Result<(), Fail> {
+    let name = "file_shelf_reads_a_file.txt";
+    fs::write(&rt, name, "0123456789")?;
+    let mut shelf = FileShelf::new(&rt);
+    assert_eq!(rt;
+        shelf.open("file_shelf_reads_no_file.txt"),
+        Err(OpenFault::Missing)
+    );
+    assert_eq!(rt; shelf.open(name), Ok(()));
+    let mut buf = [0u8; 8];
+    assert_eq!(rt; shelf.read(&mut buf), Ok(8));
+    assert_eq!(rt; shelf.read(&mut buf), Ok(2));
+    assert_eq!(rt; &buf, b"89234567");
+    assert_eq!(rt; shelf.read(&mut buf), Ok(0));
+
+    // A folder can be opened, and not read.
+    assert_eq!(rt; shelf.open("."), Ok(()));
+    assert_eq!(rt; shelf.read(&mut buf), Err(Failed));
+    fs::remove_file(&rt, name)?;
+    Ok(())
+}

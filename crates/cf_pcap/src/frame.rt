@@ -1,0 +1,36 @@
+// A captured frame.
+ghost use Rattle.std.specs.Prelude.{◌≡◌, ◌+◌};
+
+use crate::records::HEAD;
+use std::marker::Model;
+
+/// A frame as it was captured.
+#[derive(Debug, Drop)]
+pub struct Frame {
+    /// Its number in the capture, from 0.
+    pub num: u32,
+    /// When it was captured, in nanoseconds since the epoch.
+    pub ts: u64,
+    /// How many of its bytes were captured.
+    pub caplen: u32,
+    /// Its length on the wire, in bytes.
+    pub len: u32,
+    pub bytes: Vec<u8>,
+}
+
+impl Model for Frame {
+    ghost use Rattle.cf_pcap.specs.Capture.{Captured};
+
+    ghost Value = { Captured };
+
+    ghost view = { λ f. record { num = f.num; ts = f.ts; caplen = f.caplen; len = f.len; bytes = f.bytes.items } };
+}
+
+impl Frame {
+    // The length of its record in the capture.
+    pub(crate) fn record_len(&self) -> usize
+        ensures { result ≡ 16 + self.now.caplen }
+    {
+        HEAD + self.caplen as usize
+    }
+}

@@ -1,0 +1,14 @@
+pub mod Taking
+pub mod Writing
+pub mod OrderText
+pub mod Printing
+pub mod Deciding
+pub mod Leaving
+pub mod Answering
+pub mod Preparing
+pub mod Loading
+pub mod Reporting
+pub mod SetupSize
+pub mod ScanLaws
+pub mod SetupLaws
+pub mod Digits

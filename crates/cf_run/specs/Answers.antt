@@ -1,0 +1,54 @@
+-- What the program's status says of what it wrote.
+use Rattle.std.specs.Prelude.{◌≡◌, ◌⊎◌, ℕ, List, ◌++◌, Option}
+use Rattle.std.specs.Io.KnownBytes.{Appends, Keeps}
+use Rattle.cf_outside.specs.Files.{File}
+use Rattle.cf_run.specs.Due.{IsDue}
+use Rattle.cf_run.specs.declared.status.Status.{Status}
+use Rattle.cf_run.specs.declared.status.Status.TheVariants.{Done, Words, Setup, Capture, ReadFault, WriteFault, Full, Nodes, Memory, NoFile}
+
+-- the number of a status, with which the program ends
+abbrev pub number_of : Status → ℕ
+number_of Done = 0
+number_of Words = 1
+number_of (Setup line code) = 2
+number_of (Capture at code) = 3
+number_of ReadFault = 4
+number_of WriteFault = 5
+number_of Full = 6
+number_of Nodes = 7
+number_of Memory = 8
+number_of NoFile = 9
+
+-- the answers that the words and files don't decide
+abbrev pub Yields : Status → Type 0
+Yields status = (status ≡ Memory) ⊎ (status ≡ ReadFault) ⊎ (status ≡ WriteFault)
+
+-- the text that was due is at the end of the sink
+pub record Wrote (files : List File) (words : List (List ℕ)) (status : Status) (held now : Option (List ℕ)) : Type 0 where
+  pub text : List ℕ
+  pub due : IsDue files words status text
+  pub written : Appends held now text
+
+-- a front of the text that was due is there
+pub record WroteSome (files : List File) (words : List (List ℕ)) (held now : Option (List ℕ)) : Type 0 where
+  pub status : Status
+  pub front : List ℕ
+  pub rest : List ℕ
+  pub due : IsDue files words status (front ++ rest)
+  pub written : Appends held now front
+
+abbrev pub Answers : List File → List (List ℕ) → Status → Option (List ℕ) → Option (List ℕ) → Type 0
+Answers files words Done held now = Wrote files words Done held now
+Answers files words Words held now = Wrote files words Words held now
+Answers files words (Setup line code) held now = Wrote files words (Setup line code) held now
+Answers files words (Capture at code) held now = Wrote files words (Capture at code) held now
+Answers files words NoFile held now = Wrote files words NoFile held now
+Answers files words ReadFault held now = Keeps held now
+Answers files words Memory held now = Keeps held now
+Answers files words WriteFault held now = WroteSome files words held now
+Answers files words Full held now = ⊥
+Answers files words Nodes held now = ⊥
+
+-- whatever the words and files call for comes, unless memory ran out or a device failed
+abbrev pub IsDecided : List File → List (List ℕ) → Status → Type 0
+IsDecided files words status = (called : Status) (text : List ℕ) → IsDue files words called text → (status ≡ called) ⊎ Yields status

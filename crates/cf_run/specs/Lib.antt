@@ -1,0 +1,13 @@
+pub mod Command
+pub mod Plain
+pub mod SetupText
+pub mod Scan
+pub mod Report
+pub mod Printed
+pub mod Work
+pub mod Due
+pub mod Answers
+pub mod Devices
+pub mod Left
+pub mod Parts
+pub mod Stops

@@ -1,0 +1,23 @@
+//! The top call: from the words of a command to the bytes that are written.
+//!
+//! `run` reads the setup and the capture that its words name, and writes the report, or the line of a refusal. Its contract
+//! is the headline of the program: see `specs/Work.antt` for what a report tells, `specs/Due.antt` for what words and files
+//! call for, and `specs/Left.antt` for what is left of the files that were opened.
+#![tactic(auto)]
+
+mod command;
+mod devices;
+mod parse;
+mod plain;
+mod prepare;
+mod program;
+mod report;
+mod setup;
+mod status;
+#[cfg(test)]
+mod tests;
+mod top;
+
+pub use program::start;
+pub use status::Status;
+pub use top::{run, run_steadily};

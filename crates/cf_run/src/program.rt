@@ -1,0 +1,55 @@
+// The program over the real devices.
+ghost use Rattle.std.specs.Prelude.{◌≤◌};
+
+use crate::{Status, run};
+use cf_outside::{FileShelf, FreeGate, StdSink};
+use cf_row::Memory;
+use std::alloc::{AllocError, Global};
+use std::io::ErrorKind;
+use std::rt::{Env, Files};
+use std::{env, io};
+
+// Runs over the files of the system and standard output.
+fn run_words<R: Files + Print>(rt: &R, alloc: Global, words: &[&str]) -> Status {
+    let mut shelf = FileShelf::new(rt);
+    let mut sink = StdSink::new(io::writer(rt));
+    run(rt, alloc, words, &mut shelf, &mut sink, &FreeGate)
+}
+
+fn texts(alloc: Global, owned: &[String]) -> Result<Vec<&str>, Memory> {
+    let mut words = Vec::with_capacity(alloc, owned.len())?;
+    for word in owned {
+        words.push(word.as_str())?;
+    }
+    Ok(words)
+}
+
+// Runs with the words after the program's name. Words that are no text are no command.
+fn run_args<R: Files + Print + Env + AllocGlobal>(rt: &R) -> Result<Status, Memory> {
+    let mut owned = Vec::new(rt.alloc());
+    match env::args(rt) {
+        Ok(args) => {
+            for word in args.skip(1) {
+                owned.push(word)?;
+            }
+        }
+        Err(error) => {
+            if error.kind() == ErrorKind::OutOfMemory {
+                return Err(AllocError);
+            }
+        }
+    }
+    let words = texts(rt.alloc(), &owned)?;
+    Ok(run_words(rt, rt.alloc(), &words))
+}
+
+/// Does the work of the program, and gives the number with which it is to end. Where there is no memory for the words
+/// this is that of want of memory.
+pub fn start<R: Files + Print + Env + AllocGlobal>(rt: &R) -> u8
+    ensures { result ≤ 9 }
+{
+    match run_args(rt) {
+        Ok(status) => status.number(),
+        Err(_) => Status::Memory.number(),
+    }
+}

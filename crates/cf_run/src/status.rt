@@ -1,0 +1,48 @@
+// How the program ends.
+ghost use Rattle.std.specs.Prelude.{◌≡◌};
+ghost use Rattle.cf_run.specs.Answers.{number_of};
+
+/// How the work ended.
+#[derive(Clone, Copy, Debug, PartialEq, Eq)]
+pub enum Status {
+    /// The report was written.
+    Done,
+    /// The words are no command.
+    Words,
+    /// The setup has a fault, first in that line, by the rule of that code.
+    Setup { line: u32, code: u8 },
+    /// The capture has a fault, at that record, of that code.
+    Capture { at: u32, code: u8 },
+    /// The shelf failed.
+    ReadFault,
+    /// The sink failed; what was due may be written in part.
+    WriteFault,
+    /// There are more records than the log may hold.
+    Full,
+    /// A writer has too few nodes.
+    Nodes,
+    /// Want of memory. Nothing was written.
+    Memory,
+    /// No file has the name of the setup or of the capture.
+    NoFile,
+}
+
+impl Status {
+    /// The number with which the program ends.
+    pub fn number(self) -> u8
+        ensures { result ≡ number_of self }
+    {
+        match self {
+            Status::Done => 0,
+            Status::Words => 1,
+            Status::Setup { .. } => 2,
+            Status::Capture { .. } => 3,
+            Status::ReadFault => 4,
+            Status::WriteFault => 5,
+            Status::Full => 6,
+            Status::Nodes => 7,
+            Status::Memory => 8,
+            Status::NoFile => 9,
+        }
+    }
+}

@@ -1,0 +1,253 @@
+ghost use Rattle.std.specs.Prelude.{◌<◌};
+
+use super::*;
+use cf_outside::{Failed, FreeGate, MemShelf, MemSink, OpenFault, Shelf, SteadyShelf, SteadySink};
+use cf_row::Memory;
+use std::alloc::Global;
+use std::test::Fail;
+
+const WORDS: [&str; 6] = ["run", "--setup", "s", "--writers", "1", "c"];
+
+const SETUP: &[u8] = b"schema packet\nask big list len>=100\n";
+
+// A file header with no record.
+const HEADER: [u8; 24] = [
+    0xd4, 0xc3, 0xb2, 0xa1, 2, 0, 4, 0, 0, 0, 0, 0, 0, 0, 0, 0, 0xff, 0xff, 0, 0, 1, 0, 0, 0,
+];
+
+// The header and two records.
+fn two_frames(alloc: Global) -> Result<Vec<u8>, Memory> {
+    let mut capture = HEADER.to_vec(alloc)?;
+    capture.extend_from_slice(&[1, 0, 0, 0, 0x20, 0xa1, 7, 0])?;
+    capture.extend_from_slice(&[2, 0, 0, 0, 0x3c, 0, 0, 0, 0xaa, 0xbb])?;
+    capture.extend_from_slice(&[2, 0, 0, 0, 0, 0, 0, 0])?;
+    capture.extend_from_slice(&[1, 0, 0, 0, 0x64, 0, 0, 0, 0xcc])?;
+    Ok(capture)
+}
+
+const REPORT: &[u8] = b"records 2\nask big list 1: 1\norder 0*2\n";
+
+fn shelf_of(
+    alloc: Global,
+    failing: &[u64],
+    most: usize,
+    setup: &[u8],
+    capture: &[u8],
+) -> Result<MemShelf, Memory>
+    requires { 0 < most }
+{
+    let mut shelf = MemShelf::new(alloc, failing.to_vec(alloc)?, most);
+    shelf.put("s", setup)?;
+    shelf.put("c", capture)?;
+    Ok(shelf)
+}
+
+#[test]
+fn words_and_files_call_for_an_answer(rt: HostRuntime) -> Result<(), Fail> {
+    let alloc = rt.alloc();
+    let capture = two_frames(alloc)?;
+    assert_eq!(rt; capture.len(), 59);
+    let none: &[u8] = b"file: none of that name\n";
+    let setup_fault: &[u8] = b"setup: line 0 code 2\n";
+    let no_words: &[u8] = b"words: not a command\n";
+    let table: [(&[&str], &[u8], &[u8], u8, &[u8]); 12] = [
+        (&WORDS, SETUP, &capture, 0, REPORT),
+        (
+            &WORDS,
+            SETUP,
+            &HEADER,
+            0,
+            b"records 0\nask big list 0:\norder\n",
+        ),
+        (
+            &WORDS,
+            b"schema packet\nask a list ts!=007",
+            &capture,
+            0,
+            b"records 2\nask a list 2: 0 1\norder 0*2\n",
+        ),
+        (&[], SETUP, &capture, 1, no_words),
+        (&["run", "c"], SETUP, &capture, 1, no_words),
+        (
+            &["run", "--setup", "x", "--writers", "1", "c"],
+            SETUP,
+            &capture,
+            9,
+            none,
+        ),
+        (
+            &["run", "--setup", "s", "--writers", "1", "x"],
+            SETUP,
+            &capture,
+            9,
+            none,
+        ),
+        (
+            &WORDS,
+            SETUP,
+            &[0x1f, 0x8b, 8, 0],
+            3,
+            b"capture: record 0 code 1\n",
+        ),
+        (
+            &WORDS,
+            SETUP,
+            &capture[..58],
+            3,
+            b"capture: record 0 code 1\n",
+        ),
+        (
+            &WORDS,
+            b"schema packet\nask a list len>1\nask b list len>1\n",
+            &capture,
+            2,
+            setup_fault,
+        ),
+        (
+            &WORDS,
+            b"schema packet\r\nask a list len>1\r\n",
+            &capture,
+            2,
+            setup_fault,
+        ),
+        (
+            &WORDS,
+            b"schema packet\nask a  list len>1\n",
+            &capture,
+            2,
+            setup_fault,
+        ),
+    ];
+    for (words, setup, capture, number, text) in table {
+        let mut shelf = shelf_of(alloc, &[], 7, setup, capture)?;
+        let mut sink = MemSink::new(alloc, 100, Vec::new(alloc), 5)?;
+        let status = run(&rt, alloc, words, &mut shelf, &mut sink, &FreeGate);
+        assert_eq!(rt; status.number(), number, "of {text:?}");
+        assert_eq!(rt; sink.held(), text);
+    }
+    Ok(())
+}
+
+#[test]
+fn a_shelf_that_fails_stops_the_run_with_nothing_written(rt: HostRuntime) -> Result<(), Fail> {
+    let alloc = rt.alloc();
+    let capture = two_frames(alloc)?;
+    // An open of each file and the reads of 7 bytes up to its end: 8 calls and 11.
+    for call in 1..=20u64 {
+        let mut shelf = shelf_of(alloc, &[call], 7, SETUP, &capture)?;
+        let mut sink = MemSink::new(alloc, 100, Vec::new(alloc), 5)?;
+        let status = run(&rt, alloc, &WORDS, &mut shelf, &mut sink, &FreeGate);
+        let (number, text) = if call < 20 {
+            (4, b"".as_slice())
+        } else {
+            (0, REPORT)
+        };
+        assert_eq!(rt; status.number(), number, "call {call}");
+        assert_eq!(rt; sink.held(), text);
+    }
+    Ok(())
+}
+
+#[test]
+fn a_sink_that_fails_holds_a_front_of_the_text(rt: HostRuntime) -> Result<(), Fail> {
+    let alloc = rt.alloc();
+    let capture = two_frames(alloc)?;
+    for call in 1..=8u64 {
+        let mut shelf = shelf_of(alloc, &[], 7, SETUP, &capture)?;
+        let mut sink = MemSink::new(alloc, 100, [call].to_vec(alloc)?, 5)?;
+        let status = run(&rt, alloc, &WORDS, &mut shelf, &mut sink, &FreeGate);
+        assert_eq!(rt; status, Status::WriteFault, "call {call}");
+        let written = REPORT.get(..5 * (call as usize - 1)).ok_or("a front")?;
+        assert_eq!(rt; sink.held(), written);
+    }
+    let mut shelf = shelf_of(alloc, &[], 7, SETUP, &capture)?;
+    let mut sink = MemSink::new(alloc, 100, [1].to_vec(alloc)?, 5)?;
+    let status = run(&rt, alloc, &["run"], &mut shelf, &mut sink, &FreeGate);
+    assert_eq!(rt; status, Status::WriteFault, "the line of a refusal");
+    Ok(())
+}
+
+#[test]
+fn a_long_text_is_written_in_pieces(rt: HostRuntime) -> Result<(), Fail> {
+    let alloc = rt.alloc();
+    let mut capture = HEADER.to_vec(alloc)?;
+    for _ in 0..100 {
+        capture.extend_from_slice(&[0; 12])?;
+        capture.extend_from_slice(&[200, 0, 0, 0])?;
+    }
+    for (call, size) in [(1, 0), (2, 256), (3, 332)] {
+        let mut shelf = shelf_of(alloc, &[], 1000, SETUP, &capture)?;
+        let mut sink = MemSink::new(alloc, 1000, [call].to_vec(alloc)?, 1000)?;
+        let status = run(&rt, alloc, &WORDS, &mut shelf, &mut sink, &FreeGate);
+        assert_eq!(rt; sink.held().len(), size, "{status:?}");
+    }
+    Ok(())
+}
+
+// Keeps the names that were opened.
+#[derive(Drop)]
+struct Listing {
+    shelf: MemShelf,
+    opened: String,
+}
+
+impl Shelf for Listing {
+    ghost use Rattle.std.specs.declared.option.Option.TheVariants.{None};
+
+    ghost files = { λ _. None };
+
+    ghost rest = { λ _. None };
+
+    ghost faults = { λ s. s.shelf.script.faults };
+
+    fn open(&mut self, name: &str) -> Result<(), OpenFault> {
+        if self.opened.push_str(name).is_err() {
+            return Err(OpenFault::Memory);
+        }
+        self.shelf.open(name)
+    }
+
+    fn read(&mut self, buf: &mut [u8]) -> Result<usize, Failed> {
+        self.shelf.read(buf)
+    }
+}
+
+#[test]
+fn no_other_file_is_opened(rt: HostRuntime) -> Result<(), Fail> {
+    let alloc = rt.alloc();
+    let capture = two_frames(alloc)?;
+    let table: [(&[&str], &[u8], &str); 3] = [
+        (&WORDS, SETUP, "sc"),
+        (&WORDS, b"", "s"),
+        (&["s", "c"], SETUP, ""),
+    ];
+    for (words, setup, opened) in table {
+        let mut shelf = Listing {
+            shelf: shelf_of(alloc, &[], 7, setup, &capture)?,
+            opened: String::new(alloc),
+        };
+        let mut sink = SteadySink::new();
+        let _ = run(&rt, alloc, words, &mut shelf, &mut sink, &FreeGate);
+        assert_eq!(rt; shelf.opened.as_str(), opened);
+    }
+    Ok(())
+}
+
+#[test]
+fn steady_devices_leave_nothing_but_memory_to_fail(rt: HostRuntime) -> Result<(), Fail> {
+    let alloc = rt.alloc();
+    let capture = two_frames(alloc)?;
+    let mut shelf = SteadyShelf::new(alloc);
+    shelf.put("s", SETUP)?;
+    shelf.put("c", &capture)?;
+    let status = run_steadily(
+        &rt,
+        alloc,
+        &WORDS,
+        &mut shelf,
+        &mut SteadySink::new(),
+        &FreeGate,
+    );
+    assert_eq!(rt; status, Status::Done);
+    Ok(())
+}

@@ -1,0 +1,82 @@
+// The top call.
+ghost use Rattle.std.specs.Prelude.{◌≡◌, ◌⊎◌, ◌≤◌, ℕ, List, IfSome};
+ghost use Rattle.std.specs.Io.KnownBytes.{Appends};
+ghost use Rattle.cf_outside.specs.Causes.{Rose};
+ghost use Rattle.cf_run.specs.Answers.{Answers, Yields, IsDecided};
+ghost use Rattle.cf_run.specs.Command.{NoCommand};
+ghost use Rattle.cf_run.specs.Due.{refusal_line};
+ghost use Rattle.cf_run.specs.Left.{Leaves};
+ghost use Rattle.cf_run.specs.Parts.{texts};
+ghost use Rattle.cf_run.specs.Work.{IsLawful};
+
+use crate::Status;
+use crate::devices::write_all;
+use crate::prepare::prepare;
+use cf_outside::{Gate, Shelf, Sink, SteadyShelf, SteadySink};
+use std::alloc::Global;
+
+/// Does the work that the words ask for: reads the setup and the capture from the shelf, and writes the report, or
+/// the line of a refusal, to the sink.
+pub fn run<R, F: Shelf, K: Sink, G: Gate>(
+    _rt: &R,
+    alloc: Global,
+    words: &[&str],
+    shelf: &mut F,
+    sink: &mut K,
+    _gate: &G,
+) -> Status
+    // What was written is what the words and the files call for; with `Done` it is the report of a legal history.
+    ensures written { IfSome (F.files shelf.old) (λ files. Answers files (texts words.now) result (K.held sink.old) (K.held sink.new)) }
+
+    // What they call for comes, unless memory ran out or a device failed.
+    ensures decided { IfSome (F.files shelf.old) (λ files. IsDecided files (texts words.now) result) }
+    ensures complete { IfSome (F.files shelf.old) (λ files. IsLawful files (texts words.now) → (result ≡ Status.Done) ⊎ Yields result) }
+
+    // Words that are no command, whatever the shelf tells.
+    ensures words { result ≡ Status.Words → NoCommand (texts words.now) × Appends (K.held sink.old) (K.held sink.new) (refusal_line Status.Words) }
+    ensures no_words { NoCommand (texts words.now) → (result ≡ Status.Words) ⊎ (result ≡ Status.Memory) ⊎ (result ≡ Status.WriteFault) }
+    ensures no_words_no_file { NoCommand (texts words.now) → shelf.new ≡ shelf.old }
+
+    // No call changes the files, and a file is read no further than its longest lawful form.
+    ensures files { F.files shelf.new ≡ F.files shelf.old }
+    ensures left { IfSome (F.files shelf.old) (λ files. Leaves files (texts words.now) result (F.rest shelf.old) (F.rest shelf.new)) }
+
+    // All text is made before the first write.
+    ensures no_memory_no_write { result ≡ Status.Memory → sink.new ≡ sink.old }
+    ensures no_read_no_write { result ≡ Status.ReadFault → sink.new ≡ sink.old }
+
+    // A device's fault comes only where its count rose, and no count falls.
+    ensures read_fault { result ≡ Status.ReadFault → Rose (F.faults shelf.old) (F.faults shelf.new) }
+    ensures write_fault { result ≡ Status.WriteFault → Rose (K.faults sink.old) (K.faults sink.new) }
+    ensures shelf_count { F.faults shelf.old ≤ F.faults shelf.new }
+    ensures sink_count { K.faults sink.old ≤ K.faults sink.new }
+
+    // Nothing is refused for want of room or of nodes.
+    ensures no_capacity { result ≡ Status.Full → ⊥ }
+    ensures no_nodes { result ≡ Status.Nodes → ⊥ }
+{
+    let draft = match prepare(alloc, words, shelf) {
+        Ok(draft) => draft,
+        Err(status) => return status,
+    };
+    match write_all(sink, draft.text.as_bytes()) {
+        Ok(()) => draft.status,
+        Err(_) => Status::WriteFault,
+    }
+}
+
+/// The same over devices that never fail: lawful words and files give `Done`, or want of memory.
+pub fn run_steadily<R, G: Gate>(
+    rt: &R,
+    alloc: Global,
+    words: &[&str],
+    shelf: &mut SteadyShelf,
+    sink: &mut SteadySink,
+    gate: &G,
+) -> Status
+    ensures complete { IsLawful shelf.old.files (texts words.now) → (result ≡ Status.Done) ⊎ (result ≡ Status.Memory) }
+    ensures no_read_fault { result ≡ Status.ReadFault → ⊥ }
+    ensures no_write_fault { result ≡ Status.WriteFault → ⊥ }
+{
+    run(rt, alloc, words, shelf, sink, gate)
+}
