@@ -1,5 +1,5 @@
 -- When a device may say that it failed: only where its count of faults rose.
-use Rattle.std.specs.Prelude.{◌≡◌, ℕ, ◌+◌, ◌-◌, ◌^◌, ◌<◌, ◌≤◌, min, Bool, true, false, List, length, Result, Ok, Err, OnErr, IfOk, IsErrOf}
+use Rattle.std.specs.Prelude.{ℕ, ◌+◌, ◌-◌, ◌^◌, ◌<◌, ◌≤◌, min, Bool, true, false, List, length, Result, Ok, Err, OnErr, IfOk, IsErrOf}
 use Rattle.cf_outside.specs.declared.shelf.OpenFault.{OpenFault}
 use Rattle.cf_outside.specs.declared.shelf.OpenFault.TheVariants.{Missing, Failed, Memory}
 

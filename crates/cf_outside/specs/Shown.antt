@@ -1,5 +1,7 @@
 -- What the devices in memory show.
 use Rattle.std.specs.Prelude.{◌≡◌, ℕ, ◌==◌, [], Bool, ◌||◌, ◌&&◌, not, List, length}
+use Rattle.std.specs.declared.option.Option.{Option}
+use Rattle.std.specs.declared.option.Option.TheVariants.{Some, None}
 use Rattle.cf_outside.specs.Files.{File}
 use Rattle.cf_outside.specs.Script.{Scripted, fails_next, script_of}
 
@@ -27,3 +29,14 @@ pub record IsFresh (room most : ℕ) (failing : List ℕ) (sink : SinkShown) : T
   pub room_is : sink.room ≡ room
   pub most_is : sink.most ≡ most
   pub script : sink.script ≡ script_of failing
+
+-- a real device: its count of faults, and what the writer under it holds or the file under it has left, where that is
+-- known
+pub record EdgeShown : Type 0 where
+  pub faults : ℕ
+  pub known : Option (List ℕ)
+
+-- what the opened file has left; nothing where none is open
+abbrev pub left_of : {F : Type 0} → (F → Option (List ℕ)) → Option F → Option (List ℕ)
+left_of remaining None = Some []
+left_of remaining (Some file) = remaining file

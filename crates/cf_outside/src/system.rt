@@ -1,7 +1,8 @@
-// The real devices. They tell nothing of content, and count each error.
-ghost use Rattle.std.specs.Prelude.{◌≡◌, if◌then◌else◌, is_err};
+// The real devices. As shelves and sinks they tell nothing of content. They count each error but
+// that a file is missing and, at an open, want of memory.
+ghost use Rattle.std.specs.Prelude.{◌≡◌, ◌↔◌, [], take, if◌then◌else◌, is_err, IfOk, OnErr, Some};
 ghost use Rattle.std.specs.Io.{ReadsAtMost};
-ghost use Rattle.std.specs.Io.KnownBytes.{ReadConsumes, WriteAppends};
+ghost use Rattle.std.specs.Io.KnownBytes.{Appends, ReadConsumes, WriteAppends};
 ghost use Rattle.std.specs.declared.option.Option.TheVariants.{None};
 ghost use Rattle.cf_outside.specs.Causes.{HasCause, HasOpenCause, TakesSome, count_up, is_failed};
 ghost use Rattle.cf_outside.specs.Files.{Opens};
@@ -12,7 +13,20 @@ use std::io::{ErrorKind, Read, Write};
 use std::marker::Model;
 use std::rt::Files;
 
-/// The files of the system. Contracts see its count of faults.
+// What an error of std's means at an open.
+fn fault_of(kind: ErrorKind) -> OpenFault
+    ensures missing { (result ≡ OpenFault.Missing) ↔ (kind ≡ ErrorKind.NotFound) }
+    ensures memory { (result ≡ OpenFault.Memory) ↔ (kind ≡ ErrorKind.OutOfMemory) }
+{
+    match kind {
+        ErrorKind::NotFound => OpenFault::Missing,
+        ErrorKind::OutOfMemory => OpenFault::Memory,
+        _ => OpenFault::Failed,
+    }
+}
+
+/// The files of the system. Contracts see its count of faults and what the opened file has left,
+/// where the file tells it.
 #[derive(Drop)]
 pub struct FileShelf<'a, R: Files> {
     rt: &'a R,
@@ -21,17 +35,18 @@ pub struct FileShelf<'a, R: Files> {
 }
 
 impl<'a, R: Files> Model for FileShelf<'a, R> {
-    ghost use Rattle.std.specs.Prelude.{ℕ};
+    ghost use Rattle.cf_outside.specs.Shown.{EdgeShown, left_of};
 
-    ghost Value = { ℕ };
+    ghost Value = { EdgeShown };
 
-    ghost view = { λ s. s.faults };
+    ghost view = { λ s. record { faults = s.faults; known = left_of R.File.remaining s.file } };
 }
 
 impl<'a, R: Files> FileShelf<'a, R> {
     /// A shelf of which no file is open yet.
     pub fn new(rt: &'a R) -> Self
-        ensures { result ≡ 0 }
+        ensures faults { result.faults ≡ 0 }
+        ensures left { result.known ≡ Some [] }
     {
         FileShelf {
             rt,
@@ -46,35 +61,39 @@ impl<'a, R: Files> Shelf for FileShelf<'a, R> {
 
     ghost rest = { λ _. None };
 
-    ghost faults = { λ s. s };
+    ghost faults = { λ s. s.faults };
 
     /// `Missing` is the system's answer that there is no such file, and `Memory` its want of memory.
     fn open(&mut self, name: &str) -> Result<(), OpenFault>
         ensures opens { Opens None name.now None None result }
-        ensures cause { HasOpenCause self.old self.new result }
-        ensures counted { self.new ≡ (if is_failed result then count_up self.old else self.old) }
+        ensures cause { HasOpenCause self.old.faults self.new.faults result }
+
+        // Each failure is counted, once, and nothing else is.
+        ensures counted { self.new.faults ≡ (if is_failed result then count_up self.old.faults else self.old.faults) }
+        ensures refused { OnErr result (self.new.known ≡ self.old.known) }
     {
         match fs::open(self.rt, name) {
             Ok(file) => {
                 self.file = Some(file);
                 Ok(())
             }
-            Err(error) => match error.kind() {
-                ErrorKind::NotFound => Err(OpenFault::Missing),
-                ErrorKind::OutOfMemory => Err(OpenFault::Memory),
-                _ => {
+            Err(error) => {
+                let fault = fault_of(error.kind());
+                if fault == OpenFault::Failed {
                     self.faults = self.faults.saturating_add(1);
-                    Err(OpenFault::Failed)
                 }
-            },
+                Err(fault)
+            }
         }
     }
 
     fn read(&mut self, buf: &mut [u8]) -> Result<usize, Failed>
         ensures bound { ReadsAtMost result buf.new }
         ensures bytes { ReadConsumes None None result buf.new }
-        ensures cause { HasCause self.old self.new result }
-        ensures counted { self.new ≡ (if is_err result then count_up self.old else self.old) }
+        ensures cause { HasCause self.old.faults self.new.faults result }
+
+        ensures counted { self.new.faults ≡ (if is_err result then count_up self.old.faults else self.old.faults) }
+        ensures known { ReadConsumes self.old.known self.new.known result buf.new }
     {
         match &mut self.file {
             Some(file) => match file.read(buf) {
@@ -89,7 +108,8 @@ impl<'a, R: Files> Shelf for FileShelf<'a, R> {
     }
 }
 
-/// A writer of std's, as standard output. Contracts see its count of faults.
+/// A writer of std's, as standard output. Contracts see its count of faults and what the writer
+/// holds, where the writer tells it.
 #[derive(Drop)]
 pub struct StdSink<W: Write + Drop> {
     inner: W,
@@ -97,17 +117,18 @@ pub struct StdSink<W: Write + Drop> {
 }
 
 impl<W: Write + Drop> Model for StdSink<W> {
-    ghost use Rattle.std.specs.Prelude.{ℕ};
+    ghost use Rattle.cf_outside.specs.Shown.{EdgeShown};
 
-    ghost Value = { ℕ };
+    ghost Value = { EdgeShown };
 
-    ghost view = { λ s. s.faults };
+    ghost view = { λ s. record { faults = s.faults; known = W.contents s.inner } };
 }
 
 impl<W: Write + Drop> StdSink<W> {
     /// A sink over that writer.
     pub fn new(inner: W) -> Self
-        ensures { result ≡ 0 }
+        ensures faults { result.faults ≡ 0 }
+        ensures held { result.known ≡ W.contents inner }
     {
         StdSink { inner, faults: 0 }
     }
@@ -116,15 +137,17 @@ impl<W: Write + Drop> StdSink<W> {
 impl<W: Write + Drop> Sink for StdSink<W> {
     ghost held = { λ _. None };
 
-    ghost faults = { λ s. s };
+    ghost faults = { λ s. s.faults };
 
     /// Writes and then flushes. A refused flush is a fault, and so is a writer that takes no byte of
     /// a piece that isn't empty.
     fn write(&mut self, piece: &[u8]) -> Result<usize, Failed>
         ensures bound { TakesSome result piece.now }
         ensures bytes { WriteAppends None None result piece.now }
-        ensures cause { HasCause self.old self.new result }
-        ensures counted { self.new ≡ (if is_err result then count_up self.old else self.old) }
+        ensures cause { HasCause self.old.faults self.new.faults result }
+
+        ensures counted { self.new.faults ≡ (if is_err result then count_up self.old.faults else self.old.faults) }
+        ensures known { IfOk result (λ n. Appends self.old.known self.new.known (take n piece.now)) }
     {
         let taken = match self.inner.write(piece) {
             Ok(count) if count > 0 || piece.is_empty() => self.inner.flush().map(|()| count).ok(),

@@ -1,10 +1,10 @@
 -- From a status and its text to what the program answers.
-use Rattle.std.proofs.Common.{◌≡◌, ◌⊎◌, ℕ, List, [], ◌∷◌, ◌++◌, Option, Some, None, refl, sym, ap, ◌∙◌, inl, inr, IfSome, subst}
-use Rattle.std.specs.Io.KnownBytes.{Appends, Keeps}
+use Rattle.std.proofs.Common.{◌≡◌, ◌⊎◌, ℕ, List, Option, Some, None, refl, inl, IfSome, subst}
+use Rattle.std.specs.Io.KnownBytes.{Appends}
 use Rattle.cf_outside.specs.Files.{File}
 use Rattle.cf_run.specs.Due.{IsDue}
 use Rattle.cf_run.specs.Devices.{WritesFront}
-use Rattle.cf_run.specs.Answers.{Answers, Wrote, WroteSome, Yields, IsDecided}
+use Rattle.cf_run.specs.Answers.{Answers, Yields, IsDecided}
 use Rattle.cf_run.specs.Work.{IsLawful}
 use Rattle.cf_run.proofs.Reporting.{reported_of}
 use Rattle.cf_run.proofs.Deciding.{one_due}

@@ -1,16 +1,13 @@
 -- What the parts of the work leave of the opened file.
-use Rattle.std.proofs.Common.{◌≡◌, ◌⊎◌, ℕ, ◌≤◌, ◌<◌, ◌^◌, List, [], length, drop, Option, Some, None, refl, sym, ap, ◌∙◌, inl, inr, arith, IfSome}
+use Rattle.std.proofs.Common.{◌≡◌, ℕ, ◌≤◌, ◌<◌, ◌^◌, List, [], length, Option, Some, sym, ap, ◌∙◌, inl, inr, arith}
 use Rattle.std.proofs.lemmas.List.{drop_all}
 use Rattle.cf_outside.specs.Files.{File, file_named}
 use Rattle.cf_pcap.specs.Capture.{Captured, IsCapture}
 use Rattle.cf_run.specs.Command.{RunCommand, IsCommand}
 use Rattle.cf_run.specs.Devices.{IsTakenFrom, IsStopped}
-use Rattle.cf_run.specs.Due.{LacksSetup, LacksCapture}
-use Rattle.cf_run.specs.Left.{IsLeftOfSetup, IsLeftOfCapture, MayBeLeft, SetupIsRead, CaptureIsRead, Leaves}
+use Rattle.cf_run.specs.Left.{MayBeLeft}
 use Rattle.cf_run.specs.SetupText.{Stated, IsSetupText}
 use Rattle.cf_run.proofs.SetupSize.{setup_short}
-use Rattle.cf_run.specs.declared.status.Status.{Status}
-use Rattle.cf_run.specs.declared.status.Status.TheVariants.{Done, Words, Setup, Capture, ReadFault, WriteFault, Full, Nodes, Memory, NoFile}
 
 -- a short file is taken whole
 pub whole_taken : (file : List ℕ) (limit : ℕ) (now : Option (List ℕ)) → length file ≤ limit → now ≡ Some [] → IsTakenFrom file limit now

@@ -1,7 +1,7 @@
 -- From a file that is read to what loading the capture answers.
-use Rattle.std.proofs.Common.{◌≡◌, ◌⊎◌, ℕ, ◌+◌, ◌≤◌, ◌<◌, ◌^◌, List, [], ◌++◌, length, drop, Option, Some, None, Result, Ok, Err, refl, sym, ap, ◌∙◌, inl, inr, IfSome, MatchResult, subst, arith, append-nil, length-append, Vec}
+use Rattle.std.proofs.Common.{◌≡◌, ◌⊎◌, ℕ, ◌+◌, ◌<◌, ◌^◌, List, [], ◌++◌, length, Option, Some, None, Result, Ok, Err, ap, ◌∙◌, inl, inr, IfSome, MatchResult, subst, arith, append-nil, length-append, Vec}
 use Rattle.std.specs.declared.alloc.Global.{Global}
-use Rattle.cf_outside.specs.Files.{File, file_named}
+use Rattle.cf_outside.specs.Files.{File}
 use Rattle.cf_pcap.specs.Capture.{Captured, IsCapture, HasPcapFault}
 use Rattle.cf_pcap.specs.declared.fault.PcapFault.TheVariants.{BadMagic}
 use Rattle.cf_run.specs.Devices.{IsFileRead}

@@ -1,10 +1,9 @@
 -- From the parts of the work to the text that is due, and what is left of the opened file.
-use Rattle.std.proofs.Common.{◌≡◌, ◌⊎◌, ℕ, ◌≤◌, ◌^◌, List, [], length, drop, map, Option, Some, None, Result, Ok, Err, Vec, MatchResult, IfSome, string_bytes, refl, sym, ap, subst, ◌∙◌, inl, inr, arith}
+use Rattle.std.proofs.Common.{◌≡◌, ◌⊎◌, ℕ, ◌^◌, List, [], map, Option, Some, None, Result, Ok, Err, Vec, MatchResult, IfSome, string_bytes, refl, sym, subst, ◌∙◌, inl, inr, arith}
 use Rattle.std.specs.declared.alloc.Global.{Global}
 use Rattle.cf_outside.specs.Files.{File, file_named}
 use Rattle.cf_pcap.specs.Capture.{Captured, IsCapture}
 use Rattle.cf_run.specs.Command.{RunCommand, IsCommand}
-use Rattle.cf_run.specs.Devices.{IsStopped}
 use Rattle.cf_run.specs.Due.{LacksSetup, LacksCapture, IsDue, refusal_line}
 use Rattle.cf_run.specs.Left.{MayBeLeft, Leaves}
 use Rattle.cf_run.specs.Parts.{IsFree, IsSetupStop, LoadsSetup, IsCaptureStop, LoadsCapture, IsPrepared}

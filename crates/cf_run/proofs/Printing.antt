@@ -4,14 +4,12 @@ use Rattle.std.proofs.lemmas.Bool.{lt-leb}
 use Rattle.std.specs.List.{flat_map, range_with_len, AllByRecursion}
 use Rattle.cf_row.specs.Row.{Numbered}
 use Rattle.cf_row.specs.Expr.{holds_of}
-use Rattle.cf_row.specs.declared.expr.Atom.{Atom}
-use Rattle.cf_run.specs.Plain.{row_at, places, eval_rows}
-use Rattle.cf_run.specs.Report.{line, put_into, sort, num_at, nums_at, number_text, word_of, shown, ask_line, ask_lines}
+use Rattle.cf_run.specs.Plain.{row_at, eval_rows}
+use Rattle.cf_run.specs.Report.{line, put_into, sort, num_at, nums_at, number_text, word_of, shown, ask_lines}
 use Rattle.cf_run.specs.Printed.{printed_line}
 use Rattle.cf_run.specs.Work.{told_on}
 use Rattle.cf_run.specs.declared.plain.Ask.{Ask}
 use Rattle.cf_run.specs.declared.plain.Ask.TheVariants as asks
-use Rattle.cf_run.specs.declared.plain.Body.TheVariants as bodies
 use Rattle.cf_run.specs.declared.setup.Question.{Question}
 
 -- a number above all others comes last

@@ -1,6 +1,5 @@
 -- From a command, a setup and a capture to the report, whose answers are those of a legal history.
-use Rattle.std.proofs.Common.{◌≡◌, ℕ, zero, suc, ◌+◌, ◌≤◌, ◌<◌, ◌^◌, List, [], ◌∷◌, ◌++◌, length, take, map, replicate, codes, decimal, Option, Some, None, Ok, refl, sym, ap, subst, ◌∙◌, IfSome, arith, true, ◌&&◌, nat_lt, Vec, append-nil}
-use Rattle.std.specs.declared.alloc.Global.{Global}
+use Rattle.std.proofs.Common.{◌≡◌, ℕ, zero, suc, ◌+◌, ◌≤◌, ◌<◌, ◌^◌, List, [], ◌∷◌, ◌++◌, length, map, replicate, codes, decimal, refl, sym, ap, subst, ◌∙◌, arith, append-nil}
 use Rattle.std.proofs.Math.Seq.{take-length}
 use Rattle.std.proofs.lemmas.List.{length-map}
 use Rattle.std.specs.List.{AllByRecursion, flat_map, range_with_len}
@@ -8,20 +7,18 @@ use Rattle.std.proofs.lemmas.Bool.{lt-ltb}
 use Rattle.cf_row.specs.Row.{Numbered, Fits}
 use Rattle.cf_row.specs.declared.row.Entry.{Entry}
 use Rattle.cf_row.specs.Schema.{packet_attrs}
-use Rattle.cf_outside.specs.Files.{File, file_named}
+use Rattle.cf_outside.specs.Files.{File}
 use Rattle.cf_pcap.specs.Capture.{Captured, IsCapture, AreRecords}
-use Rattle.cf_history.specs.History.{Told, NeverFall, NeverGoBack, IsToldBy, AreToldBy, IsHistoryOf, spell}
-use Rattle.cf_history.specs.Order.{log_of, IsOrder}
-use Rattle.cf_history.specs.Tails.{Turn, turns_of, batches_of, AreTails}
+use Rattle.cf_history.specs.History.{Told, NeverFall, IsToldBy, AreToldBy}
+use Rattle.cf_history.specs.Order.{log_of}
+use Rattle.cf_history.specs.Tails.{Turn, batches_of, AreTails}
 use Rattle.cf_history.proofs.Spelled.{spelled_is_history}
 use Rattle.cf_history.proofs.OneWriter.{alone, is_order_one, log_of_one}
-use Rattle.cf_run.specs.Command.{RunCommand, IsCommand}
-use Rattle.cf_run.specs.Plain.{eval, eval_rows, rows_in}
-use Rattle.cf_run.specs.SetupText.{Stated, IsSetupText}
-use Rattle.cf_run.specs.Report.{Live, line, num_at, final_part, order_line, report_text, live_line}
-use Rattle.cf_run.specs.Printed.{printed, printed_line}
-use Rattle.cf_run.specs.Work.{packet_row, packet_values, told_on, finals_on, turn_of, passes_of, IsReport, IsReported, IsLawful}
-use Rattle.cf_run.specs.Parts.{LoadsSetup, LoadsCapture}
+use Rattle.cf_run.specs.Plain.{eval, rows_in}
+use Rattle.cf_run.specs.SetupText.{Stated}
+use Rattle.cf_run.specs.Report.{line, num_at, final_part, order_line}
+use Rattle.cf_run.specs.Printed.{printed}
+use Rattle.cf_run.specs.Work.{packet_row, packet_values, told_on, finals_on, passes_of, IsReport, IsReported, IsLawful}
 use Rattle.cf_run.specs.declared.plain.Ask.{Ask}
 use Rattle.cf_run.specs.declared.plain.Body.{Body}
 use Rattle.cf_run.specs.declared.setup.Question.{Question}

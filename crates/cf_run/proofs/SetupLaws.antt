@@ -1,11 +1,9 @@
 -- Reading a setup from the left finds just the texts of setups.
-use Rattle.std.proofs.Common.{◌≡◌, ◌⊎◌, ℕ, zero, suc, ◌+◌, ◌≤◌, ◌<◌, ◌==◌, All, List, [], ◌∷◌, ◌++◌, length, take, drop, Bool, true, false, ◌&&◌, ◌||◌, cond, nat_le, Some, None, refl, sym, ap, ◌∙◌, inl, inr, arith, codes, Option, subst, append_assoc, append-nil}
+use Rattle.std.proofs.Common.{◌≡◌, ◌⊎◌, ℕ, zero, suc, ◌≤◌, ◌<◌, ◌==◌, All, List, [], ◌∷◌, ◌++◌, length, take, drop, Bool, true, false, ◌&&◌, ◌||◌, cond, nat_le, Some, None, refl, sym, ap, ◌∙◌, inl, inr, arith, codes, Option, subst, append_assoc}
 use Rattle.std.specs.List.{prefix_len, list_all}
 use Rattle.std.proofs.lemmas.Bool.{leb-true, eqb-true}
-use Rattle.std.specs.Option.{option_and_then}
 use Rattle.std.specs.Str.{bytes_eq}
 use Rattle.std.proofs.lemmas.List.{take_at, drop_at, take-append-drop}
-use Rattle.std.proofs.lemmas.Bool.{false≢true}
 use Rattle.std.proofs.lemmas.Option.{option_and_then_some}
 use Rattle.std.proofs.lemmas.Slice.Eq.{bytes_eq-Decides}
 use Rattle.cf_row.specs.declared.expr.Atom.{Atom}
@@ -13,7 +11,7 @@ use Rattle.cf_row.specs.Schema.{packet_attrs}
 use Rattle.cf_run.specs.declared.plain.Ask.TheVariants as asks
 use Rattle.cf_run.specs.SetupText.{Stated, IsSetupText, IsAtomText, is_digit, is_letter, is_name_byte, is_name}
 use Rattle.cf_run.specs.Scan.{strip_at, atom_at, setup_by, setup_at, stated_of}
-use Rattle.cf_run.proofs.ScanLaws.{strip_front, strip_found, run_front, atom_front, atom_found, and_both, chosen, pair_same, two}
+use Rattle.cf_run.proofs.ScanLaws.{strip_front, strip_found, run_front, atom_front, atom_found, and_both, pair_same, two}
 
 -- a setup of one question
 abbrev stated_by : List ℕ → List (List Atom) → Stated

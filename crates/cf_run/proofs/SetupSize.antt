@@ -1,5 +1,5 @@
 -- The text of a setup is short.
-use Rattle.std.proofs.Common.{◌≡◌, ◌⊎◌, ℕ, zero, suc, ◌+◌, ◌≤◌, ◌<◌, List, [], ◌∷◌, ◌++◌, length, Bool, true, false, ◌&&◌, nat_le, Some, None, slice_get, refl, sym, ap, ◌∙◌, inl, inr, arith, length-append, codes, Option, IfSome, IfOk, MatchOption, Result, Ok, Err, subst, append-nil}
+use Rattle.std.proofs.Common.{◌≡◌, ◌⊎◌, ℕ, zero, suc, ◌+◌, ◌≤◌, ◌<◌, List, [], ◌∷◌, ◌++◌, length, Bool, true, false, ◌&&◌, nat_le, Some, None, slice_get, refl, ap, ◌∙◌, inl, inr, arith, length-append, codes, Option, IfSome, Ok, Err, subst, append-nil}
 use Rattle.std.proofs.lemmas.Bool.{leb-true}
 use Rattle.std.proofs.lemmas.Bool.{false≢true}
 use Rattle.std.specs.List.{list_all}
@@ -8,10 +8,10 @@ use Rattle.cf_row.specs.declared.schema.Attr.{Attr}
 use Rattle.cf_row.specs.declared.expr.Op.{Op}
 use Rattle.cf_row.specs.declared.expr.Op.TheVariants.{Eq, Ne, Lt, Le, Gt, Ge, Within}
 use Rattle.cf_row.specs.Schema.{packet_attrs}
-use Rattle.cf_outside.specs.Files.{File, file_named}
+use Rattle.cf_outside.specs.Files.{File}
 use Rattle.cf_run.specs.Devices.{IsFileRead}
-use Rattle.cf_run.specs.Parts.{LoadsSetup, IsSetupStop}
-use Rattle.cf_run.specs.SetupText.{Stated, IsSetupText, NoSetupText, HasSetupFault, IsAtomText, IsExprText, is_name, is_name_byte, is_letter, op_text}
+use Rattle.cf_run.specs.Parts.{LoadsSetup}
+use Rattle.cf_run.specs.SetupText.{Stated, IsSetupText, NoSetupText, is_name, is_name_byte, is_letter, op_text}
 use Rattle.cf_run.proofs.Taking.{left_after, stopped_read}
 use Rattle.cf_run.specs.declared.status.Status.TheVariants.{Setup, Memory}
 

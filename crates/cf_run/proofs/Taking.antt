@@ -5,8 +5,7 @@ use Rattle.std.proofs.KnownBytes.{Consumes-trans}
 use Rattle.std.specs.declared.alloc.Global.{Global}
 use Rattle.std.specs.Io.KnownBytes.{Consumes, IsAtEnd}
 use Rattle.cf_outside.specs.Files.{File, file_named, Opens}
-use Rattle.cf_outside.specs.declared.shelf.OpenFault.TheVariants as opens
-use Rattle.cf_run.specs.Devices.{TakesUpTo, TakesAtMost, IsTakenFrom, IsStopped, IsFileRead, ReadsFile}
+use Rattle.cf_run.specs.Devices.{TakesUpTo, TakesAtMost, IsStopped, IsFileRead, ReadsFile}
 use Rattle.cf_run.specs.declared.devices.ReadError.{ReadError}
 use Rattle.cf_run.specs.declared.devices.ReadError.TheVariants as errors
 

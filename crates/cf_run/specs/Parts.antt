@@ -6,7 +6,6 @@ use Rattle.cf_outside.specs.Causes.{Rose}
 use Rattle.cf_outside.specs.Files.{File, file_named}
 use Rattle.cf_pcap.specs.Capture.{Captured, IsCapture, HasPcapFault}
 use Rattle.cf_pcap.specs.declared.fault.PcapFault.TheVariants.{BadMagic}
-use Rattle.cf_run.specs.Command.{RunCommand}
 use Rattle.cf_run.specs.SetupText.{Stated, IsSetupText, HasSetupFault}
 use Rattle.cf_run.specs.Devices.{IsStopped}
 use Rattle.cf_run.specs.Due.{IsDue}

@@ -6,7 +6,7 @@ use Rattle.cf_row.specs.declared.row.Entry.{Entry}
 use Rattle.cf_history.specs.History.{Told}
 use Rattle.cf_history.specs.Order.{runs_of}
 use Rattle.cf_history.specs.Tails.{Turn}
-use Rattle.cf_run.specs.Plain.{rows_in, eval_rows}
+use Rattle.cf_run.specs.Plain.{rows_in}
 use Rattle.cf_run.specs.SetupText.{Stated}
 use Rattle.cf_run.specs.declared.setup.Question.{Question}
 use Rattle.cf_run.specs.declared.plain.Ask.{Ask}

@@ -1,5 +1,5 @@
 -- Reading the text of a setup from the left, as functions of the bytes.
-use Rattle.std.specs.Prelude.{◌≡◌, ℕ, ◌≤◌, Bool, true, false, ◌&&◌, ◌||◌, nat_le, List, [], ◌∷◌, ◌++◌, length, take, drop, codes, if◌then◌else◌, Option, Some, None}
+use Rattle.std.specs.Prelude.{ℕ, true, ◌&&◌, ◌||◌, nat_le, List, [], ◌∷◌, ◌++◌, length, take, drop, codes, if◌then◌else◌, Option, Some, None}
 use Rattle.std.specs.Option.{option_and_then}
 use Rattle.std.specs.List.{prefix_len}
 use Rattle.std.specs.Str.{bytes_eq}
@@ -9,7 +9,7 @@ use Rattle.cf_row.specs.declared.schema.Kind.TheVariants.{U32, U64}
 use Rattle.cf_row.specs.declared.row.Value.{Value}
 use Rattle.cf_row.specs.declared.row.Value.TheVariants.{Num}
 use Rattle.cf_row.specs.declared.expr.Op.{Op}
-use Rattle.cf_row.specs.declared.expr.Op.TheVariants.{Eq, Ne, Lt, Le, Gt, Ge, Within}
+use Rattle.cf_row.specs.declared.expr.Op.TheVariants.{Eq, Ne, Lt, Le, Gt, Ge}
 use Rattle.cf_row.specs.declared.expr.Atom.{Atom}
 use Rattle.cf_row.specs.Row.{is_of_kind}
 use Rattle.cf_row.specs.Schema.{packet_attrs}

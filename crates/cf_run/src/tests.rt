@@ -4,6 +4,7 @@ use super::*;
 use cf_outside::{Failed, FreeGate, MemShelf, MemSink, OpenFault, Shelf, SteadyShelf, SteadySink};
 use cf_row::Memory;
 use std::alloc::Global;
+use std::process::Abort;
 use std::test::Fail;
 
 const WORDS: [&str; 6] = ["run", "--setup", "s", "--writers", "1", "c"];
@@ -42,88 +43,68 @@ fn shelf_of(
     Ok(shelf)
 }
 
+// Runs the words over the two files, and compares the status's number and the text.
+fn expect<R: Abort>(
+    rt: &R,
+    alloc: Global,
+    words: &[&str],
+    files: (&[u8], &[u8]),
+    answer: (u8, &[u8]),
+) -> Result<(), Memory> {
+    let mut shelf = shelf_of(alloc, &[], 7, files.0, files.1)?;
+    let mut sink = MemSink::new(alloc, 100, Vec::new(alloc), 5)?;
+    let status = run(rt, alloc, words, &mut shelf, &mut sink, &FreeGate);
+    assert_eq!(rt; status.number(), answer.0);
+    assert_eq!(rt; sink.held(), answer.1);
+    Ok(())
+}
+
 #[test]
-fn words_and_files_call_for_an_answer(rt: HostRuntime) -> Result<(), Fail> {
+fn lawful_files_are_reported(rt: HostRuntime) -> Result<(), Fail> {
     let alloc = rt.alloc();
     let capture = two_frames(alloc)?;
-    assert_eq!(rt; capture.len(), 59);
-    let none: &[u8] = b"file: none of that name\n";
-    let setup_fault: &[u8] = b"setup: line 0 code 2\n";
-    let no_words: &[u8] = b"words: not a command\n";
-    let table: [(&[&str], &[u8], &[u8], u8, &[u8]); 12] = [
-        (&WORDS, SETUP, &capture, 0, REPORT),
-        (
-            &WORDS,
-            SETUP,
-            &HEADER,
-            0,
-            b"records 0\nask big list 0:\norder\n",
-        ),
-        (
-            &WORDS,
-            b"schema packet\nask a list ts!=007",
-            &capture,
-            0,
-            b"records 2\nask a list 2: 0 1\norder 0*2\n",
-        ),
-        (&[], SETUP, &capture, 1, no_words),
-        (&["run", "c"], SETUP, &capture, 1, no_words),
-        (
-            &["run", "--setup", "x", "--writers", "1", "c"],
-            SETUP,
-            &capture,
-            9,
-            none,
-        ),
-        (
-            &["run", "--setup", "s", "--writers", "1", "x"],
-            SETUP,
-            &capture,
-            9,
-            none,
-        ),
-        (
-            &WORDS,
-            SETUP,
-            &[0x1f, 0x8b, 8, 0],
-            3,
-            b"capture: record 0 code 1\n",
-        ),
-        (
-            &WORDS,
-            SETUP,
-            &capture[..58],
-            3,
-            b"capture: record 0 code 1\n",
-        ),
-        (
-            &WORDS,
-            b"schema packet\nask a list len>1\nask b list len>1\n",
-            &capture,
-            2,
-            setup_fault,
-        ),
-        (
-            &WORDS,
-            b"schema packet\r\nask a list len>1\r\n",
-            &capture,
-            2,
-            setup_fault,
-        ),
-        (
-            &WORDS,
-            b"schema packet\nask a  list len>1\n",
-            &capture,
-            2,
-            setup_fault,
-        ),
+    expect(&rt, alloc, &WORDS, (SETUP, &capture), (0, REPORT))?;
+    let none = b"records 0\nask big list 0:\norder\n";
+    expect(&rt, alloc, &WORDS, (SETUP, &HEADER), (0, none))?;
+    let setup = b"schema packet\nask a list ts!=007";
+    let all = b"records 2\nask a list 2: 0 1\norder 0*2\n";
+    expect(&rt, alloc, &WORDS, (setup, &capture), (0, all))?;
+    Ok(())
+}
+
+#[test]
+fn words_are_a_command_of_files_that_are_there(rt: HostRuntime) -> Result<(), Fail> {
+    let alloc = rt.alloc();
+    let none = b"file: none of that name\n".as_slice();
+    let no_words = b"words: not a command\n".as_slice();
+    let table: [(&[&str], u8, &[u8]); 4] = [
+        (&[], 1, no_words),
+        (&["run", "c"], 1, no_words),
+        (&["run", "--setup", "x", "--writers", "1", "c"], 9, none),
+        (&["run", "--setup", "s", "--writers", "1", "x"], 9, none),
     ];
-    for (words, setup, capture, number, text) in table {
-        let mut shelf = shelf_of(alloc, &[], 7, setup, capture)?;
-        let mut sink = MemSink::new(alloc, 100, Vec::new(alloc), 5)?;
-        let status = run(&rt, alloc, words, &mut shelf, &mut sink, &FreeGate);
-        assert_eq!(rt; status.number(), number, "of {text:?}");
-        assert_eq!(rt; sink.held(), text);
+    for (words, number, text) in table {
+        expect(&rt, alloc, words, (SETUP, &HEADER), (number, text))?;
+    }
+    Ok(())
+}
+
+#[test]
+fn other_setups_and_captures_are_refused(rt: HostRuntime) -> Result<(), Fail> {
+    let alloc = rt.alloc();
+    let answer = (2, b"setup: line 0 code 2\n".as_slice());
+    for setup in [
+        b"schema packet\nask a list len>1\nask b list len>1\n".as_slice(),
+        b"schema packet\r\nask a list len>1\r\n",
+        b"schema packet\nask a  list len>1\n",
+    ] {
+        expect(&rt, alloc, &WORDS, (setup, &HEADER), answer)?;
+    }
+    let capture = two_frames(alloc)?;
+    let cut = capture.get(..58).ok_or("all but a byte")?;
+    for capture in [[0x1f, 0x8b, 8, 0].as_slice(), cut, b""] {
+        let answer = (3, b"capture: record 0 code 1\n".as_slice());
+        expect(&rt, alloc, &WORDS, (SETUP, capture), answer)?;
     }
     Ok(())
 }

@@ -1,4 +1,4 @@
-use Rattle.std.proofs.Common.{arith, rules, drop, ◌∙◌}
+use Rattle.std.proofs.Common.{rules, drop}
 use Rattle.cf_outside.proofs.Parts.{copied}
 use Rattle.cf_outside.proofs.pile.copy_some.Goals as goal
 

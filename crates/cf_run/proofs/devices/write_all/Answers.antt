@@ -1,4 +1,4 @@
-use Rattle.std.proofs.Common.{rules, arith}
+use Rattle.std.proofs.Common.{arith}
 use Rattle.cf_run.proofs.Writing.{written_more, take_of_piece}
 use Rattle.cf_run.proofs.devices.write_all.Goals as goal
 

@@ -1,4 +1,4 @@
-use Rattle.std.proofs.Common.{◌≡◌, ◌∙◌, sym}
+use Rattle.std.proofs.Common.{◌∙◌, sym}
 use Rattle.cf_run.proofs.SetupLaws.{setup_front, setup_found, name_found, name_ascii}
 use Rattle.cf_run.proofs.parse.parse_setup.Goals as goal
 

@@ -1,4 +1,4 @@
-use Rattle.cf_run.proofs.SetupSize.{loads_setup_ok, loads_setup_fault, loads_setup_memory}
+use Rattle.cf_run.proofs.SetupSize.{loads_setup_ok, loads_setup_fault}
 use Rattle.cf_run.proofs.prepare.load_setup.Goals as goal
 
 pub returns-in-Ok-Some-clause-loaded : goal.returns-in-Ok-Some-clause-loaded
