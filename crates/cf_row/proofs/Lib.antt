@@ -1,1 +1,6 @@
 pub mod Fitting
+pub mod Counts
+pub mod Bytes
+pub mod Spelling
+pub mod Readable
+pub mod Written

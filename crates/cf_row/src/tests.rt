@@ -126,3 +126,36 @@ fn packets_have_their_time_and_lengths(rt: HostRuntime) -> Result<(), Fail> {
     assert_eq!(rt; Name::from_ascii(alloc, b"k0")?.as_str(), "k0");
     Ok(())
 }
+
+#[test]
+fn words_spell_an_entry(rt: HostRuntime) -> Result<(), Fail> {
+    let alloc = rt.alloc();
+    let kinds = [
+        ("ts", Kind::U64),
+        ("m", Kind::Bytes(2)),
+        ("n", Kind::Bytes(11)),
+    ];
+    let schema = Schema::new(attrs(alloc, &kinds)?)?;
+    let long = Value::Raw {
+        len: 11,
+        bytes: [0, 0, 0, 0, 0, 0, 1, 2, 0, 3, 4, 0, 0, 0, 0, 0],
+    };
+    let row = Row::new(1, [Value::Num(5), bytes_of(9), long].to_vec(alloc)?);
+    assert!(rt; fits(&schema, &row));
+    assert_eq!(rt; word_count(&schema), 4);
+    let mut words = [0; 5];
+    words_of(&schema, &row, 1, &mut words);
+    assert_eq!(rt; words, [5, 2304, 258, 772, 17]);
+    assert!(rt; spells(&schema, &words));
+    let entry = row_of(alloc, &schema, &words)?;
+    assert_eq!(rt; (entry.writer, entry.row.num()), (1, 1));
+    assert!(rt; fits(&schema, &entry.row));
+    assert_eq!(rt; schema.attrs().len(), 3);
+    assert_eq!(rt; entry.row.get(&schema, 2), long);
+    for (place, word) in [(1, 65536), (3, 1 << 24), (4, 1 << 36)] {
+        let mut other = words;
+        other[place] = word;
+        assert!(rt; !spells(&schema, &other), "word {place}");
+    }
+    Ok(())
+}

@@ -1,0 +1,47 @@
+use Rattle.std.proofs.Common.{◌≡◌, ℕ, ◌/◌, ◌%◌, ◌<◌, ◌^◌, List, get_or, arith, rules, ap, ap₂, sym, ◌∙◌, subst}
+use Rattle.cf_row.specs.declared.row.Entry.{Entry}
+use Rattle.cf_row.specs.declared.row.Value.{Value}
+use Rattle.cf_row.specs.declared.schema.Attr.{Attr}
+use Rattle.cf_row.specs.Row.{Numbered}
+use Rattle.cf_row.specs.Words.{word_count, values_read, entry_read, spelled, IsEntry, AreSpelled}
+use Rattle.cf_row.proofs.Readable.{spelled_fits, spelled_read}
+use Rattle.cf_row.proofs.words.row_of.Goals as goal
+
+pub read_values-requires-clause-room : goal.read_values-requires-clause-room
+read_values-requires-clause-room c = let f = spelled_fits c.args.schema.now c.args.words.now c.requires in rw c.attrs.ensures.attrs (let l = f.0 in omega (arith, l))
+
+pub read_values-requires-clause-fits : goal.read_values-requires-clause-fits
+read_values-requires-clause-fits c = let f = spelled_fits c.args.schema.now c.args.words.now c.requires in rw c.attrs.ensures.attrs f.1
+
+pub bounds-words-word_count : goal.bounds-words-word_count
+bounds-words-word_count c = let f = spelled_fits c.args.schema.now c.args.words.now c.requires in let l = f.0 in omega (arith, l, c.word_count.ensures.count)
+
+-- what is read is the entry
+made : (attrs : List Attr) (ws : List ℕ) (n : ℕ) (vs : List Value) (row : Numbered) → n ≡ word_count attrs → vs ≡ values_read attrs ws → row ≡ record { num = get_or ws n 0 / 16; values = vs } → ◌≡◌ {A = Entry} (record { writer = get_or ws n 0 % 16; row = row }) (entry_read attrs ws)
+made attrs ws n vs row count values is =
+    ap (λ (r : Numbered). record { writer = get_or ws n 0 % 16; row = r }) is
+    ∙ ap₂ (λ (k : ℕ) (xs : List Value). record { writer = get_or ws k 0 % 16; row = record { num = get_or ws k 0 / 16; values = xs } }) count values
+
+tag_low : (attrs : List Attr) (ws : List ℕ) → AreSpelled attrs ws → get_or ws (word_count attrs) 0 / 16 < 2 ^ 32
+tag_low attrs ws s = let e = spelled_read attrs ws s.entry s.lawful s.spells in let n = s.lawful.num in omega (arith, n, ap (λ (x : Entry). x.row.num) e)
+
+pub overflow_cast-tag : goal.overflow_cast-tag
+overflow_cast-tag c = rw c.word_count.ensures.count (omega (arith, tag_low c.args.schema.now c.args.words.now c.requires))
+
+pub returns-clause-read : goal.returns-clause-read
+returns-clause-read c =
+    let vs : c.in_ok-values.values.items ≡ values_read c.args.schema.now c.args.words.now = search (rules, c.in_ok-values.ensures, c.attrs.ensures.attrs) in
+    made c.args.schema.now c.args.words.now c.word_count.result c.in_ok-values.values.items c.new.result c.word_count.ensures.count vs c.new.ensures
+
+pub returns-clause-entry : goal.returns-clause-entry
+returns-clause-entry c =
+    let vs : c.in_ok-values.values.items ≡ values_read c.args.schema.now c.args.words.now = search (rules, c.in_ok-values.ensures, c.attrs.ensures.attrs) in
+    let is = made c.args.schema.now c.args.words.now c.word_count.result c.in_ok-values.values.items c.new.result c.word_count.ensures.count vs c.new.ensures in
+    let s = c.requires in
+    subst (λ (e : Entry). IsEntry c.args.schema.now e × (c.args.words.now ≡ spelled e)) (sym (is ∙ spelled_read c.args.schema.now c.args.words.now s.entry s.lawful s.spells)) (s.lawful, s.spells)
+
+pub returns-clause-inverse : goal.returns-clause-inverse
+returns-clause-inverse c =
+    let vs : c.in_ok-values.values.items ≡ values_read c.args.schema.now c.args.words.now = search (rules, c.in_ok-values.ensures, c.attrs.ensures.attrs) in
+    let is = made c.args.schema.now c.args.words.now c.word_count.result c.in_ok-values.values.items c.new.result c.word_count.ensures.count vs c.new.ensures in
+    λ entry lawful words. is ∙ spelled_read c.args.schema.now c.args.words.now entry lawful words
