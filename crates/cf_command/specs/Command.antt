@@ -1,0 +1,52 @@
+-- Which words are a command.
+use Rattle.std.specs.Prelude.{◌≡◌, ℕ, ◌≤◌, List, map, Some, decimal}
+use Rattle.std.specs.Borrow.{Bor}
+use Rattle.cf_command.specs.declared.words.RunCommand.{RunCommand}
+use Rattle.cf_command.specs.Table.{RunSays, run_said}
+
+-- the texts behind a list of references
+abbrev pub texts : List (Bor (List ℕ)) → List (List ℕ)
+texts words = map (λ word. word.now) words
+
+-- a number in its range, in decimal digits with no sign and no leading zero
+pub record IsNumberText (low high : ℕ) (text : List ℕ) (number : ℕ) : Type 0 where
+  pub text_is : text ≡ decimal number
+  pub least : low ≤ number
+  pub most : number ≤ high
+
+abbrev pub NoNumberText : ℕ → ℕ → List ℕ → Type 0
+NoNumberText low high text = (number : ℕ) → IsNumberText low high text number → ⊥
+
+-- what `run` is asked for: the names of two files, the number of writers, the log's capacity and nodes for each writer, and how
+-- often each batch is asked live
+pub record Asked : Type 0 where
+  pub setup : List ℕ
+  pub capture : List ℕ
+  pub writers : ℕ
+  pub capacity : ℕ
+  pub nodes : ℕ
+  pub rounds : ℕ
+
+abbrev pub asked_by : RunCommand → Asked
+asked_by command = record { setup = command.setup.now; capture = command.capture.now; writers = command.writers; capacity = command.capacity; nodes = command.nodes; rounds = 0 }
+
+-- the texts of a command say so; there is one writer, and nothing is asked live
+pub record AreNumbers (said : RunSays) (command : Asked) : Type 0 where
+  pub setup_is : command.setup ≡ said.setup
+  pub capture_is : command.capture ≡ said.capture
+  pub writers_are : IsNumberText 1 1 said.writers command.writers
+  pub capacity_is : IsNumberText 1 65536 said.capacity command.capacity
+  pub nodes_are : IsNumberText 0 65536 said.nodes command.nodes
+  pub rounds_are : command.rounds ≡ 0
+
+abbrev pub NoNumbers : RunSays → Type 0
+NoNumbers said = (command : Asked) → AreNumbers said command → ⊥
+
+-- The words are `run` with its options and a word of its own, as clap takes them, and each number is in its range.
+pub record IsCommand (words : List (List ℕ)) (command : Asked) : Type 0 where
+  pub said : RunSays
+  pub said_is : run_said words ≡ Some said
+  pub numbers : AreNumbers said command
+
+abbrev pub NoCommand : List (List ℕ) → Type 0
+NoCommand words = (command : Asked) → IsCommand words command → ⊥

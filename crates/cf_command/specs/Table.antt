@@ -1,0 +1,60 @@
+-- The table of commands, and what words say by it: what clap's own definition for simple commands takes and matches.
+use Rattle.std.specs.Prelude.{◌==◌, Bool, true, List, [], ◌∷◌, Option, Some, None, codes, option_and_then, if◌then◌else◌, length}
+use Rattle.std.specs.Str.{bytes_eq}
+use Rattle.cf_command.specs.declared.table.RunTexts.{RunTexts}
+use Rattle.clap.specs.Words.{App, Rule, Row, Text, new_app, new_rule, with_rule, with_subcommand, subcommand_of, fault_of, first_of}
+
+-- an option that has to be given
+abbrev pub needed : Text → Rule
+needed id = record (new_rule id) { long = Some id; required = true }
+
+-- an option with a default
+abbrev pub optional : Text → Text → Rule
+optional id value = record (new_rule id) { long = Some id; defaults = value ∷ [] }
+
+-- a word of its own
+abbrev pub place : Text → Rule
+place id = record (new_rule id) { required = true }
+
+abbrev pub run_app : App
+run_app = with_rule (with_rule (with_rule (with_rule (with_rule (new_app (codes "run")) (needed (codes "setup"))) (optional (codes "writers") (codes "1"))) (optional (codes "capacity") (codes "65536"))) (optional (codes "nodes") (codes "1024"))) (place (codes "capture"))
+
+abbrev pub bare_app : App
+bare_app = let a = new_app (codes "confluo") in record a { top = record a.top { no_binary_name = true; subcommand_required = true } }
+
+unfoldable pub confluo_app : App
+confluo_app = with_subcommand bare_app run_app.top
+
+abbrev pub none_of : {X : Type 0} → List X → Bool
+none_of xs = length xs == 0
+
+-- the command that the words name, with its matches, where clap takes them
+unfoldable pub taken : List Text → Option (Text × List Row)
+taken words = if none_of (fault_of confluo_app words) then subcommand_of confluo_app words else None
+
+-- the texts of a `run` command
+pub record RunSays : Type 0 where
+  pub setup : Text
+  pub writers : Text
+  pub capacity : Text
+  pub nodes : Text
+  pub capture : Text
+
+abbrev pub run_says : Text → Text → Text → Text → Text → RunSays
+run_says s w n m c = record { setup = s; writers = w; capacity = n; nodes = m; capture = c }
+
+abbrev pub says_of : RunTexts → RunSays
+says_of r = run_says r.setup.now r.writers.now r.capacity.now r.nodes.now r.capture.now
+
+-- what the rows of a `run` command say
+unfoldable pub run_texts_of : List Row → Option RunSays
+run_texts_of rows =
+    option_and_then (λ s. option_and_then (λ w. option_and_then (λ n. option_and_then (λ m. option_and_then (λ c. Some (run_says s w n m c))
+    (first_of (codes "capture") rows)) (first_of (codes "nodes") rows)) (first_of (codes "capacity") rows)) (first_of (codes "writers") rows)) (first_of (codes "setup") rows)
+
+abbrev pub if_run : Text × List Row → Option RunSays
+if_run p = if bytes_eq p.0 (codes "run") then run_texts_of p.1 else None
+
+-- what the words of a `run` command say
+unfoldable pub run_said : List Text → Option RunSays
+run_said words = option_and_then if_run (taken words)

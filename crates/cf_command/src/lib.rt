@@ -1,0 +1,14 @@
+//! The words of a command line, read by clap, and what they ask for.
+#![tactic(auto)]
+
+mod number;
+mod table;
+#[cfg(test)]
+mod tests;
+mod words;
+
+use std::alloc::AllocError;
+pub use words::{RunCommand, command_of};
+
+/// Want of memory, the one refusal of reading words.
+pub type Memory = AllocError;

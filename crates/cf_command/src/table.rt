@@ -1,0 +1,145 @@
+// The table of commands, as clap is told of it.
+ghost use Rattle.std.specs.Prelude.{◌≡◌, IfOk, option_map, option_and_then, map, false};
+ghost use Rattle.clap.specs.Words.{app_of, rule_of, shape_of, subcommand_rows_of, with_rule, with_subcommand, first_of, found_of, rows_of};
+ghost use Rattle.clap.specs.declared.builder.command.Command.TheViews.{out-Command as fields_of};
+ghost use Rattle.cf_command.specs.Table.{bare_app, confluo_app, needed, optional, place, run_app, taken, run_said, run_texts_of, says_of};
+
+use crate::Memory;
+use clap::error::ErrorKind;
+use clap::{Arg, ArgMatches, Command};
+use std::alloc::{AllocError, Global};
+
+fn needed_option<'a>(alloc: Global, id: &'a str) -> Arg<'a>
+    ensures rule { rule_of result ≡ needed id.entry.now }
+    ensures local { result.global ≡ false }
+{
+    Arg::new(alloc, id).long(id).required(true)
+}
+
+fn optional_option<'a>(alloc: Global, id: &'a str, value: &'a str) -> Arg<'a>
+    ensures rule { rule_of result ≡ optional id.entry.now value.entry.now }
+    ensures local { result.global ≡ false }
+{
+    Arg::new(alloc, id).long(id).default_value(value)
+}
+
+fn own_word<'a>(alloc: Global, id: &'a str) -> Arg<'a>
+    ensures rule { rule_of result ≡ place id.entry.now }
+    ensures local { result.global ≡ false }
+{
+    Arg::new(alloc, id).required(true)
+}
+
+fn and<'a>(command: Command<'a>, arg: Arg<'a>) -> Result<Command<'a>, Memory>
+    requires { (arg.global ≡ false) × ((fields_of command).has_globals ≡ false) }
+    ensures rules { IfOk result (λ c. app_of c ≡ with_rule (app_of command.entry) (rule_of arg.entry)) }
+    ensures local { IfOk result (λ c. (fields_of c).has_globals ≡ false) }
+{
+    command.arg(arg)
+}
+
+fn run_command<'a>(alloc: Global) -> Result<Command<'a>, Memory>
+    ensures rules { IfOk result (λ c. app_of c ≡ run_app) }
+    ensures local { IfOk result (λ c. (fields_of c).has_globals ≡ false) }
+{
+    let command = Command::new(alloc, "run");
+    let command = and(command, needed_option(alloc, "setup"))?;
+    let command = and(command, optional_option(alloc, "writers", "1"))?;
+    let command = and(command, optional_option(alloc, "capacity", "65536"))?;
+    let command = and(command, optional_option(alloc, "nodes", "1024"))?;
+    and(command, own_word(alloc, "capture"))
+}
+
+fn under<'a>(command: Command<'a>, sub: Command<'a>) -> Result<Command<'a>, Memory>
+    requires { (fields_of sub).has_globals ≡ false }
+    ensures { IfOk result (λ c. app_of c ≡ with_subcommand (app_of command.entry) (shape_of sub.entry)) }
+{
+    command.subcommand(sub)
+}
+
+fn bare_command<'a>(alloc: Global) -> Command<'a>
+    ensures { app_of result ≡ bare_app }
+{
+    Command::new(alloc, "confluo")
+        .no_binary_name(true)
+        .subcommand_required(true)
+}
+
+#[tactic(auto, unfolding(crate::specs::Table::confluo_app))]
+fn confluo_command<'a>(alloc: Global) -> Result<Command<'a>, Memory>
+    ensures { IfOk result (λ c. app_of c ≡ confluo_app) }
+{
+    let command = bare_command(alloc);
+    under(command, run_command(alloc)?)
+}
+
+// The command that the words name, with its values, or nothing where clap refuses them.
+fn parse<'a>(alloc: Global, words: &'a [&'a str]) -> Result<Option<ArgMatches<'a>>, Memory>
+    ensures { IfOk result (λ o. option_and_then subcommand_rows_of o ≡ taken (map (λ w. w.now) words.entry.now)) }
+{
+    let command = confluo_command(alloc)?;
+    match command.try_get_matches_from(words) {
+        Ok(matches) => Ok(Some(matches)),
+        Err(error) => match error.kind() {
+            ErrorKind::OutOfMemory => Err(AllocError),
+            _ => Ok(None),
+        },
+    }
+}
+
+/// The texts of a `run` command.
+#[derive(Drop)]
+pub(crate) struct RunTexts<'a> {
+    pub(crate) setup: &'a str,
+    pub(crate) writers: &'a str,
+    pub(crate) capacity: &'a str,
+    pub(crate) nodes: &'a str,
+    pub(crate) capture: &'a str,
+}
+
+fn text_of<'a>(matches: &ArgMatches<'a>, id: &str) -> Option<&'a str>
+    ensures { option_map (λ s. s.now) result ≡ first_of id.now (rows_of (found_of matches.now)) }
+{
+    matches.get_str(id)
+}
+
+#[tactic(auto, unfolding(crate::specs::Table::run_texts_of))]
+fn run_texts<'a>(matches: &ArgMatches<'a>) -> Option<RunTexts<'a>>
+    ensures { option_map says_of result ≡ run_texts_of (rows_of (found_of matches.now)) }
+{
+    let setup = text_of(matches, "setup")?;
+    let writers = text_of(matches, "writers")?;
+    let capacity = text_of(matches, "capacity")?;
+    let nodes = text_of(matches, "nodes")?;
+    let capture = text_of(matches, "capture")?;
+    Some(RunTexts {
+        setup,
+        writers,
+        capacity,
+        nodes,
+        capture,
+    })
+}
+
+/// What the words of a `run` command say, or nothing where they are no such command.
+#[tactic(auto, unfolding(crate::specs::Table::run_said))]
+pub(crate) fn read_run<'a>(
+    alloc: Global,
+    words: &'a [&'a str],
+) -> Result<Option<RunTexts<'a>>, Memory>
+    ensures { IfOk result (λ o. option_map says_of o ≡ run_said (map (λ w. w.now) words.entry.now)) }
+{
+    let Some(matches) = parse(alloc, words)? else {
+        return Ok(None);
+    };
+    match matches.subcommand() {
+        Some((name, inner)) => {
+            if name == "run" {
+                Ok(run_texts(inner))
+            } else {
+                Ok(None)
+            }
+        }
+        None => Ok(None),
+    }
+}
