@@ -1,0 +1,6 @@
+pub mod Grouped
+pub mod Scanned
+pub mod Rising
+pub mod Found
+pub mod Totals
+pub mod Replays

@@ -1,0 +1,83 @@
+-- Totals and groups know no order of the rows.
+use Rattle.std.proofs.Common.{◌≡◌, ℕ, ◌+◌, Bool, true, false, cond, not, ◌&&◌, ◌==◌, List, [], ◌∷◌, ◌++◌, length, map, filter, refl, sym, ap, ap₂, ◌∙◌, inl, inr, arith}
+use Rattle.std.specs.List.{sum_by, count_by}
+use Rattle.std.proofs.lemmas.Bool.{cases_Bool}
+use Rattle.std.proofs.lemmas.List.Sums.{sum_by-cons, sum_by-append}
+use Rattle.cf_row.specs.Row.{Numbered}
+use Rattle.cf_fold.specs.Quads.{Counts, quad_of}
+use Rattle.cf_fold.proofs.Sorted.{AsOften, quad_is_one}
+use Rattle.cf_shape.specs.Lanes.{Shaped, selected_by, key_of, measure_of}
+use Rattle.cf_plain.specs.Asks.{total_over}
+use Rattle.cf_plain.specs.Groups.{keys_in, has_key, group_of, groups}
+use Rattle.cf_plain.proofs.Rising.{same_keys}
+
+-- each kind of row stands in both lists as often
+abbrev pub SameRows : List Numbered → List Numbered → Type 0
+SameRows rows others = (g : Numbered → ℕ) → sum_by g rows ≡ sum_by g others
+
+-- how often a number comes from a row that passes
+pub count_map : (f : Numbered → ℕ) (p : Numbered → Bool) (n : ℕ) (rows : List Numbered) → count_by (λ x. x == n) (map f (filter p rows)) ≡ sum_by (λ row. cond (p row) (cond (f row == n) 1 0) 0) rows
+count_map f p n [] = refl
+count_map f p n (row ∷ rows) =
+    let h : Numbered → ℕ = λ r. cond (p r) (cond (f r == n) 1 0) 0 in
+    let rest : count_by (λ x. x == n) (map f (filter p rows)) ≡ sum_by h rows = count_map f p n rows in
+    let right : sum_by h (row ∷ rows) ≡ h row + sum_by h rows = sum_by-cons h row rows in
+    elim (cases_Bool (p row)) [
+      | inl passes ↦
+          let here : h row ≡ cond (f row == n) 1 0 = ap (λ b. cond b (cond (f row == n) 1 0) 0) passes in
+          let left : count_by (λ x. x == n) (map f (filter p (row ∷ rows))) ≡ cond (f row == n) 1 0 + count_by (λ x. x == n) (map f (filter p rows)) =
+          ap (λ b. count_by (λ x. x == n) (map f (cond b (row ∷ filter p rows) (filter p rows)))) passes ∙ sum_by-cons (λ x. cond (x == n) 1 0) (f row) (map f (filter p rows)) in
+          omega (arith, rest, right, here, left)
+      | inr fails ↦
+          let here : h row ≡ 0 = ap (λ b. cond b (cond (f row == n) 1 0) 0) fails in
+          let left : count_by (λ x. x == n) (map f (filter p (row ∷ rows))) ≡ count_by (λ x. x == n) (map f (filter p rows)) = ap (λ b. count_by (λ x. x == n) (map f (cond b (row ∷ filter p rows) (filter p rows)))) fails in
+          omega (arith, rest, right, here, left)
+    ]
+
+pub often : (f : Numbered → ℕ) (p : Numbered → Bool) (rows others : List Numbered) → SameRows rows others → AsOften (map f (filter p rows)) (map f (filter p others))
+often f p rows others same n = count_map f p n rows ∙ same (λ row. cond (p row) (cond (f row == n) 1 0) 0) ∙ sym (count_map f p n others)
+
+one : (x y : Bool) (n : ℕ) → cond x n 0 ≡ cond (x && y) n 0 + cond (x && not y) n 0
+one true true n = omega arith
+one true false n = omega arith
+one false y n = refl
+
+split_sum : (g : Numbered → ℕ) (p q : Numbered → Bool) (rows : List Numbered) → sum_by (λ row. cond (p row) (g row) 0) rows ≡ sum_by (λ row. cond (p row && q row) (g row) 0) rows + sum_by (λ row. cond (p row && not (q row)) (g row) 0) rows
+split_sum g p q [] = refl
+split_sum g p q (row ∷ rows) =
+    let a = sum_by-cons (λ r. cond (p r) (g r) 0) row rows in
+    let b = sum_by-cons (λ r. cond (p r && q r) (g r) 0) row rows in
+    let c = sum_by-cons (λ r. cond (p r && not (q r)) (g r) 0) row rows in
+    let here = one (p row) (q row) (g row) in
+    omega (arith, a, b, c, here, split_sum g p q rows)
+
+-- the quad of some rows is that of those that pass a test together with those that don't, in any order
+pub total_split : (shape : Shaped) (lane : ℕ) (p q : Numbered → Bool) (rows : List Numbered) → total_over shape lane p rows ≡ quad_of (map (measure_of shape lane) (filter (λ row. p row && q row) rows) ++ map (measure_of shape lane) (filter (λ row. p row && not (q row)) rows))
+total_split shape lane p q rows = quad_is_one (map (measure_of shape lane) (filter p rows)) (map (measure_of shape lane) (filter (λ row. p row && q row) rows) ++ map (measure_of shape lane) (filter (λ row. p row && not (q row)) rows)) (λ n.
+    let left = count_map (measure_of shape lane) p n rows in
+    let with' = count_map (measure_of shape lane) (λ row. p row && q row) n rows in
+    let without = count_map (measure_of shape lane) (λ row. p row && not (q row)) n rows in
+    let both = sum_by-append (λ x. cond (x == n) 1 0) (map (measure_of shape lane) (filter (λ row. p row && q row) rows)) (map (measure_of shape lane) (filter (λ row. p row && not (q row)) rows)) in
+    let parts = split_sum (λ row. cond (measure_of shape lane row == n) 1 0) p q rows in
+    omega (arith, left, with', without, both, parts))
+
+pub map_agree : {X Y : Type 0} (f g : X → Y) → ((x : X) → f x ≡ g x) → (xs : List X) → map f xs ≡ map g xs
+map_agree f g same [] = refl
+map_agree f g same (x ∷ xs) = ap₂ (λ y ys. y ∷ ys) (same x) (map_agree f g same xs)
+
+-- as many rows
+length_sum : (rows : List Numbered) → sum_by (λ row. 1) rows ≡ length rows
+length_sum [] = refl
+length_sum (row ∷ rows) = sum_by-cons (λ r. 1) row rows ∙ omega (arith, length_sum rows)
+
+module _ (shape : Shaped) (rows others : List Numbered) (same : SameRows rows others) where
+  pub same_total : (lane : ℕ) (p : Numbered → Bool) → total_over shape lane p rows ≡ total_over shape lane p others
+  same_total lane p = quad_is_one _ _ (often (measure_of shape lane) p rows others same)
+
+  pub same_groups : (lane : ℕ) → groups shape lane rows ≡ groups shape lane others
+  same_groups lane =
+      map_agree (group_of shape lane rows) (group_of shape lane others) (λ k. ap (λ (q : Counts). (k, q)) (same_total lane (has_key shape lane k))) (keys_in shape lane rows)
+      ∙ ap (map (group_of shape lane others)) (same_keys (map (key_of shape lane) (filter (selected_by shape lane) rows)) (map (key_of shape lane) (filter (selected_by shape lane) others)) (often (key_of shape lane) (selected_by shape lane) rows others same))
+
+  pub same_length : length rows ≡ length others
+  same_length = sym (length_sum rows) ∙ same (λ row. 1) ∙ length_sum others

@@ -1,0 +1,100 @@
+// Answers.
+use cf_fold::Quad;
+use std::marker::Model;
+
+/// A bucket in which a trigger fired, and the trigger's part of its quad.
+#[derive(Clone, Copy, Debug, PartialEq, Eq)]
+pub struct Fired {
+    pub bucket: u64,
+    pub value: u64,
+}
+
+/// Places in a log. Those of an answer ascend.
+#[derive(Debug, Drop)]
+pub struct Places {
+    items: Vec<u32>,
+}
+
+impl Model for Places {
+    ghost use Rattle.std.specs.Prelude.{List, ℕ};
+
+    ghost Value = { List ℕ };
+
+    ghost view = { λ p. p.items.items };
+}
+
+impl Places {
+    ghost use Rattle.std.specs.Prelude.{◌≡◌};
+
+    /// These places.
+    pub fn new(items: Vec<u32>) -> Places
+        ensures { result ≡ items.items }
+    {
+        Places { items }
+    }
+
+    pub fn as_slice(&self) -> &[u32]
+        ensures { result.now ≡ self.now }
+    {
+        self.items.as_slice()
+    }
+
+    pub fn into_vec(self) -> Vec<u32>
+        ensures { result.items ≡ self }
+    {
+        self.items
+    }
+}
+
+/// Marks of a trigger. Those of an answer ascend by bucket.
+#[derive(Debug, Drop)]
+pub struct Marks {
+    items: Vec<Fired>,
+}
+
+impl Model for Marks {
+    ghost use Rattle.std.specs.Prelude.{List};
+    ghost use Rattle.cf_plain.specs.declared.answer.Fired.{Fired};
+
+    ghost Value = { List Fired };
+
+    ghost view = { λ m. m.items.items };
+}
+
+impl Marks {
+    ghost use Rattle.std.specs.Prelude.{◌≡◌};
+
+    /// These marks.
+    pub fn new(items: Vec<Fired>) -> Marks
+        ensures { result ≡ items.items }
+    {
+        Marks { items }
+    }
+
+    pub fn as_slice(&self) -> &[Fired]
+        ensures { result.now ≡ self.now }
+    {
+        self.items.as_slice()
+    }
+
+    pub fn into_vec(self) -> Vec<Fired>
+        ensures { result.items ≡ self }
+    {
+        self.items
+    }
+}
+
+/// What a question found.
+#[derive(Debug, Drop)]
+pub enum Body {
+    Places(Places),
+    Total(Quad),
+    Marks(Marks),
+}
+
+/// What a question found in the log's first `tail` entries.
+#[derive(Debug, Drop)]
+pub struct Answer {
+    pub tail: u32,
+    pub body: Body,
+}

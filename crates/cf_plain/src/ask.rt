@@ -1,0 +1,104 @@
+// Questions.
+ghost use Rattle.std.specs.Prelude.{◌≡◌, ◌↔◌, IsTrue, IfOk};
+ghost use Rattle.cf_plain.specs.Asks.{Suits, is_attr as is_attr_of, is_indexed as is_indexed_of, is_bucketed as is_bucketed_of, is_aggregate as is_aggregate_of, suits_trigger as suits_trigger_of};
+
+use cf_fold::Trigger;
+use cf_row::{Expr, Memory, Op, is_of_schema};
+use cf_shape::{Key, Shape};
+use std::alloc::Global;
+
+/// A question. A lane goes by its number. Ranges take in both ends; one whose first end is above its last is empty.
+#[derive(Debug, Drop)]
+pub enum Ask {
+    /// The places of the rows of which the expression holds.
+    List(Expr),
+    /// The places of the lane's rows whose key is in the range. The lane's key is an attribute.
+    Find(u8, u64, u64),
+    /// The places of the lane's rows whose bucket is in the range.
+    Between(u8, u64, u64),
+    /// The quad of what the lane measures of its rows whose bucket is in the range.
+    Measure(u8, u64, u64),
+    /// The buckets in which the trigger fires.
+    Fired(Trigger),
+}
+
+impl Ask {
+    /// An equal question.
+    pub fn copy(&self, alloc: Global) -> Result<Ask, Memory>
+        ensures { IfOk result (λ ask. ask ≡ self.now) }
+    {
+        match self {
+            Ask::List(expr) => Ok(Ask::List(expr.copy(alloc)?)),
+            Ask::Find(lane, low, high) => Ok(Ask::Find(*lane, *low, *high)),
+            Ask::Between(lane, low, high) => Ok(Ask::Between(*lane, *low, *high)),
+            Ask::Measure(lane, low, high) => Ok(Ask::Measure(*lane, *low, *high)),
+            Ask::Fired(trigger) => Ok(Ask::Fired(*trigger)),
+        }
+    }
+}
+
+fn is_attr(key: Key) -> bool
+    ensures { result ≡ is_attr_of key }
+{
+    match key {
+        Key::Attr(_) => true,
+        Key::Bucket => false,
+    }
+}
+
+// Whether the lane exists and has an attribute's value as its key.
+fn is_indexed(shape: &Shape, lane: u8) -> bool
+    ensures { result ≡ is_indexed_of shape.now lane }
+{
+    match shape.lanes().get(lane as usize) {
+        Some(lane) => is_attr(lane.key),
+        None => false,
+    }
+}
+
+// Whether the lane exists and has the bucket as its key.
+fn is_bucketed(shape: &Shape, lane: u8) -> bool
+    ensures { result ≡ is_bucketed_of shape.now lane }
+{
+    match shape.lanes().get(lane as usize) {
+        Some(lane) => !is_attr(lane.key),
+        None => false,
+    }
+}
+
+// Whether the lane exists, has the bucket as its key and measures something.
+fn is_aggregate(shape: &Shape, lane: u8) -> bool
+    ensures { result ≡ is_aggregate_of shape.now lane }
+{
+    match shape.lanes().get(lane as usize) {
+        Some(lane) => !is_attr(lane.key) && lane.measure.is_some(),
+        None => false,
+    }
+}
+
+fn suits_trigger(shape: &Shape, trigger: &Trigger) -> bool
+    ensures { result ≡ suits_trigger_of shape.now trigger.now }
+{
+    if !is_aggregate(shape, trigger.agg) {
+        return false;
+    }
+    match trigger.op {
+        Op::Within => false,
+        _ => true,
+    }
+}
+
+/// Whether the question can be asked of a log of that shape. `List` wants an expression of the schema, `Find` a lane
+/// whose key is an attribute, `Between` one whose key is the bucket, `Measure` and `Fired` one that also measures
+/// something, and `Fired` an operator other than `Within`.
+pub fn suits(shape: &Shape, ask: &Ask) -> bool
+    ensures { IsTrue result ↔ Suits shape.now ask.now }
+{
+    match ask {
+        Ask::List(expr) => is_of_schema(shape.schema(), expr),
+        Ask::Find(lane, _, _) => is_indexed(shape, *lane),
+        Ask::Between(lane, _, _) => is_bucketed(shape, *lane),
+        Ask::Measure(lane, _, _) => is_aggregate(shape, *lane),
+        Ask::Fired(trigger) => suits_trigger(shape, trigger),
+    }
+}

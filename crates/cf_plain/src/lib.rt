@@ -1,0 +1,17 @@
+//! A log of one thread: a list of rows, and what questions mean on it.
+#![tactic(auto)]
+
+mod answer;
+mod ask;
+mod calls;
+mod history;
+mod plain;
+mod scan;
+#[cfg(test)]
+mod tests;
+
+pub use answer::{Answer, Body, Fired, Marks, Places};
+pub use ask::{Ask, suits};
+pub use calls::{Call, Reply, run_calls};
+pub use history::{replies_are_histories, spelled_are_histories};
+pub use plain::Plain;

@@ -1,0 +1,97 @@
+// The list of one thread.
+ghost use Rattle.std.specs.Prelude.{◌≡◌, ℕ, ◌<◌, ◌≤◌, ◌^◌, ◌∷◌, [], ◌++◌, length, IfOk, OnErr};
+ghost use Rattle.cf_row.specs.Row.{Fits};
+ghost use Rattle.cf_plain.specs.Asks.{Suits, eval};
+
+use crate::scan::{marks_of, places_of, total_of};
+use crate::{Answer, Ask, Body};
+use cf_row::{Entry, Memory, Row};
+use cf_shape::Shape;
+use std::alloc::Global;
+use std::marker::Model;
+
+/// A log of one thread: a shape, and the entries that were appended, in order. A question is answered by going over
+/// them. There are at most 2^20.
+#[derive(Debug, Drop)]
+pub struct Plain {
+    shape: Shape,
+    entries: Vec<Entry>,
+}
+
+impl Model for Plain {
+    ghost use Rattle.cf_plain.specs.Asks.{Held, IsHeld};
+
+    ghost Value = { Held };
+
+    ghost view = { λ p. record { shape = p.shape; entries = p.entries.items } };
+
+    ghost invariant = { λ p. IsHeld (record { shape = p.shape; entries = p.entries.items }) };
+}
+
+impl Plain {
+    ghost use Rattle.cf_plain.specs.Asks.{IsHeld};
+
+    /// The empty log of that shape. It takes no memory; `alloc` is kept for the entries.
+    pub fn new(alloc: Global, shape: Shape) -> Plain
+        ensures shape { result.shape ≡ shape }
+        ensures empty { result.entries ≡ [] }
+    {
+        Plain {
+            shape,
+            entries: Vec::new(alloc),
+        }
+    }
+
+    /// The log's shape.
+    pub fn shape(&self) -> &Shape
+        ensures { result.now ≡ self.now.shape }
+    {
+        &self.shape
+    }
+
+    /// The entries, in the order in which they were appended.
+    pub fn entries(&self) -> &[Entry]
+        ensures entries { result.now ≡ self.now.entries }
+        ensures held { IsHeld self.now }
+    {
+        self.entries.as_slice()
+    }
+
+    /// Appends the row as that writer's, and answers its place, which is how many entries stood before it.
+    pub fn append(&mut self, writer: u8, row: Row) -> Result<u32, Memory>
+        requires few { length self.old.entries < 2 ^ 20 }
+        requires fits { Fits self.old.shape.schema row }
+        ensures shape { self.new.shape ≡ self.old.shape }
+        ensures ok { IfOk result (λ offset. (offset ≡ length self.old.entries) × (self.new.entries ≡ self.old.entries ++ record { writer = writer; row = row } ∷ [])) }
+        ensures err { OnErr result (self.new.entries ≡ self.old.entries) }
+    {
+        let offset = self.entries.len() as u32;
+        self.entries.push(Entry { writer, row })?;
+        Ok(offset)
+    }
+
+    /// The question's meaning on the entries, and how many they are.
+    pub fn ask(&self, alloc: Global, ask: &Ask) -> Result<Answer, Memory>
+        requires suits { Suits self.now.shape ask.now }
+        ensures { IfOk result (λ answer. (answer.tail ≡ length self.now.entries) × (answer.body ≡ eval self.now.shape ask.now self.now.entries)) }
+    {
+        let tail = self.entries.len() as u32;
+        let body = self.body(alloc, ask)?;
+        Ok(Answer { tail, body })
+    }
+
+    fn body(&self, alloc: Global, ask: &Ask) -> Result<Body, Memory>
+        requires suits { Suits self.now.shape ask.now }
+        ensures { IfOk result (λ body. body ≡ eval self.now.shape ask.now self.now.entries) }
+    {
+        let shape = &self.shape;
+        let entries = self.entries.as_slice();
+        match ask {
+            Ask::List(_) => Ok(Body::Places(places_of(alloc, shape, ask, entries)?)),
+            Ask::Find(_, _, _) => Ok(Body::Places(places_of(alloc, shape, ask, entries)?)),
+            Ask::Between(_, _, _) => Ok(Body::Places(places_of(alloc, shape, ask, entries)?)),
+            Ask::Measure(lane, _, _) => Ok(Body::Total(total_of(shape, ask, *lane, entries))),
+            Ask::Fired(trigger) => Ok(Body::Marks(marks_of(alloc, shape, trigger, entries)?)),
+        }
+    }
+}

@@ -1,0 +1,324 @@
+ghost use Rattle.std.specs.Prelude.{◌≡◌, ◌↔◌, IsTrue, true, slice_get};
+ghost use Rattle.cf_shape.specs.Faults.{is_lane_of, key_exists, measure_exists};
+
+use super::*;
+use cf_fold::{Part, Quad, Trigger};
+use cf_row::{
+    Atom, Attr, Conjunction, Entry, Expr, Kind, Memory, Name, Op, Row, Schema, Value, fits,
+    is_of_schema,
+};
+use cf_shape::{Key, Lane, Shape};
+use std::alloc::Global;
+use std::process::Abort;
+use std::test::Fail;
+
+fn attrs(alloc: Global, kinds: &[(&str, Kind)]) -> Result<Vec<Attr>, Memory> {
+    let mut attrs = Vec::new(alloc);
+    for (name, kind) in kinds {
+        attrs.push(Attr {
+            name: Name::new(alloc, name)?,
+            kind: *kind,
+        })?;
+    }
+    Ok(attrs)
+}
+
+fn row_of(alloc: Global, num: u32, numbers: &[u64]) -> Result<Row, Memory> {
+    let mut values = Vec::new(alloc);
+    for number in numbers {
+        values.push(Value::Num(*number))?;
+    }
+    Ok(Row::new(num, values))
+}
+
+fn atom(attr: u8, op: Op, number: u64) -> Atom {
+    Atom {
+        attr,
+        op,
+        low: Value::Num(number),
+        high: Value::Num(number),
+    }
+}
+
+fn expr_of(alloc: Global, conjunctions: &[&[Atom]]) -> Result<Expr, Memory> {
+    let mut all = Vec::new(alloc);
+    for atoms in conjunctions {
+        all.push(Conjunction::new(atoms.to_vec(alloc)?))?;
+    }
+    Ok(Expr::new(all))
+}
+
+fn has_key(attrs: &[Attr], key: Key) -> bool
+    ensures { result ≡ key_exists attrs.now key }
+{
+    match key {
+        Key::Attr(attr) => attrs.get(attr as usize).is_some(),
+        Key::Bucket => true,
+    }
+}
+
+fn has_measure(attrs: &[Attr], measure: Option<u8>) -> bool
+    ensures { result ≡ measure_exists attrs.now measure }
+{
+    match measure {
+        Some(attr) => attrs.get(attr as usize).is_some(),
+        None => true,
+    }
+}
+
+// Whether the lane is of the schema.
+fn belongs(schema: &Schema, lane: &Lane) -> bool
+    ensures { IsTrue result ↔ (is_lane_of schema.now lane.now ≡ true) }
+{
+    is_of_schema(schema, &lane.select)
+        && has_key(schema.attrs(), lane.key)
+        && has_measure(schema.attrs(), lane.measure)
+}
+
+// The numbers of a body, in order.
+fn numbers_of(alloc: Global, body: &Body) -> Result<Vec<u64>, Memory> {
+    let mut numbers = Vec::new(alloc);
+    match body {
+        Body::Places(places) => {
+            for place in places.as_slice() {
+                numbers.push(u64::from(*place))?;
+            }
+        }
+        Body::Total(quad) => {
+            let four = [quad.count(), quad.sum(), quad.least(), quad.greatest()];
+            numbers.extend_from_slice(&four)?;
+        }
+        Body::Marks(marks) => {
+            for mark in marks.as_slice() {
+                numbers.push(mark.bucket)?;
+                numbers.push(mark.value)?;
+            }
+        }
+    }
+    Ok(numbers)
+}
+
+// A shape with one lane, which takes all rows; None where the lane isn't of the schema.
+fn shape_of(
+    alloc: Global,
+    kinds: &[(&str, Kind)],
+    key: Key,
+    measure: Option<u8>,
+) -> Result<Option<Shape>, Fail> {
+    let schema = Schema::new(attrs(alloc, kinds)?)?;
+    let lane = Lane {
+        select: expr_of(alloc, &[&[]])?,
+        key,
+        measure,
+    };
+    if !belongs(&schema, &lane) {
+        return Ok(None);
+    }
+    let mut lanes = Vec::new(alloc);
+    lanes.push(lane)?;
+    Ok(Some(Shape::new(schema, lanes, 8, 1, 32, 10)?))
+}
+
+// Appends the rows of these numbers; false at a row that doesn't fit.
+fn append_all(alloc: Global, plain: &mut Plain, table: &[&[u64]]) -> Result<bool, Memory> {
+    for numbers in table {
+        let row = row_of(alloc, 7, numbers)?;
+        if !fits(plain.shape().schema(), &row) {
+            return Ok(false);
+        }
+        if plain.entries().len() >= 1 << 20 {
+            return Ok(false);
+        }
+        plain.append(0, row)?;
+    }
+    Ok(true)
+}
+
+fn check(
+    rt: &impl Abort,
+    alloc: Global,
+    plain: &Plain,
+    ask: &Ask,
+    found: Option<&[u64]>,
+) -> Result<(), Memory> {
+    let answer = answer_to(alloc, plain, ask)?;
+    assert_eq!(rt; answer.as_deref(), found);
+    Ok(())
+}
+
+// The tail of the answer and then what it found; None where the question doesn't suit.
+fn answer_to(alloc: Global, plain: &Plain, ask: &Ask) -> Result<Option<Vec<u64>>, Memory> {
+    let ask = ask.copy(alloc)?;
+    if !suits(plain.shape(), &ask) {
+        return Ok(None);
+    }
+    let answer = plain.ask(alloc, &ask)?;
+    let mut numbers = Vec::new(alloc);
+    numbers.push(u64::from(answer.tail))?;
+    numbers.extend_from_slice(&numbers_of(alloc, &answer.body)?)?;
+    Ok(Some(numbers))
+}
+
+fn trigger(part: Part, op: Op, number: u64) -> Ask {
+    Ask::Fired(Trigger {
+        agg: 0,
+        part,
+        op,
+        number,
+    })
+}
+
+// The log of five packets, by the time in tens; None is for a fault of this fixture.
+fn five_packets(alloc: Global) -> Result<Option<Plain>, Fail> {
+    let kinds = [
+        ("ts", Kind::U64),
+        ("dport", Kind::U16),
+        ("len", Kind::U32),
+        ("proto", Kind::U8),
+    ];
+    let Some(shape) = shape_of(alloc, &kinds, Key::Bucket, Some(2))? else {
+        return Ok(None);
+    };
+    let mut plain = Plain::new(alloc, shape.copy(alloc)?);
+    let packets: [&[u64]; 5] = [
+        &[0, 80, 101, 6],
+        &[0, 80, 100, 6],
+        &[0, 53, 60, 17],
+        &[9, 80, 200, 17],
+        &[10, 443, 500, 6],
+    ];
+    if !append_all(alloc, &mut plain, &packets)? {
+        return Ok(None);
+    }
+    Ok(Some(plain))
+}
+
+#[test]
+fn packets_are_listed_by_an_expression(rt: HostRuntime) -> Result<(), Fail> {
+    let alloc = rt.alloc();
+    let plain = five_packets(alloc)?.expect(&rt, "lawful");
+    let web: [&[Atom]; 2] = [
+        &[atom(1, Op::Eq, 80), atom(2, Op::Gt, 100)],
+        &[atom(3, Op::Eq, 17)],
+    ];
+    let list = Ask::List(expr_of(alloc, &web)?);
+    check(&rt, alloc, &plain, &list, Some(&[5, 0, 2, 3]))?;
+    Ok(())
+}
+
+#[test]
+fn packets_are_measured_by_their_buckets(rt: HostRuntime) -> Result<(), Fail> {
+    let alloc = rt.alloc();
+    let plain = five_packets(alloc)?.expect(&rt, "lawful");
+    for (lane, low, high, found) in [
+        (0, 0, 1, Some([5, 5, 961, 60, 500].as_slice())),
+        (0, 1, 0, Some(&[5, 0, 0, 0, 0])),
+        (0, 7, 9, Some(&[5, 0, 0, 0, 0])),
+        (1, 0, 9, None),
+    ] {
+        check(&rt, alloc, &plain, &Ask::Measure(lane, low, high), found)?;
+    }
+    Ok(())
+}
+
+#[test]
+fn packets_are_found_by_their_buckets_alone(rt: HostRuntime) -> Result<(), Fail> {
+    let alloc = rt.alloc();
+    let plain = five_packets(alloc)?.expect(&rt, "lawful");
+    check(&rt, alloc, &plain, &Ask::Between(0, 1, 1), Some(&[5, 4]))?;
+    check(&rt, alloc, &plain, &Ask::Find(0, 0, 9), None)?;
+    Ok(())
+}
+
+#[test]
+fn buckets_in_which_a_trigger_fires(rt: HostRuntime) -> Result<(), Fail> {
+    let alloc = rt.alloc();
+    let plain = five_packets(alloc)?.expect(&rt, "lawful");
+    for (part, op, number, found) in [
+        (Part::Count, Op::Ge, 1, Some([5, 0, 4, 1, 1].as_slice())),
+        (Part::Sum, Op::Gt, 461, Some(&[5, 1, 500])),
+        (Part::Least, Op::Lt, 5, Some(&[5])),
+        (Part::Sum, Op::Within, 461, None),
+    ] {
+        check(&rt, alloc, &plain, &trigger(part, op, number), found)?;
+    }
+    Ok(())
+}
+
+#[test]
+fn sources_of_one_network(rt: HostRuntime) -> Result<(), Fail> {
+    let alloc = rt.alloc();
+    let kinds = [("ts", Kind::U64), ("src", Kind::U32)];
+    let shape = shape_of(alloc, &kinds, Key::Attr(1), None)?.expect(&rt, "lawful");
+    let mut plain = Plain::new(alloc, shape);
+    let sources: [&[u64]; 4] = [
+        &[0, 0x09ff_ffff],
+        &[0, 0x0a00_0000],
+        &[0, 0x0aff_ffff],
+        &[0, 0x0b00_0000],
+    ];
+    assert!(rt; append_all(alloc, &mut plain, &sources)?);
+    let find = Ask::Find(0, 0x0a00_0000, 0x0aff_ffff);
+    check(&rt, alloc, &plain, &find, Some(&[4, 1, 2]))?;
+    check(&rt, alloc, &plain, &Ask::Find(0, 2, 1), Some(&[4]))?;
+    Ok(())
+}
+
+// The replies to two appends and a question; None where one of them isn't lawful.
+fn replies_of(
+    alloc: Global,
+    shape: Shape,
+    first: Row,
+    second: Row,
+    ask: Ask,
+) -> Result<Option<Vec<Reply>>, Memory> {
+    if !fits(shape.schema(), &first) {
+        return Ok(None);
+    }
+    if !fits(shape.schema(), &second) {
+        return Ok(None);
+    }
+    if !suits(&shape, &ask) {
+        return Ok(None);
+    }
+    let mut calls = Vec::new(alloc);
+    calls.push(Call::Append(Entry {
+        writer: 0,
+        row: first,
+    }))?;
+    calls.push(Call::Append(Entry {
+        writer: 1,
+        row: second,
+    }))?;
+    calls.push(Call::Ask(ask))?;
+    Ok(Some(run_calls(alloc, shape, calls)?))
+}
+
+// An appended entry's place, or an answer's tail and then what it found.
+fn reply_numbers(alloc: Global, reply: &Reply) -> Result<Vec<u64>, Memory> {
+    let mut numbers = Vec::new(alloc);
+    match reply {
+        Reply::Place(place) => numbers.push(u64::from(*place))?,
+        Reply::Told(answer) => {
+            numbers.push(u64::from(answer.tail))?;
+            numbers.extend_from_slice(&numbers_of(alloc, &answer.body)?)?;
+        }
+    }
+    Ok(numbers)
+}
+
+#[test]
+fn calls_of_one_thread(rt: HostRuntime) -> Result<(), Fail> {
+    let alloc = rt.alloc();
+    let shape = shape_of(alloc, &[("ts", Kind::U64)], Key::Bucket, None)?.expect(&rt, "lawful");
+    let first = row_of(alloc, 0, &[5])?;
+    let second = row_of(alloc, 1, &[3])?;
+    let all = Ask::List(expr_of(alloc, &[&[]])?);
+    let replies = replies_of(alloc, shape, first, second, all)?.expect(&rt, "lawful");
+    let mut numbers = Vec::new(alloc);
+    for reply in &replies {
+        numbers.extend_from_slice(&reply_numbers(alloc, reply)?)?;
+    }
+    assert_eq!(rt; numbers.as_slice(), [0, 1, 2, 0, 1].as_slice());
+    Ok(())
+}

@@ -1,0 +1,5 @@
+pub mod Counts
+pub mod Measured
+pub mod Used
+pub mod Slots
+pub mod Bounds

@@ -1,0 +1,94 @@
+-- Lanes: which rows each takes, by which key, and what it measures.
+use Rattle.std.specs.Prelude.{◌≡◌, ℕ, ◌/◌, ◌≤◌, ◌^◌, Bool, true, false, ◌&&◌, List, [], length, slice_get, slice_index_or}
+use Rattle.std.specs.List.{list_all}
+use Rattle.std.specs.declared.option.Option.{Option}
+use Rattle.std.specs.declared.option.Option.TheVariants.{Some, None}
+use Rattle.cf_row.specs.declared.schema.Attr.{Attr}
+use Rattle.cf_row.specs.declared.schema.Kind.{Kind}
+use Rattle.cf_row.specs.declared.schema.Kind.TheVariants.{U8, U16, U32, U64, Bytes}
+use Rattle.cf_row.specs.Expr.{holds_of, is_of_schema}
+use Rattle.cf_row.specs.Row.{Numbered}
+use Rattle.cf_row.specs.Schema.{IsSchema}
+use Rattle.cf_row.specs.Times.{number_at, time_of}
+use Rattle.cf_shape.specs.declared.lane.Lane.{Lane}
+use Rattle.cf_shape.specs.declared.lane.Key.{Key}
+use Rattle.cf_shape.specs.declared.lane.Key.TheVariants as keys
+
+-- a log's shape as contracts see it
+pub record Shaped : Type 0 where
+  pub schema : List Attr
+  pub lanes : List Lane
+  pub capacity : ℕ
+  pub writers : ℕ
+  pub nodes : ℕ
+  pub width : ℕ
+
+-- takes no row, and stands where a lane doesn't exist
+abbrev pub no_lane : Lane
+no_lane = record { select = []; key = keys.Bucket; measure = None }
+
+abbrev pub lane_at : Shaped → ℕ → Lane
+lane_at shape lane = slice_index_or shape.lanes lane no_lane
+
+-- the lane takes the rows of which its expression holds
+abbrev pub selected_by : Shaped → ℕ → Numbered → Bool
+selected_by shape lane row = holds_of (lane_at shape lane).select row
+
+-- a row's bucket: its time in whole widths
+abbrev pub bucket_of : Shaped → Numbered → ℕ
+bucket_of shape row = time_of shape.schema row / shape.width
+
+abbrev pub key_by : Shaped → Key → Numbered → ℕ
+key_by shape (keys.Attr attr) row = number_at row attr
+key_by shape keys.Bucket row = bucket_of shape row
+
+abbrev pub key_of : Shaped → ℕ → Numbered → ℕ
+key_of shape lane row = key_by shape (lane_at shape lane).key row
+
+-- 0 where the lane measures nothing
+abbrev pub measure_by : Option ℕ → Numbered → ℕ
+measure_by None row = 0
+measure_by (Some attr) row = number_at row attr
+
+abbrev pub measure_of : Shaped → ℕ → Numbered → ℕ
+measure_of shape lane row = measure_by (lane_at shape lane).measure row
+
+-- the attribute exists, and its kind passes
+abbrev pub option_passes : (Kind → Bool) → Option Attr → Bool
+option_passes passes None = false
+option_passes passes (Some attr) = passes attr.kind
+
+abbrev pub is_number : Kind → Bool
+is_number (Bytes k) = false
+is_number U8 = true
+is_number U16 = true
+is_number U32 = true
+is_number U64 = true
+
+-- numbers below 2^32
+abbrev pub is_narrow : Kind → Bool
+is_narrow (Bytes k) = false
+is_narrow U8 = true
+is_narrow U16 = true
+is_narrow U32 = true
+is_narrow U64 = false
+
+abbrev pub is_lawful_key : List Attr → Key → Bool
+is_lawful_key attrs (keys.Attr attr) = option_passes is_number (slice_get attrs attr)
+is_lawful_key attrs keys.Bucket = true
+
+abbrev pub is_lawful_measure : List Attr → Option ℕ → Bool
+is_lawful_measure attrs None = true
+is_lawful_measure attrs (Some attr) = option_passes is_narrow (slice_get attrs attr)
+
+abbrev pub is_lawful_lane : List Attr → Lane → Bool
+is_lawful_lane attrs lane = is_of_schema attrs lane.select && is_lawful_key attrs lane.key && is_lawful_measure attrs lane.measure
+
+pub record IsShape (shape : Shaped) : Type 0 where
+  pub schema : IsSchema shape.schema
+  pub few : length shape.lanes ≤ 16
+  pub capacity : (1 ≤ shape.capacity) × (shape.capacity ≤ 65536)
+  pub writers : (1 ≤ shape.writers) × (shape.writers ≤ 15)
+  pub nodes : shape.nodes ≤ 65536
+  pub width : (1 ≤ shape.width) × (shape.width ≤ 2 ^ 63)
+  pub lanes : list_all (is_lawful_lane shape.schema) shape.lanes ≡ true

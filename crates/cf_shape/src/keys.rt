@@ -1,0 +1,50 @@
+// What a lane says of a row.
+ghost use Rattle.std.specs.Prelude.{◌≡◌, ◌<◌, length};
+ghost use Rattle.cf_row.specs.Row.{Fits};
+ghost use Rattle.cf_shape.specs.Lanes.{key_of, selected_by, measure_of};
+ghost use Rattle.cf_shape.specs.Nodes.{levels_of};
+
+use crate::kinds::key_nibbles;
+use crate::{Key, Shape};
+use cf_row::{Row, holds};
+
+/// Whether the lane takes the row.
+pub fn selects(shape: &Shape, lane: u8, row: &Row) -> bool
+    requires exists { lane < length shape.now.lanes }
+    requires fits { Fits shape.now.schema row.now }
+    ensures { result ≡ selected_by shape.now lane row.now }
+{
+    holds(shape.schema(), &shape.lane(lane).select, row)
+}
+
+/// The row's key in the lane.
+pub fn key(shape: &Shape, lane: u8, row: &Row) -> u64
+    requires exists { lane < length shape.now.lanes }
+    requires fits { Fits shape.now.schema row.now }
+    ensures { result ≡ key_of shape.now lane row.now }
+{
+    match shape.lane(lane).key {
+        Key::Attr(attr) => row.number(attr),
+        Key::Bucket => row.time(shape.schema()) / shape.width(),
+    }
+}
+
+/// What the lane measures of the row, 0 where it measures nothing.
+pub fn measure(shape: &Shape, lane: u8, row: &Row) -> u32
+    requires exists { lane < length shape.now.lanes }
+    requires fits { Fits shape.now.schema row.now }
+    ensures { result ≡ measure_of shape.now lane row.now }
+{
+    match shape.lane(lane).measure {
+        Some(attr) => row.number(attr) as u32,
+        None => 0,
+    }
+}
+
+/// How many nibbles the lane's keys have: 2, 4, 8 or 16 for keys of 1, 2, 4 or 8 bytes, and 16 for buckets.
+pub fn levels(shape: &Shape, lane: u8) -> u8
+    requires exists { lane < length shape.now.lanes }
+    ensures { result ≡ levels_of shape.now lane }
+{
+    key_nibbles(shape.schema().attrs(), shape.lane(lane).key)
+}
