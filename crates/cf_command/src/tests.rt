@@ -1,29 +1,31 @@
 use super::*;
+use std::alloc::Global;
 use std::test::Fail;
+
+// The capacity and the nodes of a command whose words have spaces between them.
+fn numbers_of(alloc: Global, text: &str) -> Result<Option<(u32, u32)>, Memory> {
+    let mut words = Vec::new(alloc);
+    for word in text.split(' ') {
+        words.push(word)?;
+    }
+    let command = command_of(alloc, &words)?;
+    Ok(command.map(|command| (command.capacity, command.nodes)))
+}
 
 #[test]
 fn words_are_read_by_the_table(rt: HostRuntime) -> Result<(), Fail> {
     let alloc = rt.alloc();
-    let table: [(&[&str], Option<(u32, u32)>); 8] = [
-        (&["run", "--setup", "s", "c"], Some((65536, 1024))),
-        (
-            &["run", "c", "--capacity", "4", "--setup", "s"],
-            Some((4, 1024)),
-        ),
-        (
-            &["run", "--nodes=0", "--setup=s", "--writers=1", "c"],
-            Some((65536, 0)),
-        ),
-        (&[], None),
-        (&["run", "c"], None),
-        (&["run", "--setup", "s"], None),
-        (&["dump", "c"], None),
-        (&["run", "--setup", "s", "--setup", "t", "c"], None),
-    ];
-    for (words, answer) in table {
-        let command = command_of(alloc, words)?;
-        let numbers = command.map(|command| (command.capacity, command.nodes));
-        assert_eq!(rt; numbers, answer, "of {words:?}");
+    for (text, answer) in [
+        ("run --setup s c", Some((65536, 1024))),
+        ("run c --capacity 4 --setup s", Some((4, 1024))),
+        ("run --nodes=0 --setup=s --writers=1 c", Some((65536, 0))),
+        ("", None),
+        ("run c", None),
+        ("run --setup s", None),
+        ("dump c", None),
+        ("run --setup s --setup t c", None),
+    ] {
+        assert_eq!(rt; numbers_of(alloc, text)?, answer, "of {text}");
     }
     Ok(())
 }

@@ -1,0 +1,258 @@
+-- Names, operators and connectives are read just as the grammar says.
+use Rattle.std.proofs.Common.{◌≡◌, ℕ, List, [], ◌∷◌, length, Bool, true, false, ◌||◌, not, cond, nat_le, Option, Some, None, Result, Ok, Err, refl, sym, ap, ◌∙◌, inl, inr, arith, subst, codes, ◌==◌}
+use Rattle.std.specs.Str.{bytes_eq}
+use Rattle.std.specs.List.{prefix_len}
+use Rattle.std.proofs.lemmas.Bool.{and_parts, false≢true, leb-true, eqb-true, or_cases, ne_eqb}
+use Rattle.std.proofs.lemmas.Slice.Eq.{bytes_eq-Decides}
+use Rattle.cf_row.specs.declared.schema.Attr.{Attr}
+use Rattle.cf_row.specs.declared.schema.Kind.{Kind}
+use Rattle.cf_row.specs.declared.expr.Op.{Op}
+use Rattle.cf_row.specs.declared.expr.Op.TheVariants.{Eq, Ne, Lt, Le, Gt, Ge, Within}
+use Rattle.cf_row.specs.Expr.{suits_kind}
+use Rattle.cf_filter.specs.declared.bytes.Class.{Class}
+use Rattle.cf_filter.specs.declared.bytes.Class.TheVariants.{Letter, Name, Operator}
+use Rattle.cf_filter.specs.declared.fault.Offence.{Offence}
+use Rattle.cf_filter.specs.declared.fault.Offence.TheVariants.{Syntax, UnknownName, BadOperator, ValueRange, TooLong}
+use Rattle.cf_filter.specs.declared.fault.Stop.{Stop}
+use Rattle.cf_filter.specs.declared.atom.Link.{Link}
+use Rattle.cf_filter.specs.declared.atom.Link.TheVariants.{End, And, Or}
+use Rattle.cf_filter.specs.Tokens.{passes, run, past, unspaced, strip_at, IsAfterSpaces}
+use Rattle.cf_filter.specs.Reading.{◌>>=◌, begins_with, attr_named, known_or, name_in, name_at, op_named, token_at, suited_or, op_in, op_at, stop_at, or_at, and_at, link_in, link_at}
+use Rattle.cf_filter.specs.Grammar.{Only, Then, NameFault, NameRead, op_text, IsOpWord, OpFault, OpRead, LinkText, LinkRead}
+use Rattle.cf_filter.specs.Grammar.IsOpWord.{name, sign}
+use Rattle.cf_filter.proofs.Runs.{one_more, run_is, run_only, spaces_is, spaces_only, strip_found, strip_none}
+
+-- the first part and then the next
+module _ {A B : Type 0} where
+  bind_ok : (f : Result A Stop) (g : A → Result B Stop) (x : A) → Ok x ≡ f → (f >>= g) ≡ g x
+  bind_ok f g x e = ap (λ r. r >>= g) (sym e)
+
+  bind_err : (f : Result A Stop) (g : A → Result B Stop) (stop : Stop) → Err stop ≡ f → (f >>= g) ≡ Err stop
+  bind_err f g stop e = ap (λ r. r >>= g) (sym e)
+
+  next_holds : (First : Result A Stop → Type 0) (Next : A → Result B Stop → Type 0) (x : A) (r : Result B Stop) → First (Ok x) → Next x r → Then First Next r
+  next_holds First Next x (Ok y) h k = (x, h, k)
+  next_holds First Next x (Err stop) h k = inr (x, h, k)
+
+  then_holds : (First : Result A Stop → Type 0) (Next : A → Result B Stop → Type 0) (f : Result A Stop) (g : A → Result B Stop) → First f → ((x : A) → Next x (g x)) → Then First Next (f >>= g)
+  then_holds First Next (Ok x) g h k = next_holds First Next x (g x) h (k x)
+  then_holds First Next (Err stop) g h k = inl h
+
+  then_same : (First : Result A Stop → Type 0) (Next : A → Result B Stop → Type 0) (f : Result A Stop) (g : A → Result B Stop) → Only First f → ((x : A) → Only (Next x) (g x)) → (r : Result B Stop) → Then First Next r → r ≡ (f >>= g)
+  then_same First Next f g h k (Ok y) t = let next = k t.0 in next.only (Ok y) t.2 ∙ sym (bind_ok f g t.0 (h.only (Ok t.0) t.1))
+  then_same First Next f g h k (Err stop) (inl t) = sym (bind_err f g stop (h.only (Err stop) t))
+  then_same First Next f g h k (Err stop) (inr t) = let next = k t.0 in next.only (Err stop) t.2 ∙ sym (bind_ok f g t.0 (h.only (Ok t.0) t.1))
+
+  pub then_only : (First : Result A Stop → Type 0) (Next : A → Result B Stop → Type 0) (f : Result A Stop) (g : A → Result B Stop) → Only First f → ((x : A) → Only (Next x) (g x)) → Only (Then First Next) (f >>= g)
+  then_only First Next f g h k = record { holds = then_holds First Next f g h.holds (λ x. let next = k x in next.holds); only = then_same First Next f g h k }
+
+-- names
+
+name_holds : (attrs : List Attr) (text here : List ℕ) → IsAfterSpaces text here → (b : Bool) → begins_with Letter here ≡ b → (o : Option (ℕ × Kind)) → attr_named attrs (run Name here) ≡ o → NameRead attrs text (cond b (known_or here o) (Err (stop_at Syntax here)))
+name_holds attrs text here sp true b (Some a) o = (here, run Name here, sp, b, run_is Name here, o)
+name_holds attrs text here sp true b None o = (here, sp, refl, (run Name here, past Name here, b, run_is Name here, o))
+name_holds attrs text here sp false b o e = (here, sp, refl, b)
+
+name_err : (attrs : List Attr) (here : List ℕ) (offence : Offence) → NameFault attrs here offence → name_in attrs here ≡ Err (stop_at offence here)
+name_err attrs here Syntax b = rw b refl
+name_err attrs here UnknownName h = let r = run_only Name here h.0 h.1 h.3 in let none : attr_named attrs (run Name here) ≡ None = ap (attr_named attrs) (sym r.0) ∙ h.4 in rw (h.2, none) refl
+name_err attrs here BadOperator h = absurd h
+name_err attrs here ValueRange h = absurd h
+name_err attrs here TooLong h = absurd h
+
+pub stop_same : (stop : Stop) (here : List ℕ) → stop.left ≡ length here → stop ≡ stop_at stop.offence here
+stop_same stop here e = ap (λ n. record { offence = stop.offence; left = n }) e
+
+name_same : (attrs : List Attr) (text : List ℕ) (r : Result ((ℕ × Kind) × List ℕ) Stop) → NameRead attrs text r → r ≡ name_at attrs text
+name_same attrs text (Ok found) h =
+    let r = run_only Name h.0 h.1 found.1 h.4 in
+    let some : attr_named attrs (run Name h.0) ≡ Some found.0 = ap (attr_named attrs) (sym r.0) ∙ h.5 in
+    let read : name_in attrs h.0 ≡ Ok (found.0, past Name h.0) = rw (h.3, some) refl in
+    ap (λ rest. Ok (found.0, rest)) r.1 ∙ sym read ∙ ap (name_in attrs) (spaces_only text h.0 h.2)
+name_same attrs text (Err stop) h = ap Err (stop_same stop h.0 h.2) ∙ sym (name_err attrs h.0 stop.offence h.3) ∙ ap (name_in attrs) (spaces_only text h.0 h.1)
+
+pub name_only : (attrs : List Attr) (text : List ℕ) → Only (NameRead attrs text) (name_at attrs text)
+name_only attrs text = record {
+  holds = name_holds attrs text (unspaced text) (spaces_is text) (begins_with Letter (unspaced text)) refl (attr_named attrs (run Name (unspaced text))) refl;
+  only = name_same attrs text;
+}
+
+-- operators
+
+op_front : (op : Op) → op_named (op_text op) ≡ Some op
+op_front Eq = refl
+op_front Ne = refl
+op_front Lt = refl
+op_front Le = refl
+op_front Gt = refl
+op_front Ge = refl
+op_front Within = refl
+
+op_text_some : (op : Op) → (length (op_text op) == 0) ≡ false
+op_text_some Eq = refl
+op_text_some Ne = refl
+op_text_some Lt = refl
+op_text_some Le = refl
+op_text_some Gt = refl
+op_text_some Ge = refl
+op_text_some Within = refl
+
+op_step : (word : List ℕ) (op found : Op) (other : Option Op) → cond (bytes_eq word (op_text op)) (Some op) other ≡ Some found → (other ≡ Some found → word ≡ op_text found) → word ≡ op_text found
+op_step word op found other h more =
+    elim (bytes_eq word (op_text op)) as (λ b. bytes_eq word (op_text op) ≡ b → cond b (Some op) other ≡ Some found → word ≡ op_text found) [
+      | true ↦ λ e k. let same : op ≡ found = cc in (bytes_eq-Decides word (op_text op)).0 e ∙ ap op_text same
+      | false ↦ λ e k. more k
+    ] refl h
+
+op_found : (word : List ℕ) (op : Op) → op_named word ≡ Some op → word ≡ op_text op
+op_found word op h =
+    op_step word Eq op _ h (λ h1. op_step word Ne op _ h1 (λ h2. op_step word Lt op _ h2 (λ h3. op_step word Le op _ h3 (λ h4. op_step word Gt op _ h4 (λ h5. op_step word Ge op _ h5 (λ h6. op_step word Within op None h6 (λ h7. cc)))))))
+
+pub some_len : (x : ℕ) (xs : List ℕ) → (length (x ∷ xs) == 0) ≡ false
+some_len x xs = ne_eqb (length (x ∷ xs)) 0 (λ e. omega (arith, e))
+
+begins_run : (class : Class) (text : List ℕ) (b : Bool) → begins_with class text ≡ b → (length (run class text) == 0) ≡ not b
+begins_run class [] true h = absurd (false≢true h)
+begins_run class [] false h = refl
+begins_run class (x ∷ xs) true h = rw (h, one_more (prefix_len (passes class) xs)) (some_len x (run class xs))
+begins_run class (x ∷ xs) false h = rw h refl
+
+letter_name : (text : List ℕ) → begins_with Letter text ≡ true → begins_with Name text ≡ true
+letter_name [] h = h
+letter_name (x ∷ xs) h = rw h refl
+
+not_letter : (x : ℕ) → passes Operator x ≡ true → passes Letter x ≡ false
+not_letter x h = elim (passes Letter x) as (λ b. passes Letter x ≡ b → passes Letter x ≡ false) [
+  | true ↦ λ e. absurd (clash (and_parts (nat_le 97 x) (nat_le x 122) e))
+  | false ↦ λ e. e
+] refl
+  where
+    clash : (nat_le 97 x ≡ true) × (nat_le x 122 ≡ true) → ⊥
+    clash k = let low = leb-true 97 x k.0 in elim (or_cases ((x == 61 || x == 33) || x == 60) (x == 62) h) [
+      | inl p ↦ elim (or_cases (x == 61 || x == 33) (x == 60) p) [
+        | inl q ↦ elim (or_cases (x == 61) (x == 33) q) [ inl r ↦ let e = eqb-true x 61 r in omega (arith, low, e) | inr r ↦ let e = eqb-true x 33 r in omega (arith, low, e) ]
+        | inr q ↦ let e = eqb-true x 60 q in omega (arith, low, e)
+      ]
+      | inr p ↦ let e = eqb-true x 62 p in omega (arith, low, e)
+    ]
+
+sign_no_letter : (text : List ℕ) → begins_with Operator text ≡ true → begins_with Letter text ≡ false
+sign_no_letter [] h = refl
+sign_no_letter (x ∷ xs) h = not_letter x h
+
+abbrev word_rest : List ℕ → List ℕ → List ℕ × List ℕ
+word_rest word rest = (word, rest)
+
+token_is : (here word rest : List ℕ) → IsOpWord here word rest → (token_at here ≡ word_rest word rest) × ((length word == 0) ≡ false)
+token_is here word rest (name b r) =
+    let e = run_only Name here word rest r in
+    (rw b (ap (λ w. word_rest w (past Name here)) (sym e.0) ∙ ap (word_rest word) (sym e.1)), ap (λ w. length w == 0) e.0 ∙ begins_run Name here true (letter_name here b))
+token_is here word rest (sign b r) =
+    let e = run_only Operator here word rest r in
+    (rw (sign_no_letter here b) (ap (λ w. word_rest w (past Operator here)) (sym e.0) ∙ ap (word_rest word) (sym e.1)), ap (λ w. length w == 0) e.0 ∙ begins_run Operator here true b)
+
+suits_holds : (kind : Kind) (text here word rest : List ℕ) (op : Op) → IsAfterSpaces text here → IsOpWord here word rest → word ≡ op_text op → (s : Bool) → suits_kind kind op ≡ s → OpRead kind text (cond s (Ok (op, rest)) (Err (stop_at BadOperator here)))
+suits_holds kind text here word rest op sp is e true s = (here, sp, subst (λ (w : List ℕ). IsOpWord here w rest) e is, s)
+suits_holds kind text here word rest op sp is e false s = (
+  here,
+  sp,
+  refl,
+  (
+    word,
+    rest,
+    is,
+    λ other f t.
+        let same : other ≡ op = one other f in
+        false≢true (sym s ∙ ap (suits_kind kind) (sym same) ∙ t),
+  ),
+)
+  where
+    one : (other : Op) → word ≡ op_text other → other ≡ op
+    one other f = let both : Some other ≡ Some op = sym (op_front other) ∙ ap op_named (sym f) ∙ ap op_named e ∙ op_front op in cc
+
+word_holds : (kind : Kind) (text here word rest : List ℕ) → IsAfterSpaces text here → IsOpWord here word rest → (o : Option Op) → op_named word ≡ o → OpRead kind text (suited_or kind here rest o)
+word_holds kind text here word rest sp is None o = (here, sp, refl, (word, rest, is, λ op f t. let some : op_named word ≡ Some op = ap op_named f ∙ op_front op in cc))
+word_holds kind text here word rest sp is (Some op) o = suits_holds kind text here word rest op sp is (op_found word op o) (suits_kind kind op) refl
+
+op_word_holds : (kind : Kind) (text here word rest : List ℕ) → IsAfterSpaces text here → IsOpWord here word rest → OpRead kind text (op_in kind here (word_rest word rest))
+op_word_holds kind text here word rest sp is = let t = token_is here word rest is in rw t.1 (word_holds kind text here word rest sp is (op_named word) refl)
+
+op_holds : (kind : Kind) (text here : List ℕ) → IsAfterSpaces text here → (l s : Bool) → begins_with Letter here ≡ l → begins_with Operator here ≡ s → OpRead kind text (op_in kind here (token_at here))
+op_holds kind text here sp true s l e = rw l (op_word_holds kind text here (run Name here) (past Name here) sp (name l (run_is Name here)))
+op_holds kind text here sp false true l e = rw l (op_word_holds kind text here (run Operator here) (past Operator here) sp (sign e (run_is Operator here)))
+op_holds kind text here sp false false l e = rw (l, begins_run Operator here false e) (here, sp, refl, (l, e))
+
+suits_no : (kind : Kind) (here rest : List ℕ) (op : Op) (s : Bool) → suits_kind kind op ≡ s → (s ≡ true → ⊥) → cond {A = Result (Op × List ℕ) Stop} s (Ok (op, rest)) (Err (stop_at BadOperator here)) ≡ Err (stop_at BadOperator here)
+suits_no kind here rest op true s h = absurd (h refl)
+suits_no kind here rest op false s h = refl
+
+op_err : (kind : Kind) (here : List ℕ) (offence : Offence) → OpFault kind here offence → op_in kind here (token_at here) ≡ Err (stop_at offence here)
+op_err kind here Syntax h = rw (h.0, begins_run Operator here false h.1) refl
+op_err kind here BadOperator h =
+    let t = token_is here h.0 h.1 h.2 in
+    let read : op_in kind here (word_rest h.0 h.1) ≡ suited_or kind here h.1 (op_named h.0) = rw t.1 refl in
+    ap (op_in kind here) t.0 ∙ read ∙ bad (op_named h.0) refl
+  where
+    bad : (o : Option Op) → op_named h.0 ≡ o → suited_or kind here h.1 o ≡ Err (stop_at BadOperator here)
+    bad None e = refl
+    bad (Some op) e = suits_no kind here h.1 op (suits_kind kind op) refl (λ s. h.3 op (op_found h.0 op e) s)
+op_err kind here UnknownName h = absurd h
+op_err kind here ValueRange h = absurd h
+op_err kind here TooLong h = absurd h
+
+op_same : (kind : Kind) (text : List ℕ) (r : Result (Op × List ℕ) Stop) → OpRead kind text r → r ≡ op_at kind text
+op_same kind text (Ok found) h =
+    let t = token_is h.0 (op_text found.0) found.1 h.2 in
+    let read : op_in kind h.0 (word_rest (op_text found.0) found.1) ≡ Ok (found.0, found.1) = rw (op_text_some found.0, op_front found.0, h.3) refl in
+    sym read ∙ ap (op_in kind h.0) (sym t.0) ∙ ap (λ here. op_in kind here (token_at here)) (spaces_only text h.0 h.1)
+op_same kind text (Err stop) h = ap Err (stop_same stop h.0 h.2) ∙ sym (op_err kind h.0 stop.offence h.3) ∙ ap (λ here. op_in kind here (token_at here)) (spaces_only text h.0 h.1)
+
+pub op_only : (kind : Kind) (text : List ℕ) → Only (OpRead kind text) (op_at kind text)
+op_only kind text = record {
+  holds = op_holds kind text (unspaced text) (spaces_is text) (begins_with Letter (unspaced text)) (begins_with Operator (unspaced text)) refl refl;
+  only = op_same kind text;
+}
+
+-- connectives
+
+no_link : (here : List ℕ) → (length here == 0) ≡ false → strip_at (codes "&&") here ≡ None → strip_at (codes "||") here ≡ None → (link : Link) (rest : List ℕ) → LinkText link here rest → ⊥
+no_link here some a o End rest h = let e : (length here == 0) ≡ true = ap (λ xs. length xs == 0) h.0 in false≢true (sym some ∙ e)
+no_link here some a o And rest h = strip_none (codes "&&") here rest a h
+no_link here some a o Or rest h = strip_none (codes "||") here rest o h
+
+pub empty_is : (here : List ℕ) → (length here == 0) ≡ true → here ≡ []
+empty_is [] h = refl
+empty_is (x ∷ xs) h = absurd (false≢true (sym (some_len x xs) ∙ h))
+
+or_holds : (text here : List ℕ) → IsAfterSpaces text here → (length here == 0) ≡ false → strip_at (codes "&&") here ≡ None → (o : Option (List ℕ)) → strip_at (codes "||") here ≡ o → LinkRead text (or_at here o)
+or_holds text here sp some a None o = (here, sp, refl, no_link here some a o)
+or_holds text here sp some a (Some rest) o = (here, sp, strip_found (codes "||") here rest o)
+
+and_holds : (text here : List ℕ) → IsAfterSpaces text here → (length here == 0) ≡ false → (a : Option (List ℕ)) → strip_at (codes "&&") here ≡ a → LinkRead text (and_at here a)
+and_holds text here sp some None a = or_holds text here sp some a (strip_at (codes "||") here) refl
+and_holds text here sp some (Some rest) a = (here, sp, strip_found (codes "&&") here rest a)
+
+link_holds : (text here : List ℕ) → IsAfterSpaces text here → (b : Bool) → (length here == 0) ≡ b → LinkRead text (cond b (Ok (End, here)) (and_at here (strip_at (codes "&&") here)))
+link_holds text here sp true b = (here, sp, (empty_is here b, empty_is here b))
+link_holds text here sp false b = and_holds text here sp b (strip_at (codes "&&") here) refl
+
+link_text : (link : Link) (here rest : List ℕ) → LinkText link here rest → link_in here ≡ Ok (link, rest)
+link_text End here rest h = ap link_in h.0 ∙ ap (λ xs. Ok (End, xs)) (sym h.1)
+link_text And here rest h = ap link_in h ∙ rw (some_len 38 (38 ∷ rest)) refl
+link_text Or here rest h = ap link_in h ∙ rw (some_len 124 (124 ∷ rest)) refl
+
+link_err : (here : List ℕ) → ((link : Link) (rest : List ℕ) → LinkText link here rest → ⊥) → link_in here ≡ Err (stop_at Syntax here)
+link_err here none = by (length here == 0) refl (strip_at (codes "&&") here) refl (strip_at (codes "||") here) refl
+  where
+    by : (b : Bool) → (length here == 0) ≡ b → (a : Option (List ℕ)) → strip_at (codes "&&") here ≡ a → (o : Option (List ℕ)) → strip_at (codes "||") here ≡ o → link_in here ≡ Err (stop_at Syntax here)
+    by true b a e o f = absurd (none End [] (empty_is here b, refl))
+    by false b (Some rest) e o f = absurd (none And rest (strip_found (codes "&&") here rest e))
+    by false b None e (Some rest) f = absurd (none Or rest (strip_found (codes "||") here rest f))
+    by false b None e None f = rw (b, e, f) refl
+
+link_same : (text : List ℕ) (r : Result (Link × List ℕ) Stop) → LinkRead text r → r ≡ link_at text
+link_same text (Ok found) h = sym (link_text found.0 h.0 found.1 h.2) ∙ ap link_in (spaces_only text h.0 h.1)
+link_same text (Err stop) h = ap Err h.2 ∙ sym (link_err h.0 h.3) ∙ ap link_in (spaces_only text h.0 h.1)
+
+pub link_only : (text : List ℕ) → Only (LinkRead text) (link_at text)
+link_only text = record { holds = link_holds text (unspaced text) (spaces_is text) (length (unspaced text) == 0) refl; only = link_same text }

@@ -1,0 +1,93 @@
+// Kinds of bytes, and the longest runs of them.
+ghost use Rattle.std.specs.Prelude.{◌≡◌, ℕ, List, ◌≤◌, length, drop, take};
+ghost use Rattle.std.specs.List.{prefix_len};
+ghost use Rattle.std.specs.Option.{option_copied};
+ghost use Rattle.cf_filter.specs.Tokens.{passes as passes_of, strip_at, unspaced as unspaced_of, run, past};
+
+/// Kinds of bytes. A token is a longest run of bytes of one class.
+#[derive(Clone, Copy, Debug, PartialEq, Eq)]
+pub enum Class {
+    Space,
+    /// Letters a to z.
+    Letter,
+    /// What a name goes on with: letters a to z, digits and `_`.
+    Name,
+    /// The characters of operators.
+    Operator,
+    /// What a value is written with: digits, letters, `.` and `/`.
+    Value,
+    Digit,
+    /// Hexadecimal digits of either case.
+    Hex,
+    /// Printed ASCII and the space: 32 to 126.
+    Text,
+    /// All bytes but this one.
+    Except(u8),
+}
+
+impl Class {
+    /// Whether the byte is of the class.
+    pub fn passes(self, b: u8) -> bool
+        ensures { result ≡ passes_of self b }
+    {
+        match self {
+            Class::Space => b == b' ',
+            Class::Letter => b >= b'a' && b <= b'z',
+            Class::Name => (b >= b'a' && b <= b'z') || (b >= b'0' && b <= b'9') || b == b'_',
+            Class::Operator => b == b'=' || b == b'!' || b == b'<' || b == b'>',
+            Class::Value => {
+                (b >= b'0' && b <= b'9')
+                    || (b >= b'a' && b <= b'z')
+                    || (b >= b'A' && b <= b'Z')
+                    || b == b'.'
+                    || b == b'/'
+            }
+            Class::Digit => b >= b'0' && b <= b'9',
+            Class::Hex => {
+                (b >= b'0' && b <= b'9') || (b >= b'a' && b <= b'f') || (b >= b'A' && b <= b'F')
+            }
+            Class::Text => b >= 32 && b <= 126,
+            Class::Except(other) => b != other,
+        }
+    }
+
+    /// How many bytes of the class stand at the front.
+    pub fn run_len(self, bytes: &[u8]) -> usize
+        ensures len { result ≡ prefix_len (passes_of self) bytes.now }
+        ensures bound { result ≤ length bytes.now }
+    {
+        for (i, b) in bytes.iter().enumerate() {
+            if !self.passes(*b) {
+                return i;
+            }
+        }
+        bytes.len()
+    }
+
+    /// The longest run of the class at the front, and what follows it.
+    pub fn split(self, bytes: &[u8]) -> (&[u8], &[u8])
+        ensures run { result.0.now ≡ run self bytes.now }
+        ensures rest { result.1.now ≡ past self bytes.now }
+    {
+        bytes.split_at(self.run_len(bytes))
+    }
+}
+
+/// What comes after the spaces at the front.
+pub fn unspaced(bytes: &[u8]) -> &[u8]
+    ensures { result.now ≡ unspaced_of bytes.now }
+{
+    Class::Space.split(bytes).1
+}
+
+/// What comes after the prefix.
+pub fn strip<'a>(bytes: &'a [u8], prefix: &[u8]) -> Option<&'a [u8]>
+    ensures { option_copied result ≡ strip_at prefix.now bytes.now }
+{
+    let size = prefix.len().min(bytes.len());
+    let (front, rest) = bytes.split_at(size);
+    if front != prefix {
+        return None;
+    }
+    Some(rest)
+}
