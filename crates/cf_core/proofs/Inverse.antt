@@ -1,0 +1,104 @@
+-- What each event that was made asked for.
+use Rattle.std.proofs.Common.{◌≡◌, ℕ, ◌<◌, ◌≤◌, suc, List, [], ◌∷◌, length, Option, Some, None, true, false, refl}
+use Rattle.cf_row.specs.Row.{Numbered}
+use Rattle.cf_row.specs.declared.row.Entry.{Entry}
+use Rattle.cf_shape.specs.Places.{Slot, place}
+use Rattle.cf_shape.specs.Places.Slot.{cell}
+use Rattle.cf_words.specs.Words.{Layout, has}
+use Rattle.cf_words.specs.Law.{IsWhole}
+use Rattle.cf_law.specs.Passes.{Book, Flight, Pass}
+use Rattle.cf_law.specs.Steps.{Act, Step, Splits, Holds, Flies, IsNext, IsAtRest, ticket_of, own_word}
+use Rattle.cf_law.specs.Steps.Act.{take_ticket, store_cell, finish_record, advance, look_done, load_word}
+use Rattle.cf_law.specs.Steps.Step.{takes, stores, finishes, advances, looks_done, loads_word}
+use Rattle.cf_law.specs.Steps.Splits.{hands}
+use Rattle.cf_law.specs.Lawful.{World}
+use Rattle.cf_law.specs.Events.{Does, IsLive}
+use Rattle.cf_law.specs.Events.Event.{acts, splits, joins}
+use Rattle.cf_law.specs.Events.Does.{steps, parts, meets}
+
+-- a step of that name by the pass
+pub record Acts (sh : Layout) (x : World) (k : ℕ) (a : Act) : Type 0 where
+  pub pass : Pass
+  pub slot : Slot
+  pub change : ℕ → ℕ
+  pub after : ℕ → List Entry → Pass
+  pub live : IsLive x k pass
+  pub step : Step sh pass a slot change after
+
+pub acts_of : (sh : Layout) (x : World) (k : ℕ) (a : Act) (y : World) → Does sh x k (acts a) y → Acts sh x k a
+acts_of sh x k a y (steps p c t f g live step) = record { pass = p; slot = t; change = f; after = g; live = live; step = step }
+
+pub record Takes (sh : Layout) (p : Pass) (r : Numbered) : Type 0 where
+  pub book : Book
+  pub fits : sh.fits r ≡ true
+  pub one : p.books ≡ book ∷ []
+  pub free : book.over ≡ false
+  pub rests : book.flight ≡ None
+
+pub takes_of : (sh : Layout) (p : Pass) (r : Numbered) (t : Slot) (f : ℕ → ℕ) (g : ℕ → List Entry → Pass) → Step sh p (take_ticket r) t f g → Takes sh p r
+takes_of sh p r t f g (takes s b fits one free rests) = record { book = b; fits = fits; one = one; free = free; rests = rests }
+
+pub record Stores (sh : Layout) (p : Pass) (o i v : ℕ) : Type 0 where
+  pub place : ℕ
+  pub book : Book
+  pub flight : Flight
+  pub flies : Flies p place book flight
+  pub next : IsNext sh (ticket_of book.writer flight) i
+  pub offset : flight.offset ≡ o
+  pub value : own_word sh book flight.row (sh.use_of i) ≡ v
+
+pub stores_of : (sh : Layout) (p : Pass) (o i v : ℕ) (t : Slot) (f : ℕ → ℕ) (g : ℕ → List Entry → Pass) → Step sh p (store_cell o i v) t f g → Stores sh p o i v
+stores_of sh p o i v t f g (stores k j b fl flies next) = record { place = k; book = b; flight = fl; flies = flies; next = next; offset = refl; value = refl }
+
+pub record Finishes (sh : Layout) (p : Pass) (o : ℕ) : Type 0 where
+  pub place : ℕ
+  pub book : Book
+  pub flight : Flight
+  pub flies : Flies p place book flight
+  pub whole : IsWhole sh (ticket_of book.writer flight)
+  pub linked : (l : ℕ) (q : List ℕ) → sh.path flight.row l ≡ Some q → has flight.linked l ≡ true
+  pub offset : flight.offset ≡ o
+
+pub finishes_of : (sh : Layout) (p : Pass) (o : ℕ) (t : Slot) (f : ℕ → ℕ) (g : ℕ → List Entry → Pass) → Step sh p (finish_record o) t f g → Finishes sh p o
+finishes_of sh p o t f g (finishes k i b fl flies last whole linked) = record { place = k; book = b; flight = fl; flies = flies; whole = whole; linked = linked; offset = refl }
+
+pub record Advances (sh : Layout) (p : Pass) (t : ℕ) : Type 0 where
+  pub last : ℕ
+  pub seen : t ≤ length p.seen
+  pub within : t < sh.sizes.tickets
+  pub is_last : suc last ≡ sh.sizes.ticket_words
+  pub word : p.look.word ≡ place sh.sizes (cell t last)
+  pub value : p.look.value ≡ 1
+
+pub advances_of : (sh : Layout) (p : Pass) (n : ℕ) (t : Slot) (f : ℕ → ℕ) (g : ℕ → List Entry → Pass) → Step sh p (advance n) t f g → Advances sh p n
+advances_of sh p n t f g (advances m i seen within last word value) = record { last = i; seen = seen; within = within; is_last = last; word = word; value = value }
+
+pub looks_of : (sh : Layout) (p : Pass) (o : ℕ) (t : Slot) (f : ℕ → ℕ) (g : ℕ → List Entry → Pass) → Step sh p (look_done o) t f g → o < sh.sizes.tickets
+looks_of sh p o t f g (looks_done m i within last) = within
+
+pub loads_of : (sh : Layout) (p : Pass) (o i : ℕ) (t : Slot) (f : ℕ → ℕ) (g : ℕ → List Entry → Pass) → Step sh p (load_word o i) t f g → (o < length p.seen) × (i < sh.sizes.ticket_words)
+loads_of sh p o i t f g (loads_word m j seen within) = (seen, within)
+
+pub record Parts (sh : Layout) (x : World) (k : ℕ) (w : Option ℕ) : Type 0 where
+  pub pass : Pass
+  pub left : Pass
+  pub right : Pass
+  pub live : IsLive x k pass
+  pub split : Splits pass w left right
+
+pub parts_of : (sh : Layout) (x : World) (k : ℕ) (w : Option ℕ) (y : World) → Does sh x k (splits w) y → Parts sh x k w
+parts_of sh x k w y (parts p left right v live split) = record { pass = p; left = left; right = right; live = live; split = split }
+
+pub hands_of : (p left right : Pass) (w : ℕ) → Splits p (Some w) left right → (k : ℕ) × (b : Book) × Holds p k b × (b.writer ≡ w)
+hands_of p left right w (hands k b held) = (k, b, held, refl)
+
+pub record Meets (sh : Layout) (x : World) (k j : ℕ) : Type 0 where
+  pub pass : Pass
+  pub other : Pass
+  pub live : IsLive x k pass
+  pub there : IsLive x j other
+  pub apart : j ≡ k → ⊥
+  pub rests : IsAtRest other
+
+pub meets_of : (sh : Layout) (x : World) (k j : ℕ) (y : World) → Does sh x k (joins j) y → Meets sh x k j
+meets_of sh x k j y (meets p q i live there apart rests) = record { pass = p; other = q; live = live; there = there; apart = apart; rests = rests }

@@ -1,0 +1,5 @@
+pub mod Inverse
+pub mod Making
+pub mod Tables
+pub mod Tickets
+pub mod Handing

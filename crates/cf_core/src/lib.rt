@@ -1,0 +1,11 @@
+//! A world that runs: the words of a table and the passes over it, moved by events one at a time.
+#![tactic(auto)]
+
+mod event;
+mod pass;
+#[cfg(test)]
+mod tests;
+mod world;
+
+pub use event::{Act, Event};
+pub use world::{World, step};

@@ -1,0 +1,416 @@
+// A world, and its first steps.
+ghost use Rattle.std.specs.Prelude.{◌≡◌, ℕ, ◌+◌, ◌<◌, ◌≤◌, ◌∷◌, ◌++◌, List, [], length, IfOk, MatchResult, MatchOption, Some, None, slice_get, slice_index_or, set, cond, ◌==◌, take, drop, true, IsTrue, ◌↔◌};
+ghost use Rattle.cf_row.specs.Row.{Fits};
+ghost use Rattle.cf_shape.specs.Places.{place};
+ghost use Rattle.cf_shape.specs.Places.Slot.{cell};
+ghost use Rattle.cf_shape.specs.Uses.{ticket_words};
+ghost use Rattle.cf_shape.specs.Lanes.{Shaped};
+ghost use Rattle.cf_core.specs.Worlds.{Held, IsHeld, AreReadable, Answers, NoPass, IsLivePass, event_of};
+ghost use Rattle.cf_law.specs.Events.{spelt, plain_at, opening};
+ghost use Rattle.cf_row.specs.Words.{AreSpelled, spelled, word_count as word_total_of};
+ghost use Rattle.cf_law.specs.Events.Event.{acts, splits, joins};
+ghost use Rattle.cf_law.specs.Steps.Act.{take_ticket, store_cell, finish_record, look_done, load_word, load_tail, advance};
+ghost use Rattle.cf_law.specs.Lawful.{Lawful};
+ghost use Rattle.cf_law.specs.Shapes.{layout};
+
+use crate::pass::{PassState, empty_books};
+use crate::{Act, Event};
+use cf_row::{Entry, Memory, Row, fits, row_of, word_count, words_of};
+use cf_shape::{Shape, place_ticket, word_total};
+use std::alloc::Global;
+use std::marker::Model;
+
+/// The words of a table and the passes over it. It is lawful, always.
+#[derive(Debug, Drop)]
+pub struct World {
+    shape: Shape,
+    words: Vec<u64>,
+    passes: Vec<PassState>,
+}
+
+impl Model for World {
+    ghost use Rattle.cf_core.specs.Worlds.{Held, IsHeld};
+
+    ghost Value = { Held };
+
+    ghost view = { λ w. record { shape = w.shape; words = w.words.items; passes = w.passes.items } };
+
+    ghost invariant = { λ w. IsHeld (record { shape = w.shape; words = w.words.items; passes = w.passes.items }) };
+}
+
+impl World {
+    /// The words of the table.
+    pub fn words(&self) -> &[u64]
+        ensures words { result.now ≡ self.now.words }
+        ensures lawful { IsHeld self.now }
+    {
+        &self.words
+    }
+
+    fn shape(&self) -> &Shape
+        ensures shape { result.now ≡ self.now.shape }
+        ensures lawful { IsHeld self.now }
+    {
+        &self.shape
+    }
+
+    // The pass of that number, where it is there and not spent.
+    fn live(&self, k: u32) -> Option<&PassState>
+        ensures { MatchOption result (NoPass self.now k) (λ p. IsLivePass self.now k p.now) }
+    {
+        match self.passes.get(k as usize) {
+            Some(pass) => { if pass.is_spent() { None } else { Some(pass) } }
+            None => None,
+        }
+    }
+
+    // The word becomes the value, and the pass that pass.
+    fn put(&mut self, k: u32, place: u64, value: u64, pass: PassState)
+        requires pass { k < length self.old.passes }
+        requires word { place < length self.old.words }
+        requires lawful { Lawful (layout self.old.shape) (set self.old.words place value) (set self.old.passes k pass) }
+        ensures { self.new ≡ record { shape = self.old.shape; words = set self.old.words place value; passes = set self.old.passes k pass } }
+    {
+        self.words[place as usize] = value;
+        self.passes[k as usize] = pass;
+    }
+
+    fn word(&self, place: u64) -> u64
+        requires { place < length self.now.words }
+        ensures { result ≡ slice_index_or self.now.words place 0 }
+    {
+        self.words[place as usize]
+    }
+
+    // The place of word i of a ticket.
+    fn ticket_place(&self, offset: u32, i: u64) -> u64
+        requires offset { offset < self.now.shape.capacity }
+        requires word { i < ticket_words self.now.shape }
+        ensures at { result ≡ place (layout self.now.shape).sizes (cell offset i) }
+        ensures there { result < length self.now.words }
+    {
+        place_ticket(self.shape(), offset, i)
+    }
+
+    fn look_done(&mut self, alloc: Global, k: u32, offset: u32) -> Result<bool, Memory>
+        ensures { MatchResult result (Answers self.old k (acts (look_done offset)) self.new) (λ _. self.new ≡ self.old) }
+    {
+        let Some(pass) = self.live(k) else {
+            return Ok(false);
+        };
+        let shape = self.shape();
+        if offset >= shape.capacity() {
+            return Ok(false);
+        }
+        let place = self.ticket_place(offset, shape.ticket_words() - 1);
+        let found = self.word(place);
+        let after = pass.looked(alloc, place, found)?;
+        self.put(k, place, found, after);
+        Ok(true)
+    }
+
+    fn load_word(&mut self, alloc: Global, k: u32, offset: u32, i: u32) -> Result<bool, Memory>
+        ensures { MatchResult result (Answers self.old k (acts (load_word offset i)) self.new) (λ _. self.new ≡ self.old) }
+    {
+        let Some(pass) = self.live(k) else {
+            return Ok(false);
+        };
+        if offset as usize >= pass.covered() || u64::from(i) >= self.shape().ticket_words() {
+            return Ok(false);
+        }
+        let place = self.ticket_place(offset, u64::from(i));
+        let found = self.word(place);
+        let after = pass.looked(alloc, place, found)?;
+        self.put(k, place, found, after);
+        Ok(true)
+    }
+
+    // The entries that the words of the first n places spell.
+    fn entries(&self, alloc: Global, n: u32) -> Result<Vec<Entry>, Memory>
+        requires within { n ≤ self.now.shape.capacity }
+        requires readable { AreReadable self.now n }
+        ensures { IfOk result (λ entries. entries.items ≡ spelt (layout self.now.shape) self.now.words n) }
+    {
+        let mut entries = Vec::new(alloc);
+        for offset in 0..n {
+            entries.push(self.entry(alloc, offset)?)?;
+        }
+        Ok(entries)
+    }
+
+    // The entry that the words of a place spell.
+    fn entry(&self, alloc: Global, offset: u32) -> Result<Entry, Memory>
+        requires within { offset < self.now.shape.capacity }
+        requires readable { AreSpelled self.now.shape.schema (plain_at (layout self.now.shape) self.now.words offset) }
+        ensures { IfOk result (λ entry. entry ≡ (layout self.now.shape).reads (plain_at (layout self.now.shape) self.now.words offset)) }
+    {
+        let schema = self.shape().schema();
+        row_of(alloc, schema, self.plain_words(offset))
+    }
+
+    // The words of attributes and tag of a place.
+    fn plain_words(&self, offset: u32) -> &[u64]
+        requires { offset < self.now.shape.capacity }
+        ensures { result.now ≡ plain_at (layout self.now.shape) self.now.words offset }
+    {
+        let start = self.ticket_place(offset, 0) as usize;
+        let count = word_count(self.shape().schema()) + 1;
+        part(self.words(), start, count)
+    }
+
+    fn load_tail(&mut self, alloc: Global, k: u32, asked: bool) -> Result<bool, Memory>
+        ensures { MatchResult result (Answers self.old k (acts (load_tail asked)) self.new) (λ _. self.new ≡ self.old) }
+    {
+        let Some(pass) = self.live(k) else {
+            return Ok(false);
+        };
+        let tail = self.read_tail();
+        let entries = self.entries(alloc, tail as u32)?;
+        let after = pass.tail_loaded(alloc, asked, tail, entries)?;
+        self.put(k, 1, tail, after);
+        Ok(true)
+    }
+
+    fn read_tail(&self) -> u64
+        ensures tail { result ≡ slice_index_or self.now.words 1 0 }
+        ensures there { 1 < length self.now.words }
+        ensures within { result ≤ self.now.shape.capacity }
+        ensures few { result ≤ 65536 }
+        ensures readable { AreReadable self.now result }
+        ensures lawful { IsHeld self.now }
+    {
+        self.words()[1]
+    }
+
+    fn advance(&mut self, alloc: Global, k: u32, t: u32) -> Result<bool, Memory>
+        ensures { MatchResult result (Answers self.old k (acts (advance t)) self.new) (λ _. self.new ≡ self.old) }
+    {
+        let Some(pass) = self.live(k) else {
+            return Ok(false);
+        };
+        let shape = self.shape();
+        if t as usize > pass.covered() || t >= shape.capacity() {
+            return Ok(false);
+        }
+        let place = self.ticket_place(t, shape.ticket_words() - 1);
+        if !pass.found_one(place) {
+            return Ok(false);
+        }
+        let left = advanced(self.read_tail(), u64::from(t));
+        let entries = self.entries(alloc, t + 1)?;
+        let after = pass.advanced(alloc, t, entries)?;
+        self.put(k, 1, left, after);
+        Ok(true)
+    }
+
+    fn write_tail(&self) -> u64
+        ensures tail { result ≡ slice_index_or self.now.words 0 0 }
+        ensures there { 0 < length self.now.words }
+        ensures few { result ≤ 65551 }
+        ensures lawful { IsHeld self.now }
+    {
+        self.words()[0]
+    }
+
+    fn take_ticket(&mut self, alloc: Global, k: u32, row: &Row) -> Result<bool, Memory>
+        ensures { MatchResult result (Answers self.old k (acts (take_ticket row.now)) self.new) (λ _. self.new ≡ self.old) }
+    {
+        let Some(pass) = self.live(k) else {
+            return Ok(false);
+        };
+        let shape = self.shape();
+        if !is_of(shape, row) || !pass.may_take() {
+            return Ok(false);
+        }
+        let tail = self.write_tail();
+        let after = pass.ticketed(alloc, shape.capacity(), tail as u32, row)?;
+        self.put(k, 0, tail + 1, after);
+        Ok(true)
+    }
+
+    // Word i of the entry of the row and the writer.
+    fn plain_word(&self, alloc: Global, row: &Row, writer: u8, i: u32) -> Result<u64, Memory>
+        requires fits { Fits self.now.shape.schema row.now }
+        requires writer { writer < 16 }
+        requires word { i < word_total_of self.now.shape.schema + 1 }
+        ensures { IfOk result (λ word. word ≡ slice_index_or (spelled (record { writer = writer; row = row.now })) i 0) }
+    {
+        let schema = self.shape().schema();
+        let mut words = vec![in alloc; 0; word_count(schema) + 1]?;
+        words_of(schema, row, writer, &mut words);
+        Ok(words[i as usize])
+    }
+
+    fn store_cell(
+        &mut self,
+        alloc: Global,
+        k: u32,
+        offset: u32,
+        i: u32,
+        value: u64,
+    ) -> Result<bool, Memory>
+        ensures { MatchResult result (Answers self.old k (acts (store_cell offset i value)) self.new) (λ _. self.new ≡ self.old) }
+    {
+        let Some(pass) = self.live(k) else {
+            return Ok(false);
+        };
+        let Some((place, book, ticket)) = pass.flying(offset) else {
+            return Ok(false);
+        };
+        let words = self.shape().ticket_words();
+        if ticket.filled() != i || u64::from(i) + 1 >= words {
+            return Ok(false);
+        }
+        if value != self.plain_word(alloc, ticket.row(), book.writer(), i)? {
+            return Ok(false);
+        }
+        let at = self.ticket_place(offset, u64::from(i));
+        let after = pass.at_book(alloc, place, book.filled(alloc, ticket, i)?)?;
+        self.put(k, at, value, after);
+        Ok(true)
+    }
+
+    fn finish_record(&mut self, alloc: Global, k: u32, offset: u32) -> Result<bool, Memory>
+        ensures { MatchResult result (Answers self.old k (acts (finish_record offset)) self.new) (λ _. self.new ≡ self.old) }
+    {
+        let Some(pass) = self.live(k) else {
+            return Ok(false);
+        };
+        let Some((place, book, ticket)) = pass.flying(offset) else {
+            return Ok(false);
+        };
+        let words = self.shape().ticket_words();
+        if u64::from(ticket.filled()) + 1 < words {
+            return Ok(false);
+        }
+        let at = self.ticket_place(offset, words - 1);
+        let after = pass.at_book(alloc, place, book.finished(alloc, ticket)?)?;
+        self.put(k, at, 1, after);
+        Ok(true)
+    }
+
+    // The pass of that number becomes the one on the left, and the one on the right is the next.
+    fn part(&mut self, k: u32, left: PassState, right: PassState) -> Result<(), Memory>
+        requires pass { k < length self.old.passes }
+        requires lawful { Lawful (layout self.old.shape) self.old.words (set self.old.passes k left ++ right ∷ []) }
+        ensures { MatchResult result (λ _. self.new ≡ record { shape = self.old.shape; words = self.old.words; passes = set self.old.passes k left ++ right ∷ [] }) (λ _. self.new ≡ self.old) }
+    {
+        self.passes.push(right)?;
+        self.passes[k as usize] = left;
+        Ok(())
+    }
+
+    fn split(&mut self, alloc: Global, k: u32, writer: Option<u8>) -> Result<bool, Memory>
+        ensures { MatchResult result (Answers self.old k (splits writer) self.new) (λ _. self.new ≡ self.old) }
+    {
+        let _held = self.shape();
+        let Some(pass) = self.live(k) else {
+            return Ok(false);
+        };
+        match writer {
+            None => {
+                let right = pass.fellow(alloc)?;
+                let left = pass.copy(alloc)?;
+                self.part(k, left, right)?;
+                Ok(true)
+            }
+            Some(writer) => {
+                let Some(place) = pass.book_of(writer) else {
+                    return Ok(false);
+                };
+                let (left, right) = pass.handed(alloc, place)?;
+                self.part(k, left, right)?;
+                Ok(true)
+            }
+        }
+    }
+
+    // The one pass becomes the joined one, and the other is spent.
+    fn unite(&mut self, k: u32, other: u32, joined: PassState, spent: PassState)
+        requires pass { k < length self.old.passes }
+        requires other { other < length self.old.passes }
+        requires lawful { Lawful (layout self.old.shape) self.old.words (set (set self.old.passes k joined) other spent) }
+        ensures { self.new ≡ record { shape = self.old.shape; words = self.old.words; passes = set (set self.old.passes k joined) other spent } }
+    {
+        self.passes[k as usize] = joined;
+        self.passes[other as usize] = spent;
+    }
+
+    fn join(&mut self, alloc: Global, k: u32, other: u32) -> Result<bool, Memory>
+        ensures { MatchResult result (Answers self.old k (joins other) self.new) (λ _. self.new ≡ self.old) }
+    {
+        let _held = self.shape();
+        let Some(pass) = self.live(k) else {
+            return Ok(false);
+        };
+        let Some(there) = self.live(other) else {
+            return Ok(false);
+        };
+        if other == k || !there.is_at_rest() {
+            return Ok(false);
+        }
+        let joined = pass.joined(alloc, there)?;
+        self.unite(k, other, joined, PassState::spent(alloc));
+        Ok(true)
+    }
+
+    /// A world in which nothing has happened: all words are 0, and one pass holds all books, which are empty.
+    pub fn new(alloc: Global, shape: Shape) -> Result<World, Memory>
+        requires bare { shape.lanes ≡ [] }
+        ensures opening { IfOk result (λ world. world ≡ record { shape = shape; words = (opening (layout shape)).words; passes = (opening (layout shape)).passes }) }
+        ensures lawful { IfOk result IsHeld }
+    {
+        let _lawful = shape.lanes();
+        let words = vec![in alloc; 0; word_total(&shape) as usize]?;
+        let books = empty_books(alloc, shape.writers())?;
+        let mut passes = Vec::with_capacity(alloc, 1)?;
+        passes.push(PassState::newcomer(alloc, books, Vec::new(alloc)))?;
+        Ok(World {
+            shape,
+            words,
+            passes,
+        })
+    }
+}
+
+/// Makes the event, where it is lawful, and answers true; answers false exactly where no event of that name is lawful, and
+/// then nothing changes. After want of memory nothing has changed either.
+pub fn step(alloc: Global, world: &mut World, event: &Event) -> Result<bool, Memory>
+    ensures { MatchResult result (Answers world.old event.now.pass (event_of event.now.act) world.new) (λ _. world.new ≡ world.old) }
+{
+    let k = event.pass;
+    match &event.act {
+        Act::Ticket(row) => world.take_ticket(alloc, k, row),
+        Act::Cell(offset, i, value) => world.store_cell(alloc, k, *offset, *i, *value),
+        Act::Done(offset) => world.finish_record(alloc, k, *offset),
+        Act::Advance(t) => world.advance(alloc, k, *t),
+        Act::LoadTail(asked) => world.load_tail(alloc, k, *asked),
+        Act::LookDone(offset) => world.look_done(alloc, k, *offset),
+        Act::LoadWord(offset, i) => world.load_word(alloc, k, *offset, *i),
+        Act::Split(writer) => world.split(alloc, k, *writer),
+        Act::Join(other) => world.join(alloc, k, *other),
+    }
+}
+
+// Whether the row is one of the shape's.
+fn is_of(shape: &Shape, row: &Row) -> bool
+    ensures { IsTrue result ↔ ((layout shape.now).fits row.now ≡ true) }
+{
+    let _number = row.num();
+    fits(shape.schema(), row)
+}
+
+fn part(words: &[u64], start: usize, count: usize) -> &[u64]
+    requires { start + count ≤ length words.now }
+    ensures { result.now ≡ take count (drop start words.now) }
+{
+    &words[start..start + count]
+}
+
+// The read tail after it was moved from t, if it stood there.
+fn advanced(tail: u64, t: u64) -> u64
+    requires { tail ≤ 65536 }
+    ensures { result ≡ cond (tail == t) (t + 1) tail }
+{
+    if tail == t { t + 1 } else { tail }
+}

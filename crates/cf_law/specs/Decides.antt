@@ -1,0 +1,27 @@
+-- Tests for the conditions that speak of all words or lanes.
+use Rattle.std.specs.Prelude.{ℕ, zero, suc, List, Bool, true, false, cond, Option, Some, None}
+use Rattle.cf_shape.specs.Uses.{Use}
+use Rattle.cf_words.specs.Words.{Layout, Ticket, has}
+use Rattle.cf_shape.specs.Uses.Use.{plain, version}
+
+abbrev pub is_none : {A : Type 0} → Option A → Bool
+is_none None = true
+is_none (Some a) = false
+
+abbrev pub linked_if : Option (List ℕ) → Bool → Bool
+linked_if None b = true
+linked_if (Some q) b = b
+
+abbrev pub skips : Layout → Ticket → Use → Bool
+skips sh t (plain i) = false
+skips sh t (version l j) = is_none (sh.path t.row l)
+
+-- the words from k on, n of them, are all passed over
+unfoldable pub skips_all : Layout → Ticket → ℕ → ℕ → Bool
+skips_all sh t k zero = true
+skips_all sh t k (suc n) = cond (skips sh t (sh.use_of k)) (skips_all sh t (suc k) n) false
+
+-- the ticket is linked in each of the lanes below n that selects it
+unfoldable pub linked_all : Layout → Ticket → ℕ → Bool
+linked_all sh t zero = true
+linked_all sh t (suc n) = cond (linked_if (sh.path t.row n) (has t.linked n)) (linked_all sh t n) false

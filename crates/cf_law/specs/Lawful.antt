@@ -1,0 +1,125 @@
+-- The law of the words and the passes.
+use Rattle.std.specs.Prelude.{ℕ, ◌+◌, ◌<◌, ◌≤◌, ◌≡◌, ◌==◌, ◌⊎◌, zero, suc, List, [], ◌∷◌, true, cond, length, Option, Some, None, slice_get}
+use Rattle.cf_row.specs.declared.row.Entry.{Entry}
+use Rattle.cf_shape.specs.Places.{place, word_total}
+use Rattle.cf_shape.specs.Places.Slot.{cell}
+use Rattle.cf_words.specs.Words.{Spot, Layout, entry, Ticket, Stock, stock_of, marked, node_at, has, Spells}
+use Rattle.cf_shape.specs.Uses.Use.{version}
+use Rattle.cf_words.specs.Law.{NodesLaw, LeavesLaw, FlightLaw, IsWhole}
+use Rattle.cf_law.specs.Passes.{Own, Flight, Book, Cursor, Pass}
+use Rattle.cf_law.specs.Steps.{Holds}
+
+-- One list of tickets in the order of their offsets, and what each writer has beside them: what the words stand for.
+pub record Base : Type 0 where
+  pub words : List ℕ
+  pub tails : ℕ × ℕ
+  pub log : List Ticket
+  pub stocks : List Stock
+
+-- the cell of that lane is filled
+abbrev pub IsFilledIn : Layout → Ticket → ℕ → Type 0
+IsFilledIn sh t l = (k j : ℕ) → sh.use_of k ≡ version l j → suc k < sh.sizes.ticket_words → k < t.filled
+
+pub record BaseLaw (sh : Layout) (x : Base) : Type 0 where
+  pub size : length x.words ≡ word_total sh.sizes
+  pub spells : Spells sh x.tails x.log x.stocks x.words
+  pub nodes : NodesLaw sh x.stocks
+  pub room : length x.log ≤ sh.sizes.tickets
+  pub flight : FlightLaw x.log
+  pub leaves : LeavesLaw sh x.log x.stocks
+  -- a linked ticket is filled there
+  pub full : (o l : ℕ) (t : Ticket) → slice_get x.log o ≡ Some t → has t.linked l ≡ true → IsFilledIn sh t l
+  -- a finished ticket is linked in each lane that selects it
+  pub linked : (o l : ℕ) (t : Ticket) (p : List ℕ) → slice_get x.log o ≡ Some t → t.is_done ≡ true → sh.path t.row l ≡ Some p → has t.linked l ≡ true
+  -- a finished ticket is filled
+  pub whole : (o : ℕ) (t : Ticket) → slice_get x.log o ≡ Some t → t.is_done ≡ true → IsWhole sh t
+  pub marks : x.tails.0 ≡ length x.log + marked x.stocks
+  pub ends : (w : ℕ) → (stock_of x.stocks w).over ≡ true → length x.log ≡ sh.sizes.tickets
+  pub writers : (o : ℕ) (t : Ticket) → slice_get x.log o ≡ Some t → t.writer < sh.sizes.writers
+  pub fits : (o : ℕ) (t : Ticket) → slice_get x.log o ≡ Some t → sh.fits t.row ≡ true
+  pub covered : x.tails.1 ≤ length x.log
+  pub done : (o : ℕ) (t : Ticket) → o < x.tails.1 → slice_get x.log o ≡ Some t → t.is_done ≡ true
+
+-- the first n entries
+unfoldable pub front : ℕ → List Ticket → List Entry
+front zero log = []
+front (suc n) [] = []
+front (suc n) (t ∷ log) = entry t.writer t.row ∷ front n log
+
+-- of the tickets from offset k on, those that writer w has finished, and the one that it has in flight
+unfoldable pub mine_in : ℕ → ℕ → List Ticket → List Own
+mine_in w k [] = []
+mine_in w k (t ∷ ts) = cond (t.writer == w) (cond t.is_done (record { offset = k; row = t.row } ∷ mine_in w (suc k) ts) (mine_in w (suc k) ts)) (mine_in w (suc k) ts)
+
+unfoldable pub flight_in : ℕ → ℕ → List Ticket → Option Flight
+flight_in w k [] = None
+flight_in w k (t ∷ ts) = cond (t.writer == w) (cond t.is_done (flight_in w (suc k) ts) (Some record { offset = k; row = t.row; filled = t.filled; linked = t.linked })) (flight_in w (suc k) ts)
+
+-- the book of writer w
+abbrev pub book_at : Base → ℕ → Book
+book_at m w = record {
+  writer = w;
+  mine = mine_in w 0 m.log;
+  flight = flight_in w 0 m.log;
+  over = (stock_of m.stocks w).over;
+  used = (stock_of m.stocks w).used;
+  label = (stock_of m.stocks w).label;
+}
+
+-- the node stands for the lane and prefix, and so each child word of these is the node's number plus 1 for good
+abbrev pub Known : Layout → List Stock → Spot × ℕ → Type 0
+Known sh bs x = node_at sh.sizes.nodes bs x.1 ≡ Some x.0
+
+abbrev pub Leads : Layout → List Ticket → Cursor → ℕ → Type 0
+Leads sh log c zero = Unit {0}
+Leads sh log c (suc o) = (t : Ticket) × (slice_get log o ≡ Some t) × (t.writer ≡ c.writer) × (sh.path t.row c.spot.lane ≡ Some c.spot.path) × IsFilledIn sh t c.spot.lane
+
+pub record CursorLaw (sh : Layout) (log : List Ticket) (seen : ℕ) (c : Cursor) : Type 0 where
+  -- the link is 0, or names a ticket of that writer and leaf, whose cell there is filled
+  pub leads : Leads sh log c c.link
+  -- what was seen in the chain lies below the link, or the walk went by it
+  pub left : (i : ℕ) (t : Ticket) → i < seen → slice_get log i ≡ Some t → t.writer ≡ c.writer → sh.path t.row c.spot.lane ≡ Some c.spot.path → (i < c.link) ⊎ (has c.gone i ≡ true)
+
+abbrev pub CursorIs : Layout → List Ticket → ℕ → Option Cursor → Type 0
+CursorIs sh log seen None = Unit {0}
+CursorIs sh log seen (Some c) = CursorLaw sh log seen c
+
+abbrev pub DoneAt : List Ticket → ℕ → Type 0
+DoneAt log o = (t : Ticket) × (slice_get log o ≡ Some t) × (t.is_done ≡ true)
+
+-- what a pass knows and holds
+pub record PassLaw (sh : Layout) (m : Base) (p : Pass) : Type 0 where
+  pub within : length p.seen ≤ m.tails.1
+  pub seen : p.seen ≡ front (length p.seen) m.log
+  pub olds : (k : ℕ) (old : List Entry) → slice_get p.olds k ≡ Some old → (length old ≤ length p.seen) × (old ≡ front (length old) m.log)
+  pub known : (i : ℕ) (x : Spot × ℕ) → slice_get p.known i ≡ Some x → Known sh m.stocks x
+  pub walk : CursorIs sh m.log (length p.seen) p.cursor
+  pub look : (o i : ℕ) → o < sh.sizes.tickets → suc i ≡ sh.sizes.ticket_words → p.look.word ≡ place sh.sizes (cell o i) → p.look.value ≡ 1 → DoneAt m.log o
+  pub books : (k : ℕ) (b : Book) → Holds p k b → (b.writer < sh.sizes.writers) × (b ≡ book_at m b.writer)
+  -- a pass that was joined away holds no book
+  pub ends : p.spent ≡ true → p.books ≡ []
+
+pub record World : Type 0 where
+  pub words : List ℕ
+  pub passes : List Pass
+
+-- pass k holds the book of writer w at place i
+pub record HoldsAt (passes : List Pass) (k i w : ℕ) : Type 0 where
+  pub pass : Pass
+  pub book : Book
+  pub at : slice_get passes k ≡ Some pass
+  pub held : Holds pass i book
+  pub writer : book.writer ≡ w
+
+-- The base stands for the words, and each pass knows and holds what is so.
+pub record Stands (sh : Layout) (m : Base) (passes : List Pass) : Type 0 where
+  pub law : BaseLaw sh m
+  pub knows : (k : ℕ) (p : Pass) → slice_get passes k ≡ Some p → PassLaw sh m p
+  -- each book is held, and none twice
+  pub held : (w : ℕ) → w < sh.sizes.writers → (k : ℕ) × (i : ℕ) × HoldsAt passes k i w
+  pub once : (j k h i w : ℕ) → HoldsAt passes j h w → HoldsAt passes k i w → (j ≡ k) × (h ≡ i)
+
+pub record Lawful (sh : Layout) (words : List ℕ) (passes : List Pass) : Type 0 where
+  pub base : Base
+  pub stands : Stands sh base passes
+  pub spelled : base.words ≡ words

@@ -1,0 +1,10 @@
+pub mod Passes
+pub mod Steps
+pub mod Lawful
+pub mod Events
+pub mod Readers
+pub mod Decides
+pub mod Nibbles
+pub mod Shapes
+pub mod Plainly
+pub mod Laws

@@ -1,0 +1,51 @@
+-- Passes and their books: what a caller holds and knows.
+use Rattle.std.specs.Prelude.{ℕ, List, Bool, Option}
+use Rattle.cf_row.specs.Row.{Numbered}
+use Rattle.cf_row.specs.declared.row.Entry.{Entry}
+use Rattle.cf_words.specs.Words.{Spot}
+
+-- a finished ticket
+pub record Own : Type 0 where
+  pub offset : ℕ
+  pub row : Numbered
+
+-- a ticket that is not finished: how far its words are filled, and the lanes in which it is linked
+pub record Flight : Type 0 where
+  pub offset : ℕ
+  pub row : Numbered
+  pub filled : ℕ
+  pub linked : List ℕ
+
+-- a writer's book: its finished tickets in order, the one in flight, the mark, its used nodes in order, and the label that it last stored, or 0
+pub record Book : Type 0 where
+  pub writer : ℕ
+  pub mine : List Own
+  pub flight : Option Flight
+  pub over : Bool
+  pub used : List Spot
+  pub label : ℕ
+
+-- the last load: the place of the word, what was found, and how many loads there were
+pub record Look : Type 0 where
+  pub word : ℕ
+  pub value : ℕ
+  pub count : ℕ
+
+-- a walk down the chain of a writer in a leaf: the link found last, and the offsets that it went by
+pub record Cursor : Type 0 where
+  pub writer : ℕ
+  pub spot : Spot
+  pub link : ℕ
+  pub gone : List ℕ
+
+-- `known` has the lanes and prefixes that it knows to have a node, each with its node
+pub record Pass : Type 0 where
+  pub books : List Book
+  pub seen : List Entry
+  pub olds : List (List Entry)
+  pub tails : List ℕ
+  pub told : List ℕ
+  pub look : Look
+  pub known : List (Spot × ℕ)
+  pub cursor : Option Cursor
+  pub spent : Bool

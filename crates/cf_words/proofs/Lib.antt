@@ -1,0 +1,5 @@
+pub mod Stores
+pub mod Nodes
+pub mod Chains
+pub mod Links
+pub mod Heads

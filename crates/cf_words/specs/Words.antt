@@ -1,0 +1,189 @@
+-- What the words mean.
+use Rattle.std.specs.Prelude.{ℕ, ◌+◌, ◌*◌, ◌/◌, ◌%◌, ◌^◌, ◌<◌, ◌≤◌, ◌≡◌, ◌==◌, ◌⊎◌, suc, zero, List, [], ◌∷◌, ◌++◌, set, nat_lt, Bool, true, false, cond, length, get_or, Option, Some, None, slice_get, map}
+use Rattle.cf_row.specs.Row.{Numbered}
+use Rattle.cf_shape.specs.Places.{Sizes, Slot, place, IsReal}
+use Rattle.cf_fold.specs.Quads.{Counts, quad_of}
+use Rattle.cf_row.specs.declared.row.Entry.{Entry}
+use Rattle.cf_shape.specs.Uses.{Use}
+use Rattle.cf_shape.specs.Uses.Use.{plain, version}
+use Rattle.cf_shape.specs.Places.Slot.{tail, cell, root, body}
+
+-- a lane's path: the nibbles that lead to it, the last first, so that a child's path is its nibble before its parent's
+pub record Spot : Type 0 where
+  pub lane : ℕ
+  pub path : List ℕ
+
+abbrev pub spot : ℕ → List ℕ → Spot
+spot l p = record { lane = l; path = p }
+
+-- the entry of a writer and a row
+abbrev pub entry : ℕ → Numbered → Entry
+entry w r = record { writer = w; row = r }
+
+-- what a shape says of rows and words. `path` is None where the lane does not select the row.
+-- `spelled` has the words of a row and its writer, attributes and tag, and `reads` is its inverse
+pub record Layout : Type 0 where
+  pub sizes : Sizes
+  pub levels : ℕ → ℕ
+  pub path : Numbered → ℕ → Option (List ℕ)
+  pub fits : Numbered → Bool
+  pub plain_words : ℕ
+  pub spelled : Numbered → ℕ → List ℕ
+  pub reads : List ℕ → Entry
+  pub use_of : ℕ → Use
+  pub amount : Numbered → ℕ → ℕ
+  pub is_measured : ℕ → Bool
+
+pub record Ticket : Type 0 where
+  pub writer : ℕ
+  pub row : Numbered
+  pub filled : ℕ
+  pub linked : List ℕ
+  pub is_done : Bool
+
+-- what a writer has beside its tickets: its used nodes in order, the label that it last stored, or 0, and its mark
+pub record Stock : Type 0 where
+  pub used : List Spot
+  pub label : ℕ
+  pub over : Bool
+
+-- the node that stands for a spot, and the spot of a node
+unfoldable pub stock_of : List Stock → ℕ → Stock
+stock_of bs w = get_or bs w (record { used = []; label = 0; over = false })
+
+unfoldable pub node_at : ℕ → List Stock → ℕ → Option Spot
+node_at m bs n = slice_get (stock_of bs (n / m)).used (n % m)
+
+unfoldable pub spare_label : ℕ → List Stock → ℕ → ℕ
+spare_label m bs n = cond (n % m == length (stock_of bs (n / m)).used) (stock_of bs (n / m)).label 0
+
+-- a child word that stands for the spot s
+abbrev pub Names : ℕ → List Stock → Spot → ℕ → Type 0
+Names m bs s v = ((v ≡ 0) × ((n : ℕ) → node_at m bs n ≡ Some s → ⊥)) ⊎ ((n : ℕ) × (v ≡ suc n) × (node_at m bs n ≡ Some s))
+
+-- the slot whose word names the spot
+abbrev pub IsNamedBy : ℕ → List Stock → ℕ → List ℕ → Slot → Type 0
+IsNamedBy m bs l [] t = ⊥
+IsNamedBy m bs l (d ∷ []) t = t ≡ root l d
+IsNamedBy m bs l (d ∷ (e ∷ p)) t = (n : ℕ) × (node_at m bs n ≡ Some (spot l (e ∷ p))) × (d < 16) × (t ≡ body n (suc d))
+
+unfoldable pub has : List ℕ → ℕ → Bool
+has [] l = false
+has (x ∷ xs) l = cond (x == l) true (has xs l)
+
+unfoldable pub same_path : Option (List ℕ) → List ℕ → Bool
+same_path None p = false
+same_path (Some []) [] = true
+same_path (Some []) (y ∷ ys) = false
+same_path (Some (x ∷ xs)) [] = false
+same_path (Some (x ∷ xs)) (y ∷ ys) = cond (x == y) (same_path (Some xs) ys) false
+
+abbrev pub tail_word : ℕ × ℕ → ℕ → ℕ
+tail_word ts zero = ts.0
+tail_word ts (suc k) = ts.1
+
+abbrev pub done_word : Bool → ℕ
+done_word b = cond b 1 0
+
+-- the words of a measure after the first: the sum, then the least and the greatest
+abbrev pub measure_word : ℕ → Counts → ℕ
+measure_word zero q = q.sum
+measure_word (suc j) q = q.least + 2 ^ 32 * q.greatest
+
+-- book w gets the label v
+unfoldable pub relabel : ℕ → ℕ → List Stock → List Stock
+relabel w v bs = set bs w (record { used = (stock_of bs w).used; label = v; over = (stock_of bs w).over })
+
+-- the least unused node of writer w is used for s
+unfoldable pub use_node : ℕ → Spot → List Stock → List Stock
+use_node w s bs = set bs w (record { used = (stock_of bs w).used ++ s ∷ []; label = 0; over = (stock_of bs w).over })
+
+-- book w is marked over
+unfoldable pub mark_over : ℕ → List Stock → List Stock
+mark_over w bs = set bs w (record { used = (stock_of bs w).used; label = (stock_of bs w).label; over = true })
+
+-- how many books are marked
+unfoldable pub marked : List Stock → ℕ
+marked [] = 0
+marked (b ∷ bs) = cond b.over 1 0 + marked bs
+
+-- the number of that node
+abbrev pub free_of : ℕ → List Stock → ℕ → ℕ
+free_of m bs w = w * m + length (stock_of bs w).used
+
+-- what a ticket becomes
+abbrev pub fill : ℕ → Ticket → Ticket
+fill i t = record t { filled = suc i }
+
+abbrev pub link_in : ℕ → Ticket → Ticket
+link_in l t = record t { linked = l ∷ t.linked }
+
+abbrev pub finish : Ticket → Ticket
+finish t = record t { is_done = true }
+
+abbrev pub fresh_ticket : ℕ → Numbered → Ticket
+fresh_ticket w r = record { writer = w; row = r; filled = 0; linked = []; is_done = false }
+
+-- the ticket is linked in that leaf by that writer
+unfoldable pub links : Layout → ℕ → Spot → Ticket → Bool
+links sh w s t = cond (t.writer == w) (cond (has t.linked s.lane) (same_path (sh.path t.row s.lane) s.path) false) false
+
+unfoldable pub entry_at : Layout → ℕ → Spot → ℕ → Option Ticket → List (ℕ × Numbered)
+entry_at sh w s o None = []
+entry_at sh w s o (Some t) = cond (links sh w s t) ((o, t.row) ∷ []) []
+
+-- the entries of the writer linked in the leaf before offset o, the newest first
+unfoldable pub chain : Layout → List Ticket → ℕ → Spot → ℕ → List (ℕ × Numbered)
+chain sh log w s zero = []
+chain sh log w s (suc o) = entry_at sh w s o (slice_get log o) ++ chain sh log w s o
+
+-- 0, or the newest offset plus 1
+abbrev pub top : List (ℕ × Numbered) → ℕ
+top [] = 0
+top (x ∷ xs) = suc x.0
+
+-- word j of the cell of lane l, for a row whose chain before it is c: the previous offset and the count, the sum, and the least and greatest
+unfoldable pub version_word : Layout → ℕ → ℕ → List (ℕ × Numbered) → Numbered → ℕ
+version_word sh l zero c r = top c + 2 ^ 32 * cond (sh.is_measured l) (length c + 1) 0
+version_word sh l (suc j) c r = measure_word j (quad_of (map (λ x. sh.amount x l) (r ∷ map (λ x. x.1) c)))
+
+abbrev pub lane_word : Layout → List Ticket → ℕ → ℕ → ℕ → Ticket → Option (List ℕ) → ℕ
+lane_word sh log o l j t None = 0
+lane_word sh log o l j t (Some p) = version_word sh l j (chain sh log t.writer (spot l p) o) t.row
+
+abbrev pub used_word : Layout → List Ticket → ℕ → Ticket → Use → ℕ
+used_word sh log o t (plain i) = get_or (sh.spelled t.row t.writer) i 0
+used_word sh log o t (version l j) = lane_word sh log o l j t (sh.path t.row l)
+
+-- what word i of ticket o has to be once it is filled
+abbrev pub full_word : Layout → List Ticket → ℕ → Ticket → ℕ → ℕ
+full_word sh log o t i = used_word sh log o t (sh.use_of i)
+
+abbrev pub ticket_word : Layout → List Ticket → ℕ → ℕ → Option Ticket → ℕ
+ticket_word sh log o i None = 0
+ticket_word sh log o i (Some t) = cond (suc i == sh.sizes.ticket_words) (done_word t.is_done) (cond (nat_lt i t.filled) (full_word sh log o t i) 0)
+
+-- word j, from 1, of a used node. Above the last level it is a child, at the last a head
+abbrev pub NodeWord : Layout → List Ticket → List Stock → Spot → ℕ → ℕ → Bool → Type 0
+NodeWord sh log bs s j v true = ((j < 16) × Names sh.sizes.nodes bs (spot s.lane (j ∷ s.path)) v) ⊎ ((16 ≤ j) × (v ≡ 0))
+NodeWord sh log bs s j v false = v ≡ top (chain sh log (j % sh.sizes.writers) (spot s.lane (j / sh.sizes.writers ∷ s.path)) (length log))
+
+abbrev pub is_inner : Layout → Spot → Bool
+is_inner sh s = nat_lt (suc (length s.path)) (sh.levels s.lane)
+
+abbrev pub BodyWord : Layout → List Ticket → List Stock → ℕ → ℕ → ℕ → Option Spot → Type 0
+BodyWord sh log bs n zero v None = v ≡ spare_label sh.sizes.nodes bs n
+BodyWord sh log bs n (suc j) v None = v ≡ 0
+BodyWord sh log bs n zero v (Some s) = (t : Slot) × IsNamedBy sh.sizes.nodes bs s.lane s.path t × IsReal sh.sizes t × (v ≡ 32 * place sh.sizes t + length s.path)
+BodyWord sh log bs n (suc j) v (Some s) = NodeWord sh log bs s j v (is_inner sh s)
+
+-- the words that need no more than the tails, the log and the books
+abbrev pub Word : Layout → ℕ × ℕ → List Ticket → List Stock → Slot → ℕ → Type 0
+Word sh ts log bs (tail k) v = v ≡ tail_word ts k
+Word sh ts log bs (cell o i) v = v ≡ ticket_word sh log o i (slice_get log o)
+Word sh ts log bs (root l d) v = Names sh.sizes.nodes bs (spot l (d ∷ [])) v
+Word sh ts log bs (body n j) v = BodyWord sh log bs n j v (node_at sh.sizes.nodes bs n)
+
+-- each word is what the model says
+abbrev pub Spells : Layout → ℕ × ℕ → List Ticket → List Stock → List ℕ → Type 0
+Spells sh ts log bs words = (t : Slot) → IsReal sh.sizes t → Word sh ts log bs t (get_or words (place sh.sizes t) 0)
