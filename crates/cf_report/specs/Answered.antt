@@ -1,0 +1,82 @@
+-- The answers of a load, as contracts see them.
+use Rattle.std.specs.Prelude.{◌≡◌, ℕ, ◌<◌, Bool, true, false, List, [], ◌∷◌, All, length, slice_index_or}
+use Rattle.cf_history.specs.History.{Told}
+use Rattle.cf_history.specs.Tails.{Turn}
+use Rattle.cf_plain.specs.declared.ask.Ask.{Ask}
+use Rattle.cf_plain.specs.declared.ask.Ask.TheVariants as asks
+use Rattle.cf_plain.specs.declared.answer.Answer.{Answer}
+use Rattle.cf_plain.specs.declared.answer.Body.{Body}
+use Rattle.cf_plain.specs.declared.answer.Body.TheVariants as bodies
+use Rattle.cf_plain.specs.declared.answer.Fired.{Fired}
+use Rattle.cf_setup.specs.Settled.{Settled}
+use Rattle.cf_report.specs.declared.loaded.Live.{Live}
+
+-- the answers on the whole log, what each trigger found there, and the answers of the live questions in their turns
+pub record Answered : Type 0 where
+  pub finals : List Answer
+  pub alerts : List (List Fired)
+  pub lives : List Live
+
+abbrev pub no_ask : Ask
+no_ask = asks.List []
+
+abbrev pub ask_at : Settled → ℕ → Ask
+ask_at setup place = slice_index_or setup.asks place no_ask
+
+-- a question with its answer
+abbrev pub told_by : Ask → Answer → Told Ask Body
+told_by ask answer = record { ask = ask; tail = answer.tail; body = answer.body }
+
+-- each question with the answer at its place
+abbrev pub tolds_of : List Ask → List Answer → List (Told Ask Body)
+tolds_of [] answers = []
+tolds_of (ask ∷ rest) [] = []
+tolds_of (ask ∷ rest) (answer ∷ answers) = told_by ask answer ∷ tolds_of rest answers
+
+-- a live question with its answer
+abbrev pub told_live : Settled → Live → Told Ask Body
+told_live setup live = told_by (ask_at setup live.ask) live.answer
+
+-- the reader's turn in which a live answer was given, and how much of the log it saw
+abbrev pub turn_of : Live → Turn × ℕ
+turn_of live = (record { batch = live.batch; round = live.round; ask = live.ask }, live.answer.tail)
+
+abbrev pub are_places : Body → Bool
+are_places (bodies.Places places) = true
+are_places (bodies.Total quad) = false
+are_places (bodies.Marks marks) = false
+
+abbrev pub is_total : Body → Bool
+is_total (bodies.Places places) = false
+is_total (bodies.Total quad) = true
+is_total (bodies.Marks marks) = false
+
+abbrev pub are_marks : Body → Bool
+are_marks (bodies.Places places) = false
+are_marks (bodies.Total quad) = false
+are_marks (bodies.Marks marks) = true
+
+-- the body is one of the question's kind
+abbrev pub is_body_of : Ask → Body → Bool
+is_body_of (asks.List expr) body = are_places body
+is_body_of (asks.Find lane low high) body = are_places body
+is_body_of (asks.Between lane low high) body = are_places body
+is_body_of (asks.Measure lane low high) body = is_total body
+is_body_of (asks.Fired trigger) body = are_marks body
+
+-- the body speaks of the first n places alone
+abbrev pub IsWithin : ℕ → Body → Type 0
+IsWithin n (bodies.Places places) = All (λ place. place < n) places
+IsWithin n (bodies.Total quad) = Unit {0}
+IsWithin n (bodies.Marks marks) = Unit {0}
+
+-- An answer to each question, marks to each trigger, and live answers to questions that exist. Each body is of its question's
+-- kind, and its places are those of the n entries.
+pub record IsAnswering (setup : Settled) (n : ℕ) (answered : Answered) : Type 0 where
+  pub finals : length answered.finals ≡ length setup.asks
+  pub alerts : length answered.alerts ≡ length setup.triggers
+  pub lives : All (λ live. live.ask < length setup.asks) answered.lives
+  pub final_kinds : All (λ told. is_body_of told.ask told.body ≡ true) (tolds_of setup.asks answered.finals)
+  pub final_places : All (λ answer. IsWithin n answer.body) answered.finals
+  pub live_kinds : All (λ live. is_body_of (ask_at setup live.ask) live.answer.body ≡ true) answered.lives
+  pub live_places : All (λ live. IsWithin n live.answer.body) answered.lives

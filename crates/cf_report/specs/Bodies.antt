@@ -1,0 +1,56 @@
+-- The text of a question's answer. Numbers are decimal, and a line ends with byte 10.
+use Rattle.std.specs.Prelude.{ℕ, ◌==◌, List, [], ◌∷◌, ◌++◌, length, map, codes, decimal, if◌then◌else◌}
+use Rattle.std.specs.List.{flat_map}
+use Rattle.cf_row.specs.Row.{Numbered}
+use Rattle.cf_fold.specs.Quads.{Counts}
+use Rattle.cf_plain.specs.Asks.{row_at}
+use Rattle.cf_plain.specs.declared.ask.Ask.{Ask}
+use Rattle.cf_plain.specs.declared.ask.Ask.TheVariants as asks
+use Rattle.cf_plain.specs.declared.answer.Body.{Body}
+use Rattle.cf_plain.specs.declared.answer.Body.TheVariants as bodies
+use Rattle.cf_plain.specs.declared.answer.Fired.{Fired}
+
+abbrev pub line : List ℕ → List ℕ
+line text = text ++ 10 ∷ []
+
+-- the numbers in the input of the rows at some places
+abbrev pub nums_at : List Numbered → List ℕ → List ℕ
+nums_at rows places = map (λ place. (row_at rows place).num) places
+
+abbrev pub number_text : ℕ → List ℕ
+number_text n = codes " " ++ decimal n
+
+-- ` K:` and then each of the K numbers
+abbrev pub numbers_text : List ℕ → List ℕ
+numbers_text ns = codes " " ++ decimal (length ns) ++ codes ":" ++ flat_map number_text ns
+
+-- of no number, the least and the greatest are `-`
+abbrev pub bound_text : ℕ → ℕ → List ℕ
+bound_text count bound = if count == 0 then codes "-" else decimal bound
+
+-- ` count C sum S least L greatest G`
+abbrev pub quad_text : Counts → List ℕ
+quad_text quad =
+    codes " count " ++ decimal quad.count ++ codes " sum " ++ decimal quad.sum ++ codes " least " ++ bound_text quad.count quad.least ++ codes " greatest " ++ bound_text quad.count quad.greatest
+
+-- ` BUCKET=VALUE`
+abbrev pub mark_text : Fired → List ℕ
+mark_text mark = codes " " ++ decimal mark.bucket ++ codes "=" ++ decimal mark.value
+
+-- ` K:` and then each of the K marks
+abbrev pub marks_text : List Fired → List ℕ
+marks_text marks = codes " " ++ decimal (length marks) ++ codes ":" ++ flat_map mark_text marks
+
+-- the word of a question's kind
+abbrev pub word_of : Ask → List ℕ
+word_of (asks.List expr) = codes "list"
+word_of (asks.Find lane low high) = codes "find"
+word_of (asks.Between lane low high) = codes "between"
+word_of (asks.Measure lane low high) = codes "measure"
+word_of (asks.Fired trigger) = codes "fired"
+
+-- what is shown of a body, where places are shown as these numbers
+abbrev pub shown : (List ℕ → List ℕ) → Body → List ℕ
+shown nums (bodies.Places places) = numbers_text (nums places)
+shown nums (bodies.Total quad) = quad_text quad
+shown nums (bodies.Marks marks) = marks_text marks

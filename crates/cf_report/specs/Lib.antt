@@ -1,0 +1,7 @@
+pub mod Answered
+pub mod Bodies
+pub mod Report
+pub mod Text
+pub mod Runs
+pub mod Meaning
+pub mod Laws

@@ -1,0 +1,152 @@
+// The text of a question's answer.
+ghost use Rattle.std.specs.Prelude.{◌≡◌, ◌<◌, ◌++◌, All, length, OnOk, IfOk, string_bytes};
+ghost use Rattle.std.specs.List.{flat_map};
+ghost use Rattle.cf_fold.specs.Sort.{sort};
+ghost use Rattle.cf_plain.specs.Asks.{rows_in, row_at};
+ghost use Rattle.cf_report.specs.Answered.{IsWithin};
+ghost use Rattle.cf_report.specs.Bodies.{numbers_text, number_text, quad_text, bound_text, mark_text, marks_text, word_of, shown, nums_at};
+
+use cf_fold::Quad;
+use cf_plain::{Ask, Body, Fired};
+use cf_row::{Entry, Memory};
+use std::alloc::Global;
+use std::fmt::Write;
+
+fn push_numbers(text: &mut String, nums: &[u32]) -> Result<(), Memory>
+    ensures { OnOk result (string_bytes text.new ≡ string_bytes text.old ++ numbers_text nums.now) }
+{
+    let count = nums.len();
+    write!(text, " {count}:")?;
+    push_each(text, nums)
+}
+
+fn push_each(text: &mut String, nums: &[u32]) -> Result<(), Memory>
+    ensures { OnOk result (string_bytes text.new ≡ string_bytes text.old ++ flat_map number_text nums.now) }
+{
+    for num in nums {
+        write!(text, " {num}")?;
+    }
+    Ok(())
+}
+
+// The least or the greatest of so many numbers.
+fn push_bound(text: &mut String, count: u64, bound: u64) -> Result<(), Memory>
+    ensures { OnOk result (string_bytes text.new ≡ string_bytes text.old ++ bound_text count bound) }
+{
+    if count == 0 {
+        text.push_str("-")
+    } else {
+        write!(text, "{bound}")
+    }
+}
+
+fn push_quad(text: &mut String, quad: Quad) -> Result<(), Memory>
+    ensures { OnOk result (string_bytes text.new ≡ string_bytes text.old ++ quad_text quad) }
+{
+    let count = quad.count();
+    let sum = quad.sum();
+    write!(text, " count {count} sum {sum} least ")?;
+    push_bound(text, count, quad.least())?;
+    text.push_str(" greatest ")?;
+    push_bound(text, count, quad.greatest())
+}
+
+/// How many marks there are, and each.
+pub(crate) fn push_marks(text: &mut String, marks: &[Fired]) -> Result<(), Memory>
+    ensures { OnOk result (string_bytes text.new ≡ string_bytes text.old ++ marks_text marks.now) }
+{
+    let count = marks.len();
+    write!(text, " {count}:")?;
+    push_each_mark(text, marks)
+}
+
+fn push_each_mark(text: &mut String, marks: &[Fired]) -> Result<(), Memory>
+    ensures { OnOk result (string_bytes text.new ≡ string_bytes text.old ++ flat_map mark_text marks.now) }
+{
+    for mark in marks {
+        let bucket = mark.bucket;
+        let value = mark.value;
+        write!(text, " {bucket}={value}")?;
+    }
+    Ok(())
+}
+
+/// The word of a question's kind.
+pub(crate) fn word(ask: &Ask) -> &str
+    ensures { result.now ≡ word_of ask.now }
+{
+    match ask {
+        Ask::List(_) => "list",
+        Ask::Find(_, _, _) => "find",
+        Ask::Between(_, _, _) => "between",
+        Ask::Measure(_, _, _) => "measure",
+        Ask::Fired(_) => "fired",
+    }
+}
+
+// The number in the input of the row at a place.
+fn num_of(entries: &[Entry], place: u32) -> u32
+    requires { place < length entries.now }
+    ensures { result ≡ (row_at (rows_in entries.now) place).num }
+{
+    entries[place as usize].row.num()
+}
+
+// The numbers in the input of the rows at some places.
+fn nums_of(alloc: Global, entries: &[Entry], places: &[u32]) -> Result<Vec<u32>, Memory>
+    requires { All (λ place. place < length entries.now) places.now }
+    ensures { IfOk result (λ nums. nums.items ≡ nums_at (rows_in entries.now) places.now) }
+{
+    let mut nums = Vec::new(alloc);
+    for place in places {
+        nums.push(num_of(entries, *place))?;
+    }
+    Ok(nums)
+}
+
+// The same, ascending.
+fn sorted_nums_of(alloc: Global, entries: &[Entry], places: &[u32]) -> Result<Vec<u32>, Memory>
+    requires { All (λ place. place < length entries.now) places.now }
+    ensures { IfOk result (λ nums. nums.items ≡ sort (nums_at (rows_in entries.now) places.now)) }
+{
+    let mut nums = nums_of(alloc, entries, places)?;
+    nums.sort_unstable();
+    Ok(nums)
+}
+
+/// A body, where rows are shown by their numbers, ascending.
+pub(crate) fn push_final(
+    alloc: Global,
+    text: &mut String,
+    entries: &[Entry],
+    body: &Body,
+) -> Result<(), Memory>
+    requires { IsWithin (length entries.now) body.now }
+    ensures { OnOk result (string_bytes text.new ≡ string_bytes text.old ++ shown (λ places. sort (nums_at (rows_in entries.now) places)) body.now) }
+{
+    match body {
+        Body::Places(places) => push_numbers(
+            text,
+            &sorted_nums_of(alloc, entries, places.as_slice())?,
+        ),
+        Body::Total(quad) => push_quad(text, *quad),
+        Body::Marks(marks) => push_marks(text, marks.as_slice()),
+    }
+}
+
+/// A body, where rows are shown by their numbers in the order of the log.
+pub(crate) fn push_live(
+    alloc: Global,
+    text: &mut String,
+    entries: &[Entry],
+    body: &Body,
+) -> Result<(), Memory>
+    requires { IsWithin (length entries.now) body.now }
+    ensures { OnOk result (string_bytes text.new ≡ string_bytes text.old ++ shown (nums_at (rows_in entries.now)) body.now) }
+{
+    match body {
+        Body::Places(places) => push_numbers(text, &nums_of(alloc, entries, places.as_slice())?),
+        Body::Total(quad) => push_quad(text, *quad),
+        Body::Marks(marks) => push_marks(text, marks.as_slice()),
+    }
+}

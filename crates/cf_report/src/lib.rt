@@ -1,0 +1,17 @@
+//! The text of a report: what questions and triggers found on a log, what live questions found while it was written, and the
+//! order in which its writers wrote.
+#![tactic(auto)]
+
+mod body;
+mod laws;
+mod lines;
+mod live;
+mod loaded;
+mod order;
+#[cfg(test)]
+mod tests;
+mod text;
+
+pub use laws::{final_part_is_one, meant_answers_make_reports, reports_are_histories};
+pub use loaded::{Live, Loaded};
+pub use text::{Form, report};

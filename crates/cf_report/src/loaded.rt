@@ -1,0 +1,65 @@
+// The answers that a load gives.
+use cf_plain::{Answer, Marks};
+use std::marker::Model;
+
+/// The answer of a live question in a round of a batch. `ask` is the question's place in the setup.
+#[derive(Debug, Drop)]
+pub struct Live {
+    pub batch: u32,
+    pub round: u32,
+    pub ask: u8,
+    pub answer: Answer,
+}
+
+/// The answers of a load: those of all questions on the whole log, in the order of the setup; the marks of all triggers there, in
+/// the order of the setup; and the answers of the live questions, in the order in which they were asked.
+#[derive(Debug, Drop)]
+pub struct Loaded {
+    finals: Vec<Answer>,
+    alerts: Vec<Marks>,
+    lives: Vec<Live>,
+}
+
+impl Model for Loaded {
+    ghost use Rattle.cf_report.specs.Answered.{Answered};
+
+    ghost Value = { Answered };
+
+    ghost view = { λ l. record { finals = l.finals.items; alerts = l.alerts.items; lives = l.lives.items } };
+}
+
+impl Loaded {
+    ghost use Rattle.std.specs.Prelude.{◌≡◌};
+
+    /// These answers.
+    pub fn new(finals: Vec<Answer>, alerts: Vec<Marks>, lives: Vec<Live>) -> Loaded
+        ensures { result ≡ record { finals = finals.items; alerts = alerts.items; lives = lives.items } }
+    {
+        Loaded {
+            finals,
+            alerts,
+            lives,
+        }
+    }
+
+    /// The answers of all questions on the whole log.
+    pub fn finals(&self) -> &[Answer]
+        ensures { result.now ≡ self.now.finals }
+    {
+        self.finals.as_slice()
+    }
+
+    /// The marks of all triggers on the whole log.
+    pub fn alerts(&self) -> &[Marks]
+        ensures { result.now ≡ self.now.alerts }
+    {
+        self.alerts.as_slice()
+    }
+
+    /// The answers of the live questions.
+    pub fn lives(&self) -> &[Live]
+        ensures { result.now ≡ self.now.lives }
+    {
+        self.lives.as_slice()
+    }
+}

@@ -1,0 +1,298 @@
+ghost use Rattle.std.specs.Prelude.{◌≡◌, ◌<◌, All, IsTrue, length, true};
+ghost use Rattle.cf_report.specs.Answered.{is_body_of, ask_at, tolds_of, IsWithin, IsAnswering};
+
+use super::*;
+use cf_fold::Quad;
+use cf_plain::{Answer, Ask, Body, Fired, Marks, Places};
+use cf_row::{Entry, Memory, Row};
+use cf_setup::{Setup, parse_setup};
+use std::alloc::Global;
+use std::test::Fail;
+
+fn is_kind(ask: &Ask, body: &Body) -> bool
+    ensures { IsTrue result → is_body_of ask.now body.now ≡ true }
+{
+    match ask {
+        Ask::List(_) => matches!(body, Body::Places(_)),
+        Ask::Find(_, _, _) => matches!(body, Body::Places(_)),
+        Ask::Between(_, _, _) => matches!(body, Body::Places(_)),
+        Ask::Measure(_, _, _) => matches!(body, Body::Total(_)),
+        Ask::Fired(_) => matches!(body, Body::Marks(_)),
+    }
+}
+
+fn is_within(count: usize, body: &Body) -> bool
+    ensures { IsTrue result → IsWithin count body.now }
+{
+    match body {
+        Body::Places(places) => places
+            .as_slice()
+            .iter()
+            .all(|place| (*place as usize) < count),
+        Body::Total(_) => true,
+        Body::Marks(_) => true,
+    }
+}
+
+fn are_of_kind(asks: &[Ask], finals: &[Answer]) -> bool
+    requires { length finals.now ≡ length asks.now }
+    ensures { IsTrue result → All (λ told. is_body_of told.ask told.body ≡ true) (tolds_of asks.now finals.now) }
+{
+    for place in 0..asks.len() {
+        if !is_kind(&asks[place], &finals[place].body) {
+            return false;
+        }
+    }
+    true
+}
+
+fn are_within(count: usize, finals: &[Answer]) -> bool
+    ensures { IsTrue result → All (λ answer. IsWithin count answer.body) finals.now }
+{
+    for answer in finals {
+        if !is_within(count, &answer.body) {
+            return false;
+        }
+    }
+    true
+}
+
+fn lives_exist(asks: usize, lives: &[Live]) -> bool
+    ensures { IsTrue result → All (λ live. live.ask < asks) lives.now }
+{
+    for live in lives {
+        if live.ask as usize >= asks {
+            return false;
+        }
+    }
+    true
+}
+
+fn lives_are_of_kind(setup: &Setup, lives: &[Live]) -> bool
+    requires { All (λ live. live.ask < length setup.now.asks) lives.now }
+    ensures { IsTrue result → All (λ live. is_body_of (ask_at setup.now live.ask) live.answer.body ≡ true) lives.now }
+{
+    let asks = setup.asks();
+    for live in lives {
+        if !is_kind(&asks[live.ask as usize], &live.answer.body) {
+            return false;
+        }
+    }
+    true
+}
+
+fn lives_are_within(count: usize, lives: &[Live]) -> bool
+    ensures { IsTrue result → All (λ live. IsWithin count live.answer.body) lives.now }
+{
+    for live in lives {
+        if !is_within(count, &live.answer.body) {
+            return false;
+        }
+    }
+    true
+}
+
+// Whether a report can be made of the answers.
+fn are_answering(setup: &Setup, count: usize, loaded: &Loaded) -> bool
+    ensures { IsTrue result → IsAnswering setup.now count loaded.now }
+{
+    loaded.finals().len() == setup.asks().len()
+        && loaded.alerts().len() == setup.triggers().len()
+        && are_of_kind(setup.asks(), loaded.finals())
+        && are_within(count, loaded.finals())
+        && lives_exist(setup.asks().len(), loaded.lives())
+        && lives_are_of_kind(setup, loaded.lives())
+        && lives_are_within(count, loaded.lives())
+}
+
+// What a question found: places, numbers that were measured, or buckets with their values.
+#[derive(Drop)]
+enum Found<'a> {
+    At(&'a [u32]),
+    Of(&'a [u32]),
+    In(&'a [(u64, u64)]),
+}
+
+fn quad_of(values: &[u32]) -> Quad {
+    let mut quad = Quad::EMPTY;
+    for value in values {
+        if quad.count() < 1 << 20 {
+            quad = quad.add(*value);
+        }
+    }
+    quad
+}
+
+fn marks_of(alloc: Global, found: &[(u64, u64)]) -> Result<Marks, Memory> {
+    let mut marks = Vec::new(alloc);
+    for (bucket, value) in found {
+        marks.push(Fired {
+            bucket: *bucket,
+            value: *value,
+        })?;
+    }
+    Ok(Marks::new(marks))
+}
+
+fn answer_of(alloc: Global, tail: u32, found: &Found) -> Result<Answer, Memory> {
+    let body = match found {
+        Found::At(places) => Body::Places(Places::new(places.to_vec(alloc)?)),
+        Found::Of(values) => Body::Total(quad_of(values)),
+        Found::In(marks) => Body::Marks(marks_of(alloc, marks)?),
+    };
+    Ok(Answer { tail, body })
+}
+
+// The entries of these writers with rows of these numbers.
+fn log_of(alloc: Global, log: &[(u8, u32)]) -> Result<Vec<Entry>, Memory> {
+    let mut entries = Vec::new(alloc);
+    for (writer, num) in log {
+        entries.push(Entry {
+            writer: *writer,
+            row: Row::new(*num, Vec::new(alloc)),
+        })?;
+    }
+    Ok(entries)
+}
+
+// The answers of a load by hand: what each question and each trigger found, and the round, ask and tail of each live answer
+// with what it found.
+#[derive(Drop)]
+struct Case<'a> {
+    setup: &'a str,
+    log: &'a [(u8, u32)],
+    finals: &'a [Found<'a>],
+    alerts: &'a [&'a [(u64, u64)]],
+    lives: &'a [(u32, u8, u32, Found<'a>)],
+}
+
+fn loaded_of(alloc: Global, case: &Case) -> Result<Loaded, Memory> {
+    let tail = u32::try_from(case.log.len()).unwrap_or(0);
+    let mut finals = Vec::new(alloc);
+    for found in case.finals {
+        finals.push(answer_of(alloc, tail, found)?)?;
+    }
+    let mut alerts = Vec::new(alloc);
+    for found in case.alerts {
+        alerts.push(marks_of(alloc, found)?)?;
+    }
+    let mut lives = Vec::new(alloc);
+    for (round, ask, tail, found) in case.lives {
+        lives.push(Live {
+            batch: 0,
+            round: *round,
+            ask: *ask,
+            answer: answer_of(alloc, *tail, found)?,
+        })?;
+    }
+    Ok(Loaded::new(finals, alerts, lives))
+}
+
+// The text of the report; None where the setup is faulty or the answers aren't its own.
+fn text_of(alloc: Global, case: &Case, form: Form) -> Result<Option<Vec<u8>>, Memory> {
+    let Ok(setup) = parse_setup(alloc, case.setup.as_bytes()) else {
+        return Ok(None);
+    };
+    let entries = log_of(alloc, case.log)?;
+    let loaded = loaded_of(alloc, case)?;
+    if !are_answering(&setup, entries.len(), &loaded) {
+        return Ok(None);
+    }
+    Ok(Some(report(alloc, &setup, &entries, &loaded, form)?))
+}
+
+const FEW: &str =
+    "schema packet\nindex n len\nfilter f caplen<2 || len==60\naggregate a f len\ntrigger t a sum > 70\nask q find n 60 99\nask b between f 2 2\nask m measure a 1 2\nask g fired t\n";
+
+#[test]
+fn each_kind_of_body_is_printed(rt: HostRuntime) -> Result<(), Fail> {
+    let alloc = rt.alloc();
+    let case = Case {
+        setup: FEW,
+        log: &[(0, 0), (0, 1)],
+        finals: &[
+            Found::At(&[0]),
+            Found::At(&[1]),
+            Found::Of(&[60, 100]),
+            Found::In(&[(2, 100)]),
+        ],
+        alerts: &[&[(2, 100)]],
+        lives: &[],
+    };
+    for (form, text) in [
+        (
+            Form::Whole,
+            "records 2\nask q find 1: 0\nask b between 1: 1\nask m measure count 2 sum 160 least 60 greatest 100\nask g fired 1: 2=100\nalert t 2 100\norder 0*2\n",
+        ),
+        (
+            Form::Final,
+            "records 2\nask q find 1: 0\nask b between 1: 1\nask m measure count 2 sum 160 least 60 greatest 100\nask g fired 1: 2=100\nalert t 2 100\n",
+        ),
+    ] {
+        assert_eq!(rt;
+            text_of(alloc, &case, form)?.as_deref(),
+            Some(text.as_bytes())
+        );
+    }
+    Ok(())
+}
+
+#[test]
+fn of_no_number_the_least_and_greatest_are_a_dash(rt: HostRuntime) -> Result<(), Fail> {
+    let alloc = rt.alloc();
+    let case = Case {
+        setup: FEW,
+        log: &[],
+        finals: &[
+            Found::At(&[]),
+            Found::At(&[]),
+            Found::Of(&[]),
+            Found::In(&[]),
+        ],
+        alerts: &[&[]],
+        lives: &[],
+    };
+    let text =
+        "records 0\nask q find 0:\nask b between 0:\nask m measure count 0 sum 0 least - greatest -\nask g fired 0:\norder\n";
+    assert_eq!(rt;
+        text_of(alloc, &case, Form::Whole)?.as_deref(),
+        Some(text.as_bytes())
+    );
+    Ok(())
+}
+
+#[test]
+fn live_answers_are_printed_with_what_is_new(rt: HostRuntime) -> Result<(), Fail> {
+    let alloc = rt.alloc();
+    let case = Case {
+        setup: "schema packet\nfilter f len>=0\naggregate a f len\ntrigger t a sum > 70\ntrigger u a count > 1\nask all list len>=0\nask g fired t\nask h fired u\nlive g\nlive all\nlive h\n",
+        log: &[(1, 1), (0, 0), (0, 2), (1, 3)],
+        finals: &[
+            Found::At(&[0, 1, 2, 3]),
+            Found::In(&[(1, 90), (2, 100)]),
+            Found::In(&[]),
+        ],
+        alerts: &[&[(1, 90), (2, 100)], &[]],
+        lives: &[
+            (0, 1, 1, Found::In(&[(1, 71)])),
+            (0, 0, 2, Found::At(&[0, 1])),
+            (0, 2, 2, Found::In(&[(1, 2)])),
+            (1, 1, 3, Found::In(&[(1, 90), (2, 100)])),
+            (1, 0, 4, Found::At(&[0, 1, 2, 3])),
+            (1, 2, 4, Found::In(&[(1, 2)])),
+            (2, 1, 4, Found::In(&[(1, 90), (2, 100)])),
+        ],
+    };
+    let finals =
+        "records 4\nask all list 4: 0 1 2 3\nask g fired 2: 1=90 2=100\nask h fired 0:\nalert t 1 90\nalert t 2 100\n";
+    let lives =
+        "live g @1 fired 1: 1=71\nnew g @1 fired 1: 1=71\nlive all @2 list 2: 1 0\nlive h @2 fired 1: 1=2\nnew h @2 fired 1: 1=2\nlive g @3 fired 2: 1=90 2=100\nnew g @3 fired 1: 2=100\nlive all @4 list 4: 1 0 2 3\nlive h @4 fired 1: 1=2\nnew h @4 fired 0:\nlive g @4 fired 2: 1=90 2=100\nnew g @4 fired 0:\norder 1*1 0*2 1*1\n";
+    let whole = format!(in alloc; "{finals}{lives}")?;
+    for (form, text) in [(Form::Whole, whole.as_str()), (Form::Final, finals)] {
+        assert_eq!(rt;
+            text_of(alloc, &case, form)?.as_deref(),
+            Some(text.as_bytes())
+        );
+    }
+    Ok(())
+}

@@ -1,0 +1,113 @@
+-- What form a statement may have.
+use Rattle.std.proofs.Common.{◌≡◌, ℕ, List, Bool, true, false, not, cond, codes, Option, Some, None, refl, ap, ◌∙◌, subst}
+use Rattle.std.specs.Option.{option_map}
+use Rattle.std.specs.Str.{bytes_eq}
+use Rattle.std.proofs.lemmas.Option.{option_and_then_some}
+use Rattle.cf_row.specs.declared.expr.Op.{Op}
+use Rattle.cf_row.specs.Expr.{is_within}
+use Rattle.cf_filter.specs.Reading.{op_named}
+use Rattle.cf_setup.specs.declared.statement.Statement.{Statement}
+use Rattle.cf_setup.specs.declared.statement.Statement.TheVariants as statements
+use Rattle.cf_setup.specs.declared.statement.Question.{Question}
+use Rattle.cf_setup.specs.declared.statement.Question.TheVariants as questions
+use Rattle.cf_setup.specs.Lines.{is_blank, next_word, last_word, new_name}
+use Rattle.cf_setup.specs.Forms.{Form, part_named, sign_named, question_named, schema_words, three_words, question_form, form_at}
+use Rattle.cf_setup.specs.Forms.Form.{packet_schema, record_schema, bucket_width, new_index, new_filter, new_aggregate, new_trigger, ask_list, ask_find, ask_between, ask_measure, ask_fired, ask_live}
+use Rattle.cf_setup.specs.SetupText.{is_schema_statement}
+
+abbrev pub is_schema_form : Form → Bool
+is_schema_form packet_schema = true
+is_schema_form (record_schema list) = true
+is_schema_form (bucket_width number) = false
+is_schema_form (new_index name attr) = false
+is_schema_form (new_filter name expr) = false
+is_schema_form (new_aggregate name filter attr) = false
+is_schema_form (new_trigger name aggregate part op number) = false
+is_schema_form (ask_list name expr) = false
+is_schema_form (ask_find name index low high) = false
+is_schema_form (ask_between name filter low high) = false
+is_schema_form (ask_measure name aggregate low high) = false
+is_schema_form (ask_fired name trigger) = false
+is_schema_form (ask_live ask) = false
+
+-- a trigger's operator is one of the six
+abbrev pub has_sign : Form → Bool
+has_sign packet_schema = true
+has_sign (record_schema list) = true
+has_sign (bucket_width number) = true
+has_sign (new_index name attr) = true
+has_sign (new_filter name expr) = true
+has_sign (new_aggregate name filter attr) = true
+has_sign (new_trigger name aggregate part op number) = not (is_within op)
+has_sign (ask_list name expr) = true
+has_sign (ask_find name index low high) = true
+has_sign (ask_between name filter low high) = true
+has_sign (ask_measure name aggregate low high) = true
+has_sign (ask_fired name trigger) = true
+has_sign (ask_live ask) = true
+
+pub record Fits (statement : Statement) (form : Form) : Type 0 where
+  pub kind : is_schema_form form ≡ is_schema_statement statement
+  pub sign : has_sign form ≡ true
+
+some_same : {x y : Form} → Some x ≡ Some y → y ≡ x
+some_same e = cc
+
+mapped : {A : Type 0} (f : A → Form) (o : Option A) (form : Form) → option_map f o ≡ Some form → (x : A) × (form ≡ f x)
+mapped f None form h = cc
+mapped f (Some x) form h = (x, some_same h)
+
+fits_as : (statement : Statement) (form other : Form) → form ≡ other → is_schema_form other ≡ is_schema_statement statement → has_sign other ≡ true → Fits statement form
+fits_as statement form other e k s = record { kind = ap is_schema_form e ∙ k; sign = ap has_sign e ∙ s }
+
+sign_is : (word : List ℕ) (op : Op) → sign_named word ≡ Some op → not (is_within op) ≡ true
+sign_is word op h = option_and_then_some _ (op_named word) op h (λ found e k. by found (is_within found) refl k)
+  where
+    by : (found : Op) → (b : Bool) → is_within found ≡ b → cond b None (Some found) ≡ Some op → not (is_within op) ≡ true
+    by found true b k = cc
+    by found false b k = let same : found ≡ op = cc in subst (λ (x : Op). not (is_within x) ≡ true) same (ap not b)
+
+schema_fits : (word rest : List ℕ) (form : Form) → schema_words word rest ≡ Some form → Fits statements.Schema form
+schema_fits word rest form h = by (bytes_eq word (codes "packet")) (is_blank rest) (bytes_eq word (codes "records")) h
+  where
+    by : (p b r : Bool) → cond p (cond b (Some packet_schema) None) (cond r (option_map record_schema (last_word rest)) None) ≡ Some form → Fits statements.Schema form
+    by true true r k = fits_as statements.Schema form packet_schema (some_same k) refl refl
+    by true false r k = cc
+    by false b true k = let m = mapped record_schema (last_word rest) form k in fits_as statements.Schema form (record_schema m.0) m.1 refl refl
+    by false b false k = cc
+
+question_fits : (question : Question) (name text : List ℕ) (form : Form) → question_form question name text ≡ Some form → Fits statements.Ask form
+question_fits questions.List name text form h = fits_as statements.Ask form (ask_list name text) (some_same h) refl refl
+question_fits questions.Find name text form h = let m = mapped (λ words. ask_find name words.0 words.1 words.2) (three_words text) form h in fits_as statements.Ask form (ask_find name m.0.0 m.0.1 m.0.2) m.1 refl refl
+question_fits questions.Between name text form h = let m = mapped (λ words. ask_between name words.0 words.1 words.2) (three_words text) form h in fits_as statements.Ask form (ask_between name m.0.0 m.0.1 m.0.2) m.1 refl refl
+question_fits questions.Measure name text form h = let m = mapped (λ words. ask_measure name words.0 words.1 words.2) (three_words text) form h in fits_as statements.Ask form (ask_measure name m.0.0 m.0.1 m.0.2) m.1 refl refl
+question_fits questions.Fired name text form h = let m = mapped (ask_fired name) (last_word text) form h in fits_as statements.Ask form (ask_fired name m.0) m.1 refl refl
+
+pub form_fits : (statement : Statement) (text : List ℕ) (form : Form) → form_at statement text ≡ Some form → Fits statement form
+form_fits statements.Schema text form h = option_and_then_some _ (next_word text) form h (λ word e k. schema_fits word.0 word.1 form k)
+form_fits statements.Width text form h = let m = mapped bucket_width (last_word text) form h in fits_as statements.Width form (bucket_width m.0) m.1 refl refl
+form_fits statements.Index text form h =
+    option_and_then_some _ (new_name text) form h (λ name e k.
+    option_and_then_some _ (last_word name.1) form k (λ attr f l.
+    fits_as statements.Index form (new_index name.0 attr) (some_same l) refl refl))
+form_fits statements.Filter text form h = let m = mapped (λ name. new_filter name.0 name.1) (new_name text) form h in fits_as statements.Filter form (new_filter m.0.0 m.0.1) m.1 refl refl
+form_fits statements.Aggregate text form h =
+    option_and_then_some _ (new_name text) form h (λ name e k.
+    option_and_then_some _ (next_word name.1) form k (λ filter f l.
+    option_and_then_some _ (last_word filter.1) form l (λ attr g m.
+    fits_as statements.Aggregate form (new_aggregate name.0 filter.0 attr) (some_same m) refl refl)))
+form_fits statements.Trigger text form h =
+    option_and_then_some _ (new_name text) form h (λ name e0 k0.
+    option_and_then_some _ (next_word name.1) form k0 (λ aggregate e1 k1.
+    option_and_then_some _ (next_word aggregate.1) form k1 (λ part e2 k2.
+    option_and_then_some _ (part_named part.0) form k2 (λ part_is e3 k3.
+    option_and_then_some _ (next_word part.1) form k3 (λ op e4 k4.
+    option_and_then_some _ (sign_named op.0) form k4 (λ op_is e5 k5.
+    option_and_then_some _ (last_word op.1) form k5 (λ number e6 k6.
+    fits_as statements.Trigger form (new_trigger name.0 aggregate.0 part_is op_is number) (some_same k6) refl (sign_is op.0 op_is e5))))))))
+form_fits statements.Ask text form h =
+    option_and_then_some _ (new_name text) form h (λ name e k.
+    option_and_then_some _ (next_word name.1) form k (λ word f l.
+    option_and_then_some _ (question_named word.0) form l (λ question g m.
+    question_fits question name.0 word.1 form m)))
+form_fits statements.Live text form h = let m = mapped ask_live (last_word text) form h in fits_as statements.Live form (ask_live m.0) m.1 refl refl

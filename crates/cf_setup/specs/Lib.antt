@@ -1,0 +1,11 @@
+pub mod Lines
+pub mod Stated
+pub mod Forms
+pub mod Named
+pub mod Schemas
+pub mod Rules
+pub mod Adds
+pub mod Reading
+pub mod SetupText
+pub mod Settled
+pub mod Few

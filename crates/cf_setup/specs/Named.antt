@@ -1,0 +1,70 @@
+-- What names stand for after the statements so far.
+use Rattle.std.specs.Prelude.{ℕ, Bool, ◌&&◌, ◌||◌, not, List, Option, Some, None, position, slice_get, is_some, if◌then◌else◌}
+use Rattle.std.specs.List.{list_any}
+use Rattle.std.specs.Option.{option_map}
+use Rattle.std.specs.Str.{bytes_eq}
+use Rattle.cf_row.specs.declared.schema.Attr.{Attr}
+use Rattle.cf_row.specs.declared.schema.Kind.{Kind}
+use Rattle.cf_fold.specs.declared.trigger.Trigger.{Trigger}
+use Rattle.cf_shape.specs.declared.lane.Lane.{Lane}
+use Rattle.cf_shape.specs.declared.lane.Key.{Key}
+use Rattle.cf_shape.specs.declared.lane.Key.TheVariants as keys
+use Rattle.cf_plain.specs.Asks.{is_attr}
+use Rattle.cf_filter.specs.Values.{◌>>=◌}
+use Rattle.cf_setup.specs.declared.draft.Family.{Family}
+use Rattle.cf_setup.specs.declared.draft.Family.TheVariants as families
+use Rattle.cf_setup.specs.Stated.{Stated, attrs_of}
+
+-- the place of a name
+abbrev pub place_in : List (List ℕ) → List ℕ → Option ℕ
+place_in names name = position (λ other. bytes_eq other name) names
+
+-- some name is this one
+abbrev pub is_among : List (List ℕ) → List ℕ → Bool
+is_among names name = list_any (λ other. bytes_eq other name) names
+
+-- lanes, triggers and asks have their names in one space
+abbrev pub is_taken : Stated → List ℕ → Bool
+is_taken before name = (is_among before.lane_names name || is_among before.trigger_names name) || is_among before.ask_names name
+
+-- all rows by an attribute
+abbrev pub is_index : Lane → Bool
+is_index lane = is_attr lane.key
+
+-- rows of an expression by their buckets
+abbrev pub is_filter : Lane → Bool
+is_filter lane = not (is_attr lane.key) && not (is_some lane.measure)
+
+-- the same, with an attribute that is measured
+abbrev pub is_aggregate : Lane → Bool
+is_aggregate lane = not (is_attr lane.key) && is_some lane.measure
+
+-- the lane is of the family
+abbrev pub is_of : Family → Lane → Bool
+is_of families.Index lane = is_index lane
+is_of families.Filter lane = is_filter lane
+is_of families.Aggregate lane = is_aggregate lane
+
+-- the number of the lane of that name and the lane, if it passes
+abbrev pub lane_named : (Lane → Bool) → Stated → List ℕ → Option (ℕ × Lane)
+lane_named passes before name = do
+  place ← place_in before.lane_names name
+  lane ← slice_get before.lanes place
+  if passes lane then Some (place, lane) else None
+
+-- the trigger of that name
+abbrev pub trigger_named : Stated → List ℕ → Option Trigger
+trigger_named before name = do
+  place ← place_in before.trigger_names name
+  slice_get before.triggers place
+
+-- the kind of a key's values
+abbrev pub kind_of_key : List Attr → Key → Option Kind
+kind_of_key attrs (keys.Attr attr) = option_map (λ attr. attr.kind) (slice_get attrs attr)
+kind_of_key attrs keys.Bucket = None
+
+-- the kind of an index's values
+abbrev pub index_kind : Stated → List ℕ → Option Kind
+index_kind before name = do
+  index ← lane_named is_index before name
+  kind_of_key (attrs_of before) index.1.key

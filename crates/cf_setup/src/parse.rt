@@ -1,0 +1,117 @@
+// From the bytes of a setup to the setup.
+ghost use Rattle.std.specs.Prelude.{◌≡◌, ℕ, List, ◌≤◌, ◌<◌, length, IfOk, Result};
+ghost use Rattle.cf_setup.specs.Lines.{lines_of};
+ghost use Rattle.cf_setup.specs.Stated.{nothing_stated};
+ghost use Rattle.cf_setup.specs.Reading.{setup_at, setup_from, settled_or, Answers};
+ghost use Rattle.cf_setup.specs.Settled.{Settled, IsSetup, IsDraft};
+ghost use Rattle.cf_setup.specs.SetupText.{SetupText};
+ghost use Rattle.cf_filter.specs.Grammar.{Only};
+
+use crate::draft::Draft;
+use crate::lines::first_line;
+use crate::take::take_said;
+use crate::{Setup, codes};
+use cf_filter::unspaced;
+use std::alloc::Global;
+
+/// Why a text is no setup.
+#[derive(Clone, Copy, Debug, PartialEq, Eq)]
+pub enum SetupFault {
+    /// The first faulty line, from 1, and the least code of a rule that it breaks. A text of more than 65,536 bytes is line 0.
+    ///
+    /// The codes: 1 a byte that is no printed ASCII, 2 no statement, or one that is out of place, 3 not in the statement's
+    /// form, 4 no schema, 5 a name that is taken, 6 a name of nothing, 7 no number, 8 an attribute of another kind, 9 too many,
+    /// and of an expression 10 syntax, 11 an unknown name, 12 a bad operator, 13 a value out of range, 14 too long.
+    Bad { line: u32, code: u8 },
+    /// Want of memory.
+    Memory,
+}
+
+impl Draft {
+    // The setup, if its schema is stated; if not, the line after the last one lacks a statement.
+    fn settle(self, line: u32) -> Result<Setup, SetupFault>
+        requires { IsDraft self }
+        ensures { Answers result (settled_or line self self.schema) }
+    {
+        let Draft {
+            packet,
+            schema_line,
+            schema,
+            width,
+            lanes,
+            triggers,
+            asks,
+            lives,
+            lane_names,
+            trigger_names,
+            ask_names,
+        } = self;
+        let Some(schema) = schema else {
+            return Err(SetupFault::Bad {
+                line,
+                code: codes::BAD_STATEMENT,
+            });
+        };
+        Ok(Setup {
+            packet,
+            schema_line,
+            schema,
+            width: width.unwrap_or(1_000_000_000),
+            lanes,
+            triggers,
+            asks,
+            lives,
+            lane_names,
+            trigger_names,
+            ask_names,
+        })
+    }
+}
+
+fn read_lines(alloc: Global, bytes: &[u8]) -> Result<Setup, SetupFault>
+    requires { length bytes.now ≤ 65536 }
+    ensures { Answers result (setup_from 1 nothing_stated (lines_of bytes.now)) }
+{
+    let mut draft = Draft::new(alloc);
+    let mut rest = bytes;
+    let mut number = 1u32;
+    while !rest.is_empty() {
+        let (line, next) = first_line(rest);
+        draft = match take_said(alloc, number, draft, unspaced(line)) {
+            Ok(Ok(stated)) => stated,
+            Ok(Err(code)) => return Err(SetupFault::Bad { line: number, code }),
+            Err(_) => return Err(SetupFault::Memory),
+        };
+        rest = next;
+        number += 1;
+    }
+    draft.settle(number)
+}
+
+fn read_setup(alloc: Global, bytes: &[u8]) -> Result<Setup, SetupFault>
+    ensures { Answers result (setup_at bytes.now) }
+{
+    if bytes.len() > 65_536 {
+        return Err(SetupFault::Bad {
+            line: 0,
+            code: codes::TOO_MANY,
+        });
+    }
+    read_lines(alloc, bytes)
+}
+
+/// The setup that the bytes are the text of, or its first faulty line with the least code of a rule that it breaks.
+pub fn parse_setup(alloc: Global, bytes: &[u8]) -> Result<Setup, SetupFault>
+    // The answer is what the text is, as a setup or by its first faulty line.
+    ensures found { (read : Result Settled (ℕ × ℕ)) × SetupText bytes.now read × Answers result read }
+    // What the text is is the answer, unless memory runs out.
+    ensures only { (read : Result Settled (ℕ × ℕ)) → SetupText bytes.now read → Answers result read }
+    ensures lawful { IfOk result IsSetup }
+{
+    read_setup(alloc, bytes)
+}
+
+/// Each text has just one outcome, a setup or its first faulty line, and `setup_at` is it.
+pub fn one_outcome()
+    ensures { (bytes : List ℕ) → Only (SetupText bytes) (setup_at bytes) }
+{}
