@@ -2,7 +2,7 @@
 .PHONY: run test
 
 run:
-	@cd crates/confluo && rt run -- run --setup ../../examples/two_frames.setup --writers 1 ../../examples/two_frames.pcap
+	@cd crates/confluo && rt run -- run --setup ../../examples/two_frames.setup ../../examples/two_frames.pcap
 
 test:
 	rt ci

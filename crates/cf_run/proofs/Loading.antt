@@ -1,12 +1,14 @@
 -- From a file that is read to what loading the capture answers.
-use Rattle.std.proofs.Common.{◌≡◌, ◌⊎◌, ℕ, ◌+◌, ◌<◌, ◌^◌, List, [], ◌++◌, length, Option, Some, None, Result, Ok, Err, ap, ◌∙◌, inl, inr, IfSome, MatchResult, subst, arith, append-nil, length-append, Vec}
+use Rattle.std.proofs.Common.{◌≡◌, ◌⊎◌, ℕ, ◌+◌, ◌<◌, ◌^◌, List, [], ◌++◌, length, Option, Some, None, Result, Ok, Err, ap, sym, ◌∙◌, inl, inr, IfSome, MatchResult, subst, arith, append-nil, length-append, Vec}
 use Rattle.std.specs.declared.alloc.Global.{Global}
 use Rattle.cf_outside.specs.Files.{File}
 use Rattle.cf_pcap.specs.Capture.{Captured, IsCapture, HasPcapFault}
+use Rattle.cf_pcap.specs.declared.fault.PcapFault.{PcapFault}
 use Rattle.cf_pcap.specs.declared.fault.PcapFault.TheVariants.{BadMagic}
 use Rattle.cf_run.specs.Devices.{IsFileRead}
-use Rattle.cf_run.specs.Parts.{LoadsCapture, IsCaptureStop}
-use Rattle.cf_run.specs.Stops.{IsBadCapture}
+use Rattle.cf_run.specs.Due.{HasCaptureFault}
+use Rattle.cf_run.specs.Parts.{LoadsCapture, IsCaptureStop, IsBadCapture}
+use Rattle.cf_run.proofs.Deciding.{bad_magic}
 use Rattle.cf_run.proofs.Taking.{left_after, stopped_read}
 use Rattle.cf_run.specs.declared.status.Status.{Status}
 use Rattle.cf_run.specs.declared.status.Status.TheVariants.{Done, Words, Setup, Capture, ReadFault, WriteFault, Full, Nodes, Memory, NoFile}
@@ -25,9 +27,20 @@ none_longer bytes rest whole none frames capture = elim whole [
   | inr more ↦ let size : length (bytes ++ rest) < 2 ^ 32 = capture.size in let len : length (bytes ++ rest) ≡ length bytes + length rest = length-append bytes rest in absurd (omega (arith, size, more, len))
 ]
 
+fault_longer : (bytes rest : List ℕ) (at code : ℕ) → (rest ≡ []) ⊎ (length bytes ≡ 2 ^ 32) → HasCaptureFault bytes at code → HasCaptureFault (bytes ++ rest) at code
+fault_longer bytes rest at code whole has =
+    let bad : has.fault ≡ BadMagic = bad_magic bytes has.fault has.fault_is has.no_memory in
+    record {
+      fault = has.fault;
+      fault_is = subst (λ (fault : PcapFault). HasPcapFault (bytes ++ rest) fault) (sym bad) (none_longer bytes rest whole (subst (λ (fault : PcapFault). HasPcapFault bytes fault) bad has.fault_is));
+      no_memory = has.no_memory;
+      record_is = has.record_is;
+      code_is = has.code_is;
+    }
+
 capture_stop : (files : List File) (name bytes : List ℕ) (before now : Option (List ℕ)) (status : Status) → IsFileRead files name (2 ^ 32) now bytes → IsBadCapture bytes status → IsCaptureStop files name before now status
 capture_stop files name bytes before now (Capture at code) read bad =
-    (bytes ++ read.rest, read.file_is, none_longer bytes read.rest read.whole bad.0, bad.1, bad.2, left_after (2 ^ 32) bytes read.rest now read.left read.most read.whole)
+    (bytes ++ read.rest, read.file_is, fault_longer bytes read.rest at code read.whole bad, left_after (2 ^ 32) bytes read.rest now read.left read.most read.whole)
 capture_stop files name bytes before now Memory read bad = stopped_read files name (2 ^ 32) before now bytes read
 capture_stop files name bytes before now NoFile read bad = absurd bad
 capture_stop files name bytes before now Words read bad = absurd bad

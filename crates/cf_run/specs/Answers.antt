@@ -46,7 +46,7 @@ Answers files words NoFile held now = Wrote files words NoFile held now
 Answers files words ReadFault held now = Keeps held now
 Answers files words Memory held now = Keeps held now
 Answers files words WriteFault held now = WroteSome files words held now
-Answers files words Full held now = ⊥
+Answers files words Full held now = Wrote files words Full held now
 Answers files words Nodes held now = ⊥
 
 -- whatever the words and files call for comes, unless memory ran out or a device failed

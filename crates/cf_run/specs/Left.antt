@@ -2,29 +2,23 @@
 -- 2^32, which is opened only where the setup is lawful.
 use Rattle.std.specs.Prelude.{◌≡◌, ◌⊎◌, ℕ, ◌^◌, List, [], drop, Some, Option}
 use Rattle.cf_outside.specs.Files.{File, file_named}
-use Rattle.cf_run.specs.Command.{RunCommand, IsCommand}
+use Rattle.cf_command.specs.Command.{Asked, IsCommand}
 use Rattle.cf_run.specs.Devices.{IsTakenFrom}
-use Rattle.cf_run.specs.Due.{LacksSetup, LacksCapture}
-use Rattle.cf_run.specs.SetupText.{Stated, IsSetupText}
+use Rattle.cf_run.specs.Due.{HasSetup, LacksSetup, LacksCapture}
 use Rattle.cf_run.specs.declared.status.Status.{Status}
 use Rattle.cf_run.specs.declared.status.Status.TheVariants.{Done, Words, Setup, Capture, ReadFault, WriteFault, Full, Nodes, Memory, NoFile}
 
 pub record IsLeftOfSetup (files : List File) (words : List (List ℕ)) (now : Option (List ℕ)) : Type 0 where
-  pub command : RunCommand
+  pub command : Asked
   pub command_is : IsCommand words command
-  pub setup : List ℕ
-  pub setup_is : file_named files command.setup ≡ Some setup
-  pub taken : IsTakenFrom setup 65537 now
+  pub bytes : List ℕ
+  pub file : file_named files command.setup ≡ Some bytes
+  pub taken : IsTakenFrom bytes 65537 now
 
 pub record IsLeftOfCapture (files : List File) (words : List (List ℕ)) (now : Option (List ℕ)) : Type 0 where
-  pub command : RunCommand
-  pub command_is : IsCommand words command
-  pub setup : List ℕ
-  pub setup_is : file_named files command.setup ≡ Some setup
-  pub stated : Stated
-  pub stated_is : IsSetupText setup stated
+  pub has : HasSetup files words
   pub capture : List ℕ
-  pub capture_is : file_named files command.capture ≡ Some capture
+  pub file : file_named files has.command.capture ≡ Some capture
   pub taken : IsTakenFrom capture (2 ^ 32) now
 
 -- whatever the status
@@ -33,22 +27,17 @@ MayBeLeft files words before now = (now ≡ before) ⊎ IsLeftOfSetup files word
 
 -- a refused setup was read up to its 65,537th byte
 pub record SetupIsRead (files : List File) (words : List (List ℕ)) (now : Option (List ℕ)) : Type 0 where
-  pub command : RunCommand
+  pub command : Asked
   pub command_is : IsCommand words command
-  pub setup : List ℕ
-  pub setup_is : file_named files command.setup ≡ Some setup
-  pub left : now ≡ Some (drop 65537 setup)
+  pub bytes : List ℕ
+  pub file : file_named files command.setup ≡ Some bytes
+  pub left : now ≡ Some (drop 65537 bytes)
 
 -- a refused capture was read up to its 2^32nd byte, after a lawful setup
 pub record CaptureIsRead (files : List File) (words : List (List ℕ)) (now : Option (List ℕ)) : Type 0 where
-  pub command : RunCommand
-  pub command_is : IsCommand words command
-  pub setup : List ℕ
-  pub setup_is : file_named files command.setup ≡ Some setup
-  pub stated : Stated
-  pub stated_is : IsSetupText setup stated
+  pub has : HasSetup files words
   pub capture : List ℕ
-  pub capture_is : file_named files command.capture ≡ Some capture
+  pub file : file_named files has.command.capture ≡ Some capture
   pub left : now ≡ Some (drop (2 ^ 32) capture)
 
 -- by the status: words that are no command leave the shelf, and a capture that is reported was read to its end
@@ -58,8 +47,8 @@ Leaves files words Words before now = now ≡ before
 Leaves files words (Setup line code) before now = SetupIsRead files words now
 Leaves files words (Capture at code) before now = CaptureIsRead files words now
 Leaves files words NoFile before now = (LacksSetup files words × (now ≡ before)) ⊎ (LacksCapture files words × (now ≡ Some []))
+Leaves files words Full before now = now ≡ Some []
 Leaves files words ReadFault before now = MayBeLeft files words before now
 Leaves files words WriteFault before now = MayBeLeft files words before now
 Leaves files words Memory before now = MayBeLeft files words before now
-Leaves files words Full before now = ⊥
 Leaves files words Nodes before now = ⊥

@@ -1,9 +1,3 @@
-pub mod Command
-pub mod Plain
-pub mod SetupText
-pub mod Scan
-pub mod Report
-pub mod Printed
 pub mod Work
 pub mod Due
 pub mod Answers
@@ -11,3 +5,4 @@ pub mod Devices
 pub mod Left
 pub mod Parts
 pub mod Stops
+pub mod Answering

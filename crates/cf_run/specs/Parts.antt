@@ -1,33 +1,17 @@
 -- What the parts of the work answer.
-use Rattle.std.specs.Prelude.{◌≡◌, ◌⊎◌, ℕ, ◌≤◌, ◌^◌, List, [], map, drop, Some, None, Option, Result, Ok, Err, Vec, slice_index_or, codes, string_bytes}
-use Rattle.std.specs.Borrow.{Bor}
+use Rattle.std.specs.Prelude.{◌≡◌, ◌⊎◌, ℕ, ◌≤◌, ◌^◌, List, [], drop, Some, None, Option, Result, Ok, Err, Vec}
 use Rattle.std.specs.declared.alloc.Global.{Global}
 use Rattle.cf_outside.specs.Causes.{Rose}
 use Rattle.cf_outside.specs.Files.{File, file_named}
-use Rattle.cf_pcap.specs.Capture.{Captured, IsCapture, HasPcapFault}
-use Rattle.cf_pcap.specs.declared.fault.PcapFault.TheVariants.{BadMagic}
-use Rattle.cf_run.specs.SetupText.{Stated, IsSetupText, HasSetupFault}
+use Rattle.cf_pcap.specs.Capture.{Captured, IsCapture}
+use Rattle.cf_setup.specs.Settled.{Settled}
 use Rattle.cf_run.specs.Devices.{IsStopped}
-use Rattle.cf_run.specs.Due.{IsDue}
+use Rattle.cf_run.specs.Due.{HasCaptureFault, IsDue}
 use Rattle.cf_run.specs.Left.{MayBeLeft, Leaves}
+use Rattle.cf_run.specs.Work.{IsPacketSetup, HasSetupFault}
 use Rattle.cf_run.specs.declared.status.Status.{Status}
 use Rattle.cf_run.specs.declared.status.Status.TheVariants.{Done, Words, Setup, Capture, ReadFault, WriteFault, Full, Nodes, Memory, NoFile}
 use Rattle.cf_run.specs.declared.prepare.Draft.{Draft}
-
--- the texts behind a list of references
-abbrev pub texts : List (Bor (List ℕ)) → List (List ℕ)
-texts words = map (λ word. word.now) words
-
--- word i, which is empty past the end
-abbrev pub word : List (Bor (List ℕ)) → ℕ → List ℕ
-word words i = (slice_index_or words i (record { ref_ptr = (0, 0); now = [] })).now
-
--- the words that are the same for every command
-pub record HasFixedWords (words : List (Bor (List ℕ))) : Type 0 where
-  pub run : word words 0 ≡ codes "run"
-  pub setup : word words 1 ≡ codes "--setup"
-  pub writers : word words 3 ≡ codes "--writers"
-  pub one : word words 4 ≡ codes "1"
 
 -- a stop for want of memory or by a device
 abbrev pub IsFree : Status → Type 0
@@ -52,15 +36,14 @@ IsSetupStop files name before now Full = ⊥
 IsSetupStop files name before now Nodes = ⊥
 
 -- a lawful setup is read to its end
-abbrev pub LoadsSetup : List File → List ℕ → Option (List ℕ) → Option (List ℕ) → Result Stated Status → Type 0
-LoadsSetup files name before now (Ok stated) = (bytes : List ℕ) × (file_named files name ≡ Some bytes) × IsSetupText bytes stated × (now ≡ Some [])
+abbrev pub LoadsSetup : List File → List ℕ → Option (List ℕ) → Option (List ℕ) → Result Settled Status → Type 0
+LoadsSetup files name before now (Ok setup) = (bytes : List ℕ) × (file_named files name ≡ Some bytes) × IsPacketSetup bytes setup × (now ≡ Some [])
 LoadsSetup files name before now (Err stop) = IsSetupStop files name before now stop
 
 -- why loading a capture stops, and what it leaves of the opened file
 abbrev pub IsCaptureStop : List File → List ℕ → Option (List ℕ) → Option (List ℕ) → Status → Type 0
 IsCaptureStop files name before now NoFile = (file_named files name ≡ None) × (now ≡ before)
-IsCaptureStop files name before now (Capture at code) =
-    (bytes : List ℕ) × (file_named files name ≡ Some bytes) × HasPcapFault bytes BadMagic × (at ≡ 0) × (code ≡ 1) × (now ≡ Some (drop (2 ^ 32) bytes))
+IsCaptureStop files name before now (Capture at code) = (bytes : List ℕ) × (file_named files name ≡ Some bytes) × HasCaptureFault bytes at code × (now ≡ Some (drop (2 ^ 32) bytes))
 IsCaptureStop files name before now ReadFault = IsStopped files name (2 ^ 32) before now
 IsCaptureStop files name before now Memory = IsStopped files name (2 ^ 32) before now
 IsCaptureStop files name before now Done = ⊥
@@ -75,7 +58,20 @@ abbrev pub LoadsCapture : List File → List ℕ → Option (List ℕ) → Optio
 LoadsCapture files name before now (Ok frames) = (bytes : List ℕ) × (file_named files name ≡ Some bytes) × IsCapture bytes frames.items × (now ≡ Some [])
 LoadsCapture files name before now (Err stop) = IsCaptureStop files name before now stop
 
+-- why a capture's bytes are refused
+abbrev pub IsBadCapture : List ℕ → Status → Type 0
+IsBadCapture bytes (Capture at code) = HasCaptureFault bytes at code
+IsBadCapture bytes Memory = Unit {0}
+IsBadCapture bytes NoFile = ⊥
+IsBadCapture bytes Words = ⊥
+IsBadCapture bytes (Setup line code) = ⊥
+IsBadCapture bytes Done = ⊥
+IsBadCapture bytes ReadFault = ⊥
+IsBadCapture bytes WriteFault = ⊥
+IsBadCapture bytes Full = ⊥
+IsBadCapture bytes Nodes = ⊥
+
 -- a text is due, or the work stopped for want of memory or by the device
 abbrev pub IsPrepared : List File → List (List ℕ) → Option (List ℕ) → Option (List ℕ) → Result Draft Status → Type 0
-IsPrepared files words before now (Ok draft) = IsDue files words draft.status (string_bytes draft.text) × Leaves files words draft.status before now
+IsPrepared files words before now (Ok draft) = IsDue files words draft.status draft.text.items × Leaves files words draft.status before now
 IsPrepared files words before now (Err stop) = IsFree stop × MayBeLeft files words before now

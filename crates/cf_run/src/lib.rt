@@ -5,14 +5,11 @@
 //! call for, and `specs/Left.antt` for what is left of the files that were opened.
 #![tactic(auto)]
 
-mod command;
+mod answer;
 mod devices;
-mod parse;
-mod plain;
+mod load;
 mod prepare;
 mod program;
-mod report;
-mod setup;
 mod status;
 #[cfg(test)]
 mod tests;

@@ -7,7 +7,7 @@ use std::alloc::Global;
 use std::process::Abort;
 use std::test::Fail;
 
-const WORDS: [&str; 6] = ["run", "--setup", "s", "--writers", "1", "c"];
+const WORDS: [&str; 4] = ["run", "--setup", "s", "c"];
 
 const SETUP: &[u8] = b"schema packet\nask big list len>=100\n";
 
@@ -27,6 +27,16 @@ fn two_frames(alloc: Global) -> Result<Vec<u8>, Memory> {
 }
 
 const REPORT: &[u8] = b"records 2\nask big list 1: 1\norder 0*2\n";
+
+// The header and so many records without bytes, of which 200 were on the wire.
+fn records(alloc: Global, count: usize) -> Result<Vec<u8>, Memory> {
+    let mut capture = HEADER.to_vec(alloc)?;
+    for _ in 0..count {
+        capture.extend_from_slice(&[0; 12])?;
+        capture.extend_from_slice(&[200, 0, 0, 0])?;
+    }
+    Ok(capture)
+}
 
 fn shelf_of(
     alloc: Global,
@@ -52,23 +62,28 @@ fn expect<R: Abort>(
     answer: (u8, &[u8]),
 ) -> Result<(), Memory> {
     let mut shelf = shelf_of(alloc, &[], 7, files.0, files.1)?;
-    let mut sink = MemSink::new(alloc, 100, Vec::new(alloc), 5)?;
+    let mut sink = MemSink::new(alloc, 300, Vec::new(alloc), 5)?;
     let status = run(rt, alloc, words, &mut shelf, &mut sink, &FreeGate);
     assert_eq!(rt; status.number(), answer.0);
     assert_eq!(rt; sink.held(), answer.1);
     Ok(())
 }
 
+// One setup with each kind of statement and question.
+const QUESTIONS: &[u8] =
+    b"schema packet\nwidth 1000000000\nindex n len\nfilter f caplen<2 || len==60\naggregate a f len\ntrigger t a sum > 70\nask q find n 60 99\nask b between f 2 2\nask m measure a 1 2\nask e measure a 7 9\nask g fired t\nlive q\n";
+
+const ANSWERS: &[u8] =
+    b"records 2\nask q find 1: 0\nask b between 1: 1\nask m measure count 2 sum 160 least 60 greatest 100\nask e measure count 0 sum 0 least - greatest -\nask g fired 1: 2=100\nalert t 2 100\norder 0*2\n";
+
 #[test]
 fn lawful_files_are_reported(rt: HostRuntime) -> Result<(), Fail> {
     let alloc = rt.alloc();
     let capture = two_frames(alloc)?;
     expect(&rt, alloc, &WORDS, (SETUP, &capture), (0, REPORT))?;
+    expect(&rt, alloc, &WORDS, (QUESTIONS, &capture), (0, ANSWERS))?;
     let none = b"records 0\nask big list 0:\norder\n";
     expect(&rt, alloc, &WORDS, (SETUP, &HEADER), (0, none))?;
-    let setup = b"schema packet\nask a list ts!=007";
-    let all = b"records 2\nask a list 2: 0 1\norder 0*2\n";
-    expect(&rt, alloc, &WORDS, (setup, &capture), (0, all))?;
     Ok(())
 }
 
@@ -80,8 +95,8 @@ fn words_are_a_command_of_files_that_are_there(rt: HostRuntime) -> Result<(), Fa
     let table: [(&[&str], u8, &[u8]); 4] = [
         (&[], 1, no_words),
         (&["run", "c"], 1, no_words),
-        (&["run", "--setup", "x", "--writers", "1", "c"], 9, none),
-        (&["run", "--setup", "s", "--writers", "1", "x"], 9, none),
+        (&["run", "--setup", "x", "c"], 9, none),
+        (&["run", "x", "--setup", "s"], 9, none),
     ];
     for (words, number, text) in table {
         expect(&rt, alloc, words, (SETUP, &HEADER), (number, text))?;
@@ -90,19 +105,40 @@ fn words_are_a_command_of_files_that_are_there(rt: HostRuntime) -> Result<(), Fa
 }
 
 #[test]
+fn a_log_holds_as_many_records_as_its_capacity(rt: HostRuntime) -> Result<(), Fail> {
+    let alloc = rt.alloc();
+    let words = ["run", "--setup", "s", "--capacity", "4", "c"];
+    let fits = b"records 4\nask big list 4: 0 1 2 3\norder 0*4\n";
+    let capture = records(alloc, 4)?;
+    expect(&rt, alloc, &words, (SETUP, &capture), (0, fits))?;
+    let capture = records(alloc, 5)?;
+    let full = b"full: more than 4 records\n";
+    expect(&rt, alloc, &words, (SETUP, &capture), (6, full))?;
+    let cut = capture.get(..capture.len() - 1).ok_or("all but a byte")?;
+    let fault = b"capture: record 0 code 1\n";
+    expect(&rt, alloc, &words, (SETUP, cut), (3, fault))?;
+    Ok(())
+}
+
+#[test]
 fn other_setups_and_captures_are_refused(rt: HostRuntime) -> Result<(), Fail> {
     let alloc = rt.alloc();
-    let answer = (2, b"setup: line 0 code 2\n".as_slice());
-    for setup in [
-        b"schema packet\nask a list len>1\nask b list len>1\n".as_slice(),
-        b"schema packet\r\nask a list len>1\r\n",
-        b"schema packet\nask a  list len>1\n",
-    ] {
-        expect(&rt, alloc, &WORDS, (setup, &HEADER), answer)?;
+    let table: [(&[u8], &[u8]); 4] = [
+        (b"", b"setup: line 1 code 2\n"),
+        (
+            b"# rows\nschema records ts:u64\n",
+            b"setup: line 2 code 4\n",
+        ),
+        (
+            b"schema packet\nask a list nope>1\n",
+            b"setup: line 2 code 11\n",
+        ),
+        (b"schema packet\n\xff\n", b"setup: line 2 code 1\n"),
+    ];
+    for (setup, line) in table {
+        expect(&rt, alloc, &WORDS, (setup, &HEADER), (2, line))?;
     }
-    let capture = two_frames(alloc)?;
-    let cut = capture.get(..58).ok_or("all but a byte")?;
-    for capture in [[0x1f, 0x8b, 8, 0].as_slice(), cut, b""] {
+    for capture in [[0x1f, 0x8b, 8, 0].as_slice(), b""] {
         let answer = (3, b"capture: record 0 code 1\n".as_slice());
         expect(&rt, alloc, &WORDS, (SETUP, capture), answer)?;
     }
@@ -151,11 +187,7 @@ fn a_sink_that_fails_holds_a_front_of_the_text(rt: HostRuntime) -> Result<(), Fa
 #[test]
 fn a_long_text_is_written_in_pieces(rt: HostRuntime) -> Result<(), Fail> {
     let alloc = rt.alloc();
-    let mut capture = HEADER.to_vec(alloc)?;
-    for _ in 0..100 {
-        capture.extend_from_slice(&[0; 12])?;
-        capture.extend_from_slice(&[200, 0, 0, 0])?;
-    }
+    let capture = records(alloc, 100)?;
     for (call, size) in [(1, 0), (2, 256), (3, 332)] {
         let mut shelf = shelf_of(alloc, &[], 1000, SETUP, &capture)?;
         let mut sink = MemSink::new(alloc, 1000, [call].to_vec(alloc)?, 1000)?;

@@ -3,10 +3,9 @@ ghost use Rattle.std.specs.Prelude.{◌≡◌, ◌⊎◌, ◌≤◌, ℕ, List, 
 ghost use Rattle.std.specs.Io.KnownBytes.{Appends};
 ghost use Rattle.cf_outside.specs.Causes.{Rose};
 ghost use Rattle.cf_run.specs.Answers.{Answers, Yields, IsDecided};
-ghost use Rattle.cf_run.specs.Command.{NoCommand};
+ghost use Rattle.cf_command.specs.Command.{NoCommand, texts};
 ghost use Rattle.cf_run.specs.Due.{refusal_line};
 ghost use Rattle.cf_run.specs.Left.{Leaves};
-ghost use Rattle.cf_run.specs.Parts.{texts};
 ghost use Rattle.cf_run.specs.Work.{IsLawful};
 
 use crate::Status;
@@ -51,15 +50,14 @@ pub fn run<R, F: Shelf, K: Sink, G: Gate>(
     ensures shelf_count { F.faults shelf.old ≤ F.faults shelf.new }
     ensures sink_count { K.faults sink.old ≤ K.faults sink.new }
 
-    // Nothing is refused for want of room or of nodes.
-    ensures no_capacity { result ≡ Status.Full → ⊥ }
+    // Nothing is refused for want of nodes.
     ensures no_nodes { result ≡ Status.Nodes → ⊥ }
 {
     let draft = match prepare(alloc, words, shelf) {
         Ok(draft) => draft,
         Err(status) => return status,
     };
-    match write_all(sink, draft.text.as_bytes()) {
+    match write_all(sink, &draft.text) {
         Ok(()) => draft.status,
         Err(_) => Status::WriteFault,
     }

@@ -1,0 +1,6 @@
+use Rattle.std.proofs.Common.{rules}
+use Rattle.cf_run.proofs.Answering.{steady}
+use Rattle.cf_run.proofs.top.run_steadily.Goals as goal
+
+pub returns-clause-complete : goal.returns-clause-complete
+returns-clause-complete g c = λ lawful. steady c.run.result (c.run.ensures.complete lawful) (search rules) (search rules)

@@ -1,0 +1,132 @@
+// The answers over the frames of a capture, and their report.
+ghost use Rattle.std.specs.Prelude.{◌≡◌, ◌<◌, ◌≤◌, ◌^◌, [], length, map, replicate, IfOk};
+ghost use Rattle.cf_row.specs.Row.{Fits};
+ghost use Rattle.cf_row.specs.Schema.{packet_attrs};
+ghost use Rattle.cf_plain.specs.Asks.{rows_in, marks_over};
+ghost use Rattle.cf_report.specs.Answered.{ask_at};
+ghost use Rattle.cf_report.specs.Meaning.{answer_on, alerts_on, IsReport};
+ghost use Rattle.cf_run.specs.Stops.{IsOverPackets, IsShapeOf};
+ghost use Rattle.cf_history.proofs.OneWriter.{alone};
+ghost use Rattle.cf_run.specs.Work.{packet_row, packet_rows, packet_values};
+ghost use Rattle.cf_run.specs.Answering.{trigger_at};
+
+use cf_pcap::Frame;
+use cf_plain::{Answer, Ask, Body, Marks, Plain};
+use cf_report::{Form, Loaded, report};
+use cf_row::{Memory, Row, Value};
+use cf_setup::{Setup, shape_of};
+use cf_shape::Shape;
+use std::alloc::Global;
+
+// The row of a captured packet, from its parts.
+fn packet_row_of(alloc: Global, num: u32, ts: u64, caplen: u32, len: u32) -> Result<Row, Memory>
+    ensures num { IfOk result (λ row. row.num ≡ num) }
+    ensures values { IfOk result (λ row. row.values ≡ packet_values ts caplen len) }
+    ensures fits { IfOk result (Fits packet_attrs) }
+{
+    let mut values = Vec::with_capacity(alloc, 3)?;
+    values.push(Value::Num(ts))?;
+    values.push(Value::Num(caplen as u64))?;
+    values.push(Value::Num(len as u64))?;
+    Ok(Row::new(num, values))
+}
+
+// The row of a captured packet.
+fn row_of(alloc: Global, frame: &Frame) -> Result<Row, Memory>
+    ensures row { IfOk result (λ row. row ≡ packet_row frame.now) }
+    ensures fits { IfOk result (Fits packet_attrs) }
+{
+    packet_row_of(alloc, frame.num, frame.ts, frame.caplen, frame.len)
+}
+
+// The log of one writer with a row for each frame.
+fn log_of(alloc: Global, shape: Shape, frames: &[Frame]) -> Result<Plain, Memory>
+    requires packets { shape.schema ≡ packet_attrs }
+    requires few { length frames.now ≤ 65536 }
+    ensures shape { IfOk result (λ log. log.shape ≡ shape) }
+    ensures entries { IfOk result (λ log. log.entries ≡ alone (packet_rows frames.now)) }
+{
+    let mut log = Plain::new(alloc, shape);
+    for frame in frames {
+        let _place = log.append(0, row_of(alloc, frame)?)?;
+    }
+    Ok(log)
+}
+
+// The answer of the question at that place.
+fn answer_at(alloc: Global, setup: &Setup, log: &Plain, place: usize) -> Result<Answer, Memory>
+    requires exists { place < length setup.now.asks }
+    requires shape { IsShapeOf setup.now log.now.shape }
+    ensures { IfOk result (λ answer. answer ≡ answer_on log.now.shape log.now.entries (ask_at setup.now place)) }
+{
+    log.ask(alloc, &setup.asks()[place])
+}
+
+fn finals_of(alloc: Global, setup: &Setup, log: &Plain) -> Result<Vec<Answer>, Memory>
+    requires shape { IsShapeOf setup.now log.now.shape }
+    ensures { IfOk result (λ finals. finals.items ≡ map (answer_on log.now.shape log.now.entries) setup.now.asks) }
+{
+    let mut finals = Vec::new(alloc);
+    for place in 0..setup.asks().len() {
+        finals.push(answer_at(alloc, setup, log, place)?)?;
+    }
+    Ok(finals)
+}
+
+// The marks of the trigger at that place.
+fn alert_at(alloc: Global, setup: &Setup, log: &Plain, place: usize) -> Result<Marks, Memory>
+    requires exists { place < length setup.now.triggers }
+    requires shape { IsShapeOf setup.now log.now.shape }
+    ensures { IfOk result (λ marks. marks ≡ marks_over log.now.shape (trigger_at setup.now place) (rows_in log.now.entries)) }
+{
+    let ask = Ask::Fired(setup.triggers()[place]);
+    let answer = log.ask(alloc, &ask)?;
+    match answer.body {
+        Body::Marks(marks) => Ok(marks),
+        Body::Places(_) => unreachable!(),
+        Body::Total(_) => unreachable!(),
+    }
+}
+
+fn alerts_of(alloc: Global, setup: &Setup, log: &Plain) -> Result<Vec<Marks>, Memory>
+    requires shape { IsShapeOf setup.now log.now.shape }
+    ensures { IfOk result (λ alerts. alerts.items ≡ alerts_on log.now.shape setup.now (rows_in log.now.entries)) }
+{
+    let mut alerts = Vec::new(alloc);
+    for place in 0..setup.triggers().len() {
+        alerts.push(alert_at(alloc, setup, log, place)?)?;
+    }
+    Ok(alerts)
+}
+
+// All answers on the whole log. No question is asked live yet.
+fn answers_of(alloc: Global, setup: &Setup, log: &Plain) -> Result<Loaded, Memory>
+    requires shape { IsShapeOf setup.now log.now.shape }
+    ensures finals { IfOk result (λ loaded. loaded.finals ≡ map (answer_on log.now.shape log.now.entries) setup.now.asks) }
+    ensures alerts { IfOk result (λ loaded. loaded.alerts ≡ alerts_on log.now.shape setup.now (rows_in log.now.entries)) }
+    ensures lives { IfOk result (λ loaded. loaded.lives ≡ []) }
+{
+    let finals = finals_of(alloc, setup, log)?;
+    let alerts = alerts_of(alloc, setup, log)?;
+    Ok(Loaded::new(finals, alerts, Vec::new(alloc)))
+}
+
+/// The report of a setup over the frames of a capture, loaded by one writer.
+pub(crate) fn report_of(
+    alloc: Global,
+    setup: &Setup,
+    frames: &[Frame],
+    capacity: u32,
+    nodes: u32,
+) -> Result<Vec<u8>, Memory>
+    requires packets { IsOverPackets setup.now }
+    requires few { length frames.now ≤ 65536 }
+    requires capacity { (1 ≤ capacity) × (capacity ≤ 65536) }
+    requires nodes { nodes ≤ 65536 }
+    ensures { IfOk result (λ text. IsReport setup.now capacity 1 nodes 0 (packet_rows frames.now) (replicate (length (packet_rows frames.now)) 0) text.items) }
+{
+    let shape = shape_of(alloc, setup, capacity, 1, nodes)?;
+    let log = log_of(alloc, shape, frames)?;
+    let answers = answers_of(alloc, setup, &log)?;
+    report(alloc, setup, log.entries(), &answers, Form::Whole)
+}
