@@ -48,12 +48,11 @@ fn says(
     Ok(())
 }
 
-#[test]
-fn a_tail_waits_for_the_first_unfinished_ticket(rt: HostRuntime) -> Result<(), Fail> {
-    let alloc = rt.alloc();
-    let mut world = two_writers(&rt, alloc)?;
+// writer 1 has finished ticket 1, and ticket 0 of writer 0 is in flight
+fn one_finished(rt: &impl Abort, alloc: Global) -> Result<World, Memory> {
+    let mut world = two_writers(rt, alloc)?;
     says(
-        &rt,
+        rt,
         alloc,
         &mut world,
         0,
@@ -61,7 +60,7 @@ fn a_tail_waits_for_the_first_unfinished_ticket(rt: HostRuntime) -> Result<(), F
         false,
     )?;
     says(
-        &rt,
+        rt,
         alloc,
         &mut world,
         1,
@@ -69,7 +68,7 @@ fn a_tail_waits_for_the_first_unfinished_ticket(rt: HostRuntime) -> Result<(), F
         true,
     )?;
     says(
-        &rt,
+        rt,
         alloc,
         &mut world,
         1,
@@ -77,47 +76,84 @@ fn a_tail_waits_for_the_first_unfinished_ticket(rt: HostRuntime) -> Result<(), F
         false,
     )?;
     says(
-        &rt,
+        rt,
         alloc,
         &mut world,
         2,
         Act::Ticket(row(alloc, 1, 5)?),
         true,
     )?;
-    says(&rt, alloc, &mut world, 2, Act::Done(1), false)?;
-    says(&rt, alloc, &mut world, 2, Act::Cell(1, 0, 6), false)?;
-    says(&rt, alloc, &mut world, 2, Act::Cell(1, 1, 17), false)?;
-    says(&rt, alloc, &mut world, 2, Act::Cell(1, 0, 5), true)?;
-    says(&rt, alloc, &mut world, 2, Act::Done(1), false)?;
-    says(&rt, alloc, &mut world, 2, Act::Cell(1, 1, 17), true)?;
-    says(&rt, alloc, &mut world, 0, Act::Join(2), false)?;
-    says(&rt, alloc, &mut world, 2, Act::Done(1), true)?;
-    assert_eq!(rt; &world.words()[..8], [2, 0, 0, 0, 0, 5, 17, 1].as_slice());
-    says(&rt, alloc, &mut world, 2, Act::LookDone(0), true)?;
-    says(&rt, alloc, &mut world, 2, Act::Advance(0), false)?;
-    says(&rt, alloc, &mut world, 2, Act::LookDone(1), true)?;
-    says(&rt, alloc, &mut world, 2, Act::Advance(1), false)?;
-    says(&rt, alloc, &mut world, 2, Act::LookDone(4), false)?;
-    says(&rt, alloc, &mut world, 2, Act::LoadWord(0, 0), false)?;
-    says(&rt, alloc, &mut world, 1, Act::Cell(0, 0, 3), true)?;
-    says(&rt, alloc, &mut world, 1, Act::Cell(0, 1, 0), true)?;
-    says(&rt, alloc, &mut world, 1, Act::Done(0), true)?;
-    says(&rt, alloc, &mut world, 2, Act::LookDone(0), true)?;
-    says(&rt, alloc, &mut world, 2, Act::Advance(0), true)?;
-    says(&rt, alloc, &mut world, 2, Act::LookDone(1), true)?;
-    says(&rt, alloc, &mut world, 2, Act::Advance(1), true)?;
-    assert_eq!(rt; &world.words()[..8], [2, 2, 3, 0, 1, 5, 17, 1].as_slice());
-    says(&rt, alloc, &mut world, 2, Act::LoadWord(1, 2), true)?;
-    says(&rt, alloc, &mut world, 2, Act::LoadWord(1, 3), false)?;
-    says(&rt, alloc, &mut world, 1, Act::LoadWord(0, 0), false)?;
-    says(&rt, alloc, &mut world, 1, Act::LoadTail(true), true)?;
-    says(&rt, alloc, &mut world, 1, Act::LoadWord(0, 0), true)?;
-    says(&rt, alloc, &mut world, 0, Act::Join(2), true)?;
-    says(&rt, alloc, &mut world, 2, Act::LoadTail(false), false)?;
-    says(&rt, alloc, &mut world, 0, Act::Join(0), false)?;
-    says(&rt, alloc, &mut world, 0, Act::Split(Some(0)), false)?;
-    says(&rt, alloc, &mut world, 0, Act::Split(None), true)?;
-    says(&rt, alloc, &mut world, 3, Act::LoadWord(1, 0), true)?;
+    for (act, answer) in [
+        (Act::Done(1), false),
+        (Act::Cell(1, 0, 6), false),
+        (Act::Cell(1, 1, 17), false),
+        (Act::Cell(1, 0, 5), true),
+        (Act::Done(1), false),
+        (Act::Cell(1, 1, 17), true),
+    ] {
+        says(rt, alloc, &mut world, 2, act, answer)?;
+    }
+    says(rt, alloc, &mut world, 0, Act::Join(2), false)?;
+    says(rt, alloc, &mut world, 2, Act::Done(1), true)?;
+    Ok(world)
+}
+
+// both tickets are finished, and the read tail is 2
+fn both_finished(rt: &impl Abort, alloc: Global) -> Result<World, Memory> {
+    let mut world = one_finished(rt, alloc)?;
+    for act in [Act::Cell(0, 0, 3), Act::Cell(0, 1, 0), Act::Done(0)] {
+        says(rt, alloc, &mut world, 1, act, true)?;
+    }
+    for act in [
+        Act::LookDone(0),
+        Act::Advance(0),
+        Act::LookDone(1),
+        Act::Advance(1),
+    ] {
+        says(rt, alloc, &mut world, 2, act, true)?;
+    }
+    Ok(world)
+}
+
+#[test]
+fn a_tail_waits_for_the_first_unfinished_ticket(rt: HostRuntime) -> Result<(), Fail> {
+    let alloc = rt.alloc();
+    let mut world = one_finished(&rt, alloc)?;
+    assert!(rt; world.words().starts_with(&[2, 0, 0, 0, 0, 5, 17, 1]));
+    for (act, answer) in [
+        (Act::LookDone(0), true),
+        (Act::Advance(0), false),
+        (Act::LookDone(1), true),
+        (Act::Advance(1), false),
+        (Act::LookDone(4), false),
+        (Act::LoadWord(0, 0), false),
+    ] {
+        says(&rt, alloc, &mut world, 2, act, answer)?;
+    }
+    let world = both_finished(&rt, alloc)?;
+    assert!(rt; world.words().starts_with(&[2, 2, 3, 0, 1, 5, 17, 1]));
+    Ok(())
+}
+
+#[test]
+fn what_was_seen_is_handed_on(rt: HostRuntime) -> Result<(), Fail> {
+    let alloc = rt.alloc();
+    let mut world = both_finished(&rt, alloc)?;
+    for (pass, act, answer) in [
+        (2, Act::LoadWord(1, 2), true),
+        (2, Act::LoadWord(1, 3), false),
+        (1, Act::LoadWord(0, 0), false),
+        (1, Act::LoadTail(true), true),
+        (1, Act::LoadWord(0, 0), true),
+        (0, Act::Join(2), true),
+        (2, Act::LoadTail(false), false),
+        (0, Act::Join(0), false),
+        (0, Act::Split(Some(0)), false),
+        (0, Act::Split(None), true),
+        (3, Act::LoadWord(1, 0), true),
+    ] {
+        says(&rt, alloc, &mut world, pass, act, answer)?;
+    }
     Ok(())
 }
 

@@ -70,18 +70,26 @@ fn expect<R: Abort>(
 }
 
 // One setup with each kind of statement and question.
-const QUESTIONS: &[u8] =
-    b"schema packet\nwidth 1000000000\nindex n len\nfilter f caplen<2 || len==60\naggregate a f len\ntrigger t a sum > 70\nask q find n 60 99\nask b between f 2 2\nask m measure a 1 2\nask e measure a 7 9\nask g fired t\nlive q\n";
+fn questions(alloc: Global) -> Result<Vec<u8>, Memory> {
+    b"schema packet\nwidth 1000000000\nindex n len\nfilter f caplen<2 || len==60\naggregate a f len\ntrigger t a sum > 70\nask q find n 60 99\nask b between f 2 2\nask m measure a 1 2\nask e measure a 7 9\nask g fired t\nlive q\n".to_vec(
+        alloc,
+    )
+}
 
-const ANSWERS: &[u8] =
-    b"records 2\nask q find 1: 0\nask b between 1: 1\nask m measure count 2 sum 160 least 60 greatest 100\nask e measure count 0 sum 0 least - greatest -\nask g fired 1: 2=100\nalert t 2 100\norder 0*2\n";
+fn answers(alloc: Global) -> Result<Vec<u8>, Memory> {
+    b"records 2\nask q find 1: 0\nask b between 1: 1\nask m measure count 2 sum 160 least 60 greatest 100\nask e measure count 0 sum 0 least - greatest -\nask g fired 1: 2=100\nalert t 2 100\norder 0*2\n".to_vec(
+        alloc,
+    )
+}
 
 #[test]
 fn lawful_files_are_reported(rt: HostRuntime) -> Result<(), Fail> {
     let alloc = rt.alloc();
     let capture = two_frames(alloc)?;
     expect(&rt, alloc, &WORDS, (SETUP, &capture), (0, REPORT))?;
-    expect(&rt, alloc, &WORDS, (QUESTIONS, &capture), (0, ANSWERS))?;
+    let setup = questions(alloc)?;
+    let report = answers(alloc)?;
+    expect(&rt, alloc, &WORDS, (&setup, &capture), (0, &report))?;
     let none = b"records 0\nask big list 0:\norder\n";
     expect(&rt, alloc, &WORDS, (SETUP, &HEADER), (0, none))?;
     Ok(())
@@ -114,7 +122,7 @@ fn a_log_holds_as_many_records_as_its_capacity(rt: HostRuntime) -> Result<(), Fa
     let capture = records(alloc, 5)?;
     let full = b"full: more than 4 records\n";
     expect(&rt, alloc, &words, (SETUP, &capture), (6, full))?;
-    let cut = capture.get(..capture.len() - 1).ok_or("all but a byte")?;
+    let cut = capture.get(..103).ok_or("all but a byte")?;
     let fault = b"capture: record 0 code 1\n";
     expect(&rt, alloc, &words, (SETUP, cut), (3, fault))?;
     Ok(())
