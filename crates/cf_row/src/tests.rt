@@ -114,7 +114,7 @@ fn a_row_fits_with_values_of_each_kind(rt: HostRuntime) -> Result<(), Fail> {
 }
 
 #[test]
-fn packets_have_their_time_and_lengths(rt: HostRuntime) -> Result<(), Fail> {
+fn packets_have_the_fields_of_their_headers(rt: HostRuntime) -> Result<(), Fail> {
     let alloc = rt.alloc();
     let schema = packet_schema(alloc)?;
     let mut text = String::new(alloc);
@@ -122,7 +122,9 @@ fn packets_have_their_time_and_lengths(rt: HostRuntime) -> Result<(), Fail> {
         text.push_str(attr.name.as_str())?;
         text.push_str(" ")?;
     }
-    assert_eq!(rt; text.as_str(), "ts caplen len ");
+    let wanted =
+        "ts caplen len dmac smac etype kind tos iplen ttl proto src dst sport dport seq ack flags win ";
+    assert_eq!(rt; text.as_str(), wanted);
     assert_eq!(rt; Name::from_ascii(alloc, b"k0")?.as_str(), "k0");
     Ok(())
 }
