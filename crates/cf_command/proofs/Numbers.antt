@@ -3,18 +3,23 @@ use Rattle.std.proofs.Common.{◌≡◌, ℕ, ◌<◌, ◌≤◌, ◌^◌, List,
 use Rattle.std.specs.Str.Parse.{digits_value}
 use Rattle.std.proofs.lemmas.Fmt.{decimal_is_IsNumeral}
 use Rattle.cf_command.specs.Command.{Asked, NoNumberText, NoCommand, AreNumbers}
-use Rattle.cf_command.specs.Table.{RunSays, run_said}
+use Rattle.cf_command.specs.Table.{RunSays, run_said, dump_said}
 
 pub some_same : {A : Type 0} (a b : A) → Some a ≡ Some b → a ≡ b
 some_same a b h = cc
 
 -- what no command of the table says is no command
-pub none_said : (words : List (List ℕ)) → run_said words ≡ None → NoCommand words
-none_said words none command is = let said = is.said_is in cc (none, said)
+pub none_said : (words : List (List ℕ)) → run_said words ≡ None → dump_said words ≡ None → NoCommand words
+none_said words no_run no_dump = record {
+  no_run = λ command is. let said = is.said_is in cc (no_run, said);
+  no_dump = λ capture is. cc (no_dump, is);
+}
 
-pub no_numbers : (words : List (List ℕ)) (said : RunSays) → run_said words ≡ Some said → ((command : Asked) → AreNumbers said command → ⊥) → NoCommand words
-no_numbers words said is none command other =
-    let same : other.said ≡ said = some_same other.said said (sym other.said_is ∙ is) in none command (rw same at other.numbers)
+pub no_numbers : (words : List (List ℕ)) (said : RunSays) → run_said words ≡ Some said → dump_said words ≡ None → ((command : Asked) → AreNumbers said command → ⊥) → NoCommand words
+no_numbers words said is no_dump none = record {
+  no_run = λ command other. let same : other.said ≡ said = some_same other.said said (sym other.said_is ∙ is) in none command (rw same at other.numbers);
+  no_dump = λ capture found. cc (no_dump, found);
+}
 
 -- a text writes out one number
 pub decimal_is_one : (m n : ℕ) → m < 2 ^ 64 → n < 2 ^ 64 → decimal m ≡ decimal n → m ≡ n

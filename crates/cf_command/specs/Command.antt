@@ -2,7 +2,9 @@
 use Rattle.std.specs.Prelude.{◌≡◌, ℕ, ◌≤◌, List, map, Some, decimal}
 use Rattle.std.specs.Borrow.{Bor}
 use Rattle.cf_command.specs.declared.words.RunCommand.{RunCommand}
-use Rattle.cf_command.specs.Table.{RunSays, run_said}
+use Rattle.cf_command.specs.declared.words.Command.{Command}
+use Rattle.cf_command.specs.declared.words.Command.TheVariants.{Run, Dump}
+use Rattle.cf_command.specs.Table.{RunSays, run_said, dump_said}
 
 -- the texts behind a list of references
 abbrev pub texts : List (Bor (List ℕ)) → List (List ℕ)
@@ -43,10 +45,21 @@ abbrev pub NoNumbers : RunSays → Type 0
 NoNumbers said = (command : Asked) → AreNumbers said command → ⊥
 
 -- The words are `run` with its options and a word of its own, as clap takes them, and each number is in its range.
-pub record IsCommand (words : List (List ℕ)) (command : Asked) : Type 0 where
+pub record IsRun (words : List (List ℕ)) (command : Asked) : Type 0 where
   pub said : RunSays
   pub said_is : run_said words ≡ Some said
   pub numbers : AreNumbers said command
 
-abbrev pub NoCommand : List (List ℕ) → Type 0
-NoCommand words = (command : Asked) → IsCommand words command → ⊥
+-- The words are `dump` and the name of a capture, as clap takes them.
+abbrev pub IsDump : List (List ℕ) → List ℕ → Type 0
+IsDump words capture = dump_said words ≡ Some capture
+
+-- what a command says of its words
+abbrev pub IsCommand : List (List ℕ) → Command → Type 0
+IsCommand words (Run command) = IsRun words (asked_by command)
+IsCommand words (Dump capture) = IsDump words capture.now
+
+-- the words are no command
+pub record NoCommand (words : List (List ℕ)) : Type 0 where
+  pub no_run : (command : Asked) → IsRun words command → ⊥
+  pub no_dump : (capture : List ℕ) → IsDump words capture → ⊥

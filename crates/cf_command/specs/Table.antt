@@ -2,6 +2,8 @@
 use Rattle.std.specs.Prelude.{◌==◌, Bool, true, List, [], ◌∷◌, Option, Some, None, codes, option_and_then, if◌then◌else◌, length}
 use Rattle.std.specs.Str.{bytes_eq}
 use Rattle.cf_command.specs.declared.table.RunTexts.{RunTexts}
+use Rattle.cf_command.specs.declared.table.Said.{Said}
+use Rattle.cf_command.specs.declared.table.Said.TheVariants.{Run, Dump}
 use Rattle.clap.specs.Words.{App, Rule, Row, Text, new_app, new_rule, with_rule, with_subcommand, subcommand_of, fault_of, first_of}
 
 -- an option that has to be given
@@ -19,11 +21,14 @@ place id = record (new_rule id) { required = true }
 abbrev pub run_app : App
 run_app = with_rule (with_rule (with_rule (with_rule (with_rule (new_app (codes "run")) (needed (codes "setup"))) (optional (codes "writers") (codes "1"))) (optional (codes "capacity") (codes "65536"))) (optional (codes "nodes") (codes "1024"))) (place (codes "capture"))
 
+abbrev pub dump_app : App
+dump_app = with_rule (new_app (codes "dump")) (place (codes "capture"))
+
 abbrev pub bare_app : App
 bare_app = let a = new_app (codes "confluo") in record a { top = record a.top { no_binary_name = true; subcommand_required = true } }
 
 unfoldable pub confluo_app : App
-confluo_app = with_subcommand bare_app run_app.top
+confluo_app = with_subcommand (with_subcommand bare_app run_app.top) dump_app.top
 
 abbrev pub none_of : {X : Type 0} → List X → Bool
 none_of xs = length xs == 0
@@ -58,3 +63,19 @@ if_run p = if bytes_eq p.0 (codes "run") then run_texts_of p.1 else None
 -- what the words of a `run` command say
 unfoldable pub run_said : List Text → Option RunSays
 run_said words = option_and_then if_run (taken words)
+
+abbrev pub if_dump : Text × List Row → Option Text
+if_dump p = if bytes_eq p.0 (codes "dump") then first_of (codes "capture") p.1 else None
+
+-- the capture that the words of a `dump` command name
+unfoldable pub dump_said : List Text → Option Text
+dump_said words = option_and_then if_dump (taken words)
+
+-- what was said, of each command
+abbrev pub run_part : Said → Option RunSays
+run_part (Run texts) = Some (says_of texts)
+run_part (Dump capture) = None
+
+abbrev pub dump_part : Said → Option Text
+dump_part (Run texts) = None
+dump_part (Dump capture) = Some capture.now

@@ -1,8 +1,8 @@
 // The table of commands, as clap is told of it.
-ghost use Rattle.std.specs.Prelude.{◌≡◌, IfOk, option_map, option_and_then, map, false};
+ghost use Rattle.std.specs.Prelude.{◌≡◌, IfOk, option_map, option_and_then, map, false, None, codes};
 ghost use Rattle.clap.specs.Words.{app_of, rule_of, shape_of, subcommand_rows_of, with_rule, with_subcommand, first_of, found_of, rows_of};
 ghost use Rattle.clap.specs.declared.builder.command.Command.TheViews.{out-Command as fields_of};
-ghost use Rattle.cf_command.specs.Table.{bare_app, confluo_app, needed, optional, place, run_app, taken, run_said, run_texts_of, says_of};
+ghost use Rattle.cf_command.specs.Table.{bare_app, confluo_app, needed, optional, place, run_app, dump_app, taken, run_said, dump_said, run_part, dump_part, run_texts_of, says_of};
 
 use crate::Memory;
 use clap::error::ErrorKind;
@@ -50,6 +50,13 @@ fn run_command<'a>(alloc: Global) -> Result<Command<'a>, Memory>
     and(command, own_word(alloc, "capture"))
 }
 
+fn dump_command<'a>(alloc: Global) -> Result<Command<'a>, Memory>
+    ensures rules { IfOk result (λ c. app_of c ≡ dump_app) }
+    ensures local { IfOk result (λ c. (fields_of c).has_globals ≡ false) }
+{
+    and(Command::new(alloc, "dump"), own_word(alloc, "capture"))
+}
+
 fn under<'a>(command: Command<'a>, sub: Command<'a>) -> Result<Command<'a>, Memory>
     requires { (fields_of sub).has_globals ≡ false }
     ensures { IfOk result (λ c. app_of c ≡ with_subcommand (app_of command.entry) (shape_of sub.entry)) }
@@ -69,8 +76,8 @@ fn bare_command<'a>(alloc: Global) -> Command<'a>
 fn confluo_command<'a>(alloc: Global) -> Result<Command<'a>, Memory>
     ensures { IfOk result (λ c. app_of c ≡ confluo_app) }
 {
-    let command = bare_command(alloc);
-    under(command, run_command(alloc)?)
+    let command = under(bare_command(alloc), run_command(alloc)?)?;
+    under(command, dump_command(alloc)?)
 }
 
 // The command that the words name, with its values, or nothing where clap refuses them.
@@ -121,13 +128,36 @@ fn run_texts<'a>(matches: &ArgMatches<'a>) -> Option<RunTexts<'a>>
     })
 }
 
-/// What the words of a `run` command say, or nothing where they are no such command.
-#[tactic(auto, unfolding(crate::specs::Table::run_said))]
-pub(crate) fn read_run<'a>(
+/// What the words of a command say.
+#[derive(Drop)]
+pub(crate) enum Said<'a> {
+    Run(RunTexts<'a>),
+    /// The name of the capture.
+    Dump(&'a str),
+}
+
+fn run_said_by<'a>(matches: &ArgMatches<'a>) -> Option<Said<'a>>
+    ensures run { option_and_then run_part result ≡ run_texts_of (rows_of (found_of matches.now)) }
+    ensures dump { option_and_then dump_part result ≡ None }
+{
+    Some(Said::Run(run_texts(matches)?))
+}
+
+fn dump_said_by<'a>(matches: &ArgMatches<'a>) -> Option<Said<'a>>
+    ensures run { option_and_then run_part result ≡ None }
+    ensures dump { option_and_then dump_part result ≡ first_of (codes "capture") (rows_of (found_of matches.now)) }
+{
+    Some(Said::Dump(text_of(matches, "capture")?))
+}
+
+/// What the words of a command say, or nothing where they are no command.
+#[tactic(auto, unfolding(crate::specs::Table::run_said, crate::specs::Table::dump_said))]
+pub(crate) fn read_words<'a>(
     alloc: Global,
     words: &'a [&'a str],
-) -> Result<Option<RunTexts<'a>>, Memory>
-    ensures { IfOk result (λ o. option_map says_of o ≡ run_said (map (λ w. w.now) words.entry.now)) }
+) -> Result<Option<Said<'a>>, Memory>
+    ensures run { IfOk result (λ o. option_and_then run_part o ≡ run_said (map (λ w. w.now) words.entry.now)) }
+    ensures dump { IfOk result (λ o. option_and_then dump_part o ≡ dump_said (map (λ w. w.now) words.entry.now)) }
 {
     let Some(matches) = parse(alloc, words)? else {
         return Ok(None);
@@ -135,7 +165,9 @@ pub(crate) fn read_run<'a>(
     match matches.subcommand() {
         Some((name, inner)) => {
             if name == "run" {
-                Ok(run_texts(inner))
+                Ok(run_said_by(inner))
+            } else if name == "dump" {
+                Ok(dump_said_by(inner))
             } else {
                 Ok(None)
             }

@@ -5,7 +5,7 @@ ghost use Rattle.cf_command.specs.Table.{says_of};
 
 use crate::Memory;
 use crate::number::number_between;
-use crate::table::{RunTexts, read_run};
+use crate::table::{RunTexts, Said, read_words};
 use std::alloc::Global;
 
 /// The command `run`: the names of the setup and of the capture, and the numbers of its options.
@@ -43,15 +43,22 @@ fn command_from<'a>(alloc: Global, said: &RunTexts<'a>) -> Result<Option<RunComm
     }))
 }
 
+/// What the words of a command line ask for.
+#[derive(Clone, Copy, Debug)]
+pub enum Command<'a> {
+    /// The report of a capture by a setup.
+    Run(RunCommand<'a>),
+    /// The rows of the capture in the file of that name.
+    Dump(&'a str),
+}
+
 /// The command that the words are, or nothing where they are none.
-pub fn command_of<'a>(alloc: Global, words: &'a [&'a str]) -> Result<Option<RunCommand<'a>>, Memory>
-    ensures { IfOk result (λ found. MatchOption found (NoCommand (texts words.entry.now)) (λ command. IsCommand (texts words.entry.now) (asked_by command))) }
+pub fn command_of<'a>(alloc: Global, words: &'a [&'a str]) -> Result<Option<Command<'a>>, Memory>
+    ensures { IfOk result (λ found. MatchOption found (NoCommand (texts words.entry.now)) (IsCommand (texts words.entry.now))) }
 {
-    let Some(said) = read_run(alloc, words)? else {
-        return Ok(None);
-    };
-    match command_from(alloc, &said)? {
-        Some(command) => Ok(Some(command)),
+    match read_words(alloc, words)? {
+        Some(Said::Run(said)) => Ok(command_from(alloc, &said)?.map(Command::Run)),
+        Some(Said::Dump(capture)) => Ok(Some(Command::Dump(capture))),
         None => Ok(None),
     }
 }

@@ -9,4 +9,3 @@ pub mod Answering
 pub mod Loading
 pub mod Made
 pub mod Asking
-pub mod Rows

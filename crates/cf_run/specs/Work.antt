@@ -1,8 +1,7 @@
 -- What a report tells: the headline of the program.
 use Rattle.std.specs.Prelude.{◌≡◌, ◌⊎◌, ℕ, ◌≤◌, true, false, List, [], ◌∷◌, length, map, Some, Ok, Err}
 use Rattle.cf_row.specs.Row.{Numbered}
-use Rattle.cf_row.specs.declared.row.Value.{Value}
-use Rattle.cf_row.specs.declared.row.Value.TheVariants.{Num}
+use Rattle.cf_headers.specs.Packet.{packet_row_of}
 use Rattle.cf_outside.specs.Files.{File, file_named}
 use Rattle.cf_pcap.specs.Capture.{Captured, IsCapture}
 use Rattle.cf_command.specs.Command.{Asked, IsCommand}
@@ -11,15 +10,9 @@ use Rattle.cf_setup.specs.Settled.{Settled, shaped}
 use Rattle.cf_setup.specs.SetupText.{SetupText}
 use Rattle.cf_report.specs.Meaning.{IsReport}
 
-abbrev pub packet_values : ℕ → ℕ → ℕ → List Value
-packet_values ts caplen len = Num ts ∷ Num caplen ∷ Num len ∷ []
-
--- the row of a captured packet
-abbrev pub packet_row : Captured → Numbered
-packet_row frame = record { num = frame.num; values = packet_values frame.ts frame.caplen frame.len }
-
+-- the rows of captured packets
 abbrev pub packet_rows : List Captured → List Numbered
-packet_rows frames = map packet_row frames
+packet_rows frames = map packet_row_of frames
 
 -- the text of a setup over packets
 pub record IsPacketSetup (bytes : List ℕ) (setup : Settled) : Type 0 where

@@ -1,43 +1,22 @@
 // The answers over the frames of a capture, and their report.
 ghost use Rattle.std.specs.Prelude.{◌≡◌, ◌<◌, ◌≤◌, ◌^◌, [], length, map, replicate, IfOk};
-ghost use Rattle.cf_row.specs.Row.{Fits};
 ghost use Rattle.cf_row.specs.Schema.{packet_attrs};
 ghost use Rattle.cf_plain.specs.Asks.{rows_in, marks_over};
 ghost use Rattle.cf_report.specs.Answered.{ask_at};
 ghost use Rattle.cf_report.specs.Meaning.{answer_on, alerts_on, IsReport};
 ghost use Rattle.cf_run.specs.Stops.{IsOverPackets, IsShapeOf};
 ghost use Rattle.cf_history.proofs.OneWriter.{alone};
-ghost use Rattle.cf_run.specs.Work.{packet_row, packet_rows, packet_values};
+ghost use Rattle.cf_run.specs.Work.{packet_rows};
 ghost use Rattle.cf_run.specs.Answering.{trigger_at};
 
+use cf_headers::packet_row;
 use cf_pcap::Frame;
 use cf_plain::{Answer, Ask, Body, Marks, Plain};
 use cf_report::{Form, Loaded, report};
-use cf_row::{Memory, Row, Value};
+use cf_row::Memory;
 use cf_setup::{Setup, shape_of};
 use cf_shape::Shape;
 use std::alloc::Global;
-
-// The row of a captured packet, from its parts.
-fn packet_row_of(alloc: Global, num: u32, ts: u64, caplen: u32, len: u32) -> Result<Row, Memory>
-    ensures num { IfOk result (λ row. row.num ≡ num) }
-    ensures values { IfOk result (λ row. row.values ≡ packet_values ts caplen len) }
-    ensures fits { IfOk result (Fits packet_attrs) }
-{
-    let mut values = Vec::with_capacity(alloc, 3)?;
-    values.push(Value::Num(ts))?;
-    values.push(Value::Num(caplen as u64))?;
-    values.push(Value::Num(len as u64))?;
-    Ok(Row::new(num, values))
-}
-
-// The row of a captured packet.
-fn row_of(alloc: Global, frame: &Frame) -> Result<Row, Memory>
-    ensures row { IfOk result (λ row. row ≡ packet_row frame.now) }
-    ensures fits { IfOk result (Fits packet_attrs) }
-{
-    packet_row_of(alloc, frame.num, frame.ts, frame.caplen, frame.len)
-}
 
 // The log of one writer with a row for each frame.
 fn log_of(alloc: Global, shape: Shape, frames: &[Frame]) -> Result<Plain, Memory>
@@ -48,7 +27,7 @@ fn log_of(alloc: Global, shape: Shape, frames: &[Frame]) -> Result<Plain, Memory
 {
     let mut log = Plain::new(alloc, shape);
     for frame in frames {
-        let _place = log.append(0, row_of(alloc, frame)?)?;
+        let _place = log.append(0, packet_row(alloc, frame)?)?;
     }
     Ok(log)
 }

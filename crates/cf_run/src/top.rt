@@ -1,5 +1,5 @@
 // The top call.
-ghost use Rattle.std.specs.Prelude.{◌≡◌, ◌⊎◌, ◌≤◌, ℕ, List, IfSome};
+ghost use Rattle.std.specs.Prelude.{◌≡◌, ◌⊎◌, ◌≤◌, ℕ, List, Some, None, IfSome};
 ghost use Rattle.std.specs.Io.KnownBytes.{Appends};
 ghost use Rattle.cf_outside.specs.Causes.{Rose};
 ghost use Rattle.cf_run.specs.Answers.{Answers, Yields, IsDecided};
@@ -72,7 +72,11 @@ pub fn run_steadily<R, G: Gate>(
     sink: &mut SteadySink,
     gate: &G,
 ) -> Status
+    ensures written { Answers shelf.old.files (texts words.now) result None None }
+    ensures decided { IsDecided shelf.old.files (texts words.now) result }
     ensures complete { IsLawful shelf.old.files (texts words.now) → (result ≡ Status.Done) ⊎ (result ≡ Status.Memory) }
+    ensures files { Some shelf.new.files ≡ Some shelf.old.files }
+    ensures left { Leaves shelf.old.files (texts words.now) result (Some shelf.old.rest) (Some shelf.new.rest) }
     ensures no_read_fault { result ≡ Status.ReadFault → ⊥ }
     ensures no_write_fault { result ≡ Status.WriteFault → ⊥ }
 {

@@ -10,6 +10,8 @@ mod lane;
 mod laws;
 mod places;
 mod shape;
+#[cfg(test)]
+mod tests;
 
 pub use keys::{key, levels, measure, selects};
 pub use lane::{Key, Lane};
