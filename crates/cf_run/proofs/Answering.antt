@@ -12,6 +12,7 @@ use Rattle.cf_report.specs.declared.text.Form.TheVariants as forms
 use Rattle.cf_report.proofs.Reported.{report_of_one}
 use Rattle.cf_setup.specs.Settled.{Settled, shaped}
 use Rattle.cf_run.specs.Due.{IsDue}
+use Rattle.cf_run.specs.Dumps.{IsDumpWork}
 use Rattle.cf_run.specs.Devices.{WritesFront}
 use Rattle.cf_run.specs.Answers.{Answers, Yields, IsDecided}
 use Rattle.cf_run.specs.Work.{packet_rows, IsReported, IsLawful}
@@ -43,11 +44,11 @@ answers_due files words Words text held now due written = record { text = text; 
 answers_due files words (Setup line code) text held now due written = record { text = text; due = due; written = written }
 answers_due files words (Capture at code) text held now due written = record { text = text; due = due; written = written }
 answers_due files words NoFile text held now due written = record { text = text; due = due; written = written }
-answers_due files words ReadFault text held now due written = absurd due
-answers_due files words WriteFault text held now due written = absurd due
+answers_due files words ReadFault text held now due written = elim due [ inl none ↦ absurd none | inr none ↦ absurd none ]
+answers_due files words WriteFault text held now due written = elim due [ inl none ↦ absurd none | inr none ↦ absurd none ]
 answers_due files words Full text held now due written = record { text = text; due = due; written = written }
-answers_due files words Nodes text held now due written = absurd due
-answers_due files words Memory text held now due written = absurd due
+answers_due files words Nodes text held now due written = elim due [ inl none ↦ absurd none | inr none ↦ absurd none ]
+answers_due files words Memory text held now due written = elim due [ inl none ↦ absurd none | inr none ↦ absurd none ]
 
 pub answers_if : (told : Option (List File)) (words : List (List ℕ)) (status : Status) (text : List ℕ) (held now : Option (List ℕ)) → IfSome told (λ files. IsDue files words status text) → Appends held now text → IfSome told (λ files. Answers files words status held now)
 answers_if None words status text held now due written = due
@@ -64,7 +65,12 @@ decided_if (Some files) words status text due = λ called t other. inl (one_due 
 -- lawful words and files are reported, unless memory ran out or a device failed
 pub complete_if : (told : Option (List File)) (words : List (List ℕ)) (status : Status) → IfSome told (λ files. IsDecided files words status) → IfSome told (λ files. IsLawful files words → (status ≡ Done) ⊎ Yields status)
 complete_if None words status decided = decided
-complete_if (Some files) words status decided = λ lawful. decided Done _ (lawful_reported files words lawful)
+complete_if (Some files) words status decided = λ lawful. decided Done _ (inl (lawful_reported files words lawful))
+
+-- a capture that is named is dumped, unless memory ran out or a device failed
+pub dumps_if : (told : Option (List File)) (words : List (List ℕ)) (status : Status) → IfSome told (λ files. IsDecided files words status) → IfSome told (λ files. IsDumpWork files words → (status ≡ Done) ⊎ Yields status)
+dumps_if None words status decided = decided
+dumps_if (Some files) words status decided = λ work. decided Done _ (inr (record { work = work; text_is = refl }))
 
 -- over devices that never fail
 pub steady : (status : Status) → (status ≡ Done) ⊎ Yields status → (status ≡ ReadFault → ⊥) → (status ≡ WriteFault → ⊥) → (status ≡ Done) ⊎ (status ≡ Memory)

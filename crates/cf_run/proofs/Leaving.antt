@@ -3,7 +3,7 @@ use Rattle.std.proofs.Common.{◌≡◌, ℕ, ◌≤◌, ◌<◌, ◌^◌, List,
 use Rattle.std.proofs.lemmas.List.{drop_all}
 use Rattle.cf_outside.specs.Files.{File, file_named}
 use Rattle.cf_pcap.specs.Capture.{Captured, IsCapture}
-use Rattle.cf_command.specs.Command.{Asked, IsCommand}
+use Rattle.cf_command.specs.Command.{Asked, IsRun, IsDump}
 use Rattle.cf_run.specs.Devices.{IsTakenFrom, IsStopped}
 use Rattle.cf_run.specs.Due.{HasSetup}
 use Rattle.cf_run.specs.Left.{MayBeLeft}
@@ -14,7 +14,7 @@ pub whole_taken : (file : List ℕ) (limit : ℕ) (now : Option (List ℕ)) → 
 whole_taken file limit now short none = record { count = length file; most = short; left = none ∙ ap (λ xs. Some xs) (sym (drop_all (length file) file (omega arith))) }
 
 module _ (files : List File) (words : List (List ℕ)) where
-  pub setup_stopped : (command : Asked) → IsCommand words command → (before now : Option (List ℕ)) → IsStopped files command.setup 65537 before now → MayBeLeft files words before now
+  pub setup_stopped : (command : Asked) → IsRun words command → (before now : Option (List ℕ)) → IsStopped files command.setup 65537 before now → MayBeLeft files words before now
   setup_stopped command is before now stopped = elim stopped [
     | inl same ↦ inl same
     | inr taken ↦ inr (inl (record { command = command; command_is = is; bytes = taken.0; file = taken.1; taken = taken.2 }))
@@ -28,9 +28,19 @@ module _ (files : List File) (words : List (List ℕ)) where
   pub capture_stopped : (has : HasSetup files words) (before mid now : Option (List ℕ)) → mid ≡ Some [] → IsStopped files has.command.capture (2 ^ 32) mid now → MayBeLeft files words before now
   capture_stopped has before mid now none stopped = elim stopped [
     | inl same ↦ setup_left has before now (same ∙ none)
-    | inr taken ↦ inr (inr (record { has = has; capture = taken.0; file = taken.1; taken = taken.2 }))
+    | inr taken ↦ inr (inr (inl (record { has = has; capture = taken.0; file = taken.1; taken = taken.2 })))
   ]
 
   pub capture_left : (has : HasSetup files words) (capture : List ℕ) (frames : List Captured) (before now : Option (List ℕ)) → file_named files has.command.capture ≡ Some capture → IsCapture capture frames → now ≡ Some [] → MayBeLeft files words before now
   capture_left has capture frames before now found capture_is none =
-      inr (inr (record { has = has; capture = capture; file = found; taken = whole_taken capture (2 ^ 32) now (let short : length capture < 2 ^ 32 = capture_is.size in omega (arith, short)) none }))
+      inr (inr (inl (record { has = has; capture = capture; file = found; taken = whole_taken capture (2 ^ 32) now (let short : length capture < 2 ^ 32 = capture_is.size in omega (arith, short)) none })))
+
+  pub dump_stopped : (name : List ℕ) → IsDump words name → (before now : Option (List ℕ)) → IsStopped files name (2 ^ 32) before now → MayBeLeft files words before now
+  dump_stopped name is before now stopped = elim stopped [
+    | inl same ↦ inl same
+    | inr taken ↦ inr (inr (inr (record { name = name; name_is = is; capture = taken.0; file = taken.1; taken = taken.2 })))
+  ]
+
+  pub dump_left : (name : List ℕ) → IsDump words name → (capture : List ℕ) (frames : List Captured) (before now : Option (List ℕ)) → file_named files name ≡ Some capture → IsCapture capture frames → now ≡ Some [] → MayBeLeft files words before now
+  dump_left name is capture frames before now found capture_is none =
+      inr (inr (inr (record { name = name; name_is = is; capture = capture; file = found; taken = whole_taken capture (2 ^ 32) now (let short : length capture < 2 ^ 32 = capture_is.size in omega (arith, short)) none })))

@@ -9,3 +9,5 @@ pub mod Answering
 pub mod Loading
 pub mod Made
 pub mod Asking
+pub mod MoreRows
+pub mod DumpDue

@@ -6,7 +6,7 @@ use Rattle.cf_pcap.specs.Capture.{Captured, IsCapture, HasPcapFault}
 use Rattle.cf_pcap.specs.declared.fault.PcapFault.{PcapFault}
 use Rattle.cf_pcap.specs.declared.fault.PcapFault.TheVariants.{BadMagic}
 use Rattle.cf_run.specs.Devices.{IsFileRead}
-use Rattle.cf_run.specs.Due.{HasCaptureFault}
+use Rattle.cf_run.specs.Faults.{HasCaptureFault}
 use Rattle.cf_run.specs.Parts.{LoadsCapture, IsCaptureStop, IsBadCapture}
 use Rattle.cf_run.proofs.Deciding.{bad_magic}
 use Rattle.cf_run.proofs.Taking.{left_after, stopped_read}

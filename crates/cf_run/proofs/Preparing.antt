@@ -3,15 +3,15 @@ use Rattle.std.proofs.Common.{◌≡◌, ◌⊎◌, ℕ, ◌<◌, ◌≤◌, ◌
 use Rattle.std.specs.declared.alloc.Global.{Global}
 use Rattle.cf_outside.specs.Files.{File, file_named}
 use Rattle.cf_pcap.specs.Capture.{Captured, IsCapture}
-use Rattle.cf_command.specs.Command.{Asked, IsCommand}
+use Rattle.cf_command.specs.Command.{Asked, IsRun}
 use Rattle.cf_report.specs.Meaning.{IsReport}
 use Rattle.cf_setup.specs.Settled.{Settled}
-use Rattle.cf_run.specs.Due.{LacksSetup, HasSetup, LacksCapture, IsDue, refusal_line, full_line}
-use Rattle.cf_run.specs.Left.{MayBeLeft, Leaves}
+use Rattle.cf_run.specs.Due.{LacksSetup, HasSetup, LacksCapture, IsRunDue, IsDumpDue, IsDue, refusal_line, full_line}
+use Rattle.cf_run.specs.Left.{MayBeLeft, Leaves, CaptureIsRead, DumpIsRead}
 use Rattle.cf_run.specs.Parts.{IsFree, IsSetupStop, LoadsSetup, IsCaptureStop, LoadsCapture, IsPrepared}
 use Rattle.cf_run.specs.Stops.{IsRefusal, NoRefusal}
 use Rattle.cf_run.specs.Work.{packet_rows, IsPacketSetup, IsWork, IsReported}
-use Rattle.cf_run.proofs.Leaving.{setup_stopped, setup_left, capture_stopped, capture_left}
+use Rattle.cf_run.proofs.Leaving.{setup_stopped, setup_left, capture_stopped, capture_left, dump_left}
 use Rattle.cf_run.specs.declared.prepare.Draft.{Draft}
 use Rattle.cf_run.specs.declared.status.Status.{Status}
 use Rattle.cf_run.specs.declared.status.Status.TheVariants.{Done, Words, Setup, Capture, ReadFault, WriteFault, Full, Nodes, Memory, NoFile}
@@ -21,15 +21,15 @@ abbrev pub IsRefused : Status → Result Draft Status → Type 0
 IsRefused status result = MatchResult result (λ draft. (draft.status ≡ status) × (draft.text.items ≡ refusal_line status) × IsRefusal status) (λ stop. (stop ≡ Memory) ⊎ ((stop ≡ status) × NoRefusal status))
 
 -- a cause with its line is due
-prepared_draft : (files : List File) (words : List (List ℕ)) (before now : Option (List ℕ)) (draft : Draft) (status : Status) (line : List ℕ) → draft.status ≡ status → draft.text.items ≡ line → IsDue files words status line → Leaves files words status before now → IsPrepared files words before now (Ok draft)
+pub prepared_draft : (files : List File) (words : List (List ℕ)) (before now : Option (List ℕ)) (draft : Draft) (status : Status) (line : List ℕ) → draft.status ≡ status → draft.text.items ≡ line → IsDue files words status line → Leaves files words status before now → IsPrepared files words before now (Ok draft)
 prepared_draft files words before now draft status line same text due leaves =
     let due' : IsDue files words status draft.text.items = subst (λ (t : List ℕ). IsDue files words status t) (sym text) due in
     (subst (λ (s : Status). IsDue files words s draft.text.items) (sym same) due', subst (λ (s : Status). Leaves files words s before now) (sym same) leaves)
 
-prepared_stop : (files : List File) (words : List (List ℕ)) (before now : Option (List ℕ)) (stop status : Status) → (stop ≡ Memory) ⊎ ((stop ≡ status) × NoRefusal status) → (NoRefusal status → IsFree status) → MayBeLeft files words before now → IsPrepared files words before now (Err stop)
+pub prepared_stop : (files : List File) (words : List (List ℕ)) (before now : Option (List ℕ)) (stop status : Status) → (stop ≡ Memory) ⊎ ((stop ≡ status) × NoRefusal status) → (NoRefusal status → IsFree status) → MayBeLeft files words before now → IsPrepared files words before now (Err stop)
 prepared_stop files words before now stop status why free left = (elim why [ inl memory ↦ inl memory | inr same ↦ subst IsFree (sym same.0) (free same.1) ], left)
 
-module _ (files : List File) (words : List (List ℕ)) (command : Asked) (is : IsCommand words command) (before : Option (List ℕ)) where
+module _ (files : List File) (words : List (List ℕ)) (command : Asked) (is : IsRun words command) (before : Option (List ℕ)) where
   setup_may : (now : Option (List ℕ)) (status : Status) → IsSetupStop files command.setup before now status → MayBeLeft files words before now
   setup_may now NoFile stop = inl stop.1
   setup_may now (Setup line code) stop = inr (inl (record { command = command; command_is = is; bytes = stop.0; file = stop.1; taken = record { count = 65537; most = omega arith; left = stop.3 } }))
@@ -57,10 +57,10 @@ module _ (files : List File) (words : List (List ℕ)) (command : Asked) (is : I
   setup_draft : (now : Option (List ℕ)) (status : Status) (draft : Draft) → IsSetupStop files command.setup before now status → draft.status ≡ status → draft.text.items ≡ refusal_line status → IsRefusal status → IsPrepared files words before now (Ok draft)
   setup_draft now NoFile draft stop same text shown =
       let lacks : LacksSetup files words = record { command = command; command_is = is; no_file = stop.0 } in
-      prepared_draft files words before now draft NoFile (refusal_line NoFile) same text (inl lacks, refl) (inl (lacks, stop.1))
+      prepared_draft files words before now draft NoFile (refusal_line NoFile) same text (inl (inl lacks, refl)) (inl (lacks, stop.1))
   setup_draft now (Setup line code) draft stop same text shown =
       prepared_draft files words before now draft (Setup line code) (refusal_line (Setup line code)) same text
-      ((record { command = command; command_is = is; bytes = stop.0; file = stop.1; fault = stop.2 }), refl)
+      (inl ((record { command = command; command_is = is; bytes = stop.0; file = stop.1; fault = stop.2 }), refl))
       (record { command = command; command_is = is; bytes = stop.0; file = stop.1; left = stop.3 })
   setup_draft now ReadFault draft stop same text shown = absurd shown
   setup_draft now Memory draft stop same text shown = absurd shown
@@ -86,7 +86,7 @@ module _ (files : List File) (words : List (List ℕ)) (command : Asked) (is : I
     capture_may now Memory stop = capture_stopped files words has before mid now read stop
     capture_may now Done stop = absurd stop
     capture_may now Words stop = absurd stop
-    capture_may now (Capture at code) stop = inr (inr (record { has = has; capture = stop.0; file = stop.1; taken = record { count = 2 ^ 32; most = omega arith; left = stop.3 } }))
+    capture_may now (Capture at code) stop = inr (inr (inl (record { has = has; capture = stop.0; file = stop.1; taken = record { count = 2 ^ 32; most = omega arith; left = stop.3 } })))
     capture_may now WriteFault stop = absurd stop
     capture_may now Full stop = absurd stop
     capture_may now Nodes stop = absurd stop
@@ -106,7 +106,7 @@ module _ (files : List File) (words : List (List ℕ)) (command : Asked) (is : I
     capture_draft : (now : Option (List ℕ)) (status : Status) (draft : Draft) → IsCaptureStop files command.capture mid now status → draft.status ≡ status → draft.text.items ≡ refusal_line status → IsRefusal status → IsPrepared files words before now (Ok draft)
     capture_draft now NoFile draft stop same text shown =
         let lacks : LacksCapture files words = record { has = has; no_file = stop.0 } in
-        prepared_draft files words before now draft NoFile (refusal_line NoFile) same text (inr lacks, refl) (inr (lacks, stop.1 ∙ read))
+        prepared_draft files words before now draft NoFile (refusal_line NoFile) same text (inl (inr lacks, refl)) (inr (inl (lacks, stop.1 ∙ read)))
     capture_draft now (Setup line code) draft stop same text shown = absurd stop
     capture_draft now ReadFault draft stop same text shown = absurd shown
     capture_draft now Memory draft stop same text shown = absurd shown
@@ -114,8 +114,8 @@ module _ (files : List File) (words : List (List ℕ)) (command : Asked) (is : I
     capture_draft now Words draft stop same text shown = absurd stop
     capture_draft now (Capture at code) draft stop same text shown =
         prepared_draft files words before now draft (Capture at code) (refusal_line (Capture at code)) same text
-        ((record { has = has; capture = stop.0; file = stop.1; fault = stop.2 }), refl)
-        (record { has = has; capture = stop.0; file = stop.1; left = stop.3 })
+        (inl ((record { has = has; capture = stop.0; file = stop.1; fault = stop.2 }), refl))
+        (inl (record { has = has; capture = stop.0; file = stop.1; left = stop.3 }))
     capture_draft now WriteFault draft stop same text shown = absurd stop
     capture_draft now Full draft stop same text shown = absurd stop
     capture_draft now Nodes draft stop same text shown = absurd stop
@@ -129,7 +129,7 @@ module _ (files : List File) (words : List (List ℕ)) (command : Asked) (is : I
       work = record { command = command; command_is = is; setup_bytes = bytes; setup_file = named; setup = setup; setup_is = text_is; capture = capture; capture_file = found; frames = frames; frames_are = capture_is }
 
       full_in : (draft : Draft) → command.capacity < length frames → draft.status ≡ Full → draft.text.items ≡ full_line command.capacity → IsPrepared files words before now (Ok draft)
-      full_in draft many same text = prepared_draft files words before now draft Full (full_line command.capacity) same text ((record { work = work; many = many }), refl) end
+      full_in draft many same text = prepared_draft files words before now draft Full (full_line command.capacity) same text (inl ((record { work = work; many = many }), refl)) end
 
       reported_in : (text order : List ℕ) → length frames ≤ command.capacity → IsReport setup command.capacity command.writers command.nodes command.rounds (packet_rows frames) order text → IsReported files words text
       reported_in text order few report = record { work = work; few = few; order = order; report = report }
@@ -137,7 +137,7 @@ module _ (files : List File) (words : List (List ℕ)) (command : Asked) (is : I
       unmade_in : (stop : Status) → stop ≡ Memory → IsPrepared files words before now (Err stop)
       unmade_in stop memory = (inl memory, capture_left files words has capture frames before now found capture_is end)
 
-module _ (words : List (List ℕ)) (command : Asked) (is : IsCommand words command) where
+module _ (words : List (List ℕ)) (command : Asked) (is : IsRun words command) where
   pub setup_prepared : (told : Option (List File)) (before now : Option (List ℕ)) (status : Status) (result : Result Draft Status) → IfSome told (λ files. LoadsSetup files command.setup before now (Err status)) → IsRefused status result → IfSome told (λ files. IsPrepared files words before now result)
   setup_prepared None before now status result stop refused = stop
   setup_prepared (Some files) before now status result stop refused = setup_prepared_in files words command is before now status result stop refused
@@ -165,7 +165,7 @@ module _ (words : List (List ℕ)) (command : Asked) (is : IsCommand words comma
       report_prepared None later text order same loaded captured few report = loaded
       report_prepared (Some files) later text order same loaded captured few report =
           let captured' : IfSome (Some files) (λ fs. LoadsCapture fs command.capture mid now (Ok frames)) = rw same at captured in
-          (reported_in files words command is before loaded.0 setup mid loaded.1 loaded.2 loaded.3 captured'.0 frames.items now captured'.1 captured'.2 captured'.3 text order few report, captured'.3)
+          (inl (reported_in files words command is before loaded.0 setup mid loaded.1 loaded.2 loaded.3 captured'.0 frames.items now captured'.1 captured'.2 captured'.3 text order few report), captured'.3)
 
       pub unmade_prepared : (told later : Option (List File)) → later ≡ told → IfSome told (λ files. LoadsSetup files command.setup before mid (Ok setup)) → IfSome later (λ files. LoadsCapture files command.capture mid now (Ok frames)) → IfSome told (λ files. IsPrepared files words before now (Err Memory))
       unmade_prepared None later same loaded captured = loaded
@@ -174,10 +174,10 @@ module _ (words : List (List ℕ)) (command : Asked) (is : IsCommand words comma
           unmade_in files words command is before loaded.0 setup mid loaded.1 loaded.2 loaded.3 captured'.0 frames.items now captured'.1 captured'.2 captured'.3 Memory refl
 
 -- The numbers of a command of one writer that asks nothing live are those that it was asked for.
-pub one_writer : (words : List (List ℕ)) (command : Asked) → IsCommand words command → command.writers ≡ 1
+pub one_writer : (words : List (List ℕ)) (command : Asked) → IsRun words command → command.writers ≡ 1
 one_writer words command is = let low : 1 ≤ command.writers = is.numbers.writers_are.least in let high : command.writers ≤ 1 = is.numbers.writers_are.most in omega (arith, low, high)
 
-pub report_as_asked : (words : List (List ℕ)) (command : Asked) (setup : Settled) (frames : List Captured) (order text : List ℕ) → IsCommand words command → IsReport setup command.capacity 1 command.nodes 0 (packet_rows frames) order text → IsReport setup command.capacity command.writers command.nodes command.rounds (packet_rows frames) order text
+pub report_as_asked : (words : List (List ℕ)) (command : Asked) (setup : Settled) (frames : List Captured) (order text : List ℕ) → IsRun words command → IsReport setup command.capacity 1 command.nodes 0 (packet_rows frames) order text → IsReport setup command.capacity command.writers command.nodes command.rounds (packet_rows frames) order text
 report_as_asked words command setup frames order text is report =
     subst (λ (n : ℕ). IsReport setup command.capacity n command.nodes command.rounds (packet_rows frames) order text) (sym (one_writer words command is))
     (subst (λ (n : ℕ). IsReport setup command.capacity 1 command.nodes n (packet_rows frames) order text) (sym is.numbers.rounds_are) report)
@@ -187,21 +187,49 @@ work_may : (files : List File) (words : List (List ℕ)) → IsWork files words 
 work_may files words work before now end =
     capture_left files words (record { command = work.command; command_is = work.command_is; bytes = work.setup_bytes; file = work.setup_file; setup = work.setup; setup_is = work.setup_is }) work.capture work.frames before now work.capture_file work.frames_are end
 
--- whatever was due, it may be left so
-leaves_may : (files : List File) (words : List (List ℕ)) (status : Status) (text : List ℕ) (before now : Option (List ℕ)) → IsDue files words status text → Leaves files words status before now → MayBeLeft files words before now
-leaves_may files words Done text before now due left = work_may files words due.work before now left
-leaves_may files words Words text before now due left = inl left
-leaves_may files words (Setup line code) text before now due left = inr (inl (record { command = left.command; command_is = left.command_is; bytes = left.bytes; file = left.file; taken = record { count = 65537; most = omega arith; left = left.left } }))
-leaves_may files words (Capture at code) text before now due left = inr (inr (record { has = left.has; capture = left.capture; file = left.file; taken = record { count = 2 ^ 32; most = omega arith; left = left.left } }))
-leaves_may files words NoFile text before now due left = elim left [
-  | inl none ↦ inl none.1
-  | inr none ↦ setup_left files words none.0.has before now none.1
+-- whatever was due of a run, it may be left so
+left_read : (files : List File) (words : List (List ℕ)) (now before : Option (List ℕ)) → CaptureIsRead files words now ⊎ DumpIsRead files words now → MayBeLeft files words before now
+left_read files words now before left = elim left [
+  | inl read ↦ inr (inr (inl (record { has = read.has; capture = read.capture; file = read.file; taken = record { count = 2 ^ 32; most = omega arith; left = read.left } })))
+  | inr read ↦ inr (inr (inr (record { name = read.name; name_is = read.name_is; capture = read.capture; file = read.file; taken = record { count = 2 ^ 32; most = omega arith; left = read.left } })))
 ]
-leaves_may files words ReadFault text before now due left = absurd due
-leaves_may files words WriteFault text before now due left = absurd due
-leaves_may files words Full text before now due left = work_may files words due.0.work before now left
-leaves_may files words Nodes text before now due left = absurd due
-leaves_may files words Memory text before now due left = absurd due
+
+left_unfound : (files : List File) (words : List (List ℕ)) (before now : Option (List ℕ)) → Leaves files words NoFile before now → MayBeLeft files words before now
+left_unfound files words before now left = elim left [
+  | inl none ↦ inl none.1
+  | inr other ↦ elim other [ inl none ↦ setup_left files words none.0.has before now none.1 | inr none ↦ inl none.1 ]
+]
+
+run_leaves_may : (files : List File) (words : List (List ℕ)) (status : Status) (text : List ℕ) (before now : Option (List ℕ)) → IsRunDue files words status text → Leaves files words status before now → MayBeLeft files words before now
+run_leaves_may files words Done text before now due left = work_may files words due.work before now left
+run_leaves_may files words Words text before now due left = inl left
+run_leaves_may files words (Setup line code) text before now due left = inr (inl (record { command = left.command; command_is = left.command_is; bytes = left.bytes; file = left.file; taken = record { count = 65537; most = omega arith; left = left.left } }))
+run_leaves_may files words (Capture at code) text before now due left = left_read files words now before left
+run_leaves_may files words NoFile text before now due left = left_unfound files words before now left
+run_leaves_may files words ReadFault text before now due left = absurd due
+run_leaves_may files words WriteFault text before now due left = absurd due
+run_leaves_may files words Full text before now due left = work_may files words due.0.work before now left
+run_leaves_may files words Nodes text before now due left = absurd due
+run_leaves_may files words Memory text before now due left = absurd due
+
+-- and of a dump
+dump_leaves_may : (files : List File) (words : List (List ℕ)) (status : Status) (text : List ℕ) (before now : Option (List ℕ)) → IsDumpDue files words status text → Leaves files words status before now → MayBeLeft files words before now
+dump_leaves_may files words Done text before now due left = dump_left files words due.work.name due.work.name_is due.work.capture due.work.frames before now due.work.file due.work.frames_are left
+dump_leaves_may files words (Capture at code) text before now due left = left_read files words now before left
+dump_leaves_may files words NoFile text before now due left = left_unfound files words before now left
+dump_leaves_may files words Words text before now due left = absurd due
+dump_leaves_may files words (Setup line code) text before now due left = absurd due
+dump_leaves_may files words ReadFault text before now due left = absurd due
+dump_leaves_may files words WriteFault text before now due left = absurd due
+dump_leaves_may files words Full text before now due left = absurd due
+dump_leaves_may files words Nodes text before now due left = absurd due
+dump_leaves_may files words Memory text before now due left = absurd due
+
+leaves_may : (files : List File) (words : List (List ℕ)) (status : Status) (text : List ℕ) (before now : Option (List ℕ)) → IsDue files words status text → Leaves files words status before now → MayBeLeft files words before now
+leaves_may files words status text before now due left = elim due [
+  | inl run ↦ run_leaves_may files words status text before now run left
+  | inr dump ↦ dump_leaves_may files words status text before now dump left
+]
 
 pub leaves_some : (told : Option (List File)) (words : List (List ℕ)) (status : Status) (text : List ℕ) (before now : Option (List ℕ)) → IfSome told (λ files. IsDue files words status text × Leaves files words status before now) → IfSome told (λ files. Leaves files words WriteFault before now)
 leaves_some None words status text before now prepared = prepared

@@ -2,15 +2,16 @@
 -- 2^32, which is opened only where the setup is lawful.
 use Rattle.std.specs.Prelude.{◌≡◌, ◌⊎◌, ℕ, ◌^◌, List, [], drop, Some, Option}
 use Rattle.cf_outside.specs.Files.{File, file_named}
-use Rattle.cf_command.specs.Command.{Asked, IsCommand}
+use Rattle.cf_command.specs.Command.{Asked, IsRun, IsDump}
 use Rattle.cf_run.specs.Devices.{IsTakenFrom}
+use Rattle.cf_run.specs.Dumps.{LacksDumped}
 use Rattle.cf_run.specs.Due.{HasSetup, LacksSetup, LacksCapture}
 use Rattle.cf_run.specs.declared.status.Status.{Status}
 use Rattle.cf_run.specs.declared.status.Status.TheVariants.{Done, Words, Setup, Capture, ReadFault, WriteFault, Full, Nodes, Memory, NoFile}
 
 pub record IsLeftOfSetup (files : List File) (words : List (List ℕ)) (now : Option (List ℕ)) : Type 0 where
   pub command : Asked
-  pub command_is : IsCommand words command
+  pub command_is : IsRun words command
   pub bytes : List ℕ
   pub file : file_named files command.setup ≡ Some bytes
   pub taken : IsTakenFrom bytes 65537 now
@@ -21,14 +22,22 @@ pub record IsLeftOfCapture (files : List File) (words : List (List ℕ)) (now : 
   pub file : file_named files has.command.capture ≡ Some capture
   pub taken : IsTakenFrom capture (2 ^ 32) now
 
+-- a dump opens its capture alone
+pub record IsLeftOfDump (files : List File) (words : List (List ℕ)) (now : Option (List ℕ)) : Type 0 where
+  pub name : List ℕ
+  pub name_is : IsDump words name
+  pub capture : List ℕ
+  pub file : file_named files name ≡ Some capture
+  pub taken : IsTakenFrom capture (2 ^ 32) now
+
 -- whatever the status
 abbrev pub MayBeLeft : List File → List (List ℕ) → Option (List ℕ) → Option (List ℕ) → Type 0
-MayBeLeft files words before now = (now ≡ before) ⊎ IsLeftOfSetup files words now ⊎ IsLeftOfCapture files words now
+MayBeLeft files words before now = (now ≡ before) ⊎ IsLeftOfSetup files words now ⊎ IsLeftOfCapture files words now ⊎ IsLeftOfDump files words now
 
 -- a refused setup was read up to its 65,537th byte
 pub record SetupIsRead (files : List File) (words : List (List ℕ)) (now : Option (List ℕ)) : Type 0 where
   pub command : Asked
-  pub command_is : IsCommand words command
+  pub command_is : IsRun words command
   pub bytes : List ℕ
   pub file : file_named files command.setup ≡ Some bytes
   pub left : now ≡ Some (drop 65537 bytes)
@@ -40,13 +49,21 @@ pub record CaptureIsRead (files : List File) (words : List (List ℕ)) (now : Op
   pub file : file_named files has.command.capture ≡ Some capture
   pub left : now ≡ Some (drop (2 ^ 32) capture)
 
+-- a refused capture of a dump was read up to its 2^32nd byte
+pub record DumpIsRead (files : List File) (words : List (List ℕ)) (now : Option (List ℕ)) : Type 0 where
+  pub name : List ℕ
+  pub name_is : IsDump words name
+  pub capture : List ℕ
+  pub file : file_named files name ≡ Some capture
+  pub left : now ≡ Some (drop (2 ^ 32) capture)
+
 -- by the status: words that are no command leave the shelf, and a capture that is reported was read to its end
 abbrev pub Leaves : List File → List (List ℕ) → Status → Option (List ℕ) → Option (List ℕ) → Type 0
 Leaves files words Done before now = now ≡ Some []
 Leaves files words Words before now = now ≡ before
 Leaves files words (Setup line code) before now = SetupIsRead files words now
-Leaves files words (Capture at code) before now = CaptureIsRead files words now
-Leaves files words NoFile before now = (LacksSetup files words × (now ≡ before)) ⊎ (LacksCapture files words × (now ≡ Some []))
+Leaves files words (Capture at code) before now = CaptureIsRead files words now ⊎ DumpIsRead files words now
+Leaves files words NoFile before now = (LacksSetup files words × (now ≡ before)) ⊎ (LacksCapture files words × (now ≡ Some [])) ⊎ (LacksDumped files words × (now ≡ before))
 Leaves files words Full before now = now ≡ Some []
 Leaves files words ReadFault before now = MayBeLeft files words before now
 Leaves files words WriteFault before now = MayBeLeft files words before now

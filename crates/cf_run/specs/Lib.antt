@@ -1,4 +1,6 @@
 pub mod Work
+pub mod Faults
+pub mod Dumps
 pub mod Due
 pub mod Answers
 pub mod Devices

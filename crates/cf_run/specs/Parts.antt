@@ -6,7 +6,8 @@ use Rattle.cf_outside.specs.Files.{File, file_named}
 use Rattle.cf_pcap.specs.Capture.{Captured, IsCapture}
 use Rattle.cf_setup.specs.Settled.{Settled}
 use Rattle.cf_run.specs.Devices.{IsStopped}
-use Rattle.cf_run.specs.Due.{HasCaptureFault, IsDue}
+use Rattle.cf_run.specs.Due.{IsDue}
+use Rattle.cf_run.specs.Faults.{HasCaptureFault}
 use Rattle.cf_run.specs.Left.{MayBeLeft, Leaves}
 use Rattle.cf_run.specs.Work.{IsPacketSetup, HasSetupFault}
 use Rattle.cf_run.specs.declared.status.Status.{Status}

@@ -4,7 +4,7 @@ use Rattle.cf_row.specs.Row.{Numbered}
 use Rattle.cf_headers.specs.Packet.{packet_row_of}
 use Rattle.cf_outside.specs.Files.{File, file_named}
 use Rattle.cf_pcap.specs.Capture.{Captured, IsCapture}
-use Rattle.cf_command.specs.Command.{Asked, IsCommand}
+use Rattle.cf_command.specs.Command.{Asked, IsRun}
 use Rattle.cf_shape.specs.Nodes.{distinct}
 use Rattle.cf_setup.specs.Settled.{Settled, shaped}
 use Rattle.cf_setup.specs.SetupText.{SetupText}
@@ -28,7 +28,7 @@ HasSetupFault bytes line code =
 -- The words are a command, and the files of its names are a setup and a capture.
 pub record IsWork (files : List File) (words : List (List ℕ)) : Type 0 where
   pub command : Asked
-  pub command_is : IsCommand words command
+  pub command_is : IsRun words command
   pub setup_bytes : List ℕ
   pub setup_file : file_named files command.setup ≡ Some setup_bytes
   pub setup : Settled

@@ -7,6 +7,7 @@
 
 mod answer;
 mod devices;
+mod dumping;
 mod load;
 mod prepare;
 mod program;

@@ -2,7 +2,7 @@
 ghost use Rattle.std.specs.Prelude.{◌≡◌, ◌<◌, ◌^◌, length, IfOk, IfErr, IfSome, MatchResult};
 ghost use Rattle.cf_pcap.specs.Capture.{IsCapture};
 ghost use Rattle.cf_pcap.specs.declared.fault.PcapFault.TheVariants as faults;
-ghost use Rattle.cf_run.specs.Due.{code_of as code_of_fault, record_of as record_of_fault};
+ghost use Rattle.cf_run.specs.Faults.{code_of as code_of_fault, record_of as record_of_fault};
 ghost use Rattle.cf_run.specs.Parts.{HasStopCause, LoadsSetup, LoadsCapture, IsBadCapture};
 ghost use Rattle.cf_run.specs.Stops.{IsSetupKind, IsCaptureKind, IsOverPackets};
 

@@ -1,14 +1,15 @@
 // The work up to the text that is to be written.
 ghost use Rattle.std.specs.Prelude.{◌≡◌, ◌⊎◌, ◌<◌, ◌≤◌, length, string_bytes, IfOk, IfSome, MatchResult, MatchOption};
-ghost use Rattle.cf_command.specs.Command.{IsCommand, NoCommand, asked_by, texts};
+ghost use Rattle.cf_command.specs.Command.{IsRun, IsDump, NoCommand, asked_by, texts};
 ghost use Rattle.cf_run.specs.Due.{refusal_line, full_line};
 ghost use Rattle.cf_run.specs.Parts.{IsFree, HasStopCause, IsPrepared};
 ghost use Rattle.cf_run.specs.Stops.{IsRefusal, NoRefusal, IsDrawn};
 
 use crate::Status;
 use crate::answer::report_of;
+use crate::dumping::dump_of;
 use crate::load::{load_capture, load_setup};
-use cf_command::{RunCommand, command_of};
+use cf_command::{Command, RunCommand, command_of};
 use cf_outside::Shelf;
 use cf_row::Memory;
 use std::alloc::Global;
@@ -74,7 +75,7 @@ fn prepare_command<F: Shelf>(
     command: &RunCommand,
     shelf: &mut F,
 ) -> Result<Draft, Status>
-    requires { IsCommand (texts words.now) (asked_by command.now) }
+    requires { IsRun (texts words.now) (asked_by command.now) }
     ensures files { F.files shelf.new ≡ F.files shelf.old }
     ensures prepared { IfSome (F.files shelf.old) (λ files. IsPrepared files (texts words.now) (F.rest shelf.old) (F.rest shelf.new) result) }
     ensures cause { HasStopCause (F.faults shelf.old) (F.faults shelf.new) result }
@@ -101,6 +102,33 @@ fn prepare_command<F: Shelf>(
     }
 }
 
+// What the file of a dump calls for, or why nothing is written.
+fn prepare_dump<F: Shelf>(
+    alloc: Global,
+    words: &[&str],
+    name: &str,
+    shelf: &mut F,
+) -> Result<Draft, Status>
+    requires { IsDump (texts words.now) name.now }
+    ensures files { F.files shelf.new ≡ F.files shelf.old }
+    ensures prepared { IfSome (F.files shelf.old) (λ files. IsPrepared files (texts words.now) (F.rest shelf.old) (F.rest shelf.new) result) }
+    ensures cause { HasStopCause (F.faults shelf.old) (F.faults shelf.new) result }
+    ensures drawn { MatchResult result (λ draft. IsDrawn draft.status × (draft.status ≡ Status.Words → ⊥)) IsFree }
+{
+    let _ = words;
+    let frames = match load_capture(alloc, shelf, name) {
+        Ok(frames) => frames,
+        Err(status) => return refused(alloc, status),
+    };
+    match dump_of(alloc, &frames) {
+        Ok(text) => Ok(Draft {
+            status: Status::Done,
+            text,
+        }),
+        Err(_) => Err(Status::Memory),
+    }
+}
+
 /// What the words and files call for, or why nothing is written.
 pub(crate) fn prepare<F: Shelf>(
     alloc: Global,
@@ -116,7 +144,8 @@ pub(crate) fn prepare<F: Shelf>(
     ensures no_words_no_file { NoCommand (texts words.now) → shelf.new ≡ shelf.old }
 {
     match command_of(alloc, words) {
-        Ok(Some(command)) => prepare_command(alloc, words, &command, shelf),
+        Ok(Some(Command::Run(command))) => prepare_command(alloc, words, &command, shelf),
+        Ok(Some(Command::Dump(name))) => prepare_dump(alloc, words, name, shelf),
         Ok(None) => refused(alloc, Status::Words),
         Err(_) => Err(Status::Memory),
     }

@@ -100,11 +100,14 @@ fn words_are_a_command_of_files_that_are_there(rt: HostRuntime) -> Result<(), Fa
     let alloc = rt.alloc();
     let none = b"file: none of that name\n".as_slice();
     let no_words = b"words: not a command\n".as_slice();
-    let table: [(&[&str], u8, &[u8]); 4] = [
+    let table: [(&[&str], u8, &[u8]); 7] = [
         (&[], 1, no_words),
         (&["run", "c"], 1, no_words),
+        (&["dump"], 1, no_words),
         (&["run", "--setup", "x", "c"], 9, none),
         (&["run", "x", "--setup", "s"], 9, none),
+        (&["dump", "x"], 9, none),
+        (&["dump", "c"], 0, b"records 0\n"),
     ];
     for (words, number, text) in table {
         expect(&rt, alloc, words, (SETUP, &HEADER), (number, text))?;
@@ -149,7 +152,37 @@ fn other_setups_and_captures_are_refused(rt: HostRuntime) -> Result<(), Fail> {
     for capture in [[0x1f, 0x8b, 8, 0].as_slice(), b""] {
         let answer = (3, b"capture: record 0 code 1\n".as_slice());
         expect(&rt, alloc, &WORDS, (SETUP, capture), answer)?;
+        expect(&rt, alloc, &["dump", "c"], (SETUP, capture), answer)?;
     }
+    Ok(())
+}
+
+// A capture of one segment of TCP at the first second.
+fn segment(alloc: Global) -> Result<Vec<u8>, Memory> {
+    let mut capture = HEADER.to_vec(alloc)?;
+    capture.extend_from_slice(&[1, 0, 0, 0, 0, 0, 0, 0, 54, 0, 0, 0, 54, 0, 0, 0])?;
+    capture.extend_from_slice(&[2, 0, 0, 0, 0, 1, 2, 0, 0, 0, 0, 2, 8, 0])?;
+    capture.extend_from_slice(&[0x45, 0, 0, 40, 0, 0, 0, 0, 64, 6, 0, 0])?;
+    capture.extend_from_slice(&[10, 0, 0, 12, 10, 0, 1, 10, 0x9d, 0x1b, 0, 80])?;
+    capture.extend_from_slice(&[0, 0, 0, 0, 0, 0, 0, 0, 0x50, 0x10, 4, 0, 0, 0, 0, 0])?;
+    Ok(capture)
+}
+
+fn dumped_segment(alloc: Global) -> Result<Vec<u8>, Memory> {
+    b"records 1\n0 ts=1000000000 caplen=54 len=54 dmac=0x020000000001 smac=0x020000000002 etype=2048 kind=2 tos=0 iplen=40 ttl=64 proto=6 src=10.0.0.12 dst=10.0.1.10 sport=40219 dport=80 seq=0 ack=0 flags=16 win=1024\n".to_vec(
+        alloc,
+    )
+}
+
+#[test]
+fn a_capture_is_dumped_by_the_fields_of_its_headers(rt: HostRuntime) -> Result<(), Fail> {
+    let alloc = rt.alloc();
+    let capture = segment(alloc)?;
+    let text = dumped_segment(alloc)?;
+    expect(&rt, alloc, &["dump", "c"], (SETUP, &capture), (0, &text))?;
+    let setup = b"schema packet\nask web list dport==80 && src in 10.0.0.0/24\n";
+    let report = b"records 1\nask web list 1: 0\norder 0*1\n";
+    expect(&rt, alloc, &WORDS, (setup, &capture), (0, report))?;
     Ok(())
 }
 

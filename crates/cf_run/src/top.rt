@@ -5,6 +5,7 @@ ghost use Rattle.cf_outside.specs.Causes.{Rose};
 ghost use Rattle.cf_run.specs.Answers.{Answers, Yields, IsDecided};
 ghost use Rattle.cf_command.specs.Command.{NoCommand, texts};
 ghost use Rattle.cf_run.specs.Due.{refusal_line};
+ghost use Rattle.cf_run.specs.Dumps.{IsDumpWork};
 ghost use Rattle.cf_run.specs.Left.{Leaves};
 ghost use Rattle.cf_run.specs.Work.{IsLawful};
 
@@ -30,6 +31,8 @@ pub fn run<R, F: Shelf, K: Sink, G: Gate>(
     // What they call for comes, unless memory ran out or a device failed.
     ensures decided { IfSome (F.files shelf.old) (λ files. IsDecided files (texts words.now) result) }
     ensures complete { IfSome (F.files shelf.old) (λ files. IsLawful files (texts words.now) → (result ≡ Status.Done) ⊎ Yields result) }
+
+    ensures dumps { IfSome (F.files shelf.old) (λ files. IsDumpWork files (texts words.now) → (result ≡ Status.Done) ⊎ Yields result) }
 
     // Words that are no command, whatever the shelf tells.
     ensures words { result ≡ Status.Words → NoCommand (texts words.now) × Appends (K.held sink.old) (K.held sink.new) (refusal_line Status.Words) }

@@ -1,5 +1,5 @@
 use Rattle.std.proofs.Common.{refl, inr}
-use Rattle.cf_run.proofs.Answering.{answers_if, answers_some, decided_if, decided_free, complete_if}
+use Rattle.cf_run.proofs.Answering.{answers_if, answers_some, decided_if, decided_free, complete_if, dumps_if}
 use Rattle.cf_run.proofs.Preparing.{due_if, left_if, leaves_some}
 use Rattle.cf_run.proofs.top.run.Goals as goal
 
@@ -11,6 +11,9 @@ returns-in-Ok-write_all-clause-decided g c = decided_if _ _ _ _ (due_if _ _ c.in
 
 pub returns-in-Ok-write_all-clause-complete : goal.returns-in-Ok-write_all-clause-complete
 returns-in-Ok-write_all-clause-complete g c = complete_if _ _ _ (decided_if _ _ _ _ (due_if _ _ c.in-Ok.draft.status c.in-Ok.draft.text.items _ _ c.in-Ok.ensures.prepared))
+
+pub returns-in-Ok-write_all-clause-dumps : goal.returns-in-Ok-write_all-clause-dumps
+returns-in-Ok-write_all-clause-dumps g c = dumps_if _ _ _ (decided_if _ _ _ _ (due_if _ _ c.in-Ok.draft.status c.in-Ok.draft.text.items _ _ c.in-Ok.ensures.prepared))
 
 pub returns-in-Ok-write_all-clause-left : goal.returns-in-Ok-write_all-clause-left
 returns-in-Ok-write_all-clause-left g c = left_if _ _ c.in-Ok.draft.status c.in-Ok.draft.text.items _ _ c.in-Ok.ensures.prepared

@@ -1,0 +1,38 @@
+use super::*;
+use cf_row::{Row, Value, fits, packet_schema};
+use std::test::Fail;
+
+// A segment of TCP in a frame of 54 bytes.
+fn segment() -> [u64; 17] {
+    [
+        1000000000, 54, 54, 2048, 2, 0, 40, 64, 6, 167772172, 167772426, 40219, 80, 0, 0, 16, 1024,
+    ]
+}
+
+#[test]
+fn a_row_is_shown_by_the_names_of_its_values(rt: HostRuntime) -> Result<(), Fail> {
+    let alloc = rt.alloc();
+    let schema = packet_schema(alloc)?;
+    let mut values = Vec::new(alloc);
+    for number in segment() {
+        if values.len() == 3 {
+            for last in [1, 2] {
+                let mut bytes = [0; 16];
+                bytes[0] = 0x2f;
+                bytes[5] = last;
+                values.push(Value::Raw { len: 6, bytes })?;
+            }
+        }
+        values.push(Value::Num(number))?;
+    }
+    let mut rows = Vec::new(alloc);
+    rows.push(Row::new(7, values))?;
+    let mut text = String::new(alloc);
+    if rows.iter().all(|row| fits(&schema, row)) {
+        text = dump(alloc, &schema, &rows)?;
+    }
+    let wanted =
+        "records 1\n7 ts=1000000000 caplen=54 len=54 dmac=0x2f0000000001 smac=0x2f0000000002 etype=2048 kind=2 tos=0 iplen=40 ttl=64 proto=6 src=10.0.0.12 dst=10.0.1.10 sport=40219 dport=80 seq=0 ack=0 flags=16 win=1024\n";
+    assert_eq!(rt; text.as_str(), wanted);
+    Ok(())
+}

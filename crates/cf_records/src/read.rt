@@ -1,0 +1,55 @@
+// The records of a file.
+ghost use Rattle.std.specs.Prelude.{◌≡◌, ◌⊎◌, ◌≤◌, ℕ, List, All, IfOk, MatchResult};
+ghost use Rattle.csv.specs.Records.{fields_of};
+ghost use Rattle.cf_row.specs.Row.{Fits};
+ghost use Rattle.cf_records.specs.Records.{IsRecordFile, HasRecordsFault, HasRead, ReadsOn};
+
+use crate::RecordFault;
+use crate::row::{is_header, row_of};
+use cf_row::{Row, Schema};
+use csv::{ByteRecord, Reader, ReaderBuilder};
+use std::alloc::{AllocError, Global};
+
+/// A file of more bytes is refused.
+const LIMIT: usize = 1 << 24;
+
+// Reads the next record; false at the end of the text.
+fn read_next(reader: &mut Reader<&[u8]>, line: &mut ByteRecord) -> Result<bool, AllocError>
+    ensures { IfOk result (λ found. (text : List ℕ) (records : List (List (List ℕ))) → HasRead text records reader.old → ReadsOn text records reader.new (fields_of line.new) found) }
+{
+    let Ok(found) = reader.read_byte_record(line) else {
+        return Err(AllocError);
+    };
+    Ok(found)
+}
+
+/// The rows of a file of records: CSV as it is read by default, with the schema's names as its first record, and then a
+/// record for each row, numbered from 0. Values are those of filter expressions. The first faulty record decides, the
+/// number of its fields before their values, and the leftmost faulty one of these.
+pub fn read_records(alloc: Global, schema: &Schema, bytes: &[u8]) -> Result<Vec<Row>, RecordFault>
+    ensures answer { MatchResult result (λ rows. IsRecordFile schema.now bytes.now rows.items) (λ fault. (fault ≡ RecordFault.Memory) ⊎ HasRecordsFault schema.now bytes.now fault) }
+    ensures fit { IfOk result (λ rows. All (Fits schema.now) rows.items) }
+{
+    if bytes.len() >= LIMIT {
+        return Err(RecordFault::TooManyBytes);
+    }
+    let mut reader = ReaderBuilder::new()
+        .has_headers(false)
+        .flexible(true)
+        .from_reader(alloc, bytes);
+    let mut line = ByteRecord::new(alloc);
+    if !read_next(&mut reader, &mut line)? {
+        return Err(RecordFault::NoHeader);
+    }
+    if !is_header(schema.attrs(), &line) {
+        return Err(RecordFault::BadHeader);
+    }
+    let mut rows = Vec::new(alloc);
+    for num in 0..u32::MAX {
+        if !read_next(&mut reader, &mut line)? {
+            return Ok(rows);
+        }
+        rows.push(row_of(alloc, schema, num, &line)?)?;
+    }
+    Err(RecordFault::Memory)
+}

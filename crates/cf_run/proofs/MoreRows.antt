@@ -1,0 +1,50 @@
+-- One more row of a list of frames.
+use Rattle.std.proofs.Common.{◌≡◌, ℕ, zero, suc, ◌<◌, ◌+◌, ◌≤◌, List, [], ◌∷◌, ◌++◌, length, map, take, get_or, sym, ap, ap₂, ◌∙◌, arith, All, subst, refl, length-append}
+use Rattle.std.proofs.lemmas.List.{map-append}
+use Rattle.std.proofs.lemmas.List.Elements.{All-append}
+use Rattle.cf_row.specs.Row.{Numbered, Fits}
+use Rattle.cf_row.specs.Schema.{packet_attrs}
+use Rattle.cf_row.specs.declared.row.Entry.{Entry}
+use Rattle.cf_history.proofs.OneWriter.{alone}
+use Rattle.cf_pcap.specs.Capture.{Captured}
+use Rattle.cf_headers.specs.Packet.{packet_row_of}
+use Rattle.cf_run.specs.Work.{packet_rows}
+
+take_more : {A : Type 0} (xs : List A) (i : ℕ) (x : A) → i < length xs → x ≡ get_or xs i x → take (i + 1) xs ≡ take i xs ++ (x ∷ [])
+take_more {A} [] i x lt is = absurd (omega (arith, lt))
+take_more {A} (y ∷ xs) zero x lt is = ap (λ (z : A). z ∷ []) (sym is)
+take_more {A} (y ∷ xs) (suc i) x lt is =
+    let e : suc i + 1 ≡ suc (i + 1) = omega arith in
+    rw e (ap (λ (zs : List A). y ∷ zs) (take_more xs i x (omega (arith, lt)) is))
+
+more : {A B : Type 0} (f : A → B) (xs : List A) (i : ℕ) (x : A) (y : B) (ys zs : List B) → i < length xs → x ≡ get_or xs i x → y ≡ f x → ys ≡ map f (take i xs) → zs ≡ ys ++ (y ∷ []) → zs ≡ map f (take (i + 1) xs)
+more {A} {B} f xs i x y ys zs lt is row before now =
+    now ∙ ap₂ (λ (a b : List B). a ++ b) before (ap (λ (z : B). z ∷ []) row)
+    ∙ sym (map-append f (take i xs) (x ∷ [])) ∙ ap (λ (q : List A). map f q) (sym (take_more xs i x lt is))
+
+pub more_rows : (frames : List Captured) (i : ℕ) (frame : Captured) (row : Numbered) (rows now : List Numbered) → i < length frames → frame ≡ get_or frames i frame → row ≡ packet_row_of frame → rows ≡ packet_rows (take i frames) → now ≡ rows ++ (row ∷ []) → now ≡ packet_rows (take (i + 1) frames)
+more_rows frames i frame row rows now lt is row_is before grown = more packet_row_of frames i frame row rows now lt is row_is before grown
+
+rows_grown : (frames : List Captured) (i : ℕ) (frame : Captured) → i < length frames → frame ≡ get_or frames i frame → packet_rows (take (i + 1) frames) ≡ packet_rows (take i frames) ++ (packet_row_of frame ∷ [])
+rows_grown frames i frame lt is = ap (λ (q : List Captured). map packet_row_of q) (take_more frames i frame lt is) ∙ map-append packet_row_of (take i frames) (frame ∷ [])
+
+pub more_entries : (frames : List Captured) (i : ℕ) (frame : Captured) (row : Numbered) (entries now : List Entry) → i < length frames → frame ≡ get_or frames i frame → row ≡ packet_row_of frame → entries ≡ alone (packet_rows (take i frames)) → now ≡ entries ++ ((record { writer = 0; row = row }) ∷ []) → now ≡ alone (packet_rows (take (i + 1) frames))
+more_entries frames i frame row entries now lt is row_is before grown =
+    grown
+    ∙ ap₂ (λ (a b : List Entry). a ++ b) before (ap (λ (r : Numbered). alone (r ∷ [])) row_is)
+    ∙ sym (map-append (λ (r : Numbered). record { writer = 0; row = r }) (packet_rows (take i frames)) (packet_row_of frame ∷ []))
+    ∙ ap (λ (rows : List Numbered). alone rows) (sym (rows_grown frames i frame lt is))
+
+one_fits : (row : Numbered) → Fits packet_attrs row → All (Fits packet_attrs) (row ∷ [])
+one_fits row fits zero other lt = fits
+one_fits row fits (suc k) other lt = absurd (omega (arith, lt))
+
+pub all_fit : (rows now : List Numbered) (row : Numbered) → All (Fits packet_attrs) rows → Fits packet_attrs row → now ≡ rows ++ (row ∷ []) → All (Fits packet_attrs) now
+all_fit rows now row fit fits grown = subst (λ (rs : List Numbered). All (Fits packet_attrs) rs) (sym grown) (All-append (Fits packet_attrs) rows (row ∷ []) fit (one_fits row fits))
+
+pub one_longer : (entries now : List Entry) (row : Entry) (n : ℕ) → length entries ≡ n → now ≡ entries ++ (row ∷ []) → length now ≡ n + 1
+one_longer entries now row n before grown =
+    let long : length now ≡ length (entries ++ (row ∷ [])) = ap (λ (xs : List Entry). length xs) grown in
+    let sum : length (entries ++ (row ∷ [])) ≡ length entries + length (row ∷ []) = length-append entries (row ∷ []) in
+    let one : length (row ∷ []) ≡ 1 = refl in
+    omega (arith, before, long, sum, one)
