@@ -1,8 +1,11 @@
--- Captures in the libpcap file format 2.4 (pcap savefile), as whole files.
-use Rattle.std.specs.Prelude.{◌≡◌, ℕ, ◌+◌, ◌*◌, ◌^◌, ◌%◌, ◌<◌, ◌≤◌, List, [], ◌∷◌, length, drop, slice_range}
-use Rattle.std.specs.declared.option.Option.{Option}
-use Rattle.std.specs.declared.option.Option.TheVariants.{Some, None}
-use Rattle.byteorder.specs.Endian.{little_number}
+-- Captures in the libpcap file format 2.4 (pcap savefile, pcap-savefile(5)), as whole files.
+use Rattle.std.specs.Prelude.{◌≡◌, ◌⊎◌, ℕ, ◌+◌, ◌*◌, ◌^◌, ◌%◌, ◌<◌, ◌≤◌, ◌==◌, if◌then◌else◌, List, [], ◌∷◌, length, take, drop, slice_range, Option, Some, None}
+use Rattle.byteorder.specs.Endian.{little_number, big_number}
+use Rattle.cf_pcap.specs.declared.form.Order.{Order}
+use Rattle.cf_pcap.specs.declared.form.Order.TheVariants.{Little, Big}
+use Rattle.cf_pcap.specs.declared.form.Precision.{Precision}
+use Rattle.cf_pcap.specs.declared.form.Precision.TheVariants.{Micro, Nano}
+use Rattle.cf_pcap.specs.declared.form.Form.{Form}
 use Rattle.cf_pcap.specs.declared.fault.PcapFault.{PcapFault}
 use Rattle.cf_pcap.specs.declared.fault.PcapFault.TheVariants.{BadMagic, BadVersion, BadLink, FrameTooLong, Cut, TooManyBytes, Memory}
 
@@ -14,59 +17,160 @@ pub record Captured : Type 0 where
   pub len : ℕ
   pub bytes : List ℕ
 
--- `number` reads so many bytes as a number in the file's byte order, and `tick` is how many nanoseconds are a unit of
--- the fraction of a second.
+-- the number in the first n bytes, in this byte order
+abbrev pub number_in : Order → ℕ → List ℕ → ℕ
+number_in Little n bytes = little_number n bytes
+number_in Big n bytes = big_number n bytes
 
--- 24 bytes: the magic, version 2.4, and LINKTYPE_ETHERNET in the low 16 bits of the link; three fields are ignored
-pub record IsFileHeader (number : ℕ → List ℕ → ℕ) (magic : ℕ) (header : List ℕ) : Type 0 where
-  pub size : 24 ≤ length header
-  pub magic_is : number 4 header ≡ magic
-  pub major : number 2 (drop 4 header) ≡ 2
-  pub minor : number 2 (drop 6 header) ≡ 4
-  pub link : number 4 (drop 20 header) % 2 ^ 16 ≡ 1
+-- the nanoseconds of a unit of the fraction of a second
+abbrev pub tick_of : Precision → ℕ
+tick_of Micro = 1000
+tick_of Nano = 1
 
--- the bytes begin with a record header of this time and these lengths, and hold the whole record
-pub record StartsRecord (number : ℕ → List ℕ → ℕ) (tick : ℕ) (bytes : List ℕ) (ts caplen len : ℕ) : Type 0 where
+-- the byte order and the unit that the magic in the first four bytes states: 0xa1b2c3d4 in the file's byte order for
+-- microseconds, 0xa1b23c4d for nanoseconds
+unfoldable pub form_of : List ℕ → Option Form
+form_of bytes =
+    if little_number 4 bytes == 0xa1b2c3d4 then Some (record { order = Little; precision = Micro })
+    else (if little_number 4 bytes == 0xa1b23c4d then Some (record { order = Little; precision = Nano })
+    else (if big_number 4 bytes == 0xa1b2c3d4 then Some (record { order = Big; precision = Micro })
+    else (if big_number 4 bytes == 0xa1b23c4d then Some (record { order = Big; precision = Nano })
+    else None)))
+
+-- the major and the minor version of the file header are 2 and 4
+pub record IsVersion (form : Form) (bytes : List ℕ) : Type 0 where
+  pub major : number_in form.order 2 (drop 4 bytes) ≡ 2
+  pub minor : number_in form.order 2 (drop 6 bytes) ≡ 4
+
+-- the low 16 bits of the file header's last field are LINKTYPE_ETHERNET
+abbrev pub IsEthernet : Form → List ℕ → Type 0
+IsEthernet form bytes = number_in form.order 4 (drop 20 bytes) % 2 ^ 16 ≡ 1
+
+-- a file header of 24 bytes stands at the front. The time zone, the accuracy and the snapshot length are ignored.
+pub record IsFileHeader (form : Form) (bytes : List ℕ) : Type 0 where
+  pub size : 24 ≤ length bytes
+  pub magic : form_of bytes ≡ Some form
+  pub version : IsVersion form bytes
+  pub link : IsEthernet form bytes
+
+-- the captured length that the record header at the front states
+abbrev pub caplen_at : Form → List ℕ → ℕ
+caplen_at form bytes = number_in form.order 4 (drop 8 bytes)
+
+-- a lawful record stands whole at the front: a header of 16 bytes, and as many bytes as it states
+pub record HasRecord (form : Form) (bytes : List ℕ) : Type 0 where
+  pub short : caplen_at form bytes ≤ 262144
+  pub whole : 16 + caplen_at form bytes ≤ length bytes
+
+-- a record header that states more bytes than a record may hold
+pub record HasLongRecord (form : Form) (bytes : List ℕ) : Type 0 where
   pub head : 16 ≤ length bytes
-  pub ts_is : ts ≡ number 4 bytes * 10 ^ 9 + number 4 (drop 4 bytes) * tick
-  pub caplen_is : caplen ≡ number 4 (drop 8 bytes)
-  pub len_is : len ≡ number 4 (drop 12 bytes)
-  pub short : caplen ≤ 262144
-  pub whole : 16 + caplen ≤ length bytes
+  pub long : 262144 < caplen_at form bytes
 
--- they begin with the record of this frame, which has number k
-pub record StartsFrame (number : ℕ → List ℕ → ℕ) (tick k : ℕ) (frame : Captured) (bytes : List ℕ) : Type 0 where
-  pub num_is : frame.num ≡ k
-  pub record_is : StartsRecord number tick bytes frame.ts frame.caplen frame.len
-  pub bytes_are : frame.bytes ≡ slice_range bytes 16 (16 + frame.caplen)
+-- the frame of the record at the front, as number k: seconds and their fraction, the captured length, the length on the
+-- wire, the captured bytes
+abbrev pub frame_at : Form → ℕ → List ℕ → Captured
+frame_at form k bytes = record {
+  num = k;
+  ts = number_in form.order 4 bytes * 10 ^ 9 + number_in form.order 4 (drop 4 bytes) * tick_of form.precision;
+  caplen = caplen_at form bytes;
+  len = number_in form.order 4 (drop 12 bytes);
+  bytes = slice_range bytes 16 (16 + caplen_at form bytes);
+}
 
--- they are the records of these frames end to end, numbered from k, and nothing else
-abbrev pub AreRecords : (ℕ → List ℕ → ℕ) → ℕ → ℕ → List Captured → List ℕ → Type 0
-AreRecords number tick k [] bytes = bytes ≡ []
-AreRecords number tick k (frame ∷ frames) bytes =
-    StartsFrame number tick k frame bytes × AreRecords number tick (k + 1) frames (drop (16 + frame.caplen) bytes)
+-- the bytes are the records of these frames end to end, numbered from k, and then the rest
+abbrev pub AreRecordsThen : Form → ℕ → List Captured → List ℕ → List ℕ → Type 0
+AreRecordsThen form k [] bytes rest = bytes ≡ rest
+AreRecordsThen form k (frame ∷ frames) bytes rest =
+    HasRecord form bytes × (frame ≡ frame_at form k bytes)
+    × AreRecordsThen form (k + 1) frames (drop (16 + caplen_at form bytes) bytes) rest
 
--- a capture in one byte order and unit
-pub record IsCaptureIn (number : ℕ → List ℕ → ℕ) (magic tick : ℕ) (bytes : List ℕ) (frames : List Captured) : Type 0 where
-  pub size : length bytes < 2 ^ 32
-  pub header : IsFileHeader number magic bytes
-  pub records : AreRecords number tick 0 frames (drop 24 bytes)
+-- a file header, the records of these frames, and then the rest
+pub record IsReadTo (form : Form) (bytes : List ℕ) (frames : List Captured) (rest : List ℕ) : Type 0 where
+  pub header : IsFileHeader form bytes
+  pub records : AreRecordsThen form 0 frames (drop 24 bytes) rest
 
--- a capture of these frames: little-endian microseconds alone
-abbrev pub IsCapture : List ℕ → List Captured → Type 0
-IsCapture bytes frames = IsCaptureIn little_number 0xa1b2c3d4 1000 bytes frames
+-- a file below 2^32 bytes is a capture of these frames: a file header and their records, and nothing else
+pub record IsCapture (file : List ℕ) (frames : List Captured) : Type 0 where
+  pub size : length file < 2 ^ 32
+  pub form : Form
+  pub whole : IsReadTo form file frames []
 
--- what a refusal says of the whole stream: as yet each stream that is no capture is a bad magic
+-- Faults. The magic is found false after 4 bytes, the version after 8, the link after 24, and a captured length after
+-- the 16 bytes of its record header.
+
+pub record HasBadMagic (bytes : List ℕ) : Type 0 where
+  pub size : 4 ≤ length bytes
+  pub magic : form_of bytes ≡ None
+
+pub record HasBadVersion (bytes : List ℕ) : Type 0 where
+  pub size : 8 ≤ length bytes
+  pub form : Form
+  pub magic : form_of bytes ≡ Some form
+  pub version : IsVersion form bytes → ⊥
+
+pub record HasBadLink (bytes : List ℕ) : Type 0 where
+  pub size : 24 ≤ length bytes
+  pub form : Form
+  pub magic : form_of bytes ≡ Some form
+  pub version : IsVersion form bytes
+  pub link : IsEthernet form bytes → ⊥
+
+-- after k whole records
+pub record HasLongFrame (k : ℕ) (bytes : List ℕ) : Type 0 where
+  pub form : Form
+  pub frames : List Captured
+  pub rest : List ℕ
+  pub read : IsReadTo form bytes frames rest
+  pub number_is : k ≡ length frames
+  pub long : HasLongRecord form rest
+
+-- a fault that these bytes show, whatever comes after them
+abbrev pub Shows : List ℕ → PcapFault → Type 0
+Shows bytes BadMagic = HasBadMagic bytes
+Shows bytes BadVersion = HasBadVersion bytes
+Shows bytes BadLink = HasBadLink bytes
+Shows bytes (FrameTooLong k) = HasLongFrame k bytes
+Shows bytes (Cut k) = ⊥
+Shows bytes TooManyBytes = ⊥
+Shows bytes Memory = ⊥
+
+-- what counts of a file: its first 2^32 bytes
+unfoldable pub seen : List ℕ → List ℕ
+seen file = take (2 ^ 32) file
+
+-- 2^32 bytes or more, and the first 2^32 show no fault
+pub record HasTooManyBytes (file : List ℕ) : Type 0 where
+  pub size : 2 ^ 32 ≤ length file
+  pub first : (fault : PcapFault) → Shows (seen file) fault → ⊥
+
+-- fewer bytes than a file header has
+pub record EndsInHeader (k : ℕ) (file : List ℕ) : Type 0 where
+  pub size : length file < 24
+  pub number_is : k ≡ 0
+
+-- after k whole records something is left, which is no whole record
+pub record EndsInRecord (k : ℕ) (file : List ℕ) : Type 0 where
+  pub form : Form
+  pub frames : List Captured
+  pub rest : List ℕ
+  pub read : IsReadTo form file frames rest
+  pub number_is : k ≡ length frames
+  pub left : 0 < length rest
+  pub part : HasRecord form rest → ⊥
+
+-- a file below 2^32 bytes that shows no fault ends too early
+pub record IsCut (k : ℕ) (file : List ℕ) : Type 0 where
+  pub size : length file < 2 ^ 32
+  pub first : (fault : PcapFault) → Shows (seen file) fault → ⊥
+  pub ends : EndsInHeader k file ⊎ EndsInRecord k file
+
+-- why a file is no capture. Each file is a capture of some frames or has one fault (`OneCase`).
 abbrev pub HasPcapFault : List ℕ → PcapFault → Type 0
-HasPcapFault bytes BadMagic = (frames : List Captured) → IsCapture bytes frames → ⊥
-HasPcapFault bytes BadVersion = ⊥
-HasPcapFault bytes BadLink = ⊥
-HasPcapFault bytes (FrameTooLong k) = ⊥
-HasPcapFault bytes (Cut k) = ⊥
-HasPcapFault bytes TooManyBytes = ⊥
-HasPcapFault bytes Memory = Unit {0}
-
--- the stream that a reader was fed: the empty one where it was fed none
-abbrev pub stream_of : Option (List ℕ) → List ℕ
-stream_of None = []
-stream_of (Some stream) = stream
+HasPcapFault file BadMagic = Shows (seen file) BadMagic
+HasPcapFault file BadVersion = Shows (seen file) BadVersion
+HasPcapFault file BadLink = Shows (seen file) BadLink
+HasPcapFault file (FrameTooLong k) = Shows (seen file) (FrameTooLong k)
+HasPcapFault file (Cut k) = IsCut k file
+HasPcapFault file TooManyBytes = HasTooManyBytes file
+HasPcapFault file Memory = ⊥

@@ -4,8 +4,7 @@ ghost use Rattle.cf_pcap.specs.declared.fault.PcapFault.TheVariants.{Memory};
 
 use std::alloc::{AllocError, AllocFailed};
 
-/// Why a stream is no capture. The number is that of the whole records before the fault. As yet
-/// every such stream is `BadMagic`.
+/// Why a stream is no capture. The number is that of the whole records before the fault.
 #[derive(Clone, Copy, Debug, PartialEq, Eq)]
 pub enum PcapFault {
     /// The first four bytes are no magic.

@@ -1,14 +1,17 @@
-//! Captures in the libpcap file format 2.4 (pcap savefile). As yet little-endian files with times in
-//! microseconds are read, each fed as one piece; every other stream is a bad magic.
+//! Captures in the libpcap file format 2.4 (pcap savefile), read as a stream that comes in any pieces.
 #![tactic(auto)]
 
 mod fault;
+mod form;
 mod frame;
+mod laws;
 mod reader;
 mod records;
+mod stage;
 
 pub use fault::PcapFault;
 pub use frame::Frame;
+pub use laws::{a_found_fault_stays, each_file_is_in_one_case, each_stream_gives_one_list};
 pub use reader::Pcap;
 
 #[cfg(test)]

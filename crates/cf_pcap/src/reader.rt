@@ -1,146 +1,113 @@
-// The reader of a capture, which is to come in one piece.
-ghost use Rattle.std.specs.Prelude.{◌≡◌, ℕ, List, ◌++◌, ◌<◌, ◌^◌, length, IfOk, MatchResult, MatchOption, true, false, ◌≢◌, None, Some};
-ghost use Rattle.byteorder.specs.Endian.{little_number};
-ghost use Rattle.cf_pcap.specs.Capture.{Captured, IsCapture, HasPcapFault, IsFileHeader, stream_of};
+// The reader of a capture, which comes in pieces.
+ghost use Rattle.std.specs.Prelude.{◌≡◌, ◌≢◌, ℕ, List, [], ◌++◌, ◌<◌, ◌≤◌, ◌^◌, ◌+◌, ◌-◌, length, take, min, IfOk, Ok, Err};
+ghost use Rattle.cf_pcap.specs.Capture.{Captured};
+ghost use Rattle.cf_pcap.specs.Stream.{IsStateOf, IsFed, IsEnded};
 
-use crate::records::{count_records, read_records};
+use crate::records::go_on;
+use crate::stage::{LIMIT, Stage, answer_of, kept, late_of, stage_at};
 use crate::{Frame, PcapFault};
-use byteorder::{ByteOrder, LittleEndian};
 use std::alloc::{AllocError, Global};
 use std::marker::Model;
 
-/// The length of the file header.
-const HEADER: usize = 24;
-
-/// Of times in microseconds.
-const MAGIC: u32 = 0xa1b2_c3d4;
-
-/// The nanoseconds of a microsecond.
-const TICK: u32 = 1000;
-
-/// A reader of one capture. Contracts see the stream that it was fed, if it was.
+/// A reader of one capture. It keeps no more of the stream than the begin of a record. Contracts speak of every stream
+/// whose state it has.
 #[derive(Drop)]
 pub struct Pcap {
     alloc: Global,
-    stream: Option<Vec<u8>>,
+    stage: Stage,
+    // How many bytes were taken, while the reader runs.
+    total: usize,
+    // How many frames were given, while the reader runs.
+    count: u32,
+    held: Vec<u8>,
 }
 
 impl Model for Pcap {
-    ghost use Rattle.std.specs.Prelude.{ℕ, List};
-    ghost use Rattle.std.specs.Option.{option_map};
-    ghost use Rattle.std.specs.declared.option.Option.{Option};
+    ghost use Rattle.cf_pcap.specs.Stream.{Reader, IsSound};
 
-    ghost Value = { Option (List ℕ) };
+    ghost Value = { Reader };
 
-    ghost view = { λ p. option_map (λ stream. stream.items) p.stream };
+    ghost view = { λ p. record { stage = p.stage; total = p.total; count = p.count; held = p.held.items } };
+
+    ghost invariant = { λ p. IsSound (record { stage = p.stage; total = p.total; count = p.count; held = p.held.items }) };
 }
 
-// Whether a file header stands at the front of the bytes.
-fn has_header(bytes: &[u8]) -> bool
-    ensures yes { result ≡ true → IsFileHeader little_number 0xa1b2c3d4 bytes.now }
-    ensures no { result ≡ false → IsFileHeader little_number 0xa1b2c3d4 bytes.now → ⊥ }
+// The first bytes of a piece, that many at most.
+fn front(piece: &[u8], most: usize) -> &[u8]
+    ensures { result.now ≡ take most piece.now }
 {
-    if bytes.len() < HEADER || LittleEndian::read_u32(bytes) != MAGIC {
-        return false;
+    if piece.len() <= most {
+        return piece;
     }
-    if LittleEndian::read_u16(&bytes[4..]) != 2 || LittleEndian::read_u16(&bytes[6..]) != 4 {
-        return false;
-    }
-    LittleEndian::read_u32(&bytes[20..]) % 65536 == 1
+    piece.split_at(most).0
 }
 
-// Whether the stream is short enough, and a file header stands at its front.
-fn may_be_capture(bytes: &[u8]) -> bool
-    ensures header { result ≡ true → IsFileHeader little_number 0xa1b2c3d4 bytes.now }
-    ensures size { result ≡ true → length bytes.now < 2 ^ 32 }
-    ensures no { result ≡ false → HasPcapFault bytes.now PcapFault.BadMagic }
+// The bytes that are held and those that come.
+fn joined(alloc: Global, held: &[u8], more: &[u8]) -> Result<Vec<u8>, AllocError>
+    ensures { IfOk result (λ bytes. bytes.items ≡ held.now ++ more.now) }
 {
-    if bytes.len() >= 1 << 32 {
-        return false;
-    }
-    has_header(bytes)
-}
-
-// The frames of a capture, or none where the bytes are no capture.
-fn read_capture(alloc: Global, bytes: &[u8]) -> Result<Option<Vec<Frame>>, AllocError>
-    ensures { IfOk result (λ found. MatchOption found (HasPcapFault bytes.now PcapFault.BadMagic)
-        (λ frames. IsCapture bytes.now frames.items)) }
-{
-    if !may_be_capture(bytes) {
-        return Ok(None);
-    }
-    let records = bytes.split_at(HEADER).1;
-    match read_records::<LittleEndian>(alloc, TICK, records)? {
-        Some(frames) => Ok(Some(frames)),
-        None => Ok(None),
-    }
-}
-
-// How many frames a capture has, or none where the bytes are no capture.
-fn count_capture(bytes: &[u8]) -> Option<u32>
-    ensures { MatchOption result (HasPcapFault bytes.now PcapFault.BadMagic)
-        (λ count. (frames : List Captured) × IsCapture bytes.now frames × (count ≡ length frames)) }
-{
-    if !may_be_capture(bytes) {
-        return None;
-    }
-    let records = bytes.split_at(HEADER).1;
-    match count_records::<LittleEndian>(TICK, records) {
-        Some(count) => Some(count),
-        None => None,
-    }
+    let mut bytes = held.to_vec(alloc)?;
+    bytes.extend_from_slice(more)?;
+    Ok(bytes)
 }
 
 impl Pcap {
     /// A reader that was fed nothing yet.
     pub fn new(alloc: Global) -> Result<Self, AllocError>
-        ensures { IfOk result (λ pcap. pcap ≡ None) }
+        ensures { IfOk result (λ pcap. IsStateOf pcap []) }
     {
         Ok(Pcap {
             alloc,
-            stream: None,
+            stage: Stage::Heading,
+            total: 0,
+            count: 0,
+            held: Vec::new(alloc),
         })
     }
 
-    /// Takes the whole stream, once, and adds its frames to `out`. After `Memory` nothing is taken,
-    /// and the stream may be fed again; of `out` nothing is promised after another fault.
+    /// Takes the next piece of the stream, and adds to `out` the frames whose last byte lies in it and before any fault.
+    /// A fault is found by its place: the magic after 4 bytes, the version after 8, the link after 24, a captured length
+    /// after its record's 16, `TooManyBytes` at the byte that makes the stream 2^32 bytes. After a fault every call
+    /// answers it. After `Memory` nothing of the piece is taken, and it may be fed again.
     pub fn feed(&mut self, piece: &[u8], out: &mut Vec<Frame>) -> Result<(), PcapFault>
-        requires { self.old ≡ None }
-        ensures frames { MatchResult result
-            (λ _. (frames : List Captured) × IsCapture piece.now frames × (out.new.items ≡ out.old.items ++ frames))
-            (HasPcapFault piece.now) }
-        ensures taken { result ≢ Err PcapFault.Memory → self.new ≡ Some piece.now }
+        ensures fed { result ≢ Err PcapFault.Memory → (given : List Captured) × (out.new.items ≡ out.old.items ++ given)
+            × ((stream : List ℕ) → IsStateOf self.old stream → IsFed stream piece.now given result self.new) }
         ensures memory { result ≡ Err PcapFault.Memory → (self.new ≡ self.old) × (out.new.items ≡ out.old.items) }
     {
-        let stream = piece.to_vec(self.alloc)?;
-        match read_capture(self.alloc, piece)? {
-            Some(mut frames) => {
-                out.append(&mut frames)?;
-                self.stream = Some(stream);
-                Ok(())
-            }
-            None => {
-                self.stream = Some(stream);
-                Err(PcapFault::BadMagic)
-            }
+        if let Stage::Stopped(fault) = self.stage {
+            return Err(fault);
         }
+        let taken = front(piece, LIMIT - self.total);
+        let total = self.total + taken.len();
+        let bytes = joined(self.alloc, &self.held, taken)?;
+        let mut read = go_on(self.alloc, self.stage, self.count, late_of(total), &bytes)?;
+        let count = self.count + read.frames.len() as u32;
+        out.append(&mut read.frames)?;
+        self.stage = stage_at(read.stage, total);
+        self.total = total;
+        self.count = count;
+        self.held = kept(self.alloc, self.stage, read.held);
+        answer_of(self.stage)
     }
 
-    /// The number of frames of the stream that was fed; the empty stream where none was. It takes no
-    /// memory.
+    /// How many bytes of the stream are held: those of a file header or a record that has only begun.
+    pub fn held(&self) -> usize
+        ensures value { result ≡ length self.now.held }
+        ensures few { result ≤ 262159 }
+    {
+        self.held.len()
+    }
+
+    /// The number of frames of the stream that was fed, or its fault. It takes no memory.
     pub fn finish(self) -> Result<u32, PcapFault>
-        ensures count { MatchResult result
-            (λ count. (frames : List Captured) × IsCapture (stream_of self) frames × (count ≡ length frames))
-            (HasPcapFault (stream_of self)) }
+        ensures ended { (stream : List ℕ) → IsStateOf self stream → IsEnded stream result }
         ensures no_memory { result ≢ Err PcapFault.Memory }
     {
-        let counted = match &self.stream {
-            Some(stream) => count_capture(stream),
-            None => count_capture(&[]),
-        };
-        match counted {
-            Some(count) => Ok(count),
-            None => Err(PcapFault::BadMagic),
+        match self.stage {
+            Stage::Heading => Err(PcapFault::Cut(0)),
+            Stage::Reading(_) if self.held.is_empty() => Ok(self.count),
+            Stage::Reading(_) => Err(PcapFault::Cut(self.count)),
+            Stage::Stopped(fault) => Err(fault),
         }
     }
 }

@@ -1,82 +1,193 @@
 // Captures by tables.
 use crate::{Frame, Pcap, PcapFault};
+use std::alloc::{AllocError, Global};
 use std::test::Fail;
 
-// A file header, and two records of 2 and 1 bytes.
-const TWO_FRAMES: [u8; 59] = [
-    0xd4, 0xc3, 0xb2, 0xa1, 0x02, 0x00, 0x04, 0x00, 0x00, 0x00, 0x00, 0x00, 0x00, 0x00, 0x00, 0x00,
-    0xff, 0xff, 0x00, 0x00, 0x01, 0x00, 0x00, 0x00, 0x01, 0x00, 0x00, 0x00, 0x20, 0xa1, 0x07, 0x00,
-    0x02, 0x00, 0x00, 0x00, 0x3c, 0x00, 0x00, 0x00, 0xaa, 0xbb, 0x02, 0x00, 0x00, 0x00, 0x00, 0x00,
-    0x00, 0x00, 0x01, 0x00, 0x00, 0x00, 0x64, 0x00, 0x00, 0x00, 0xcc,
-];
+/// Two records, of 2 and 1 bytes, little-endian, with times in microseconds.
+fn little() -> [u8; 59] {
+    [
+        0xd4, 0xc3, 0xb2, 0xa1, 0x02, 0x00, 0x04, 0x00, 0x00, 0x00, 0x00, 0x00, 0x00, 0x00, 0x00,
+        0x00, 0xff, 0xff, 0x00, 0x00, 0x01, 0x00, 0x00, 0x00, 0x01, 0x00, 0x00, 0x00, 0x20, 0xa1,
+        0x07, 0x00, 0x02, 0x00, 0x00, 0x00, 0x3c, 0x00, 0x00, 0x00, 0xaa, 0xbb, 0x02, 0x00, 0x00,
+        0x00, 0x00, 0x00, 0x00, 0x00, 0x01, 0x00, 0x00, 0x00, 0x64, 0x00, 0x00, 0x00, 0xcc,
+    ]
+}
+
+/// The same records, big-endian, with times in nanoseconds.
+fn big() -> [u8; 59] {
+    [
+        0xa1, 0xb2, 0x3c, 0x4d, 0x00, 0x02, 0x00, 0x04, 0x00, 0x00, 0x00, 0x00, 0x00, 0x00, 0x00,
+        0x00, 0x00, 0x00, 0xff, 0xff, 0x00, 0x00, 0x00, 0x01, 0x00, 0x00, 0x00, 0x01, 0x00, 0x07,
+        0xa1, 0x20, 0x00, 0x00, 0x00, 0x02, 0x00, 0x00, 0x00, 0x3c, 0xaa, 0xbb, 0x00, 0x00, 0x00,
+        0x02, 0x00, 0x00, 0x00, 0x00, 0x00, 0x00, 0x00, 0x01, 0x00, 0x00, 0x00, 0x64, 0xcc,
+    ]
+}
+
+/// The bytes with others in the place of some.
+fn with(mut bytes: [u8; 59], changes: &[(usize, u8)]) -> [u8; 59] {
+    for (at, byte) in changes {
+        if *at < bytes.len() {
+            bytes[*at] = *byte;
+        }
+    }
+    bytes
+}
+
+/// After how many bytes a fault was found, if one was, and what the end answers.
+#[derive(Clone, Copy)]
+struct Told {
+    found: Option<usize>,
+    end: Result<u32, PcapFault>,
+}
+
+/// Feeds a stream in pieces of that many bytes, each once more where memory is wanting.
+fn feed_all(
+    alloc: Global,
+    stream: &[u8],
+    size: usize,
+    out: &mut Vec<Frame>,
+) -> Result<Told, AllocError> {
+    let mut pcap = Pcap::new(alloc)?;
+    let mut found = None;
+    let mut taken = 0usize;
+    for piece in stream.chunks(size.max(1)) {
+        let mut answer = pcap.feed(piece, out);
+        if let Err(PcapFault::Memory) = answer {
+            answer = pcap.feed(piece, out);
+        }
+        taken = taken.saturating_add(piece.len());
+        if answer.is_err() && found.is_none() {
+            found = Some(taken);
+        }
+    }
+    Ok(Told {
+        found,
+        end: pcap.finish(),
+    })
+}
 
 #[test]
-fn gives_each_frame_its_fields(rt: HostRuntime) -> Result<(), Fail> {
-    let mut pcap = Pcap::new(rt.alloc())?;
-    let mut out: Vec<Frame> = Vec::new(rt.alloc());
-    assert_eq!(rt; pcap.feed(&TWO_FRAMES, &mut out), Ok(()));
-    let wanted = [
-        (0, 1_500_000_000, 2, 60, [0xaa, 0xbb].as_slice()),
-        (1, 2_000_000_000, 1, 100, [0xcc].as_slice()),
+fn each_form_gives_the_same_frames(rt: HostRuntime) -> Result<(), Fail> {
+    let forms = [
+        (little(), 1_500_000_000),
+        (with(little(), &[(0, 0x4d), (1, 0x3c)]), 1_000_500_000),
+        (with(big(), &[(2, 0xc3), (3, 0xd4)]), 1_500_000_000),
+        (big(), 1_000_500_000),
     ];
-    assert_eq!(rt; out.len(), wanted.len());
-    for (frame, (num, ts, caplen, len, bytes)) in out.iter().zip(wanted) {
-        assert_eq!(rt; (frame.num, frame.ts), (num, ts));
-        assert_eq!(rt; (frame.caplen, frame.len), (caplen, len));
-        assert_eq!(rt; frame.bytes.as_slice(), bytes);
+    for (stream, first) in forms {
+        for size in [1, 7, 24, 59] {
+            let mut out: Vec<Frame> = Vec::new(rt.alloc());
+            let told = feed_all(rt.alloc(), &stream, size, &mut out)?;
+            assert_eq!(rt;
+                (told.found, told.end),
+                (None, Ok(2)),
+                "in pieces of {size}"
+            );
+            let wanted = [
+                (0, first, 2, 60, [0xaa, 0xbb].as_slice()),
+                (1, 2_000_000_000, 1, 100, [0xcc].as_slice()),
+            ];
+            assert_eq!(rt; out.len(), wanted.len());
+            for (frame, (num, ts, caplen, len, bytes)) in out.iter().zip(wanted) {
+                assert_eq!(rt; (frame.num, frame.ts), (num, ts));
+                assert_eq!(rt; (frame.caplen, frame.len), (caplen, len));
+                assert_eq!(rt; frame.bytes.as_slice(), bytes);
+            }
+        }
     }
-    assert_eq!(rt; pcap.finish(), Ok(2));
-    assert_eq!(rt; Pcap::new(rt.alloc())?.finish(), Err(PcapFault::BadMagic));
+    Ok(())
+}
+
+/// What the end answers after so many bytes of the two frames, and how many frames there were.
+fn wanted_after(n: usize) -> (Result<u32, PcapFault>, usize) {
+    match n {
+        24 => (Ok(0), 0),
+        0..=41 => (Err(PcapFault::Cut(0)), 0),
+        42 => (Ok(1), 1),
+        43..=58 => (Err(PcapFault::Cut(1)), 1),
+        _ => (Ok(2), 2),
+    }
+}
+
+#[test]
+fn a_cut_stream_is_cut_after_whole_records(rt: HostRuntime) -> Result<(), Fail> {
+    for stream in [little(), big()] {
+        for size in [1, 7, 59] {
+            for n in 0..60 {
+                let mut out: Vec<Frame> = Vec::new(rt.alloc());
+                let cut = stream.get(..n).unwrap_or(&[]);
+                let told = feed_all(rt.alloc(), cut, size, &mut out)?;
+                let (end, count) = wanted_after(n);
+                assert_eq!(rt; (told.found, told.end), (None, end), "after {n} bytes");
+                assert_eq!(rt; out.len(), count, "after {n} bytes");
+            }
+        }
+    }
     Ok(())
 }
 
 #[test]
-fn takes_whole_captures_alone(rt: HostRuntime) -> Result<(), Fail> {
+fn each_field_that_counts_is_looked_at(rt: HostRuntime) -> Result<(), Fail> {
+    // Bytes of the little-endian frames, others for them, and when and why that is no capture.
     let cases = [
-        (TWO_FRAMES.as_slice(), Ok(2)),
-        (&TWO_FRAMES[..58], Err(PcapFault::BadMagic)),
-        (&TWO_FRAMES[..42], Ok(1)),
-        (&TWO_FRAMES[..41], Err(PcapFault::BadMagic)),
-        (&TWO_FRAMES[..24], Ok(0)),
-        (&TWO_FRAMES[..23], Err(PcapFault::BadMagic)),
+        ([(0, 0x34), (1, 0xcd)], Some((4, PcapFault::BadMagic))),
+        ([(0, 0x1f), (1, 0x8b)], Some((4, PcapFault::BadMagic))),
+        ([(4, 1), (5, 0)], Some((8, PcapFault::BadVersion))),
+        ([(4, 2), (6, 3)], Some((8, PcapFault::BadVersion))),
+        ([(4, 0), (5, 2)], Some((8, PcapFault::BadVersion))),
+        ([(20, 113), (21, 0)], Some((24, PcapFault::BadLink))),
+        ([(20, 147), (21, 0)], Some((24, PcapFault::BadLink))),
+        ([(20, 1), (21, 1)], Some((24, PcapFault::BadLink))),
+        ([(22, 1), (23, 0x80)], None),
+        ([(8, 1), (11, 0xff)], None),
+        ([(12, 1), (15, 0xff)], None),
+        ([(16, 1), (19, 0xff)], None),
+        ([(34, 4), (32, 1)], Some((40, PcapFault::FrameTooLong(0)))),
+        ([(52, 4), (50, 1)], Some((58, PcapFault::FrameTooLong(1)))),
         (
-            [0x1f, 0x8b, 0x08, 0x00].as_slice(),
-            Err(PcapFault::BadMagic),
+            [(53, 0xff), (50, 0xff)],
+            Some((58, PcapFault::FrameTooLong(1))),
         ),
-        ([].as_slice(), Err(PcapFault::BadMagic)),
+        // A captured length above that on the wire.
+        ([(36, 1), (37, 0)], None),
     ];
-    for (stream, wanted) in cases {
-        let mut pcap = Pcap::new(rt.alloc())?;
-        let mut out: Vec<Frame> = Vec::new(rt.alloc());
-        assert_eq!(rt; pcap.feed(stream, &mut out), wanted.map(|_| ()));
-        assert_eq!(rt; pcap.finish(), wanted);
+    for (changes, fault) in cases {
+        let stream = with(little(), &changes);
+        for size in [1, 7, 59] {
+            let mut out: Vec<Frame> = Vec::new(rt.alloc());
+            let told = feed_all(rt.alloc(), &stream, size, &mut out)?;
+            let (place, end) = match fault {
+                None => (None, Ok(2)),
+                Some((at, fault)) => (Some(at), Err(fault)),
+            };
+            assert_eq!(rt; told.end, end);
+            assert_eq!(rt; told.found.is_some(), place.is_some());
+            if size == 1 {
+                assert_eq!(rt; told.found, place);
+            }
+        }
     }
     Ok(())
 }
 
 #[test]
-fn looks_at_each_field_that_counts(rt: HostRuntime) -> Result<(), Fail> {
-    // The place of a byte of the two frames, another byte for it, and whether it is still a capture.
-    let cases = [
-        (0, 0x4d, false),
-        (4, 1, false),
-        (6, 3, false),
-        (8, 1, true),
-        (12, 1, true),
-        (16, 1, true),
-        (20, 113, false),
-        (21, 1, false),
-        (22, 1, true),
-        (32, 3, false),
-        (36, 1, true),
-    ];
-    for (at, byte, is_capture) in cases {
-        let mut stream = TWO_FRAMES;
-        assert!(rt; at < stream.len());
-        stream[at] = byte;
+fn a_record_may_hold_262144_bytes(rt: HostRuntime) -> Result<(), Fail> {
+    // The lowest byte of the captured length of the one record, and what the end answers.
+    for (lowest, end) in [(0, Ok(1)), (1, Err(PcapFault::FrameTooLong(0)))] {
+        let head = with(little(), &[(32, lowest), (34, 4)]);
         let mut pcap = Pcap::new(rt.alloc())?;
         let mut out: Vec<Frame> = Vec::new(rt.alloc());
-        assert_eq!(rt; pcap.feed(&stream, &mut out).is_ok(), is_capture);
+        assert_eq!(rt;
+            pcap.feed(head.get(..40).unwrap_or(&[]), &mut out).is_ok(),
+            lowest == 0
+        );
+        assert_eq!(rt; pcap.held(), if lowest == 0 { 16 } else { 0 });
+        let piece = [7u8; 4096];
+        for _ in 0..64 {
+            assert_eq!(rt; pcap.feed(&piece, &mut out).is_ok(), lowest == 0);
+        }
+        assert_eq!(rt; pcap.finish(), end);
+        assert_eq!(rt; out.len(), usize::from(lowest == 0));
     }
     Ok(())
 }

@@ -1,3 +1,5 @@
 pub mod Reading
 pub mod Values
 pub mod Nexts
+pub mod Outcomes
+pub mod OneOutcome

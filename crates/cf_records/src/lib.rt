@@ -2,10 +2,12 @@
 #![tactic(auto)]
 
 mod fault;
+mod laws;
 mod read;
 mod row;
 #[cfg(test)]
 mod tests;
 
 pub use fault::RecordFault;
+pub use laws::each_text_is_one_thing;
 pub use read::read_records;

@@ -1,5 +1,5 @@
 // The records of a file.
-ghost use Rattle.std.specs.Prelude.{◌≡◌, ◌⊎◌, ◌≤◌, ℕ, List, All, IfOk, MatchResult};
+ghost use Rattle.std.specs.Prelude.{◌≡◌, ◌⊎◌, ◌≤◌, ◌<◌, ◌^◌, ℕ, List, [], length, All, IfOk, MatchResult};
 ghost use Rattle.csv.specs.Records.{fields_of};
 ghost use Rattle.cf_row.specs.Row.{Fits};
 ghost use Rattle.cf_records.specs.Records.{IsRecordFile, HasRecordsFault, HasRead, ReadsOn};
@@ -23,6 +23,45 @@ fn read_next(reader: &mut Reader<&[u8]>, line: &mut ByteRecord) -> Result<bool, 
     Ok(found)
 }
 
+// A reader of a text that takes each record as it is: the first is no header to it, and no length is expected.
+fn reader_of<'a>(alloc: Global, bytes: &'a [u8]) -> Reader<&'a [u8]>
+    ensures { HasRead bytes.entry.now [] result }
+{
+    ReaderBuilder::new()
+        .has_headers(false)
+        .flexible(true)
+        .from_reader(alloc, bytes)
+}
+
+// The rows of a text of less than 2^24 bytes of which nothing was read.
+fn read_rows(
+    alloc: Global,
+    schema: &Schema,
+    reader: &mut Reader<&[u8]>,
+    line: &mut ByteRecord,
+) -> Result<Vec<Row>, RecordFault>
+    ensures answer { (text : List ℕ) → length text < 2 ^ 24 → HasRead text [] reader.old → MatchResult result (λ rows. IsRecordFile schema.now text rows.items) (λ fault. (fault ≡ RecordFault.Memory) ⊎ HasRecordsFault schema.now text fault) }
+    ensures fit { IfOk result (λ rows. All (Fits schema.now) rows.items) }
+{
+    if !read_next(reader, line)? {
+        return Err(RecordFault::NoHeader);
+    }
+    if !is_header(schema.attrs(), line) {
+        return Err(RecordFault::BadHeader);
+    }
+    let mut rows = Vec::new(alloc);
+    for num in 0..u32::MAX {
+        if !read_next(reader, line)? {
+            return Ok(rows);
+        }
+        match row_of(alloc, schema, num, line) {
+            Ok(row) => rows.push(row)?,
+            Err(fault) => return Err(fault),
+        }
+    }
+    Err(RecordFault::Memory)
+}
+
 /// The rows of a file of records: CSV as it is read by default, with the schema's names as its first record, and then a
 /// record for each row, numbered from 0. Values are those of filter expressions. The first faulty record decides, the
 /// number of its fields before their values, and the leftmost faulty one of these.
@@ -33,23 +72,7 @@ pub fn read_records(alloc: Global, schema: &Schema, bytes: &[u8]) -> Result<Vec<
     if bytes.len() >= LIMIT {
         return Err(RecordFault::TooManyBytes);
     }
-    let mut reader = ReaderBuilder::new()
-        .has_headers(false)
-        .flexible(true)
-        .from_reader(alloc, bytes);
+    let mut reader = reader_of(alloc, bytes);
     let mut line = ByteRecord::new(alloc);
-    if !read_next(&mut reader, &mut line)? {
-        return Err(RecordFault::NoHeader);
-    }
-    if !is_header(schema.attrs(), &line) {
-        return Err(RecordFault::BadHeader);
-    }
-    let mut rows = Vec::new(alloc);
-    for num in 0..u32::MAX {
-        if !read_next(&mut reader, &mut line)? {
-            return Ok(rows);
-        }
-        rows.push(row_of(alloc, schema, num, &line)?)?;
-    }
-    Err(RecordFault::Memory)
+    read_rows(alloc, schema, &mut reader, &mut line)
 }

@@ -1,14 +1,14 @@
 -- From a file that is read to what loading the capture answers.
-use Rattle.std.proofs.Common.{◌≡◌, ◌⊎◌, ℕ, ◌+◌, ◌<◌, ◌^◌, List, [], ◌++◌, length, Option, Some, None, Result, Ok, Err, ap, sym, ◌∙◌, inl, inr, IfSome, MatchResult, subst, arith, append-nil, length-append, Vec}
+use Rattle.std.proofs.Common.{◌≡◌, ◌⊎◌, ℕ, ◌+◌, ◌<◌, ◌^◌, List, [], ◌++◌, length, Option, Some, None, Result, Ok, Err, refl, ap, sym, ◌∙◌, inl, inr, IfSome, MatchResult, subst, arith, append-nil, length-append, Vec}
 use Rattle.std.specs.declared.alloc.Global.{Global}
 use Rattle.cf_outside.specs.Files.{File}
 use Rattle.cf_pcap.specs.Capture.{Captured, IsCapture, HasPcapFault}
 use Rattle.cf_pcap.specs.declared.fault.PcapFault.{PcapFault}
-use Rattle.cf_pcap.specs.declared.fault.PcapFault.TheVariants.{BadMagic}
+use Rattle.cf_pcap.specs.declared.fault.PcapFault.TheVariants as faults
+use Rattle.cf_pcap.proofs.Ending.{fault_of_front}
 use Rattle.cf_run.specs.Devices.{IsFileRead}
-use Rattle.cf_run.specs.Faults.{HasCaptureFault}
+use Rattle.cf_run.specs.Faults.{HasCaptureFault, code_of, record_of}
 use Rattle.cf_run.specs.Parts.{LoadsCapture, IsCaptureStop, IsBadCapture}
-use Rattle.cf_run.proofs.Deciding.{bad_magic}
 use Rattle.cf_run.proofs.Taking.{left_after, stopped_read}
 use Rattle.cf_run.specs.declared.status.Status.{Status}
 use Rattle.cf_run.specs.declared.status.Status.TheVariants.{Done, Words, Setup, Capture, ReadFault, WriteFault, Full, Nodes, Memory, NoFile}
@@ -20,23 +20,22 @@ capture_ends files name bytes now frames read capture = elim read.whole [
   | inr more ↦ let size : length bytes < 2 ^ 32 = capture.size in absurd (omega (arith, size, more))
 ]
 
--- what is no capture as far as the limit is none as a whole
-none_longer : (bytes rest : List ℕ) → (rest ≡ []) ⊎ (length bytes ≡ 2 ^ 32) → HasPcapFault bytes BadMagic → HasPcapFault (bytes ++ rest) BadMagic
-none_longer bytes rest whole none frames capture = elim whole [
-  | inl end ↦ let same : bytes ++ rest ≡ bytes = ap (λ xs. bytes ++ xs) end ∙ append-nil bytes in none frames (subst (λ (xs : List ℕ). IsCapture xs frames) same capture)
-  | inr more ↦ let size : length (bytes ++ rest) < 2 ^ 32 = capture.size in let len : length (bytes ++ rest) ≡ length bytes + length rest = length-append bytes rest in absurd (omega (arith, size, more, len))
-]
-
+-- the fault of what was read as far as the limit is that of the file
 fault_longer : (bytes rest : List ℕ) (at code : ℕ) → (rest ≡ []) ⊎ (length bytes ≡ 2 ^ 32) → HasCaptureFault bytes at code → HasCaptureFault (bytes ++ rest) at code
-fault_longer bytes rest at code whole has =
-    let bad : has.fault ≡ BadMagic = bad_magic bytes has.fault has.fault_is has.no_memory in
-    record {
-      fault = has.fault;
-      fault_is = subst (λ (fault : PcapFault). HasPcapFault (bytes ++ rest) fault) (sym bad) (none_longer bytes rest whole (subst (λ (fault : PcapFault). HasPcapFault bytes fault) bad has.fault_is));
-      no_memory = has.no_memory;
-      record_is = has.record_is;
-      code_is = has.code_is;
-    }
+fault_longer bytes rest at code whole has = record { fault = has.fault; fault_is = fault_of_front bytes rest has.fault whole has.fault_is; no_memory = has.no_memory; record_is = has.record_is; code_is = has.code_is }
+
+faulty : (bytes : List ℕ) (fault : PcapFault) (status : Status) → (fault ≡ faults.Memory → ⊥) → ((fault ≡ faults.Memory → ⊥) → status ≡ Capture (record_of fault) (code_of fault)) → ((fault ≡ faults.Memory → ⊥) → HasPcapFault bytes fault) → IsBadCapture bytes status
+faulty bytes fault status none other has = subst (λ (s : Status). IsBadCapture bytes s) (sym (other none)) (record { fault = fault; fault_is = has none; no_memory = none; record_is = refl; code_is = refl })
+
+-- a fault of the bytes refuses them, and want of memory is none
+pub bad_capture : (bytes : List ℕ) (fault : PcapFault) (status : Status) → (fault ≡ faults.Memory → status ≡ Memory) → ((fault ≡ faults.Memory → ⊥) → status ≡ Capture (record_of fault) (code_of fault)) → ((fault ≡ faults.Memory → ⊥) → HasPcapFault bytes fault) → IsBadCapture bytes status
+bad_capture bytes faults.Memory status memory other has = subst (λ (s : Status). IsBadCapture bytes s) (sym (memory refl)) tt
+bad_capture bytes faults.BadMagic status memory other has = faulty bytes faults.BadMagic status (λ e. cc e) other has
+bad_capture bytes faults.BadVersion status memory other has = faulty bytes faults.BadVersion status (λ e. cc e) other has
+bad_capture bytes faults.BadLink status memory other has = faulty bytes faults.BadLink status (λ e. cc e) other has
+bad_capture bytes (faults.FrameTooLong k) status memory other has = faulty bytes (faults.FrameTooLong k) status (λ e. cc e) other has
+bad_capture bytes (faults.Cut k) status memory other has = faulty bytes (faults.Cut k) status (λ e. cc e) other has
+bad_capture bytes faults.TooManyBytes status memory other has = faulty bytes faults.TooManyBytes status (λ e. cc e) other has
 
 capture_stop : (files : List File) (name bytes : List ℕ) (before now : Option (List ℕ)) (status : Status) → IsFileRead files name (2 ^ 32) now bytes → IsBadCapture bytes status → IsCaptureStop files name before now status
 capture_stop files name bytes before now (Capture at code) read bad =

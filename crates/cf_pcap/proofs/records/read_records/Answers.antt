@@ -1,13 +1,25 @@
-use Rattle.std.proofs.Common.{◌∙◌, sym, rules, length, ◌≡◌}
-use Rattle.std.proofs.lemmas.List.{nil_from_length}
-use Rattle.cf_pcap.proofs.ReadTo.{read_more, read_all, read_no_more}
+use Rattle.std.proofs.Common.{rules, arith, ◌≡◌, ◌≤◌, ◌+◌, ◌-◌, ◌*◌, ◌∙◌, ap, [], ◌∷◌, ◌++◌, length, drop, length-append, length-drop}
+use Rattle.cf_pcap.specs.Capture.{Captured, HasRecord, frame_at, caplen_at}
+use Rattle.cf_pcap.proofs.Following.{one_more}
 use Rattle.cf_pcap.proofs.records.read_records.Goals as goal
 
-pub returns-in_default : goal.returns-in_default
-returns-in_default g c = read_no_more _ _ _ _ _ c.loop-rest.invariant (sym c.is_empty.ensures ∙ c.loop-rest-test.true) (rw c.in_default.is at c.in_ok-frame.ensures)
-
-pub loop-rest-preserved : goal.loop-rest-preserved
-loop-rest-preserved g c = rw (c.in_ok-push.ensures.items, c.split_at.ensures.back, c.record_len-end.ensures) (read_more _ _ _ _ _ c.in-Some.frame c.loop-rest.invariant (let starts = rw c.in-Some.is at c.in_ok-frame.ensures in let n : c.len.result ≡ length c.loop-rest.frames.items = search rules in rw n at starts))
-
-pub returns : goal.returns
-returns g c = read_all _ _ _ _ _ c.loop-rest.invariant (nil_from_length _ (search rules))
+pub loop-frames-preserved : goal.loop-frames-preserved
+loop-frames-preserved c =
+    let form = c.args.form in
+    let rest = c.loop-frames.rest.now in
+    let frame = c.in_ok-frame.frame in
+    let frames = c.loop-frames.frames.items in
+    let count : c.len.result ≡ length frames = search rules in
+    let is : frame ≡ frame_at form (c.args.num + length frames) rest = rw count at c.in_ok-frame.ensures in
+    let has : HasRecord form rest = c.has_record.ensures.yes c.loop-frames-test.true in
+    let fits : 16 + caplen_at form rest + c.args.late ≤ length rest = c.has_record.ensures.early c.loop-frames-test.true in
+    let end : c.record_len-end.result ≡ 16 + caplen_at form rest = c.record_len-end.ensures ∙ ap (λ (f : Captured). 16 + f.caplen) is in
+    let back : c.split_at.result.1.now ≡ drop (16 + caplen_at form rest) rest = c.split_at.ensures.back ∙ ap (λ n. drop n rest) end in
+    let all : c.push.new.self.items ≡ frames ++ frame ∷ [] = c.in_ok-push.ensures.items in
+    let many : length (frames ++ frame ∷ []) ≡ length frames + 1 = length-append frames (frame ∷ []) in
+    let left : length (drop (16 + caplen_at form rest) rest) ≡ length rest - (16 + caplen_at form rest) = length-drop (16 + caplen_at form rest) rest in
+    let few : 16 * length frames + length rest ≤ length c.args.bytes.now = c.loop-frames.invariant.few in record {
+      records = rw (all, back) (one_more form c.args.num frames c.args.bytes.now rest frame c.loop-frames.invariant.records has is);
+      early = rw (back, left) (omega (arith, fits));
+      few = rw (all, back, left, many) (omega (arith, fits, few));
+    }

@@ -1,0 +1,5 @@
+use Rattle.cf_pcap.proofs.Given.{one_gift}
+use Rattle.cf_pcap.proofs.laws.each_stream_gives_one_list.Goals as goal
+
+pub returns : goal.returns
+returns c = one_gift

@@ -1,9 +1,0 @@
-use Rattle.std.proofs.Common.{length}
-use Rattle.cf_pcap.proofs.ReadTo.{IsCountedTo}
-use Rattle.cf_pcap.proofs.records.count_records.Given as goal
-
-abbrev pub invariant-loop-rest : goal.invariant-loop-rest
-invariant-loop-rest g l = IsCountedTo g.T.ByteOrder.number_of l.tick l.records l.count l.rest
-
-abbrev pub decreases-loop-rest : goal.decreases-loop-rest
-decreases-loop-rest g l = length l.rest

@@ -1,0 +1,88 @@
+-- What a reader gives and answers over a stream, however it is cut.
+use Rattle.std.specs.Prelude.{◌≡◌, ◌⊎◌, ℕ, ◌+◌, ◌*◌, ◌^◌, ◌<◌, ◌≤◌, List, [], ◌++◌, length, Result, MatchResult}
+use Rattle.cf_pcap.specs.declared.form.Form.{Form}
+use Rattle.cf_pcap.specs.declared.fault.PcapFault.{PcapFault}
+use Rattle.cf_pcap.specs.declared.fault.PcapFault.TheVariants.{BadMagic, BadVersion, BadLink, FrameTooLong, Cut, TooManyBytes, Memory}
+use Rattle.cf_pcap.specs.declared.stage.Stage.{Stage}
+use Rattle.cf_pcap.specs.declared.stage.Stage.TheVariants.{Heading, Reading, Stopped}
+use Rattle.cf_pcap.specs.Capture.{Captured, IsFileHeader, HasRecord, HasLongRecord, caplen_at, IsReadTo, Shows, seen, IsCapture, HasTooManyBytes, HasPcapFault}
+
+-- a fault that the stream shows by its place, before its end is known
+abbrev pub IsFound : List ℕ → PcapFault → Type 0
+IsFound stream BadMagic = Shows (seen stream) BadMagic
+IsFound stream BadVersion = Shows (seen stream) BadVersion
+IsFound stream BadLink = Shows (seen stream) BadLink
+IsFound stream (FrameTooLong k) = Shows (seen stream) (FrameTooLong k)
+IsFound stream (Cut k) = ⊥
+IsFound stream TooManyBytes = HasTooManyBytes stream
+IsFound stream Memory = ⊥
+
+-- the bytes hold these frames whole and no further one; one that ends with byte 2^32 ends too late
+pub record HoldsFrames (bytes : List ℕ) (frames : List Captured) : Type 0 where
+  pub form : Form
+  pub rest : List ℕ
+  pub read : IsReadTo form bytes frames rest
+  pub early : 2 ^ 32 ≤ length bytes → 0 < length rest
+  pub last : HasRecord form rest → (2 ^ 32 ≤ length bytes) × (length rest ≡ 16 + caplen_at form rest)
+
+-- the frames whose last byte lies in the stream and before any fault
+abbrev pub AreGiven : List ℕ → List Captured → Type 0
+AreGiven stream frames =
+    HoldsFrames (seen stream) frames ⊎ (((form : Form) → IsFileHeader form (seen stream) → ⊥) × (frames ≡ []))
+
+-- a reader as contracts see it: how far it is, how many bytes and frames it has had, and the bytes of a record that has
+-- only begun
+pub record Reader : Type 0 where
+  pub stage : Stage
+  pub total : ℕ
+  pub count : ℕ
+  pub held : List ℕ
+
+-- the file header has only begun
+pub record IsHeading (reader : Reader) (stream : List ℕ) : Type 0 where
+  pub size : length stream < 24
+  pub first : (fault : PcapFault) → Shows stream fault → ⊥
+  pub total_is : reader.total ≡ length stream
+  pub count_is : reader.count ≡ 0
+  pub held_is : reader.held ≡ stream
+
+-- some records were read, and the bytes after them are only the begin of one
+pub record IsReading (form : Form) (reader : Reader) (stream : List ℕ) : Type 0 where
+  pub size : length stream < 2 ^ 32
+  pub frames : List Captured
+  pub read : IsReadTo form stream frames reader.held
+  pub part : HasRecord form reader.held → ⊥
+  pub short : HasLongRecord form reader.held → ⊥
+  pub total_is : reader.total ≡ length stream
+  pub count_is : reader.count ≡ length frames
+
+abbrev pub IsAt : Stage → Reader → List ℕ → Type 0
+IsAt Heading reader stream = IsHeading reader stream
+IsAt (Reading form) reader stream = IsReading form reader stream
+IsAt (Stopped fault) reader stream = IsFound stream fault
+
+-- the reader's state is that after this stream
+abbrev pub IsStateOf : Reader → List ℕ → Type 0
+IsStateOf reader stream = IsAt reader.stage reader stream
+
+-- what a call that takes one more piece gives and answers
+pub record IsFed (stream piece : List ℕ) (given : List Captured) (answer : Result (Unit {0}) PcapFault) (reader : Reader) : Type 0 where
+  pub before : List Captured
+  pub given_before : AreGiven stream before
+  pub given_now : AreGiven (stream ++ piece) (before ++ given)
+  pub answer_is : MatchResult answer (λ _. (fault : PcapFault) → IsFound (stream ++ piece) fault → ⊥) (IsFound (stream ++ piece))
+  pub state : IsStateOf reader (stream ++ piece)
+
+-- what the end of the stream answers: the number of a capture's frames, or the fault
+abbrev pub IsEnded : List ℕ → Result ℕ PcapFault → Type 0
+IsEnded stream answer =
+    MatchResult answer (λ count. (frames : List Captured) × IsCapture stream frames × (count ≡ length frames)) (HasPcapFault stream)
+
+-- what holds of every reader: its bytes and frames fit, it holds less than a record, and want of memory doesn't stop it
+abbrev pub IsSoundAt : Stage → Reader → Type 0
+IsSoundAt Heading reader = (reader.total ≡ length reader.held) × (length reader.held < 24) × (reader.count ≡ 0)
+IsSoundAt (Reading form) reader = (reader.total < 2 ^ 32) × (16 * reader.count + length reader.held ≤ reader.total) × (length reader.held ≤ 262159)
+IsSoundAt (Stopped fault) reader = (fault ≡ Memory → ⊥) × (reader.held ≡ [])
+
+abbrev pub IsSound : Reader → Type 0
+IsSound reader = IsSoundAt reader.stage reader

@@ -1,0 +1,91 @@
+// How far a reader is.
+ghost use Rattle.std.specs.Prelude.{◌≡◌, ◌≤◌, ◌^◌, length};
+ghost use Rattle.cf_pcap.specs.Reading.{IsHeaderStage, late_of as late_of_total, stage_at as stage_of, answer_of as answer_of_stage, kept_by};
+
+use crate::PcapFault;
+use crate::form::{Form, form_of};
+use std::alloc::Global;
+
+/// The length of the file header.
+pub(crate) const HEADER: usize = 24;
+
+/// A stream of so many bytes is no capture.
+pub(crate) const LIMIT: usize = 1 << 32;
+
+/// LINKTYPE_ETHERNET, in the low 16 bits of the link.
+const ETHERNET: u32 = 1;
+
+/// How far a reader is.
+#[derive(Clone, Copy, Debug, PartialEq, Eq)]
+pub(crate) enum Stage {
+    /// The file header isn't whole yet.
+    Heading,
+    /// Records follow.
+    Reading(Form),
+    /// A fault was found.
+    Stopped(PcapFault),
+}
+
+// The stage after the first bytes of a stream.
+pub(crate) fn header_stage(bytes: &[u8]) -> Stage
+    ensures { IsHeaderStage bytes.now result }
+{
+    if bytes.len() < 4 {
+        return Stage::Heading;
+    }
+    let Some(form) = form_of(bytes) else {
+        return Stage::Stopped(PcapFault::BadMagic);
+    };
+    let order = form.order;
+    if bytes.len() < 8 {
+        return Stage::Heading;
+    }
+    if order.read_u16(&bytes[4..]) != 2 || order.read_u16(&bytes[6..]) != 4 {
+        return Stage::Stopped(PcapFault::BadVersion);
+    }
+    if bytes.len() < HEADER {
+        return Stage::Heading;
+    }
+    if order.read_u32(&bytes[20..]) % 65536 != ETHERNET {
+        return Stage::Stopped(PcapFault::BadLink);
+    }
+    Stage::Reading(form)
+}
+
+// How many of the last bytes of a stream that long come too late for a frame.
+pub(crate) fn late_of(total: usize) -> usize
+    ensures { result ≡ late_of_total total }
+{
+    if total == LIMIT { 1 } else { 0 }
+}
+
+// The stage once so many bytes were taken.
+pub(crate) fn stage_at(stage: Stage, total: usize) -> Stage
+    ensures { result ≡ stage_of stage total }
+{
+    match stage {
+        Stage::Stopped(fault) => Stage::Stopped(fault),
+        _ if total == LIMIT => Stage::Stopped(PcapFault::TooManyBytes),
+        _ => stage,
+    }
+}
+
+// The bytes that a reader keeps at this stage.
+pub(crate) fn kept(alloc: Global, stage: Stage, held: Vec<u8>) -> Vec<u8>
+    ensures { result.items ≡ kept_by stage held.items }
+{
+    match stage {
+        Stage::Stopped(_) => Vec::new(alloc),
+        _ => held,
+    }
+}
+
+// What a call that ends at this stage answers.
+pub(crate) fn answer_of(stage: Stage) -> Result<(), PcapFault>
+    ensures { result ≡ answer_of_stage stage }
+{
+    match stage {
+        Stage::Stopped(fault) => Err(fault),
+        _ => Ok(()),
+    }
+}

@@ -1,0 +1,11 @@
+// The theorem on texts.
+ghost use Rattle.std.specs.Prelude.{◌≡◌, ℕ, List, Result};
+ghost use Rattle.cf_row.specs.Row.{Numbered};
+ghost use Rattle.cf_row.specs.declared.schema.Attr.{Attr};
+ghost use Rattle.cf_records.specs.declared.fault.RecordFault.{RecordFault};
+ghost use Rattle.cf_records.specs.Records.{RecordsText};
+
+/// A text is a file of one list of rows, or has one first fault.
+pub fn each_text_is_one_thing()
+    ensures { (attrs : List Attr) (text : List ℕ) (a b : Result (List Numbered) RecordFault) → RecordsText attrs text a → RecordsText attrs text b → a ≡ b }
+{}
