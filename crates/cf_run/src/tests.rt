@@ -90,6 +90,8 @@ fn lawful_files_are_reported(rt: HostRuntime) -> Result<(), Fail> {
     let setup = questions(alloc)?;
     let report = answers(alloc)?;
     expect(&rt, alloc, &WORDS, (&setup, &capture), (0, &report))?;
+    let capture = big_frames(alloc)?;
+    expect(&rt, alloc, &WORDS, (SETUP, &capture), (0, REPORT))?;
     let none = b"records 0\nask big list 0:\norder\n";
     expect(&rt, alloc, &WORDS, (SETUP, &HEADER), (0, none))?;
     Ok(())
@@ -126,7 +128,7 @@ fn a_log_holds_as_many_records_as_its_capacity(rt: HostRuntime) -> Result<(), Fa
     let full = b"full: more than 4 records\n";
     expect(&rt, alloc, &words, (SETUP, &capture), (6, full))?;
     let cut = capture.get(..103).ok_or("all but a byte")?;
-    let fault = b"capture: record 0 code 1\n";
+    let fault = b"capture: record 4 code 5\n";
     expect(&rt, alloc, &words, (SETUP, cut), (3, fault))?;
     Ok(())
 }
@@ -149,12 +151,49 @@ fn other_setups_and_captures_are_refused(rt: HostRuntime) -> Result<(), Fail> {
     for (setup, line) in table {
         expect(&rt, alloc, &WORDS, (setup, &HEADER), (2, line))?;
     }
-    for capture in [[0x1f, 0x8b, 8, 0].as_slice(), b""] {
-        let answer = (3, b"capture: record 0 code 1\n".as_slice());
-        expect(&rt, alloc, &WORDS, (SETUP, capture), answer)?;
-        expect(&rt, alloc, &["dump", "c"], (SETUP, capture), answer)?;
+    Ok(())
+}
+
+// The capture of two frames with one byte changed, cut to a length.
+fn spoiled(alloc: Global, size: usize, place: usize, byte: u8) -> Result<Vec<u8>, Memory> {
+    let mut capture = two_frames(alloc)?;
+    if let Some(old) = capture.get_mut(place) {
+        *old = byte;
+    }
+    capture.truncate(size);
+    Ok(capture)
+}
+
+#[test]
+fn faults_of_captures_are_told_with_their_records(rt: HostRuntime) -> Result<(), Fail> {
+    let alloc = rt.alloc();
+    let table: [(usize, usize, u8, &[u8]); 8] = [
+        (4, 0, 0x1f, b"capture: record 0 code 1\n"),
+        (59, 6, 3, b"capture: record 0 code 2\n"),
+        (59, 20, 113, b"capture: record 0 code 3\n"),
+        (40, 34, 4, b"capture: record 0 code 4\n"),
+        (58, 0, 0xd4, b"capture: record 1 code 5\n"),
+        (30, 0, 0xd4, b"capture: record 0 code 5\n"),
+        (10, 0, 0xd4, b"capture: record 0 code 5\n"),
+        (0, 0, 0xd4, b"capture: record 0 code 5\n"),
+    ];
+    for (size, place, byte, line) in table {
+        let capture = spoiled(alloc, size, place, byte)?;
+        expect(&rt, alloc, &WORDS, (SETUP, &capture), (3, line))?;
+        expect(&rt, alloc, &["dump", "c"], (SETUP, &capture), (3, line))?;
     }
     Ok(())
+}
+
+// The two frames in the other byte order, with nanoseconds.
+fn big_frames(alloc: Global) -> Result<Vec<u8>, Memory> {
+    let mut capture = [0xa1, 0xb2, 0x3c, 0x4d, 0, 2, 0, 4].to_vec(alloc)?;
+    capture.extend_from_slice(&[0, 0, 0, 0, 0, 0, 0, 0, 0, 0, 0xff, 0xff, 0, 0, 0, 1])?;
+    capture.extend_from_slice(&[0, 0, 0, 1, 0, 7, 0xa1, 0x20])?;
+    capture.extend_from_slice(&[0, 0, 0, 2, 0, 0, 0, 0x3c, 0xaa, 0xbb])?;
+    capture.extend_from_slice(&[0, 0, 0, 2, 0, 0, 0, 0])?;
+    capture.extend_from_slice(&[0, 0, 0, 1, 0, 0, 0, 0x64, 0xcc])?;
+    Ok(capture)
 }
 
 // A capture of one segment of TCP at the first second.
