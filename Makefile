@@ -2,7 +2,7 @@
 .PHONY: run test
 
 run:
-	@cd crates/confluo && rt run -- run --setup ../../examples/two_frames.setup ../../examples/two_frames.pcap
+	@cd crates/confluo && rt run -- run --setup ../../examples/web_and_dns.setup ../../examples/web_and_dns.pcap
 
 test:
 	rt ci

@@ -15,7 +15,7 @@ use Rattle.cf_run.specs.Due.{IsDue}
 use Rattle.cf_run.specs.Dumps.{IsDumpWork}
 use Rattle.cf_run.specs.Devices.{WritesFront}
 use Rattle.cf_run.specs.Answers.{Answers, Yields, IsDecided}
-use Rattle.cf_run.specs.Work.{packet_rows, IsReported, IsLawful}
+use Rattle.cf_run.specs.Work.{IsReported, IsLawful}
 use Rattle.cf_run.proofs.Deciding.{one_due}
 use Rattle.cf_run.proofs.Preparing.{report_as_asked}
 use Rattle.cf_run.specs.declared.status.Status.{Status}
@@ -30,12 +30,12 @@ some_report : (setup : Settled) (capacity nodes : ℕ) (rows : List Numbered) �
 unfolding means_all
 some_report setup capacity nodes rows = report_of_one setup capacity nodes rows (means_all setup capacity nodes rows) refl refl refl
 
-lawful_reported : (files : List File) (words : List (List ℕ)) → (lawful : IsLawful files words) → IsReported files words (text_of forms.Whole lawful.work.setup (alone (packet_rows lawful.work.frames)) (means_all lawful.work.setup lawful.work.command.capacity lawful.work.command.nodes (packet_rows lawful.work.frames)))
+lawful_reported : (files : List File) (words : List (List ℕ)) → (lawful : IsLawful files words) → IsReported files words (text_of forms.Whole lawful.work.setup (alone lawful.work.rows) (means_all lawful.work.setup lawful.work.command.capacity lawful.work.command.nodes lawful.work.rows))
 lawful_reported files words lawful = record {
   work = lawful.work;
   few = lawful.few;
-  order = replicate (length (packet_rows lawful.work.frames)) 0;
-  report = report_as_asked words lawful.work.command lawful.work.setup lawful.work.frames _ _ lawful.work.command_is (some_report lawful.work.setup lawful.work.command.capacity lawful.work.command.nodes (packet_rows lawful.work.frames));
+  order = replicate (length lawful.work.rows) 0;
+  report = report_as_asked words lawful.work.command lawful.work.setup lawful.work.rows _ _ lawful.work.command_is (some_report lawful.work.setup lawful.work.command.capacity lawful.work.command.nodes lawful.work.rows);
 }
 
 answers_due : (files : List File) (words : List (List ℕ)) (status : Status) (text : List ℕ) (held now : Option (List ℕ)) → IsDue files words status text → Appends held now text → Answers files words status held now

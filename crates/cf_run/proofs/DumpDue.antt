@@ -3,15 +3,15 @@ use Rattle.std.proofs.Common.{◌≡◌, ◌⊎◌, ℕ, ◌^◌, List, [], Opti
 use Rattle.std.specs.declared.alloc.Global.{Global}
 use Rattle.cf_row.specs.Schema.{packet_attrs}
 use Rattle.cf_outside.specs.Files.{File}
-use Rattle.cf_pcap.specs.Capture.{Captured}
+use Rattle.cf_row.specs.Row.{Numbered}
 use Rattle.cf_command.specs.Command.{IsDump}
 use Rattle.cf_dump.specs.Dump.{dump_text}
 use Rattle.cf_run.specs.Due.{IsDue, refusal_line}
 use Rattle.cf_run.specs.Dumps.{LacksDumped}
 use Rattle.cf_run.specs.Left.{MayBeLeft, Leaves}
-use Rattle.cf_run.specs.Parts.{IsFree, IsCaptureStop, LoadsCapture, IsPrepared}
+use Rattle.cf_run.specs.Faults.{HasPacketFault}
+use Rattle.cf_run.specs.Parts.{IsFree, IsRowsStop, LoadsPackets, IsPrepared}
 use Rattle.cf_run.specs.Stops.{IsRefusal, NoRefusal}
-use Rattle.cf_run.specs.Work.{packet_rows}
 use Rattle.cf_run.proofs.Leaving.{dump_stopped, dump_left}
 use Rattle.cf_run.proofs.Preparing.{IsRefused, prepared_draft, prepared_stop}
 use Rattle.cf_run.specs.declared.prepare.Draft.{Draft}
@@ -19,7 +19,7 @@ use Rattle.cf_run.specs.declared.status.Status.{Status}
 use Rattle.cf_run.specs.declared.status.Status.TheVariants.{Done, Words, Setup, Capture, ReadFault, WriteFault, Full, Nodes, Memory, NoFile}
 
 module _ (files : List File) (words : List (List ℕ)) (name : List ℕ) (is : IsDump words name) (before : Option (List ℕ)) where
-  stop_may : (now : Option (List ℕ)) (status : Status) → IsCaptureStop files name before now status → MayBeLeft files words before now
+  stop_may : (now : Option (List ℕ)) (status : Status) → IsRowsStop (2 ^ 32) HasPacketFault files name before now status → MayBeLeft files words before now
   stop_may now NoFile stop = inl stop.1
   stop_may now (Setup line code) stop = absurd stop
   stop_may now ReadFault stop = dump_stopped files words name is before now stop
@@ -31,7 +31,7 @@ module _ (files : List File) (words : List (List ℕ)) (name : List ℕ) (is : I
   stop_may now Full stop = absurd stop
   stop_may now Nodes stop = absurd stop
 
-  stop_free : (now : Option (List ℕ)) (status : Status) → IsCaptureStop files name before now status → NoRefusal status → IsFree status
+  stop_free : (now : Option (List ℕ)) (status : Status) → IsRowsStop (2 ^ 32) HasPacketFault files name before now status → NoRefusal status → IsFree status
   stop_free now NoFile stop none = absurd none
   stop_free now (Setup line code) stop none = absurd stop
   stop_free now ReadFault stop none = inr refl
@@ -43,7 +43,7 @@ module _ (files : List File) (words : List (List ℕ)) (name : List ℕ) (is : I
   stop_free now Full stop none = absurd stop
   stop_free now Nodes stop none = absurd stop
 
-  stop_draft : (now : Option (List ℕ)) (status : Status) (draft : Draft) → IsCaptureStop files name before now status → draft.status ≡ status → draft.text.items ≡ refusal_line status → IsRefusal status → IsPrepared files words before now (Ok draft)
+  stop_draft : (now : Option (List ℕ)) (status : Status) (draft : Draft) → IsRowsStop (2 ^ 32) HasPacketFault files name before now status → draft.status ≡ status → draft.text.items ≡ refusal_line status → IsRefusal status → IsPrepared files words before now (Ok draft)
   stop_draft now NoFile draft stop same text shown =
       let lacks : LacksDumped files words = record { name = name; name_is = is; no_file = stop.0 } in
       prepared_draft files words before now draft NoFile (refusal_line NoFile) same text (inr (lacks, refl)) (inr (inr (lacks, stop.1)))
@@ -60,21 +60,21 @@ module _ (files : List File) (words : List (List ℕ)) (name : List ℕ) (is : I
   stop_draft now Full draft stop same text shown = absurd stop
   stop_draft now Nodes draft stop same text shown = absurd stop
 
-  refused_in : (now : Option (List ℕ)) (status : Status) (result : Result Draft Status) → IsCaptureStop files name before now status → IsRefused status result → IsPrepared files words before now result
+  refused_in : (now : Option (List ℕ)) (status : Status) (result : Result Draft Status) → IsRowsStop (2 ^ 32) HasPacketFault files name before now status → IsRefused status result → IsPrepared files words before now result
   refused_in now status (Ok draft) stop refused = stop_draft now status draft stop refused.0 refused.1 refused.2
   refused_in now status (Err other) stop refused = prepared_stop files words before now other status refused (stop_free now status stop) (stop_may now status stop)
 
 module _ (words : List (List ℕ)) (name : List ℕ) (is : IsDump words name) (before now : Option (List ℕ)) where
-  pub dump_refused : (told : Option (List File)) (status : Status) (result : Result Draft Status) → IfSome told (λ files. LoadsCapture files name before now (Err status)) → IsRefused status result → IfSome told (λ files. IsPrepared files words before now result)
+  pub dump_refused : (told : Option (List File)) (status : Status) (result : Result Draft Status) → IfSome told (λ files. LoadsPackets files name before now (Err status)) → IsRefused status result → IfSome told (λ files. IsPrepared files words before now result)
   dump_refused None status result stop refused = stop
   dump_refused (Some files) status result stop refused = refused_in files words name is before now status result stop refused
 
-  module _ (frames : Vec Captured Global) where
-    pub dump_prepared : (told : Option (List File)) (text : List ℕ) → IfSome told (λ files. LoadsCapture files name before now (Ok frames)) → text ≡ dump_text packet_attrs (packet_rows frames.items) → IfSome told (λ files. IsDue files words Done text × Leaves files words Done before now)
+  module _ (rows : Vec Numbered Global) where
+    pub dump_prepared : (told : Option (List File)) (text : List ℕ) → IfSome told (λ files. LoadsPackets files name before now (Ok rows)) → text ≡ dump_text packet_attrs rows.items → IfSome told (λ files. IsDue files words Done text × Leaves files words Done before now)
     dump_prepared None text loaded shown = loaded
     dump_prepared (Some files) text loaded shown =
-        (inr (record { work = record { name = name; name_is = is; capture = loaded.0; file = loaded.1; frames = frames.items; frames_are = loaded.2 }; text_is = shown }), loaded.3)
+        (inr (record { work = record { name = name; name_is = is; capture = loaded.0; file = loaded.1; rows = rows.items; rows_are = loaded.2 }; text_is = shown }), loaded.3)
 
-    pub dump_unmade : (told : Option (List File)) → IfSome told (λ files. LoadsCapture files name before now (Ok frames)) → IfSome told (λ files. IsPrepared files words before now (Err Memory))
+    pub dump_unmade : (told : Option (List File)) → IfSome told (λ files. LoadsPackets files name before now (Ok rows)) → IfSome told (λ files. IsPrepared files words before now (Err Memory))
     dump_unmade None loaded = loaded
-    dump_unmade (Some files) loaded = (inl refl, dump_left files words name is loaded.0 frames.items before now loaded.1 loaded.2 loaded.3)
+    dump_unmade (Some files) loaded = (inl refl, dump_left files words name is loaded.0 rows.items before now loaded.1 loaded.2 loaded.3)

@@ -2,11 +2,13 @@
 use Rattle.std.proofs.Common.{◌≡◌, ℕ, ◌≤◌, ◌<◌, ◌^◌, List, [], length, Option, Some, sym, ap, ◌∙◌, inl, inr, arith}
 use Rattle.std.proofs.lemmas.List.{drop_all}
 use Rattle.cf_outside.specs.Files.{File, file_named}
-use Rattle.cf_pcap.specs.Capture.{Captured, IsCapture}
+use Rattle.cf_row.specs.Row.{Numbered}
 use Rattle.cf_command.specs.Command.{Asked, IsRun, IsDump}
 use Rattle.cf_run.specs.Devices.{IsTakenFrom, IsStopped}
 use Rattle.cf_run.specs.Due.{HasSetup}
 use Rattle.cf_run.specs.Left.{MayBeLeft}
+use Rattle.cf_run.specs.Work.{ArePackets, AreRowsOf, limit_of}
+use Rattle.cf_run.proofs.Loading.{ends_by}
 use Rattle.cf_run.proofs.SetupSize.{setup_short}
 
 -- a short file is taken whole
@@ -23,17 +25,17 @@ module _ (files : List File) (words : List (List ℕ)) where
   -- the setup was read to its end
   pub setup_left : (has : HasSetup files words) (before now : Option (List ℕ)) → now ≡ Some [] → MayBeLeft files words before now
   setup_left has before now none =
-      inr (inl (record { command = has.command; command_is = has.command_is; bytes = has.bytes; file = has.file; taken = whole_taken has.bytes 65537 now (let short : length has.bytes ≤ 65536 = setup_short has.bytes has.setup has.setup_is.text in omega (arith, short)) none }))
+      inr (inl (record { command = has.command; command_is = has.command_is; bytes = has.bytes; file = has.file; taken = whole_taken has.bytes 65537 now (let short : length has.bytes ≤ 65536 = setup_short has.bytes has.setup has.setup_is in omega (arith, short)) none }))
 
-  pub capture_stopped : (has : HasSetup files words) (before mid now : Option (List ℕ)) → mid ≡ Some [] → IsStopped files has.command.capture (2 ^ 32) mid now → MayBeLeft files words before now
+  pub capture_stopped : (has : HasSetup files words) (before mid now : Option (List ℕ)) → mid ≡ Some [] → IsStopped files has.command.capture (limit_of has.setup) mid now → MayBeLeft files words before now
   capture_stopped has before mid now none stopped = elim stopped [
     | inl same ↦ setup_left has before now (same ∙ none)
     | inr taken ↦ inr (inr (inl (record { has = has; capture = taken.0; file = taken.1; taken = taken.2 })))
   ]
 
-  pub capture_left : (has : HasSetup files words) (capture : List ℕ) (frames : List Captured) (before now : Option (List ℕ)) → file_named files has.command.capture ≡ Some capture → IsCapture capture frames → now ≡ Some [] → MayBeLeft files words before now
-  capture_left has capture frames before now found capture_is none =
-      inr (inr (inl (record { has = has; capture = capture; file = found; taken = whole_taken capture (2 ^ 32) now (let short : length capture < 2 ^ 32 = capture_is.size in omega (arith, short)) none })))
+  pub capture_left : (has : HasSetup files words) (capture : List ℕ) (rows : List Numbered) (before now : Option (List ℕ)) → file_named files has.command.capture ≡ Some capture → AreRowsOf has.setup capture rows → now ≡ Some [] → MayBeLeft files words before now
+  capture_left has capture rows before now found rows_are none =
+      inr (inr (inl (record { has = has; capture = capture; file = found; taken = whole_taken capture (limit_of has.setup) now (let short : length capture < limit_of has.setup = ends_by has.setup.packet has.setup.schema capture rows rows_are in omega (arith, short)) none })))
 
   pub dump_stopped : (name : List ℕ) → IsDump words name → (before now : Option (List ℕ)) → IsStopped files name (2 ^ 32) before now → MayBeLeft files words before now
   dump_stopped name is before now stopped = elim stopped [
@@ -41,6 +43,6 @@ module _ (files : List File) (words : List (List ℕ)) where
     | inr taken ↦ inr (inr (inr (record { name = name; name_is = is; capture = taken.0; file = taken.1; taken = taken.2 })))
   ]
 
-  pub dump_left : (name : List ℕ) → IsDump words name → (capture : List ℕ) (frames : List Captured) (before now : Option (List ℕ)) → file_named files name ≡ Some capture → IsCapture capture frames → now ≡ Some [] → MayBeLeft files words before now
-  dump_left name is capture frames before now found capture_is none =
-      inr (inr (inr (record { name = name; name_is = is; capture = capture; file = found; taken = whole_taken capture (2 ^ 32) now (let short : length capture < 2 ^ 32 = capture_is.size in omega (arith, short)) none })))
+  pub dump_left : (name : List ℕ) → IsDump words name → (capture : List ℕ) (rows : List Numbered) (before now : Option (List ℕ)) → file_named files name ≡ Some capture → ArePackets capture rows → now ≡ Some [] → MayBeLeft files words before now
+  dump_left name is capture rows before now found rows_are none =
+      inr (inr (inr (record { name = name; name_is = is; capture = capture; file = found; taken = whole_taken capture (2 ^ 32) now (let short : length capture < 2 ^ 32 = rows_are.frames_are.size in omega (arith, short)) none })))

@@ -2,15 +2,17 @@
 use Rattle.std.proofs.Common.{◌≡◌, ◌⊎◌, ℕ, ◌<◌, ◌≤◌, ◌^◌, List, [], length, Option, Some, None, Result, Ok, Err, Vec, MatchResult, IfSome, refl, sym, subst, ◌∙◌, inl, inr, arith}
 use Rattle.std.specs.declared.alloc.Global.{Global}
 use Rattle.cf_outside.specs.Files.{File, file_named}
-use Rattle.cf_pcap.specs.Capture.{Captured, IsCapture}
+use Rattle.cf_row.specs.Row.{Numbered}
 use Rattle.cf_command.specs.Command.{Asked, IsRun}
 use Rattle.cf_report.specs.Meaning.{IsReport}
 use Rattle.cf_setup.specs.Settled.{Settled}
 use Rattle.cf_run.specs.Due.{LacksSetup, HasSetup, LacksCapture, IsRunDue, IsDumpDue, IsDue, refusal_line, full_line}
 use Rattle.cf_run.specs.Left.{MayBeLeft, Leaves, CaptureIsRead, DumpIsRead}
-use Rattle.cf_run.specs.Parts.{IsFree, IsSetupStop, LoadsSetup, IsCaptureStop, LoadsCapture, IsPrepared}
+use Rattle.cf_run.specs.Faults.{HasCaptureFault}
+use Rattle.cf_run.specs.Parts.{IsFree, IsSetupStop, LoadsSetup, IsRowsStop, LoadsRowsOf, IsPrepared}
 use Rattle.cf_run.specs.Stops.{IsRefusal, NoRefusal}
-use Rattle.cf_run.specs.Work.{packet_rows, IsPacketSetup, IsWork, IsReported}
+use Rattle.cf_setup.specs.SetupText.{SetupText}
+use Rattle.cf_run.specs.Work.{AreRowsOf, limit_of, IsWork, IsReported}
 use Rattle.cf_run.proofs.Leaving.{setup_stopped, setup_left, capture_stopped, capture_left, dump_left}
 use Rattle.cf_run.specs.declared.prepare.Draft.{Draft}
 use Rattle.cf_run.specs.declared.status.Status.{Status}
@@ -75,23 +77,23 @@ module _ (files : List File) (words : List (List ℕ)) (command : Asked) (is : I
   setup_prepared_in now status (Ok draft) stop refused = setup_draft now status draft stop refused.0 refused.1 refused.2
   setup_prepared_in now status (Err other) stop refused = prepared_stop files words before now other status refused (setup_free now status stop) (setup_may now status stop)
 
-  module _ (bytes : List ℕ) (setup : Settled) (mid : Option (List ℕ)) (named : file_named files command.setup ≡ Some bytes) (text_is : IsPacketSetup bytes setup) (read : mid ≡ Some []) where
+  module _ (bytes : List ℕ) (setup : Settled) (mid : Option (List ℕ)) (named : file_named files command.setup ≡ Some bytes) (text_is : SetupText bytes (Ok setup)) (read : mid ≡ Some []) where
     abbrev has : HasSetup files words
     has = record { command = command; command_is = is; bytes = bytes; file = named; setup = setup; setup_is = text_is }
 
-    capture_may : (now : Option (List ℕ)) (status : Status) → IsCaptureStop files command.capture mid now status → MayBeLeft files words before now
+    capture_may : (now : Option (List ℕ)) (status : Status) → IsRowsStop (limit_of setup) (HasCaptureFault setup) files command.capture mid now status → MayBeLeft files words before now
     capture_may now NoFile stop = setup_left files words has before now (stop.1 ∙ read)
     capture_may now (Setup line code) stop = absurd stop
     capture_may now ReadFault stop = capture_stopped files words has before mid now read stop
     capture_may now Memory stop = capture_stopped files words has before mid now read stop
     capture_may now Done stop = absurd stop
     capture_may now Words stop = absurd stop
-    capture_may now (Capture at code) stop = inr (inr (inl (record { has = has; capture = stop.0; file = stop.1; taken = record { count = 2 ^ 32; most = omega arith; left = stop.3 } })))
+    capture_may now (Capture at code) stop = inr (inr (inl (record { has = has; capture = stop.0; file = stop.1; taken = record { count = limit_of setup; most = omega arith; left = stop.3 } })))
     capture_may now WriteFault stop = absurd stop
     capture_may now Full stop = absurd stop
     capture_may now Nodes stop = absurd stop
 
-    capture_free : (now : Option (List ℕ)) (status : Status) → IsCaptureStop files command.capture mid now status → NoRefusal status → IsFree status
+    capture_free : (now : Option (List ℕ)) (status : Status) → IsRowsStop (limit_of setup) (HasCaptureFault setup) files command.capture mid now status → NoRefusal status → IsFree status
     capture_free now NoFile stop none = absurd none
     capture_free now (Setup line code) stop none = absurd stop
     capture_free now ReadFault stop none = inr refl
@@ -103,7 +105,7 @@ module _ (files : List File) (words : List (List ℕ)) (command : Asked) (is : I
     capture_free now Full stop none = absurd stop
     capture_free now Nodes stop none = absurd stop
 
-    capture_draft : (now : Option (List ℕ)) (status : Status) (draft : Draft) → IsCaptureStop files command.capture mid now status → draft.status ≡ status → draft.text.items ≡ refusal_line status → IsRefusal status → IsPrepared files words before now (Ok draft)
+    capture_draft : (now : Option (List ℕ)) (status : Status) (draft : Draft) → IsRowsStop (limit_of setup) (HasCaptureFault setup) files command.capture mid now status → draft.status ≡ status → draft.text.items ≡ refusal_line status → IsRefusal status → IsPrepared files words before now (Ok draft)
     capture_draft now NoFile draft stop same text shown =
         let lacks : LacksCapture files words = record { has = has; no_file = stop.0 } in
         prepared_draft files words before now draft NoFile (refusal_line NoFile) same text (inl (inr lacks, refl)) (inr (inl (lacks, stop.1 ∙ read)))
@@ -120,22 +122,22 @@ module _ (files : List File) (words : List (List ℕ)) (command : Asked) (is : I
     capture_draft now Full draft stop same text shown = absurd stop
     capture_draft now Nodes draft stop same text shown = absurd stop
 
-    capture_prepared_in : (now : Option (List ℕ)) (status : Status) (result : Result Draft Status) → IsCaptureStop files command.capture mid now status → IsRefused status result → IsPrepared files words before now result
+    capture_prepared_in : (now : Option (List ℕ)) (status : Status) (result : Result Draft Status) → IsRowsStop (limit_of setup) (HasCaptureFault setup) files command.capture mid now status → IsRefused status result → IsPrepared files words before now result
     capture_prepared_in now status (Ok draft) stop refused = capture_draft now status draft stop refused.0 refused.1 refused.2
     capture_prepared_in now status (Err other) stop refused = prepared_stop files words before now other status refused (capture_free now status stop) (capture_may now status stop)
 
-    module _ (capture : List ℕ) (frames : List Captured) (now : Option (List ℕ)) (found : file_named files command.capture ≡ Some capture) (capture_is : IsCapture capture frames) (end : now ≡ Some []) where
+    module _ (capture : List ℕ) (rows : List Numbered) (now : Option (List ℕ)) (found : file_named files command.capture ≡ Some capture) (rows_are : AreRowsOf setup capture rows) (end : now ≡ Some []) where
       abbrev work : IsWork files words
-      work = record { command = command; command_is = is; setup_bytes = bytes; setup_file = named; setup = setup; setup_is = text_is; capture = capture; capture_file = found; frames = frames; frames_are = capture_is }
+      work = record { command = command; command_is = is; setup_bytes = bytes; setup_file = named; setup = setup; setup_is = text_is; capture = capture; capture_file = found; rows = rows; rows_are = rows_are }
 
-      full_in : (draft : Draft) → command.capacity < length frames → draft.status ≡ Full → draft.text.items ≡ full_line command.capacity → IsPrepared files words before now (Ok draft)
+      full_in : (draft : Draft) → command.capacity < length rows → draft.status ≡ Full → draft.text.items ≡ full_line command.capacity → IsPrepared files words before now (Ok draft)
       full_in draft many same text = prepared_draft files words before now draft Full (full_line command.capacity) same text (inl ((record { work = work; many = many }), refl)) end
 
-      reported_in : (text order : List ℕ) → length frames ≤ command.capacity → IsReport setup command.capacity command.writers command.nodes command.rounds (packet_rows frames) order text → IsReported files words text
+      reported_in : (text order : List ℕ) → length rows ≤ command.capacity → IsReport setup command.capacity command.writers command.nodes command.rounds rows order text → IsReported files words text
       reported_in text order few report = record { work = work; few = few; order = order; report = report }
 
       unmade_in : (stop : Status) → stop ≡ Memory → IsPrepared files words before now (Err stop)
-      unmade_in stop memory = (inl memory, capture_left files words has capture frames before now found capture_is end)
+      unmade_in stop memory = (inl memory, capture_left files words has capture rows before now found rows_are end)
 
 module _ (words : List (List ℕ)) (command : Asked) (is : IsRun words command) where
   pub setup_prepared : (told : Option (List File)) (before now : Option (List ℕ)) (status : Status) (result : Result Draft Status) → IfSome told (λ files. LoadsSetup files command.setup before now (Err status)) → IsRefused status result → IfSome told (λ files. IsPrepared files words before now result)
@@ -143,54 +145,54 @@ module _ (words : List (List ℕ)) (command : Asked) (is : IsRun words command) 
   setup_prepared (Some files) before now status result stop refused = setup_prepared_in files words command is before now status result stop refused
 
   module _ (setup : Settled) (before mid now : Option (List ℕ)) where
-    pub capture_prepared : (told later : Option (List File)) (status : Status) (result : Result Draft Status) → later ≡ told → IfSome told (λ files. LoadsSetup files command.setup before mid (Ok setup)) → IfSome later (λ files. LoadsCapture files command.capture mid now (Err status)) → IsRefused status result → IfSome told (λ files. IsPrepared files words before now result)
+    pub capture_prepared : (told later : Option (List File)) (status : Status) (result : Result Draft Status) → later ≡ told → IfSome told (λ files. LoadsSetup files command.setup before mid (Ok setup)) → IfSome later (λ files. LoadsRowsOf setup files command.capture mid now (Err status)) → IsRefused status result → IfSome told (λ files. IsPrepared files words before now result)
     capture_prepared None later status result same loaded stop refused = loaded
     capture_prepared (Some files) later status result same loaded stop refused =
-        let stop' : IfSome (Some files) (λ fs. LoadsCapture fs command.capture mid now (Err status)) = rw same at stop in
+        let stop' : IfSome (Some files) (λ fs. LoadsRowsOf setup fs command.capture mid now (Err status)) = rw same at stop in
         capture_prepared_in files words command is before loaded.0 setup mid loaded.1 loaded.2 loaded.3 now status result stop' refused
 
-    module _ (frames : Vec Captured Global) where
-      pub full_prepared : (told later : Option (List File)) (result : Result Draft Status) → later ≡ told → IfSome told (λ files. LoadsSetup files command.setup before mid (Ok setup)) → IfSome later (λ files. LoadsCapture files command.capture mid now (Ok frames)) → command.capacity < length frames.items
+    module _ (rows : Vec Numbered Global) where
+      pub full_prepared : (told later : Option (List File)) (result : Result Draft Status) → later ≡ told → IfSome told (λ files. LoadsSetup files command.setup before mid (Ok setup)) → IfSome later (λ files. LoadsRowsOf setup files command.capture mid now (Ok rows)) → command.capacity < length rows.items
           → MatchResult result (λ draft. (draft.status ≡ Full) × (draft.text.items ≡ full_line command.capacity)) (λ stop. stop ≡ Memory) → IfSome told (λ files. IsPrepared files words before now result)
       full_prepared None later result same loaded captured many made = loaded
       full_prepared (Some files) later (Ok draft) same loaded captured many made =
-          let captured' : IfSome (Some files) (λ fs. LoadsCapture fs command.capture mid now (Ok frames)) = rw same at captured in
-          full_in files words command is before loaded.0 setup mid loaded.1 loaded.2 loaded.3 captured'.0 frames.items now captured'.1 captured'.2 captured'.3 draft many made.0 made.1
+          let captured' : IfSome (Some files) (λ fs. LoadsRowsOf setup fs command.capture mid now (Ok rows)) = rw same at captured in
+          full_in files words command is before loaded.0 setup mid loaded.1 loaded.2 loaded.3 captured'.0 rows.items now captured'.1 captured'.2 captured'.3 draft many made.0 made.1
       full_prepared (Some files) later (Err stop) same loaded captured many made =
-          let captured' : IfSome (Some files) (λ fs. LoadsCapture fs command.capture mid now (Ok frames)) = rw same at captured in
-          unmade_in files words command is before loaded.0 setup mid loaded.1 loaded.2 loaded.3 captured'.0 frames.items now captured'.1 captured'.2 captured'.3 stop made
+          let captured' : IfSome (Some files) (λ fs. LoadsRowsOf setup fs command.capture mid now (Ok rows)) = rw same at captured in
+          unmade_in files words command is before loaded.0 setup mid loaded.1 loaded.2 loaded.3 captured'.0 rows.items now captured'.1 captured'.2 captured'.3 stop made
 
-      pub report_prepared : (told later : Option (List File)) (text order : List ℕ) → later ≡ told → IfSome told (λ files. LoadsSetup files command.setup before mid (Ok setup)) → IfSome later (λ files. LoadsCapture files command.capture mid now (Ok frames)) → length frames.items ≤ command.capacity
-          → IsReport setup command.capacity command.writers command.nodes command.rounds (packet_rows frames.items) order text → IfSome told (λ files. IsDue files words Done text × Leaves files words Done before now)
+      pub report_prepared : (told later : Option (List File)) (text order : List ℕ) → later ≡ told → IfSome told (λ files. LoadsSetup files command.setup before mid (Ok setup)) → IfSome later (λ files. LoadsRowsOf setup files command.capture mid now (Ok rows)) → length rows.items ≤ command.capacity
+          → IsReport setup command.capacity command.writers command.nodes command.rounds rows.items order text → IfSome told (λ files. IsDue files words Done text × Leaves files words Done before now)
       report_prepared None later text order same loaded captured few report = loaded
       report_prepared (Some files) later text order same loaded captured few report =
-          let captured' : IfSome (Some files) (λ fs. LoadsCapture fs command.capture mid now (Ok frames)) = rw same at captured in
-          (inl (reported_in files words command is before loaded.0 setup mid loaded.1 loaded.2 loaded.3 captured'.0 frames.items now captured'.1 captured'.2 captured'.3 text order few report), captured'.3)
+          let captured' : IfSome (Some files) (λ fs. LoadsRowsOf setup fs command.capture mid now (Ok rows)) = rw same at captured in
+          (inl (reported_in files words command is before loaded.0 setup mid loaded.1 loaded.2 loaded.3 captured'.0 rows.items now captured'.1 captured'.2 captured'.3 text order few report), captured'.3)
 
-      pub unmade_prepared : (told later : Option (List File)) → later ≡ told → IfSome told (λ files. LoadsSetup files command.setup before mid (Ok setup)) → IfSome later (λ files. LoadsCapture files command.capture mid now (Ok frames)) → IfSome told (λ files. IsPrepared files words before now (Err Memory))
+      pub unmade_prepared : (told later : Option (List File)) → later ≡ told → IfSome told (λ files. LoadsSetup files command.setup before mid (Ok setup)) → IfSome later (λ files. LoadsRowsOf setup files command.capture mid now (Ok rows)) → IfSome told (λ files. IsPrepared files words before now (Err Memory))
       unmade_prepared None later same loaded captured = loaded
       unmade_prepared (Some files) later same loaded captured =
-          let captured' : IfSome (Some files) (λ fs. LoadsCapture fs command.capture mid now (Ok frames)) = rw same at captured in
-          unmade_in files words command is before loaded.0 setup mid loaded.1 loaded.2 loaded.3 captured'.0 frames.items now captured'.1 captured'.2 captured'.3 Memory refl
+          let captured' : IfSome (Some files) (λ fs. LoadsRowsOf setup fs command.capture mid now (Ok rows)) = rw same at captured in
+          unmade_in files words command is before loaded.0 setup mid loaded.1 loaded.2 loaded.3 captured'.0 rows.items now captured'.1 captured'.2 captured'.3 Memory refl
 
 -- The numbers of a command of one writer that asks nothing live are those that it was asked for.
 pub one_writer : (words : List (List ℕ)) (command : Asked) → IsRun words command → command.writers ≡ 1
 one_writer words command is = let low : 1 ≤ command.writers = is.numbers.writers_are.least in let high : command.writers ≤ 1 = is.numbers.writers_are.most in omega (arith, low, high)
 
-pub report_as_asked : (words : List (List ℕ)) (command : Asked) (setup : Settled) (frames : List Captured) (order text : List ℕ) → IsRun words command → IsReport setup command.capacity 1 command.nodes 0 (packet_rows frames) order text → IsReport setup command.capacity command.writers command.nodes command.rounds (packet_rows frames) order text
-report_as_asked words command setup frames order text is report =
-    subst (λ (n : ℕ). IsReport setup command.capacity n command.nodes command.rounds (packet_rows frames) order text) (sym (one_writer words command is))
-    (subst (λ (n : ℕ). IsReport setup command.capacity 1 command.nodes n (packet_rows frames) order text) (sym is.numbers.rounds_are) report)
+pub report_as_asked : (words : List (List ℕ)) (command : Asked) (setup : Settled) (rows : List Numbered) (order text : List ℕ) → IsRun words command → IsReport setup command.capacity 1 command.nodes 0 rows order text → IsReport setup command.capacity command.writers command.nodes command.rounds rows order text
+report_as_asked words command setup rows order text is report =
+    subst (λ (n : ℕ). IsReport setup command.capacity n command.nodes command.rounds rows order text) (sym (one_writer words command is))
+    (subst (λ (n : ℕ). IsReport setup command.capacity 1 command.nodes n rows order text) (sym is.numbers.rounds_are) report)
 
 -- a capture that was read to its end
 work_may : (files : List File) (words : List (List ℕ)) → IsWork files words → (before now : Option (List ℕ)) → now ≡ Some [] → MayBeLeft files words before now
 work_may files words work before now end =
-    capture_left files words (record { command = work.command; command_is = work.command_is; bytes = work.setup_bytes; file = work.setup_file; setup = work.setup; setup_is = work.setup_is }) work.capture work.frames before now work.capture_file work.frames_are end
+    capture_left files words (record { command = work.command; command_is = work.command_is; bytes = work.setup_bytes; file = work.setup_file; setup = work.setup; setup_is = work.setup_is }) work.capture work.rows before now work.capture_file work.rows_are end
 
 -- whatever was due of a run, it may be left so
 left_read : (files : List File) (words : List (List ℕ)) (now before : Option (List ℕ)) → CaptureIsRead files words now ⊎ DumpIsRead files words now → MayBeLeft files words before now
 left_read files words now before left = elim left [
-  | inl read ↦ inr (inr (inl (record { has = read.has; capture = read.capture; file = read.file; taken = record { count = 2 ^ 32; most = omega arith; left = read.left } })))
+  | inl read ↦ inr (inr (inl (record { has = read.has; capture = read.capture; file = read.file; taken = record { count = limit_of read.has.setup; most = omega arith; left = read.left } })))
   | inr read ↦ inr (inr (inr (record { name = read.name; name_is = read.name_is; capture = read.capture; file = read.file; taken = record { count = 2 ^ 32; most = omega arith; left = read.left } })))
 ]
 
@@ -214,7 +216,7 @@ run_leaves_may files words Memory text before now due left = absurd due
 
 -- and of a dump
 dump_leaves_may : (files : List File) (words : List (List ℕ)) (status : Status) (text : List ℕ) (before now : Option (List ℕ)) → IsDumpDue files words status text → Leaves files words status before now → MayBeLeft files words before now
-dump_leaves_may files words Done text before now due left = dump_left files words due.work.name due.work.name_is due.work.capture due.work.frames before now due.work.file due.work.frames_are left
+dump_leaves_may files words Done text before now due left = dump_left files words due.work.name due.work.name_is due.work.capture due.work.rows before now due.work.file due.work.rows_are left
 dump_leaves_may files words (Capture at code) text before now due left = left_read files words now before left
 dump_leaves_may files words NoFile text before now due left = left_unfound files words before now left
 dump_leaves_may files words Words text before now due left = absurd due

@@ -46,23 +46,16 @@ text_of_ok bytes setup found = subst (λ (read : Result Settled (ℕ × ℕ)). S
 pub text_of_err : (bytes : List ℕ) (line code : ℕ) → (read : Result Settled (ℕ × ℕ)) × SetupText bytes read × Answers (Err (setup_faults.Bad line code)) read → SetupText bytes (Err (line, code))
 text_of_err bytes line code found = subst (λ (read : Result Settled (ℕ × ℕ)). SetupText bytes read) found.2 found.1
 
-pub loads_setup_ok : (told : Option (List File)) (name bytes : List ℕ) (before now : Option (List ℕ)) (setup : Settled) → IfSome told (λ files. IsFileRead files name 65537 now bytes) → SetupText bytes (Ok setup) → setup.packet ≡ true → IfSome told (λ files. LoadsSetup files name before now (Ok setup))
-loads_setup_ok None name bytes before now setup read text packet = read
-loads_setup_ok (Some files) name bytes before now setup read text packet =
+pub loads_setup_ok : (told : Option (List File)) (name bytes : List ℕ) (before now : Option (List ℕ)) (setup : Settled) → IfSome told (λ files. IsFileRead files name 65537 now bytes) → SetupText bytes (Ok setup) → IfSome told (λ files. LoadsSetup files name before now (Ok setup))
+loads_setup_ok None name bytes before now setup read text = read
+loads_setup_ok (Some files) name bytes before now setup read text =
     let end : read.rest ≡ [] = setup_ends files name bytes now setup read text in
-    (bytes, read.file_is ∙ ap (λ rest. Some (bytes ++ rest)) end ∙ ap (λ xs. Some xs) (append-nil bytes), record { text = text; packet = packet }, read.left ∙ ap (λ xs. Some xs) end)
+    (bytes, read.file_is ∙ ap (λ rest. Some (bytes ++ rest)) end ∙ ap (λ xs. Some xs) (append-nil bytes), text, read.left ∙ ap (λ xs. Some xs) end)
 
 pub loads_setup_fault : (told : Option (List File)) (name bytes : List ℕ) (before now : Option (List ℕ)) (line code : ℕ) → IfSome told (λ files. IsFileRead files name 65537 now bytes) → SetupText bytes (Err (line, code)) → IfSome told (λ files. LoadsSetup files name before now (Err (Setup line code)))
 loads_setup_fault None name bytes before now line code read text = read
 loads_setup_fault (Some files) name bytes before now line code read text =
-    (bytes ++ read.rest, read.file_is, inl (fault_longer bytes read.rest line code read.whole text), left_after 65537 bytes read.rest now read.left read.most read.whole)
-
-pub loads_setup_other : (told : Option (List File)) (name bytes : List ℕ) (before now : Option (List ℕ)) (setup : Settled) (line : ℕ) → line ≡ setup.schema_line → IfSome told (λ files. IsFileRead files name 65537 now bytes) → SetupText bytes (Ok setup) → setup.packet ≡ false → IfSome told (λ files. LoadsSetup files name before now (Err (Setup line 4)))
-loads_setup_other None name bytes before now setup line same read text other = read
-loads_setup_other (Some files) name bytes before now setup line same read text other =
-    let end : read.rest ≡ [] = setup_ends files name bytes now setup read text in
-    let bytes_same : bytes ≡ bytes ++ read.rest = sym (ap (λ xs. bytes ++ xs) end ∙ append-nil bytes) in
-    (bytes ++ read.rest, read.file_is, inr (setup, subst (λ (xs : List ℕ). SetupText xs (Ok setup)) bytes_same text, other, same, refl), left_after 65537 bytes read.rest now read.left read.most read.whole)
+    (bytes ++ read.rest, read.file_is, fault_longer bytes read.rest line code read.whole text, left_after 65537 bytes read.rest now read.left read.most read.whole)
 
 pub loads_setup_memory : (told : Option (List File)) (name bytes : List ℕ) (before now : Option (List ℕ)) → IfSome told (λ files. IsFileRead files name 65537 now bytes) → IfSome told (λ files. LoadsSetup files name before now (Err Memory))
 loads_setup_memory None name bytes before now read = read

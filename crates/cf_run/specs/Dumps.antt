@@ -2,11 +2,11 @@
 use Rattle.std.specs.Prelude.{◌≡◌, ℕ, List, Some, None}
 use Rattle.cf_row.specs.Schema.{packet_attrs}
 use Rattle.cf_outside.specs.Files.{File, file_named}
-use Rattle.cf_pcap.specs.Capture.{Captured, IsCapture}
+use Rattle.cf_row.specs.Row.{Numbered}
 use Rattle.cf_dump.specs.Dump.{dump_text}
 use Rattle.cf_command.specs.Command.{IsDump}
-use Rattle.cf_run.specs.Faults.{HasCaptureFault}
-use Rattle.cf_run.specs.Work.{packet_rows}
+use Rattle.cf_run.specs.Faults.{HasPacketFault}
+use Rattle.cf_run.specs.Work.{ArePackets}
 
 -- The words are a dump, and the file of its name is a capture.
 pub record IsDumpWork (files : List File) (words : List (List ℕ)) : Type 0 where
@@ -14,13 +14,13 @@ pub record IsDumpWork (files : List File) (words : List (List ℕ)) : Type 0 whe
   pub name_is : IsDump words name
   pub capture : List ℕ
   pub file : file_named files name ≡ Some capture
-  pub frames : List Captured
-  pub frames_are : IsCapture capture frames
+  pub rows : List Numbered
+  pub rows_are : ArePackets capture rows
 
 -- The text is the dump of the capture, each captured packet being one row.
 pub record IsDumped (files : List File) (words : List (List ℕ)) (text : List ℕ) : Type 0 where
   pub work : IsDumpWork files words
-  pub text_is : text ≡ dump_text packet_attrs (packet_rows work.frames)
+  pub text_is : text ≡ dump_text packet_attrs work.rows
 
 -- no file has the capture's name
 pub record LacksDumped (files : List File) (words : List (List ℕ)) : Type 0 where
@@ -34,4 +34,4 @@ pub record IsDumpRefused (files : List File) (words : List (List ℕ)) (record_a
   pub name_is : IsDump words name
   pub capture : List ℕ
   pub file : file_named files name ≡ Some capture
-  pub fault : HasCaptureFault capture record_at code
+  pub fault : HasPacketFault capture record_at code

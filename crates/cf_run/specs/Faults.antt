@@ -1,8 +1,13 @@
 -- The faults of captures, as statuses tell them.
-use Rattle.std.specs.Prelude.{◌≡◌, ℕ, List}
+use Rattle.std.specs.Prelude.{◌≡◌, ℕ, Bool, true, false, List}
 use Rattle.cf_pcap.specs.Capture.{HasPcapFault}
 use Rattle.cf_pcap.specs.declared.fault.PcapFault.{PcapFault}
 use Rattle.cf_pcap.specs.declared.fault.PcapFault.TheVariants as faults
+use Rattle.cf_row.specs.declared.schema.Attr.{Attr}
+use Rattle.cf_records.specs.Records.{HasRecordsFault}
+use Rattle.cf_records.specs.declared.fault.RecordFault.{RecordFault}
+use Rattle.cf_records.specs.declared.fault.RecordFault.TheVariants as records
+use Rattle.cf_setup.specs.Settled.{Settled}
 
 -- the code of a capture's fault, and the record that it names
 abbrev pub code_of : PcapFault → ℕ
@@ -23,10 +28,41 @@ record_of (faults.Cut k) = k
 record_of faults.TooManyBytes = 0
 record_of faults.Memory = 0
 
--- the bytes are outside the format, first at that record, by the rule of that code
-pub record HasCaptureFault (bytes : List ℕ) (record_at code : ℕ) : Type 0 where
+-- the bytes are outside the format of captures, first at that record, by the rule of that code
+pub record HasPacketFault (bytes : List ℕ) (record_at code : ℕ) : Type 0 where
   pub fault : PcapFault
   pub fault_is : HasPcapFault bytes fault
-  pub no_memory : fault ≡ faults.Memory → ⊥
   pub record_is : record_at ≡ record_of fault
   pub code_is : code ≡ code_of fault
+
+-- the code of a fault of a file of records, and the record that it names
+abbrev pub line_code_of : RecordFault → ℕ
+line_code_of records.NoHeader = 11
+line_code_of records.BadHeader = 12
+line_code_of (records.BadCount k) = 13
+line_code_of (records.BadValue k column) = 14
+line_code_of records.TooManyBytes = 15
+line_code_of records.Memory = 0
+
+abbrev pub line_of : RecordFault → ℕ
+line_of records.NoHeader = 0
+line_of records.BadHeader = 0
+line_of (records.BadCount k) = k
+line_of (records.BadValue k column) = k
+line_of records.TooManyBytes = 0
+line_of records.Memory = 0
+
+-- the bytes are no file of records of these attributes, first at that record, by the rule of that code
+pub record HasLineFault (attrs : List Attr) (bytes : List ℕ) (record_at code : ℕ) : Type 0 where
+  pub fault : RecordFault
+  pub fault_is : HasRecordsFault attrs bytes fault
+  pub record_is : record_at ≡ line_of fault
+  pub code_is : code ≡ line_code_of fault
+
+-- by the schema of the setup: of packets, or of other records
+abbrev pub HasFaultBy : Bool → List Attr → List ℕ → ℕ → ℕ → Type 0
+HasFaultBy true attrs bytes record_at code = HasPacketFault bytes record_at code
+HasFaultBy false attrs bytes record_at code = HasLineFault attrs bytes record_at code
+
+abbrev pub HasCaptureFault : Settled → List ℕ → ℕ → ℕ → Type 0
+HasCaptureFault setup bytes record_at code = HasFaultBy setup.packet setup.schema bytes record_at code

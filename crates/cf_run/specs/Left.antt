@@ -1,9 +1,10 @@
 -- What is left of the file that the shelf opened last: the setup's after at most 65,537 bytes, and the capture's after at most
--- 2^32, which is opened only where the setup is lawful.
+-- 2^32, or 2^24 of a file of records, which is opened only where the setup is lawful.
 use Rattle.std.specs.Prelude.{◌≡◌, ◌⊎◌, ℕ, ◌^◌, List, [], drop, Some, Option}
 use Rattle.cf_outside.specs.Files.{File, file_named}
 use Rattle.cf_command.specs.Command.{Asked, IsRun, IsDump}
 use Rattle.cf_run.specs.Devices.{IsTakenFrom}
+use Rattle.cf_run.specs.Work.{limit_of}
 use Rattle.cf_run.specs.Dumps.{LacksDumped}
 use Rattle.cf_run.specs.Due.{HasSetup, LacksSetup, LacksCapture}
 use Rattle.cf_run.specs.declared.status.Status.{Status}
@@ -20,7 +21,7 @@ pub record IsLeftOfCapture (files : List File) (words : List (List ℕ)) (now : 
   pub has : HasSetup files words
   pub capture : List ℕ
   pub file : file_named files has.command.capture ≡ Some capture
-  pub taken : IsTakenFrom capture (2 ^ 32) now
+  pub taken : IsTakenFrom capture (limit_of has.setup) now
 
 -- a dump opens its capture alone
 pub record IsLeftOfDump (files : List File) (words : List (List ℕ)) (now : Option (List ℕ)) : Type 0 where
@@ -42,12 +43,12 @@ pub record SetupIsRead (files : List File) (words : List (List ℕ)) (now : Opti
   pub file : file_named files command.setup ≡ Some bytes
   pub left : now ≡ Some (drop 65537 bytes)
 
--- a refused capture was read up to its 2^32nd byte, after a lawful setup
+-- a refused capture was read up to its 2^32nd byte, a file of records to its 2^24th, after a lawful setup
 pub record CaptureIsRead (files : List File) (words : List (List ℕ)) (now : Option (List ℕ)) : Type 0 where
   pub has : HasSetup files words
   pub capture : List ℕ
   pub file : file_named files has.command.capture ≡ Some capture
-  pub left : now ≡ Some (drop (2 ^ 32) capture)
+  pub left : now ≡ Some (drop (limit_of has.setup) capture)
 
 -- a refused capture of a dump was read up to its 2^32nd byte
 pub record DumpIsRead (files : List File) (words : List (List ℕ)) (now : Option (List ℕ)) : Type 0 where

@@ -3,13 +3,14 @@ use Rattle.std.specs.Prelude.{◌≡◌, ◌⊎◌, ℕ, ◌≤◌, ◌^◌, Lis
 use Rattle.std.specs.declared.alloc.Global.{Global}
 use Rattle.cf_outside.specs.Causes.{Rose}
 use Rattle.cf_outside.specs.Files.{File, file_named}
-use Rattle.cf_pcap.specs.Capture.{Captured, IsCapture}
+use Rattle.cf_row.specs.Row.{Numbered}
 use Rattle.cf_setup.specs.Settled.{Settled}
 use Rattle.cf_run.specs.Devices.{IsStopped}
 use Rattle.cf_run.specs.Due.{IsDue}
-use Rattle.cf_run.specs.Faults.{HasCaptureFault}
+use Rattle.cf_run.specs.Faults.{HasPacketFault, HasCaptureFault}
 use Rattle.cf_run.specs.Left.{MayBeLeft, Leaves}
-use Rattle.cf_run.specs.Work.{IsPacketSetup, HasSetupFault}
+use Rattle.cf_setup.specs.SetupText.{SetupText}
+use Rattle.cf_run.specs.Work.{ArePackets, AreRowsOf, limit_of}
 use Rattle.cf_run.specs.declared.status.Status.{Status}
 use Rattle.cf_run.specs.declared.status.Status.TheVariants.{Done, Words, Setup, Capture, ReadFault, WriteFault, Full, Nodes, Memory, NoFile}
 use Rattle.cf_run.specs.declared.prepare.Draft.{Draft}
@@ -26,7 +27,7 @@ pub record HasStopCause {T : Type 0} (before now : ℕ) (result : Result T Statu
 -- why loading a setup stops, and what it leaves of the opened file
 abbrev pub IsSetupStop : List File → List ℕ → Option (List ℕ) → Option (List ℕ) → Status → Type 0
 IsSetupStop files name before now NoFile = (file_named files name ≡ None) × (now ≡ before)
-IsSetupStop files name before now (Setup line code) = (bytes : List ℕ) × (file_named files name ≡ Some bytes) × HasSetupFault bytes line code × (now ≡ Some (drop 65537 bytes))
+IsSetupStop files name before now (Setup line code) = (bytes : List ℕ) × (file_named files name ≡ Some bytes) × SetupText bytes (Err (line, code)) × (now ≡ Some (drop 65537 bytes))
 IsSetupStop files name before now ReadFault = IsStopped files name 65537 before now
 IsSetupStop files name before now Memory = IsStopped files name 65537 before now
 IsSetupStop files name before now Done = ⊥
@@ -38,39 +39,53 @@ IsSetupStop files name before now Nodes = ⊥
 
 -- a lawful setup is read to its end
 abbrev pub LoadsSetup : List File → List ℕ → Option (List ℕ) → Option (List ℕ) → Result Settled Status → Type 0
-LoadsSetup files name before now (Ok setup) = (bytes : List ℕ) × (file_named files name ≡ Some bytes) × IsPacketSetup bytes setup × (now ≡ Some [])
+LoadsSetup files name before now (Ok setup) = (bytes : List ℕ) × (file_named files name ≡ Some bytes) × SetupText bytes (Ok setup) × (now ≡ Some [])
 LoadsSetup files name before now (Err stop) = IsSetupStop files name before now stop
 
--- why loading a capture stops, and what it leaves of the opened file
-abbrev pub IsCaptureStop : List File → List ℕ → Option (List ℕ) → Option (List ℕ) → Status → Type 0
-IsCaptureStop files name before now NoFile = (file_named files name ≡ None) × (now ≡ before)
-IsCaptureStop files name before now (Capture at code) = (bytes : List ℕ) × (file_named files name ≡ Some bytes) × HasCaptureFault bytes at code × (now ≡ Some (drop (2 ^ 32) bytes))
-IsCaptureStop files name before now ReadFault = IsStopped files name (2 ^ 32) before now
-IsCaptureStop files name before now Memory = IsStopped files name (2 ^ 32) before now
-IsCaptureStop files name before now Done = ⊥
-IsCaptureStop files name before now Words = ⊥
-IsCaptureStop files name before now (Setup line code) = ⊥
-IsCaptureStop files name before now WriteFault = ⊥
-IsCaptureStop files name before now Full = ⊥
-IsCaptureStop files name before now Nodes = ⊥
+-- what makes bytes lawful, as these rows, and what makes them faulty, at a record and by a rule
+abbrev pub Lawful : Type 1
+Lawful = List ℕ → List Numbered → Type 0
 
--- a lawful capture is read to its end
-abbrev pub LoadsCapture : List File → List ℕ → Option (List ℕ) → Option (List ℕ) → Result (Vec Captured Global) Status → Type 0
-LoadsCapture files name before now (Ok frames) = (bytes : List ℕ) × (file_named files name ≡ Some bytes) × IsCapture bytes frames.items × (now ≡ Some [])
-LoadsCapture files name before now (Err stop) = IsCaptureStop files name before now stop
+abbrev pub Faulty : Type 1
+Faulty = List ℕ → ℕ → ℕ → Type 0
 
--- why a capture's bytes are refused
-abbrev pub IsBadCapture : List ℕ → Status → Type 0
-IsBadCapture bytes (Capture at code) = HasCaptureFault bytes at code
-IsBadCapture bytes Memory = Unit {0}
-IsBadCapture bytes NoFile = ⊥
-IsBadCapture bytes Words = ⊥
-IsBadCapture bytes (Setup line code) = ⊥
-IsBadCapture bytes Done = ⊥
-IsBadCapture bytes ReadFault = ⊥
-IsBadCapture bytes WriteFault = ⊥
-IsBadCapture bytes Full = ⊥
-IsBadCapture bytes Nodes = ⊥
+-- why loading rows from a file stops, and what it leaves of the opened file, which is read as far as a limit
+abbrev pub IsRowsStop : ℕ → Faulty → List File → List ℕ → Option (List ℕ) → Option (List ℕ) → Status → Type 0
+IsRowsStop limit faulty files name before now NoFile = (file_named files name ≡ None) × (now ≡ before)
+IsRowsStop limit faulty files name before now (Capture at code) = (bytes : List ℕ) × (file_named files name ≡ Some bytes) × faulty bytes at code × (now ≡ Some (drop limit bytes))
+IsRowsStop limit faulty files name before now ReadFault = IsStopped files name limit before now
+IsRowsStop limit faulty files name before now Memory = IsStopped files name limit before now
+IsRowsStop limit faulty files name before now Done = ⊥
+IsRowsStop limit faulty files name before now Words = ⊥
+IsRowsStop limit faulty files name before now (Setup line code) = ⊥
+IsRowsStop limit faulty files name before now WriteFault = ⊥
+IsRowsStop limit faulty files name before now Full = ⊥
+IsRowsStop limit faulty files name before now Nodes = ⊥
+
+-- a lawful file is read to its end
+abbrev pub LoadsRows : ℕ → Lawful → Faulty → List File → List ℕ → Option (List ℕ) → Option (List ℕ) → Result (Vec Numbered Global) Status → Type 0
+LoadsRows limit lawful faulty files name before now (Ok rows) = (bytes : List ℕ) × (file_named files name ≡ Some bytes) × lawful bytes rows.items × (now ≡ Some [])
+LoadsRows limit lawful faulty files name before now (Err stop) = IsRowsStop limit faulty files name before now stop
+
+-- the rows of a setup's capture, and those of a capture of packets
+abbrev pub LoadsRowsOf : Settled → List File → List ℕ → Option (List ℕ) → Option (List ℕ) → Result (Vec Numbered Global) Status → Type 0
+LoadsRowsOf setup = LoadsRows (limit_of setup) (AreRowsOf setup) (HasCaptureFault setup)
+
+abbrev pub LoadsPackets : List File → List ℕ → Option (List ℕ) → Option (List ℕ) → Result (Vec Numbered Global) Status → Type 0
+LoadsPackets = LoadsRows (2 ^ 32) ArePackets HasPacketFault
+
+-- why bytes are refused
+abbrev pub IsBad : (ℕ → ℕ → Type 0) → Status → Type 0
+IsBad faulty (Capture at code) = faulty at code
+IsBad faulty Memory = Unit {0}
+IsBad faulty NoFile = ⊥
+IsBad faulty Words = ⊥
+IsBad faulty (Setup line code) = ⊥
+IsBad faulty Done = ⊥
+IsBad faulty ReadFault = ⊥
+IsBad faulty WriteFault = ⊥
+IsBad faulty Full = ⊥
+IsBad faulty Nodes = ⊥
 
 -- a text is due, or the work stopped for want of memory or by the device
 abbrev pub IsPrepared : List File → List (List ℕ) → Option (List ℕ) → Option (List ℕ) → Result Draft Status → Type 0

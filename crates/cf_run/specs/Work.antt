@@ -1,7 +1,9 @@
 -- What a report tells: the headline of the program.
-use Rattle.std.specs.Prelude.{◌≡◌, ◌⊎◌, ℕ, ◌≤◌, true, false, List, [], ◌∷◌, length, map, Some, Ok, Err}
+use Rattle.std.specs.Prelude.{◌≡◌, ℕ, ◌≤◌, ◌^◌, Bool, true, false, List, length, map, Some, Ok}
 use Rattle.cf_row.specs.Row.{Numbered}
+use Rattle.cf_row.specs.declared.schema.Attr.{Attr}
 use Rattle.cf_headers.specs.Packet.{packet_row_of}
+use Rattle.cf_records.specs.Records.{IsRecordFile}
 use Rattle.cf_outside.specs.Files.{File, file_named}
 use Rattle.cf_pcap.specs.Capture.{Captured, IsCapture}
 use Rattle.cf_command.specs.Command.{Asked, IsRun}
@@ -14,16 +16,27 @@ use Rattle.cf_report.specs.Meaning.{IsReport}
 abbrev pub packet_rows : List Captured → List Numbered
 packet_rows frames = map packet_row_of frames
 
--- the text of a setup over packets
-pub record IsPacketSetup (bytes : List ℕ) (setup : Settled) : Type 0 where
-  pub text : SetupText bytes (Ok setup)
-  pub packet : setup.packet ≡ true
+-- the rows of a capture of packets
+pub record ArePackets (bytes : List ℕ) (rows : List Numbered) : Type 0 where
+  pub frames : List Captured
+  pub frames_are : IsCapture bytes frames
+  pub rows_are : rows ≡ packet_rows frames
 
--- the first faulty line of a setup, with the least code of a rule that it breaks; a schema of other records than packets
--- is a fault of its line as yet, of code 4
-abbrev pub HasSetupFault : List ℕ → ℕ → ℕ → Type 0
-HasSetupFault bytes line code =
-    SetupText bytes (Err (line, code)) ⊎ ((setup : Settled) × SetupText bytes (Ok setup) × (setup.packet ≡ false) × (line ≡ setup.schema_line) × (code ≡ 4))
+-- by the schema of the setup: of packets, or of other records
+abbrev pub AreRowsBy : Bool → List Attr → List ℕ → List Numbered → Type 0
+AreRowsBy true attrs bytes rows = ArePackets bytes rows
+AreRowsBy false attrs bytes rows = IsRecordFile attrs bytes rows
+
+abbrev pub AreRowsOf : Settled → List ℕ → List Numbered → Type 0
+AreRowsOf setup bytes rows = AreRowsBy setup.packet setup.schema bytes rows
+
+-- a file is read no further than its longest lawful form
+abbrev pub limit_by : Bool → ℕ
+limit_by true = 2 ^ 32
+limit_by false = 2 ^ 24
+
+abbrev pub limit_of : Settled → ℕ
+limit_of setup = limit_by setup.packet
 
 -- The words are a command, and the files of its names are a setup and a capture.
 pub record IsWork (files : List File) (words : List (List ℕ)) : Type 0 where
@@ -32,23 +45,23 @@ pub record IsWork (files : List File) (words : List (List ℕ)) : Type 0 where
   pub setup_bytes : List ℕ
   pub setup_file : file_named files command.setup ≡ Some setup_bytes
   pub setup : Settled
-  pub setup_is : IsPacketSetup setup_bytes setup
+  pub setup_is : SetupText setup_bytes (Ok setup)
   pub capture : List ℕ
   pub capture_file : file_named files command.capture ≡ Some capture
-  pub frames : List Captured
-  pub frames_are : IsCapture capture frames
+  pub rows : List Numbered
+  pub rows_are : AreRowsOf setup capture rows
 
--- The text is the report of the command's setup and capture, each captured packet being one row. There are no more than the
+-- The text is the report of the command's setup and capture, each captured packet or record being one row. There are no more than the
 -- log's capacity.
 pub record IsReported (files : List File) (words : List (List ℕ)) (text : List ℕ) : Type 0 where
   pub work : IsWork files words
-  pub few : length work.frames ≤ work.command.capacity
+  pub few : length work.rows ≤ work.command.capacity
   pub order : List ℕ
-  pub report : IsReport work.setup work.command.capacity work.command.writers work.command.nodes work.command.rounds (packet_rows work.frames) order text
+  pub report : IsReport work.setup work.command.capacity work.command.writers work.command.nodes work.command.rounds work.rows order text
 
--- Lawful words and files that fit: there are no more packets than the capacity, and their paths need no more nodes than a
+-- Lawful words and files that fit: there are no more rows than the capacity, and their paths need no more nodes than a
 -- writer has.
 pub record IsLawful (files : List File) (words : List (List ℕ)) : Type 0 where
   pub work : IsWork files words
-  pub few : length work.frames ≤ work.command.capacity
-  pub few_nodes : distinct (shaped work.setup work.command.capacity work.command.writers work.command.nodes) (packet_rows work.frames) ≤ work.command.nodes
+  pub few : length work.rows ≤ work.command.capacity
+  pub few_nodes : distinct (shaped work.setup work.command.capacity work.command.writers work.command.nodes) work.rows ≤ work.command.nodes

@@ -1,33 +1,31 @@
 // The answers over the frames of a capture, and their report.
-ghost use Rattle.std.specs.Prelude.{◌≡◌, ◌<◌, ◌≤◌, ◌^◌, [], length, map, replicate, IfOk};
-ghost use Rattle.cf_row.specs.Schema.{packet_attrs};
+ghost use Rattle.std.specs.Prelude.{◌≡◌, ◌<◌, ◌≤◌, ◌^◌, [], All, length, map, replicate, IfOk};
+ghost use Rattle.cf_row.specs.Row.{Fits};
 ghost use Rattle.cf_plain.specs.Asks.{rows_in, marks_over};
 ghost use Rattle.cf_report.specs.Answered.{ask_at};
 ghost use Rattle.cf_report.specs.Meaning.{answer_on, alerts_on, IsReport};
-ghost use Rattle.cf_run.specs.Stops.{IsOverPackets, IsShapeOf};
+ghost use Rattle.cf_setup.specs.Settled.{IsSetup};
+ghost use Rattle.cf_run.specs.Stops.{IsShapeOf};
 ghost use Rattle.cf_history.proofs.OneWriter.{alone};
-ghost use Rattle.cf_run.specs.Work.{packet_rows};
 ghost use Rattle.cf_run.specs.Answering.{trigger_at};
 
-use cf_headers::packet_row;
-use cf_pcap::Frame;
 use cf_plain::{Answer, Ask, Body, Marks, Plain};
 use cf_report::{Form, Loaded, report};
-use cf_row::Memory;
+use cf_row::{Memory, Row};
 use cf_setup::{Setup, shape_of};
 use cf_shape::Shape;
 use std::alloc::Global;
 
-// The log of one writer with a row for each frame.
-fn log_of(alloc: Global, shape: Shape, frames: &[Frame]) -> Result<Plain, Memory>
-    requires packets { shape.schema ≡ packet_attrs }
-    requires few { length frames.now ≤ 65536 }
+// The log of one writer with these rows.
+fn log_of(alloc: Global, shape: Shape, rows: &[Row]) -> Result<Plain, Memory>
+    requires fit { All (Fits shape.schema) rows.now }
+    requires few { length rows.now ≤ 65536 }
     ensures shape { IfOk result (λ log. log.shape ≡ shape) }
-    ensures entries { IfOk result (λ log. log.entries ≡ alone (packet_rows frames.now)) }
+    ensures entries { IfOk result (λ log. log.entries ≡ alone rows.now) }
 {
     let mut log = Plain::new(alloc, shape);
-    for frame in frames {
-        let _place = log.append(0, packet_row(alloc, frame)?)?;
+    for row in rows {
+        let _place = log.append(0, row.copy(alloc)?)?;
     }
     Ok(log)
 }
@@ -90,22 +88,23 @@ fn answers_of(alloc: Global, setup: &Setup, log: &Plain) -> Result<Loaded, Memor
     Ok(Loaded::new(finals, alerts, Vec::new(alloc)))
 }
 
-/// The report of a setup over the frames of a capture, loaded by one writer.
+/// The report of a setup over the rows of a capture, loaded by one writer.
 pub(crate) fn report_of(
     alloc: Global,
     setup: &Setup,
-    frames: &[Frame],
+    rows: &[Row],
     capacity: u32,
     nodes: u32,
 ) -> Result<Vec<u8>, Memory>
-    requires packets { IsOverPackets setup.now }
-    requires few { length frames.now ≤ 65536 }
+    requires lawful { IsSetup setup.now }
+    requires fit { All (Fits setup.now.schema) rows.now }
+    requires few { length rows.now ≤ 65536 }
     requires capacity { (1 ≤ capacity) × (capacity ≤ 65536) }
     requires nodes { nodes ≤ 65536 }
-    ensures { IfOk result (λ text. IsReport setup.now capacity 1 nodes 0 (packet_rows frames.now) (replicate (length (packet_rows frames.now)) 0) text.items) }
+    ensures { IfOk result (λ text. IsReport setup.now capacity 1 nodes 0 rows.now (replicate (length rows.now) 0) text.items) }
 {
     let shape = shape_of(alloc, setup, capacity, 1, nodes)?;
-    let log = log_of(alloc, shape, frames)?;
+    let log = log_of(alloc, shape, rows)?;
     let answers = answers_of(alloc, setup, &log)?;
     report(alloc, setup, log.entries(), &answers, Form::Whole)
 }

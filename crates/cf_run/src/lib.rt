@@ -11,6 +11,7 @@ mod dumping;
 mod load;
 mod prepare;
 mod program;
+mod rows;
 mod status;
 #[cfg(test)]
 mod tests;

@@ -8,7 +8,7 @@ ghost use Rattle.cf_run.specs.Stops.{IsRefusal, NoRefusal, IsDrawn};
 use crate::Status;
 use crate::answer::report_of;
 use crate::dumping::dump_of;
-use crate::load::{load_capture, load_setup};
+use crate::load::{load_packets, load_rows, load_setup};
 use cf_command::{Command, RunCommand, command_of};
 use cf_outside::Shelf;
 use cf_row::Memory;
@@ -86,14 +86,14 @@ fn prepare_command<F: Shelf>(
         Ok(setup) => setup,
         Err(status) => return refused(alloc, status),
     };
-    let frames = match load_capture(alloc, shelf, command.capture) {
-        Ok(frames) => frames,
+    let rows = match load_rows(alloc, shelf, command.capture, &setup) {
+        Ok(rows) => rows,
         Err(status) => return refused(alloc, status),
     };
-    if frames.len() > command.capacity as usize {
+    if rows.len() > command.capacity as usize {
         return full(alloc, command.capacity);
     }
-    match report_of(alloc, &setup, &frames, command.capacity, command.nodes) {
+    match report_of(alloc, &setup, &rows, command.capacity, command.nodes) {
         Ok(text) => Ok(Draft {
             status: Status::Done,
             text,
@@ -116,11 +116,11 @@ fn prepare_dump<F: Shelf>(
     ensures drawn { MatchResult result (λ draft. IsDrawn draft.status × (draft.status ≡ Status.Words → ⊥)) IsFree }
 {
     let _ = words;
-    let frames = match load_capture(alloc, shelf, name) {
-        Ok(frames) => frames,
+    let rows = match load_packets(alloc, shelf, name) {
+        Ok(rows) => rows,
         Err(status) => return refused(alloc, status),
     };
-    match dump_of(alloc, &frames) {
+    match dump_of(alloc, &rows) {
         Ok(text) => Ok(Draft {
             status: Status::Done,
             text,

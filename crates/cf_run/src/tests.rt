@@ -138,10 +138,7 @@ fn other_setups_and_captures_are_refused(rt: HostRuntime) -> Result<(), Fail> {
     let alloc = rt.alloc();
     let table: [(&[u8], &[u8]); 4] = [
         (b"", b"setup: line 1 code 2\n"),
-        (
-            b"# rows\nschema records ts:u64\n",
-            b"setup: line 2 code 4\n",
-        ),
+        (b"# rows\nschema records s:u64\n", b"setup: line 2 code 4\n"),
         (
             b"schema packet\nask a list nope>1\n",
             b"setup: line 2 code 11\n",
@@ -222,6 +219,78 @@ fn a_capture_is_dumped_by_the_fields_of_its_headers(rt: HostRuntime) -> Result<(
     let setup = b"schema packet\nask web list dport==80 && src in 10.0.0.0/24\n";
     let report = b"records 1\nask web list 1: 0\norder 0*1\n";
     expect(&rt, alloc, &WORDS, (setup, &capture), (0, report))?;
+    Ok(())
+}
+
+// Setups over records with their files, and what is written of them.
+#[test]
+fn files_of_records_are_reported(rt: HostRuntime) -> Result<(), Fail> {
+    let alloc = rt.alloc();
+    let table: [(&[u8], &[u8], &[u8]); 5] = [
+        (
+            b"schema records ts:u64,dport:u16,len:u32,proto:u8\nask f list dport==80 && len>100 || proto==17\n",
+            b"ts,dport,len,proto\n0,80,101,6\n0,80,100,6\n0,53,60,17\n0,80,200,17\n0,443,500,6\n",
+            b"records 5\nask f list 3: 0 2 3\norder 0*5\n",
+        ),
+        (
+            b"schema records ts:u64,src:u32\nindex s src\nask a find s 10.0.0.0 10.255.255.255\nask b list src in 10.0.0.0/8\n",
+            b"ts,src\n0,9.255.255.255\n0,10.0.0.0\n0,10.255.255.255\n0,11.0.0.0\n",
+            b"records 4\nask a find 2: 1 2\nask b list 2: 1 2\norder 0*4\n",
+        ),
+        (
+            b"schema records ts:u64,dport:u16\n",
+            b"ts,dport\n0,\"80\"\n1,81\n2,82\n",
+            b"records 3\norder 0*3\n",
+        ),
+        (
+            b"schema records ts:u64,dport:u16\nask a list *\n",
+            b"ts,dport\n",
+            b"records 0\nask a list 0:\norder\n",
+        ),
+        (
+            b"schema records ts:u64,len:u32\nwidth 1\nfilter f *\naggregate a f len\ntrigger t a least < 5\nask m measure a 7 9\nask g fired t\n",
+            b"ts,len\n0,60\n",
+            b"records 1\nask m measure count 0 sum 0 least - greatest -\nask g fired 0:\norder 0*1\n",
+        ),
+    ];
+    for (setup, capture, report) in table {
+        expect(&rt, alloc, &WORDS, (setup, capture), (0, report))?;
+    }
+    Ok(())
+}
+
+#[test]
+fn faults_of_records_are_told_with_their_numbers(rt: HostRuntime) -> Result<(), Fail> {
+    let alloc = rt.alloc();
+    let setup = b"schema records ts:u64,dport:u16\nask a list *\n".as_slice();
+    let table: [(&[u8], &[u8]); 7] = [
+        (b"", b"capture: record 0 code 11\n"),
+        (b"\"", b"capture: record 0 code 12\n"),
+        (b"dport,ts\n80,0\n", b"capture: record 0 code 12\n"),
+        (b"0,80\n", b"capture: record 0 code 12\n"),
+        (
+            b"ts,dport\n0,\"80\"\n1,81\n2,82\n3\n",
+            b"capture: record 3 code 13\n",
+        ),
+        (b"ts,dport\n0,80\n1,65536\n", b"capture: record 1 code 14\n"),
+        (b"ts,dport\n0\n1,65536\n", b"capture: record 0 code 13\n"),
+    ];
+    for (capture, line) in table {
+        expect(&rt, alloc, &WORDS, (setup, capture), (3, line))?;
+    }
+    Ok(())
+}
+
+#[test]
+fn a_file_of_records_is_shorter_than_2_to_24_bytes(rt: HostRuntime) -> Result<(), Fail> {
+    let alloc = rt.alloc();
+    let setup = b"schema records ts:u64\n";
+    let capture = vec![in alloc; b'\n'; 1 << 24]?;
+    let mut shelf = shelf_of(alloc, &[], 65536, setup, &capture)?;
+    let mut sink = MemSink::new(alloc, 300, Vec::new(alloc), 300)?;
+    let status = run(&rt, alloc, &WORDS, &mut shelf, &mut sink, &FreeGate);
+    assert_eq!(rt; status, Status::Capture { at: 0, code: 15 });
+    assert_eq!(rt; sink.held(), b"capture: record 0 code 15\n".as_slice());
     Ok(())
 }
 

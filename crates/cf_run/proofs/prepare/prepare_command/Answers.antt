@@ -5,14 +5,14 @@ use Rattle.cf_run.proofs.prepare.prepare_command.Goals as goal
 pub returns-in-Err-clause-prepared : goal.returns-in-Err-clause-prepared
 returns-in-Err-clause-prepared g c = setup_prepared _ _ c.requires (g.F.Shelf.files c.args.shelf.now) (g.F.Shelf.rest c.args.shelf.now) (g.F.Shelf.rest c.load_setup.new.shelf) c.in-Err.status c.refused.result c.in-Err.ensures.loaded c.refused.ensures
 
-pub returns-in-Err-load_capture-clause-prepared : goal.returns-in-Err-load_capture-clause-prepared
-returns-in-Err-load_capture-clause-prepared g c = capture_prepared _ _ c.requires c.in-Ok.setup (g.F.Shelf.rest c.args.shelf.now) (g.F.Shelf.rest c.load_setup.new.shelf) (g.F.Shelf.rest c.load_capture.new.shelf) (g.F.Shelf.files c.args.shelf.now) _ c.in-Err-load_capture.status c.refused-in-Err-load_capture.result c.in-Ok.ensures.files c.in-Ok.ensures.loaded c.in-Err-load_capture.ensures.loaded c.refused-in-Err-load_capture.ensures
+pub returns-in-Err-load_rows-clause-prepared : goal.returns-in-Err-load_rows-clause-prepared
+returns-in-Err-load_rows-clause-prepared g c = capture_prepared _ _ c.requires c.in-Ok.setup (g.F.Shelf.rest c.args.shelf.now) (g.F.Shelf.rest c.load_setup.new.shelf) (g.F.Shelf.rest c.load_rows.new.shelf) (g.F.Shelf.files c.args.shelf.now) _ c.in-Err-load_rows.status c.refused-in-Err-load_rows.result c.in-Ok.ensures.files c.in-Ok.ensures.loaded c.in-Err-load_rows.ensures.loaded c.refused-in-Err-load_rows.ensures
 
 pub returns-then-len-command-clause-prepared : goal.returns-then-len-command-clause-prepared
-returns-then-len-command-clause-prepared g c = full_prepared _ _ c.requires c.in-Ok.setup (g.F.Shelf.rest c.args.shelf.now) (g.F.Shelf.rest c.load_setup.new.shelf) (g.F.Shelf.rest c.load_capture.new.shelf) c.in-Ok-load_capture.frames (g.F.Shelf.files c.args.shelf.now) _ c.full.result c.in-Ok.ensures.files c.in-Ok.ensures.loaded c.in-Ok-load_capture.ensures.loaded (omega (arith, c.if-len-command.true, c.len.ensures)) c.full.ensures
+returns-then-len-command-clause-prepared g c = full_prepared _ _ c.requires c.in-Ok.setup (g.F.Shelf.rest c.args.shelf.now) (g.F.Shelf.rest c.load_setup.new.shelf) (g.F.Shelf.rest c.load_rows.new.shelf) c.in-Ok-load_rows.rows (g.F.Shelf.files c.args.shelf.now) _ c.full.result c.in-Ok.ensures.files c.in-Ok.ensures.loaded c.in-Ok-load_rows.ensures.loaded (omega (arith, c.if-len-command.true, c.len.ensures)) c.full.ensures
 
 pub returns-in-Ok-report_of-clause-prepared : goal.returns-in-Ok-report_of-clause-prepared
-returns-in-Ok-report_of-clause-prepared g c = report_prepared _ _ c.requires c.in-Ok.setup (g.F.Shelf.rest c.args.shelf.now) (g.F.Shelf.rest c.load_setup.new.shelf) (g.F.Shelf.rest c.load_capture.new.shelf) c.in-Ok-load_capture.frames (g.F.Shelf.files c.args.shelf.now) _ c.in-Ok-report_of.text.items _ c.in-Ok.ensures.files c.in-Ok.ensures.loaded c.in-Ok-load_capture.ensures.loaded (omega (arith, c.if-len-command.false, c.len.ensures)) (report_as_asked _ _ c.in-Ok.setup c.in-Ok-load_capture.frames.items _ _ c.requires (rw c.deref.ensures.value at c.in-Ok-report_of.ensures))
+returns-in-Ok-report_of-clause-prepared g c = report_prepared _ _ c.requires c.in-Ok.setup (g.F.Shelf.rest c.args.shelf.now) (g.F.Shelf.rest c.load_setup.new.shelf) (g.F.Shelf.rest c.load_rows.new.shelf) c.in-Ok-load_rows.rows (g.F.Shelf.files c.args.shelf.now) _ c.in-Ok-report_of.text.items _ c.in-Ok.ensures.files c.in-Ok.ensures.loaded c.in-Ok-load_rows.ensures.loaded (omega (arith, c.if-len-command.false, c.len.ensures)) (report_as_asked _ _ c.in-Ok.setup c.in-Ok-load_rows.rows.items _ _ c.requires (rw c.deref.ensures.value at c.in-Ok-report_of.ensures))
 
 pub returns-clause-prepared : goal.returns-clause-prepared
-returns-clause-prepared g c = unmade_prepared _ _ c.requires c.in-Ok.setup (g.F.Shelf.rest c.args.shelf.now) (g.F.Shelf.rest c.load_setup.new.shelf) (g.F.Shelf.rest c.load_capture.new.shelf) c.in-Ok-load_capture.frames (g.F.Shelf.files c.args.shelf.now) _ c.in-Ok.ensures.files c.in-Ok.ensures.loaded c.in-Ok-load_capture.ensures.loaded
+returns-clause-prepared g c = unmade_prepared _ _ c.requires c.in-Ok.setup (g.F.Shelf.rest c.args.shelf.now) (g.F.Shelf.rest c.load_setup.new.shelf) (g.F.Shelf.rest c.load_rows.new.shelf) c.in-Ok-load_rows.rows (g.F.Shelf.files c.args.shelf.now) _ c.in-Ok.ensures.files c.in-Ok.ensures.loaded c.in-Ok-load_rows.ensures.loaded

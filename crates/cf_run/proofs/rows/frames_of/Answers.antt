@@ -3,7 +3,7 @@ use Rattle.cf_pcap.specs.Capture.{Captured, IsCapture}
 use Rattle.cf_pcap.proofs.Ending.{whole_fault, whole_fed}
 use Rattle.cf_pcap.proofs.Verdict.{few_frames}
 use Rattle.cf_run.proofs.Loading.{bad_capture}
-use Rattle.cf_run.proofs.load.frames_of.Goals as goal
+use Rattle.cf_run.proofs.rows.frames_of.Goals as goal
 
 pub returns-in-Ok-finish : goal.returns-in-Ok-finish
 returns-in-Ok-finish c =
