@@ -1,14 +1,17 @@
 -- What the end of a stream answers.
-use Rattle.std.proofs.Common.{◌≡◌, ◌⊎◌, inl, inr, ℕ, ◌<◌, ◌≤◌, ◌^◌, List, [], ◌++◌, length, Result, Ok, Err, MatchResult, sym, ap, subst, ◌∙◌, arith, append-nil}
+use Rattle.std.proofs.Common.{◌≡◌, ◌⊎◌, inl, inr, ℕ, ◌<◌, ◌≤◌, ◌^◌, List, [], ◌++◌, length, Result, Ok, Err, MatchResult, refl, sym, ap, subst, ◌∙◌, arith, append-nil}
 use Rattle.std.proofs.lemmas.List.{nil_from_length}
 use Rattle.cf_pcap.specs.declared.form.Form.{Form}
 use Rattle.cf_pcap.specs.declared.fault.PcapFault.{PcapFault}
 use Rattle.cf_pcap.specs.declared.fault.PcapFault.TheVariants.{BadMagic, BadVersion, BadLink, FrameTooLong, Cut, TooManyBytes, Memory}
+use Rattle.cf_pcap.specs.declared.stage.Stage.{Stage}
+use Rattle.cf_pcap.specs.declared.stage.Stage.TheVariants.{Heading, Reading, Stopped}
 use Rattle.cf_pcap.specs.Capture.{Captured, IsReadTo, IsCapture, Shows, seen, HasPcapFault, IsCut}
-use Rattle.cf_pcap.specs.Stream.{IsFound, AreGiven, Reader, IsHeading, IsReading, IsStateOf, IsFed, IsEnded}
+use Rattle.cf_pcap.specs.Stream.{IsFound, AreGiven, Reader, IsHeading, IsReading, IsStateOf, IsFed, IsEnded, AnswersFound, IsAt}
 use Rattle.cf_pcap.proofs.Seen.{seen_short, seen_of_front}
+use Rattle.cf_pcap.proofs.Feeding.{none_found}
 use Rattle.cf_pcap.proofs.Given.{one_given}
-use Rattle.cf_pcap.proofs.Verdict.{found_first, cut_in_header, cut_in_record, whole_capture, no_record_left}
+use Rattle.cf_pcap.proofs.Verdict.{found_first, one_fault, none_shown, cut_in_header, cut_in_record, whole_capture, no_record_left}
 
 pub found_is_fault : (stream : List ℕ) (fault : PcapFault) → IsFound stream fault → HasPcapFault stream fault
 found_is_fault stream BadMagic h = h
@@ -84,3 +87,18 @@ whole_fed file given reader answer (Ok count) fed ended =
     let same : found.0 ≡ given = one_given (seen file) found.0 given (capture_gives file found.0 found.1) (fed_first file given answer reader fed) in
     (subst (IsCapture file) same found.1, found.2 ∙ ap length same)
 whole_fed file given reader answer (Err fault) fed ended = ended file fed.state
+
+-- a reader that has found a fault answers it
+pub answers_stopped : (fault : PcapFault) (reader : Reader) → reader.stage ≡ Stopped fault → AnswersFound reader (Err fault)
+answers_stopped fault reader is = λ stream other state found.
+    ap (λ f. Err f) (one_fault stream fault other (found_is_fault stream fault (subst (λ (s : Stage). IsAt s reader stream) is state)) (found_is_fault stream other found))
+
+none_running : (stage : Stage) (reader : Reader) (stream : List ℕ) (fault : PcapFault) → ((other : PcapFault) → stage ≡ Stopped other → ⊥) → IsAt stage reader stream → IsFound stream fault → ⊥
+none_running Heading reader stream fault runs state found = let size : length stream < 24 = state.size in none_found stream (omega (arith, size)) state.first fault found
+none_running (Reading form) reader stream fault runs state found =
+    none_found stream state.size (none_shown stream form state.frames reader.held state.read state.part state.short) fault found
+none_running (Stopped other) reader stream fault runs state found = runs other refl
+
+-- one that runs has found none
+pub not_found : (reader now : Reader) (stream : List ℕ) (fault : PcapFault) → reader ≡ now → ((other : PcapFault) → reader.stage ≡ Stopped other → ⊥) → IsStateOf now stream → IsFound stream fault → ⊥
+not_found reader now stream fault same runs state found = none_running reader.stage reader stream fault runs (subst (λ (r : Reader). IsStateOf r stream) (sym same) state) found

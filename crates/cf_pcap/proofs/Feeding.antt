@@ -18,7 +18,7 @@ use Rattle.cf_pcap.proofs.Verdict.{read_first, none_read, none_begun, found_firs
 use Rattle.cf_pcap.proofs.Given.{found_gives}
 
 -- a short stream shows what it has found
-none_found : (stream : List ℕ) → length stream < 2 ^ 32 → ((fault : PcapFault) → Shows stream fault → ⊥) → (fault : PcapFault) → IsFound stream fault → ⊥
+pub none_found : (stream : List ℕ) → length stream < 2 ^ 32 → ((fault : PcapFault) → Shows stream fault → ⊥) → (fault : PcapFault) → IsFound stream fault → ⊥
 none_found stream size none fault found = by_case fault found where
   by_shown : (fault : PcapFault) → Shows (seen stream) fault → ⊥
   by_shown fault h = none fault (subst (λ (xs : List ℕ). Shows xs fault) (seen_short stream (omega (arith, size))) h)

@@ -1,5 +1,5 @@
 -- What a reader gives and answers over a stream, however it is cut.
-use Rattle.std.specs.Prelude.{◌≡◌, ◌⊎◌, ℕ, ◌+◌, ◌*◌, ◌^◌, ◌<◌, ◌≤◌, List, [], ◌++◌, length, Result, MatchResult}
+use Rattle.std.specs.Prelude.{◌≡◌, ◌⊎◌, ℕ, ◌+◌, ◌*◌, ◌^◌, ◌<◌, ◌≤◌, List, [], ◌++◌, length, Result, Err, MatchResult}
 use Rattle.cf_pcap.specs.declared.form.Form.{Form}
 use Rattle.cf_pcap.specs.declared.fault.PcapFault.{PcapFault}
 use Rattle.cf_pcap.specs.declared.fault.PcapFault.TheVariants.{BadMagic, BadVersion, BadLink, FrameTooLong, Cut, TooManyBytes, Memory}
@@ -72,6 +72,10 @@ pub record IsFed (stream piece : List ℕ) (given : List Captured) (answer : Res
   pub given_now : AreGiven (stream ++ piece) (before ++ given)
   pub answer_is : MatchResult answer (λ _. (fault : PcapFault) → IsFound (stream ++ piece) fault → ⊥) (IsFound (stream ++ piece))
   pub state : IsStateOf reader (stream ++ piece)
+
+-- a reader that has found a fault answers it, and no want of memory
+abbrev pub AnswersFound : Reader → Result (Unit {0}) PcapFault → Type 0
+AnswersFound reader answer = (stream : List ℕ) (fault : PcapFault) → IsStateOf reader stream → IsFound stream fault → answer ≡ Err fault
 
 -- what the end of the stream answers: the number of a capture's frames, or the fault
 abbrev pub IsEnded : List ℕ → Result ℕ PcapFault → Type 0

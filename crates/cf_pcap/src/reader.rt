@@ -1,7 +1,7 @@
 // The reader of a capture, which comes in pieces.
 ghost use Rattle.std.specs.Prelude.{◌≡◌, ◌≢◌, ℕ, List, [], ◌++◌, ◌<◌, ◌≤◌, ◌^◌, ◌+◌, ◌-◌, length, take, min, IfOk, Ok, Err};
 ghost use Rattle.cf_pcap.specs.Capture.{Captured};
-ghost use Rattle.cf_pcap.specs.Stream.{IsStateOf, IsFed, IsEnded};
+ghost use Rattle.cf_pcap.specs.Stream.{IsStateOf, IsFed, IsEnded, AnswersFound};
 
 use crate::records::go_on;
 use crate::stage::{LIMIT, Stage, answer_of, kept, late_of, stage_at};
@@ -72,6 +72,7 @@ impl Pcap {
     pub fn feed(&mut self, piece: &[u8], out: &mut Vec<Frame>) -> Result<(), PcapFault>
         ensures fed { result ≢ Err PcapFault.Memory → (given : List Captured) × (out.new.items ≡ out.old.items ++ given)
             × ((stream : List ℕ) → IsStateOf self.old stream → IsFed stream piece.now given result self.new) }
+        ensures stopped { AnswersFound self.old result }
         ensures memory { result ≡ Err PcapFault.Memory → (self.new ≡ self.old) × (out.new.items ≡ out.old.items) }
     {
         if let Stage::Stopped(fault) = self.stage {

@@ -40,7 +40,15 @@ struct Told {
     end: Result<u32, PcapFault>,
 }
 
-/// Feeds a stream in pieces of that many bytes, each once more where memory is wanting.
+/// Feeds a piece, and once more where memory is wanting.
+fn feed_again(pcap: &mut Pcap, piece: &[u8], out: &mut Vec<Frame>) -> Result<(), PcapFault> {
+    match pcap.feed(piece, out) {
+        Err(PcapFault::Memory) => pcap.feed(piece, out),
+        answer => answer,
+    }
+}
+
+/// Feeds a stream in pieces of that many bytes.
 fn feed_all(
     alloc: Global,
     stream: &[u8],
@@ -51,10 +59,7 @@ fn feed_all(
     let mut found = None;
     let mut taken = 0usize;
     for piece in stream.chunks(size.max(1)) {
-        let mut answer = pcap.feed(piece, out);
-        if let Err(PcapFault::Memory) = answer {
-            answer = pcap.feed(piece, out);
-        }
+        let answer = feed_again(&mut pcap, piece, out);
         taken = taken.saturating_add(piece.len());
         if answer.is_err() && found.is_none() {
             found = Some(taken);
@@ -171,6 +176,23 @@ fn each_field_that_counts_is_looked_at(rt: HostRuntime) -> Result<(), Fail> {
 }
 
 #[test]
+fn a_short_stream_shows_what_it_can(rt: HostRuntime) -> Result<(), Fail> {
+    let cases = [
+        ([0x1f, 0x8b, 0x08, 0x00].as_slice(), PcapFault::BadMagic),
+        (&[0x1f, 0x8b, 0x08], PcapFault::Cut(0)),
+        (&[0xd4, 0xc3, 0xb2, 0xa1, 2, 0, 3, 0], PcapFault::BadVersion),
+        (&[0xd4, 0xc3, 0xb2, 0xa1, 2, 0, 3], PcapFault::Cut(0)),
+        (&[], PcapFault::Cut(0)),
+    ];
+    for (stream, fault) in cases {
+        let mut out: Vec<Frame> = Vec::new(rt.alloc());
+        let told = feed_all(rt.alloc(), stream, 1, &mut out)?;
+        assert_eq!(rt; told.end, Err(fault));
+    }
+    Ok(())
+}
+
+#[test]
 fn a_record_may_hold_262144_bytes(rt: HostRuntime) -> Result<(), Fail> {
     // The lowest byte of the captured length of the one record, and what the end answers.
     for (lowest, end) in [(0, Ok(1)), (1, Err(PcapFault::FrameTooLong(0)))] {
@@ -178,13 +200,16 @@ fn a_record_may_hold_262144_bytes(rt: HostRuntime) -> Result<(), Fail> {
         let mut pcap = Pcap::new(rt.alloc())?;
         let mut out: Vec<Frame> = Vec::new(rt.alloc());
         assert_eq!(rt;
-            pcap.feed(head.get(..40).unwrap_or(&[]), &mut out).is_ok(),
+            feed_again(&mut pcap, head.get(..40).unwrap_or(&[]), &mut out).is_ok(),
             lowest == 0
         );
         assert_eq!(rt; pcap.held(), if lowest == 0 { 16 } else { 0 });
         let piece = [7u8; 4096];
         for _ in 0..64 {
-            assert_eq!(rt; pcap.feed(&piece, &mut out).is_ok(), lowest == 0);
+            assert_eq!(rt;
+                feed_again(&mut pcap, &piece, &mut out).is_ok(),
+                lowest == 0
+            );
         }
         assert_eq!(rt; pcap.finish(), end);
         assert_eq!(rt; out.len(), usize::from(lowest == 0));
