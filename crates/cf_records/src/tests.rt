@@ -56,3 +56,15 @@ fn records_are_rows_or_have_a_first_fault(rt: HostRuntime) -> Result<(), Fail> {
     }
     Ok(())
 }
+
+#[test]
+fn a_file_is_shorter_than_2_to_24_bytes(rt: HostRuntime) -> Result<(), Fail> {
+    let alloc = rt.alloc();
+    let schema = schema(alloc)?;
+    let text = vec![in alloc; b'\n'; 1 << 24]?;
+    assert_eq!(rt;
+        ports(alloc, &schema, &text),
+        Err(RecordFault::TooManyBytes)
+    );
+    Ok(())
+}

@@ -282,19 +282,6 @@ fn faults_of_records_are_told_with_their_numbers(rt: HostRuntime) -> Result<(), 
 }
 
 #[test]
-fn a_file_of_records_is_shorter_than_2_to_24_bytes(rt: HostRuntime) -> Result<(), Fail> {
-    let alloc = rt.alloc();
-    let setup = b"schema records ts:u64\n";
-    let capture = vec![in alloc; b'\n'; 1 << 24]?;
-    let mut shelf = shelf_of(alloc, &[], 65536, setup, &capture)?;
-    let mut sink = MemSink::new(alloc, 300, Vec::new(alloc), 300)?;
-    let status = run(&rt, alloc, &WORDS, &mut shelf, &mut sink, &FreeGate);
-    assert_eq!(rt; status, Status::Capture { at: 0, code: 15 });
-    assert_eq!(rt; sink.held(), b"capture: record 0 code 15\n".as_slice());
-    Ok(())
-}
-
-#[test]
 fn a_shelf_that_fails_stops_the_run_with_nothing_written(rt: HostRuntime) -> Result<(), Fail> {
     let alloc = rt.alloc();
     let capture = two_frames(alloc)?;
