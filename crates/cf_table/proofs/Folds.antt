@@ -1,0 +1,72 @@
+-- What is known after a join and the load that follows it.
+use Rattle.std.proofs.Common.{◌≡◌, ℕ, ◌≤◌, inl, inr, List, length, take, Bool, true, false, refl, sym, ap, ◌∙◌, arith}
+use Rattle.std.specs.Bool.{nat_lt}
+use Rattle.std.proofs.Math.Seq.{take-length}
+use Rattle.std.proofs.lemmas.Bool.{cases_lt, cases_Bool}
+use Rattle.std.proofs.lemmas.Bool.Decides.{nat_tests}
+use Rattle.cf_row.specs.declared.row.Entry.{Entry}
+use Rattle.cf_shape.specs.Lanes.{Shaped}
+use Rattle.cf_shape.specs.Places.Slot.{tail}
+use Rattle.cf_law.specs.Passes.{Pass}
+use Rattle.cf_law.specs.Steps.{sees, joined}
+use Rattle.cf_law.specs.Shapes.{layout}
+use Rattle.cf_law.specs.Readers.{Told}
+use Rattle.cf_table.specs.Held.{Held}
+use Rattle.cf_table.specs.Ways.{Made, tail_way}
+use Rattle.cf_table.specs.Moves.{Folded, IsSettled}
+use Rattle.cf_table.proofs.Seen.{sees_books, grown}
+
+same_told : (n : ℕ) (es : List Entry) (p : Pass) (b : Bool) → ((grown n es p b).told ≡ p.told) × ((grown n es p b).tails ≡ p.tails)
+same_told n es p b = elim (cases_Bool b) [
+  | inl e ↦ (ap (λ (c : Bool). (grown n es p c).told) e, ap (λ (c : Bool). (grown n es p c).tails) e)
+  | inr e ↦ (ap (λ (c : Bool). (grown n es p c).told) e, ap (λ (c : Bool). (grown n es p c).tails) e)
+]
+
+pub sees_told : (n : ℕ) (es : List Entry) (p : Pass) → ((sees n es p).told ≡ p.told) × ((sees n es p).tails ≡ p.tails)
+sees_told n es p = same_told n es p (nat_lt (length p.seen) n)
+
+all_of : (es : List Entry) (n : ℕ) → length es ≡ n → take n es ≡ es
+all_of es n e = ap (λ (k : ℕ). take k es) (sym e) ∙ take-length es
+
+pub sees_seen : (n : ℕ) (es : List Entry) (p : Pass) → length es ≡ n → length p.seen ≤ n → take (length p.seen) es ≡ p.seen → (sees n es p).seen ≡ es
+sees_seen n es p long le goes = elim (cases_lt (length p.seen) n) [
+  | inl lt ↦
+      let t : nat_lt (length p.seen) n ≡ true = grind (arith, nat_tests) in
+      ap (λ (b : Bool). (grown n es p b).seen) t ∙ all_of es n long
+  | inr ge ↦
+      let t : nat_lt (length p.seen) n ≡ false = grind (arith, nat_tests) in
+      ap (λ (b : Bool). (grown n es p b).seen) t ∙ (sym goes ∙ all_of es (length p.seen) (omega arith))
+]
+
+-- after a load of the read tail just the entries below it are seen
+pub tail_entries : (shape : Shaped) (p q : Pass) (asked : Bool) (found : ℕ) (told : Told (layout shape) p (tail 1) (tail_way p asked).after found found q) → q.seen ≡ told.entries
+tail_entries shape p q asked found told =
+    ap (λ (r : Pass). r.seen) told.is ∙ sees_seen found told.entries p (told.long refl) (told.tells.ahead 1 (omega arith) refl) told.goes_on.seen
+
+pub folded : (shape : Shaped) (m : Held) (q : Pass) (n : Held) (found : ℕ) → Made shape (tail_way (joined m.view q) false) (record m { view = joined m.view q }) found n → Folded shape m q n
+folded shape m q n found made =
+    let p = m.view in
+    let j : Pass = joined p q in
+    let told = made.told in
+    let es : List Entry = told.entries in
+    let seen : (n.view).seen ≡ es = tail_entries shape j n.view false found told in
+    let later = sees_told found es j in
+    let first = sees_told (length q.seen) q.seen p in record {
+      found = found;
+      made = made;
+      own = ap (take (length p.seen)) seen ∙ told.goes_on.olds 0 p.seen refl;
+      other = ap (take (length q.seen)) seen ∙ told.goes_on.olds 1 q.seen refl;
+      books = ap (λ (r : Pass). r.books) told.is ∙ sees_books found es j;
+      tails = ap (λ (r : Pass). r.tails) told.is ∙ first.1;
+      told = ap (λ (r : Pass). r.told) told.is ∙ later.0;
+    }
+
+-- while all books are home the read tail stays where it is
+pub settled_stays : (shape : Shaped) (m n : Held) (asked : Bool) (found : ℕ) → Made shape (tail_way m.view asked) m found n → IsSettled shape m.view → (n.view).seen ≡ (m.view).seen
+settled_stays shape m n asked found made settled =
+    let told = made.told in
+    let p = m.view in
+    let low = told.tells.stays refl settled.home settled.all in
+    let ahead = told.tells.ahead 1 (omega arith) refl in
+    let long = told.long refl in
+    tail_entries shape p n.view asked found told ∙ (sym (all_of told.entries (length p.seen) (omega arith)) ∙ told.goes_on.seen)

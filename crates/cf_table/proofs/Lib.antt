@@ -1,0 +1,11 @@
+pub mod Allowed
+pub mod Seen
+pub mod Calls
+pub mod Folds
+pub mod Notes
+pub mod Leaving
+pub mod Settling
+pub mod Homing
+pub mod Reading
+pub mod Mays
+pub mod Fresh

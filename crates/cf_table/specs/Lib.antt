@@ -1,0 +1,5 @@
+pub mod Held
+pub mod Ways
+pub mod Rule
+pub mod Moves
+pub mod Fresh

@@ -1,0 +1,128 @@
+-- How passes are dealt, gathered, forked and joined, and what a log is closed with.
+use Rattle.std.specs.Prelude.{ℕ, ◌<◌, ◌≤◌, ◌≡◌, List, [], ◌∷◌, ◌++◌, true, false, length, map, take, Some, slice_get}
+use Rattle.cf_row.specs.declared.schema.Attr.{Attr}
+use Rattle.cf_row.specs.declared.row.Entry.{Entry}
+use Rattle.cf_row.specs.Words.{IsEntry}
+use Rattle.cf_shape.specs.Lanes.{Shaped}
+use Rattle.cf_words.specs.Words.{spot}
+use Rattle.cf_law.specs.Passes.{Book, Pass}
+use Rattle.cf_law.specs.Steps.{Holds, IsAtRest, joined, newcomer}
+use Rattle.cf_law.specs.Shapes.{layout}
+use Rattle.cf_law.specs.Readers.{AtHome, HasNode, IsBounded, mine_from}
+use Rattle.cf_table.specs.declared.pass.Note.{Note}
+use Rattle.cf_table.specs.Held.{Held, LogValue, IsOf}
+use Rattle.cf_table.specs.Ways.{Made, tail_way}
+
+-- the second list begins with the first
+abbrev pub Begins : List Entry → List Entry → Type 0
+Begins xs ys = take (length xs) ys ≡ xs
+
+-- The other pass was joined, and then the read tail was loaded: what both had seen is seen.
+pub record Folded (shape : Shaped) (m : Held) (q : Pass) (n : Held) : Type 0 where
+  pub found : ℕ
+  pub made : Made shape (tail_way (joined m.view q) false) (record m { view = joined m.view q }) found n
+  pub own : Begins (m.view).seen (n.view).seen
+  pub other : Begins q.seen (n.view).seen
+  pub books : (n.view).books ≡ (m.view).books ++ q.books
+  pub tails : (n.view).tails ≡ (m.view).tails
+  pub told : (n.view).told ≡ ((m.view).told ++ q.told) ++ q.tails
+
+-- what a root notes of a book
+abbrev pub note_of : Book → Note
+note_of b = record { writer = b.writer; over = b.over; used = length b.used }
+
+-- the notes are those of the books, and within what a pass counts
+pub record AreNoted (notes : List Note) (books : List Book) (nodes : ℕ) : Type 0 where
+  pub notes_are : notes ≡ map note_of books
+  pub few : nodes ≤ 65536
+  pub bounds : (k : ℕ) (b : Book) → slice_get books k ≡ Some b → (b.writer < 16) × (length b.used ≤ nodes)
+
+-- each writer's entries of all that was seen are what it finished
+abbrev pub HasAll : Pass → Type 0
+HasAll p = (k : ℕ) (b : Book) → Holds p k b → b.mine ≡ mine_from b.writer 0 p.seen
+
+-- all books are held, one for each writer and at rest, and all that they have finished was seen
+pub record IsSettled (shape : Shaped) (p : Pass) : Type 0 where
+  pub home : AtHome (layout shape) p
+  pub rest : IsAtRest p
+  pub count : length p.books ≡ shape.writers
+  pub all : HasAll p
+
+-- pass k of the dealt ones has the k-th book, and has seen as much
+pub record IsDealt (log : LogValue) (m : Held) (k : ℕ) (h : Held) : Type 0 where
+  pub book : Book
+  pub at : slice_get (m.view).books k ≡ Some book
+  pub of : IsOf h log
+  pub view : h.view ≡ newcomer (book ∷ []) (m.view).seen
+
+-- the books left the pass, each for a pass of its own
+pub record AreDealt (log : LogValue) (m : Held) (passes : List Held) (n : Held) : Type 0 where
+  pub count : length passes ≡ length (m.view).books
+  pub each : (k : ℕ) (h : Held) → slice_get passes k ≡ Some h → IsDealt log m k h
+  pub root : n ≡ record m { view = record m.view { books = [] } }
+
+-- Each writer's pass is one of these, and all are at rest.
+pub record AreAll (log : LogValue) (passes : List Held) : Type 0 where
+  pub of : (k : ℕ) (h : Held) → slice_get passes k ≡ Some h → IsOf h log
+  pub rest : (k : ℕ) (h : Held) → slice_get passes k ≡ Some h → IsAtRest h.view
+  pub count : length passes ≡ (log.shape).writers
+  pub writers : (w : ℕ) → w < (log.shape).writers → (k : ℕ) × (h : Held) × (j : ℕ) × (b : Book) × (slice_get passes k ≡ Some h) × Holds h.view j b × (b.writer ≡ w)
+
+unfoldable pub books_of : List Held → List Book
+books_of [] = []
+books_of (h ∷ hs) = (h.view).books ++ books_of hs
+
+-- what a root is told by passes that come home in this order
+unfoldable pub told_by : List ℕ → List Held → List ℕ
+told_by told [] = told
+told_by told (h ∷ hs) = told_by ((told ++ (h.view).told) ++ (h.view).tails) hs
+
+-- a book is marked only where all places are taken
+abbrev pub MarkedIsFull : Shaped → Pass → Type 0
+MarkedIsFull shape p = (k : ℕ) (b : Book) → Holds p k b → b.over ≡ true → length p.seen ≡ shape.capacity
+
+-- each proper prefix of the path of an entry that was seen has a used node of a held book
+abbrev pub HasPaths : Shaped → Pass → Type 0
+HasPaths shape p = (o l d e : ℕ) (xs q : List ℕ) (x : Entry) → slice_get p.seen o ≡ Some x → (layout shape).path x.row l ≡ Some (d ∷ (xs ++ e ∷ q)) → HasNode p (spot l (e ∷ q))
+
+-- The read tail was moved up to the first ticket that isn't finished.
+pub record Settled (shape : Shaped) (m n : Held) : Type 0 where
+  pub same : n ≡ record m { view = n.view }
+  pub books : (n.view).books ≡ (m.view).books
+  pub tails : (n.view).tails ≡ (m.view).tails
+  pub told : (n.view).told ≡ (m.view).told
+  pub longer : Begins (m.view).seen (n.view).seen
+  pub all : AtHome (layout shape) n.view → HasAll n.view
+  pub full : AtHome (layout shape) n.view → MarkedIsFull shape n.view
+  pub paths : AtHome (layout shape) n.view → HasPaths shape n.view
+  pub bounds : IsBounded (layout shape) n.view
+
+-- The passes came home in this order. All books are held, at rest, and all that was finished was seen.
+pub record Gathered (shape : Shaped) (m : Held) (passes : List Held) (n : Held) : Type 0 where
+  pub same : n ≡ record m { view = n.view }
+  pub books : (n.view).books ≡ books_of passes
+  pub tails : (n.view).tails ≡ (m.view).tails
+  pub told : (n.view).told ≡ told_by (m.view).told passes
+  pub own : Begins (m.view).seen (n.view).seen
+  pub others : (k : ℕ) (h : Held) → slice_get passes k ≡ Some h → Begins (h.view).seen (n.view).seen
+  pub settled : IsSettled shape n.view
+  pub full : MarkedIsFull shape n.view
+  pub paths : HasPaths shape n.view
+  pub bounds : IsBounded (layout shape) n.view
+
+-- each of the passes, in this order, was folded in
+unfoldable pub Gathers : Shaped → Held → List Held → Held → Type 0
+Gathers shape m [] n = n ≡ m
+Gathers shape m (h ∷ hs) n = (k : Held) × Folded shape m h.view k × Gathers shape k hs n
+
+-- only the last look is another
+abbrev pub OnlyLooked : Held → Held → Type 0
+OnlyLooked m n = n ≡ record m { view = record m.view { look = (n.view).look } }
+
+-- what a seal keeps: the entries of the log, and the tails of the asks that its root was told of
+pub record Sealed : Type 0 where
+  pub entries : List Entry
+  pub told : List ℕ
+
+abbrev pub AreEntries : List Attr → List Entry → Type 0
+AreEntries attrs entries = (o : ℕ) (e : Entry) → slice_get entries o ≡ Some e → IsEntry attrs e

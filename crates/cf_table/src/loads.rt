@@ -1,0 +1,154 @@
+// The step calls that any pass makes.
+ghost use Rattle.std.specs.Prelude.{ℕ, ◌≡◌, ◌+◌, ◌*◌, ◌<◌, ◌≤◌, ◌↔◌, IsTrue, length};
+ghost use Rattle.cf_law.specs.Steps.Act.{advance as advances, load_child as loads_child, load_head as loads_head, load_cell as loads_cell};
+ghost use Rattle.cf_shape.specs.Lanes.{lane_at};
+ghost use Rattle.cf_shape.specs.Places.{Slot};
+ghost use Rattle.cf_shape.specs.Uses.{ticket_words, cell_words};
+ghost use Rattle.cf_words.specs.Words.{Spot};
+ghost use Rattle.cf_table.specs.Held.{IsOf};
+ghost use Rattle.cf_table.specs.Ways.{May, Made, Stored, advance_way, tail_way, done_way, word_way, child_way, walk_way, cell_way};
+ghost use Rattle.cf_table.specs.Rule.{Calls, KeepsBooks};
+ghost use Rattle.cf_table.specs.Moves.{IsSettled};
+
+use crate::count::Steps;
+use crate::log::MultiLog;
+use crate::pass::Pass;
+use crate::rule::Gives;
+use cf_shape::{place_cell, place_done, place_head, place_ticket};
+use std::marker::Brand;
+use std::sync::ledger::Ledger;
+
+impl MultiLog {
+    /// Moves the read tail from t, where it stands there.
+    pub fn advance<P: Pass, L: Ledger>(&self, pass: &mut P, t: u32, steps: &mut Steps<L>)
+        requires of { IsOf (P.held pass.old) self.now }
+        requires lawful { May self.now.shape (P.held pass.old).view (advances t) (advance_way (P.held pass.old).view t) }
+        ensures made { Stored self.now.shape (advance_way (P.held pass.old).view t) (P.held pass.old) (P.held pass.new) }
+        ensures steps { steps.new ≡ steps.old + 1 }
+    {
+        pass.advance_by(self, t, steps);
+    }
+
+    /// Loads the read tail, for an ask where `asked`. What was seen grows to it, and stays where all books are home.
+    pub fn load_tail<P: Pass, L: Ledger>(
+        &self,
+        pass: &mut P,
+        asked: bool,
+        steps: &mut Steps<L>,
+    ) -> u32
+        requires of { IsOf (P.held pass.old) self.now }
+        ensures made { Made self.now.shape (tail_way (P.held pass.old).view asked) (P.held pass.old) result (P.held pass.new) }
+        ensures stays { IsSettled self.now.shape (P.held pass.old).view → (P.held pass.new).view.seen ≡ (P.held pass.old).view.seen }
+        ensures steps { steps.new ≡ steps.old + 1 }
+    {
+        pass.load_tail_by(self, asked, steps)
+    }
+
+    /// Looks at a done word, and says whether it was 1.
+    pub fn look_done<P: Pass, L: Ledger>(
+        &self,
+        pass: &mut P,
+        offset: u32,
+        steps: &mut Steps<L>,
+    ) -> bool
+        requires of { IsOf (P.held pass.old) self.now }
+        requires place { offset < self.now.shape.capacity }
+        ensures made { Made self.now.shape (done_way self.now.shape (P.held pass.old).view offset) (P.held pass.old) (P.held pass.new).view.look.value (P.held pass.new) }
+        ensures found { IsTrue result ↔ ((P.held pass.new).view.look.value ≡ 1) }
+        ensures steps { steps.new ≡ steps.old + 1 }
+    {
+        let word = place_done(&self.shape, offset);
+        load_as::<Brand, P, L>(self, pass, (offset, 0, 0), word, steps) == 1
+    }
+
+    /// Loads word i of a ticket that was seen.
+    pub fn load_word<P: Pass, L: Ledger>(
+        &self,
+        pass: &mut P,
+        offset: u32,
+        i: u8,
+        steps: &mut Steps<L>,
+    ) -> u64
+        requires of { IsOf (P.held pass.old) self.now }
+        requires place { (offset < self.now.shape.capacity) × (i < ticket_words self.now.shape) }
+        requires lawful { offset < length (P.held pass.old).view.seen }
+        ensures made { Made self.now.shape (word_way self.now.shape (P.held pass.old).view offset i) (P.held pass.old) result (P.held pass.new) }
+        ensures steps { steps.new ≡ steps.old + 1 }
+    {
+        let word = place_ticket(&self.shape, offset, u64::from(i));
+        load_as::<Brand, P, L>(self, pass, (offset, i, 0), word, steps)
+    }
+
+    /// Loads the child word at that place, which stands for the spot `to.0`.
+    pub fn load_child<P: Pass, L: Ledger>(
+        &self,
+        pass: &mut P,
+        place: u64,
+        steps: &mut Steps<L>,
+    ) -> u64
+        ghost to: { Spot × Slot }
+        requires of { IsOf (P.held pass.old) self.now }
+        requires lawful { May self.now.shape (P.held pass.old).view (loads_child place) (child_way self.now.shape (P.held pass.old).view to.0 to.1) }
+        ensures made { Made self.now.shape (child_way self.now.shape (P.held pass.old).view to.0 to.1) (P.held pass.old) result (P.held pass.new) }
+        ensures steps { steps.new ≡ steps.old + 1 }
+    {
+        load_as::<Brand, P, L>(self, pass, (0, 0, 0), place, steps)
+    }
+
+    /// Loads the head of a writer and a nibble at a node of the last level, which stands for the spot `of_node`. A walk
+    /// begins.
+    pub fn load_head<P: Pass, L: Ledger>(
+        &self,
+        pass: &mut P,
+        node: u32,
+        d: u8,
+        writer: u8,
+        steps: &mut Steps<L>,
+    ) -> u64
+        ghost of_node: { Spot }
+        requires of { IsOf (P.held pass.old) self.now }
+        requires place { (node < self.now.shape.writers * self.now.shape.nodes) × (d < 16) × (writer < self.now.shape.writers) }
+        requires lawful { May self.now.shape (P.held pass.old).view (loads_head node d writer) (walk_way self.now.shape (P.held pass.old).view of_node node d writer) }
+        ensures made { Made self.now.shape (walk_way self.now.shape (P.held pass.old).view of_node node d writer) (P.held pass.old) result (P.held pass.new) }
+        ensures steps { steps.new ≡ steps.old + 1 }
+    {
+        let word = place_head(&self.shape, node, d, writer);
+        load_as::<Brand, P, L>(self, pass, (node, d, writer), word, steps)
+    }
+
+    /// Loads word i of a lane's cell of a ticket. A walk goes on by word 0 of the cell that the cursor names.
+    pub fn load_cell<P: Pass, L: Ledger>(
+        &self,
+        pass: &mut P,
+        offset: u32,
+        lane: u8,
+        i: u8,
+        steps: &mut Steps<L>,
+    ) -> u64
+        requires of { IsOf (P.held pass.old) self.now }
+        requires place { (offset < self.now.shape.capacity) × (lane < length self.now.shape.lanes) × (i < cell_words (lane_at self.now.shape lane)) }
+        requires lawful { May self.now.shape (P.held pass.old).view (loads_cell offset lane i) (cell_way self.now.shape (P.held pass.old).view offset lane i) }
+        ensures made { Made self.now.shape (cell_way self.now.shape (P.held pass.old).view offset lane i) (P.held pass.old) result (P.held pass.new) }
+        ensures steps { steps.new ≡ steps.old + 1 }
+    {
+        let word = place_cell(&self.shape, offset, lane, i);
+        load_as::<Brand, P, L>(self, pass, (offset, lane, i), word, steps)
+    }
+}
+
+// `_at` is for the proof: what a call gives its step is picked from the step's own arguments.
+fn load_as<N: Gives, P: Pass, L: Ledger>(
+    log: &MultiLog,
+    pass: &mut P,
+    _at: (u32, u8, u8),
+    word: u64,
+    steps: &mut Steps<L>,
+) -> u64
+    requires of { IsOf (P.held pass.old) log.now }
+    requires lawful { Calls log.now.shape N.given (P.held pass.old).view word (λ n. n) }
+    requires books { KeepsBooks (N.given).way (P.held pass.old).view }
+    ensures made { Made log.now.shape (N.given).way (P.held pass.old) result (P.held pass.new) }
+    ensures steps { steps.new ≡ steps.old + 1 }
+{
+    pass.load_by::<N, L>(log, word, steps)
+}

@@ -1,0 +1,248 @@
+// The kinds of pass.
+ghost use Rattle.std.specs.Prelude.{◌≡◌, ◌+◌, ◌*◌, ◌<◌, ◌≤◌, length, MatchOption};
+ghost use Rattle.cf_law.specs.Steps.Act.{advance};
+ghost use Rattle.cf_table.specs.Held.{IsOf, book_of, Writes};
+ghost use Rattle.cf_table.specs.Ways.{May, Made, Stored, tail_way, advance_way};
+ghost use Rattle.cf_table.specs.Rule.{Calls, KeepsBooks};
+
+use crate::count::Steps;
+use crate::log::MultiLog;
+use crate::rule::{Gives, Token};
+use std::marker::Model;
+use std::sync::ledger::Ledger;
+
+/// What takes part: it has seen entries, and makes each step that isn't a writer's.
+pub trait Pass {
+    ghost use Rattle.cf_table.specs.Held.{Held};
+
+    ghost held: { Self → Held };
+
+    /// How many entries it knows as covered.
+    fn covered(&self) -> u32
+        ensures { result ≡ length (held self.now).view.seen };
+
+    /// Loads a word other than the read tail.
+    fn load_by<N: Gives, L: Ledger>(
+        &mut self,
+        log: &MultiLog,
+        word: u64,
+        steps: &mut Steps<L>,
+    ) -> u64
+        requires of { IsOf (held self.old) log.now }
+        requires lawful { Calls log.now.shape N.given (held self.old).view word (λ n. n) }
+        requires books { KeepsBooks (N.given).way (held self.old).view }
+        ensures made { Made log.now.shape (N.given).way (held self.old) result (held self.new) }
+        ensures steps { steps.new ≡ steps.old + 1 };
+
+    /// Loads the read tail.
+    fn load_tail_by<L: Ledger>(&mut self, log: &MultiLog, asked: bool, steps: &mut Steps<L>) -> u32
+        requires of { IsOf (held self.old) log.now }
+        ensures made { Made log.now.shape (tail_way (held self.old).view asked) (held self.old) result (held self.new) }
+        ensures steps { steps.new ≡ steps.old + 1 };
+
+    /// Moves the read tail from t.
+    fn advance_by<L: Ledger>(&mut self, log: &MultiLog, t: u32, steps: &mut Steps<L>)
+        requires of { IsOf (held self.old) log.now }
+        requires lawful { May log.now.shape (held self.old).view (advance t) (advance_way (held self.old).view t) }
+        ensures made { Stored log.now.shape (advance_way (held self.old).view t) (held self.old) (held self.new) }
+        ensures steps { steps.new ≡ steps.old + 1 };
+}
+
+/// A pass that holds one book, and appends.
+#[derive(Drop)]
+pub struct WriterPass {
+    pub(crate) token: Token,
+    pub(crate) writer: u8,
+    pub(crate) over: bool,
+    pub(crate) used: u32,
+}
+
+impl Model for WriterPass {
+    ghost use Rattle.std.specs.Prelude.{◌<◌, ◌≤◌};
+    ghost use Rattle.cf_table.specs.Held.{Held, Writes};
+
+    ghost Value = { Held };
+
+    ghost view = { λ w. w.token };
+
+    ghost invariant = { λ w. Writes w.writer w.over w.used w.token.view × (w.writer < 16) × (w.used ≤ w.token.nodes) × (w.token.nodes ≤ 65536) };
+}
+
+/// A pass that reads.
+#[derive(Drop)]
+pub struct ReaderPass {
+    pub(crate) token: Token,
+}
+
+impl Model for ReaderPass {
+    ghost use Rattle.cf_table.specs.Held.{Held};
+    ghost use Rattle.std.specs.Prelude.{◌≡◌, []};
+
+    ghost Value = { Held };
+
+    ghost view = { λ w. w.token };
+
+    ghost invariant = { λ r. r.token.view.books ≡ [] };
+}
+
+// What the root notes of a book that is at home.
+#[derive(Clone, Copy, Drop)]
+pub(crate) struct Note {
+    pub(crate) writer: u8,
+    pub(crate) over: bool,
+    pub(crate) used: u32,
+}
+
+/// The first pass, which holds the books that are at home.
+#[derive(Drop)]
+pub struct Root {
+    pub(crate) token: Token,
+    // of the books that are at home, in their order
+    pub(crate) notes: Vec<Note>,
+}
+
+impl Model for Root {
+    ghost use Rattle.std.specs.Prelude.{◌≤◌, vec_capacity};
+    ghost use Rattle.cf_table.specs.Held.{Held};
+    ghost use Rattle.cf_table.specs.Moves.{AreNoted};
+
+    ghost Value = { Held };
+
+    ghost view = { λ w. w.token };
+
+    ghost invariant = { λ r. AreNoted r.notes.items r.token.view.books r.token.nodes × (16 ≤ vec_capacity r.notes) };
+}
+
+impl Token {
+    pub(crate) fn known(&self) -> u32
+        ensures { result ≡ length self.now.view.seen }
+    {
+        self.covered
+    }
+}
+
+impl WriterPass {
+    /// Its book's writer.
+    pub fn writer(&self) -> u8
+        ensures writer { result ≡ (book_of self.now.view).writer }
+        ensures few { result < 16 }
+    {
+        self.writer
+    }
+
+    /// Whether its book is marked: it takes no further ticket.
+    pub fn over(&self) -> bool
+        ensures { result ≡ (book_of self.now.view).over }
+    {
+        self.over
+    }
+
+    /// The least own node that isn't used, none exactly where all are.
+    pub fn free_node(&self) -> Option<u32>
+        ensures { MatchOption result (length (book_of self.now.view).used ≡ self.now.nodes) (λ node. (length (book_of self.now.view).used < self.now.nodes) × (node ≡ (book_of self.now.view).writer * self.now.nodes + length (book_of self.now.view).used)) }
+    {
+        if self.used == self.token.nodes {
+            return None;
+        }
+        Some(u32::from(self.writer) * self.token.nodes + self.used)
+    }
+}
+
+impl Pass for WriterPass {
+    ghost held = { λ w. w };
+
+    fn covered(&self) -> u32 {
+        self.token.known()
+    }
+
+    fn load_by<N: Gives, L: Ledger>(
+        &mut self,
+        log: &MultiLog,
+        word: u64,
+        steps: &mut Steps<L>,
+    ) -> u64 {
+        steps.tick();
+        log.load_token::<N>(&mut self.token, word)
+    }
+
+    fn load_tail_by<L: Ledger>(
+        &mut self,
+        log: &MultiLog,
+        asked: bool,
+        steps: &mut Steps<L>,
+    ) -> u32 {
+        steps.tick();
+        log.load_tail_token(&mut self.token, asked)
+    }
+
+    fn advance_by<L: Ledger>(&mut self, log: &MultiLog, t: u32, steps: &mut Steps<L>) {
+        steps.tick();
+        log.advance_token(&mut self.token, t);
+    }
+}
+
+impl Pass for ReaderPass {
+    ghost held = { λ w. w };
+
+    fn covered(&self) -> u32 {
+        self.token.known()
+    }
+
+    fn load_by<N: Gives, L: Ledger>(
+        &mut self,
+        log: &MultiLog,
+        word: u64,
+        steps: &mut Steps<L>,
+    ) -> u64 {
+        steps.tick();
+        log.load_token::<N>(&mut self.token, word)
+    }
+
+    fn load_tail_by<L: Ledger>(
+        &mut self,
+        log: &MultiLog,
+        asked: bool,
+        steps: &mut Steps<L>,
+    ) -> u32 {
+        steps.tick();
+        log.load_tail_token(&mut self.token, asked)
+    }
+
+    fn advance_by<L: Ledger>(&mut self, log: &MultiLog, t: u32, steps: &mut Steps<L>) {
+        steps.tick();
+        log.advance_token(&mut self.token, t);
+    }
+}
+
+impl Pass for Root {
+    ghost held = { λ w. w };
+
+    fn covered(&self) -> u32 {
+        self.token.known()
+    }
+
+    fn load_by<N: Gives, L: Ledger>(
+        &mut self,
+        log: &MultiLog,
+        word: u64,
+        steps: &mut Steps<L>,
+    ) -> u64 {
+        steps.tick();
+        log.load_token::<N>(&mut self.token, word)
+    }
+
+    fn load_tail_by<L: Ledger>(
+        &mut self,
+        log: &MultiLog,
+        asked: bool,
+        steps: &mut Steps<L>,
+    ) -> u32 {
+        steps.tick();
+        log.load_tail_token(&mut self.token, asked)
+    }
+
+    fn advance_by<L: Ledger>(&mut self, log: &MultiLog, t: u32, steps: &mut Steps<L>) {
+        steps.tick();
+        log.advance_token(&mut self.token, t);
+    }
+}

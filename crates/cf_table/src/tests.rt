@@ -1,0 +1,95 @@
+ghost use Rattle.std.specs.Prelude.{◌≡◌, ◌<◌, ◌↔◌, IsTrue, true};
+ghost use Rattle.cf_law.specs.Shapes.{layout};
+ghost use Rattle.cf_table.specs.Fresh.{AreFresh};
+
+use super::*;
+use cf_row::{Attr, Kind, Memory, Name, Row, Schema, Value, fits};
+use cf_shape::Shape;
+use std::alloc::Global;
+use std::marker::Brand;
+use std::process::Abort;
+use std::sync::ledger::{Blank, Ledger};
+use std::test::*;
+
+// a shape over the schema `ts:u64`, without lanes
+fn shape(rt: &impl Abort, alloc: Global, capacity: u32, writers: u8) -> Result<Shape, Memory> {
+    let mut attrs = Vec::new(alloc);
+    attrs.push(Attr {
+        name: Name::new(alloc, "ts")?,
+        kind: Kind::U64,
+    })?;
+    let schema = Schema::new(attrs).expect(rt, "a schema");
+    let shape = Shape::new(schema, Vec::new(alloc), capacity, writers, 2, 10).expect(rt, "a shape");
+    Ok(shape)
+}
+
+// nothing was appended: two readers meet, the books of two writers are dealt and come home, and no entry is left
+fn homes<L: Ledger, R: Abort>(rt: &R, alloc: Global, blank: Blank) -> Result<(), Fail>
+    requires { (blank.name ≡ L.name) × (blank.parts ≡ L.parts) × (0 < L.parts) }
+{
+    let mut steps = Steps::<L>::new(blank);
+    let shape = shape(rt, alloc, 4, 2)?;
+    let (log, mut root) = MultiLog::open(alloc, shape)?;
+    let mut first = log.fork(&mut root);
+    let mut second = log.fork(&mut root);
+    assert_eq!(rt; log.load_tail(&mut first, true, &mut steps), 0);
+    log.meet(&mut first, &mut second);
+    let passes = log.deal(alloc, &mut root)?;
+    assert_eq!(rt; passes.len(), 2);
+    log.gather(&mut root, passes);
+    log.fold_back(&mut root, first);
+    assert_eq!(rt; root.covered(), 0);
+    Ok(())
+}
+
+// Whether the row is one of the shape's.
+fn is_of(shape: &Shape, row: &Row) -> bool
+    ensures { IsTrue result ↔ ((layout shape.now).fits row.now ≡ true) }
+{
+    let _number = row.num();
+    fits(shape.schema(), row)
+}
+
+// each takes a ticket, where there is room for one: the other books are marked
+fn take_each<L: Ledger, R: Abort>(
+    rt: &R,
+    log: &MultiLog,
+    row: &Row,
+    passes: Vec<WriterPass>,
+    steps: &mut Steps<L>,
+)
+    requires fits { (layout log.now.shape).fits row.now ≡ true }
+    requires fresh { AreFresh log.now passes.items }
+{
+    let mut wanted = 0u64;
+    for mut pass in passes {
+        assert!(rt; !pass.over());
+        assert!(rt; log.take_ticket(&mut pass, row, steps) == wanted);
+        assert!(rt; pass.over() == (wanted > 0));
+        wanted = 1;
+    }
+}
+
+fn tickets<L: Ledger, R: Abort>(rt: &R, alloc: Global, blank: Blank) -> Result<(), Fail>
+    requires { (blank.name ≡ L.name) × (blank.parts ≡ L.parts) × (0 < L.parts) }
+{
+    let mut steps = Steps::<L>::new(blank);
+    let (log, mut root) = MultiLog::open(alloc, shape(rt, alloc, 1, 2)?)?;
+    let mut values = Vec::new(alloc);
+    values.push(Value::Num(7))?;
+    let row = Row::new(0, values);
+    assert!(rt; is_of(log.shape(), &row));
+    let passes = log.deal(alloc, &mut root)?;
+    take_each(rt, &log, &row, passes, &mut steps);
+    Ok(())
+}
+
+#[test]
+fn one_place(rt: HostRuntime) -> Result<(), Fail> {
+    tickets::<Brand, _>(&rt, rt.alloc(), Blank::new(1))
+}
+
+#[test]
+fn nothing_appended(rt: HostRuntime) -> Result<(), Fail> {
+    homes::<Brand, _>(&rt, rt.alloc(), Blank::new(1))
+}

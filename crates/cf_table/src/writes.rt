@@ -1,0 +1,168 @@
+// The step calls of a writer's pass.
+ghost use Rattle.std.specs.Prelude.{ℕ, suc, ◌≡◌, ◌+◌, ◌*◌, ◌<◌, ◌≤◌};
+ghost use Rattle.cf_law.specs.Steps.Act.{take_ticket as takes_ticket, store_cell as stores_cell, finish_record as finishes_record, label as labels, link as links, store_head as stores_head};
+ghost use Rattle.cf_shape.specs.Places.{Slot};
+ghost use Rattle.cf_shape.specs.Uses.{ticket_words};
+ghost use Rattle.cf_words.specs.Words.{Spot};
+ghost use Rattle.cf_table.specs.Held.{IsOf, book_of};
+ghost use Rattle.cf_table.specs.Ways.{May, Made, Stored, take_way, store_way, finish_way, label_way, link_way, head_way};
+ghost use Rattle.cf_table.specs.Rule.{Calls, exchanged, given_take};
+
+use crate::count::Steps;
+use crate::log::MultiLog;
+use crate::pass::WriterPass;
+use crate::rule::{Gives, Token};
+use cf_row::Row;
+use cf_shape::{place_done, place_head, place_label, place_ticket};
+use std::marker::Brand;
+use std::sync::ledger::Ledger;
+
+impl MultiLog {
+    /// Takes a ticket for the row, or marks the book where the write tail was at the capacity or above.
+    pub fn take_ticket<L: Ledger>(
+        &self,
+        pass: &mut WriterPass,
+        row: &Row,
+        steps: &mut Steps<L>,
+    ) -> u64
+        requires of { IsOf pass.old self.now }
+        requires lawful { May self.now.shape pass.old.view (takes_ticket row.now) (take_way self.now.shape pass.old.view row.now) }
+        ensures made { Made self.now.shape (take_way self.now.shape pass.old.view row.now) pass.old result pass.new }
+        ensures steps { steps.new ≡ steps.old + 1 }
+    {
+        steps.tick();
+        let found = take_as::<Brand>(self, &mut pass.token, row);
+        if found >= u64::from(self.shape.capacity()) {
+            pass.over = true;
+        }
+        found
+    }
+
+    /// Stores the next word of the ticket in flight.
+    pub fn store_cell<L: Ledger>(
+        &self,
+        pass: &mut WriterPass,
+        offset: u32,
+        i: u8,
+        value: u64,
+        steps: &mut Steps<L>,
+    )
+        requires of { IsOf pass.old self.now }
+        requires place { (offset < self.now.shape.capacity) × (i < ticket_words self.now.shape) }
+        requires lawful { May self.now.shape pass.old.view (stores_cell offset i value) (store_way pass.old.view offset i value) }
+        ensures made { Stored self.now.shape (store_way pass.old.view offset i value) pass.old pass.new }
+        ensures steps { steps.new ≡ steps.old + 1 }
+    {
+        steps.tick();
+        let word = place_ticket(&self.shape, offset, u64::from(i));
+        store_as::<Brand>(self, &mut pass.token, (offset, i, 0), word, value);
+    }
+
+    /// Marks the ticket in flight as finished.
+    pub fn finish_record<L: Ledger>(&self, pass: &mut WriterPass, offset: u32, steps: &mut Steps<L>)
+        requires of { IsOf pass.old self.now }
+        requires place { offset < self.now.shape.capacity }
+        requires lawful { May self.now.shape pass.old.view (finishes_record offset) (finish_way self.now.shape pass.old.view offset) }
+        ensures made { Stored self.now.shape (finish_way self.now.shape pass.old.view offset) pass.old pass.new }
+        ensures steps { steps.new ≡ steps.old + 1 }
+    {
+        steps.tick();
+        let word = place_done(&self.shape, offset);
+        store_as::<Brand>(self, &mut pass.token, (offset, 0, 0), word, 1);
+    }
+
+    /// Labels the least own node that isn't used.
+    pub fn label<L: Ledger>(
+        &self,
+        pass: &mut WriterPass,
+        node: u32,
+        value: u64,
+        steps: &mut Steps<L>,
+    )
+        requires of { IsOf pass.old self.now }
+        requires place { node < self.now.shape.writers * self.now.shape.nodes }
+        requires lawful { May self.now.shape pass.old.view (labels node value) (label_way pass.old.view node value) }
+        ensures made { Stored self.now.shape (label_way pass.old.view node value) pass.old pass.new }
+        ensures steps { steps.new ≡ steps.old + 1 }
+    {
+        steps.tick();
+        let word = place_label(&self.shape, node);
+        store_as::<Brand>(self, &mut pass.token, (node, 0, 0), word, value);
+    }
+
+    /// Links the least own node that isn't used at the child word of that place, which stands for the spot `to.0`, where
+    /// that word is 0.
+    pub fn link<L: Ledger>(
+        &self,
+        pass: &mut WriterPass,
+        place: u64,
+        node: u32,
+        steps: &mut Steps<L>,
+    ) -> u64
+        ghost to: { Spot × Slot }
+        requires of { IsOf pass.old self.now }
+        requires lawful { May self.now.shape pass.old.view (links place node) (link_way pass.old.view to.0 to.1 node) }
+        ensures made { Made self.now.shape (link_way pass.old.view to.0 to.1 node) pass.old result pass.new }
+        ensures steps { steps.new ≡ steps.old + 1 }
+    {
+        steps.tick();
+        let found = link_as::<Brand>(self, &mut pass.token, place, node);
+        if found == 0 {
+            pass.used += 1;
+        }
+        found
+    }
+
+    /// Links the ticket in flight in a lane, at a node of the last level.
+    pub fn store_head<L: Ledger>(
+        &self,
+        pass: &mut WriterPass,
+        node: u32,
+        d: u8,
+        offset: u32,
+        steps: &mut Steps<L>,
+    )
+        ghost lane: { ℕ }
+        requires of { IsOf pass.old self.now }
+        requires place { (node < self.now.shape.writers * self.now.shape.nodes) × (d < 16) × ((book_of pass.old.view).writer < self.now.shape.writers) }
+        requires lawful { May self.now.shape pass.old.view (stores_head lane node d offset) (head_way self.now.shape pass.old.view lane node d offset) }
+        ensures made { Stored self.now.shape (head_way self.now.shape pass.old.view lane node d offset) pass.old pass.new }
+        ensures steps { steps.new ≡ steps.old + 1 }
+    {
+        steps.tick();
+        let word = place_head(&self.shape, node, d, pass.writer());
+        store_as::<Brand>(
+            self,
+            &mut pass.token,
+            (node, d, offset),
+            word,
+            offset as u64 + 1,
+        );
+    }
+}
+
+// What a call gives its step is picked from the step's own arguments: `row`, and below `_at`, are for the proof.
+fn take_as<N: Gives>(log: &MultiLog, token: &mut Token, _row: &Row) -> u64
+    requires of { IsOf token.old log.now }
+    requires given { N.given ≡ given_take log.now.shape token.old.view _row.now }
+    requires lawful { May log.now.shape token.old.view (takes_ticket _row.now) (take_way log.now.shape token.old.view _row.now) }
+    ensures made { Made log.now.shape (take_way log.now.shape token.old.view _row.now) token.old result token.new }
+{
+    log.add_token::<N>(token)
+}
+
+fn store_as<N: Gives>(log: &MultiLog, token: &mut Token, _at: (u32, u8, u32), word: u64, value: u64)
+    requires of { IsOf token.old log.now }
+    requires lawful { Calls log.now.shape N.given token.old.view word (λ _. value) }
+    ensures made { Stored log.now.shape (N.given).way token.old token.new }
+{
+    log.store_token::<N>(token, word, value);
+}
+
+fn link_as<N: Gives>(log: &MultiLog, token: &mut Token, place: u64, node: u32) -> u64
+    requires of { IsOf token.old log.now }
+    requires lawful { Calls log.now.shape N.given token.old.view place (λ n. exchanged (node + 1) n) }
+    ensures made { Made log.now.shape (N.given).way token.old result token.new }
+{
+    log.exchange_token::<N>(token, place, node as u64 + 1)
+}
