@@ -11,16 +11,10 @@ use Rattle.cf_law.specs.Events.{Does, opening}
 use Rattle.cf_law.specs.Events.Event.{splits, joins}
 use Rattle.cf_law.specs.Events.Does.{parts, meets}
 use Rattle.cf_law.specs.Shapes.{layout}
-use Rattle.cf_core.specs.Worlds.{Held, IsHeld, IsLivePass, NoneHeld, world_of}
+use Rattle.cf_core.specs.Worlds.{Held, IsHeld, IsLivePass, world_of}
+use Rattle.cf_pass.specs.Books.{NoneHeld}
 use Rattle.cf_core.proofs.Making.{live_one}
 use Rattle.cf_core.proofs.Inverse.{parts_of, hands_of, meets_of}
-
-pub but_is : {A : Type 0} (k : ℕ) (xs : List A) → but k xs ≡ take k xs ++ drop (suc k) xs
-unfolding but
-but_is zero [] = refl
-but_is (suc k) [] = refl
-but_is zero (x ∷ xs) = refl
-but_is {A = A} (suc k) (x ∷ xs) = ap (λ (ys : List A). x ∷ ys) (but_is k xs)
 
 pub bare_does : (h : Held) (k : ℕ) (p left right : Pass) → IsLivePass h k p → left ≡ p → right ≡ newcomer [] p.seen
     → Does (layout h.shape) (world_of h) k (splits None) (record { words = h.words; passes = set h.passes k left ++ right ∷ [] })
@@ -62,7 +56,6 @@ pub part_lawful : (inside now : Held) (items : List Pass) (k : ℕ) (left right 
     → IsHeld (record { shape = inside.shape; words = inside.words; passes = set items k left })
 part_lawful inside now items k left right is same added lt law = record {
   shape = is.shape;
-  bare = is.bare;
   law = (let old : Lawful (layout inside.shape) inside.words (set inside.passes k left ++ right ∷ []) = subst (λ (h : Held). Lawful (layout h.shape) h.words (set h.passes k left ++ right ∷ [])) (sym same) law in
       let low : k < length inside.passes = subst (λ (h : Held). k < length h.passes) (sym same) lt in
       subst (Lawful (layout inside.shape) inside.words) (sym (ap (λ (ps : List Pass). set ps k left) added ∙ pushed inside.passes k left right low)) old);
@@ -76,9 +69,8 @@ part_is inside now items k left right same added lt =
     ∙ ap (λ (h : Held). record { shape = h.shape; words = h.words; passes = set h.passes k left ++ right ∷ [] }) same
 
 -- the opening
-pub opening_held : (s : Shaped) (words : List ℕ) (passes : List Pass) → IsShape s → s.lanes ≡ [] → words ≡ (opening (layout s)).words → passes ≡ (opening (layout s)).passes → IsHeld (record { shape = s; words = words; passes = passes })
-opening_held s words passes is none w p = record {
+pub opening_held : (s : Shaped) (words : List ℕ) (passes : List Pass) → IsShape s → words ≡ (opening (layout s)).words → passes ≡ (opening (layout s)).passes → IsHeld (record { shape = s; words = words; passes = passes })
+opening_held s words passes is w p = record {
   shape = is;
-  bare = none;
   law = subst (λ (ws : List ℕ). Lawful (layout s) ws passes) (sym w) (subst (Lawful (layout s) (opening (layout s)).words) (sym p) (opening_lawful (layout s)));
 }

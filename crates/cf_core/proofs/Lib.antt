@@ -3,3 +3,9 @@ pub mod Making
 pub mod Tables
 pub mod Tickets
 pub mod Handing
+pub mod Children
+pub mod Walks
+pub mod Links
+pub mod Paths
+pub mod Versions
+pub mod Heads

@@ -21,17 +21,10 @@ use Rattle.cf_law.proofs.Shapes.{layout_law}
 use Rattle.cf_law.proofs.Loads.{place_tail, tail_is}
 use Rattle.cf_law.proofs.Fronts.{plain_spells}
 use Rattle.cf_law.proofs.Passes.{no_gap}
+use Rattle.cf_pass.proofs.Books.{table_none, table_more}
 use Rattle.cf_core.specs.Worlds.{Held, IsHeld, IsLivePass, AreReadable, world_of}
 use Rattle.cf_core.proofs.Making.{does_step, word_there, live_one}
 use Rattle.cf_core.proofs.Inverse.{acts_of, advances_of}
-
-pub table_none : {A : Type 0} (f : ℕ → A) → table f 0 ≡ []
-unfolding table
-table_none f = refl
-
-pub table_more : {A : Type 0} (f : ℕ → A) (n : ℕ) → table f (suc n) ≡ table f n ++ f n ∷ []
-unfolding table
-table_more f n = refl
 
 pub table_long : {A : Type 0} (f : ℕ → A) (n : ℕ) → length (table f n) ≡ n
 table_long f zero = ap length (table_none f)

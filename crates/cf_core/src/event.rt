@@ -12,6 +12,12 @@ pub enum Act {
     LoadTail(bool),
     LookDone(u32),
     LoadWord(u32, u32),
+    Label(u32, u64),
+    Link(u64, u32),
+    Head(u8, u32, u8, u32),
+    LoadChild(u64),
+    LoadHead(u32, u8, u8),
+    LoadCell(u32, u8, u8),
     Split(Option<u8>),
     Join(u32),
 }

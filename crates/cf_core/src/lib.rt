@@ -1,8 +1,9 @@
 //! A world that runs: the words of a table and the passes over it, moved by events one at a time.
 #![tactic(auto)]
 
+mod cells;
 mod event;
-mod pass;
+mod lanes;
 #[cfg(test)]
 mod tests;
 mod world;

@@ -1,6 +1,9 @@
+ghost use Rattle.std.specs.Prelude.{◌≡◌, ◌↔◌, IsTrue, true};
+ghost use Rattle.cf_shape.specs.Faults.{is_lane_of, key_exists, measure_exists};
+
 use super::*;
-use cf_row::{Attr, Kind, Memory, Name, Row, Schema, Value};
-use cf_shape::Shape;
+use cf_row::{Attr, Conjunction, Expr, Kind, Memory, Name, Row, Schema, Value, is_of_schema};
+use cf_shape::{Key, Lane, Shape};
 use std::alloc::Global;
 use std::process::Abort;
 use std::test::Fail;
@@ -196,5 +199,267 @@ fn every_writer_is_marked_once(rt: HostRuntime) -> Result<(), Fail> {
         )?;
     }
     assert_eq!(rt; world.words()[0], 16);
+    Ok(())
+}
+
+// A world of two writers and one lane of all rows, or none where the lane isn't of the schema.
+fn lane_world(
+    rt: &impl Abort,
+    alloc: Global,
+    kinds: &[(&str, Kind)],
+    key: Key,
+    measure: Option<u8>,
+    nodes: u32,
+) -> Result<Option<World>, Memory> {
+    let mut attrs = Vec::new(alloc);
+    for (name, kind) in kinds {
+        attrs.push(Attr {
+            name: Name::new(alloc, name)?,
+            kind: *kind,
+        })?;
+    }
+    let schema = Schema::new(attrs).expect(rt, "a schema");
+    let mut all = Vec::new(alloc);
+    all.push(Conjunction::new(Vec::new(alloc)))?;
+    let lane = Lane {
+        select: Expr::new(all),
+        key,
+        measure,
+    };
+    if !belongs(&schema, &lane) {
+        return Ok(None);
+    }
+    let mut lanes = Vec::new(alloc);
+    lanes.push(lane)?;
+    let shape = Shape::new(schema, lanes, 4, 2, nodes, 10).expect(rt, "a shape");
+    Ok(Some(World::new(alloc, shape)?))
+}
+
+fn has_key(attrs: &[Attr], key: Key) -> bool
+    ensures { result ≡ key_exists attrs.now key }
+{
+    match key {
+        Key::Attr(attr) => attrs.get(attr as usize).is_some(),
+        Key::Bucket => true,
+    }
+}
+
+fn has_measure(attrs: &[Attr], measure: Option<u8>) -> bool
+    ensures { result ≡ measure_exists attrs.now measure }
+{
+    match measure {
+        Some(attr) => attrs.get(attr as usize).is_some(),
+        None => true,
+    }
+}
+
+// Whether the lane is of the schema.
+fn belongs(schema: &Schema, lane: &Lane) -> bool
+    ensures { IsTrue result ↔ (is_lane_of schema.now lane.now ≡ true) }
+{
+    is_of_schema(schema, &lane.select)
+        && has_key(schema.attrs(), lane.key)
+        && has_measure(schema.attrs(), lane.measure)
+}
+
+fn row_of(alloc: Global, num: u32, numbers: [u64; 2]) -> Result<Row, Memory> {
+    let mut values = Vec::new(alloc);
+    for number in numbers {
+        values.push(Value::Num(number))?;
+    }
+    Ok(Row::new(num, values))
+}
+
+// pass 1 has the book of writer 0, pass 2 that of writer 1, and each has a ticket
+fn takes(
+    rt: &impl Abort,
+    alloc: Global,
+    world: &mut World,
+    rows: [[u64; 2]; 2],
+) -> Result<(), Memory> {
+    for (writer, numbers) in rows.iter().enumerate() {
+        let pass = writer as u32 + 1;
+        says(rt, alloc, world, 0, Act::Split(Some(writer as u8)), true)?;
+        let row = row_of(alloc, writer as u32, *numbers)?;
+        says(rt, alloc, world, pass, Act::Ticket(row), true)?;
+    }
+    Ok(())
+}
+
+#[test]
+fn one_node_is_linked_for_two(rt: HostRuntime) -> Result<(), Fail> {
+    let alloc = rt.alloc();
+    let kinds = [("ts", Kind::U64), ("k", Kind::U8)];
+    let mut world = lane_world(&rt, alloc, &kinds, Key::Attr(1), None, 2)?.expect(&rt, "a lane");
+    assert_eq!(rt; world.words().len(), 170);
+    takes(&rt, alloc, &mut world, [[3, 53], [5, 53]])?;
+    for (pass, act, answer) in [
+        (1, Act::Link(25, 0), false),
+        (1, Act::Label(1, 801), false),
+        (1, Act::Label(0, 802), false),
+        (1, Act::Label(0, 673), false),
+        (1, Act::Label(0, 801), true),
+        (2, Act::Label(2, 801), true),
+        (1, Act::Link(25, 1), false),
+        (1, Act::Link(26, 0), false),
+        (1, Act::Link(25, 0), true),
+        (1, Act::Link(26, 1), false),
+        (2, Act::LoadHead(0, 5, 0), false),
+        (2, Act::Link(25, 2), true),
+        (2, Act::LoadHead(0, 5, 0), true),
+        (2, Act::LoadChild(25), true),
+        (2, Act::LoadChild(21), false),
+        (2, Act::LoadChild(39), false),
+        (2, Act::Label(2, 801), true),
+    ] {
+        says(&rt, alloc, &mut world, pass, act, answer)?;
+    }
+    for (place, wanted) in [(25, 1), (38, 801), (104, 801), (49, 0), (50, 0)] {
+        assert_eq!(rt;
+            world.words().get(place).copied(),
+            Some(wanted),
+            "word {place}"
+        );
+    }
+    Ok(())
+}
+
+#[test]
+fn a_ticket_ends_in_each_lane(rt: HostRuntime) -> Result<(), Fail> {
+    let alloc = rt.alloc();
+    let kinds = [("ts", Kind::U64), ("k", Kind::U8)];
+    let mut world = lane_world(&rt, alloc, &kinds, Key::Attr(1), None, 2)?.expect(&rt, "a lane");
+    takes(&rt, alloc, &mut world, [[3, 53], [5, 53]])?;
+    for (pass, act, answer) in [
+        (1, Act::Label(0, 801), true),
+        (1, Act::Link(25, 0), true),
+        (1, Act::Cell(0, 0, 3), true),
+        (1, Act::Cell(0, 1, 53), true),
+        (1, Act::Cell(0, 2, 0), true),
+        (1, Act::Head(0, 0, 5, 0), false),
+        (1, Act::Cell(0, 3, 1), false),
+        (1, Act::Cell(0, 3, 0), true),
+        (1, Act::Cell(0, 4, 1), false),
+        (1, Act::Done(0), false),
+        (1, Act::Head(0, 0, 3, 0), false),
+        (1, Act::Head(0, 1, 5, 0), false),
+        (1, Act::Head(1, 0, 5, 0), false),
+        (1, Act::Head(0, 0, 5, 0), true),
+        (1, Act::Head(0, 0, 5, 0), false),
+        (2, Act::LoadCell(0, 0, 0), false),
+        (2, Act::LoadChild(25), true),
+        (2, Act::LoadHead(0, 5, 0), true),
+        (2, Act::LoadCell(0, 0, 1), false),
+        (2, Act::LoadCell(0, 0, 0), true),
+        (2, Act::LoadCell(1, 0, 0), true),
+        (1, Act::Done(0), true),
+        (2, Act::Cell(1, 0, 5), true),
+        (2, Act::Cell(1, 1, 53), true),
+        (2, Act::Cell(1, 2, 17), true),
+        (2, Act::Cell(1, 3, 0), true),
+        (2, Act::Head(0, 0, 5, 1), true),
+        (2, Act::Done(1), true),
+        (2, Act::Label(2, 801), true),
+    ] {
+        says(&rt, alloc, &mut world, pass, act, answer)?;
+    }
+    for (place, wanted) in [(25, 1), (49, 1), (50, 2), (6, 1), (11, 1)] {
+        assert_eq!(rt;
+            world.words().get(place).copied(),
+            Some(wanted),
+            "word {place}"
+        );
+    }
+    Ok(())
+}
+
+// the path of bucket 0 is linked by pass 1 and loaded by pass 2
+fn bucket_path(rt: &impl Abort, alloc: Global, world: &mut World) -> Result<(), Memory> {
+    for level in 1..16 {
+        let place = if level == 1 {
+            30
+        } else {
+            47 + (level - 2) * 33
+        };
+        let node = level as u32 - 1;
+        for (pass, act) in [
+            (1, Act::Label(node, 32 * place + level)),
+            (1, Act::Link(place, node)),
+            (2, Act::LoadChild(place)),
+        ] {
+            says(rt, alloc, world, pass, act, true)?;
+        }
+    }
+    Ok(())
+}
+
+#[test]
+fn a_cell_counts_its_writers_rows(rt: HostRuntime) -> Result<(), Fail> {
+    let alloc = rt.alloc();
+    let kinds = [("ts", Kind::U64), ("len", Kind::U32)];
+    let world = lane_world(&rt, alloc, &kinds, Key::Bucket, Some(1), 15)?;
+    let mut world = world.expect(&rt, "a lane");
+    takes(&rt, alloc, &mut world, [[3, 7], [5, 9]])?;
+    bucket_path(&rt, alloc, &mut world)?;
+    let two = 1 << 32;
+    for (pass, act) in [
+        (1, Act::Cell(0, 0, 3)),
+        (1, Act::Cell(0, 1, 7)),
+        (1, Act::Cell(0, 2, 0)),
+        (1, Act::Cell(0, 3, two)),
+        (1, Act::Cell(0, 4, 7)),
+        (1, Act::Cell(0, 5, 7 + two * 7)),
+        (1, Act::Head(0, 14, 0, 0)),
+        (1, Act::Done(0)),
+        (2, Act::Cell(1, 0, 5)),
+        (2, Act::Cell(1, 1, 9)),
+        (2, Act::Cell(1, 2, 17)),
+        (2, Act::Cell(1, 3, two)),
+        (2, Act::Cell(1, 4, 9)),
+        (2, Act::Cell(1, 5, 9 + two * 9)),
+        (2, Act::Head(0, 14, 0, 1)),
+        (2, Act::Done(1)),
+        (1, Act::Ticket(row_of(alloc, 2, [4, 1])?)),
+        (1, Act::Cell(2, 0, 4)),
+        (1, Act::Cell(2, 1, 1)),
+        (1, Act::Cell(2, 2, 32)),
+    ] {
+        says(&rt, alloc, &mut world, pass, act, true)?;
+    }
+    for (act, answer) in [
+        (Act::Cell(2, 3, 1 + two * 3), false),
+        (Act::Cell(2, 3, two * 2), false),
+        (Act::Cell(2, 3, 1 + two * 2), true),
+        (Act::Cell(2, 4, 1), false),
+        (Act::Cell(2, 4, 8), true),
+        (Act::Cell(2, 5, 1 + two * 9), false),
+        (Act::Cell(2, 5, 1 + two * 7), true),
+        (Act::Head(0, 14, 0, 2), true),
+        (Act::Done(2), true),
+    ] {
+        says(&rt, alloc, &mut world, 1, act, answer)?;
+    }
+    Ok(())
+}
+
+#[test]
+fn an_ask_waits_for_what_is_finished(rt: HostRuntime) -> Result<(), Fail> {
+    let alloc = rt.alloc();
+    let mut world = one_finished(&rt, alloc)?;
+    says(&rt, alloc, &mut world, 2, Act::LoadTail(true), true)?;
+    assert_eq!(rt; world.words().get(1).copied(), Some(0));
+    for (pass, act) in [
+        (1, Act::Cell(0, 0, 3)),
+        (1, Act::Cell(0, 1, 0)),
+        (1, Act::Done(0)),
+        (1, Act::LookDone(0)),
+        (1, Act::Advance(0)),
+        (1, Act::LookDone(1)),
+        (1, Act::Advance(1)),
+        (2, Act::LoadTail(true)),
+    ] {
+        says(&rt, alloc, &mut world, pass, act, true)?;
+    }
+    assert_eq!(rt; world.words().get(1).copied(), Some(2));
     Ok(())
 }

@@ -1,21 +1,21 @@
 // A world, and its first steps.
 ghost use Rattle.std.specs.Prelude.{◌≡◌, ℕ, ◌+◌, ◌<◌, ◌≤◌, ◌∷◌, ◌++◌, List, [], length, IfOk, MatchResult, MatchOption, Some, None, slice_get, slice_index_or, set, cond, ◌==◌, take, drop, true, IsTrue, ◌↔◌};
-ghost use Rattle.cf_row.specs.Row.{Fits};
 ghost use Rattle.cf_shape.specs.Places.{place};
 ghost use Rattle.cf_shape.specs.Places.Slot.{cell};
 ghost use Rattle.cf_shape.specs.Uses.{ticket_words};
 ghost use Rattle.cf_shape.specs.Lanes.{Shaped};
 ghost use Rattle.cf_core.specs.Worlds.{Held, IsHeld, AreReadable, Answers, NoPass, IsLivePass, event_of};
 ghost use Rattle.cf_law.specs.Events.{spelt, plain_at, opening};
-ghost use Rattle.cf_row.specs.Words.{AreSpelled, spelled, word_count as word_total_of};
+ghost use Rattle.cf_row.specs.Words.{AreSpelled};
 ghost use Rattle.cf_law.specs.Events.Event.{acts, splits, joins};
 ghost use Rattle.cf_law.specs.Steps.Act.{take_ticket, store_cell, finish_record, look_done, load_word, load_tail, advance};
 ghost use Rattle.cf_law.specs.Lawful.{Lawful};
 ghost use Rattle.cf_law.specs.Shapes.{layout};
 
-use crate::pass::{PassState, empty_books};
+use crate::cells::{are_all, is_next, is_whole, own_word};
 use crate::{Act, Event};
-use cf_row::{Entry, Memory, Row, fits, row_of, word_count, words_of};
+use cf_pass::{PassState, empty_books};
+use cf_row::{Entry, Memory, Row, fits, row_of, word_count};
 use cf_shape::{Shape, place_ticket, word_total};
 use std::alloc::Global;
 use std::marker::Model;
@@ -47,7 +47,7 @@ impl World {
         &self.words
     }
 
-    fn shape(&self) -> &Shape
+    pub(crate) fn shape(&self) -> &Shape
         ensures shape { result.now ≡ self.now.shape }
         ensures lawful { IsHeld self.now }
     {
@@ -55,7 +55,7 @@ impl World {
     }
 
     // The pass of that number, where it is there and not spent.
-    fn live(&self, k: u32) -> Option<&PassState>
+    pub(crate) fn live(&self, k: u32) -> Option<&PassState>
         ensures { MatchOption result (NoPass self.now k) (λ p. IsLivePass self.now k p.now) }
     {
         match self.passes.get(k as usize) {
@@ -65,7 +65,7 @@ impl World {
     }
 
     // The word becomes the value, and the pass that pass.
-    fn put(&mut self, k: u32, place: u64, value: u64, pass: PassState)
+    pub(crate) fn put(&mut self, k: u32, place: u64, value: u64, pass: PassState)
         requires pass { k < length self.old.passes }
         requires word { place < length self.old.words }
         requires lawful { Lawful (layout self.old.shape) (set self.old.words place value) (set self.old.passes k pass) }
@@ -75,7 +75,7 @@ impl World {
         self.passes[k as usize] = pass;
     }
 
-    fn word(&self, place: u64) -> u64
+    pub(crate) fn word(&self, place: u64) -> u64
         requires { place < length self.now.words }
         ensures { result ≡ slice_index_or self.now.words place 0 }
     {
@@ -83,7 +83,7 @@ impl World {
     }
 
     // The place of word i of a ticket.
-    fn ticket_place(&self, offset: u32, i: u64) -> u64
+    pub(crate) fn ticket_place(&self, offset: u32, i: u64) -> u64
         requires offset { offset < self.now.shape.capacity }
         requires word { i < ticket_words self.now.shape }
         ensures at { result ≡ place (layout self.now.shape).sizes (cell offset i) }
@@ -228,19 +228,6 @@ impl World {
         Ok(true)
     }
 
-    // Word i of the entry of the row and the writer.
-    fn plain_word(&self, alloc: Global, row: &Row, writer: u8, i: u32) -> Result<u64, Memory>
-        requires fits { Fits self.now.shape.schema row.now }
-        requires writer { writer < 16 }
-        requires word { i < word_total_of self.now.shape.schema + 1 }
-        ensures { IfOk result (λ word. word ≡ slice_index_or (spelled (record { writer = writer; row = row.now })) i 0) }
-    {
-        let schema = self.shape().schema();
-        let mut words = vec![in alloc; 0; word_count(schema) + 1]?;
-        words_of(schema, row, writer, &mut words);
-        Ok(words[i as usize])
-    }
-
     fn store_cell(
         &mut self,
         alloc: Global,
@@ -257,11 +244,12 @@ impl World {
         let Some((place, book, ticket)) = pass.flying(offset) else {
             return Ok(false);
         };
-        let words = self.shape().ticket_words();
-        if ticket.filled() != i || u64::from(i) + 1 >= words {
+        let shape = self.shape();
+        let row = ticket.row();
+        if !is_next(shape, row, ticket.filled(), i) {
             return Ok(false);
         }
-        if value != self.plain_word(alloc, ticket.row(), book.writer(), i)? {
+        if value != own_word(alloc, shape, book, row, i)? {
             return Ok(false);
         }
         let at = self.ticket_place(offset, u64::from(i));
@@ -279,11 +267,15 @@ impl World {
         let Some((place, book, ticket)) = pass.flying(offset) else {
             return Ok(false);
         };
-        let words = self.shape().ticket_words();
-        if u64::from(ticket.filled()) + 1 < words {
+        let shape = self.shape();
+        let row = ticket.row();
+        if !is_whole(shape, row, ticket.filled()) {
             return Ok(false);
         }
-        let at = self.ticket_place(offset, words - 1);
+        if !are_all(shape, row, ticket.linked()) {
+            return Ok(false);
+        }
+        let at = self.ticket_place(offset, shape.ticket_words() - 1);
         let after = pass.at_book(alloc, place, book.finished(alloc, ticket)?)?;
         self.put(k, at, 1, after);
         Ok(true)
@@ -356,7 +348,6 @@ impl World {
 
     /// A world in which nothing has happened: all words are 0, and one pass holds all books, which are empty.
     pub fn new(alloc: Global, shape: Shape) -> Result<World, Memory>
-        requires bare { shape.lanes ≡ [] }
         ensures opening { IfOk result (λ world. world ≡ record { shape = shape; words = (opening (layout shape)).words; passes = (opening (layout shape)).passes }) }
         ensures lawful { IfOk result IsHeld }
     {
@@ -387,6 +378,12 @@ pub fn step(alloc: Global, world: &mut World, event: &Event) -> Result<bool, Mem
         Act::LoadTail(asked) => world.load_tail(alloc, k, *asked),
         Act::LookDone(offset) => world.look_done(alloc, k, *offset),
         Act::LoadWord(offset, i) => world.load_word(alloc, k, *offset, *i),
+        Act::Label(node, value) => world.label(alloc, k, *node, *value),
+        Act::Link(place, node) => world.link(alloc, k, *place, *node),
+        Act::Head(lane, node, d, offset) => world.store_head(alloc, k, *lane, *node, *d, *offset),
+        Act::LoadChild(place) => world.load_child(alloc, k, *place),
+        Act::LoadHead(node, d, writer) => world.load_head(alloc, k, *node, *d, *writer),
+        Act::LoadCell(offset, lane, i) => world.load_cell(alloc, k, *offset, *lane, *i),
         Act::Split(writer) => world.split(alloc, k, *writer),
         Act::Join(other) => world.join(alloc, k, *other),
     }

@@ -3,7 +3,7 @@ use Rattle.cf_law.specs.Events.Event.{acts}
 use Rattle.cf_law.specs.Events.{spelt, plain_at}
 use Rattle.cf_law.specs.Shapes.{layout}
 use Rattle.cf_row.specs.declared.row.Entry.{Entry}
-use Rattle.cf_core.proofs.Tables.{table_none, table_more}
+use Rattle.cf_pass.proofs.Books.{table_none, table_more}
 use Rattle.cf_core.proofs.world.World.entries.Goals as goal
 
 pub loop-offset-init : goal.loop-offset-init

@@ -14,7 +14,7 @@ invariant_of-result c =
     let none : c.in_ok-passes.passes.items ≡ [] = search (rules, c.in_ok-passes.ensures.items) in
     let one : c.newcomer.result ≡ newcomer (table no_book c.args.shape.writers) [] = c.newcomer.ensures ∙ ap₂ newcomer books c.new.ensures.items in
     let passes : c.push.new.self.items ≡ (opening (layout c.args.shape)).passes = items ∙ ap₂ (λ (ps : List Pass) (p : Pass). ps ++ p ∷ []) none one in
-    opening_held c.args.shape c.in_ok-words.words.items c.push.new.self.items c.lanes-lawful.ensures.lawful c.requires.bare words passes
+    opening_held c.args.shape c.in_ok-words.words.items c.push.new.self.items c.lanes-lawful.ensures.lawful words passes
 
 pub returns-clause-lawful : goal.returns-clause-lawful
 returns-clause-lawful c =
@@ -24,4 +24,4 @@ returns-clause-lawful c =
     let none : c.in_ok-passes.passes.items ≡ [] = search (rules, c.in_ok-passes.ensures.items) in
     let one : c.newcomer.result ≡ newcomer (table no_book c.args.shape.writers) [] = c.newcomer.ensures ∙ ap₂ newcomer books c.new.ensures.items in
     let passes : c.push.new.self.items ≡ (opening (layout c.args.shape)).passes = items ∙ ap₂ (λ (ps : List Pass) (p : Pass). ps ++ p ∷ []) none one in
-    opening_held c.args.shape c.in_ok-words.words.items c.push.new.self.items c.lanes-lawful.ensures.lawful c.requires.bare words passes
+    opening_held c.args.shape c.in_ok-words.words.items c.push.new.self.items c.lanes-lawful.ensures.lawful words passes

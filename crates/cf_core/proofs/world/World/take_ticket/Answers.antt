@@ -3,7 +3,7 @@ use Rattle.cf_law.specs.Passes.{Book}
 use Rattle.cf_law.specs.Events.Event.{acts}
 use Rattle.cf_law.specs.Shapes.{layout}
 use Rattle.cf_law.specs.Steps.Act.{take_ticket}
-use Rattle.cf_core.specs.Worlds.{MayTake, ticketed_at}
+use Rattle.cf_pass.specs.Books.{MayTake, ticketed_at}
 use Rattle.cf_core.proofs.Making.{made, made_lawful}
 use Rattle.cf_core.proofs.Tickets.{ticket_does}
 use Rattle.cf_core.proofs.world.World.take_ticket.Goals as goal

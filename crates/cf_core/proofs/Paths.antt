@@ -1,0 +1,162 @@
+-- Paths of rows in lanes, and the words of tickets that are passed over.
+use Rattle.std.proofs.Common.{◌≡◌, ℕ, ◌+◌, ◌-◌, ◌<◌, ◌≤◌, zero, suc, List, [], ◌∷◌, ◌++◌, length, take, drop, get_or, cond, Bool, true, false, Option, Some, None, slice_get, ◌==◌, inl, inr, refl, arith, ap, ap₂, sym, ◌∙◌, subst}
+use Rattle.std.proofs.lemmas.Bool.{cases_Bool, eq-eqb, ne_eqb}
+use Rattle.std.proofs.lemmas.Option.{get_or_from_slice_get}
+use Rattle.std.proofs.lemmas.List.{take_all, drop_more, drop_all}
+use Rattle.cf_row.specs.Row.{Numbered}
+use Rattle.cf_row.specs.Words.{word_count}
+use Rattle.cf_shape.specs.declared.lane.Lane.{Lane}
+use Rattle.cf_shape.specs.Lanes.{Shaped, lane_at, no_lane, selected_by, key_of}
+use Rattle.cf_shape.specs.Nodes.{levels_of}
+use Rattle.cf_shape.specs.Uses.{Use, cell_count, cell_words, cells_before, ticket_words, use_at}
+use Rattle.cf_shape.specs.Uses.Use.{plain, version}
+use Rattle.cf_shape.proofs.Counts.{count_cons, count_none}
+use Rattle.cf_shape.proofs.Used.{plain_at, version_at}
+use Rattle.cf_words.specs.Words.{Layout, Ticket, has, same_path}
+use Rattle.cf_words.specs.Law.{Skips, IsWhole}
+use Rattle.cf_words.proofs.Chains.{same_bool, same_path_true, same_path_intro}
+use Rattle.cf_law.specs.Nibbles.{nibbles}
+use Rattle.cf_law.specs.Steps.{IsNext}
+use Rattle.cf_law.specs.Shapes.{layout, path_in}
+use Rattle.cf_law.proofs.Nibbles.{nibbles_more}
+use Rattle.cf_core.proofs.Children.{item_is}
+use Rattle.cf_core.specs.Worlds.{HasCell, IsPlainUse, IsCellUse, IsPassed, ArePassed, draft}
+
+-- the words before a lane's cell
+count_take : (xs : List Lane) (l : ℕ) → l < length xs → cell_count (take (l + 1) xs) ≡ cell_count (take l xs) + cell_words (get_or xs l no_lane)
+count_take [] l lt = absurd (omega arith)
+count_take (x ∷ xs) zero lt = omega (arith, count_cons x [], count_none)
+count_take (x ∷ xs) (suc l) lt =
+    let e : cell_count (take (suc l + 1) (x ∷ xs)) ≡ cell_words x + cell_count (take (l + 1) xs) = ap (λ (n : ℕ). cell_count (take n (x ∷ xs))) (let f : suc l + 1 ≡ suc (l + 1) = omega arith in f) ∙ count_cons x (take (l + 1) xs) in
+    let w : cell_words (get_or (x ∷ xs) (suc l) no_lane) ≡ cell_words (get_or xs l no_lane) = refl in
+    omega (arith, e, w, count_cons x (take l xs), count_take xs l (omega arith))
+
+pub cells_first : (s : Shaped) → cells_before s 0 ≡ 0
+cells_first s = count_none
+
+pub cells_next : (s : Shaped) (l : ℕ) → l < length s.lanes → cells_before s (l + 1) ≡ cells_before s l + cell_words (lane_at s l)
+cells_next s l lt = count_take s.lanes l lt
+
+pub cells_last : (s : Shaped) (l : ℕ) → length s.lanes ≤ l → cells_before s l ≡ cell_count s.lanes
+cells_last s l le = ap cell_count (take_all l s.lanes le)
+
+pub cell_use : (s : Shaped) (i l j : ℕ) → i ≡ word_count s.schema + 1 + cells_before s l + j → HasCell s l j → IsCellUse s i l j
+cell_use s i l j e has = (has, ap (use_at s) e ∙ version_at s l j has.0 has.1)
+
+pub plain_use : (s : Shaped) (i : ℕ) → i < word_count s.schema + 1 → IsPlainUse s i
+plain_use s i lt = (lt, plain_at s i lt)
+
+-- a lane that was read
+pub lane_is : (s : Shaped) (lanes : List Lane) (l : ℕ) (x : Lane) → lanes ≡ s.lanes → l < length lanes → x ≡ get_or lanes l x → lane_at s l ≡ x
+lane_is s lanes l x same lt is = get_or_from_slice_get s.lanes l x no_lane (item_is s.lanes lanes l x same lt is)
+
+-- paths
+pub path_none : (s : Shaped) (row : Numbered) (l : ℕ) → selected_by s l row ≡ false → path_in s row l ≡ None
+path_none s row l e = ap (λ (b : Bool). cond {A = Option (List ℕ)} b (Some (nibbles (levels_of s l) (key_of s l row))) None) e
+
+pub path_some : (s : Shaped) (row : Numbered) (l : ℕ) → selected_by s l row ≡ true → path_in s row l ≡ Some (nibbles (levels_of s l) (key_of s l row))
+path_some s row l e = ap (λ (b : Bool). cond {A = Option (List ℕ)} b (Some (nibbles (levels_of s l) (key_of s l row))) None) e
+
+pub none_path : (s : Shaped) (row : Numbered) (l : ℕ) → path_in s row l ≡ None → selected_by s l row ≡ false
+none_path s row l h = elim (cases_Bool (selected_by s l row)) [
+  | inl e ↦ absurd (cc (sym (path_some s row l e) ∙ h))
+  | inr e ↦ e
+]
+
+pub some_path : (s : Shaped) (row : Numbered) (l : ℕ) (q : List ℕ) → path_in s row l ≡ Some q → selected_by s l row ≡ true
+some_path s row l q h = elim (cases_Bool (selected_by s l row)) [
+  | inl e ↦ e
+  | inr e ↦ absurd (cc (sym (path_none s row l e) ∙ h))
+]
+
+-- words that are passed over
+pub skips_any : (sh : Layout) (t u : Ticket) (x : Use) → t.row ≡ u.row → Skips sh t x → Skips sh u x
+skips_any sh t u (plain i) e h = h
+skips_any sh t u (version l j) e h = ap (λ (r : Numbered). sh.path r l) (sym e) ∙ h
+
+pub plain_not_passed : (s : Shaped) (row : Numbered) (i : ℕ) → IsPlainUse s i → IsPassed s row i → ⊥
+plain_not_passed s row i is h = subst (Skips (layout s) (draft row 0)) is.1 h
+
+pub cell_passed : (s : Shaped) (row : Numbered) (i l j : ℕ) → IsCellUse s i l j → selected_by s l row ≡ false → IsPassed s row i
+cell_passed s row i l j is e = subst (Skips (layout s) (draft row 0)) (sym is.1) (path_none s row l e)
+
+pub cell_not_passed : (s : Shaped) (row : Numbered) (i l j : ℕ) → IsCellUse s i l j → IsPassed s row i → selected_by s l row ≡ false
+cell_not_passed s row i l j is h = none_path s row l (subst (Skips (layout s) (draft row 0)) is.1 h)
+
+pub passed_any : (s : Shaped) (t : Ticket) (i : ℕ) → IsPassed s t.row i → Skips (layout s) t (use_at s i)
+passed_any s t i h = skips_any (layout s) (draft t.row 0) t (use_at s i) refl h
+
+pub any_passed : (s : Shaped) (t : Ticket) (i : ℕ) → Skips (layout s) t (use_at s i) → IsPassed s t.row i
+any_passed s t i h = skips_any (layout s) t (draft t.row 0) (use_at s i) refl h
+
+-- the next word, and the whole ticket
+pub next_is : (s : Shaped) (row : Numbered) (filled i : ℕ) → suc i < ticket_words s → filled ≤ i → (IsPassed s row i → ⊥) → ArePassed s row filled i → IsNext (layout s) (draft row filled) i
+next_is s row filled i lt le wanted passed = record {
+  from = le;
+  skipped = λ k ge low. passed_any s (draft row filled) k (passed k ge low);
+  wanted = λ h. wanted (any_passed s (draft row filled) i h);
+  within = lt;
+}
+
+pub next_only : (s : Shaped) (row : Numbered) (filled i : ℕ) → IsNext (layout s) (draft row filled) i → (suc i < ticket_words s) × (filled ≤ i) × (IsPassed s row i → ⊥) × ArePassed s row filled i
+next_only s row filled i next = (next.within, next.from, λ h. next.wanted (passed_any s (draft row filled) i h), λ k ge low. any_passed s (draft row filled) k (next.skipped k ge low))
+
+pub whole_is : (s : Shaped) (row : Numbered) (filled last : ℕ) → suc last ≡ ticket_words s → ArePassed s row filled last → IsWhole (layout s) (draft row filled)
+whole_is s row filled last e passed k ge lt = passed_any s (draft row filled) k (passed k ge (omega arith))
+
+pub whole_only : (s : Shaped) (row : Numbered) (filled last : ℕ) → suc last ≡ ticket_words s → IsWhole (layout s) (draft row filled) → ArePassed s row filled last
+whole_only s row filled last e whole k ge lt = any_passed s (draft row filled) k (whole k ge (omega arith))
+
+-- the same of any ticket of the row that is filled so far
+pub next_any : (sh : Layout) (t u : Ticket) (i : ℕ) → t.row ≡ u.row → t.filled ≡ u.filled → IsNext sh t i → IsNext sh u i
+next_any sh t u i e f next = record {
+  from = (let h = next.from in omega (arith, h, f));
+  skipped = λ k ge low. skips_any sh t u (sh.use_of k) e (next.skipped k (omega (arith, ge, f)) low);
+  wanted = λ h. next.wanted (skips_any sh u t (sh.use_of i) (sym e) h);
+  within = next.within;
+}
+
+pub whole_any : (sh : Layout) (t u : Ticket) → t.row ≡ u.row → t.filled ≡ u.filled → IsWhole sh t → IsWhole sh u
+whole_any sh t u e f whole k ge lt = skips_any sh t u (sh.use_of k) e (whole k (omega (arith, ge, f)) lt)
+
+-- lanes in a list
+pub has_none : (l : ℕ) → has [] l ≡ false
+unfolding has
+has_none l = refl
+
+has_cons : (x : ℕ) (xs : List ℕ) (l : ℕ) → has (x ∷ xs) l ≡ cond (x == l) true (has xs l)
+unfolding has
+has_cons x xs l = refl
+
+pub has_here : (xs : List ℕ) (i l : ℕ) → i < length xs → get_or xs i 0 ≡ l → has (drop i xs) l ≡ true
+has_here xs i l lt e =
+    ap (λ (ys : List ℕ). has ys l) (drop_more xs i 0 lt)
+    ∙ (has_cons (get_or xs i 0) (drop (i + 1) xs) l ∙ ap (λ (b : Bool). cond b true (has (drop (i + 1) xs) l)) (eq-eqb (get_or xs i 0) l e))
+
+pub has_later : (xs : List ℕ) (i l : ℕ) → i < length xs → (get_or xs i 0 ≡ l → ⊥) → has (drop i xs) l ≡ has (drop (i + 1) xs) l
+has_later xs i l lt ne =
+    ap (λ (ys : List ℕ). has ys l) (drop_more xs i 0 lt)
+    ∙ (has_cons (get_or xs i 0) (drop (i + 1) xs) l ∙ ap (λ (b : Bool). cond b true (has (drop (i + 1) xs) l)) (ne_eqb (get_or xs i 0) l ne))
+
+pub has_end : (xs : List ℕ) (i l : ℕ) → length xs ≤ i → has (drop i xs) l ≡ false
+has_end xs i l le = ap (λ (ys : List ℕ). has ys l) (drop_all i xs le) ∙ has_none l
+
+-- nibbles one by one
+pub nibbles_none : (k : ℕ) → nibbles 0 k ≡ []
+unfolding nibbles
+nibbles_none k = refl
+
+pub nibbles_step : (n i k : ℕ) (path : List ℕ) → i < n → path ++ nibbles (n - i) k ≡ (path ++ Rattle.std.proofs.Common.◌%◌ k 16 ∷ []) ++ nibbles (n - (i + 1)) (Rattle.std.proofs.Common.◌/◌ k 16)
+nibbles_step n i k path lt =
+    let e : n - i ≡ suc (n - (i + 1)) = omega arith in
+    ap (λ (m : ℕ). path ++ nibbles m k) e ∙ (ap (λ (q : List ℕ). path ++ q) (nibbles_more (n - (i + 1)) k)
+    ∙ sym (Rattle.std.proofs.Common.append_assoc path (Rattle.std.proofs.Common.◌%◌ k 16 ∷ []) (nibbles (n - (i + 1)) (Rattle.std.proofs.Common.◌/◌ k 16))))
+
+-- paths are compared as lists
+pub path_same : (o : Option (List ℕ)) (own p : List ℕ) (b : Bool) → o ≡ Some own → (b ≡ true → own ≡ p) → (own ≡ p → b ≡ true) → b ≡ same_path o p
+path_same o own p b e to from = same_bool b (same_path o p)
+    (λ h. ap (λ (x : Option (List ℕ)). same_path x p) (e ∙ ap (λ (q : List ℕ). Some q) (to h)) ∙ same_path_intro p)
+    (λ h. from (let s : ◌≡◌ {A = Option (List ℕ)} (Some own) (Some p) = sym e ∙ same_path_true o p h in let q : own ≡ p = cc s in q))
+
+pub path_other : (o : Option (List ℕ)) (p : List ℕ) → o ≡ None → false ≡ same_path o p
+path_other o p e = same_bool false (same_path o p) (λ h. absurd (cc h)) (λ h. absurd (let s = same_path_true o p h in cc (s, e)))
