@@ -1,6 +1,16 @@
 use super::*;
-use cf_row::{Row, Value, fits, packet_schema};
+use cf_row::{Memory, Row, Schema, Value, fits, packet_schema};
+use std::alloc::Global;
 use std::test::Fail;
+
+// The dump of one row; None where it doesn't fit.
+fn dump_of_one(alloc: Global, schema: &Schema, row: Row) -> Result<Option<String>, Memory> {
+    if !fits(schema, &row) {
+        return Ok(None);
+    }
+    let rows = [row];
+    Ok(Some(dump(alloc, schema, &rows)?))
+}
 
 // A segment of TCP in a frame of 54 bytes.
 fn segment() -> [u64; 17] {
@@ -25,12 +35,7 @@ fn a_row_is_shown_by_the_names_of_its_values(rt: HostRuntime) -> Result<(), Fail
         }
         values.push(Value::Num(number))?;
     }
-    let mut rows = Vec::new(alloc);
-    rows.push(Row::new(7, values))?;
-    let mut text = String::new(alloc);
-    if rows.iter().all(|row| fits(&schema, row)) {
-        text = dump(alloc, &schema, &rows)?;
-    }
+    let text = dump_of_one(alloc, &schema, Row::new(7, values))?.expect(&rt, "a row that fits");
     let wanted =
         "records 1\n7 ts=1000000000 caplen=54 len=54 dmac=0x2f0000000001 smac=0x2f0000000002 etype=2048 kind=2 tos=0 iplen=40 ttl=64 proto=6 src=10.0.0.12 dst=10.0.1.10 sport=40219 dport=80 seq=0 ack=0 flags=16 win=1024\n";
     assert_eq!(rt; text.as_str(), wanted);
