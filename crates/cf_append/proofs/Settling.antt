@@ -1,0 +1,87 @@
+-- The read tail is moved over finished records.
+use Rattle.std.proofs.Common.{◌≡◌, ℕ, ◌+◌, ◌<◌, ◌≤◌, inl, inr, suc, Bool, List, length, false, take, slice_get, refl, ap, sym, subst, ◌∙◌, arith}
+use Rattle.std.specs.Bool.{nat_lt}
+use Rattle.std.proofs.lemmas.Bool.{cases_Bool}
+use Rattle.cf_row.specs.declared.row.Entry.{Entry}
+use Rattle.cf_shape.specs.Lanes.{Shaped}
+use Rattle.cf_shape.specs.Places.Slot.{cell}
+use Rattle.cf_law.specs.Passes.{Book, Pass, Look}
+use Rattle.cf_law.specs.Steps.{sees}
+use Rattle.cf_law.specs.Shapes.{layout}
+use Rattle.cf_table.specs.Held.{Held}
+use Rattle.cf_table.specs.Ways.{Made, Stored, tail_way, done_way, advance_way}
+use Rattle.cf_table.proofs.Seen.{grown, sees_books}
+use Rattle.cf_table.proofs.Folds.{sees_told, tail_entries}
+use Rattle.cf_table.proofs.Settling.{Moved, begins_then, last_word}
+use Rattle.cf_append.specs.Appends.{GoesOn, IsUnfinished}
+
+pub goes_on : (m n : Held) → Moved m n → GoesOn m n
+goes_on m n moved = record { same = moved.same; longer = moved.longer; tails = moved.tails; told = moved.told }
+
+sees_look : (n : ℕ) (es : List Entry) (p : Pass) → (sees n es p).look ≡ p.look
+sees_look n es p = elim (cases_Bool (nat_lt (length p.seen) n)) [
+  | inl e ↦ ap (λ (b : Bool). (grown n es p b).look) e
+  | inr e ↦ ap (λ (b : Bool). (grown n es p b).look) e
+]
+
+-- a look counts one more
+pub counts_look : (shape : Shaped) (m n : Held) (o found : ℕ) → Made shape (done_way shape m.view o) m found n → ((n.view).look).count ≡ ((m.view).look).count + 1
+counts_look shape m n o found made = ap (λ (q : Pass). (q.look).count) made.told.is
+
+-- the read tail was moved: the last look stays
+pub keeps_look : (shape : Shaped) (m n : Held) (t : ℕ) → Stored shape (advance_way m.view t) m n → (n.view).look ≡ (m.view).look
+keeps_look shape m n t stored =
+    let told = stored.made.told in
+    ap (λ (q : Pass). q.look) told.is ∙ sees_look (suc t) told.entries m.view
+
+-- a look that didn't find 1 found the record unfinished
+pub unfinished : (shape : Shaped) (m n : Held) (p : Pass) (b found : ℕ) → Made shape (done_way shape m.view b) m found n → b < shape.capacity → (found ≡ 1 → ⊥) → (p.look).count ≤ ((m.view).look).count → IsUnfinished shape b p n.view
+unfinished shape m n p b found made low other le =
+    let told = made.told in
+    let count = counts_look shape m n b found made in
+    let books = ap (λ (q : Pass). q.books) told.is in
+    let none : found ≡ 0 = elim (told.tells.done b (last_word shape) refl low (omega arith)) [
+      | inl e ↦ e
+      | inr e ↦ absurd (other e)
+    ] in record {
+      word = ap (λ (q : Pass). (q.look).word) told.is;
+      value = ap (λ (q : Pass). (q.look).value) told.is ∙ none;
+      since = omega (arith, count);
+      other = λ k j book x held at same. other (told.tells.own_done k j (last_word shape) book x (ap (λ (o : ℕ). cell o (last_word shape)) (sym same)) (ap (λ (bs : List Book). slice_get bs k) (sym books) ∙ held) at (omega arith));
+    }
+
+-- what a look and a move of the read tail after it ask and leave
+pub looked_seen : (shape : Shaped) (m n : Held) (o found : ℕ) → Made shape (done_way shape m.view o) m found n → (n.view).seen ≡ (m.view).seen
+looked_seen shape m n o found made = ap (λ (q : Pass). q.seen) made.told.is
+
+-- the read tail was loaded
+pub moved_tail : (shape : Shaped) (m n : Held) (found : ℕ) → Made shape (tail_way m.view false) m found n → Moved m n
+moved_tail shape m n found made =
+    let told = made.told in
+    let is = told.is in
+    let p = m.view in
+    record {
+      same = made.same;
+      books = ap (λ (q : Pass). q.books) is ∙ sees_books found told.entries p;
+      tails = ap (λ (q : Pass). q.tails) is;
+      told = ap (λ (q : Pass). q.told) is ∙ (sees_told found told.entries p).0;
+      longer = ap (λ (es : List Entry). take (length p.seen) es) (tail_entries shape p n.view false found told) ∙ told.goes_on.seen;
+    }
+
+pub counts_tail : (shape : Shaped) (m n : Held) (found : ℕ) → Made shape (tail_way m.view false) m found n → ((m.view).look).count ≤ ((n.view).look).count
+counts_tail shape m n found made =
+    let told = made.told in
+    let same = ap (λ (l : Look). l.count) (sees_look found told.entries m.view) in
+    let count = ap (λ (q : Pass). (q.look).count) told.is in
+    omega (arith, same, count)
+
+pub goes_then : (m n o : Held) → GoesOn m n → GoesOn n o → GoesOn m o
+goes_then m n o a b = record {
+  same = b.same ∙ ap (λ (h : Held). record h { view = o.view }) a.same;
+  longer = begins_then (m.view).seen (n.view).seen (o.view).seen a.longer b.longer;
+  tails = b.tails ∙ a.tails;
+  told = b.told ∙ a.told;
+}
+
+pub goes_none : (m : Held) → GoesOn m m
+goes_none m = record { same = refl; longer = Rattle.std.proofs.Math.Seq.take-length (m.view).seen; tails = refl; told = refl }

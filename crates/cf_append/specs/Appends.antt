@@ -1,0 +1,87 @@
+-- What appending and settling do to a writer's pass.
+use Rattle.std.specs.Prelude.{ℕ, ◌≡◌, ◌<◌, ◌≤◌, ◌⊎◌, List, [], ◌∷◌, ◌++◌, true, false, length, Some, None, slice_get}
+use Rattle.std.specs.declared.result.Result.{Result}
+use Rattle.std.specs.declared.result.Result.TheVariants.{Ok, Err}
+use Rattle.cf_row.specs.Row.{Numbered}
+use Rattle.cf_shape.specs.Lanes.{Shaped}
+use Rattle.cf_shape.specs.Places.{place_of}
+use Rattle.cf_shape.specs.Places.Word.{done}
+use Rattle.cf_law.specs.Passes.{Own, Book, Pass}
+use Rattle.cf_law.specs.Steps.{Holds}
+use Rattle.cf_table.specs.Held.{Held, book_of}
+use Rattle.cf_table.specs.Ways.{Made, take_way}
+use Rattle.cf_table.specs.Moves.{Begins}
+use Rattle.cf_append.specs.declared.appends.AppendFault.{AppendFault}
+use Rattle.cf_append.specs.declared.appends.AppendFault.TheVariants.{Full, NodesFull}
+use Rattle.cf_append.specs.declared.settles.Settled.{Settled}
+use Rattle.cf_append.specs.declared.settles.Settled.TheVariants.{Covered, Behind}
+
+-- the pass is the same one, it has seen no less, and no ask is noted
+pub record GoesOn (m n : Held) : Type 0 where
+  pub same : n ≡ record m { view = n.view }
+  pub longer : Begins (m.view).seen (n.view).seen
+  pub tails : (n.view).tails ≡ (m.view).tails
+  pub told : (n.view).told ≡ (m.view).told
+
+-- the last look, which was made since p, found the record at b unfinished
+pub record IsUnfinished (shape : Shaped) (b : ℕ) (p q : Pass) : Type 0 where
+  pub word : (q.look).word ≡ place_of shape (done b)
+  pub value : (q.look).value ≡ 0
+  pub since : (p.look).count < (q.look).count
+  -- it is none that the pass itself finished
+  pub other : (k j : ℕ) (book : Book) (x : Own) → Holds q k book → slice_get book.mine j ≡ Some x → x.offset ≡ b → ⊥
+
+-- all places are covered, or the one after the last covered was found unfinished
+abbrev pub Stops : Shaped → Pass → Pass → Type 0
+Stops shape p q = (shape.capacity ≤ length q.seen) ⊎ IsUnfinished shape (length q.seen) p q
+
+-- covered exactly where the offset is below the entries seen, and behind only a record found unfinished, not above the offset
+abbrev pub IsSettled : Shaped → ℕ → Pass → Pass → Settled → Type 0
+IsSettled shape offset p q Covered = offset < length q.seen
+IsSettled shape offset p q (Behind b) = (length q.seen ≤ offset) × (b ≤ offset) × IsUnfinished shape b p q
+
+-- a writer's pass at rest: its one book has no ticket in flight
+pub record Rests (p : Pass) : Type 0 where
+  pub one : p.books ≡ book_of p ∷ []
+  pub free : (book_of p).flight ≡ None
+
+abbrev pub with_book : Book → Held → Held
+with_book b m = record m { view = record m.view { books = b ∷ [] } }
+
+-- with the row's ticket at offset o in flight, whose first n words are stored
+abbrev pub flying : ℕ → Numbered → ℕ → Held → Held
+flying o row n m = with_book (record (book_of m.view) { flight = Some record { offset = o; row = row; filled = n; linked = [] } }) m
+
+-- the book with that record finished beside those before it
+abbrev pub with_own : ℕ → Numbered → Book → Book
+with_own o row b = record b { mine = b.mine ++ record { offset = o; row = row } ∷ []; flight = None }
+
+abbrev pub marked : Book → Book
+marked b = record b { over = true }
+
+-- The row was appended at offset o, as the pass's only change beside what it has seen.
+pub record IsAppended (shape : Shaped) (o : ℕ) (row : Numbered) (m n : Held) : Type 0 where
+  pub open_book : (book_of m.view).over ≡ false
+  pub room : o < shape.capacity
+  pub fresh : length (m.view).seen ≤ o
+  pub books : (n.view).books ≡ with_own o row (book_of m.view) ∷ []
+  pub covered : (o < length (n.view).seen) ⊎ ((b : ℕ) × (b < o) × IsUnfinished shape b m.view n.view)
+
+-- the ticket that was taken lay past the last place, and so the book was marked
+pub record IsLate (shape : Shaped) (row : Numbered) (m n : Held) : Type 0 where
+  pub open_book : (book_of m.view).over ≡ false
+  pub found : ℕ
+  pub past : shape.capacity ≤ found
+  pub taken : Made shape (take_way shape m.view row) m found n
+  pub is : n ≡ with_book (marked (book_of m.view)) m
+
+-- the book was marked before, and all is as it was
+pub record IsOver (m n : Held) : Type 0 where
+  pub over : (book_of m.view).over ≡ true
+  pub is : n ≡ m
+
+-- Full exactly where the book was marked, or is now that the ticket taken lay past the last place. Nodes aren't used yet.
+abbrev pub IsAnswered : Shaped → Numbered → Held → Held → Result ℕ AppendFault → Type 0
+IsAnswered shape row m n (Ok o) = IsAppended shape o row m n
+IsAnswered shape row m n (Err Full) = IsOver m n ⊎ IsLate shape row m n
+IsAnswered shape row m n (Err NodesFull) = ⊥

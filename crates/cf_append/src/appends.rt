@@ -1,0 +1,116 @@
+// A row becomes a record of the log.
+ghost use Rattle.std.specs.Prelude.{◌≡◌, ◌+◌, ◌<◌, ◌≤◌, [], length, IfOk};
+ghost use Rattle.cf_row.specs.Row.{Fits};
+ghost use Rattle.cf_row.specs.Words.{word_count as word_count_of, spelled};
+ghost use Rattle.cf_table.specs.Held.{IsOf, book_of};
+ghost use Rattle.cf_append.specs.Appends.{GoesOn, Rests, IsAnswered, flying};
+
+use crate::settles::{move_tail, wait_for};
+use cf_row::{Row, word_count, words_of};
+use cf_table::{MultiLog, Steps, WriterPass};
+use std::sync::Wait;
+use std::sync::ledger::Ledger;
+
+/// Why a row wasn't appended: the log is full, or the writer's nodes are, which doesn't come without lanes.
+#[derive(Clone, Copy, Debug, PartialEq, Eq)]
+pub enum AppendFault {
+    Full,
+    NodesFull,
+}
+
+// Stores these words of the ticket in flight.
+fn store_words<L: Ledger>(
+    log: &MultiLog,
+    pass: &mut WriterPass,
+    offset: u32,
+    row: &Row,
+    words: &[u64],
+    steps: &mut Steps<L>,
+)
+    requires of { IsOf pass.old log.now }
+    requires place { offset < log.now.shape.capacity }
+    requires few { length words.now ≤ 64 }
+    requires words { (length words.now ≡ word_count_of log.now.shape.schema + 1) × (words.now ≡ spelled record { writer = (book_of pass.old.view).writer; row = row.now }) }
+    requires flies { pass.old ≡ flying offset row.now 0 pass.old }
+    ensures { pass.new ≡ flying offset row.now (length words.now) pass.old }
+{
+    let _row = row;
+    for i in 0..words.len() {
+        log.store_cell(pass, offset, i as u8, words[i], steps);
+    }
+}
+
+// Stores all words of the ticket in flight.
+pub(crate) fn fill<L: Ledger>(
+    log: &MultiLog,
+    pass: &mut WriterPass,
+    offset: u32,
+    row: &Row,
+    steps: &mut Steps<L>,
+)
+    requires of { IsOf pass.old log.now }
+    requires place { offset < log.now.shape.capacity }
+    requires fits { Fits log.now.shape.schema row.now }
+    requires flies { pass.old ≡ flying offset row.now 0 pass.old }
+    ensures { pass.new ≡ flying offset row.now (word_count_of log.now.shape.schema + 1) pass.old }
+{
+    let schema = log.shape().schema();
+    let mut buffer = [0u64; 64];
+    let words = &mut buffer[..word_count(schema) + 1];
+    words_of(schema, row, pass.writer(), words);
+    store_words(log, pass, offset, row, words, steps);
+}
+
+/// Appends the row: takes a ticket, fills and finishes it, and moves the read tail over each finished record, up to the
+/// first that isn't. Answers the record's offset. It is covered then, or stands behind a record that the last look found
+/// unfinished.
+pub fn append<L: Ledger>(
+    log: &MultiLog,
+    pass: &mut WriterPass,
+    row: &Row,
+    steps: &mut Steps<L>,
+) -> Result<u32, AppendFault>
+    requires of { IsOf pass.old log.now }
+    requires fits { Fits log.now.shape.schema row.now }
+    requires rest { Rests pass.old.view }
+    requires bare { log.now.shape.lanes ≡ [] }
+    ensures goes_on { GoesOn pass.old pass.new }
+    ensures rest { Rests pass.new.view }
+    ensures answer { IsAnswered log.now.shape row.now pass.old pass.new result }
+{
+    if pass.over() {
+        return Err(AppendFault::Full);
+    }
+    let _number = row.num();
+    let found = log.take_ticket(pass, row, steps);
+    if found >= u64::from(log.shape().capacity()) {
+        return Err(AppendFault::Full);
+    }
+    let offset = found as u32;
+    fill(log, pass, offset, row, steps);
+    log.finish_record(pass, offset, steps);
+    move_tail(log, pass, steps);
+    Ok(offset)
+}
+
+/// As `append`, and then waits until the record is covered, for writers whose earlier records aren't finished.
+pub fn append_wait<R: Wait, L: Ledger>(
+    log: &MultiLog,
+    rt: &R,
+    pass: &mut WriterPass,
+    row: &Row,
+    steps: &mut Steps<L>,
+) -> Result<u32, AppendFault>
+    requires of { IsOf pass.old log.now }
+    requires fits { Fits log.now.shape.schema row.now }
+    requires rest { Rests pass.old.view }
+    requires bare { log.now.shape.lanes ≡ [] }
+    ensures goes_on { GoesOn pass.old pass.new }
+    ensures rest { Rests pass.new.view }
+    ensures answer { IsAnswered log.now.shape row.now pass.old pass.new result }
+    ensures covered { IfOk result (λ o. o < length pass.new.view.seen) }
+{
+    let offset = append(log, pass, row, steps)?;
+    wait_for(log, rt, pass, offset, steps);
+    Ok(offset)
+}

@@ -1,0 +1,79 @@
+// The read tail is moved up to the first record that isn't finished.
+ghost use Rattle.std.specs.Prelude.{◌≡◌, ◌+◌, ◌<◌, ◌≤◌, length};
+ghost use Rattle.cf_table.specs.Held.{IsOf};
+ghost use Rattle.cf_append.specs.Appends.{GoesOn, Stops, IsSettled};
+
+use cf_table::{MultiLog, Pass, Steps, WriterPass};
+use std::sync::Wait;
+use std::sync::ledger::Ledger;
+use std::thread::yield_now;
+
+/// Whether a record is covered by the read tail, or which record before it, or itself, was found unfinished.
+#[derive(Clone, Copy, Debug, PartialEq, Eq)]
+pub enum Settled {
+    Covered,
+    Behind(u32),
+}
+
+// Loads the read tail, and moves it over each finished record, up to the first that isn't.
+pub(crate) fn move_tail<L: Ledger>(log: &MultiLog, pass: &mut WriterPass, steps: &mut Steps<L>)
+    requires of { IsOf pass.old log.now }
+    ensures goes_on { GoesOn pass.old pass.new }
+    ensures books { pass.new.view.books ≡ pass.old.view.books }
+    ensures stops { Stops log.now.shape pass.old.view pass.new.view }
+{
+    log.load_tail(pass, false, steps);
+    let capacity = log.shape().capacity();
+    while pass.covered() < capacity {
+        let t = pass.covered();
+        if !log.look_done(pass, t, steps) {
+            return;
+        }
+        log.advance(pass, t, steps);
+    }
+}
+
+/// Moves the read tail over each finished record, up to the first that isn't. Says whether the record at that offset is
+/// covered then, or which one, found unfinished by the last look, stands in its way.
+pub fn settle<L: Ledger>(
+    log: &MultiLog,
+    pass: &mut WriterPass,
+    offset: u32,
+    steps: &mut Steps<L>,
+) -> Settled
+    requires of { IsOf pass.old log.now }
+    requires place { offset < log.now.shape.capacity }
+    ensures goes_on { GoesOn pass.old pass.new }
+    ensures books { pass.new.view.books ≡ pass.old.view.books }
+    ensures answer { IsSettled log.now.shape offset pass.old.view pass.new.view result }
+{
+    move_tail(log, pass, steps);
+    let covered = pass.covered();
+    if offset < covered {
+        Settled::Covered
+    } else {
+        Settled::Behind(covered)
+    }
+}
+
+// Moves the read tail on until the record at that offset is covered.
+pub(crate) fn wait_for<R: Wait, L: Ledger>(
+    log: &MultiLog,
+    rt: &R,
+    pass: &mut WriterPass,
+    offset: u32,
+    steps: &mut Steps<L>,
+)
+    requires of { IsOf pass.old log.now }
+    ensures goes_on { GoesOn pass.old pass.new }
+    ensures books { pass.new.view.books ≡ pass.old.view.books }
+    ensures covered { offset < length pass.new.view.seen }
+{
+    for _ in rt.forever() {
+        if offset < pass.covered() {
+            break;
+        }
+        yield_now();
+        move_tail(log, pass, steps);
+    }
+}

@@ -1,0 +1,192 @@
+ghost use Rattle.std.specs.Prelude.{◌≡◌, ◌<◌, [], IfOk};
+ghost use Rattle.cf_row.specs.Row.{Fits};
+ghost use Rattle.cf_table.specs.Held.{IsOf};
+ghost use Rattle.cf_table.specs.Fresh.{IsFresh, AreFresh};
+ghost use Rattle.cf_append.specs.Appends.{Rests};
+
+use super::*;
+use crate::appends::fill;
+use cf_row::{Attr, Kind, Memory, Name, Row, Schema, Value, fits};
+use cf_shape::Shape;
+use cf_table::{MultiLog, Pass, Steps, WriterPass};
+use std::alloc::Global;
+use std::marker::Brand;
+use std::process::Abort;
+use std::sync::Wait;
+use std::sync::ledger::{Blank, Ledger};
+use std::test::*;
+
+// a shape over the schema `ts:u64`, without lanes
+fn shape(rt: &impl Abort, alloc: Global, capacity: u32, writers: u8) -> Result<Shape, Memory>
+    ensures { IfOk result (λ s. s.lanes ≡ []) }
+{
+    let mut attrs = Vec::new(alloc);
+    attrs.push(Attr {
+        name: Name::new(alloc, "ts")?,
+        kind: Kind::U64,
+    })?;
+    let schema = Schema::new(attrs).expect(rt, "a schema");
+    let shape = Shape::new(schema, Vec::new(alloc), capacity, writers, 2, 10).expect(rt, "a shape");
+    shape.bare(alloc)
+}
+
+fn row(alloc: Global, value: u64) -> Result<Row, Memory> {
+    let mut values = Vec::new(alloc);
+    values.push(Value::Num(value))?;
+    Ok(Row::new(0, values))
+}
+
+// While there is room the row gets the next place, and is covered. Answers how many places are taken.
+fn append_next<L: Ledger, R: Abort>(
+    rt: &R,
+    log: &MultiLog,
+    row: &Row,
+    pass: &mut WriterPass,
+    next: u32,
+    steps: &mut Steps<L>,
+) -> u32
+    requires of { IsOf pass.old log.now }
+    requires fits { Fits log.now.shape.schema row.now }
+    requires rest { Rests pass.old.view }
+    requires bare { log.now.shape.lanes ≡ [] }
+    ensures of { IsOf pass.new log.now }
+    ensures rest { Rests pass.new.view }
+{
+    let answer = append(log, pass, row, steps);
+    if next >= log.shape().capacity() {
+        assert!(rt; matches!(answer, Err(AppendFault::Full)));
+        assert!(rt; pass.over());
+        return next;
+    }
+    assert!(rt; matches!(answer, Ok(offset) if offset == next));
+    assert!(rt; matches!(settle(log, pass, next, steps), Settled::Covered));
+    assert!(rt; pass.covered() == next + 1);
+    next + 1
+}
+
+fn append_some<L: Ledger, R: Abort>(
+    rt: &R,
+    log: &MultiLog,
+    row: &Row,
+    mut pass: WriterPass,
+    rounds: u32,
+    first: u32,
+    steps: &mut Steps<L>,
+) -> u32
+    requires of { IsOf pass log.now }
+    requires fits { Fits log.now.shape.schema row.now }
+    requires rest { Rests pass.view }
+    requires bare { log.now.shape.lanes ≡ [] }
+{
+    let mut next = first;
+    for _ in 0..rounds {
+        next = append_next(rt, log, row, &mut pass, next, steps);
+    }
+    next
+}
+
+// each writer appends so many times, one after another
+fn append_each<L: Ledger, R: Abort>(
+    rt: &R,
+    log: &MultiLog,
+    row: &Row,
+    passes: Vec<WriterPass>,
+    rounds: u32,
+    steps: &mut Steps<L>,
+)
+    requires fits { Fits log.now.shape.schema row.now }
+    requires fresh { AreFresh log.now passes.items }
+    requires bare { log.now.shape.lanes ≡ [] }
+{
+    let mut next = 0;
+    for pass in passes {
+        next = append_some(rt, log, row, pass, rounds, next, steps);
+    }
+}
+
+fn appends<L: Ledger, R: Abort>(
+    rt: &R,
+    alloc: Global,
+    blank: Blank,
+    sizes: (u32, u8, u32),
+) -> Result<(), Fail>
+    requires { (blank.name ≡ L.name) × (blank.parts ≡ L.parts) × (0 < L.parts) }
+{
+    let (capacity, writers, rounds) = sizes;
+    let mut steps = Steps::<L>::new(blank);
+    let (log, mut root) = MultiLog::open(alloc, shape(rt, alloc, capacity, writers)?)?;
+    let row = row(alloc, 7)?;
+    assert!(rt; fits(log.shape().schema(), &row));
+    let passes = log.deal(alloc, &mut root)?;
+    append_each(rt, &log, &row, passes, rounds, &mut steps);
+    Ok(())
+}
+
+#[test]
+fn a_row_alone(rt: HostRuntime) -> Result<(), Fail> {
+    appends::<Brand, _>(&rt, rt.alloc(), Blank::new(1), (4, 1, 1))
+}
+
+#[test]
+fn two_writers(rt: HostRuntime) -> Result<(), Fail> {
+    appends::<Brand, _>(&rt, rt.alloc(), Blank::new(1), (8, 2, 3))
+}
+
+#[test]
+fn full(rt: HostRuntime) -> Result<(), Fail> {
+    appends::<Brand, _>(&rt, rt.alloc(), Blank::new(1), (1, 1, 3))
+}
+
+#[test]
+fn many_writers(rt: HostRuntime) -> Result<(), Fail> {
+    appends::<Brand, _>(&rt, rt.alloc(), Blank::new(1), (1, 15, 2))
+}
+
+// while the first writer's record isn't finished the second's isn't covered
+fn behind<L: Ledger, R: Abort + Wait>(
+    rt: &R,
+    log: &MultiLog,
+    row: &Row,
+    mut first: WriterPass,
+    mut second: WriterPass,
+    steps: &mut Steps<L>,
+)
+    requires fits { Fits log.now.shape.schema row.now }
+    requires fresh { IsFresh log.now first × IsFresh log.now second }
+    requires bare { log.now.shape.lanes ≡ [] }
+{
+    assert!(rt; log.shape().capacity() > 1);
+    let _number = row.num();
+    let found = log.take_ticket(&mut first, row, steps);
+    assert!(rt; found == 0);
+    assert!(rt; matches!(append(log, &mut second, row, steps), Ok(1)));
+    assert!(rt; matches!(settle(log, &mut second, 1, steps), Settled::Behind(0)));
+    fill(log, &mut first, 0, row, steps);
+    log.finish_record(&mut first, 0, steps);
+    assert!(rt; matches!(settle(log, &mut first, 1, steps), Settled::Covered));
+    assert!(rt; matches!(append_wait(log, rt, &mut second, row, steps), Ok(2)));
+    assert!(rt; second.covered() == 3);
+}
+
+fn two_at_once<L: Ledger, R: Abort + Wait>(
+    rt: &R,
+    alloc: Global,
+    blank: Blank,
+) -> Result<(), Fail>
+    requires { (blank.name ≡ L.name) × (blank.parts ≡ L.parts) × (0 < L.parts) }
+{
+    let mut steps = Steps::<L>::new(blank);
+    let (log, mut root) = MultiLog::open(alloc, shape(rt, alloc, 8, 2)?)?;
+    let row = row(alloc, 7)?;
+    assert!(rt; fits(log.shape().schema(), &row));
+    let mut passes = log.deal(alloc, &mut root)?.into_iter();
+    let first = passes.next().expect(rt, "a pass");
+    let second = passes.next().expect(rt, "a pass");
+    behind(rt, &log, &row, first, second, &mut steps);
+    Ok(())
+}
+
+#[test]
+fn one_unfinished(rt: HostRuntime) -> Result<(), Fail> {
+    two_at_once::<Brand, _>(&rt, rt.alloc(), Blank::new(1))
+}

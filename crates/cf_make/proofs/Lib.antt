@@ -1,0 +1,3 @@
+mod Adding
+mod Growing
+pub mod Reading
