@@ -168,11 +168,7 @@ fn behind<L: Ledger, R: Abort + Wait>(
     assert!(rt; second.covered() == 3);
 }
 
-fn two_at_once<L: Ledger, R: Abort + Wait>(
-    rt: &R,
-    alloc: Global,
-    blank: Blank,
-) -> Result<(), Fail>
+fn two_at_once<L: Ledger, R: Abort + Wait>(rt: &R, alloc: Global, blank: Blank) -> Result<(), Fail>
     requires { (blank.name ≡ L.name) × (blank.parts ≡ L.parts) × (0 < L.parts) }
 {
     let mut steps = Steps::<L>::new(blank);
