@@ -10,10 +10,10 @@ use Rattle.cf_shape.specs.Places.Slot.{tail}
 use Rattle.cf_law.specs.Passes.{Pass}
 use Rattle.cf_law.specs.Steps.{sees, joined}
 use Rattle.cf_law.specs.Shapes.{layout}
-use Rattle.cf_law.specs.Readers.{Told}
+use Rattle.cf_law.specs.Readers.{Told, AtHome}
 use Rattle.cf_table.specs.Held.{Held}
 use Rattle.cf_table.specs.Ways.{Made, tail_way}
-use Rattle.cf_table.specs.Moves.{Folded, IsSettled}
+use Rattle.cf_table.specs.Moves.{Folded, IsSettled, HasAll}
 use Rattle.cf_table.proofs.Seen.{sees_books, grown}
 
 same_told : (n : ℕ) (es : List Entry) (p : Pass) (b : Bool) → ((grown n es p b).told ≡ p.told) × ((grown n es p b).tails ≡ p.tails)
@@ -62,11 +62,14 @@ folded shape m q n found made =
     }
 
 -- while all books are home the read tail stays where it is
-pub settled_stays : (shape : Shaped) (m n : Held) (asked : Bool) (found : ℕ) → Made shape (tail_way m.view asked) m found n → IsSettled shape m.view → (n.view).seen ≡ (m.view).seen
-settled_stays shape m n asked found made settled =
+pub home_stays : (shape : Shaped) (m n : Held) (asked : Bool) (found : ℕ) → Made shape (tail_way m.view asked) m found n → AtHome (layout shape) m.view → HasAll m.view → (n.view).seen ≡ (m.view).seen
+home_stays shape m n asked found made home all =
     let told = made.told in
     let p = m.view in
-    let low = told.tells.stays refl settled.home settled.all in
+    let low = told.tells.stays refl home all in
     let ahead = told.tells.ahead 1 (omega arith) refl in
     let long = told.long refl in
     tail_entries shape p n.view asked found told ∙ (sym (all_of told.entries (length p.seen) (omega arith)) ∙ told.goes_on.seen)
+
+pub settled_stays : (shape : Shaped) (m n : Held) (asked : Bool) (found : ℕ) → Made shape (tail_way m.view asked) m found n → IsSettled shape m.view → (n.view).seen ≡ (m.view).seen
+settled_stays shape m n asked found made settled = home_stays shape m n asked found made settled.home settled.all

@@ -1,5 +1,6 @@
 -- Passes that were just dealt of an empty log.
-use Rattle.std.proofs.Common.{◌≡◌, ◌<◌, suc, List, ◌∷◌, Some, slice_get, refl, sym, ap, ◌∙◌, arith}
+use Rattle.std.proofs.Common.{◌≡◌, ◌<◌, suc, List, [], ◌∷◌, ◌++◌, length, Option, Some, slice_get, refl, sym, ap, subst, ◌∙◌, arith}
+use Rattle.std.specs.Option.{option_to_list}
 use Rattle.std.proofs.lemmas.Option.{slice_get_within}
 use Rattle.cf_law.specs.Passes.{Book, Pass}
 use Rattle.cf_law.specs.Events.{table, no_book}
@@ -7,6 +8,8 @@ use Rattle.cf_law.proofs.Fronts.{table_length, table_at}
 use Rattle.cf_table.specs.Held.{Held, LogValue}
 use Rattle.cf_table.specs.Rule.{root_pass}
 use Rattle.cf_table.specs.Moves.{AreDealt}
+use Rattle.cf_words.proofs.Nodes.{get_push_same}
+use Rattle.cf_table.proofs.Homing.{get_front}
 use Rattle.cf_table.specs.Fresh.{IsFresh, AreFresh}
 
 pub fresh_first : (log : LogValue) (h : Held) (hs : List Held) → AreFresh log (h ∷ hs) → IsFresh log h
@@ -14,6 +17,12 @@ fresh_first log h hs all = all 0 h refl
 
 pub fresh_next : (log : LogValue) (h : Held) (hs : List Held) → AreFresh log (h ∷ hs) → AreFresh log hs
 fresh_next log h hs all k x at = all (suc k) x at
+
+pub fresh_last : (log : LogValue) (xs ys : List Held) (o : Option Held) (x : Held) → AreFresh log xs → xs ≡ ys ++ option_to_list o → o ≡ Some x → IsFresh log x × AreFresh log ys
+fresh_last log xs ys o x all is last =
+    let end : xs ≡ ys ++ x ∷ [] = is ∙ ap (λ (q : Option Held). ys ++ option_to_list q) last in
+    let both : AreFresh log (ys ++ x ∷ []) = subst (AreFresh log) end all in
+    (both (length ys) x (get_push_same ys x), λ k h at. both k h (get_front ys (x ∷ []) k h at))
 
 pub dealt_fresh : (log : LogValue) (m n : Held) (hs : List Held) → m.view ≡ root_pass log.shape → AreDealt log m hs n → AreFresh log hs
 dealt_fresh log m n hs is dealt k h at =

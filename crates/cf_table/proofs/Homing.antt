@@ -14,6 +14,7 @@ use Rattle.cf_table.specs.Rule.{root_pass}
 use Rattle.cf_table.specs.Held.{Held, LogValue, IsOf}
 use Rattle.cf_table.specs.Moves.{Begins, IsSettled, AreDealt, AreAll, Folded, Gathers, Gathered, Settled, books_of, told_by}
 use Rattle.cf_table.proofs.Settling.{begins_then}
+use Rattle.cf_table.proofs.Counting.{all_seen}
 
 -- each is the log's, and at rest
 pub record AreHomeward (log : LogValue) (passes : List Held) : Type 0 where
@@ -26,7 +27,7 @@ homeward_next log h hs H = record { of = λ k g at. H.of (suc k) g at; rest = λ
 pub still_one : (log : LogValue) (m n : Held) → IsOf m log → n ≡ record m { view = n.view } → IsOf n log
 still_one log m n is same = record { table = ap (λ (h : Held). h.table) same ∙ is.table; nodes = ap (λ (h : Held). h.nodes) same ∙ is.nodes }
 
-get_front : {A : Type 0} (xs ys : List A) (i : ℕ) (x : A) → slice_get xs i ≡ Some x → slice_get (xs ++ ys) i ≡ Some x
+pub get_front : {A : Type 0} (xs ys : List A) (i : ℕ) (x : A) → slice_get xs i ≡ Some x → slice_get (xs ++ ys) i ≡ Some x
 get_front [] ys i x h = absurd (cc h)
 get_front (y ∷ xs) ys zero x h = h
 get_front (y ∷ xs) ys (suc i) x h = get_front xs ys i x h
@@ -99,7 +100,8 @@ pub gathered : (log : LogValue) (m n o : Held) (passes : List Held) → AreAll l
 gathered log m n o passes all away many g s =
     let r = homes log.shape m n passes g in
     let books : (o.view).books ≡ books_of passes = s.books ∙ (r.books ∙ ap (λ (bs : List Book). bs ++ books_of passes) away) in
-    let home : AtHome (layout log.shape) o.view = at_home log passes o.view all books in record {
+    let home : AtHome (layout log.shape) o.view = at_home log passes o.view all books in
+    let many_are : length (o.view).books ≡ (log.shape).writers = ap (λ (bs : List Book). length bs) s.books ∙ (many ∙ all.count) in record {
       same = s.same ∙ ap (λ (x : Held). record x { view = o.view }) r.same;
       books = books;
       tails = s.tails ∙ r.tails;
@@ -109,12 +111,14 @@ gathered log m n o passes all away many g s =
       settled = record {
         home = home;
         rest = λ k b at. rest_of passes all.rest k b (ap (λ (bs : List Book). slice_get bs k) (sym books) ∙ at);
-        count = ap (λ (bs : List Book). length bs) s.books ∙ (many ∙ all.count);
+        count = many_are;
         all = s.all home;
       };
       full = s.full home;
       paths = s.paths home;
       bounds = s.bounds;
+      fit = s.fit;
+      count = all_seen log.shape o.view home many_are (s.all home) (λ k e at. (s.fit k e at).1);
     }
 
 pub gathers_next : (shape : Shaped) (m k n : Held) (h : Held) (hs : List Held) → Folded shape m h.view k → Gathers shape k hs n → Gathers shape m (h ∷ hs) n

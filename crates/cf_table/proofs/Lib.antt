@@ -2,6 +2,7 @@ pub mod Allowed
 pub mod Seen
 pub mod Calls
 pub mod Folds
+pub mod Counting
 pub mod Notes
 pub mod Leaving
 pub mod Settling

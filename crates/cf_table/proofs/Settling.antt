@@ -19,7 +19,7 @@ use Rattle.cf_law.specs.Shapes.{layout}
 use Rattle.cf_law.specs.Readers.{Told, AtHome, EndsThere}
 use Rattle.cf_table.specs.Held.{Held}
 use Rattle.cf_table.specs.Ways.{May, Made, Stored, done_way, advance_way}
-use Rattle.cf_table.specs.Moves.{Begins, HasAll, MarkedIsFull, HasPaths, Settled}
+use Rattle.cf_table.specs.Moves.{Begins, HasAll, MarkedIsFull, HasPaths, AreFit, Settled}
 use Rattle.cf_table.proofs.Seen.{sees_books, grown}
 use Rattle.cf_table.proofs.Folds.{sees_told}
 
@@ -123,4 +123,5 @@ settled_by shape m p n o found moved made ends =
       full = subst (λ (q : Pass). AtHome (layout shape) q → MarkedIsFull shape q) back (λ home. tells.full (last_word shape) home last ends);
       paths = subst (λ (q : Pass). AtHome (layout shape) q → HasPaths shape q) back (λ home. tells.paths home);
       bounds = told.bounds;
+      fit = subst (AreFit shape) back (λ o e at. tells.fit o e at);
     }

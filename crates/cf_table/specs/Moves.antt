@@ -1,5 +1,5 @@
 -- How passes are dealt, gathered, forked and joined, and what a log is closed with.
-use Rattle.std.specs.Prelude.{ℕ, ◌<◌, ◌≤◌, ◌≡◌, List, [], ◌∷◌, ◌++◌, true, false, length, map, take, Some, slice_get}
+use Rattle.std.specs.Prelude.{ℕ, ◌+◌, ◌<◌, ◌≤◌, ◌≡◌, List, [], ◌∷◌, ◌++◌, true, false, length, map, take, Some, slice_get}
 use Rattle.cf_row.specs.declared.schema.Attr.{Attr}
 use Rattle.cf_row.specs.declared.row.Entry.{Entry}
 use Rattle.cf_row.specs.Words.{IsEntry}
@@ -8,7 +8,7 @@ use Rattle.cf_words.specs.Words.{spot}
 use Rattle.cf_law.specs.Passes.{Book, Pass}
 use Rattle.cf_law.specs.Steps.{Holds, IsAtRest, joined, newcomer}
 use Rattle.cf_law.specs.Shapes.{layout}
-use Rattle.cf_law.specs.Readers.{AtHome, HasNode, IsBounded, mine_from}
+use Rattle.cf_law.specs.Readers.{AtHome, HasNode, IsBounded, IsFit, mine_from}
 use Rattle.cf_table.specs.declared.pass.Note.{Note}
 use Rattle.cf_table.specs.Held.{Held, LogValue, IsOf}
 use Rattle.cf_table.specs.Ways.{Made, tail_way}
@@ -77,6 +77,15 @@ unfoldable pub told_by : List ℕ → List Held → List ℕ
 told_by told [] = told
 told_by told (h ∷ hs) = told_by ((told ++ (h.view).told) ++ (h.view).tails) hs
 
+-- how many tickets the books have finished
+unfoldable pub tickets_in : List Book → ℕ
+tickets_in [] = 0
+tickets_in (b ∷ bs) = length b.mine + tickets_in bs
+
+-- each entry that was seen fits, and its writer is one
+abbrev pub AreFit : Shaped → Pass → Type 0
+AreFit shape p = (o : ℕ) (e : Entry) → slice_get p.seen o ≡ Some e → IsFit (layout shape) e
+
 -- a book is marked only where all places are taken
 abbrev pub MarkedIsFull : Shaped → Pass → Type 0
 MarkedIsFull shape p = (k : ℕ) (b : Book) → Holds p k b → b.over ≡ true → length p.seen ≡ shape.capacity
@@ -96,8 +105,9 @@ pub record Settled (shape : Shaped) (m n : Held) : Type 0 where
   pub full : AtHome (layout shape) n.view → MarkedIsFull shape n.view
   pub paths : AtHome (layout shape) n.view → HasPaths shape n.view
   pub bounds : IsBounded (layout shape) n.view
+  pub fit : AreFit shape n.view
 
--- The passes came home in this order. All books are held, at rest, and all that was finished was seen.
+-- The passes came home in this order. All books are held, at rest, and what was seen are all tickets of all of them.
 pub record Gathered (shape : Shaped) (m : Held) (passes : List Held) (n : Held) : Type 0 where
   pub same : n ≡ record m { view = n.view }
   pub books : (n.view).books ≡ books_of passes
@@ -109,6 +119,8 @@ pub record Gathered (shape : Shaped) (m : Held) (passes : List Held) (n : Held) 
   pub full : MarkedIsFull shape n.view
   pub paths : HasPaths shape n.view
   pub bounds : IsBounded (layout shape) n.view
+  pub fit : AreFit shape n.view
+  pub count : length (n.view).seen ≡ tickets_in (n.view).books
 
 -- each of the passes, in this order, was folded in
 unfoldable pub Gathers : Shaped → Held → List Held → Held → Type 0

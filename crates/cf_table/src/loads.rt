@@ -39,6 +39,7 @@ impl MultiLog {
         requires of { IsOf (P.held pass.old) self.now }
         ensures made { Made self.now.shape (tail_way (P.held pass.old).view asked) (P.held pass.old) result (P.held pass.new) }
         ensures stays { IsSettled self.now.shape (P.held pass.old).view → (P.held pass.new).view.seen ≡ (P.held pass.old).view.seen }
+        ensures seen { length (P.held pass.new).view.seen ≡ result }
         ensures steps { steps.new ≡ steps.old + 1 }
     {
         pass.load_tail_by(self, asked, steps)

@@ -2,7 +2,7 @@
 ghost use Rattle.std.specs.Prelude.{◌≡◌, ◌<◌, ◌≤◌, ◌∷◌, [], length, false, slice_get, Some};
 ghost use Rattle.cf_law.specs.Steps.{Splits, IsAtRest, Holds, newcomer, joined, but};
 ghost use Rattle.cf_table.specs.Held.{IsOf, book_of};
-ghost use Rattle.cf_table.specs.Moves.{Folded};
+ghost use Rattle.cf_table.specs.Moves.{Folded, IsSettled};
 
 use crate::log::MultiLog;
 use crate::pass::{ReaderPass, Root};
@@ -82,11 +82,12 @@ impl MultiLog {
         }
     }
 
-    /// The pass comes home, and the root has then seen what it has.
+    /// The pass comes home, and the root has then seen what it has, which is no more while all books are home.
     pub fn fold_back(&self, root: &mut Root, pass: ReaderPass)
         requires of { IsOf root.old self.now × IsOf pass self.now }
         ensures folded { Folded self.now.shape root.old pass.view root.new }
         ensures books { root.new.view.books ≡ root.old.view.books }
+        ensures stays { IsSettled self.now.shape root.old.view → root.new.view.seen ≡ root.old.view.seen }
     {
         let ReaderPass { token } = pass;
         self.fold_token(&mut root.token, token);

@@ -2,9 +2,9 @@ use Rattle.std.proofs.Common.{◌∙◌, ap, sym}
 use Rattle.cf_table.specs.Held.{Held}
 use Rattle.cf_table.specs.Rule.{root_pass}
 use Rattle.cf_table.proofs.Fresh.{dealt_fresh}
-use Rattle.cf_table.proofs.tests.tickets.Goals as goal
+use Rattle.cf_table.proofs.tests.dealt.Goals as goal
 
-pub take_each-requires-clause-fresh : goal.take_each-requires-clause-fresh
-take_each-requires-clause-fresh g c =
+pub returns-clause-fresh : goal.returns-clause-fresh
+returns-clause-fresh g c =
     let made = c.in_ok-log.ensures in
     dealt_fresh c.in_ok-log.log c.in_ok-log.root c.deal.new.root c.in_ok-passes.passes.items (ap (λ (h : Held). h.view) made.root ∙ ap root_pass (sym made.log)) c.in_ok-passes.ensures.dealt
