@@ -54,7 +54,7 @@ pub(crate) fn fill<L: Ledger>(
     requires flies { pass.old ≡ flying offset row.now 0 pass.old }
     ensures { pass.new ≡ flying offset row.now (word_count_of log.now.shape.schema + 1) pass.old }
 {
-    let schema = log.shape().schema();
+    let schema = log.layout().schema();
     let mut buffer = [0u64; 64];
     let words = &mut buffer[..word_count(schema) + 1];
     words_of(schema, row, pass.writer(), words);
@@ -83,7 +83,7 @@ pub fn append<L: Ledger>(
     }
     let _number = row.num();
     let found = log.take_ticket(pass, row, steps);
-    if found >= u64::from(log.shape().capacity()) {
+    if found >= u64::from(log.layout().capacity()) {
         return Err(AppendFault::Full);
     }
     let offset = found as u32;

@@ -23,7 +23,7 @@ pub(crate) fn move_tail<L: Ledger>(log: &MultiLog, pass: &mut WriterPass, steps:
     ensures stops { Stops log.now.shape pass.old.view pass.new.view }
 {
     log.load_tail(pass, false, steps);
-    let capacity = log.shape().capacity();
+    let capacity = log.layout().capacity();
     while pass.covered() < capacity {
         let t = pass.covered();
         if !log.look_done(pass, t, steps) {

@@ -1,4 +1,4 @@
-ghost use Rattle.std.specs.Prelude.{◌≡◌, ◌<◌, [], IfOk};
+ghost use Rattle.std.specs.Prelude.{◌≡◌, ◌<◌, []};
 ghost use Rattle.cf_row.specs.Row.{Fits};
 ghost use Rattle.cf_table.specs.Held.{IsOf};
 ghost use Rattle.cf_table.specs.Fresh.{IsFresh, AreFresh};
@@ -17,9 +17,7 @@ use std::sync::ledger::{Blank, Ledger};
 use std::test::*;
 
 // a shape over the schema `ts:u64`, without lanes
-fn shape(rt: &impl Abort, alloc: Global, capacity: u32, writers: u8) -> Result<Shape, Memory>
-    ensures { IfOk result (λ s. s.lanes ≡ []) }
-{
+fn shape(rt: &impl Abort, alloc: Global, capacity: u32, writers: u8) -> Result<Shape, Memory> {
     let mut attrs = Vec::new(alloc);
     attrs.push(Attr {
         name: Name::new(alloc, "ts")?,
@@ -27,7 +25,7 @@ fn shape(rt: &impl Abort, alloc: Global, capacity: u32, writers: u8) -> Result<S
     })?;
     let schema = Schema::new(attrs).expect(rt, "a schema");
     let shape = Shape::new(schema, Vec::new(alloc), capacity, writers, 2, 10).expect(rt, "a shape");
-    shape.bare(alloc)
+    Ok(shape)
 }
 
 fn row(alloc: Global, value: u64) -> Result<Row, Memory> {
@@ -53,7 +51,7 @@ fn append_next<L: Ledger, R: Abort>(
     ensures rest { Rests pass.new.view }
 {
     let answer = append(log, pass, row, steps);
-    if next >= log.shape().capacity() {
+    if next >= log.layout().capacity() {
         assert!(rt; matches!(answer, Err(AppendFault::Full)));
         assert!(rt; pass.over());
         return next;
@@ -116,7 +114,7 @@ fn appends<L: Ledger, R: Abort>(
     let mut steps = Steps::<L>::new(blank);
     let (log, mut root) = MultiLog::open(alloc, shape(rt, alloc, capacity, writers)?)?;
     let row = row(alloc, 7)?;
-    assert!(rt; fits(log.shape().schema(), &row));
+    assert!(rt; fits(log.layout().schema(), &row));
     let passes = log.deal(alloc, &mut root)?;
     append_each(rt, &log, &row, passes, rounds, &mut steps);
     Ok(())
@@ -155,7 +153,7 @@ fn behind<L: Ledger, R: Abort + Wait>(
     requires fresh { IsFresh log.now first × IsFresh log.now second }
     requires bare { log.now.shape.lanes ≡ [] }
 {
-    assert!(rt; log.shape().capacity() > 1);
+    assert!(rt; log.layout().capacity() > 1);
     let _number = row.num();
     let found = log.take_ticket(&mut first, row, steps);
     assert!(rt; found == 0);
@@ -174,7 +172,7 @@ fn two_at_once<L: Ledger, R: Abort + Wait>(rt: &R, alloc: Global, blank: Blank) 
     let mut steps = Steps::<L>::new(blank);
     let (log, mut root) = MultiLog::open(alloc, shape(rt, alloc, 8, 2)?)?;
     let row = row(alloc, 7)?;
-    assert!(rt; fits(log.shape().schema(), &row));
+    assert!(rt; fits(log.layout().schema(), &row));
     let mut passes = log.deal(alloc, &mut root)?.into_iter();
     let first = passes.next().expect(rt, "a pass");
     let second = passes.next().expect(rt, "a pass");

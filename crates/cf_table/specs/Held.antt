@@ -12,9 +12,15 @@ pub record Held : Type 0 where
   pub nodes : ℕ
   pub view : Pass
 
+-- the shape by which the words are laid out, the whole one, and the table
 pub record LogValue : Type 0 where
   pub shape : Shaped
+  pub whole : Shaped
   pub table : TableId
+
+-- the two shapes are alike but for the lanes
+abbrev pub AreAlike : Shaped → Shaped → Type 0
+AreAlike shape whole = shape ≡ record whole { lanes = shape.lanes }
 
 -- the pass is one of the log's
 pub record IsOf (h : Held) (log : LogValue) : Type 0 where

@@ -15,7 +15,7 @@ advance-requires-clause-lawful g c =
     let seen = ap length (looked_seen s m n t (n.view.look).value look) in
     let at = c.covered-t.ensures in
     let low = c.loop-pass-test.true in
-    let room = c.capacity-capacity.ensures.capacity ∙ ap (λ (x : Shaped). x.capacity) c.shape.ensures.shape in
+    let room = c.capacity-capacity.ensures.capacity ∙ ap (λ (x : Shaped). x.capacity) c.layout.ensures.shape in
     let known = c.covered.ensures in
     may_advance s n.view t (omega (arith, seen, at)) (omega (arith, at, low, room, known)) (ap (λ (q : Pass). (q.look).word) look.told.is) (c.look_done.ensures.found.0 c.if-not-look_done.false)
 

@@ -11,7 +11,7 @@ pub behind-requires-clause-fresh : goal.behind-requires-clause-fresh
 behind-requires-clause-fresh g c =
     let log = c.in_ok-log.log in
     let made = c.in_ok-log.ensures in
-    let all = dealt_fresh log c.in_ok-log.root c.deal.new.root c.in_ok-deal.field-0.items (ap (λ (h : Held). h.view) made.root ∙ ap root_pass (sym made.log)) c.in_ok-deal.ensures.dealt in
+    let all = dealt_fresh log c.in_ok-log.root c.deal.new.root c.in_ok-deal.field-0.items (ap (λ (h : Held). h.view) made.root) c.in_ok-deal.ensures.dealt in
     let rest : List Held = into_iter_items c.next.new.self in
     let last : List Held = into_iter_items c.next-2.new.self in
     let one : c.in_ok-deal.field-0.items ≡ c.expect-first.result ∷ rest = sym c.into_iter-passes.ensures.rest ∙ (c.next.ensures.items ∙ ap (λ (o : Option Held). option_to_list o ++ rest) c.expect-first.ensures) in

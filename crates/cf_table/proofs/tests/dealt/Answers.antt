@@ -7,4 +7,4 @@ use Rattle.cf_table.proofs.tests.dealt.Goals as goal
 pub returns-clause-fresh : goal.returns-clause-fresh
 returns-clause-fresh g c =
     let made = c.in_ok-log.ensures in
-    dealt_fresh c.in_ok-log.log c.in_ok-log.root c.deal.new.root c.in_ok-passes.passes.items (ap (λ (h : Held). h.view) made.root ∙ ap root_pass (sym made.log)) c.in_ok-passes.ensures.dealt
+    dealt_fresh c.in_ok-log.log c.in_ok-log.root c.deal.new.root c.in_ok-passes.passes.items (ap (λ (h : Held). h.view) made.root) c.in_ok-passes.ensures.dealt

@@ -9,7 +9,7 @@ use Rattle.cf_table.specs.Rule.{root_pass, Seated}
 use Rattle.cf_table.specs.Moves.{note_of, AreNoted, IsSettled}
 use Rattle.cf_table.proofs.Homing.{opened}
 use Rattle.cf_table.proofs.Notes.{first_noted}
-use Rattle.cf_table.proofs.log.MultiLog.open.Goals as goal
+use Rattle.cf_table.proofs.log.MultiLog.laid_out.Goals as goal
 
 pub of_words-requires : goal.of_words-requires
 of_words-requires c =
@@ -17,8 +17,8 @@ of_words-requires c =
     let items : c.as_slice.result.now ≡ replicate (word_total (sizes_of s)) 0 = c.as_slice.ensures.value ∙ (c.in_ok-words.ensures.items_if_clones_equal (λ y h. h) ∙ ap (λ (n : ℕ). replicate n 0) c.word_total.ensures.total) in
     subst (λ (ws : List ℕ). Lawful (layout s) ws (root_pass s ∷ [])) (sym items) (opening_lawful (layout s))
 
-pub invariant_of-result-2 : goal.invariant_of-result-2
-invariant_of-result-2 c =
+pub invariant_of-result : goal.invariant_of-result
+invariant_of-result c =
     let s = c.args.shape in
     let e = c.in_ok-notes.ensures in
     let lawful = c.lanes-lawful.ensures.lawful in
