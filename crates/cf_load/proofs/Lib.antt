@@ -1,0 +1,3 @@
+pub mod Written
+pub mod Batches
+pub mod Tails
