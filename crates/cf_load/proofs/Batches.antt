@@ -18,6 +18,7 @@ use Rattle.cf_table.proofs.Homing.{still_one, get_front, opened as opened_settle
 use Rattle.cf_append.specs.Appends.{Rests}
 use Rattle.cf_load.specs.Writing.{rows_of_book, IsReady, Wrote}
 use Rattle.cf_load.specs.Loading.{HasLoaded}
+use Rattle.cf_load.proofs.Alls.{all_drop}
 use Rattle.cf_load.proofs.Written.{written_append, WrotePart, all_written, log_more}
 
 -- the rows of a book's tickets are what its writer wrote
@@ -30,22 +31,24 @@ mine_rows w k (e ∷ es) = elim (cases_Bool (e.writer == w)) [
 ]
 
 -- the one book of a pass at rest
-only_book : (p : Pass) → Rests p → (j : ℕ) (b : Book) → Holds p j b → b ≡ book_of p
+pub only_book : (p : Pass) → Rests p → (j : ℕ) (b : Book) → Holds p j b → b ≡ book_of p
 only_book p rests j b at = one j (ap (λ (bs : List Book). slice_get bs j) (sym rests.one) ∙ at)
   where
     one : (i : ℕ) → slice_get (book_of p ∷ []) i ≡ Some b → b ≡ book_of p
     one zero e = (let f : book_of p ≡ b = cc e in sym f)
     one (suc i) e = absurd (cc e)
 
-first_book : (p : Pass) → Rests p → Holds p 0 (book_of p)
+-- a pass at rest holds its book
+pub first_book : (p : Pass) → Rests p → Holds p 0 (book_of p)
 first_book p rests = ap (λ (bs : List Book). slice_get bs 0) rests.one
 
-get_back : {A : Type 0} (xs ys : List A) (i : ℕ) (x : A) → slice_get ys i ≡ Some x → slice_get (xs ++ ys) (length xs + i) ≡ Some x
+-- an element of the second of two lists
+pub get_back : {A : Type 0} (xs ys : List A) (i : ℕ) (x : A) → slice_get ys i ≡ Some x → slice_get (xs ++ ys) (length xs + i) ≡ Some x
 get_back [] ys i x h = ap (slice_get ys) (let e : 0 + i ≡ i = omega arith in e) ∙ h
 get_back (y ∷ xs) ys i x h = ap (slice_get (y ∷ (xs ++ ys))) (let e : suc (length xs) + i ≡ suc (length xs + i) = omega arith in e) ∙ get_back xs ys i x h
 
 -- a pass's book is among those of all
-book_in : (passes : List Held) (k : ℕ) (h : Held) (b : Book) → slice_get passes k ≡ Some h → Holds h.view 0 b → (i : ℕ) × (slice_get (books_of passes) i ≡ Some b)
+pub book_in : (passes : List Held) (k : ℕ) (h : Held) (b : Book) → slice_get passes k ≡ Some h → Holds h.view 0 b → (i : ℕ) × (slice_get (books_of passes) i ≡ Some b)
 unfolding books_of
 book_in [] k h b at holds = absurd (cc at)
 book_in (x ∷ xs) zero h b at holds =
@@ -55,35 +58,32 @@ book_in (x ∷ xs) (suc k) h b at holds =
     let r = book_in xs k h b at holds in
     (length (x.view).books + r.0, get_back (x.view).books (books_of xs) r.0 b r.1)
 
--- what stands beside an element of the one list, and of the other
-zip_at : {A B : Type 0} (R : A → B → Type 0) (xs : List A) (ys : List B) (k : ℕ) (x : A) → AllZip R xs ys → slice_get xs k ≡ Some x → (y : B) × (slice_get ys k ≡ Some y) × R x y
+-- what stands beside an element of the first list
+pub zip_at : {A B : Type 0} (R : A → B → Type 0) (xs : List A) (ys : List B) (k : ℕ) (x : A) → AllZip R xs ys → slice_get xs k ≡ Some x → (y : B) × (slice_get ys k ≡ Some y) × R x y
 zip_at R [] ys k x all at = absurd (cc at)
 zip_at R (a ∷ xs) [] k x all at = absurd all
 zip_at R (a ∷ xs) (b ∷ ys) zero x all at = (let e : a ≡ x = cc at in (b, refl, subst (λ c. R c b) e all.0))
 zip_at R (a ∷ xs) (b ∷ ys) (suc k) x all at = zip_at R xs ys k x all.1 at
 
-zip_back : {A B : Type 0} (R : A → B → Type 0) (xs : List A) (ys : List B) (k : ℕ) (y : B) → AllZip R xs ys → slice_get ys k ≡ Some y → (x : A) × (slice_get xs k ≡ Some x) × R x y
+-- what stands beside an element of the second list
+pub zip_back : {A B : Type 0} (R : A → B → Type 0) (xs : List A) (ys : List B) (k : ℕ) (y : B) → AllZip R xs ys → slice_get ys k ≡ Some y → (x : A) × (slice_get xs k ≡ Some x) × R x y
 zip_back R [] [] k y all at = absurd (cc at)
 zip_back R [] (b ∷ ys) k y all at = absurd all
 zip_back R (a ∷ xs) [] k y all at = absurd all
 zip_back R (a ∷ xs) (b ∷ ys) zero y all at = (let e : b ≡ y = cc at in (a, refl, subst (λ c. R a c) e all.0))
 zip_back R (a ∷ xs) (b ∷ ys) (suc k) y all at = zip_back R xs ys k y all.1 at
 
-zip_long : {A B : Type 0} (R : A → B → Type 0) (xs : List A) (ys : List B) → AllZip R xs ys → length xs ≡ length ys
+-- both lists are as long
+pub zip_long : {A B : Type 0} (R : A → B → Type 0) (xs : List A) (ys : List B) → AllZip R xs ys → length xs ≡ length ys
 zip_long R [] [] all = refl
 zip_long R [] (b ∷ ys) all = absurd all
 zip_long R (a ∷ xs) [] all = absurd all
 zip_long R (a ∷ xs) (b ∷ ys) all = ap suc (zip_long R xs ys all.1)
 
 -- each entry that was seen is of a writer
-fit_exist : (writers : ℕ) (es : List Entry) → ((o : ℕ) (e : Entry) → slice_get es o ≡ Some e → e.writer < writers) → AllByRecursion (λ e. e.writer < writers) es
+pub fit_exist : (writers : ℕ) (es : List Entry) → ((o : ℕ) (e : Entry) → slice_get es o ≡ Some e → e.writer < writers) → AllByRecursion (λ e. e.writer < writers) es
 fit_exist writers [] each = tt
 fit_exist writers (e ∷ es) each = (each 0 e refl, fit_exist writers es (λ o x at. each (suc o) x at))
-
-exist_drop : (writers n : ℕ) (es : List Entry) → AllByRecursion (λ e. e.writer < writers) es → AllByRecursion (λ e. e.writer < writers) (drop n es)
-exist_drop writers zero es exist = exist
-exist_drop writers (suc n) [] exist = tt
-exist_drop writers (suc n) (e ∷ es) exist = exist_drop writers n es exist.1
 
 -- a pass that was dealt is ready to write
 pub ready_one : (log : LogValue) (rows : List Numbered) (m r : Held) (passes : List Held) → HasLoaded log rows m → AreDealt log m passes r → (k : ℕ) (h : Held) → slice_get passes k ≡ Some h → IsReady log h
@@ -132,7 +132,8 @@ homeward log first batch passes after ready all wrote = record {
         let mine : (book_of h.view).writer ≡ w = ap (λ (c : Book). c.writer) (sym (only_book h.view rests r.2 r.3 r.5)) ∙ r.6 in
         (k, z.0, 0, book_of (z.0).view, z.1, first_book (z.0).view (z.2).rest, (z.2).writer ∙ mine)
 
-quiet : (log : LogValue) (first : ℕ) (batch : List Numbered) (hs gs : List Held) (ts : List ℕ) → AllZip (Wrote log first batch) hs gs → ((k : ℕ) (h : Held) → slice_get hs k ≡ Some h → ((h.view).tails ≡ []) × ((h.view).told ≡ [])) → told_by ts gs ≡ ts
+-- passes that were told nothing tell nothing
+pub quiet : (log : LogValue) (first : ℕ) (batch : List Numbered) (hs gs : List Held) (ts : List ℕ) → AllZip (Wrote log first batch) hs gs → ((k : ℕ) (h : Held) → slice_get hs k ≡ Some h → ((h.view).tails ≡ []) × ((h.view).told ≡ [])) → told_by ts gs ≡ ts
 unfolding told_by
 quiet log first batch [] [] ts all each = refl
 quiet log first batch [] (a ∷ gs) ts all each = absurd all
@@ -149,7 +150,8 @@ pub told_home : (log : LogValue) (first : ℕ) (batch : List Numbered) (m r : He
 told_home log first batch m r passes after dealt wrote told =
     quiet log first batch passes after told wrote (λ k h at. (let d = dealt.each k h at in (ap (λ (p : Pass). p.tails) d.view, ap (λ (p : Pass). p.told) d.view)))
 
-nothing : (X : Type 0) (j : ℕ) → take 4096 (drop {A = X} j []) ≡ []
+-- no part of an empty list has anything
+pub nothing : (X : Type 0) (j : ℕ) → take 4096 (drop {A = X} j []) ≡ []
 nothing X j = ap (take 4096) (drop_all {X = X} j [] (omega arith)) ∙ take_all 4096 [] (omega arith)
 
 -- a log just opened has no rows yet
@@ -169,27 +171,29 @@ opened log m of is = record {
 
 -- The passes that wrote came home.
 module _ (log : LogValue) (rows batch : List Numbered) (m r n : Held) (passes after : List Held) (has : HasLoaded log rows m) (dealt : AreDealt log m passes r) (wrote : AllZip (Wrote log (length rows) batch) passes after) (g : Gathered log.shape r after n) where
-  abbrev seen : List Entry
+  -- what was seen before, what came, and how many writers there are
+  abbrev pub seen : List Entry
   seen = (m.view).seen
 
-  abbrev new : List Entry
+  abbrev pub new : List Entry
   new = drop (length (m.view).seen) (n.view).seen
 
-  abbrev W : ℕ
+  abbrev pub W : ℕ
   W = (log.shape).writers
 
   -- what was seen goes on
-  goes_on : (n.view).seen ≡ seen ++ new
+  pub goes_on : (n.view).seen ≡ seen ++ new
   goes_on =
       let kept : (r.view).seen ≡ seen = ap (λ (h : Held). (h.view).seen) dealt.root in
       let begins : take (length seen) (n.view).seen ≡ seen = subst (λ (es : List Entry). Begins es (n.view).seen) kept g.own in
       sym (take-append-drop (length seen) (n.view).seen) ∙ ap (λ (es : List Entry). es ++ new) begins
 
-  new_exist : AllByRecursion (λ e. e.writer < W) new
-  new_exist = exist_drop W (length seen) (n.view).seen (fit_exist W (n.view).seen (λ o e at. (g.fit o e at).1))
+  -- each new entry is of a writer
+  pub new_exist : AllByRecursion (λ e. e.writer < W) new
+  new_exist = all_drop (λ e. e.writer < W) (length seen) (n.view).seen (fit_exist W (n.view).seen (λ o e at. (g.fit o e at).1))
 
-  -- a pass that wrote, whose writer had this book
-  wrote_part : (w k : ℕ) (h a : Held) (b : Book) → Holds m.view k b → b.writer ≡ w → slice_get passes k ≡ Some h → slice_get after k ≡ Some a → Wrote log (length rows) batch h a → length rows + length batch ≤ (log.shape).capacity → WrotePart W (length rows) batch new w
+  -- what a pass wrote whose writer had this book
+  pub wrote_part : (w k : ℕ) (h a : Held) (b : Book) → Holds m.view k b → b.writer ≡ w → slice_get passes k ≡ Some h → slice_get after k ≡ Some a → Wrote log (length rows) batch h a → length rows + length batch ≤ (log.shape).capacity → WrotePart W (length rows) batch new w
   wrote_part w k h a b held own at there wr room = record {
     left = wr.left;
     split = ap (λ rs. rs ++ wr.left) wrote_done ∙ (wr.split ∙ ap (λ v. rows_of W v (length rows) batch) writer);
@@ -226,7 +230,8 @@ module _ (log : LogValue) (rows batch : List Numbered) (m r n : Held) (passes af
       wrote_done : written_by w new ≡ wr.done
       wrote_done = append_cancel_left (written_by w seen) _ _ (sym now ∙ (wr.rows ∙ ap (λ rs. rs ++ wr.done) before))
 
-  part_of : length rows + length batch ≤ (log.shape).capacity → (w : ℕ) → w < W → WrotePart W (length rows) batch new w
+  -- what each writer wrote
+  pub part_of : length rows + length batch ≤ (log.shape).capacity → (w : ℕ) → w < W → WrotePart W (length rows) batch new w
   part_of room w lt =
       let home = has.settled.home w lt in
       let k : ℕ = home.0 in
@@ -237,7 +242,8 @@ module _ (log : LogValue) (rows batch : List Numbered) (m r n : Held) (passes af
       let z = zip_at (Wrote log (length rows) batch) passes after k h wrote at in
       wrote_part w k h z.0 b home.2 home.3 at z.1 z.2 room
 
-  home_again : IsOf n log
+  -- the root is still the log's
+  pub home_again : IsOf n log
   home_again =
       let root : IsOf r log = still_one log m r has.of (dealt.root ∙ ap (λ (p : Pass). record m { view = p }) (ap (λ (h : Held). h.view) (sym dealt.root))) in
       still_one log r n root g.same

@@ -1,3 +1,4 @@
+pub mod Alls
 pub mod Written
 pub mod Batches
 pub mod Tails

@@ -15,82 +15,59 @@ use Rattle.cf_report.specs.declared.loaded.Live.{Live}
 use Rattle.cf_report.specs.Answered.{no_ask, turn_of}
 use Rattle.cf_table.specs.Moves.{Begins}
 use Rattle.cf_table.proofs.Settling.{begins_then}
+use Rattle.cf_load.proofs.Alls.{every, all_append, all_weaker, all_both, all_map, all_unmap, all_flat}
 use Rattle.cf_load.specs.Loading.{AsksBatch, AsksSome, HasAnswered}
 
--- Lists of which all elements are such.
-all_append : {X : Type 0} (P : X → Type 0) (xs ys : List X) → AllByRecursion P xs → AllByRecursion P ys → AllByRecursion P (xs ++ ys)
-all_append P [] ys first then = then
-all_append P (x ∷ xs) ys first then = (first.0, all_append P xs ys first.1 then)
-
-all_weaker : {X : Type 0} (P Q : X → Type 0) (xs : List X) → ((x : X) → P x → Q x) → AllByRecursion P xs → AllByRecursion Q xs
-all_weaker P Q [] less all = tt
-all_weaker P Q (x ∷ xs) less all = (less x all.0, all_weaker P Q xs less all.1)
-
-all_map : {X Y : Type 0} (P : Y → Type 0) (f : X → Y) (xs : List X) → AllByRecursion (λ x. P (f x)) xs → AllByRecursion P (map f xs)
-all_map P f [] all = tt
-all_map P f (x ∷ xs) all = (all.0, all_map P f xs all.1)
-
-all_unmap : {X Y : Type 0} (P : Y → Type 0) (f : X → Y) (xs : List X) → AllByRecursion P (map f xs) → AllByRecursion (λ x. P (f x)) xs
-all_unmap P f [] all = tt
-all_unmap P f (x ∷ xs) all = (all.0, all_unmap P f xs all.1)
-
-all_both : {X : Type 0} (P Q : X → Type 0) (xs : List X) → AllByRecursion P xs → AllByRecursion Q xs → AllByRecursion (λ x. P x × Q x) xs
-all_both P Q [] ps qs = tt
-all_both P Q (x ∷ xs) ps qs = ((ps.0, qs.0), all_both P Q xs ps.1 qs.1)
-
-map_map : {X Y Z : Type 0} (f : Y → Z) (g : X → Y) (xs : List X) → map f (map g xs) ≡ map (λ x. f (g x)) xs
+-- what is made of what was made
+pub map_map : {X Y Z : Type 0} (f : Y → Z) (g : X → Y) (xs : List X) → map f (map g xs) ≡ map (λ x. f (g x)) xs
 map_map f g [] = refl
 map_map f g (x ∷ xs) = ap (λ ys. f (g x) ∷ ys) (map_map f g xs)
 
 -- numbers that never fall, and then more that are no less than any of them
-rise_append : (low : ℕ) (ns ms : List ℕ) → NeverFall ns → NeverFall ms → AllByRecursion (λ n. n ≤ low) ns → AllByRecursion (λ m. low ≤ m) ms → NeverFall (ns ++ ms)
+pub rise_append : (low : ℕ) (ns ms : List ℕ) → NeverFall ns → NeverFall ms → AllByRecursion (λ n. n ≤ low) ns → AllByRecursion (λ m. low ≤ m) ms → NeverFall (ns ++ ms)
 rise_append low [] ms first then below above = then
 rise_append low (n ∷ ns) ms first then below above =
     (all_append (λ m. n ≤ m) ns ms first.0 (all_weaker (λ m. low ≤ m) (λ m. n ≤ m) ms (λ m le. omega (arith, le, below.0)) above), rise_append low ns ms first.1 then below.1 above)
 
 -- the numbers from 0 on, and one more
-range_more : (n : ℕ) → range_with_len 0 (n + 1) ≡ range_with_len 0 n ++ n ∷ []
+pub range_more : (n : ℕ) → range_with_len 0 (n + 1) ≡ range_with_len 0 n ++ n ∷ []
 range_more n = sym (map-id (range_with_len 0 (n + 1))) ∙ (map-range_with_len_more (λ k. k) 0 n n (omega arith) ∙ ap (λ ks. ks ++ n ∷ []) (map-id (range_with_len 0 n)))
 
 -- what is made of the numbers from 0 on, and of one more
-flat_more : {X : Type 0} (f : ℕ → List X) (n : ℕ) → flat_map f (range_with_len 0 (n + 1)) ≡ flat_map f (range_with_len 0 n) ++ f n
+pub flat_more : {X : Type 0} (f : ℕ → List X) (n : ℕ) → flat_map f (range_with_len 0 (n + 1)) ≡ flat_map f (range_with_len 0 n) ++ f n
 flat_more f n = ap (flat_map f) (range_more n) ∙ sym (flat_map_more f [] (range_with_len 0 n) n)
 
-all_flat : {X Y : Type 0} (P : Y → Type 0) (f : X → List Y) (xs : List X) → ((x : X) → AllByRecursion P (f x)) → AllByRecursion P (flat_map f xs)
-all_flat P f [] each = tt
-all_flat P f (x ∷ xs) each = all_append P (f x) (flat_map f xs) (each x) (all_flat P f xs each)
-
-every : {X : Type 0} (P : X → Type 0) (xs : List X) → ((x : X) → P x) → AllByRecursion P xs
-every P [] each = tt
-every P (x ∷ xs) each = (each x, every P xs each)
-
--- Lists of entries of which the one begins with the other.
-begins_long : (xs ys : List Entry) → Begins xs ys → length xs ≤ length ys
+-- a list is no longer than one that begins with it
+pub begins_long : (xs ys : List Entry) → Begins xs ys → length xs ≤ length ys
 begins_long xs ys begins = omega (arith, ap length begins, length-take (length xs) ys)
 
-begins_take : (t : ℕ) (xs ys : List Entry) → t ≤ length xs → Begins xs ys → take t ys ≡ take t xs
+-- and has the same first entries
+pub begins_take : (t : ℕ) (xs ys : List Entry) → t ≤ length xs → Begins xs ys → take t ys ≡ take t xs
 begins_take t xs ys le begins = sym (take-take t (length xs) ys le) ∙ ap (take t) begins
 
 module _ (meaning : Live → List Entry → Body) where
   -- each answer is what the question means on as many entries as it saw
-  abbrev AreMeant : List Entry → List Live → Type 0
+  abbrev pub AreMeant : List Entry → List Live → Type 0
   AreMeant seen lives = AllByRecursion (λ (live : Live). live.answer.body ≡ meaning live (take live.answer.tail seen)) lives
 
-  meant_wider : (xs ys : List Entry) (lives : List Live) → Begins xs ys → AllByRecursion (λ (live : Live). live.answer.tail ≤ length xs) lives → AreMeant xs lives → AreMeant ys lives
+  -- answers stay what they are when the log grows
+  pub meant_wider : (xs ys : List Entry) (lives : List Live) → Begins xs ys → AllByRecursion (λ (live : Live). live.answer.tail ≤ length xs) lives → AreMeant xs lives → AreMeant ys lives
   meant_wider xs ys [] begins low all = tt
   meant_wider xs ys (live ∷ lives) begins low all = (all.0 ∙ ap (meaning live) (sym (begins_take live.answer.tail xs ys low.0 begins)), meant_wider xs ys lives begins low.1 all.1)
 
-abbrev turn_in : ℕ → ℕ → ℕ → Turn
+-- a turn, the turns of a round, and those of a batch
+abbrev pub turn_in : ℕ → ℕ → ℕ → Turn
 turn_in batch round ask = record { batch = batch; round = round; ask = ask }
 
-abbrev round_in : ℕ → List ℕ → ℕ → List Turn
+abbrev pub round_in : ℕ → List ℕ → ℕ → List Turn
 round_in batch lives round = map (λ ask. record { batch = batch; round = round; ask = ask }) lives
 
-abbrev batch_in : ℕ → List ℕ → ℕ → List Turn
+abbrev pub batch_in : ℕ → List ℕ → ℕ → List Turn
 batch_in rounds lives batch = flat_map (λ round. map (λ ask. record { batch = batch; round = round; ask = ask }) lives) (range_with_len 0 rounds)
 
 module _ (shape : Shaped) (asks : List Ask) (lives : List ℕ) where
-  abbrev meaning_in : Live → List Entry → Body
+  -- what a live question means on some entries
+  abbrev pub meaning_in : Live → List Entry → Body
   meaning_in live entries = eval shape (get_or asks live.ask no_ask) entries
 
   -- no turn yet
@@ -152,7 +129,7 @@ module _ (shape : Shaped) (asks : List Ask) (lives : List ℕ) where
   answered_none rounds seen = record { tails = record { turns = refl; rise = tt; within = tt }; bodies = tt }
 
   -- the turns of a batch are of that batch
-  of_batch : (rounds batch : ℕ) → AllByRecursion (λ (t : Turn). t.batch ≡ batch) (batch_in rounds lives batch)
+  pub of_batch : (rounds batch : ℕ) → AllByRecursion (λ (t : Turn). t.batch ≡ batch) (batch_in rounds lives batch)
   of_batch rounds batch = all_flat (λ (t : Turn). t.batch ≡ batch) (round_in batch lives) (range_with_len 0 rounds) (λ round. all_map (λ (t : Turn). t.batch ≡ batch) (turn_in batch round) lives (every (λ ask. (turn_in batch round ask).batch ≡ batch) lives (λ ask. refl)))
 
   -- The live answers beside one more batch come after those before, which stay what they are when the log grows.

@@ -7,22 +7,25 @@ use Rattle.cf_row.specs.Row.{Numbered}
 use Rattle.cf_row.specs.declared.row.Entry.{Entry}
 use Rattle.cf_history.specs.Order.{rows_of, written_by, IsLogOf}
 use Rattle.cf_history.proofs.Logs.{written_own, written_other}
+use Rattle.cf_load.proofs.Alls.{all_append}
 
 -- the sum over the writers below n
-abbrev total : ℕ → (ℕ → ℕ) → ℕ
+abbrev pub total : ℕ → (ℕ → ℕ) → ℕ
 total zero f = 0
 total (suc n) f = total n f + f n
 
-total_same : (n : ℕ) (f g : ℕ → ℕ) → ((w : ℕ) → w < n → f w ≡ g w) → total n f ≡ total n g
+-- the sums of equal numbers
+pub total_same : (n : ℕ) (f g : ℕ → ℕ) → ((w : ℕ) → w < n → f w ≡ g w) → total n f ≡ total n g
 total_same zero f g each = refl
 total_same (suc n) f g each = (let r = total_same n f g (λ w lt. each w (omega (arith, lt))) in let e = each n (omega arith) in omega (arith, r, e))
 
-total_most : (n : ℕ) (f g : ℕ → ℕ) → ((w : ℕ) → w < n → f w ≤ g w) → total n f ≤ total n g
+-- the sums of numbers that are no more
+pub total_most : (n : ℕ) (f g : ℕ → ℕ) → ((w : ℕ) → w < n → f w ≤ g w) → total n f ≤ total n g
 total_most zero f g each = omega arith
 total_most (suc n) f g each = (let r = total_most n f g (λ w lt. each w (omega (arith, lt))) in let e = each n (omega arith) in omega (arith, r, e))
 
 -- where no number is more than its fellow and the sums are as large, each is its fellow
-total_even : (n : ℕ) (f g : ℕ → ℕ) → ((w : ℕ) → w < n → f w ≤ g w) → total n g ≤ total n f → (w : ℕ) → w < n → f w ≡ g w
+pub total_even : (n : ℕ) (f g : ℕ → ℕ) → ((w : ℕ) → w < n → f w ≤ g w) → total n g ≤ total n f → (w : ℕ) → w < n → f w ≡ g w
 total_even zero f g each all w lt = absurd (omega (arith, lt))
 total_even (suc n) f g each all w lt =
     let most : total n f ≤ total n g = total_most n f g (λ v low. each v (omega (arith, low))) in
@@ -32,20 +35,25 @@ total_even (suc n) f g each all w lt =
       | inr high ↦ (let e : n ≡ w = omega (arith, high, lt) in subst (λ v. f v ≡ g v) e (omega (arith, most, last, all)))
     ]
 
-total_none : (n : ℕ) → total n (λ w. 0) ≡ 0
+-- the sum of nothing
+pub total_none : (n : ℕ) → total n (λ w. 0) ≡ 0
 total_none zero = refl
 total_none (suc n) = (let r = total_none n in omega (arith, r))
 
-abbrev more_at : ℕ → (ℕ → ℕ) → ℕ → ℕ
+-- one more at one writer
+abbrev pub more_at : ℕ → (ℕ → ℕ) → ℕ → ℕ
 more_at x f w = cond (x == w) (suc (f w)) (f w)
 
-more_there : (x w : ℕ) (f : ℕ → ℕ) → x ≡ w → more_at x f w ≡ suc (f w)
+-- at that writer
+pub more_there : (x w : ℕ) (f : ℕ → ℕ) → x ≡ w → more_at x f w ≡ suc (f w)
 more_there x w f e = ap (λ (b : Bool). cond b (suc (f w)) (f w)) (eq-eqb x w e)
 
-more_elsewhere : (x w : ℕ) (f : ℕ → ℕ) → (x ≡ w → ⊥) → more_at x f w ≡ f w
+-- at any other
+pub more_elsewhere : (x w : ℕ) (f : ℕ → ℕ) → (x ≡ w → ⊥) → more_at x f w ≡ f w
 more_elsewhere x w f ne = ap (λ (b : Bool). cond b (suc (f w)) (f w)) (ne_eqb x w ne)
 
-total_more : (n x : ℕ) (f : ℕ → ℕ) → x < n → total n (more_at x f) ≡ suc (total n f)
+-- then the sum is one more
+pub total_more : (n x : ℕ) (f : ℕ → ℕ) → x < n → total n (more_at x f) ≡ suc (total n f)
 total_more zero x f lt = absurd (omega (arith, lt))
 total_more (suc n) x f lt = elim (cases_lt x n) [
   | inl low ↦
@@ -58,26 +66,29 @@ total_more (suc n) x f lt = elim (cases_lt x n) [
       omega (arith, r, e)
 ]
 
-one_entry : (w : ℕ) (e : Entry) (es : List Entry) → length (written_by w (e ∷ es)) ≡ more_at e.writer (λ v. length (written_by v es)) w
+-- one more entry counts for its writer
+pub one_entry : (w : ℕ) (e : Entry) (es : List Entry) → length (written_by w (e ∷ es)) ≡ more_at e.writer (λ v. length (written_by v es)) w
 one_entry w e es = elim (cases_eq e.writer w) [
   | inl own ↦ ap length (written_own w e es own) ∙ sym (more_there e.writer w (λ v. length (written_by v es)) own)
   | inr other ↦ ap length (written_other w e es other) ∙ sym (more_elsewhere e.writer w (λ v. length (written_by v es)) other)
 ]
 
-one_row : (writers w k : ℕ) (row : Numbered) (rows : List Numbered) → length (rows_of writers w k (row ∷ rows)) ≡ more_at (k % writers) (λ v. length (rows_of writers v (k + 1) rows)) w
+-- one more row counts for its writer
+pub one_row : (writers w k : ℕ) (row : Numbered) (rows : List Numbered) → length (rows_of writers w k (row ∷ rows)) ≡ more_at (k % writers) (λ v. length (rows_of writers v (k + 1) rows)) w
 one_row writers w k row rows = elim (cases_eq (k % writers) w) [
   | inl own ↦ rw (eq-eqb (k % writers) w own) refl
   | inr other ↦ rw (ne_eqb (k % writers) w other) refl
 ]
 
--- the entries are those of all writers, and so are the rows
-entries_counted : (writers : ℕ) (es : List Entry) → AllByRecursion (λ e. e.writer < writers) es → total writers (λ w. length (written_by w es)) ≡ length es
+-- the entries are those of all writers
+pub entries_counted : (writers : ℕ) (es : List Entry) → AllByRecursion (λ e. e.writer < writers) es → total writers (λ w. length (written_by w es)) ≡ length es
 entries_counted writers [] exist = total_none writers
 entries_counted writers (e ∷ es) exist =
     total_same writers _ (more_at e.writer (λ v. length (written_by v es))) (λ w lt. one_entry w e es)
     ∙ (total_more writers e.writer (λ v. length (written_by v es)) exist.0 ∙ ap suc (entries_counted writers es exist.1))
 
-rows_counted : (writers k : ℕ) (rows : List Numbered) → 0 < writers → total writers (λ w. length (rows_of writers w k rows)) ≡ length rows
+-- the rows are those of all writers
+pub rows_counted : (writers k : ℕ) (rows : List Numbered) → 0 < writers → total writers (λ w. length (rows_of writers w k rows)) ≡ length rows
 rows_counted writers k [] some = total_none writers
 rows_counted writers k (row ∷ rows) some =
     total_same writers _ (more_at (k % writers) (λ v. length (rows_of writers v (k + 1) rows))) (λ w lt. one_row writers w k row rows)
@@ -122,23 +133,22 @@ module _ (writers first : ℕ) (batch : List Numbered) (new : List Entry) (some 
       sym (entries_counted writers new exist)
       ∙ (total_same writers _ (λ w. length (rows_of writers w first batch)) (λ w lt. ap length (own w lt)) ∙ rows_counted writers first batch some)
 
--- parts of a list that goes on
-part_before : {X : Type 0} (m j : ℕ) (xs ys : List X) → j + m ≤ length xs → take m (drop j (xs ++ ys)) ≡ take m (drop j xs)
+-- a part of a list that goes on, before its end
+pub part_before : {X : Type 0} (m j : ℕ) (xs ys : List X) → j + m ≤ length xs → take m (drop j (xs ++ ys)) ≡ take m (drop j xs)
 part_before m j xs ys within =
     ap (take m) (drop-append-le j xs ys (omega (arith, within))) ∙ take-append-le m (drop j xs) ys (omega (arith, within, length-drop j xs))
 
-part_there : {X : Type 0} (m j : ℕ) (xs ys : List X) → length xs ≡ j → length ys ≤ m → take m (drop j (xs ++ ys)) ≡ ys
+-- the part at its end
+pub part_there : {X : Type 0} (m j : ℕ) (xs ys : List X) → length xs ≡ j → length ys ≤ m → take m (drop j (xs ++ ys)) ≡ ys
 part_there m j xs ys long few = ap (take m) (drop_at xs ys j long) ∙ take_all m ys few
 
-part_after : {X : Type 0} (m j : ℕ) (xs : List X) → length xs ≤ j → take m (drop j xs) ≡ []
+-- and after all
+pub part_after : {X : Type 0} (m j : ℕ) (xs : List X) → length xs ≤ j → take m (drop j xs) ≡ []
 part_after m j xs past = ap (take m) (drop_all j xs past) ∙ take_all m [] (omega arith)
 
-all_append : {X : Type 0} (P : X → Type 0) (xs ys : List X) → AllByRecursion P xs → AllByRecursion P ys → AllByRecursion P (xs ++ ys)
-all_append P [] ys first then = then
-all_append P (x ∷ xs) ys first then = (first.0, all_append P xs ys first.1 then)
-
 module _ (rows batch : List Numbered) (writers b m : ℕ) (log new : List Entry) (apart : (c d : ℕ) → c < d → m * c + m ≤ m * d) where
-  own_more : length rows ≡ m * b → length log ≡ m * b → length batch ≤ m → length new ≡ length batch
+  -- batch by batch what each writer wrote are its rows
+  pub own_more : length rows ≡ m * b → length log ≡ m * b → length batch ≤ m → length new ≡ length batch
       → ((c w : ℕ) → w < writers → written_by w (take m (drop (m * c) log)) ≡ rows_of writers w (m * c) (take m (drop (m * c) rows)))
       → ((w : ℕ) → w < writers → written_by w new ≡ rows_of writers w (m * b) batch)
       → (c w : ℕ) → w < writers → written_by w (take m (drop (m * c) (log ++ new))) ≡ rows_of writers w (m * c) (take m (drop (m * c) (rows ++ batch)))
