@@ -1,1 +1,5 @@
 pub mod Progress
+pub mod Alls
+pub mod Written
+pub mod Batches
+pub mod Tails

@@ -1,0 +1,264 @@
+-- The writers' passes come home after a batch: the log has the rows of the batch, each once.
+use Rattle.std.proofs.Common.{◌≡◌, ◌⊎◌, ℕ, zero, suc, ◌+◌, ◌*◌, ◌<◌, ◌≤◌, Bool, true, false, cond, List, [], ◌∷◌, ◌++◌, length, get_or, take, drop, map, ◌==◌, Some, None, slice_get, refl, sym, ap, subst, ◌∙◌, inl, inr, arith, length-append}
+use Rattle.std.proofs.lemmas.Bool.{cases_Bool}
+use Rattle.std.proofs.lemmas.List.{append-nil, append_cancel_left, take-append-drop, take_all, drop_all}
+use Rattle.std.proofs.lemmas.Option.{slice_get_within, slice_get-get_or}
+use Rattle.std.specs.List.{All, AllZip, AllByRecursion}
+use Rattle.cf_row.specs.Row.{Numbered}
+use Rattle.cf_row.specs.declared.row.Entry.{Entry}
+use Rattle.cf_history.specs.Order.{rows_of, written_by, IsLogOf}
+use Rattle.cf_shape.specs.Lanes.{Shaped, IsShape}
+use Rattle.cf_law.specs.Passes.{Own, Book, Pass}
+use Rattle.cf_law.specs.Steps.{Holds, IsAtRest, newcomer}
+use Rattle.cf_law.specs.Readers.{mine_from}
+use Rattle.cf_table.specs.Held.{Held, LogValue, IsOf, book_of}
+use Rattle.cf_table.specs.Rule.{root_pass}
+use Rattle.cf_table.specs.Moves.{Begins, IsSettled, AreDealt, AreAll, AreFit, Gathered, books_of, told_by}
+use Rattle.cf_table.proofs.Homing.{still_one, get_front, opened as opened_settled}
+use Rattle.cf_append.specs.Appends.{Rests}
+use Rattle.cf_load.specs.Writing.{rows_of_book, IsReady, Wrote}
+use Rattle.cf_load.specs.Loading.{HasLoaded}
+use Rattle.cf_load.proofs.Alls.{all_drop}
+use Rattle.cf_load.proofs.Written.{written_append, WrotePart, all_written, log_more}
+
+-- the rows of a book's tickets are what its writer wrote
+pub mine_rows : (w k : ℕ) (es : List Entry) → map (λ (own : Own). own.row) (mine_from w k es) ≡ written_by w es
+unfolding mine_from
+mine_rows w k [] = refl
+mine_rows w k (e ∷ es) = elim (cases_Bool (e.writer == w)) [
+  | inl own ↦ rw own (ap (λ rs. e.row ∷ rs) (mine_rows w (suc k) es))
+  | inr other ↦ rw other (mine_rows w (suc k) es)
+]
+
+-- the one book of a pass at rest
+pub only_book : (p : Pass) → Rests p → (j : ℕ) (b : Book) → Holds p j b → b ≡ book_of p
+only_book p rests j b at = one j (ap (λ (bs : List Book). slice_get bs j) (sym rests.one) ∙ at)
+  where
+    one : (i : ℕ) → slice_get (book_of p ∷ []) i ≡ Some b → b ≡ book_of p
+    one zero e = (let f : book_of p ≡ b = cc e in sym f)
+    one (suc i) e = absurd (cc e)
+
+-- a pass at rest holds its book
+pub first_book : (p : Pass) → Rests p → Holds p 0 (book_of p)
+first_book p rests = ap (λ (bs : List Book). slice_get bs 0) rests.one
+
+-- an element of the second of two lists
+pub get_back : {A : Type 0} (xs ys : List A) (i : ℕ) (x : A) → slice_get ys i ≡ Some x → slice_get (xs ++ ys) (length xs + i) ≡ Some x
+get_back [] ys i x h = ap (slice_get ys) (let e : 0 + i ≡ i = omega arith in e) ∙ h
+get_back (y ∷ xs) ys i x h = ap (slice_get (y ∷ (xs ++ ys))) (let e : suc (length xs) + i ≡ suc (length xs + i) = omega arith in e) ∙ get_back xs ys i x h
+
+-- a pass's book is among those of all
+pub book_in : (passes : List Held) (k : ℕ) (h : Held) (b : Book) → slice_get passes k ≡ Some h → Holds h.view 0 b → (i : ℕ) × (slice_get (books_of passes) i ≡ Some b)
+unfolding books_of
+book_in [] k h b at holds = absurd (cc at)
+book_in (x ∷ xs) zero h b at holds =
+    let e : x ≡ h = cc at in
+    (0, get_front (x.view).books (books_of xs) 0 b (ap (λ (y : Held). slice_get (y.view).books 0) e ∙ holds))
+book_in (x ∷ xs) (suc k) h b at holds =
+    let r = book_in xs k h b at holds in
+    (length (x.view).books + r.0, get_back (x.view).books (books_of xs) r.0 b r.1)
+
+-- what stands beside an element of the first list
+pub zip_at : {A B : Type 0} (R : A → B → Type 0) (xs : List A) (ys : List B) (k : ℕ) (x : A) → AllZip R xs ys → slice_get xs k ≡ Some x → (y : B) × (slice_get ys k ≡ Some y) × R x y
+zip_at R [] ys k x all at = absurd (cc at)
+zip_at R (a ∷ xs) [] k x all at = absurd all
+zip_at R (a ∷ xs) (b ∷ ys) zero x all at = (let e : a ≡ x = cc at in (b, refl, subst (λ c. R c b) e all.0))
+zip_at R (a ∷ xs) (b ∷ ys) (suc k) x all at = zip_at R xs ys k x all.1 at
+
+-- what stands beside an element of the second list
+pub zip_back : {A B : Type 0} (R : A → B → Type 0) (xs : List A) (ys : List B) (k : ℕ) (y : B) → AllZip R xs ys → slice_get ys k ≡ Some y → (x : A) × (slice_get xs k ≡ Some x) × R x y
+zip_back R [] [] k y all at = absurd (cc at)
+zip_back R [] (b ∷ ys) k y all at = absurd all
+zip_back R (a ∷ xs) [] k y all at = absurd all
+zip_back R (a ∷ xs) (b ∷ ys) zero y all at = (let e : b ≡ y = cc at in (a, refl, subst (λ c. R a c) e all.0))
+zip_back R (a ∷ xs) (b ∷ ys) (suc k) y all at = zip_back R xs ys k y all.1 at
+
+-- both lists are as long
+pub zip_long : {A B : Type 0} (R : A → B → Type 0) (xs : List A) (ys : List B) → AllZip R xs ys → length xs ≡ length ys
+zip_long R [] [] all = refl
+zip_long R [] (b ∷ ys) all = absurd all
+zip_long R (a ∷ xs) [] all = absurd all
+zip_long R (a ∷ xs) (b ∷ ys) all = ap suc (zip_long R xs ys all.1)
+
+-- each entry that was seen is of a writer
+pub fit_exist : (writers : ℕ) (es : List Entry) → ((o : ℕ) (e : Entry) → slice_get es o ≡ Some e → e.writer < writers) → AllByRecursion (λ e. e.writer < writers) es
+fit_exist writers [] each = tt
+fit_exist writers (e ∷ es) each = (each 0 e refl, fit_exist writers es (λ o x at. each (suc o) x at))
+
+-- a pass that was dealt is ready to write
+pub ready_one : (log : LogValue) (rows : List Numbered) (m r : Held) (passes : List Held) → HasLoaded log rows m → AreDealt log m passes r → (k : ℕ) (h : Held) → slice_get passes k ≡ Some h → IsReady log h
+ready_one log rows m r passes has dealt k h at =
+    let d = dealt.each k h at in
+    let book : book_of h.view ≡ d.book = ap (λ (p : Pass). book_of p) d.view in record {
+      of = d.of;
+      rest = record {
+        one = ap (λ (p : Pass). p.books) d.view ∙ ap (λ (b : Book). b ∷ []) (sym book);
+        free = ap (λ (b : Book). b.flight) book ∙ has.settled.rest k d.book d.at;
+      };
+    }
+
+-- all passes that were dealt are ready to write
+pub ready_passes : (log : LogValue) (rows : List Numbered) (m r : Held) (passes : List Held) → HasLoaded log rows m → AreDealt log m passes r → All (IsReady log) passes
+ready_passes log rows m r passes has dealt k d lt = ready_one log rows m r passes has dealt k (get_or passes k d) (slice_get-get_or passes k d lt)
+
+-- passes that wrote may come home
+pub homeward : (log : LogValue) (first : ℕ) (batch : List Numbered) (passes after : List Held) → All (IsReady log) passes → AreAll log passes → AllZip (Wrote log first batch) passes after → AreAll log after
+homeward log first batch passes after ready all wrote = record {
+  of = λ k a at. of k a at;
+  rest = λ k a at j b holds. rest k a at j b holds;
+  count = sym (zip_long (Wrote log first batch) passes after wrote) ∙ all.count;
+  writers = λ w lt. writers w lt;
+}
+  where
+    of : (k : ℕ) (a : Held) → slice_get after k ≡ Some a → IsOf a log
+    of k a at =
+        let z = zip_back (Wrote log first batch) passes after k a wrote at in
+        still_one log z.0 a (all.of k z.0 z.1) (z.2).same
+
+    rest : (k : ℕ) (a : Held) → slice_get after k ≡ Some a → IsAtRest a.view
+    rest k a at j b holds =
+        let z = zip_back (Wrote log first batch) passes after k a wrote at in
+        ap (λ (c : Book). c.flight) (only_book a.view (z.2).rest j b holds) ∙ (z.2).rest.free
+
+    writers : (w : ℕ) → w < (log.shape).writers → (k : ℕ) × (h : Held) × (j : ℕ) × (b : Book) × (slice_get after k ≡ Some h) × Holds h.view j b × (b.writer ≡ w)
+    writers w lt =
+        let r = all.writers w lt in
+        let k : ℕ = r.0 in
+        let h : Held = r.1 in
+        let within : k < length passes = slice_get_within passes k h r.4 in
+        let same : get_or passes k h ≡ h = (let f : Some (get_or passes k h) ≡ Some h = sym (slice_get-get_or passes k h within) ∙ r.4 in cc f) in
+        let rests : Rests h.view = subst (λ (x : Held). Rests x.view) same (ready k h within).rest in
+        let z = zip_at (Wrote log first batch) passes after k h wrote r.4 in
+        let mine : (book_of h.view).writer ≡ w = ap (λ (c : Book). c.writer) (sym (only_book h.view rests r.2 r.3 r.5)) ∙ r.6 in
+        (k, z.0, 0, book_of (z.0).view, z.1, first_book (z.0).view (z.2).rest, (z.2).writer ∙ mine)
+
+-- passes that were told nothing tell nothing
+pub quiet : (log : LogValue) (first : ℕ) (batch : List Numbered) (hs gs : List Held) (ts : List ℕ) → AllZip (Wrote log first batch) hs gs → ((k : ℕ) (h : Held) → slice_get hs k ≡ Some h → ((h.view).tails ≡ []) × ((h.view).told ≡ [])) → told_by ts gs ≡ ts
+unfolding told_by
+quiet log first batch [] [] ts all each = refl
+quiet log first batch [] (a ∷ gs) ts all each = absurd all
+quiet log first batch (h ∷ hs) [] ts all each = absurd all
+quiet log first batch (h ∷ hs) (a ∷ gs) ts all each =
+    let e = each 0 h refl in
+    let tails : (a.view).tails ≡ [] = (all.0).tails ∙ e.0 in
+    let news : (a.view).told ≡ [] = (all.0).told ∙ e.1 in
+    let none : (ts ++ (a.view).told) ++ (a.view).tails ≡ ts = rw (tails, news) (append-nil (ts ++ []) ∙ append-nil ts) in
+    ap (λ (us : List ℕ). told_by us gs) none ∙ quiet log first batch hs gs ts all.1 (λ k x at. each (suc k) x at)
+
+-- passes that were dealt and then wrote tell a root nothing
+pub told_home : (log : LogValue) (first : ℕ) (batch : List Numbered) (m r : Held) (passes after : List Held) → AreDealt log m passes r → AllZip (Wrote log first batch) passes after → (told : List ℕ) → told_by told after ≡ told
+told_home log first batch m r passes after dealt wrote told =
+    quiet log first batch passes after told wrote (λ k h at. (let d = dealt.each k h at in (ap (λ (p : Pass). p.tails) d.view, ap (λ (p : Pass). p.told) d.view)))
+
+-- no part of an empty list has anything
+pub nothing : (X : Type 0) (j : ℕ) → take 4096 (drop {A = X} j []) ≡ []
+nothing X j = ap (take 4096) (drop_all {X = X} j [] (omega arith)) ∙ take_all 4096 [] (omega arith)
+
+-- a log just opened has no rows yet
+pub opened : (log : LogValue) (m : Held) → IsOf m log → m.view ≡ root_pass log.shape → HasLoaded log [] m
+opened log m of is = record {
+  of = of;
+  settled = subst (IsSettled log.shape) (sym is) (opened_settled log.shape);
+  is = subst (λ (p : Pass). IsLogOf [] (log.shape).writers p.seen) (sym is) none;
+}
+  where
+    none : IsLogOf [] (log.shape).writers []
+    none = record {
+      size = refl;
+      exist = tt;
+      own = λ b w lt. ap (written_by w) (nothing Entry (4096 * b)) ∙ ap (rows_of (log.shape).writers w (4096 * b)) (sym (nothing Numbered (4096 * b)));
+    }
+
+-- The passes that wrote came home.
+module _ (log : LogValue) (rows batch : List Numbered) (m r n : Held) (passes after : List Held) (has : HasLoaded log rows m) (dealt : AreDealt log m passes r) (wrote : AllZip (Wrote log (length rows) batch) passes after) (g : Gathered log.shape r after n) where
+  -- what was seen before, what came, and how many writers there are
+  abbrev pub seen : List Entry
+  seen = (m.view).seen
+
+  abbrev pub new : List Entry
+  new = drop (length (m.view).seen) (n.view).seen
+
+  abbrev pub W : ℕ
+  W = (log.shape).writers
+
+  -- what was seen goes on
+  pub goes_on : (n.view).seen ≡ seen ++ new
+  goes_on =
+      let kept : (r.view).seen ≡ seen = ap (λ (h : Held). (h.view).seen) dealt.root in
+      let begins : take (length seen) (n.view).seen ≡ seen = subst (λ (es : List Entry). Begins es (n.view).seen) kept g.own in
+      sym (take-append-drop (length seen) (n.view).seen) ∙ ap (λ (es : List Entry). es ++ new) begins
+
+  -- each new entry is of a writer
+  pub new_exist : AllByRecursion (λ e. e.writer < W) new
+  new_exist = all_drop (λ e. e.writer < W) (length seen) (n.view).seen (fit_exist W (n.view).seen (λ o e at. (g.fit o e at).1))
+
+  -- what a pass wrote whose writer had this book
+  pub wrote_part : (w k : ℕ) (h a : Held) (b : Book) → Holds m.view k b → b.writer ≡ w → slice_get passes k ≡ Some h → slice_get after k ≡ Some a → Wrote log (length rows) batch h a → length rows + length batch ≤ (log.shape).capacity → WrotePart W (length rows) batch new w
+  wrote_part w k h a b held own at there wr room = record {
+    left = wr.left;
+    split = ap (λ rs. rs ++ wr.left) wrote_done ∙ (wr.split ∙ ap (λ v. rows_of W v (length rows) batch) writer);
+    all = elim wr.all [
+      | inl none ↦ inl none
+      | inr marked ↦ inr (omega (arith, full marked, ap length goes_on, length-append seen new, has.is.size, room))
+    ];
+  }
+    where
+      d : Rattle.cf_table.specs.Moves.IsDealt log m k h
+      d = dealt.each k h at
+
+      same : book_of h.view ≡ b
+      same = (let f : Some d.book ≡ Some b = sym d.at ∙ held in let e : d.book ≡ b = cc f in ap (λ (p : Pass). book_of p) d.view ∙ e)
+
+      writer : (book_of h.view).writer ≡ w
+      writer = ap (λ (c : Book). c.writer) same ∙ own
+
+      place : (i : ℕ) × (slice_get (books_of after) i ≡ Some (book_of a.view))
+      place = book_in after k a (book_of a.view) there (first_book a.view wr.rest)
+
+      holds : Holds n.view place.0 (book_of a.view)
+      holds = ap (λ (bs : List Book). slice_get bs place.0) g.books ∙ place.1
+
+      full : (book_of a.view).over ≡ true → length (n.view).seen ≡ (log.shape).capacity
+      full marked = g.full place.0 (book_of a.view) holds marked
+
+      before : rows_of_book (book_of h.view) ≡ written_by w seen
+      before = ap rows_of_book same ∙ (ap (map (λ (o : Own). o.row)) (has.settled.all k b held) ∙ (mine_rows b.writer 0 seen ∙ ap (λ v. written_by v seen) own))
+
+      now : rows_of_book (book_of a.view) ≡ written_by w seen ++ written_by w new
+      now = ap (map (λ (o : Own). o.row)) (g.settled.all place.0 (book_of a.view) holds) ∙ (mine_rows (book_of a.view).writer 0 (n.view).seen ∙ (ap (λ v. written_by v (n.view).seen) (wr.writer ∙ writer) ∙ (ap (written_by w) goes_on ∙ written_append w seen new)))
+
+      wrote_done : written_by w new ≡ wr.done
+      wrote_done = append_cancel_left (written_by w seen) _ _ (sym now ∙ (wr.rows ∙ ap (λ rs. rs ++ wr.done) before))
+
+  -- what each writer wrote
+  pub part_of : length rows + length batch ≤ (log.shape).capacity → (w : ℕ) → w < W → WrotePart W (length rows) batch new w
+  part_of room w lt =
+      let home = has.settled.home w lt in
+      let k : ℕ = home.0 in
+      let b : Book = home.1 in
+      let low : k < length passes = omega (arith, slice_get_within (m.view).books k b home.2, dealt.count) in
+      let h : Held = get_or passes k m in
+      let at : slice_get passes k ≡ Some h = slice_get-get_or passes k m low in
+      let z = zip_at (Wrote log (length rows) batch) passes after k h wrote at in
+      wrote_part w k h z.0 b home.2 home.3 at z.1 z.2 room
+
+  -- the root is still the log's
+  pub home_again : IsOf n log
+  home_again =
+      let root : IsOf r log = still_one log m r has.of (dealt.root ∙ ap (λ (p : Pass). record m { view = p }) (ap (λ (h : Held). h.view) (sym dealt.root))) in
+      still_one log r n root g.same
+
+-- Passes were dealt, each wrote of its rows of the batch what it could, and all came home: where there is room for all rows, all
+-- are in the log.
+pub batch_loaded : (log : LogValue) (rows batch : List Numbered) (b : ℕ) (m r n : Held) (passes after : List Held) → IsShape log.shape → HasLoaded log rows m → length rows ≡ 4096 * b → length batch ≤ 4096 → length rows + length batch ≤ (log.shape).capacity → AreDealt log m passes r → AllZip (Wrote log (length rows) batch) passes after → Gathered log.shape r after n → HasLoaded log (rows ++ batch) n
+batch_loaded log rows batch b m r n passes after shape has long few room dealt wrote g =
+    let W = (log.shape).writers in
+    let some : 0 < W = shape.writers.0 in
+    let more : List Entry = drop (length (m.view).seen) (n.view).seen in
+    let exist = new_exist log rows batch m r n passes after has dealt wrote g in
+    let own : (w : ℕ) → w < W → written_by w more ≡ rows_of W w (length rows) batch = all_written W (length rows) batch more some exist (part_of log rows batch m r n passes after has dealt wrote g room) in
+    let is : IsLogOf (rows ++ batch) W ((m.view).seen ++ more) = log_more rows batch W b (m.view).seen more some has.is long few exist (λ w lt. own w lt ∙ ap (λ k. rows_of W w k batch) long) in record {
+      of = home_again log rows batch m r n passes after has dealt wrote g;
+      settled = g.settled;
+      is = subst (IsLogOf (rows ++ batch) W) (sym (goes_on log rows batch m r n passes after has dealt wrote g)) is;
+    }

@@ -1,0 +1,181 @@
+-- What the writers wrote of a batch, and the log with it: lemmas on lists alone.
+use Rattle.std.proofs.Common.{◌≡◌, ◌⊎◌, ℕ, zero, suc, ◌+◌, ◌*◌, ◌%◌, ◌<◌, ◌≤◌, Bool, true, false, cond, List, [], ◌∷◌, ◌++◌, length, take, drop, map, ◌==◌, refl, sym, ap, ap₂, subst, ◌∙◌, inl, inr, arith, length-append}
+use Rattle.std.proofs.lemmas.Bool.{eq-eqb, ne_eqb, cases_eq, cases_lt}
+use Rattle.std.proofs.lemmas.List.{length-drop, take_all, take-append-le, drop_at, drop_all, drop-append-le, append-nil, nil_from_length}
+use Rattle.std.specs.List.{AllByRecursion}
+use Rattle.cf_row.specs.Row.{Numbered}
+use Rattle.cf_row.specs.declared.row.Entry.{Entry}
+use Rattle.cf_history.specs.Order.{rows_of, written_by, IsLogOf}
+use Rattle.cf_history.proofs.Logs.{written_own, written_other}
+use Rattle.cf_load.proofs.Alls.{all_append}
+
+-- the sum over the writers below n
+abbrev pub total : ℕ → (ℕ → ℕ) → ℕ
+total zero f = 0
+total (suc n) f = total n f + f n
+
+-- the sums of equal numbers
+pub total_same : (n : ℕ) (f g : ℕ → ℕ) → ((w : ℕ) → w < n → f w ≡ g w) → total n f ≡ total n g
+total_same zero f g each = refl
+total_same (suc n) f g each = (let r = total_same n f g (λ w lt. each w (omega (arith, lt))) in let e = each n (omega arith) in omega (arith, r, e))
+
+-- the sums of numbers that are no more
+pub total_most : (n : ℕ) (f g : ℕ → ℕ) → ((w : ℕ) → w < n → f w ≤ g w) → total n f ≤ total n g
+total_most zero f g each = omega arith
+total_most (suc n) f g each = (let r = total_most n f g (λ w lt. each w (omega (arith, lt))) in let e = each n (omega arith) in omega (arith, r, e))
+
+-- where no number is more than its fellow and the sums are as large, each is its fellow
+pub total_even : (n : ℕ) (f g : ℕ → ℕ) → ((w : ℕ) → w < n → f w ≤ g w) → total n g ≤ total n f → (w : ℕ) → w < n → f w ≡ g w
+total_even zero f g each all w lt = absurd (omega (arith, lt))
+total_even (suc n) f g each all w lt =
+    let most : total n f ≤ total n g = total_most n f g (λ v low. each v (omega (arith, low))) in
+    let last : f n ≤ g n = each n (omega arith) in
+    elim (cases_lt w n) [
+      | inl low ↦ total_even n f g (λ v under. each v (omega (arith, under))) (omega (arith, most, last, all)) w low
+      | inr high ↦ (let e : n ≡ w = omega (arith, high, lt) in subst (λ v. f v ≡ g v) e (omega (arith, most, last, all)))
+    ]
+
+-- the sum of nothing
+pub total_none : (n : ℕ) → total n (λ w. 0) ≡ 0
+total_none zero = refl
+total_none (suc n) = (let r = total_none n in omega (arith, r))
+
+-- one more at one writer
+abbrev pub more_at : ℕ → (ℕ → ℕ) → ℕ → ℕ
+more_at x f w = cond (x == w) (suc (f w)) (f w)
+
+-- at that writer
+pub more_there : (x w : ℕ) (f : ℕ → ℕ) → x ≡ w → more_at x f w ≡ suc (f w)
+more_there x w f e = ap (λ (b : Bool). cond b (suc (f w)) (f w)) (eq-eqb x w e)
+
+-- at any other
+pub more_elsewhere : (x w : ℕ) (f : ℕ → ℕ) → (x ≡ w → ⊥) → more_at x f w ≡ f w
+more_elsewhere x w f ne = ap (λ (b : Bool). cond b (suc (f w)) (f w)) (ne_eqb x w ne)
+
+-- then the sum is one more
+pub total_more : (n x : ℕ) (f : ℕ → ℕ) → x < n → total n (more_at x f) ≡ suc (total n f)
+total_more zero x f lt = absurd (omega (arith, lt))
+total_more (suc n) x f lt = elim (cases_lt x n) [
+  | inl low ↦
+      let r = total_more n x f low in
+      let e = more_elsewhere x n f (λ (g : x ≡ n). absurd (omega (arith, g, low))) in
+      omega (arith, r, e)
+  | inr high ↦
+      let e = more_there x n f (omega (arith, lt, high)) in
+      let r = total_same n (more_at x f) f (λ w low. more_elsewhere x w f (λ (g : x ≡ w). absurd (omega (arith, g, low, high)))) in
+      omega (arith, r, e)
+]
+
+-- one more entry counts for its writer
+pub one_entry : (w : ℕ) (e : Entry) (es : List Entry) → length (written_by w (e ∷ es)) ≡ more_at e.writer (λ v. length (written_by v es)) w
+one_entry w e es = elim (cases_eq e.writer w) [
+  | inl own ↦ ap length (written_own w e es own) ∙ sym (more_there e.writer w (λ v. length (written_by v es)) own)
+  | inr other ↦ ap length (written_other w e es other) ∙ sym (more_elsewhere e.writer w (λ v. length (written_by v es)) other)
+]
+
+-- one more row counts for its writer
+pub one_row : (writers w k : ℕ) (row : Numbered) (rows : List Numbered) → length (rows_of writers w k (row ∷ rows)) ≡ more_at (k % writers) (λ v. length (rows_of writers v (k + 1) rows)) w
+one_row writers w k row rows = elim (cases_eq (k % writers) w) [
+  | inl own ↦ rw (eq-eqb (k % writers) w own) refl
+  | inr other ↦ rw (ne_eqb (k % writers) w other) refl
+]
+
+-- the entries are those of all writers
+pub entries_counted : (writers : ℕ) (es : List Entry) → AllByRecursion (λ e. e.writer < writers) es → total writers (λ w. length (written_by w es)) ≡ length es
+entries_counted writers [] exist = total_none writers
+entries_counted writers (e ∷ es) exist =
+    total_same writers _ (more_at e.writer (λ v. length (written_by v es))) (λ w lt. one_entry w e es)
+    ∙ (total_more writers e.writer (λ v. length (written_by v es)) exist.0 ∙ ap suc (entries_counted writers es exist.1))
+
+-- the rows are those of all writers
+pub rows_counted : (writers k : ℕ) (rows : List Numbered) → 0 < writers → total writers (λ w. length (rows_of writers w k rows)) ≡ length rows
+rows_counted writers k [] some = total_none writers
+rows_counted writers k (row ∷ rows) some =
+    total_same writers _ (more_at (k % writers) (λ v. length (rows_of writers v (k + 1) rows))) (λ w lt. one_row writers w k row rows)
+    ∙ (total_more writers (k % writers) (λ v. length (rows_of writers v (k + 1) rows)) (omega (arith, some)) ∙ ap suc (rows_counted writers (k + 1) rows some))
+
+-- what a writer wrote in two parts of a log
+pub written_append : (w : ℕ) (es fs : List Entry) → written_by w (es ++ fs) ≡ written_by w es ++ written_by w fs
+written_append w [] fs = refl
+written_append w (e ∷ es) fs = elim (cases_eq e.writer w) [
+  | inl own ↦ written_own w e (es ++ fs) own ∙ rw (written_own w e es own) (ap (λ rs. e.row ∷ rs) (written_append w es fs))
+  | inr other ↦ written_other w e (es ++ fs) other ∙ rw (written_other w e es other) (written_append w es fs)
+]
+
+-- A writer wrote the first of its rows of a batch. Where some are left, as many entries came as the batch has rows.
+pub record WrotePart (writers first : ℕ) (batch : List Numbered) (new : List Entry) (w : ℕ) : Type 0 where
+  pub left : List Numbered
+  pub split : written_by w new ++ left ≡ rows_of writers w first batch
+  pub all : (left ≡ []) ⊎ (length batch ≤ length new)
+
+module _ (writers first : ℕ) (batch : List Numbered) (new : List Entry) (some : 0 < writers) (exist : AllByRecursion (λ e. e.writer < writers) new) where
+  -- then nothing is left: each writer wrote all its rows of the batch
+  pub all_written : ((w : ℕ) → w < writers → WrotePart writers first batch new w) → (w : ℕ) → w < writers → written_by w new ≡ rows_of writers w first batch
+  all_written part w lt =
+      let p = part w lt in
+      let whole : p.left ≡ [] → written_by w new ≡ rows_of writers w first batch = λ none. sym (append-nil (written_by w new)) ∙ ap (λ rs. written_by w new ++ rs) (sym none) ∙ p.split in
+      elim p.all [
+        | inl none ↦ whole none
+        | inr full ↦ whole (nil_from_length p.left (nothing_left full))
+      ]
+    where
+      long : (v : ℕ) (low : v < writers) → length (written_by v new) + length (part v low).left ≡ length (rows_of writers v first batch)
+      long v low = sym (length-append (written_by v new) (part v low).left) ∙ ap length (part v low).split
+
+      nothing_left : length batch ≤ length new → length (part w lt).left ≡ 0
+      nothing_left full =
+          let even = total_even writers (λ v. length (written_by v new)) (λ v. length (rows_of writers v first batch)) (λ v low. omega (arith, long v low)) (omega (arith, entries_counted writers new exist, rows_counted writers first batch some, full)) w lt in
+          omega (arith, even, long w lt)
+
+  -- and as many entries came as the batch has rows
+  pub as_many : ((w : ℕ) → w < writers → written_by w new ≡ rows_of writers w first batch) → length new ≡ length batch
+  as_many own =
+      sym (entries_counted writers new exist)
+      ∙ (total_same writers _ (λ w. length (rows_of writers w first batch)) (λ w lt. ap length (own w lt)) ∙ rows_counted writers first batch some)
+
+-- a part of a list that goes on, before its end
+pub part_before : {X : Type 0} (m j : ℕ) (xs ys : List X) → j + m ≤ length xs → take m (drop j (xs ++ ys)) ≡ take m (drop j xs)
+part_before m j xs ys within =
+    ap (take m) (drop-append-le j xs ys (omega (arith, within))) ∙ take-append-le m (drop j xs) ys (omega (arith, within, length-drop j xs))
+
+-- the part at its end
+pub part_there : {X : Type 0} (m j : ℕ) (xs ys : List X) → length xs ≡ j → length ys ≤ m → take m (drop j (xs ++ ys)) ≡ ys
+part_there m j xs ys long few = ap (take m) (drop_at xs ys j long) ∙ take_all m ys few
+
+-- and after all
+pub part_after : {X : Type 0} (m j : ℕ) (xs : List X) → length xs ≤ j → take m (drop j xs) ≡ []
+part_after m j xs past = ap (take m) (drop_all j xs past) ∙ take_all m [] (omega arith)
+
+module _ (rows batch : List Numbered) (writers b m : ℕ) (log new : List Entry) (apart : (c d : ℕ) → c < d → m * c + m ≤ m * d) where
+  -- batch by batch what each writer wrote are its rows
+  pub own_more : length rows ≡ m * b → length log ≡ m * b → length batch ≤ m → length new ≡ length batch
+      → ((c w : ℕ) → w < writers → written_by w (take m (drop (m * c) log)) ≡ rows_of writers w (m * c) (take m (drop (m * c) rows)))
+      → ((w : ℕ) → w < writers → written_by w new ≡ rows_of writers w (m * b) batch)
+      → (c w : ℕ) → w < writers → written_by w (take m (drop (m * c) (log ++ new))) ≡ rows_of writers w (m * c) (take m (drop (m * c) (rows ++ batch)))
+  own_more rows_long log_long few many own more c w lt = elim (cases_lt c b) [
+    | inl before ↦
+        let far = apart c b before in
+        rw (part_before m (m * c) log new (omega (arith, far, log_long)), part_before m (m * c) rows batch (omega (arith, far, rows_long))) (own c w lt)
+    | inr since ↦ elim (cases_lt b c) [
+      | inl past ↦
+          let far = apart b c past in
+          rw (
+            part_after m (m * c) (log ++ new) (omega (arith, far, log_long, many, few, length-append log new)),
+            part_after m (m * c) (rows ++ batch) (omega (arith, far, rows_long, few, length-append rows batch)),
+          ) refl
+      | inr until ↦
+          let same : c ≡ b = omega (arith, since, until) in
+          let at : m * b ≡ m * c = ap (λ d. m * d) (sym same) in
+          rw (part_there m (m * c) log new (log_long ∙ at) (omega (arith, many, few)), part_there m (m * c) rows batch (rows_long ∙ at) few) (more w lt ∙ ap (λ k. rows_of writers w k batch) at)
+    ]
+  ]
+
+-- a log of some whole batches and then each writer's rows of one more are a log of all these rows
+pub log_more : (rows batch : List Numbered) (writers b : ℕ) (log new : List Entry) → 0 < writers → IsLogOf rows writers log → length rows ≡ 4096 * b → length batch ≤ 4096 → AllByRecursion (λ e. e.writer < writers) new
+    → ((w : ℕ) → w < writers → written_by w new ≡ rows_of writers w (4096 * b) batch) → IsLogOf (rows ++ batch) writers (log ++ new)
+log_more rows batch writers b log new some is long few exist more =
+    let many : length new ≡ length batch = as_many writers (4096 * b) batch new some exist more in record {
+      size = length-append log new ∙ (ap₂ (λ i j. i + j) is.size many ∙ sym (length-append rows batch));
+      exist = all_append (λ e. e.writer < writers) log new is.exist exist;
+      own = own_more rows batch writers b 4096 log new (λ c d lt. omega (arith, lt)) long (is.size ∙ long) few many is.own more;
+    }

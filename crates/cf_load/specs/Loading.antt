@@ -1,0 +1,45 @@
+-- What a log holds while it is loaded batch by batch, and what a reader beside the writers has answered.
+use Rattle.std.specs.Prelude.{◌≡◌, ◌≤◌, ℕ, List, ◌++◌, length, map, take, slice_index_or}
+use Rattle.std.specs.List.{flat_map, range_with_len, AllByRecursion}
+use Rattle.cf_row.specs.Row.{Numbered}
+use Rattle.cf_row.specs.declared.row.Entry.{Entry}
+use Rattle.cf_history.specs.History.{NeverFall}
+use Rattle.cf_history.specs.Order.{IsLogOf}
+use Rattle.cf_history.specs.Tails.{Turn, AreTails}
+use Rattle.cf_shape.specs.Lanes.{Shaped}
+use Rattle.cf_plain.specs.Asks.{eval}
+use Rattle.cf_plain.specs.declared.ask.Ask.{Ask}
+use Rattle.cf_report.specs.declared.loaded.Live.{Live}
+use Rattle.cf_report.specs.Answered.{no_ask, turn_of}
+use Rattle.cf_table.specs.Held.{Held, LogValue, IsOf}
+use Rattle.cf_table.specs.Moves.{Begins, IsSettled}
+
+-- The root holds all books at rest, and what it has seen is a log of those rows, each of them once.
+pub record HasLoaded (log : LogValue) (rows : List Numbered) (m : Held) : Type 0 where
+  pub of : IsOf m log
+  pub settled : IsSettled log.shape m.view
+  pub is : IsLogOf rows (log.shape).writers (m.view).seen
+
+-- What the reader did beside a batch: a live answer for each round and each live question, in this order, each the question's
+-- meaning on as many entries as it saw. The lengths never fall.
+pub record AsksBatch (shape : Shaped) (asks : List Ask) (lives : List ℕ) (rounds batch : ℕ) (before after : List Entry) (more : List Live) : Type 0 where
+  pub turns : map (λ (live : Live). (turn_of live).0) more ≡ flat_map (λ round. map (λ ask. record { batch = batch; round = round; ask = ask }) lives) (range_with_len 0 rounds)
+  pub rise : NeverFall (map (λ (live : Live). live.answer.tail) more)
+  pub within : AllByRecursion (λ live. (length before ≤ live.answer.tail) × (live.answer.tail ≤ length after)) more
+  pub bodies : AllByRecursion (λ live. live.answer.body ≡ eval shape (slice_index_or asks live.ask no_ask) (take live.answer.tail after)) more
+  pub longer : Begins before after
+
+-- What the reader did so far beside a batch: live answers in all turns of the first rounds, and in the first ones of the next
+-- round, as many as were asked in it.
+pub record AsksSome (shape : Shaped) (asks : List Ask) (lives : List ℕ) (round asked batch : ℕ) (before after : List Entry) (more : List Live) : Type 0 where
+  pub turns : map (λ (live : Live). (turn_of live).0) more ≡
+      flat_map (λ round. map (λ ask. record { batch = batch; round = round; ask = ask }) lives) (range_with_len 0 round) ++ map (λ ask. record { batch = batch; round = round; ask = ask }) (take asked lives)
+  pub rise : NeverFall (map (λ (live : Live). live.answer.tail) more)
+  pub within : AllByRecursion (λ live. (length before ≤ live.answer.tail) × (live.answer.tail ≤ length after)) more
+  pub bodies : AllByRecursion (λ live. live.answer.body ≡ eval shape (slice_index_or asks live.ask no_ask) (take live.answer.tail after)) more
+  pub longer : Begins before after
+
+-- the live answers so far are those of the first n entries: each in its turn, and each the question's meaning on what it saw
+pub record HasAnswered (shape : Shaped) (asks : List Ask) (lives : List ℕ) (rounds n : ℕ) (seen : List Entry) (answers : List Live) : Type 0 where
+  pub tails : AreTails n rounds lives (map turn_of answers)
+  pub bodies : AllByRecursion (λ live. live.answer.body ≡ eval shape (slice_index_or asks live.ask no_ask) (take live.answer.tail seen)) answers
