@@ -4,6 +4,7 @@
 #![tactic(auto)]
 
 mod gate;
+mod hold_gate;
 mod mem_shelf;
 mod mem_sink;
 mod pile;
@@ -14,6 +15,7 @@ mod steady;
 mod system;
 
 pub use gate::{FreeGate, Gate};
+pub use hold_gate::{Held, HoldGate};
 pub use mem_shelf::MemShelf;
 pub use mem_sink::MemSink;
 pub use shelf::{Failed, OpenFault, Shelf};

@@ -1,10 +1,11 @@
 // Each device once, by tables.
 use crate::{
-    Failed, FileShelf, FreeGate, Gate, MemShelf, MemSink, OpenFault, Shelf, Sink, SteadyShelf,
-    SteadySink,
+    Failed, FileShelf, FreeGate, Gate, Held, HoldGate, MemShelf, MemSink, OpenFault, Shelf, Sink,
+    SteadyShelf, SteadySink,
 };
 use std::fs;
 use std::test::Fail;
+use std::thread::join;
 
 #[test]
 fn mem_shelf_reads_the_newest_file(rt: HostRuntime) -> Result<(), Fail> {
@@ -86,4 +87,37 @@ fn file_shelf_reads_a_file(rt: HostRuntime) -> Result<(), Fail> {
     assert_eq!(rt; shelf.read(&mut buf), Err(Failed));
     fs::remove_file(&rt, name)?;
     Ok(())
+}
+
+#[test]
+fn hold_gate_orders_its_callers(rt: HostRuntime) {
+    let gate = HoldGate::new(2);
+    assert_eq!(rt; gate.report(), Held::Unused);
+    join(
+        &rt,
+        || append_thrice(&gate, 0),
+        || join(&rt, || append_thrice(&gate, 1), || ask_twice(&gate)),
+    );
+    assert!(rt; matches!(gate.report(), Held::Answered(_)));
+}
+
+#[test]
+fn hold_gate_gives_up(rt: HostRuntime) {
+    let gate = HoldGate::new(2);
+    gate.before_append(0, 0);
+    assert_eq!(rt; gate.report(), Held::Exhausted);
+}
+
+// A writer of three records.
+fn append_thrice(gate: &HoldGate, writer: u8) {
+    for num in 0..3 {
+        gate.before_append(writer, num);
+    }
+}
+
+// A reader of two rounds.
+fn ask_twice(gate: &HoldGate) {
+    for round in 0..2 {
+        gate.after_ask(round);
+    }
 }
