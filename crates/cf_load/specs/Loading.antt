@@ -27,6 +27,7 @@ pub record AsksBatch (shape : Shaped) (asks : List Ask) (lives : List ℕ) (roun
   pub rise : NeverFall (map (λ (live : Live). live.answer.tail) more)
   pub within : AllByRecursion (λ live. (length before ≤ live.answer.tail) × (live.answer.tail ≤ length after)) more
   pub bodies : AllByRecursion (λ live. live.answer.body ≡ eval shape (slice_index_or asks live.ask no_ask) (take live.answer.tail after)) more
+  -- before begins after
   pub longer : Begins before after
 
 -- What the reader did so far beside a batch: live answers in all turns of some rounds, and in the first turns of the next round, as
