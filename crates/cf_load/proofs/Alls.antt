@@ -1,5 +1,5 @@
 -- Lists of which each element is such.
-use Rattle.std.proofs.Common.{◌≡◌, ℕ, zero, suc, ◌≤◌, List, [], ◌∷◌, ◌++◌, drop, map}
+use Rattle.std.proofs.Common.{ℕ, zero, suc, List, [], ◌∷◌, ◌++◌, drop, map}
 use Rattle.std.specs.List.{flat_map, AllByRecursion}
 
 module _ {X : Type 0} where

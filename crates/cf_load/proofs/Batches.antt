@@ -1,15 +1,16 @@
 -- The writers' passes come home after a batch: the log has the rows of the batch, each once.
-use Rattle.std.proofs.Common.{◌≡◌, ◌⊎◌, ℕ, zero, suc, ◌+◌, ◌*◌, ◌<◌, ◌≤◌, Bool, true, false, cond, List, [], ◌∷◌, ◌++◌, length, get_or, take, drop, map, ◌==◌, Some, None, slice_get, refl, sym, ap, subst, ◌∙◌, inl, inr, arith, length-append}
+use Rattle.std.proofs.Common.{◌≡◌, ℕ, zero, suc, ◌+◌, ◌*◌, ◌<◌, ◌≤◌, true, List, [], ◌∷◌, ◌++◌, length, get_or, take, drop, map, ◌==◌, Some, slice_get, refl, sym, ap, subst, ◌∙◌, inl, inr, arith, length-append}
 use Rattle.std.proofs.lemmas.Bool.{cases_Bool}
-use Rattle.std.proofs.lemmas.List.{append-nil, append_cancel_left, take-append-drop, take_all, drop_all}
+use Rattle.std.proofs.lemmas.List.{append-nil, append_cancel_left, length-take, length-take-le, length-drop, take-append-drop, take_all, drop_all}
+use Rattle.std.proofs.Math.Seq.{take-add}
 use Rattle.std.proofs.lemmas.Option.{slice_get_within, slice_get-get_or}
 use Rattle.std.specs.List.{All, AllZip, AllByRecursion}
 use Rattle.cf_row.specs.Row.{Numbered}
 use Rattle.cf_row.specs.declared.row.Entry.{Entry}
 use Rattle.cf_history.specs.Order.{rows_of, written_by, IsLogOf}
-use Rattle.cf_shape.specs.Lanes.{Shaped, IsShape}
+use Rattle.cf_shape.specs.Lanes.{IsShape}
 use Rattle.cf_law.specs.Passes.{Own, Book, Pass}
-use Rattle.cf_law.specs.Steps.{Holds, IsAtRest, newcomer}
+use Rattle.cf_law.specs.Steps.{Holds, IsAtRest}
 use Rattle.cf_law.specs.Readers.{mine_from}
 use Rattle.cf_table.specs.Held.{Held, LogValue, IsOf, book_of}
 use Rattle.cf_table.specs.Rule.{root_pass}
@@ -262,3 +263,42 @@ batch_loaded log rows batch b m r n passes after shape has long few room dealt w
       settled = g.settled;
       is = subst (IsLogOf (rows ++ batch) W) (sym (goes_on log rows batch m r n passes after has dealt wrote g)) is;
     }
+
+-- a root whose books were dealt is the log's, holds none, and has seen as much
+pub root_away : (log : LogValue) (m r : Held) (passes : List Held) → IsOf m log → AreDealt log m passes r → IsOf r log × ((r.view).books ≡ []) × ((r.view).seen ≡ (m.view).seen)
+root_away log m r passes of dealt = (
+  record { table = ap (λ (h : Held). h.table) dealt.root ∙ of.table; nodes = ap (λ (h : Held). h.nodes) dealt.root ∙ of.nodes },
+  ap (λ (h : Held). (h.view).books) dealt.root,
+  ap (λ (h : Held). (h.view).seen) dealt.root,
+)
+
+-- what the root had seen when its books were dealt, it has seen when they are home
+pub seen_grows : (log : LogValue) (m r n : Held) (passes after : List Held) → AreDealt log m passes r → Gathered log.shape r after n → Begins (m.view).seen (n.view).seen
+seen_grows log m r n passes after dealt g = subst (λ (es : List Entry). Begins es (n.view).seen) (ap (λ (h : Held). (h.view).seen) dealt.root) g.own
+
+-- a root is told nothing by passes that wrote
+pub told_same : (log : LogValue) (first : ℕ) (batch : List Numbered) (m r n : Held) (passes after : List Held) → AreDealt log m passes r → AllZip (Wrote log first batch) passes after → Gathered log.shape r after n → (n.view).told ≡ (m.view).told
+told_same log first batch m r n passes after dealt wrote g = g.told ∙ (told_home log first batch m r passes after dealt wrote (r.view).told ∙ ap (λ (h : Held). (h.view).told) dealt.root)
+
+-- a root that has its books and has seen the same still holds what was loaded
+pub still_loaded : (log : LogValue) (rows : List Numbered) (m n : Held) → HasLoaded log rows m → IsOf n log → (n.view).books ≡ (m.view).books → (n.view).seen ≡ (m.view).seen → HasLoaded log rows n
+still_loaded log rows m n has of books seen_is = record {
+  of = of;
+  settled = record {
+    home = λ w lt. (let h = has.settled.home w lt in (h.0, h.1, ap (λ (bs : List Book). slice_get bs h.0) books ∙ h.2, h.3, h.4));
+    rest = λ k b at. has.settled.rest k b (ap (λ (bs : List Book). slice_get bs k) (sym books) ∙ at);
+    count = ap length books ∙ has.settled.count;
+    all = λ k b at. has.settled.all k b (ap (λ (bs : List Book). slice_get bs k) (sym books) ∙ at) ∙ ap (mine_from b.writer 0) (sym seen_is);
+  };
+  is = subst (IsLogOf rows (log.shape).writers) (sym seen_is) has.is;
+}
+
+-- The next batch of some rows: where all have room, the first b batches were loaded and then this one.
+pub next_batch : (log : LogValue) (rows : List Numbered) (b : ℕ) (m r n : Held) (passes after : List Held) → IsShape log.shape → HasLoaded log (take (4096 * b) rows) m → 4096 * b ≤ length rows → length rows ≤ (log.shape).capacity → AreDealt log m passes r → AllZip (Wrote log (4096 * b) (take 4096 (drop (4096 * b) rows))) passes after → Gathered log.shape r after n → HasLoaded log (take (4096 * (b + 1)) rows) n
+next_batch log rows b m r n passes after shape has within room dealt wrote g =
+    let front : length (take (4096 * b) rows) ≡ 4096 * b = length-take-le (4096 * b) rows within in
+    let part : length (take 4096 (drop (4096 * b) rows)) ≤ 4096 = (let e = length-take 4096 (drop (4096 * b) rows) in omega (arith, e)) in
+    let both : take (4096 * b) rows ++ take 4096 (drop (4096 * b) rows) ≡ take (4096 * (b + 1)) rows = (let e : 4096 * b + 4096 ≡ 4096 * (b + 1) = omega arith in sym (take-add (4096 * b) 4096 rows) ∙ ap (λ i. take i rows) e) in
+    let few : length (take (4096 * b) rows) + length (take 4096 (drop (4096 * b) rows)) ≤ (log.shape).capacity = (let e = length-take 4096 (drop (4096 * b) rows) in let f = length-drop (4096 * b) rows in omega (arith, e, f, front, within, room)) in
+    subst (λ rs. HasLoaded log rs n) both
+    (batch_loaded log (take (4096 * b) rows) (take 4096 (drop (4096 * b) rows)) b m r n passes after shape has front part few dealt (subst (λ first. AllZip (Wrote log first (take 4096 (drop (4096 * b) rows))) passes after) (sym front) wrote) g)

@@ -1,12 +1,12 @@
 -- The live answers of a reader beside the writers, batch by batch.
-use Rattle.std.proofs.Common.{◌≡◌, ℕ, zero, suc, ◌+◌, ◌*◌, ◌/◌, ◌<◌, ◌≤◌, min, List, [], ◌∷◌, ◌++◌, length, get_or, take, map, refl, sym, ap, ap₂, subst, ◌∙◌, arith, append_assoc}
+use Rattle.std.proofs.Common.{◌≡◌, ℕ, ◌+◌, ◌*◌, ◌<◌, ◌≤◌, List, [], ◌∷◌, ◌++◌, length, get_or, take, map, refl, sym, ap, ap₂, subst, ◌∙◌, arith, append_assoc}
 use Rattle.std.proofs.Math.Seq.{take-length}
-use Rattle.std.proofs.lemmas.List.{append-nil, length-take, map-append, map-id, map_push, take-take, take_more, take_all, flat_map_more}
+use Rattle.std.proofs.lemmas.List.{append-nil, length-take, map-append, map-id, map_push, take-take, take_more, flat_map_more}
 use Rattle.std.proofs.lemmas.List.FromFn.{map-range_with_len_more}
 use Rattle.std.specs.List.{flat_map, range_with_len, AllByRecursion}
 use Rattle.cf_row.specs.declared.row.Entry.{Entry}
 use Rattle.cf_history.specs.History.{NeverFall}
-use Rattle.cf_history.specs.Tails.{Turn, turns_of, batches_of, IsWithinBatch, AreTails}
+use Rattle.cf_history.specs.Tails.{Turn, turns_of, batches_of, IsWithinBatch}
 use Rattle.cf_shape.specs.Lanes.{Shaped}
 use Rattle.cf_plain.specs.Asks.{eval}
 use Rattle.cf_plain.specs.declared.ask.Ask.{Ask}

@@ -5,7 +5,7 @@ use Rattle.cf_row.specs.Row.{Numbered}
 use Rattle.cf_row.specs.declared.row.Entry.{Entry}
 use Rattle.cf_history.specs.History.{NeverFall}
 use Rattle.cf_history.specs.Order.{IsLogOf}
-use Rattle.cf_history.specs.Tails.{Turn, AreTails}
+use Rattle.cf_history.specs.Tails.{AreTails}
 use Rattle.cf_shape.specs.Lanes.{Shaped}
 use Rattle.cf_plain.specs.Asks.{eval}
 use Rattle.cf_plain.specs.declared.ask.Ask.{Ask}
@@ -27,13 +27,14 @@ pub record AsksBatch (shape : Shaped) (asks : List Ask) (lives : List ℕ) (roun
   pub rise : NeverFall (map (λ (live : Live). live.answer.tail) more)
   pub within : AllByRecursion (λ live. (length before ≤ live.answer.tail) × (live.answer.tail ≤ length after)) more
   pub bodies : AllByRecursion (λ live. live.answer.body ≡ eval shape (slice_index_or asks live.ask no_ask) (take live.answer.tail after)) more
+  -- before begins after
   pub longer : Begins before after
 
--- What the reader did so far beside a batch: live answers in all turns of the first rounds, and in the first ones of the next
--- round, as many as were asked in it.
-pub record AsksSome (shape : Shaped) (asks : List Ask) (lives : List ℕ) (round asked batch : ℕ) (before after : List Entry) (more : List Live) : Type 0 where
+-- What the reader did so far beside a batch: live answers in all turns of some rounds, and in the first turns of the next round, as
+-- many as were asked in it.
+pub record AsksSome (shape : Shaped) (asks : List Ask) (lives : List ℕ) (rounds asked batch : ℕ) (before after : List Entry) (more : List Live) : Type 0 where
   pub turns : map (λ (live : Live). (turn_of live).0) more ≡
-      flat_map (λ round. map (λ ask. record { batch = batch; round = round; ask = ask }) lives) (range_with_len 0 round) ++ map (λ ask. record { batch = batch; round = round; ask = ask }) (take asked lives)
+      flat_map (λ round. map (λ ask. record { batch = batch; round = round; ask = ask }) lives) (range_with_len 0 rounds) ++ map (λ ask. record { batch = batch; round = rounds; ask = ask }) (take asked lives)
   pub rise : NeverFall (map (λ (live : Live). live.answer.tail) more)
   pub within : AllByRecursion (λ live. (length before ≤ live.answer.tail) × (live.answer.tail ≤ length after)) more
   pub bodies : AllByRecursion (λ live. live.answer.body ≡ eval shape (slice_index_or asks live.ask no_ask) (take live.answer.tail after)) more
