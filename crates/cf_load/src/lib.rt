@@ -1,4 +1,9 @@
-//! A log is loaded: its rows go into the shared log by as many writers as it has, each in a thread of its own.
+//! A log is loaded: its rows go into the shared log by as many writers as it has, each in a thread of its own, while a
+//! reader asks the live questions.
 #![tactic(auto)]
 
+mod plan;
+mod reader;
 mod writers;
+
+pub use plan::LivePlan;

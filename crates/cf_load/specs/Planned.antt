@@ -1,0 +1,24 @@
+-- What is asked of a log that is loaded, and what the reader's pass is after it asked.
+use Rattle.std.specs.Prelude.{◌≡◌, ◌<◌, ℕ, List, ◌++◌, length, map, All}
+use Rattle.cf_shape.specs.Lanes.{Shaped}
+use Rattle.cf_plain.specs.Asks.{Suits, SuitsTrigger}
+use Rattle.cf_report.specs.declared.loaded.Live.{Live}
+use Rattle.cf_table.specs.Held.{Held}
+use Rattle.cf_load.specs.declared.plan.LivePlan.{LivePlan}
+
+-- the questions and triggers suit the shape, and each live question is one of them
+pub record IsPlan (shape : Shaped) (plan : LivePlan) : Type 0 where
+  pub asks : All (Suits shape) plan.asks.items
+  pub triggers : All (SuitsTrigger shape) plan.triggers.items
+  pub lives : All (λ place. place < length plan.asks.items) plan.lives.items
+
+-- how much of the log each answer saw
+abbrev pub tails_of : List Live → List ℕ
+tails_of lives = map (λ (live : Live). live.answer.tail) lives
+
+-- the pass that asked is as it was but for what it has seen, and notes the tails of its answers
+pub record HasRead (m n : Held) (more : List Live) : Type 0 where
+  pub same : n ≡ record m { view = n.view }
+  pub books : (n.view).books ≡ (m.view).books
+  pub told : (n.view).told ≡ (m.view).told
+  pub tails : (n.view).tails ≡ (m.view).tails ++ tails_of more

@@ -1,0 +1,93 @@
+// The reader asks its live questions while the writers append a batch.
+ghost use Rattle.std.specs.Prelude.{◌≡◌, ◌+◌, ◌<◌, List, IfOk};
+ghost use Rattle.cf_row.specs.declared.row.Entry.{Entry};
+ghost use Rattle.cf_table.specs.Held.{Held, IsOf};
+ghost use Rattle.cf_load.specs.Loading.{AsksBatch, AsksSome};
+ghost use Rattle.cf_load.specs.Planned.{IsPlan, HasRead};
+
+use crate::LivePlan;
+use cf_outside::Gate;
+use cf_query::ask;
+use cf_report::Live;
+use cf_row::Memory;
+use cf_table::{MultiLog, ReaderPass, Steps};
+use std::alloc::Global;
+use std::sync::ledger::{Blank, Ledger};
+
+// Asks each live question once, as that round beside a batch. The answers come after those of earlier rounds, which began
+// with the reader as it was at `start`.
+fn ask_round<L: Ledger>(
+    log: &MultiLog,
+    alloc: Global,
+    plan: &LivePlan,
+    at: (u32, u32),
+    reader: &mut ReaderPass,
+    answers: &mut Vec<Live>,
+    steps: &mut Steps<L>,
+) -> Result<(), Memory>
+    ghost start: { Held }
+    requires of { IsOf reader.old log.now }
+    requires plan { IsPlan log.now.whole plan.now }
+    requires asks { AsksSome log.now.whole plan.now.asks.items plan.now.lives.items at.1 0 at.0 start.view.seen reader.old.view.seen answers.old.items }
+    requires read { HasRead start reader.old answers.old.items }
+    ensures of { IsOf reader.new log.now }
+    ensures asks { IfOk result (λ _. AsksSome log.now.whole plan.now.asks.items plan.now.lives.items (at.1 + 1) 0 at.0 start.view.seen reader.new.view.seen answers.new.items) }
+    ensures read { IfOk result (λ _. HasRead start reader.new answers.new.items) }
+{
+    let (batch, round) = at;
+    for place in &plan.lives {
+        let answer = ask(log, alloc, reader, &plan.asks[*place as usize], steps)?;
+        answers.push(Live {
+            batch,
+            round,
+            ask: *place,
+            answer,
+        })?;
+    }
+    Ok(())
+}
+
+// Makes all rounds beside a batch.
+fn ask_rounds<G: Gate, L: Ledger>(
+    log: &MultiLog,
+    alloc: Global,
+    gate: &G,
+    plan: &LivePlan,
+    batch: u32,
+    reader: &mut ReaderPass,
+    steps: &mut Steps<L>,
+) -> Result<Vec<Live>, Memory>
+    requires of { IsOf reader.old log.now }
+    requires plan { IsPlan log.now.whole plan.now }
+    ensures of { IsOf reader.new log.now }
+    ensures asks { IfOk result (λ more. AsksBatch log.now.whole plan.now.asks.items plan.now.lives.items plan.now.rounds batch reader.old.view.seen reader.new.view.seen more.items) }
+    ensures read { IfOk result (λ more. HasRead reader.old reader.new more.items) }
+{
+    let mut answers = Vec::new(alloc);
+    for round in 0..plan.rounds {
+        ask_round(log, alloc, plan, (batch, round), reader, &mut answers, steps)?;
+        gate.after_ask(round);
+    }
+    Ok(answers)
+}
+
+// As `ask_rounds`. Nobody reads how many steps it made.
+pub(crate) fn ask_counted<G: Gate, L: Ledger>(
+    log: &MultiLog,
+    alloc: Global,
+    gate: &G,
+    plan: &LivePlan,
+    batch: u32,
+    reader: &mut ReaderPass,
+    blank: Blank,
+) -> Result<Vec<Live>, Memory>
+    requires of { IsOf reader.old log.now }
+    requires plan { IsPlan log.now.whole plan.now }
+    requires blank { (blank.name ≡ L.name) × (blank.parts ≡ L.parts) × (0 < L.parts) }
+    ensures of { IsOf reader.new log.now }
+    ensures asks { IfOk result (λ more. AsksBatch log.now.whole plan.now.asks.items plan.now.lives.items plan.now.rounds batch reader.old.view.seen reader.new.view.seen more.items) }
+    ensures read { IfOk result (λ more. HasRead reader.old reader.new more.items) }
+{
+    let mut steps = Steps::<L>::new(blank);
+    ask_rounds(log, alloc, gate, plan, batch, reader, &mut steps)
+}
