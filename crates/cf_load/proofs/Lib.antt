@@ -3,3 +3,4 @@ pub mod Alls
 pub mod Written
 pub mod Batches
 pub mod Tails
+pub mod Reading
