@@ -4,3 +4,4 @@ pub mod Written
 pub mod Batches
 pub mod Tails
 pub mod Reading
+pub mod Beside

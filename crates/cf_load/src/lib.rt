@@ -2,6 +2,7 @@
 //! reader asks the live questions.
 #![tactic(auto)]
 
+mod batch;
 mod plan;
 mod reader;
 mod writers;
