@@ -5,3 +5,5 @@ pub mod Batches
 pub mod Tails
 pub mod Reading
 pub mod Beside
+pub mod Keeping
+pub mod Loading

@@ -3,8 +3,11 @@
 #![tactic(auto)]
 
 mod batch;
+mod finals;
+mod loads;
 mod plan;
 mod reader;
 mod writers;
 
+pub use loads::{LoadFault, load};
 pub use plan::LivePlan;
