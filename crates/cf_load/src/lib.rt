@@ -5,6 +5,8 @@
 mod batch;
 mod plan;
 mod reader;
+#[cfg(test)]
+mod tests;
 mod writers;
 
 pub use plan::LivePlan;
