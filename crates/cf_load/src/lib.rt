@@ -7,6 +7,8 @@ mod finals;
 mod loads;
 mod plan;
 mod reader;
+#[cfg(test)]
+mod tests;
 mod writers;
 
 pub use loads::{LoadFault, load};
