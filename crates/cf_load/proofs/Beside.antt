@@ -1,5 +1,5 @@
 -- A batch is done: the writers and the reader came home.
-use Rattle.std.proofs.Common.{refl, ◌≡◌, ◌≤◌, ◌+◌, ◌-◌, ◌*◌, ◌∷◌, ℕ, List, [], ◌++◌, length, take, drop, append-nil, min, sym, ap, subst, ◌∙◌, arith, Result, Ok, Err, IfOk, IfErr, inl, inr}
+use Rattle.std.proofs.Common.{◌≡◌, ◌≤◌, ◌+◌, ◌-◌, ◌*◌, ℕ, List, [], ◌++◌, length, take, drop, append-nil, min, sym, ap, ◌∙◌, arith, Result, Ok, Err, IfOk, IfErr, inl, inr}
 use Rattle.std.proofs.lemmas.Bool.{cases_lt}
 use Rattle.std.proofs.lemmas.List.{length-drop, take_all}
 use Rattle.std.proofs.Math.Seq.{take-length, drop-length}

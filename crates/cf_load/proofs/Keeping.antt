@@ -1,5 +1,5 @@
 -- A root at home asks, and holds what it held.
-use Rattle.std.proofs.Common.{refl, ◌≡◌, ◌⊎◌, ◌∷◌, [], ◌++◌, ◌<◌, ◌+◌, ℕ, List, length, map, take, get_or, Some, slice_get, sym, ap, ap₂, ◌∙◌, inl, inr}
+use Rattle.std.proofs.Common.{refl, ◌≡◌, ◌⊎◌, ◌∷◌, [], ◌++◌, ◌<◌, ◌+◌, ℕ, List, length, map, take, get_or, slice_get, sym, ap, ap₂, ◌∙◌, inl, inr}
 use Rattle.std.proofs.lemmas.List.{map_push, take_more}
 use Rattle.cf_law.specs.Passes.{Book, Pass}
 use Rattle.cf_law.specs.Readers.{mine_from}

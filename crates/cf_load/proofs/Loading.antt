@@ -1,5 +1,5 @@
 -- One more batch is loaded.
-use Rattle.std.proofs.Common.{refl, ◌≡◌, ◌<◌, ◌≤◌, ◌+◌, ◌-◌, ◌*◌, ℕ, List, [], ◌++◌, length, take, map, min, append_assoc, sym, ap, subst, ◌∙◌, arith}
+use Rattle.std.proofs.Common.{◌≡◌, ◌<◌, ◌+◌, ◌-◌, ◌*◌, ℕ, List, ◌++◌, length, take, append_assoc, sym, ap, subst, ◌∙◌, arith}
 use Rattle.std.proofs.lemmas.List.{length-take, map-append}
 use Rattle.cf_row.specs.Row.{Numbered}
 use Rattle.cf_report.specs.declared.loaded.Live.{Live}
@@ -23,7 +23,7 @@ answered_beside log rows plan b m n answers more before after some has beside =
     let sum : length (take (4096 * b) rows) + k ≡ length (take (4096 * (b + 1)) rows) = omega (arith, old, new, some) in
     subst (λ c. HasAnswered log.whole plan.asks.items plan.lives.items plan.rounds c (n.view).seen (answers ++ more)) sum
     (answered_more log.whole plan.asks.items plan.lives.items plan.rounds (length (take (4096 * b) rows)) b k (m.view).seen beside.read (n.view).seen answers more has (omega (arith, old, some)) size beside.asks beside.begins
-     (begins_then (m.view).seen beside.read (n.view).seen beside.asks.longer beside.begins) (grown ∙ sym sum) (omega (arith, old, new, some)) (omega (arith, old, new, some)))
+    (begins_then (m.view).seen beside.read (n.view).seen beside.asks.longer beside.begins) (grown ∙ sym sum) (omega (arith, old, new, some)) (omega (arith, old, new, some)))
 
 pub told_more : (told old now : List ℕ) (answers more : List Live) → old ≡ told ++ tails_of answers → now ≡ old ++ tails_of more → now ≡ told ++ tails_of (answers ++ more)
 told_more told old now answers more is then =

@@ -1,5 +1,5 @@
 -- What a load answers.
-use Rattle.std.specs.Prelude.{◌≡◌, ◌<◌, ◌≤◌, ℕ, List, [], ◌++◌, length, map, Result, Ok, Err}
+use Rattle.std.specs.Prelude.{◌≡◌, ◌<◌, ◌≤◌, List, ◌++◌, length, map, Result, Ok, Err}
 use Rattle.cf_row.specs.Row.{Numbered}
 use Rattle.cf_report.specs.Answered.{Answered}
 use Rattle.cf_report.specs.Meaning.{answer_on}

@@ -67,7 +67,16 @@ fn ask_rounds<G: Gate, L: Ledger>(
     let start = Snapshot::of(reader);
     let mut answers = Vec::new(alloc);
     for round in 0..plan.rounds {
-        ask_round(log, alloc, plan, (batch, round), &start, reader, &mut answers, steps)?;
+        ask_round(
+            log,
+            alloc,
+            plan,
+            (batch, round),
+            &start,
+            reader,
+            &mut answers,
+            steps,
+        )?;
         gate.after_ask(round);
     }
     Ok(answers)

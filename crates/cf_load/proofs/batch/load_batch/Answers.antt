@@ -1,8 +1,6 @@
-use Rattle.std.proofs.Common.{rules, refl, ◌≡◌, ◌<◌, ◌≤◌, ◌+◌, ◌-◌, ◌*◌, ◌++◌, [], List, length, take, drop, min, ap, sym, subst, ◌∙◌, arith, IfOk}
+use Rattle.std.proofs.Common.{rules, ◌≡◌, ◌+◌, ◌-◌, ◌*◌, ◌++◌, [], length, take, drop, ap, sym, ◌∙◌, arith}
 use Rattle.std.proofs.lemmas.Result.{IfOk-weaker}
 use Rattle.std.specs.List.{AllZip}
-use Rattle.cf_row.specs.Row.{Numbered}
-use Rattle.cf_table.specs.Held.{Held, IsOf}
 use Rattle.cf_table.specs.Moves.{AreAll, Gathered}
 use Rattle.cf_load.specs.Loading.{HasLoaded}
 use Rattle.cf_law.specs.Passes.{Pass}
@@ -64,9 +62,9 @@ returns-clause-memory g c = whatever_err c.run_beside-answers.result _ (λ e. (4
 pub returns-clause-told : goal.returns-clause-told
 returns-clause-told g c =
     IfOk-weaker c.run_beside-answers.result _ _ (λ more read.
-        let log = c.args.log.now in
-        let q = (c.run_beside-answers.new.reader).view in
-        let none : q.told ≡ [] = read.told ∙ ap (λ (p : Pass). p.told) c.fork-reader.ensures.view in
-        let tails : q.tails ≡ tails_of more.items = read.tails ∙ ap (λ (p : Pass). p.tails ++ tails_of more.items) c.fork-reader.ensures.view in
-        batch_told log (4096 * c.args.batch) _ c.args.root.now c.deal.new.root c.gather.new.root c.fold_back.new.root q c.in_ok-passes.passes.items c.run_beside-answers.new.passes c.in_ok-passes.ensures.dealt (written g c) (gathered g c) c.fold_back.ensures.folded none
-        ∙ ap (λ ts. (c.args.root.now.view).told ++ ts) tails) c.run_beside-answers.ensures.read
+    let log = c.args.log.now in
+    let q = (c.run_beside-answers.new.reader).view in
+    let none : q.told ≡ [] = read.told ∙ ap (λ (p : Pass). p.told) c.fork-reader.ensures.view in
+    let tails : q.tails ≡ tails_of more.items = read.tails ∙ ap (λ (p : Pass). p.tails ++ tails_of more.items) c.fork-reader.ensures.view in
+    batch_told log (4096 * c.args.batch) _ c.args.root.now c.deal.new.root c.gather.new.root c.fold_back.new.root q c.in_ok-passes.passes.items c.run_beside-answers.new.passes c.in_ok-passes.ensures.dealt (written g c) (gathered g c) c.fold_back.ensures.folded none
+    ∙ ap (λ ts. (c.args.root.now.view).told ++ ts) tails) c.run_beside-answers.ensures.read

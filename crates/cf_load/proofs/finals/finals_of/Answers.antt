@@ -1,6 +1,4 @@
-use Rattle.std.proofs.Common.{◌≡◌, ◌++◌, ◌∷◌, [], length, ap, sym, ◌∙◌, refl, rules}
-use Rattle.cf_row.specs.declared.row.Entry.{Entry}
-use Rattle.cf_plain.specs.Asks.{eval}
+use Rattle.std.proofs.Common.{◌≡◌, ap, ◌∙◌, rules}
 use Rattle.cf_report.specs.Meaning.{answer_on}
 use Rattle.cf_load.proofs.Keeping.{keeps_then, keeps_asked, keeps_either, settled_kept, made_more}
 use Rattle.cf_load.proofs.finals.finals_of.Goals as goal

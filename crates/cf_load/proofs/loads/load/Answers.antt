@@ -1,8 +1,8 @@
-use Rattle.std.proofs.Common.{rules, refl, ◌≡◌, ◌≤◌, length, take, ap, sym, subst, ◌∙◌, arith, List}
+use Rattle.std.proofs.Common.{◌≤◌, length, ap, sym, subst, ◌∙◌, arith, List}
 use Rattle.std.proofs.Math.Seq.{take-length}
 use Rattle.cf_row.specs.Row.{Numbered}
 use Rattle.cf_shape.specs.Lanes.{Shaped}
-use Rattle.cf_table.specs.Held.{Held, IsOf}
+use Rattle.cf_table.specs.Held.{Held}
 use Rattle.cf_load.specs.Loading.{HasLoaded}
 use Rattle.cf_load.proofs.Keeping.{still_holds}
 use Rattle.cf_load.proofs.loads.load.Goals as goal

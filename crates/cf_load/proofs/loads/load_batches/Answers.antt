@@ -1,5 +1,4 @@
-use Rattle.std.proofs.Common.{rules, ◌≡◌, ◌+◌, ◌<◌, ◌*◌, ◌++◌, List, length, take, ap, sym, subst, ◌∙◌, arith}
-use Rattle.cf_report.specs.declared.loaded.Live.{Live}
+use Rattle.std.proofs.Common.{rules, ◌≡◌, ◌+◌, ◌<◌, ◌*◌, ◌++◌, length, take, ap, sym, subst, ◌∙◌, arith}
 use Rattle.cf_table.specs.Held.{Held}
 use Rattle.cf_load.specs.Loading.{HasAnswered}
 use Rattle.cf_load.proofs.Beside.{whatever_err}

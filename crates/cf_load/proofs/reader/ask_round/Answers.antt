@@ -1,4 +1,4 @@
-use Rattle.std.proofs.Common.{refl, ◌≡◌, ◌<◌, ◌+◌, ◌++◌, ◌∷◌, [], List, ℕ, length, get_or, ap, sym, subst, ◌∙◌, arith, rules}
+use Rattle.std.proofs.Common.{refl, ◌≡◌, ◌<◌, ◌+◌, ◌++◌, ◌∷◌, [], List, length, get_or, ap, sym, subst, ◌∙◌, rules}
 use Rattle.cf_plain.specs.Asks.{eval}
 use Rattle.cf_plain.specs.declared.ask.Ask.{Ask}
 use Rattle.cf_report.specs.declared.loaded.Live.{Live}

@@ -1,8 +1,8 @@
-use Rattle.std.proofs.Common.{rules, subst, sym, List}
+use Rattle.std.proofs.Common.{subst, sym, List}
 use Rattle.cf_report.specs.declared.loaded.Live.{Live}
 use Rattle.cf_load.specs.Loading.{AsksSome}
 use Rattle.cf_load.specs.Planned.{HasRead}
-use Rattle.cf_load.proofs.Tails.{asks_none, asks_all}
+use Rattle.cf_load.proofs.Tails.{asks_none}
 use Rattle.cf_load.proofs.Reading.{read_none}
 use Rattle.cf_load.proofs.reader.ask_rounds.Goals as goal
 
