@@ -1,6 +1,11 @@
 // What is asked of a log that is loaded.
+ghost use Rattle.std.specs.Prelude.{◌≡◌, ◌<◌, ◌↔◌, IsTrue, All};
+ghost use Rattle.cf_plain.specs.Asks.{Suits, SuitsTrigger};
+ghost use Rattle.cf_load.specs.Planned.{IsPlan};
+
 use cf_fold::Trigger;
-use cf_plain::Ask;
+use cf_plain::{Ask, suits};
+use cf_shape::Shape;
 
 /// What is asked of a log: every question and trigger once all is loaded, and the live ones beside each batch.
 #[derive(Debug, Drop)]
@@ -11,4 +16,36 @@ pub struct LivePlan {
     pub lives: Vec<u8>,
     /// How many rounds the reader makes beside each batch.
     pub rounds: u32,
+}
+
+fn suit_all(shape: &Shape, asks: &[Ask]) -> bool
+    ensures { IsTrue result ↔ All (Suits shape.now) asks.now }
+{
+    asks.iter().all(|ask| suits(shape, ask))
+}
+
+fn fire_all(shape: &Shape, triggers: &[Trigger]) -> bool
+    ensures { IsTrue result ↔ All (SuitsTrigger shape.now) triggers.now }
+{
+    triggers
+        .iter()
+        .all(|trigger| suits(shape, &Ask::Fired(*trigger)))
+}
+
+fn are_below(places: &[u8], count: usize) -> bool
+    ensures { IsTrue result ↔ All (λ place. place < count) places.now }
+{
+    places.iter().all(|place| usize::from(*place) < count)
+}
+
+impl LivePlan {
+    /// Whether it can be asked of a log of that shape: the questions and triggers suit it, and each live question is one of
+    /// the questions.
+    pub fn suits(&self, shape: &Shape) -> bool
+        ensures { IsTrue result ↔ IsPlan shape.now self.now }
+    {
+        suit_all(shape, &self.asks)
+            && fire_all(shape, &self.triggers)
+            && are_below(&self.lives, self.asks.len())
+    }
 }

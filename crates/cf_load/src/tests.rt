@@ -5,8 +5,11 @@ ghost use Rattle.cf_table.specs.Moves.{AreAll};
 ghost use Rattle.cf_load.specs.Writing.{IsReady};
 
 use crate::writers::run_writers;
+use crate::{LivePlan, LoadFault, load};
 use cf_outside::FreeGate;
-use cf_row::{Attr, Kind, Memory, Name, Row, Schema, Value, fits};
+use cf_plain::{Ask, Body};
+use cf_report::{Live, Loaded};
+use cf_row::{Attr, Conjunction, Expr, Kind, Memory, Name, Row, Schema, Value, fits};
 use cf_shape::Shape;
 use cf_table::{MultiLog, Pass, Root, WriterPass};
 use std::alloc::Global;
@@ -14,15 +17,15 @@ use std::process::Abort;
 use std::test::*;
 use std::thread::Threads;
 
-// a shape of two writers over the schema `ts:u64`, without lanes
-fn shape(rt: &impl Abort, alloc: Global, capacity: u32) -> Result<Shape, Memory> {
+// a shape over the schema `ts:u64`, without lanes
+fn shape(rt: &impl Abort, alloc: Global, capacity: u32, writers: u8) -> Result<Shape, Memory> {
     let mut attrs = Vec::new(alloc);
     attrs.push(Attr {
         name: Name::new(alloc, "ts")?,
         kind: Kind::U64,
     })?;
     let schema = Schema::new(attrs).expect(rt, "a schema");
-    let shape = Shape::new(schema, Vec::new(alloc), capacity, 2, 2, 10).expect(rt, "a shape");
+    let shape = Shape::new(schema, Vec::new(alloc), capacity, writers, 2, 10).expect(rt, "a shape");
     Ok(shape)
 }
 
@@ -63,8 +66,8 @@ fn run_home<R: Threads + Sync>(
     root.covered()
 }
 
-// Two writers load that many rows. Answers how many of them are covered.
-fn load<R: Threads + Sync + Abort>(
+// Two writers append that many rows. Answers how many of them are covered.
+fn cover<R: Threads + Sync + Abort>(
     rt: &R,
     alloc: Global,
     capacity: u32,
@@ -72,7 +75,7 @@ fn load<R: Threads + Sync + Abort>(
 ) -> Result<u32, Fail> {
     let all = rows(alloc, count)?;
     let rows = all.as_slice();
-    let (log, mut root) = MultiLog::open(alloc, shape(rt, alloc, capacity)?)?;
+    let (log, mut root) = MultiLog::open(alloc, shape(rt, alloc, capacity, 2)?)?;
     assert!(rt; rows.len() < 100);
     assert!(rt; all_fit(log.layout().schema(), rows));
     let passes = log.deal(alloc, &mut root)?;
@@ -82,7 +85,71 @@ fn load<R: Threads + Sync + Abort>(
 #[test]
 fn two_threads(rt: HostRuntime) -> Result<(), Fail> {
     for (capacity, covered) in [(10, 10), (4, 4)] {
-        assert_eq!(rt; load(&rt, rt.alloc(), capacity, 10)?, covered);
+        assert_eq!(rt; cover(&rt, rt.alloc(), capacity, 10)?, covered);
     }
+    Ok(())
+}
+
+// all rows, asked live twice a round
+fn plan(alloc: Global) -> Result<LivePlan, Memory> {
+    let mut conjunctions = Vec::new(alloc);
+    conjunctions.push(Conjunction::new(Vec::new(alloc)))?;
+    let mut asks = Vec::new(alloc);
+    asks.push(Ask::List(Expr::new(conjunctions)))?;
+    let mut lives = Vec::new(alloc);
+    lives.push(0)?;
+    lives.push(0)?;
+    Ok(LivePlan {
+        asks,
+        triggers: Vec::new(alloc),
+        lives,
+        rounds: 1,
+    })
+}
+
+// how many places a live answer has, and how much of the log it saw
+fn seen_by(live: &Live) -> (usize, u32) {
+    match &live.answer.body {
+        Body::Places(places) => (places.as_slice().len(), live.answer.tail),
+        _ => (0, u32::MAX),
+    }
+}
+
+// Each live answer has as many places as it saw entries, in the order of its batch.
+fn check<R: Abort>(rt: &R, loaded: &Loaded, count: u32) {
+    assert!(rt; loaded.finals().len() == 1 && loaded.lives().len() == 6);
+    let mut last = 0;
+    for live in loaded.lives() {
+        let (places, tail) = seen_by(live);
+        assert!(rt; places == tail as usize && last <= tail && tail <= count);
+        last = tail;
+    }
+}
+
+// So many writers load that many rows, in three batches, beside a reader.
+fn load_all<R: Threads + Sync + Abort>(
+    rt: &R,
+    alloc: Global,
+    capacity: u32,
+    writers: u8,
+    count: u32,
+) -> Result<Result<Loaded, LoadFault>, Fail> {
+    let all = rows(alloc, count)?;
+    let rows = all.as_slice();
+    let plan = plan(alloc)?;
+    let (log, mut root) = MultiLog::open(alloc, shape(rt, alloc, capacity, writers)?)?;
+    assert!(rt; all_fit(log.layout().schema(), rows));
+    assert!(rt; plan.suits(log.shape()));
+    Ok(load(rt, alloc, &log, &mut root, rows, &plan, &FreeGate))
+}
+
+#[test]
+fn ten_thousand_rows(rt: HostRuntime) -> Result<(), Fail> {
+    for writers in [1, 2, 4, 15] {
+        let loaded = load_all(&rt, rt.alloc(), 10_000, writers, 10_000)?;
+        check(&rt, &loaded.expect(&rt, "loaded"), 10_000);
+    }
+    let full = load_all(&rt, rt.alloc(), 3, 2, 4)?;
+    assert!(rt; matches!(full, Err(LoadFault::Full)));
     Ok(())
 }

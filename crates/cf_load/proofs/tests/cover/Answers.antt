@@ -1,7 +1,7 @@
 use Rattle.std.proofs.Common.{[], ap, rules}
 use Rattle.cf_table.specs.Held.{Held, IsOf}
 use Rattle.cf_load.proofs.Batches.{opened, ready_passes}
-use Rattle.cf_load.proofs.tests.load.Goals as goal
+use Rattle.cf_load.proofs.tests.cover.Goals as goal
 
 pub run_home-requires-clause-ready : goal.run_home-requires-clause-ready
 run_home-requires-clause-ready g c κs within =
