@@ -3,7 +3,7 @@ use crate::Gate;
 use std::sync::atomic::{AtomicU64, Ordering};
 use std::thread::yield_now;
 
-// How many turns one wait takes at most.
+// How many turns a wait takes at most.
 const TURNS: u32 = 10_000_000;
 
 /// What the waits of a gate came to.
@@ -44,6 +44,7 @@ enum Place {
 #[derive(Drop)]
 pub struct HoldGate {
     writers: u8,
+    most_turns: u32,
     calls: [AtomicU64; 16],
     asked: AtomicU64,
     asked_again: AtomicU64,
@@ -54,8 +55,14 @@ pub struct HoldGate {
 impl HoldGate {
     /// A gate for the writers from 0 on, of which 16 are counted at most.
     pub fn new(writers: u8) -> HoldGate {
+        HoldGate::with_turns(writers, TURNS)
+    }
+
+    // The same, with waits that give up after that many turns.
+    pub(crate) fn with_turns(writers: u8, most_turns: u32) -> HoldGate {
         HoldGate {
             writers,
+            most_turns,
             calls: [
                 AtomicU64::new(0),
                 AtomicU64::new(0),
@@ -121,7 +128,7 @@ impl HoldGate {
 
     // Waits at this place.
     fn wait_at(&self, place: Place) {
-        for _ in 0..TURNS {
+        for _ in 0..self.most_turns {
             if self.has_come(place) {
                 return;
             }

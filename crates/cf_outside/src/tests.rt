@@ -103,7 +103,8 @@ fn hold_gate_orders_its_callers(rt: HostRuntime) {
 
 #[test]
 fn hold_gate_gives_up(rt: HostRuntime) {
-    let gate = HoldGate::new(2);
+    // Where all processors are busy the turns of `new` take longer than a test may.
+    let gate = HoldGate::with_turns(2, 1_000);
     gate.before_append(0, 0);
     assert_eq!(rt; gate.report(), Held::Exhausted);
 }
