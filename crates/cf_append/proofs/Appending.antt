@@ -1,5 +1,5 @@
 -- The steps of an append on a log without lanes, put together.
-use Rattle.std.proofs.Common.{◌≡◌, ℕ, ◌+◌, ◌^◌, ◌==◌, ◌<◌, ◌≤◌, ◌⊎◌, inl, inr, suc, zero, cond, Bool, true, false, List, [], ◌∷◌, ◌++◌, length, get_or, Some, None, slice_get, refl, ap, sym, subst, ◌∙◌, arith}
+use Rattle.std.proofs.Common.{◌≡◌, ℕ, ◌+◌, ◌^◌, ◌<◌, inl, inr, suc, zero, cond, Bool, true, false, List, [], ◌∷◌, length, get_or, Some, None, slice_get, refl, ap, sym, subst, ◌∙◌, arith}
 use Rattle.std.specs.Bool.{nat_lt}
 use Rattle.std.proofs.lemmas.Bool.{cases_lt}
 use Rattle.std.proofs.lemmas.Bool.Decides.{nat_tests}
@@ -7,21 +7,20 @@ use Rattle.cf_row.specs.Row.{Numbered, Fits}
 use Rattle.cf_row.specs.Words.{word_count, spelled}
 use Rattle.cf_shape.specs.Lanes.{Shaped, IsShape}
 use Rattle.cf_shape.specs.declared.lane.Lane.{Lane}
-use Rattle.cf_shape.specs.Uses.{Use, use_at, cell_count, ticket_words}
-use Rattle.cf_shape.specs.Uses.Use.{plain}
+use Rattle.cf_shape.specs.Uses.{Use, cell_count, ticket_words}
 use Rattle.cf_shape.proofs.Used.{plain_at}
-use Rattle.cf_words.specs.Words.{has, entry}
+use Rattle.cf_words.specs.Words.{entry}
 use Rattle.cf_words.specs.Law.{IsWhole, Skips}
 use Rattle.cf_words.proofs.Nodes.{get_push_same}
 use Rattle.cf_law.specs.Passes.{Book, Flight, Own, Pass}
-use Rattle.cf_law.specs.Steps.{Holds, IsAtRest, IsNext, ticket_of, own_word, fly, fresh_flight, ticketed, filled, at_book}
+use Rattle.cf_law.specs.Steps.{IsAtRest, IsNext, ticket_of, own_word, fly, fresh_flight}
 use Rattle.cf_law.specs.Steps.Act.{take_ticket, store_cell, finish_record}
 use Rattle.cf_law.specs.Shapes.{layout}
 use Rattle.cf_law.proofs.Shapes.{layout_law}
 use Rattle.cf_table.specs.Held.{Held, book_of}
 use Rattle.cf_table.specs.Ways.{May, Made, Stored, take_way, store_way, finish_way}
 use Rattle.cf_table.proofs.Mays.{the_book, may_take, may_store, may_finish}
-use Rattle.cf_append.specs.Appends.{GoesOn, IsUnfinished, Stops, Rests, with_book, flying, with_own, marked, IsAppended, IsLate}
+use Rattle.cf_append.specs.Appends.{Stops, Rests, with_book, flying, with_own, IsAppended}
 
 abbrev pub flight : ℕ → Numbered → ℕ → Flight
 flight o row n = record { offset = o; row = row; filled = n; linked = [] }

@@ -1,19 +1,23 @@
 -- The read tail is moved over finished records.
-use Rattle.std.proofs.Common.{◌≡◌, ℕ, ◌+◌, ◌<◌, ◌≤◌, inl, inr, suc, Bool, List, length, false, take, slice_get, refl, ap, sym, subst, ◌∙◌, arith}
+use Rattle.std.proofs.Common.{◌≡◌, ℕ, ◌+◌, ◌<◌, ◌≤◌, max, inl, inr, suc, Bool, List, length, length-take, false, take, slice_get, refl, ap, sym, subst, ◌∙◌, arith}
 use Rattle.std.specs.Bool.{nat_lt}
 use Rattle.std.proofs.lemmas.Bool.{cases_Bool}
 use Rattle.cf_row.specs.declared.row.Entry.{Entry}
 use Rattle.cf_shape.specs.Lanes.{Shaped}
+use Rattle.cf_shape.specs.Places.{place_of, slot_of}
 use Rattle.cf_shape.specs.Places.Slot.{cell}
+use Rattle.cf_shape.specs.Places.Word.{done}
 use Rattle.cf_law.specs.Passes.{Book, Pass, Look}
-use Rattle.cf_law.specs.Steps.{sees}
+use Rattle.cf_law.specs.Steps.{Holds, sees, looked}
 use Rattle.cf_law.specs.Shapes.{layout}
-use Rattle.cf_table.specs.Held.{Held}
+use Rattle.cf_law.specs.Readers.{AtHome, EndsThere, IsBounded}
+use Rattle.cf_table.specs.Held.{Held, book_of}
+use Rattle.cf_table.specs.Moves.{Begins, HasAll}
 use Rattle.cf_table.specs.Ways.{Made, Stored, tail_way, done_way, advance_way}
-use Rattle.cf_table.proofs.Seen.{grown, sees_books}
+use Rattle.cf_table.proofs.Seen.{grown, sees_books, advance_seen}
 use Rattle.cf_table.proofs.Folds.{sees_told, tail_entries}
-use Rattle.cf_table.proofs.Settling.{Moved, begins_then, last_word}
-use Rattle.cf_append.specs.Appends.{GoesOn, IsUnfinished}
+use Rattle.cf_table.proofs.Settling.{Moved, moved_none, settled_by, begins_then, last_word}
+use Rattle.cf_append.specs.Appends.{GoesOn, IsUnfinished, Rests, SeenFirst}
 
 pub goes_on : (m n : Held) → Moved m n → GoesOn m n
 goes_on m n moved = record { same = moved.same; longer = moved.longer; tails = moved.tails; told = moved.told }
@@ -85,3 +89,30 @@ goes_then m n o a b = record {
 
 pub goes_none : (m : Held) → GoesOn m m
 goes_none m = record { same = refl; longer = Rattle.std.proofs.Math.Seq.take-length (m.view).seen; tails = refl; told = refl }
+
+-- a look tells that what was seen of a book's tickets are the first
+pub seen_first : (shape : Shaped) (m n : Held) (o found : ℕ) → Made shape (done_way shape m.view o) m found n → SeenFirst n.view
+seen_first shape m n o found made =
+    let v = looked (place_of shape (done o)) found m.view in
+    let back : v ≡ n.view = sym made.told.is in
+    subst SeenFirst back (λ k b held. made.told.tells.mine k b held)
+
+-- the one writer's pass at rest has all books
+home_alone : (shape : Shaped) (p : Pass) → shape.writers ≡ 1 → IsBounded (layout shape) p → Rests p → AtHome (layout shape) p
+home_alone shape p one bounds rest w lt =
+    let held : Holds p 0 (book_of p) = ap (λ (bs : List Book). slice_get bs 0) rest.one in
+    let low : (book_of p).writer < shape.writers = bounds.writer 0 (book_of p) held in
+    let only : w < shape.writers = lt in
+    (0, book_of p, held, omega (arith, low, only, one), rest.free)
+
+-- the look that ends a move of the read tail: the one writer has seen all that it has finished
+pub all_alone : (shape : Shaped) (m n : Held) (o found : ℕ) → Made shape (done_way shape m.view o) m found n → EndsThere (layout shape) m.view (slot_of shape (done o)) (last_word shape) found → shape.writers ≡ 1 → Rests n.view → HasAll n.view
+all_alone shape m n o found made ends one rest =
+    (settled_by shape m m n o found (moved_none m) made ends).all (home_alone shape n.view one made.told.bounds rest)
+
+-- an advance covers the record
+pub advanced : (shape : Shaped) (m n : Held) (t : ℕ) → t ≤ length (m.view).seen → Stored shape (advance_way m.view t) m n → length (n.view).seen ≡ max (length (m.view).seen) (t + 1)
+advanced shape m n t le stored = advance_seen shape m.view n.view t stored.found le stored.made.told
+
+pub begins_long : (xs ys : List Entry) → Begins xs ys → length xs ≤ length ys
+begins_long xs ys a = (let e = ap (λ (l : List Entry). length l) a in let f = length-take (length xs) ys in omega (arith, e, f))

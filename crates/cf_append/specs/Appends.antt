@@ -1,5 +1,5 @@
 -- What appending and settling do to a writer's pass.
-use Rattle.std.specs.Prelude.{ℕ, ◌≡◌, ◌<◌, ◌≤◌, ◌⊎◌, List, [], ◌∷◌, ◌++◌, true, false, length, Some, None, slice_get}
+use Rattle.std.specs.Prelude.{ℕ, ◌≡◌, ◌<◌, ◌≤◌, ◌⊎◌, [], ◌∷◌, ◌++◌, true, false, length, take, Some, None, slice_get}
 use Rattle.std.specs.declared.result.Result.{Result}
 use Rattle.std.specs.declared.result.Result.TheVariants.{Ok, Err}
 use Rattle.cf_row.specs.Row.{Numbered}
@@ -8,6 +8,7 @@ use Rattle.cf_shape.specs.Places.{place_of}
 use Rattle.cf_shape.specs.Places.Word.{done}
 use Rattle.cf_law.specs.Passes.{Own, Book, Pass}
 use Rattle.cf_law.specs.Steps.{Holds}
+use Rattle.cf_law.specs.Readers.{mine_from}
 use Rattle.cf_table.specs.Held.{Held, book_of}
 use Rattle.cf_table.specs.Ways.{Made, take_way}
 use Rattle.cf_table.specs.Moves.{Begins}
@@ -44,6 +45,10 @@ IsSettled shape offset p q (Behind b) = (length q.seen ≤ offset) × (b ≤ off
 pub record Rests (p : Pass) : Type 0 where
   pub one : p.books ≡ book_of p ∷ []
   pub free : (book_of p).flight ≡ None
+
+-- of the tickets that a book has finished, those that were seen are the first, and nothing else was seen of its writer
+abbrev pub SeenFirst : Pass → Type 0
+SeenFirst p = (k : ℕ) (b : Book) → Holds p k b → take (length (mine_from b.writer 0 p.seen)) b.mine ≡ mine_from b.writer 0 p.seen
 
 abbrev pub with_book : Book → Held → Held
 with_book b m = record m { view = record m.view { books = b ∷ [] } }

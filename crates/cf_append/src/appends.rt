@@ -1,9 +1,10 @@
 // A row becomes a record of the log.
-ghost use Rattle.std.specs.Prelude.{◌≡◌, ◌+◌, ◌<◌, ◌≤◌, [], length, IfOk};
+ghost use Rattle.std.specs.Prelude.{◌≡◌, ◌⊎◌, ◌+◌, ◌-◌, ◌*◌, ◌<◌, ◌≤◌, [], length, false, IfOk};
 ghost use Rattle.cf_row.specs.Row.{Fits};
 ghost use Rattle.cf_row.specs.Words.{word_count as word_count_of, spelled};
 ghost use Rattle.cf_table.specs.Held.{IsOf, book_of};
-ghost use Rattle.cf_append.specs.Appends.{GoesOn, Rests, IsAnswered, flying};
+ghost use Rattle.cf_table.specs.Moves.{HasAll};
+ghost use Rattle.cf_append.specs.Appends.{GoesOn, Rests, SeenFirst, IsAnswered, flying};
 
 use crate::settles::{move_tail, wait_for};
 use cf_row::{Row, word_count, words_of};
@@ -32,7 +33,8 @@ fn store_words<L: Ledger>(
     requires few { length words.now ≤ 64 }
     requires words { (length words.now ≡ word_count_of log.now.shape.schema + 1) × (words.now ≡ spelled record { writer = (book_of pass.old.view).writer; row = row.now }) }
     requires flies { pass.old ≡ flying offset row.now 0 pass.old }
-    ensures { pass.new ≡ flying offset row.now (length words.now) pass.old }
+    ensures pass { pass.new ≡ flying offset row.now (length words.now) pass.old }
+    ensures steps { steps.new ≡ steps.old + length words.now }
 {
     let _row = row;
     for i in 0..words.len() {
@@ -52,7 +54,8 @@ pub(crate) fn fill<L: Ledger>(
     requires place { offset < log.now.shape.capacity }
     requires fits { Fits log.now.shape.schema row.now }
     requires flies { pass.old ≡ flying offset row.now 0 pass.old }
-    ensures { pass.new ≡ flying offset row.now (word_count_of log.now.shape.schema + 1) pass.old }
+    ensures pass { pass.new ≡ flying offset row.now (word_count_of log.now.shape.schema + 1) pass.old }
+    ensures steps { steps.new ≡ steps.old + (word_count_of log.now.shape.schema + 1) }
 {
     let schema = log.layout().schema();
     let mut buffer = [0u64; 64];
@@ -77,6 +80,9 @@ pub fn append<L: Ledger>(
     ensures goes_on { GoesOn pass.old pass.new }
     ensures rest { Rests pass.new.view }
     ensures answer { IsAnswered log.now.shape row.now pass.old pass.new result }
+    ensures begins { (((book_of pass.old.view).over ≡ false) ⊎ SeenFirst pass.old.view) → SeenFirst pass.new.view }
+    ensures alone { log.now.shape.writers ≡ 1 → IfOk result (λ _. HasAll pass.new.view) }
+    ensures steps { steps.new ≤ steps.old + word_count_of log.now.shape.schema + 3 + 2 * (length pass.new.view.seen - length pass.old.view.seen + 1) }
 {
     if pass.over() {
         return Err(AppendFault::Full);
@@ -108,6 +114,8 @@ pub fn append_wait<R: Wait, L: Ledger>(
     ensures goes_on { GoesOn pass.old pass.new }
     ensures rest { Rests pass.new.view }
     ensures answer { IsAnswered log.now.shape row.now pass.old pass.new result }
+    ensures begins { (((book_of pass.old.view).over ≡ false) ⊎ SeenFirst pass.old.view) → SeenFirst pass.new.view }
+    ensures alone { log.now.shape.writers ≡ 1 → IfOk result (λ _. HasAll pass.new.view) }
     ensures covered { IfOk result (λ o. o < length pass.new.view.seen) }
 {
     let offset = append(log, pass, row, steps)?;

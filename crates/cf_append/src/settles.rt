@@ -1,7 +1,8 @@
 // The read tail is moved up to the first record that isn't finished.
-ghost use Rattle.std.specs.Prelude.{◌≡◌, ◌+◌, ◌<◌, ◌≤◌, length};
+ghost use Rattle.std.specs.Prelude.{◌≡◌, ◌+◌, ◌-◌, ◌*◌, ◌<◌, ◌≤◌, length};
 ghost use Rattle.cf_table.specs.Held.{IsOf};
-ghost use Rattle.cf_append.specs.Appends.{GoesOn, Stops, IsSettled};
+ghost use Rattle.cf_table.specs.Moves.{HasAll};
+ghost use Rattle.cf_append.specs.Appends.{GoesOn, Stops, Rests, SeenFirst, IsSettled};
 
 use cf_table::{MultiLog, Pass, Steps, WriterPass};
 use std::sync::Wait;
@@ -15,12 +16,16 @@ pub enum Settled {
     Behind(u32),
 }
 
-// Loads the read tail, and moves it over each finished record, up to the first that isn't.
+// Loads the read tail, and moves it over each finished record, up to the first that isn't. Where all places are covered a
+// last look shows it.
 pub(crate) fn move_tail<L: Ledger>(log: &MultiLog, pass: &mut WriterPass, steps: &mut Steps<L>)
     requires of { IsOf pass.old log.now }
     ensures goes_on { GoesOn pass.old pass.new }
     ensures books { pass.new.view.books ≡ pass.old.view.books }
     ensures stops { Stops log.now.shape pass.old.view pass.new.view }
+    ensures begins { SeenFirst pass.new.view }
+    ensures alone { log.now.shape.writers ≡ 1 → Rests pass.new.view → HasAll pass.new.view }
+    ensures steps { steps.new ≤ steps.old + 2 * (length pass.new.view.seen - length pass.old.view.seen + 1) }
 {
     log.load_tail(pass, false, steps);
     let capacity = log.layout().capacity();
@@ -31,6 +36,7 @@ pub(crate) fn move_tail<L: Ledger>(log: &MultiLog, pass: &mut WriterPass, steps:
         }
         log.advance(pass, t, steps);
     }
+    log.look_done(pass, 0, steps);
 }
 
 /// Moves the read tail over each finished record, up to the first that isn't. Says whether the record at that offset is
@@ -46,6 +52,9 @@ pub fn settle<L: Ledger>(
     ensures goes_on { GoesOn pass.old pass.new }
     ensures books { pass.new.view.books ≡ pass.old.view.books }
     ensures answer { IsSettled log.now.shape offset pass.old.view pass.new.view result }
+    ensures begins { SeenFirst pass.new.view }
+    ensures alone { log.now.shape.writers ≡ 1 → Rests pass.new.view → HasAll pass.new.view }
+    ensures steps { steps.new ≤ steps.old + 2 * (length pass.new.view.seen - length pass.old.view.seen + 1) }
 {
     move_tail(log, pass, steps);
     let covered = pass.covered();
@@ -68,6 +77,8 @@ pub(crate) fn wait_for<R: Wait, L: Ledger>(
     ensures goes_on { GoesOn pass.old pass.new }
     ensures books { pass.new.view.books ≡ pass.old.view.books }
     ensures covered { offset < length pass.new.view.seen }
+    ensures begins { SeenFirst pass.old.view → SeenFirst pass.new.view }
+    ensures alone { log.now.shape.writers ≡ 1 → Rests pass.old.view → HasAll pass.old.view → HasAll pass.new.view }
 {
     for _ in rt.forever() {
         if offset < pass.covered() {

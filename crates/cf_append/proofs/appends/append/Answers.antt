@@ -11,7 +11,7 @@ take_ticket-found-requires-clause-lawful g c =
 
 pub finish_record-requires-clause-lawful : goal.finish_record-requires-clause-lawful
 finish_record-requires-clause-lawful g c =
-    may_end c.args.log.now.shape c.take_ticket-found.new.pass c.fill.new.pass c.take_ticket-found.result c.args.row.now c.layout.ensures.lawful c.requires.bare c.fill.ensures
+    may_end c.args.log.now.shape c.take_ticket-found.new.pass c.fill.new.pass c.take_ticket-found.result c.args.row.now c.layout.ensures.lawful c.requires.bare c.fill.ensures.pass
 
 pub returns-clause-answer : goal.returns-clause-answer
 returns-clause-answer g c =
@@ -20,4 +20,4 @@ returns-clause-answer g c =
     let wide = c.from.ensures in
     let room = c.capacity.ensures.capacity ∙ ap (λ (x : Shaped). x.capacity) c.layout.ensures.shape in
     appended s c.args.pass.now c.take_ticket-found.new.pass c.fill.new.pass c.finish_record.new.pass c.move_tail.new.pass c.take_ticket-found.result c.args.row.now (sym c.over.ensures ∙ c.if-over.false) (omega (arith, low, wide, room))
-    c.take_ticket-found.ensures.made c.fill.ensures c.finish_record.ensures.made c.move_tail.ensures.books c.move_tail.ensures.stops
+    c.take_ticket-found.ensures.made c.fill.ensures.pass c.finish_record.ensures.made c.move_tail.ensures.books c.move_tail.ensures.stops

@@ -12,4 +12,4 @@ store_cell-requires-clause-lawful g c =
 pub loop-i-preserved : goal.loop-i-preserved
 loop-i-preserved g c =
     let i = c.loop-i.i in
-    record { pass = fills c.args.log.now.shape c.args.pass.now c.loop-i.pass c.store_cell.new.pass c.args.offset i (get_or c.args.words.now i 0) c.args.row.now c.loop-i.invariant.pass c.store_cell.ensures.made }
+    record { pass = fills c.args.log.now.shape c.args.pass.now c.loop-i.pass c.store_cell.new.pass c.args.offset i (get_or c.args.words.now i 0) c.args.row.now c.loop-i.invariant.pass c.store_cell.ensures.made; steps = (let one = c.store_cell.ensures.steps in let so_far = c.loop-i.invariant.steps in omega (arith, one, so_far)) }

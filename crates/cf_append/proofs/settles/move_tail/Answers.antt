@@ -1,8 +1,10 @@
-use Rattle.std.proofs.Common.{◌≡◌, ◌∙◌, inl, inr, length, ap, arith}
+use Rattle.std.proofs.Common.{◌≡◌, ◌∙◌, ℕ, true, false, inl, inr, length, ap, sym, arith}
 use Rattle.cf_shape.specs.Lanes.{Shaped}
+use Rattle.cf_shape.specs.Places.{slot_of}
+use Rattle.cf_shape.specs.Places.Word.{done}
 use Rattle.cf_law.specs.Passes.{Pass, Look}
 use Rattle.cf_table.proofs.Settling.{moved_then, moved_look, moved_advance, may_advance}
-use Rattle.cf_append.proofs.Settling.{goes_on, unfinished, looked_seen, moved_tail, counts_tail, counts_look, keeps_look}
+use Rattle.cf_append.proofs.Settling.{looked_seen, moved_tail, counts_tail, counts_look, keeps_look, advanced, all_alone, begins_long}
 use Rattle.cf_append.proofs.settles.move_tail.Goals as goal
 
 pub advance-requires-clause-lawful : goal.advance-requires-clause-lawful
@@ -36,6 +38,7 @@ loop-pass-preserved g c =
     let before = c.loop-pass.invariant.counts in record {
       moved = moved_then c.args.pass.now n o (moved_then c.args.pass.now m n c.loop-pass.invariant.moved (moved_look s m n t found look)) (moved_advance s n o t (omega (arith, seen, at)) made);
       counts = omega (arith, count, same, before);
+      steps = (let more = advanced s n o t (omega (arith, seen, at)) made in let one = c.look_done.ensures.steps in let two = c.advance.ensures.steps in let so_far = c.loop-pass.invariant.steps in omega (arith, seen, at, more, one, two, so_far));
     }
 
 pub loop-pass-init : goal.loop-pass-init
@@ -43,4 +46,33 @@ loop-pass-init g c =
     let s = c.args.log.now.shape in
     let m = c.args.pass.now in
     let n = c.load_tail.new.pass in
-    record { moved = moved_tail s m n c.load_tail.result c.load_tail.ensures.made; counts = counts_tail s m n c.load_tail.result c.load_tail.ensures.made }
+    let moved = moved_tail s m n c.load_tail.result c.load_tail.ensures.made in record {
+      moved = moved;
+      counts = counts_tail s m n c.load_tail.result c.load_tail.ensures.made;
+      steps = (let one = c.load_tail.ensures.steps in let more = begins_long (m.view).seen (n.view).seen moved.longer in omega (arith, one, more));
+    }
+
+pub returns-then-not-look_done-clause-alone : goal.returns-then-not-look_done-clause-alone
+returns-then-not-look_done-clause-alone g c =
+    let s = c.args.log.now.shape in
+    let m = c.loop-pass.pass in
+    let n = c.look_done.new.pass in
+    let t = c.covered-t.result in
+    let room = c.capacity-capacity.ensures.capacity ∙ ap (λ (x : Shaped). x.capacity) c.layout.ensures.shape in
+    let at = c.covered-t.ensures in
+    let low = c.loop-pass-test.true in
+    let known = c.covered.ensures in
+    all_alone s m n t (n.view.look).value c.look_done.ensures.made (inr (omega (arith, low, room, known), ap (λ (o : ℕ). slot_of s (done o)) at, λ one. other (c.look_done.ensures.found.1 one)))
+  where
+    other : c.look_done.result ≡ true → ⊥
+    other one = (let f : true ≡ false = sym one ∙ c.if-not-look_done.true in absurd (cc f))
+
+pub returns-clause-alone : goal.returns-clause-alone
+returns-clause-alone g c =
+    let s = c.args.log.now.shape in
+    let m = c.loop-pass.pass in
+    let n = c.look_done-2.new.pass in
+    let room = c.capacity-capacity.ensures.capacity ∙ ap (λ (x : Shaped). x.capacity) c.layout.ensures.shape in
+    let known = c.covered.ensures in
+    let past = c.loop-pass-test.false in
+    all_alone s m n 0 (n.view.look).value c.look_done-2.ensures.made (inl (omega (arith, past, room, known)))

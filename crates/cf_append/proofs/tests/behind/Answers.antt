@@ -13,4 +13,4 @@ take_ticket-found-requires-clause-lawful g c =
 
 pub finish_record-requires-clause-lawful : goal.finish_record-requires-clause-lawful
 finish_record-requires-clause-lawful g c =
-    may_end c.args.log.now.shape c.take_ticket-found.new.pass c.fill.new.pass 0 c.args.row.now c.layout.ensures.lawful c.requires.bare c.fill.ensures
+    may_end c.args.log.now.shape c.take_ticket-found.new.pass c.fill.new.pass 0 c.args.row.now c.layout.ensures.lawful c.requires.bare c.fill.ensures.pass

@@ -2,7 +2,6 @@ use Rattle.std.proofs.Common.{◌≡◌, ◌∷◌, ◌++◌, List, Option, ap, 
 use Rattle.std.specs.Option.{option_to_list}
 use Rattle.std.specs.Vec.Iter.{into_iter_items}
 use Rattle.cf_table.specs.Held.{Held}
-use Rattle.cf_table.specs.Rule.{root_pass}
 use Rattle.cf_table.specs.Fresh.{AreFresh}
 use Rattle.cf_table.proofs.Fresh.{dealt_fresh, fresh_first, fresh_next}
 use Rattle.cf_append.proofs.tests.two_at_once.Goals as goal
