@@ -30,16 +30,16 @@ pub record Asked : Type 0 where
   pub rounds : ℕ
 
 abbrev pub asked_by : RunCommand → Asked
-asked_by command = record { setup = command.setup.now; capture = command.capture.now; writers = command.writers; capacity = command.capacity; nodes = command.nodes; rounds = 0 }
+asked_by command = record { setup = command.setup.now; capture = command.capture.now; writers = command.writers; capacity = command.capacity; nodes = command.nodes; rounds = command.rounds }
 
--- the texts of a command say so; there is one writer, and nothing is asked live
+-- the texts of a command say so
 pub record AreNumbers (said : RunSays) (command : Asked) : Type 0 where
   pub setup_is : command.setup ≡ said.setup
   pub capture_is : command.capture ≡ said.capture
-  pub writers_are : IsNumberText 1 1 said.writers command.writers
+  pub writers_are : IsNumberText 1 15 said.writers command.writers
   pub capacity_is : IsNumberText 1 65536 said.capacity command.capacity
   pub nodes_are : IsNumberText 0 65536 said.nodes command.nodes
-  pub rounds_are : command.rounds ≡ 0
+  pub rounds_are : IsNumberText 0 64 said.live command.rounds
 
 abbrev pub NoNumbers : RunSays → Type 0
 NoNumbers said = (command : Asked) → AreNumbers said command → ⊥

@@ -19,7 +19,7 @@ abbrev pub place : Text → Rule
 place id = record (new_rule id) { required = true }
 
 abbrev pub run_app : App
-run_app = with_rule (with_rule (with_rule (with_rule (with_rule (new_app (codes "run")) (needed (codes "setup"))) (optional (codes "writers") (codes "1"))) (optional (codes "capacity") (codes "65536"))) (optional (codes "nodes") (codes "1024"))) (place (codes "capture"))
+run_app = with_rule (with_rule (with_rule (with_rule (with_rule (with_rule (new_app (codes "run")) (needed (codes "setup"))) (optional (codes "writers") (codes "4"))) (optional (codes "capacity") (codes "65536"))) (optional (codes "nodes") (codes "1024"))) (optional (codes "live") (codes "0"))) (place (codes "capture"))
 
 abbrev pub dump_app : App
 dump_app = with_rule (new_app (codes "dump")) (place (codes "capture"))
@@ -43,19 +43,20 @@ pub record RunSays : Type 0 where
   pub writers : Text
   pub capacity : Text
   pub nodes : Text
+  pub live : Text
   pub capture : Text
 
-abbrev pub run_says : Text → Text → Text → Text → Text → RunSays
-run_says s w n m c = record { setup = s; writers = w; capacity = n; nodes = m; capture = c }
+abbrev pub run_says : Text → Text → Text → Text → Text → Text → RunSays
+run_says s w n m l c = record { setup = s; writers = w; capacity = n; nodes = m; live = l; capture = c }
 
 abbrev pub says_of : RunTexts → RunSays
-says_of r = run_says r.setup.now r.writers.now r.capacity.now r.nodes.now r.capture.now
+says_of r = run_says r.setup.now r.writers.now r.capacity.now r.nodes.now r.live.now r.capture.now
 
 -- what the rows of a `run` command say
 unfoldable pub run_texts_of : List Row → Option RunSays
 run_texts_of rows =
-    option_and_then (λ s. option_and_then (λ w. option_and_then (λ n. option_and_then (λ m. option_and_then (λ c. Some (run_says s w n m c))
-    (first_of (codes "capture") rows)) (first_of (codes "nodes") rows)) (first_of (codes "capacity") rows)) (first_of (codes "writers") rows)) (first_of (codes "setup") rows)
+    option_and_then (λ s. option_and_then (λ w. option_and_then (λ n. option_and_then (λ m. option_and_then (λ l. option_and_then (λ c. Some (run_says s w n m l c))
+    (first_of (codes "capture") rows)) (first_of (codes "live") rows)) (first_of (codes "nodes") rows)) (first_of (codes "capacity") rows)) (first_of (codes "writers") rows)) (first_of (codes "setup") rows)
 
 abbrev pub if_run : Text × List Row → Option RunSays
 if_run p = if bytes_eq p.0 (codes "run") then run_texts_of p.1 else None

@@ -44,9 +44,10 @@ fn run_command<'a>(alloc: Global) -> Result<Command<'a>, Memory>
 {
     let command = Command::new(alloc, "run");
     let command = and(command, needed_option(alloc, "setup"))?;
-    let command = and(command, optional_option(alloc, "writers", "1"))?;
+    let command = and(command, optional_option(alloc, "writers", "4"))?;
     let command = and(command, optional_option(alloc, "capacity", "65536"))?;
     let command = and(command, optional_option(alloc, "nodes", "1024"))?;
+    let command = and(command, optional_option(alloc, "live", "0"))?;
     and(command, own_word(alloc, "capture"))
 }
 
@@ -101,6 +102,7 @@ pub(crate) struct RunTexts<'a> {
     pub(crate) writers: &'a str,
     pub(crate) capacity: &'a str,
     pub(crate) nodes: &'a str,
+    pub(crate) live: &'a str,
     pub(crate) capture: &'a str,
 }
 
@@ -118,12 +120,14 @@ fn run_texts<'a>(matches: &ArgMatches<'a>) -> Option<RunTexts<'a>>
     let writers = text_of(matches, "writers")?;
     let capacity = text_of(matches, "capacity")?;
     let nodes = text_of(matches, "nodes")?;
+    let live = text_of(matches, "live")?;
     let capture = text_of(matches, "capture")?;
     Some(RunTexts {
         setup,
         writers,
         capacity,
         nodes,
+        live,
         capture,
     })
 }

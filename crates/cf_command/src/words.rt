@@ -19,13 +19,15 @@ pub struct RunCommand<'a> {
     pub capacity: u32,
     /// How many nodes each writer has.
     pub nodes: u32,
+    /// How often each live question is asked beside a batch.
+    pub rounds: u32,
 }
 
 // The command of these texts, where each number is in its range.
 fn command_from<'a>(alloc: Global, said: &RunTexts<'a>) -> Result<Option<RunCommand<'a>>, Memory>
     ensures { IfOk result (λ found. MatchOption found (NoNumbers (says_of said.now)) (λ command. AreNumbers (says_of said.now) (asked_by command))) }
 {
-    let Some(writers) = number_between(alloc, said.writers, 1, 1)? else {
+    let Some(writers) = number_between(alloc, said.writers, 1, 15)? else {
         return Ok(None);
     };
     let Some(capacity) = number_between(alloc, said.capacity, 1, 65536)? else {
@@ -34,12 +36,16 @@ fn command_from<'a>(alloc: Global, said: &RunTexts<'a>) -> Result<Option<RunComm
     let Some(nodes) = number_between(alloc, said.nodes, 0, 65536)? else {
         return Ok(None);
     };
+    let Some(rounds) = number_between(alloc, said.live, 0, 64)? else {
+        return Ok(None);
+    };
     Ok(Some(RunCommand {
         setup: said.setup,
         capture: said.capture,
         writers: writers as u8,
         capacity,
         nodes,
+        rounds,
     }))
 }
 

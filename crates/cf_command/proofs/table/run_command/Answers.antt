@@ -4,7 +4,8 @@ use Rattle.clap.specs.Words.{with_rule}
 use Rattle.cf_command.proofs.table.run_command.Goals as goal
 
 pub returns-clause-rules : goal.returns-clause-rules
-returns-clause-rules c = IfOk-weaker c.and-5.result _ _ (λ m e. e
+returns-clause-rules c = IfOk-weaker c.and-6.result _ _ (λ m e. e
+    ∙ ap₂ with_rule (c.in_ok-command-5.ensures.rules
     ∙ ap₂ with_rule (c.in_ok-command-4.ensures.rules
     ∙ ap₂ with_rule (c.in_ok-command-3.ensures.rules
     ∙ ap₂ with_rule (c.in_ok-command-2.ensures.rules
@@ -13,4 +14,5 @@ returns-clause-rules c = IfOk-weaker c.and-5.result _ _ (λ m e. e
     c.optional_option.ensures.rule)
     c.optional_option-2.ensures.rule)
     c.optional_option-3.ensures.rule)
-    c.own_word.ensures.rule) c.and-5.ensures.rules
+    c.optional_option-4.ensures.rule)
+    c.own_word.ensures.rule) c.and-6.ensures.rules
