@@ -14,7 +14,7 @@ use Rattle.cf_run.specs.Parts.{IsFree, IsRowsStop, LoadsPackets, IsPrepared}
 use Rattle.cf_run.specs.Stops.{IsRefusal, NoRefusal}
 use Rattle.cf_run.proofs.Leaving.{dump_stopped, dump_left}
 use Rattle.cf_run.proofs.Preparing.{IsRefused, prepared_draft, prepared_stop}
-use Rattle.cf_run.specs.declared.prepare.Draft.{Draft}
+use Rattle.cf_run.specs.declared.draft.Draft.{Draft}
 use Rattle.cf_run.specs.declared.status.Status.{Status}
 use Rattle.cf_run.specs.declared.status.Status.TheVariants.{Done, Words, Setup, Capture, ReadFault, WriteFault, Full, Nodes, Memory, NoFile}
 
@@ -26,7 +26,7 @@ module _ (files : List File) (words : List (List ℕ)) (name : List ℕ) (is : I
   stop_may now Memory stop = dump_stopped files words name is before now stop
   stop_may now Done stop = absurd stop
   stop_may now Words stop = absurd stop
-  stop_may now (Capture at code) stop = inr (inr (inr (record { name = name; name_is = is; capture = stop.0; file = stop.1; taken = record { count = 2 ^ 32; most = omega arith; left = stop.3 } })))
+  stop_may now (Capture at code) stop = inr (inr (inr (inl (record { name = name; name_is = is; capture = stop.0; file = stop.1; taken = record { count = 2 ^ 32; most = omega arith; left = stop.3 } }))))
   stop_may now WriteFault stop = absurd stop
   stop_may now Full stop = absurd stop
   stop_may now Nodes stop = absurd stop
@@ -46,7 +46,7 @@ module _ (files : List File) (words : List (List ℕ)) (name : List ℕ) (is : I
   stop_draft : (now : Option (List ℕ)) (status : Status) (draft : Draft) → IsRowsStop (2 ^ 32) HasPacketFault files name before now status → draft.status ≡ status → draft.text.items ≡ refusal_line status → IsRefusal status → IsPrepared files words before now (Ok draft)
   stop_draft now NoFile draft stop same text shown =
       let lacks : LacksDumped files words = record { name = name; name_is = is; no_file = stop.0 } in
-      prepared_draft files words before now draft NoFile (refusal_line NoFile) same text (inr (lacks, refl)) (inr (inr (lacks, stop.1)))
+      prepared_draft files words before now draft NoFile (refusal_line NoFile) same text (inr (inl (lacks, refl))) (inr (inr (inl (lacks, stop.1))))
   stop_draft now (Setup line code) draft stop same text shown = absurd stop
   stop_draft now ReadFault draft stop same text shown = absurd shown
   stop_draft now Memory draft stop same text shown = absurd shown
@@ -54,7 +54,7 @@ module _ (files : List File) (words : List (List ℕ)) (name : List ℕ) (is : I
   stop_draft now Words draft stop same text shown = absurd stop
   stop_draft now (Capture at code) draft stop same text shown =
       prepared_draft files words before now draft (Capture at code) (refusal_line (Capture at code)) same text
-      (inr ((record { name = name; name_is = is; capture = stop.0; file = stop.1; fault = stop.2 }), refl))
+      (inr (inl ((record { name = name; name_is = is; capture = stop.0; file = stop.1; fault = stop.2 }), refl)))
       (inr (record { name = name; name_is = is; capture = stop.0; file = stop.1; left = stop.3 }))
   stop_draft now WriteFault draft stop same text shown = absurd stop
   stop_draft now Full draft stop same text shown = absurd stop
@@ -73,7 +73,7 @@ module _ (words : List (List ℕ)) (name : List ℕ) (is : IsDump words name) (b
     pub dump_prepared : (told : Option (List File)) (text : List ℕ) → IfSome told (λ files. LoadsPackets files name before now (Ok rows)) → text ≡ dump_text packet_attrs rows.items → IfSome told (λ files. IsDue files words Done text × Leaves files words Done before now)
     dump_prepared None text loaded shown = loaded
     dump_prepared (Some files) text loaded shown =
-        (inr (record { work = record { name = name; name_is = is; capture = loaded.0; file = loaded.1; rows = rows.items; rows_are = loaded.2 }; text_is = shown }), loaded.3)
+        (inr (inl (record { work = record { name = name; name_is = is; capture = loaded.0; file = loaded.1; rows = rows.items; rows_are = loaded.2 }; text_is = shown })), loaded.3)
 
     pub dump_unmade : (told : Option (List File)) → IfSome told (λ files. LoadsPackets files name before now (Ok rows)) → IfSome told (λ files. IsPrepared files words before now (Err Memory))
     dump_unmade None loaded = loaded

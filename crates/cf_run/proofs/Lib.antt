@@ -1,6 +1,8 @@
 pub mod Taking
 pub mod Writing
 pub mod Deciding
+pub mod Drawing
+pub mod DecidingSynth
 pub mod SetupSize
 pub mod PacketSchema
 pub mod Leaving
@@ -11,3 +13,4 @@ pub mod Made
 pub mod Asking
 pub mod MoreRows
 pub mod DumpDue
+pub mod SynthDue

@@ -4,17 +4,18 @@ use Rattle.std.specs.declared.alloc.Global.{Global}
 use Rattle.cf_outside.specs.Files.{File, file_named}
 use Rattle.cf_row.specs.Row.{Numbered}
 use Rattle.cf_command.specs.Command.{Asked, IsRun}
-use Rattle.cf_report.specs.Meaning.{IsReport}
 use Rattle.cf_setup.specs.Settled.{Settled}
-use Rattle.cf_run.specs.Due.{LacksSetup, HasSetup, LacksCapture, IsRunDue, IsDumpDue, IsDue, refusal_line, full_line}
-use Rattle.cf_run.specs.Left.{MayBeLeft, Leaves, CaptureIsRead, DumpIsRead}
+use Rattle.cf_run.specs.Answering.{IsReportOf}
+use Rattle.cf_run.specs.Due.{LacksSetup, HasSetup, LacksCapture, IsRunDue, IsDumpDue, IsSynthDue, IsDue, refusal_line, full_line}
+use Rattle.cf_run.specs.Synth.{IsSynthWork}
+use Rattle.cf_run.specs.Left.{MayBeLeft, Leaves, SetupIsRead, SynthSetupIsRead, CaptureIsRead, DumpIsRead}
 use Rattle.cf_run.specs.Faults.{HasCaptureFault}
 use Rattle.cf_run.specs.Parts.{IsFree, IsSetupStop, LoadsSetup, IsRowsStop, LoadsRowsOf, IsPrepared}
 use Rattle.cf_run.specs.Stops.{IsRefusal, NoRefusal}
 use Rattle.cf_setup.specs.SetupText.{SetupText}
 use Rattle.cf_run.specs.Work.{AreRowsOf, limit_of, IsWork, IsReported}
-use Rattle.cf_run.proofs.Leaving.{setup_stopped, setup_left, capture_stopped, capture_left, dump_left}
-use Rattle.cf_run.specs.declared.prepare.Draft.{Draft}
+use Rattle.cf_run.proofs.Leaving.{setup_stopped, setup_left, capture_stopped, capture_left, dump_left, synth_left}
+use Rattle.cf_run.specs.declared.draft.Draft.{Draft}
 use Rattle.cf_run.specs.declared.status.Status.{Status}
 use Rattle.cf_run.specs.declared.status.Status.TheVariants.{Done, Words, Setup, Capture, ReadFault, WriteFault, Full, Nodes, Memory, NoFile}
 
@@ -63,7 +64,7 @@ module _ (files : List File) (words : List (List ℕ)) (command : Asked) (is : I
   setup_draft now (Setup line code) draft stop same text shown =
       prepared_draft files words before now draft (Setup line code) (refusal_line (Setup line code)) same text
       (inl ((record { command = command; command_is = is; bytes = stop.0; file = stop.1; fault = stop.2 }), refl))
-      (record { command = command; command_is = is; bytes = stop.0; file = stop.1; left = stop.3 })
+      (inl (record { command = command; command_is = is; bytes = stop.0; file = stop.1; left = stop.3 }))
   setup_draft now ReadFault draft stop same text shown = absurd shown
   setup_draft now Memory draft stop same text shown = absurd shown
   setup_draft now Done draft stop same text shown = absurd stop
@@ -133,8 +134,8 @@ module _ (files : List File) (words : List (List ℕ)) (command : Asked) (is : I
       full_in : (draft : Draft) → command.capacity < length rows → draft.status ≡ Full → draft.text.items ≡ full_line command.capacity → IsPrepared files words before now (Ok draft)
       full_in draft many same text = prepared_draft files words before now draft Full (full_line command.capacity) same text (inl ((record { work = work; many = many }), refl)) end
 
-      reported_in : (text order : List ℕ) → length rows ≤ command.capacity → IsReport setup command.capacity command.writers command.nodes command.rounds rows order text → IsReported files words text
-      reported_in text order few report = record { work = work; few = few; order = order; report = report }
+      reported_in : (text : List ℕ) → length rows ≤ command.capacity → IsReportOf setup command.capacity command.writers command.nodes command.rounds rows text → IsReported files words text
+      reported_in text few report = record { work = work; few = few; order = report.0; report = report.1 }
 
       unmade_in : (stop : Status) → stop ≡ Memory → IsPrepared files words before now (Err stop)
       unmade_in stop memory = (inl memory, capture_left files words has capture rows before now found rows_are end)
@@ -162,12 +163,12 @@ module _ (words : List (List ℕ)) (command : Asked) (is : IsRun words command) 
           let captured' : IfSome (Some files) (λ fs. LoadsRowsOf setup fs command.capture mid now (Ok rows)) = rw same at captured in
           unmade_in files words command is before loaded.0 setup mid loaded.1 loaded.2 loaded.3 captured'.0 rows.items now captured'.1 captured'.2 captured'.3 stop made
 
-      pub report_prepared : (told later : Option (List File)) (text order : List ℕ) → later ≡ told → IfSome told (λ files. LoadsSetup files command.setup before mid (Ok setup)) → IfSome later (λ files. LoadsRowsOf setup files command.capture mid now (Ok rows)) → length rows.items ≤ command.capacity
-          → IsReport setup command.capacity command.writers command.nodes command.rounds rows.items order text → IfSome told (λ files. IsDue files words Done text × Leaves files words Done before now)
-      report_prepared None later text order same loaded captured few report = loaded
-      report_prepared (Some files) later text order same loaded captured few report =
+      pub report_prepared : (told later : Option (List File)) (text : List ℕ) → later ≡ told → IfSome told (λ files. LoadsSetup files command.setup before mid (Ok setup)) → IfSome later (λ files. LoadsRowsOf setup files command.capture mid now (Ok rows)) → length rows.items ≤ command.capacity
+          → IsReportOf setup command.capacity command.writers command.nodes command.rounds rows.items text → IfSome told (λ files. IsDue files words Done text × Leaves files words Done before now)
+      report_prepared None later text same loaded captured few report = loaded
+      report_prepared (Some files) later text same loaded captured few report =
           let captured' : IfSome (Some files) (λ fs. LoadsRowsOf setup fs command.capture mid now (Ok rows)) = rw same at captured in
-          (inl (reported_in files words command is before loaded.0 setup mid loaded.1 loaded.2 loaded.3 captured'.0 rows.items now captured'.1 captured'.2 captured'.3 text order few report), captured'.3)
+          (inl (reported_in files words command is before loaded.0 setup mid loaded.1 loaded.2 loaded.3 captured'.0 rows.items now captured'.1 captured'.2 captured'.3 text few report), captured'.3)
 
       pub unmade_prepared : (told later : Option (List File)) → later ≡ told → IfSome told (λ files. LoadsSetup files command.setup before mid (Ok setup)) → IfSome later (λ files. LoadsRowsOf setup files command.capture mid now (Ok rows)) → IfSome told (λ files. IsPrepared files words before now (Err Memory))
       unmade_prepared None later same loaded captured = loaded
@@ -175,37 +176,35 @@ module _ (words : List (List ℕ)) (command : Asked) (is : IsRun words command) 
           let captured' : IfSome (Some files) (λ fs. LoadsRowsOf setup fs command.capture mid now (Ok rows)) = rw same at captured in
           unmade_in files words command is before loaded.0 setup mid loaded.1 loaded.2 loaded.3 captured'.0 rows.items now captured'.1 captured'.2 captured'.3 Memory refl
 
--- The numbers of a command of one writer that asks nothing live are those that it was asked for.
-pub one_writer : (words : List (List ℕ)) (command : Asked) → IsRun words command → command.writers ≡ 1
-one_writer words command is = let low : 1 ≤ command.writers = is.numbers.writers_are.least in let high : command.writers ≤ 1 = is.numbers.writers_are.most in omega (arith, low, high)
-
-pub report_as_asked : (words : List (List ℕ)) (command : Asked) (setup : Settled) (rows : List Numbered) (order text : List ℕ) → IsRun words command → IsReport setup command.capacity 1 command.nodes 0 rows order text → IsReport setup command.capacity command.writers command.nodes command.rounds rows order text
-report_as_asked words command setup rows order text is report =
-    subst (λ (n : ℕ). IsReport setup command.capacity n command.nodes command.rounds rows order text) (sym (one_writer words command is))
-    (subst (λ (n : ℕ). IsReport setup command.capacity 1 command.nodes n rows order text) (sym is.numbers.rounds_are) report)
-
 -- a capture that was read to its end
 work_may : (files : List File) (words : List (List ℕ)) → IsWork files words → (before now : Option (List ℕ)) → now ≡ Some [] → MayBeLeft files words before now
 work_may files words work before now end =
     capture_left files words (record { command = work.command; command_is = work.command_is; bytes = work.setup_bytes; file = work.setup_file; setup = work.setup; setup_is = work.setup_is }) work.capture work.rows before now work.capture_file work.rows_are end
 
--- whatever was due of a run, it may be left so
+-- whatever was due, it may be left so
+left_setup : (files : List File) (words : List (List ℕ)) (now before : Option (List ℕ)) → SetupIsRead files words now ⊎ SynthSetupIsRead files words now → MayBeLeft files words before now
+left_setup files words now before left = elim left [
+  | inl read ↦ inr (inl (record { command = read.command; command_is = read.command_is; bytes = read.bytes; file = read.file; taken = record { count = 65537; most = omega arith; left = read.left } }))
+  | inr read ↦ inr (inr (inr (inr (record { command = read.command; command_is = read.command_is; bytes = read.bytes; file = read.file; taken = record { count = 65537; most = omega arith; left = read.left } }))))
+]
+
 left_read : (files : List File) (words : List (List ℕ)) (now before : Option (List ℕ)) → CaptureIsRead files words now ⊎ DumpIsRead files words now → MayBeLeft files words before now
 left_read files words now before left = elim left [
   | inl read ↦ inr (inr (inl (record { has = read.has; capture = read.capture; file = read.file; taken = record { count = limit_of read.has.setup; most = omega arith; left = read.left } })))
-  | inr read ↦ inr (inr (inr (record { name = read.name; name_is = read.name_is; capture = read.capture; file = read.file; taken = record { count = 2 ^ 32; most = omega arith; left = read.left } })))
+  | inr read ↦ inr (inr (inr (inl (record { name = read.name; name_is = read.name_is; capture = read.capture; file = read.file; taken = record { count = 2 ^ 32; most = omega arith; left = read.left } }))))
 ]
 
 left_unfound : (files : List File) (words : List (List ℕ)) (before now : Option (List ℕ)) → Leaves files words NoFile before now → MayBeLeft files words before now
-left_unfound files words before now left = elim left [
-  | inl none ↦ inl none.1
-  | inr other ↦ elim other [ inl none ↦ setup_left files words none.0.has before now none.1 | inr none ↦ inl none.1 ]
-]
+left_unfound files words before now (inl none) = inl none.1
+left_unfound files words before now (inr (inl none)) = setup_left files words none.0.has before now none.1
+left_unfound files words before now (inr (inr (inl none))) = inl none.1
+left_unfound files words before now (inr (inr (inr none))) = inl none.1
 
+-- of a run
 run_leaves_may : (files : List File) (words : List (List ℕ)) (status : Status) (text : List ℕ) (before now : Option (List ℕ)) → IsRunDue files words status text → Leaves files words status before now → MayBeLeft files words before now
 run_leaves_may files words Done text before now due left = work_may files words due.work before now left
 run_leaves_may files words Words text before now due left = inl left
-run_leaves_may files words (Setup line code) text before now due left = inr (inl (record { command = left.command; command_is = left.command_is; bytes = left.bytes; file = left.file; taken = record { count = 65537; most = omega arith; left = left.left } }))
+run_leaves_may files words (Setup line code) text before now due left = left_setup files words now before left
 run_leaves_may files words (Capture at code) text before now due left = left_read files words now before left
 run_leaves_may files words NoFile text before now due left = left_unfound files words before now left
 run_leaves_may files words ReadFault text before now due left = absurd due
@@ -214,7 +213,7 @@ run_leaves_may files words Full text before now due left = work_may files words 
 run_leaves_may files words Nodes text before now due left = absurd due
 run_leaves_may files words Memory text before now due left = absurd due
 
--- and of a dump
+-- of a dump
 dump_leaves_may : (files : List File) (words : List (List ℕ)) (status : Status) (text : List ℕ) (before now : Option (List ℕ)) → IsDumpDue files words status text → Leaves files words status before now → MayBeLeft files words before now
 dump_leaves_may files words Done text before now due left = dump_left files words due.work.name due.work.name_is due.work.capture due.work.rows before now due.work.file due.work.rows_are left
 dump_leaves_may files words (Capture at code) text before now due left = left_read files words now before left
@@ -227,11 +226,26 @@ dump_leaves_may files words Full text before now due left = absurd due
 dump_leaves_may files words Nodes text before now due left = absurd due
 dump_leaves_may files words Memory text before now due left = absurd due
 
+-- of a synth
+synth_work_may : (files : List File) (words : List (List ℕ)) → IsSynthWork files words → (before now : Option (List ℕ)) → now ≡ Some [] → MayBeLeft files words before now
+synth_work_may files words work before now end = synth_left files words work.command work.command_is work.bytes work.setup before now work.file work.setup_is end
+
+synth_leaves_may : (files : List File) (words : List (List ℕ)) (status : Status) (text : List ℕ) (before now : Option (List ℕ)) → IsSynthDue files words status text → Leaves files words status before now → MayBeLeft files words before now
+synth_leaves_may files words Done text before now due left = synth_work_may files words due.work before now left
+synth_leaves_may files words (Setup line code) text before now due left = left_setup files words now before left
+synth_leaves_may files words Full text before now due left = synth_work_may files words due.0.work before now left
+synth_leaves_may files words NoFile text before now due left = left_unfound files words before now left
+synth_leaves_may files words Words text before now due left = absurd due
+synth_leaves_may files words (Capture at code) text before now due left = absurd due
+synth_leaves_may files words ReadFault text before now due left = absurd due
+synth_leaves_may files words WriteFault text before now due left = absurd due
+synth_leaves_may files words Nodes text before now due left = absurd due
+synth_leaves_may files words Memory text before now due left = absurd due
+
 leaves_may : (files : List File) (words : List (List ℕ)) (status : Status) (text : List ℕ) (before now : Option (List ℕ)) → IsDue files words status text → Leaves files words status before now → MayBeLeft files words before now
-leaves_may files words status text before now due left = elim due [
-  | inl run ↦ run_leaves_may files words status text before now run left
-  | inr dump ↦ dump_leaves_may files words status text before now dump left
-]
+leaves_may files words status text before now (inl run) left = run_leaves_may files words status text before now run left
+leaves_may files words status text before now (inr (inl dump)) left = dump_leaves_may files words status text before now dump left
+leaves_may files words status text before now (inr (inr synth)) left = synth_leaves_may files words status text before now synth left
 
 pub leaves_some : (told : Option (List File)) (words : List (List ℕ)) (status : Status) (text : List ℕ) (before now : Option (List ℕ)) → IfSome told (λ files. IsDue files words status text × Leaves files words status before now) → IfSome told (λ files. Leaves files words WriteFault before now)
 leaves_some None words status text before now prepared = prepared

@@ -1,6 +1,7 @@
 pub mod Work
 pub mod Faults
 pub mod Dumps
+pub mod Synth
 pub mod Due
 pub mod Answers
 pub mod Devices

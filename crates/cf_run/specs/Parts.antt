@@ -1,19 +1,22 @@
 -- What the parts of the work answer.
-use Rattle.std.specs.Prelude.{◌≡◌, ◌⊎◌, ℕ, ◌≤◌, ◌^◌, List, [], drop, Some, None, Option, Result, Ok, Err, Vec}
+use Rattle.std.specs.Prelude.{◌≡◌, ◌⊎◌, ℕ, ◌<◌, ◌≤◌, ◌^◌, List, [], drop, length, Some, None, Option, Result, Ok, Err, Vec}
 use Rattle.std.specs.declared.alloc.Global.{Global}
 use Rattle.cf_outside.specs.Causes.{Rose}
 use Rattle.cf_outside.specs.Files.{File, file_named}
 use Rattle.cf_row.specs.Row.{Numbered}
-use Rattle.cf_setup.specs.Settled.{Settled}
+use Rattle.cf_command.specs.Command.{Drawn}
+use Rattle.cf_report.specs.Meaning.{final_text}
+use Rattle.cf_setup.specs.Settled.{Settled, shaped}
 use Rattle.cf_run.specs.Devices.{IsStopped}
-use Rattle.cf_run.specs.Due.{IsDue}
+use Rattle.cf_run.specs.Due.{IsDue, full_line}
+use Rattle.cf_run.specs.Synth.{drawn_rows}
 use Rattle.cf_run.specs.Faults.{HasPacketFault, HasCaptureFault}
 use Rattle.cf_run.specs.Left.{MayBeLeft, Leaves}
 use Rattle.cf_setup.specs.SetupText.{SetupText}
 use Rattle.cf_run.specs.Work.{ArePackets, AreRowsOf, limit_of}
 use Rattle.cf_run.specs.declared.status.Status.{Status}
 use Rattle.cf_run.specs.declared.status.Status.TheVariants.{Done, Words, Setup, Capture, ReadFault, WriteFault, Full, Nodes, Memory, NoFile}
-use Rattle.cf_run.specs.declared.prepare.Draft.{Draft}
+use Rattle.cf_run.specs.declared.draft.Draft.{Draft}
 
 -- a stop for want of memory or by a device
 abbrev pub IsFree : Status → Type 0
@@ -91,3 +94,19 @@ IsBad faulty Nodes = ⊥
 abbrev pub IsPrepared : List File → List (List ℕ) → Option (List ℕ) → Option (List ℕ) → Result Draft Status → Type 0
 IsPrepared files words before now (Ok draft) = IsDue files words draft.status draft.text.items × Leaves files words draft.status before now
 IsPrepared files words before now (Err stop) = IsFree stop × MayBeLeft files words before now
+
+-- the answers on drawn packets that fit
+pub record IsSynthDone (setup : Settled) (command : Drawn) (draft : Draft) : Type 0 where
+  pub status : draft.status ≡ Done
+  pub few : length (drawn_rows command) ≤ command.capacity
+  pub text : draft.text.items ≡ final_text (shaped setup command.capacity command.writers command.nodes) setup (drawn_rows command)
+
+-- more packets than fit
+pub record IsSynthOver (command : Drawn) (draft : Draft) : Type 0 where
+  pub status : draft.status ≡ Full
+  pub many : command.capacity < length (drawn_rows command)
+  pub text : draft.text.items ≡ full_line command.capacity
+
+-- what drawn packets come to, by a setup over packets
+abbrev pub IsSynthDraft : Settled → Drawn → Draft → Type 0
+IsSynthDraft setup command draft = IsSynthDone setup command draft ⊎ IsSynthOver command draft

@@ -1,20 +1,20 @@
 // The answers over the frames of a capture, and their report.
-ghost use Rattle.std.specs.Prelude.{◌≡◌, ◌<◌, ◌≤◌, ◌^◌, [], All, length, map, replicate, IfOk};
+ghost use Rattle.std.specs.Prelude.{◌≡◌, ◌<◌, ◌≤◌, ◌^◌, [], All, length, map, IfOk};
 ghost use Rattle.cf_row.specs.Row.{Fits};
 ghost use Rattle.cf_plain.specs.Asks.{rows_in, marks_over};
 ghost use Rattle.cf_report.specs.Answered.{ask_at};
-ghost use Rattle.cf_report.specs.Meaning.{answer_on, alerts_on, IsReport};
-ghost use Rattle.cf_setup.specs.Settled.{IsSetup};
+ghost use Rattle.cf_report.specs.Meaning.{answer_on, alerts_on, final_text};
+ghost use Rattle.cf_setup.specs.Settled.{IsSetup, shaped};
 ghost use Rattle.cf_run.specs.Stops.{IsShapeOf};
 ghost use Rattle.cf_history.proofs.OneWriter.{alone};
-ghost use Rattle.cf_run.specs.Answering.{trigger_at};
+ghost use Rattle.cf_run.specs.Answering.{trigger_at, IsReportOf};
 
 use cf_plain::{Answer, Ask, Body, Marks, Plain};
 use cf_report::{Form, Loaded, report};
 use cf_row::{Memory, Row};
 use cf_setup::{Setup, shape_of};
 use cf_shape::Shape;
-use std::alloc::Global;
+use std::alloc::{AllocError, Global};
 
 // The log of one writer with these rows.
 fn log_of(alloc: Global, shape: Shape, rows: &[Row]) -> Result<Plain, Memory>
@@ -88,23 +88,37 @@ fn answers_of(alloc: Global, setup: &Setup, log: &Plain) -> Result<Loaded, Memor
     Ok(Loaded::new(finals, alerts, Vec::new(alloc)))
 }
 
-/// The report of a setup over the rows of a capture, loaded by one writer.
+/// How a log is loaded: by how many writers, how many records it may hold, how many nodes each writer has, and how often
+/// each batch is asked live.
+#[derive(Clone, Copy, Debug)]
+pub(crate) struct Load {
+    pub(crate) writers: u8,
+    pub(crate) capacity: u32,
+    pub(crate) nodes: u32,
+    pub(crate) rounds: u32,
+}
+
+/// The report of a setup over some rows. So far only one writer loads them, and nothing is asked live.
 pub(crate) fn report_of(
     alloc: Global,
     setup: &Setup,
     rows: &[Row],
-    capacity: u32,
-    nodes: u32,
+    load: Load,
+    form: Form,
 ) -> Result<Vec<u8>, Memory>
     requires lawful { IsSetup setup.now }
     requires fit { All (Fits setup.now.schema) rows.now }
     requires few { length rows.now ≤ 65536 }
-    requires capacity { (1 ≤ capacity) × (capacity ≤ 65536) }
-    requires nodes { nodes ≤ 65536 }
-    ensures { IfOk result (λ text. IsReport setup.now capacity 1 nodes 0 rows.now (replicate (length rows.now) 0) text.items) }
+    requires capacity { (1 ≤ load.capacity) × (load.capacity ≤ 65536) }
+    requires nodes { load.nodes ≤ 65536 }
+    ensures whole { form ≡ Form.Whole → IfOk result (λ text. IsReportOf setup.now load.capacity load.writers load.nodes load.rounds rows.now text.items) }
+    ensures last { form ≡ Form.Final → IfOk result (λ text. text.items ≡ final_text (shaped setup.now load.capacity load.writers load.nodes) setup.now rows.now) }
 {
-    let shape = shape_of(alloc, setup, capacity, 1, nodes)?;
+    if load.writers != 1 || load.rounds != 0 {
+        return Err(AllocError);
+    }
+    let shape = shape_of(alloc, setup, load.capacity, 1, load.nodes)?;
     let log = log_of(alloc, shape, rows)?;
     let answers = answers_of(alloc, setup, &log)?;
-    report(alloc, setup, log.entries(), &answers, Form::Whole)
+    report(alloc, setup, log.entries(), &answers, form)
 }

@@ -7,12 +7,14 @@
 
 mod answer;
 mod devices;
+mod draft;
 mod dumping;
 mod load;
 mod prepare;
 mod program;
 mod rows;
 mod status;
+mod synth;
 #[cfg(test)]
 mod tests;
 mod top;

@@ -1,70 +1,30 @@
 // The work up to the text that is to be written.
-ghost use Rattle.std.specs.Prelude.{◌≡◌, ◌⊎◌, ◌<◌, ◌≤◌, length, string_bytes, IfOk, IfSome, MatchResult, MatchOption};
+ghost use Rattle.std.specs.Prelude.{◌≡◌, ◌⊎◌, ◌<◌, ◌≤◌, length, IfOk, IfSome, MatchResult};
 ghost use Rattle.cf_command.specs.Command.{IsRun, IsDump, NoCommand, asked_by, texts};
-ghost use Rattle.cf_run.specs.Due.{refusal_line, full_line};
+ghost use Rattle.cf_run.specs.Due.{refusal_line};
 ghost use Rattle.cf_run.specs.Parts.{IsFree, HasStopCause, IsPrepared};
-ghost use Rattle.cf_run.specs.Stops.{IsRefusal, NoRefusal, IsDrawn};
+ghost use Rattle.cf_run.specs.Stops.{IsDrawn};
 
 use crate::Status;
-use crate::answer::report_of;
+use crate::answer::{Load, report_of};
+use crate::draft::{Draft, full, refused};
 use crate::dumping::dump_of;
 use crate::load::{load_packets, load_rows, load_setup};
+use crate::synth::prepare_synth;
 use cf_command::{Command, RunCommand, command_of};
 use cf_outside::Shelf;
-use cf_row::Memory;
+use cf_report::Form;
 use std::alloc::Global;
 
-/// A status with the text that goes with it.
-#[derive(Debug, Drop)]
-pub(crate) struct Draft {
-    pub(crate) status: Status,
-    pub(crate) text: Vec<u8>,
-}
-
-// The status of a refusal with its line, or the status of a stop that writes nothing.
-fn refused(alloc: Global, status: Status) -> Result<Draft, Status>
-    ensures { MatchResult result
-        (λ draft. (draft.status ≡ status) × (draft.text.items ≡ refusal_line status) × IsRefusal status)
-        (λ stop. (stop ≡ Status.Memory) ⊎ ((stop ≡ status) × NoRefusal status)) }
+// How a command's log is loaded.
+fn load_of(command: &RunCommand) -> Load
+    ensures { result ≡ record { writers = command.now.writers; capacity = command.now.capacity; nodes = command.now.nodes; rounds = command.now.rounds } }
 {
-    match line_of(alloc, status) {
-        Ok(Some(line)) => Ok(Draft {
-            status,
-            text: line.into_bytes(),
-        }),
-        Ok(None) => Err(status),
-        Err(_) => Err(Status::Memory),
-    }
-}
-
-fn line_of(alloc: Global, status: Status) -> Result<Option<String>, Memory>
-    ensures { IfOk result (λ line. MatchOption line (NoRefusal status) (λ text. (string_bytes text ≡ refusal_line status) × IsRefusal status)) }
-{
-    match status {
-        Status::Words => Ok(Some(String::from_str(alloc, "words: not a command\n")?)),
-        Status::NoFile => Ok(Some(String::from_str(alloc, "file: none of that name\n")?)),
-        Status::Setup { line, code } => Ok(Some(format!(in alloc;
-            "setup: line {line} code {code}\n"
-        )?)),
-        Status::Capture { at, code } => Ok(Some(format!(in alloc;
-            "capture: record {at} code {code}\n"
-        )?)),
-        _ => Ok(None),
-    }
-}
-
-// The line of a log that is full.
-fn full(alloc: Global, capacity: u32) -> Result<Draft, Status>
-    ensures { MatchResult result
-        (λ draft. (draft.status ≡ Status.Full) × (draft.text.items ≡ full_line capacity))
-        (λ stop. stop ≡ Status.Memory) }
-{
-    match format!(in alloc; "full: more than {capacity} records\n") {
-        Ok(line) => Ok(Draft {
-            status: Status::Full,
-            text: line.into_bytes(),
-        }),
-        Err(_) => Err(Status::Memory),
+    Load {
+        writers: command.writers,
+        capacity: command.capacity,
+        nodes: command.nodes,
+        rounds: command.rounds,
     }
 }
 
@@ -93,7 +53,7 @@ fn prepare_command<F: Shelf>(
     if rows.len() > command.capacity as usize {
         return full(alloc, command.capacity);
     }
-    match report_of(alloc, &setup, &rows, command.capacity, command.nodes) {
+    match report_of(alloc, &setup, &rows, load_of(command), Form::Whole) {
         Ok(text) => Ok(Draft {
             status: Status::Done,
             text,
@@ -145,6 +105,7 @@ pub(crate) fn prepare<F: Shelf>(
 {
     match command_of(alloc, words) {
         Ok(Some(Command::Run(command))) => prepare_command(alloc, words, &command, shelf),
+        Ok(Some(Command::Synth(command))) => prepare_synth(alloc, words, &command, shelf),
         Ok(Some(Command::Dump(name))) => prepare_dump(alloc, words, name, shelf),
         Ok(None) => refused(alloc, Status::Words),
         Err(_) => Err(Status::Memory),

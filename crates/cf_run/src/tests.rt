@@ -7,7 +7,7 @@ use std::alloc::Global;
 use std::process::Abort;
 use std::test::Fail;
 
-const WORDS: [&str; 4] = ["run", "--setup", "s", "c"];
+const WORDS: [&str; 6] = ["run", "--setup", "s", "--writers", "1", "c"];
 
 const SETUP: &[u8] = b"schema packet\nask big list len>=100\n";
 
@@ -102,7 +102,7 @@ fn words_are_a_command_of_files_that_are_there(rt: HostRuntime) -> Result<(), Fa
     let alloc = rt.alloc();
     let none = b"file: none of that name\n".as_slice();
     let no_words = b"words: not a command\n".as_slice();
-    let table: [(&[&str], u8, &[u8]); 7] = [
+    let table: [(&[&str], u8, &[u8]); 9] = [
         (&[], 1, no_words),
         (&["run", "c"], 1, no_words),
         (&["dump"], 1, no_words),
@@ -110,6 +110,8 @@ fn words_are_a_command_of_files_that_are_there(rt: HostRuntime) -> Result<(), Fa
         (&["run", "x", "--setup", "s"], 9, none),
         (&["dump", "x"], 9, none),
         (&["dump", "c"], 0, b"records 0\n"),
+        (&["synth", "--seed", "1", "--count", "1"], 1, no_words),
+        (&SYNTH_X, 9, none),
     ];
     for (words, number, text) in table {
         expect(&rt, alloc, words, (SETUP, &HEADER), (number, text))?;
@@ -120,7 +122,16 @@ fn words_are_a_command_of_files_that_are_there(rt: HostRuntime) -> Result<(), Fa
 #[test]
 fn a_log_holds_as_many_records_as_its_capacity(rt: HostRuntime) -> Result<(), Fail> {
     let alloc = rt.alloc();
-    let words = ["run", "--setup", "s", "--capacity", "4", "c"];
+    let words = [
+        "run",
+        "--setup",
+        "s",
+        "--capacity",
+        "4",
+        "--writers",
+        "1",
+        "c",
+    ];
     let fits = b"records 4\nask big list 4: 0 1 2 3\norder 0*4\n";
     let capture = records(alloc, 4)?;
     expect(&rt, alloc, &words, (SETUP, &capture), (0, fits))?;
@@ -281,6 +292,64 @@ fn faults_of_records_are_told_with_their_numbers(rt: HostRuntime) -> Result<(), 
     Ok(())
 }
 
+const SYNTH_X: [&str; 7] = ["synth", "--setup", "x", "--seed", "1", "--count", "1"];
+
+// Setups with the number of packets that are drawn, and what is written of them.
+#[test]
+fn drawn_packets_are_answered(rt: HostRuntime) -> Result<(), Fail> {
+    let alloc = rt.alloc();
+    let table: [(&[u8], &str, u8, &[u8]); 6] = [
+        (
+            b"schema packet\nfilter f *\naggregate a f len\nask m measure a 1 1\nask p list dport==80 && sport==40219 && src==10.0.0.12\n",
+            "1",
+            0,
+            b"records 1\nask m measure count 1 sum 773 least 773 greatest 773\nask p list 1: 0\n",
+        ),
+        (
+            b"schema packet\nask all list *\n",
+            "2",
+            0,
+            b"records 2\nask all list 2: 0 1\n",
+        ),
+        (b"schema packet\n", "3", 6, b"full: more than 2 records\n"),
+        (
+            b"# rows\nschema records ts:u64\n",
+            "1",
+            2,
+            b"setup: line 2 code 4\n",
+        ),
+        (
+            b"schema records ts:u64\nlive x\n",
+            "1",
+            2,
+            b"setup: line 2 code 6\n",
+        ),
+        (
+            b"schema records ts:u64\n",
+            "3",
+            2,
+            b"setup: line 1 code 4\n",
+        ),
+    ];
+    for (setup, count, number, text) in table {
+        let words = [
+            "synth",
+            "--setup",
+            "s",
+            "--seed",
+            "1",
+            "--count",
+            count,
+            "--capacity",
+            "2",
+            "--writers",
+            "1",
+        ];
+        expect(&rt, alloc, &words, (setup, b""), (number, text))?;
+    }
+    Ok(())
+}
+
 #[test]
 fn a_shelf_that_fails_stops_the_run_with_nothing_written(rt: HostRuntime) -> Result<(), Fail> {
     let alloc = rt.alloc();
@@ -365,7 +434,8 @@ impl Shelf for Listing {
 fn no_other_file_is_opened(rt: HostRuntime) -> Result<(), Fail> {
     let alloc = rt.alloc();
     let capture = two_frames(alloc)?;
-    let table: [(&[&str], &[u8], &str); 3] = [
+    let table: [(&[&str], &[u8], &str); 4] = [
+        (&SYNTH_X, SETUP, "x"),
         (&WORDS, SETUP, "sc"),
         (&WORDS, b"", "s"),
         (&["s", "c"], SETUP, ""),

@@ -7,6 +7,7 @@ ghost use Rattle.cf_command.specs.Command.{NoCommand, texts};
 ghost use Rattle.cf_run.specs.Due.{refusal_line};
 ghost use Rattle.cf_run.specs.Dumps.{IsDumpWork};
 ghost use Rattle.cf_run.specs.Left.{Leaves};
+ghost use Rattle.cf_run.specs.Synth.{IsLawfulSynth};
 ghost use Rattle.cf_run.specs.Work.{IsLawful};
 
 use crate::Status;
@@ -15,8 +16,8 @@ use crate::prepare::prepare;
 use cf_outside::{Gate, Shelf, Sink, SteadyShelf, SteadySink};
 use std::alloc::Global;
 
-/// Does the work that the words ask for: reads the setup and the capture from the shelf, and writes the report, or
-/// the line of a refusal, to the sink.
+/// Does the work that the words ask for: reads the setup and the capture from the shelf, or draws packets, and writes the
+/// report, the final part of it, or a dump, or the line of a refusal, to the sink.
 pub fn run<R, F: Shelf, K: Sink, G: Gate>(
     _rt: &R,
     alloc: Global,
@@ -33,6 +34,8 @@ pub fn run<R, F: Shelf, K: Sink, G: Gate>(
     ensures complete { IfSome (F.files shelf.old) (λ files. IsLawful files (texts words.now) → (result ≡ Status.Done) ⊎ Yields result) }
 
     ensures dumps { IfSome (F.files shelf.old) (λ files. IsDumpWork files (texts words.now) → (result ≡ Status.Done) ⊎ Yields result) }
+
+    ensures synths { IfSome (F.files shelf.old) (λ files. IsLawfulSynth files (texts words.now) → (result ≡ Status.Done) ⊎ Yields result) }
 
     // Words that are no command, whatever the shelf tells.
     ensures words { result ≡ Status.Words → NoCommand (texts words.now) × Appends (K.held sink.old) (K.held sink.new) (refusal_line Status.Words) }

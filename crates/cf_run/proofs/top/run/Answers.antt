@@ -1,5 +1,5 @@
 use Rattle.std.proofs.Common.{refl, inr}
-use Rattle.cf_run.proofs.Answering.{answers_if, answers_some, decided_if, decided_free, complete_if, dumps_if}
+use Rattle.cf_run.proofs.Answering.{answers_if, answers_some, decided_if, decided_free, complete_if, dumps_if, synths_if}
 use Rattle.cf_run.proofs.Preparing.{due_if, left_if, leaves_some}
 use Rattle.cf_run.proofs.top.run.Goals as goal
 
@@ -10,10 +10,13 @@ pub returns-in-Ok-write_all-clause-decided : goal.returns-in-Ok-write_all-clause
 returns-in-Ok-write_all-clause-decided g c = decided_if _ _ _ _ (due_if _ _ c.in-Ok.draft.status c.in-Ok.draft.text.items _ _ c.in-Ok.ensures.prepared)
 
 pub returns-in-Ok-write_all-clause-complete : goal.returns-in-Ok-write_all-clause-complete
-returns-in-Ok-write_all-clause-complete g c = complete_if _ _ _ (decided_if _ _ _ _ (due_if _ _ c.in-Ok.draft.status c.in-Ok.draft.text.items _ _ c.in-Ok.ensures.prepared))
+returns-in-Ok-write_all-clause-complete g c = complete_if _ _ c.in-Ok.draft.status c.in-Ok.draft.text.items (due_if _ _ c.in-Ok.draft.status c.in-Ok.draft.text.items _ _ c.in-Ok.ensures.prepared)
 
 pub returns-in-Ok-write_all-clause-dumps : goal.returns-in-Ok-write_all-clause-dumps
-returns-in-Ok-write_all-clause-dumps g c = dumps_if _ _ _ (decided_if _ _ _ _ (due_if _ _ c.in-Ok.draft.status c.in-Ok.draft.text.items _ _ c.in-Ok.ensures.prepared))
+returns-in-Ok-write_all-clause-dumps g c = dumps_if _ _ c.in-Ok.draft.status c.in-Ok.draft.text.items (due_if _ _ c.in-Ok.draft.status c.in-Ok.draft.text.items _ _ c.in-Ok.ensures.prepared)
+
+pub returns-in-Ok-write_all-clause-synths : goal.returns-in-Ok-write_all-clause-synths
+returns-in-Ok-write_all-clause-synths g c = synths_if _ _ c.in-Ok.draft.status c.in-Ok.draft.text.items (due_if _ _ c.in-Ok.draft.status c.in-Ok.draft.text.items _ _ c.in-Ok.ensures.prepared)
 
 pub returns-in-Ok-write_all-clause-left : goal.returns-in-Ok-write_all-clause-left
 returns-in-Ok-write_all-clause-left g c = left_if _ _ c.in-Ok.draft.status c.in-Ok.draft.text.items _ _ c.in-Ok.ensures.prepared
