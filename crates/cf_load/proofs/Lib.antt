@@ -3,3 +3,7 @@ pub mod Alls
 pub mod Written
 pub mod Batches
 pub mod Tails
+pub mod Reading
+pub mod Beside
+pub mod Keeping
+pub mod Loading

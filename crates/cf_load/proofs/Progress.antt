@@ -1,5 +1,5 @@
 -- How far a writer's pass is in its rows of a batch.
-use Rattle.std.proofs.Common.{◌≡◌, ◌⊎◌, ℕ, ◌+◌, ◌%◌, ◌<◌, ◌≤◌, Bool, true, false, List, [], ◌∷◌, ◌++◌, length, get_or, take, drop, map, cond, Ok, Err, refl, ap, sym, subst, ◌∙◌, arith, inl, inr, eq-eqb, append_assoc, append-nil, drop-cons, add-one}
+use Rattle.std.proofs.Common.{◌≡◌, ℕ, ◌+◌, ◌%◌, ◌<◌, ◌≤◌, true, false, List, [], ◌∷◌, ◌++◌, length, get_or, drop, map, Ok, Err, refl, ap, sym, ◌∙◌, arith, inl, inr, eq-eqb, append_assoc, append-nil, drop-cons, add-one}
 use Rattle.std.specs.declared.result.Result.{Result}
 use Rattle.std.specs.Result.{is_err}
 use Rattle.std.specs.List.{AllZip}
@@ -8,12 +8,12 @@ use Rattle.std.proofs.lemmas.List.{map-append, drop_all}
 use Rattle.std.proofs.Math.Seq.{take-length}
 use Rattle.cf_row.specs.Row.{Numbered}
 use Rattle.cf_shape.specs.Lanes.{Shaped}
-use Rattle.cf_law.specs.Passes.{Book, Own, Pass}
+use Rattle.cf_law.specs.Passes.{Book, Own}
 use Rattle.cf_law.specs.Events.{no_book}
 use Rattle.cf_table.specs.Held.{Held, LogValue, IsOf, book_of}
 use Rattle.cf_table.specs.Moves.{Begins}
 use Rattle.cf_table.proofs.Settling.{begins_then}
-use Rattle.cf_append.specs.Appends.{GoesOn, Rests, IsAppended, IsAnswered, with_own, with_book, marked}
+use Rattle.cf_append.specs.Appends.{GoesOn, Rests, IsAppended, IsAnswered, with_own, marked}
 use Rattle.cf_append.specs.declared.appends.AppendFault.{AppendFault}
 use Rattle.cf_append.specs.declared.appends.AppendFault.TheVariants.{Full, NodesFull}
 use Rattle.cf_history.specs.Order.{rows_of}

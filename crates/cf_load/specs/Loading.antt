@@ -11,6 +11,7 @@ use Rattle.cf_plain.specs.Asks.{eval}
 use Rattle.cf_plain.specs.declared.ask.Ask.{Ask}
 use Rattle.cf_report.specs.declared.loaded.Live.{Live}
 use Rattle.cf_report.specs.Answered.{no_ask, turn_of}
+use Rattle.cf_load.specs.declared.plan.LivePlan.{LivePlan}
 use Rattle.cf_table.specs.Held.{Held, LogValue, IsOf}
 use Rattle.cf_table.specs.Moves.{Begins, IsSettled}
 
@@ -44,3 +45,13 @@ pub record AsksSome (shape : Shaped) (asks : List Ask) (lives : List ℕ) (round
 pub record HasAnswered (shape : Shaped) (asks : List Ask) (lives : List ℕ) (rounds n : ℕ) (seen : List Entry) (answers : List Live) : Type 0 where
   pub tails : AreTails n rounds lives (map turn_of answers)
   pub bodies : AllByRecursion (λ live. live.answer.body ≡ eval shape (slice_index_or asks live.ask no_ask) (take live.answer.tail seen)) answers
+
+-- the root holds all books at rest, and what it has seen is a log of the first of these rows
+abbrev pub HoldsSome : LogValue → List Numbered → Held → Type 0
+HoldsSome log rows m = (count : ℕ) × HasLoaded log (take count rows) m
+
+-- The reader asked beside a batch. What it had seen then begins what was seen after it.
+pub record AsksBeside (shape : Shaped) (plan : LivePlan) (batch : ℕ) (before after : List Entry) (more : List Live) : Type 0 where
+  pub read : List Entry
+  pub asks : AsksBatch shape plan.asks.items plan.lives.items plan.rounds batch before read more
+  pub begins : Begins read after

@@ -1,7 +1,10 @@
 -- What is asked of a log that is loaded, and what the reader's pass is after it asked.
 use Rattle.std.specs.Prelude.{◌≡◌, ◌<◌, ℕ, List, ◌++◌, length, map, All}
+use Rattle.cf_row.specs.declared.row.Entry.{Entry}
+use Rattle.cf_fold.specs.declared.trigger.Trigger.{Trigger}
 use Rattle.cf_shape.specs.Lanes.{Shaped}
-use Rattle.cf_plain.specs.Asks.{Suits, SuitsTrigger}
+use Rattle.cf_plain.specs.Asks.{Suits, SuitsTrigger, rows_in, marks_over}
+use Rattle.cf_plain.specs.declared.answer.Fired.{Fired}
 use Rattle.cf_report.specs.declared.loaded.Live.{Live}
 use Rattle.cf_table.specs.Held.{Held}
 use Rattle.cf_load.specs.declared.plan.LivePlan.{LivePlan}
@@ -11,6 +14,10 @@ pub record IsPlan (shape : Shaped) (plan : LivePlan) : Type 0 where
   pub asks : All (Suits shape) plan.asks.items
   pub triggers : All (SuitsTrigger shape) plan.triggers.items
   pub lives : All (λ place. place < length plan.asks.items) plan.lives.items
+
+-- the marks of a trigger on some entries
+abbrev pub marks_on : Shaped → List Entry → Trigger → List Fired
+marks_on shape entries trigger = marks_over shape trigger (rows_in entries)
 
 -- how much of the log each answer saw
 abbrev pub tails_of : List Live → List ℕ

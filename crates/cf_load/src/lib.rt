@@ -2,8 +2,14 @@
 //! reader asks the live questions.
 #![tactic(auto)]
 
+mod batch;
+mod finals;
+mod loads;
 mod plan;
 mod reader;
+#[cfg(test)]
+mod tests;
 mod writers;
 
+pub use loads::{LoadFault, load};
 pub use plan::LivePlan;

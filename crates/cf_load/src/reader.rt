@@ -1,7 +1,6 @@
 // The reader asks its live questions while the writers append a batch.
-ghost use Rattle.std.specs.Prelude.{◌≡◌, ◌+◌, ◌<◌, List, IfOk};
-ghost use Rattle.cf_row.specs.declared.row.Entry.{Entry};
-ghost use Rattle.cf_table.specs.Held.{Held, IsOf};
+ghost use Rattle.std.specs.Prelude.{◌≡◌, ◌+◌, ◌<◌, IfOk};
+ghost use Rattle.cf_table.specs.Held.{IsOf};
 ghost use Rattle.cf_load.specs.Loading.{AsksBatch, AsksSome};
 ghost use Rattle.cf_load.specs.Planned.{IsPlan, HasRead};
 
@@ -12,6 +11,7 @@ use cf_report::Live;
 use cf_row::Memory;
 use cf_table::{MultiLog, ReaderPass, Steps};
 use std::alloc::Global;
+use std::snapshot::Snapshot;
 use std::sync::ledger::{Blank, Ledger};
 
 // Asks each live question once, as that round beside a batch. The answers come after those of earlier rounds, which began
@@ -21,20 +21,21 @@ fn ask_round<L: Ledger>(
     alloc: Global,
     plan: &LivePlan,
     at: (u32, u32),
+    start: &Snapshot<ReaderPass>,
     reader: &mut ReaderPass,
     answers: &mut Vec<Live>,
     steps: &mut Steps<L>,
 ) -> Result<(), Memory>
-    ghost start: { Held }
     requires of { IsOf reader.old log.now }
     requires plan { IsPlan log.now.whole plan.now }
-    requires asks { AsksSome log.now.whole plan.now.asks.items plan.now.lives.items at.1 0 at.0 start.view.seen reader.old.view.seen answers.old.items }
-    requires read { HasRead start reader.old answers.old.items }
+    requires asks { AsksSome log.now.whole plan.now.asks.items plan.now.lives.items at.1 0 at.0 start.now.value.view.seen reader.old.view.seen answers.old.items }
+    requires read { HasRead start.now.value reader.old answers.old.items }
     ensures of { IsOf reader.new log.now }
-    ensures asks { IfOk result (λ _. AsksSome log.now.whole plan.now.asks.items plan.now.lives.items (at.1 + 1) 0 at.0 start.view.seen reader.new.view.seen answers.new.items) }
-    ensures read { IfOk result (λ _. HasRead start reader.new answers.new.items) }
+    ensures asks { IfOk result (λ _. AsksSome log.now.whole plan.now.asks.items plan.now.lives.items (at.1 + 1) 0 at.0 start.now.value.view.seen reader.new.view.seen answers.new.items) }
+    ensures read { IfOk result (λ _. HasRead start.now.value reader.new answers.new.items) }
 {
     let (batch, round) = at;
+    let _start = start;
     for place in &plan.lives {
         let answer = ask(log, alloc, reader, &plan.asks[*place as usize], steps)?;
         answers.push(Live {
@@ -63,9 +64,19 @@ fn ask_rounds<G: Gate, L: Ledger>(
     ensures asks { IfOk result (λ more. AsksBatch log.now.whole plan.now.asks.items plan.now.lives.items plan.now.rounds batch reader.old.view.seen reader.new.view.seen more.items) }
     ensures read { IfOk result (λ more. HasRead reader.old reader.new more.items) }
 {
+    let start = Snapshot::of(reader);
     let mut answers = Vec::new(alloc);
     for round in 0..plan.rounds {
-        ask_round(log, alloc, plan, (batch, round), reader, &mut answers, steps)?;
+        ask_round(
+            log,
+            alloc,
+            plan,
+            (batch, round),
+            &start,
+            reader,
+            &mut answers,
+            steps,
+        )?;
         gate.after_ask(round);
     }
     Ok(answers)

@@ -1,3 +1,4 @@
 pub mod Asked
 pub mod Loaded
 pub mod Sealing
+pub mod Writers

@@ -1,4 +1,4 @@
-use Rattle.std.proofs.Common.{◌%◌, ◌≡◌, ℕ, ap, arith, rules, sym, ◌∙◌}
+use Rattle.std.proofs.Common.{◌%◌, ap, sym, ◌∙◌}
 use Rattle.cf_shape.specs.Lanes.{Shaped}
 use Rattle.cf_load.proofs.Progress.{goes_first, goes_other, goes_answered, ends, stops}
 use Rattle.cf_load.proofs.writers.write_rows.Goals as goal

@@ -1,0 +1,39 @@
+use Rattle.std.proofs.Common.{◌≤◌, length, ap, sym, subst, ◌∙◌, arith, List}
+use Rattle.std.proofs.Math.Seq.{take-length}
+use Rattle.cf_row.specs.Row.{Numbered}
+use Rattle.cf_shape.specs.Lanes.{Shaped}
+use Rattle.cf_table.specs.Held.{Held}
+use Rattle.cf_load.specs.Loading.{HasLoaded}
+use Rattle.cf_load.proofs.Keeping.{still_holds}
+use Rattle.cf_load.proofs.loads.load.Goals as goal
+
+pub returns-in-Ok-answer_all : goal.returns-in-Ok-answer_all
+returns-in-Ok-answer_all g c =
+    let made = c.in-Ok-answer_all.ensures in
+    let k = c.answer_all.ensures.keeps in
+    let had = c.in-Ok.ensures in
+    let room = c.capacity.ensures.capacity ∙ ap (λ (s : Shaped). s.capacity) c.layout.ensures.shape in
+    let not = c.if-rows-capacity.false in
+    let few : length c.args.rows.now ≤ c.args.log.now.shape.capacity = omega (arith, room, not) in
+    let same = c.answer_all.ensures.keeps.same ∙ ap (λ (h : Held). record h { view = c.answer_all.new.root.view }) c.load_batches.ensures.same in
+    record {
+      few = few;
+      same = same;
+      loaded = still_holds c.args.log.now c.args.rows.now c.load_batches.new.root c.answer_all.new.root had.loaded k;
+      finals = rw k.seen made.finals;
+      alerts = rw k.seen made.alerts;
+      lives = rw (made.lives, k.seen) had.answered;
+      told = rw made.lives (k.told ∙ had.told);
+    }
+
+pub returns-in-Err : goal.returns-in-Err
+returns-in-Err g c =
+    let room = c.capacity.ensures.capacity ∙ ap (λ (s : Shaped). s.capacity) c.layout.ensures.shape in
+    let not = c.if-rows-capacity.false in
+    let few : length c.args.rows.now ≤ c.args.log.now.shape.capacity = omega (arith, room, not) in
+    let same = c.answer_all.ensures.keeps.same ∙ ap (λ (h : Held). record h { view = c.answer_all.new.root.view }) c.load_batches.ensures.same in
+    let rows = c.args.rows.now in (
+      few,
+      same,
+      (length rows, subst (λ (rs : List Numbered). HasLoaded c.args.log.now rs c.answer_all.new.root) (sym (take-length rows)) (still_holds c.args.log.now rows c.load_batches.new.root c.answer_all.new.root c.in-Ok.ensures.loaded c.answer_all.ensures.keeps)),
+    )

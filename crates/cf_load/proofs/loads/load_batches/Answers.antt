@@ -1,0 +1,29 @@
+use Rattle.std.proofs.Common.{rules, ◌≡◌, ◌+◌, ◌<◌, ◌*◌, ◌++◌, length, take, ap, sym, subst, ◌∙◌, arith}
+use Rattle.cf_table.specs.Held.{Held}
+use Rattle.cf_load.specs.Loading.{HasAnswered}
+use Rattle.cf_load.proofs.Beside.{whatever_err}
+use Rattle.cf_load.proofs.Loading.{answered_beside, told_more}
+use Rattle.cf_load.proofs.loads.load_batches.Goals as goal
+
+pub returns-in_err-append-clause-memory : goal.returns-in_err-append-clause-memory
+returns-in_err-append-clause-memory g c = whatever_err c.from_residual-in_err-append.result _ (λ e. (4096 * (c.loop-batch.batch + 1), c.in_ok-more.ensures.loaded))
+
+pub loop-batch-preserved : goal.loop-batch-preserved
+loop-batch-preserved g c =
+    let log = c.args.log.now in
+    let rows = c.args.rows.now in
+    let plan = c.args.plan.now in
+    let v = c.loop-batch.invariant in
+    let b = c.loop-batch.batch in
+    let n = c.load_batch.new.root in
+    let made = c.in_ok-more.ensures in
+    let more = c.in_ok-more.more.items in
+    let items : c.append.new.self.items ≡ c.loop-batch.lives.items ++ more = search rules in
+    let some : 4096 * b < length rows = (let lt = c.loop-batch-test.true in let many = c.div_ceil-batches.ensures in omega (arith, lt, many)) in
+    record {
+      same = c.load_batch.ensures.same ∙ ap (λ (h : Held). record h { view = n.view }) v.same;
+      loaded = made.loaded;
+      answered = subst (HasAnswered log.whole plan.asks.items plan.lives.items plan.rounds (length (take (4096 * (b + 1)) rows)) (n.view).seen) (sym items)
+          (answered_beside log rows plan b c.loop-batch.root n c.loop-batch.lives.items more v.loaded made.loaded some v.answered made.asked);
+      told = rw items (told_more (c.args.root.now.view).told (c.loop-batch.root.view).told (n.view).told c.loop-batch.lives.items more v.told made.told);
+    }

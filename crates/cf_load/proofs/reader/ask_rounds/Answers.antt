@@ -1,0 +1,19 @@
+use Rattle.std.proofs.Common.{subst, sym, List}
+use Rattle.cf_report.specs.declared.loaded.Live.{Live}
+use Rattle.cf_load.specs.Loading.{AsksSome}
+use Rattle.cf_load.specs.Planned.{HasRead}
+use Rattle.cf_load.proofs.Tails.{asks_none}
+use Rattle.cf_load.proofs.Reading.{read_none}
+use Rattle.cf_load.proofs.reader.ask_rounds.Goals as goal
+
+pub loop-round-init : goal.loop-round-init
+loop-round-init g c =
+    let log = c.args.log.now in
+    let plan = c.args.plan.now in
+    let m = c.args.reader.now in
+    let none = sym c.new-answers.ensures.items in
+    record {
+      of = c.requires.of;
+      asks = subst (λ (xs : List Live). AsksSome log.whole plan.asks.items plan.lives.items 0 0 c.args.batch (m.view).seen (m.view).seen xs) none (asks_none log.whole plan.asks.items plan.lives.items c.args.batch (m.view).seen);
+      read = subst (HasRead m m) none (read_none m);
+    }

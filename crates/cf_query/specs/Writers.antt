@@ -1,0 +1,21 @@
+-- The writers' passes of a log, as the tests hand them about.
+use Rattle.std.specs.Prelude.{ℕ, ◌≡◌, List, [], length, Some, slice_get}
+use Rattle.cf_shape.specs.Lanes.{Shaped}
+use Rattle.cf_table.specs.Held.{Held, LogValue, IsOf, book_of}
+use Rattle.cf_append.specs.Appends.{Rests}
+
+-- the pass is at rest, and its book is that writer's
+pub record IsWriters (log : LogValue) (writer : ℕ) (h : Held) : Type 0 where
+  pub of : IsOf h log
+  pub rest : Rests h.view
+  pub writer_is : (book_of h.view).writer ≡ writer
+
+-- all books of a new log of the shape were dealt, each writer's in its place
+pub record AreDealtOut (shape : Shaped) (log : LogValue) (root : Held) (passes : List Held) : Type 0 where
+  pub whole : log.whole ≡ shape
+  pub bare : (log.shape).lanes ≡ []
+  pub writers : (log.shape).writers ≡ shape.writers
+  pub of : IsOf root log
+  pub away : (root.view).books ≡ []
+  pub count : length passes ≡ shape.writers
+  pub each : (k : ℕ) (h : Held) → slice_get passes k ≡ Some h → IsWriters log k h
