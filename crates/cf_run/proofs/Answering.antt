@@ -3,7 +3,10 @@ use Rattle.std.proofs.Common.{◌≡◌, ◌⊎◌, ℕ, List, Option, Some, Non
 use Rattle.std.specs.Io.KnownBytes.{Appends}
 use Rattle.cf_outside.specs.Files.{File}
 use Rattle.cf_command.proofs.Apart.{not_both, no_run_and_synth, no_synth_and_dump}
+use Rattle.cf_table.specs.Moves.{Sealed}
 use Rattle.cf_run.specs.Due.{IsDue}
+use Rattle.cf_run.specs.Parts.{IsDrafted}
+use Rattle.cf_run.specs.Seals.{AreSeals}
 use Rattle.cf_run.specs.Dumps.{IsDumpWork}
 use Rattle.cf_run.specs.Synth.{IsLawfulSynth}
 use Rattle.cf_run.specs.Devices.{WritesFront}
@@ -19,25 +22,25 @@ none_due (inl none) = absurd none
 none_due (inr (inl none)) = absurd none
 none_due (inr (inr none)) = absurd none
 
-answers_due : (files : List File) (words : List (List ℕ)) (status : Status) (text : List ℕ) (held now : Option (List ℕ)) → IsDue files words status text → Appends held now text → Answers files words status held now
-answers_due files words Done text held now due written = record { text = text; due = due; written = written }
-answers_due files words Words text held now due written = record { text = text; due = due; written = written }
-answers_due files words (Setup line code) text held now due written = record { text = text; due = due; written = written }
-answers_due files words (Capture at code) text held now due written = record { text = text; due = due; written = written }
-answers_due files words NoFile text held now due written = record { text = text; due = due; written = written }
-answers_due files words ReadFault text held now due written = none_due due
-answers_due files words WriteFault text held now due written = none_due due
-answers_due files words Full text held now due written = record { text = text; due = due; written = written }
-answers_due files words Nodes text held now due written = none_due due
-answers_due files words Memory text held now due written = none_due due
+answers_due : (files : List File) (words : List (List ℕ)) (status : Status) (text : List ℕ) (seals : List Sealed) (held now : Option (List ℕ)) → (due : IsDue files words status text) → AreSeals files words status text due seals → Appends held now text → Answers files words status seals held now
+answers_due files words Done text seals held now due are written = record { text = text; due = due; sealed = are; written = written }
+answers_due files words Words text seals held now due are written = record { text = text; due = due; written = written }
+answers_due files words (Setup line code) text seals held now due are written = record { text = text; due = due; written = written }
+answers_due files words (Capture at code) text seals held now due are written = record { text = text; due = due; written = written }
+answers_due files words NoFile text seals held now due are written = record { text = text; due = due; written = written }
+answers_due files words ReadFault text seals held now due are written = none_due due
+answers_due files words WriteFault text seals held now due are written = none_due due
+answers_due files words Full text seals held now due are written = record { text = text; due = due; written = written }
+answers_due files words Nodes text seals held now due are written = none_due due
+answers_due files words Memory text seals held now due are written = none_due due
 
-pub answers_if : (told : Option (List File)) (words : List (List ℕ)) (status : Status) (text : List ℕ) (held now : Option (List ℕ)) → IfSome told (λ files. IsDue files words status text) → Appends held now text → IfSome told (λ files. Answers files words status held now)
-answers_if None words status text held now due written = due
-answers_if (Some files) words status text held now due written = answers_due files words status text held now due written
+pub answers_if : (told : Option (List File)) (words : List (List ℕ)) (status : Status) (text : List ℕ) (seals : List Sealed) (before after held now : Option (List ℕ)) → IfSome told (λ files. IsDrafted files words before after status text seals) → Appends held now text → IfSome told (λ files. Answers files words status seals held now)
+answers_if None words status text seals before after held now prepared written = prepared
+answers_if (Some files) words status text seals before after held now prepared written = answers_due files words status text seals held now prepared.0 prepared.1 written
 
-pub answers_some : (told : Option (List File)) (words : List (List ℕ)) (status : Status) (text : List ℕ) (held now : Option (List ℕ)) → IfSome told (λ files. IsDue files words status text) → WritesFront held now text → IfSome told (λ files. Answers files words WriteFault held now)
-answers_some None words status text held now due written = due
-answers_some (Some files) words status text held now due written = record { status = status; front = written.front; rest = written.rest; due = subst (λ (t : List ℕ). IsDue files words status t) written.text_is due; written = written.written }
+pub answers_some : (told : Option (List File)) (words : List (List ℕ)) (status : Status) (text : List ℕ) (seals : List Sealed) (held now : Option (List ℕ)) → IfSome told (λ files. IsDue files words status text) → WritesFront held now text → IfSome told (λ files. Answers files words WriteFault seals held now)
+answers_some None words status text seals held now due written = due
+answers_some (Some files) words status text seals held now due written = record { status = status; front = written.front; rest = written.rest; due = subst (λ (t : List ℕ). IsDue files words status t) written.text_is due; written = written.written }
 
 pub decided_if : (told : Option (List File)) (words : List (List ℕ)) (status : Status) (text : List ℕ) → IfSome told (λ files. IsDue files words status text) → IfSome told (λ files. IsDecided files words status)
 decided_if None words status text due = due

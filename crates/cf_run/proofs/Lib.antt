@@ -7,10 +7,9 @@ pub mod SetupSize
 pub mod PacketSchema
 pub mod Leaving
 pub mod Preparing
+pub mod Logs
 pub mod Answering
 pub mod Loading
-pub mod Made
-pub mod Asking
 pub mod MoreRows
 pub mod DumpDue
 pub mod SynthDue

@@ -1,29 +1,33 @@
-// A status with the text that goes with it.
-ghost use Rattle.std.specs.Prelude.{◌≡◌, ◌⊎◌, string_bytes, IfOk, MatchResult, MatchOption};
+// A status with the text and the seals that go with it.
+ghost use Rattle.std.specs.Prelude.{◌≡◌, ◌⊎◌, [], ◌∷◌, string_bytes, IfOk, MatchResult, MatchOption};
 ghost use Rattle.cf_run.specs.Due.{refusal_line, full_line};
 ghost use Rattle.cf_run.specs.Stops.{IsRefusal, NoRefusal};
 
 use crate::Status;
+use crate::log::Report;
 use cf_row::Memory;
+use cf_table::Seal;
 use std::alloc::Global;
 
-/// A status with the text that goes with it.
-#[derive(Debug, Drop)]
+/// A status with the text and the seals that go with it.
+#[derive(Drop)]
 pub(crate) struct Draft {
     pub(crate) status: Status,
     pub(crate) text: Vec<u8>,
+    pub(crate) seals: Vec<Seal>,
 }
 
 /// The status of a refusal with its line, or the status of a stop that writes nothing.
 pub(crate) fn refused(alloc: Global, status: Status) -> Result<Draft, Status>
     ensures { MatchResult result
-        (λ draft. (draft.status ≡ status) × (draft.text.items ≡ refusal_line status) × IsRefusal status)
+        (λ draft. (draft.status ≡ status) × (draft.text.items ≡ refusal_line status) × IsRefusal status × (draft.seals.items ≡ []))
         (λ stop. (stop ≡ Status.Memory) ⊎ ((stop ≡ status) × NoRefusal status)) }
 {
     match line_of(alloc, status) {
         Ok(Some(line)) => Ok(Draft {
             status,
             text: line.into_bytes(),
+            seals: Vec::new(alloc),
         }),
         Ok(None) => Err(status),
         Err(_) => Err(Status::Memory),
@@ -49,13 +53,31 @@ fn line_of(alloc: Global, status: Status) -> Result<Option<String>, Memory>
 /// The line of a log that is full.
 pub(crate) fn full(alloc: Global, capacity: u32) -> Result<Draft, Status>
     ensures { MatchResult result
-        (λ draft. (draft.status ≡ Status.Full) × (draft.text.items ≡ full_line capacity))
+        (λ draft. (draft.status ≡ Status.Full) × (draft.text.items ≡ full_line capacity) × (draft.seals.items ≡ []))
         (λ stop. stop ≡ Status.Memory) }
 {
     match format!(in alloc; "full: more than {capacity} records\n") {
         Ok(line) => Ok(Draft {
             status: Status::Full,
             text: line.into_bytes(),
+            seals: Vec::new(alloc),
+        }),
+        Err(_) => Err(Status::Memory),
+    }
+}
+
+/// Work that was done, with the seal of its log.
+pub(crate) fn sealed(alloc: Global, report: Report) -> Result<Draft, Status>
+    ensures { MatchResult result
+        (λ draft. (draft.status ≡ Status.Done) × (draft.text.items ≡ report.text.items) × (draft.seals.items ≡ report.seal ∷ []))
+        (λ stop. stop ≡ Status.Memory) }
+{
+    let mut seals = Vec::new(alloc);
+    match seals.push(report.seal) {
+        Ok(()) => Ok(Draft {
+            status: Status::Done,
+            text: report.text,
+            seals,
         }),
         Err(_) => Err(Status::Memory),
     }

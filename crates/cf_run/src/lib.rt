@@ -5,11 +5,11 @@
 //! call for, and `specs/Left.antt` for what is left of the files that were opened.
 #![tactic(auto)]
 
-mod answer;
 mod devices;
 mod draft;
 mod dumping;
 mod load;
+mod log;
 mod prepare;
 mod program;
 mod rows;
@@ -20,5 +20,5 @@ mod tests;
 mod top;
 
 pub use program::start;
-pub use status::Status;
+pub use status::{Outcome, Status};
 pub use top::{run, run_steadily};
