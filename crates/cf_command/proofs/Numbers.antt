@@ -2,22 +2,31 @@
 use Rattle.std.proofs.Common.{◌≡◌, ℕ, ◌<◌, ◌≤◌, ◌^◌, List, Some, None, Result, Ok, decimal, sym, ap, ◌∙◌, arith}
 use Rattle.std.specs.Str.Parse.{digits_value}
 use Rattle.std.proofs.lemmas.Fmt.{decimal_is_IsNumeral}
-use Rattle.cf_command.specs.Command.{Asked, NoNumberText, NoCommand, AreNumbers}
-use Rattle.cf_command.specs.Table.{RunSays, run_said, dump_said}
+use Rattle.cf_command.specs.Command.{Asked, Drawn, NoNumberText, NoCommand, AreNumbers, AreDrawn}
+use Rattle.cf_command.specs.Table.{RunSays, SynthSays, run_said, synth_said, dump_said}
 
 pub some_same : {A : Type 0} (a b : A) → Some a ≡ Some b → a ≡ b
 some_same a b h = cc
 
 -- what no command of the table says is no command
-pub none_said : (words : List (List ℕ)) → run_said words ≡ None → dump_said words ≡ None → NoCommand words
-none_said words no_run no_dump = record {
+pub none_said : (words : List (List ℕ)) → run_said words ≡ None → synth_said words ≡ None → dump_said words ≡ None → NoCommand words
+none_said words no_run no_synth no_dump = record {
   no_run = λ command is. let said = is.said_is in cc (no_run, said);
+  no_synth = λ command is. let said = is.said_is in cc (no_synth, said);
   no_dump = λ capture is. cc (no_dump, is);
 }
 
-pub no_numbers : (words : List (List ℕ)) (said : RunSays) → run_said words ≡ Some said → dump_said words ≡ None → ((command : Asked) → AreNumbers said command → ⊥) → NoCommand words
-no_numbers words said is no_dump none = record {
+pub no_numbers : (words : List (List ℕ)) (said : RunSays) → run_said words ≡ Some said → synth_said words ≡ None → dump_said words ≡ None → ((command : Asked) → AreNumbers said command → ⊥) → NoCommand words
+no_numbers words said is no_synth no_dump none = record {
   no_run = λ command other. let same : other.said ≡ said = some_same other.said said (sym other.said_is ∙ is) in none command (rw same at other.numbers);
+  no_synth = λ command found. let said = found.said_is in cc (no_synth, said);
+  no_dump = λ capture found. cc (no_dump, found);
+}
+
+pub none_drawn : (words : List (List ℕ)) (said : SynthSays) → synth_said words ≡ Some said → run_said words ≡ None → dump_said words ≡ None → ((command : Drawn) → AreDrawn said command → ⊥) → NoCommand words
+none_drawn words said is no_run no_dump none = record {
+  no_run = λ command found. let said = found.said_is in cc (no_run, said);
+  no_synth = λ command other. let same : other.said ≡ said = some_same other.said said (sym other.said_is ∙ is) in none command (rw same at other.numbers);
   no_dump = λ capture found. cc (no_dump, found);
 }
 

@@ -2,8 +2,9 @@
 use Rattle.std.specs.Prelude.{◌==◌, Bool, true, List, [], ◌∷◌, Option, Some, None, codes, option_and_then, if◌then◌else◌, length}
 use Rattle.std.specs.Str.{bytes_eq}
 use Rattle.cf_command.specs.declared.table.RunTexts.{RunTexts}
+use Rattle.cf_command.specs.declared.table.SynthTexts.{SynthTexts}
 use Rattle.cf_command.specs.declared.table.Said.{Said}
-use Rattle.cf_command.specs.declared.table.Said.TheVariants.{Run, Dump}
+use Rattle.cf_command.specs.declared.table.Said.TheVariants.{Run, Synth, Dump}
 use Rattle.clap.specs.Words.{App, Rule, Row, Text, new_app, new_rule, with_rule, with_subcommand, subcommand_of, fault_of, first_of}
 
 -- an option that has to be given
@@ -18,8 +19,15 @@ optional id value = record (new_rule id) { long = Some id; defaults = value ∷ 
 abbrev pub place : Text → Rule
 place id = record (new_rule id) { required = true }
 
+-- with the options of a log's sizes
+abbrev pub sized_app : App → App
+sized_app app = with_rule (with_rule (with_rule app (optional (codes "writers") (codes "4"))) (optional (codes "capacity") (codes "65536"))) (optional (codes "nodes") (codes "1024"))
+
 abbrev pub run_app : App
-run_app = with_rule (with_rule (with_rule (with_rule (with_rule (new_app (codes "run")) (needed (codes "setup"))) (optional (codes "writers") (codes "1"))) (optional (codes "capacity") (codes "65536"))) (optional (codes "nodes") (codes "1024"))) (place (codes "capture"))
+run_app = with_rule (with_rule (sized_app (with_rule (new_app (codes "run")) (needed (codes "setup")))) (optional (codes "live") (codes "0"))) (place (codes "capture"))
+
+abbrev pub synth_app : App
+synth_app = sized_app (with_rule (with_rule (with_rule (new_app (codes "synth")) (needed (codes "setup"))) (needed (codes "seed"))) (needed (codes "count")))
 
 abbrev pub dump_app : App
 dump_app = with_rule (new_app (codes "dump")) (place (codes "capture"))
@@ -28,7 +36,7 @@ abbrev pub bare_app : App
 bare_app = let a = new_app (codes "confluo") in record a { top = record a.top { no_binary_name = true; subcommand_required = true } }
 
 unfoldable pub confluo_app : App
-confluo_app = with_subcommand (with_subcommand bare_app run_app.top) dump_app.top
+confluo_app = with_subcommand (with_subcommand (with_subcommand bare_app run_app.top) synth_app.top) dump_app.top
 
 abbrev pub none_of : {X : Type 0} → List X → Bool
 none_of xs = length xs == 0
@@ -43,19 +51,20 @@ pub record RunSays : Type 0 where
   pub writers : Text
   pub capacity : Text
   pub nodes : Text
+  pub live : Text
   pub capture : Text
 
-abbrev pub run_says : Text → Text → Text → Text → Text → RunSays
-run_says s w n m c = record { setup = s; writers = w; capacity = n; nodes = m; capture = c }
+abbrev pub run_says : Text → Text → Text → Text → Text → Text → RunSays
+run_says s w n m l c = record { setup = s; writers = w; capacity = n; nodes = m; live = l; capture = c }
 
 abbrev pub says_of : RunTexts → RunSays
-says_of r = run_says r.setup.now r.writers.now r.capacity.now r.nodes.now r.capture.now
+says_of r = run_says r.setup.now r.writers.now r.capacity.now r.nodes.now r.live.now r.capture.now
 
 -- what the rows of a `run` command say
 unfoldable pub run_texts_of : List Row → Option RunSays
 run_texts_of rows =
-    option_and_then (λ s. option_and_then (λ w. option_and_then (λ n. option_and_then (λ m. option_and_then (λ c. Some (run_says s w n m c))
-    (first_of (codes "capture") rows)) (first_of (codes "nodes") rows)) (first_of (codes "capacity") rows)) (first_of (codes "writers") rows)) (first_of (codes "setup") rows)
+    option_and_then (λ s. option_and_then (λ w. option_and_then (λ n. option_and_then (λ m. option_and_then (λ l. option_and_then (λ c. Some (run_says s w n m l c))
+    (first_of (codes "capture") rows)) (first_of (codes "live") rows)) (first_of (codes "nodes") rows)) (first_of (codes "capacity") rows)) (first_of (codes "writers") rows)) (first_of (codes "setup") rows)
 
 abbrev pub if_run : Text × List Row → Option RunSays
 if_run p = if bytes_eq p.0 (codes "run") then run_texts_of p.1 else None
@@ -63,6 +72,34 @@ if_run p = if bytes_eq p.0 (codes "run") then run_texts_of p.1 else None
 -- what the words of a `run` command say
 unfoldable pub run_said : List Text → Option RunSays
 run_said words = option_and_then if_run (taken words)
+
+-- the texts of a `synth` command
+pub record SynthSays : Type 0 where
+  pub setup : Text
+  pub seed : Text
+  pub count : Text
+  pub writers : Text
+  pub capacity : Text
+  pub nodes : Text
+
+abbrev pub synth_says : Text → Text → Text → Text → Text → Text → SynthSays
+synth_says s x k w n m = record { setup = s; seed = x; count = k; writers = w; capacity = n; nodes = m }
+
+abbrev pub synth_says_of : SynthTexts → SynthSays
+synth_says_of r = synth_says r.setup.now r.seed.now r.count.now r.writers.now r.capacity.now r.nodes.now
+
+-- what the rows of a `synth` command say
+unfoldable pub synth_texts_of : List Row → Option SynthSays
+synth_texts_of rows =
+    option_and_then (λ s. option_and_then (λ x. option_and_then (λ k. option_and_then (λ w. option_and_then (λ n. option_and_then (λ m. Some (synth_says s x k w n m))
+    (first_of (codes "nodes") rows)) (first_of (codes "capacity") rows)) (first_of (codes "writers") rows)) (first_of (codes "count") rows)) (first_of (codes "seed") rows)) (first_of (codes "setup") rows)
+
+abbrev pub if_synth : Text × List Row → Option SynthSays
+if_synth p = if bytes_eq p.0 (codes "synth") then synth_texts_of p.1 else None
+
+-- what the words of a `synth` command say
+unfoldable pub synth_said : List Text → Option SynthSays
+synth_said words = option_and_then if_synth (taken words)
 
 abbrev pub if_dump : Text × List Row → Option Text
 if_dump p = if bytes_eq p.0 (codes "dump") then first_of (codes "capture") p.1 else None
@@ -74,8 +111,15 @@ dump_said words = option_and_then if_dump (taken words)
 -- what was said, of each command
 abbrev pub run_part : Said → Option RunSays
 run_part (Run texts) = Some (says_of texts)
+run_part (Synth texts) = None
 run_part (Dump capture) = None
+
+abbrev pub synth_part : Said → Option SynthSays
+synth_part (Run texts) = None
+synth_part (Synth texts) = Some (synth_says_of texts)
+synth_part (Dump capture) = None
 
 abbrev pub dump_part : Said → Option Text
 dump_part (Run texts) = None
+dump_part (Synth texts) = None
 dump_part (Dump capture) = Some capture.now

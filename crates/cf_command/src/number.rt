@@ -11,8 +11,8 @@ fn is_same(written: &str, text: &str) -> bool
     written == text
 }
 
-// The number below 2^64 that the text writes out.
-fn number_of(alloc: Global, text: &str) -> Result<Option<u64>, Memory>
+/// The number below 2^64 that the text writes out in decimal digits, with no sign and no leading zero.
+pub(crate) fn number_of(alloc: Global, text: &str) -> Result<Option<u64>, Memory>
     ensures { IfOk result (λ found. MatchOption found ((n : ℕ) → n < 2 ^ 64 → text.now ≡ decimal n → ⊥) (λ n. (text.now ≡ decimal n) × (n < 2 ^ 64))) }
 {
     let Ok(number) = text.parse::<u64>() else {

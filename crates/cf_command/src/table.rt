@@ -2,7 +2,7 @@
 ghost use Rattle.std.specs.Prelude.{◌≡◌, IfOk, option_map, option_and_then, map, false, None, codes};
 ghost use Rattle.clap.specs.Words.{app_of, rule_of, shape_of, subcommand_rows_of, with_rule, with_subcommand, first_of, found_of, rows_of};
 ghost use Rattle.clap.specs.declared.builder.command.Command.TheViews.{out-Command as fields_of};
-ghost use Rattle.cf_command.specs.Table.{bare_app, confluo_app, needed, optional, place, run_app, dump_app, taken, run_said, dump_said, run_part, dump_part, run_texts_of, says_of};
+ghost use Rattle.cf_command.specs.Table.{bare_app, confluo_app, sized_app, needed, optional, place, run_app, synth_app, dump_app, taken, run_said, synth_said, dump_said, run_part, synth_part, dump_part, run_texts_of, says_of, synth_texts_of, synth_says_of};
 
 use crate::Memory;
 use clap::error::ErrorKind;
@@ -38,16 +38,37 @@ fn and<'a>(command: Command<'a>, arg: Arg<'a>) -> Result<Command<'a>, Memory>
     command.arg(arg)
 }
 
+// With the options of a log's sizes.
+fn sized<'a>(alloc: Global, command: Command<'a>) -> Result<Command<'a>, Memory>
+    requires local { (fields_of command).has_globals ≡ false }
+    ensures rules { IfOk result (λ c. app_of c ≡ sized_app (app_of command.entry)) }
+    ensures local { IfOk result (λ c. (fields_of c).has_globals ≡ false) }
+{
+    let command = and(command, optional_option(alloc, "writers", "4"))?;
+    let command = and(command, optional_option(alloc, "capacity", "65536"))?;
+    and(command, optional_option(alloc, "nodes", "1024"))
+}
+
 fn run_command<'a>(alloc: Global) -> Result<Command<'a>, Memory>
     ensures rules { IfOk result (λ c. app_of c ≡ run_app) }
     ensures local { IfOk result (λ c. (fields_of c).has_globals ≡ false) }
 {
     let command = Command::new(alloc, "run");
     let command = and(command, needed_option(alloc, "setup"))?;
-    let command = and(command, optional_option(alloc, "writers", "1"))?;
-    let command = and(command, optional_option(alloc, "capacity", "65536"))?;
-    let command = and(command, optional_option(alloc, "nodes", "1024"))?;
+    let command = sized(alloc, command)?;
+    let command = and(command, optional_option(alloc, "live", "0"))?;
     and(command, own_word(alloc, "capture"))
+}
+
+fn synth_command<'a>(alloc: Global) -> Result<Command<'a>, Memory>
+    ensures rules { IfOk result (λ c. app_of c ≡ synth_app) }
+    ensures local { IfOk result (λ c. (fields_of c).has_globals ≡ false) }
+{
+    let command = Command::new(alloc, "synth");
+    let command = and(command, needed_option(alloc, "setup"))?;
+    let command = and(command, needed_option(alloc, "seed"))?;
+    let command = and(command, needed_option(alloc, "count"))?;
+    sized(alloc, command)
 }
 
 fn dump_command<'a>(alloc: Global) -> Result<Command<'a>, Memory>
@@ -77,6 +98,7 @@ fn confluo_command<'a>(alloc: Global) -> Result<Command<'a>, Memory>
     ensures { IfOk result (λ c. app_of c ≡ confluo_app) }
 {
     let command = under(bare_command(alloc), run_command(alloc)?)?;
+    let command = under(command, synth_command(alloc)?)?;
     under(command, dump_command(alloc)?)
 }
 
@@ -101,6 +123,7 @@ pub(crate) struct RunTexts<'a> {
     pub(crate) writers: &'a str,
     pub(crate) capacity: &'a str,
     pub(crate) nodes: &'a str,
+    pub(crate) live: &'a str,
     pub(crate) capture: &'a str,
 }
 
@@ -118,13 +141,46 @@ fn run_texts<'a>(matches: &ArgMatches<'a>) -> Option<RunTexts<'a>>
     let writers = text_of(matches, "writers")?;
     let capacity = text_of(matches, "capacity")?;
     let nodes = text_of(matches, "nodes")?;
+    let live = text_of(matches, "live")?;
     let capture = text_of(matches, "capture")?;
     Some(RunTexts {
         setup,
         writers,
         capacity,
         nodes,
+        live,
         capture,
+    })
+}
+
+/// The texts of a `synth` command.
+#[derive(Drop)]
+pub(crate) struct SynthTexts<'a> {
+    pub(crate) setup: &'a str,
+    pub(crate) seed: &'a str,
+    pub(crate) count: &'a str,
+    pub(crate) writers: &'a str,
+    pub(crate) capacity: &'a str,
+    pub(crate) nodes: &'a str,
+}
+
+#[tactic(auto, unfolding(crate::specs::Table::synth_texts_of))]
+fn synth_texts<'a>(matches: &ArgMatches<'a>) -> Option<SynthTexts<'a>>
+    ensures { option_map synth_says_of result ≡ synth_texts_of (rows_of (found_of matches.now)) }
+{
+    let setup = text_of(matches, "setup")?;
+    let seed = text_of(matches, "seed")?;
+    let count = text_of(matches, "count")?;
+    let writers = text_of(matches, "writers")?;
+    let capacity = text_of(matches, "capacity")?;
+    let nodes = text_of(matches, "nodes")?;
+    Some(SynthTexts {
+        setup,
+        seed,
+        count,
+        writers,
+        capacity,
+        nodes,
     })
 }
 
@@ -132,31 +188,43 @@ fn run_texts<'a>(matches: &ArgMatches<'a>) -> Option<RunTexts<'a>>
 #[derive(Drop)]
 pub(crate) enum Said<'a> {
     Run(RunTexts<'a>),
+    Synth(SynthTexts<'a>),
     /// The name of the capture.
     Dump(&'a str),
 }
 
 fn run_said_by<'a>(matches: &ArgMatches<'a>) -> Option<Said<'a>>
     ensures run { option_and_then run_part result ≡ run_texts_of (rows_of (found_of matches.now)) }
+    ensures synth { option_and_then synth_part result ≡ None }
     ensures dump { option_and_then dump_part result ≡ None }
 {
     Some(Said::Run(run_texts(matches)?))
 }
 
+fn synth_said_by<'a>(matches: &ArgMatches<'a>) -> Option<Said<'a>>
+    ensures run { option_and_then run_part result ≡ None }
+    ensures synth { option_and_then synth_part result ≡ synth_texts_of (rows_of (found_of matches.now)) }
+    ensures dump { option_and_then dump_part result ≡ None }
+{
+    Some(Said::Synth(synth_texts(matches)?))
+}
+
 fn dump_said_by<'a>(matches: &ArgMatches<'a>) -> Option<Said<'a>>
     ensures run { option_and_then run_part result ≡ None }
+    ensures synth { option_and_then synth_part result ≡ None }
     ensures dump { option_and_then dump_part result ≡ first_of (codes "capture") (rows_of (found_of matches.now)) }
 {
     Some(Said::Dump(text_of(matches, "capture")?))
 }
 
 /// What the words of a command say, or nothing where they are no command.
-#[tactic(auto, unfolding(crate::specs::Table::run_said, crate::specs::Table::dump_said))]
+#[tactic(auto, unfolding(crate::specs::Table::run_said, crate::specs::Table::synth_said, crate::specs::Table::dump_said))]
 pub(crate) fn read_words<'a>(
     alloc: Global,
     words: &'a [&'a str],
 ) -> Result<Option<Said<'a>>, Memory>
     ensures run { IfOk result (λ o. option_and_then run_part o ≡ run_said (map (λ w. w.now) words.entry.now)) }
+    ensures synth { IfOk result (λ o. option_and_then synth_part o ≡ synth_said (map (λ w. w.now) words.entry.now)) }
     ensures dump { IfOk result (λ o. option_and_then dump_part o ≡ dump_said (map (λ w. w.now) words.entry.now)) }
 {
     let Some(matches) = parse(alloc, words)? else {
@@ -166,6 +234,8 @@ pub(crate) fn read_words<'a>(
         Some((name, inner)) => {
             if name == "run" {
                 Ok(run_said_by(inner))
+            } else if name == "synth" {
+                Ok(synth_said_by(inner))
             } else if name == "dump" {
                 Ok(dump_said_by(inner))
             } else {

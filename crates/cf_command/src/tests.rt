@@ -2,15 +2,26 @@ use super::*;
 use std::alloc::Global;
 use std::test::Fail;
 
-// The capacity and the nodes of a `run` whose words have spaces between them; 0 and 0 of a `dump`.
-fn numbers_of(alloc: Global, text: &str) -> Result<Option<(u32, u32)>, Memory> {
+// The writers, capacity, nodes and live rounds of a `run` whose words have spaces between them; the count in place of the rounds of a `synth`; zeros of a `dump`.
+fn numbers_of(alloc: Global, text: &str) -> Result<Option<(u8, u32, u32, u32)>, Memory> {
     let mut words = Vec::new(alloc);
     for word in text.split(' ') {
         words.push(word)?;
     }
     match command_of(alloc, &words)? {
-        Some(Command::Run(command)) => Ok(Some((command.capacity, command.nodes))),
-        Some(Command::Dump(_)) => Ok(Some((0, 0))),
+        Some(Command::Run(command)) => Ok(Some((
+            command.writers,
+            command.capacity,
+            command.nodes,
+            command.rounds,
+        ))),
+        Some(Command::Synth(command)) => Ok(Some((
+            command.writers,
+            command.capacity,
+            command.nodes,
+            command.count,
+        ))),
+        Some(Command::Dump(_)) => Ok(Some((0, 0, 0, 0))),
         None => Ok(None),
     }
 }
@@ -19,12 +30,26 @@ fn numbers_of(alloc: Global, text: &str) -> Result<Option<(u32, u32)>, Memory> {
 fn words_are_read_by_the_table(rt: HostRuntime) -> Result<(), Fail> {
     let alloc = rt.alloc();
     for (text, answer) in [
-        ("run --setup s c", Some((65536, 1024))),
-        ("run c --capacity 4 --setup s", Some((4, 1024))),
-        ("run --nodes=0 --setup=s --writers=1 c", Some((65536, 0))),
+        ("run --setup s c", Some((4, 65536, 1024, 0))),
+        ("run c --capacity 4 --setup s", Some((4, 4, 1024, 0))),
+        (
+            "run --nodes=0 --setup=s --writers=1 c --live=64",
+            Some((1, 65536, 0, 64)),
+        ),
         ("run c", None),
         ("run --setup s", None),
-        ("dump c", Some((0, 0))),
+        (
+            "synth --setup s --seed 18446744073709551615 --count 65536",
+            Some((4, 65536, 1024, 65536)),
+        ),
+        (
+            "synth --setup s --seed 18446744073709551616 --count 1",
+            None,
+        ),
+        ("synth --setup s --seed 1 --count 65537", None),
+        ("synth --setup s --seed 1 --count 1 c", None),
+        ("synth --setup s --count 1", None),
+        ("dump c", Some((0, 0, 0, 0))),
         ("dump", None),
         ("dump c d", None),
         ("dump --setup s c", None),
@@ -41,9 +66,9 @@ fn words_are_read_by_the_table(rt: HostRuntime) -> Result<(), Fail> {
 fn other_options_and_numbers_are_refused(rt: HostRuntime) -> Result<(), Fail> {
     let alloc = rt.alloc();
     for word in [
-        "--writers=2",
+        "--writers=16",
         "--writers=0",
-        "--live=1",
+        "--live=65",
         "--help",
         "-h",
         "--other",

@@ -1,9 +1,11 @@
 -- What the parts of the work leave of the opened file.
-use Rattle.std.proofs.Common.{◌≡◌, ℕ, ◌≤◌, ◌<◌, ◌^◌, List, [], length, Option, Some, sym, ap, ◌∙◌, inl, inr, arith}
+use Rattle.std.proofs.Common.{◌≡◌, ℕ, ◌≤◌, ◌<◌, ◌^◌, List, [], length, Option, Some, Ok, sym, ap, ◌∙◌, inl, inr, arith}
 use Rattle.std.proofs.lemmas.List.{drop_all}
 use Rattle.cf_outside.specs.Files.{File, file_named}
 use Rattle.cf_row.specs.Row.{Numbered}
-use Rattle.cf_command.specs.Command.{Asked, IsRun, IsDump}
+use Rattle.cf_command.specs.Command.{Asked, Drawn, IsRun, IsSynth, IsDump}
+use Rattle.cf_setup.specs.Settled.{Settled}
+use Rattle.cf_setup.specs.SetupText.{SetupText}
 use Rattle.cf_run.specs.Devices.{IsTakenFrom, IsStopped}
 use Rattle.cf_run.specs.Due.{HasSetup}
 use Rattle.cf_run.specs.Left.{MayBeLeft}
@@ -40,9 +42,19 @@ module _ (files : List File) (words : List (List ℕ)) where
   pub dump_stopped : (name : List ℕ) → IsDump words name → (before now : Option (List ℕ)) → IsStopped files name (2 ^ 32) before now → MayBeLeft files words before now
   dump_stopped name is before now stopped = elim stopped [
     | inl same ↦ inl same
-    | inr taken ↦ inr (inr (inr (record { name = name; name_is = is; capture = taken.0; file = taken.1; taken = taken.2 })))
+    | inr taken ↦ inr (inr (inr (inl (record { name = name; name_is = is; capture = taken.0; file = taken.1; taken = taken.2 }))))
   ]
 
   pub dump_left : (name : List ℕ) → IsDump words name → (capture : List ℕ) (rows : List Numbered) (before now : Option (List ℕ)) → file_named files name ≡ Some capture → ArePackets capture rows → now ≡ Some [] → MayBeLeft files words before now
   dump_left name is capture rows before now found rows_are none =
-      inr (inr (inr (record { name = name; name_is = is; capture = capture; file = found; taken = whole_taken capture (2 ^ 32) now (let short : length capture < 2 ^ 32 = rows_are.frames_are.size in omega (arith, short)) none })))
+      inr (inr (inr (inl (record { name = name; name_is = is; capture = capture; file = found; taken = whole_taken capture (2 ^ 32) now (let short : length capture < 2 ^ 32 = rows_are.frames_are.size in omega (arith, short)) none }))))
+
+  pub synth_stopped : (command : Drawn) → IsSynth words command → (before now : Option (List ℕ)) → IsStopped files command.setup 65537 before now → MayBeLeft files words before now
+  synth_stopped command is before now stopped = elim stopped [
+    | inl same ↦ inl same
+    | inr taken ↦ inr (inr (inr (inr (record { command = command; command_is = is; bytes = taken.0; file = taken.1; taken = taken.2 }))))
+  ]
+
+  pub synth_left : (command : Drawn) → IsSynth words command → (bytes : List ℕ) (setup : Settled) (before now : Option (List ℕ)) → file_named files command.setup ≡ Some bytes → SetupText bytes (Ok setup) → now ≡ Some [] → MayBeLeft files words before now
+  synth_left command is bytes setup before now found text none =
+      inr (inr (inr (inr (record { command = command; command_is = is; bytes = bytes; file = found; taken = whole_taken bytes 65537 now (let short : length bytes ≤ 65536 = setup_short bytes setup text in omega (arith, short)) none }))))

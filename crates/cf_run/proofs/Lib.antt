@@ -1,13 +1,15 @@
 pub mod Taking
 pub mod Writing
 pub mod Deciding
+pub mod Drawing
+pub mod DecidingSynth
 pub mod SetupSize
 pub mod PacketSchema
 pub mod Leaving
 pub mod Preparing
+pub mod Logs
 pub mod Answering
 pub mod Loading
-pub mod Made
-pub mod Asking
 pub mod MoreRows
 pub mod DumpDue
+pub mod SynthDue

@@ -1,8 +1,10 @@
--- What the program's status says of what it wrote.
+-- What the program's status says of what it wrote, and of the seals of its logs.
 use Rattle.std.specs.Prelude.{◌≡◌, ◌⊎◌, ℕ, List, ◌++◌, Option}
 use Rattle.std.specs.Io.KnownBytes.{Appends, Keeps}
 use Rattle.cf_outside.specs.Files.{File}
+use Rattle.cf_table.specs.Moves.{Sealed}
 use Rattle.cf_run.specs.Due.{IsDue}
+use Rattle.cf_run.specs.Seals.{AreSealsOfDone}
 use Rattle.cf_run.specs.declared.status.Status.{Status}
 use Rattle.cf_run.specs.declared.status.Status.TheVariants.{Done, Words, Setup, Capture, ReadFault, WriteFault, Full, Nodes, Memory, NoFile}
 
@@ -29,6 +31,13 @@ pub record Wrote (files : List File) (words : List (List ℕ)) (status : Status)
   pub due : IsDue files words status text
   pub written : Appends held now text
 
+-- of work that was done: so are the seals those of the log that the text tells of
+pub record WroteSealed (files : List File) (words : List (List ℕ)) (seals : List Sealed) (held now : Option (List ℕ)) : Type 0 where
+  pub text : List ℕ
+  pub due : IsDue files words Done text
+  pub sealed : AreSealsOfDone files words text due seals
+  pub written : Appends held now text
+
 -- a front of the text that was due is there
 pub record WroteSome (files : List File) (words : List (List ℕ)) (held now : Option (List ℕ)) : Type 0 where
   pub status : Status
@@ -37,17 +46,17 @@ pub record WroteSome (files : List File) (words : List (List ℕ)) (held now : O
   pub due : IsDue files words status (front ++ rest)
   pub written : Appends held now front
 
-abbrev pub Answers : List File → List (List ℕ) → Status → Option (List ℕ) → Option (List ℕ) → Type 0
-Answers files words Done held now = Wrote files words Done held now
-Answers files words Words held now = Wrote files words Words held now
-Answers files words (Setup line code) held now = Wrote files words (Setup line code) held now
-Answers files words (Capture at code) held now = Wrote files words (Capture at code) held now
-Answers files words NoFile held now = Wrote files words NoFile held now
-Answers files words ReadFault held now = Keeps held now
-Answers files words Memory held now = Keeps held now
-Answers files words WriteFault held now = WroteSome files words held now
-Answers files words Full held now = Wrote files words Full held now
-Answers files words Nodes held now = ⊥
+abbrev pub Answers : List File → List (List ℕ) → Status → List Sealed → Option (List ℕ) → Option (List ℕ) → Type 0
+Answers files words Done seals held now = WroteSealed files words seals held now
+Answers files words Words seals held now = Wrote files words Words held now
+Answers files words (Setup line code) seals held now = Wrote files words (Setup line code) held now
+Answers files words (Capture at code) seals held now = Wrote files words (Capture at code) held now
+Answers files words NoFile seals held now = Wrote files words NoFile held now
+Answers files words ReadFault seals held now = Keeps held now
+Answers files words Memory seals held now = Keeps held now
+Answers files words WriteFault seals held now = WroteSome files words held now
+Answers files words Full seals held now = Wrote files words Full held now
+Answers files words Nodes seals held now = ⊥
 
 -- whatever the words and files call for comes, unless memory ran out or a device failed
 abbrev pub IsDecided : List File → List (List ℕ) → Status → Type 0

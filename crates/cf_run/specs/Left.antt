@@ -2,10 +2,11 @@
 -- 2^32, or 2^24 of a file of records, which is opened only where the setup is lawful.
 use Rattle.std.specs.Prelude.{◌≡◌, ◌⊎◌, ℕ, ◌^◌, List, [], drop, Some, Option}
 use Rattle.cf_outside.specs.Files.{File, file_named}
-use Rattle.cf_command.specs.Command.{Asked, IsRun, IsDump}
+use Rattle.cf_command.specs.Command.{Asked, Drawn, IsRun, IsSynth, IsDump}
 use Rattle.cf_run.specs.Devices.{IsTakenFrom}
 use Rattle.cf_run.specs.Work.{limit_of}
 use Rattle.cf_run.specs.Dumps.{LacksDumped}
+use Rattle.cf_run.specs.Synth.{LacksSynthSetup}
 use Rattle.cf_run.specs.Due.{HasSetup, LacksSetup, LacksCapture}
 use Rattle.cf_run.specs.declared.status.Status.{Status}
 use Rattle.cf_run.specs.declared.status.Status.TheVariants.{Done, Words, Setup, Capture, ReadFault, WriteFault, Full, Nodes, Memory, NoFile}
@@ -31,9 +32,17 @@ pub record IsLeftOfDump (files : List File) (words : List (List ℕ)) (now : Opt
   pub file : file_named files name ≡ Some capture
   pub taken : IsTakenFrom capture (2 ^ 32) now
 
+-- a synth opens its setup alone
+pub record IsLeftOfSynth (files : List File) (words : List (List ℕ)) (now : Option (List ℕ)) : Type 0 where
+  pub command : Drawn
+  pub command_is : IsSynth words command
+  pub bytes : List ℕ
+  pub file : file_named files command.setup ≡ Some bytes
+  pub taken : IsTakenFrom bytes 65537 now
+
 -- whatever the status
 abbrev pub MayBeLeft : List File → List (List ℕ) → Option (List ℕ) → Option (List ℕ) → Type 0
-MayBeLeft files words before now = (now ≡ before) ⊎ IsLeftOfSetup files words now ⊎ IsLeftOfCapture files words now ⊎ IsLeftOfDump files words now
+MayBeLeft files words before now = (now ≡ before) ⊎ IsLeftOfSetup files words now ⊎ IsLeftOfCapture files words now ⊎ IsLeftOfDump files words now ⊎ IsLeftOfSynth files words now
 
 -- a refused setup was read up to its 65,537th byte
 pub record SetupIsRead (files : List File) (words : List (List ℕ)) (now : Option (List ℕ)) : Type 0 where
@@ -58,13 +67,22 @@ pub record DumpIsRead (files : List File) (words : List (List ℕ)) (now : Optio
   pub file : file_named files name ≡ Some capture
   pub left : now ≡ Some (drop (2 ^ 32) capture)
 
--- by the status: words that are no command leave the shelf, and a capture that is reported was read to its end
+-- a refused setup of a synth was read up to its 65,537th byte, and a lawful one, over another schema, to its end, which comes before
+pub record SynthSetupIsRead (files : List File) (words : List (List ℕ)) (now : Option (List ℕ)) : Type 0 where
+  pub command : Drawn
+  pub command_is : IsSynth words command
+  pub bytes : List ℕ
+  pub file : file_named files command.setup ≡ Some bytes
+  pub left : now ≡ Some (drop 65537 bytes)
+
+-- by the status: words that are no command leave the shelf, a capture that is reported was read to its end, and
+-- so was the setup of a synth
 abbrev pub Leaves : List File → List (List ℕ) → Status → Option (List ℕ) → Option (List ℕ) → Type 0
 Leaves files words Done before now = now ≡ Some []
 Leaves files words Words before now = now ≡ before
-Leaves files words (Setup line code) before now = SetupIsRead files words now
+Leaves files words (Setup line code) before now = SetupIsRead files words now ⊎ SynthSetupIsRead files words now
 Leaves files words (Capture at code) before now = CaptureIsRead files words now ⊎ DumpIsRead files words now
-Leaves files words NoFile before now = (LacksSetup files words × (now ≡ before)) ⊎ (LacksCapture files words × (now ≡ Some [])) ⊎ (LacksDumped files words × (now ≡ before))
+Leaves files words NoFile before now = (LacksSetup files words × (now ≡ before)) ⊎ (LacksCapture files words × (now ≡ Some [])) ⊎ (LacksDumped files words × (now ≡ before)) ⊎ (LacksSynthSetup files words × (now ≡ before))
 Leaves files words Full before now = now ≡ Some []
 Leaves files words ReadFault before now = MayBeLeft files words before now
 Leaves files words WriteFault before now = MayBeLeft files words before now

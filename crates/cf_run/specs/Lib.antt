@@ -1,10 +1,12 @@
 pub mod Work
 pub mod Faults
 pub mod Dumps
+pub mod Synth
 pub mod Due
+pub mod Logs
+pub mod Seals
 pub mod Answers
 pub mod Devices
 pub mod Left
 pub mod Parts
 pub mod Stops
-pub mod Answering

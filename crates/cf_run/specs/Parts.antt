@@ -1,19 +1,24 @@
 -- What the parts of the work answer.
-use Rattle.std.specs.Prelude.{◌≡◌, ◌⊎◌, ℕ, ◌≤◌, ◌^◌, List, [], drop, Some, None, Option, Result, Ok, Err, Vec}
+use Rattle.std.specs.Prelude.{◌≡◌, ◌⊎◌, ℕ, ◌<◌, ◌≤◌, ◌^◌, List, [], drop, length, Some, None, Option, Result, Ok, Err, Vec}
 use Rattle.std.specs.declared.alloc.Global.{Global}
 use Rattle.cf_outside.specs.Causes.{Rose}
 use Rattle.cf_outside.specs.Files.{File, file_named}
 use Rattle.cf_row.specs.Row.{Numbered}
-use Rattle.cf_setup.specs.Settled.{Settled}
+use Rattle.cf_command.specs.Command.{Drawn}
+use Rattle.cf_report.specs.Meaning.{final_text}
+use Rattle.cf_setup.specs.Settled.{Settled, shaped}
 use Rattle.cf_run.specs.Devices.{IsStopped}
-use Rattle.cf_run.specs.Due.{IsDue}
+use Rattle.cf_run.specs.Due.{IsDue, full_line}
+use Rattle.cf_run.specs.Seals.{AreSeals, IsSynthSeal}
+use Rattle.cf_run.specs.Synth.{drawn_rows}
+use Rattle.cf_table.specs.Moves.{Sealed}
 use Rattle.cf_run.specs.Faults.{HasPacketFault, HasCaptureFault}
 use Rattle.cf_run.specs.Left.{MayBeLeft, Leaves}
 use Rattle.cf_setup.specs.SetupText.{SetupText}
 use Rattle.cf_run.specs.Work.{ArePackets, AreRowsOf, limit_of}
 use Rattle.cf_run.specs.declared.status.Status.{Status}
 use Rattle.cf_run.specs.declared.status.Status.TheVariants.{Done, Words, Setup, Capture, ReadFault, WriteFault, Full, Nodes, Memory, NoFile}
-use Rattle.cf_run.specs.declared.prepare.Draft.{Draft}
+use Rattle.cf_run.specs.declared.draft.Draft.{Draft}
 
 -- a stop for want of memory or by a device
 abbrev pub IsFree : Status → Type 0
@@ -87,7 +92,29 @@ IsBad faulty WriteFault = ⊥
 IsBad faulty Full = ⊥
 IsBad faulty Nodes = ⊥
 
+-- a status with its text is due, these are its seals, and the files are left as they are with it
+abbrev pub IsDrafted : List File → List (List ℕ) → Option (List ℕ) → Option (List ℕ) → Status → List ℕ → List Sealed → Type 0
+IsDrafted files words before now status text seals = (due : IsDue files words status text) × AreSeals files words status text due seals × Leaves files words status before now
+
 -- a text is due, or the work stopped for want of memory or by the device
 abbrev pub IsPrepared : List File → List (List ℕ) → Option (List ℕ) → Option (List ℕ) → Result Draft Status → Type 0
-IsPrepared files words before now (Ok draft) = IsDue files words draft.status draft.text.items × Leaves files words draft.status before now
+IsPrepared files words before now (Ok draft) = IsDrafted files words before now draft.status draft.text.items draft.seals.items
 IsPrepared files words before now (Err stop) = IsFree stop × MayBeLeft files words before now
+
+-- the answers on drawn packets that fit, with the seal of their log
+pub record IsSynthDone (setup : Settled) (command : Drawn) (draft : Draft) : Type 0 where
+  pub status : draft.status ≡ Done
+  pub few : length (drawn_rows command) ≤ command.capacity
+  pub text : draft.text.items ≡ final_text (shaped setup command.capacity command.writers command.nodes) setup (drawn_rows command)
+  pub seals : IsSynthSeal (drawn_rows command) command.writers draft.seals.items
+
+-- more packets than fit
+pub record IsSynthOver (command : Drawn) (draft : Draft) : Type 0 where
+  pub status : draft.status ≡ Full
+  pub many : command.capacity < length (drawn_rows command)
+  pub text : draft.text.items ≡ full_line command.capacity
+  pub seals : draft.seals.items ≡ []
+
+-- what drawn packets come to, by a setup over packets
+abbrev pub IsSynthDraft : Settled → Drawn → Draft → Type 0
+IsSynthDraft setup command draft = IsSynthDone setup command draft ⊎ IsSynthOver command draft

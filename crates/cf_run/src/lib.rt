@@ -5,18 +5,20 @@
 //! call for, and `specs/Left.antt` for what is left of the files that were opened.
 #![tactic(auto)]
 
-mod answer;
 mod devices;
+mod draft;
 mod dumping;
 mod load;
+mod log;
 mod prepare;
 mod program;
 mod rows;
 mod status;
+mod synth;
 #[cfg(test)]
 mod tests;
 mod top;
 
 pub use program::start;
-pub use status::Status;
+pub use status::{Outcome, Status};
 pub use top::{run, run_steadily};

@@ -1,85 +1,47 @@
 // The work up to the text that is to be written.
-ghost use Rattle.std.specs.Prelude.{◌≡◌, ◌⊎◌, ◌<◌, ◌≤◌, length, string_bytes, IfOk, IfSome, MatchResult, MatchOption};
+ghost use Rattle.std.specs.Prelude.{◌≡◌, [], IfOk, IfSome, MatchResult};
 ghost use Rattle.cf_command.specs.Command.{IsRun, IsDump, NoCommand, asked_by, texts};
-ghost use Rattle.cf_run.specs.Due.{refusal_line, full_line};
+ghost use Rattle.cf_run.specs.Due.{refusal_line};
 ghost use Rattle.cf_run.specs.Parts.{IsFree, HasStopCause, IsPrepared};
-ghost use Rattle.cf_run.specs.Stops.{IsRefusal, NoRefusal, IsDrawn};
+ghost use Rattle.cf_run.specs.Stops.{IsDrawn};
 
 use crate::Status;
-use crate::answer::report_of;
+use crate::draft::{Draft, full, refused, sealed};
 use crate::dumping::dump_of;
 use crate::load::{load_packets, load_rows, load_setup};
+use crate::log::{Sizes, report_of};
+use crate::synth::prepare_synth;
 use cf_command::{Command, RunCommand, command_of};
-use cf_outside::Shelf;
-use cf_row::Memory;
+use cf_outside::{Gate, Shelf};
 use std::alloc::Global;
+use std::thread::Threads;
 
-/// A status with the text that goes with it.
-#[derive(Debug, Drop)]
-pub(crate) struct Draft {
-    pub(crate) status: Status,
-    pub(crate) text: Vec<u8>,
-}
-
-// The status of a refusal with its line, or the status of a stop that writes nothing.
-fn refused(alloc: Global, status: Status) -> Result<Draft, Status>
-    ensures { MatchResult result
-        (λ draft. (draft.status ≡ status) × (draft.text.items ≡ refusal_line status) × IsRefusal status)
-        (λ stop. (stop ≡ Status.Memory) ⊎ ((stop ≡ status) × NoRefusal status)) }
+// The sizes of a command's log.
+fn sizes_of(command: &RunCommand) -> Sizes
+    ensures { result ≡ record { writers = command.now.writers; capacity = command.now.capacity; nodes = command.now.nodes } }
 {
-    match line_of(alloc, status) {
-        Ok(Some(line)) => Ok(Draft {
-            status,
-            text: line.into_bytes(),
-        }),
-        Ok(None) => Err(status),
-        Err(_) => Err(Status::Memory),
-    }
-}
-
-fn line_of(alloc: Global, status: Status) -> Result<Option<String>, Memory>
-    ensures { IfOk result (λ line. MatchOption line (NoRefusal status) (λ text. (string_bytes text ≡ refusal_line status) × IsRefusal status)) }
-{
-    match status {
-        Status::Words => Ok(Some(String::from_str(alloc, "words: not a command\n")?)),
-        Status::NoFile => Ok(Some(String::from_str(alloc, "file: none of that name\n")?)),
-        Status::Setup { line, code } => Ok(Some(format!(in alloc;
-            "setup: line {line} code {code}\n"
-        )?)),
-        Status::Capture { at, code } => Ok(Some(format!(in alloc;
-            "capture: record {at} code {code}\n"
-        )?)),
-        _ => Ok(None),
-    }
-}
-
-// The line of a log that is full.
-fn full(alloc: Global, capacity: u32) -> Result<Draft, Status>
-    ensures { MatchResult result
-        (λ draft. (draft.status ≡ Status.Full) × (draft.text.items ≡ full_line capacity))
-        (λ stop. stop ≡ Status.Memory) }
-{
-    match format!(in alloc; "full: more than {capacity} records\n") {
-        Ok(line) => Ok(Draft {
-            status: Status::Full,
-            text: line.into_bytes(),
-        }),
-        Err(_) => Err(Status::Memory),
+    Sizes {
+        writers: command.writers,
+        capacity: command.capacity,
+        nodes: command.nodes,
     }
 }
 
 // What the files of a command call for, or why nothing is written.
-fn prepare_command<F: Shelf>(
+fn prepare_command<R: Threads + Sync, F: Shelf, G: Gate>(
+    rt: &R,
     alloc: Global,
     words: &[&str],
     command: &RunCommand,
     shelf: &mut F,
+    gate: &G,
 ) -> Result<Draft, Status>
     requires { IsRun (texts words.now) (asked_by command.now) }
     ensures files { F.files shelf.new ≡ F.files shelf.old }
     ensures prepared { IfSome (F.files shelf.old) (λ files. IsPrepared files (texts words.now) (F.rest shelf.old) (F.rest shelf.new) result) }
     ensures cause { HasStopCause (F.faults shelf.old) (F.faults shelf.new) result }
     ensures drawn { MatchResult result (λ draft. IsDrawn draft.status × (draft.status ≡ Status.Words → ⊥)) IsFree }
+    ensures unsealed { IfOk result (λ draft. (draft.status ≡ Status.Done → ⊥) → draft.seals.items ≡ []) }
 {
     let _ = words;
     let setup = match load_setup(alloc, shelf, command.setup) {
@@ -93,11 +55,9 @@ fn prepare_command<F: Shelf>(
     if rows.len() > command.capacity as usize {
         return full(alloc, command.capacity);
     }
-    match report_of(alloc, &setup, &rows, command.capacity, command.nodes) {
-        Ok(text) => Ok(Draft {
-            status: Status::Done,
-            text,
-        }),
+    let sizes = sizes_of(command);
+    match report_of(rt, alloc, &setup, &rows, sizes, command.rounds, gate) {
+        Ok(report) => sealed(alloc, report),
         Err(_) => Err(Status::Memory),
     }
 }
@@ -114,6 +74,7 @@ fn prepare_dump<F: Shelf>(
     ensures prepared { IfSome (F.files shelf.old) (λ files. IsPrepared files (texts words.now) (F.rest shelf.old) (F.rest shelf.new) result) }
     ensures cause { HasStopCause (F.faults shelf.old) (F.faults shelf.new) result }
     ensures drawn { MatchResult result (λ draft. IsDrawn draft.status × (draft.status ≡ Status.Words → ⊥)) IsFree }
+    ensures unsealed { IfOk result (λ draft. (draft.status ≡ Status.Done → ⊥) → draft.seals.items ≡ []) }
 {
     let _ = words;
     let rows = match load_packets(alloc, shelf, name) {
@@ -124,27 +85,32 @@ fn prepare_dump<F: Shelf>(
         Ok(text) => Ok(Draft {
             status: Status::Done,
             text,
+            seals: Vec::new(alloc),
         }),
         Err(_) => Err(Status::Memory),
     }
 }
 
 /// What the words and files call for, or why nothing is written.
-pub(crate) fn prepare<F: Shelf>(
+pub(crate) fn prepare<R: Threads + Sync, F: Shelf, G: Gate>(
+    rt: &R,
     alloc: Global,
     words: &[&str],
     shelf: &mut F,
+    gate: &G,
 ) -> Result<Draft, Status>
     ensures files { F.files shelf.new ≡ F.files shelf.old }
     ensures prepared { IfSome (F.files shelf.old) (λ files. IsPrepared files (texts words.now) (F.rest shelf.old) (F.rest shelf.new) result) }
     ensures cause { HasStopCause (F.faults shelf.old) (F.faults shelf.new) result }
     ensures drawn { MatchResult result (λ draft. IsDrawn draft.status) IsFree }
+    ensures unsealed { IfOk result (λ draft. (draft.status ≡ Status.Done → ⊥) → draft.seals.items ≡ []) }
     ensures words { IfOk result (λ draft. draft.status ≡ Status.Words → NoCommand (texts words.now) × (draft.text.items ≡ refusal_line Status.Words)) }
     ensures no_words { NoCommand (texts words.now) → MatchResult result (λ draft. draft.status ≡ Status.Words) (λ stop. stop ≡ Status.Memory) }
     ensures no_words_no_file { NoCommand (texts words.now) → shelf.new ≡ shelf.old }
 {
     match command_of(alloc, words) {
-        Ok(Some(Command::Run(command))) => prepare_command(alloc, words, &command, shelf),
+        Ok(Some(Command::Run(command))) => prepare_command(rt, alloc, words, &command, shelf, gate),
+        Ok(Some(Command::Synth(command))) => prepare_synth(rt, alloc, words, &command, shelf, gate),
         Ok(Some(Command::Dump(name))) => prepare_dump(alloc, words, name, shelf),
         Ok(None) => refused(alloc, Status::Words),
         Err(_) => Err(Status::Memory),

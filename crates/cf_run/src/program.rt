@@ -7,13 +7,14 @@ use cf_row::Memory;
 use std::alloc::{AllocError, Global};
 use std::io::ErrorKind;
 use std::rt::{Env, Files};
+use std::thread::Threads;
 use std::{env, io};
 
 // Runs over the files of the system and standard output.
-fn run_words<R: Files + Print>(rt: &R, alloc: Global, words: &[&str]) -> Status {
+fn run_words<R: Files + Print + Threads + Sync>(rt: &R, alloc: Global, words: &[&str]) -> Status {
     let mut shelf = FileShelf::new(rt);
     let mut sink = StdSink::new(io::writer(rt));
-    run(rt, alloc, words, &mut shelf, &mut sink, &FreeGate)
+    run(rt, alloc, words, &mut shelf, &mut sink, &FreeGate).status
 }
 
 fn texts(alloc: Global, owned: &[String]) -> Result<Vec<&str>, Memory> {
@@ -25,7 +26,7 @@ fn texts(alloc: Global, owned: &[String]) -> Result<Vec<&str>, Memory> {
 }
 
 // Runs with the words after the program's name. Words that are no text are no command.
-fn run_args<R: Files + Print + Env + AllocGlobal>(rt: &R) -> Result<Status, Memory> {
+fn run_args<R: Files + Print + Env + Threads + Sync + AllocGlobal>(rt: &R) -> Result<Status, Memory> {
     let mut owned = Vec::new(rt.alloc());
     match env::args(rt) {
         Ok(args) => {
@@ -45,7 +46,7 @@ fn run_args<R: Files + Print + Env + AllocGlobal>(rt: &R) -> Result<Status, Memo
 
 /// Does the work of the program, and gives the number with which it is to end. Where there is no memory for the words
 /// this is that of want of memory.
-pub fn start<R: Files + Print + Env + AllocGlobal>(rt: &R) -> u8
+pub fn start<R: Files + Print + Env + Threads + Sync + AllocGlobal>(rt: &R) -> u8
     ensures { result ≤ 9 }
 {
     match run_args(rt) {

@@ -1,7 +1,8 @@
 // The rows of the bytes of a capture.
-ghost use Rattle.std.specs.Prelude.{◌≡◌, ◌<◌, ◌^◌, All, length, IfOk, MatchResult};
+ghost use Rattle.std.specs.Prelude.{◌≡◌, ◌<◌, ◌≤◌, ◌^◌, All, length, IfOk, MatchResult};
 ghost use Rattle.cf_row.specs.Row.{Fits};
 ghost use Rattle.cf_row.specs.Schema.{packet_attrs};
+ghost use Rattle.cf_make.specs.Generated.{generated_frames};
 ghost use Rattle.cf_pcap.specs.Capture.{IsCapture};
 ghost use Rattle.cf_pcap.specs.declared.fault.PcapFault.TheVariants as faults;
 ghost use Rattle.cf_records.specs.Records.{IsRecordFile};
@@ -12,10 +13,11 @@ ghost use Rattle.cf_run.specs.Work.{ArePackets, packet_rows};
 
 use crate::Status;
 use cf_headers::packet_row;
+use cf_make::make_capture;
 use cf_pcap::{Frame, Pcap, PcapFault};
 use cf_records::{RecordFault, read_records};
 use cf_row::{Memory, Row, Schema};
-use std::alloc::Global;
+use std::alloc::{AllocError, Global};
 
 fn code_of(fault: PcapFault) -> u8
     ensures { result ≡ code_of_fault fault }
@@ -97,6 +99,20 @@ pub(crate) fn packets_of(alloc: Global, bytes: &[u8]) -> Result<Vec<Row>, Status
     match rows_of(alloc, &frames) {
         Ok(rows) => Ok(rows),
         Err(_) => Err(Status::Memory),
+    }
+}
+
+/// The rows of the packets that a seed draws.
+pub(crate) fn drawn_packets(alloc: Global, seed: u64, count: u32) -> Result<Vec<Row>, Memory>
+    requires { count ≤ 65536 }
+    ensures rows { IfOk result (λ rows. rows.items ≡ packet_rows (generated_frames seed count)) }
+    ensures fit { IfOk result (λ rows. All (Fits packet_attrs) rows.items) }
+{
+    let bytes = make_capture(alloc, seed, count)?;
+    match packets_of(alloc, &bytes) {
+        Ok(rows) => Ok(rows),
+        // What is made is a capture.
+        Err(_) => Err(AllocError),
     }
 }
 

@@ -2,6 +2,8 @@
 ghost use Rattle.std.specs.Prelude.{◌≡◌};
 ghost use Rattle.cf_run.specs.Answers.{number_of};
 
+use cf_table::Seal;
+
 /// How the work ended.
 #[derive(Clone, Copy, Debug, PartialEq, Eq)]
 pub enum Status {
@@ -45,4 +47,12 @@ impl Status {
             Status::NoFile => 9,
         }
     }
+}
+
+/// How the work ended, and the seals of the logs that it loaded: one of a report or of the answers on drawn packets, and else
+/// none.
+#[derive(Drop)]
+pub struct Outcome {
+    pub status: Status,
+    pub seals: Vec<Seal>,
 }

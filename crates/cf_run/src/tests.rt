@@ -1,13 +1,14 @@
 ghost use Rattle.std.specs.Prelude.{◌<◌};
 
 use super::*;
-use cf_outside::{Failed, FreeGate, MemShelf, MemSink, OpenFault, Shelf, SteadyShelf, SteadySink};
+use cf_outside::{Failed, FreeGate, Held, HoldGate, MemShelf, MemSink, OpenFault, Shelf, SteadyShelf, SteadySink};
 use cf_row::Memory;
 use std::alloc::Global;
 use std::process::Abort;
 use std::test::Fail;
+use std::thread::Threads;
 
-const WORDS: [&str; 4] = ["run", "--setup", "s", "c"];
+const WORDS: [&str; 6] = ["run", "--setup", "s", "--writers", "1", "c"];
 
 const SETUP: &[u8] = b"schema packet\nask big list len>=100\n";
 
@@ -54,7 +55,7 @@ fn shelf_of(
 }
 
 // Runs the words over the two files, and compares the status's number and the text.
-fn expect<R: Abort>(
+fn expect<R: Threads + Sync + Abort>(
     rt: &R,
     alloc: Global,
     words: &[&str],
@@ -63,8 +64,8 @@ fn expect<R: Abort>(
 ) -> Result<(), Memory> {
     let mut shelf = shelf_of(alloc, &[], 7, files.0, files.1)?;
     let mut sink = MemSink::new(alloc, 300, Vec::new(alloc), 5)?;
-    let status = run(rt, alloc, words, &mut shelf, &mut sink, &FreeGate);
-    assert_eq!(rt; status.number(), answer.0);
+    let outcome = run(rt, alloc, words, &mut shelf, &mut sink, &FreeGate);
+    assert_eq!(rt; outcome.status.number(), answer.0);
     assert_eq!(rt; sink.held(), answer.1);
     Ok(())
 }
@@ -102,7 +103,7 @@ fn words_are_a_command_of_files_that_are_there(rt: HostRuntime) -> Result<(), Fa
     let alloc = rt.alloc();
     let none = b"file: none of that name\n".as_slice();
     let no_words = b"words: not a command\n".as_slice();
-    let table: [(&[&str], u8, &[u8]); 7] = [
+    let table: [(&[&str], u8, &[u8]); 9] = [
         (&[], 1, no_words),
         (&["run", "c"], 1, no_words),
         (&["dump"], 1, no_words),
@@ -110,6 +111,8 @@ fn words_are_a_command_of_files_that_are_there(rt: HostRuntime) -> Result<(), Fa
         (&["run", "x", "--setup", "s"], 9, none),
         (&["dump", "x"], 9, none),
         (&["dump", "c"], 0, b"records 0\n"),
+        (&["synth", "--seed", "1", "--count", "1"], 1, no_words),
+        (&SYNTH_X, 9, none),
     ];
     for (words, number, text) in table {
         expect(&rt, alloc, words, (SETUP, &HEADER), (number, text))?;
@@ -120,7 +123,16 @@ fn words_are_a_command_of_files_that_are_there(rt: HostRuntime) -> Result<(), Fa
 #[test]
 fn a_log_holds_as_many_records_as_its_capacity(rt: HostRuntime) -> Result<(), Fail> {
     let alloc = rt.alloc();
-    let words = ["run", "--setup", "s", "--capacity", "4", "c"];
+    let words = [
+        "run",
+        "--setup",
+        "s",
+        "--capacity",
+        "4",
+        "--writers",
+        "1",
+        "c",
+    ];
     let fits = b"records 4\nask big list 4: 0 1 2 3\norder 0*4\n";
     let capture = records(alloc, 4)?;
     expect(&rt, alloc, &words, (SETUP, &capture), (0, fits))?;
@@ -281,6 +293,134 @@ fn faults_of_records_are_told_with_their_numbers(rt: HostRuntime) -> Result<(), 
     Ok(())
 }
 
+const SYNTH_X: [&str; 7] = ["synth", "--setup", "x", "--seed", "1", "--count", "1"];
+
+// Setups with the number of packets that are drawn, and what is written of them.
+#[test]
+fn drawn_packets_are_answered(rt: HostRuntime) -> Result<(), Fail> {
+    let alloc = rt.alloc();
+    let table: [(&[u8], &str, u8, &[u8]); 6] = [
+        (
+            b"schema packet\nfilter f *\naggregate a f len\nask m measure a 1 1\nask p list dport==80 && sport==40219 && src==10.0.0.12\n",
+            "1",
+            0,
+            b"records 1\nask m measure count 1 sum 773 least 773 greatest 773\nask p list 1: 0\n",
+        ),
+        (
+            b"schema packet\nask all list *\n",
+            "2",
+            0,
+            b"records 2\nask all list 2: 0 1\n",
+        ),
+        (b"schema packet\n", "3", 6, b"full: more than 2 records\n"),
+        (
+            b"# rows\nschema records ts:u64\n",
+            "1",
+            2,
+            b"setup: line 2 code 4\n",
+        ),
+        (
+            b"schema records ts:u64\nlive x\n",
+            "1",
+            2,
+            b"setup: line 2 code 6\n",
+        ),
+        (
+            b"schema records ts:u64\n",
+            "3",
+            2,
+            b"setup: line 1 code 4\n",
+        ),
+    ];
+    for (setup, count, number, text) in table {
+        let words = [
+            "synth",
+            "--setup",
+            "s",
+            "--seed",
+            "1",
+            "--count",
+            count,
+            "--capacity",
+            "2",
+            "--writers",
+            "1",
+        ];
+        expect(&rt, alloc, &words, (setup, b""), (number, text))?;
+    }
+    Ok(())
+}
+
+// Two writers append a record each, the reader asks before and after, and then they go on.
+#[test]
+fn live_questions_are_answered_beside_the_writers(rt: HostRuntime) -> Result<(), Fail> {
+    let alloc = rt.alloc();
+    let words = [
+        "run",
+        "--setup",
+        "s",
+        "--writers",
+        "2",
+        "--live",
+        "2",
+        "c",
+    ];
+    let setup = b"schema packet\nask all list *\nlive all\n";
+    let capture = records(alloc, 4)?;
+    let mut shelf = shelf_of(alloc, &[], 1000, setup, &capture)?;
+    let mut sink = MemSink::new(alloc, 300, Vec::new(alloc), 300)?;
+    let gate = HoldGate::new(2);
+    let outcome = run(&rt, alloc, &words, &mut shelf, &mut sink, &gate);
+    assert_eq!(rt; outcome.status, Status::Done);
+    let texts: [&[u8]; 4] = [
+        b"records 4\nask all list 4: 0 1 2 3\nlive all @0 list 0:\nlive all @2 list 2: 0 1\norder 0*1 1*1 0*1 1*1\n",
+        b"records 4\nask all list 4: 0 1 2 3\nlive all @0 list 0:\nlive all @2 list 2: 0 1\norder 0*1 1*2 0*1\n",
+        b"records 4\nask all list 4: 0 1 2 3\nlive all @0 list 0:\nlive all @2 list 2: 1 0\norder 1*1 0*2 1*1\n",
+        b"records 4\nask all list 4: 0 1 2 3\nlive all @0 list 0:\nlive all @2 list 2: 1 0\norder 1*1 0*1 1*1 0*1\n",
+    ];
+    assert!(rt; texts.contains(&sink.held()));
+    assert!(rt; matches!(gate.report(), Held::Answered(_)));
+    Ok(())
+}
+
+// The alerts of a trigger that fires in each of fifty seconds with a thousand packets.
+fn alerts(alloc: Global) -> Result<String, Memory> {
+    let mut text = String::new(alloc);
+    write!(text, "records 50000\nask m measure count 50000 sum 3200000 least 64 greatest 64\n")?;
+    for second in 1..=50 {
+        write!(text, "alert t {second} 1000\n")?;
+    }
+    Ok(text)
+}
+
+// The text is the same for any number of writers, and its front is written before the third write fails.
+#[test]
+fn many_drawn_packets_are_answered(rt: HostRuntime) -> Result<(), Fail> {
+    let alloc = rt.alloc();
+    let setup = b"schema packet\nwidth 1000000000\nfilter f *\naggregate a f ttl\ntrigger t a count >= 1000\nask m measure a 1 50\n";
+    let text = alerts(alloc)?;
+    for (writers, failing, size) in [("1", 0, 864), ("4", 0, 864), ("15", 3, 512)] {
+        let words = [
+            "synth",
+            "--setup",
+            "s",
+            "--seed",
+            "1",
+            "--count",
+            "50000",
+            "--writers",
+            writers,
+        ];
+        let mut shelf = shelf_of(alloc, &[], 1000, setup, b"")?;
+        let mut sink = MemSink::new(alloc, 1000, [failing].to_vec(alloc)?, 1000)?;
+        let outcome = run(&rt, alloc, &words, &mut shelf, &mut sink, &FreeGate);
+        assert_eq!(rt; outcome.status.number(), if failing == 0 { 0 } else { 5 });
+        let due = text.as_bytes().get(..size).ok_or("a front")?;
+        assert_eq!(rt; sink.held(), due);
+    }
+    Ok(())
+}
+
 #[test]
 fn a_shelf_that_fails_stops_the_run_with_nothing_written(rt: HostRuntime) -> Result<(), Fail> {
     let alloc = rt.alloc();
@@ -289,7 +429,7 @@ fn a_shelf_that_fails_stops_the_run_with_nothing_written(rt: HostRuntime) -> Res
     for call in 1..=20u64 {
         let mut shelf = shelf_of(alloc, &[call], 7, SETUP, &capture)?;
         let mut sink = MemSink::new(alloc, 100, Vec::new(alloc), 5)?;
-        let status = run(&rt, alloc, &WORDS, &mut shelf, &mut sink, &FreeGate);
+        let status = run(&rt, alloc, &WORDS, &mut shelf, &mut sink, &FreeGate).status;
         let (number, text) = if call < 20 {
             (4, b"".as_slice())
         } else {
@@ -308,14 +448,14 @@ fn a_sink_that_fails_holds_a_front_of_the_text(rt: HostRuntime) -> Result<(), Fa
     for call in 1..=8u64 {
         let mut shelf = shelf_of(alloc, &[], 7, SETUP, &capture)?;
         let mut sink = MemSink::new(alloc, 100, [call].to_vec(alloc)?, 5)?;
-        let status = run(&rt, alloc, &WORDS, &mut shelf, &mut sink, &FreeGate);
+        let status = run(&rt, alloc, &WORDS, &mut shelf, &mut sink, &FreeGate).status;
         assert_eq!(rt; status, Status::WriteFault, "call {call}");
         let written = REPORT.get(..5 * (call as usize - 1)).ok_or("a front")?;
         assert_eq!(rt; sink.held(), written);
     }
     let mut shelf = shelf_of(alloc, &[], 7, SETUP, &capture)?;
     let mut sink = MemSink::new(alloc, 100, [1].to_vec(alloc)?, 5)?;
-    let status = run(&rt, alloc, &["run"], &mut shelf, &mut sink, &FreeGate);
+    let status = run(&rt, alloc, &["run"], &mut shelf, &mut sink, &FreeGate).status;
     assert_eq!(rt; status, Status::WriteFault, "the line of a refusal");
     Ok(())
 }
@@ -327,7 +467,7 @@ fn a_long_text_is_written_in_pieces(rt: HostRuntime) -> Result<(), Fail> {
     for (call, size) in [(1, 0), (2, 256), (3, 332)] {
         let mut shelf = shelf_of(alloc, &[], 1000, SETUP, &capture)?;
         let mut sink = MemSink::new(alloc, 1000, [call].to_vec(alloc)?, 1000)?;
-        let status = run(&rt, alloc, &WORDS, &mut shelf, &mut sink, &FreeGate);
+        let status = run(&rt, alloc, &WORDS, &mut shelf, &mut sink, &FreeGate).status;
         assert_eq!(rt; sink.held().len(), size, "{status:?}");
     }
     Ok(())
@@ -365,7 +505,8 @@ impl Shelf for Listing {
 fn no_other_file_is_opened(rt: HostRuntime) -> Result<(), Fail> {
     let alloc = rt.alloc();
     let capture = two_frames(alloc)?;
-    let table: [(&[&str], &[u8], &str); 3] = [
+    let table: [(&[&str], &[u8], &str); 4] = [
+        (&SYNTH_X, SETUP, "x"),
         (&WORDS, SETUP, "sc"),
         (&WORDS, b"", "s"),
         (&["s", "c"], SETUP, ""),
@@ -389,7 +530,7 @@ fn steady_devices_leave_nothing_but_memory_to_fail(rt: HostRuntime) -> Result<()
     let mut shelf = SteadyShelf::new(alloc);
     shelf.put("s", SETUP)?;
     shelf.put("c", &capture)?;
-    let status = run_steadily(
+    let outcome = run_steadily(
         &rt,
         alloc,
         &WORDS,
@@ -397,6 +538,7 @@ fn steady_devices_leave_nothing_but_memory_to_fail(rt: HostRuntime) -> Result<()
         &mut SteadySink::new(),
         &FreeGate,
     );
-    assert_eq!(rt; status, Status::Done);
+    assert_eq!(rt; outcome.status, Status::Done);
+    assert_eq!(rt; outcome.seals.len(), 1);
     Ok(())
 }

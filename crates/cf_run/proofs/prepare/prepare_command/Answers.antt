@@ -1,5 +1,5 @@
 use Rattle.std.proofs.Common.{arith}
-use Rattle.cf_run.proofs.Preparing.{setup_prepared, capture_prepared, full_prepared, report_prepared, report_as_asked, unmade_prepared}
+use Rattle.cf_run.proofs.Preparing.{setup_prepared, capture_prepared, full_prepared, report_prepared, unmade_prepared}
 use Rattle.cf_run.proofs.prepare.prepare_command.Goals as goal
 
 pub returns-in-Err-clause-prepared : goal.returns-in-Err-clause-prepared
@@ -12,7 +12,7 @@ pub returns-then-len-command-clause-prepared : goal.returns-then-len-command-cla
 returns-then-len-command-clause-prepared g c = full_prepared _ _ c.requires c.in-Ok.setup (g.F.Shelf.rest c.args.shelf.now) (g.F.Shelf.rest c.load_setup.new.shelf) (g.F.Shelf.rest c.load_rows.new.shelf) c.in-Ok-load_rows.rows (g.F.Shelf.files c.args.shelf.now) _ c.full.result c.in-Ok.ensures.files c.in-Ok.ensures.loaded c.in-Ok-load_rows.ensures.loaded (omega (arith, c.if-len-command.true, c.len.ensures)) c.full.ensures
 
 pub returns-in-Ok-report_of-clause-prepared : goal.returns-in-Ok-report_of-clause-prepared
-returns-in-Ok-report_of-clause-prepared g c = report_prepared _ _ c.requires c.in-Ok.setup (g.F.Shelf.rest c.args.shelf.now) (g.F.Shelf.rest c.load_setup.new.shelf) (g.F.Shelf.rest c.load_rows.new.shelf) c.in-Ok-load_rows.rows (g.F.Shelf.files c.args.shelf.now) _ c.in-Ok-report_of.text.items _ c.in-Ok.ensures.files c.in-Ok.ensures.loaded c.in-Ok-load_rows.ensures.loaded (omega (arith, c.if-len-command.false, c.len.ensures)) (report_as_asked _ _ c.in-Ok.setup c.in-Ok-load_rows.rows.items _ _ c.requires (rw c.deref.ensures.value at c.in-Ok-report_of.ensures))
+returns-in-Ok-report_of-clause-prepared g c = report_prepared _ _ c.requires c.in-Ok.setup (g.F.Shelf.rest c.args.shelf.now) (g.F.Shelf.rest c.load_setup.new.shelf) (g.F.Shelf.rest c.load_rows.new.shelf) c.in-Ok-load_rows.rows (g.F.Shelf.files c.args.shelf.now) _ c.in-Ok-report_of.report.text.items c.in-Ok-report_of.report.seal c.sealed.result c.in-Ok.ensures.files c.in-Ok.ensures.loaded c.in-Ok-load_rows.ensures.loaded (omega (arith, c.if-len-command.false, c.len.ensures)) (rw (c.sizes_of-sizes.ensures, c.deref.ensures.value) at c.in-Ok-report_of.ensures) c.sealed.ensures
 
 pub returns-clause-prepared : goal.returns-clause-prepared
 returns-clause-prepared g c = unmade_prepared _ _ c.requires c.in-Ok.setup (g.F.Shelf.rest c.args.shelf.now) (g.F.Shelf.rest c.load_setup.new.shelf) (g.F.Shelf.rest c.load_rows.new.shelf) c.in-Ok-load_rows.rows (g.F.Shelf.files c.args.shelf.now) _ c.in-Ok.ensures.files c.in-Ok.ensures.loaded c.in-Ok-load_rows.ensures.loaded

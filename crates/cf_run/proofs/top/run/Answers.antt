@@ -1,31 +1,34 @@
-use Rattle.std.proofs.Common.{refl, inr}
-use Rattle.cf_run.proofs.Answering.{answers_if, answers_some, decided_if, decided_free, complete_if, dumps_if}
+use Rattle.std.proofs.Common.{inr}
+use Rattle.cf_run.proofs.Answering.{answers_if, answers_some, decided_if, decided_free, complete_if, dumps_if, synths_if}
 use Rattle.cf_run.proofs.Preparing.{due_if, left_if, leaves_some}
 use Rattle.cf_run.proofs.top.run.Goals as goal
 
 pub returns-in-Ok-write_all-clause-written : goal.returns-in-Ok-write_all-clause-written
-returns-in-Ok-write_all-clause-written g c = answers_if _ _ _ _ _ _ (due_if _ _ c.in-Ok.draft.status c.in-Ok.draft.text.items _ _ c.in-Ok.ensures.prepared) (rw c.deref.ensures.value at c.in-Ok-write_all.ensures.ok)
+returns-in-Ok-write_all-clause-written g c = answers_if _ _ c.in-Ok.draft.status c.in-Ok.draft.text.items c.in-Ok.draft.seals.items _ _ _ _ c.in-Ok.ensures.prepared (rw c.deref.ensures.value at c.in-Ok-write_all.ensures.ok)
 
 pub returns-in-Ok-write_all-clause-decided : goal.returns-in-Ok-write_all-clause-decided
-returns-in-Ok-write_all-clause-decided g c = decided_if _ _ _ _ (due_if _ _ c.in-Ok.draft.status c.in-Ok.draft.text.items _ _ c.in-Ok.ensures.prepared)
+returns-in-Ok-write_all-clause-decided g c = decided_if _ _ _ _ (due_if _ _ c.in-Ok.draft.status c.in-Ok.draft.text.items c.in-Ok.draft.seals.items _ _ c.in-Ok.ensures.prepared)
 
 pub returns-in-Ok-write_all-clause-complete : goal.returns-in-Ok-write_all-clause-complete
-returns-in-Ok-write_all-clause-complete g c = complete_if _ _ _ (decided_if _ _ _ _ (due_if _ _ c.in-Ok.draft.status c.in-Ok.draft.text.items _ _ c.in-Ok.ensures.prepared))
+returns-in-Ok-write_all-clause-complete g c = complete_if _ _ c.in-Ok.draft.status c.in-Ok.draft.text.items (due_if _ _ c.in-Ok.draft.status c.in-Ok.draft.text.items c.in-Ok.draft.seals.items _ _ c.in-Ok.ensures.prepared)
 
 pub returns-in-Ok-write_all-clause-dumps : goal.returns-in-Ok-write_all-clause-dumps
-returns-in-Ok-write_all-clause-dumps g c = dumps_if _ _ _ (decided_if _ _ _ _ (due_if _ _ c.in-Ok.draft.status c.in-Ok.draft.text.items _ _ c.in-Ok.ensures.prepared))
+returns-in-Ok-write_all-clause-dumps g c = dumps_if _ _ c.in-Ok.draft.status c.in-Ok.draft.text.items (due_if _ _ c.in-Ok.draft.status c.in-Ok.draft.text.items c.in-Ok.draft.seals.items _ _ c.in-Ok.ensures.prepared)
+
+pub returns-in-Ok-write_all-clause-synths : goal.returns-in-Ok-write_all-clause-synths
+returns-in-Ok-write_all-clause-synths g c = synths_if _ _ c.in-Ok.draft.status c.in-Ok.draft.text.items (due_if _ _ c.in-Ok.draft.status c.in-Ok.draft.text.items c.in-Ok.draft.seals.items _ _ c.in-Ok.ensures.prepared)
 
 pub returns-in-Ok-write_all-clause-left : goal.returns-in-Ok-write_all-clause-left
-returns-in-Ok-write_all-clause-left g c = left_if _ _ c.in-Ok.draft.status c.in-Ok.draft.text.items _ _ c.in-Ok.ensures.prepared
-
-pub returns-clause-written : goal.returns-clause-written
-returns-clause-written g c = answers_some _ _ _ _ _ _ (due_if _ _ c.in-Ok.draft.status c.in-Ok.draft.text.items _ _ c.in-Ok.ensures.prepared) (rw c.deref.ensures.value at c.in-Err-write_all.ensures.err)
-
-pub returns-clause-left : goal.returns-clause-left
-returns-clause-left g c = leaves_some _ _ c.in-Ok.draft.status c.in-Ok.draft.text.items _ _ c.in-Ok.ensures.prepared
+returns-in-Ok-write_all-clause-left g c = left_if _ _ c.in-Ok.draft.status c.in-Ok.draft.text.items c.in-Ok.draft.seals.items _ _ c.in-Ok.ensures.prepared
 
 pub returns-in-Ok-write_all-clause-words : goal.returns-in-Ok-write_all-clause-words
 returns-in-Ok-write_all-clause-words g c = λ is. let no = c.in-Ok.ensures.words is in (no.0, rw (c.deref.ensures.value, no.1) at c.in-Ok-write_all.ensures.ok)
 
-pub returns-clause-decided : goal.returns-clause-decided
-returns-clause-decided g c = decided_free _ _ _ (inr (inr refl))
+pub returns-in-Err-write_all-clause-written : goal.returns-in-Err-write_all-clause-written
+returns-in-Err-write_all-clause-written g c = rw c.unsealed-in-Err-write_all.ensures.status (answers_some _ _ _ _ c.unsealed-in-Err-write_all.result.seals.items _ _ (due_if _ _ c.in-Ok.draft.status c.in-Ok.draft.text.items c.in-Ok.draft.seals.items _ _ c.in-Ok.ensures.prepared) (rw c.deref.ensures.value at c.in-Err-write_all.ensures.err))
+
+pub returns-in-Err-write_all-clause-left : goal.returns-in-Err-write_all-clause-left
+returns-in-Err-write_all-clause-left g c = rw c.unsealed-in-Err-write_all.ensures.status (leaves_some _ _ c.in-Ok.draft.status c.in-Ok.draft.text.items c.in-Ok.draft.seals.items _ _ c.in-Ok.ensures.prepared)
+
+pub returns-in-Err-write_all-clause-decided : goal.returns-in-Err-write_all-clause-decided
+returns-in-Err-write_all-clause-decided g c = decided_free _ _ _ (inr (inr c.unsealed-in-Err-write_all.ensures.status))

@@ -3,4 +3,7 @@ use Rattle.cf_run.proofs.Answering.{steady}
 use Rattle.cf_run.proofs.top.run_steadily.Goals as goal
 
 pub returns-clause-complete : goal.returns-clause-complete
-returns-clause-complete g c = λ lawful. steady c.run.result (c.run.ensures.complete lawful) (search rules) (search rules)
+returns-clause-complete g c = λ lawful. steady c.run.result.status (c.run.ensures.complete lawful) (search rules) (search rules)
+
+pub returns-clause-synths : goal.returns-clause-synths
+returns-clause-synths g c = λ lawful. steady c.run.result.status (c.run.ensures.synths lawful) (search rules) (search rules)

@@ -1,0 +1,116 @@
+-- From a log that is loaded and closed to what is told of it.
+use Rattle.std.proofs.Common.{◌≡◌, ℕ, ◌<◌, ◌≤◌, true, List, [], ◌∷◌, length, map, All, Result, Ok, Err, IfOk, refl, sym, ap, subst, ◌∙◌, arith}
+use Rattle.std.specs.List.{flat_map, range_with_len}
+use Rattle.std.proofs.lemmas.List.Sums.{AllPass-from_list_all}
+use borrow.Author.Tests.{ltb-true}
+use Rattle.cf_row.specs.Row.{Numbered}
+use Rattle.cf_row.specs.declared.row.Entry.{Entry}
+use Rattle.cf_fold.specs.declared.trigger.Trigger.{Trigger}
+use Rattle.cf_history.specs.Order.{IsOrder, IsLogOf, log_of, order_of}
+use Rattle.cf_history.specs.Tails.{Turn, AreTails, turns_of, batches_of}
+use Rattle.cf_history.proofs.Orders.{log_of_order, order_of_log}
+use Rattle.cf_shape.specs.Lanes.{Shaped}
+use Rattle.cf_plain.specs.Asks.{Suits, SuitsTrigger, suits_of, suits_trigger}
+use Rattle.cf_plain.specs.declared.ask.Ask.{Ask}
+use Rattle.cf_setup.specs.Settled.{Settled, IsSetup, shaped}
+use Rattle.cf_report.specs.declared.loaded.Live.{Live}
+use Rattle.cf_report.specs.declared.text.Form.TheVariants as forms
+use Rattle.cf_report.specs.Answered.{Answered, tolds_of, turn_of}
+use Rattle.cf_report.specs.Meaning.{IsReport, AreMeant}
+use Rattle.cf_report.specs.Report.{report_text}
+use Rattle.cf_report.specs.Text.{text_of}
+use Rattle.cf_report.proofs.Legal.{finals_meant, report_told, report_history}
+use Rattle.cf_report.proofs.Reported.{final_is}
+use Rattle.cf_table.specs.Moves.{Sealed}
+use Rattle.cf_table.specs.declared.closes.Closed.{Closed}
+use Rattle.cf_load.specs.Loading.{HasAnswered}
+use Rattle.cf_load.specs.Planned.{IsPlan, tails_of}
+use Rattle.cf_load.specs.declared.plan.LivePlan.{LivePlan}
+use Rattle.cf_run.specs.Logs.{IsPlanOf, IsLogClosed}
+use Rattle.cf_run.specs.Seals.{IsClosed, IsSealedReport, IsSealedFinal, seal_of}
+
+-- what a setup asks can be asked of a log of its shape
+pub plan_suits : (setup : Settled) (capacity writers nodes rounds : ℕ) (plan : LivePlan) → IsSetup setup → IsPlanOf setup rounds plan → IsPlan (shaped setup capacity writers nodes) plan
+plan_suits setup capacity writers nodes rounds plan lawful of = record {
+  asks = subst (λ (qs : List Ask). All (Suits (shaped setup capacity writers nodes)) qs) (sym of.asks) (AllPass-from_list_all (suits_of (shaped setup capacity writers nodes)) setup.asks (lawful.asks capacity writers nodes));
+  triggers = subst (λ (ts : List Trigger). All (SuitsTrigger (shaped setup capacity writers nodes)) ts) (sym of.triggers) (AllPass-from_list_all (suits_trigger (shaped setup capacity writers nodes)) setup.triggers (lawful.triggers capacity writers nodes));
+  lives = subst (λ (qs : List Ask). All (λ place. place < length qs) plan.lives.items) (sym of.asks) (subst (λ (ls : List ℕ). All (λ place. place < length setup.asks) ls) (sym of.lives)
+  (λ k d lt. ltb-true _ _ (AllPass-from_list_all _ setup.lives lawful.lives k d lt)));
+}
+
+-- by the setup's plan, each answer is meant
+pub closed_of : (setup : Settled) (capacity writers nodes rounds : ℕ) (plan : LivePlan) (rows : List Numbered) (entries : List Entry) (seal : Sealed) (answered : Answered) → IsPlanOf setup rounds plan → IsLogClosed (shaped setup capacity writers nodes) plan rows entries seal answered → IsClosed setup capacity writers nodes rounds rows entries seal answered
+closed_of setup capacity writers nodes rounds plan rows entries seal answered of closed =
+    let lives : HasAnswered (shaped setup capacity writers nodes) setup.asks setup.lives rounds (length rows) entries answered.lives = rw (of.asks, of.lives, of.rounds_are) at closed.lives in
+    record {
+      is = closed.is;
+      meant = record {
+        finals = rw of.asks at closed.finals;
+        alerts = rw of.triggers at closed.alerts;
+        tails = subst (λ (n : ℕ). AreTails n rounds setup.lives (map turn_of answered.lives)) (sym closed.is.size) lives.tails;
+        lives = lives.bodies;
+      };
+      seal_is = closed.seal_is;
+    }
+
+pub closed_if : {E : Type 0} (setup : Settled) (capacity writers nodes rounds : ℕ) (plan : LivePlan) (rows : List Numbered) (shape : Shaped) (result : Result (Closed × Answered) E) → IsPlanOf setup rounds plan → shape ≡ shaped setup capacity writers nodes → IfOk result (λ made. IsLogClosed shape plan rows made.0.entries.items made.0.seal made.1)
+    → IfOk result (λ made. IsClosed setup capacity writers nodes rounds rows made.0.entries.items made.0.seal made.1)
+closed_if setup capacity writers nodes rounds plan rows shape (Ok made) of is closed =
+    closed_of setup capacity writers nodes rounds plan rows made.0.entries.items made.0.seal made.1 of (subst (λ (s : Shaped). IsLogClosed s plan rows made.0.entries.items made.0.seal made.1) is closed)
+closed_if setup capacity writers nodes rounds plan rows shape (Err stop) of is closed = closed
+
+no_rounds : (batches lives : List ℕ) → ◌≡◌ {A = List Turn} (flat_map (λ batch. flat_map (λ round. map (λ ask. record { batch = batch; round = round; ask = ask }) lives) (range_with_len 0 0)) batches) []
+no_rounds [] lives = refl
+no_rounds (batch ∷ batches) lives = no_rounds batches lives
+
+-- where no question was asked live, there is no tail
+untold : (n : ℕ) (asks : List ℕ) (lives : List Live) → map (λ (at : Turn × ℕ). at.0) (map turn_of lives) ≡ turns_of (batches_of n) 0 asks → tails_of lives ≡ []
+untold n asks [] turns = refl
+untold n asks (live ∷ lives) turns = let none = turns ∙ no_rounds (range_with_len 0 (batches_of n)) asks in cc none
+
+module _ (setup : Settled) (capacity writers nodes rounds : ℕ) (rows : List Numbered) (entries : List Entry) (seal : Sealed) (answered : Answered) (some : 0 < writers) (closed : IsClosed setup capacity writers nodes rounds rows entries seal answered) where
+  valid : IsOrder (order_of entries) (length rows) writers
+  valid = (order_of_log rows writers entries some closed.is).0
+
+  same : entries ≡ log_of rows writers (order_of entries)
+  same = (order_of_log rows writers entries some closed.is).1
+
+  meant : AreMeant setup (shaped setup capacity writers nodes) rounds (log_of rows writers (order_of entries)) answered
+  meant = subst (λ (es : List Entry). AreMeant setup (shaped setup capacity writers nodes) rounds es answered) same closed.meant
+
+  seal_as : seal ≡ seal_of rows writers (order_of entries) (tails_of answered.lives)
+  seal_as = closed.seal_is ∙ ap (λ (es : List Entry). record { entries = es; told = tails_of answered.lives }) same
+
+  -- the report prints the answers that were given
+  abbrev report_with : IsReport setup capacity writers nodes rounds rows (order_of entries) (text_of forms.Whole setup (log_of rows writers (order_of entries)) answered)
+  report_with = record {
+    order_is = valid;
+    lives = answered.lives;
+    tails_are = subst (λ (n : ℕ). AreTails n rounds setup.lives (map turn_of answered.lives)) (log_of_order rows writers (order_of entries) some valid).0.size meant.tails;
+    finals = tolds_of setup.asks answered.finals;
+    finals_are = finals_meant setup (shaped setup capacity writers nodes) rounds (log_of rows writers (order_of entries)) answered meant;
+    alerts = answered.alerts;
+    alerts_are = meant.alerts;
+    told = report_told setup (shaped setup capacity writers nodes) rounds (log_of rows writers (order_of entries)) answered meant;
+    history = report_history setup (shaped setup capacity writers nodes) rounds (log_of rows writers (order_of entries)) answered meant;
+    text_is = ap (λ (os : List ℕ). report_text setup (log_of rows writers (order_of entries)) os (tolds_of setup.asks answered.finals) answered.alerts answered.lives) (log_of_order rows writers (order_of entries) some valid).1;
+    final_is = final_is setup capacity writers nodes rounds rows (order_of entries) answered some valid meant;
+  }
+
+  pub report_sealed : (text : List ℕ) → text ≡ text_of forms.Whole setup entries answered → IsSealedReport setup capacity writers nodes rounds rows text seal
+  report_sealed text text_is =
+      let shown : text ≡ text_of forms.Whole setup (log_of rows writers (order_of entries)) answered = text_is ∙ ap (λ (es : List Entry). text_of forms.Whole setup es answered) same in
+      let base : IsSealedReport setup capacity writers nodes rounds rows (text_of forms.Whole setup (log_of rows writers (order_of entries)) answered) seal = record {
+        order = order_of entries;
+        report = report_with;
+        seal_is = seal_as;
+      } in
+      subst (λ (t : List ℕ). IsSealedReport setup capacity writers nodes rounds rows t seal) (sym shown) base
+
+  pub final_sealed : rounds ≡ 0 → (text : List ℕ) → text ≡ text_of forms.Final setup entries answered → IsSealedFinal setup capacity writers nodes rows text seal
+  final_sealed none text text_is = record {
+    text_is = text_is ∙ ap (λ (es : List Entry). text_of forms.Final setup es answered) same ∙ final_is setup capacity writers nodes rounds rows (order_of entries) answered some valid meant;
+    order = order_of entries;
+    order_is = valid;
+    seal_is = seal_as ∙ ap (λ (ts : List ℕ). seal_of rows writers (order_of entries) ts) (untold (length (log_of rows writers (order_of entries))) setup.lives answered.lives (rw none at meant.tails.turns));
+  }

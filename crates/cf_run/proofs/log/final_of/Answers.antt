@@ -1,0 +1,14 @@
+use Rattle.std.proofs.Common.{refl, ap, ◌∙◌, List}
+use Rattle.cf_row.specs.declared.row.Entry.{Entry}
+use Rattle.cf_report.proofs.Answering.{are_answering}
+use Rattle.cf_report.specs.Text.{text_of}
+use Rattle.cf_report.specs.declared.text.Form.TheVariants as forms
+use Rattle.cf_setup.specs.Settled.{shaped}
+use Rattle.cf_run.proofs.Logs.{final_sealed}
+use Rattle.cf_run.proofs.log.final_of.Goals as goal
+
+pub report-requires : goal.report-requires
+report-requires g c = rw c.deref.ensures.value (are_answering c.args.setup.now (shaped c.args.setup.now c.args.sizes.capacity c.args.sizes.writers c.args.sizes.nodes) 0 c.in_ok-closed.closed.entries.items c.in_ok-closed.answers c.requires.lawful c.in_ok-closed.ensures.meant)
+
+pub returns : goal.returns
+returns g c = final_sealed c.args.setup.now c.args.sizes.capacity c.args.sizes.writers c.args.sizes.nodes 0 c.args.rows.now c.in_ok-closed.closed.entries.items c.in_ok-closed.closed.seal c.in_ok-closed.answers c.requires.sizes.writers.0 c.in_ok-closed.ensures refl c.in_ok-text.text.items (rw c.deref.ensures.value at c.in_ok-text.ensures)

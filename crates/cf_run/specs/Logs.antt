@@ -1,0 +1,36 @@
+-- How the log of some rows is loaded.
+use Rattle.std.specs.Prelude.{◌≡◌, ◌≤◌, ℕ, List, length, map}
+use Rattle.cf_row.specs.Row.{Numbered}
+use Rattle.cf_row.specs.declared.row.Entry.{Entry}
+use Rattle.cf_history.specs.Order.{IsLogOf}
+use Rattle.cf_shape.specs.Lanes.{Shaped}
+use Rattle.cf_setup.specs.Settled.{Settled}
+use Rattle.cf_report.specs.Answered.{Answered}
+use Rattle.cf_report.specs.Meaning.{answer_on}
+use Rattle.cf_table.specs.Moves.{Sealed}
+use Rattle.cf_load.specs.Loading.{HasAnswered}
+use Rattle.cf_load.specs.Planned.{marks_on, tails_of}
+use Rattle.cf_load.specs.declared.plan.LivePlan.{LivePlan}
+use Rattle.cf_run.specs.declared.log.Sizes.{Sizes}
+
+-- the sizes are in their ranges
+pub record AreSizes (sizes : Sizes) : Type 0 where
+  pub writers : (1 ≤ sizes.writers) × (sizes.writers ≤ 15)
+  pub capacity : (1 ≤ sizes.capacity) × (sizes.capacity ≤ 65536)
+  pub nodes : sizes.nodes ≤ 65536
+
+-- the plan has the setup's questions and triggers, and the live ones so often
+pub record IsPlanOf (setup : Settled) (rounds : ℕ) (plan : LivePlan) : Type 0 where
+  pub asks : plan.asks.items ≡ setup.asks
+  pub triggers : plan.triggers.items ≡ setup.triggers
+  pub lives : plan.lives.items ≡ setup.lives
+  pub rounds_are : plan.rounds ≡ rounds
+
+-- The entries of a closed log of the shape and its seal, and the answers to a plan: each row stands in it once, the final answers
+-- and the marks are those of the whole log, and each live answer, in its turn, that of the entries that it saw.
+pub record IsLogClosed (shape : Shaped) (plan : LivePlan) (rows : List Numbered) (entries : List Entry) (seal : Sealed) (answered : Answered) : Type 0 where
+  pub is : IsLogOf rows shape.writers entries
+  pub finals : answered.finals ≡ map (answer_on shape entries) plan.asks.items
+  pub alerts : answered.alerts ≡ map (marks_on shape entries) plan.triggers.items
+  pub lives : HasAnswered shape plan.asks.items plan.lives.items plan.rounds (length rows) entries answered.lives
+  pub seal_is : seal ≡ record { entries = entries; told = tails_of answered.lives }

@@ -1,0 +1,148 @@
+// The log of some rows, and what is told of it.
+ghost use Rattle.std.specs.Prelude.{◌≡◌, ◌≤◌, All, length, IfOk};
+ghost use Rattle.cf_row.specs.Row.{Fits};
+ghost use Rattle.cf_setup.specs.Settled.{IsSetup};
+ghost use Rattle.cf_load.specs.Planned.{IsPlan};
+ghost use Rattle.cf_run.specs.Logs.{AreSizes, IsPlanOf, IsLogClosed};
+ghost use Rattle.cf_run.specs.Seals.{IsClosed, IsSealedReport, IsSealedFinal};
+
+use cf_load::{LivePlan, LoadFault, load};
+use cf_outside::Gate;
+use cf_plain::Ask;
+use cf_report::{Form, Loaded, report};
+use cf_row::{Memory, Row};
+use cf_setup::{Setup, shape_of};
+use cf_shape::Shape;
+use cf_table::{Closed, MultiLog, Seal};
+use std::alloc::{AllocError, Global};
+use std::thread::Threads;
+
+/// The sizes of a log: how many writers it has, how many records it may hold, and how many nodes each writer has.
+#[derive(Clone, Copy, Debug)]
+pub(crate) struct Sizes {
+    pub(crate) writers: u8,
+    pub(crate) capacity: u32,
+    pub(crate) nodes: u32,
+}
+
+/// A text that tells of a log, and the log's seal.
+#[derive(Drop)]
+pub(crate) struct Report {
+    pub(crate) text: Vec<u8>,
+    pub(crate) seal: Seal,
+}
+
+fn copies(alloc: Global, asks: &[Ask]) -> Result<Vec<Ask>, Memory>
+    ensures { IfOk result (λ copied. copied.items ≡ asks.now) }
+{
+    let mut copied = Vec::with_capacity(alloc, asks.len())?;
+    for ask in asks {
+        copied.push(ask.copy(alloc)?)?;
+    }
+    Ok(copied)
+}
+
+// What a setup asks of its log.
+fn plan_of(alloc: Global, setup: &Setup, rounds: u32) -> Result<LivePlan, Memory>
+    ensures { IfOk result (IsPlanOf setup.now rounds) }
+{
+    Ok(LivePlan {
+        asks: copies(alloc, setup.asks())?,
+        triggers: setup.triggers().to_vec(alloc)?,
+        lives: setup.lives().to_vec(alloc)?,
+        rounds,
+    })
+}
+
+// Loads the rows into a log of the shape, and closes it.
+fn load_rows<R: Threads + Sync, G: Gate>(
+    rt: &R,
+    alloc: Global,
+    shape: Shape,
+    rows: &[Row],
+    plan: &LivePlan,
+    gate: &G,
+) -> Result<(Closed, Loaded), Memory>
+    requires plan { IsPlan shape plan.now }
+    requires fit { All (Fits shape.schema) rows.now }
+    requires few { length rows.now ≤ shape.capacity }
+    ensures { IfOk result (λ made. IsLogClosed shape plan.now rows.now made.0.entries.items made.0.seal made.1) }
+{
+    let (log, mut root) = MultiLog::open(alloc, shape)?;
+    match load(rt, alloc, &log, &mut root, rows, plan, gate) {
+        Ok(answers) => match log.close(alloc, root) {
+            Ok(closed) => Ok((closed, answers)),
+            Err(_) => Err(AllocError),
+        },
+        Err(LoadFault::Memory) => Err(AllocError),
+        Err(_) => unreachable!(),
+    }
+}
+
+// The closed log of the rows, and the answers to all that the setup asks.
+fn log_of<R: Threads + Sync, G: Gate>(
+    rt: &R,
+    alloc: Global,
+    setup: &Setup,
+    rows: &[Row],
+    sizes: Sizes,
+    rounds: u32,
+    gate: &G,
+) -> Result<(Closed, Loaded), Memory>
+    requires lawful { IsSetup setup.now }
+    requires fit { All (Fits setup.now.schema) rows.now }
+    requires few { length rows.now ≤ sizes.capacity }
+    requires sizes { AreSizes sizes }
+    ensures { IfOk result (λ made. IsClosed setup.now sizes.capacity sizes.writers sizes.nodes rounds rows.now made.0.entries.items made.0.seal made.1) }
+{
+    let shape = shape_of(alloc, setup, sizes.capacity, sizes.writers, sizes.nodes)?;
+    let plan = plan_of(alloc, setup, rounds)?;
+    load_rows(rt, alloc, shape, rows, &plan, gate)
+}
+
+/// The report of a setup over some rows, with the live answers and the order of the writers.
+pub(crate) fn report_of<R: Threads + Sync, G: Gate>(
+    rt: &R,
+    alloc: Global,
+    setup: &Setup,
+    rows: &[Row],
+    sizes: Sizes,
+    rounds: u32,
+    gate: &G,
+) -> Result<Report, Memory>
+    requires lawful { IsSetup setup.now }
+    requires fit { All (Fits setup.now.schema) rows.now }
+    requires few { length rows.now ≤ sizes.capacity }
+    requires sizes { AreSizes sizes }
+    ensures { IfOk result (λ made. IsSealedReport setup.now sizes.capacity sizes.writers sizes.nodes rounds rows.now made.text.items made.seal) }
+{
+    let (closed, answers) = log_of(rt, alloc, setup, rows, sizes, rounds, gate)?;
+    let text = report(alloc, setup, &closed.entries, &answers, Form::Whole)?;
+    Ok(Report {
+        text,
+        seal: closed.seal,
+    })
+}
+
+/// The final part of the report of a setup over some rows.
+pub(crate) fn final_of<R: Threads + Sync, G: Gate>(
+    rt: &R,
+    alloc: Global,
+    setup: &Setup,
+    rows: &[Row],
+    sizes: Sizes,
+    gate: &G,
+) -> Result<Report, Memory>
+    requires lawful { IsSetup setup.now }
+    requires fit { All (Fits setup.now.schema) rows.now }
+    requires few { length rows.now ≤ sizes.capacity }
+    requires sizes { AreSizes sizes }
+    ensures { IfOk result (λ made. IsSealedFinal setup.now sizes.capacity sizes.writers sizes.nodes rows.now made.text.items made.seal) }
+{
+    let (closed, answers) = log_of(rt, alloc, setup, rows, sizes, 0, gate)?;
+    let text = report(alloc, setup, &closed.entries, &answers, Form::Final)?;
+    Ok(Report {
+        text,
+        seal: closed.seal,
+    })
+}
