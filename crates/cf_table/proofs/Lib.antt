@@ -10,3 +10,4 @@ pub mod Homing
 pub mod Reading
 pub mod Mays
 pub mod Fresh
+pub mod Played

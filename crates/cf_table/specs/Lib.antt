@@ -3,3 +3,4 @@ pub mod Ways
 pub mod Rule
 pub mod Moves
 pub mod Fresh
+pub mod Played

@@ -8,6 +8,8 @@
 mod closes;
 mod count;
 mod deals;
+#[cfg(test)]
+mod lane_tests;
 mod loads;
 mod log;
 mod moves;

@@ -51,7 +51,11 @@ impl MultiLog {
     }
 
     // An empty log of the whole shape, whose words are laid out by the other one.
-    fn laid_out(alloc: Global, shape: Shape, whole: Shape) -> Result<(MultiLog, Root), Memory>
+    pub(crate) fn laid_out(
+        alloc: Global,
+        shape: Shape,
+        whole: Shape,
+    ) -> Result<(MultiLog, Root), Memory>
         requires alike { AreAlike shape whole }
         ensures whole { IfOk result (λ r. r.0.whole ≡ whole) }
         ensures log { IfOk result (λ r. r.0.shape ≡ shape) }

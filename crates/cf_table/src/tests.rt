@@ -44,7 +44,7 @@ fn homes<L: Ledger, R: Abort>(rt: &R, alloc: Global, blank: Blank) -> Result<(),
 }
 
 // Whether the row is one of the shape's.
-fn is_of(shape: &Shape, row: &Row) -> bool
+pub(crate) fn is_of(shape: &Shape, row: &Row) -> bool
     ensures { IsTrue result ↔ ((layout shape.now).fits row.now ≡ true) }
 {
     let _number = row.num();

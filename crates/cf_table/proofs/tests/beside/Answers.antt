@@ -1,4 +1,3 @@
-use Rattle.cf_table.specs.Held.{Held}
 use Rattle.cf_table.proofs.Fresh.{fresh_last}
 use Rattle.cf_table.proofs.tests.beside.Goals as goal
 

@@ -1,6 +1,5 @@
-use Rattle.std.proofs.Common.{◌∙◌, ap, sym}
+use Rattle.std.proofs.Common.{ap}
 use Rattle.cf_table.specs.Held.{Held}
-use Rattle.cf_table.specs.Rule.{root_pass}
 use Rattle.cf_table.proofs.Fresh.{dealt_fresh}
 use Rattle.cf_table.proofs.tests.dealt.Goals as goal
 

@@ -1,0 +1,56 @@
+-- What a test of the steps of lanes plays: writer 0's first row, which its one lane leads to the leaf of the nibbles 3 and 5.
+use Rattle.std.specs.Prelude.{ℕ, ◌≡◌, List, [], ◌∷◌, true, length, Some, None, slice_get}
+use Rattle.cf_row.specs.Row.{Numbered, Fits}
+use Rattle.cf_shape.specs.Lanes.{Shaped, lane_at}
+use Rattle.cf_shape.specs.Nodes.{levels_of}
+use Rattle.cf_shape.specs.Places.{place, sizes_of}
+use Rattle.cf_shape.specs.Places.Slot.{root}
+use Rattle.cf_words.specs.Words.{Spot, spot}
+use Rattle.cf_law.specs.Passes.{Book, Pass}
+use Rattle.cf_law.specs.Steps.{newcomer}
+use Rattle.cf_law.specs.Events.{no_book}
+use Rattle.cf_law.specs.Shapes.{layout, path_in}
+use Rattle.cf_table.specs.Held.{Held, LogValue, IsOf}
+
+-- two writers with two nodes each, and one lane, of two levels, that measures nothing and leads the row to that leaf
+pub record LeadsTo (shape : Shaped) (row : Numbered) : Type 0 where
+  pub fits : Fits shape.schema row
+  pub row_fits : (layout shape).fits row ≡ true
+  pub one : length shape.lanes ≡ 1
+  pub levels : levels_of shape 0 ≡ 2
+  pub bare : (lane_at shape 0).measure ≡ None
+  pub path : path_in shape row 0 ≡ Some (5 ∷ 3 ∷ [])
+  pub place_is : place (sizes_of shape) (root 0 3) ≡ 25
+  pub writers : shape.writers ≡ 2
+  pub nodes : shape.nodes ≡ 2
+
+-- the node above the leaf
+abbrev pub knot : Spot
+knot = spot 0 (3 ∷ [])
+
+-- a writer's pass that was just dealt
+pub record IsNew (log : LogValue) (w : ℕ) (h : Held) : Type 0 where
+  pub of : IsOf h log
+  pub view : h.view ≡ newcomer (no_book w ∷ []) []
+
+abbrev pub AreNew : LogValue → List Held → Type 0
+AreNew log hs = (k : ℕ) (h : Held) → slice_get hs k ≡ Some h → IsNew log k h
+
+-- a writer's pass at rest
+pub record IsHome (log : LogValue) (w : ℕ) (h : Held) : Type 0 where
+  pub of : IsOf h log
+  pub book : Book
+  pub one : (h.view).books ≡ book ∷ []
+  pub writer : book.writer ≡ w
+  pub free : book.flight ≡ None
+
+-- writer 0's book with ticket 0 in flight, of which so many words are stored
+abbrev pub in_flight : Numbered → List Spot → ℕ → List ℕ → Book
+in_flight row used filled linked = record (no_book 0) { flight = Some record { offset = 0; row = row; filled = filled; linked = linked }; used = used }
+
+-- its pass, before the node is linked and after
+abbrev pub took : Numbered → Pass
+took row = newcomer (in_flight row [] 0 [] ∷ []) []
+
+abbrev pub knotted : Numbered → ℕ → List ℕ → Pass
+knotted row filled linked = record (newcomer (in_flight row (knot ∷ []) filled linked ∷ []) []) { known = (knot, 0) ∷ [] }
