@@ -286,6 +286,7 @@ step_lawful sh words passes k p a t f g shaped law at step =
             tells = tells sh m p t shaped S.law (S.knows k p at);
             fit = λ o e there. fit_front sh n.0 n.0.tails.1 o e n.2.law (ap (λ (xs : List Entry). slice_get xs o) (sym fronts) ∙ there);
             bounds = bounded sh n.0 (g (word_at sh m.words t) es) n.2.law (n.2.knows k (g (word_at sh m.words t) es) (get_set_same passes k (g (word_at sh m.words t) es) p at));
+            mine = λ j b held. mine_seen sh n.0 (g (word_at sh m.words t) es) j b n.2.law (n.2.knows k (g (word_at sh m.words t) es) (get_set_same passes k (g (word_at sh m.words t) es) p at)) held;
           };
         }
 

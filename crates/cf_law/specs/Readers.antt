@@ -131,3 +131,5 @@ pub record Told (sh : Layout) (p : Pass) (t : Slot) (after : ℕ → List Entry 
   pub tells : Tells sh p t found
   pub fit : (o : ℕ) (e : Entry) → slice_get entries o ≡ Some e → IsFit sh e
   pub bounds : IsBounded sh p'
+  -- of a held book's finished tickets those that were seen are the first
+  pub mine : (k : ℕ) (b : Book) → Holds p' k b → take (length (mine_from b.writer 0 p'.seen)) b.mine ≡ mine_from b.writer 0 p'.seen
