@@ -12,9 +12,9 @@ use Rattle.cf_law.specs.Steps.{Holds, but, joined}
 use Rattle.cf_law.specs.Shapes.{layout}
 use Rattle.cf_law.specs.Readers.{AtHome, mine_from}
 use Rattle.cf_table.specs.Held.{Held}
-use Rattle.cf_table.specs.Moves.{Folded, IsSettled, HasAll, tickets_in}
+use Rattle.cf_table.specs.Moves.{Begins, Folded, IsSettled, HasAll, tickets_in}
 use Rattle.cf_table.proofs.Seen.{grown}
-use Rattle.cf_table.proofs.Folds.{home_stays}
+use Rattle.cf_table.proofs.Folds.{all_of, home_stays}
 
 -- the sum over the writers below n
 abbrev total : ℕ → (ℕ → ℕ) → ℕ
@@ -158,6 +158,35 @@ joined_seen p q le = elim (cases_lt (length p.seen) (length q.seen)) [
 at_most : (n : ℕ) (xs ys : List Own) → take n xs ≡ ys → length ys ≡ n → n ≤ length xs
 at_most n xs ys e long = (let f = length-take n xs in let g = ap (λ (l : List Own). length l) e in omega (arith, f, g, long))
 
+begins_at : (xs ys : List Entry) (o : ℕ) (e : Entry) → Begins xs ys → slice_get xs o ≡ Some e → slice_get ys o ≡ Some e
+begins_at [] ys o e b at = absurd (cc at)
+begins_at (x ∷ xs) [] o e b at = absurd (cc b)
+begins_at (x ∷ xs) (y ∷ ys) zero e b at = (let f : y ≡ x = cc b in ap (λ (z : Entry). Some z) f ∙ at)
+begins_at (x ∷ xs) (y ∷ ys) (suc o) e b at = begins_at xs ys o e (cc b) at
+
+-- of each book's finished tickets those that were seen are the first
+abbrev pub SeenFirst : Pass → Type 0
+SeenFirst q = (k : ℕ) (b : Book) → Holds q k b → take (length (mine_from b.writer 0 q.seen)) b.mine ≡ mine_from b.writer 0 q.seen
+
+-- where all tickets of all books were seen, a pass with these books has seen no more
+no_more : (shape : Shaped) (p q : Pass) → IsSettled shape p → q.books ≡ p.books → AreBelow shape.writers p.seen → AreBelow shape.writers q.seen → SeenFirst q → length q.seen ≤ length p.seen
+no_more shape p q settled books own joint first =
+    let few : (w : ℕ) → w < shape.writers → many 0 q.seen w ≤ many 0 p.seen w = λ w lt.
+    (let h = settled.home w lt in
+    let mine = ap (λ (xs : List Own). length xs) (settled.all h.0 h.1 h.2) in
+    let most = at_most (many 0 q.seen (h.1).writer) (h.1).mine (mine_from (h.1).writer 0 q.seen) (first h.0 h.1 (ap (λ (bs : List Book). slice_get bs h.0) books ∙ h.2)) refl in
+    subst (λ (v : ℕ). many 0 q.seen v ≤ many 0 p.seen v) h.3 (omega (arith, mine, most))) in
+    let le = total_most shape.writers (many 0 q.seen) (many 0 p.seen) few in
+    let more = all_counted shape.writers 0 q.seen joint in
+    let less = all_counted shape.writers 0 p.seen own in omega (arith, le, more, less)
+
+pub nothing_new : (shape : Shaped) (p q : Pass) → IsSettled shape p → q.books ≡ p.books → Begins p.seen q.seen → AreBelow shape.writers q.seen → SeenFirst q → q.seen ≡ p.seen
+nothing_new shape p q settled books begins below first =
+    let le = no_more shape p q settled books (λ o e at. below o e (begins_at p.seen q.seen o e begins at)) below first in
+    let least = ap (λ (es : List Entry). length es) begins in
+    let taken = length-take (length p.seen) q.seen in
+    sym (all_of q.seen (length p.seen) (omega (arith, le, least, taken))) ∙ begins
+
 pub folded_stays : (shape : Shaped) (m : Held) (q : Pass) (n : Held) → Folded shape m q n → q.books ≡ [] → IsSettled shape m.view → (n.view).seen ≡ (m.view).seen
 folded_stays shape m q n f bare settled =
     let p = m.view in
@@ -166,22 +195,8 @@ folded_stays shape m q n f bare settled =
     let books : j.books ≡ p.books = ap (λ (bs : List Book). p.books ++ bs) bare ∙ append-nil p.books in
     let held : (k : ℕ) (b : Book) → Holds j k b → Holds p k b = λ k b at. ap (λ (bs : List Book). slice_get bs k) (sym books) ∙ at in
     let home : AtHome (layout shape) j = λ w lt. (let h = settled.home w lt in (h.0, h.1, ap (λ (bs : List Book). slice_get bs h.0) books ∙ h.2, h.3, h.4)) in
-    let few : (w : ℕ) → w < shape.writers → many 0 j.seen w ≤ many 0 p.seen w = λ w lt.
-    (let h = home w lt in
-    let mine = ap (λ (xs : List Own). length xs) (settled.all h.0 h.1 (held h.0 h.1 h.2)) in
-    let most = at_most (many 0 j.seen (h.1).writer) (h.1).mine (mine_from (h.1).writer 0 j.seen) (told.tells.mine h.0 h.1 h.2) refl in
-    subst (λ (v : ℕ). many 0 j.seen v ≤ many 0 p.seen v) h.3 (omega (arith, mine, most))) in
     let own : AreBelow shape.writers p.seen = λ o e at. (told.fit o e (begins_at p.seen told.entries o e (told.goes_on.olds 0 p.seen refl) at)).1 in
     let joint : AreBelow shape.writers j.seen = λ o e at. (told.tells.fit o e at).1 in
-    let le = total_most shape.writers (many 0 j.seen) (many 0 p.seen) few in
-    let more = all_counted shape.writers 0 j.seen joint in
-    let less = all_counted shape.writers 0 p.seen own in
-    let same : j.seen ≡ p.seen = joined_seen p q (omega (arith, le, more, less)) in
+    let same : j.seen ≡ p.seen = joined_seen p q (no_more shape p j settled books own joint told.tells.mine) in
     let all : (k : ℕ) (b : Book) → Holds j k b → b.mine ≡ mine_from b.writer 0 j.seen = λ k b at. settled.all k b (held k b at) ∙ ap (mine_from b.writer 0) (sym same) in
     home_stays shape (record m { view = j }) n false f.found f.made home all ∙ same
-  where
-    begins_at : (xs ys : List Entry) (o : ℕ) (e : Entry) → take (length xs) ys ≡ xs → slice_get xs o ≡ Some e → slice_get ys o ≡ Some e
-    begins_at [] ys o e b at = absurd (cc at)
-    begins_at (x ∷ xs) [] o e b at = absurd (cc b)
-    begins_at (x ∷ xs) (y ∷ ys) zero e b at = (let f : y ≡ x = cc b in ap (λ (z : Entry). Some z) f ∙ at)
-    begins_at (x ∷ xs) (y ∷ ys) (suc o) e b at = begins_at xs ys o e (cc b) at

@@ -25,7 +25,7 @@ same_told n es p b = elim (cases_Bool b) [
 pub sees_told : (n : ℕ) (es : List Entry) (p : Pass) → ((sees n es p).told ≡ p.told) × ((sees n es p).tails ≡ p.tails)
 sees_told n es p = same_told n es p (nat_lt (length p.seen) n)
 
-all_of : (es : List Entry) (n : ℕ) → length es ≡ n → take n es ≡ es
+pub all_of : (es : List Entry) (n : ℕ) → length es ≡ n → take n es ≡ es
 all_of es n e = ap (λ (k : ℕ). take k es) (sym e) ∙ take-length es
 
 pub sees_seen : (n : ℕ) (es : List Entry) (p : Pass) → length es ≡ n → length p.seen ≤ n → take (length p.seen) es ≡ p.seen → (sees n es p).seen ≡ es

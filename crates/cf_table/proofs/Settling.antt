@@ -1,5 +1,5 @@
 -- The read tail is moved over what is finished.
-use Rattle.std.proofs.Common.{◌≡◌, ℕ, ◌+◌, ◌==◌, ◌<◌, ◌≤◌, inl, inr, cond, suc, List, length, length-take, length-take-le, take, drop, Bool, true, false, refl, sym, ap, subst, ◌∙◌, arith}
+use Rattle.std.proofs.Common.{◌≡◌, ℕ, ◌+◌, ◌==◌, ◌<◌, ◌≤◌, ◌⊎◌, inl, inr, cond, zero, suc, List, [], ◌∷◌, length, length-take, length-take-le, take, drop, Bool, true, false, Some, slice_get, refl, sym, ap, subst, ◌∙◌, arith}
 use Rattle.std.specs.Bool.{nat_lt}
 use Rattle.std.proofs.lemmas.Bool.{cases_lt, cases_Bool}
 use Rattle.std.proofs.lemmas.Bool.Decides.{nat_tests}
@@ -19,8 +19,9 @@ use Rattle.cf_law.specs.Shapes.{layout}
 use Rattle.cf_law.specs.Readers.{Told, AtHome, EndsThere}
 use Rattle.cf_table.specs.Held.{Held}
 use Rattle.cf_table.specs.Ways.{May, Made, Stored, done_way, advance_way}
-use Rattle.cf_table.specs.Moves.{Begins, HasAll, MarkedIsFull, HasPaths, AreFit, Settled}
-use Rattle.cf_table.proofs.Seen.{sees_books, grown}
+use Rattle.cf_table.specs.Moves.{Begins, HasAll, MarkedIsFull, HasPaths, AreFit, IsSettled, Settled}
+use Rattle.cf_table.proofs.Seen.{sees_books, grown, advance_asks}
+use Rattle.cf_table.proofs.Counting.{AreBelow, nothing_new}
 use Rattle.cf_table.proofs.Folds.{sees_told}
 
 -- the pass has its books, and has seen no less
@@ -104,6 +105,32 @@ moved_advance shape m n t le stored =
       told = ap (λ (q : Pass). q.told) is ∙ more.0;
       longer = ap (λ (q : Pass). take (length p.seen) q.seen) is ∙ sees_begins (suc t) es p (advance_far shape p n.view t stored.found le told) told.goes_on.seen;
     }
+
+taken_at : (n : ℕ) (es : List Entry) (o : ℕ) (e : Entry) → slice_get (take n es) o ≡ Some e → slice_get es o ≡ Some e
+taken_at zero es o e at = absurd (cc at)
+taken_at (suc n) [] o e at = absurd (cc at)
+taken_at (suc n) (x ∷ xs) zero e at = at
+taken_at (suc n) (x ∷ xs) (suc o) e at = taken_at n xs o e at
+
+-- what is seen was seen before, or is among the entries
+sees_at : (n : ℕ) (es : List Entry) (p : Pass) (o : ℕ) (e : Entry) → slice_get (sees n es p).seen o ≡ Some e → (slice_get p.seen o ≡ Some e) ⊎ (slice_get es o ≡ Some e)
+sees_at n es p o e at = elim (cases_Bool (nat_lt (length p.seen) n)) [
+  | inl t ↦ inr (taken_at n es o e (sym (ap (λ (b : Bool). slice_get (grown n es p b).seen o) t) ∙ at))
+  | inr t ↦ inl (sym (ap (λ (b : Bool). slice_get (grown n es p b).seen o) t) ∙ at)
+]
+
+-- while all books are home nothing new is seen
+pub advance_stays : (shape : Shaped) (m n : Held) (t : ℕ) → May shape m.view (advance t) (advance_way m.view t) → Stored shape (advance_way m.view t) m n → IsSettled shape m.view → (n.view).seen ≡ (m.view).seen
+advance_stays shape m n t may stored settled =
+    let p = m.view in
+    let le = (advance_asks (layout shape) p t (tail 1) (advance_way p t).change (advance_way p t).after may).0 in
+    let moved = moved_advance shape m n t le stored in
+    let told = stored.made.told in
+    let below : AreBelow shape.writers (n.view).seen = λ o e at. elim (sees_at (suc t) told.entries p o e (sym (ap (λ (q : Pass). slice_get q.seen o) told.is) ∙ at)) [
+      | inl old ↦ (told.tells.fit o e old).1
+      | inr new ↦ (told.fit o e new).1
+    ] in
+    nothing_new shape p n.view settled moved.books moved.longer below told.mine
 
 -- The last look ended at the first ticket that isn't finished, or all places are taken.
 pub settled_by : (shape : Shaped) (m p n : Held) (o found : ℕ) → Moved m p → Made shape (done_way shape p.view o) p found n → EndsThere (layout shape) p.view (slot_of shape (done o)) (last_word shape) found → Settled shape m n

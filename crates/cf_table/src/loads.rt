@@ -19,11 +19,12 @@ use std::marker::Brand;
 use std::sync::ledger::Ledger;
 
 impl MultiLog {
-    /// Moves the read tail from t, where it stands there.
+    /// Moves the read tail from t, where it stands there. Nothing new is seen while all books are home.
     pub fn advance<P: Pass, L: Ledger>(&self, pass: &mut P, t: u32, steps: &mut Steps<L>)
         requires of { IsOf (P.held pass.old) self.now }
         requires lawful { May self.now.shape (P.held pass.old).view (advances t) (advance_way (P.held pass.old).view t) }
         ensures made { Stored self.now.shape (advance_way (P.held pass.old).view t) (P.held pass.old) (P.held pass.new) }
+        ensures stays { IsSettled self.now.shape (P.held pass.old).view → (P.held pass.new).view.seen ≡ (P.held pass.old).view.seen }
         ensures steps { steps.new ≡ steps.old + 1 }
     {
         pass.advance_by(self, t, steps);
