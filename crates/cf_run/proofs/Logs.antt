@@ -35,7 +35,7 @@ plan_suits setup capacity writers nodes rounds plan lawful of = record {
   asks = subst (λ (qs : List Ask). All (Suits (shaped setup capacity writers nodes)) qs) (sym of.asks) (AllPass-from_list_all (suits_of (shaped setup capacity writers nodes)) setup.asks (lawful.asks capacity writers nodes));
   triggers = subst (λ (ts : List Trigger). All (SuitsTrigger (shaped setup capacity writers nodes)) ts) (sym of.triggers) (AllPass-from_list_all (suits_trigger (shaped setup capacity writers nodes)) setup.triggers (lawful.triggers capacity writers nodes));
   lives = subst (λ (qs : List Ask). All (λ place. place < length qs) plan.lives.items) (sym of.asks) (subst (λ (ls : List ℕ). All (λ place. place < length setup.asks) ls) (sym of.lives)
-  (λ k d lt. ltb-true _ _ (AllPass-from_list_all _ setup.lives lawful.lives k d lt)));
+      (λ k d lt. ltb-true _ _ (AllPass-from_list_all _ setup.lives lawful.lives k d lt)));
 }
 
 -- by the setup's plan, each answer is meant

@@ -26,7 +26,9 @@ fn texts(alloc: Global, owned: &[String]) -> Result<Vec<&str>, Memory> {
 }
 
 // Runs with the words after the program's name. Words that are no text are no command.
-fn run_args<R: Files + Print + Env + Threads + Sync + AllocGlobal>(rt: &R) -> Result<Status, Memory> {
+fn run_args<R: Files + Print + Env + Threads + Sync + AllocGlobal>(
+    rt: &R,
+) -> Result<Status, Memory> {
     let mut owned = Vec::new(rt.alloc());
     match env::args(rt) {
         Ok(args) => {

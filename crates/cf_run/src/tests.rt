@@ -1,7 +1,9 @@
 ghost use Rattle.std.specs.Prelude.{◌<◌};
 
 use super::*;
-use cf_outside::{Failed, FreeGate, Held, HoldGate, MemShelf, MemSink, OpenFault, Shelf, SteadyShelf, SteadySink};
+use cf_outside::{
+    Failed, FreeGate, Held, HoldGate, MemShelf, MemSink, OpenFault, Shelf, SteadyShelf, SteadySink,
+};
 use cf_row::Memory;
 use std::alloc::Global;
 use std::process::Abort;
@@ -351,20 +353,34 @@ fn drawn_packets_are_answered(rt: HostRuntime) -> Result<(), Fail> {
     Ok(())
 }
 
+// However many writers there are, all but the order is the same.
+#[test]
+fn several_writers_give_the_same_answers(rt: HostRuntime) -> Result<(), Fail> {
+    let alloc = rt.alloc();
+    let capture = records(alloc, 20)?;
+    let front =
+        b"records 20\nask big list 20: 0 1 2 3 4 5 6 7 8 9 10 11 12 13 14 15 16 17 18 19\norder ".as_slice();
+    let table: [&[&str]; 3] = [
+        &["run", "--setup", "s", "c"],
+        &["run", "--setup", "s", "--writers", "2", "c"],
+        &["run", "--setup", "s", "--writers", "15", "--live", "1", "c"],
+    ];
+    for words in table {
+        let mut shelf = shelf_of(alloc, &[], 1000, SETUP, &capture)?;
+        let mut sink = MemSink::new(alloc, 1000, Vec::new(alloc), 1000)?;
+        let outcome = run(&rt, alloc, words, &mut shelf, &mut sink, &FreeGate);
+        assert_eq!(rt; outcome.status, Status::Done);
+        let held = sink.held().get(..front.len()).ok_or("a front")?;
+        assert_eq!(rt; held, front);
+    }
+    Ok(())
+}
+
 // Two writers append a record each, the reader asks before and after, and then they go on.
 #[test]
 fn live_questions_are_answered_beside_the_writers(rt: HostRuntime) -> Result<(), Fail> {
     let alloc = rt.alloc();
-    let words = [
-        "run",
-        "--setup",
-        "s",
-        "--writers",
-        "2",
-        "--live",
-        "2",
-        "c",
-    ];
+    let words = ["run", "--setup", "s", "--writers", "2", "--live", "2", "c"];
     let setup = b"schema packet\nask all list *\nlive all\n";
     let capture = records(alloc, 4)?;
     let mut shelf = shelf_of(alloc, &[], 1000, setup, &capture)?;
@@ -386,7 +402,10 @@ fn live_questions_are_answered_beside_the_writers(rt: HostRuntime) -> Result<(),
 // The alerts of a trigger that fires in each of fifty seconds with a thousand packets.
 fn alerts(alloc: Global) -> Result<String, Memory> {
     let mut text = String::new(alloc);
-    write!(text, "records 50000\nask m measure count 50000 sum 3200000 least 64 greatest 64\n")?;
+    write!(
+        text,
+        "records 50000\nask m measure count 50000 sum 3200000 least 64 greatest 64\n"
+    )?;
     for second in 1..=50 {
         write!(text, "alert t {second} 1000\n")?;
     }
@@ -397,7 +416,8 @@ fn alerts(alloc: Global) -> Result<String, Memory> {
 #[test]
 fn many_drawn_packets_are_answered(rt: HostRuntime) -> Result<(), Fail> {
     let alloc = rt.alloc();
-    let setup = b"schema packet\nwidth 1000000000\nfilter f *\naggregate a f ttl\ntrigger t a count >= 1000\nask m measure a 1 50\n";
+    let setup =
+        b"schema packet\nwidth 1000000000\nfilter f *\naggregate a f ttl\ntrigger t a count >= 1000\nask m measure a 1 50\n";
     let text = alerts(alloc)?;
     for (writers, failing, size) in [("1", 0, 864), ("4", 0, 864), ("15", 3, 512)] {
         let words = [
