@@ -1,5 +1,5 @@
 -- What appending and settling do to a writer's pass.
-use Rattle.std.specs.Prelude.{ℕ, ◌≡◌, ◌<◌, ◌≤◌, ◌⊎◌, [], ◌∷◌, ◌++◌, true, false, length, take, Some, None, slice_get}
+use Rattle.std.specs.Prelude.{ℕ, ◌≡◌, ◌<◌, ◌≤◌, ◌⊎◌, List, [], ◌∷◌, ◌++◌, true, false, length, take, Some, None, slice_get}
 use Rattle.std.specs.declared.result.Result.{Result}
 use Rattle.std.specs.declared.result.Result.TheVariants.{Ok, Err}
 use Rattle.cf_row.specs.Row.{Numbered}
@@ -12,6 +12,7 @@ use Rattle.cf_law.specs.Readers.{mine_from}
 use Rattle.cf_table.specs.Held.{Held, book_of}
 use Rattle.cf_table.specs.Ways.{Made, take_way}
 use Rattle.cf_table.specs.Moves.{Begins}
+use Rattle.cf_append.specs.Paths.{Strides, HasUsed, IsOnPath, IsStuck, HasLeaves, with_nodes}
 use Rattle.cf_append.specs.declared.appends.AppendFault.{AppendFault}
 use Rattle.cf_append.specs.declared.appends.AppendFault.TheVariants.{Full, NodesFull}
 use Rattle.cf_append.specs.declared.settles.Settled.{Settled}
@@ -64,29 +65,51 @@ with_own o row b = record b { mine = b.mine ++ record { offset = o; row = row } 
 abbrev pub marked : Book → Book
 marked b = record b { over = true }
 
--- The row was appended at offset o, as the pass's only change beside what it has seen.
+-- The paths of the row are whole: nodes were used on them alone, and the leaf in each lane that selects the row is known.
+pub record HasMade (shape : Shaped) (row : Numbered) (m n : Held) : Type 0 where
+  pub strides : Strides m n
+  pub used : HasUsed (IsOnPath shape row) m n
+  pub leaves : List ℕ
+  pub whole : HasLeaves shape row n.view leaves (length shape.lanes)
+
+-- The row was appended at offset o, by a ticket that was taken once its paths were whole, as the pass's only change beside
+-- what it has seen and knows, and the nodes that it used.
 pub record IsAppended (shape : Shaped) (o : ℕ) (row : Numbered) (m n : Held) : Type 0 where
   pub open_book : (book_of m.view).over ≡ false
+  pub before : Held
+  pub paths : HasMade shape row m before
+  pub taken : Held
+  pub took : Made shape (take_way shape before.view row) before o taken
   pub room : o < shape.capacity
   pub fresh : length (m.view).seen ≤ o
-  pub books : (n.view).books ≡ with_own o row (book_of m.view) ∷ []
+  pub books : (n.view).books ≡ with_own o row (with_nodes paths.used.spots paths.used.label (book_of m.view)) ∷ []
   pub covered : (o < length (n.view).seen) ⊎ ((b : ℕ) × (b < o) × IsUnfinished shape b m.view n.view)
 
--- the ticket that was taken lay past the last place, and so the book was marked
+-- the ticket that was taken, once the paths were whole, lay past the last place, and so the book was marked
 pub record IsLate (shape : Shaped) (row : Numbered) (m n : Held) : Type 0 where
   pub open_book : (book_of m.view).over ≡ false
+  pub before : Held
+  pub paths : HasMade shape row m before
   pub found : ℕ
   pub past : shape.capacity ≤ found
-  pub taken : Made shape (take_way shape m.view row) m found n
-  pub is : n ≡ with_book (marked (book_of m.view)) m
+  pub took : Made shape (take_way shape before.view row) before found n
+  pub books : (n.view).books ≡ marked (with_nodes paths.used.spots paths.used.label (book_of m.view)) ∷ []
 
 -- the book was marked before, and all is as it was
 pub record IsOver (m n : Held) : Type 0 where
   pub over : (book_of m.view).over ≡ true
   pub is : n ≡ m
 
--- Full exactly where the book was marked, or is now that the ticket taken lay past the last place. Nodes aren't used yet.
+-- no ticket was taken: the row's paths want a node, and all of the writer's are used
+pub record IsNodesFull (shape : Shaped) (row : Numbered) (m n : Held) : Type 0 where
+  pub open_book : (book_of m.view).over ≡ false
+  pub strides : Strides m n
+  pub used : HasUsed (IsOnPath shape row) m n
+  pub stuck : IsStuck shape (IsOnPath shape row) m n
+
+-- Full exactly where the book was marked, or is now that the ticket taken lay past the last place; NodesFull only where no
+-- node is left for one that the row's paths want.
 abbrev pub IsAnswered : Shaped → Numbered → Held → Held → Result ℕ AppendFault → Type 0
 IsAnswered shape row m n (Ok o) = IsAppended shape o row m n
 IsAnswered shape row m n (Err Full) = IsOver m n ⊎ IsLate shape row m n
-IsAnswered shape row m n (Err NodesFull) = ⊥
+IsAnswered shape row m n (Err NodesFull) = IsNodesFull shape row m n

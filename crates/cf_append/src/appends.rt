@@ -1,18 +1,21 @@
 // A row becomes a record of the log.
-ghost use Rattle.std.specs.Prelude.{◌≡◌, ◌⊎◌, ◌+◌, ◌-◌, ◌*◌, ◌<◌, ◌≤◌, [], length, false, IfOk};
+ghost use Rattle.std.specs.Prelude.{◌≡◌, ◌⊎◌, ◌+◌, ◌-◌, ◌*◌, ◌<◌, ◌≤◌, length, false, IfOk};
 ghost use Rattle.cf_row.specs.Row.{Fits};
 ghost use Rattle.cf_row.specs.Words.{word_count as word_count_of, spelled};
 ghost use Rattle.cf_table.specs.Held.{IsOf, book_of};
 ghost use Rattle.cf_table.specs.Moves.{HasAll};
 ghost use Rattle.cf_append.specs.Appends.{GoesOn, Rests, SeenFirst, IsAnswered, flying};
+ghost use Rattle.cf_append.specs.Linking.{lane_steps};
 
+use crate::links::{fill_cells, link_all};
+use crate::paths::make_paths;
 use crate::settles::{move_tail, wait_for};
 use cf_row::{Row, word_count, words_of};
 use cf_table::{MultiLog, Steps, WriterPass};
 use std::sync::Wait;
 use std::sync::ledger::Ledger;
 
-/// Why a row wasn't appended: the log is full, or the writer's nodes are, which doesn't come without lanes.
+/// Why a row wasn't appended: the log is full, or the writer's nodes are.
 #[derive(Clone, Copy, Debug, PartialEq, Eq)]
 pub enum AppendFault {
     Full,
@@ -64,9 +67,9 @@ pub(crate) fn fill<L: Ledger>(
     store_words(log, pass, offset, row, words, steps);
 }
 
-/// Appends the row: takes a ticket, fills and finishes it, and moves the read tail over each finished record, up to the
-/// first that isn't. Answers the record's offset. It is covered then, or stands behind a record that the last look found
-/// unfinished.
+/// Appends the row: makes its paths, takes a ticket, fills it, links it in each lane that selects the row, finishes it, and
+/// moves the read tail over each finished record, up to the first that isn't. Answers the record's offset. It is covered
+/// then, or stands behind a record that the last look found unfinished.
 pub fn append<L: Ledger>(
     log: &MultiLog,
     pass: &mut WriterPass,
@@ -76,17 +79,19 @@ pub fn append<L: Ledger>(
     requires of { IsOf pass.old log.now }
     requires fits { Fits log.now.shape.schema row.now }
     requires rest { Rests pass.old.view }
-    requires bare { log.now.shape.lanes ≡ [] }
     ensures goes_on { GoesOn pass.old pass.new }
     ensures rest { Rests pass.new.view }
     ensures answer { IsAnswered log.now.shape row.now pass.old pass.new result }
     ensures begins { (((book_of pass.old.view).over ≡ false) ⊎ SeenFirst pass.old.view) → SeenFirst pass.new.view }
     ensures alone { log.now.shape.writers ≡ 1 → IfOk result (λ _. HasAll pass.new.view) }
-    ensures steps { steps.new ≤ steps.old + word_count_of log.now.shape.schema + 3 + 2 * (length pass.new.view.seen - length pass.old.view.seen + 1) }
+    ensures steps { steps.new ≤ steps.old + word_count_of log.now.shape.schema + 3 + lane_steps log.now.shape (length log.now.shape.lanes) + 2 * (length pass.new.view.seen - length pass.old.view.seen + 1) }
 {
     if pass.over() {
         return Err(AppendFault::Full);
     }
+    let Some(leaves) = make_paths(log, pass, row, steps) else {
+        return Err(AppendFault::NodesFull);
+    };
     let _number = row.num();
     let found = log.take_ticket(pass, row, steps);
     if found >= u64::from(log.layout().capacity()) {
@@ -94,6 +99,8 @@ pub fn append<L: Ledger>(
     }
     let offset = found as u32;
     fill(log, pass, offset, row, steps);
+    fill_cells(log, pass, offset, row, &leaves, steps);
+    link_all(log, pass, offset, row, &leaves, steps);
     log.finish_record(pass, offset, steps);
     move_tail(log, pass, steps);
     Ok(offset)
@@ -110,7 +117,6 @@ pub fn append_wait<R: Wait, L: Ledger>(
     requires of { IsOf pass.old log.now }
     requires fits { Fits log.now.shape.schema row.now }
     requires rest { Rests pass.old.view }
-    requires bare { log.now.shape.lanes ≡ [] }
     ensures goes_on { GoesOn pass.old pass.new }
     ensures rest { Rests pass.new.view }
     ensures answer { IsAnswered log.now.shape row.now pass.old pass.new result }

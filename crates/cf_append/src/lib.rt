@@ -1,9 +1,14 @@
 //! A record is appended to a shared log by a writer's pass, and the read tail is moved over what is finished.
 //!
-//! So far the log's shape has no lanes: no paths are made and no record is linked.
+//! A record's paths are made before its ticket is taken, and it is linked in each lane that selects its row before it is
+//! finished.
 #![tactic(auto)]
 
 mod appends;
+#[cfg(test)]
+mod lane_tests;
+mod links;
+mod paths;
 mod settles;
 #[cfg(test)]
 mod tests;

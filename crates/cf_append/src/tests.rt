@@ -1,4 +1,4 @@
-ghost use Rattle.std.specs.Prelude.{◌≡◌, ◌<◌, []};
+ghost use Rattle.std.specs.Prelude.{◌≡◌, ◌<◌};
 ghost use Rattle.cf_row.specs.Row.{Fits};
 ghost use Rattle.cf_table.specs.Held.{IsOf};
 ghost use Rattle.cf_table.specs.Fresh.{IsFresh, AreFresh};
@@ -6,6 +6,8 @@ ghost use Rattle.cf_append.specs.Appends.{Rests};
 
 use super::*;
 use crate::appends::fill;
+use crate::links::{fill_cells, link_all};
+use crate::paths::make_paths;
 use cf_row::{Attr, Kind, Memory, Name, Row, Schema, Value, fits};
 use cf_shape::Shape;
 use cf_table::{MultiLog, Pass, Steps, WriterPass};
@@ -46,7 +48,6 @@ fn append_next<L: Ledger, R: Abort>(
     requires of { IsOf pass.old log.now }
     requires fits { Fits log.now.shape.schema row.now }
     requires rest { Rests pass.old.view }
-    requires bare { log.now.shape.lanes ≡ [] }
     ensures of { IsOf pass.new log.now }
     ensures rest { Rests pass.new.view }
 {
@@ -74,7 +75,6 @@ fn append_some<L: Ledger, R: Abort>(
     requires of { IsOf pass log.now }
     requires fits { Fits log.now.shape.schema row.now }
     requires rest { Rests pass.view }
-    requires bare { log.now.shape.lanes ≡ [] }
 {
     let mut next = first;
     for _ in 0..rounds {
@@ -94,7 +94,6 @@ fn append_each<L: Ledger, R: Abort>(
 )
     requires fits { Fits log.now.shape.schema row.now }
     requires fresh { AreFresh log.now passes.items }
-    requires bare { log.now.shape.lanes ≡ [] }
 {
     let mut next = 0;
     for pass in passes {
@@ -151,15 +150,19 @@ fn behind<L: Ledger, R: Abort + Wait>(
 )
     requires fits { Fits log.now.shape.schema row.now }
     requires fresh { IsFresh log.now first × IsFresh log.now second }
-    requires bare { log.now.shape.lanes ≡ [] }
 {
     assert!(rt; log.layout().capacity() > 1);
+    let Some(leaves) = make_paths(log, &mut first, row, steps) else {
+        panic!(rt; "no node");
+    };
     let _number = row.num();
     let found = log.take_ticket(&mut first, row, steps);
     assert!(rt; found == 0);
     assert!(rt; matches!(append(log, &mut second, row, steps), Ok(1)));
     assert!(rt; matches!(settle(log, &mut second, 1, steps), Settled::Behind(0)));
     fill(log, &mut first, 0, row, steps);
+    fill_cells(log, &mut first, 0, row, &leaves, steps);
+    link_all(log, &mut first, 0, row, &leaves, steps);
     log.finish_record(&mut first, 0, steps);
     assert!(rt; matches!(settle(log, &mut first, 1, steps), Settled::Covered));
     assert!(rt; matches!(append_wait(log, rt, &mut second, row, steps), Ok(2)));

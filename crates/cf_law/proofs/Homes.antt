@@ -41,6 +41,17 @@ mine_found w k (t ∷ ts) j x h = elim (cases_Bool (t.writer == w)) [
         let o : k ≡ x.offset = ap (λ (y : Own). y.offset) same in (0, t, omega arith, refl, eq_from t.writer w e, d)
     first e d rest (suc i) g = found_in w k t ts x (rest i g)
 
+-- they are no more than the log's tickets
+pub mine_few : (w k : ℕ) (log : List Ticket) → length (mine_in w k log) ≤ length log
+mine_few w k [] = (let e = ap (λ (xs : List Own). length xs) (nothing_mine w k) in omega (arith, e))
+mine_few w k (t ∷ ts) = elim (cases_Bool (t.writer == w)) [
+  | inr e ↦ (let f = ap (λ (xs : List Own). length xs) (other_cons w k t ts e).0 in omega (arith, f, mine_few w (suc k) ts))
+  | inl e ↦ elim (cases_Bool t.is_done) [
+    | inr d ↦ (let f = ap (λ (xs : List Own). length xs) (open_cons w k t ts e d).0 in omega (arith, f, mine_few w (suc k) ts))
+    | inl d ↦ (let f = ap (λ (xs : List Own). length xs) (done_cons w k t ts e d).0 in omega (arith, f, mine_few w (suc k) ts))
+  ]
+]
+
 -- a finished ticket's done word is 1
 pub done_one : (sh : Layout) (m : Base) (o i : ℕ) (t : Ticket) → BaseLaw sh m → slice_get m.log o ≡ Some t → t.is_done ≡ true → suc i ≡ sh.sizes.ticket_words → word_at sh m.words (cell o i) ≡ 1
 done_one sh m o i t law at done last =

@@ -11,11 +11,11 @@ use Rattle.cf_words.specs.Words.{Spot, spot, Layout, Ticket, Stock, node_at, IsN
 use Rattle.cf_shape.specs.Uses.Use.{version}
 use Rattle.cf_words.specs.Law.{LayoutLaw}
 use Rattle.cf_law.specs.Passes.{Cursor, Pass}
-use Rattle.cf_law.specs.Steps.{looked, sees, learn, walk_on, Reaches}
+use Rattle.cf_law.specs.Steps.{looked, sees, learn, met_of, walk_on, Reaches}
 use Rattle.cf_law.specs.Lawful.{Base, BaseLaw, front, Known, CursorLaw, CursorIs, Leads, DoneAt, PassLaw}
 use Rattle.cf_law.specs.Events.{word_at, spelt}
 use Rattle.cf_words.proofs.Chains.{eq_true, eq_from}
-use Rattle.cf_law.proofs.Passes.{WalkLaw, walk_begins, walk_goes, head_word, previous_word}
+use Rattle.cf_law.proofs.Passes.{WalkLaw, met_law, walk_begins, walk_goes, head_word, previous_word}
 use Rattle.cf_law.proofs.Fronts.{front_length, front_take, spelt_front}
 
 pub place_tail : (g : Sizes) (k : ℕ) → place g (tail k) ≡ k
@@ -23,7 +23,7 @@ unfolding place
 place_tail g k = refl
 
 abbrev gone_on : Cursor → ℕ → ℕ → Cursor
-gone_on c o n = record { writer = c.writer; spot = c.spot; link = n % 2 ^ 32; gone = o ∷ c.gone }
+gone_on c o n = record { writer = c.writer; spot = c.spot; link = n % 2 ^ 32; gone = o ∷ c.gone; met = (o, c.writer) ∷ c.met }
 
 pub reached : (m : ℕ) (bs : List Stock) (p : Pass) (l : ℕ) (q : List ℕ) (t : Slot) → ((i : ℕ) (x : Spot × ℕ) → slice_get p.known i ≡ Some x → node_at m bs x.1 ≡ Some x.0) → Reaches p l q t → IsNamedBy m bs l q t
 reached m bs p l [] t known h = absurd h
@@ -116,18 +116,18 @@ walk_law sh m seen law le = record {
 -- a head begins a walk
 pub head_walk : (sh : Layout) (m : Base) (p : Pass) (n d w l : ℕ) (q : List ℕ) → BaseLaw sh m → PassLaw sh m p
     → IsReal sh.sizes (head_slot sh.sizes n d w) → w < sh.sizes.writers → node_at sh.sizes.nodes m.stocks n ≡ Some (spot l q) → is_inner sh (spot l q) ≡ false
-    → CursorLaw sh m.log (length p.seen) (record { writer = w; spot = spot l (d ∷ q); link = word_at sh m.words (head_slot sh.sizes n d w); gone = [] })
+    → CursorLaw sh m.log (length p.seen) (record { writer = w; spot = spot l (d ∷ q); link = word_at sh m.words (head_slot sh.sizes n d w); gone = []; met = met_of p.cursor })
 head_walk sh m p n d w l q law old real lt node outer =
-    subst (λ (v : ℕ). CursorLaw sh m.log (length p.seen) (record { writer = w; spot = spot l (d ∷ q); link = v; gone = [] }))
+    subst (λ (v : ℕ). CursorLaw sh m.log (length p.seen) (record { writer = w; spot = spot l (d ∷ q); link = v; gone = []; met = met_of p.cursor }))
     (sym (head_word sh m.tails m.log m.stocks m.words n d w l q real lt node outer law.spells))
-    (walk_begins sh m.log (length p.seen) w (spot l (d ∷ q)) (walk_law sh m (length p.seen) law old.within))
+    (walk_begins sh m.log (length p.seen) w (spot l (d ∷ q)) (met_of p.cursor) (walk_law sh m (length p.seen) law old.within) (met_law sh m.log (length p.seen) p.cursor old.walk))
 
 -- the cell that the cursor names leads it on
 pub cell_goes : (sh : Layout) (m : Base) (p : Pass) (o k : ℕ) (c : Cursor) → BaseLaw sh m → length p.seen ≤ m.tails.1 → sh.use_of k ≡ version c.spot.lane 0 → suc k < sh.sizes.ticket_words → sh.sizes.tickets < 2 ^ 32
     → c.link ≡ suc o → CursorLaw sh m.log (length p.seen) c → CursorLaw sh m.log (length p.seen) (gone_on c o (word_at sh m.words (cell o k)))
 cell_goes sh m p o k c law le is within small link walk =
     let leads = subst (Leads sh m.log c) link walk.leads in
-    subst (λ (v : ℕ). CursorLaw sh m.log (length p.seen) (record { writer = c.writer; spot = c.spot; link = v; gone = o ∷ c.gone }))
+    subst (λ (v : ℕ). CursorLaw sh m.log (length p.seen) (record { writer = c.writer; spot = c.spot; link = v; gone = o ∷ c.gone; met = (o, c.writer) ∷ c.met }))
     (sym (previous_word sh m.tails m.log m.stocks m.words c o k leads is within (omega (arith, slice_get_within m.log o leads.0 leads.1, law.room)) small law.spells))
     (walk_goes sh m.log (length p.seen) c o (walk_law sh m (length p.seen) law le) link walk)
 

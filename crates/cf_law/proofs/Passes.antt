@@ -10,7 +10,8 @@ use Rattle.cf_words.specs.Words.{Spot, spot, Layout, Ticket, Stock, stock_of, no
 use Rattle.cf_shape.specs.Uses.Use.{version}
 use Rattle.cf_words.specs.Law.{NodesLaw}
 use Rattle.cf_law.specs.Passes.{Cursor}
-use Rattle.cf_law.specs.Lawful.{Known, IsFilledIn, Leads, CursorLaw, CursorIs, DoneAt}
+use Rattle.cf_law.specs.Steps.{met_of}
+use Rattle.cf_law.specs.Lawful.{Known, IsFilledIn, Leads, HasWriter, CursorLaw, CursorIs, DoneAt}
 use Rattle.cf_words.proofs.Nodes.{row_of, col_of}
 use Rattle.cf_words.proofs.Chains.{eq_false, has_first, has_rest, links_true, links_intro, chain_has, chain_is, IsEntry}
 use Rattle.cf_words.proofs.Links.{Grows, known_word}
@@ -65,6 +66,7 @@ cursor_evolves sh log log' seen None ev le h = h
 cursor_evolves sh log log' seen (Some c) ev le h = record {
   leads = leads_evolves sh log log' c c.link ev h.leads;
   left = λ i u lt at w p. back i u lt at w p (slice_get log i) refl;
+  met = λ i x at. (let k = h.met i x at in let u = ev x.0 k.0 k.1 in (u.0, u.1, (u.2).writer ∙ k.2));
 }
   where
     back : (i : ℕ) (u : Ticket) → i < seen → slice_get log' i ≡ Some u → u.writer ≡ c.writer → sh.path u.row c.spot.lane ≡ Some c.spot.path → (o : Option Ticket) → slice_get log i ≡ o
@@ -98,22 +100,33 @@ pub record WalkLaw (sh : Layout) (log : List Ticket) (seen : ℕ) : Type 0 where
   pub linked : (o l : ℕ) (t : Ticket) (p : List ℕ) → o < seen → slice_get log o ≡ Some t → sh.path t.row l ≡ Some p → has t.linked l ≡ true
   pub within : seen ≤ length log
 
-entry_leads : (sh : Layout) (log : List Ticket) (seen w : ℕ) (s : Spot) (n : ℕ) (gone : List ℕ) (k v : ℕ) → WalkLaw sh log seen → IsEntry sh log w s n v → Leads sh log (record { writer = w; spot = s; link = k; gone = gone }) v
-entry_leads sh log seen w s n gone k zero law h = tt
-entry_leads sh log seen w s n gone k (suc o) law h = let x = links_true sh w s h.1 h.3 in (h.1, h.2, x.0, x.2, law.full o s.lane h.1 h.2 x.1)
+entry_leads : (sh : Layout) (log : List Ticket) (seen w : ℕ) (s : Spot) (n : ℕ) (gone : List ℕ) (met : List (ℕ × ℕ)) (k v : ℕ) → WalkLaw sh log seen → IsEntry sh log w s n v → Leads sh log (record { writer = w; spot = s; link = k; gone = gone; met = met }) v
+entry_leads sh log seen w s n gone met k zero law h = tt
+entry_leads sh log seen w s n gone met k (suc o) law h = let x = links_true sh w s h.1 h.3 in (h.1, h.2, x.0, x.2, law.full o s.lane h.1 h.2 x.1)
 
-pub walk_begins : (sh : Layout) (log : List Ticket) (seen w : ℕ) (s : Spot) → WalkLaw sh log seen
-    → CursorLaw sh log seen (record { writer = w; spot = s; link = top (chain sh log w s (length log)); gone = [] })
-walk_begins sh log seen w s law = record {
-  leads = entry_leads sh log seen w s (length log) [] (top (chain sh log w s (length log))) (top (chain sh log w s (length log))) law (chain_is sh log w s (length log));
+pub walk_begins : (sh : Layout) (log : List Ticket) (seen w : ℕ) (s : Spot) (met : List (ℕ × ℕ)) → WalkLaw sh log seen → ((i : ℕ) (x : ℕ × ℕ) → slice_get met i ≡ Some x → HasWriter log x)
+    → CursorLaw sh log seen (record { writer = w; spot = s; link = top (chain sh log w s (length log)); gone = []; met = met })
+walk_begins sh log seen w s met law theirs = record {
+  leads = entry_leads sh log seen w s (length log) [] met (top (chain sh log w s (length log))) (top (chain sh log w s (length log))) law (chain_is sh log w s (length log));
   left = λ i t lt at e p. inl (chain_has sh log w s (length log) i t at (links_intro sh w s t e (law.linked i s.lane t s.path lt at p) p) (omega (arith, law.within)));
+  met = theirs;
 }
+
+-- what earlier walks went by
+pub met_law : (sh : Layout) (log : List Ticket) (seen : ℕ) (c : Option Cursor) → CursorIs sh log seen c → (i : ℕ) (x : ℕ × ℕ) → slice_get (met_of c) i ≡ Some x → HasWriter log x
+met_law sh log seen None h zero x at = absurd (cc at)
+met_law sh log seen None h (suc i) x at = absurd (cc at)
+met_law sh log seen (Some c) h i x at = h.met i x at
+
+met_more : (log : List Ticket) (o w : ℕ) (met : List (ℕ × ℕ)) → HasWriter log (o, w) → ((i : ℕ) (x : ℕ × ℕ) → slice_get met i ≡ Some x → HasWriter log x) → (i : ℕ) (x : ℕ × ℕ) → slice_get ((o, w) ∷ met) i ≡ Some x → HasWriter log x
+met_more log o w met new old zero x at = (let same : ◌≡◌ {A = ℕ × ℕ} (o, w) x = cc at in subst (HasWriter log) same new)
+met_more log o w met new old (suc i) x at = old i x at
 
 -- The cell that the link names leads it on.
 pub walk_goes : (sh : Layout) (log : List Ticket) (seen : ℕ) (c : Cursor) (o : ℕ) → WalkLaw sh log seen → c.link ≡ suc o → CursorLaw sh log seen c
-    → CursorLaw sh log seen (record { writer = c.writer; spot = c.spot; link = top (chain sh log c.writer c.spot o); gone = o ∷ c.gone })
+    → CursorLaw sh log seen (record { writer = c.writer; spot = c.spot; link = top (chain sh log c.writer c.spot o); gone = o ∷ c.gone; met = (o, c.writer) ∷ c.met })
 walk_goes sh log seen c o law is h = record {
-  leads = entry_leads sh log seen c.writer c.spot o (o ∷ c.gone) (top (chain sh log c.writer c.spot o)) (top (chain sh log c.writer c.spot o)) law (chain_is sh log c.writer c.spot o);
+  leads = entry_leads sh log seen c.writer c.spot o (o ∷ c.gone) ((o, c.writer) ∷ c.met) (top (chain sh log c.writer c.spot o)) (top (chain sh log c.writer c.spot o)) law (chain_is sh log c.writer c.spot o);
   left = λ i t lt at e p. elim (h.left i t lt at e p) [
     | inr g ↦ inr (has_rest o i c.gone g)
     | inl g ↦ elim (cases_eq i o) [
@@ -121,6 +134,7 @@ walk_goes sh log seen c o law is h = record {
       | inr ne ↦ inl (chain_has sh log c.writer c.spot o i t at (links_intro sh c.writer c.spot t e (law.linked i c.spot.lane t c.spot.path lt at p) p) (omega arith))
     ]
   ];
+  met = (let named = subst (Leads sh log c) is h.leads in met_more log o c.writer c.met (named.0, named.1, named.2) h.met);
 }
 
 -- the word that is found there

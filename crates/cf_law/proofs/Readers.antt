@@ -14,7 +14,7 @@ use Rattle.cf_shape.specs.Uses.Use.{version}
 use Rattle.cf_words.specs.Words.{marked, Spot, spot, Layout, entry, Ticket, Stock, stock_of, node_at, IsNamedBy, has, same_path, ticket_word, done_word, full_word, links, entry_at, chain, version_word, used_word, lane_word}
 use Rattle.cf_words.specs.Law.{LayoutLaw, NodesLaw}
 use Rattle.cf_law.specs.Passes.{Book, Cursor, Pass}
-use Rattle.cf_law.specs.Steps.{Holds, Flies, IsChild, Knows, Step, mine_chain, ticket_of}
+use Rattle.cf_law.specs.Steps.{Holds, Flies, IsChild, Knows, Step, met_of, mine_chain, ticket_of}
 use Rattle.cf_law.specs.Lawful.{Base, BaseLaw, front, CursorLaw, CursorIs, Leads, PassLaw, Stands, Lawful}
 use Rattle.cf_law.specs.Events.{word_at, spelt}
 use Rattle.cf_law.specs.Readers.{NoneThrough, NoneOwn, pick_at, picks, WalkTells, EntryTells, IsFit, HasNode, IsBounded, AtHome, Tells, GoesOn, Told}
@@ -26,6 +26,7 @@ use Rattle.cf_words.proofs.Heads.{get_set_same}
 use Rattle.cf_law.proofs.Passes.{no_gap, previous_word, top_within}
 use Rattle.cf_law.proofs.Fronts.{front_at, front_get, front_take, front_length, front_evolves, word_filled, word_spells}
 use Rattle.cf_law.proofs.Owned.{lt_false}
+use Rattle.cf_law.proofs.Homes.{mine_few}
 use Rattle.cf_law.proofs.Owning.{mine_before, own_head_is, own_cell, mine_seen}
 use Rattle.cf_law.proofs.Loads.{reached, tail_is, head_walk, cell_walk, spelt_is}
 use Rattle.cf_law.proofs.Keeps.{aloft, Later}
@@ -90,6 +91,10 @@ walk_tells sh m p c law knows walk = record {
       (entry h.0.writer h.0.row, at_seen sh m p o h.0 knows lt h.1, (h.2, h.3)));
   left = λ i e at is. (let s = seen_at sh m p i e law knows at in
       walk.left i s.0 s.4 s.1 (ap (λ (x : Entry). x.writer) (sym s.3) ∙ is.0) (ap (λ (x : Entry). sh.path x.row c.spot.lane) (sym s.3) ∙ is.1));
+  apart = λ o i w link at. (let h = subst (Leads sh m.log c) link walk.leads in
+      let k = walk.met i (o, w) at in
+      let same : h.0 ≡ k.0 = (let f : Some h.0 ≡ Some k.0 = sym h.1 ∙ k.1 in cc f) in
+      sym k.2 ∙ (ap (λ (t : Ticket). t.writer) (sym same) ∙ h.2));
 }
 
 -- Below the read tail a chain has just the entries of the writer and leaf that were seen.
@@ -178,6 +183,10 @@ bounded sh m p law knows = record {
   offset = λ k j b x held at. (let own = knows.books k b held in
       let r = mine_before b.writer 0 m.log j x (ap (λ (c : Book). slice_get c.mine j) (sym own.1) ∙ at) in
       omega (arith, slice_get_within m.log r.place r.ticket r.at, r.offset, law.room));
+  rows = λ k j b x held at. (let own = knows.books k b held in
+      let r = mine_before b.writer 0 m.log j x (ap (λ (c : Book). slice_get c.mine j) (sym own.1) ∙ at) in
+      ap sh.fits r.row ∙ law.fits r.place r.ticket r.at);
+  few = λ k b held. (let own = knows.books k b held in let e = ap (λ (c : Book). length c.mine) own.1 in omega (arith, e, mine_few b.writer 0 m.log, law.room));
   flight = λ k b f flies. (let A = aloft sh m p k b f law knows flies in omega (arith, slice_get_within m.log f.offset (ticket_of b.writer f) A.at, law.room));
   room = λ k b held. (let own = knows.books k b held in let e = ap (λ (c : Book). length c.used) own.1 in omega (arith, e, law.nodes.room b.writer));
   apart = λ k i j b s held x y. (let own = knows.books k b held in
@@ -221,14 +230,14 @@ tells sh m p t shaped law knows = record {
   ahead = λ k lt is. subst (λ (u : Slot). length p.seen ≤ word_at sh m.words u) (sym is) (ahead sh m p k law knows lt);
   none = λ s child zero_word. (none_through sh m p s t law knows child zero_word, none_own sh m p s t law knows child zero_word);
   begins = λ node d w l q is known leaf dl wl.
-      subst (λ (u : Slot). WalkTells sh p.seen (record { writer = w; spot = spot l (d ∷ q); link = word_at sh m.words u; gone = [] })) (sym is)
-      (walk_tells sh m p (record { writer = w; spot = spot l (d ∷ q); link = word_at sh m.words (head_slot sh.sizes node d w); gone = [] }) law knows
+      subst (λ (u : Slot). WalkTells sh p.seen (record { writer = w; spot = spot l (d ∷ q); link = word_at sh m.words u; gone = []; met = met_of p.cursor })) (sym is)
+      (walk_tells sh m p (record { writer = w; spot = spot l (d ∷ q); link = word_at sh m.words (head_slot sh.sizes node d w); gone = []; met = met_of p.cursor }) law knows
       (head_walk sh m p node d w l q law knows (head_is_real sh m p node d w l q law knows known dl wl) wl (knows.known known.0 (spot l q, node) known.1) (lt_false (suc (length q)) (sh.levels l) (λ h. omega (arith, leaf)))));
   goes = λ c o k is cursor link is_version within.
       (let old : CursorLaw sh m.log (length p.seen) c = subst (CursorIs sh m.log (length p.seen)) cursor knows.walk in
       let on = Rattle.cf_law.proofs.Loads.cell_goes sh m p o k c law knows.within is_version within shaped.few_tickets link old in
-      subst (λ (u : Slot). WalkTells sh p.seen (record { writer = c.writer; spot = c.spot; link = word_at sh m.words u % 2 ^ 32; gone = o ∷ c.gone })) (sym is)
-      (walk_tells sh m p (record { writer = c.writer; spot = c.spot; link = word_at sh m.words (cell o k) % 2 ^ 32; gone = o ∷ c.gone }) law knows on));
+      subst (λ (u : Slot). WalkTells sh p.seen (record { writer = c.writer; spot = c.spot; link = word_at sh m.words u % 2 ^ 32; gone = o ∷ c.gone; met = (o, c.writer) ∷ c.met })) (sym is)
+      (walk_tells sh m p (record { writer = c.writer; spot = c.spot; link = word_at sh m.words (cell o k) % 2 ^ 32; gone = o ∷ c.gone; met = (o, c.writer) ∷ c.met }) law knows on));
   entry = λ o k is. subst (λ (u : Slot). EntryTells sh p.seen o k (word_at sh m.words u)) (sym is) (entry_tells sh m p o k shaped law knows);
   own = λ k node d l q b is held known leaf dl. ap (word_at sh m.words) is
       ∙ own_head_is sh m p k b node d l q law knows held (head_is_real sh m p node d b.writer l q law knows known dl (knows.books k b held).0) known leaf;

@@ -10,7 +10,7 @@ use Rattle.cf_shape.specs.Places.Slot.{tail, cell}
 use Rattle.cf_words.specs.Words.{Spot, spot, Layout}
 use Rattle.cf_words.specs.Law.{LayoutLaw}
 use Rattle.cf_law.specs.Passes.{Book, Pass}
-use Rattle.cf_law.specs.Steps.{Act, Step, looked, sees, tail_loaded, child_loaded, head_loaded, cell_loaded, learn, walk_on, IsChild, Knows}
+use Rattle.cf_law.specs.Steps.{Act, Step, looked, sees, tail_loaded, child_loaded, head_loaded, cell_loaded, learn, met_of, walk_on, IsChild, Knows}
 use Rattle.cf_law.specs.Steps.Step.{takes, stores, finishes, advances, loads_tail, looks_done, loads_word, labels, links, heads, loads_child, loads_head, loads_cell}
 use Rattle.cf_law.specs.Lawful.{Base, BaseLaw, PassLaw, Stands}
 use Rattle.cf_law.specs.Events.{word_at, spelt}
@@ -110,7 +110,7 @@ head_step sh m passes kk p node d w l q S at known leaf dl wl =
     let real : IsReal sh.sizes t = (node_within sh.sizes.nodes sh.sizes.writers m.stocks node (spot l q) S.law.nodes.writers S.law.nodes.room node_is, omega (arith, mul-add-lt d sh.sizes.writers w 16 dl wl)) in
     let walk = head_walk sh m p node d w l q S.law knows real wl node_is (lt_false (suc (length q)) (sh.levels l) (λ h. omega (arith, leaf))) in
     load_step sh m passes kk p (head_loaded (place sh.sizes t) w (spot l (d ∷ q)) p v) t S at refl
-    (looked_law sh m (record p { cursor = Some record { writer = w; spot = spot l (d ∷ q); link = v; gone = [] } }) (place sh.sizes t) v S.law refl (cursor_law sh m p (Some record { writer = w; spot = spot l (d ∷ q); link = v; gone = [] }) walk knows))
+    (looked_law sh m (record p { cursor = Some record { writer = w; spot = spot l (d ∷ q); link = v; gone = []; met = met_of p.cursor } }) (place sh.sizes t) v S.law refl (cursor_law sh m p (Some record { writer = w; spot = spot l (d ∷ q); link = v; gone = []; met = met_of p.cursor }) walk knows))
 
 -- the base after a lawful step
 pub step_keeps : (sh : Layout) (m : Base) (passes : List Pass) (kk : ℕ) (p : Pass) (a : Act) (t : Slot) (f : ℕ → ℕ) (g : ℕ → List Entry → Pass)

@@ -74,11 +74,17 @@ abbrev pub Leads : Layout → List Ticket → Cursor → ℕ → Type 0
 Leads sh log c zero = Unit {0}
 Leads sh log c (suc o) = (t : Ticket) × (slice_get log o ≡ Some t) × (t.writer ≡ c.writer) × (sh.path t.row c.spot.lane ≡ Some c.spot.path) × IsFilledIn sh t c.spot.lane
 
+-- the ticket at that offset is that writer's
+abbrev pub HasWriter : List Ticket → ℕ × ℕ → Type 0
+HasWriter log x = (t : Ticket) × (slice_get log x.0 ≡ Some t) × (t.writer ≡ x.1)
+
 pub record CursorLaw (sh : Layout) (log : List Ticket) (seen : ℕ) (c : Cursor) : Type 0 where
   -- the link is 0, or names a ticket of that writer and leaf, whose cell there is filled
   pub leads : Leads sh log c c.link
   -- what was seen in the chain lies below the link, or the walk went by it
   pub left : (i : ℕ) (t : Ticket) → i < seen → slice_get log i ≡ Some t → t.writer ≡ c.writer → sh.path t.row c.spot.lane ≡ Some c.spot.path → (i < c.link) ⊎ (has c.gone i ≡ true)
+  -- what the walks went by are tickets of these writers
+  pub met : (i : ℕ) (x : ℕ × ℕ) → slice_get c.met i ≡ Some x → HasWriter log x
 
 abbrev pub CursorIs : Layout → List Ticket → ℕ → Option Cursor → Type 0
 CursorIs sh log seen None = Unit {0}

@@ -31,12 +31,14 @@ pub record Look : Type 0 where
   pub value : ℕ
   pub count : ℕ
 
--- a walk down the chain of a writer in a leaf: the link found last, and the offsets that it went by
+-- a walk down the chain of a writer in a leaf: the link found last, the offsets that it went by, and those that this walk and
+-- the walks before it went by since `seen` last grew, each with its writer
 pub record Cursor : Type 0 where
   pub writer : ℕ
   pub spot : Spot
   pub link : ℕ
   pub gone : List ℕ
+  pub met : List (ℕ × ℕ)
 
 -- `known` has the lanes and prefixes that it knows to have a node, each with its node
 pub record Pass : Type 0 where

@@ -8,7 +8,7 @@ use Rattle.cf_shape.specs.Places.Slot.{tail, cell}
 use Rattle.cf_words.specs.Words.{Spot, spot, Layout, has, same_path, version_word, top}
 use Rattle.cf_shape.specs.Uses.Use.{version}
 use Rattle.cf_law.specs.Passes.{Own, Flight, Book, Cursor, Pass}
-use Rattle.cf_law.specs.Steps.{Holds, IsChild, Knows, Flies, mine_chain}
+use Rattle.cf_law.specs.Steps.{Holds, IsChild, Knows, Flies, met_of, mine_chain}
 
 -- the entry stands in the leaf, as the writer's
 abbrev pub IsIn : Layout → ℕ → Spot → Entry → Type 0
@@ -31,10 +31,12 @@ unfoldable pub picks : Layout → ℕ → Spot → List Entry → ℕ → List (
 picks sh w s seen zero = []
 picks sh w s seen (suc o) = pick_at sh w s o (slice_get seen o) ++ picks sh w s seen o
 
--- a walk with this link: a named entry that was seen stands in the leaf, and those of the leaf that the walk didn't go by stand before the link
+-- a walk with this link: a named entry that was seen stands in the leaf, those of the leaf that the walk didn't go by stand before the link, and the named ticket is its writer's alone
 pub record WalkTells (sh : Layout) (seen : List Entry) (c : Cursor) : Type 0 where
   pub names : (o : ℕ) → c.link ≡ suc o → o < length seen → (e : Entry) × (slice_get seen o ≡ Some e) × IsIn sh c.writer c.spot e
   pub left : (i : ℕ) (e : Entry) → slice_get seen i ≡ Some e → IsIn sh c.writer c.spot e → (i < c.link) ⊎ (has c.gone i ≡ true)
+  -- no walk of another writer went by the named ticket
+  pub apart : (o i w : ℕ) → c.link ≡ suc o → slice_get c.met i ≡ Some (o, w) → w ≡ c.writer
 
 -- a word of an entry that was seen, and of its cell
 pub record EntryTells (sh : Layout) (seen : List Entry) (o k v : ℕ) : Type 0 where
@@ -79,6 +81,9 @@ pub record IsBounded (sh : Layout) (p : Pass) : Type 0 where
   pub writer : (k : ℕ) (b : Book) → Holds p k b → b.writer < sh.sizes.writers
   pub offset : (k j : ℕ) (b : Book) (x : Own) → Holds p k b → slice_get b.mine j ≡ Some x → x.offset < sh.sizes.tickets
   pub flight : (k : ℕ) (b : Book) (f : Flight) → Flies p k b f → f.offset < sh.sizes.tickets
+  -- the rows that a book has finished fit, and there are no more of them than tickets
+  pub rows : (k j : ℕ) (b : Book) (x : Own) → Holds p k b → slice_get b.mine j ≡ Some x → sh.fits x.row ≡ true
+  pub few : (k : ℕ) (b : Book) → Holds p k b → length b.mine ≤ sh.sizes.tickets
   -- a book's nodes are at most its writer's, and all different
   pub room : (k : ℕ) (b : Book) → Holds p k b → length b.used ≤ sh.sizes.nodes
   pub apart : (k i j : ℕ) (b : Book) (s : Spot) → Holds p k b → slice_get b.used i ≡ Some s → slice_get b.used j ≡ Some s → i ≡ j
@@ -93,9 +98,9 @@ pub record Tells (sh : Layout) (p : Pass) (t : Slot) (found : ℕ) : Type 0 wher
   -- a walk falls: the cell that the cursor names leads below its own ticket
   pub falls : (c : Cursor) (o k : ℕ) → t ≡ cell o k → p.cursor ≡ Some c → c.link ≡ suc o → sh.use_of k ≡ version c.spot.lane 0 → suc k < sh.sizes.ticket_words → found % 2 ^ 32 ≤ o
   pub begins : (node d w l : ℕ) (q : List ℕ) → t ≡ head_slot sh.sizes node d w → Knows p (spot l q) node → suc (length q) ≡ sh.levels l → d < 16 → w < sh.sizes.writers
-      → WalkTells sh p.seen (record { writer = w; spot = spot l (d ∷ q); link = found; gone = [] })
+      → WalkTells sh p.seen (record { writer = w; spot = spot l (d ∷ q); link = found; gone = []; met = met_of p.cursor })
   pub goes : (c : Cursor) (o k : ℕ) → t ≡ cell o k → p.cursor ≡ Some c → c.link ≡ suc o → sh.use_of k ≡ version c.spot.lane 0 → suc k < sh.sizes.ticket_words
-      → WalkTells sh p.seen (record { writer = c.writer; spot = c.spot; link = found % 2 ^ 32; gone = o ∷ c.gone })
+      → WalkTells sh p.seen (record { writer = c.writer; spot = c.spot; link = found % 2 ^ 32; gone = o ∷ c.gone; met = (o, c.writer) ∷ c.met })
   pub entry : (o k : ℕ) → t ≡ cell o k → EntryTells sh p.seen o k found
   -- an own head
   pub own : (k node d l : ℕ) (q : List ℕ) (b : Book) → t ≡ head_slot sh.sizes node d b.writer → Holds p k b → Knows p (spot l q) node → suc (length q) ≡ sh.levels l → d < 16

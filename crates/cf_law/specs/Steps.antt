@@ -31,7 +31,12 @@ pub data Act : Type 0 where
 abbrev pub walk_on : ℕ → ℕ → ℕ → ℕ → Option Cursor → Option Cursor
 walk_on o l i n None = None
 walk_on o l (suc i) n (Some c) = Some c
-walk_on o l zero n (Some c) = cond (c.link == suc o) (cond (c.spot.lane == l) (Some record { writer = c.writer; spot = c.spot; link = n % 2 ^ 32; gone = o ∷ c.gone }) (Some c)) (Some c)
+walk_on o l zero n (Some c) = cond (c.link == suc o) (cond (c.spot.lane == l) (Some record { writer = c.writer; spot = c.spot; link = n % 2 ^ 32; gone = o ∷ c.gone; met = (o, c.writer) ∷ c.met }) (Some c)) (Some c)
+
+-- what the walks went by so far
+abbrev pub met_of : Option Cursor → List (ℕ × ℕ)
+met_of None = []
+met_of (Some c) = c.met
 
 abbrev pub no_look : Look
 no_look = record { word = 0; value = 0; count = 0 }
@@ -122,7 +127,7 @@ child_loaded word s p zero = looked word 0 p
 child_loaded word s p (suc n) = looked word (suc n) (learn s n p)
 
 abbrev pub head_loaded : ℕ → ℕ → Spot → Pass → ℕ → Pass
-head_loaded word w s p n = looked word n (record p { cursor = Some record { writer = w; spot = s; link = n; gone = [] } })
+head_loaded word w s p n = looked word n (record p { cursor = Some record { writer = w; spot = s; link = n; gone = []; met = met_of p.cursor } })
 
 abbrev pub cell_loaded : ℕ → ℕ → ℕ → ℕ → Pass → ℕ → Pass
 cell_loaded word o l i p n = looked word n (record p { cursor = walk_on o l i n p.cursor })

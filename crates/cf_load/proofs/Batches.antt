@@ -1,5 +1,5 @@
 -- The writers' passes come home after a batch: the log has the rows of the batch, each once.
-use Rattle.std.proofs.Common.{◌≡◌, ℕ, zero, suc, ◌+◌, ◌*◌, ◌<◌, ◌≤◌, true, List, [], ◌∷◌, ◌++◌, length, get_or, take, drop, map, ◌==◌, Some, slice_get, refl, sym, ap, subst, ◌∙◌, inl, inr, arith, length-append}
+use Rattle.std.proofs.Common.{◌≡◌, ℕ, zero, suc, ◌+◌, ◌*◌, ◌<◌, ◌≤◌, Bool, true, List, [], ◌∷◌, ◌++◌, length, get_or, take, drop, map, ◌==◌, Some, slice_get, refl, sym, ap, ap₂, subst, ◌∙◌, inl, inr, arith, length-append, append_assoc}
 use Rattle.std.proofs.lemmas.Bool.{cases_Bool}
 use Rattle.std.proofs.lemmas.List.{append-nil, append_cancel_left, length-take, length-take-le, length-drop, take-append-drop, take_all, drop_all}
 use Rattle.std.proofs.Math.Seq.{take-add}
@@ -8,19 +8,26 @@ use Rattle.std.specs.List.{All, AllZip, AllByRecursion}
 use Rattle.cf_row.specs.Row.{Numbered}
 use Rattle.cf_row.specs.declared.row.Entry.{Entry}
 use Rattle.cf_history.specs.Order.{rows_of, written_by, IsLogOf}
-use Rattle.cf_shape.specs.Lanes.{IsShape}
+use Rattle.cf_shape.specs.Lanes.{Shaped, IsShape}
+use Rattle.cf_words.specs.Words.{Spot}
+use Rattle.cf_law.specs.Events.{table, no_book}
+use Rattle.cf_law.proofs.Fronts.{table_length, table_at}
 use Rattle.cf_law.specs.Passes.{Own, Book, Pass}
 use Rattle.cf_law.specs.Steps.{Holds, IsAtRest}
 use Rattle.cf_law.specs.Readers.{mine_from}
-use Rattle.cf_table.specs.Held.{Held, LogValue, IsOf, book_of}
+use Rattle.cf_table.specs.Held.{Held, LogValue, AreAlike, AreLaid, IsOf, book_of}
 use Rattle.cf_table.specs.Rule.{root_pass}
 use Rattle.cf_table.specs.Moves.{Begins, IsSettled, AreDealt, AreAll, AreFit, Gathered, books_of, told_by}
 use Rattle.cf_table.proofs.Homing.{still_one, get_front, opened as opened_settled}
 use Rattle.cf_append.specs.Appends.{Rests}
-use Rattle.cf_load.specs.Writing.{rows_of_book, IsReady, Wrote}
+use Rattle.cf_load.specs.Needed.{IsNeeded, HasNodes}
+use Rattle.cf_load.specs.Writing.{rows_of_book, IsReady, RanOut, Wrote}
 use Rattle.cf_load.specs.Loading.{HasLoaded}
+use Rattle.cf_load.specs.Loads.{LacksNodes}
 use Rattle.cf_load.proofs.Alls.{all_drop}
-use Rattle.cf_load.proofs.Written.{written_append, WrotePart, all_written, log_more}
+use Rattle.cf_load.proofs.Written.{written_append, rows_then, WrotePart, all_written, log_more}
+use Rattle.cf_load.proofs.Pigeons.{has_left, has_right, in_either}
+use Rattle.cf_load.proofs.Nodes.{too_many, distinct_alike}
 
 -- the rows of a book's tickets are what its writer wrote
 pub mine_rows : (w k : ℕ) (es : List Entry) → map (λ (own : Own). own.row) (mine_from w k es) ≡ written_by w es
@@ -103,22 +110,22 @@ pub ready_passes : (log : LogValue) (rows : List Numbered) (m r : Held) (passes 
 ready_passes log rows m r passes has dealt k d lt = ready_one log rows m r passes has dealt k (get_or passes k d) (slice_get-get_or passes k d lt)
 
 -- passes that wrote may come home
-pub homeward : (log : LogValue) (first : ℕ) (batch : List Numbered) (passes after : List Held) → All (IsReady log) passes → AreAll log passes → AllZip (Wrote log first batch) passes after → AreAll log after
-homeward log first batch passes after ready all wrote = record {
+pub homeward : (whole : Bool) (log : LogValue) (first : ℕ) (batch : List Numbered) (passes after : List Held) → All (IsReady log) passes → AreAll log passes → AllZip (Wrote whole log first batch) passes after → AreAll log after
+homeward whole log first batch passes after ready all wrote = record {
   of = λ k a at. of k a at;
   rest = λ k a at j b holds. rest k a at j b holds;
-  count = sym (zip_long (Wrote log first batch) passes after wrote) ∙ all.count;
+  count = sym (zip_long (Wrote whole log first batch) passes after wrote) ∙ all.count;
   writers = λ w lt. writers w lt;
 }
   where
     of : (k : ℕ) (a : Held) → slice_get after k ≡ Some a → IsOf a log
     of k a at =
-        let z = zip_back (Wrote log first batch) passes after k a wrote at in
+        let z = zip_back (Wrote whole log first batch) passes after k a wrote at in
         still_one log z.0 a (all.of k z.0 z.1) (z.2).same
 
     rest : (k : ℕ) (a : Held) → slice_get after k ≡ Some a → IsAtRest a.view
     rest k a at j b holds =
-        let z = zip_back (Wrote log first batch) passes after k a wrote at in
+        let z = zip_back (Wrote whole log first batch) passes after k a wrote at in
         ap (λ (c : Book). c.flight) (only_book a.view (z.2).rest j b holds) ∙ (z.2).rest.free
 
     writers : (w : ℕ) → w < (log.shape).writers → (k : ℕ) × (h : Held) × (j : ℕ) × (b : Book) × (slice_get after k ≡ Some h) × Holds h.view j b × (b.writer ≡ w)
@@ -129,27 +136,27 @@ homeward log first batch passes after ready all wrote = record {
         let within : k < length passes = slice_get_within passes k h r.4 in
         let same : get_or passes k h ≡ h = (let f : Some (get_or passes k h) ≡ Some h = sym (slice_get-get_or passes k h within) ∙ r.4 in cc f) in
         let rests : Rests h.view = subst (λ (x : Held). Rests x.view) same (ready k h within).rest in
-        let z = zip_at (Wrote log first batch) passes after k h wrote r.4 in
+        let z = zip_at (Wrote whole log first batch) passes after k h wrote r.4 in
         let mine : (book_of h.view).writer ≡ w = ap (λ (c : Book). c.writer) (sym (only_book h.view rests r.2 r.3 r.5)) ∙ r.6 in
         (k, z.0, 0, book_of (z.0).view, z.1, first_book (z.0).view (z.2).rest, (z.2).writer ∙ mine)
 
 -- passes that were told nothing tell nothing
-pub quiet : (log : LogValue) (first : ℕ) (batch : List Numbered) (hs gs : List Held) (ts : List ℕ) → AllZip (Wrote log first batch) hs gs → ((k : ℕ) (h : Held) → slice_get hs k ≡ Some h → ((h.view).tails ≡ []) × ((h.view).told ≡ [])) → told_by ts gs ≡ ts
+pub quiet : (whole : Bool) (log : LogValue) (first : ℕ) (batch : List Numbered) (hs gs : List Held) (ts : List ℕ) → AllZip (Wrote whole log first batch) hs gs → ((k : ℕ) (h : Held) → slice_get hs k ≡ Some h → ((h.view).tails ≡ []) × ((h.view).told ≡ [])) → told_by ts gs ≡ ts
 unfolding told_by
-quiet log first batch [] [] ts all each = refl
-quiet log first batch [] (a ∷ gs) ts all each = absurd all
-quiet log first batch (h ∷ hs) [] ts all each = absurd all
-quiet log first batch (h ∷ hs) (a ∷ gs) ts all each =
+quiet whole log first batch [] [] ts all each = refl
+quiet whole log first batch [] (a ∷ gs) ts all each = absurd all
+quiet whole log first batch (h ∷ hs) [] ts all each = absurd all
+quiet whole log first batch (h ∷ hs) (a ∷ gs) ts all each =
     let e = each 0 h refl in
     let tails : (a.view).tails ≡ [] = (all.0).tails ∙ e.0 in
     let news : (a.view).told ≡ [] = (all.0).told ∙ e.1 in
     let none : (ts ++ (a.view).told) ++ (a.view).tails ≡ ts = rw (tails, news) (append-nil (ts ++ []) ∙ append-nil ts) in
-    ap (λ (us : List ℕ). told_by us gs) none ∙ quiet log first batch hs gs ts all.1 (λ k x at. each (suc k) x at)
+    ap (λ (us : List ℕ). told_by us gs) none ∙ quiet whole log first batch hs gs ts all.1 (λ k x at. each (suc k) x at)
 
 -- passes that were dealt and then wrote tell a root nothing
-pub told_home : (log : LogValue) (first : ℕ) (batch : List Numbered) (m r : Held) (passes after : List Held) → AreDealt log m passes r → AllZip (Wrote log first batch) passes after → (told : List ℕ) → told_by told after ≡ told
-told_home log first batch m r passes after dealt wrote told =
-    quiet log first batch passes after told wrote (λ k h at. (let d = dealt.each k h at in (ap (λ (p : Pass). p.tails) d.view, ap (λ (p : Pass). p.told) d.view)))
+pub told_home : (whole : Bool) (log : LogValue) (first : ℕ) (batch : List Numbered) (m r : Held) (passes after : List Held) → AreDealt log m passes r → AllZip (Wrote whole log first batch) passes after → (told : List ℕ) → told_by told after ≡ told
+told_home whole log first batch m r passes after dealt wrote told =
+    quiet whole log first batch passes after told wrote (λ k h at. (let d = dealt.each k h at in (ap (λ (p : Pass). p.tails) d.view, ap (λ (p : Pass). p.told) d.view)))
 
 -- no part of an empty list has anything
 pub nothing : (X : Type 0) (j : ℕ) → take 4096 (drop {A = X} j []) ≡ []
@@ -161,8 +168,19 @@ opened log m of is = record {
   of = of;
   settled = subst (IsSettled log.shape) (sym is) (opened_settled log.shape);
   is = subst (λ (p : Pass). IsLogOf [] (log.shape).writers p.seen) (sym is) none;
+  own = λ w lt. ap (λ (p : Pass). written_by w p.seen) is;
+  nodes = subst (λ (p : Pass). HasNodes log.shape [] p) (sym is) (record {
+    needed = λ k j b s held used. absurd (let e = new_book k b held in let f : slice_get {X = Spot} [] j ≡ Some s = ap (λ (c : Book). slice_get c.used j) e ∙ used in cc f);
+    room = λ k b held. (let e = ap (λ (c : Book). length c.used) (new_book k b held) in omega (arith, e));
+    paths = λ o l d e xs q x at path. absurd (cc at);
+  });
 }
   where
+    new_book : (k : ℕ) (b : Book) → slice_get (table no_book (log.shape).writers) k ≡ Some b → no_book k ≡ b
+    new_book k b at =
+        let lt : k < (log.shape).writers = omega (arith, slice_get_within (table no_book (log.shape).writers) k b at, table_length no_book (log.shape).writers) in
+        let f : Some (no_book k) ≡ Some b = sym (table_at no_book (log.shape).writers k lt) ∙ at in cc f
+
     none : IsLogOf [] (log.shape).writers []
     none = record {
       size = refl;
@@ -170,8 +188,24 @@ opened log m of is = record {
       own = λ b w lt. ap (written_by w) (nothing Entry (4096 * b)) ∙ ap (rows_of (log.shape).writers w (4096 * b)) (sym (nothing Numbered (4096 * b)));
     }
 
+-- rows that are needed are so among more
+pub needed_left : (shape : Shaped) (rows more : List Numbered) (s : Spot) → IsNeeded shape rows s → IsNeeded shape (rows ++ more) s
+needed_left shape rows more s n = record { place = n.place; row = n.row; at = has_left rows more n.place n.row n.at; on = n.on }
+
+pub needed_right : (shape : Shaped) (rows more : List Numbered) (s : Spot) → IsNeeded shape more s → IsNeeded shape (rows ++ more) s
+needed_right shape rows more s n = (let h = has_right rows more n.row (n.place, n.at) in record { place = h.0; row = n.row; at = h.1; on = n.on })
+
+-- each of the books of passes at rest is a pass's one book
+pub book_from : (after : List Held) → ((i : ℕ) (a : Held) → slice_get after i ≡ Some a → Rests a.view) → (k : ℕ) (b : Book) → slice_get (books_of after) k ≡ Some b → (i : ℕ) × (a : Held) × (slice_get after i ≡ Some a) × (b ≡ book_of a.view)
+unfolding books_of
+book_from [] rest k b at = absurd (cc at)
+book_from (x ∷ xs) rest k b at = elim (in_either (x.view).books (books_of xs) k b at) [
+  | inl here ↦ (0, x, refl, only_book x.view (rest 0 x refl) here.0 b here.1)
+  | inr there ↦ (let r = book_from xs (λ i a h. rest (suc i) a h) there.0 b there.1 in (suc r.0, r.1, r.2, r.3))
+]
+
 -- The passes that wrote came home.
-module _ (log : LogValue) (rows batch : List Numbered) (m r n : Held) (passes after : List Held) (has : HasLoaded log rows m) (dealt : AreDealt log m passes r) (wrote : AllZip (Wrote log (length rows) batch) passes after) (g : Gathered log.shape r after n) where
+module _ (whole : Bool) (log : LogValue) (rows batch : List Numbered) (m r n : Held) (passes after : List Held) (has : HasLoaded log rows m) (dealt : AreDealt log m passes r) (wrote : AllZip (Wrote whole log (length rows) batch) passes after) (g : Gathered log.shape r after n) where
   -- what was seen before, what came, and how many writers there are
   abbrev pub seen : List Entry
   seen = (m.view).seen
@@ -194,11 +228,11 @@ module _ (log : LogValue) (rows batch : List Numbered) (m r n : Held) (passes af
   new_exist = all_drop (λ e. e.writer < W) (length seen) (n.view).seen (fit_exist W (n.view).seen (λ o e at. (g.fit o e at).1))
 
   -- what a pass wrote whose writer had this book
-  pub wrote_part : (w k : ℕ) (h a : Held) (b : Book) → Holds m.view k b → b.writer ≡ w → slice_get passes k ≡ Some h → slice_get after k ≡ Some a → Wrote log (length rows) batch h a → length rows + length batch ≤ (log.shape).capacity → WrotePart W (length rows) batch new w
+  pub wrote_part : (w k : ℕ) (h a : Held) (b : Book) → Holds m.view k b → b.writer ≡ w → slice_get passes k ≡ Some h → slice_get after k ≡ Some a → Wrote whole log (length rows) batch h a → length rows + length batch ≤ (log.shape).capacity → WrotePart whole W (length rows) batch new w
   wrote_part w k h a b held own at there wr room = record {
     left = wr.left;
     split = ap (λ rs. rs ++ wr.left) wrote_done ∙ (wr.split ∙ ap (λ v. rows_of W v (length rows) batch) writer);
-    all = elim wr.all [
+    all = λ is. elim (wr.all is) [
       | inl none ↦ inl none
       | inr marked ↦ inr (omega (arith, full marked, ap length goes_on, length-append seen new, has.is.size, room))
     ];
@@ -232,7 +266,7 @@ module _ (log : LogValue) (rows batch : List Numbered) (m r n : Held) (passes af
       wrote_done = append_cancel_left (written_by w seen) _ _ (sym now ∙ (wr.rows ∙ ap (λ rs. rs ++ wr.done) before))
 
   -- what each writer wrote
-  pub part_of : length rows + length batch ≤ (log.shape).capacity → (w : ℕ) → w < W → WrotePart W (length rows) batch new w
+  pub part_of : length rows + length batch ≤ (log.shape).capacity → (w : ℕ) → w < W → WrotePart whole W (length rows) batch new w
   part_of room w lt =
       let home = has.settled.home w lt in
       let k : ℕ = home.0 in
@@ -240,7 +274,7 @@ module _ (log : LogValue) (rows batch : List Numbered) (m r n : Held) (passes af
       let low : k < length passes = omega (arith, slice_get_within (m.view).books k b home.2, dealt.count) in
       let h : Held = get_or passes k m in
       let at : slice_get passes k ≡ Some h = slice_get-get_or passes k m low in
-      let z = zip_at (Wrote log (length rows) batch) passes after k h wrote at in
+      let z = zip_at (Wrote whole log (length rows) batch) passes after k h wrote at in
       wrote_part w k h z.0 b home.2 home.3 at z.1 z.2 room
 
   -- the root is still the log's
@@ -249,19 +283,47 @@ module _ (log : LogValue) (rows batch : List Numbered) (m r n : Held) (passes af
       let root : IsOf r log = still_one log m r has.of (dealt.root ∙ ap (λ (p : Pass). record m { view = p }) (ap (λ (h : Held). h.view) (sym dealt.root))) in
       still_one log r n root g.same
 
+  -- a book that came home is that of a pass
+  pub book_home : (k : ℕ) (b : Book) → Holds n.view k b → (i : ℕ) × (a : Held) × (slice_get after i ≡ Some a) × (b ≡ book_of a.view)
+  book_home k b held =
+      let there : slice_get (books_of after) k ≡ Some b = ap (λ (bs : List Book). slice_get bs k) (sym g.books) ∙ held in
+      book_from after (λ i a at. ((zip_back (Wrote whole log (length rows) batch) passes after i a wrote at).2).rest) k b there
+
+  -- what its used nodes are for
+  pub used_by : (i : ℕ) (a : Held) (j : ℕ) (s : Spot) → slice_get after i ≡ Some a → slice_get (book_of a.view).used j ≡ Some s → IsNeeded log.shape (rows ++ batch) s
+  used_by i a j s at used =
+      let z = zip_back (Wrote whole log (length rows) batch) passes after i a wrote at in
+      let d = dealt.each i z.0 z.1 in
+      let same : book_of (z.0).view ≡ d.book = ap (λ (p : Pass). book_of p) d.view in
+      elim ((z.2).used j s used) [
+        | inl old ↦ needed_left log.shape rows batch s (has.nodes.needed i old.0 d.book s d.at (ap (λ (c : Book). slice_get c.used old.0) (sym same) ∙ old.1))
+        | inr new ↦ needed_right log.shape rows batch s new
+      ]
+
+  -- the nodes at home
+  pub nodes_home : HasNodes log.shape (rows ++ batch) n.view
+  nodes_home = record {
+    needed = λ k j b s held used. (let h = book_home k b held in used_by h.0 h.1 j s h.2 (ap (λ (c : Book). slice_get c.used j) (sym h.3) ∙ used));
+    room = λ k b held. g.bounds.room k b held;
+    paths = g.paths;
+  }
+
 -- Passes were dealt, each wrote of its rows of the batch what it could, and all came home: where there is room for all rows, all
 -- are in the log.
-pub batch_loaded : (log : LogValue) (rows batch : List Numbered) (b : ℕ) (m r n : Held) (passes after : List Held) → IsShape log.shape → HasLoaded log rows m → length rows ≡ 4096 * b → length batch ≤ 4096 → length rows + length batch ≤ (log.shape).capacity → AreDealt log m passes r → AllZip (Wrote log (length rows) batch) passes after → Gathered log.shape r after n → HasLoaded log (rows ++ batch) n
+pub batch_loaded : (log : LogValue) (rows batch : List Numbered) (b : ℕ) (m r n : Held) (passes after : List Held) → IsShape log.shape → HasLoaded log rows m → length rows ≡ 4096 * b → length batch ≤ 4096 → length rows + length batch ≤ (log.shape).capacity → AreDealt log m passes r → AllZip (Wrote true log (length rows) batch) passes after → Gathered log.shape r after n → HasLoaded log (rows ++ batch) n
 batch_loaded log rows batch b m r n passes after shape has long few room dealt wrote g =
     let W = (log.shape).writers in
     let some : 0 < W = shape.writers.0 in
     let more : List Entry = drop (length (m.view).seen) (n.view).seen in
-    let exist = new_exist log rows batch m r n passes after has dealt wrote g in
-    let own : (w : ℕ) → w < W → written_by w more ≡ rows_of W w (length rows) batch = all_written W (length rows) batch more some exist (part_of log rows batch m r n passes after has dealt wrote g room) in
+    let exist = new_exist true log rows batch m r n passes after has dealt wrote g in
+    let own : (w : ℕ) → w < W → written_by w more ≡ rows_of W w (length rows) batch = all_written W (length rows) batch more some exist (part_of true log rows batch m r n passes after has dealt wrote g room) in
     let is : IsLogOf (rows ++ batch) W ((m.view).seen ++ more) = log_more rows batch W b (m.view).seen more some has.is long few exist (λ w lt. own w lt ∙ ap (λ k. rows_of W w k batch) long) in record {
-      of = home_again log rows batch m r n passes after has dealt wrote g;
+      of = home_again true log rows batch m r n passes after has dealt wrote g;
       settled = g.settled;
-      is = subst (IsLogOf (rows ++ batch) W) (sym (goes_on log rows batch m r n passes after has dealt wrote g)) is;
+      is = subst (IsLogOf (rows ++ batch) W) (sym (goes_on true log rows batch m r n passes after has dealt wrote g)) is;
+      own = λ w lt. ap (written_by w) (goes_on true log rows batch m r n passes after has dealt wrote g)
+          ∙ (written_append w (m.view).seen more ∙ (ap₂ (λ (a c : List Numbered). a ++ c) (has.own w lt) (own w lt) ∙ sym (rows_then W w rows batch)));
+      nodes = nodes_home true log rows batch m r n passes after has dealt wrote g;
     }
 
 -- a root whose books were dealt is the log's, holds none, and has seen as much
@@ -277,28 +339,113 @@ pub seen_grows : (log : LogValue) (m r n : Held) (passes after : List Held) → 
 seen_grows log m r n passes after dealt g = subst (λ (es : List Entry). Begins es (n.view).seen) (ap (λ (h : Held). (h.view).seen) dealt.root) g.own
 
 -- a root is told nothing by passes that wrote
-pub told_same : (log : LogValue) (first : ℕ) (batch : List Numbered) (m r n : Held) (passes after : List Held) → AreDealt log m passes r → AllZip (Wrote log first batch) passes after → Gathered log.shape r after n → (n.view).told ≡ (m.view).told
-told_same log first batch m r n passes after dealt wrote g = g.told ∙ (told_home log first batch m r passes after dealt wrote (r.view).told ∙ ap (λ (h : Held). (h.view).told) dealt.root)
+pub told_same : (whole : Bool) (log : LogValue) (first : ℕ) (batch : List Numbered) (m r n : Held) (passes after : List Held) → AreDealt log m passes r → AllZip (Wrote whole log first batch) passes after → Gathered log.shape r after n → (n.view).told ≡ (m.view).told
+told_same whole log first batch m r n passes after dealt wrote g = g.told ∙ (told_home whole log first batch m r passes after dealt wrote (r.view).told ∙ ap (λ (h : Held). (h.view).told) dealt.root)
 
--- a root that has its books and has seen the same still holds what was loaded
+-- a root that has its books and has seen the same is settled
+pub settled_still : (shape : Shaped) (m n : Held) → IsSettled shape m.view → (n.view).books ≡ (m.view).books → (n.view).seen ≡ (m.view).seen → IsSettled shape n.view
+settled_still shape m n settled books seen_is = record {
+  home = λ w lt. (let h = settled.home w lt in (h.0, h.1, ap (λ (bs : List Book). slice_get bs h.0) books ∙ h.2, h.3, h.4));
+  rest = λ k b at. settled.rest k b (ap (λ (bs : List Book). slice_get bs k) (sym books) ∙ at);
+  count = ap length books ∙ settled.count;
+  all = λ k b at. settled.all k b (ap (λ (bs : List Book). slice_get bs k) (sym books) ∙ at) ∙ ap (mine_from b.writer 0) (sym seen_is);
+}
+
+-- and still holds what was loaded
 pub still_loaded : (log : LogValue) (rows : List Numbered) (m n : Held) → HasLoaded log rows m → IsOf n log → (n.view).books ≡ (m.view).books → (n.view).seen ≡ (m.view).seen → HasLoaded log rows n
 still_loaded log rows m n has of books seen_is = record {
   of = of;
-  settled = record {
-    home = λ w lt. (let h = has.settled.home w lt in (h.0, h.1, ap (λ (bs : List Book). slice_get bs h.0) books ∙ h.2, h.3, h.4));
-    rest = λ k b at. has.settled.rest k b (ap (λ (bs : List Book). slice_get bs k) (sym books) ∙ at);
-    count = ap length books ∙ has.settled.count;
-    all = λ k b at. has.settled.all k b (ap (λ (bs : List Book). slice_get bs k) (sym books) ∙ at) ∙ ap (mine_from b.writer 0) (sym seen_is);
-  };
+  settled = settled_still log.shape m n has.settled books seen_is;
   is = subst (IsLogOf rows (log.shape).writers) (sym seen_is) has.is;
+  own = λ w lt. ap (written_by w) seen_is ∙ has.own w lt;
+  nodes = record {
+    needed = λ k j b s at used. has.nodes.needed k j b s (ap (λ (bs : List Book). slice_get bs k) (sym books) ∙ at) used;
+    room = λ k b at. has.nodes.room k b (ap (λ (bs : List Book). slice_get bs k) (sym books) ∙ at);
+    paths = λ o l d e xs q x at path. (let h = has.nodes.paths o l d e xs q x (ap (λ (es : List Entry). slice_get es o) (sym seen_is) ∙ at) path in (h.0, h.1, h.2, ap (λ (bs : List Book). slice_get bs h.0) books ∙ h.3, h.4));
+  };
 }
 
 -- The next batch of some rows: where all have room, the first b batches were loaded and then this one.
-pub next_batch : (log : LogValue) (rows : List Numbered) (b : ℕ) (m r n : Held) (passes after : List Held) → IsShape log.shape → HasLoaded log (take (4096 * b) rows) m → 4096 * b ≤ length rows → length rows ≤ (log.shape).capacity → AreDealt log m passes r → AllZip (Wrote log (4096 * b) (take 4096 (drop (4096 * b) rows))) passes after → Gathered log.shape r after n → HasLoaded log (take (4096 * (b + 1)) rows) n
+pub next_batch : (log : LogValue) (rows : List Numbered) (b : ℕ) (m r n : Held) (passes after : List Held) → IsShape log.shape → HasLoaded log (take (4096 * b) rows) m → 4096 * b ≤ length rows → length rows ≤ (log.shape).capacity → AreDealt log m passes r → AllZip (Wrote true log (4096 * b) (take 4096 (drop (4096 * b) rows))) passes after → Gathered log.shape r after n → HasLoaded log (take (4096 * (b + 1)) rows) n
 next_batch log rows b m r n passes after shape has within room dealt wrote g =
     let front : length (take (4096 * b) rows) ≡ 4096 * b = length-take-le (4096 * b) rows within in
     let part : length (take 4096 (drop (4096 * b) rows)) ≤ 4096 = (let e = length-take 4096 (drop (4096 * b) rows) in omega (arith, e)) in
     let both : take (4096 * b) rows ++ take 4096 (drop (4096 * b) rows) ≡ take (4096 * (b + 1)) rows = (let e : 4096 * b + 4096 ≡ 4096 * (b + 1) = omega arith in sym (take-add (4096 * b) 4096 rows) ∙ ap (λ i. take i rows) e) in
     let few : length (take (4096 * b) rows) + length (take 4096 (drop (4096 * b) rows)) ≤ (log.shape).capacity = (let e = length-take 4096 (drop (4096 * b) rows) in let f = length-drop (4096 * b) rows in omega (arith, e, f, front, within, room)) in
     subst (λ rs. HasLoaded log rs n) both
-    (batch_loaded log (take (4096 * b) rows) (take 4096 (drop (4096 * b) rows)) b m r n passes after shape has front part few dealt (subst (λ first. AllZip (Wrote log first (take 4096 (drop (4096 * b) rows))) passes after) (sym front) wrote) g)
+    (batch_loaded log (take (4096 * b) rows) (take 4096 (drop (4096 * b) rows)) b m r n passes after shape has front part few dealt (subst (λ first. AllZip (Wrote true log first (take 4096 (drop (4096 * b) rows))) passes after) (sym front) wrote) g)
+
+-- needed by some rows of all
+pub needed_take : (shape : Shaped) (n : ℕ) (rows : List Numbered) (s : Spot) → IsNeeded shape (take n rows) s → IsNeeded shape rows s
+needed_take shape n rows s needed = subst (λ (rs : List Numbered). IsNeeded shape rs s) (take-append-drop n rows) (needed_left shape (take n rows) (drop n rows) s needed)
+
+-- A writer ran out of nodes in that batch: the rows need more different ones than it has, and each writer's entries are the first of
+-- its rows.
+pub batch_out : (whole : Bool) (log : LogValue) (rows : List Numbered) (b w : ℕ) (m r n : Held) (passes after : List Held) → IsShape log.shape → AreAlike log.shape log.whole → AreLaid log.shape log.whole → HasLoaded log (take (4096 * b) rows) m → 4096 * b ≤ length rows → length rows ≤ (log.shape).capacity
+    → AreDealt log m passes r → AllZip (Wrote whole log (4096 * b) (take 4096 (drop (4096 * b) rows))) passes after → RanOut log (take 4096 (drop (4096 * b) rows)) w after → Gathered log.shape r after n → LacksNodes log rows w n
+batch_out whole log rows b w m r n passes after shape alike laid has within room dealt wrote_part_ out g = record {
+  exists = subst (λ (v : ℕ). v < W) out.writer_is (g.bounds.writer book.0 (book_of out.pass.view) (ap (λ (bs : List Book). slice_get bs book.0) g.books ∙ book.1));
+  many = subst (λ (d : ℕ). (log.shape).nodes < d) (distinct_alike log.shape log.whole rows alike laid)
+      (too_many log.shape rows (book_of out.pass.view) shape (λ j s used. more s (used_by whole log front part m r n passes after has dealt wrote g out.place out.pass j s out.at used)) (record {
+        full = out.out.full;
+        apart = out.out.apart;
+        at = out.out.at;
+        needed = more out.out.at (needed_right log.shape front part out.out.at out.out.needed);
+        other = out.out.other;
+      }));
+  of = home_again whole log front part m r n passes after has dealt wrote g;
+  settled = g.settled;
+  fronts = fronts;
+}
+  where
+    W : ℕ
+    W = (log.shape).writers
+
+    front : List Numbered
+    front = take (4096 * b) rows
+
+    part : List Numbered
+    part = take 4096 (drop (4096 * b) rows)
+
+    front_long : length front ≡ 4096 * b
+    front_long = length-take-le (4096 * b) rows within
+
+    wrote : AllZip (Wrote whole log (length front) part) passes after
+    wrote = subst (λ first. AllZip (Wrote whole log first part) passes after) (sym front_long) wrote_part_
+
+    both : front ++ part ≡ take (4096 * (b + 1)) rows
+    both = (let e : 4096 * b + 4096 ≡ 4096 * (b + 1) = omega arith in sym (take-add (4096 * b) 4096 rows) ∙ ap (λ i. take i rows) e)
+
+    few : length front + length part ≤ (log.shape).capacity
+    few = (let e = length-take 4096 (drop (4096 * b) rows) in let f = length-drop (4096 * b) rows in let long = front_long in omega (arith, e, f, long, within, room))
+
+    more : (s : Spot) → IsNeeded log.shape (front ++ part) s → IsNeeded log.shape rows s
+    more s needed = needed_take log.shape (4096 * (b + 1)) rows s (subst (λ (rs : List Numbered). IsNeeded log.shape rs s) both needed)
+
+    book : (i : ℕ) × (slice_get (books_of after) i ≡ Some (book_of out.pass.view))
+    book = book_in after out.place out.pass (book_of out.pass.view) out.at (first_book out.pass.view ((zip_back (Wrote whole log (length front) part) passes after out.place out.pass wrote out.at).2).rest)
+
+    fronts : (v : ℕ) → v < W → (left : List Numbered) × (written_by v (n.view).seen ++ left ≡ rows_of W v 0 rows)
+    fronts v lt =
+        let p = part_of whole log front part m r n passes after has dealt wrote g few v lt in
+        let new : List Entry = drop (length (m.view).seen) (n.view).seen in
+        let rest : List Numbered = drop (4096 * (b + 1)) rows in
+        let k : ℕ = length (front ++ part) in
+        let written : written_by v (n.view).seen ≡ rows_of W v 0 front ++ written_by v new =
+        ap (written_by v) (goes_on whole log front part m r n passes after has dealt wrote g) ∙ (written_append v (m.view).seen new ∙ ap (λ (rs : List Numbered). rs ++ written_by v new) (has.own v lt)) in
+        let here : written_by v (n.view).seen ++ p.left ≡ rows_of W v 0 (front ++ part) =
+        ap (λ (rs : List Numbered). rs ++ p.left) written ∙ (append_assoc (rows_of W v 0 front) (written_by v new) p.left ∙ (ap (λ (rs : List Numbered). rows_of W v 0 front ++ rs) p.split ∙ sym (rows_then W v front part))) in
+        let all : (front ++ part) ++ rest ≡ rows = ap (λ (rs : List Numbered). rs ++ rest) both ∙ take-append-drop (4096 * (b + 1)) rows in (
+          p.left ++ rows_of W v k rest,
+          sym (append_assoc (written_by v (n.view).seen) p.left (rows_of W v k rest)) ∙ (ap (λ (rs : List Numbered). rs ++ rows_of W v k rest) here ∙ (sym (rows_then W v (front ++ part) rest) ∙ ap (rows_of W v 0) all)),
+        )
+
+-- the reader came home too
+pub lacks_kept : (log : LogValue) (rows : List Numbered) (w : ℕ) (n o : Held) → LacksNodes log rows w n → IsOf o log → (o.view).books ≡ (n.view).books → (o.view).seen ≡ (n.view).seen → LacksNodes log rows w o
+lacks_kept log rows w n o lacks of books seen_is = record {
+  exists = lacks.exists;
+  many = lacks.many;
+  of = of;
+  settled = settled_still log.shape n o lacks.settled books seen_is;
+  fronts = λ v lt. (let f = lacks.fronts v lt in (f.0, ap (λ (es : List Entry). written_by v es ++ f.0) seen_is ∙ f.1));
+}

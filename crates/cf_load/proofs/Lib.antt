@@ -1,3 +1,5 @@
+pub mod Pigeons
+pub mod Nodes
 pub mod Progress
 pub mod Alls
 pub mod Written
@@ -7,3 +9,4 @@ pub mod Reading
 pub mod Beside
 pub mod Keeping
 pub mod Loading
+pub mod Enough

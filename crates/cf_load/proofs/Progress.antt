@@ -1,7 +1,8 @@
 -- How far a writer's pass is in its rows of a batch.
-use Rattle.std.proofs.Common.{◌≡◌, ℕ, ◌+◌, ◌%◌, ◌<◌, ◌≤◌, true, false, List, [], ◌∷◌, ◌++◌, length, get_or, drop, map, Ok, Err, refl, ap, sym, ◌∙◌, arith, inl, inr, eq-eqb, append_assoc, append-nil, drop-cons, add-one}
+use Rattle.std.proofs.Common.{◌≡◌, ℕ, ◌+◌, ◌%◌, ◌<◌, ◌≤◌, Bool, true, false, Option, Some, None, IfSome, is_none, slice_get, slice_set, List, [], ◌∷◌, ◌++◌, length, get_or, drop, map, Ok, Err, refl, ap, sym, subst, ◌∙◌, ◌⊎◌, arith, inl, inr, eq-eqb, append_assoc, append-nil, drop-cons, add-one}
 use Rattle.std.specs.declared.result.Result.{Result}
-use Rattle.std.specs.Result.{is_err}
+use Rattle.std.specs.Option.{option_or}
+use Rattle.std.proofs.lemmas.Option.{slice_get-get_or}
 use Rattle.std.specs.List.{AllZip}
 use Rattle.std.proofs.lemmas.Bool.{ne_eqb}
 use Rattle.std.proofs.lemmas.List.{map-append, drop_all}
@@ -13,15 +14,23 @@ use Rattle.cf_law.specs.Events.{no_book}
 use Rattle.cf_table.specs.Held.{Held, LogValue, IsOf, book_of}
 use Rattle.cf_table.specs.Moves.{Begins}
 use Rattle.cf_table.proofs.Settling.{begins_then}
-use Rattle.cf_append.specs.Appends.{GoesOn, Rests, IsAppended, IsAnswered, with_own, marked}
+use Rattle.cf_words.specs.Words.{Spot}
+use Rattle.cf_append.specs.Paths.{IsOnPath, with_nodes}
+use Rattle.cf_append.specs.Appends.{GoesOn, Rests, IsAppended, IsNodesFull, IsAnswered, with_own, marked}
 use Rattle.cf_append.specs.declared.appends.AppendFault.{AppendFault}
 use Rattle.cf_append.specs.declared.appends.AppendFault.TheVariants.{Full, NodesFull}
 use Rattle.cf_history.specs.Order.{rows_of}
-use Rattle.cf_load.specs.Writing.{rows_of_book, IsReady, Wrote}
+use Rattle.cf_load.specs.Needed.{IsNeeded, IsOut}
+use Rattle.cf_load.specs.Writing.{rows_of_book, IsReady, RanOut, Wrote}
+use Rattle.cf_load.proofs.Pigeons.{has_left, has_right, in_either}
 
 -- the writer's rows of the part of a batch from row i on, which is number k
 abbrev pub left_of : LogValue → List Numbered → Held → ℕ → ℕ → List Numbered
 left_of log batch m k i = rows_of (log.shape).writers (book_of m.view).writer k (drop i batch)
+
+-- each used node was used before, or is needed by these rows
+abbrev pub UsedFor : Shaped → List Numbered → Held → Held → Type 0
+UsedFor shape rows m n = (j : ℕ) (s : Spot) → slice_get (book_of n.view).used j ≡ Some s → ((i : ℕ) × (slice_get (book_of m.view).used i ≡ Some s)) ⊎ IsNeeded shape rows s
 
 -- The pass has appended its rows of the batch before row i, which is number k.
 pub record Goes (log : LogValue) (first : ℕ) (batch : List Numbered) (m : Held) (k i : ℕ) (n : Held) : Type 0 where
@@ -32,6 +41,7 @@ pub record Goes (log : LogValue) (first : ℕ) (batch : List Numbered) (m : Held
   pub done : List Numbered
   pub split : done ++ left_of log batch m k i ≡ left_of log batch m first 0
   pub rows : rows_of_book (book_of n.view) ≡ rows_of_book (book_of m.view) ++ done
+  pub used : UsedFor log.shape batch m n
   pub longer : Begins (m.view).seen (n.view).seen
   pub tails : (n.view).tails ≡ (m.view).tails
   pub told : (n.view).told ≡ (m.view).told
@@ -45,6 +55,7 @@ goes_first log first batch m ready = record {
   done = [];
   split = refl;
   rows = sym (append-nil (rows_of_book (book_of m.view)));
+  used = λ j s at. inl (j, at);
   longer = take-length (m.view).seen;
   tails = refl;
   told = refl;
@@ -73,10 +84,19 @@ goes_other log first batch m k i n row goes low other = record {
   done = goes.done;
   split = ap (λ (rs : List Numbered). goes.done ++ rs) (sym (next_other (log.shape).writers (book_of m.view).writer k i batch row low other)) ∙ goes.split;
   rows = goes.rows;
+  used = goes.used;
   longer = goes.longer;
   tails = goes.tails;
   told = goes.told;
 }
+
+-- the row's nodes are used beside those before
+used_more : (shape : Shaped) (batch : List Numbered) (m n p : Held) (i : ℕ) (row : Numbered) (spots : List Spot) → i < length batch → get_or batch i row ≡ row → UsedFor shape batch m n → (book_of p.view).used ≡ (book_of n.view).used ++ spots
+    → ((j : ℕ) (s : Spot) → slice_get spots j ≡ Some s → IsOnPath shape row s) → UsedFor shape batch m p
+used_more shape batch m n p i row spots low is used more on j s at = elim (in_either (book_of n.view).used spots j s (ap (λ (ss : List Spot). slice_get ss j) (sym more) ∙ at)) [
+  | inl old ↦ used old.0 s old.1
+  | inr new ↦ inr (record { place = i; row = row; at = slice_get-get_or batch i row low ∙ ap (λ (r : Numbered). Some r) is; on = on new.0 s new.1 })
+]
 
 -- one row more is done, and one less is left
 longer_rows : (old now new done : List Numbered) (row : Numbered) → now ≡ old ++ done → new ≡ now ++ row ∷ [] → new ≡ old ++ (done ++ row ∷ [])
@@ -86,7 +106,7 @@ shorter_left : (done before rest all : List Numbered) (row : Numbered) → befor
 shorter_left done before rest all row e f = append_assoc done (row ∷ []) rest ∙ (ap (λ (rs : List Numbered). done ++ rs) (sym e) ∙ f)
 
 -- the book of a pass at whose book a row was appended
-book_is : (shape : Shaped) (o : ℕ) (row : Numbered) (n p : Held) → IsAppended shape o row n p → book_of p.view ≡ with_own o row (book_of n.view)
+book_is : (shape : Shaped) (o : ℕ) (row : Numbered) (n p : Held) (appended : IsAppended shape o row n p) → book_of p.view ≡ with_own o row (with_nodes appended.paths.used.spots appended.paths.used.label (book_of n.view))
 book_is shape o row n p appended = ap (λ (bs : List Book). get_or bs 0 (no_book 0)) appended.books
 
 pub goes_own : (log : LogValue) (first : ℕ) (batch : List Numbered) (m : Held) (k i : ℕ) (n p : Held) (o : ℕ) (row : Numbered) → Goes log first batch m k i n → i < length batch → get_or batch i row ≡ row → k % (log.shape).writers ≡ (book_of m.view).writer
@@ -102,18 +122,19 @@ goes_own log first batch m k i n p o row goes low at own on rest appended =
       done = goes.done ++ row ∷ [];
       split = shorter_left goes.done (left_of log batch m k i) (left_of log batch m (k + 1) (i + 1)) (left_of log batch m first 0) row (next_own (log.shape).writers w k i batch row low at own) goes.split;
       rows = longer_rows (rows_of_book (book_of m.view)) (rows_of_book (book_of n.view)) (rows_of_book (book_of p.view)) goes.done row goes.rows (ap rows_of_book is ∙ map-append (λ (own : Own). own.row) (book_of n.view).mine (ticket ∷ []));
+      used = used_more log.shape batch m n p i row appended.paths.used.spots low at goes.used (ap (λ (b : Book). b.used) is) appended.paths.used.on;
       longer = begins_then (m.view).seen (n.view).seen (p.view).seen goes.longer on.longer;
       tails = on.tails ∙ goes.tails;
       told = on.told ∙ goes.told;
     }
 
-pub goes_answered : (log : LogValue) (first : ℕ) (batch : List Numbered) (m : Held) (k i : ℕ) (n p : Held) (answer : Result ℕ AppendFault) (row : Numbered) → Goes log first batch m k i n → i < length batch → get_or batch i row ≡ row → k % (log.shape).writers ≡ (book_of m.view).writer
-    → GoesOn n p → Rests p.view → IsAnswered log.shape row n p answer → is_err answer ≡ false → Goes log first batch m (k + 1) (i + 1) p
-goes_answered log first batch m k i n p (Ok o) row goes low at own on rest appended ok = goes_own log first batch m k i n p o row goes low at own on rest appended
-goes_answered log first batch m k i n p (Err fault) row goes low at own on rest appended ok = cc
+pub goes_answered : (log : LogValue) (first : ℕ) (batch : List Numbered) (m : Held) (k i : ℕ) (n p : Held) (answer : Result ℕ AppendFault) (o : ℕ) (row : Numbered) → Goes log first batch m k i n → i < length batch → get_or batch i row ≡ row → k % (log.shape).writers ≡ (book_of m.view).writer
+    → GoesOn n p → Rests p.view → IsAnswered log.shape row n p answer → answer ≡ Ok o → Goes log first batch m (k + 1) (i + 1) p
+goes_answered log first batch m k i n p answer o row goes low at own on rest answered ok =
+    goes_own log first batch m k i n p o row goes low at own on rest (subst (λ (r : Result ℕ AppendFault). IsAnswered log.shape row n p r) ok answered)
 
 -- the whole batch was gone through
-pub ends : (log : LogValue) (first : ℕ) (batch : List Numbered) (m : Held) (k i : ℕ) (n : Held) → Goes log first batch m k i n → length batch ≤ i → Wrote log first batch m n
+pub ends : (log : LogValue) (first : ℕ) (batch : List Numbered) (m : Held) (k i : ℕ) (n : Held) → Goes log first batch m k i n → length batch ≤ i → Wrote true log first batch m n
 ends log first batch m k i n goes far = record {
   same = goes.same;
   rest = (goes.ready).rest;
@@ -122,46 +143,81 @@ ends log first batch m k i n goes far = record {
   left = [];
   split = ap (λ (rs : List Numbered). goes.done ++ rows_of (log.shape).writers (book_of m.view).writer k rs) (sym (drop_all i batch far)) ∙ goes.split;
   rows = goes.rows;
-  all = inl refl;
+  all = λ whole. inl refl;
+  used = goes.used;
   longer = goes.longer;
   tails = goes.tails;
   told = goes.told;
 }
 
--- the book is marked, and else is as it was
-record Marked (n p : Held) : Type 0 where
+-- the book has as much finished, and nodes for a row of the batch are used
+record Stopped (shape : Shaped) (batch : List Numbered) (m n p : Held) : Type 0 where
   pub writer : (book_of p.view).writer ≡ (book_of n.view).writer
   pub mine : (book_of p.view).mine ≡ (book_of n.view).mine
-  pub over : (book_of p.view).over ≡ true
+  pub used : UsedFor shape batch m p
 
-marked_by : (shape : Shaped) (row : Numbered) (n p : Held) (answer : Result ℕ AppendFault) → IsAnswered shape row n p answer → is_err answer ≡ true → Marked n p
-marked_by shape row n p (Ok o) answered err = cc
-marked_by shape row n p (Err NodesFull) answered err = absurd answered
-marked_by shape row n p (Err Full) answered err = elim answered [
-  | inl over ↦
-      let is = ap (λ (h : Held). book_of h.view) over.is in
-      record { writer = ap (λ (b : Book). b.writer) is; mine = ap (λ (b : Book). b.mine) is; over = ap (λ (b : Book). b.over) is ∙ over.over }
-  | inr late ↦
-      let is : book_of p.view ≡ marked (book_of n.view) = ap (λ (h : Held). book_of h.view) late.is in
-      record { writer = ap (λ (b : Book). b.writer) is; mine = ap (λ (b : Book). b.mine) is; over = ap (λ (b : Book). b.over) is }
-]
+-- the batch stops there
+stopped_at : (whole : Bool) (log : LogValue) (first : ℕ) (batch : List Numbered) (m : Held) (k i : ℕ) (n p : Held) → Goes log first batch m k i n → GoesOn n p → Rests p.view → Stopped log.shape batch m n p → (whole ≡ true → (book_of p.view).over ≡ true) → Wrote whole log first batch m p
+stopped_at whole log first batch m k i n p goes on rest book over = record {
+  same = same_then m n p goes.same on.same;
+  rest = rest;
+  writer = book.writer ∙ goes.writer;
+  done = goes.done;
+  left = left_of log batch m k i;
+  split = goes.split;
+  rows = ap (map (λ (own : Own). own.row)) book.mine ∙ goes.rows;
+  all = λ is. inr (over is);
+  used = book.used;
+  longer = begins_then (m.view).seen (n.view).seen (p.view).seen goes.longer on.longer;
+  tails = on.tails ∙ goes.tails;
+  told = on.told ∙ goes.told;
+}
 
 -- the log was found full
-pub stops : (log : LogValue) (first : ℕ) (batch : List Numbered) (m : Held) (k i : ℕ) (n p : Held) (answer : Result ℕ AppendFault) (row : Numbered) → Goes log first batch m k i n → GoesOn n p → Rests p.view → IsAnswered log.shape row n p answer → is_err answer ≡ true → Wrote log first batch m p
-stops log first batch m k i n p answer row goes on rest answered err =
-    let book = marked_by log.shape row n p answer answered err in record {
-      same = same_then m n p goes.same on.same;
-      rest = rest;
-      writer = book.writer ∙ goes.writer;
-      done = goes.done;
-      left = left_of log batch m k i;
-      split = goes.split;
-      rows = ap (map (λ (own : Own). own.row)) book.mine ∙ goes.rows;
-      all = inr book.over;
-      longer = begins_then (m.view).seen (n.view).seen (p.view).seen goes.longer on.longer;
-      tails = on.tails ∙ goes.tails;
-      told = on.told ∙ goes.told;
-    }
+pub stops_full : (log : LogValue) (first : ℕ) (batch : List Numbered) (m : Held) (k i : ℕ) (n p : Held) (answer : Result ℕ AppendFault) (row : Numbered) → Goes log first batch m k i n → i < length batch → get_or batch i row ≡ row
+    → GoesOn n p → Rests p.view → IsAnswered log.shape row n p answer → answer ≡ Err Full → Wrote true log first batch m p
+stops_full log first batch m k i n p answer row goes low at on rest answered err = elim (subst (λ (r : Result ℕ AppendFault). IsAnswered log.shape row n p r) err answered) [
+  | inl over ↦
+      let is = ap (λ (h : Held). book_of h.view) over.is in
+      stopped_at true log first batch m k i n p goes on rest
+      (record { writer = ap (λ (b : Book). b.writer) is; mine = ap (λ (b : Book). b.mine) is; used = λ j s there. goes.used j s (ap (λ (b : Book). slice_get b.used j) (sym is) ∙ there) })
+      (λ whole. ap (λ (b : Book). b.over) is ∙ over.over)
+  | inr late ↦
+      let is : book_of p.view ≡ marked (with_nodes late.paths.used.spots late.paths.used.label (book_of n.view)) = ap (λ (bs : List Book). get_or bs 0 (no_book 0)) late.books in
+      stopped_at true log first batch m k i n p goes on rest
+      (record {
+        writer = ap (λ (b : Book). b.writer) is;
+        mine = ap (λ (b : Book). b.mine) is;
+        used = used_more log.shape batch m n p i row late.paths.used.spots low at goes.used (ap (λ (b : Book). b.used) is) late.paths.used.on;
+      })
+      (λ whole. ap (λ (b : Book). b.over) is)
+]
+
+-- the writer's nodes are used up
+pub stops_out : (log : LogValue) (first : ℕ) (batch : List Numbered) (m : Held) (k i : ℕ) (n p : Held) (answer : Result ℕ AppendFault) (row : Numbered) → Goes log first batch m k i n → i < length batch → get_or batch i row ≡ row
+    → GoesOn n p → Rests p.view → IsAnswered log.shape row n p answer → answer ≡ Err NodesFull → Wrote false log first batch m p × (((book_of p.view).writer ≡ (book_of m.view).writer) × IsOut log.shape batch (book_of p.view))
+stops_out log first batch m k i n p answer row goes low at on rest answered err =
+    let out : IsNodesFull log.shape row n p = subst (λ (r : Result ℕ AppendFault). IsAnswered log.shape row n p r) err answered in
+    let is : book_of p.view ≡ with_nodes out.used.spots out.used.label (book_of n.view) = ap (λ (bs : List Book). get_or bs 0 (no_book 0)) out.used.books in
+    let writer : (book_of p.view).writer ≡ (book_of n.view).writer = ap (λ (b : Book). b.writer) is in (
+      stopped_at false log first batch m k i n p goes on rest
+      (record {
+        writer = writer;
+        mine = ap (λ (b : Book). b.mine) is;
+        used = used_more log.shape batch m n p i row out.used.spots low at goes.used (ap (λ (b : Book). b.used) is) out.used.on;
+      })
+      (λ whole. absurd (cc whole)),
+      (
+        writer ∙ goes.writer,
+        record {
+          full = out.stuck.full;
+          apart = out.stuck.apart;
+          at = out.stuck.at;
+          needed = record { place = i; row = row; at = slice_get-get_or batch i row low ∙ ap (λ (r : Numbered). Some r) at; on = out.stuck.on };
+          other = out.stuck.other;
+        },
+      ),
+    )
 
 -- what holds of the halves of two lists holds of the lists
 pub zip_append : {A B : Type 0} (R : A → B → Type 0) (xs more : List A) (ys others : List B) → AllZip R xs ys → AllZip R more others → AllZip R (xs ++ more) (ys ++ others)
@@ -169,3 +225,53 @@ zip_append R [] more [] others first second = second
 zip_append R [] more (y ∷ ys) others first second = absurd first
 zip_append R (x ∷ xs) more [] others first second = absurd first
 zip_append R (x ∷ xs) more (y ∷ ys) others first second = (first.0, zip_append R xs more ys others first.1 second)
+
+-- a batch of which no more is said
+pub less_said : (whole : Bool) (log : LogValue) (first : ℕ) (batch : List Numbered) (m n : Held) → Wrote whole log first batch m n → Wrote false log first batch m n
+less_said whole log first batch m n w = record {
+  same = w.same;
+  rest = w.rest;
+  writer = w.writer;
+  done = w.done;
+  left = w.left;
+  split = w.split;
+  rows = w.rows;
+  all = λ is. absurd (cc is);
+  used = w.used;
+  longer = w.longer;
+  tails = w.tails;
+  told = w.told;
+}
+
+pub less_said_all : (whole : Bool) (log : LogValue) (first : ℕ) (batch : List Numbered) (ms ns : List Held) → AllZip (Wrote whole log first batch) ms ns → AllZip (Wrote false log first batch) ms ns
+less_said_all whole log first batch [] [] all = tt
+less_said_all whole log first batch [] (n ∷ ns) all = absurd all
+less_said_all whole log first batch (m ∷ ms) [] all = absurd all
+less_said_all whole log first batch (m ∷ ms) (n ∷ ns) all = (less_said whole log first batch m n all.0, less_said_all whole log first batch ms ns all.1)
+
+-- the halves of the passes, and which of them ran out of nodes
+pub both_wrote : (log : LogValue) (first : ℕ) (batch : List Numbered) (ms more ns others : List Held) (a b : Option ℕ) → AllZip (Wrote (is_none a) log first batch) ms ns → AllZip (Wrote (is_none b) log first batch) more others
+    → AllZip (Wrote (is_none (option_or a b)) log first batch) (ms ++ more) (ns ++ others)
+both_wrote log first batch ms more ns others None b low high = half b low high
+  where
+    half : (c : Option ℕ) → AllZip (Wrote true log first batch) ms ns → AllZip (Wrote (is_none c) log first batch) more others → AllZip (Wrote (is_none c) log first batch) (ms ++ more) (ns ++ others)
+    half None l h = zip_append (Wrote true log first batch) ms more ns others l h
+    half (Some w) l h = zip_append (Wrote false log first batch) ms more ns others (less_said_all true log first batch ms ns l) h
+both_wrote log first batch ms more ns others (Some w) b low high = zip_append (Wrote false log first batch) ms more ns others low (less_said_all (is_none b) log first batch more others high)
+
+out_low : (log : LogValue) (batch : List Numbered) (w : ℕ) (ns others : List Held) → RanOut log batch w ns → RanOut log batch w (ns ++ others)
+out_low log batch w ns others r = record { place = r.place; pass = r.pass; at = has_left ns others r.place r.pass r.at; writer_is = r.writer_is; out = r.out }
+
+out_high : (log : LogValue) (batch : List Numbered) (w : ℕ) (ns others : List Held) → RanOut log batch w others → RanOut log batch w (ns ++ others)
+out_high log batch w ns others r = (let h = has_right ns others r.pass (r.place, r.at) in record { place = h.0; pass = r.pass; at = h.1; writer_is = r.writer_is; out = r.out })
+
+pub either_out : (log : LogValue) (batch : List Numbered) (ns others : List Held) (a b : Option ℕ) → IfSome a (λ w. RanOut log batch w ns) → IfSome b (λ w. RanOut log batch w others) → IfSome (option_or a b) (λ w. RanOut log batch w (ns ++ others))
+either_out log batch ns others (Some w) b low high = out_low log batch w ns others low
+either_out log batch ns others None None low high = tt
+either_out log batch ns others None (Some w) low high = out_high log batch w ns others high
+
+-- the one pass ran out
+pub first_out : (log : LogValue) (batch : List Numbered) (ms : List Held) (n : Held) (a : Option ℕ) → 0 < length ms → IfSome a (λ w. ((book_of n.view).writer ≡ w) × IsOut log.shape batch (book_of n.view)) → IfSome a (λ w. RanOut log batch w (slice_set ms 0 n))
+first_out log batch [] n a some out = absurd (omega (arith, some))
+first_out log batch (m ∷ ms) n None some out = tt
+first_out log batch (m ∷ ms) n (Some w) some out = record { place = 0; pass = n; at = refl; writer_is = out.0; out = out.1 }

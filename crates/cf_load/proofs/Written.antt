@@ -1,5 +1,5 @@
 -- What the writers wrote of a batch, and the log with it: lemmas on lists alone.
-use Rattle.std.proofs.Common.{◌≡◌, ◌⊎◌, ℕ, zero, suc, ◌+◌, ◌*◌, ◌%◌, ◌<◌, ◌≤◌, Bool, cond, List, [], ◌∷◌, ◌++◌, length, take, drop, ◌==◌, refl, sym, ap, ap₂, subst, ◌∙◌, inl, inr, arith, length-append}
+use Rattle.std.proofs.Common.{◌≡◌, ◌⊎◌, ℕ, zero, suc, ◌+◌, ◌*◌, ◌%◌, ◌<◌, ◌≤◌, Bool, true, cond, List, [], ◌∷◌, ◌++◌, length, take, drop, ◌==◌, refl, sym, ap, ap₂, subst, ◌∙◌, inl, inr, arith, length-append}
 use Rattle.std.proofs.lemmas.Bool.{eq-eqb, ne_eqb, cases_eq, cases_lt}
 use Rattle.std.proofs.lemmas.List.{length-drop, take_all, take-append-le, drop_at, drop_all, drop-append-le, append-nil, nil_from_length}
 use Rattle.std.specs.List.{AllByRecursion}
@@ -102,21 +102,36 @@ written_append w (e ∷ es) fs = elim (cases_eq e.writer w) [
   | inr other ↦ written_other w e (es ++ fs) other ∙ rw (written_other w e es other) (written_append w es fs)
 ]
 
--- A writer wrote the first of its rows of a batch. Where some are left, as many entries came as the batch has rows.
-pub record WrotePart (writers first : ℕ) (batch : List Numbered) (new : List Entry) (w : ℕ) : Type 0 where
+-- a writer's rows of two parts
+pub rows_append : (writers w k : ℕ) (rows more : List Numbered) → rows_of writers w k (rows ++ more) ≡ rows_of writers w k rows ++ rows_of writers w (k + length rows) more
+rows_append writers w k [] more = ap (λ (n : ℕ). rows_of writers w n more) (let e : k ≡ k + 0 = omega arith in e)
+rows_append writers w k (row ∷ rows) more =
+    let next : k + 1 + length rows ≡ k + suc (length rows) = omega arith in
+    let rest = rows_append writers w (k + 1) rows more ∙ ap (λ (n : ℕ). rows_of writers w (k + 1) rows ++ rows_of writers w n more) next in
+    elim (cases_eq (k % writers) w) [
+      | inl own ↦ rw (eq-eqb (k % writers) w own) (ap (λ rs. row ∷ rs) rest)
+      | inr other ↦ rw (ne_eqb (k % writers) w other) rest
+    ]
+
+-- from the first row on
+pub rows_then : (writers w : ℕ) (rows more : List Numbered) → rows_of writers w 0 (rows ++ more) ≡ rows_of writers w 0 rows ++ rows_of writers w (length rows) more
+rows_then writers w rows more = rows_append writers w 0 rows more ∙ ap (λ (n : ℕ). rows_of writers w 0 rows ++ rows_of writers w n more) (let e : 0 + length rows ≡ length rows = omega arith in e)
+
+-- A writer wrote the first of its rows of a batch. Where some are left of a whole one, as many entries came as the batch has rows.
+pub record WrotePart (whole : Bool) (writers first : ℕ) (batch : List Numbered) (new : List Entry) (w : ℕ) : Type 0 where
   pub left : List Numbered
   pub split : written_by w new ++ left ≡ rows_of writers w first batch
-  pub all : (left ≡ []) ⊎ (length batch ≤ length new)
+  pub all : whole ≡ true → (left ≡ []) ⊎ (length batch ≤ length new)
 
 module _ (writers first : ℕ) (batch : List Numbered) (new : List Entry) (some : 0 < writers) (exist : AllByRecursion (λ e. e.writer < writers) new) where
   -- then nothing is left: each writer wrote all its rows of the batch
-  pub all_written : ((w : ℕ) → w < writers → WrotePart writers first batch new w) → (w : ℕ) → w < writers → written_by w new ≡ rows_of writers w first batch
+  pub all_written : ((w : ℕ) → w < writers → WrotePart true writers first batch new w) → (w : ℕ) → w < writers → written_by w new ≡ rows_of writers w first batch
   all_written part w lt =
       let p = part w lt in
-      let whole : p.left ≡ [] → written_by w new ≡ rows_of writers w first batch = λ none. sym (append-nil (written_by w new)) ∙ ap (λ rs. written_by w new ++ rs) (sym none) ∙ p.split in
-      elim p.all [
-        | inl none ↦ whole none
-        | inr full ↦ whole (nil_from_length p.left (nothing_left full))
+      let full_part : p.left ≡ [] → written_by w new ≡ rows_of writers w first batch = λ none. sym (append-nil (written_by w new)) ∙ ap (λ rs. written_by w new ++ rs) (sym none) ∙ p.split in
+      elim (p.all refl) [
+        | inl none ↦ full_part none
+        | inr full ↦ full_part (nil_from_length p.left (nothing_left full))
       ]
     where
       long : (v : ℕ) (low : v < writers) → length (written_by v new) + length (part v low).left ≡ length (rows_of writers v first batch)

@@ -1,3 +1,4 @@
+pub mod Needed
 pub mod Writing
 pub mod Loading
 pub mod Planned

@@ -1,10 +1,10 @@
 -- What a log holds while it is loaded batch by batch, and what a reader beside the writers has answered.
-use Rattle.std.specs.Prelude.{◌≡◌, ◌≤◌, ℕ, List, ◌++◌, length, map, take, slice_index_or}
+use Rattle.std.specs.Prelude.{◌≡◌, ◌<◌, ◌≤◌, ℕ, List, ◌++◌, length, map, take, slice_index_or}
 use Rattle.std.specs.List.{flat_map, range_with_len, AllByRecursion}
 use Rattle.cf_row.specs.Row.{Numbered}
 use Rattle.cf_row.specs.declared.row.Entry.{Entry}
 use Rattle.cf_history.specs.History.{NeverFall}
-use Rattle.cf_history.specs.Order.{IsLogOf}
+use Rattle.cf_history.specs.Order.{rows_of, written_by, IsLogOf}
 use Rattle.cf_history.specs.Tails.{AreTails}
 use Rattle.cf_shape.specs.Lanes.{Shaped}
 use Rattle.cf_plain.specs.Asks.{eval}
@@ -12,14 +12,17 @@ use Rattle.cf_plain.specs.declared.ask.Ask.{Ask}
 use Rattle.cf_report.specs.declared.loaded.Live.{Live}
 use Rattle.cf_report.specs.Answered.{no_ask, turn_of}
 use Rattle.cf_load.specs.declared.plan.LivePlan.{LivePlan}
+use Rattle.cf_load.specs.Needed.{HasNodes}
 use Rattle.cf_table.specs.Held.{Held, LogValue, IsOf}
 use Rattle.cf_table.specs.Moves.{Begins, IsSettled}
 
--- The root holds all books at rest, and what it has seen is a log of those rows, each of them once.
+-- The root holds all books at rest, and what it has seen is a log of those rows, each of them once, with the nodes that they need.
 pub record HasLoaded (log : LogValue) (rows : List Numbered) (m : Held) : Type 0 where
   pub of : IsOf m log
   pub settled : IsSettled log.shape m.view
   pub is : IsLogOf rows (log.shape).writers (m.view).seen
+  pub own : (w : ℕ) → w < (log.shape).writers → written_by w (m.view).seen ≡ rows_of (log.shape).writers w 0 rows
+  pub nodes : HasNodes log.shape rows m.view
 
 -- What the reader did beside a batch: a live answer for each round and each live question, in this order, each the question's
 -- meaning on as many entries as it saw. The lengths never fall.

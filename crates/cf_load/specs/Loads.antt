@@ -1,9 +1,13 @@
 -- What a load answers.
-use Rattle.std.specs.Prelude.{◌≡◌, ◌<◌, ◌≤◌, List, ◌++◌, length, map, Result, Ok, Err}
+use Rattle.std.specs.Prelude.{◌≡◌, ◌<◌, ◌≤◌, ◌*◌, ℕ, List, ◌++◌, length, map, Option, Some, None, Result, Ok, Err}
+use Rattle.std.specs.declared.alloc.AllocError.{AllocError}
 use Rattle.cf_row.specs.Row.{Numbered}
+use Rattle.cf_shape.specs.Nodes.{distinct}
+use Rattle.cf_history.specs.Order.{rows_of, written_by}
 use Rattle.cf_report.specs.Answered.{Answered}
 use Rattle.cf_report.specs.Meaning.{answer_on}
-use Rattle.cf_table.specs.Held.{Held, LogValue}
+use Rattle.cf_table.specs.Held.{Held, LogValue, IsOf}
+use Rattle.cf_table.specs.Moves.{IsSettled}
 use Rattle.cf_load.specs.declared.plan.LivePlan.{LivePlan}
 use Rattle.cf_load.specs.declared.loads.LoadFault.{LoadFault}
 use Rattle.cf_load.specs.declared.loads.LoadFault.TheVariants.{Full, NodesFull, Memory}
@@ -27,11 +31,33 @@ pub record IsLoaded (log : LogValue) (rows : List Numbered) (plan : LivePlan) (m
   pub alerts : answered.alerts ≡ map (marks_on log.whole (n.view).seen) plan.triggers.items
   pub lives : HasAnswered log.whole plan.asks.items plan.lives.items plan.rounds (length rows) (n.view).seen answered.lives
   pub told : (n.view).told ≡ (m.view).told ++ tails_of answered.lives
+  pub few_nodes : distinct log.whole rows ≤ (log.shape).writers * (log.shape).nodes
 
--- Full exactly where there are more rows than the capacity, and then nothing was done. After want of memory the books are home, and
--- some of the rows are in the log. Nodes aren't used yet.
+-- The rows need more different nodes than that writer has, which ran out of them. The root holds all books at rest, and each
+-- writer's entries are the first of its rows.
+pub record LacksNodes (log : LogValue) (rows : List Numbered) (writer : ℕ) (n : Held) : Type 0 where
+  pub exists : writer < (log.shape).writers
+  pub many : (log.shape).nodes < distinct log.whole rows
+  pub of : IsOf n log
+  pub settled : IsSettled log.shape n.view
+  pub fronts : (w : ℕ) → w < (log.shape).writers → (left : List Numbered) × (written_by w (n.view).seen ++ left ≡ rows_of (log.shape).writers w 0 rows)
+
+-- a writer that ran out of nodes goes before want of memory
+abbrev pub outcome_of : {T : Type 0} → Option ℕ → Result T AllocError → Result T LoadFault
+outcome_of (Some writer) answers = Err (NodesFull writer)
+outcome_of None (Ok more) = Ok more
+outcome_of None (Err fault) = Err Memory
+
+-- what the log holds after a fault
+abbrev pub HasStopped : LogValue → List Numbered → Held → LoadFault → Type 0
+HasStopped log rows n Full = ⊥
+HasStopped log rows n (NodesFull writer) = LacksNodes log rows writer n
+HasStopped log rows n Memory = HoldsSome log rows n
+
+-- Full exactly where there are more rows than the capacity, and then nothing was done. After another fault the books are home, and
+-- some of the rows are in the log.
 abbrev pub Loads : LogValue → List Numbered → LivePlan → Held → Held → Result Answered LoadFault → Type 0
 Loads log rows plan m n (Ok answered) = IsLoaded log rows plan m n answered
 Loads log rows plan m n (Err Full) = ((log.shape).capacity < length rows) × (n ≡ m)
-Loads log rows plan m n (Err (NodesFull writer)) = ⊥
+Loads log rows plan m n (Err (NodesFull writer)) = (length rows ≤ (log.shape).capacity) × (n ≡ record m { view = n.view }) × LacksNodes log rows writer n
 Loads log rows plan m n (Err Memory) = (length rows ≤ (log.shape).capacity) × (n ≡ record m { view = n.view }) × HoldsSome log rows n

@@ -1,14 +1,15 @@
 // A batch: the writers append its rows while the reader asks.
-ghost use Rattle.std.specs.Prelude.{◌≡◌, ◌+◌, ◌*◌, ◌<◌, ◌≤◌, ◌^◌, ◌++◌, [], All, take, length, IfOk, IfErr};
+ghost use Rattle.std.specs.Prelude.{◌≡◌, ◌+◌, ◌*◌, ◌<◌, ◌≤◌, ◌^◌, ◌++◌, All, take, length, is_none, IfSome, IfOk, IfErr};
 ghost use Rattle.std.specs.List.{AllZip};
 ghost use Rattle.std.specs.Thread.{IsSync};
 ghost use Rattle.cf_row.specs.Row.{Fits};
 ghost use Rattle.cf_table.specs.Held.{IsOf};
-ghost use Rattle.cf_load.specs.Loading.{AsksBatch, HasLoaded, HoldsSome, AsksBeside};
+ghost use Rattle.cf_load.specs.Loading.{AsksBatch, HasLoaded, AsksBeside};
+ghost use Rattle.cf_load.specs.Loads.{outcome_of, HasStopped};
 ghost use Rattle.cf_load.specs.Planned.{IsPlan, HasRead, tails_of};
-ghost use Rattle.cf_load.specs.Writing.{IsReady, Wrote};
+ghost use Rattle.cf_load.specs.Writing.{IsReady, RanOut, Wrote};
 
-use crate::LivePlan;
+use crate::{LivePlan, LoadFault};
 use crate::reader::ask_counted;
 use crate::writers::run_writers;
 use cf_outside::Gate;
@@ -41,7 +42,8 @@ fn ask_beside<G: Gate>(
     ask_counted::<_, Brand>(log, alloc, gate, plan, batch, reader, Blank::new(1))
 }
 
-// The writers append the rows of a batch in threads of their own, while the reader asks in this one.
+// The writers append the rows of a batch in threads of their own, while the reader asks in this one. Answers a writer that ran out
+// of nodes, if there is one, and what the reader was answered.
 fn run_beside<R: Threads + Sync, G: Gate>(
     rt: &R,
     alloc: Global,
@@ -52,23 +54,24 @@ fn run_beside<R: Threads + Sync, G: Gate>(
     rows: &[Row],
     reader: &mut ReaderPass,
     passes: &mut [WriterPass],
-) -> Result<Vec<Live>, Memory>
+) -> (Option<u8>, Result<Vec<Live>, Memory>)
     requires of { IsOf reader.old log.now }
     requires plan { IsPlan log.now.whole plan.now }
     requires ready { All (IsReady log.now) passes.old }
     requires fits { All (Fits log.now.shape.schema) rows.now }
-    requires bare { log.now.shape.lanes ≡ [] }
     requires room { 4096 * batch + length rows.now < 2 ^ 32 }
-    ensures wrote { AllZip (Wrote log.now (4096 * batch) rows.now) passes.old passes.new }
+    ensures wrote { AllZip (Wrote (is_none result.0) log.now (4096 * batch) rows.now) passes.old passes.new }
+    ensures out { IfSome result.0 (λ writer. RanOut log.now rows.now writer passes.new) }
     ensures of { IsOf reader.new log.now }
-    ensures asks { IfOk result (λ more. AsksBatch log.now.whole plan.now.asks.items plan.now.lives.items plan.now.rounds batch reader.old.view.seen reader.new.view.seen more.items) }
-    ensures read { IfOk result (λ more. HasRead reader.old reader.new more.items) }
+    ensures asks { IfOk result.1 (λ more. AsksBatch log.now.whole plan.now.asks.items plan.now.lives.items plan.now.rounds batch reader.old.view.seen reader.new.view.seen more.items) }
+    ensures read { IfOk result.1 (λ more. HasRead reader.old reader.new more.items) }
 {
-    let (_, answers) = join_mut(
+    join_mut(
         rt,
-        &mut ||
-            requires { IsSync R.row × IsSync G.row × All (IsReady log.now) passes.now × All (Fits log.now.shape.schema) rows.now × (log.now.shape.lanes ≡ []) × (4096 * batch + length rows.now < 2 ^ 32) }
-            ensures { AllZip (Wrote log.entry.now (4096 * batch) rows.entry.now) passes.entry.now passes.exit.now }
+        &mut || -> Option<u8>
+            requires { IsSync R.row × IsSync G.row × All (IsReady log.now) passes.now × All (Fits log.now.shape.schema) rows.now × (4096 * batch + length rows.now < 2 ^ 32) }
+            ensures wrote { AllZip (Wrote (is_none result) log.entry.now (4096 * batch) rows.entry.now) passes.entry.now passes.exit.now }
+            ensures out { IfSome result (λ writer. RanOut log.entry.now rows.entry.now writer passes.exit.now) }
         { run_writers(rt, log, gate, 4096 * u64::from(batch), rows, passes) },
         &mut || -> Result<Vec<Live>, Memory>
             requires { IsSync G.row × IsOf reader.now log.now × IsPlan log.now.whole plan.now }
@@ -76,8 +79,22 @@ fn run_beside<R: Threads + Sync, G: Gate>(
             ensures asks { IfOk result (λ more. AsksBatch log.entry.now.whole plan.entry.now.asks.items plan.entry.now.lives.items plan.entry.now.rounds batch reader.entry.now.view.seen reader.exit.now.view.seen more.items) }
             ensures read { IfOk result (λ more. HasRead reader.entry.now reader.exit.now more.items) }
         { ask_beside(log, alloc, gate, plan, batch, reader) },
-    );
-    answers
+    )
+}
+
+fn outcome(
+    out: Option<u8>,
+    answers: Result<Vec<Live>, Memory>,
+) -> Result<Vec<Live>, LoadFault>
+    ensures { result ≡ outcome_of out answers }
+{
+    match out {
+        Some(writer) => Err(LoadFault::NodesFull(writer)),
+        None => match answers {
+            Ok(more) => Ok(more),
+            Err(_) => Err(LoadFault::Memory),
+        },
+    }
 }
 
 // Loads the rows of a batch, where all before are loaded. Refused for memory, the log may have them or not.
@@ -90,25 +107,26 @@ pub(crate) fn load_batch<R: Threads + Sync, G: Gate>(
     plan: &LivePlan,
     gate: &G,
     batch: u32,
-) -> Result<Vec<Live>, Memory>
+) -> Result<Vec<Live>, LoadFault>
     requires loaded { HasLoaded log.now (take (4096 * batch) rows.now) root.old }
     requires plan { IsPlan log.now.whole plan.now }
     requires fits { All (Fits log.now.shape.schema) rows.now }
-    requires bare { log.now.shape.lanes ≡ [] }
     requires few { length rows.now ≤ log.now.shape.capacity }
     requires some { 4096 * batch < length rows.now }
     ensures same { root.new ≡ record root.old { view = root.new.view } }
     ensures loaded { IfOk result (λ _. HasLoaded log.now (take (4096 * (batch + 1)) rows.now) root.new) }
     ensures asked { IfOk result (λ more. AsksBeside log.now.whole plan.now batch root.old.view.seen root.new.view.seen more.items) }
     ensures told { IfOk result (λ more. root.new.view.told ≡ root.old.view.told ++ tails_of more.items) }
-    ensures memory { IfErr result (λ _. HoldsSome log.now rows.now root.new) }
+    ensures stopped { IfErr result (HasStopped log.now rows.now root.new) }
 {
     let _few = log.layout().capacity();
-    let mut passes = log.deal(alloc, root)?;
+    let Ok(mut passes) = log.deal(alloc, root) else {
+        return Err(LoadFault::Memory);
+    };
     let mut reader = log.fork(root);
     let from = BATCH * batch as usize;
     let to = rows.len().min(from + BATCH);
-    let answers = run_beside(
+    let (out, answers) = run_beside(
         rt,
         alloc,
         log,
@@ -121,5 +139,5 @@ pub(crate) fn load_batch<R: Threads + Sync, G: Gate>(
     );
     log.gather(root, passes);
     log.fold_back(root, reader);
-    answers
+    outcome(out, answers)
 }

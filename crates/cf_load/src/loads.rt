@@ -1,16 +1,16 @@
 // All batches, and then the answers on the whole log.
-ghost use Rattle.std.specs.Prelude.{◌≡◌, ◌+◌, ◌<◌, ◌≤◌, ◌++◌, [], All, length, IfOk, IfErr};
+ghost use Rattle.std.specs.Prelude.{◌≡◌, ◌≤◌, ◌++◌, [], All, length, IfOk, IfErr};
 ghost use Rattle.cf_row.specs.Row.{Fits};
-ghost use Rattle.cf_load.specs.Loading.{HasLoaded, HasAnswered, HoldsSome};
+ghost use Rattle.cf_load.specs.Loading.{HasLoaded, HasAnswered};
 ghost use Rattle.cf_load.specs.Planned.{IsPlan, tails_of};
-ghost use Rattle.cf_load.specs.Loads.{Loads};
+ghost use Rattle.cf_load.specs.Loads.{HasStopped, Loads};
 
 use crate::LivePlan;
 use crate::batch::load_batch;
 use crate::finals::answer_all;
 use cf_outside::Gate;
 use cf_report::{Live, Loaded};
-use cf_row::{Memory, Row};
+use cf_row::Row;
 use cf_table::{MultiLog, Root};
 use std::alloc::Global;
 use std::thread::Threads;
@@ -20,13 +20,13 @@ use std::thread::Threads;
 pub enum LoadFault {
     /// There are more rows than the log's capacity. Nothing was appended.
     Full,
-    /// The nodes of that writer are used up, which doesn't come without lanes.
+    /// The nodes of that writer are used up, and its next row wants another. Some of the rows may have been appended.
     NodesFull(u8),
     /// Want of memory. Some of the rows may have been appended.
     Memory,
 }
 
-// Loads the rows batch by batch. Refused for memory, the log has some of them.
+// Loads the rows batch by batch. After a fault the log has some of them.
 fn load_batches<R: Threads + Sync, G: Gate>(
     rt: &R,
     alloc: Global,
@@ -35,24 +35,25 @@ fn load_batches<R: Threads + Sync, G: Gate>(
     rows: &[Row],
     plan: &LivePlan,
     gate: &G,
-) -> Result<Vec<Live>, Memory>
+) -> Result<Vec<Live>, LoadFault>
     requires loaded { HasLoaded log.now [] root.old }
     requires plan { IsPlan log.now.whole plan.now }
     requires fits { All (Fits log.now.shape.schema) rows.now }
-    requires bare { log.now.shape.lanes ≡ [] }
     requires few { length rows.now ≤ log.now.shape.capacity }
     ensures same { root.new ≡ record root.old { view = root.new.view } }
     ensures loaded { IfOk result (λ _. HasLoaded log.now rows.now root.new) }
     ensures answered { IfOk result (λ lives. HasAnswered log.now.whole plan.now.asks.items plan.now.lives.items plan.now.rounds (length rows.now) root.new.view.seen lives.items) }
     ensures told { IfOk result (λ lives. root.new.view.told ≡ root.old.view.told ++ tails_of lives.items) }
-    ensures memory { IfErr result (λ _. HoldsSome log.now rows.now root.new) }
+    ensures stopped { IfErr result (HasStopped log.now rows.now root.new) }
 {
     let _few = log.layout().capacity();
     let mut lives = Vec::new(alloc);
     let batches = rows.len().div_ceil(4096);
     for batch in 0..batches {
         let mut more = load_batch(rt, alloc, log, root, rows, plan, gate, batch as u32)?;
-        lives.append(&mut more)?;
+        if lives.append(&mut more).is_err() {
+            return Err(LoadFault::Memory);
+        }
     }
     Ok(lives)
 }
@@ -73,15 +74,12 @@ pub fn load<R: Threads + Sync, G: Gate>(
     requires loaded { HasLoaded log.now [] root.old }
     requires plan { IsPlan log.now.whole plan.now }
     requires fits { All (Fits log.now.shape.schema) rows.now }
-    requires bare { log.now.shape.lanes ≡ [] }
     ensures { Loads log.now rows.now plan.now root.old root.new result }
 {
     if rows.len() > log.layout().capacity() as usize {
         return Err(LoadFault::Full);
     }
-    let Ok(lives) = load_batches(rt, alloc, log, root, rows, plan, gate) else {
-        return Err(LoadFault::Memory);
-    };
+    let lives = load_batches(rt, alloc, log, root, rows, plan, gate)?;
     match answer_all(log, alloc, root, plan, lives) {
         Ok(loaded) => Ok(loaded),
         Err(_) => Err(LoadFault::Memory),

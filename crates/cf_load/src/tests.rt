@@ -58,7 +58,6 @@ fn run_home<R: Threads + Sync>(
     requires all { AreAll log.now passes.items }
     requires ready { All (IsReady log.now) passes.items }
     requires fits { All (Fits log.now.shape.schema) rows.now }
-    requires bare { log.now.shape.lanes ≡ [] }
     requires room { length rows.now < 2 ^ 32 }
 {
     run_writers(rt, log, &FreeGate, 0, rows, passes.as_mut_slice());

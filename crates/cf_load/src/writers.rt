@@ -1,11 +1,13 @@
 // The rows of a batch are appended by the writers, in threads of their own.
-ghost use Rattle.std.specs.Prelude.{◌≡◌, ◌+◌, ◌<◌, ◌^◌, [], All, length};
+ghost use Rattle.std.specs.Prelude.{◌≡◌, ◌+◌, ◌<◌, ◌^◌, All, length, is_none, IfSome};
 ghost use Rattle.std.specs.List.{AllZip};
 ghost use Rattle.std.specs.Thread.{IsSync};
 ghost use Rattle.cf_row.specs.Row.{Fits};
-ghost use Rattle.cf_load.specs.Writing.{IsReady, Wrote};
+ghost use Rattle.cf_table.specs.Held.{book_of};
+ghost use Rattle.cf_load.specs.Needed.{IsOut};
+ghost use Rattle.cf_load.specs.Writing.{IsReady, RanOut, Wrote};
 
-use cf_append::append;
+use cf_append::{AppendFault, append};
 use cf_outside::Gate;
 use cf_row::Row;
 use cf_table::{MultiLog, Steps, WriterPass};
@@ -13,7 +15,8 @@ use std::marker::Brand;
 use std::sync::ledger::{Blank, Ledger};
 use std::thread::{Threads, join_mut};
 
-// The pass appends its writer's rows of a batch whose first row is number `first`, up to the first that finds the log full.
+// The pass appends its writer's rows of a batch whose first row is number `first`, up to the first that finds the log full, or the
+// writer's nodes used up: then it answers the writer.
 fn write_rows<G: Gate, L: Ledger>(
     log: &MultiLog,
     gate: &G,
@@ -21,12 +24,12 @@ fn write_rows<G: Gate, L: Ledger>(
     batch: &[Row],
     pass: &mut WriterPass,
     steps: &mut Steps<L>,
-)
+) -> Option<u8>
     requires ready { IsReady log.now pass.old }
     requires fits { All (Fits log.now.shape.schema) batch.now }
-    requires bare { log.now.shape.lanes ≡ [] }
     requires room { first + length batch.now < 2 ^ 32 }
-    ensures { Wrote log.now first batch.now pass.old pass.new }
+    ensures wrote { Wrote (is_none result) log.now first batch.now pass.old pass.new }
+    ensures out { IfSome result (λ writer. ((book_of pass.new.view).writer ≡ writer) × IsOut log.now.shape batch.now (book_of pass.new.view)) }
 {
     let writers = u64::from(log.layout().writers());
     let writer = pass.writer();
@@ -34,12 +37,15 @@ fn write_rows<G: Gate, L: Ledger>(
     for row in batch {
         if number % writers == u64::from(writer) {
             gate.before_append(writer, row.num());
-            if append(log, pass, row, steps).is_err() {
-                return;
+            match append(log, pass, row, steps) {
+                Ok(_) => {}
+                Err(AppendFault::Full) => return None,
+                Err(AppendFault::NodesFull) => return Some(writer),
             }
         }
         number += 1;
     }
+    None
 }
 
 // As `write_rows`. Nobody reads how many steps it made.
@@ -50,16 +56,16 @@ fn write_counted<G: Gate, L: Ledger>(
     batch: &[Row],
     pass: &mut WriterPass,
     blank: Blank,
-)
+) -> Option<u8>
     requires ready { IsReady log.now pass.old }
     requires fits { All (Fits log.now.shape.schema) batch.now }
-    requires bare { log.now.shape.lanes ≡ [] }
     requires room { first + length batch.now < 2 ^ 32 }
     requires blank { (blank.name ≡ L.name) × (blank.parts ≡ L.parts) × (0 < L.parts) }
-    ensures { Wrote log.now first batch.now pass.old pass.new }
+    ensures wrote { Wrote (is_none result) log.now first batch.now pass.old pass.new }
+    ensures out { IfSome result (λ writer. ((book_of pass.new.view).writer ≡ writer) × IsOut log.now.shape batch.now (book_of pass.new.view)) }
 {
     let mut steps = Steps::<L>::new(blank);
-    write_rows(log, gate, first, batch, pass, &mut steps);
+    write_rows(log, gate, first, batch, pass, &mut steps)
 }
 
 // What one pass has to do, if there is one.
@@ -69,21 +75,23 @@ fn run_first<G: Gate>(
     first: u64,
     batch: &[Row],
     passes: &mut [WriterPass],
-)
+) -> Option<u8>
     requires one { length passes.old < 2 }
     requires ready { All (IsReady log.now) passes.old }
     requires fits { All (Fits log.now.shape.schema) batch.now }
-    requires bare { log.now.shape.lanes ≡ [] }
     requires room { first + length batch.now < 2 ^ 32 }
-    ensures { AllZip (Wrote log.now first batch.now) passes.old passes.new }
+    ensures wrote { AllZip (Wrote (is_none result) log.now first batch.now) passes.old passes.new }
+    ensures out { IfSome result (λ writer. RanOut log.now batch.now writer passes.new) }
 {
-    if let Some(pass) = passes.first_mut() {
-        write_counted::<_, Brand>(log, gate, first, batch, pass, Blank::new(1));
+    match passes.first_mut() {
+        Some(pass) => write_counted::<_, Brand>(log, gate, first, batch, pass, Blank::new(1)),
+        None => None,
     }
 }
 
 // Each pass appends its writer's rows of a batch whose first row is number `first`, in a thread of its own where one can
-// be made. A pass that has rows left found the log full, and its book is marked.
+// be made. Answers a writer whose nodes are used up, if there is one; else a pass that has rows left found the log full, and its
+// book is marked.
 #[cycle(writers)]
 pub(crate) fn run_writers<R: Threads + Sync, G: Gate>(
     rt: &R,
@@ -92,26 +100,29 @@ pub(crate) fn run_writers<R: Threads + Sync, G: Gate>(
     first: u64,
     batch: &[Row],
     passes: &mut [WriterPass],
-)
+) -> Option<u8>
     requires ready { All (IsReady log.now) passes.old }
     requires fits { All (Fits log.now.shape.schema) batch.now }
-    requires bare { log.now.shape.lanes ≡ [] }
     requires room { first + length batch.now < 2 ^ 32 }
-    ensures { AllZip (Wrote log.now first batch.now) passes.old passes.new }
+    ensures wrote { AllZip (Wrote (is_none result) log.now first batch.now) passes.old passes.new }
+    ensures out { IfSome result (λ writer. RanOut log.now batch.now writer passes.new) }
 {
     if passes.len() < 2 {
         return run_first(log, gate, first, batch, passes);
     }
     let (front, back) = passes.split_at_mut(passes.len() / 2);
-    join_mut(
+    let (low, high) = join_mut(
         rt,
-        &mut ||
-            requires { IsSync R.row × IsSync G.row × All (IsReady log.now) front.now × All (Fits log.now.shape.schema) batch.now × (log.now.shape.lanes ≡ []) × (first + length batch.now < 2 ^ 32) }
-            ensures { AllZip (Wrote log.entry.now first batch.entry.now) front.entry.now front.exit.now }
+        &mut || -> Option<u8>
+            requires { IsSync R.row × IsSync G.row × All (IsReady log.now) front.now × All (Fits log.now.shape.schema) batch.now × (first + length batch.now < 2 ^ 32) }
+            ensures wrote { AllZip (Wrote (is_none result) log.entry.now first batch.entry.now) front.entry.now front.exit.now }
+            ensures out { IfSome result (λ writer. RanOut log.entry.now batch.entry.now writer front.exit.now) }
         { run_writers(rt, log, gate, first, batch, front) },
-        &mut ||
-            requires { IsSync R.row × IsSync G.row × All (IsReady log.now) back.now × All (Fits log.now.shape.schema) batch.now × (log.now.shape.lanes ≡ []) × (first + length batch.now < 2 ^ 32) }
-            ensures { AllZip (Wrote log.entry.now first batch.entry.now) back.entry.now back.exit.now }
+        &mut || -> Option<u8>
+            requires { IsSync R.row × IsSync G.row × All (IsReady log.now) back.now × All (Fits log.now.shape.schema) batch.now × (first + length batch.now < 2 ^ 32) }
+            ensures wrote { AllZip (Wrote (is_none result) log.entry.now first batch.entry.now) back.entry.now back.exit.now }
+            ensures out { IfSome result (λ writer. RanOut log.entry.now batch.entry.now writer back.exit.now) }
         { run_writers(rt, log, gate, first, batch, back) },
     );
+    low.or(high)
 }

@@ -27,7 +27,7 @@ Names c offset lane = (c.link ≡ suc offset) × (c.spot.lane ≡ lane)
 
 -- the walk went by that ticket, whose cell's first word was found
 abbrev pub gone_on_of : Cursor → ℕ → ℕ → Cursor
-gone_on_of c offset found = record { writer = c.writer; spot = c.spot; link = found % 2 ^ 32; gone = offset ∷ c.gone }
+gone_on_of c offset found = record { writer = c.writer; spot = c.spot; link = found % 2 ^ 32; gone = offset ∷ c.gone; met = (offset, c.writer) ∷ c.met }
 
 -- no known node has that number
 abbrev pub NoneKnown : Pass → ℕ → Type 0

@@ -1,7 +1,7 @@
 // What a pass knows of nodes: lanes and prefixes, the nodes that stand for them, and a walk down a chain.
 ghost use Rattle.std.specs.Prelude.{◌≡◌, ◌<◌, ◌^◌, ◌∷◌, [], IfOk, IsTrue, ◌↔◌, length};
 ghost use Rattle.cf_words.specs.Words.{spot as spot_of};
-ghost use Rattle.cf_law.specs.Steps.{walk_on as walk_on_of};
+ghost use Rattle.cf_law.specs.Steps.{met_of, walk_on as walk_on_of};
 ghost use Rattle.cf_pass.specs.Books.{gone_on_of, Names};
 
 use cf_row::Memory;
@@ -39,13 +39,15 @@ impl Model for KnownNode {
     ghost view = { λ k. (k.spot, k.node) };
 }
 
-// A walk down the chain of a writer in a leaf: the link that was found last, and the offsets that it went by.
+// A walk down the chain of a writer in a leaf: the link that was found last, the offsets that it went by, and those that this
+// walk and the walks before it went by, each with its writer.
 #[derive(Debug, Drop)]
 pub(crate) struct Walk {
     writer: u8,
     spot: NodeSpot,
     link: u64,
     gone: Vec<u32>,
+    met: Vec<(u32, u8)>,
 }
 
 impl Model for Walk {
@@ -53,7 +55,7 @@ impl Model for Walk {
 
     ghost Value = { Cursor };
 
-    ghost view = { λ w. record { writer = w.writer; spot = w.spot; link = w.link; gone = w.gone.items } };
+    ghost view = { λ w. record { writer = w.writer; spot = w.spot; link = w.link; gone = w.gone.items; met = w.met.items } };
 }
 
 impl NodeSpot {
@@ -140,14 +142,21 @@ impl KnownNode {
 
 impl Walk {
     // A walk that begins with the head that was found.
-    pub(crate) fn new(alloc: Global, writer: u8, spot: NodeSpot, link: u64) -> Walk
-        ensures { result ≡ record { writer = writer; spot = spot; link = link; gone = [] } }
+    pub(crate) fn new(
+        alloc: Global,
+        writer: u8,
+        spot: NodeSpot,
+        link: u64,
+        met: Vec<(u32, u8)>,
+    ) -> Walk
+        ensures { result ≡ record { writer = writer; spot = spot; link = link; gone = []; met = met.items } }
     {
         Walk {
             writer,
             spot,
             link,
             gone: Vec::new(alloc),
+            met,
         }
     }
 
@@ -159,6 +168,7 @@ impl Walk {
             spot: self.spot.copy(alloc)?,
             link: self.link,
             gone: self.gone.to_vec(alloc)?,
+            met: self.met.to_vec(alloc)?,
         })
     }
 
@@ -176,10 +186,24 @@ impl Walk {
         let mut gone = Vec::with_capacity(alloc, 1)?;
         gone.push(offset)?;
         gone.extend_from_slice(&self.gone)?;
+        let mut met = Vec::with_capacity(alloc, 1)?;
+        met.push((offset, self.writer))?;
+        met.extend_from_slice(&self.met)?;
         let mut walk = self.copy(alloc)?;
         walk.link = found % (1 << 32);
         walk.gone = gone;
+        walk.met = met;
         Ok(walk)
+    }
+}
+
+// What the walks went by so far.
+pub(crate) fn met_by(alloc: Global, walk: &Option<Walk>) -> Result<Vec<(u32, u8)>, Memory>
+    ensures { IfOk result (λ met. met.items ≡ met_of walk.now) }
+{
+    match walk {
+        Some(walk) => walk.met.to_vec(alloc),
+        None => Ok(Vec::new(alloc)),
     }
 }
 

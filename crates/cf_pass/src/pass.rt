@@ -5,7 +5,7 @@ ghost use Rattle.cf_law.specs.Steps.{at_book, looked, tail_loaded, labelled, lin
 ghost use Rattle.cf_law.specs.Events.{table, no_book};
 ghost use Rattle.cf_pass.specs.Books.{MayTake, ticketed_at, NoneFlies, NoneHeld, NoneKnown, IsFreeIn, IsFree, NoneFree, HasFinished, HasOpen, Owns, MayRead};
 
-use crate::nodes::{KnownNode, NodeSpot, Walk, copy_known, copy_spots, copy_walk, learnt, walk_on};
+use crate::nodes::{KnownNode, NodeSpot, Walk, copy_known, copy_spots, copy_walk, learnt, met_by, walk_on};
 use cf_row::{Entry, Memory, Row};
 use std::alloc::{AllocError, Global};
 use std::marker::Model;
@@ -558,7 +558,8 @@ impl PassState {
         ensures { IfOk result (λ pass. pass ≡ head_loaded place writer spot self.now found) }
     {
         let mut pass = self.looked(alloc, place, found)?;
-        pass.cursor = Some(Walk::new(alloc, writer, spot, found));
+        let met = met_by(alloc, &self.cursor)?;
+        pass.cursor = Some(Walk::new(alloc, writer, spot, found, met));
         Ok(pass)
     }
 

@@ -4,8 +4,10 @@ ghost use Rattle.cf_table.specs.Held.{IsOf};
 ghost use Rattle.cf_table.specs.Moves.{OnlyLooked, AreFit};
 ghost use Rattle.cf_plain.specs.Asks.{Suits, eval};
 ghost use Rattle.cf_query.specs.Asking.{HasAsked};
+ghost use Rattle.cf_query.specs.Walking.{AsksOne, lane_of, steps_of_one};
 
 use crate::rows::load_entry;
+use crate::walks::walk;
 use cf_plain::{Answer, Ask, Plain};
 use cf_row::Memory;
 use cf_table::{MultiLog, Pass, Steps};
@@ -45,7 +47,7 @@ fn collect<P: Pass, L: Ledger>(
 }
 
 // The question's meaning on the entries that were seen.
-fn answer<P: Pass, L: Ledger>(
+pub(crate) fn answer<P: Pass, L: Ledger>(
     log: &MultiLog,
     alloc: Global,
     pass: &mut P,
@@ -64,7 +66,7 @@ fn answer<P: Pass, L: Ledger>(
 }
 
 /// The question's meaning on the entries that are covered then, and how many they are. The read tail is loaded once, and
-/// the pass notes it.
+/// the pass notes it. `Find` and `Between` walk the lane's tree and chains, so that a question for one key reads few words.
 pub fn ask<P: Pass, L: Ledger>(
     log: &MultiLog,
     alloc: Global,
@@ -76,7 +78,8 @@ pub fn ask<P: Pass, L: Ledger>(
     requires suits { Suits log.now.whole ask.now }
     ensures ok { IfOk result (λ answer. HasAsked log.now.shape (P.held pass.old) (P.held pass.new) × (answer.tail ≡ length (P.held pass.new).view.seen) × (answer.body ≡ eval log.now.whole ask.now (P.held pass.new).view.seen)) }
     ensures memory { IfErr result (λ _. HasAsked log.now.shape (P.held pass.old) (P.held pass.new) ⊎ OnlyLooked (P.held pass.old) (P.held pass.new)) }
+    ensures steps { AsksOne ask.now → IfOk result (λ answer. steps.new ≤ steps.old + steps_of_one log.now.shape (lane_of ask.now) answer.body answer.tail) }
 {
     tail(log, pass, steps);
-    answer(log, alloc, pass, ask, steps)
+    walk(log, alloc, pass, ask, steps)
 }

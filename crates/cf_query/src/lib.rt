@@ -1,6 +1,6 @@
 //! Questions are asked of a shared log by any pass, while writers append.
 //!
-//! So far each ask goes over all words below its read tail, and no node is used.
+//! `Find` and `Between` walk the tree and chains of their lane. So far any other question goes over all words below its read tail.
 #![tactic(auto)]
 
 mod asks;
@@ -8,6 +8,7 @@ mod history;
 mod rows;
 #[cfg(test)]
 mod tests;
+mod walks;
 
 pub use asks::{ask, tail};
 pub use history::seals_are_histories;

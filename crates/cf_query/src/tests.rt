@@ -117,7 +117,7 @@ fn shape_of<R: Abort>(
         })?;
     }
     assert!(rt; belong(&schema, &all));
-    Ok(Shape::new(schema, all, capacity, writers, 2, 10)?)
+    Ok(Shape::new(schema, all, capacity, writers, 64, 10)?)
 }
 
 // A log of that shape, with all its books dealt.
@@ -203,7 +203,6 @@ fn append_at<L: Ledger, R: Abort>(
 )
     requires fits { Fits log.now.shape.schema row.now }
     requires ready { IsWriters log.now writer pass.old }
-    requires bare { log.now.shape.lanes ≡ [] }
     ensures { IsWriters log.now writer pass.new }
 {
     assert!(rt; pass.writer() == writer);
@@ -220,7 +219,6 @@ fn ask_between<L: Ledger, R: Abort + Wait>(
     steps: &mut Steps<L>,
 ) -> Result<(), Fail>
     requires ready { IsWriters log.now 0 first × IsWriters log.now 1 second }
-    requires bare { log.now.shape.lanes ≡ [] }
 {
     let row = row_of(alloc, 0, &[7])?;
     assert!(rt; fits(log.layout().schema(), &row));
@@ -248,6 +246,49 @@ fn two_writers<L: Ledger, R: Abort + Wait>(rt: &R, alloc: Global, blank: Blank) 
 #[test]
 fn a_question_between_appends(rt: HostRuntime) -> Result<(), Fail> {
     two_writers::<Brand, _>(&rt, rt.alloc(), Blank::new(1))
+}
+
+// Two writers append numbers to a lane, and each asks for some of them.
+fn find_between<L: Ledger, R: Abort>(
+    rt: &R,
+    alloc: Global,
+    log: &MultiLog,
+    mut first: WriterPass,
+    mut second: WriterPass,
+    steps: &mut Steps<L>,
+) -> Result<(), Fail>
+    requires ready { IsWriters log.now 0 first × IsWriters log.now 1 second }
+{
+    let five = row_of(alloc, 0, &[0, 5])?;
+    assert!(rt; fits(log.layout().schema(), &five));
+    let six = row_of(alloc, 1, &[0, 6])?;
+    assert!(rt; fits(log.layout().schema(), &six));
+    append_at(rt, log, 0, &mut first, &five, 0, steps);
+    append_at(rt, log, 1, &mut second, &five, 1, steps);
+    append_at(rt, log, 0, &mut first, &six, 2, steps);
+    let one = Ask::Find(0, 5, 5);
+    assert!(rt; suits(log.shape(), &one));
+    check(rt, log, alloc, &mut first, &one, &[3, 0, 1], steps)?;
+    let none = Ask::Find(0, 6, 5);
+    assert!(rt; suits(log.shape(), &none));
+    check(rt, log, alloc, &mut second, &none, &[3], steps)?;
+    Ok(())
+}
+
+fn two_finders<L: Ledger, R: Abort>(rt: &R, alloc: Global, blank: Blank) -> Result<(), Fail>
+    requires { (blank.name ≡ L.name) × (blank.parts ≡ L.parts) × (0 < L.parts) }
+{
+    let mut steps = Steps::<L>::new(blank);
+    let kinds = [("ts", Kind::U64), ("k", Kind::U8)];
+    let shape = shape_of(rt, alloc, &kinds, &[(Key::Attr(1), None)], 8, 2)?;
+    let (log, _root, passes) = dealt(alloc, shape)?;
+    let (first, second) = two_of(rt, passes);
+    find_between(rt, alloc, &log, first, second, &mut steps)
+}
+
+#[test]
+fn a_number_of_two_writers_is_found(rt: HostRuntime) -> Result<(), Fail> {
+    two_finders::<Brand, _>(&rt, rt.alloc(), Blank::new(1))
 }
 
 // A log for one writer, and readers who tell each other what they have seen. The README shows this function.
@@ -319,7 +360,6 @@ fn round<L: Ledger>(
 ) -> bool
     requires suits { Suits log.now.whole question.now }
     requires ready { IsWriters log.now _writer pass.old }
-    requires bare { log.now.shape.lanes ≡ [] }
     ensures { IsWriters log.now _writer pass.new }
 {
     let Ok(row) = row_of(alloc, num, &[7]) else {
@@ -347,7 +387,6 @@ fn rounds<L: Ledger>(
 ) -> (WriterPass, bool)
     requires suits { Suits log.now.whole question.now }
     requires ready { IsWriters log.now writer pass }
-    requires bare { log.now.shape.lanes ≡ [] }
     ensures { IsWriters log.now writer result.0 }
 {
     let mut answered = true;
@@ -369,7 +408,6 @@ fn beside<L: Ledger + Send + Sync, M: Ledger + Send + Sync, R: Threads + Sync + 
     blanks: (Blank, Blank),
 ) -> Result<(WriterPass, WriterPass), Fail>
     requires ready { IsWriters log.now 0 first × IsWriters log.now 1 second }
-    requires bare { log.now.shape.lanes ≡ [] }
     requires one { (blanks.0.name ≡ L.name) × (blanks.0.parts ≡ L.parts) × (0 < L.parts) }
     requires other { (blanks.1.name ≡ M.name) × (blanks.1.parts ≡ M.parts) × (0 < M.parts) }
     ensures { IfOk result (λ r. IsWriters log.now 0 r.0 × IsWriters log.now 1 r.1) }
@@ -383,11 +421,11 @@ fn beside<L: Ledger + Send + Sync, M: Ledger + Send + Sync, R: Threads + Sync + 
     let (low, high) = join(
         rt,
         || -> (WriterPass, bool)
-            requires { Suits log.now.whole question.now × IsWriters log.now 0 first × (log.now.shape.lanes ≡ []) }
+            requires { Suits log.now.whole question.now × IsWriters log.now 0 first }
             ensures { IsWriters log.entry.now 0 result.0 }
         { rounds(log, alloc, 0, first, question, mine) },
         || -> (WriterPass, bool)
-            requires { Suits log.now.whole question.now × IsWriters log.now 1 second × (log.now.shape.lanes ≡ []) }
+            requires { Suits log.now.whole question.now × IsWriters log.now 1 second }
             ensures { IsWriters log.entry.now 1 result.0 }
         { rounds(log, alloc, 1, second, question, others) },
     );
@@ -439,7 +477,6 @@ fn append_all<L: Ledger, R: Abort>(
     steps: &mut Steps<L>,
 ) -> Result<(), Memory>
     requires ready { IsWriters log.now 0 pass.old }
-    requires bare { log.now.shape.lanes ≡ [] }
     ensures { OnOk result (IsWriters log.now 0 pass.new) }
 {
     let mut offset = 0;

@@ -12,8 +12,8 @@ use Rattle.cf_run.specs.Synth.{IsLawfulSynth}
 use Rattle.cf_run.specs.Devices.{WritesFront}
 use Rattle.cf_run.specs.Answers.{Answers, Yields, IsDecided}
 use Rattle.cf_run.specs.Work.{IsLawful}
-use Rattle.cf_run.proofs.Deciding.{from_done, dumped, of_run, of_dump}
-use Rattle.cf_run.proofs.DecidingSynth.{one_due, synthesized, of_synth}
+use Rattle.cf_run.proofs.Deciding.{from_lawful, dumped, of_run, of_dump}
+use Rattle.cf_run.proofs.DecidingSynth.{one_due, from_lawful as synth_lawful, of_synth}
 use Rattle.cf_run.specs.declared.status.Status.{Status}
 use Rattle.cf_run.specs.declared.status.Status.TheVariants.{Done, Words, Setup, Capture, ReadFault, WriteFault, Full, Nodes, Memory, NoFile}
 
@@ -31,7 +31,7 @@ answers_due files words NoFile text seals held now due are written = record { te
 answers_due files words ReadFault text seals held now due are written = none_due due
 answers_due files words WriteFault text seals held now due are written = none_due due
 answers_due files words Full text seals held now due are written = record { text = text; due = due; written = written }
-answers_due files words Nodes text seals held now due are written = none_due due
+answers_due files words Nodes text seals held now due are written = record { text = text; due = due; written = written }
 answers_due files words Memory text seals held now due are written = none_due due
 
 pub answers_if : (told : Option (List File)) (words : List (List ℕ)) (status : Status) (text : List ℕ) (seals : List Sealed) (before after held now : Option (List ℕ)) → IfSome told (λ files. IsDrafted files words before after status text seals) → Appends held now text → IfSome told (λ files. Answers files words status seals held now)
@@ -44,11 +44,14 @@ answers_some (Some files) words status text seals held now due written = record 
 
 pub decided_if : (told : Option (List File)) (words : List (List ℕ)) (status : Status) (text : List ℕ) → IfSome told (λ files. IsDue files words status text) → IfSome told (λ files. IsDecided files words status)
 decided_if None words status text due = due
-decided_if (Some files) words status text due = λ called t other. inl (one_due files words status called text t due other)
+decided_if (Some files) words status text due = λ called t other. elim (one_due files words status called text t due other) [
+  | inl same ↦ inl same
+  | inr between ↦ inr (inr between)
+]
 
 -- what is due of lawful words and files that fit is a report
 lawful_due : (files : List File) (words : List (List ℕ)) (lawful : IsLawful files words) (status : Status) (text : List ℕ) → IsDue files words status text → status ≡ Done
-lawful_due files words lawful status text (inl run) = sym (from_done files words status text lawful.work lawful.few run)
+lawful_due files words lawful status text (inl run) = sym (from_lawful files words status text lawful run)
 lawful_due files words lawful status text (inr (inl dump)) = let other = of_dump files words status text dump in absurd (not_both words lawful.work.command other.0 lawful.work.command_is other.1)
 lawful_due files words lawful status text (inr (inr synth)) = let other = of_synth files words status text synth in absurd (no_run_and_synth words lawful.work.command other.0 lawful.work.command_is other.1)
 
@@ -68,7 +71,7 @@ synth_due files words lawful status text (inl run) = elim (of_run files words st
   | inr other ↦ absurd (no_run_and_synth words other.0 lawful.work.command other.1 lawful.work.command_is)
 ]
 synth_due files words lawful status text (inr (inl dump)) = let other = of_dump files words status text dump in absurd (no_synth_and_dump words lawful.work.command other.0 lawful.work.command_is other.1)
-synth_due files words lawful status text (inr (inr synth)) = sym (synthesized files words status text lawful.work lawful.few synth)
+synth_due files words lawful status text (inr (inr synth)) = sym (synth_lawful files words status text lawful synth)
 
 pub complete_if : (told : Option (List File)) (words : List (List ℕ)) (status : Status) (text : List ℕ) → IfSome told (λ files. IsDue files words status text) → IfSome told (λ files. IsLawful files words → (status ≡ Done) ⊎ Yields status)
 complete_if None words status text due = due
@@ -95,4 +98,4 @@ steady status said no_read no_write = elim said [
 -- nothing decides for want of memory and the devices
 pub decided_free : (told : Option (List File)) (words : List (List ℕ)) (status : Status) → Yields status → IfSome told (λ files. IsDecided files words status)
 decided_free None words status free = tt
-decided_free (Some files) words status free = λ called text due. inr free
+decided_free (Some files) words status free = λ called text due. inr (inl free)

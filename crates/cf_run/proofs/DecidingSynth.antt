@@ -6,11 +6,15 @@ use Rattle.cf_command.specs.Command.{Drawn, IsSynth, NoCommand}
 use Rattle.cf_command.specs.Table.{SynthSays}
 use Rattle.cf_command.proofs.Apart.{no_run_and_synth, no_synth_and_dump}
 use Rattle.cf_command.proofs.Numbers.{some_same, decimal_is_one}
-use Rattle.cf_setup.specs.Settled.{Settled}
+use Rattle.cf_row.specs.Row.{Numbered}
+use Rattle.cf_make.specs.Generated.{generated_frames}
+use Rattle.cf_shape.specs.Nodes.{distinct}
+use Rattle.cf_setup.specs.Settled.{Settled, shaped}
+use Rattle.cf_run.specs.Work.{packet_rows}
 use Rattle.cf_setup.specs.SetupText.{SetupText}
 use Rattle.cf_run.specs.Due.{IsRunDue, IsDumpDue, IsSynthDue, IsDue}
-use Rattle.cf_run.specs.Synth.{drawn_rows, IsSynthWork, IsSynthesized, IsSynthSetupRefused, IsOtherSchema, LacksSynthSetup, IsSynthFull}
-use Rattle.cf_run.proofs.Deciding.{one_text, ok_same, no_fault, one_fault, setup_status, there, same_file, of_run, of_dump, run_or_dump, one_run_due, one_dump_due}
+use Rattle.cf_run.specs.Synth.{drawn_rows, IsSynthWork, IsSynthesized, IsSynthSetupRefused, IsOtherSchema, LacksSynthSetup, IsSynthFull, IsSynthOverNodes, IsLawfulSynth}
+use Rattle.cf_run.proofs.Deciding.{Agree, one_text, ok_same, no_fault, one_fault, setup_status, there, same_file, of_run, of_dump, run_or_dump, one_run_due, one_dump_due}
 use Rattle.cf_run.proofs.Drawing.{drawn_many}
 use Rattle.cf_run.specs.declared.status.Status.{Status}
 use Rattle.cf_run.specs.declared.status.Status.TheVariants.{Done, Words, Setup, Capture, ReadFault, WriteFault, Full, Nodes, Memory, NoFile}
@@ -56,6 +60,18 @@ module _ (files : List File) (words : List (List ℕ)) where
       decimal_is_one a.capacity b.capacity (omega (arith, m)) (omega (arith, n))
       (sym p.numbers.sizes.capacity_is.text_is ∙ ap (λ (said : SynthSays). said.capacity) (one_drawn a b p q) ∙ q.numbers.sizes.capacity_is.text_is)
 
+  one_nodes : (a b : Drawn) → IsSynth words a → IsSynth words b → a.nodes ≡ b.nodes
+  one_nodes a b p q =
+      let m : a.nodes ≤ 65536 = p.numbers.sizes.nodes_are.most in
+      let n : b.nodes ≤ 65536 = q.numbers.sizes.nodes_are.most in
+      decimal_is_one a.nodes b.nodes (omega (arith, m)) (omega (arith, n))
+      (sym p.numbers.sizes.nodes_are.text_is ∙ ap (λ (said : SynthSays). said.nodes) (one_drawn a b p q) ∙ q.numbers.sizes.nodes_are.text_is)
+
+  one_seed : (a b : Drawn) → IsSynth words a → IsSynth words b → a.seed ≡ b.seed
+  one_seed a b p q =
+      decimal_is_one a.seed b.seed p.numbers.seed_small q.numbers.seed_small
+      (sym p.numbers.seed_is ∙ ap (λ (said : SynthSays). said.seed) (one_drawn a b p q) ∙ q.numbers.seed_is)
+
   setup_there : (a b : Drawn) (x : List ℕ) → IsSynth words a → IsSynth words b → file_named files a.setup ≡ Some x → file_named files b.setup ≡ None → ⊥
   setup_there a b x p q found none = there files words a.setup b.setup x (one_name a b p q) found none
 
@@ -80,8 +96,8 @@ module _ (files : List File) (words : List (List ℕ)) where
       let theirs : length (drawn_rows other.command) ≡ other.command.count = drawn_many other.command in
       omega (arith, few, count, caps, many, mine, theirs)
 
-  pub synthesized : (s : Status) (t : List ℕ) (work : IsSynthWork files words) → length (drawn_rows work.command) ≤ work.command.capacity → IsSynthDue files words s t → Done ≡ s
-  synthesized Done t work few q = refl
+  pub synthesized : (s : Status) (t : List ℕ) (work : IsSynthWork files words) → length (drawn_rows work.command) ≤ work.command.capacity → IsSynthDue files words s t → Agree Done s
+  synthesized Done t work few q = inl refl
   synthesized (Setup line code) t work few q = absurd (work_refused line code work q.0)
   synthesized Full t work few q = absurd (full_few work few q.0)
   synthesized NoFile t work few q = absurd (setup_there work.command q.0.command work.bytes work.command_is q.0.command_is work.file q.0.no_file)
@@ -89,7 +105,7 @@ module _ (files : List File) (words : List (List ℕ)) where
   synthesized (Capture at code) t work few q = absurd q
   synthesized ReadFault t work few q = absurd q
   synthesized WriteFault t work few q = absurd q
-  synthesized Nodes t work few q = absurd q
+  synthesized Nodes t work few q = inr (inl (refl, refl))
   synthesized Memory t work few q = absurd q
 
   from_refused : (s : Status) (t : List ℕ) (line code : ℕ) → IsSynthSetupRefused files words line code → IsSynthDue files words s t → Setup line code ≡ s
@@ -101,7 +117,7 @@ module _ (files : List File) (words : List (List ℕ)) where
   from_refused (Capture at code') t line code p q = absurd q
   from_refused ReadFault t line code p q = absurd q
   from_refused WriteFault t line code p q = absurd q
-  from_refused Nodes t line code p q = absurd q
+  from_refused Nodes t line code p q = absurd (work_refused line code q.0.work p)
   from_refused Memory t line code p q = absurd q
 
   from_full : (s : Status) (t : List ℕ) → IsSynthFull files words → IsSynthDue files words s t → Full ≡ s
@@ -113,7 +129,7 @@ module _ (files : List File) (words : List (List ℕ)) where
   from_full (Capture at code) t p q = absurd q
   from_full ReadFault t p q = absurd q
   from_full WriteFault t p q = absurd q
-  from_full Nodes t p q = absurd q
+  from_full Nodes t p q = absurd (full_few q.0.work q.0.few p)
   from_full Memory t p q = absurd q
 
   from_lacking : (s : Status) (t : List ℕ) → LacksSynthSetup files words → IsSynthDue files words s t → NoFile ≡ s
@@ -125,19 +141,54 @@ module _ (files : List File) (words : List (List ℕ)) where
   from_lacking (Capture at code) t p q = absurd q
   from_lacking ReadFault t p q = absurd q
   from_lacking WriteFault t p q = absurd q
-  from_lacking Nodes t p q = absurd q
+  from_lacking Nodes t p q = absurd (setup_there q.0.work.command p.command q.0.work.bytes q.0.work.command_is p.command_is q.0.work.file p.no_file)
   from_lacking Memory t p q = absurd q
 
-  one_synth_due : (s s' : Status) (t t' : List ℕ) → IsSynthDue files words s t → IsSynthDue files words s' t' → s ≡ s'
+  from_nodes : (s : Status) (t : List ℕ) → IsSynthOverNodes files words → IsSynthDue files words s t → Agree Nodes s
+  from_nodes Done t p q = inr (inr (refl, refl))
+  from_nodes (Setup line code) t p q = absurd (work_refused line code p.work q.0)
+  from_nodes Full t p q = absurd (full_few p.work p.few q.0)
+  from_nodes NoFile t p q = absurd (setup_there p.work.command q.0.command p.work.bytes p.work.command_is q.0.command_is p.work.file q.0.no_file)
+  from_nodes Words t p q = absurd q
+  from_nodes (Capture at code) t p q = absurd q
+  from_nodes ReadFault t p q = absurd q
+  from_nodes WriteFault t p q = absurd q
+  from_nodes Nodes t p q = inl refl
+  from_nodes Memory t p q = absurd q
+
+  -- of packets that fit nothing else is due
+  pub from_lawful : (s : Status) (t : List ℕ) → IsLawfulSynth files words → IsSynthDue files words s t → Done ≡ s
+  from_lawful s t lawful q = elim (synthesized s t lawful.work lawful.few q) [
+    | inl same ↦ same
+    | inr between ↦ elim between [
+      | inl nodes ↦ absurd (few_over lawful (subst (λ (u : Status). IsSynthDue files words u t) nodes.1 q).0)
+      | inr other ↦ absurd (cc other.0)
+    ]
+  ]
+    where
+      few_over : IsLawfulSynth files words → IsSynthOverNodes files words → ⊥
+      few_over l o =
+          let other = o.work in
+          let bytes : l.work.bytes ≡ other.bytes = same_file files words l.work.command.setup other.command.setup l.work.bytes other.bytes (one_name l.work.command other.command l.work.command_is other.command_is) l.work.file other.file in
+          let setup : l.work.setup ≡ other.setup = ok_same l.work.setup other.setup (one_text other.bytes (Ok l.work.setup) (Ok other.setup) (subst (λ (x : List ℕ). SetupText x (Ok l.work.setup)) bytes l.work.setup_is) other.setup_is) in
+          let rows : drawn_rows l.work.command ≡ drawn_rows other.command = ap₂ (λ (seed count : ℕ). packet_rows (generated_frames seed count)) (one_seed l.work.command other.command l.work.command_is other.command_is) (one_count l.work.command other.command l.work.command_is other.command_is) in
+          let nodes : l.work.command.nodes ≡ other.command.nodes = one_nodes l.work.command other.command l.work.command_is other.command_is in
+          let needs : distinct (shaped l.work.setup l.work.command.capacity l.work.command.writers l.work.command.nodes) (drawn_rows l.work.command) ≡ distinct (shaped other.setup other.command.capacity other.command.writers other.command.nodes) (drawn_rows other.command) =
+          ap₂ (λ (s : Settled) (rs : List Numbered). distinct (shaped s 0 0 0) rs) setup rows in
+          let few : distinct (shaped l.work.setup l.work.command.capacity l.work.command.writers l.work.command.nodes) (drawn_rows l.work.command) ≤ l.work.command.nodes = l.few_nodes in
+          let many : other.command.nodes < distinct (shaped other.setup other.command.capacity other.command.writers other.command.nodes) (drawn_rows other.command) = o.many in
+          omega (arith, nodes, needs, few, many)
+
+  one_synth_due : (s s' : Status) (t t' : List ℕ) → IsSynthDue files words s t → IsSynthDue files words s' t' → Agree s s'
   one_synth_due Done s' t t' p q = synthesized s' t' p.work p.few q
-  one_synth_due (Setup line code) s' t t' p q = from_refused s' t' line code p.0 q
-  one_synth_due Full s' t t' p q = from_full s' t' p.0 q
-  one_synth_due NoFile s' t t' p q = from_lacking s' t' p.0 q
+  one_synth_due (Setup line code) s' t t' p q = inl (from_refused s' t' line code p.0 q)
+  one_synth_due Full s' t t' p q = inl (from_full s' t' p.0 q)
+  one_synth_due NoFile s' t t' p q = inl (from_lacking s' t' p.0 q)
   one_synth_due Words s' t t' p q = absurd p
   one_synth_due (Capture at code) s' t t' p q = absurd p
   one_synth_due ReadFault s' t t' p q = absurd p
   one_synth_due WriteFault s' t t' p q = absurd p
-  one_synth_due Nodes s' t t' p q = absurd p
+  one_synth_due Nodes s' t t' p q = from_nodes s' t' p.0 q
   one_synth_due Memory s' t t' p q = absurd p
 
   pub of_synth : (s : Status) (t : List ℕ) → IsSynthDue files words s t → (command : Drawn) × IsSynth words command
@@ -149,7 +200,7 @@ module _ (files : List File) (words : List (List ℕ)) where
   of_synth (Capture at code) t p = absurd p
   of_synth ReadFault t p = absurd p
   of_synth WriteFault t p = absurd p
-  of_synth Nodes t p = absurd p
+  of_synth Nodes t p = (p.0.work.command, p.0.work.command_is)
   of_synth Memory t p = absurd p
 
   run_or_synth : (s s' : Status) (t t' : List ℕ) → IsRunDue files words s t → IsSynthDue files words s' t' → ⊥
@@ -165,12 +216,12 @@ module _ (files : List File) (words : List (List ℕ)) where
       no_synth_and_dump words synth.0 dump.0 synth.1 dump.1
 
   -- The words and the files call for one status at most.
-  pub one_due : (s s' : Status) (t t' : List ℕ) → IsDue files words s t → IsDue files words s' t' → s ≡ s'
+  pub one_due : (s s' : Status) (t t' : List ℕ) → IsDue files words s t → IsDue files words s' t' → Agree s s'
   one_due s s' t t' (inl p) (inl q) = one_run_due files words s s' t t' p q
   one_due s s' t t' (inl p) (inr (inl q)) = absurd (run_or_dump files words s s' t t' p q)
   one_due s s' t t' (inl p) (inr (inr q)) = absurd (run_or_synth s s' t t' p q)
   one_due s s' t t' (inr (inl p)) (inl q) = absurd (run_or_dump files words s' s t' t q p)
-  one_due s s' t t' (inr (inl p)) (inr (inl q)) = one_dump_due files words s s' t t' p q
+  one_due s s' t t' (inr (inl p)) (inr (inl q)) = inl (one_dump_due files words s s' t t' p q)
   one_due s s' t t' (inr (inl p)) (inr (inr q)) = absurd (synth_or_dump s' s t' t q p)
   one_due s s' t t' (inr (inr p)) (inl q) = absurd (run_or_synth s' s t' t q p)
   one_due s s' t t' (inr (inr p)) (inr (inl q)) = absurd (synth_or_dump s s' t t' p q)

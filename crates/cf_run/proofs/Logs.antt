@@ -1,5 +1,5 @@
 -- From a log that is loaded and closed to what is told of it.
-use Rattle.std.proofs.Common.{◌≡◌, ℕ, ◌<◌, ◌≤◌, true, List, [], ◌∷◌, length, map, All, Result, Ok, Err, IfOk, refl, sym, ap, subst, ◌∙◌, arith}
+use Rattle.std.proofs.Common.{◌≡◌, ℕ, ◌<◌, ◌≤◌, true, List, [], ◌∷◌, length, map, All, Result, Ok, Err, MatchResult, refl, sym, ap, subst, ◌∙◌, arith}
 use Rattle.std.specs.List.{flat_map, range_with_len}
 use Rattle.std.proofs.lemmas.List.Sums.{AllPass-from_list_all}
 use borrow.Author.Tests.{ltb-true}
@@ -26,7 +26,10 @@ use Rattle.cf_table.specs.declared.closes.Closed.{Closed}
 use Rattle.cf_load.specs.Loading.{HasAnswered}
 use Rattle.cf_load.specs.Planned.{IsPlan, tails_of}
 use Rattle.cf_load.specs.declared.plan.LivePlan.{LivePlan}
-use Rattle.cf_run.specs.Logs.{IsPlanOf, IsLogClosed}
+use Rattle.cf_run.specs.Logs.{IsPlanOf, IsLogClosed, IsUnmade}
+use Rattle.cf_shape.specs.Nodes.{distinct}
+use Rattle.cf_run.specs.declared.log.Unmade.{Unmade}
+use Rattle.cf_run.specs.declared.log.Unmade.TheVariants.{Nodes, Memory}
 use Rattle.cf_run.specs.Seals.{IsClosed, IsSealedReport, IsSealedFinal, seal_of}
 
 -- what a setup asks can be asked of a log of its shape
@@ -51,13 +54,21 @@ closed_of setup capacity writers nodes rounds plan rows entries seal answered of
         lives = lives.bodies;
       };
       seal_is = closed.seal_is;
+      few_nodes = closed.few_nodes;
     }
 
-pub closed_if : {E : Type 0} (setup : Settled) (capacity writers nodes rounds : ℕ) (plan : LivePlan) (rows : List Numbered) (shape : Shaped) (result : Result (Closed × Answered) E) → IsPlanOf setup rounds plan → shape ≡ shaped setup capacity writers nodes → IfOk result (λ made. IsLogClosed shape plan rows made.0.entries.items made.0.seal made.1)
-    → IfOk result (λ made. IsClosed setup capacity writers nodes rounds rows made.0.entries.items made.0.seal made.1)
+pub closed_if : (setup : Settled) (capacity writers nodes rounds : ℕ) (plan : LivePlan) (rows : List Numbered) (shape : Shaped) (result : Result (Closed × Answered) Unmade) → IsPlanOf setup rounds plan → shape ≡ shaped setup capacity writers nodes
+    → MatchResult result (λ made. IsLogClosed shape plan rows made.0.entries.items made.0.seal made.1) (IsUnmade shape rows)
+    → MatchResult result (λ made. IsClosed setup capacity writers nodes rounds rows made.0.entries.items made.0.seal made.1) (IsUnmade (shaped setup capacity writers nodes) rows)
 closed_if setup capacity writers nodes rounds plan rows shape (Ok made) of is closed =
     closed_of setup capacity writers nodes rounds plan rows made.0.entries.items made.0.seal made.1 of (subst (λ (s : Shaped). IsLogClosed s plan rows made.0.entries.items made.0.seal made.1) is closed)
-closed_if setup capacity writers nodes rounds plan rows shape (Err stop) of is closed = closed
+closed_if setup capacity writers nodes rounds plan rows shape (Err why) of is closed = subst (λ (s : Shaped). IsUnmade s rows why) is closed
+
+-- why there is no log
+pub short_of : {T : Type 0} (shape : Shaped) (rows : List Numbered) (r : Result T Unmade) (P : T → Type 0) → MatchResult r P (IsUnmade shape rows) → r ≡ Err Nodes → shape.nodes < distinct shape rows
+short_of shape rows (Ok x) P made is = absurd (cc is)
+short_of shape rows (Err Nodes) P made is = made
+short_of shape rows (Err Memory) P made is = absurd (cc is)
 
 no_rounds : (batches lives : List ℕ) → ◌≡◌ {A = List Turn} (flat_map (λ batch. flat_map (λ round. map (λ ask. record { batch = batch; round = round; ask = ask }) lives) (range_with_len 0 0)) batches) []
 no_rounds [] lives = refl
@@ -104,6 +115,7 @@ module _ (setup : Settled) (capacity writers nodes rounds : ℕ) (rows : List Nu
         order = order_of entries;
         report = report_with;
         seal_is = seal_as;
+        few_nodes = closed.few_nodes;
       } in
       subst (λ (t : List ℕ). IsSealedReport setup capacity writers nodes rounds rows t seal) (sym shown) base
 
@@ -113,4 +125,5 @@ module _ (setup : Settled) (capacity writers nodes rounds : ℕ) (rows : List Nu
     order = order_of entries;
     order_is = valid;
     seal_is = seal_as ∙ ap (λ (ts : List ℕ). seal_of rows writers (order_of entries) ts) (untold (length (log_of rows writers (order_of entries))) setup.lives answered.lives (rw none at meant.tails.turns));
+    few_nodes = closed.few_nodes;
   }

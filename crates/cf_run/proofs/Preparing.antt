@@ -4,10 +4,11 @@ use Rattle.std.specs.declared.alloc.Global.{Global}
 use Rattle.cf_outside.specs.Files.{File, file_named}
 use Rattle.cf_row.specs.Row.{Numbered}
 use Rattle.cf_command.specs.Command.{Asked, IsRun}
-use Rattle.cf_setup.specs.Settled.{Settled}
+use Rattle.cf_shape.specs.Nodes.{distinct}
+use Rattle.cf_setup.specs.Settled.{Settled, shaped}
 use Rattle.cf_table.specs.Moves.{Sealed}
 use Rattle.cf_run.specs.Seals.{AreSeals, IsSealedReport}
-use Rattle.cf_run.specs.Due.{LacksSetup, HasSetup, LacksCapture, IsRunDue, IsDumpDue, IsSynthDue, IsDue, refusal_line, full_line}
+use Rattle.cf_run.specs.Due.{LacksSetup, HasSetup, LacksCapture, IsRunDue, IsDumpDue, IsSynthDue, IsDue, refusal_line, full_line, nodes_line}
 use Rattle.cf_run.specs.Synth.{IsSynthWork}
 use Rattle.cf_run.specs.Left.{MayBeLeft, Leaves, SetupIsRead, SynthSetupIsRead, CaptureIsRead, DumpIsRead}
 use Rattle.cf_run.specs.Faults.{HasCaptureFault}
@@ -140,10 +141,13 @@ module _ (files : List File) (words : List (List ℕ)) (command : Asked) (is : I
       full_in : (draft : Draft) → command.capacity < length rows → draft.status ≡ Full → draft.text.items ≡ full_line command.capacity → draft.seals.items ≡ [] → IsPrepared files words before now (Ok draft)
       full_in draft many same text bare = prepared_draft files words before now draft Full (full_line command.capacity) [] same text bare (inl ((record { work = work; many = many }), refl)) end refl
 
+      short_in : (draft : Draft) → length rows ≤ command.capacity → command.nodes < distinct (shaped setup command.capacity command.writers command.nodes) rows → draft.status ≡ Nodes → draft.text.items ≡ nodes_line command.nodes → draft.seals.items ≡ [] → IsPrepared files words before now (Ok draft)
+      short_in draft few many same text bare = prepared_draft files words before now draft Nodes (nodes_line command.nodes) [] same text bare (inl ((record { work = work; few = few; many = many }), refl)) end refl
+
       reported_in : (draft : Draft) (text : List ℕ) (seal : Sealed) → length rows ≤ command.capacity → IsSealedReport setup command.capacity command.writers command.nodes command.rounds rows text seal → draft.status ≡ Done → draft.text.items ≡ text → draft.seals.items ≡ seal ∷ [] → IsPrepared files words before now (Ok draft)
       reported_in draft text seal few made same shown sealed =
           prepared_draft files words before now draft Done text (seal ∷ []) same shown sealed
-          (inl (record { work = work; few = few; order = made.order; report = made.report })) end (ap (λ (one : Sealed). one ∷ []) made.seal_is)
+          (inl (record { work = work; few = few; few_nodes = made.few_nodes; order = made.order; report = made.report })) end (ap (λ (one : Sealed). one ∷ []) made.seal_is)
 
       unmade_in : (stop : Status) → stop ≡ Memory → IsPrepared files words before now (Err stop)
       unmade_in stop memory = (inl memory, capture_left files words has capture rows before now found rows_are end)
@@ -168,6 +172,17 @@ module _ (words : List (List ℕ)) (command : Asked) (is : IsRun words command) 
           let captured' : IfSome (Some files) (λ fs. LoadsRowsOf setup fs command.capture mid now (Ok rows)) = rw same at captured in
           full_in files words command is before loaded.0 setup mid loaded.1 loaded.2 loaded.3 captured'.0 rows.items now captured'.1 captured'.2 captured'.3 draft many made.0 made.1 made.2
       full_prepared (Some files) later (Err stop) same loaded captured many made =
+          let captured' : IfSome (Some files) (λ fs. LoadsRowsOf setup fs command.capture mid now (Ok rows)) = rw same at captured in
+          unmade_in files words command is before loaded.0 setup mid loaded.1 loaded.2 loaded.3 captured'.0 rows.items now captured'.1 captured'.2 captured'.3 stop made
+
+      pub short_prepared : (told later : Option (List File)) (result : Result Draft Status) → later ≡ told → IfSome told (λ files. LoadsSetup files command.setup before mid (Ok setup)) → IfSome later (λ files. LoadsRowsOf setup files command.capture mid now (Ok rows)) → length rows.items ≤ command.capacity
+          → command.nodes < distinct (shaped setup command.capacity command.writers command.nodes) rows.items
+          → MatchResult result (λ draft. (draft.status ≡ Nodes) × (draft.text.items ≡ nodes_line command.nodes) × (draft.seals.items ≡ [])) (λ stop. stop ≡ Memory) → IfSome told (λ files. IsPrepared files words before now result)
+      short_prepared None later result same loaded captured few many made = loaded
+      short_prepared (Some files) later (Ok draft) same loaded captured few many made =
+          let captured' : IfSome (Some files) (λ fs. LoadsRowsOf setup fs command.capture mid now (Ok rows)) = rw same at captured in
+          short_in files words command is before loaded.0 setup mid loaded.1 loaded.2 loaded.3 captured'.0 rows.items now captured'.1 captured'.2 captured'.3 draft few many made.0 made.1 made.2
+      short_prepared (Some files) later (Err stop) same loaded captured few many made =
           let captured' : IfSome (Some files) (λ fs. LoadsRowsOf setup fs command.capture mid now (Ok rows)) = rw same at captured in
           unmade_in files words command is before loaded.0 setup mid loaded.1 loaded.2 loaded.3 captured'.0 rows.items now captured'.1 captured'.2 captured'.3 stop made
 
@@ -222,7 +237,7 @@ run_leaves_may files words NoFile text before now due left = left_unfound files 
 run_leaves_may files words ReadFault text before now due left = absurd due
 run_leaves_may files words WriteFault text before now due left = absurd due
 run_leaves_may files words Full text before now due left = work_may files words due.0.work before now left
-run_leaves_may files words Nodes text before now due left = absurd due
+run_leaves_may files words Nodes text before now due left = work_may files words due.0.work before now left
 run_leaves_may files words Memory text before now due left = absurd due
 
 -- of a dump
@@ -251,7 +266,7 @@ synth_leaves_may files words Words text before now due left = absurd due
 synth_leaves_may files words (Capture at code) text before now due left = absurd due
 synth_leaves_may files words ReadFault text before now due left = absurd due
 synth_leaves_may files words WriteFault text before now due left = absurd due
-synth_leaves_may files words Nodes text before now due left = absurd due
+synth_leaves_may files words Nodes text before now due left = synth_work_may files words due.0.work before now left
 synth_leaves_may files words Memory text before now due left = absurd due
 
 leaves_may : (files : List File) (words : List (List ℕ)) (status : Status) (text : List ℕ) (before now : Option (List ℕ)) → IsDue files words status text → Leaves files words status before now → MayBeLeft files words before now

@@ -5,11 +5,12 @@ use Rattle.cf_row.specs.Row.{Numbered}
 use Rattle.cf_outside.specs.Files.{File, file_named}
 use Rattle.cf_command.specs.Command.{Drawn, IsSynth}
 use Rattle.cf_report.specs.Meaning.{final_text}
+use Rattle.cf_shape.specs.Nodes.{distinct}
 use Rattle.cf_setup.specs.Settled.{Settled, shaped}
 use Rattle.cf_setup.specs.SetupText.{SetupText}
 use Rattle.cf_table.specs.Moves.{Sealed}
 use Rattle.cf_run.specs.Seals.{IsSealedFinal}
-use Rattle.cf_run.specs.Due.{refusal_line, full_line}
+use Rattle.cf_run.specs.Due.{refusal_line, full_line, nodes_line}
 use Rattle.cf_run.specs.Synth.{drawn_rows, IsSynthWork, LacksSynthSetup}
 use Rattle.cf_run.specs.Left.{MayBeLeft}
 use Rattle.cf_run.specs.Parts.{IsFree, IsSetupStop, LoadsSetup, IsPrepared, IsSynthDraft}
@@ -88,10 +89,13 @@ module _ (files : List File) (words : List (List ℕ)) (command : Drawn) (is : I
     drawn_in : (result : Result Draft Status) → setup.packet ≡ true → MatchResult result (IsSynthDraft setup command) (λ stop. stop ≡ Memory) → IsPrepared files words before now result
     drawn_in (Ok draft) packets (inl done) =
         prepared_draft files words before now draft Done (final_text (shaped setup command.capacity command.writers command.nodes) setup (drawn_rows command)) draft.seals.items done.status done.text refl
-        (inr (inr (record { work = work packets; few = done.few; text_is = refl }))) read done.seals
-    drawn_in (Ok draft) packets (inr full) =
+        (inr (inr (record { work = work packets; few = done.few; few_nodes = done.few_nodes; text_is = refl }))) read done.seals
+    drawn_in (Ok draft) packets (inr (inl full)) =
         prepared_draft files words before now draft Full (full_line command.capacity) [] full.status full.text full.seals
         (inr (inr ((record { work = work packets; many = full.many }), refl))) read refl
+    drawn_in (Ok draft) packets (inr (inr short)) =
+        prepared_draft files words before now draft Nodes (nodes_line command.nodes) [] short.status short.text short.seals
+        (inr (inr ((record { work = work packets; few = short.few; many = short.many }), refl))) read refl
     drawn_in (Err stop) packets memory = (inl memory, read_may)
 
 module _ (words : List (List ℕ)) (command : Drawn) (is : IsSynth words command) (before now : Option (List ℕ)) where
@@ -115,7 +119,21 @@ synth_sealed setup command rows text seal (Ok draft) is few final made =
     inl (record {
       status = made.0;
       few = subst (λ (rs : List Numbered). length rs ≤ command.capacity) is few;
+      few_nodes = own.few_nodes;
       text = made.1 ∙ own.text_is;
       seals = record { order = own.order; order_is = own.order_is; seals_are = made.2 ∙ ap (λ (one : Sealed). one ∷ []) own.seal_is };
     })
 synth_sealed setup command rows text seal (Err stop) is few final made = made
+
+-- more nodes are needed than a writer has
+pub synth_short : (setup : Settled) (command : Drawn) (rows : List Numbered) (result : Result Draft Status) → rows ≡ drawn_rows command → length rows ≤ command.capacity → command.nodes < distinct (shaped setup command.capacity command.writers command.nodes) rows
+    → MatchResult result (λ draft. (draft.status ≡ Nodes) × (draft.text.items ≡ nodes_line command.nodes) × (draft.seals.items ≡ [])) (λ stop. stop ≡ Memory) → MatchResult result (IsSynthDraft setup command) (λ stop. stop ≡ Memory)
+synth_short setup command rows (Ok draft) is few many made =
+    inr (inr (record {
+      status = made.0;
+      few = subst (λ (rs : List Numbered). length rs ≤ command.capacity) is few;
+      many = subst (λ (rs : List Numbered). command.nodes < distinct (shaped setup command.capacity command.writers command.nodes) rs) is many;
+      text = made.1;
+      seals = made.2;
+    }))
+synth_short setup command rows (Err stop) is few many made = made

@@ -56,8 +56,13 @@ Answers files words ReadFault seals held now = Keeps held now
 Answers files words Memory seals held now = Keeps held now
 Answers files words WriteFault seals held now = WroteSome files words held now
 Answers files words Full seals held now = Wrote files words Full held now
-Answers files words Nodes seals held now = ⊥
+Answers files words Nodes seals held now = Wrote files words Nodes held now
+
+-- The threads decide between these two where the rows need more different nodes than one writer has, and no more than all: then both
+-- are called for.
+abbrev pub AreBetween : Status → Status → Type 0
+AreBetween one other = ((one ≡ Done) × (other ≡ Nodes)) ⊎ ((one ≡ Nodes) × (other ≡ Done))
 
 -- whatever the words and files call for comes, unless memory ran out or a device failed
 abbrev pub IsDecided : List File → List (List ℕ) → Status → Type 0
-IsDecided files words status = (called : Status) (text : List ℕ) → IsDue files words called text → (status ≡ called) ⊎ Yields status
+IsDecided files words status = (called : Status) (text : List ℕ) → IsDue files words called text → (status ≡ called) ⊎ Yields status ⊎ AreBetween status called

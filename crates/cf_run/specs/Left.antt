@@ -87,4 +87,4 @@ Leaves files words Full before now = now ≡ Some []
 Leaves files words ReadFault before now = MayBeLeft files words before now
 Leaves files words WriteFault before now = MayBeLeft files words before now
 Leaves files words Memory before now = MayBeLeft files words before now
-Leaves files words Nodes before now = ⊥
+Leaves files words Nodes before now = now ≡ Some []

@@ -1,9 +1,10 @@
 -- How the log of some rows is loaded.
-use Rattle.std.specs.Prelude.{◌≡◌, ◌≤◌, ℕ, List, length, map}
+use Rattle.std.specs.Prelude.{◌≡◌, ◌<◌, ◌≤◌, ◌*◌, ℕ, List, length, map}
 use Rattle.cf_row.specs.Row.{Numbered}
 use Rattle.cf_row.specs.declared.row.Entry.{Entry}
 use Rattle.cf_history.specs.Order.{IsLogOf}
 use Rattle.cf_shape.specs.Lanes.{Shaped}
+use Rattle.cf_shape.specs.Nodes.{distinct}
 use Rattle.cf_setup.specs.Settled.{Settled}
 use Rattle.cf_report.specs.Answered.{Answered}
 use Rattle.cf_report.specs.Meaning.{answer_on}
@@ -12,6 +13,8 @@ use Rattle.cf_load.specs.Loading.{HasAnswered}
 use Rattle.cf_load.specs.Planned.{marks_on, tails_of}
 use Rattle.cf_load.specs.declared.plan.LivePlan.{LivePlan}
 use Rattle.cf_run.specs.declared.log.Sizes.{Sizes}
+use Rattle.cf_run.specs.declared.log.Unmade.{Unmade}
+use Rattle.cf_run.specs.declared.log.Unmade.TheVariants.{Nodes, Memory}
 
 -- the sizes are in their ranges
 pub record AreSizes (sizes : Sizes) : Type 0 where
@@ -34,3 +37,9 @@ pub record IsLogClosed (shape : Shaped) (plan : LivePlan) (rows : List Numbered)
   pub alerts : answered.alerts ≡ map (marks_on shape entries) plan.triggers.items
   pub lives : HasAnswered shape plan.asks.items plan.lives.items plan.rounds (length rows) entries answered.lives
   pub seal_is : seal ≡ record { entries = entries; told = tails_of answered.lives }
+  pub few_nodes : distinct shape rows ≤ shape.writers * shape.nodes
+
+-- why a log of rows wasn't made: their paths need more different nodes than a writer has, or memory ran out
+abbrev pub IsUnmade : Shaped → List Numbered → Unmade → Type 0
+IsUnmade shape rows Nodes = shape.nodes < distinct shape rows
+IsUnmade shape rows Memory = Unit {0}

@@ -1,14 +1,15 @@
 -- What the parts of the work answer.
-use Rattle.std.specs.Prelude.{◌≡◌, ◌⊎◌, ℕ, ◌<◌, ◌≤◌, ◌^◌, List, [], drop, length, Some, None, Option, Result, Ok, Err, Vec}
+use Rattle.std.specs.Prelude.{◌≡◌, ◌⊎◌, ℕ, ◌<◌, ◌≤◌, ◌*◌, ◌^◌, List, [], drop, length, Some, None, Option, Result, Ok, Err, Vec}
 use Rattle.std.specs.declared.alloc.Global.{Global}
 use Rattle.cf_outside.specs.Causes.{Rose}
 use Rattle.cf_outside.specs.Files.{File, file_named}
 use Rattle.cf_row.specs.Row.{Numbered}
 use Rattle.cf_command.specs.Command.{Drawn}
 use Rattle.cf_report.specs.Meaning.{final_text}
+use Rattle.cf_shape.specs.Nodes.{distinct}
 use Rattle.cf_setup.specs.Settled.{Settled, shaped}
 use Rattle.cf_run.specs.Devices.{IsStopped}
-use Rattle.cf_run.specs.Due.{IsDue, full_line}
+use Rattle.cf_run.specs.Due.{IsDue, full_line, nodes_line}
 use Rattle.cf_run.specs.Seals.{AreSeals, IsSynthSeal}
 use Rattle.cf_run.specs.Synth.{drawn_rows}
 use Rattle.cf_table.specs.Moves.{Sealed}
@@ -105,6 +106,7 @@ IsPrepared files words before now (Err stop) = IsFree stop × MayBeLeft files wo
 pub record IsSynthDone (setup : Settled) (command : Drawn) (draft : Draft) : Type 0 where
   pub status : draft.status ≡ Done
   pub few : length (drawn_rows command) ≤ command.capacity
+  pub few_nodes : distinct (shaped setup command.capacity command.writers command.nodes) (drawn_rows command) ≤ command.writers * command.nodes
   pub text : draft.text.items ≡ final_text (shaped setup command.capacity command.writers command.nodes) setup (drawn_rows command)
   pub seals : IsSynthSeal (drawn_rows command) command.writers draft.seals.items
 
@@ -115,6 +117,14 @@ pub record IsSynthOver (command : Drawn) (draft : Draft) : Type 0 where
   pub text : draft.text.items ≡ full_line command.capacity
   pub seals : draft.seals.items ≡ []
 
+-- packets whose paths need more different nodes than a writer has
+pub record IsSynthShort (setup : Settled) (command : Drawn) (draft : Draft) : Type 0 where
+  pub status : draft.status ≡ Nodes
+  pub few : length (drawn_rows command) ≤ command.capacity
+  pub many : command.nodes < distinct (shaped setup command.capacity command.writers command.nodes) (drawn_rows command)
+  pub text : draft.text.items ≡ nodes_line command.nodes
+  pub seals : draft.seals.items ≡ []
+
 -- what drawn packets come to, by a setup over packets
 abbrev pub IsSynthDraft : Settled → Drawn → Draft → Type 0
-IsSynthDraft setup command draft = IsSynthDone setup command draft ⊎ IsSynthOver command draft
+IsSynthDraft setup command draft = IsSynthDone setup command draft ⊎ IsSynthOver command draft ⊎ IsSynthShort setup command draft

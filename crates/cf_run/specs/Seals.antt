@@ -1,10 +1,11 @@
 -- The seals of the logs that were loaded.
-use Rattle.std.specs.Prelude.{◌≡◌, ℕ, List, [], ◌∷◌, length}
+use Rattle.std.specs.Prelude.{◌≡◌, ◌≤◌, ◌*◌, ℕ, List, [], ◌∷◌, length}
 use Rattle.std.proofs.Common.{inl, inr}
 use Rattle.cf_row.specs.Row.{Numbered}
 use Rattle.cf_row.specs.declared.row.Entry.{Entry}
 use Rattle.cf_outside.specs.Files.{File}
 use Rattle.cf_history.specs.Order.{IsOrder, IsLogOf, log_of}
+use Rattle.cf_shape.specs.Nodes.{distinct}
 use Rattle.cf_setup.specs.Settled.{Settled, shaped}
 use Rattle.cf_report.specs.declared.loaded.Live.{Live}
 use Rattle.cf_report.specs.Answered.{Answered}
@@ -58,12 +59,14 @@ pub record IsClosed (setup : Settled) (capacity writers nodes rounds : ℕ) (row
   pub is : IsLogOf rows writers entries
   pub meant : AreMeant setup (shaped setup capacity writers nodes) rounds entries answered
   pub seal_is : seal ≡ record { entries = entries; told = tails_of answered.lives }
+  pub few_nodes : distinct (shaped setup capacity writers nodes) rows ≤ writers * nodes
 
 -- a report of the rows, with the seal of the log that it prints
 pub record IsSealedReport (setup : Settled) (capacity writers nodes rounds : ℕ) (rows : List Numbered) (text : List ℕ) (seal : Sealed) : Type 0 where
   pub order : List ℕ
   pub report : IsReport setup capacity writers nodes rounds rows order text
   pub seal_is : seal ≡ seal_of rows writers order (tails_of report.lives)
+  pub few_nodes : distinct (shaped setup capacity writers nodes) rows ≤ writers * nodes
 
 -- the final part of a report of the rows, with the seal of a log to which no live question was asked
 pub record IsSealedFinal (setup : Settled) (capacity writers nodes : ℕ) (rows : List Numbered) (text : List ℕ) (seal : Sealed) : Type 0 where
@@ -71,3 +74,4 @@ pub record IsSealedFinal (setup : Settled) (capacity writers nodes : ℕ) (rows 
   pub order : List ℕ
   pub order_is : IsOrder order (length rows) writers
   pub seal_is : seal ≡ seal_of rows writers order []
+  pub few_nodes : distinct (shaped setup capacity writers nodes) rows ≤ writers * nodes

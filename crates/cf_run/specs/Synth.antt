@@ -1,5 +1,5 @@
 -- What is told of packets that are drawn from a seed.
-use Rattle.std.specs.Prelude.{◌≡◌, ◌⊎◌, ℕ, ◌<◌, ◌≤◌, true, false, List, length, Some, None, Ok, Err}
+use Rattle.std.specs.Prelude.{◌≡◌, ◌⊎◌, ℕ, ◌<◌, ◌≤◌, ◌*◌, true, false, List, length, Some, None, Ok, Err}
 use Rattle.cf_row.specs.Row.{Numbered}
 use Rattle.cf_outside.specs.Files.{File, file_named}
 use Rattle.cf_make.specs.Generated.{generated_frames}
@@ -25,10 +25,11 @@ pub record IsSynthWork (files : List File) (words : List (List ℕ)) : Type 0 wh
   pub packets : setup.packet ≡ true
 
 -- The text is the final part of the report of the drawn packets: the same whatever the number of writers and the schedule. There
--- are no more than the log's capacity.
+-- are no more than the log's capacity, and their paths need no more different nodes than all writers have.
 pub record IsSynthesized (files : List File) (words : List (List ℕ)) (text : List ℕ) : Type 0 where
   pub work : IsSynthWork files words
   pub few : length (drawn_rows work.command) ≤ work.command.capacity
+  pub few_nodes : distinct (shaped work.setup work.command.capacity work.command.writers work.command.nodes) (drawn_rows work.command) ≤ work.command.writers * work.command.nodes
   pub text_is : text ≡ final_text (shaped work.setup work.command.capacity work.command.writers work.command.nodes) work.setup (drawn_rows work.command)
 
 -- Words and a setup over packets that fit: there are no more packets than the capacity, and their paths need no more nodes than a
@@ -64,3 +65,9 @@ pub record IsSynthSetupRefused (files : List File) (words : List (List ℕ)) (li
 pub record IsSynthFull (files : List File) (words : List (List ℕ)) : Type 0 where
   pub work : IsSynthWork files words
   pub many : work.command.capacity < length (drawn_rows work.command)
+
+-- the packets' paths need more different nodes than a writer has
+pub record IsSynthOverNodes (files : List File) (words : List (List ℕ)) : Type 0 where
+  pub work : IsSynthWork files words
+  pub few : length (drawn_rows work.command) ≤ work.command.capacity
+  pub many : work.command.nodes < distinct (shaped work.setup work.command.capacity work.command.writers work.command.nodes) (drawn_rows work.command)

@@ -1,5 +1,5 @@
 -- What a report tells: the headline of the program.
-use Rattle.std.specs.Prelude.{◌≡◌, ℕ, ◌≤◌, ◌^◌, Bool, true, false, List, length, map, Some, Ok}
+use Rattle.std.specs.Prelude.{◌≡◌, ℕ, ◌≤◌, ◌*◌, ◌^◌, Bool, true, false, List, length, map, Some, Ok}
 use Rattle.cf_row.specs.Row.{Numbered}
 use Rattle.cf_row.specs.declared.schema.Attr.{Attr}
 use Rattle.cf_headers.specs.Packet.{packet_row_of}
@@ -52,10 +52,11 @@ pub record IsWork (files : List File) (words : List (List ℕ)) : Type 0 where
   pub rows_are : AreRowsOf setup capture rows
 
 -- The text is the report of the command's setup and capture, each captured packet or record being one row. There are no more than the
--- log's capacity.
+-- log's capacity, and their paths need no more different nodes than all writers have.
 pub record IsReported (files : List File) (words : List (List ℕ)) (text : List ℕ) : Type 0 where
   pub work : IsWork files words
   pub few : length work.rows ≤ work.command.capacity
+  pub few_nodes : distinct (shaped work.setup work.command.capacity work.command.writers work.command.nodes) work.rows ≤ work.command.writers * work.command.nodes
   pub order : List ℕ
   pub report : IsReport work.setup work.command.capacity work.command.writers work.command.nodes work.command.rounds work.rows order text
 

@@ -1,6 +1,6 @@
 // A status with the text and the seals that go with it.
 ghost use Rattle.std.specs.Prelude.{◌≡◌, ◌⊎◌, [], ◌∷◌, string_bytes, IfOk, MatchResult, MatchOption};
-ghost use Rattle.cf_run.specs.Due.{refusal_line, full_line};
+ghost use Rattle.cf_run.specs.Due.{refusal_line, full_line, nodes_line};
 ghost use Rattle.cf_run.specs.Stops.{IsRefusal, NoRefusal};
 
 use crate::Status;
@@ -59,6 +59,22 @@ pub(crate) fn full(alloc: Global, capacity: u32) -> Result<Draft, Status>
     match format!(in alloc; "full: more than {capacity} records\n") {
         Ok(line) => Ok(Draft {
             status: Status::Full,
+            text: line.into_bytes(),
+            seals: Vec::new(alloc),
+        }),
+        Err(_) => Err(Status::Memory),
+    }
+}
+
+/// The line of a log that ran out of nodes.
+pub(crate) fn short(alloc: Global, nodes: u32) -> Result<Draft, Status>
+    ensures { MatchResult result
+        (λ draft. (draft.status ≡ Status.Nodes) × (draft.text.items ≡ nodes_line nodes) × (draft.seals.items ≡ []))
+        (λ stop. stop ≡ Status.Memory) }
+{
+    match format!(in alloc; "nodes: more than {nodes} nodes\n") {
+        Ok(line) => Ok(Draft {
+            status: Status::Nodes,
             text: line.into_bytes(),
             seals: Vec::new(alloc),
         }),

@@ -1,9 +1,9 @@
 // The log of some rows, and what is told of it.
-ghost use Rattle.std.specs.Prelude.{◌≡◌, ◌≤◌, All, length, IfOk};
+ghost use Rattle.std.specs.Prelude.{◌≡◌, ◌≤◌, All, length, IfOk, MatchResult};
 ghost use Rattle.cf_row.specs.Row.{Fits};
-ghost use Rattle.cf_setup.specs.Settled.{IsSetup};
+ghost use Rattle.cf_setup.specs.Settled.{IsSetup, shaped};
 ghost use Rattle.cf_load.specs.Planned.{IsPlan};
-ghost use Rattle.cf_run.specs.Logs.{AreSizes, IsPlanOf, IsLogClosed};
+ghost use Rattle.cf_run.specs.Logs.{AreSizes, IsPlanOf, IsLogClosed, IsUnmade};
 ghost use Rattle.cf_run.specs.Seals.{IsClosed, IsSealedReport, IsSealedFinal};
 
 use cf_load::{LivePlan, LoadFault, load};
@@ -14,7 +14,7 @@ use cf_row::{Memory, Row};
 use cf_setup::{Setup, shape_of};
 use cf_shape::Shape;
 use cf_table::{Closed, MultiLog, Seal};
-use std::alloc::{AllocError, Global};
+use std::alloc::Global;
 use std::thread::Threads;
 
 /// The sizes of a log: how many writers it has, how many records it may hold, and how many nodes each writer has.
@@ -23,6 +23,14 @@ pub(crate) struct Sizes {
     pub(crate) writers: u8,
     pub(crate) capacity: u32,
     pub(crate) nodes: u32,
+}
+
+/// Why there is no log of some rows.
+#[derive(Clone, Copy, Debug)]
+pub(crate) enum Unmade {
+    /// Their paths need more nodes than a writer has.
+    Nodes,
+    Memory,
 }
 
 /// A text that tells of a log, and the log's seal.
@@ -62,20 +70,23 @@ fn load_rows<R: Threads + Sync, G: Gate>(
     rows: &[Row],
     plan: &LivePlan,
     gate: &G,
-) -> Result<(Closed, Loaded), Memory>
+) -> Result<(Closed, Loaded), Unmade>
     requires plan { IsPlan shape plan.now }
     requires fit { All (Fits shape.schema) rows.now }
     requires few { length rows.now ≤ shape.capacity }
-    ensures { IfOk result (λ made. IsLogClosed shape plan.now rows.now made.0.entries.items made.0.seal made.1) }
+    ensures { MatchResult result (λ made. IsLogClosed shape plan.now rows.now made.0.entries.items made.0.seal made.1) (IsUnmade shape rows.now) }
 {
-    let (log, mut root) = MultiLog::open(alloc, shape)?;
+    let Ok((log, mut root)) = MultiLog::open(alloc, shape) else {
+        return Err(Unmade::Memory);
+    };
     match load(rt, alloc, &log, &mut root, rows, plan, gate) {
         Ok(answers) => match log.close(alloc, root) {
             Ok(closed) => Ok((closed, answers)),
-            Err(_) => Err(AllocError),
+            Err(_) => Err(Unmade::Memory),
         },
-        Err(LoadFault::Memory) => Err(AllocError),
-        Err(_) => unreachable!(),
+        Err(LoadFault::Memory) => Err(Unmade::Memory),
+        Err(LoadFault::NodesFull(_)) => Err(Unmade::Nodes),
+        Err(LoadFault::Full) => unreachable!(),
     }
 }
 
@@ -88,15 +99,19 @@ fn log_of<R: Threads + Sync, G: Gate>(
     sizes: Sizes,
     rounds: u32,
     gate: &G,
-) -> Result<(Closed, Loaded), Memory>
+) -> Result<(Closed, Loaded), Unmade>
     requires lawful { IsSetup setup.now }
     requires fit { All (Fits setup.now.schema) rows.now }
     requires few { length rows.now ≤ sizes.capacity }
     requires sizes { AreSizes sizes }
-    ensures { IfOk result (λ made. IsClosed setup.now sizes.capacity sizes.writers sizes.nodes rounds rows.now made.0.entries.items made.0.seal made.1) }
+    ensures { MatchResult result (λ made. IsClosed setup.now sizes.capacity sizes.writers sizes.nodes rounds rows.now made.0.entries.items made.0.seal made.1) (IsUnmade (shaped setup.now sizes.capacity sizes.writers sizes.nodes) rows.now) }
 {
-    let shape = shape_of(alloc, setup, sizes.capacity, sizes.writers, sizes.nodes)?;
-    let plan = plan_of(alloc, setup, rounds)?;
+    let Ok(shape) = shape_of(alloc, setup, sizes.capacity, sizes.writers, sizes.nodes) else {
+        return Err(Unmade::Memory);
+    };
+    let Ok(plan) = plan_of(alloc, setup, rounds) else {
+        return Err(Unmade::Memory);
+    };
     load_rows(rt, alloc, shape, rows, &plan, gate)
 }
 
@@ -109,15 +124,17 @@ pub(crate) fn report_of<R: Threads + Sync, G: Gate>(
     sizes: Sizes,
     rounds: u32,
     gate: &G,
-) -> Result<Report, Memory>
+) -> Result<Report, Unmade>
     requires lawful { IsSetup setup.now }
     requires fit { All (Fits setup.now.schema) rows.now }
     requires few { length rows.now ≤ sizes.capacity }
     requires sizes { AreSizes sizes }
-    ensures { IfOk result (λ made. IsSealedReport setup.now sizes.capacity sizes.writers sizes.nodes rounds rows.now made.text.items made.seal) }
+    ensures { MatchResult result (λ made. IsSealedReport setup.now sizes.capacity sizes.writers sizes.nodes rounds rows.now made.text.items made.seal) (IsUnmade (shaped setup.now sizes.capacity sizes.writers sizes.nodes) rows.now) }
 {
     let (closed, answers) = log_of(rt, alloc, setup, rows, sizes, rounds, gate)?;
-    let text = report(alloc, setup, &closed.entries, &answers, Form::Whole)?;
+    let Ok(text) = report(alloc, setup, &closed.entries, &answers, Form::Whole) else {
+        return Err(Unmade::Memory);
+    };
     Ok(Report {
         text,
         seal: closed.seal,
@@ -132,15 +149,17 @@ pub(crate) fn final_of<R: Threads + Sync, G: Gate>(
     rows: &[Row],
     sizes: Sizes,
     gate: &G,
-) -> Result<Report, Memory>
+) -> Result<Report, Unmade>
     requires lawful { IsSetup setup.now }
     requires fit { All (Fits setup.now.schema) rows.now }
     requires few { length rows.now ≤ sizes.capacity }
     requires sizes { AreSizes sizes }
-    ensures { IfOk result (λ made. IsSealedFinal setup.now sizes.capacity sizes.writers sizes.nodes rows.now made.text.items made.seal) }
+    ensures { MatchResult result (λ made. IsSealedFinal setup.now sizes.capacity sizes.writers sizes.nodes rows.now made.text.items made.seal) (IsUnmade (shaped setup.now sizes.capacity sizes.writers sizes.nodes) rows.now) }
 {
     let (closed, answers) = log_of(rt, alloc, setup, rows, sizes, 0, gate)?;
-    let text = report(alloc, setup, &closed.entries, &answers, Form::Final)?;
+    let Ok(text) = report(alloc, setup, &closed.entries, &answers, Form::Final) else {
+        return Err(Unmade::Memory);
+    };
     Ok(Report {
         text,
         seal: closed.seal,

@@ -6,10 +6,10 @@ ghost use Rattle.cf_run.specs.Parts.{IsFree, HasStopCause, IsPrepared};
 ghost use Rattle.cf_run.specs.Stops.{IsDrawn};
 
 use crate::Status;
-use crate::draft::{Draft, full, refused, sealed};
+use crate::draft::{Draft, full, refused, sealed, short};
 use crate::dumping::dump_of;
 use crate::load::{load_packets, load_rows, load_setup};
-use crate::log::{Sizes, report_of};
+use crate::log::{Sizes, Unmade, report_of};
 use crate::synth::prepare_synth;
 use cf_command::{Command, RunCommand, command_of};
 use cf_outside::{Gate, Shelf};
@@ -58,7 +58,8 @@ fn prepare_command<R: Threads + Sync, F: Shelf, G: Gate>(
     let sizes = sizes_of(command);
     match report_of(rt, alloc, &setup, &rows, sizes, command.rounds, gate) {
         Ok(report) => sealed(alloc, report),
-        Err(_) => Err(Status::Memory),
+        Err(Unmade::Nodes) => short(alloc, command.nodes),
+        Err(Unmade::Memory) => Err(Status::Memory),
     }
 }
 

@@ -21,7 +21,7 @@ pub enum Status {
     WriteFault,
     /// There are more records than the log may hold.
     Full,
-    /// A writer has too few nodes.
+    /// The paths of the records need more different nodes than a writer has.
     Nodes,
     /// Want of memory. Nothing was written.
     Memory,

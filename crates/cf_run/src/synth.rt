@@ -5,9 +5,9 @@ ghost use Rattle.cf_run.specs.Parts.{IsFree, HasStopCause, IsPrepared, IsSynthDr
 ghost use Rattle.cf_run.specs.Stops.{IsDrawn, IsLoaded, AreInRange};
 
 use crate::Status;
-use crate::draft::{Draft, full, refused, sealed};
+use crate::draft::{Draft, full, refused, sealed, short};
 use crate::load::load_setup;
-use crate::log::{Sizes, final_of};
+use crate::log::{Sizes, Unmade, final_of};
 use crate::rows::drawn_packets;
 use cf_command::SynthCommand;
 use cf_outside::{Gate, Shelf};
@@ -41,7 +41,8 @@ fn synthesize<R: Threads + Sync, G: Gate>(
     };
     match final_of(rt, alloc, setup, &rows, sizes, gate) {
         Ok(report) => sealed(alloc, report),
-        Err(_) => Err(Status::Memory),
+        Err(Unmade::Nodes) => short(alloc, command.nodes),
+        Err(Unmade::Memory) => Err(Status::Memory),
     }
 }
 

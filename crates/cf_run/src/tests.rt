@@ -273,6 +273,26 @@ fn files_of_records_are_reported(rt: HostRuntime) -> Result<(), Fail> {
     Ok(())
 }
 
+// Records whose keys need 24 nodes.
+#[test]
+fn a_log_has_as_many_nodes_as_its_writers(rt: HostRuntime) -> Result<(), Fail> {
+    let alloc = rt.alloc();
+    let setup = b"schema records ts:u64,src:u32\nindex s src\nask a find s 10.0.0.0 10.255.255.255\n".as_slice();
+    let capture =
+        b"ts,src\n0,9.255.255.255\n0,10.0.0.0\n0,10.255.255.255\n0,11.0.0.0\n".as_slice();
+    let table: [(&str, (u8, &[u8])); 2] = [
+        ("23", (7, b"nodes: more than 23 nodes\n")),
+        ("24", (0, b"records 4\nask a find 2: 1 2\norder 0*4\n")),
+    ];
+    for (nodes, answer) in table {
+        let words = [
+            "run", "--setup", "s", "--writers", "1", "--nodes", nodes, "c",
+        ];
+        expect(&rt, alloc, &words, (setup, capture), answer)?;
+    }
+    Ok(())
+}
+
 #[test]
 fn faults_of_records_are_told_with_their_numbers(rt: HostRuntime) -> Result<(), Fail> {
     let alloc = rt.alloc();

@@ -71,9 +71,6 @@ pub fn run<R: Threads + Sync, F: Shelf, K: Sink, G: Gate>(
     ensures write_fault { result.status ≡ Status.WriteFault → Rose (K.faults sink.old) (K.faults sink.new) }
     ensures shelf_count { F.faults shelf.old ≤ F.faults shelf.new }
     ensures sink_count { K.faults sink.old ≤ K.faults sink.new }
-
-    // Nothing is refused for want of nodes.
-    ensures no_nodes { result.status ≡ Status.Nodes → ⊥ }
 {
     let draft = match prepare(rt, alloc, words, shelf, gate) {
         Ok(draft) => draft,

@@ -1,5 +1,6 @@
 // A lane of a log.
-ghost use Rattle.std.specs.Prelude.{◌≡◌, ◌+◌, ◌*◌, ◌<◌, ◌≤◌, length, IfOk};
+ghost use Rattle.std.specs.Prelude.{◌≡◌, ◌+◌, ◌*◌, ◌<◌, ◌≤◌, length, map, IfOk};
+ghost use Rattle.cf_shape.specs.Lanes.{unmeasured as unmeasured_of};
 ghost use Rattle.cf_shape.specs.Uses.{cell_words as cell_words_of, cell_count as cell_count_of};
 
 use cf_row::{Expr, Memory};
@@ -29,6 +30,17 @@ impl Lane {
             select: self.select.copy(alloc)?,
             key: self.key,
             measure: self.measure,
+        })
+    }
+
+    // An equal lane, but that it measures nothing.
+    fn unmeasured(&self, alloc: Global) -> Result<Lane, Memory>
+        ensures { IfOk result (λ lane. lane ≡ unmeasured_of self.now) }
+    {
+        Ok(Lane {
+            select: self.select.copy(alloc)?,
+            key: self.key,
+            measure: None,
         })
     }
 
@@ -62,6 +74,16 @@ pub(crate) fn copies(alloc: Global, lanes: &[Lane]) -> Result<Vec<Lane>, Memory>
     let mut copied = Vec::with_capacity(alloc, lanes.len())?;
     for lane in lanes {
         copied.push(lane.copy(alloc)?)?;
+    }
+    Ok(copied)
+}
+
+pub(crate) fn unmeasured(alloc: Global, lanes: &[Lane]) -> Result<Vec<Lane>, Memory>
+    ensures { IfOk result (λ copied. copied.items ≡ map unmeasured_of lanes.now) }
+{
+    let mut copied = Vec::with_capacity(alloc, lanes.len())?;
+    for lane in lanes {
+        copied.push(lane.unmeasured(alloc)?)?;
     }
     Ok(copied)
 }

@@ -3,13 +3,13 @@ ghost use Rattle.std.specs.Prelude.{◌≡◌, ℕ, ◌+◌, ◌<◌, ◌≤◌,
 ghost use Rattle.std.specs.List.{list_all};
 ghost use Rattle.cf_row.specs.Schema.{IsSchema};
 ghost use Rattle.cf_row.specs.Words.{word_count as word_count_of};
-ghost use Rattle.cf_shape.specs.Lanes.{Shaped, IsShape, lane_at};
+ghost use Rattle.cf_shape.specs.Lanes.{Shaped, IsShape, lane_at, unmeasured_shape};
 ghost use Rattle.cf_shape.specs.Uses.{ticket_words as ticket_words_of};
 ghost use Rattle.cf_shape.specs.Faults.{AreLanesOf, HasFault, AreGoodNumbers, HasNumberFault, have_good_keys, have_good_measures};
 
 use crate::Lane;
 use crate::kinds::{is_lawful_key, is_lawful_measure};
-use crate::lane::{cell_count, copies};
+use crate::lane::{cell_count, copies, unmeasured};
 use cf_row::{Memory, Schema, word_count};
 use std::alloc::Global;
 use std::marker::Model;
@@ -176,6 +176,22 @@ impl Shape {
         Ok(Shape::lawful(
             schema,
             Vec::new(alloc),
+            self.capacity,
+            self.writers,
+            self.nodes,
+            self.width,
+        ))
+    }
+
+    /// The shape with its lanes as ones that measure nothing.
+    pub fn unmeasured(&self, alloc: Global) -> Result<Shape, Memory>
+        ensures { IfOk result (λ shape. shape ≡ unmeasured_shape self.now) }
+    {
+        let schema = self.schema.copy(alloc)?;
+        let lanes = unmeasured(alloc, &self.lanes)?;
+        Ok(Shape::lawful(
+            schema,
+            lanes,
             self.capacity,
             self.writers,
             self.nodes,

@@ -1,3 +1,4 @@
+pub mod Laid
 pub mod Allowed
 pub mod Seen
 pub mod Calls

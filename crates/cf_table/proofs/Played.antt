@@ -15,7 +15,7 @@ use Rattle.cf_words.specs.Words.{Spot, spot, entry, has, version_word}
 use Rattle.cf_words.specs.Law.{IsWhole, Skips}
 use Rattle.cf_law.specs.Nibbles.{nibbles}
 use Rattle.cf_law.specs.Passes.{Book, Flight, Cursor, Pass}
-use Rattle.cf_law.specs.Steps.{IsChild, IsNext, IsAtRest, Holds, newcomer, ticket_of, own_word, own_lane_word, mine_chain, label_of, link_tried, child_loaded}
+use Rattle.cf_law.specs.Steps.{IsChild, IsNext, IsAtRest, Holds, newcomer, ticket_of, own_word, own_lane_word, mine_chain, label_of, link_tried, child_loaded, met_of}
 use Rattle.cf_law.specs.Steps.Act.{take_ticket, store_cell, finish_record, label, link, store_head, load_child, load_head, load_cell}
 use Rattle.cf_law.specs.Events.{table, no_book}
 use Rattle.cf_law.specs.Shapes.{layout, path_in}
@@ -178,7 +178,7 @@ pub walks_cell : (shape : Shaped) (row : Numbered) (m n : Held) (found : ℕ) �
 walks_cell shape row m n found l room one made =
     let lanes = l.one in
     let some : 0 < cell_words (lane_at shape 0) = (let w = one_word (lane_at shape 0).measure l.bare in omega (arith, w)) in
-    let cursor : Cursor = record { writer = 0; spot = spot 0 (5 ∷ 3 ∷ []); link = found; gone = [] } in
+    let cursor : Cursor = record { writer = 0; spot = spot 0 (5 ∷ 3 ∷ []); link = found; gone = []; met = met_of (m.view).cursor } in
     may_cell shape n.view 0 0 0 room (omega (arith, lanes)) some (inr (inr (cursor, ap (λ (q : Pass). q.cursor) made.told.is, one, refl)))
 
 pub one_cell_word : (shape : Shaped) (row : Numbered) → LeadsTo shape row → 0 < cell_words (lane_at shape 0)

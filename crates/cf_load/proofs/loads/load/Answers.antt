@@ -5,13 +5,14 @@ use Rattle.cf_shape.specs.Lanes.{Shaped}
 use Rattle.cf_table.specs.Held.{Held}
 use Rattle.cf_load.specs.Loading.{HasLoaded}
 use Rattle.cf_load.proofs.Keeping.{still_holds}
+use Rattle.cf_load.proofs.Enough.{loaded_few}
 use Rattle.cf_load.proofs.loads.load.Goals as goal
 
-pub returns-in-Ok-answer_all : goal.returns-in-Ok-answer_all
-returns-in-Ok-answer_all g c =
-    let made = c.in-Ok-answer_all.ensures in
+pub returns-in-Ok : goal.returns-in-Ok
+returns-in-Ok g c =
+    let made = c.in-Ok.ensures in
     let k = c.answer_all.ensures.keeps in
-    let had = c.in-Ok.ensures in
+    let had = c.in_ok-lives.ensures in
     let room = c.capacity.ensures.capacity ∙ ap (λ (s : Shaped). s.capacity) c.layout.ensures.shape in
     let not = c.if-rows-capacity.false in
     let few : length c.args.rows.now ≤ c.args.log.now.shape.capacity = omega (arith, room, not) in
@@ -24,6 +25,7 @@ returns-in-Ok-answer_all g c =
       alerts = rw k.seen made.alerts;
       lives = rw (made.lives, k.seen) had.answered;
       told = rw made.lives (k.told ∙ had.told);
+      few_nodes = loaded_few c.args.log.now c.args.rows.now c.load_batches.new.root c.layout.ensures.lawful c.layout.ensures.alike c.layout.ensures.laid c.requires.fits had.loaded;
     }
 
 pub returns-in-Err : goal.returns-in-Err
@@ -35,5 +37,5 @@ returns-in-Err g c =
     let rows = c.args.rows.now in (
       few,
       same,
-      (length rows, subst (λ (rs : List Numbered). HasLoaded c.args.log.now rs c.answer_all.new.root) (sym (take-length rows)) (still_holds c.args.log.now rows c.load_batches.new.root c.answer_all.new.root c.in-Ok.ensures.loaded c.answer_all.ensures.keeps)),
+      (length rows, subst (λ (rs : List Numbered). HasLoaded c.args.log.now rs c.answer_all.new.root) (sym (take-length rows)) (still_holds c.args.log.now rows c.load_batches.new.root c.answer_all.new.root c.in_ok-lives.ensures.loaded c.answer_all.ensures.keeps)),
     )

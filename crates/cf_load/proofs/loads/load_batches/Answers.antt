@@ -1,12 +1,8 @@
 use Rattle.std.proofs.Common.{rules, ◌≡◌, ◌+◌, ◌<◌, ◌*◌, ◌++◌, length, take, ap, sym, subst, ◌∙◌, arith}
 use Rattle.cf_table.specs.Held.{Held}
 use Rattle.cf_load.specs.Loading.{HasAnswered}
-use Rattle.cf_load.proofs.Beside.{whatever_err}
 use Rattle.cf_load.proofs.Loading.{answered_beside, told_more}
 use Rattle.cf_load.proofs.loads.load_batches.Goals as goal
-
-pub returns-in_err-append-clause-memory : goal.returns-in_err-append-clause-memory
-returns-in_err-append-clause-memory g c = whatever_err c.from_residual-in_err-append.result _ (λ e. (4096 * (c.loop-batch.batch + 1), c.in_ok-more.ensures.loaded))
 
 pub loop-batch-preserved : goal.loop-batch-preserved
 loop-batch-preserved g c =

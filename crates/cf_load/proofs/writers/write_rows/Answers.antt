@@ -1,16 +1,31 @@
-use Rattle.std.proofs.Common.{◌%◌, ap, sym, ◌∙◌}
+use Rattle.std.proofs.Common.{◌≡◌, ◌%◌, ap, sym, ◌∙◌, Ok, Err, rules}
 use Rattle.cf_shape.specs.Lanes.{Shaped}
-use Rattle.cf_load.proofs.Progress.{goes_first, goes_other, goes_answered, ends, stops}
+use Rattle.cf_append.specs.declared.appends.AppendFault.TheVariants.{Full, NodesFull}
+use Rattle.cf_load.proofs.Progress.{goes_first, goes_other, goes_answered, ends, stops_full, stops_out}
 use Rattle.cf_load.proofs.writers.write_rows.Goals as goal
-use Rattle.cf_load.proofs.writers.write_rows.Goals.{then-number-writers+else-is_err, else-number-writers}
+use Rattle.cf_load.proofs.writers.write_rows.Goals.{then-number-writers+in-Ok, else-number-writers}
 
 pub loop-row-init : goal.loop-row-init
 loop-row-init g c = goes_first c.args.log.now c.args.first c.args.batch.now c.args.pass.now c.requires.ready
 
-pub returns-then-is_err : goal.returns-then-is_err
-returns-then-is_err g c =
+pub returns-in-Err-Full-clause-wrote : goal.returns-in-Err-Full-clause-wrote
+returns-in-Err-Full-clause-wrote g c =
     let made = c.append.ensures in
-    stops c.args.log.now c.args.first c.args.batch.now c.args.pass.now c.loop-row.number c.loop-row.row-index c.loop-row.pass c.append.new.pass c.append.result c.row-item.result c.loop-row.invariant made.goes_on made.rest made.answer (sym c.is_err.ensures.value ∙ c.if-is_err.true)
+    let err : c.append.result ≡ Err Full = search rules in
+    stops_full c.args.log.now c.args.first c.args.batch.now c.args.pass.now c.loop-row.number c.loop-row.row-index c.loop-row.pass c.append.new.pass c.append.result c.row-item.result c.loop-row.invariant c.loop-row-test.true (sym c.row-item.is) made.goes_on made.rest made.answer err
+
+pub returns-in-Err-NodesFull-clause-wrote : goal.returns-in-Err-NodesFull-clause-wrote
+returns-in-Err-NodesFull-clause-wrote g c =
+    let made = c.append.ensures in
+    let err : c.append.result ≡ Err NodesFull = search rules in
+    (stops_out c.args.log.now c.args.first c.args.batch.now c.args.pass.now c.loop-row.number c.loop-row.row-index c.loop-row.pass c.append.new.pass c.append.result c.row-item.result c.loop-row.invariant c.loop-row-test.true (sym c.row-item.is) made.goes_on made.rest made.answer err).0
+
+pub returns-in-Err-NodesFull-clause-out : goal.returns-in-Err-NodesFull-clause-out
+returns-in-Err-NodesFull-clause-out g c =
+    let made = c.append.ensures in
+    let err : c.append.result ≡ Err NodesFull = search rules in
+    let out = (stops_out c.args.log.now c.args.first c.args.batch.now c.args.pass.now c.loop-row.number c.loop-row.row-index c.loop-row.pass c.append.new.pass c.append.result c.row-item.result c.loop-row.invariant c.loop-row-test.true (sym c.row-item.is) made.goes_on made.rest made.answer err).1 in
+    (out.0 ∙ sym c.writer-writer.ensures.writer, out.1)
 
 pub loop-row-preserved : goal.loop-row-preserved
 loop-row-preserved g c =
@@ -20,11 +35,9 @@ loop-row-preserved g c =
     let same = ap (λ n. k % n) writers in
     let writer = c.from.ensures ∙ c.writer-writer.ensures.writer in
     elim c.if-number-writers.branch [
-      | then-number-writers+else-is_err w ↦
+      | then-number-writers+in-Ok w ↦
           let made = w.append.ensures in
-          rw w.pass-is (goes_answered c.args.log.now c.args.first c.args.batch.now c.args.pass.now k i c.loop-row.pass w.append.new.pass w.append.result c.row-item.result c.loop-row.invariant c.loop-row-test.true (sym c.row-item.is) (sym same ∙ (w.if-number-writers.true ∙ writer)) made.goes_on made.rest made.answer (sym w.is_err.ensures.value ∙ w.if-is_err.false))
+          let ok : w.append.result ≡ Ok w.in-Ok.field-0 = search rules in
+          rw w.pass-is (goes_answered c.args.log.now c.args.first c.args.batch.now c.args.pass.now k i c.loop-row.pass w.append.new.pass w.append.result w.in-Ok.field-0 c.row-item.result c.loop-row.invariant c.loop-row-test.true (sym c.row-item.is) (sym same ∙ (w.if-number-writers.true ∙ writer)) made.goes_on made.rest made.answer ok)
       | else-number-writers w ↦ rw w.pass-is (goes_other c.args.log.now c.args.first c.args.batch.now c.args.pass.now k i c.loop-row.pass c.row-item.result c.loop-row.invariant c.loop-row-test.true (λ e. w.if-number-writers.false (same ∙ (e ∙ sym writer))))
     ]
-
-pub returns : goal.returns
-returns g c = ends c.args.log.now c.args.first c.args.batch.now c.args.pass.now c.loop-row.number c.loop-row.row-index c.loop-row.pass c.loop-row.invariant c.loop-row-test.false

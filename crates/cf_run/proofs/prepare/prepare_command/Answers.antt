@@ -1,5 +1,8 @@
-use Rattle.std.proofs.Common.{arith}
-use Rattle.cf_run.proofs.Preparing.{setup_prepared, capture_prepared, full_prepared, report_prepared, unmade_prepared}
+use Rattle.std.proofs.Common.{◌≡◌, Err, arith, rules}
+use Rattle.cf_setup.specs.Settled.{shaped}
+use Rattle.cf_run.specs.declared.log.Unmade.TheVariants.{Nodes}
+use Rattle.cf_run.proofs.Logs.{short_of}
+use Rattle.cf_run.proofs.Preparing.{setup_prepared, capture_prepared, full_prepared, short_prepared, report_prepared, unmade_prepared}
 use Rattle.cf_run.proofs.prepare.prepare_command.Goals as goal
 
 pub returns-in-Err-clause-prepared : goal.returns-in-Err-clause-prepared
@@ -16,3 +19,9 @@ returns-in-Ok-report_of-clause-prepared g c = report_prepared _ _ c.requires c.i
 
 pub returns-clause-prepared : goal.returns-clause-prepared
 returns-clause-prepared g c = unmade_prepared _ _ c.requires c.in-Ok.setup (g.F.Shelf.rest c.args.shelf.now) (g.F.Shelf.rest c.load_setup.new.shelf) (g.F.Shelf.rest c.load_rows.new.shelf) c.in-Ok-load_rows.rows (g.F.Shelf.files c.args.shelf.now) _ c.in-Ok.ensures.files c.in-Ok.ensures.loaded c.in-Ok-load_rows.ensures.loaded
+
+pub returns-in-Err-Nodes-clause-prepared : goal.returns-in-Err-Nodes-clause-prepared
+returns-in-Err-Nodes-clause-prepared g c =
+    let err : c.report_of.result ≡ Err Nodes = search rules in
+    short_prepared _ _ c.requires c.in-Ok.setup (g.F.Shelf.rest c.args.shelf.now) (g.F.Shelf.rest c.load_setup.new.shelf) (g.F.Shelf.rest c.load_rows.new.shelf) c.in-Ok-load_rows.rows (g.F.Shelf.files c.args.shelf.now) _ c.short.result c.in-Ok.ensures.files c.in-Ok.ensures.loaded c.in-Ok-load_rows.ensures.loaded (omega (arith, c.if-len-command.false, c.len.ensures))
+    (short_of (shaped c.in-Ok.setup c.args.command.now.capacity c.args.command.now.writers c.args.command.now.nodes) c.in-Ok-load_rows.rows.items c.report_of.result _ (rw (c.sizes_of-sizes.ensures, c.deref.ensures.value) at c.report_of.ensures) err) c.short.ensures

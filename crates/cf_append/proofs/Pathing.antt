@@ -1,0 +1,170 @@
+-- A row's paths: the spots of a key's prefixes, and the leaves in the lanes that select it.
+use Rattle.std.proofs.Common.{◌≡◌, ℕ, ◌+◌, ◌-◌, ◌*◌, ◌/◌, ◌%◌, ◌<◌, ◌≤◌, zero, suc, inl, inr, List, [], ◌∷◌, length, set, get_or, get_or-set_same, get_or-set_other, Bool, true, false, cond, Option, Some, None, MatchOption, slice_index, refl, ap, sym, subst, ◌∙◌, arith}
+use Rattle.std.proofs.lemmas.Bool.{cases_eq}
+use Rattle.cf_row.specs.Row.{Numbered}
+use Rattle.cf_shape.specs.Lanes.{Shaped, IsShape, selected_by, key_of}
+use Rattle.cf_shape.specs.Nodes.{levels_of}
+use Rattle.cf_shape.specs.Places.Slot.{root, body}
+use Rattle.cf_words.specs.Words.{Spot, spot}
+use Rattle.cf_law.specs.Nibbles.{nibbles}
+use Rattle.cf_law.specs.Passes.{Pass}
+use Rattle.cf_law.specs.Steps.{IsChild, Knows, Reaches}
+use Rattle.cf_law.specs.Shapes.{layout, path_in}
+use Rattle.cf_law.proofs.Nibbles.{length-nibbles, nibbles_more}
+use Rattle.cf_table.specs.Held.{Held}
+use Rattle.cf_append.specs.declared.paths.Prefix.{Prefix}
+use Rattle.cf_append.specs.Paths.{Strides, IsPrefix, IsAlong, IsOnPath, IsStuck, IsNodeOf, IsLeafIn, HasLeaves, spot_of, spot_before, path_steps}
+use Rattle.cf_append.proofs.Walking.{strides_none, stuck_by}
+
+no_nibbles : (k : ℕ) → nibbles 0 k ≡ []
+unfolding nibbles
+no_nibbles k = refl
+
+one_nibble : (k : ℕ) → nibbles 1 k ≡ k % 16 ∷ []
+one_nibble k = nibbles_more 0 k ∙ ap (λ (q : List ℕ). k % 16 ∷ q) (no_nibbles (k / 16))
+
+-- below the root
+pub first_child : (shape : Shaped) (p : Pass) (at : Prefix) → IsPrefix shape at → at.level ≡ 1 → IsChild (layout shape) p (spot_of at) (root at.lane (at.front % 16))
+first_child shape p at prefix one =
+    let path : nibbles at.level at.front ≡ at.front % 16 ∷ [] = ap (λ (n : ℕ). nibbles n at.front) one ∙ one_nibble at.front in
+    let low = prefix.lane in
+    let inner = prefix.inner in record {
+      reaches = subst (λ (q : List ℕ). Reaches p at.lane q (root at.lane (at.front % 16))) (sym path) refl;
+      real = (low, omega arith);
+      inner = omega (arith, inner, length-nibbles at.level at.front);
+    }
+
+-- below a node
+reaches_below : (p : Pass) (l level front above : ℕ) → 1 < level → Knows p (spot l (nibbles (level - 1) (front / 16))) above → Reaches p l (nibbles level front) (body above (suc (front % 16)))
+reaches_below p l zero front above more knows = absurd (omega (arith, more))
+reaches_below p l (suc zero) front above more knows = absurd (omega (arith, more))
+reaches_below p l (suc (suc j)) front above more knows =
+    let less : suc (suc j) - 1 ≡ suc j = omega arith in
+    let two : nibbles (suc (suc j) - 1) (front / 16) ≡ (front / 16) % 16 ∷ nibbles j (front / 16 / 16) = ap (λ (n : ℕ). nibbles n (front / 16)) less ∙ nibbles_more j (front / 16) in
+    let all : nibbles (suc (suc j)) front ≡ front % 16 ∷ ((front / 16) % 16 ∷ nibbles j (front / 16 / 16)) = nibbles_more (suc j) front ∙ ap (λ (q : List ℕ). front % 16 ∷ q) (nibbles_more j (front / 16)) in
+    let known : Knows p (spot l ((front / 16) % 16 ∷ nibbles j (front / 16 / 16))) above = subst (λ (q : List ℕ). Knows p (spot l q) above) two knows in
+    subst (λ (q : List ℕ). Reaches p l q (body above (suc (front % 16)))) (sym all) (above, known.0, known.1, omega arith, refl)
+
+pub next_child : (shape : Shaped) (p : Pass) (at : Prefix) (above : ℕ) → IsShape shape → IsPrefix shape at → 1 < at.level → IsNodeOf shape p (spot_before at) above → IsChild (layout shape) p (spot_of at) (body above (suc (at.front % 16)))
+next_child shape p at above is prefix more node =
+    let inner = prefix.inner in
+    let low = node.low in
+    let some = is.writers.0 in record {
+      reaches = reaches_below p at.lane at.level at.front above more node.knows;
+      real = (low, omega (arith, some));
+      inner = omega (arith, inner, length-nibbles at.level at.front);
+    }
+
+-- the spots of the prefixes
+pub along_here : (shape : Shaped) (at : Prefix) → IsPrefix shape at → (s : Spot) → s ≡ spot_of at → IsAlong at s
+along_here shape at prefix s is =
+    let some = prefix.some in
+    subst (IsAlong at) (sym is) (record { lane = refl; some = omega (arith, some, length-nibbles at.level at.front); rest = []; is = refl })
+
+nibbles_before : (level front : ℕ) → 0 < level → nibbles level front ≡ front % 16 ∷ nibbles (level - 1) (front / 16)
+nibbles_before zero front some = absurd (omega (arith, some))
+nibbles_before (suc j) front some = nibbles_more j front ∙ ap (λ (n : ℕ). front % 16 ∷ nibbles n (front / 16)) (let e : j ≡ suc j - 1 = omega arith in e)
+
+pub along_before : (at before : Prefix) → 0 < at.level → before.lane ≡ at.lane → before.level ≡ at.level - 1 → before.front ≡ at.front / 16 → (s : Spot) → IsAlong before s → IsAlong at s
+along_before at before some lane level front s a = record {
+  lane = a.lane ∙ lane;
+  some = a.some;
+  rest = at.front % 16 ∷ a.rest;
+  is = nibbles_before at.level at.front some ∙ ap (λ (q : List ℕ). at.front % 16 ∷ q) (ap (λ (n : ℕ). nibbles n (at.front / 16)) (sym level) ∙ (ap (λ (k : ℕ). nibbles before.level k) (sym front) ∙ a.is));
+}
+
+-- the row's path in a lane
+pub path_some : (s : Shaped) (row : Numbered) (l : ℕ) → selected_by s l row ≡ true → path_in s row l ≡ Some (nibbles (levels_of s l) (key_of s l row))
+path_some s row l e = ap (λ (b : Bool). cond {A = Option (List ℕ)} b (Some (nibbles (levels_of s l) (key_of s l row))) None) e
+
+pub path_none : (s : Shaped) (row : Numbered) (l : ℕ) → selected_by s l row ≡ false → path_in s row l ≡ None
+path_none s row l e = ap (λ (b : Bool). cond {A = Option (List ℕ)} b (Some (nibbles (levels_of s l) (key_of s l row))) None) e
+
+-- the prefix of the row's key without its last nibble
+pub record IsWhole (shape : Shaped) (row : Numbered) (lane : ℕ) (at : Prefix) : Type 0 where
+  pub selects : selected_by shape lane row ≡ true
+  pub many : 1 < levels_of shape lane
+  pub lane_is : at.lane ≡ lane
+  pub level : at.level ≡ levels_of shape lane - 1
+  pub front : at.front ≡ key_of shape lane row / 16
+
+pub whole_path : (shape : Shaped) (row : Numbered) (lane : ℕ) (at : Prefix) → IsWhole shape row lane at → path_in shape row lane ≡ Some (key_of shape lane row % 16 ∷ nibbles at.level at.front)
+whole_path shape row lane at w =
+    let many = w.many in
+    path_some shape row lane w.selects ∙ ap (λ (q : List ℕ). Some q) (nibbles_before (levels_of shape lane) (key_of shape lane row) (omega (arith, many))
+    ∙ (ap (λ (n : ℕ). key_of shape lane row % 16 ∷ nibbles n (key_of shape lane row / 16)) (sym w.level) ∙ ap (λ (k : ℕ). key_of shape lane row % 16 ∷ nibbles at.level k) (sym w.front)))
+
+pub whole_prefix : (shape : Shaped) (row : Numbered) (lane : ℕ) (at : Prefix) → lane < length shape.lanes → IsWhole shape row lane at → IsPrefix shape at
+whole_prefix shape row lane at low w =
+    let many = w.many in
+    let level = w.level in
+    let same = w.lane_is in
+    let levels = ap (levels_of shape) same in record {
+      lane = omega (arith, low, same);
+      some = omega (arith, many, level);
+      inner = omega (arith, many, level, levels);
+    }
+
+pub on_path : (shape : Shaped) (row : Numbered) (lane : ℕ) (at : Prefix) → IsWhole shape row lane at → (s : Spot) → IsAlong at s → IsOnPath shape row s
+on_path shape row lane at w s a = record {
+  some = a.some;
+  last = key_of shape lane row % 16;
+  rest = a.rest;
+  is = ap (λ (l : ℕ). path_in shape row l) (a.lane ∙ w.lane_is) ∙ (whole_path shape row lane at w ∙ ap (λ (q : List ℕ). Some (key_of shape lane row % 16 ∷ q)) a.is);
+}
+
+pub leaf_there : (shape : Shaped) (row : Numbered) (lane : ℕ) (at : Prefix) (p : Pass) (node : ℕ) → IsWhole shape row lane at → IsNodeOf shape p (spot_of at) node → IsLeafIn shape row p lane node
+leaf_there shape row lane at p node w found last q leads =
+    let same : ◌≡◌ {A = Option (List ℕ)} (Some (key_of shape lane row % 16 ∷ nibbles at.level at.front)) (Some (last ∷ q)) = sym (whole_path shape row lane at w) ∙ leads in
+    let is : nibbles at.level at.front ≡ q = cc same in
+    subst (λ (s : Spot). IsNodeOf shape p s node) (ap (λ (l : ℕ). spot l (nibbles at.level at.front)) w.lane_is ∙ ap (λ (r : List ℕ). spot lane r) is) found
+
+pub leaf_nowhere : (shape : Shaped) (row : Numbered) (lane : ℕ) (p : Pass) → selected_by shape lane row ≡ false → IsLeafIn shape row p lane 0
+leaf_nowhere shape row lane p passes last q leads = absurd (cc (sym (path_none shape row lane passes) ∙ leads))
+
+-- the leaves so far
+pub node_still : (shape : Shaped) (m n : Held) (s : Spot) (node : ℕ) → Strides m n → IsNodeOf shape m.view s node → IsNodeOf shape n.view s node
+node_still shape m n s node went is = record { knows = went.knows s node is.knows; low = is.low }
+
+pub leaves_still : (shape : Shaped) (row : Numbered) (m n : Held) (leaves : List ℕ) (k : ℕ) → Strides m n → HasLeaves shape row m.view leaves k → HasLeaves shape row n.view leaves k
+leaves_still shape row m n leaves k went has lane low last q leads = node_still shape m n (spot lane q) (slice_index leaves lane) went (has lane low last q leads)
+
+pub leaves_more : (shape : Shaped) (row : Numbered) (p : Pass) (leaves : List ℕ) (k i leaf : ℕ) → i ≡ k → k < length leaves → HasLeaves shape row p leaves k → IsLeafIn shape row p k leaf → HasLeaves shape row p (set leaves i leaf) (k + 1)
+leaves_more shape row p leaves k i leaf here low has is lane below last q leads = elim (cases_eq lane k) [
+  | inl same ↦
+      let at : leaf ≡ slice_index (set leaves k leaf) lane = sym (get_or-set_same leaves k leaf 0 low) ∙ ap (λ (j : ℕ). get_or (set leaves k leaf) j 0) (sym same) in
+      let there : path_in shape row k ≡ Some (last ∷ q) = ap (λ (j : ℕ). path_in shape row j) (sym same) ∙ leads in
+      subst (λ (j : ℕ). IsNodeOf shape p (spot lane q) (slice_index (set leaves j leaf) lane)) (sym here)
+      (subst (λ (j : ℕ). IsNodeOf shape p (spot j q) (slice_index (set leaves k leaf) lane)) (sym same) (subst (IsNodeOf shape p (spot k q)) at (is last q there)))
+  | inr other ↦
+      subst (λ (j : ℕ). IsNodeOf shape p (spot lane q) (slice_index (set leaves j leaf) lane)) (sym here)
+      (subst (IsNodeOf shape p (spot lane q)) (sym (get_or-set_other leaves k lane leaf 0 other)) (has lane (omega (arith, below, other)) last q leads))
+]
+
+pub path_steps_none : (shape : Shaped) → path_steps shape 0 ≡ 0
+unfolding path_steps
+path_steps_none shape = refl
+
+pub path_steps_more : (shape : Shaped) (k : ℕ) → path_steps shape (suc k) ≡ path_steps shape k + 3 * (levels_of shape k - 1)
+unfolding path_steps
+path_steps_more shape k = refl
+
+pub path_steps_up : (shape : Shaped) (j k : ℕ) → j ≤ k → path_steps shape j ≤ path_steps shape k
+path_steps_up shape j zero le = (let e : j ≡ 0 = omega (arith, le) in let f = ap (path_steps shape) e in omega (arith, f))
+path_steps_up shape j (suc k) le = elim (cases_eq j (suc k)) [
+  | inl same ↦ (let f = ap (path_steps shape) same in omega (arith, f))
+  | inr other ↦ (let up = path_steps_up shape j k (omega (arith, le, other)) in omega (arith, up, path_steps_more shape k))
+]
+
+pub leaf_or : (shape : Shaped) (row : Numbered) (lane : ℕ) (at : Prefix) (m n : Held) (r : Option ℕ) → IsWhole shape row lane at → MatchOption r (IsStuck shape (IsAlong at) m n) (IsNodeOf shape n.view (spot_of at)) → MatchOption r (IsStuck shape (IsOnPath shape row) m n) (IsLeafIn shape row n.view lane)
+leaf_or shape row lane at m n None w a = stuck_by shape (IsAlong at) (IsOnPath shape row) m m n (on_path shape row lane at w) (strides_none m) a
+leaf_or shape row lane at m n (Some node) w a = leaf_there shape row lane at n.view node w a
+
+-- the path by what the shape's functions said
+pub selected_there : (s h : Shaped) (row : Numbered) (lane : ℕ) (takes answer : Bool) → h ≡ s → takes ≡ selected_by h lane row → takes ≡ answer → selected_by s lane row ≡ answer
+selected_there s h row lane takes answer same is told = ap (λ (x : Shaped). selected_by x lane row) (sym same) ∙ (sym is ∙ told)
+
+pub row_path : (s h : Shaped) (row : Numbered) (lane key : ℕ) → h ≡ s → selected_by s lane row ≡ true → key ≡ key_of h lane row → 1 < levels_of s lane → path_in s row lane ≡ Some (key % 16 ∷ nibbles (levels_of s lane - 1) (key / 16))
+row_path s h row lane key same takes is many =
+    path_some s row lane takes ∙ (ap (λ (k : ℕ). Some (nibbles (levels_of s lane) k)) (ap (λ (x : Shaped). key_of x lane row) (sym same) ∙ sym is)
+    ∙ ap (λ (q : List ℕ). Some q) (nibbles_before (levels_of s lane) key (omega (arith, many))))

@@ -1,0 +1,6 @@
+use Rattle.cf_append.proofs.Whole.{waited}
+use Rattle.cf_append.proofs.appends.append_wait.Goals as goal
+
+pub returns-clause-answer : goal.returns-clause-answer
+returns-clause-answer g c =
+    waited c.args.log.now.shape c.args.row.now c.args.pass.now c.append.new.pass c.wait_for.new.pass c.in_ok-offset.offset c.in_ok-offset.ensures.answer c.wait_for.ensures.books c.wait_for.ensures.covered

@@ -1,0 +1,44 @@
+use Rattle.std.proofs.Common.{◌≡◌, ◌∙◌, ◌∷◌, ◌++◌, ◌-◌, ◌≤◌, [], length, ap, sym, subst, refl, arith, rules}
+use Rattle.cf_fold.specs.Quads.{Counts, quad_of}
+use Rattle.cf_shape.specs.Lanes.{Shaped, measure_of}
+use Rattle.cf_words.specs.Words.{spot, top}
+use Rattle.cf_law.specs.Shapes.{layout}
+use Rattle.cf_table.specs.Held.{book_of}
+use Rattle.cf_append.specs.Linking.{key_path, leaf_chain, amounts}
+use Rattle.cf_append.proofs.Newest.{newest, top_few, amounts_few}
+use Rattle.cf_append.proofs.links.quad_with.Goals as goal
+
+pub overflow_cast-previous : goal.overflow_cast-previous
+overflow_cast-previous g c =
+    let s = c.args.log.now.shape in
+    let few = top_few s (spot c.args.lane (key_path s c.args.lane c.args.key)) (book_of c.args.pass.now.view) c.requires.book in
+    let is = c.requires.previous in
+    let room = c.layout.ensures.lawful.capacity in
+    omega (arith, few, is, room)
+
+pub cell_quad-before-requires : goal.cell_quad-before-requires
+cell_quad-before-requires g c κs within =
+    let s = c.args.log.now.shape in
+    let b = book_of c.args.pass.now.view in
+    let is = c.requires.previous in
+    let some = c.if-previous-eq0.false in
+    let at : top (leaf_chain s c.args.lane c.args.key b) ≡ Rattle.std.proofs.Common.suc (c.args.previous - 1) = omega (arith, is, some) in
+    (within, (c.requires.of, (c.requires.one, (c.requires.book, ((c.requires.lane, c.requires.measured), newest (layout s) (spot c.args.lane (key_path s c.args.lane c.args.key)) b.mine (c.args.previous - 1) at)))))
+
+pub merge-requires : goal.merge-requires
+merge-requires g c =
+    let s = c.args.log.now.shape in
+    let b = book_of c.args.pass.now.view in
+    let few = amounts_few s c.args.lane (spot c.args.lane (key_path s c.args.lane c.args.key)) b c.requires.book in
+    let one = c.add-value.ensures.count in
+    let is = ap (λ (q : Counts). q.count) c.cell_quad-before.ensures.quad in
+    let room = c.layout.ensures.lawful.capacity in
+    record { few = omega (arith, few, one, is, room) }
+
+pub returns-clause-quad : goal.returns-clause-quad
+returns-clause-quad g c =
+    let s = c.args.log.now.shape in
+    let b = book_of c.args.pass.now.view in
+    let l = c.args.lane in
+    let value = c.measure.ensures ∙ ap (λ (h : Shaped). measure_of h l c.args.row.now) c.layout.ensures.shape in
+    c.merge.ensures.merged (measure_of s l c.args.row.now ∷ []) (amounts s l (leaf_chain s l c.args.key b)) (c.add-value.ensures.added [] refl ∙ ap (λ v. quad_of (v ∷ [])) value) c.cell_quad-before.ensures.quad

@@ -1,0 +1,212 @@
+use Rattle.std.proofs.Common.{ℕ, List, ◌*◌, ◌∙◌, ap₂, ◌≡◌, ◌+◌, ◌-◌, ◌/◌, ◌%◌, ◌∷◌, false, true, ap, sym, arith}
+use Rattle.cf_shape.proofs.Bounds.{ticket_few}
+use Rattle.cf_shape.specs.Nodes.{levels_of}
+use Rattle.cf_law.specs.Nibbles.{nibbles}
+use Rattle.cf_law.proofs.Nibbles.{length-nibbles}
+use Rattle.cf_append.proofs.Walking.{strides_then, one_book, same_book}
+use Rattle.cf_row.specs.Row.{Numbered}
+use Rattle.cf_fold.specs.Quads.{Counts, quad_of}
+use Rattle.cf_shape.specs.Lanes.{Shaped, lane_at, measure_of}
+use Rattle.cf_shape.specs.Uses.{cell_words, is_measured}
+use Rattle.cf_words.specs.Words.{spot, top}
+use Rattle.cf_law.specs.Passes.{Book}
+use Rattle.cf_table.specs.Held.{book_of}
+use Rattle.cf_append.specs.Linking.{amounts, key_path, leaf_chain, cell_from}
+use Rattle.cf_append.proofs.Newest.{amounts_few, top_few, quad_cell, three_words}
+use Rattle.cf_append.proofs.Levels.{levels_two}
+use Rattle.cf_append.proofs.Pathing.{selected_there, row_path}
+use Rattle.cf_append.proofs.Cells.{cell_next, cell_low, unmeasured_next, head_chain, book_same, filled_skip, filled_more, may_version, store_strides}
+use Rattle.cf_append.proofs.links.store_version.Goals as goal
+
+pub overflow_add-result : goal.overflow_add-result
+overflow_add-result g c =
+    let s = c.args.log.now.shape in
+    let at = c.requires.at in
+    let wide = c.cell_size.ensures ∙ ap (λ (h : Shaped). cell_words (lane_at h c.args.lane)) c.layout-layout.ensures.shape in
+    omega (arith, at, wide, cell_low s c.args.lane c.requires.lane, ticket_few s c.layout-layout.ensures.lawful)
+
+pub overflow_add-result-2 : goal.overflow_add-result-2
+overflow_add-result-2 g c =
+    let s = c.args.log.now.shape in
+    let at = c.requires.at in
+    omega (arith, at, cell_low s c.args.lane c.requires.lane, ticket_few s c.layout-layout.ensures.lawful)
+
+pub returns-then-not-selects-clause-filled : goal.returns-then-not-selects-clause-filled
+returns-then-not-selects-clause-filled g c =
+    let s = c.args.log.now.shape in
+    filled_skip s c.args.offset c.args.row.now c.args.lane c.args.pass.now c.args.pass.now c.requires.lane
+    (selected_there s c.layout-layout.result.now c.args.row.now c.args.lane c.selects.result false c.layout-layout.ensures.shape c.selects.ensures c.if-not-selects.true) c.requires.filled
+
+pub returns-then-not-selects-clause-next : goal.returns-then-not-selects-clause-next
+returns-then-not-selects-clause-next g c =
+    let s = c.args.log.now.shape in
+    let at = c.requires.at in
+    let wide = c.cell_size.ensures ∙ ap (λ (h : Shaped). cell_words (lane_at h c.args.lane)) c.layout-layout.ensures.shape in
+    omega (arith, at, wide, cell_next s c.args.lane c.requires.lane)
+
+pub returns-clause-next : goal.returns-clause-next
+returns-clause-next g c =
+    let s = c.args.log.now.shape in
+    let at = c.requires.at in
+    let bare : is_measured s c.args.lane ≡ false = ap (λ (h : Shaped). is_measured h c.args.lane) (sym c.layout-layout.ensures.shape) ∙ (sym c.measures.ensures ∙ c.if-measures.false) in
+    omega (arith, at, unmeasured_next s c.args.lane c.requires.lane bare)
+
+pub own_head-previous-requires : goal.own_head-previous-requires
+own_head-previous-requires g c κs within =
+    let s = c.args.log.now.shape in
+    let l = c.args.lane in
+    let row = c.args.row.now in
+    let key = c.key-key.result in
+    let h = c.layout-layout.result.now in
+    let same = c.layout-layout.ensures.shape in
+    let many = levels_two s l c.layout-layout.ensures.lawful c.requires.lane in
+    let takes = selected_there s h row l c.selects.result true same c.selects.ensures c.if-not-selects.false in
+    let leads = row_path s h row l key same takes c.key-key.ensures many in (
+      within,
+      (
+        c.requires.of,
+        (
+          one_book c.args.pass.now.view _ c.requires.filled.books,
+          (
+            c.requires.book.writer,
+            (c.requires.leaf (key % 16) (nibbles (levels_of s l - 1) (key / 16)) leads, omega (arith, many, length-nibbles (levels_of s l - 1) (key / 16))),
+          ),
+        ),
+      ),
+    )
+
+pub store_cell-requires-clause-place : goal.store_cell-requires-clause-place
+store_cell-requires-clause-place g c =
+    let s = c.args.log.now.shape in
+    let at = c.requires.at in
+    (c.requires.place, omega (arith, at, cell_low s c.args.lane c.requires.lane))
+
+pub store_cell-requires-clause-lawful : goal.store_cell-requires-clause-lawful
+store_cell-requires-clause-lawful g c =
+    let s = c.args.log.now.shape in
+    let bare : is_measured s c.args.lane ≡ false = ap (λ (h : Shaped). is_measured h c.args.lane) (sym c.layout-layout.ensures.shape) ∙ (sym c.measures.ensures ∙ c.if-measures.false) in
+    let l = c.args.lane in
+    let row = c.args.row.now in
+    let key = c.key-key.result in
+    let h = c.layout-layout.result.now in
+    let same = c.layout-layout.ensures.shape in
+    let many = levels_two s l c.layout-layout.ensures.lawful c.requires.lane in
+    let takes = selected_there s h row l c.selects.result true same c.selects.ensures c.if-not-selects.false in
+    let leads = row_path s h row l key same takes c.key-key.ensures many in
+    may_version s c.args.pass.now c.own_head-previous.new.pass c.args.offset l c.args.i c.own_head-previous.result row (key % 16 ∷ nibbles (levels_of s l - 1) (key / 16)) c.requires.filled c.own_head-previous.ensures.books c.requires.lane bare c.requires.at
+    leads c.own_head-previous.ensures.head
+
+pub returns-clause-strides : goal.returns-clause-strides
+returns-clause-strides g c =
+    strides_then c.args.pass.now c.own_head-previous.new.pass c.store_cell.new.pass c.own_head-previous.ensures.strides (store_strides c.args.log.now.shape c.own_head-previous.new.pass c.store_cell.new.pass c.args.offset c.args.i c.own_head-previous.result c.store_cell.ensures.made)
+
+pub returns-clause-filled : goal.returns-clause-filled
+returns-clause-filled g c =
+    let s = c.args.log.now.shape in
+    let bare : is_measured s c.args.lane ≡ false = ap (λ (h : Shaped). is_measured h c.args.lane) (sym c.layout-layout.ensures.shape) ∙ (sym c.measures.ensures ∙ c.if-measures.false) in
+    filled_more c.args.log.now.shape c.args.pass.now c.own_head-previous.new.pass c.store_cell.new.pass c.args.offset c.args.lane c.args.i c.own_head-previous.result c.args.row.now c.requires.filled c.own_head-previous.ensures.books c.requires.lane bare c.requires.at c.store_cell.ensures.made
+
+pub quad_with-quad-requires-clause-previous : goal.quad_with-quad-requires-clause-previous
+quad_with-quad-requires-clause-previous g c =
+    let s = c.args.log.now.shape in
+    let l = c.args.lane in
+    let row = c.args.row.now in
+    let key = c.key-key.result in
+    let h = c.layout-layout.result.now in
+    let same = c.layout-layout.ensures.shape in
+    let m = c.args.pass.now in
+    let n = c.own_head-previous.new.pass in
+    let previous = head_chain s m n c.args.offset (cell_from s l) c.own_head-previous.result row (spot l (key_path s l key)) c.requires.filled c.own_head-previous.ensures.books c.own_head-previous.ensures.head in
+    previous
+
+pub overflow_mul-first : goal.overflow_mul-first
+overflow_mul-first g c =
+    let s = c.args.log.now.shape in
+    let l = c.args.lane in
+    let row = c.args.row.now in
+    let key = c.key-key.result in
+    let h = c.layout-layout.result.now in
+    let same = c.layout-layout.ensures.shape in
+    let m = c.args.pass.now in
+    let n = c.own_head-previous.new.pass in
+    let previous = head_chain s m n c.args.offset (cell_from s l) c.own_head-previous.result row (spot l (key_path s l key)) c.requires.filled c.own_head-previous.ensures.books c.own_head-previous.ensures.head in
+    let own = book_same s m n c.requires.book c.own_head-previous.ensures.books in
+    let z = c.quad_with-quad.new.pass in
+    let b = book_of n.view in
+    let quad = c.quad_with-quad.ensures.quad in
+    let count = ap (λ (q : Counts). q.count) quad in
+    let counted = c.count.ensures in
+    let few = amounts_few s l (spot l (key_path s l key)) (book_of n.view) own in
+    let room = c.layout-layout.ensures.lawful.capacity in
+    omega (arith, count, counted, few, room)
+
+pub overflow_add-first : goal.overflow_add-first
+overflow_add-first g c =
+    let s = c.args.log.now.shape in
+    let l = c.args.lane in
+    let row = c.args.row.now in
+    let key = c.key-key.result in
+    let h = c.layout-layout.result.now in
+    let same = c.layout-layout.ensures.shape in
+    let m = c.args.pass.now in
+    let n = c.own_head-previous.new.pass in
+    let previous = head_chain s m n c.args.offset (cell_from s l) c.own_head-previous.result row (spot l (key_path s l key)) c.requires.filled c.own_head-previous.ensures.books c.own_head-previous.ensures.head in
+    let own = book_same s m n c.requires.book c.own_head-previous.ensures.books in
+    let z = c.quad_with-quad.new.pass in
+    let b = book_of n.view in
+    let quad = c.quad_with-quad.ensures.quad in
+    let count = ap (λ (q : Counts). q.count) quad in
+    let counted = c.count.ensures in
+    let few = amounts_few s l (spot l (key_path s l key)) (book_of n.view) own in
+    let room = c.layout-layout.ensures.lawful.capacity in
+    let most = top_few s (spot l (key_path s l key)) (book_of n.view) own in
+    omega (arith, count, counted, few, room, previous, most)
+
+pub store_three-requires-clause-leads : goal.store_three-requires-clause-leads
+store_three-requires-clause-leads g c =
+    let s = c.args.log.now.shape in
+    let l = c.args.lane in
+    let row = c.args.row.now in
+    let key = c.key-key.result in
+    let h = c.layout-layout.result.now in
+    let same = c.layout-layout.ensures.shape in
+    let m = c.args.pass.now in
+    let n = c.own_head-previous.new.pass in
+    let previous = head_chain s m n c.args.offset (cell_from s l) c.own_head-previous.result row (spot l (key_path s l key)) c.requires.filled c.own_head-previous.ensures.books c.own_head-previous.ensures.head in
+    let many = levels_two s l c.layout-layout.ensures.lawful c.requires.lane in
+    let takes = selected_there s h row l c.selects.result true same c.selects.ensures c.if-not-selects.false in
+    row_path s h row l key same takes c.key-key.ensures many
+
+pub store_three-requires-clause-words : goal.store_three-requires-clause-words
+store_three-requires-clause-words g c =
+    let s = c.args.log.now.shape in
+    let l = c.args.lane in
+    let row = c.args.row.now in
+    let key = c.key-key.result in
+    let h = c.layout-layout.result.now in
+    let same = c.layout-layout.ensures.shape in
+    let m = c.args.pass.now in
+    let n = c.own_head-previous.new.pass in
+    let previous = head_chain s m n c.args.offset (cell_from s l) c.own_head-previous.result row (spot l (key_path s l key)) c.requires.filled c.own_head-previous.ensures.books c.own_head-previous.ensures.head in
+    let z = c.quad_with-quad.new.pass in
+    let measured : is_measured s l ≡ true = ap (λ (x : Shaped). is_measured x l) (sym same) ∙ (sym c.measures.ensures ∙ c.if-measures.true) in
+    let kept = same_book n z c.quad_with-quad.ensures.books in
+    let chain = ap (λ (b : Book). leaf_chain s l key b) (sym kept) in
+    let cell = quad_cell s l (leaf_chain s l key (book_of z.view)) row c.quad_with-quad.result c.own_head-previous.result _ _ measured (previous ∙ ap top chain)
+    (c.quad_with-quad.ensures.quad ∙ ap (λ (d : List (ℕ × Numbered)). quad_of (measure_of s l row ∷ amounts s l d)) chain)
+    (ap (λ (k : ℕ). c.own_head-previous.result + k * 4294967296) c.count.ensures) (ap₂ (λ (x y : ℕ). x + y * 4294967296) c.least.ensures c.greatest.ensures) in
+    record { first_is = cell.first_is; sum_is = c.sum.ensures ∙ cell.sum_is; ends_is = cell.ends_is }
+
+pub overflow_add-result-then-measures : goal.overflow_add-result-then-measures
+overflow_add-result-then-measures g c =
+    let s = c.args.log.now.shape in
+    let at = c.requires.at in
+    let measured : is_measured s c.args.lane ≡ true = ap (λ (x : Shaped). is_measured x c.args.lane) (sym c.layout-layout.ensures.shape) ∙ (sym c.measures.ensures ∙ c.if-measures.true) in
+    omega (arith, at, three_words s c.args.lane measured, cell_low s c.args.lane c.requires.lane, ticket_few s c.layout-layout.ensures.lawful)
+
+pub returns-then-measures-clause-next : goal.returns-then-measures-clause-next
+returns-then-measures-clause-next g c =
+    let s = c.args.log.now.shape in
+    let at = c.requires.at in
+    let measured : is_measured s c.args.lane ≡ true = ap (λ (x : Shaped). is_measured x c.args.lane) (sym c.layout-layout.ensures.shape) ∙ (sym c.measures.ensures ∙ c.if-measures.true) in
+    omega (arith, at, three_words s c.args.lane measured, cell_next s c.args.lane c.requires.lane)

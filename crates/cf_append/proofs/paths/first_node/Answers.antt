@@ -1,0 +1,23 @@
+use Rattle.std.proofs.Common.{◌%◌, ap, sym, ◌∙◌}
+use Rattle.cf_shape.specs.Lanes.{Shaped}
+use Rattle.cf_shape.specs.Places.{place_of}
+use Rattle.cf_shape.specs.Places.Word.{root_child}
+use Rattle.cf_law.proofs.Nibbles.{length-nibbles}
+use Rattle.cf_append.proofs.Pathing.{first_child}
+use Rattle.cf_append.proofs.paths.first_node.Goals as goal
+
+pub take_child-requires : goal.take_child-requires
+take_child-requires g c κs within =
+    let at = c.args.at in (
+      within,
+      (
+        c.requires.of,
+        (
+          c.requires.rest,
+          (
+            first_child c.args.log.now.shape c.args.pass.now.view at c.requires.prefix c.requires.one,
+            (c.place_root-place.ensures ∙ ap (λ (s : Shaped). place_of s (root_child at.lane (at.front % 16))) c.layout.ensures.shape, sym (length-nibbles at.level at.front)),
+          ),
+        ),
+      ),
+    )

@@ -1,0 +1,49 @@
+use Rattle.std.proofs.Common.{◌≡◌, ◌∙◌, ◌+◌, ◌<◌, ap, length, refl, arith, rules}
+use Rattle.cf_append.specs.Paths.{IsOnPath}
+use Rattle.cf_append.proofs.Walking.{strides_none, strides_then, used_same, used_then}
+use Rattle.cf_append.proofs.Pathing.{leaves_still, leaves_more, path_steps_none, path_steps_more, path_steps_up}
+use Rattle.cf_append.proofs.paths.make_paths.Goals as goal
+
+pub loop-lane-init : goal.loop-lane-init
+loop-lane-init g c = record {
+  of = c.requires.of;
+  rest = c.requires.rest;
+  strides = strides_none c.args.pass.now;
+  used = used_same _ c.args.pass.now c.args.pass.now c.requires.rest refl;
+  long = refl;
+  leaves = λ lane low last q leads. absurd (omega (arith, low));
+  steps = omega (arith, path_steps_none c.args.log.now.shape);
+}
+
+pub returns-in_default-clause-used : goal.returns-in_default-clause-used
+returns-in_default-clause-used g c = used_then (IsOnPath c.args.log.now.shape c.args.row.now) c.args.pass.now c.loop-lane.pass c.make_path.new.pass c.loop-lane.invariant.used c.make_path.ensures.used
+
+pub returns-in_default-clause-steps : goal.returns-in_default-clause-steps
+returns-in_default-clause-steps g c =
+    let s = c.args.log.now.shape in
+    let k = c.loop-lane.lane in
+    let low : k < length s.lanes = search rules in
+    let up = path_steps_up s (Rattle.std.proofs.Common.suc k) (length s.lanes) (omega (arith, low)) in
+    let more = path_steps_more s k in
+    let one = c.make_path.ensures.steps in
+    let so_far = c.loop-lane.invariant.steps in
+    omega (arith, up, more, one, so_far)
+
+pub loop-lane-preserved : goal.loop-lane-preserved
+loop-lane-preserved g c =
+    let s = c.args.log.now.shape in
+    let row = c.args.row.now in
+    let k = c.loop-lane.lane in
+    let m = c.args.pass.now in
+    let n = c.loop-lane.pass in
+    let o = c.make_path.new.pass in
+    let went = c.make_path.ensures.strides in
+    let inside : k < length c.loop-lane.leaves = search rules in record {
+      of = c.make_path.ensures.of;
+      rest = c.make_path.ensures.rest;
+      strides = strides_then m n o c.loop-lane.invariant.strides went;
+      used = used_then (IsOnPath s row) m n o c.loop-lane.invariant.used c.make_path.ensures.used;
+      long = search rules;
+      leaves = leaves_more s row o.view c.loop-lane.leaves k c.from.result c.in-Some.leaf c.from.ensures inside (leaves_still s row n o c.loop-lane.leaves k went c.loop-lane.invariant.leaves) c.in-Some.ensures.answer;
+      steps = (let more = path_steps_more s k in let one = c.make_path.ensures.steps in let so_far = c.loop-lane.invariant.steps in let e : Rattle.std.proofs.Common.suc k ≡ k + 1 = omega arith in let f = ap (Rattle.cf_append.specs.Paths.path_steps s) e in omega (arith, more, one, so_far, f));
+    }

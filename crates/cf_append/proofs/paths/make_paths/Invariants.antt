@@ -1,0 +1,16 @@
+use Rattle.std.proofs.Common.{◌≡◌, ◌+◌, ◌≤◌, length}
+use Rattle.cf_table.specs.Held.{IsOf}
+use Rattle.cf_append.specs.Appends.{Rests}
+use Rattle.cf_append.specs.Paths.{Strides, HasUsed, IsOnPath, HasLeaves, path_steps}
+use Rattle.cf_append.proofs.paths.make_paths.Given as goal
+
+abbrev pub invariant-loop-lane : goal.invariant-loop-lane
+invariant-loop-lane g l = record {
+  of : IsOf l.pass l.log;
+  rest : Rests (l.pass).view;
+  strides : Strides l.fn.pass l.pass;
+  used : HasUsed (IsOnPath (l.log).shape l.row) l.fn.pass l.pass;
+  long : length l.leaves ≡ 16;
+  leaves : HasLeaves (l.log).shape l.row (l.pass).view l.leaves l.lane;
+  steps : l.steps ≤ l.initial.steps + path_steps (l.log).shape l.lane;
+}

@@ -1,0 +1,23 @@
+use Rattle.std.proofs.Common.{◌%◌, ap, sym, ◌∙◌}
+use Rattle.cf_shape.specs.Lanes.{Shaped}
+use Rattle.cf_shape.specs.Places.{place_of}
+use Rattle.cf_shape.specs.Places.Word.{child}
+use Rattle.cf_law.proofs.Nibbles.{length-nibbles}
+use Rattle.cf_append.proofs.Pathing.{next_child}
+use Rattle.cf_append.proofs.paths.next_node.Goals as goal
+
+pub take_child-requires : goal.take_child-requires
+take_child-requires g c κs within =
+    let at = c.args.at in (
+      within,
+      (
+        c.requires.of,
+        (
+          c.requires.rest,
+          (
+            next_child c.args.log.now.shape c.args.pass.now.view at c.args.above c.layout.ensures.lawful c.requires.prefix c.requires.more c.requires.above,
+            (c.place_child-place.ensures ∙ ap (λ (s : Shaped). place_of s (child c.args.above (at.front % 16))) c.layout.ensures.shape, sym (length-nibbles at.level at.front)),
+          ),
+        ),
+      ),
+    )

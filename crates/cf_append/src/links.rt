@@ -1,0 +1,321 @@
+// The cells of a record are stored, and it is linked in each lane that selects its row.
+ghost use Rattle.std.specs.Prelude.{ℕ, ◌≡◌, ◌+◌, ◌*◌, ◌%◌, ◌<◌, ◌≤◌, List, ◌∷◌, [], suc, true, length};
+ghost use Rattle.cf_row.specs.Row.{Fits};
+ghost use Rattle.cf_row.specs.Words.{word_count as word_count_of};
+ghost use Rattle.cf_shape.specs.Lanes.{lane_at, measure_of};
+ghost use Rattle.cf_shape.specs.Nodes.{levels_of};
+ghost use Rattle.cf_fold.specs.Quads.{quad_of};
+ghost use Rattle.cf_shape.specs.Uses.{cell_count, cell_words, is_measured};
+ghost use Rattle.cf_words.specs.Words.{Spot, spot, top};
+ghost use Rattle.cf_law.specs.Steps.{mine_chain};
+ghost use Rattle.cf_law.specs.Steps.Act.{store_head as stores_head};
+ghost use Rattle.cf_law.specs.Readers.{own_top};
+ghost use Rattle.cf_law.specs.Shapes.{layout as layout_of, path_in};
+ghost use Rattle.cf_table.specs.Held.{IsOf, book_of};
+ghost use Rattle.cf_table.specs.Ways.{May, Stored, head_way};
+ghost use Rattle.cf_append.specs.Paths.{Strides, IsNodeOf, IsLeafIn, HasLeaves};
+ghost use Rattle.cf_append.specs.Linking.{HasFilled, HasLinked, IsBookOf, IsNewest, IsCell, amounts, key_path, leaf_chain, cell_from};
+
+use cf_fold::Quad;
+use cf_row::{Row, word_count};
+use cf_shape::{Shape, key, measure, selects};
+use cf_table::{MultiLog, Steps, WriterPass};
+use std::sync::ledger::Ledger;
+
+// The own head of a key in a leaf, which stands for the spot `at`. `_lane` is for the proof.
+fn own_head<L: Ledger>(
+    log: &MultiLog,
+    pass: &mut WriterPass,
+    _lane: u8,
+    key: u64,
+    leaf: u32,
+    steps: &mut Steps<L>,
+) -> u64
+    ghost at: { Spot }
+    requires of { IsOf pass.old log.now }
+    requires one { pass.old.view.books ≡ book_of pass.old.view ∷ [] }
+    requires writer { (book_of pass.old.view).writer < log.now.shape.writers }
+    requires leaf { IsNodeOf log.now.shape pass.old.view at leaf }
+    requires level { suc (length at.path) ≡ levels_of log.now.shape at.lane }
+    ensures of { IsOf pass.new log.now }
+    ensures strides { Strides pass.old pass.new }
+    ensures books { pass.new.view.books ≡ pass.old.view.books }
+    ensures head { result ≡ own_top (layout_of log.now.shape) (book_of pass.old.view) (spot at.lane (key % 16 ∷ at.path)) }
+    ensures steps { steps.new ≡ steps.old + 1 }
+{
+    let writer = pass.writer();
+    log.load_head(pass, leaf, (key % 16) as u8, writer, steps)
+}
+
+// Whether the lane measures something.
+fn measures(shape: &Shape, lane: u8) -> bool
+    requires { lane < length shape.now.lanes }
+    ensures { result ≡ is_measured shape.now lane }
+{
+    shape.lanes()[usize::from(lane)].measure.is_some()
+}
+
+// How many words the lane's cell has.
+fn cell_size(shape: &Shape, lane: u8) -> u8
+    requires { lane < length shape.now.lanes }
+    ensures { result ≡ cell_words (lane_at shape.now lane) }
+{
+    if measures(shape, lane) { 3 } else { 1 }
+}
+
+// The quad in the cell of an own record, which is the newest in a leaf. `_key` is for the proof.
+fn cell_quad<L: Ledger>(
+    log: &MultiLog,
+    pass: &mut WriterPass,
+    lane: u8,
+    _key: u64,
+    offset: u32,
+    steps: &mut Steps<L>,
+) -> Quad
+    ghost path: { List ℕ }
+    requires of { IsOf pass.old log.now }
+    requires one { pass.old.view.books ≡ book_of pass.old.view ∷ [] }
+    requires book { IsBookOf log.now.shape (book_of pass.old.view) }
+    requires lane { (lane < length log.now.shape.lanes) × (is_measured log.now.shape lane ≡ true) }
+    requires newest { IsNewest (layout_of log.now.shape) (spot lane path) (book_of pass.old.view).mine offset }
+    ensures of { IsOf pass.new log.now }
+    ensures strides { Strides pass.old pass.new }
+    ensures books { pass.new.view.books ≡ pass.old.view.books }
+    ensures quad { result ≡ quad_of (amounts log.now.shape lane (mine_chain (layout_of log.now.shape) (spot lane path) (book_of pass.old.view).mine)) }
+    ensures steps { steps.new ≡ steps.old + 3 }
+{
+    let _lawful = log.layout();
+    let first = log.load_cell(pass, offset, lane, 0, steps);
+    let sum = log.load_cell(pass, offset, lane, 1, steps);
+    let ends = log.load_cell(pass, offset, lane, 2, steps);
+    Quad::new(
+        first / 4_294_967_296,
+        sum,
+        ends % 4_294_967_296,
+        ends / 4_294_967_296,
+    )
+}
+
+// The quad of what a lane measures of the writer's records in the row's leaf and of the row. `previous` names the newest
+// of those records.
+fn quad_with<L: Ledger>(
+    log: &MultiLog,
+    pass: &mut WriterPass,
+    row: &Row,
+    lane: u8,
+    key: u64,
+    previous: u64,
+    steps: &mut Steps<L>,
+) -> Quad
+    requires of { IsOf pass.old log.now }
+    requires fits { Fits log.now.shape.schema row.now }
+    requires one { pass.old.view.books ≡ book_of pass.old.view ∷ [] }
+    requires book { IsBookOf log.now.shape (book_of pass.old.view) }
+    requires lane { lane < length log.now.shape.lanes }
+    requires measured { is_measured log.now.shape lane ≡ true }
+    requires previous { previous ≡ top (leaf_chain log.now.shape lane key (book_of pass.old.view)) }
+    ensures of { IsOf pass.new log.now }
+    ensures strides { Strides pass.old pass.new }
+    ensures books { pass.new.view.books ≡ pass.old.view.books }
+    ensures quad { result ≡ quad_of (measure_of log.now.shape lane row.now ∷ amounts log.now.shape lane (leaf_chain log.now.shape lane key (book_of pass.old.view))) }
+    ensures steps { steps.new ≤ steps.old + 3 }
+{
+    let value = Quad::EMPTY.add(measure(log.layout(), lane, row));
+    if previous == 0 {
+        return value;
+    }
+    let before = cell_quad(log, pass, lane, key, (previous - 1) as u32, steps);
+    value.merge(before)
+}
+
+// Stores the three words of a measured lane's cell of the ticket in flight, from word i on.
+fn store_three<L: Ledger>(
+    log: &MultiLog,
+    pass: &mut WriterPass,
+    offset: u32,
+    _row: &Row,
+    _leaf: (u8, u64),
+    i: u8,
+    words: (u64, u64, u64),
+    steps: &mut Steps<L>,
+)
+    requires of { IsOf pass.old log.now }
+    requires place { offset < log.now.shape.capacity }
+    requires lane { (_leaf.0 < length log.now.shape.lanes) × (is_measured log.now.shape _leaf.0 ≡ true) }
+    requires at { i ≡ cell_from log.now.shape _leaf.0 }
+    requires leads { path_in log.now.shape _row.now _leaf.0 ≡ Some (key_path log.now.shape _leaf.0 _leaf.1) }
+    requires filled { HasFilled log.now.shape offset _row.now (cell_from log.now.shape _leaf.0) pass.old pass.old }
+    requires words { IsCell log.now.shape _leaf.0 (leaf_chain log.now.shape _leaf.0 _leaf.1 (book_of pass.old.view)) _row.now words.0 words.1 words.2 }
+    ensures of { IsOf pass.new log.now }
+    ensures strides { Strides pass.old pass.new }
+    ensures filled { HasFilled log.now.shape offset _row.now (cell_from log.now.shape (_leaf.0 + 1)) pass.old pass.new }
+    ensures steps { steps.new ≡ steps.old + 3 }
+{
+    let _lawful = log.layout();
+    log.store_cell(pass, offset, i, words.0, steps);
+    log.store_cell(pass, offset, i + 1, words.1, steps);
+    log.store_cell(pass, offset, i + 2, words.2, steps);
+}
+
+// Stores the cell of a lane of the ticket in flight, from word i on: it names the newest record of the writer in the row's
+// leaf. It is passed over where the lane doesn't select the row. Answers where the next cell begins.
+fn store_version<L: Ledger>(
+    log: &MultiLog,
+    pass: &mut WriterPass,
+    offset: u32,
+    row: &Row,
+    lane: u8,
+    leaf: u32,
+    i: u8,
+    steps: &mut Steps<L>,
+) -> u8
+    requires of { IsOf pass.old log.now }
+    requires fits { Fits log.now.shape.schema row.now }
+    requires place { offset < log.now.shape.capacity }
+    requires lane { lane < length log.now.shape.lanes }
+    requires at { i ≡ cell_from log.now.shape lane }
+    requires book { IsBookOf log.now.shape (book_of pass.old.view) }
+    requires filled { HasFilled log.now.shape offset row.now (cell_from log.now.shape lane) pass.old pass.old }
+    requires leaf { IsLeafIn log.now.shape row.now pass.old.view lane leaf }
+    ensures of { IsOf pass.new log.now }
+    ensures strides { Strides pass.old pass.new }
+    ensures filled { HasFilled log.now.shape offset row.now (cell_from log.now.shape (lane + 1)) pass.old pass.new }
+    ensures next { result ≡ cell_from log.now.shape (lane + 1) }
+    ensures steps { steps.new ≤ steps.old + 7 }
+{
+    let layout = log.layout();
+    if !selects(layout, lane, row) {
+        return i + cell_size(layout, lane);
+    }
+    let key = key(layout, lane, row);
+    let previous = own_head(log, pass, lane, key, leaf, steps);
+    if measures(layout, lane) {
+        let quad = quad_with(log, pass, row, lane, key, previous, steps);
+        let first = previous + quad.count() * 4_294_967_296;
+        let ends = quad.least() + quad.greatest() * 4_294_967_296;
+        let words = (first, quad.sum(), ends);
+        store_three(log, pass, offset, row, (lane, key), i, words, steps);
+        return i + 3;
+    }
+    log.store_cell(pass, offset, i, previous, steps);
+    i + 1
+}
+
+/// Stores the cells of the ticket in flight, in the order of the lanes.
+pub(crate) fn fill_cells<L: Ledger>(
+    log: &MultiLog,
+    pass: &mut WriterPass,
+    offset: u32,
+    row: &Row,
+    leaves: &[u32; 16],
+    steps: &mut Steps<L>,
+)
+    requires of { IsOf pass.old log.now }
+    requires fits { Fits log.now.shape.schema row.now }
+    requires place { offset < log.now.shape.capacity }
+    requires book { IsBookOf log.now.shape (book_of pass.old.view) }
+    requires filled { HasFilled log.now.shape offset row.now (word_count_of log.now.shape.schema + 1) pass.old pass.old }
+    requires leaves { HasLeaves log.now.shape row.now pass.old.view leaves.now (length log.now.shape.lanes) }
+    ensures of { IsOf pass.new log.now }
+    ensures strides { Strides pass.old pass.new }
+    ensures filled { HasFilled log.now.shape offset row.now (word_count_of log.now.shape.schema + 1 + cell_count log.now.shape.lanes) pass.old pass.new }
+    ensures steps { steps.new ≤ steps.old + 7 * length log.now.shape.lanes }
+{
+    let layout = log.layout();
+    let lanes = layout.lanes().len() as u8;
+    let mut i = word_count(layout.schema()) as u8 + 1;
+    for lane in 0..lanes {
+        i = store_version(
+            log,
+            pass,
+            offset,
+            row,
+            lane,
+            leaves[usize::from(lane)],
+            i,
+            steps,
+        );
+    }
+}
+
+// Links the ticket in flight in a lane, at the row's leaf. `lane` is for the proof.
+fn store_top<L: Ledger>(
+    log: &MultiLog,
+    pass: &mut WriterPass,
+    offset: u32,
+    _lane: u8,
+    key: u64,
+    leaf: u32,
+    steps: &mut Steps<L>,
+)
+    ghost lane: { ℕ }
+    requires of { IsOf pass.old log.now }
+    requires place { (leaf < log.now.shape.writers * log.now.shape.nodes) × ((book_of pass.old.view).writer < log.now.shape.writers) }
+    requires lawful { May log.now.shape pass.old.view (stores_head lane leaf (key % 16) offset) (head_way log.now.shape pass.old.view lane leaf (key % 16) offset) }
+    ensures made { Stored log.now.shape (head_way log.now.shape pass.old.view lane leaf (key % 16) offset) pass.old pass.new }
+    ensures steps { steps.new ≡ steps.old + 1 }
+{
+    log.store_head(pass, leaf, (key % 16) as u8, offset, steps);
+}
+
+// Links the ticket in flight in a lane, where that selects the row.
+fn link_in<L: Ledger>(
+    log: &MultiLog,
+    pass: &mut WriterPass,
+    offset: u32,
+    row: &Row,
+    lane: u8,
+    leaf: u32,
+    steps: &mut Steps<L>,
+)
+    requires of { IsOf pass.old log.now }
+    requires fits { Fits log.now.shape.schema row.now }
+    requires lane { lane < length log.now.shape.lanes }
+    requires writer { (book_of pass.old.view).writer < log.now.shape.writers }
+    requires linked { HasLinked log.now.shape offset row.now lane pass.old pass.old }
+    requires leaf { IsLeafIn log.now.shape row.now pass.old.view lane leaf }
+    ensures of { IsOf pass.new log.now }
+    ensures strides { Strides pass.old pass.new }
+    ensures linked { HasLinked log.now.shape offset row.now (lane + 1) pass.old pass.new }
+    ensures steps { steps.new ≤ steps.old + 1 }
+{
+    let layout = log.layout();
+    if !selects(layout, lane, row) {
+        return;
+    }
+    let key = key(layout, lane, row);
+    store_top(log, pass, offset, lane, key, leaf, steps);
+}
+
+/// Links the ticket in flight in each lane that selects its row.
+pub(crate) fn link_all<L: Ledger>(
+    log: &MultiLog,
+    pass: &mut WriterPass,
+    offset: u32,
+    row: &Row,
+    leaves: &[u32; 16],
+    steps: &mut Steps<L>,
+)
+    requires of { IsOf pass.old log.now }
+    requires fits { Fits log.now.shape.schema row.now }
+    requires writer { (book_of pass.old.view).writer < log.now.shape.writers }
+    requires linked { HasLinked log.now.shape offset row.now 0 pass.old pass.old }
+    requires leaves { HasLeaves log.now.shape row.now pass.old.view leaves.now (length log.now.shape.lanes) }
+    ensures of { IsOf pass.new log.now }
+    ensures strides { Strides pass.old pass.new }
+    ensures linked { HasLinked log.now.shape offset row.now (length log.now.shape.lanes) pass.old pass.new }
+    ensures steps { steps.new ≤ steps.old + length log.now.shape.lanes }
+{
+    let lanes = log.layout().lanes().len() as u8;
+    for lane in 0..lanes {
+        link_in(
+            log,
+            pass,
+            offset,
+            row,
+            lane,
+            leaves[usize::from(lane)],
+            steps,
+        );
+    }
+}

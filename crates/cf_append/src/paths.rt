@@ -1,0 +1,207 @@
+// The paths of a row are made: in each lane that selects it a node for each proper prefix of its key.
+ghost use Rattle.std.specs.Prelude.{ℕ, ◌≡◌, ◌+◌, ◌-◌, ◌*◌, ◌<◌, ◌≤◌, true, length, MatchOption, IfNone};
+ghost use Rattle.cf_row.specs.Row.{Fits};
+ghost use Rattle.cf_shape.specs.Nodes.{levels_of};
+ghost use Rattle.cf_shape.specs.Places.{Slot, place as place_by, sizes_of};
+ghost use Rattle.cf_words.specs.Words.{Spot};
+ghost use Rattle.cf_law.specs.Steps.{IsChild};
+ghost use Rattle.cf_law.specs.Shapes.{layout as layout_of};
+ghost use Rattle.cf_table.specs.Held.{IsOf};
+ghost use Rattle.cf_append.specs.Appends.{Rests, SeenFirst};
+ghost use Rattle.cf_append.specs.Paths.{Strides, HasUsed, IsPrefix, IsAlong, IsOnPath, IsStuck, IsNodeOf, IsLeafIn, HasLeaves, spot_of, spot_before, path_steps};
+
+use cf_row::Row;
+use cf_shape::{key, levels, place_child, place_root, selects};
+use cf_table::{MultiLog, Steps, WriterPass};
+use std::sync::ledger::Ledger;
+
+// The first nibbles of some keys of a lane, as a number.
+#[derive(Clone, Copy, Drop)]
+pub(crate) struct Prefix {
+    lane: u8,
+    level: u8,
+    front: u64,
+}
+
+// The node that stands for the spot `to.0`, whose child word is at that place: the one found there, else an own one that is
+// linked there, none where all own ones are used. `_at` is for the proof.
+fn take_child<L: Ledger>(
+    log: &MultiLog,
+    pass: &mut WriterPass,
+    place: u64,
+    level: u8,
+    _at: (Prefix, u32),
+    steps: &mut Steps<L>,
+) -> Option<u32>
+    ghost to: { Spot × Slot }
+    requires of { IsOf pass.old log.now }
+    requires rest { Rests pass.old.view }
+    requires child { IsChild (layout_of log.now.shape) pass.old.view to.0 to.1 }
+    requires place { place ≡ place_by (sizes_of log.now.shape) to.1 }
+    requires level { level ≡ length to.0.path }
+    ensures of { IsOf pass.new log.now }
+    ensures rest { Rests pass.new.view }
+    ensures strides { Strides pass.old pass.new }
+    ensures used { HasUsed (λ s. s ≡ to.0) pass.old pass.new }
+    ensures answer { MatchOption result (IsStuck log.now.shape (λ s. s ≡ to.0) pass.old pass.new) (IsNodeOf log.now.shape pass.new.view to.0) }
+    ensures begins { IfNone result (SeenFirst pass.new.view) }
+    ensures steps { steps.new ≤ steps.old + 3 }
+{
+    let _lawful = log.layout();
+    let found = log.load_child(pass, place, steps);
+    if found != 0 {
+        return Some((found - 1) as u32);
+    }
+    let Some(node) = pass.free_node() else {
+        return None;
+    };
+    log.label(pass, node, 32 * place + u64::from(level), steps);
+    let named = log.link(pass, place, node, steps);
+    if named != 0 {
+        return Some((named - 1) as u32);
+    }
+    Some(node)
+}
+
+// The node that stands for a prefix of one nibble.
+fn first_node<L: Ledger>(
+    log: &MultiLog,
+    pass: &mut WriterPass,
+    at: Prefix,
+    steps: &mut Steps<L>,
+) -> Option<u32>
+    requires of { IsOf pass.old log.now }
+    requires rest { Rests pass.old.view }
+    requires prefix { IsPrefix log.now.shape at }
+    requires one { at.level ≡ 1 }
+    ensures of { IsOf pass.new log.now }
+    ensures rest { Rests pass.new.view }
+    ensures strides { Strides pass.old pass.new }
+    ensures used { HasUsed (λ s. s ≡ spot_of at) pass.old pass.new }
+    ensures answer { MatchOption result (IsStuck log.now.shape (λ s. s ≡ spot_of at) pass.old pass.new) (IsNodeOf log.now.shape pass.new.view (spot_of at)) }
+    ensures begins { IfNone result (SeenFirst pass.new.view) }
+    ensures steps { steps.new ≤ steps.old + 3 }
+{
+    let place = place_root(log.layout(), at.lane, (at.front % 16) as u8);
+    take_child(log, pass, place, at.level, (at, 0), steps)
+}
+
+// The node that stands for a prefix, below the one that stands for it without its last nibble.
+fn next_node<L: Ledger>(
+    log: &MultiLog,
+    pass: &mut WriterPass,
+    at: Prefix,
+    above: u32,
+    steps: &mut Steps<L>,
+) -> Option<u32>
+    requires of { IsOf pass.old log.now }
+    requires rest { Rests pass.old.view }
+    requires prefix { IsPrefix log.now.shape at }
+    requires more { 1 < at.level }
+    requires above { IsNodeOf log.now.shape pass.old.view (spot_before at) above }
+    ensures of { IsOf pass.new log.now }
+    ensures rest { Rests pass.new.view }
+    ensures strides { Strides pass.old pass.new }
+    ensures used { HasUsed (λ s. s ≡ spot_of at) pass.old pass.new }
+    ensures answer { MatchOption result (IsStuck log.now.shape (λ s. s ≡ spot_of at) pass.old pass.new) (IsNodeOf log.now.shape pass.new.view (spot_of at)) }
+    ensures begins { IfNone result (SeenFirst pass.new.view) }
+    ensures steps { steps.new ≤ steps.old + 3 }
+{
+    let place = place_child(log.layout(), above, (at.front % 16) as u8);
+    take_child(log, pass, place, at.level, (at, above), steps)
+}
+
+// The node that stands for a prefix, after those that stand for the prefixes before it.
+fn make_node<L: Ledger>(
+    log: &MultiLog,
+    pass: &mut WriterPass,
+    at: Prefix,
+    steps: &mut Steps<L>,
+) -> Option<u32>
+    requires of { IsOf pass.old log.now }
+    requires rest { Rests pass.old.view }
+    requires prefix { IsPrefix log.now.shape at }
+    ensures of { IsOf pass.new log.now }
+    ensures rest { Rests pass.new.view }
+    ensures strides { Strides pass.old pass.new }
+    ensures used { HasUsed (IsAlong at) pass.old pass.new }
+    ensures answer { MatchOption result (IsStuck log.now.shape (IsAlong at) pass.old pass.new) (IsNodeOf log.now.shape pass.new.view (spot_of at)) }
+    ensures begins { IfNone result (SeenFirst pass.new.view) }
+    ensures steps { steps.new ≤ steps.old + 3 * at.level }
+{
+    if at.level == 1 {
+        return first_node(log, pass, at, steps);
+    }
+    let before = Prefix {
+        lane: at.lane,
+        level: at.level - 1,
+        front: at.front / 16,
+    };
+    let Some(above) = make_node(log, pass, before, steps) else {
+        return None;
+    };
+    next_node(log, pass, at, above, steps)
+}
+
+// The leaf of the row in a lane, after the path to it, and 0 where the lane doesn't select the row; none where a node is
+// missing and all own ones are used.
+fn make_path<L: Ledger>(
+    log: &MultiLog,
+    pass: &mut WriterPass,
+    row: &Row,
+    lane: u8,
+    steps: &mut Steps<L>,
+) -> Option<u32>
+    requires of { IsOf pass.old log.now }
+    requires rest { Rests pass.old.view }
+    requires fits { Fits log.now.shape.schema row.now }
+    requires lane { lane < length log.now.shape.lanes }
+    ensures of { IsOf pass.new log.now }
+    ensures rest { Rests pass.new.view }
+    ensures strides { Strides pass.old pass.new }
+    ensures used { HasUsed (IsOnPath log.now.shape row.now) pass.old pass.new }
+    ensures answer { MatchOption result (IsStuck log.now.shape (IsOnPath log.now.shape row.now) pass.old pass.new) (IsLeafIn log.now.shape row.now pass.new.view lane) }
+    ensures begins { IfNone result (SeenFirst pass.new.view) }
+    ensures steps { steps.new ≤ steps.old + 3 * (levels_of log.now.shape lane - 1) }
+{
+    let layout = log.layout();
+    if !selects(layout, lane, row) {
+        return Some(0);
+    }
+    let at = Prefix {
+        lane,
+        level: levels(layout, lane) - 1,
+        front: key(layout, lane, row) / 16,
+    };
+    make_node(log, pass, at, steps)
+}
+
+/// The row's leaf in each lane that selects it, after the paths to them; none where a node is missing and all own ones are
+/// used.
+pub(crate) fn make_paths<L: Ledger>(
+    log: &MultiLog,
+    pass: &mut WriterPass,
+    row: &Row,
+    steps: &mut Steps<L>,
+) -> Option<[u32; 16]>
+    requires of { IsOf pass.old log.now }
+    requires rest { Rests pass.old.view }
+    requires fits { Fits log.now.shape.schema row.now }
+    ensures of { IsOf pass.new log.now }
+    ensures rest { Rests pass.new.view }
+    ensures strides { Strides pass.old pass.new }
+    ensures used { HasUsed (IsOnPath log.now.shape row.now) pass.old pass.new }
+    ensures answer { MatchOption result (IsStuck log.now.shape (IsOnPath log.now.shape row.now) pass.old pass.new) (λ leaves. HasLeaves log.now.shape row.now pass.new.view leaves (length log.now.shape.lanes)) }
+    ensures begins { IfNone result (SeenFirst pass.new.view) }
+    ensures steps { steps.new ≤ steps.old + path_steps log.now.shape (length log.now.shape.lanes) }
+{
+    let lanes = log.layout().lanes().len() as u8;
+    let mut leaves = [0u32; 16];
+    for lane in 0..lanes {
+        let Some(leaf) = make_path(log, pass, row, lane, steps) else {
+            return None;
+        };
+        leaves[usize::from(lane)] = leaf;
+    }
+    Some(leaves)
+}

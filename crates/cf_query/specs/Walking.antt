@@ -1,0 +1,33 @@
+-- Questions that walk the trees and chains of a lane.
+use Rattle.std.specs.Prelude.{ℕ, ◌≡◌, ◌≤◌, ◌+◌, ◌-◌, List, [], length, true}
+use Rattle.cf_shape.specs.Lanes.{Shaped}
+use Rattle.cf_shape.specs.Nodes.{levels_of}
+use Rattle.cf_plain.specs.declared.ask.Ask.{Ask}
+use Rattle.cf_plain.specs.declared.ask.Ask.TheVariants as asks
+use Rattle.cf_plain.specs.declared.answer.Body.{Body}
+use Rattle.cf_plain.specs.declared.answer.Body.TheVariants as bodies
+
+-- a question for the entries of one key
+abbrev pub AsksOne : Ask → Type 0
+AsksOne (asks.List expr) = ⊥
+AsksOne (asks.Find lane low high) = low ≡ high
+AsksOne (asks.Between lane low high) = low ≡ high
+AsksOne (asks.Measure lane low high) = ⊥
+AsksOne (asks.Fired trigger) = ⊥
+
+-- the lane that a question walks
+abbrev pub lane_of : Ask → ℕ
+lane_of (asks.List expr) = 0
+lane_of (asks.Find lane low high) = lane
+lane_of (asks.Between lane low high) = lane
+lane_of (asks.Measure lane low high) = lane
+lane_of (asks.Fired trigger) = trigger.agg
+
+abbrev pub places_in : Body → List ℕ
+places_in (bodies.Places places) = places
+places_in (bodies.Total total) = []
+places_in (bodies.Marks marks) = []
+
+-- One step for the read tail, one for each level and writer, one for each place found, and one for each place at or past the tail.
+abbrev pub steps_of_one : Shaped → ℕ → Body → ℕ → ℕ
+steps_of_one shape lane body tail = 1 + levels_of shape lane + shape.writers + length (places_in body) + (shape.capacity - tail)

@@ -1,0 +1,12 @@
+use Rattle.std.proofs.Common.{◌+◌, ◌-◌, ◌*◌, ◌<◌, ◌≤◌}
+use Rattle.cf_law.specs.Steps.{Knows}
+use Rattle.cf_walk.specs.Walks.{OnlyWalked, spot_above}
+use Rattle.cf_walk.proofs.tree.reach.Given as goal
+
+abbrev pub invariant-loop-level : goal.invariant-loop-level
+invariant-loop-level g l = record {
+  walked : OnlyWalked (g.P.Pass.held l.fn.pass) (g.P.Pass.held l.pass);
+  within : 1 < l.level → l.node < (l.log).shape.writers * (l.log).shape.nodes;
+  knows : 1 < l.level → Knows (g.P.Pass.held l.pass).view (spot_above (l.log).shape l.lane l.key (l.level - 1)) l.node;
+  steps : l.steps ≤ l.fn.steps + (l.level - 1);
+}

@@ -1,0 +1,65 @@
+// The leaves of a range of keys.
+ghost use Rattle.std.specs.Prelude.{◌≡◌, ◌+◌, ◌-◌, ◌<◌, ◌≤◌, ◌++◌, length, suc, IfOk, OnOk};
+ghost use Rattle.cf_shape.specs.Nodes.{levels_of};
+ghost use Rattle.cf_table.specs.Held.{IsOf};
+ghost use Rattle.cf_walk.specs.Walks.{OnlyWalked, range_places, WentOver};
+
+use crate::chain::{Leaf, collect_leaf};
+use crate::tree::{Descent, reach};
+use cf_row::Memory;
+use cf_table::{MultiLog, Pass, Steps};
+use std::sync::ledger::Ledger;
+
+// The places of the entries with this key, of those that were seen. Where a node is missing on the key's path it goes over
+// all keys that begin so, none of which has an entry. Answers the last key that it went over.
+fn collect_key<P: Pass, L: Ledger>(
+    log: &MultiLog,
+    pass: &mut P,
+    lane: u8,
+    range: (u64, u64),
+    found: &mut Vec<u32>,
+    steps: &mut Steps<L>,
+) -> Result<u64, Memory>
+    requires of { IsOf (P.held pass.old) log.now }
+    requires lane { lane < length log.now.shape.lanes }
+    requires range { range.0 ≤ range.1 }
+    ensures found { IfOk result (WentOver log.now.shape lane range.0 range.1 (P.held pass.old).view.seen found.old.items found.new.items) }
+    ensures walked { OnlyWalked (P.held pass.old) (P.held pass.new) }
+    ensures steps { IfOk result (λ _. steps.new ≤ steps.old + (levels_of log.now.shape lane - 1) + log.now.shape.writers + (length found.new.items - length found.old.items) + (log.now.shape.capacity - length (P.held pass.old).view.seen)) }
+{
+    let (key, high) = range;
+    match reach(log, pass, lane, key, steps) {
+        Descent::Leaf(node) => {
+            collect_leaf(log, pass, Leaf { lane, key, node }, found, steps)?;
+            Ok(key)
+        }
+        Descent::Gap(span) => {
+            let rest = span - 1 - key % span;
+            Ok(key + rest.min(high - key))
+        }
+    }
+}
+
+/// The places of the entries with a key in the range, of those that were seen, key by key.
+pub(crate) fn collect_range<P: Pass, L: Ledger>(
+    log: &MultiLog,
+    pass: &mut P,
+    lane: u8,
+    range: (u64, u64),
+    found: &mut Vec<u32>,
+    steps: &mut Steps<L>,
+) -> Result<(), Memory>
+    requires of { IsOf (P.held pass.old) log.now }
+    requires lane { lane < length log.now.shape.lanes }
+    requires range { range.0 ≤ range.1 }
+    ensures found { OnOk result (found.new.items ≡ found.old.items ++ range_places log.now.shape lane range.0 (P.held pass.old).view.seen (range.1 - range.0 + 1)) }
+    ensures walked { OnlyWalked (P.held pass.old) (P.held pass.new) }
+    ensures steps { range.0 ≡ range.1 → OnOk result (steps.new ≤ steps.old + (levels_of log.now.shape lane - 1) + log.now.shape.writers + (length found.new.items - length found.old.items) + (log.now.shape.capacity - length (P.held pass.old).view.seen)) }
+{
+    let (low, high) = range;
+    let mut last = collect_key(log, pass, lane, (low, high), found, steps)?;
+    while last < high {
+        last = collect_key(log, pass, lane, (last + 1, high), found, steps)?;
+    }
+    Ok(())
+}
