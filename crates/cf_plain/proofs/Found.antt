@@ -14,7 +14,7 @@ above_range p m a (suc n) lt = elim (p a) as (λ b. AllByRecursion (λ x. m < x)
   | false ↦ above_range p m (a + 1) n (omega (arith, lt))
 ]
 
-rise_range : (p : ℕ → Bool) (a n : ℕ) → Rise (filter p (range_with_len a n))
+pub rise_range : (p : ℕ → Bool) (a n : ℕ) → Rise (filter p (range_with_len a n))
 rise_range p a zero = tt
 rise_range p a (suc n) = elim (p a) as (λ b. Rise (cond b (a ∷ filter p (range_with_len (a + 1) n)) (filter p (range_with_len (a + 1) n)))) [
   | true ↦ (above_range p a (a + 1) n (omega arith), rise_range p (a + 1) n)
@@ -32,7 +32,7 @@ below_range p j a (suc n) lt = elim (p a) as (λ b. list_any (λ x. j == x) (con
   | false ↦ below_range p j (a + 1) n (omega (arith, lt))
 ]
 
-any_range : (p : ℕ → Bool) (j a n : ℕ) → a ≤ j → list_any (λ x. j == x) (filter p (range_with_len a n)) ≡ (nat_lt j (a + n) && p j)
+pub any_range : (p : ℕ → Bool) (j a n : ℕ) → a ≤ j → list_any (λ x. j == x) (filter p (range_with_len a n)) ≡ (nat_lt j (a + n) && p j)
 any_range p j a zero le = rw (le-ltb j (a + 0) (omega (arith, le))) refl
 any_range p j a (suc n) le = elim (cases_eq j a) [
   | inl e ↦

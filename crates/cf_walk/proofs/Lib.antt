@@ -6,3 +6,6 @@ pub mod Ranges
 pub mod Counted
 pub mod Tallied
 pub mod Versions
+pub mod Measured
+pub mod Grouping
+pub mod Paths

@@ -45,7 +45,7 @@ gap_over shape lane key high span seen items le some gap =
       found = sym (append-nil items) ∙ ap (λ (xs : List ℕ). items ++ xs) (sym (range_nothing shape lane key span (last - key + 1) seen gap (λ k a b. begins_alike key span k some a (omega (arith, a, b)))));
     }
 
-range_zero : (shape : Shaped) (lane low : ℕ) (seen : List Entry) → range_places shape lane low seen 0 ≡ []
+pub range_zero : (shape : Shaped) (lane low : ℕ) (seen : List Entry) → range_places shape lane low seen 0 ≡ []
 unfolding range_places
 range_zero shape lane low seen = refl
 

@@ -210,7 +210,7 @@ place_lacks p j n out =
 abbrev no_entry : Entry
 no_entry = record { writer = 0; row = record { num = 0; values = [] } }
 
-row_is : (seen : List Entry) (o : ℕ) (e : Entry) → slice_get seen o ≡ Some e → e.row ≡ row_at (rows_in seen) o
+pub row_is : (seen : List Entry) (o : ℕ) (e : Entry) → slice_get seen o ≡ Some e → e.row ≡ row_at (rows_in seen) o
 row_is [] zero e at = absurd (cc at)
 row_is [] (suc o) e at = absurd (cc at)
 row_is (x ∷ xs) zero e at = (let same : x ≡ e = cc at in ap (λ (y : Entry). y.row) (sym same))
@@ -225,7 +225,7 @@ pub record Covers (shape : Shaped) (lane low high n : ℕ) : Type 0 where
   pub outside : (k : ℕ) → low ≤ k → k < low + n → k ≤ high
   pub bound : (i : ℕ) → i < n → low + i < 16 ^ levels_of shape lane
 
-fits_of : (shape : Shaped) (e : Entry) → IsFit (layout shape) e → Fits shape.schema e.row
+pub fits_of : (shape : Shaped) (e : Entry) → IsFit (layout shape) e → Fits shape.schema e.row
 fits_of shape e fit = (both (values_fit shape.schema (e.row).values) (nat_lt (e.row).num (2 ^ 32)) fit.0).0
 
 pub as_often : (shape : Shaped) (lane low high n : ℕ) (seen : List Entry) → IsShape shape → lane < length shape.lanes → ((o : ℕ) (e : Entry) → slice_get seen o ≡ Some e → IsFit (layout shape) e) → Covers shape lane low high n

@@ -1,9 +1,12 @@
 -- How far the path of a key was found to go.
-use Rattle.std.specs.Prelude.{ℕ, ◌<◌, List}
+use Rattle.std.specs.Prelude.{ℕ, ◌≡◌, ◌<◌, ◌≤◌, ◌*◌, List, length, slice_index_or}
 use Rattle.cf_row.specs.declared.row.Entry.{Entry}
 use Rattle.cf_shape.specs.Lanes.{Shaped}
+use Rattle.cf_shape.specs.Nodes.{levels_of}
 use Rattle.cf_law.specs.Passes.{Pass}
-use Rattle.cf_walk.specs.Walks.{IsAbove, IsGap}
+use Rattle.cf_law.specs.Steps.{Knows}
+use Rattle.cf_walk.specs.Walks.{IsAbove, IsGap, spot_above}
+use Rattle.cf_walk.specs.declared.tree.Path.{Path}
 use Rattle.cf_walk.specs.declared.tree.Descent.{Descent}
 use Rattle.cf_walk.specs.declared.tree.Descent.TheVariants as reaches
 
@@ -11,3 +14,10 @@ use Rattle.cf_walk.specs.declared.tree.Descent.TheVariants as reaches
 abbrev pub Reached : Shaped → ℕ → ℕ → Pass → List Entry → Descent → Type 0
 Reached shape lane key p seen (reaches.Leaf node) = IsAbove shape lane key node p
 Reached shape lane key p seen (reaches.Gap span) = (0 < span) × IsGap shape lane key span seen
+
+-- the pass knows the nodes of the path that were found, at each level that of its key's first nibbles
+pub record IsPath (shape : Shaped) (lane : ℕ) (path : Path) (p : Pass) : Type 0 where
+  pub inner : path.depth < levels_of shape lane
+  pub long : length path.nodes ≡ 16
+  pub within : (i : ℕ) → 1 ≤ i → i ≤ path.depth → slice_index_or path.nodes i 0 < shape.writers * shape.nodes
+  pub knows : (i : ℕ) → 1 ≤ i → i ≤ path.depth → Knows p (spot_above shape lane path.key i) (slice_index_or path.nodes i 0)

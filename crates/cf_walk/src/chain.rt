@@ -10,9 +10,9 @@ use cf_row::Memory;
 use cf_table::{MultiLog, Pass, Steps};
 use std::sync::ledger::Ledger;
 
-/// A key of a lane, and the node above its leaf.
+// A key of a lane, and the node above its leaf.
 #[derive(Clone, Copy, Drop)]
-pub struct Leaf {
+pub(crate) struct Leaf {
     pub lane: u8,
     pub key: u64,
     pub node: u32,

@@ -16,7 +16,7 @@ use std::alloc::Global;
 use std::sync::ledger::Ledger;
 
 // The greatest key that the lane can have.
-fn greatest_key(shape: &Shape, lane: u8) -> u64
+pub(crate) fn greatest_key(shape: &Shape, lane: u8) -> u64
     requires { lane < length shape.now.lanes }
     ensures { result + 1 ≡ 16 ^ levels_of shape.now lane }
 {

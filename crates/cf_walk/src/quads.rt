@@ -44,7 +44,7 @@ fn read_quad<P: Pass, L: Ledger>(
 }
 
 // The quad of what the lane measures of a writer's entries in the leaf, of those that were seen.
-pub fn chain_quad<P: Pass, L: Ledger>(
+fn chain_quad<P: Pass, L: Ledger>(
     log: &MultiLog,
     pass: &mut P,
     leaf: Leaf,
@@ -73,8 +73,8 @@ pub fn chain_quad<P: Pass, L: Ledger>(
     read_quad(log, pass, leaf, writer, (link - 1) as u32, steps)
 }
 
-/// The quad of what the lane measures of all writers' entries in the leaf, of those that were seen.
-pub fn leaf_quad<P: Pass, L: Ledger>(
+// The quad of what the lane measures of all writers' entries in the leaf, of those that were seen.
+pub(crate) fn leaf_quad<P: Pass, L: Ledger>(
     log: &MultiLog,
     pass: &mut P,
     leaf: Leaf,

@@ -3,9 +3,10 @@ ghost use Rattle.std.specs.Prelude.{◌≡◌, ◌+◌, ◌-◌, ◌<◌, ◌≤
 ghost use Rattle.cf_shape.specs.Nodes.{levels_of};
 ghost use Rattle.cf_table.specs.Held.{IsOf};
 ghost use Rattle.cf_walk.specs.Walks.{OnlyWalked, range_places, WentOver};
+ghost use Rattle.cf_walk.specs.Reached.{IsPath};
 
 use crate::chain::{Leaf, collect_leaf};
-use crate::tree::{Descent, reach};
+use crate::tree::{Descent, Path, no_path, reach};
 use cf_row::Memory;
 use cf_table::{MultiLog, Pass, Steps};
 use std::sync::ledger::Ledger;
@@ -17,18 +18,21 @@ fn collect_key<P: Pass, L: Ledger>(
     pass: &mut P,
     lane: u8,
     range: (u64, u64),
+    path: &mut Path,
     found: &mut Vec<u32>,
     steps: &mut Steps<L>,
 ) -> Result<u64, Memory>
     requires of { IsOf (P.held pass.old) log.now }
     requires lane { lane < length log.now.shape.lanes }
     requires range { range.0 ≤ range.1 }
+    requires path { IsPath log.now.shape lane path.old (P.held pass.old).view }
+    ensures path { IfOk result (λ _. IsPath log.now.shape lane path.new (P.held pass.new).view) }
     ensures found { IfOk result (WentOver log.now.shape lane range.0 range.1 (P.held pass.old).view.seen found.old.items found.new.items) }
     ensures walked { OnlyWalked (P.held pass.old) (P.held pass.new) }
     ensures steps { IfOk result (λ _. steps.new ≤ steps.old + (levels_of log.now.shape lane - 1) + log.now.shape.writers + (length found.new.items - length found.old.items) + (log.now.shape.capacity - length (P.held pass.old).view.seen)) }
 {
     let (key, high) = range;
-    match reach(log, pass, lane, key, steps) {
+    match reach(log, pass, lane, key, path, steps) {
         Descent::Leaf(node) => {
             collect_leaf(log, pass, Leaf { lane, key, node }, found, steps)?;
             Ok(key)
@@ -57,9 +61,11 @@ pub(crate) fn collect_range<P: Pass, L: Ledger>(
     ensures steps { range.0 ≡ range.1 → OnOk result (steps.new ≤ steps.old + (levels_of log.now.shape lane - 1) + log.now.shape.writers + (length found.new.items - length found.old.items) + (log.now.shape.capacity - length (P.held pass.old).view.seen)) }
 {
     let (low, high) = range;
-    let mut last = collect_key(log, pass, lane, (low, high), found, steps)?;
+    let _lawful = log.layout();
+    let mut path = no_path();
+    let mut last = collect_key(log, pass, lane, (low, high), &mut path, found, steps)?;
     while last < high {
-        last = collect_key(log, pass, lane, (last + 1, high), found, steps)?;
+        last = collect_key(log, pass, lane, (last + 1, high), &mut path, found, steps)?;
     }
     Ok(())
 }

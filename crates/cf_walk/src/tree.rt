@@ -7,7 +7,7 @@ ghost use Rattle.cf_law.specs.Steps.Act.{load_child};
 ghost use Rattle.cf_table.specs.Held.{IsOf};
 ghost use Rattle.cf_table.specs.Ways.{May, Made, child_way};
 ghost use Rattle.cf_walk.specs.Walks.{IsTurn, HasTurned, OnlyWalked, turn_slot};
-ghost use Rattle.cf_walk.specs.Reached.{Reached};
+ghost use Rattle.cf_walk.specs.Reached.{Reached, IsPath};
 
 use cf_shape::{Shape, levels, place_child, place_root};
 use cf_table::{MultiLog, Pass, Steps};
@@ -22,12 +22,50 @@ struct Turn {
     node: u32,
 }
 
-/// How far the path of a key goes: to the node above its leaf, or to a node that is missing. Then the span is the number of
-/// keys that would go through it.
+// How far the path of a key goes: to the node above its leaf, or to a node that is missing. Then the span is the number of
+// keys that would go through it.
 #[derive(Clone, Copy, Drop)]
-pub enum Descent {
+pub(crate) enum Descent {
     Leaf(u32),
     Gap(u64),
+}
+
+// The way that was gone down last: its key, how many of its nodes were found, and these, each at its level.
+#[derive(Clone, Copy, Drop)]
+pub(crate) struct Path {
+    key: u64,
+    depth: u8,
+    nodes: [u32; 16],
+}
+
+// No node was found yet.
+pub(crate) fn no_path() -> Path
+    ensures depth { result.depth ≡ 0 }
+    ensures long { length result.nodes ≡ 16 }
+{
+    Path {
+        key: 0,
+        depth: 0,
+        nodes: [0; 16],
+    }
+}
+
+// How many of the first nodes, at most `depth`, are on the paths of both keys.
+fn common_depth(levels: u8, depth: u8, before: u64, key: u64) -> u8
+    requires levels { levels ≤ 16 }
+    requires depth { depth < levels }
+    ensures most { result ≤ depth }
+    ensures common { 0 < result → before / 16 ^ (levels - result) ≡ key / 16 ^ (levels - result) }
+{
+    let mut depth = depth;
+    while depth > 0 {
+        let span = span_of(levels - depth);
+        if before / span == key / span {
+            return depth;
+        }
+        depth -= 1;
+    }
+    0
 }
 
 // The place of the child word that names the node.
@@ -87,23 +125,29 @@ pub(crate) fn span_of(rest: u8) -> u64
     16u64.pow(u32::from(rest))
 }
 
-/// Goes down the lane's tree towards the leaf of the key.
+// Goes down the lane's tree towards the leaf of the key, from the last node of the path that is on the key's path too.
 pub(crate) fn reach<P: Pass, L: Ledger>(
     log: &MultiLog,
     pass: &mut P,
     lane: u8,
     key: u64,
+    path: &mut Path,
     steps: &mut Steps<L>,
 ) -> Descent
     requires of { IsOf (P.held pass.old) log.now }
     requires lane { lane < length log.now.shape.lanes }
+    requires path { IsPath log.now.shape lane path.old (P.held pass.old).view }
     ensures reached { Reached log.now.shape lane key (P.held pass.new).view (P.held pass.old).view.seen result }
+    ensures path { IsPath log.now.shape lane path.new (P.held pass.new).view }
     ensures walked { OnlyWalked (P.held pass.old) (P.held pass.new) }
     ensures steps { steps.new ≤ steps.old + (levels_of log.now.shape lane - 1) }
 {
     let levels = levels(log.layout(), lane);
-    let mut node = 0u32;
-    for level in 1..levels {
+    let depth = common_depth(levels, path.depth, path.key, key);
+    path.key = key;
+    path.depth = depth;
+    let mut node = path.nodes[depth as usize];
+    for level in depth + 1..levels {
         let span = span_of(levels - level);
         let turn = Turn {
             lane,
@@ -116,6 +160,8 @@ pub(crate) fn reach<P: Pass, L: Ledger>(
             return Descent::Gap(span);
         }
         node = (child - 1) as u32;
+        path.nodes[level as usize] = node;
+        path.depth = level;
     }
     Descent::Leaf(node)
 }

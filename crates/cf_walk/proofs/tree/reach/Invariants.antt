@@ -1,10 +1,14 @@
-use Rattle.std.proofs.Common.{◌+◌, ◌-◌, ◌*◌, ◌<◌, ◌≤◌}
+use Rattle.std.proofs.Common.{◌≡◌, ◌+◌, ◌-◌, ◌*◌, ◌<◌, ◌≤◌}
 use Rattle.cf_law.specs.Steps.{Knows}
 use Rattle.cf_walk.specs.Walks.{OnlyWalked, spot_above}
+use Rattle.cf_walk.specs.Reached.{IsPath}
 use Rattle.cf_walk.proofs.tree.reach.Given as goal
 
 abbrev pub invariant-loop-level : goal.invariant-loop-level
 invariant-loop-level g l = record {
+  path : IsPath (l.log).shape l.lane l.path (g.P.Pass.held l.pass).view;
+  key : (l.path).key ≡ l.key;
+  depth : (l.path).depth + 1 ≡ l.level;
   walked : OnlyWalked (g.P.Pass.held l.fn.pass) (g.P.Pass.held l.pass);
   within : 1 < l.level → l.node < (l.log).shape.writers * (l.log).shape.nodes;
   knows : 1 < l.level → Knows (g.P.Pass.held l.pass).view (spot_above (l.log).shape l.lane l.key (l.level - 1)) l.node;

@@ -1,0 +1,122 @@
+// The groups of a lane's entries by their keys.
+ghost use Rattle.std.specs.Prelude.{◌≡◌, ◌^◌, ◌<◌, ◌≤◌, length, true, IfOk};
+ghost use Rattle.cf_shape.specs.Nodes.{levels_of};
+ghost use Rattle.cf_shape.specs.Uses.{is_measured};
+ghost use Rattle.cf_plain.specs.Asks.{rows_in, marks_in, marks_over};
+ghost use Rattle.cf_plain.specs.Groups.{groups as groups_by};
+ghost use Rattle.cf_table.specs.Held.{IsOf};
+ghost use Rattle.cf_table.specs.Moves.{AreFit};
+ghost use Rattle.cf_walk.specs.Walks.{OnlyWalked};
+ghost use Rattle.cf_walk.specs.Measures.{HasGrouped};
+ghost use Rattle.cf_walk.specs.Reached.{IsPath};
+
+use crate::finds::greatest_key;
+use crate::measures::measure_key;
+use crate::tree::{Path, no_path};
+use cf_fold::{Quad, Trigger, fires};
+use cf_plain::{Fired, Marks};
+use cf_row::Memory;
+use cf_table::{MultiLog, Pass, Steps};
+use std::alloc::Global;
+use std::sync::ledger::Ledger;
+
+// The group of the key, where an entry that was seen has it. Answers the last key that it went over.
+fn add_group<P: Pass, L: Ledger>(
+    log: &MultiLog,
+    pass: &mut P,
+    lane: u8,
+    range: (u64, u64),
+    path: &mut Path,
+    groups: &mut Vec<(u64, Quad)>,
+    steps: &mut Steps<L>,
+) -> Result<u64, Memory>
+    requires of { IsOf (P.held pass.old) log.now }
+    requires lane { lane < length log.now.shape.lanes }
+    requires range { range.0 ≤ range.1 }
+    requires top { range.1 < 16 ^ levels_of log.now.shape lane }
+    requires measured { is_measured log.now.shape lane ≡ true }
+    requires fit { AreFit log.now.shape (P.held pass.old).view }
+    requires few { length (P.held pass.old).view.seen ≤ log.now.shape.capacity }
+    requires path { IsPath log.now.shape lane path.old (P.held pass.old).view }
+    ensures path { IfOk result (λ _. IsPath log.now.shape lane path.new (P.held pass.new).view) }
+    ensures found { IfOk result (HasGrouped log.now.shape lane range.0 range.1 (rows_in (P.held pass.old).view.seen) groups.old.items groups.new.items) }
+    ensures walked { OnlyWalked (P.held pass.old) (P.held pass.new) }
+{
+    let _lawful = log.layout();
+    let (last, quad) = measure_key(log, pass, lane, range, path, steps);
+    if quad.count() > 0 {
+        groups.push((range.0, quad))?;
+    }
+    Ok(last)
+}
+
+/// For each key that an entry that was seen has, ascending, the key and the quad of what the lane measures of its entries.
+/// They are found by the lane's tree and chains.
+pub fn groups<P: Pass, L: Ledger>(
+    log: &MultiLog,
+    alloc: Global,
+    pass: &mut P,
+    lane: u8,
+    steps: &mut Steps<L>,
+) -> Result<Vec<(u64, Quad)>, Memory>
+    requires of { IsOf (P.held pass.old) log.now }
+    requires lane { lane < length log.now.shape.lanes }
+    requires measured { is_measured log.now.shape lane ≡ true }
+    requires fit { AreFit log.now.shape (P.held pass.old).view }
+    requires few { length (P.held pass.old).view.seen ≤ log.now.shape.capacity }
+    ensures found { IfOk result (λ found. found.items ≡ groups_by log.now.shape lane (rows_in (P.held pass.old).view.seen)) }
+    ensures walked { OnlyWalked (P.held pass.old) (P.held pass.new) }
+{
+    let high = greatest_key(log.layout(), lane);
+    let mut groups = Vec::new(alloc);
+    let mut path = no_path();
+    let mut last = add_group(log, pass, lane, (0, high), &mut path, &mut groups, steps)?;
+    while last < high {
+        last = add_group(
+            log,
+            pass,
+            lane,
+            (last + 1, high),
+            &mut path,
+            &mut groups,
+            steps,
+        )?;
+    }
+    Ok(groups)
+}
+
+// The groups in which the trigger fires.
+fn marked(alloc: Global, trigger: &Trigger, groups: &[(u64, Quad)]) -> Result<Marks, Memory>
+    ensures { IfOk result (λ found. found ≡ marks_in trigger.now groups.now) }
+{
+    let mut items = Vec::new(alloc);
+    for (key, quad) in groups {
+        if fires(trigger, quad) {
+            items.push(Fired {
+                bucket: *key,
+                value: trigger.part.of(*quad),
+            })?;
+        }
+    }
+    Ok(Marks::new(items))
+}
+
+/// The marks of the trigger on the entries that were seen. The quads of its lane's leaves are read.
+pub fn fired<P: Pass, L: Ledger>(
+    log: &MultiLog,
+    alloc: Global,
+    pass: &mut P,
+    trigger: &Trigger,
+    steps: &mut Steps<L>,
+) -> Result<Marks, Memory>
+    requires of { IsOf (P.held pass.old) log.now }
+    requires lane { trigger.now.agg < length log.now.shape.lanes }
+    requires measured { is_measured log.now.shape trigger.now.agg ≡ true }
+    requires fit { AreFit log.now.shape (P.held pass.old).view }
+    requires few { length (P.held pass.old).view.seen ≤ log.now.shape.capacity }
+    ensures found { IfOk result (λ found. found ≡ marks_over log.now.shape trigger.now (rows_in (P.held pass.old).view.seen)) }
+    ensures walked { OnlyWalked (P.held pass.old) (P.held pass.new) }
+{
+    let groups = groups(log, alloc, pass, trigger.agg, steps)?;
+    marked(alloc, trigger, &groups)
+}
