@@ -1,47 +1,78 @@
 -- The row of a packet fits the packet schema.
-use Rattle.std.proofs.Common.{◌≡◌, ℕ, ◌+◌, ◌-◌, ◌*◌, ◌^◌, ◌<◌, ◌≤◌, Bool, true, false, ◌&&◌, ◌||◌, ◌==◌, nat_lt, nat_le, List, [], ◌∷◌, ◌++◌, length, drop, take, replicate, get_or, slice_index, slice_range, if◌then◌else◌, refl, sym, ◌∙◌, arith, rules, length-append, length-drop}
-use Rattle.std.specs.List.{list_all}
-use Rattle.std.proofs.lemmas.Bool.{and_from, lt-ltb, leb-true}
+use Rattle.std.proofs.Common.{◌≡◌, ℕ, ◌+◌, ◌-◌, ◌^◌, ◌<◌, ◌≤◌, Bool, true, false, ◌==◌, ◌%◌, nat_lt, nat_le, List, [], ◌∷◌, ◌++◌, length, drop, take, replicate, get_or, if◌then◌else◌, refl, sym, ◌∙◌, arith, length-append, length-drop}
+use Rattle.std.proofs.lemmas.Bool.{and_from, and_parts, lt-ltb, leb-true}
 use Rattle.std.proofs.lemmas.List.{get_or-drop, length-take-le}
 use Rattle.std.proofs.Math.Seq.{drop-append_seam}
-use Rattle.byteorder.specs.Endian.{big_number, big_from}
+use Rattle.byteorder.specs.Endian.{big_number}
 use Rattle.byteorder.specs.Numbers.{big_from-lt}
-use Rattle.cf_row.specs.declared.schema.Kind.TheVariants.{U8, U16, U32, U64, Bytes}
-use Rattle.cf_row.specs.declared.row.Value.TheVariants.{Num, Raw}
-use Rattle.cf_row.specs.Row.{Fits, is_of_kind, is_byte_string}
+use Rattle.cf_row.specs.declared.schema.Kind.TheVariants.{U8, U16, U32, Bytes}
+use Rattle.cf_row.specs.declared.row.Value.TheVariants.{Num}
+use Rattle.cf_row.specs.Row.{Fits, values_fit, is_of_kind, is_byte_string}
 use Rattle.cf_row.specs.Schema.{packet_attrs}
 use Rattle.cf_row.proofs.Bytes.{AreBytes, bytes_of, bytes_take, bytes_drop, bytes_append, zeros_low}
 use Rattle.cf_row.proofs.Fitting.{byte_string}
 use Rattle.cf_pcap.specs.Capture.{Captured}
-use Rattle.cf_headers.specs.Packet.{packet_row_of, has_link, has_ipv4, has_tcp, has_udp, kind_of, transport_at, byte_if, number_if, address_if}
+use Rattle.cf_headers.specs.declared.transport.Transport.{Transport}
+use Rattle.cf_headers.specs.declared.transport.Transport.TheVariants.{Unread, Tcp, Udp}
+use Rattle.cf_headers.specs.Packet.{packet_row_of, type_at, is_tagged, has_type, has_addresses, network_at, etype_of, vlan_of, is_ipv4, transport_of, kind_of, transport_values, byte_at, number_at, byte_if, number_if, address_if}
 
 -- each is a byte
 abbrev pub HoldsBytes : List ℕ → Type 0
 HoldsBytes bytes = (i : ℕ) → get_or bytes i 0 < 256
 
-byte_fits : (read : Bool) (frame : List ℕ) (place : ℕ) → HoldsBytes frame → is_of_kind U8 (byte_if read frame place) ≡ true
-unfolding byte_if
-byte_fits true frame place low = lt-ltb (get_or frame place 0) (2 ^ 8) (low place)
-byte_fits false frame place low = refl
+byte_at_fits : (frame : List ℕ) (place : ℕ) → HoldsBytes frame → is_of_kind U8 (byte_at frame place) ≡ true
+unfolding byte_at
+byte_at_fits frame place low = lt-ltb (get_or frame place 0) (2 ^ 8) (low place)
 
 number_low : (count : ℕ) (frame : List ℕ) (place : ℕ) → HoldsBytes frame → big_number count (drop place frame) < 256 ^ count
 number_low count frame place low = big_from-lt 0 count (drop place frame) (λ i. rw (get_or-drop place frame i 0) (low (place + i)))
 
+short_at_fits : (frame : List ℕ) (place : ℕ) → HoldsBytes frame → is_of_kind U16 (number_at 2 frame place) ≡ true
+unfolding number_at
+short_at_fits frame place low = lt-ltb (big_number 2 (drop place frame)) (2 ^ 16) (number_low 2 frame place low)
+
+word_at_fits : (frame : List ℕ) (place : ℕ) → HoldsBytes frame → is_of_kind U32 (number_at 4 frame place) ≡ true
+unfolding number_at
+word_at_fits frame place low = lt-ltb (big_number 4 (drop place frame)) (2 ^ 32) (number_low 4 frame place low)
+
+byte_fits : (read : Bool) (frame : List ℕ) (place : ℕ) → HoldsBytes frame → is_of_kind U8 (byte_if read frame place) ≡ true
+unfolding byte_if
+byte_fits true frame place low = byte_at_fits frame place low
+byte_fits false frame place low = refl
+
 short_fits : (read : Bool) (frame : List ℕ) (place : ℕ) → HoldsBytes frame → is_of_kind U16 (number_if read 2 frame place) ≡ true
 unfolding number_if
-short_fits true frame place low = lt-ltb (big_number 2 (drop place frame)) (2 ^ 16) (number_low 2 frame place low)
+short_fits true frame place low = short_at_fits frame place low
 short_fits false frame place low = refl
 
 word_fits : (read : Bool) (frame : List ℕ) (place : ℕ) → HoldsBytes frame → is_of_kind U32 (number_if read 4 frame place) ≡ true
 unfolding number_if
-word_fits true frame place low = lt-ltb (big_number 4 (drop place frame)) (2 ^ 32) (number_low 4 frame place low)
+word_fits true frame place low = word_at_fits frame place low
 word_fits false frame place low = refl
 
-kind_fits : (tcp udp ipv4 : Bool) → nat_lt (if tcp then 2 else if udp then 3 else if ipv4 then 1 else 0) (2 ^ 8) ≡ true
-kind_fits true udp ipv4 = refl
-kind_fits false true ipv4 = refl
-kind_fits false false true = refl
-kind_fits false false false = refl
+kind_fits : (ipv4 : Bool) (transport : Transport) → nat_lt (kind_of ipv4 transport) (2 ^ 8) ≡ true
+kind_fits true Unread = refl
+kind_fits false Unread = refl
+kind_fits ipv4 (Tcp place) = refl
+kind_fits ipv4 (Udp place) = refl
+
+-- the type, by whether there is a tag and whether there is a type
+type_low : (tagged read : Bool) (frame : List ℕ) (place after : ℕ) → HoldsBytes frame → (if tagged then big_number 2 (drop after frame) else if read then big_number 2 (drop place frame) else 0) < 2 ^ 16
+type_low true read frame place after low = number_low 2 frame after low
+type_low false true frame place after low = number_low 2 frame place low
+type_low false false frame place after low = omega arith
+
+etype_fits : (link : ℕ) (frame : List ℕ) → HoldsBytes frame → nat_lt (etype_of link frame) (2 ^ 16) ≡ true
+unfolding etype_of
+etype_fits link frame low = lt-ltb (etype_of link frame) (2 ^ 16) (type_low (is_tagged link frame) (has_type link frame) frame (type_at link) (type_at link + 4) low)
+
+tag_low : (tagged : Bool) (number : ℕ) → (if tagged then number % 2 ^ 12 else 0) < 2 ^ 16
+tag_low true number = omega arith
+tag_low false number = omega arith
+
+vlan_fits : (link : ℕ) (frame : List ℕ) → nat_lt (vlan_of link frame) (2 ^ 16) ≡ true
+unfolding vlan_of
+vlan_fits link frame = lt-ltb (vlan_of link frame) (2 ^ 16) (tag_low (is_tagged link frame) (big_number 2 (drop (type_at link + 2) frame)))
 
 -- six bytes and ten zeros
 six_fit : (xs : List ℕ) → length xs ≡ 6 → AreBytes xs → is_byte_string 6 (xs ++ replicate 10 0) ≡ true
@@ -59,32 +90,45 @@ address_fits true frame place low room =
     rw count (six_fit (take 6 (drop place frame)) (length-take-le 6 (drop place frame) held) (bytes_take 6 (drop place frame) (bytes_drop place frame (bytes_of frame (λ i lt. low i)))))
 address_fits false frame place low room = refl
 
+-- the fields of a transport header, and vlan
+transport_fits : (transport : Transport) (frame : List ℕ) (vlan : ℕ) → HoldsBytes frame → nat_lt vlan (2 ^ 16) ≡ true → values_fit (drop 13 packet_attrs) (transport_values transport frame ++ Num vlan ∷ []) ≡ true
+transport_fits Unread frame vlan low tag = and_from _ _ tag refl
+transport_fits (Tcp place) frame vlan low tag =
+    and_from _ _ (short_at_fits frame place low)
+    (and_from _ _ (short_at_fits frame (place + 2) low)
+    (and_from _ _ (word_at_fits frame (place + 4) low)
+    (and_from _ _ (word_at_fits frame (place + 8) low)
+    (and_from _ _ (byte_at_fits frame (place + 13) low)
+    (and_from _ _ (short_at_fits frame (place + 14) low)
+    (and_from _ _ tag refl))))))
+transport_fits (Udp place) frame vlan low tag =
+    and_from _ _ (short_at_fits frame place low)
+    (and_from _ _ (short_at_fits frame (place + 2) low)
+    (and_from _ _ tag refl))
+
+-- where addresses are read, their bytes are there
+addresses_room : (link n : ℕ) (frame : List ℕ) → n ≤ 14 → has_addresses link frame ≡ true → n ≤ length frame
+addresses_room link n frame few read = let h : 14 ≤ length frame = leb-true 14 (length frame) (and_parts (link == 1) (nat_le 14 (length frame)) read).1 in omega (arith, h, few)
+
 -- every field of a row of a packet is of its kind
 pub packet_fits : (packet : Captured) → packet.ts < 2 ^ 64 → packet.caplen < 2 ^ 32 → packet.len < 2 ^ 32 → HoldsBytes packet.bytes → Fits packet_attrs (packet_row_of packet)
 packet_fits packet ts caplen len low =
     let frame = packet.bytes in
-    let link = has_link frame in
-    let ipv4 = has_ipv4 frame in
-    let ports = has_tcp frame || has_udp frame in
-    let tcp = has_tcp frame in
-    let start = transport_at frame in
-    let room : (n : ℕ) → n ≤ 14 → link ≡ true → n ≤ length frame = λ n few yes. (let h : 14 ≤ length frame = leb-true 14 (length frame) yes in omega (arith, h, few)) in
+    let link = packet.link in
+    let addresses = has_addresses link frame in
+    let ipv4 = is_ipv4 link frame in
+    let place = network_at link frame in
     and_from _ _ (lt-ltb packet.ts (2 ^ 64) ts)
     (and_from _ _ (lt-ltb packet.caplen (2 ^ 32) caplen)
     (and_from _ _ (lt-ltb packet.len (2 ^ 32) len)
-    (and_from _ _ (address_fits link frame 0 low (room 6 (omega arith)))
-    (and_from _ _ (address_fits link frame 6 low (room 12 (omega arith)))
-    (and_from _ _ (short_fits link frame 12 low)
-    (and_from _ _ (kind_fits tcp (has_udp frame) ipv4)
-    (and_from _ _ (byte_fits ipv4 frame 15 low)
-    (and_from _ _ (short_fits ipv4 frame 16 low)
-    (and_from _ _ (byte_fits ipv4 frame 22 low)
-    (and_from _ _ (byte_fits ipv4 frame 23 low)
-    (and_from _ _ (word_fits ipv4 frame 26 low)
-    (and_from _ _ (word_fits ipv4 frame 30 low)
-    (and_from _ _ (short_fits ports frame start low)
-    (and_from _ _ (short_fits ports frame (start + 2) low)
-    (and_from _ _ (word_fits tcp frame (start + 4) low)
-    (and_from _ _ (word_fits tcp frame (start + 8) low)
-    (and_from _ _ (byte_fits tcp frame (start + 13) low)
-    (and_from _ _ (short_fits tcp frame (start + 14) low) refl))))))))))))))))))
+    (and_from _ _ (address_fits addresses frame 0 low (addresses_room link 6 frame (omega arith)))
+    (and_from _ _ (address_fits addresses frame 6 low (addresses_room link 12 frame (omega arith)))
+    (and_from _ _ (etype_fits link frame low)
+    (and_from _ _ (kind_fits ipv4 (transport_of link frame))
+    (and_from _ _ (byte_fits ipv4 frame (place + 1) low)
+    (and_from _ _ (short_fits ipv4 frame (place + 2) low)
+    (and_from _ _ (byte_fits ipv4 frame (place + 8) low)
+    (and_from _ _ (byte_fits ipv4 frame (place + 9) low)
+    (and_from _ _ (word_fits ipv4 frame (place + 12) low)
+    (and_from _ _ (word_fits ipv4 frame (place + 16) low)
+    (transport_fits (transport_of link frame) frame (vlan_of link frame) low (vlan_fits link frame))))))))))))))

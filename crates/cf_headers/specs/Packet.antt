@@ -1,97 +1,151 @@
--- The row of a captured packet, by the fields of its headers: Ethernet II, IPv4 (RFC 791), TCP (RFC 9293) and UDP (RFC 768).
-use Rattle.std.specs.Prelude.{ℕ, ◌+◌, ◌*◌, ◌/◌, ◌%◌, ◌^◌, Bool, ◌&&◌, ◌||◌, ◌==◌, nat_le, min, List, [], ◌∷◌, ◌++◌, length, drop, replicate, slice_index, slice_range, if◌then◌else◌}
+-- The row of a captured packet, by the fields of its headers: Ethernet II or Linux SLL (LINKTYPE_LINUX_SLL), IEEE 802.1Q, IPv4
+-- (RFC 791), TCP (RFC 9293) and UDP (RFC 768).
+use Rattle.std.specs.Prelude.{ℕ, ◌+◌, ◌*◌, ◌/◌, ◌%◌, ◌^◌, ◌≤◌, Bool, ◌&&◌, ◌==◌, nat_le, min, List, [], ◌∷◌, ◌++◌, length, drop, replicate, slice_index, slice_range, if◌then◌else◌}
 use Rattle.byteorder.specs.Endian.{big_number}
 use Rattle.cf_row.specs.declared.row.Value.{Value}
 use Rattle.cf_row.specs.declared.row.Value.TheVariants.{Num, Raw}
 use Rattle.cf_row.specs.Row.{Numbered}
 use Rattle.cf_pcap.specs.Capture.{Captured}
+use Rattle.cf_headers.specs.declared.transport.Transport.{Transport}
+use Rattle.cf_headers.specs.declared.transport.Transport.TheVariants.{Unread, Tcp, Udp}
 
--- Of the bytes of a frame. Numbers have their highest byte first (RFC 791, appendix B).
+-- Of the link and the bytes of a frame. Numbers have their highest byte first (RFC 791, appendix B).
 
--- the frame holds an Ethernet II header: two addresses of 6 bytes, and the type in 2
-abbrev pub has_link : List ℕ → Bool
-has_link frame = nat_le 14 (length frame)
+-- where the type stands: after two addresses of 6 bytes, or after 14 bytes of a cooked frame (link 113)
+abbrev pub type_at : ℕ → ℕ
+type_at link = if link == 113 then 14 else 12
 
--- the length of the IPv4 header in words of 4 bytes: the low half of its first byte
-abbrev pub header_words : List ℕ → ℕ
-header_words frame = slice_index frame 14 % 16
+-- the type is there
+abbrev pub has_type : ℕ → List ℕ → Bool
+has_type link frame = nat_le (type_at link + 2) (length frame)
 
--- where what the IPv4 header carries begins
-abbrev pub transport_at : List ℕ → ℕ
-transport_at frame = 14 + 4 * header_words frame
+-- an Ethernet II header (link 1) is there, with two addresses
+abbrev pub has_addresses : ℕ → List ℕ → Bool
+has_addresses link frame = (link == 1) && nat_le 14 (length frame)
 
--- a whole IPv4 header stands after the Ethernet header: type 0800, version 4, 5 words or more
-unfoldable pub has_ipv4 : List ℕ → Bool
-has_ipv4 frame =
-    nat_le 34 (length frame) && (big_number 2 (drop 12 frame) == 0x0800) && (slice_index frame 14 / 16 == 4)
-    && nat_le 5 (header_words frame) && nat_le (transport_at frame) (length frame)
+-- the frame has a whole tag of 802.1Q: type 8100, 2 bytes whose low 12 bits are the number of the VLAN, and the type
+-- of what comes after
+unfoldable pub is_tagged : ℕ → List ℕ → Bool
+is_tagged link frame = nat_le (type_at link + 6) (length frame) && (big_number 2 (drop (type_at link) frame) == 0x8100)
 
--- where the IPv4 packet ends: by its total length, if that isn't 0, and within the frame
-unfoldable pub packet_end : List ℕ → ℕ
-packet_end frame =
-    if big_number 2 (drop 16 frame) == 0 then length frame else min (length frame) (14 + big_number 2 (drop 16 frame))
+-- where what comes after the link header and one tag begins
+unfoldable pub network_at : ℕ → List ℕ → ℕ
+network_at link frame = if is_tagged link frame then type_at link + 6 else type_at link + 2
+
+-- its type
+unfoldable pub etype_of : ℕ → List ℕ → ℕ
+etype_of link frame =
+    if is_tagged link frame then big_number 2 (drop (type_at link + 4) frame)
+    else if has_type link frame then big_number 2 (drop (type_at link) frame) else 0
+
+-- the number of the VLAN
+unfoldable pub vlan_of : ℕ → List ℕ → ℕ
+vlan_of link frame = if is_tagged link frame then big_number 2 (drop (type_at link + 2) frame) % 2 ^ 12 else 0
+
+-- Of the IPv4 header, which would stand at a place.
+
+-- its length in words of 4 bytes: the low half of its first byte
+abbrev pub header_words : ℕ → List ℕ → ℕ
+header_words place frame = slice_index frame place % 16
+
+-- where what it carries begins
+abbrev pub transport_at : ℕ → List ℕ → ℕ
+transport_at place frame = place + 4 * header_words place frame
+
+-- it stands there whole: type 0800, version 4, 5 words or more
+unfoldable pub has_ipv4 : ℕ → ℕ → List ℕ → Bool
+has_ipv4 etype place frame =
+    nat_le (place + 20) (length frame) && (etype == 0x0800) && (slice_index frame place / 16 == 4)
+    && nat_le 5 (header_words place frame) && nat_le (transport_at place frame) (length frame)
+
+-- where its packet ends: by its total length, if that isn't 0, and within the frame
+unfoldable pub packet_end : ℕ → List ℕ → ℕ
+packet_end place frame =
+    if big_number 2 (drop (place + 2) frame) == 0 then length frame else min (length frame) (place + big_number 2 (drop (place + 2) frame))
 
 -- the packet carries that protocol (1 byte of the IPv4 header), from the beginning of it (the fragment offset, 13 bits,
 -- is 0), and holds a header of that many bytes
-unfoldable pub carries : ℕ → ℕ → List ℕ → Bool
-carries protocol bytes frame =
-    has_ipv4 frame && (big_number 2 (drop 20 frame) % 2 ^ 13 == 0) && (slice_index frame 23 == protocol)
-    && nat_le (transport_at frame + bytes) (packet_end frame)
+unfoldable pub carries : ℕ → ℕ → ℕ → List ℕ → Bool
+carries protocol bytes place frame =
+    (big_number 2 (drop (place + 6) frame) % 2 ^ 13 == 0) && (slice_index frame (place + 9) == protocol)
+    && nat_le (transport_at place frame + bytes) (packet_end place frame)
 
-abbrev pub has_tcp : List ℕ → Bool
-has_tcp frame = carries 6 20 frame
+-- the transport header that is read, and its place: TCP (protocol 6, 20 bytes), UDP (17, 8 bytes), or none
+unfoldable pub transport_in : Bool → ℕ → List ℕ → Transport
+transport_in ipv4 place frame =
+    if ipv4 && carries 6 20 place frame then Tcp (transport_at place frame)
+    else if ipv4 && carries 17 8 place frame then Udp (transport_at place frame) else Unread
 
-abbrev pub has_udp : List ℕ → Bool
-has_udp frame = carries 17 8 frame
+-- the header of that transport is within the frame
+abbrev pub IsWithin : Transport → List ℕ → Type 0
+IsWithin Unread frame = Unit {0}
+IsWithin (Tcp place) frame = place + 20 ≤ length frame
+IsWithin (Udp place) frame = place + 8 ≤ length frame
 
 -- 2 for TCP, 3 for UDP, 1 for other IPv4, 0 for the rest
-abbrev pub kind_of : List ℕ → ℕ
-kind_of frame = if has_tcp frame then 2 else if has_udp frame then 3 else if has_ipv4 frame then 1 else 0
+abbrev pub kind_of : Bool → Transport → ℕ
+kind_of ipv4 Unread = if ipv4 then 1 else 0
+kind_of ipv4 (Tcp place) = 2
+kind_of ipv4 (Udp place) = 3
 
--- The value of a field that stands at a place, where it is read; else 0, or zero bytes.
+-- The value of a field that stands at a place.
+unfoldable pub byte_at : List ℕ → ℕ → Value
+byte_at frame place = Num (slice_index frame place)
+
+unfoldable pub number_at : ℕ → List ℕ → ℕ → Value
+number_at bytes frame place = Num (big_number bytes (drop place frame))
+
+-- The same where it is read; else 0, or zero bytes.
 unfoldable pub byte_if : Bool → List ℕ → ℕ → Value
-byte_if read frame at = Num (if read then slice_index frame at else 0)
+byte_if read frame place = if read then byte_at frame place else Num 0
 
 unfoldable pub number_if : Bool → ℕ → List ℕ → ℕ → Value
-number_if read bytes frame at = Num (if read then big_number bytes (drop at frame) else 0)
+number_if read bytes frame place = if read then number_at bytes frame place else Num 0
 
 unfoldable pub address_if : Bool → List ℕ → ℕ → Value
-address_if read frame at = Raw 6 ((if read then slice_range frame at (at + 6) else replicate 6 0) ++ replicate 10 0)
+address_if read frame place = Raw 6 ((if read then slice_range frame place (place + 6) else replicate 6 0) ++ replicate 10 0)
 
--- dmac, smac, etype
-abbrev pub link_values : List ℕ → List Value
-link_values frame =
-    address_if (has_link frame) frame 0
-    ∷ address_if (has_link frame) frame 6
-    ∷ number_if (has_link frame) 2 frame 12
-    ∷ []
+-- dmac, smac
+abbrev pub address_values : ℕ → List ℕ → List Value
+address_values link frame = address_if (has_addresses link frame) frame 0 ∷ address_if (has_addresses link frame) frame 6 ∷ []
 
 -- tos, iplen, ttl, proto, src, dst (RFC 791, section 3.1)
-abbrev pub network_values : List ℕ → List Value
-network_values frame =
-    byte_if (has_ipv4 frame) frame 15
-    ∷ number_if (has_ipv4 frame) 2 frame 16
-    ∷ byte_if (has_ipv4 frame) frame 22
-    ∷ byte_if (has_ipv4 frame) frame 23
-    ∷ number_if (has_ipv4 frame) 4 frame 26
-    ∷ number_if (has_ipv4 frame) 4 frame 30
+abbrev pub network_values : Bool → ℕ → List ℕ → List Value
+network_values ipv4 place frame =
+    byte_if ipv4 frame (place + 1)
+    ∷ number_if ipv4 2 frame (place + 2)
+    ∷ byte_if ipv4 frame (place + 8)
+    ∷ byte_if ipv4 frame (place + 9)
+    ∷ number_if ipv4 4 frame (place + 12)
+    ∷ number_if ipv4 4 frame (place + 16)
     ∷ []
 
 -- sport, dport (RFC 9293, section 3.1, and RFC 768), and seq, ack, flags, win (RFC 9293, section 3.1)
-abbrev pub transport_values : List ℕ → List Value
-transport_values frame =
-    number_if (has_tcp frame || has_udp frame) 2 frame (transport_at frame)
-    ∷ number_if (has_tcp frame || has_udp frame) 2 frame (transport_at frame + 2)
-    ∷ number_if (has_tcp frame) 4 frame (transport_at frame + 4)
-    ∷ number_if (has_tcp frame) 4 frame (transport_at frame + 8)
-    ∷ byte_if (has_tcp frame) frame (transport_at frame + 13)
-    ∷ number_if (has_tcp frame) 2 frame (transport_at frame + 14)
+abbrev pub transport_values : Transport → List ℕ → List Value
+transport_values Unread frame = Num 0 ∷ Num 0 ∷ Num 0 ∷ Num 0 ∷ Num 0 ∷ Num 0 ∷ []
+transport_values (Tcp place) frame =
+    number_at 2 frame place
+    ∷ number_at 2 frame (place + 2)
+    ∷ number_at 4 frame (place + 4)
+    ∷ number_at 4 frame (place + 8)
+    ∷ byte_at frame (place + 13)
+    ∷ number_at 2 frame (place + 14)
     ∷ []
+transport_values (Udp place) frame = number_at 2 frame place ∷ number_at 2 frame (place + 2) ∷ Num 0 ∷ Num 0 ∷ Num 0 ∷ Num 0 ∷ []
 
--- the row of a captured packet: ts, caplen, len, and then kind between the fields of its headers
+-- the IPv4 header of a frame is read
+abbrev pub is_ipv4 : ℕ → List ℕ → Bool
+is_ipv4 link frame = has_ipv4 (etype_of link frame) (network_at link frame) frame
+
+abbrev pub transport_of : ℕ → List ℕ → Transport
+transport_of link frame = transport_in (is_ipv4 link frame) (network_at link frame) frame
+
+-- the row of a captured packet: ts, caplen, len, the addresses, etype and kind, the fields of its other headers, and vlan
 abbrev pub packet_row_of : Captured → Numbered
 packet_row_of packet = record {
   num = packet.num;
   values = (Num packet.ts ∷ Num packet.caplen ∷ Num packet.len ∷ [])
-      ++ (link_values packet.bytes ++ (Num (kind_of packet.bytes) ∷ (network_values packet.bytes ++ transport_values packet.bytes)));
+      ++ (address_values packet.link packet.bytes ++ (Num (etype_of packet.link packet.bytes) ∷ Num (kind_of (is_ipv4 packet.link packet.bytes) (transport_of packet.link packet.bytes))
+      ∷ (network_values (is_ipv4 packet.link packet.bytes) (network_at packet.link packet.bytes) packet.bytes
+      ++ (transport_values (transport_of packet.link packet.bytes) packet.bytes ++ Num (vlan_of packet.link packet.bytes) ∷ []))));
 }

@@ -1,54 +1,81 @@
-// The value of a field that stands at a place of a frame, where it is read; else 0, or zero bytes.
+// The value of a field that stands at a place of a frame; and where it is read, else 0 or zero bytes.
 ghost use Rattle.std.specs.Prelude.{◌≡◌, ◌+◌, ◌≤◌, length, IsTrue};
-ghost use Rattle.cf_headers.specs.Packet.{has_link, byte_if, number_if, address_if};
+ghost use Rattle.cf_headers.specs.Packet.{byte_at as byte_value_at, number_at, byte_if as byte_value_if, number_if, address_if as address_value_if};
 
 use byteorder::{BigEndian, ByteOrder};
 use cf_row::Value;
 
 // A number of 1 byte.
+#[tactic(auto, unfolding(crate::specs::Packet::byte_at))]
+pub(crate) fn byte_at(frame: &[u8], at: usize) -> Value
+    requires { at + 1 ≤ length frame.now }
+    ensures { result ≡ byte_value_at frame.now at }
+{
+    Value::Num(frame[at] as u64)
+}
+
+// A number of 2 bytes.
+#[tactic(auto, unfolding(crate::specs::Packet::number_at))]
+pub(crate) fn short_at(frame: &[u8], at: usize) -> Value
+    requires { at + 2 ≤ length frame.now }
+    ensures { result ≡ number_at 2 frame.now at }
+{
+    Value::Num(BigEndian::read_u16(&frame[at..]) as u64)
+}
+
+// A number of 4 bytes.
+#[tactic(auto, unfolding(crate::specs::Packet::number_at))]
+pub(crate) fn word_at(frame: &[u8], at: usize) -> Value
+    requires { at + 4 ≤ length frame.now }
+    ensures { result ≡ number_at 4 frame.now at }
+{
+    Value::Num(BigEndian::read_u32(&frame[at..]) as u64)
+}
+
+// A number of 1 byte, where it is read.
 #[tactic(auto, unfolding(crate::specs::Packet::byte_if))]
 pub(crate) fn byte_if(read: bool, frame: &[u8], at: usize) -> Value
     requires { IsTrue read → at + 1 ≤ length frame.now }
-    ensures { result ≡ byte_if read frame.now at }
+    ensures { result ≡ byte_value_if read frame.now at }
 {
     if read {
-        Value::Num(frame[at] as u64)
+        byte_at(frame, at)
     } else {
         Value::Num(0)
     }
 }
 
-// A number of 2 bytes.
+// A number of 2 bytes, where it is read.
 #[tactic(auto, unfolding(crate::specs::Packet::number_if))]
 pub(crate) fn short_if(read: bool, frame: &[u8], at: usize) -> Value
     requires { IsTrue read → at + 2 ≤ length frame.now }
     ensures { result ≡ number_if read 2 frame.now at }
 {
     if read {
-        Value::Num(BigEndian::read_u16(&frame[at..]) as u64)
+        short_at(frame, at)
     } else {
         Value::Num(0)
     }
 }
 
-// A number of 4 bytes.
+// A number of 4 bytes, where it is read.
 #[tactic(auto, unfolding(crate::specs::Packet::number_if))]
 pub(crate) fn word_if(read: bool, frame: &[u8], at: usize) -> Value
     requires { IsTrue read → at + 4 ≤ length frame.now }
     ensures { result ≡ number_if read 4 frame.now at }
 {
     if read {
-        Value::Num(BigEndian::read_u32(&frame[at..]) as u64)
+        word_at(frame, at)
     } else {
         Value::Num(0)
     }
 }
 
-// An address of 6 bytes.
+// An address of 6 bytes, where it is read.
 #[tactic(auto, unfolding(crate::specs::Packet::address_if))]
 pub(crate) fn address_if(read: bool, frame: &[u8], at: usize) -> Value
     requires { IsTrue read → at + 6 ≤ length frame.now }
-    ensures { result ≡ address_if read frame.now at }
+    ensures { result ≡ address_value_if read frame.now at }
 {
     let mut bytes = [0; 16];
     if read {

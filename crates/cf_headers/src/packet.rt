@@ -1,57 +1,66 @@
 // The row of a captured packet.
-ghost use Rattle.std.specs.Prelude.{◌≡◌, IfOk};
+ghost use Rattle.std.specs.Prelude.{◌≡◌, ◌+◌, ◌≤◌, length, IfOk, IsTrue};
 ghost use Rattle.cf_row.specs.Row.{Fits};
 ghost use Rattle.cf_row.specs.Schema.{packet_attrs};
-ghost use Rattle.cf_headers.specs.Packet.{packet_row_of, link_values as link_values_of, network_values as network_values_of, transport_values as transport_values_of};
+ghost use Rattle.cf_headers.specs.Packet.{packet_row_of, address_values as address_values_of, network_values as network_values_of, transport_values as transport_values_of, IsWithin};
 
-use crate::fields::{address_if, byte_if, short_if, word_if};
-use crate::headers::{carries, has_ipv4, has_link, kind_of, transport_at};
+use crate::fields::{address_if, byte_at, byte_if, short_at, short_if, word_at, word_if};
+use crate::link::{has_addresses, link_header};
+use crate::network::has_ipv4;
+use crate::transport::{Transport, kind_of, transport_of};
 use cf_pcap::Frame;
 use cf_row::{Memory, Row, Value};
 use std::alloc::Global;
 
-// dmac, smac and etype.
-fn link_values(frame: &[u8]) -> [Value; 3]
-    ensures { result ≡ link_values_of frame.now }
+// dmac and smac.
+fn address_values(link: u16, frame: &[u8]) -> [Value; 2]
+    ensures { result ≡ address_values_of link frame.now }
 {
-    let read = has_link(frame);
-    [
-        address_if(read, frame, 0),
-        address_if(read, frame, 6),
-        short_if(read, frame, 12),
-    ]
+    let read = has_addresses(link, frame);
+    [address_if(read, frame, 0), address_if(read, frame, 6)]
 }
 
 // tos, iplen, ttl, proto, src and dst.
-fn network_values(frame: &[u8]) -> [Value; 6]
-    ensures { result ≡ network_values_of frame.now }
+fn network_values(ipv4: bool, at: usize, frame: &[u8]) -> [Value; 6]
+    requires near { at ≤ 20 }
+    requires room { IsTrue ipv4 → at + 20 ≤ length frame.now }
+    ensures { result ≡ network_values_of ipv4 at frame.now }
 {
-    let read = has_ipv4(frame);
     [
-        byte_if(read, frame, 15),
-        short_if(read, frame, 16),
-        byte_if(read, frame, 22),
-        byte_if(read, frame, 23),
-        word_if(read, frame, 26),
-        word_if(read, frame, 30),
+        byte_if(ipv4, frame, at + 1),
+        short_if(ipv4, frame, at + 2),
+        byte_if(ipv4, frame, at + 8),
+        byte_if(ipv4, frame, at + 9),
+        word_if(ipv4, frame, at + 12),
+        word_if(ipv4, frame, at + 16),
     ]
 }
 
 // sport, dport, seq, ack, flags and win.
-fn transport_values(frame: &[u8]) -> [Value; 6]
-    ensures { result ≡ transport_values_of frame.now }
+fn transport_values(transport: Transport, frame: &[u8]) -> [Value; 6]
+    requires { IsWithin transport frame.now }
+    ensures { result ≡ transport_values_of transport frame.now }
 {
-    let tcp = carries(6, 20, frame);
-    let ports = tcp || carries(17, 8, frame);
-    let at = transport_at(frame);
-    [
-        short_if(ports, frame, at),
-        short_if(ports, frame, at + 2),
-        word_if(tcp, frame, at + 4),
-        word_if(tcp, frame, at + 8),
-        byte_if(tcp, frame, at + 13),
-        short_if(tcp, frame, at + 14),
-    ]
+    let none = Value::Num(0);
+    match transport {
+        Transport::Unread => [none, none, none, none, none, none],
+        Transport::Tcp(at) => [
+            short_at(frame, at),
+            short_at(frame, at + 2),
+            word_at(frame, at + 4),
+            word_at(frame, at + 8),
+            byte_at(frame, at + 13),
+            short_at(frame, at + 14),
+        ],
+        Transport::Udp(at) => [
+            short_at(frame, at),
+            short_at(frame, at + 2),
+            none,
+            none,
+            none,
+            none,
+        ],
+    }
 }
 
 fn row_of(
@@ -60,26 +69,34 @@ fn row_of(
     ts: u64,
     caplen: u32,
     len: u32,
+    link: u16,
     bytes: &[u8],
 ) -> Result<Row, Memory>
-    ensures row { IfOk result (λ row. row ≡ packet_row_of (record { num = num; ts = ts; caplen = caplen; len = len; bytes = bytes.now })) }
+    ensures row { IfOk result (λ row. row ≡ packet_row_of (record { num = num; ts = ts; caplen = caplen; len = len; link = link; bytes = bytes.now })) }
     ensures fits { IfOk result (Fits packet_attrs) }
 {
-    let mut values = Vec::with_capacity(alloc, 19)?;
+    let header = link_header(link, bytes);
+    let ipv4 = has_ipv4(header.etype, header.network, bytes);
+    let transport = transport_of(ipv4, header.network, bytes);
+    let mut values = Vec::with_capacity(alloc, 20)?;
     values.push(Value::Num(ts))?;
     values.push(Value::Num(caplen as u64))?;
     values.push(Value::Num(len as u64))?;
-    values.extend_from_slice(&link_values(bytes))?;
-    values.push(Value::Num(kind_of(bytes) as u64))?;
-    values.extend_from_slice(&network_values(bytes))?;
-    values.extend_from_slice(&transport_values(bytes))?;
+    values.extend_from_slice(&address_values(link, bytes))?;
+    values.push(Value::Num(header.etype as u64))?;
+    values.push(Value::Num(kind_of(ipv4, transport) as u64))?;
+    values.extend_from_slice(&network_values(ipv4, header.network, bytes))?;
+    values.extend_from_slice(&transport_values(transport, bytes))?;
+    values.push(Value::Num(header.vlan as u64))?;
     Ok(Row::new(num, values))
 }
 
 /// The row of a captured packet, of the packet schema, with the packet's number. What isn't read is 0,
-/// or zero bytes. A transport header is read only from a packet that isn't the later part of a fragmented
-/// one, and only within the total length that the IPv4 header states. A total length of 0 is taken for
-/// the captured length, since captures of a sender that leaves segmentation to its device hold it.
+/// or zero bytes. One tag of 802.1Q is read, where it is whole. A transport header is read only from a
+/// packet that isn't the later part of a fragmented one, and only within the total length that the IPv4
+/// header states. A total length of 0 is taken for the captured length, since captures of a sender that
+/// leaves segmentation to its device hold it. Of a link that is neither 1 nor 113 the type is read where
+/// it stands in an Ethernet header, and no address.
 pub fn packet_row(alloc: Global, frame: &Frame) -> Result<Row, Memory>
     ensures row { IfOk result (λ row. row ≡ packet_row_of frame.now) }
     ensures fits { IfOk result (Fits packet_attrs) }
@@ -90,6 +107,7 @@ pub fn packet_row(alloc: Global, frame: &Frame) -> Result<Row, Memory>
         frame.ts,
         frame.caplen,
         frame.len,
+        frame.link,
         &frame.bytes,
     )
 }

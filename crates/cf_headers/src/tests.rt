@@ -13,12 +13,44 @@ const SEGMENT: [u8; 54] = [
     0x04, 0x00, 0x00, 0x00, 0x00, 0x00,
 ];
 
-fn frame_of(alloc: Global, bytes: &[u8]) -> Result<Frame, Memory> {
+// The same with a tag of VLAN 5 before its type.
+fn tagged(alloc: Global) -> Result<Vec<u8>, Memory> {
+    let mut bytes = SEGMENT[..12].to_vec(alloc)?;
+    bytes.extend_from_slice(&[0x81, 0x00, 0x20, 0x05])?;
+    bytes.extend_from_slice(&SEGMENT[12..])?;
+    Ok(bytes)
+}
+
+// The same with two tags.
+fn tagged_twice(alloc: Global) -> Result<Vec<u8>, Memory> {
+    let mut bytes = SEGMENT[..12].to_vec(alloc)?;
+    bytes.extend_from_slice(&[0x81, 0x00, 0xff, 0xff, 0x81, 0x00, 0x00, 0x06])?;
+    bytes.extend_from_slice(&SEGMENT[12..])?;
+    Ok(bytes)
+}
+
+// The same in a cooked frame.
+fn cooked(alloc: Global) -> Result<Vec<u8>, Memory> {
+    let mut bytes = [0, 0, 0, 1, 0, 6, 2, 0, 0, 0, 0, 2, 0, 0].to_vec(alloc)?;
+    bytes.extend_from_slice(&SEGMENT[12..])?;
+    Ok(bytes)
+}
+
+// The same in a cooked frame with a tag of VLAN 4095.
+fn cooked_and_tagged(alloc: Global) -> Result<Vec<u8>, Memory> {
+    let mut bytes = [0, 0, 0, 1, 0, 6, 2, 0, 0, 0, 0, 2, 0, 0].to_vec(alloc)?;
+    bytes.extend_from_slice(&[0x81, 0x00, 0x0f, 0xff])?;
+    bytes.extend_from_slice(&SEGMENT[12..])?;
+    Ok(bytes)
+}
+
+fn frame_of(alloc: Global, link: u16, bytes: &[u8]) -> Result<Frame, Memory> {
     Ok(Frame {
         num: 7,
         ts: 1_000_000_000,
         caplen: 54,
         len: 60,
+        link,
         bytes: bytes.to_vec(alloc)?,
     })
 }
@@ -30,14 +62,9 @@ fn address(last: u8) -> Value {
     Value::Raw { len: 6, bytes }
 }
 
-#[test]
-fn a_segment_gives_each_field(rt: HostRuntime) -> Result<(), Fail> {
-    let alloc = rt.alloc();
-    let row = packet_row(alloc, &frame_of(alloc, &SEGMENT)?)?;
-    let schema = packet_schema(alloc)?;
-    assert!(rt; fits(&schema, &row));
-    assert_eq!(rt; row.num(), 7);
-    let wanted = [
+// The values of the segment's row, but for its addresses and its VLAN.
+fn numbers() -> [u64; 19] {
+    [
         1_000_000_000,
         54,
         60,
@@ -57,13 +84,84 @@ fn a_segment_gives_each_field(rt: HostRuntime) -> Result<(), Fail> {
         0,
         16,
         1024,
+    ]
+}
+
+#[test]
+fn a_segment_gives_each_field(rt: HostRuntime) -> Result<(), Fail> {
+    let alloc = rt.alloc();
+    let schema = packet_schema(alloc)?;
+    assert_eq!(rt; schema.attrs().len(), 20);
+    let none = Value::Raw {
+        len: 6,
+        bytes: [0; 16],
+    };
+    let cases = [
+        (1, SEGMENT.to_vec(alloc)?, [address(1), address(2)], 0),
+        (1, tagged(alloc)?, [address(1), address(2)], 5),
+        (113, cooked(alloc)?, [none, none], 0),
+        (113, cooked_and_tagged(alloc)?, [none, none], 4095),
+        (147, SEGMENT.to_vec(alloc)?, [none, none], 0),
     ];
-    for (attr, number) in wanted.iter().enumerate() {
-        assert_eq!(rt; row.number(attr as u8), *number, "attribute {attr}");
+    for (link, bytes, addresses, vlan) in cases.iter() {
+        let row = packet_row(alloc, &frame_of(alloc, *link, bytes)?)?;
+        assert!(rt; fits(&schema, &row));
+        assert_eq!(rt; row.num(), 7);
+        for (attr, number) in numbers().iter().enumerate() {
+            assert_eq!(rt;
+                row.number(attr as u8),
+                *number,
+                "attribute {attr} of link {link}"
+            );
+        }
+        assert_eq!(rt;
+            [row.get(&schema, 3), row.get(&schema, 4)],
+            *addresses,
+            "of link {link}"
+        );
+        assert_eq!(rt; row.number(19), *vlan, "of link {link}");
     }
-    assert_eq!(rt; schema.attrs().len(), 19);
-    assert_eq!(rt; row.get(&schema, 3), address(1));
-    assert_eq!(rt; row.get(&schema, 4), address(2));
+    Ok(())
+}
+
+#[test]
+fn a_tag_counts_where_it_is_whole(rt: HostRuntime) -> Result<(), Fail> {
+    let alloc = rt.alloc();
+    let mut service = tagged(alloc)?;
+    service.truncate(12);
+    service.extend_from_slice(&[0x88, 0xa8, 0x20, 0x05])?;
+    service.extend_from_slice(&SEGMENT[12..])?;
+    // The link, the bytes, how many of them there are, and etype, kind, dport and vlan.
+    let cases = [
+        (1, tagged(alloc)?, 58, [2048, 2, 80, 5]),
+        (1, tagged(alloc)?, 38, [2048, 1, 0, 5]),
+        (1, tagged(alloc)?, 37, [2048, 0, 0, 5]),
+        (1, tagged(alloc)?, 18, [2048, 0, 0, 5]),
+        (1, tagged(alloc)?, 17, [0x8100, 0, 0, 0]),
+        (1, tagged(alloc)?, 16, [0x8100, 0, 0, 0]),
+        (1, tagged(alloc)?, 14, [0x8100, 0, 0, 0]),
+        (1, tagged(alloc)?, 13, [0, 0, 0, 0]),
+        (1, tagged_twice(alloc)?, 62, [0x8100, 0, 0, 4095]),
+        (1, service, 58, [0x88a8, 0, 0, 0]),
+        (113, cooked(alloc)?, 56, [2048, 2, 80, 0]),
+        (113, cooked(alloc)?, 36, [2048, 1, 0, 0]),
+        (113, cooked(alloc)?, 35, [2048, 0, 0, 0]),
+        (113, cooked(alloc)?, 16, [2048, 0, 0, 0]),
+        (113, cooked(alloc)?, 15, [0, 0, 0, 0]),
+        (113, cooked(alloc)?, 14, [0, 0, 0, 0]),
+        (113, cooked(alloc)?, 13, [0, 0, 0, 0]),
+        (113, cooked_and_tagged(alloc)?, 60, [2048, 2, 80, 4095]),
+        (113, cooked_and_tagged(alloc)?, 20, [2048, 0, 0, 4095]),
+        (113, cooked_and_tagged(alloc)?, 19, [0x8100, 0, 0, 0]),
+        (113, tagged(alloc)?, 58, [0x2005, 0, 0, 0]),
+        (0, tagged(alloc)?, 58, [2048, 2, 80, 5]),
+    ];
+    for (link, bytes, count, wanted) in cases.iter() {
+        let bytes = bytes.get(..*count).expect(&rt, "so many bytes");
+        let row = packet_row(alloc, &frame_of(alloc, *link, bytes)?)?;
+        let found = [5, 6, 14, 19].map(|attr| row.number(attr));
+        assert_eq!(rt; found, *wanted, "{count} bytes of link {link}");
+    }
     Ok(())
 }
 
@@ -98,7 +196,7 @@ fn each_frame_has_its_kind(rt: HostRuntime) -> Result<(), Fail> {
         assert!(rt; at < 53 && count <= bytes.len());
         bytes[at] = others[0];
         bytes[at + 1] = others[1];
-        let row = packet_row(alloc, &frame_of(alloc, &bytes[..count])?)?;
+        let row = packet_row(alloc, &frame_of(alloc, 1, &bytes[..count])?)?;
         let found = [5, 6, 10, 14].map(|attr| row.number(attr));
         assert_eq!(rt; found, wanted, "{count} bytes, {others:?} at {at}");
     }

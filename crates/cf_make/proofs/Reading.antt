@@ -8,18 +8,18 @@ use Rattle.byteorder.specs.Numbers.{little_number-reads_back}
 use Rattle.cf_pcap.specs.declared.form.Order.TheVariants.{Little}
 use Rattle.cf_pcap.specs.declared.form.Precision.TheVariants.{Micro}
 use Rattle.cf_pcap.specs.declared.form.Form.{Form}
-use Rattle.cf_pcap.specs.Capture.{Captured, form_of, caplen_at, frame_at, HasRecord, AreRecordsThen, IsFileHeader, IsCapture}
+use Rattle.cf_pcap.specs.Capture.{Captured, layout_of, caplen_at, frame_at, HasRecord, AreRecordsThen, IsFileHeader, IsCapture}
 use Rattle.cf_pcap.proofs.Following.{caplen_first, record_first, frame_first}
 use Rattle.cf_pcap.proofs.Heading.{header_first}
 use Rattle.cf_make.specs.Generated.{draw_of, is_udp, captured_length, wire_length, file_header, record_header, link_header, network_header, ports, datagram_header, segment_header, transport_header, packet_of, record_of, record_at, frame_of, frame_from, generated_bytes, generated_frames}
 
--- little-endian, times in microseconds
+-- little-endian, times in microseconds, Ethernet
 abbrev the_form : Form
-the_form = record { order = Little; precision = Micro }
+the_form = record { layout = record { order = Little; precision = Micro }; link = 1 }
 
 is_header : IsFileHeader the_form file_header
-unfolding file_header form_of
-is_header = record { size = omega arith; magic = refl; version = record { major = refl; minor = refl }; link = refl }
+unfolding file_header layout_of
+is_header = record { size = omega arith; magic = refl; version = record { major = refl; minor = refl }; link = refl; lawful = refl }
 
 file_header_length : length file_header ≡ 24
 unfolding file_header
@@ -100,9 +100,9 @@ length_read : (k draw : ℕ) (rest : List ℕ) → little_number 4 (drop 12 (rec
 unfolding record_header
 length_read k draw rest = little_number-reads_back 4 (wire_length draw) rest (omega arith)
 
-same_frame : (k ts ts' caplen caplen' len len' : ℕ) (bytes bytes' : List ℕ) → ts ≡ ts' → caplen ≡ caplen' → len ≡ len' → bytes ≡ bytes'
-    → ◌≡◌ {A = Captured} (record { num = k; ts = ts; caplen = caplen; len = len; bytes = bytes }) (record { num = k; ts = ts'; caplen = caplen'; len = len'; bytes = bytes' })
-same_frame k ts ts' caplen caplen' len len' bytes bytes' p q r s = cc
+same_frame : (k ts ts' caplen caplen' len len' link : ℕ) (bytes bytes' : List ℕ) → ts ≡ ts' → caplen ≡ caplen' → len ≡ len' → bytes ≡ bytes'
+    → ◌≡◌ {A = Captured} (record { num = k; ts = ts; caplen = caplen; len = len; link = link; bytes = bytes }) (record { num = k; ts = ts'; caplen = caplen'; len = len'; link = link; bytes = bytes' })
+same_frame k ts ts' caplen caplen' len len' link bytes bytes' p q r s = cc
 
 -- what stands between the record's header and its end
 packet_read : (k draw : ℕ) → slice_range (record_of k draw) 16 (16 + captured_length draw) ≡ packet_of k draw
@@ -127,7 +127,7 @@ unfolding record_of frame_of
 frame_read k draw small =
     let packet = packet_of k draw in
     let bytes = record_header k draw ++ packet in
-    same_frame k _ _ _ _ _ _ _ _
+    same_frame k _ _ _ _ _ _ 1 _ _
     (ap (λ n. n * 10 ^ 9 + little_number 4 (drop 4 bytes) * 1000) (seconds_read k draw packet small)
     ∙ ap (λ n. (1 + k / 1000) * 10 ^ 9 + n * 1000) (fraction_read k draw packet)
     ∙ time_sum k)

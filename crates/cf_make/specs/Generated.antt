@@ -102,13 +102,14 @@ generated_bytes seed count = file_header ++ flat_map (record_at seed) (range_wit
 
 -- The frames that a reader finds there.
 
--- packet k, which comes k milliseconds after the first second
+-- packet k, which comes k milliseconds after the first second, of Ethernet
 unfoldable pub frame_of : ℕ → ℕ → Captured
 frame_of k draw = record {
   num = k;
   ts = 10 ^ 9 + k * 10 ^ 6;
   caplen = captured_length draw;
   len = wire_length draw;
+  link = 1;
   bytes = packet_of k draw;
 }
 

@@ -19,26 +19,26 @@ number_later order n k xs ys h =
     ap (λ bytes. number_in order n bytes) (drop-append-le k xs ys (omega (arith, h))) ∙ number_first order n (drop k xs) ys (rw (length-drop k xs) (omega (arith, h)))
 
 pub caplen_first : (form : Form) (xs ys : List ℕ) → 16 ≤ length xs → caplen_at form (xs ++ ys) ≡ caplen_at form xs
-caplen_first form xs ys h = number_later form.order 4 8 xs ys (omega (arith, h))
+caplen_first form xs ys h = number_later form.layout.order 4 8 xs ys (omega (arith, h))
 
 range_first : (a b : ℕ) (xs ys : List ℕ) → a ≤ b → b ≤ length xs → slice_range (xs ++ ys) a b ≡ slice_range xs a b
 range_first a b xs ys ab h =
     ap (λ bytes. take (b - a) bytes) (drop-append-le a xs ys (omega (arith, ab, h))) ∙ take-append-le (b - a) (drop a xs) ys (rw (length-drop a xs) (omega (arith, ab, h)))
 
-same_fields : (num ts ts' caplen caplen' len len' : ℕ) (bytes bytes' : List ℕ) → ts ≡ ts' → caplen ≡ caplen' → len ≡ len' → bytes ≡ bytes'
-    → ◌≡◌ {A = Captured} (record { num = num; ts = ts; caplen = caplen; len = len; bytes = bytes }) (record { num = num; ts = ts'; caplen = caplen'; len = len'; bytes = bytes' })
-same_fields num ts ts' caplen caplen' len len' bytes bytes' p q r s = cc
+same_fields : (num ts ts' caplen caplen' len len' link : ℕ) (bytes bytes' : List ℕ) → ts ≡ ts' → caplen ≡ caplen' → len ≡ len' → bytes ≡ bytes'
+    → ◌≡◌ {A = Captured} (record { num = num; ts = ts; caplen = caplen; len = len; link = link; bytes = bytes }) (record { num = num; ts = ts'; caplen = caplen'; len = len'; link = link; bytes = bytes' })
+same_fields num ts ts' caplen caplen' len len' link bytes bytes' p q r s = cc
 
 pub frame_first : (form : Form) (k : ℕ) (xs ys : List ℕ) → 16 + caplen_at form xs ≤ length xs → frame_at form k (xs ++ ys) ≡ frame_at form k xs
 frame_first form k xs ys h =
     let head : 16 ≤ length xs = omega (arith, h) in
-    let seconds : number_in form.order 4 (xs ++ ys) ≡ number_in form.order 4 xs = number_first form.order 4 xs ys (omega (arith, head)) in
-    let fraction : number_in form.order 4 (drop 4 (xs ++ ys)) ≡ number_in form.order 4 (drop 4 xs) = number_later form.order 4 4 xs ys (omega (arith, head)) in
+    let seconds : number_in form.layout.order 4 (xs ++ ys) ≡ number_in form.layout.order 4 xs = number_first form.layout.order 4 xs ys (omega (arith, head)) in
+    let fraction : number_in form.layout.order 4 (drop 4 (xs ++ ys)) ≡ number_in form.layout.order 4 (drop 4 xs) = number_later form.layout.order 4 4 xs ys (omega (arith, head)) in
     let caplen : caplen_at form (xs ++ ys) ≡ caplen_at form xs = caplen_first form xs ys head in
-    let len : number_in form.order 4 (drop 12 (xs ++ ys)) ≡ number_in form.order 4 (drop 12 xs) = number_later form.order 4 12 xs ys (omega (arith, head)) in
+    let len : number_in form.layout.order 4 (drop 12 (xs ++ ys)) ≡ number_in form.layout.order 4 (drop 12 xs) = number_later form.layout.order 4 12 xs ys (omega (arith, head)) in
     let bytes : slice_range (xs ++ ys) 16 (16 + caplen_at form (xs ++ ys)) ≡ slice_range xs 16 (16 + caplen_at form xs) =
     ap (λ n. slice_range (xs ++ ys) 16 (16 + n)) caplen ∙ range_first 16 (16 + caplen_at form xs) xs ys (omega arith) h in
-    same_fields k _ _ _ _ _ _ _ _ (ap (λ n. n * 10 ^ 9 + number_in form.order 4 (drop 4 (xs ++ ys)) * tick_of form.precision) seconds ∙ ap (λ n. number_in form.order 4 xs * 10 ^ 9 + n * tick_of form.precision) fraction) caplen len bytes
+    same_fields k _ _ _ _ _ _ form.link _ _ (ap (λ n. n * 10 ^ 9 + number_in form.layout.order 4 (drop 4 (xs ++ ys)) * tick_of form.layout.precision) seconds ∙ ap (λ n. number_in form.layout.order 4 xs * 10 ^ 9 + n * tick_of form.layout.precision) fraction) caplen len bytes
 
 pub record_first : (form : Form) (xs ys : List ℕ) → HasRecord form xs → HasRecord form (xs ++ ys)
 record_first form xs ys h =

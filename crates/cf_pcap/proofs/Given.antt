@@ -94,7 +94,7 @@ one_held form full k (x ∷ a) (y ∷ b) bytes end last h g p q =
 
 one_holds : (bytes : List ℕ) (a b : List Captured) → HoldsFrames bytes a → HoldsFrames bytes b → a ≡ b
 one_holds bytes a b p q =
-    let same : p.form ≡ q.form = one_form p.form q.form bytes p.read.header.magic q.read.header.magic in
+    let same : p.form ≡ q.form = one_form p.form q.form bytes p.read.header q.read.header in
     let records : AreRecordsThen p.form 0 b (drop 24 bytes) q.rest = subst (λ (f : Form). AreRecordsThen f 0 b (drop 24 bytes) q.rest) (sym same) q.read.records in
     let ends : Ends p.form (2 ^ 32 ≤ length bytes) q.rest = subst (λ (f : Form). Ends f (2 ^ 32 ≤ length bytes) q.rest) (sym same) (q.early, q.last) in
     one_held p.form (2 ^ 32 ≤ length bytes) 0 a b (drop 24 bytes) p.rest q.rest p.read.records records (p.early, p.last) ends

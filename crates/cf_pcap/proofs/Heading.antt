@@ -1,29 +1,30 @@
 -- The file header.
-use Rattle.std.proofs.Common.{◌≡◌, ◌⊎◌, inl, inr, ℕ, ◌<◌, ◌≤◌, ◌%◌, ◌^◌, List, ◌++◌, length, drop, Option, Some, None, refl, sym, ap, subst, ◌∙◌, arith, length-append}
-use Rattle.std.proofs.lemmas.Bool.{cases_lt, cases_eq}
+use Rattle.std.proofs.Common.{◌≡◌, ◌⊎◌, inl, inr, ℕ, ◌<◌, ◌≤◌, ◌%◌, ◌^◌, Bool, true, false, List, ◌++◌, length, drop, Option, Some, None, refl, sym, ap, subst, ◌∙◌, arith, length-append}
+use Rattle.std.proofs.lemmas.Bool.{cases_lt, cases_eq, true≢false}
 use Rattle.cf_pcap.specs.declared.form.Order.TheVariants.{Little, Big}
+use Rattle.cf_pcap.specs.declared.form.Layout.{Layout}
 use Rattle.cf_pcap.specs.declared.form.Form.{Form}
 use Rattle.cf_pcap.specs.declared.fault.PcapFault.{PcapFault}
 use Rattle.cf_pcap.specs.declared.fault.PcapFault.TheVariants.{BadMagic, BadVersion, BadLink, FrameTooLong, Cut, TooManyBytes, Memory}
-use Rattle.cf_pcap.specs.Capture.{number_in, form_of, IsVersion, IsEthernet, IsFileHeader, HasLongFrame, Shows}
+use Rattle.cf_pcap.specs.Capture.{number_in, layout_of, link_at, is_link, IsVersion, IsFileHeader, HasLongFrame, Shows}
 use Rattle.cf_pcap.specs.Reading.{HasHeaderFault}
 use Rattle.cf_pcap.proofs.Following.{number_first, number_later}
 
 -- what comes later doesn't change the magic, the version or the link
-pub form_first : (xs ys : List ℕ) → 4 ≤ length xs → form_of (xs ++ ys) ≡ form_of xs
-unfolding form_of
-form_first xs ys h = rw (number_first Little 4 xs ys h, number_first Big 4 xs ys h)
+pub layout_first : (xs ys : List ℕ) → 4 ≤ length xs → layout_of (xs ++ ys) ≡ layout_of xs
+unfolding layout_of
+layout_first xs ys h = rw (number_first Little 4 xs ys h, number_first Big 4 xs ys h)
 
-version_first : (form : Form) (xs ys : List ℕ) → 8 ≤ length xs → IsVersion form xs → IsVersion form (xs ++ ys)
-version_first form xs ys h v =
-    record { major = number_later form.order 2 4 xs ys (omega (arith, h)) ∙ v.major; minor = number_later form.order 2 6 xs ys (omega (arith, h)) ∙ v.minor }
+version_first : (layout : Layout) (xs ys : List ℕ) → 8 ≤ length xs → IsVersion layout xs → IsVersion layout (xs ++ ys)
+version_first layout xs ys h v =
+    record { major = number_later layout.order 2 4 xs ys (omega (arith, h)) ∙ v.major; minor = number_later layout.order 2 6 xs ys (omega (arith, h)) ∙ v.minor }
 
-version_back : (form : Form) (xs ys : List ℕ) → 8 ≤ length xs → IsVersion form (xs ++ ys) → IsVersion form xs
-version_back form xs ys h v =
-    record { major = sym (number_later form.order 2 4 xs ys (omega (arith, h))) ∙ v.major; minor = sym (number_later form.order 2 6 xs ys (omega (arith, h))) ∙ v.minor }
+version_back : (layout : Layout) (xs ys : List ℕ) → 8 ≤ length xs → IsVersion layout (xs ++ ys) → IsVersion layout xs
+version_back layout xs ys h v =
+    record { major = sym (number_later layout.order 2 4 xs ys (omega (arith, h))) ∙ v.major; minor = sym (number_later layout.order 2 6 xs ys (omega (arith, h))) ∙ v.minor }
 
-link_same : (form : Form) (xs ys : List ℕ) → 24 ≤ length xs → number_in form.order 4 (drop 20 (xs ++ ys)) % 2 ^ 16 ≡ number_in form.order 4 (drop 20 xs) % 2 ^ 16
-link_same form xs ys h = ap (λ n. n % 2 ^ 16) (number_later form.order 4 20 xs ys (omega (arith, h)))
+link_first : (layout : Layout) (xs ys : List ℕ) → 24 ≤ length xs → link_at layout (xs ++ ys) ≡ link_at layout xs
+link_first layout xs ys h = ap (λ n. n % 2 ^ 16) (number_later layout.order 4 20 xs ys (omega (arith, h)))
 
 longer : (n : ℕ) (xs ys : List ℕ) → n ≤ length xs → n ≤ length (xs ++ ys)
 longer n xs ys h = rw (length-append xs ys) (omega (arith, h))
@@ -32,37 +33,47 @@ pub header_first : (form : Form) (xs ys : List ℕ) → IsFileHeader form xs →
 header_first form xs ys h =
     let size : 24 ≤ length xs = h.size in record {
       size = longer 24 xs ys size;
-      magic = form_first xs ys (omega (arith, size)) ∙ h.magic;
-      version = version_first form xs ys (omega (arith, size)) h.version;
-      link = link_same form xs ys size ∙ h.link;
+      magic = layout_first xs ys (omega (arith, size)) ∙ h.magic;
+      version = version_first form.layout xs ys (omega (arith, size)) h.version;
+      link = h.link ∙ sym (link_first form.layout xs ys size);
+      lawful = h.lawful;
     }
 
-some_same : (a b : Form) → ◌≡◌ {A = Option Form} (Some a) (Some b) → a ≡ b
+some_same : (a b : Layout) → ◌≡◌ {A = Option Layout} (Some a) (Some b) → a ≡ b
 some_same a b h = cc
 
-some_none : (a : Form) → ◌≡◌ {A = Option Form} (Some a) None → ⊥
+some_none : (a : Layout) → ◌≡◌ {A = Option Layout} (Some a) None → ⊥
 some_none a h = cc
 
-pub one_form : (a b : Form) (bytes : List ℕ) → form_of bytes ≡ Some a → form_of bytes ≡ Some b → a ≡ b
-one_form a b bytes p q = some_same a b (sym p ∙ q)
+one_layout : (a b : Layout) (bytes : List ℕ) → layout_of bytes ≡ Some a → layout_of bytes ≡ Some b → a ≡ b
+one_layout a b bytes p q = some_same a b (sym p ∙ q)
+
+same_form : (layout layout' : Layout) (link link' : ℕ) → layout ≡ layout' → link ≡ link' → ◌≡◌ {A = Form} (record { layout = layout; link = link }) (record { layout = layout'; link = link' })
+same_form layout layout' link link' p q = cc
+
+-- a file has one header at most
+pub one_form : (a b : Form) (bytes : List ℕ) → IsFileHeader a bytes → IsFileHeader b bytes → a ≡ b
+one_form a b bytes p q =
+    let same : a.layout ≡ b.layout = one_layout a.layout b.layout bytes p.magic q.magic in
+    same_form a.layout b.layout a.link b.link same (p.link ∙ ap (λ layout. link_at layout bytes) same ∙ sym q.link)
 
 -- a fault of the header stays
 pub header_fault_first : (xs ys : List ℕ) (fault : PcapFault) → HasHeaderFault xs fault → HasHeaderFault (xs ++ ys) fault
-header_fault_first xs ys BadMagic h = let size : 4 ≤ length xs = h.size in record { size = longer 4 xs ys size; magic = form_first xs ys size ∙ h.magic }
+header_fault_first xs ys BadMagic h = let size : 4 ≤ length xs = h.size in record { size = longer 4 xs ys size; magic = layout_first xs ys size ∙ h.magic }
 header_fault_first xs ys BadVersion h =
     let size : 8 ≤ length xs = h.size in record {
       size = longer 8 xs ys size;
-      form = h.form;
-      magic = form_first xs ys (omega (arith, size)) ∙ h.magic;
-      version = λ v. h.version (version_back h.form xs ys size v);
+      layout = h.layout;
+      magic = layout_first xs ys (omega (arith, size)) ∙ h.magic;
+      version = λ v. h.version (version_back h.layout xs ys size v);
     }
 header_fault_first xs ys BadLink h =
     let size : 24 ≤ length xs = h.size in record {
       size = longer 24 xs ys size;
-      form = h.form;
-      magic = form_first xs ys (omega (arith, size)) ∙ h.magic;
-      version = version_first h.form xs ys (omega (arith, size)) h.version;
-      link = λ l. h.link (sym (link_same h.form xs ys size) ∙ l);
+      layout = h.layout;
+      magic = layout_first xs ys (omega (arith, size)) ∙ h.magic;
+      version = version_first h.layout xs ys (omega (arith, size)) h.version;
+      link = ap is_link (link_first h.layout xs ys size) ∙ h.link;
     }
 header_fault_first xs ys (FrameTooLong k) h = absurd h
 header_fault_first xs ys (Cut k) h = absurd h
@@ -71,9 +82,9 @@ header_fault_first xs ys Memory h = absurd h
 
 -- no header with a fault is a header
 pub no_header : (form : Form) (bytes : List ℕ) (fault : PcapFault) → HasHeaderFault bytes fault → IsFileHeader form bytes → ⊥
-no_header form bytes BadMagic h header = some_none form (sym header.magic ∙ h.magic)
-no_header form bytes BadVersion h header = h.version (subst (λ (f : Form). IsVersion f bytes) (one_form form h.form bytes header.magic h.magic) header.version)
-no_header form bytes BadLink h header = h.link (subst (λ (f : Form). IsEthernet f bytes) (one_form form h.form bytes header.magic h.magic) header.link)
+no_header form bytes BadMagic h header = some_none form.layout (sym header.magic ∙ h.magic)
+no_header form bytes BadVersion h header = h.version (subst (λ (l : Layout). IsVersion l bytes) (one_layout form.layout h.layout bytes header.magic h.magic) header.version)
+no_header form bytes BadLink h header = true≢false (sym header.lawful ∙ ap is_link (header.link ∙ ap (λ layout. link_at layout bytes) (one_layout form.layout h.layout bytes header.magic h.magic)) ∙ h.link)
 no_header form bytes (FrameTooLong k) h header = h
 no_header form bytes (Cut k) h header = h
 no_header form bytes TooManyBytes h header = h
@@ -82,13 +93,13 @@ no_header form bytes Memory h header = h
 -- a header has one fault at most
 pub one_header_fault : (bytes : List ℕ) (a b : PcapFault) → HasHeaderFault bytes a → HasHeaderFault bytes b → a ≡ b
 one_header_fault bytes BadMagic BadMagic p q = refl
-one_header_fault bytes BadMagic BadVersion p q = absurd (some_none q.form (sym q.magic ∙ p.magic))
-one_header_fault bytes BadMagic BadLink p q = absurd (some_none q.form (sym q.magic ∙ p.magic))
-one_header_fault bytes BadVersion BadMagic p q = absurd (some_none p.form (sym p.magic ∙ q.magic))
+one_header_fault bytes BadMagic BadVersion p q = absurd (some_none q.layout (sym q.magic ∙ p.magic))
+one_header_fault bytes BadMagic BadLink p q = absurd (some_none q.layout (sym q.magic ∙ p.magic))
+one_header_fault bytes BadVersion BadMagic p q = absurd (some_none p.layout (sym p.magic ∙ q.magic))
 one_header_fault bytes BadVersion BadVersion p q = refl
-one_header_fault bytes BadVersion BadLink p q = absurd (p.version (subst (λ (f : Form). IsVersion f bytes) (one_form q.form p.form bytes q.magic p.magic) q.version))
-one_header_fault bytes BadLink BadMagic p q = absurd (some_none p.form (sym p.magic ∙ q.magic))
-one_header_fault bytes BadLink BadVersion p q = absurd (q.version (subst (λ (f : Form). IsVersion f bytes) (one_form p.form q.form bytes p.magic q.magic) p.version))
+one_header_fault bytes BadVersion BadLink p q = absurd (p.version (subst (λ (l : Layout). IsVersion l bytes) (one_layout q.layout p.layout bytes q.magic p.magic) q.version))
+one_header_fault bytes BadLink BadMagic p q = absurd (some_none p.layout (sym p.magic ∙ q.magic))
+one_header_fault bytes BadLink BadVersion p q = absurd (q.version (subst (λ (l : Layout). IsVersion l bytes) (one_layout p.layout q.layout bytes p.magic q.magic) p.version))
 one_header_fault bytes BadLink BadLink p q = refl
 one_header_fault bytes (FrameTooLong k) b p q = absurd p
 one_header_fault bytes (Cut k) b p q = absurd p
@@ -133,50 +144,52 @@ pub data Header (bytes : List ℕ) : Type 0 where
   Begun : length bytes < 24 → ((fault : PcapFault) → HasHeaderFault bytes fault → ⊥) → Header bytes
 
 -- while fewer bytes than a header's are there
-begun : (bytes : List ℕ) → length bytes < 24 → (4 ≤ length bytes → form_of bytes ≡ None → ⊥) → (8 ≤ length bytes → (form : Form) → form_of bytes ≡ Some form → IsVersion form bytes) → Header bytes
+begun : (bytes : List ℕ) → length bytes < 24 → (4 ≤ length bytes → layout_of bytes ≡ None → ⊥) → (8 ≤ length bytes → (layout : Layout) → layout_of bytes ≡ Some layout → IsVersion layout bytes) → Header bytes
 begun bytes short magic version = Begun short (λ fault h. none fault h) where
   none : (fault : PcapFault) → HasHeaderFault bytes fault → ⊥
   none BadMagic h = magic h.size h.magic
-  none BadVersion h = h.version (version h.size h.form h.magic)
+  none BadVersion h = h.version (version h.size h.layout h.magic)
   none BadLink h = let size : 24 ≤ length bytes = h.size in omega (arith, size, short)
   none (FrameTooLong k) h = h
   none (Cut k) h = h
   none TooManyBytes h = h
   none Memory h = h
 
-is_version : (form : Form) (bytes : List ℕ) → IsVersion form bytes ⊎ (IsVersion form bytes → ⊥)
-is_version form bytes = elim (cases_eq (number_in form.order 2 (drop 4 bytes)) 2) [
-  | inl major ↦ elim (cases_eq (number_in form.order 2 (drop 6 bytes)) 4) [
+is_version : (layout : Layout) (bytes : List ℕ) → IsVersion layout bytes ⊎ (IsVersion layout bytes → ⊥)
+is_version layout bytes = elim (cases_eq (number_in layout.order 2 (drop 4 bytes)) 2) [
+  | inl major ↦ elim (cases_eq (number_in layout.order 2 (drop 6 bytes)) 4) [
     | inl minor ↦ inl (record { major = major; minor = minor })
     | inr minor ↦ inr (λ v. minor v.minor)
   ]
   | inr major ↦ inr (λ v. major v.major)
 ]
 
-with_version : (form : Form) (bytes : List ℕ) → 8 ≤ length bytes → form_of bytes ≡ Some form → IsVersion form bytes → Header bytes
-with_version form bytes size magic version = elim (cases_lt (length bytes) 24) [
-  | inl short ↦ begun bytes short (λ _ none. some_none form (sym magic ∙ none)) (λ _ other is. subst (λ (f : Form). IsVersion f bytes) (one_form form other bytes magic is) version)
-  | inr whole ↦ elim (cases_eq (number_in form.order 4 (drop 20 bytes) % 2 ^ 16) 1) [
-    | inl link ↦ Whole form (record { size = whole; magic = magic; version = version; link = link })
-    | inr link ↦ False BadLink (record { size = whole; form = form; magic = magic; version = version; link = link })
+by_link : (layout : Layout) (bytes : List ℕ) (lawful : Bool) → 24 ≤ length bytes → layout_of bytes ≡ Some layout → IsVersion layout bytes → is_link (link_at layout bytes) ≡ lawful → Header bytes
+by_link layout bytes true size magic version link =
+    Whole (record { layout = layout; link = link_at layout bytes }) (record { size = size; magic = magic; version = version; link = refl; lawful = link })
+by_link layout bytes false size magic version link = False BadLink (record { size = size; layout = layout; magic = magic; version = version; link = link })
+
+with_version : (layout : Layout) (bytes : List ℕ) → 8 ≤ length bytes → layout_of bytes ≡ Some layout → IsVersion layout bytes → Header bytes
+with_version layout bytes size magic version = elim (cases_lt (length bytes) 24) [
+  | inl short ↦ begun bytes short (λ _ none. some_none layout (sym magic ∙ none)) (λ _ other is. subst (λ (l : Layout). IsVersion l bytes) (one_layout layout other bytes magic is) version)
+  | inr whole ↦ by_link layout bytes (is_link (link_at layout bytes)) whole magic version refl
+]
+
+with_magic : (layout : Layout) (bytes : List ℕ) → 4 ≤ length bytes → layout_of bytes ≡ Some layout → Header bytes
+with_magic layout bytes size magic = elim (cases_lt (length bytes) 8) [
+  | inl short ↦ begun bytes (omega (arith, short)) (λ _ none. some_none layout (sym magic ∙ none)) (λ large other is. absurd (omega (arith, short, large)))
+  | inr large ↦ elim (is_version layout bytes) [
+    | inl version ↦ with_version layout bytes large magic version
+    | inr version ↦ False BadVersion (record { size = large; layout = layout; magic = magic; version = version })
   ]
 ]
 
-with_magic : (form : Form) (bytes : List ℕ) → 4 ≤ length bytes → form_of bytes ≡ Some form → Header bytes
-with_magic form bytes size magic = elim (cases_lt (length bytes) 8) [
-  | inl short ↦ begun bytes (omega (arith, short)) (λ _ none. some_none form (sym magic ∙ none)) (λ large other is. absurd (omega (arith, short, large)))
-  | inr large ↦ elim (is_version form bytes) [
-    | inl version ↦ with_version form bytes large magic version
-    | inr version ↦ False BadVersion (record { size = large; form = form; magic = magic; version = version })
-  ]
-]
-
-by_magic : (bytes : List ℕ) (found : Option Form) → 4 ≤ length bytes → form_of bytes ≡ found → Header bytes
+by_magic : (bytes : List ℕ) (found : Option Layout) → 4 ≤ length bytes → layout_of bytes ≡ found → Header bytes
 by_magic bytes None size magic = False BadMagic (record { size = size; magic = magic })
-by_magic bytes (Some form) size magic = with_magic form bytes size magic
+by_magic bytes (Some layout) size magic = with_magic layout bytes size magic
 
 pub header_of : (bytes : List ℕ) → Header bytes
 header_of bytes = elim (cases_lt (length bytes) 4) [
   | inl short ↦ begun bytes (omega (arith, short)) (λ large. absurd (omega (arith, short, large))) (λ large. absurd (omega (arith, short, large)))
-  | inr size ↦ by_magic bytes (form_of bytes) size refl
+  | inr size ↦ by_magic bytes (layout_of bytes) size refl
 ]

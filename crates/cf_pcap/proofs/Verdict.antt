@@ -37,7 +37,7 @@ read_first form bytes rest more frames read =
 -- whichever form, there is one reading
 pub one_read : (f g : Form) (a b : List Captured) (bytes end last : List ℕ) → IsReadTo f bytes a end → IsReadTo g bytes b last → (HasRecord f end → ⊥) → (HasRecord g last → ⊥) → (f ≡ g) × (a ≡ b) × (end ≡ last)
 one_read f g a b bytes end last p q none none' =
-    let same : f ≡ g = one_form f g bytes p.header.magic q.header.magic in
+    let same : f ≡ g = one_form f g bytes p.header q.header in
     let records : AreRecordsThen f 0 b (drop 24 bytes) last = subst (λ (h : Form). AreRecordsThen h 0 b (drop 24 bytes) last) (sym same) q.records in
     let more = one_reading f 0 a b (drop 24 bytes) end last p.records records none (subst (λ (h : Form). HasRecord h last → ⊥) (sym same) none') in
     (same, more.0, more.1)
@@ -112,7 +112,7 @@ none_read form bytes rest frames read fills short fault h = elim (shown bytes fa
   | inl header ↦ no_header form bytes fault header read.header
   | inr long ↦
       let it = long.2 in
-      let same : form ≡ it.form = one_form form it.form bytes read.header.magic it.read.header.magic in
+      let same : form ≡ it.form = one_form form it.form bytes read.header it.read.header in
       let records : AreRecordsThen form 0 it.frames (drop 24 bytes) it.rest = subst (λ (f : Form). AreRecordsThen f 0 it.frames (drop 24 bytes) it.rest) (sym same) it.read.records in
       none_long form 0 frames it.frames (drop 24 bytes) rest it.rest read.records records fills short (subst (λ (f : Form). HasLongRecord f it.rest) (sym same) it.long)
 ]

@@ -1,10 +1,11 @@
 -- Captures in the libpcap file format 2.4 (pcap savefile, pcap-savefile(5)), as whole files.
-use Rattle.std.specs.Prelude.{◌≡◌, ◌⊎◌, ℕ, ◌+◌, ◌*◌, ◌^◌, ◌%◌, ◌<◌, ◌≤◌, ◌==◌, if◌then◌else◌, List, [], ◌∷◌, length, take, drop, slice_range, Option, Some, None}
+use Rattle.std.specs.Prelude.{◌≡◌, ◌⊎◌, ℕ, ◌+◌, ◌*◌, ◌^◌, ◌%◌, ◌<◌, ◌≤◌, ◌==◌, Bool, true, false, ◌||◌, if◌then◌else◌, List, [], ◌∷◌, length, take, drop, slice_range, Option, Some, None}
 use Rattle.byteorder.specs.Endian.{little_number, big_number}
 use Rattle.cf_pcap.specs.declared.form.Order.{Order}
 use Rattle.cf_pcap.specs.declared.form.Order.TheVariants.{Little, Big}
 use Rattle.cf_pcap.specs.declared.form.Precision.{Precision}
 use Rattle.cf_pcap.specs.declared.form.Precision.TheVariants.{Micro, Nano}
+use Rattle.cf_pcap.specs.declared.form.Layout.{Layout}
 use Rattle.cf_pcap.specs.declared.form.Form.{Form}
 use Rattle.cf_pcap.specs.declared.fault.PcapFault.{PcapFault}
 use Rattle.cf_pcap.specs.declared.fault.PcapFault.TheVariants.{BadMagic, BadVersion, BadLink, FrameTooLong, Cut, TooManyBytes, Memory}
@@ -15,6 +16,7 @@ pub record Captured : Type 0 where
   pub ts : ℕ
   pub caplen : ℕ
   pub len : ℕ
+  pub link : ℕ
   pub bytes : List ℕ
 
 -- the number in the first n bytes, in this byte order
@@ -29,8 +31,8 @@ tick_of Nano = 1
 
 -- the byte order and the unit that the magic in the first four bytes states: 0xa1b2c3d4 in the file's byte order for
 -- microseconds, 0xa1b23c4d for nanoseconds
-unfoldable pub form_of : List ℕ → Option Form
-form_of bytes =
+unfoldable pub layout_of : List ℕ → Option Layout
+layout_of bytes =
     if little_number 4 bytes == 0xa1b2c3d4 then Some (record { order = Little; precision = Micro })
     else (if little_number 4 bytes == 0xa1b23c4d then Some (record { order = Little; precision = Nano })
     else (if big_number 4 bytes == 0xa1b2c3d4 then Some (record { order = Big; precision = Micro })
@@ -38,24 +40,29 @@ form_of bytes =
     else None)))
 
 -- the major and the minor version of the file header are 2 and 4
-pub record IsVersion (form : Form) (bytes : List ℕ) : Type 0 where
-  pub major : number_in form.order 2 (drop 4 bytes) ≡ 2
-  pub minor : number_in form.order 2 (drop 6 bytes) ≡ 4
+pub record IsVersion (layout : Layout) (bytes : List ℕ) : Type 0 where
+  pub major : number_in layout.order 2 (drop 4 bytes) ≡ 2
+  pub minor : number_in layout.order 2 (drop 6 bytes) ≡ 4
 
--- the low 16 bits of the file header's last field are LINKTYPE_ETHERNET
-abbrev pub IsEthernet : Form → List ℕ → Type 0
-IsEthernet form bytes = number_in form.order 4 (drop 20 bytes) % 2 ^ 16 ≡ 1
+-- the link: the low 16 bits of the file header's last field
+abbrev pub link_at : Layout → List ℕ → ℕ
+link_at layout bytes = number_in layout.order 4 (drop 20 bytes) % 2 ^ 16
 
--- a file header of 24 bytes stands at the front. The time zone, the accuracy and the snapshot length are ignored.
+-- LINKTYPE_ETHERNET and LINKTYPE_LINUX_SLL
+abbrev pub is_link : ℕ → Bool
+is_link link = link == 1 || link == 113
+
+-- a file header of 24 bytes stands at the front, of a lawful link. The time zone, the accuracy and the snapshot length are ignored.
 pub record IsFileHeader (form : Form) (bytes : List ℕ) : Type 0 where
   pub size : 24 ≤ length bytes
-  pub magic : form_of bytes ≡ Some form
-  pub version : IsVersion form bytes
-  pub link : IsEthernet form bytes
+  pub magic : layout_of bytes ≡ Some form.layout
+  pub version : IsVersion form.layout bytes
+  pub link : form.link ≡ link_at form.layout bytes
+  pub lawful : is_link form.link ≡ true
 
 -- the captured length that the record header at the front states
 abbrev pub caplen_at : Form → List ℕ → ℕ
-caplen_at form bytes = number_in form.order 4 (drop 8 bytes)
+caplen_at form bytes = number_in form.layout.order 4 (drop 8 bytes)
 
 -- a lawful record stands whole at the front: a header of 16 bytes, and as many bytes as it states
 pub record HasRecord (form : Form) (bytes : List ℕ) : Type 0 where
@@ -68,13 +75,14 @@ pub record HasLongRecord (form : Form) (bytes : List ℕ) : Type 0 where
   pub long : 262144 < caplen_at form bytes
 
 -- the frame of the record at the front, as number k: seconds and their fraction, the captured length, the length on the
--- wire, the captured bytes
+-- wire, the link of the file, the captured bytes
 abbrev pub frame_at : Form → ℕ → List ℕ → Captured
 frame_at form k bytes = record {
   num = k;
-  ts = number_in form.order 4 bytes * 10 ^ 9 + number_in form.order 4 (drop 4 bytes) * tick_of form.precision;
+  ts = number_in form.layout.order 4 bytes * 10 ^ 9 + number_in form.layout.order 4 (drop 4 bytes) * tick_of form.layout.precision;
   caplen = caplen_at form bytes;
-  len = number_in form.order 4 (drop 12 bytes);
+  len = number_in form.layout.order 4 (drop 12 bytes);
+  link = form.link;
   bytes = slice_range bytes 16 (16 + caplen_at form bytes);
 }
 
@@ -101,20 +109,20 @@ pub record IsCapture (file : List ℕ) (frames : List Captured) : Type 0 where
 
 pub record HasBadMagic (bytes : List ℕ) : Type 0 where
   pub size : 4 ≤ length bytes
-  pub magic : form_of bytes ≡ None
+  pub magic : layout_of bytes ≡ None
 
 pub record HasBadVersion (bytes : List ℕ) : Type 0 where
   pub size : 8 ≤ length bytes
-  pub form : Form
-  pub magic : form_of bytes ≡ Some form
-  pub version : IsVersion form bytes → ⊥
+  pub layout : Layout
+  pub magic : layout_of bytes ≡ Some layout
+  pub version : IsVersion layout bytes → ⊥
 
 pub record HasBadLink (bytes : List ℕ) : Type 0 where
   pub size : 24 ≤ length bytes
-  pub form : Form
-  pub magic : form_of bytes ≡ Some form
-  pub version : IsVersion form bytes
-  pub link : IsEthernet form bytes → ⊥
+  pub layout : Layout
+  pub magic : layout_of bytes ≡ Some layout
+  pub version : IsVersion layout bytes
+  pub link : is_link (link_at layout bytes) ≡ false
 
 -- after k whole records
 pub record HasLongFrame (k : ℕ) (bytes : List ℕ) : Type 0 where

@@ -11,7 +11,7 @@ pub enum PcapFault {
     BadMagic,
     /// The version isn't 2.4.
     BadVersion,
-    /// The link isn't Ethernet (LINKTYPE_ETHERNET, 1).
+    /// The link is neither Ethernet (LINKTYPE_ETHERNET, 1) nor cooked frames of Linux (LINKTYPE_LINUX_SLL, 113).
     BadLink,
     /// A record's captured length is above 262,144 bytes.
     FrameTooLong(u32),

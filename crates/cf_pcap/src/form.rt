@@ -1,6 +1,6 @@
-// The byte order and the unit of time of a capture, and its numbers.
+// The byte order, the unit of time and the link of a capture, and its numbers.
 ghost use Rattle.std.specs.Prelude.{◌≡◌, ◌≤◌, length};
-ghost use Rattle.cf_pcap.specs.Capture.{number_in, tick_of as nanoseconds_of, form_of as form_at};
+ghost use Rattle.cf_pcap.specs.Capture.{number_in, tick_of as nanoseconds_of, layout_of as layout_at, is_link as is_lawful_link};
 
 use byteorder::{BigEndian, ByteOrder, LittleEndian};
 
@@ -9,6 +9,12 @@ const MICROSECONDS: u32 = 0xa1b2_c3d4;
 
 /// The magic of times in nanoseconds.
 const NANOSECONDS: u32 = 0xa1b2_3c4d;
+
+/// LINKTYPE_ETHERNET.
+const ETHERNET: u16 = 1;
+
+/// LINKTYPE_LINUX_SLL.
+const LINUX_SLL: u16 = 113;
 
 /// How numbers stand in the file.
 #[derive(Clone, Copy, Debug, PartialEq, Eq)]
@@ -26,9 +32,16 @@ pub(crate) enum Precision {
 
 /// What the magic states.
 #[derive(Clone, Copy, Debug, PartialEq, Eq)]
-pub(crate) struct Form {
+pub(crate) struct Layout {
     pub order: Order,
     pub precision: Precision,
+}
+
+/// What the file header states.
+#[derive(Clone, Copy, Debug, PartialEq, Eq)]
+pub(crate) struct Form {
+    pub layout: Layout,
+    pub link: u16,
 }
 
 impl Order {
@@ -68,33 +81,40 @@ impl Precision {
     }
 }
 
-// The form that the magic at the front of the bytes states, if it is one.
-pub(crate) fn form_of(bytes: &[u8]) -> Option<Form>
+// Whether frames of that link are read.
+pub(crate) fn is_link(link: u16) -> bool
+    ensures { result ≡ is_lawful_link link }
+{
+    link == ETHERNET || link == LINUX_SLL
+}
+
+// The layout that the magic at the front of the bytes states, if it is one.
+pub(crate) fn layout_of(bytes: &[u8]) -> Option<Layout>
     requires { 4 ≤ length bytes.now }
-    ensures { result ≡ form_at bytes.now }
+    ensures { result ≡ layout_at bytes.now }
 {
     let little = LittleEndian::read_u32(bytes);
     if little == MICROSECONDS {
-        return Some(Form {
+        return Some(Layout {
             order: Order::Little,
             precision: Precision::Micro,
         });
     }
     if little == NANOSECONDS {
-        return Some(Form {
+        return Some(Layout {
             order: Order::Little,
             precision: Precision::Nano,
         });
     }
     let big = BigEndian::read_u32(bytes);
     if big == MICROSECONDS {
-        return Some(Form {
+        return Some(Layout {
             order: Order::Big,
             precision: Precision::Micro,
         });
     }
     if big == NANOSECONDS {
-        return Some(Form {
+        return Some(Layout {
             order: Order::Big,
             precision: Precision::Nano,
         });

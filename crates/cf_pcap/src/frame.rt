@@ -15,6 +15,8 @@ pub struct Frame {
     pub caplen: u32,
     /// Its length on the wire, in bytes.
     pub len: u32,
+    /// The link that it was captured from: 1 for Ethernet, 113 for Linux SLL (cooked frames).
+    pub link: u16,
     pub bytes: Vec<u8>,
 }
 
@@ -23,7 +25,7 @@ impl Model for Frame {
 
     ghost Value = { Captured };
 
-    ghost view = { λ f. record { num = f.num; ts = f.ts; caplen = f.caplen; len = f.len; bytes = f.bytes.items } };
+    ghost view = { λ f. record { num = f.num; ts = f.ts; caplen = f.caplen; len = f.len; link = f.link; bytes = f.bytes.items } };
 }
 
 impl Frame {

@@ -27,7 +27,7 @@ fn caplen_of(form: Form, bytes: &[u8]) -> u32
     requires { 16 ≤ length bytes.now }
     ensures { result ≡ caplen_at form bytes.now }
 {
-    form.order.read_u32(&bytes[8..])
+    form.layout.order.read_u32(&bytes[8..])
 }
 
 // Whether a lawful record stands whole at the front, and ends before the bytes that come too late.
@@ -57,7 +57,7 @@ fn first_frame(alloc: Global, form: Form, num: u32, bytes: &[u8]) -> Result<Fram
     requires { HasRecord form bytes.now }
     ensures { IfOk result (λ frame. frame ≡ frame_at form num bytes.now) }
 {
-    let order = form.order;
+    let order = form.layout.order;
     let seconds = order.read_u32(bytes);
     let fraction = order.read_u32(&bytes[4..]);
     let caplen = order.read_u32(&bytes[8..]);
@@ -66,9 +66,10 @@ fn first_frame(alloc: Global, form: Form, num: u32, bytes: &[u8]) -> Result<Fram
     let captured = bytes[HEAD..end].to_vec(alloc)?;
     Ok(Frame {
         num,
-        ts: seconds as u64 * 1_000_000_000 + fraction as u64 * form.precision.tick(),
+        ts: seconds as u64 * 1_000_000_000 + fraction as u64 * form.layout.precision.tick(),
         caplen,
         len,
+        link: form.link,
         bytes: captured,
     })
 }

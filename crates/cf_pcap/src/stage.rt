@@ -3,7 +3,7 @@ ghost use Rattle.std.specs.Prelude.{◌≡◌, ◌≤◌, ◌^◌, length};
 ghost use Rattle.cf_pcap.specs.Reading.{IsHeaderStage, late_of as late_of_total, stage_at as stage_of, answer_of as answer_of_stage, kept_by};
 
 use crate::PcapFault;
-use crate::form::{Form, form_of};
+use crate::form::{Form, is_link, layout_of};
 use std::alloc::Global;
 
 /// The length of the file header.
@@ -11,9 +11,6 @@ pub(crate) const HEADER: usize = 24;
 
 /// A stream of so many bytes is no capture.
 pub(crate) const LIMIT: usize = 1 << 32;
-
-/// LINKTYPE_ETHERNET, in the low 16 bits of the link.
-const ETHERNET: u32 = 1;
 
 /// How far a reader is.
 #[derive(Clone, Copy, Debug, PartialEq, Eq)]
@@ -33,10 +30,10 @@ pub(crate) fn header_stage(bytes: &[u8]) -> Stage
     if bytes.len() < 4 {
         return Stage::Heading;
     }
-    let Some(form) = form_of(bytes) else {
+    let Some(layout) = layout_of(bytes) else {
         return Stage::Stopped(PcapFault::BadMagic);
     };
-    let order = form.order;
+    let order = layout.order;
     if bytes.len() < 8 {
         return Stage::Heading;
     }
@@ -46,10 +43,11 @@ pub(crate) fn header_stage(bytes: &[u8]) -> Stage
     if bytes.len() < HEADER {
         return Stage::Heading;
     }
-    if order.read_u32(&bytes[20..]) % 65536 != ETHERNET {
+    let link = (order.read_u32(&bytes[20..]) % 65536) as u16;
+    if !is_link(link) {
         return Stage::Stopped(PcapFault::BadLink);
     }
-    Stage::Reading(form)
+    Stage::Reading(Form { layout, link })
 }
 
 // How many of the last bytes of a stream that long come too late for a frame.

@@ -140,7 +140,10 @@ fn each_field_that_counts_is_looked_at(rt: HostRuntime) -> Result<(), Fail> {
         ([(4, 1), (5, 0)], Some((8, PcapFault::BadVersion))),
         ([(4, 2), (6, 3)], Some((8, PcapFault::BadVersion))),
         ([(4, 0), (5, 2)], Some((8, PcapFault::BadVersion))),
-        ([(20, 113), (21, 0)], Some((24, PcapFault::BadLink))),
+        ([(20, 113), (21, 0)], None),
+        ([(20, 113), (21, 1)], Some((24, PcapFault::BadLink))),
+        ([(20, 112), (21, 0)], Some((24, PcapFault::BadLink))),
+        ([(20, 0), (21, 0)], Some((24, PcapFault::BadLink))),
         ([(20, 147), (21, 0)], Some((24, PcapFault::BadLink))),
         ([(20, 1), (21, 1)], Some((24, PcapFault::BadLink))),
         ([(22, 1), (23, 0x80)], None),
@@ -169,6 +172,22 @@ fn each_field_that_counts_is_looked_at(rt: HostRuntime) -> Result<(), Fail> {
             assert_eq!(rt; told.found.is_some(), place.is_some());
             if size == 1 {
                 assert_eq!(rt; told.found, place);
+            }
+        }
+    }
+    Ok(())
+}
+
+#[test]
+fn each_frame_has_the_link_of_its_file(rt: HostRuntime) -> Result<(), Fail> {
+    for link in [1, 113] {
+        let stream = with(little(), &[(20, link), (22, 9)]);
+        for size in [1, 59] {
+            let mut out: Vec<Frame> = Vec::new(rt.alloc());
+            let told = feed_all(rt.alloc(), &stream, size, &mut out)?;
+            assert_eq!(rt; (told.end, out.len()), (Ok(2), 2));
+            for frame in out.iter() {
+                assert_eq!(rt; frame.link, link as u16);
             }
         }
     }

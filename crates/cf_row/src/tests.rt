@@ -123,8 +123,9 @@ fn packets_have_the_fields_of_their_headers(rt: HostRuntime) -> Result<(), Fail>
         text.push_str(" ")?;
     }
     let wanted =
-        "ts caplen len dmac smac etype kind tos iplen ttl proto src dst sport dport seq ack flags win ";
+        "ts caplen len dmac smac etype kind tos iplen ttl proto src dst sport dport seq ack flags win vlan ";
     assert_eq!(rt; text.as_str(), wanted);
+    assert_eq!(rt; word_count(&schema), 20);
     assert_eq!(rt; Name::from_ascii(alloc, b"k0")?.as_str(), "k0");
     Ok(())
 }

@@ -181,7 +181,7 @@ fn faults_of_captures_are_told_with_their_records(rt: HostRuntime) -> Result<(),
     let table: [(usize, usize, u8, &[u8]); 8] = [
         (4, 0, 0x1f, b"capture: record 0 code 1\n"),
         (59, 6, 3, b"capture: record 0 code 2\n"),
-        (59, 20, 113, b"capture: record 0 code 3\n"),
+        (59, 20, 147, b"capture: record 0 code 3\n"),
         (40, 34, 4, b"capture: record 0 code 4\n"),
         (58, 0, 0xd4, b"capture: record 1 code 5\n"),
         (30, 0, 0xd4, b"capture: record 0 code 5\n"),
@@ -207,27 +207,67 @@ fn big_frames(alloc: Global) -> Result<Vec<u8>, Memory> {
     Ok(capture)
 }
 
-// A capture of one segment of TCP at the first second.
-fn segment(alloc: Global) -> Result<Vec<u8>, Memory> {
-    let mut capture = HEADER.to_vec(alloc)?;
-    capture.extend_from_slice(&[1, 0, 0, 0, 0, 0, 0, 0, 54, 0, 0, 0, 54, 0, 0, 0])?;
-    capture.extend_from_slice(&[2, 0, 0, 0, 0, 1, 2, 0, 0, 0, 0, 2, 8, 0])?;
-    capture.extend_from_slice(&[0x45, 0, 0, 40, 0, 0, 0, 0, 64, 6, 0, 0])?;
+// The addresses of an Ethernet header.
+const ADDRESSES: [u8; 12] = [2, 0, 0, 0, 0, 1, 2, 0, 0, 0, 0, 2];
+
+// A cooked frame's header before its type.
+const COOKED: [u8; 14] = [0, 0, 0, 1, 0, 6, 2, 0, 0, 0, 0, 2, 0, 0];
+
+// A capture of that link, of one frame at the first second: those bytes, the type of IPv4, and a segment of TCP.
+fn segment_after(alloc: Global, link: u8, front: &[u8]) -> Result<Vec<u8>, Memory> {
+    let mut capture = HEADER[..20].to_vec(alloc)?;
+    capture.extend_from_slice(&[link, 0, 0, 0])?;
+    let length = (front.len() % 200) as u8 + 42;
+    capture.extend_from_slice(&[1, 0, 0, 0, 0, 0, 0, 0])?;
+    capture.extend_from_slice(&[length, 0, 0, 0, length, 0, 0, 0])?;
+    capture.extend_from_slice(front)?;
+    capture.extend_from_slice(&[8, 0, 0x45, 0, 0, 40, 0, 0, 0, 0, 64, 6, 0, 0])?;
     capture.extend_from_slice(&[10, 0, 0, 12, 10, 0, 1, 10, 0x9d, 0x1b, 0, 80])?;
     capture.extend_from_slice(&[0, 0, 0, 0, 0, 0, 0, 0, 0x50, 0x10, 4, 0, 0, 0, 0, 0])?;
     Ok(capture)
 }
 
 fn dumped_segment(alloc: Global) -> Result<Vec<u8>, Memory> {
-    b"records 1\n0 ts=1000000000 caplen=54 len=54 dmac=0x020000000001 smac=0x020000000002 etype=2048 kind=2 tos=0 iplen=40 ttl=64 proto=6 src=10.0.0.12 dst=10.0.1.10 sport=40219 dport=80 seq=0 ack=0 flags=16 win=1024\n".to_vec(
+    b"records 1\n0 ts=1000000000 caplen=54 len=54 dmac=0x020000000001 smac=0x020000000002 etype=2048 kind=2 tos=0 iplen=40 ttl=64 proto=6 src=10.0.0.12 dst=10.0.1.10 sport=40219 dport=80 seq=0 ack=0 flags=16 win=1024 vlan=0\n".to_vec(
         alloc,
     )
 }
 
 #[test]
+fn tags_and_cooked_frames_are_dumped(rt: HostRuntime) -> Result<(), Fail> {
+    let alloc = rt.alloc();
+    let mut tagged = ADDRESSES.to_vec(alloc)?;
+    tagged.extend_from_slice(&[0x81, 0, 0x20, 5])?;
+    let table: [(u8, &[u8], &[u8]); 2] = [
+        (
+            1,
+            &tagged,
+            b"records 1\n0 ts=1000000000 caplen=58 len=58 dmac=0x020000000001 smac=0x020000000002 etype=2048 kind=2 tos=0 iplen=40 ttl=64 proto=6 src=10.0.0.12 dst=10.0.1.10 sport=40219 dport=80 seq=0 ack=0 flags=16 win=1024 vlan=5\n",
+        ),
+        (
+            113,
+            &COOKED,
+            b"records 1\n0 ts=1000000000 caplen=56 len=56 dmac=0x000000000000 smac=0x000000000000 etype=2048 kind=2 tos=0 iplen=40 ttl=64 proto=6 src=10.0.0.12 dst=10.0.1.10 sport=40219 dport=80 seq=0 ack=0 flags=16 win=1024 vlan=0\n",
+        ),
+    ];
+    for (link, front, text) in table {
+        let capture = segment_after(alloc, link, front)?;
+        expect(&rt, alloc, &["dump", "c"], (SETUP, &capture), (0, text))?;
+    }
+    // The number of a VLAN is asked for as other attributes are.
+    let setup = b"schema packet\nindex v vlan\nask five find v 5 5\nask none list vlan==0\n";
+    let report = b"records 1\nask five find 1: 0\nask none list 0:\norder 0*1\n";
+    let capture = segment_after(alloc, 1, &tagged)?;
+    expect(&rt, alloc, &WORDS, (setup, &capture), (0, report))?;
+    let capture = spoiled(alloc, 59, 20, 113)?;
+    expect(&rt, alloc, &WORDS, (SETUP, &capture), (0, REPORT))?;
+    Ok(())
+}
+
+#[test]
 fn a_capture_is_dumped_by_the_fields_of_its_headers(rt: HostRuntime) -> Result<(), Fail> {
     let alloc = rt.alloc();
-    let capture = segment(alloc)?;
+    let capture = segment_after(alloc, 1, &ADDRESSES)?;
     let text = dumped_segment(alloc)?;
     expect(&rt, alloc, &["dump", "c"], (SETUP, &capture), (0, &text))?;
     let setup = b"schema packet\nask web list dport==80 && src in 10.0.0.0/24\n";

@@ -8,7 +8,7 @@ use Rattle.cf_headers.proofs.packet.row_of.Goals as goal
 
 pub returns-clause-fits : goal.returns-clause-fits
 returns-clause-fits c =
-    let packet : Captured = record { num = c.args.num; ts = c.args.ts; caplen = c.args.caplen; len = c.args.len; bytes = c.args.bytes.now } in
+    let packet : Captured = record { num = c.args.num; ts = c.args.ts; caplen = c.args.caplen; len = c.args.len; link = c.args.link; bytes = c.args.bytes.now } in
     let fits = packet_fits packet c.ranges.ts.fits c.ranges.caplen.fits c.ranges.len.fits (λ i. omega (arith, c.type_inv.bytes i)) in
     let row : c.new.result ≡ packet_row_of packet = search rules in
     subst (λ (row : Numbered). Fits packet_attrs row) (sym row) fits

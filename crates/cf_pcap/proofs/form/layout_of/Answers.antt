@@ -1,23 +1,23 @@
 use Rattle.std.proofs.Common.{rules}
-use Rattle.cf_pcap.specs.Capture.{form_of}
-use Rattle.cf_pcap.proofs.form.form_of.Goals as goal
+use Rattle.cf_pcap.specs.Capture.{layout_of}
+use Rattle.cf_pcap.proofs.form.layout_of.Goals as goal
 
 pub returns-then-little : goal.returns-then-little
-unfolding form_of
+unfolding layout_of
 returns-then-little c = search rules
 
 pub returns-then-little-2 : goal.returns-then-little-2
-unfolding form_of
+unfolding layout_of
 returns-then-little-2 c = search rules
 
 pub returns-then-big : goal.returns-then-big
-unfolding form_of
+unfolding layout_of
 returns-then-big c = search rules
 
 pub returns-then-big-2 : goal.returns-then-big-2
-unfolding form_of
+unfolding layout_of
 returns-then-big-2 c = search rules
 
 pub returns : goal.returns
-unfolding form_of
+unfolding layout_of
 returns c = search rules
