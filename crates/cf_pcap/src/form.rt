@@ -18,7 +18,7 @@ const LINUX_SLL: u16 = 113;
 
 /// How numbers stand in the file.
 #[derive(Clone, Copy, Debug, PartialEq, Eq)]
-pub(crate) enum Order {
+pub enum Order {
     Little,
     Big,
 }
@@ -45,8 +45,8 @@ pub(crate) struct Form {
 }
 
 impl Order {
-    // The 16-bit number at the front of the bytes.
-    pub(crate) fn read_u16(self, bytes: &[u8]) -> u16
+    /// The 16-bit number at the front of the bytes.
+    pub fn read_u16(self, bytes: &[u8]) -> u16
         requires { 2 ≤ length bytes.now }
         ensures { result ≡ number_in self 2 bytes.now }
     {
@@ -56,8 +56,8 @@ impl Order {
         }
     }
 
-    // The 32-bit number at the front of the bytes.
-    pub(crate) fn read_u32(self, bytes: &[u8]) -> u32
+    /// The 32-bit number at the front of the bytes.
+    pub fn read_u32(self, bytes: &[u8]) -> u32
         requires { 4 ≤ length bytes.now }
         ensures { result ≡ number_in self 4 bytes.now }
     {

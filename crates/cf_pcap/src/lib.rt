@@ -10,6 +10,7 @@ mod records;
 mod stage;
 
 pub use fault::PcapFault;
+pub use form::Order;
 pub use frame::Frame;
 pub use laws::{a_found_fault_stays, each_file_is_in_one_case, each_stream_gives_one_list};
 pub use reader::Pcap;

@@ -1,0 +1,430 @@
+-- The step of a pcapng file finds what the rules say.
+use Rattle.std.proofs.Common.{◌≡◌, ◌⊎◌, inl, inr, ℕ, ◌<◌, ◌≤◌, ◌-◌, ◌%◌, ◌^◌, ◌==◌, ◌&&◌, eqb, eq-eqb, nat_le, Bool, true, false, List, length, take, drop, slice_get, Option, Some, None, Result, Ok, Err, refl, sym, ap, subst, ◌∙◌, arith}
+use Rattle.std.proofs.lemmas.Bool.{cases_lt, cases_eq}
+use Rattle.std.proofs.lemmas.Bool.Decides.{nat_tests}
+use Rattle.byteorder.specs.Endian.{little_number}
+use Rattle.cf_pcap.specs.declared.form.Order.{Order}
+use Rattle.cf_pcap.specs.Capture.{Captured, number_in}
+use Rattle.cf_stream.specs.Format.{Wants, Bad, Takes}
+use Rattle.cf_pcapng.specs.declared.fault.Flaw.{Flaw}
+use Rattle.cf_pcapng.specs.declared.fault.Flaw.TheVariants.{BadMagic, BadVersion, BadLink, FrameTooLong, BadLength, NoInterface}
+use Rattle.cf_pcapng.specs.declared.fault.NgFault.{NgFault}
+use Rattle.cf_pcapng.specs.declared.head.Kind.{Kind}
+use Rattle.cf_pcapng.specs.declared.head.Kind.TheVariants.{SectionHeader, InterfaceDescription, EnhancedPacket, SimplePacket, Other}
+use Rattle.cf_pcapng.specs.declared.head.Head.TheVariants.{Short, Flawed, Stands}
+use Rattle.cf_pcapng.specs.declared.content.Interface.{Interface}
+use Rattle.cf_pcapng.specs.declared.content.Packet.{Packet}
+use Rattle.cf_pcapng.specs.declared.content.Content.{Content}
+use Rattle.cf_pcapng.specs.declared.content.Content.TheVariants.{NewSection, NewInterface, Captures, Nothing}
+use Rattle.cf_pcapng.specs.Blocks.{is_section, kind_of, order_at, least, is_within, is_total, total_at, sized, in_order, block_head, head_of, is_link, packet_of, enhanced_packet, enhanced_of, simple_packet, simple_of, stated, last_total, content_of, interface_at}
+use Rattle.cf_pcapng.specs.File.{State, fault_of, frames_of, after, block_found, step}
+use Rattle.cf_pcapng.specs.Rules.{IsSectionType, IsType, BeginsAs, IsLawfulTotal, HasHead, BreaksRule1, BreaksRule2, BreaksRule3, HeadBreaks, IsLink, PacketBreaks, IsLawfulPacket, PacketOfBreaks, PacketOfStates, BlockBreaks, BlockStates, HasBlock, HasFlaw, IsBlock, StepsByRules}
+use Rattle.cf_pcapng.proofs.Heads.{head_section, head_block, section_long, block_long, head_short, section_short, block_short, both_true, at_least, at_most}
+use Rattle.cf_pcapng.proofs.Steps.{Shown, step_at, found_short, found_whole, length_front}
+
+err_same : (a b : Flaw) → ◌≡◌ {A = Result Content Flaw} (Err a) (Err b) → a ≡ b
+err_same a b h = cc
+
+ok_same : (a b : Content) → ◌≡◌ {A = Result Content Flaw} (Ok a) (Ok b) → a ≡ b
+ok_same a b h = cc
+
+ok_err : (a : Content) (b : Flaw) → ◌≡◌ {A = Result Content Flaw} (Ok a) (Err b) → ⊥
+ok_err a b h = cc
+
+-- Rules 7 to 9.
+
+link_case : (link : ℕ) → (IsLink link × (is_link link ≡ true)) ⊎ ((IsLink link → ⊥) × (is_link link ≡ false))
+link_case link = elim (cases_eq link 1) [
+  | inl one ↦ inl (inl one, let test : eqb link 1 ≡ true = eq-eqb link 1 one in rw test refl)
+  | inr other ↦ elim (cases_eq link 113) [
+    | inl sll ↦ inl (inr sll, grind (arith, nat_tests))
+    | inr none ↦ inr ((λ h. elim h [ inl a ↦ other a | inr b ↦ none b ]), grind (arith, nat_tests))
+  ]
+]
+
+test_le : (n m : ℕ) → n ≤ m → nat_le n m ≡ true
+test_le n m h = grind (arith, nat_tests)
+
+test_gt : (n m : ℕ) → m < n → nat_le n m ≡ false
+test_gt n m h = grind (arith, nat_tests)
+
+packet_other : (link room : ℕ) (packet : Packet) → is_link link ≡ false → packet_of link room packet ≡ Err BadLink
+unfolding packet_of
+packet_other link room packet h = rw h refl
+
+packet_long : (link room : ℕ) (packet : Packet) → is_link link ≡ true → 262144 < packet.caplen → packet_of link room packet ≡ Err FrameTooLong
+unfolding packet_of
+packet_long link room packet h long = rw (h, test_gt packet.caplen 262144 long) refl
+
+packet_over : (link room : ℕ) (packet : Packet) → is_link link ≡ true → packet.caplen ≤ 262144 → room < packet.caplen → packet_of link room packet ≡ Err BadLength
+unfolding packet_of
+packet_over link room packet h short over = rw (h, test_le packet.caplen 262144 short, test_gt packet.caplen room over) refl
+
+packet_fits : (link room : ℕ) (packet : Packet) → is_link link ≡ true → packet.caplen ≤ 262144 → packet.caplen ≤ room → packet_of link room packet ≡ Ok (Captures packet)
+unfolding packet_of
+packet_fits link room packet h short fits = rw (h, test_le packet.caplen 262144 short, test_le packet.caplen room fits) refl
+
+-- what a packet comes to
+data PacketCase (link room : ℕ) (packet : Packet) : Type 0 where
+  Broken : (flaw : Flaw) → packet_of link room packet ≡ Err flaw → PacketBreaks link room packet flaw → PacketCase link room packet
+  Lawful : packet_of link room packet ≡ Ok (Captures packet) → IsLawfulPacket link room packet → PacketCase link room packet
+
+packet_case : (link room : ℕ) (packet : Packet) → PacketCase link room packet
+packet_case link room packet = elim (link_case link) [
+  | inr other ↦ Broken BadLink (packet_other link room packet other.1) other.0
+  | inl is ↦ elim (cases_lt 262144 packet.caplen) [
+    | inl long ↦ Broken FrameTooLong (packet_long link room packet is.1 long) (is.0, long)
+    | inr short ↦ elim (cases_lt room packet.caplen) [
+      | inl over ↦ Broken BadLength (packet_over link room packet is.1 short over) (is.0, short, over)
+      | inr fits ↦ Lawful (packet_fits link room packet is.1 short fits) (record { link_is = is.0; short = short; fits = fits })
+    ]
+  ]
+]
+
+link_is_true : (link : ℕ) → IsLink link → is_link link ≡ true
+link_is_true link h = elim (link_case link) [
+  | inl is ↦ is.1
+  | inr other ↦ absurd (other.0 h)
+]
+
+link_is_false : (link : ℕ) → (IsLink link → ⊥) → is_link link ≡ false
+link_is_false link h = elim (link_case link) [
+  | inl is ↦ absurd (h is.0)
+  | inr other ↦ other.1
+]
+
+packet_broken : (link room : ℕ) (packet : Packet) (flaw : Flaw) → PacketBreaks link room packet flaw → packet_of link room packet ≡ Err flaw
+packet_broken link room packet BadLink h = packet_other link room packet (link_is_false link h)
+packet_broken link room packet FrameTooLong h = packet_long link room packet (link_is_true link h.0) h.1
+packet_broken link room packet BadLength h = packet_over link room packet (link_is_true link h.0) h.1 h.2
+packet_broken link room packet BadMagic h = absurd h
+packet_broken link room packet BadVersion h = absurd h
+packet_broken link room packet NoInterface h = absurd h
+
+-- Rules 5 to 9.
+
+-- what a whole block comes to
+data BlockCase (found : Result Content Flaw) (Breaks : Flaw → Type 0) (States : Content → Type 0) : Type 0 where
+  Breaking : (flaw : Flaw) → found ≡ Err flaw → Breaks flaw → BlockCase found Breaks States
+  Stating : (content : Content) → found ≡ Ok content → States content → BlockCase found Breaks States
+
+by_packet : (interface : Interface) (room : ℕ) (packet : Interface → Packet) → PacketCase interface.link room (packet interface) → BlockCase (packet_of interface.link room (packet interface)) (PacketOfBreaks (Some interface) room packet) (PacketOfStates (Some interface) room packet)
+by_packet interface room packet (Broken flaw is h) = Breaking flaw is h
+by_packet interface room packet (Lawful is h) = Stating (Captures (packet interface)) is (h, refl)
+
+enhanced_case : (found : Option Interface) (order : Order) (block : List ℕ) → BlockCase (enhanced_of found order block) (PacketOfBreaks found (length block - 32) (λ i. enhanced_packet i order block)) (PacketOfStates found (length block - 32) (λ i. enhanced_packet i order block))
+enhanced_case None order block = Breaking NoInterface refl refl
+enhanced_case (Some interface) order block = by_packet interface (length block - 32) (λ i. enhanced_packet i order block) (packet_case interface.link (length block - 32) (enhanced_packet interface order block))
+
+simple_case : (found : Option Interface) (order : Order) (block : List ℕ) → BlockCase (simple_of found order block) (PacketOfBreaks found (length block - 16) (λ i. simple_packet i order block)) (PacketOfStates found (length block - 16) (λ i. simple_packet i order block))
+simple_case None order block = Breaking NoInterface refl refl
+simple_case (Some interface) order block = by_packet interface (length block - 16) (λ i. simple_packet i order block) (packet_case interface.link (length block - 16) (simple_packet interface order block))
+
+section_true : (interfaces : List Interface) (order : Order) (block : List ℕ) → number_in order 2 (drop 12 block) ≡ 1 → stated interfaces order SectionHeader block ≡ Ok (NewSection order)
+section_true interfaces order block h = let test : eqb (number_in order 2 (drop 12 block)) 1 ≡ true = eq-eqb (number_in order 2 (drop 12 block)) 1 h in rw test refl
+
+section_false : (interfaces : List Interface) (order : Order) (block : List ℕ) → (number_in order 2 (drop 12 block) ≡ 1 → ⊥) → stated interfaces order SectionHeader block ≡ Err BadVersion
+section_false interfaces order block h = let test : eqb (number_in order 2 (drop 12 block)) 1 ≡ false = grind (arith, nat_tests) in rw test refl
+
+stated_case : (interfaces : List Interface) (order : Order) (kind : Kind) (block : List ℕ) → BlockCase (stated interfaces order kind block) (BlockBreaks interfaces order kind block) (BlockStates interfaces order kind block)
+stated_case interfaces order SectionHeader block = elim (cases_eq (number_in order 2 (drop 12 block)) 1) [
+  | inl one ↦ Stating (NewSection order) (section_true interfaces order block one) (one, refl)
+  | inr other ↦ Breaking BadVersion (section_false interfaces order block other) (refl, other)
+]
+stated_case interfaces order InterfaceDescription block = Stating (NewInterface (interface_at order block)) refl refl
+stated_case interfaces order EnhancedPacket block = enhanced_case (slice_get interfaces (number_in order 4 (drop 8 block))) order block
+stated_case interfaces order SimplePacket block = simple_case (slice_get interfaces 0) order block
+stated_case interfaces order Other block = Stating Nothing refl refl
+
+packet_of_broken : (found : Option Interface) (room : ℕ) (packet : Interface → Packet) (flaw : Flaw) (result : Result Content Flaw) → ((is : found ≡ None) → result ≡ Err NoInterface) → ((i : Interface) → found ≡ Some i → result ≡ packet_of i.link room (packet i)) → PacketOfBreaks found room packet flaw → result ≡ Err flaw
+packet_of_broken None room packet flaw result none some h = none refl ∙ ap (λ (f : Flaw). Err f) (sym h)
+packet_of_broken (Some interface) room packet flaw result none some h = some interface refl ∙ packet_broken interface.link room (packet interface) flaw h
+
+packet_of_lawful : (found : Option Interface) (room : ℕ) (packet : Interface → Packet) (content : Content) (result : Result Content Flaw) → ((i : Interface) → found ≡ Some i → result ≡ packet_of i.link room (packet i)) → PacketOfStates found room packet content → result ≡ Ok content
+packet_of_lawful None room packet content result some h = absurd h
+packet_of_lawful (Some interface) room packet content result some h =
+    some interface refl ∙ packet_fits interface.link room (packet interface) (link_is_true interface.link h.0.link_is) h.0.short h.0.fits ∙ ap (λ (c : Content). Ok c) (sym h.1)
+
+stated_broken : (interfaces : List Interface) (order : Order) (kind : Kind) (block : List ℕ) (flaw : Flaw) → BlockBreaks interfaces order kind block flaw → stated interfaces order kind block ≡ Err flaw
+stated_broken interfaces order SectionHeader block flaw h = section_false interfaces order block h.1 ∙ ap (λ (f : Flaw). Err f) (sym h.0)
+stated_broken interfaces order InterfaceDescription block flaw h = absurd h
+stated_broken interfaces order EnhancedPacket block flaw h =
+    packet_of_broken (slice_get interfaces (number_in order 4 (drop 8 block))) (length block - 32) (λ i. enhanced_packet i order block) flaw (stated interfaces order EnhancedPacket block) (λ is. ap (λ (o : Option Interface). enhanced_of o order block) is) (λ i is. ap (λ (o : Option Interface). enhanced_of o order block) is) h
+stated_broken interfaces order SimplePacket block flaw h =
+    packet_of_broken (slice_get interfaces 0) (length block - 16) (λ i. simple_packet i order block) flaw (stated interfaces order SimplePacket block) (λ is. ap (λ (o : Option Interface). simple_of o order block) is) (λ i is. ap (λ (o : Option Interface). simple_of o order block) is) h
+stated_broken interfaces order Other block flaw h = absurd h
+
+stated_lawful : (interfaces : List Interface) (order : Order) (kind : Kind) (block : List ℕ) (content : Content) → BlockStates interfaces order kind block content → stated interfaces order kind block ≡ Ok content
+stated_lawful interfaces order SectionHeader block content h = section_true interfaces order block h.0 ∙ ap (λ (c : Content). Ok c) (sym h.1)
+stated_lawful interfaces order InterfaceDescription block content h = ap (λ (c : Content). Ok c) (sym h)
+stated_lawful interfaces order EnhancedPacket block content h =
+    packet_of_lawful (slice_get interfaces (number_in order 4 (drop 8 block))) (length block - 32) (λ i. enhanced_packet i order block) content (stated interfaces order EnhancedPacket block) (λ i is. ap (λ (o : Option Interface). enhanced_of o order block) is) h
+stated_lawful interfaces order SimplePacket block content h =
+    packet_of_lawful (slice_get interfaces 0) (length block - 16) (λ i. simple_packet i order block) content (stated interfaces order SimplePacket block) (λ i is. ap (λ (o : Option Interface). simple_of o order block) is) h
+stated_lawful interfaces order Other block content h = ap (λ (c : Content). Ok c) (sym h)
+
+-- Rule 4.
+
+closed : (interfaces : List Interface) (order : Order) (kind : Kind) (block : List ℕ) → last_total order block ≡ length block → content_of interfaces order kind block ≡ stated interfaces order kind block
+unfolding content_of
+closed interfaces order kind block h = let same : eqb (last_total order block) (length block) ≡ true = eq-eqb (last_total order block) (length block) h in rw same refl
+
+not_closed : (interfaces : List Interface) (order : Order) (kind : Kind) (block : List ℕ) → (last_total order block ≡ length block → ⊥) → content_of interfaces order kind block ≡ Err BadLength
+unfolding content_of
+not_closed interfaces order kind block h = let other : eqb (last_total order block) (length block) ≡ false = grind (arith, nat_tests) in rw other refl
+
+-- Rules 1 to 3.
+
+all_true : (a b c : Bool) → a ≡ true → b ≡ true → c ≡ true → (a && b) && c ≡ true
+all_true a b c p q r = rw (p, q, r) refl
+
+within_true : (kind : Kind) (n : ℕ) → ((kind ≡ Other → ⊥) → n ≤ 2 ^ 20) → is_within kind n ≡ true
+within_true SectionHeader n h = test_le n (2 ^ 20) (h (λ e. cc))
+within_true InterfaceDescription n h = test_le n (2 ^ 20) (h (λ e. cc))
+within_true EnhancedPacket n h = test_le n (2 ^ 20) (h (λ e. cc))
+within_true SimplePacket n h = test_le n (2 ^ 20) (h (λ e. cc))
+within_true Other n h = refl
+
+total_true : (kind : Kind) (n : ℕ) → IsLawfulTotal kind n → is_total kind n ≡ true
+total_true kind n h = all_true (n % 4 == 0) (nat_le (least kind) n) (is_within kind n) (eq-eqb (n % 4) 0 h.fours) (test_le (least kind) n h.enough) (within_true kind n h.most)
+
+total_lawful : (kind : Kind) (n : ℕ) → is_total kind n ≡ true → IsLawfulTotal kind n
+total_lawful kind n h =
+    let front = both_true ((n % 4 == 0) && nat_le (least kind) n) (is_within kind n) h in
+    let mid = both_true (n % 4 == 0) (nat_le (least kind) n) front.0 in
+    let fours : eqb (n % 4) 0 ≡ true = mid.0 in
+    record { fours = eqb_eq (n % 4) 0 fours; enough = at_least kind n h; most = λ other. at_most kind n h other } where
+      eqb_eq : (a b : ℕ) → eqb a b ≡ true → a ≡ b
+      eqb_eq a b h = grind (arith, nat_tests)
+
+bool_case : (b : Bool) → (b ≡ true) ⊎ (b ≡ false)
+bool_case true = inl refl
+bool_case false = inr refl
+
+true_false : (b : Bool) → b ≡ true → b ≡ false → ⊥
+true_false b p q = cc
+
+sized_true : (order : Order) (kind : Kind) (bytes : List ℕ) → is_total kind (total_at order bytes) ≡ true → sized order kind bytes ≡ Stands order kind (total_at order bytes)
+unfolding sized
+sized_true order kind bytes h = rw h refl
+
+sized_false : (order : Order) (kind : Kind) (bytes : List ℕ) → is_total kind (total_at order bytes) ≡ false → sized order kind bytes ≡ Flawed BadLength
+unfolding sized
+sized_false order kind bytes h = rw h refl
+
+section_yes : (bytes : List ℕ) → IsSectionType bytes → is_section bytes ≡ true
+section_yes bytes h = eq-eqb (little_number 4 bytes) 0x0a0d0d0a h
+
+section_no : (bytes : List ℕ) → (IsSectionType bytes → ⊥) → is_section bytes ≡ false
+section_no bytes h = elim (bool_case (is_section bytes)) [
+  | inl is ↦ absurd (h (section_type bytes is))
+  | inr other ↦ other
+] where
+  section_type : (bytes : List ℕ) → eqb (little_number 4 bytes) 0x0a0d0d0a ≡ true → little_number 4 bytes ≡ 0x0a0d0d0a
+  section_type bytes is = grind (arith, nat_tests)
+
+type_yes : (bytes : List ℕ) → is_section bytes ≡ true → IsSectionType bytes
+type_yes bytes is = grind (arith, nat_tests)
+
+kind_true : (kind : Kind) (n : ℕ) → IsType kind n → kind_of n ≡ kind
+kind_true SectionHeader n h = absurd h
+kind_true InterfaceDescription n h = rw h refl
+kind_true EnhancedPacket n h = rw h refl
+kind_true SimplePacket n h = rw h refl
+kind_true Other n h = grind (arith, nat_tests)
+
+kind_is : (n : ℕ) → IsType (kind_of n) n
+kind_is n = elim (cases_eq n 1) [
+  | inl one ↦ subst (λ (m : ℕ). IsType (kind_of m) m) (sym one) refl
+  | inr a ↦ elim (cases_eq n 6) [
+    | inl six ↦ subst (λ (m : ℕ). IsType (kind_of m) m) (sym six) refl
+    | inr b ↦ elim (cases_eq n 3) [
+      | inl three ↦ subst (λ (m : ℕ). IsType (kind_of m) m) (sym three) refl
+      | inr c ↦ subst (λ (k : Kind). IsType k n) (sym (kind_true Other n (a, b, c))) (a, b, c)
+    ]
+  ]
+]
+
+-- a block that begins is judged by its total length
+begins_head : (section : Option Order) (bytes : List ℕ) (order : Order) (kind : Kind) → BeginsAs section bytes order kind → head_of section bytes ≡ sized order kind bytes
+begins_head section bytes order kind (inl (is, h)) =
+    let size : 12 ≤ length bytes = h.size in
+    head_section section bytes (omega (arith, size)) (section_yes bytes h.type_is)
+    ∙ section_long bytes size
+    ∙ ap (λ (o : Option Order). in_order o bytes) h.magic
+    ∙ ap (λ (k : Kind). sized order k bytes) (sym is)
+begins_head section bytes order kind (inr h) =
+    let size : 8 ≤ length bytes = h.size in
+    head_block section bytes (omega (arith, size)) (section_no bytes h.other)
+    ∙ ap (λ (o : Option Order). block_head o bytes) h.within
+    ∙ block_long order bytes size
+    ∙ ap (λ (k : Kind). sized order k bytes) (kind_true kind (number_in order 4 bytes) h.type_is)
+
+head_stands : (section : Option Order) (bytes : List ℕ) (order : Order) (kind : Kind) (total : ℕ) → HasHead section bytes order kind total → head_of section bytes ≡ Stands order kind total
+head_stands section bytes order kind total h =
+    begins_head section bytes order kind h.begins
+    ∙ sized_true order kind bytes (total_true kind (total_at order bytes) (subst (IsLawfulTotal kind) h.total_is h.lawful))
+    ∙ ap (λ n. Stands order kind n) (sym h.total_is)
+
+head_flawed : (section : Option Order) (bytes : List ℕ) (flaw : Flaw) → HeadBreaks section bytes flaw → head_of section bytes ≡ Flawed flaw
+head_flawed section bytes BadMagic (inl h) =
+    head_block section bytes h.size (section_no bytes h.other) ∙ ap (λ (o : Option Order). block_head o bytes) h.outside
+head_flawed section bytes BadMagic (inr h) =
+    let size : 12 ≤ length bytes = h.size in
+    head_section section bytes (omega (arith, size)) (section_yes bytes h.type_is) ∙ section_long bytes size ∙ ap (λ (o : Option Order). in_order o bytes) h.magic
+head_flawed section bytes BadLength h =
+    begins_head section bytes h.order h.kind h.begins ∙ sized_false h.order h.kind bytes (elim (bool_case (is_total h.kind (total_at h.order bytes))) [
+      | inl lawful ↦ absurd (h.total (total_lawful h.kind (total_at h.order bytes) lawful))
+      | inr other ↦ other
+    ])
+head_flawed section bytes BadVersion h = absurd h
+head_flawed section bytes BadLink h = absurd h
+head_flawed section bytes FrameTooLong h = absurd h
+head_flawed section bytes NoInterface h = absurd h
+
+-- what a head comes to
+data HeadCase (section : Option Order) (bytes : List ℕ) : Type 0 where
+  Unseen : head_of section bytes ≡ Short → HeadCase section bytes
+  Breaking : (flaw : Flaw) → head_of section bytes ≡ Flawed flaw → HeadBreaks section bytes flaw → HeadCase section bytes
+  Standing : (order : Order) (kind : Kind) (total : ℕ) → head_of section bytes ≡ Stands order kind total → HasHead section bytes order kind total → HeadCase section bytes
+
+by_size : (section : Option Order) (bytes : List ℕ) (order : Order) (kind : Kind) → BeginsAs section bytes order kind → HeadCase section bytes
+by_size section bytes order kind h = elim (bool_case (is_total kind (total_at order bytes))) [
+  | inl lawful ↦
+      let head : HasHead section bytes order kind (total_at order bytes) = record { begins = h; total_is = refl; lawful = total_lawful kind (total_at order bytes) lawful } in
+      Standing order kind (total_at order bytes) (head_stands section bytes order kind (total_at order bytes) head) head
+  | inr other ↦
+      let breaks : BreaksRule3 section bytes = record { order = order; kind = kind; begins = h; total = λ l. true_false (is_total kind (total_at order bytes)) (total_true kind (total_at order bytes) l) other } in
+      Breaking BadLength (head_flawed section bytes BadLength breaks) breaks
+]
+
+by_magic : (section found : Option Order) (bytes : List ℕ) → 12 ≤ length bytes → IsSectionType bytes → order_at bytes ≡ found → HeadCase section bytes
+by_magic section None bytes size is h =
+    let breaks : BreaksRule2 bytes = record { size = size; type_is = is; magic = h } in
+    Breaking BadMagic (head_flawed section bytes BadMagic (inr breaks)) (inr breaks)
+by_magic section (Some order) bytes size is h = by_size section bytes order SectionHeader (inl (refl, record { size = size; type_is = is; magic = h }))
+
+by_section : (section found : Option Order) (bytes : List ℕ) → 4 ≤ length bytes → (IsSectionType bytes → ⊥) → section ≡ found → HeadCase section bytes
+by_section section None bytes size other h =
+    let breaks : BreaksRule1 section bytes = record { size = size; outside = h; other = other } in
+    Breaking BadMagic (head_flawed section bytes BadMagic (inl breaks)) (inl breaks)
+by_section section (Some order) bytes size other h = elim (cases_lt (length bytes) 8) [
+  | inl short ↦ Unseen (head_block section bytes size (section_no bytes other) ∙ ap (λ (o : Option Order). block_head o bytes) h ∙ block_short order bytes short)
+  | inr whole ↦ by_size section bytes order (kind_of (number_in order 4 bytes)) (inr (record { size = whole; other = other; within = h; type_is = kind_is (number_in order 4 bytes) }))
+]
+
+head_case : (section : Option Order) (bytes : List ℕ) → HeadCase section bytes
+head_case section bytes = elim (cases_lt (length bytes) 4) [
+  | inl short ↦ Unseen (head_short section bytes short)
+  | inr long ↦ elim (cases_eq (little_number 4 bytes) 0x0a0d0d0a) [
+    | inr other ↦ by_section section section bytes long other refl
+    | inl is ↦ elim (cases_lt (length bytes) 12) [
+      | inl short ↦ Unseen (head_section section bytes long (section_yes bytes is) ∙ section_short bytes short)
+      | inr whole ↦ by_magic section (order_at bytes) bytes whole is refl
+    ]
+  ]
+]
+
+-- The step.
+
+-- what the bytes at the front come to
+data StepCase (s : State) (bytes : List ℕ) : Type 0 where
+  Wanting : step s bytes ≡ Wants → StepCase s bytes
+  Flaws : (flaw : Flaw) → step s bytes ≡ Bad (fault_of s.count flaw) → HasFlaw s bytes flaw → StepCase s bytes
+  Block : (n : ℕ) (content : Content) → step s bytes ≡ Takes n (frames_of s.count content (take n bytes)) (after s content) → IsBlock s bytes n (frames_of s.count content (take n bytes)) (after s content) → StepCase s bytes
+
+step_content : (s : State) (bytes : List ℕ) (order : Order) (kind : Kind) (total : ℕ) (found : Result Content Flaw) → HasBlock s.order bytes order kind total → content_of s.interfaces order kind (take total bytes) ≡ found → step s bytes ≡ block_found s (take total bytes) found
+step_content s bytes order kind total found h is =
+    step_at s bytes (Stands order kind total) (head_stands s.order bytes order kind total h.head)
+    ∙ found_whole s bytes order kind total h.whole
+    ∙ ap (λ (x : Result Content Flaw). block_found s (take total bytes) x) is
+
+step_block : (s : State) (bytes : List ℕ) (order : Order) (kind : Kind) (total : ℕ) (content : Content) → HasBlock s.order bytes order kind total → last_total order (take total bytes) ≡ total → BlockStates s.interfaces order kind (take total bytes) content → step s bytes ≡ Takes total (frames_of s.count content (take total bytes)) (after s content)
+step_block s bytes order kind total content h last states =
+    let size : length (take total bytes) ≡ total = length_front total bytes h.whole in
+    step_content s bytes order kind total (Ok content) h (closed s.interfaces order kind (take total bytes) (last ∙ sym size) ∙ stated_lawful s.interfaces order kind (take total bytes) content states)
+    ∙ ap (λ n. Takes n (frames_of s.count content (take total bytes)) (after s content)) size
+
+step_flawed : (s : State) (bytes : List ℕ) (flaw : Flaw) → HasFlaw s bytes flaw → step s bytes ≡ Bad (fault_of s.count flaw)
+step_flawed s bytes flaw (inl h) = step_at s bytes (Flawed flaw) (head_flawed s.order bytes flaw h)
+step_flawed s bytes flaw (inr (inl h)) =
+    let it = h.1 in
+    let size : length (take it.total bytes) ≡ it.total = length_front it.total bytes it.block.whole in
+    step_content s bytes it.order it.kind it.total (Err BadLength) it.block (not_closed s.interfaces it.order it.kind (take it.total bytes) (λ e. it.last (e ∙ size)))
+    ∙ ap (λ (f : Flaw). Bad (fault_of s.count f)) (sym h.0)
+step_flawed s bytes flaw (inr (inr it)) =
+    let size : length (take it.total bytes) ≡ it.total = length_front it.total bytes it.block.whole in
+    step_content s bytes it.order it.kind it.total (Err flaw) it.block (closed s.interfaces it.order it.kind (take it.total bytes) (it.last ∙ sym size) ∙ stated_broken s.interfaces it.order it.kind (take it.total bytes) flaw it.breaks)
+
+by_content : (s : State) (bytes : List ℕ) (order : Order) (kind : Kind) (total : ℕ) → HasBlock s.order bytes order kind total → last_total order (take total bytes) ≡ total → BlockCase (stated s.interfaces order kind (take total bytes)) (BlockBreaks s.interfaces order kind (take total bytes)) (BlockStates s.interfaces order kind (take total bytes)) → StepCase s bytes
+by_content s bytes order kind total block last (Breaking flaw is h) =
+    let breaks : HasFlaw s bytes flaw = inr (inr (record { order = order; kind = kind; total = total; block = block; last = last; breaks = h })) in
+    Flaws flaw (step_flawed s bytes flaw breaks) breaks
+by_content s bytes order kind total block last (Stating content is h) =
+    Block total content (step_block s bytes order kind total content block last h) (record { order = order; kind = kind; content = content; block = block; last = last; states = h; frames_are = refl; after_is = refl })
+
+by_block : (s : State) (bytes : List ℕ) (order : Order) (kind : Kind) (total : ℕ) → HasBlock s.order bytes order kind total → StepCase s bytes
+by_block s bytes order kind total block = elim (cases_eq (last_total order (take total bytes)) total) [
+  | inl last ↦ by_content s bytes order kind total block last (stated_case s.interfaces order kind (take total bytes))
+  | inr other ↦
+      let breaks : HasFlaw s bytes BadLength = inr (inl (refl, record { order = order; kind = kind; total = total; block = block; last = other })) in
+      Flaws BadLength (step_flawed s bytes BadLength breaks) breaks
+]
+
+by_head : (s : State) (bytes : List ℕ) → HeadCase s.order bytes → StepCase s bytes
+by_head s bytes (Unseen is) = Wanting (step_at s bytes Short is)
+by_head s bytes (Breaking flaw is h) = Flaws flaw (step_flawed s bytes flaw (inl h)) (inl h)
+by_head s bytes (Standing order kind total is h) = elim (cases_lt (length bytes) total) [
+  | inl short ↦ Wanting (step_at s bytes (Stands order kind total) is ∙ found_short s bytes order kind total short)
+  | inr whole ↦ by_block s bytes order kind total (record { head = h; whole = whole })
+]
+
+wants_bad : (fault : NgFault) → ◌≡◌ {A = Shown} Wants (Bad fault) → ⊥
+wants_bad fault h = cc
+
+wants_takes : (n : ℕ) (frames : List Captured) (t : State) → ◌≡◌ {A = Shown} Wants (Takes n frames t) → ⊥
+wants_takes n frames t h = cc
+
+bad_takes : (fault : NgFault) (n : ℕ) (frames : List Captured) (t : State) → ◌≡◌ {A = Shown} (Bad fault) (Takes n frames t) → ⊥
+bad_takes fault n frames t h = cc
+
+bad_same : (a b : NgFault) → ◌≡◌ {A = Shown} (Bad a) (Bad b) → a ≡ b
+bad_same a b h = cc
+
+takes_size : (n m : ℕ) (a b : List Captured) (t u : State) → ◌≡◌ {A = Shown} (Takes n a t) (Takes m b u) → n ≡ m
+takes_size n m a b t u h = cc
+
+takes_frames : (n m : ℕ) (a b : List Captured) (t u : State) → ◌≡◌ {A = Shown} (Takes n a t) (Takes m b u) → a ≡ b
+takes_frames n m a b t u h = cc
+
+takes_state : (n m : ℕ) (a b : List Captured) (t u : State) → ◌≡◌ {A = Shown} (Takes n a t) (Takes m b u) → t ≡ u
+takes_state n m a b t u h = cc
+
+bad_by_rules : (s : State) (bytes : List ℕ) (fault : NgFault) → step s bytes ≡ Bad fault → StepCase s bytes → (flaw : Flaw) × (fault ≡ fault_of s.count flaw) × HasFlaw s bytes flaw
+bad_by_rules s bytes fault h (Wanting is) = absurd (wants_bad fault (sym is ∙ h))
+bad_by_rules s bytes fault h (Flaws flaw is breaks) = (flaw, bad_same fault (fault_of s.count flaw) (sym h ∙ is), breaks)
+bad_by_rules s bytes fault h (Block n content is block) = absurd (bad_takes fault n (frames_of s.count content (take n bytes)) (after s content) (sym h ∙ is))
+
+takes_by_rules : (s : State) (bytes : List ℕ) (n : ℕ) (frames : List Captured) (t : State) → step s bytes ≡ Takes n frames t → StepCase s bytes → IsBlock s bytes n frames t
+takes_by_rules s bytes n frames t h (Wanting is) = absurd (wants_takes n frames t (sym is ∙ h))
+takes_by_rules s bytes n frames t h (Flaws flaw is breaks) = absurd (bad_takes (fault_of s.count flaw) n frames t (sym is ∙ h))
+takes_by_rules s bytes n frames t h (Block m content is block) =
+    let given : List Captured = frames_of s.count content (take m bytes) in
+    let next : State = after s content in
+    subst (λ (k : ℕ). IsBlock s bytes k frames t) (takes_size m n given frames next t (sym is ∙ h))
+    (subst (λ (x : List Captured). IsBlock s bytes m x t) (takes_frames m n given frames next t (sym is ∙ h))
+    (subst (λ (x : State). IsBlock s bytes m given x) (takes_state m n given frames next t (sym is ∙ h)) block))
+
+block_taken : (s : State) (bytes : List ℕ) (n : ℕ) (frames : List Captured) (t : State) → IsBlock s bytes n frames t → step s bytes ≡ Takes n frames t
+block_taken s bytes n frames t h =
+    step_block s bytes h.order h.kind n h.content h.block h.last h.states
+    ∙ ap (λ (x : List Captured). Takes n x (after s h.content)) (sym h.frames_are)
+    ∙ ap (λ (x : State). Takes n frames x) (sym h.after_is)
+
+pub steps_by_rules : (s : State) (bytes : List ℕ) → StepsByRules s bytes
+steps_by_rules s bytes = record {
+  bad = λ fault h. bad_by_rules s bytes fault h (by_head s bytes (head_case s.order bytes));
+  flaw = step_flawed s bytes;
+  takes = λ n frames t h. takes_by_rules s bytes n frames t h (by_head s bytes (head_case s.order bytes));
+  block = block_taken s bytes;
+}

@@ -1,0 +1,159 @@
+-- What the bytes at the front show.
+use Rattle.std.proofs.Common.{◌≡◌, inl, inr, ℕ, ◌<◌, ◌≤◌, ◌+◌, List, [], ◌++◌, length, take, Result, Ok, Err, refl, sym, ap, subst, ◌∙◌, arith, length-append, length-take}
+use Rattle.std.proofs.lemmas.Bool.{cases_lt}
+use Rattle.std.proofs.lemmas.List.{take-append-le}
+use Rattle.cf_pcap.specs.declared.form.Order.{Order}
+use Rattle.cf_pcap.specs.Capture.{Captured}
+use Rattle.cf_stream.specs.Format.{Found, Wants, Bad, Takes}
+use Rattle.cf_stream.specs.Stream.{IsStepper}
+use Rattle.cf_pcapng.specs.declared.fault.Flaw.{Flaw}
+use Rattle.cf_pcapng.specs.declared.fault.NgFault.{NgFault}
+use Rattle.cf_pcapng.specs.declared.head.Kind.{Kind}
+use Rattle.cf_pcapng.specs.declared.head.Head.{Head}
+use Rattle.cf_pcapng.specs.declared.head.Head.TheVariants.{Short, Flawed, Stands}
+use Rattle.cf_pcapng.specs.declared.content.Content.{Content}
+use Rattle.cf_pcapng.specs.declared.content.Content.TheVariants.{NewSection, NewInterface, Captures, Nothing}
+use Rattle.cf_pcapng.specs.Blocks.{least, head_of, content_of}
+use Rattle.cf_pcapng.specs.File.{State, fault_of, frames_of, after, block_found, found_at, step, pcapng}
+use Rattle.cf_pcapng.proofs.Heads.{below, not_below, head_short, head_stays, Standing, standing, at_least, least_12}
+
+abbrev pub Shown : Type 0
+Shown = Found State Captured NgFault
+
+wants_not_bad : (fault : NgFault) → ◌≡◌ {A = Shown} Wants (Bad fault) → ⊥
+wants_not_bad fault h = cc
+
+wants_not_takes : (n : ℕ) (items : List Captured) (t : State) → ◌≡◌ {A = Shown} Wants (Takes n items t) → ⊥
+wants_not_takes n items t h = cc
+
+bad_not_takes : (fault : NgFault) (n : ℕ) (items : List Captured) (t : State) → ◌≡◌ {A = Shown} (Bad fault) (Takes n items t) → ⊥
+bad_not_takes fault n items t h = cc
+
+pub step_at : (s : State) (bytes : List ℕ) (head : Head) → head_of s.order bytes ≡ head → step s bytes ≡ found_at s bytes head
+unfolding step
+step_at s bytes head h = ap (λ (x : Head). found_at s bytes x) h
+
+-- What more bytes leave.
+
+found_stays : (s : State) (xs ys : List ℕ) (head : Head) → (found_at s xs head ≡ Wants → ⊥) → found_at s (xs ++ ys) head ≡ found_at s xs head
+found_stays s xs ys Short seen = refl
+found_stays s xs ys (Flawed flaw) seen = refl
+found_stays s xs ys (Stands order kind total) seen = elim (cases_lt (length xs) total) [
+  | inl short ↦ absurd (seen (rw (below (length xs) total short) refl))
+  | inr whole ↦
+      let len : length (xs ++ ys) ≡ length xs + length ys = length-append xs ys in
+      rw (not_below (length xs) total whole, not_below (length (xs ++ ys)) total (omega (arith, whole, len)), take-append-le total xs ys whole) refl
+]
+
+pub step_stays : (s : State) (xs ys : List ℕ) → (step s xs ≡ Wants → ⊥) → step s (xs ++ ys) ≡ step s xs
+step_stays s xs ys seen =
+    let same : head_of s.order (xs ++ ys) ≡ head_of s.order xs = head_stays s.order xs ys (λ h. seen (step_at s xs Short h)) in
+    step_at s (xs ++ ys) (head_of s.order xs) same
+    ∙ found_stays s xs ys (head_of s.order xs) (λ h. seen (step_at s xs (head_of s.order xs) refl ∙ h))
+    ∙ sym (step_at s xs (head_of s.order xs) refl)
+
+bad_stays : (s : State) (bytes more : List ℕ) (fault : NgFault) → step s bytes ≡ Bad fault → step s (bytes ++ more) ≡ Bad fault
+bad_stays s bytes more fault h = step_stays s bytes more (λ w. wants_not_bad fault (sym w ∙ h)) ∙ h
+
+takes_stays : (s : State) (bytes more : List ℕ) (n : ℕ) (items : List Captured) (t : State) → step s bytes ≡ Takes n items t → step s (bytes ++ more) ≡ Takes n items t
+takes_stays s bytes more n items t h = step_stays s bytes more (λ w. wants_not_takes n items t (sym w ∙ h)) ∙ h
+
+-- What a block that is taken is.
+
+pub record Taken (s : State) (bytes : List ℕ) (n : ℕ) (items : List Captured) (t : State) : Type 0 where
+  pub order : Order
+  pub kind : Kind
+  pub stands : Standing s.order bytes order kind n
+  pub whole : n ≤ length bytes
+  pub content : Content
+  pub states : content_of s.interfaces order kind (take n bytes) ≡ Ok content
+  pub items_are : items ≡ frames_of s.count content (take n bytes)
+  pub after_is : t ≡ after s content
+
+taken_size : (n m : ℕ) (a b : List Captured) (t u : State) → ◌≡◌ {A = Shown} (Takes n a t) (Takes m b u) → n ≡ m
+taken_size n m a b t u h = cc
+
+taken_items : (n m : ℕ) (a b : List Captured) (t u : State) → ◌≡◌ {A = Shown} (Takes n a t) (Takes m b u) → a ≡ b
+taken_items n m a b t u h = cc
+
+taken_state : (n m : ℕ) (a b : List Captured) (t u : State) → ◌≡◌ {A = Shown} (Takes n a t) (Takes m b u) → t ≡ u
+taken_state n m a b t u h = cc
+
+pub length_front : (n : ℕ) (bytes : List ℕ) → n ≤ length bytes → length (take n bytes) ≡ n
+length_front n bytes h = omega (arith, h, length-take n bytes)
+
+taken_of_content : (s : State) (bytes : List ℕ) (order : Order) (kind : Kind) (total n : ℕ) (items : List Captured) (t : State) → Standing s.order bytes order kind total → total ≤ length bytes → (found : Result Content Flaw) → content_of s.interfaces order kind (take total bytes) ≡ found → block_found s (take total bytes) found ≡ Takes n items t → Taken s bytes n items t
+taken_of_content s bytes order kind total n items t stands whole (Err flaw) is h = absurd (bad_not_takes (fault_of s.count flaw) n items t h)
+taken_of_content s bytes order kind total n items t stands whole (Ok content) is h =
+    let block : List ℕ = take total bytes in
+    let size : length block ≡ n = taken_size (length block) n (frames_of s.count content block) items (after s content) t h in
+    let total_is : total ≡ n = sym (length_front total bytes whole) ∙ size in record {
+      order = order;
+      kind = kind;
+      stands = subst (λ (m : ℕ). Standing s.order bytes order kind m) total_is stands;
+      whole = subst (λ (m : ℕ). m ≤ length bytes) total_is whole;
+      content = content;
+      states = subst (λ (m : ℕ). content_of s.interfaces order kind (take m bytes) ≡ Ok content) total_is is;
+      items_are = sym (taken_items (length block) n (frames_of s.count content block) items (after s content) t h) ∙ ap (λ m. frames_of s.count content (take m bytes)) total_is;
+      after_is = sym (taken_state (length block) n (frames_of s.count content block) items (after s content) t h);
+    }
+
+pub found_short : (s : State) (bytes : List ℕ) (order : Order) (kind : Kind) (total : ℕ) → length bytes < total → found_at s bytes (Stands order kind total) ≡ Wants
+found_short s bytes order kind total h = rw (below (length bytes) total h) refl
+
+pub found_whole : (s : State) (bytes : List ℕ) (order : Order) (kind : Kind) (total : ℕ) → total ≤ length bytes → found_at s bytes (Stands order kind total) ≡ block_found s (take total bytes) (content_of s.interfaces order kind (take total bytes))
+found_whole s bytes order kind total h = rw (not_below (length bytes) total h) refl
+
+taken_at : (s : State) (bytes : List ℕ) (n : ℕ) (items : List Captured) (t : State) (head : Head) → head_of s.order bytes ≡ head → found_at s bytes head ≡ Takes n items t → Taken s bytes n items t
+taken_at s bytes n items t Short is h = absurd (wants_not_takes n items t h)
+taken_at s bytes n items t (Flawed flaw) is h = absurd (bad_not_takes (fault_of s.count flaw) n items t h)
+taken_at s bytes n items t (Stands order kind total) is h = elim (cases_lt (length bytes) total) [
+  | inl short ↦ absurd (wants_not_takes n items t (sym (found_short s bytes order kind total short) ∙ h))
+  | inr whole ↦ taken_of_content s bytes order kind total n items t (standing s.order bytes order kind total is) whole (content_of s.interfaces order kind (take total bytes)) refl (sym (found_whole s bytes order kind total whole) ∙ h)
+]
+
+pub taken : (s : State) (bytes : List ℕ) (n : ℕ) (items : List Captured) (t : State) → step s bytes ≡ Takes n items t → Taken s bytes n items t
+taken s bytes n items t h = taken_at s bytes n items t (head_of s.order bytes) refl (sym (step_at s bytes (head_of s.order bytes) refl) ∙ h)
+
+frames_few : (k : ℕ) (content : Content) (block : List ℕ) → length (frames_of k content block) ≤ 1
+frames_few k (NewSection order) block = omega arith
+frames_few k (NewInterface interface) block = omega arith
+frames_few k (Captures packet) block = omega arith
+frames_few k Nothing block = omega arith
+
+counts : (s : State) (content : Content) (block : List ℕ) → (after s content).count ≡ s.count + length (frames_of s.count content block)
+counts s (NewSection order) block = omega arith
+counts s (NewInterface interface) block = omega arith
+counts s (Captures packet) block = omega arith
+counts s Nothing block = omega arith
+
+pub taken_least : (s : State) (bytes : List ℕ) (n : ℕ) (items : List Captured) (t : State) → Taken s bytes n items t → 12 ≤ n
+taken_least s bytes n items t taken =
+    let most : 12 ≤ least taken.kind = least_12 taken.kind in
+    let size : least taken.kind ≤ n = at_least taken.kind n taken.stands.lawful in
+    omega (arith, most, size)
+
+step_nothing : (s : State) → step s [] ≡ Wants
+step_nothing s = step_at s [] Short (head_short s.order [] (omega arith))
+
+-- pcapng can be read as a stream
+pub stepper : IsStepper pcapng
+stepper = record {
+  none = refl;
+  nothing = step_nothing;
+  bad_stays = bad_stays;
+  takes_stays = takes_stays;
+  size = λ s bytes n items t h. let it = taken s bytes n items t h in let some : 12 ≤ n = taken_least s bytes n items t it in (omega (arith, some), it.whole);
+  few = λ s bytes n items t h.
+      let it = taken s bytes n items t h in
+      let some : 12 ≤ n = taken_least s bytes n items t it in
+      let one : length (frames_of s.count it.content (take n bytes)) ≤ 1 = frames_few s.count it.content (take n bytes) in
+      let same : length items ≡ length (frames_of s.count it.content (take n bytes)) = ap length it.items_are in
+      omega (arith, some, one, same);
+  counts = λ s bytes n items t h.
+      let it = taken s bytes n items t h in
+      let more : (after s it.content).count ≡ s.count + length (frames_of s.count it.content (take n bytes)) = counts s it.content (take n bytes) in
+      let same : length items ≡ length (frames_of s.count it.content (take n bytes)) = ap length it.items_are in
+      let now : t.count ≡ (after s it.content).count = ap (λ (x : State). x.count) it.after_is in
+      omega (arith, more, same, now);
+}

@@ -1,0 +1,7 @@
+use Rattle.cf_stream.proofs.Given.{one_gift}
+use Rattle.cf_pcapng.specs.File.{pcapng}
+use Rattle.cf_pcapng.proofs.Steps.{stepper}
+use Rattle.cf_pcapng.proofs.laws.each_stream_gives_one_list.Goals as goal
+
+pub returns : goal.returns
+returns c = one_gift pcapng stepper

@@ -1,0 +1,86 @@
+-- Captures in the pcapng format, as whole files.
+use Rattle.std.specs.Prelude.{ℕ, ◌+◌, nat_lt, if◌then◌else◌, is_some, List, [], ◌∷◌, ◌++◌, length, take, slice_range, Option, Some, None, Result, Ok, Err}
+use Rattle.cf_pcap.specs.declared.form.Order.{Order}
+use Rattle.cf_pcap.specs.Capture.{Captured}
+use Rattle.cf_stream.specs.Format.{Found, Wants, Bad, Takes, Format, IsWhole, HasFault}
+use Rattle.cf_pcapng.specs.declared.fault.Flaw.{Flaw}
+use Rattle.cf_pcapng.specs.declared.fault.Flaw.TheVariants.{BadMagic, BadVersion, BadLink, FrameTooLong, BadLength, NoInterface}
+use Rattle.cf_pcapng.specs.declared.fault.NgFault.{NgFault}
+use Rattle.cf_pcapng.specs.declared.fault.NgFault.TheVariants as faults
+use Rattle.cf_pcapng.specs.declared.head.Head.{Head}
+use Rattle.cf_pcapng.specs.declared.head.Head.TheVariants.{Short, Flawed, Stands}
+use Rattle.cf_pcapng.specs.declared.content.Interface.{Interface}
+use Rattle.cf_pcapng.specs.declared.content.Content.{Content}
+use Rattle.cf_pcapng.specs.declared.content.Content.TheVariants.{NewSection, NewInterface, Captures, Nothing}
+use Rattle.cf_pcapng.specs.Blocks.{head_of, content_of}
+
+-- how far a file was read: the byte order of its section, if one has begun, the interfaces of that section, and the number
+-- of frames
+pub record State : Type 0 where
+  pub order : Option Order
+  pub interfaces : List Interface
+  pub count : ℕ
+
+-- a fault after k frames
+abbrev pub fault_of : ℕ → Flaw → NgFault
+fault_of k BadMagic = faults.BadMagic k
+fault_of k BadVersion = faults.BadVersion k
+fault_of k BadLink = faults.BadLink k
+fault_of k FrameTooLong = faults.FrameTooLong k
+fault_of k BadLength = faults.BadLength k
+fault_of k NoInterface = faults.NoInterface k
+
+-- the frames that a block gives, as number k
+abbrev pub frames_of : ℕ → Content → List ℕ → List Captured
+frames_of k (NewSection order) block = []
+frames_of k (NewInterface interface) block = []
+frames_of k (Captures packet) block = record {
+  num = k;
+  ts = packet.ts;
+  caplen = packet.caplen;
+  len = packet.len;
+  bytes = slice_range block packet.begin (packet.begin + packet.caplen);
+} ∷ []
+frames_of k Nothing block = []
+
+-- the state after a block. The interfaces of a section are numbered from 0.
+abbrev pub after : State → Content → State
+after s (NewSection order) = record { order = Some order; interfaces = []; count = s.count }
+after s (NewInterface interface) = record { order = s.order; interfaces = s.interfaces ++ interface ∷ []; count = s.count }
+after s (Captures packet) = record { order = s.order; interfaces = s.interfaces; count = s.count + 1 }
+after s Nothing = s
+
+-- what a whole block gives, or its fault
+abbrev pub block_found : State → List ℕ → Result Content Flaw → Found State Captured NgFault
+block_found s block (Ok content) = Takes (length block) (frames_of s.count content block) (after s content)
+block_found s block (Err flaw) = Bad (fault_of s.count flaw)
+
+-- what the bytes at the front show, by their head
+abbrev pub found_at : State → List ℕ → Head → Found State Captured NgFault
+found_at s bytes Short = Wants
+found_at s bytes (Flawed flaw) = Bad (fault_of s.count flaw)
+found_at s bytes (Stands order kind total) =
+    if nat_lt (length bytes) total then Wants
+    else block_found s (take total bytes) (content_of s.interfaces order kind (take total bytes))
+
+unfoldable pub step : State → List ℕ → Found State Captured NgFault
+step s bytes = found_at s bytes (head_of s.order bytes)
+
+-- pcapng: blocks end to end, the first of them a section header
+abbrev pub pcapng : Format State Captured NgFault
+pcapng = record {
+  start = record { order = None; interfaces = []; count = 0 };
+  step = step;
+  count = λ s. s.count;
+  may_end = λ s. is_some s.order;
+  cut = λ s. faults.Cut s.count;
+  too_many = faults.TooManyBytes;
+}
+
+-- a file is a capture of these frames
+abbrev pub IsNg : List ℕ → List Captured → Type 0
+IsNg file frames = IsWhole pcapng file frames
+
+-- why a file is no capture
+abbrev pub HasNgFault : List ℕ → NgFault → Type 0
+HasNgFault file fault = HasFault pcapng file fault

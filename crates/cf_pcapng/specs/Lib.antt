@@ -1,0 +1,6 @@
+pub mod Blocks
+pub mod File
+pub mod Reading
+pub mod Reader
+pub mod Laws
+pub mod Rules

@@ -1,0 +1,92 @@
+-- What a reader's state says of the stream that led to it.
+use Rattle.std.specs.Prelude.{◌≡◌, ℕ, ◌+◌, ◌<◌, ◌≤◌, ◌^◌, List, [], ◌∷◌, ◌++◌, length, Option, Some, None, Result, Ok, Err}
+use Rattle.cf_pcap.specs.Capture.{Captured}
+use Rattle.cf_stream.specs.Format.{IsFound}
+use Rattle.cf_stream.specs.Stream.{Runs}
+use Rattle.cf_stream.specs.Stream as streams
+use Rattle.cf_pcapng.specs.declared.fault.NgFault.{NgFault}
+use Rattle.cf_pcapng.specs.declared.fault.NgFault.TheVariants.{TooManyBytes, Memory}
+use Rattle.cf_pcapng.specs.declared.fault.Flaw.{Flaw}
+use Rattle.cf_pcapng.specs.declared.stage.Stage.{Stage}
+use Rattle.cf_pcapng.specs.declared.stage.Stage.TheVariants.{Running, Stopped}
+use Rattle.cf_pcapng.specs.declared.passed.Passed.{Passed}
+use Rattle.cf_pcapng.specs.File.{State, fault_of, pcapng}
+use Rattle.cf_pcapng.specs.Reading.{WasPassed, AreReadOn, HasRoom}
+
+-- a reader as contracts see it: how far it is, how many bytes it has had, and what it has of the block at hand
+pub record Reader : Type 0 where
+  pub stage : Stage
+  pub total : ℕ
+  pub state : State
+  pub passed : Option Passed
+  pub held : List ℕ
+
+-- some blocks were read, and the bytes after them, those that were let go and those that are held, only begin one
+pub record IsRunning (reader : Reader) (stream : List ℕ) : Type 0 where
+  pub total_is : reader.total ≡ length stream
+  pub gone : List ℕ
+  pub was : WasPassed reader.state.order reader.passed gone
+  pub runs : Runs pcapng reader.state (gone ++ reader.held) stream
+
+abbrev pub IsAt : Stage → Reader → List ℕ → Type 0
+IsAt Running reader stream = IsRunning reader stream
+IsAt (Stopped fault) reader stream = IsFound pcapng stream fault
+
+-- the reader's state is that after this stream
+abbrev pub IsStateOf : Reader → List ℕ → Type 0
+IsStateOf reader stream = IsAt reader.stage reader stream
+
+-- what a call that takes one more piece gives and answers
+abbrev pub IsFed : List ℕ → List ℕ → List Captured → Result (Unit {0}) NgFault → Reader → Type 0
+IsFed stream piece given answer reader = streams.IsFed pcapng stream piece given answer (IsStateOf reader)
+
+-- a reader that has found a fault answers it, and no want of memory
+abbrev pub AnswersFound : Reader → Result (Unit {0}) NgFault → Type 0
+AnswersFound reader answer = (stream : List ℕ) (fault : NgFault) → IsStateOf reader stream → IsFound pcapng stream fault → answer ≡ Err fault
+
+-- what the end of the stream answers: the number of a capture's frames, or the fault
+abbrev pub IsEnded : List ℕ → Result ℕ NgFault → Type 0
+IsEnded stream answer = streams.IsEnded pcapng stream answer
+
+-- what holds of every reader: its bytes and frames fit, it holds less than a block, and want of memory doesn't stop it
+abbrev pub IsSoundAt : Stage → Reader → Type 0
+IsSoundAt Running reader = (reader.total < 2 ^ 32) × (reader.state.count + length reader.held ≤ reader.total) × (length reader.held < 2 ^ 20) × HasRoom reader.passed
+IsSoundAt (Stopped fault) reader = (fault ≡ Memory → ⊥) × (reader.held ≡ [])
+
+abbrev pub IsSound : Reader → Type 0
+IsSound reader = IsSoundAt reader.stage reader
+
+-- what a call that ends at this stage answers
+abbrev pub answer_at : Stage → Result (Unit {0}) NgFault
+answer_at Running = Ok tt
+answer_at (Stopped fault) = Err fault
+
+-- a call took a piece: what it gave, and the reader after it, whatever stream led to the reader before
+abbrev pub IsCalled : Reader → List ℕ → List Captured → Reader → Type 0
+IsCalled before piece given reader =
+    IsSound reader × ((stream : List ℕ) → IsRunning before stream → IsFed stream piece given (answer_at reader.stage) reader)
+
+-- the bytes that a reader keeps at a stage
+abbrev pub kept_at : Stage → List ℕ → List ℕ
+kept_at Running held = held
+kept_at (Stopped fault) held = []
+
+-- what one more byte shows that comes too late for a frame: a flaw, or that there are too many bytes
+abbrev pub ShowsLate : Option Flaw → State → NgFault → Type 0
+ShowsLate None t fault = fault ≡ TooManyBytes
+ShowsLate (Some flaw) t fault = fault ≡ fault_of t.count flaw
+
+-- the stage where a byte comes that makes the stream 2^32 bytes long
+pub record IsStageAtLimit (s : State) (passed : Option Passed) (held byte : List ℕ) (stage : Stage) : Type 0 where
+  pub fault : NgFault
+  pub stage_is : stage ≡ Stopped fault
+  pub flaw : Option Flaw
+  pub last : State
+  pub shows : ShowsLate flaw last fault
+  pub read : (gone : List ℕ) → WasPassed s.order passed gone → (frames : List Captured) × (block : Option Passed) × (rest : List ℕ) × AreReadOn s (gone ++ (held ++ byte)) frames last block rest flaw
+
+-- the stage after the bytes that came early enough, where `late` come late
+abbrev pub IsStageAfter : State → Option Passed → List ℕ → Option Flaw → List ℕ → Stage → Type 0
+IsStageAfter s passed held (Some flaw) late stage = stage ≡ Stopped (fault_of s.count flaw)
+IsStageAfter s passed held None [] stage = stage ≡ Running
+IsStageAfter s passed held None (byte ∷ late) stage = IsStageAtLimit s passed held (byte ∷ []) stage

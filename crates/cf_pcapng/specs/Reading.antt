@@ -1,0 +1,125 @@
+-- What the parts of a reader do.
+use Rattle.std.specs.Prelude.{◌≡◌, ℕ, ◌+◌, ◌-◌, ◌≤◌, ◌<◌, ◌^◌, nat_lt, if◌then◌else◌, List, [], ◌++◌, length, take, drop, Option, Some, None, Result, Ok, Err}
+use Rattle.cf_pcap.specs.declared.form.Order.{Order}
+use Rattle.cf_pcap.specs.Capture.{Captured, number_in}
+use Rattle.cf_stream.specs.Format.{Wants, Bad, ReadsTo}
+use Rattle.cf_pcapng.specs.declared.fault.Flaw.{Flaw}
+use Rattle.cf_pcapng.specs.declared.head.Kind.TheVariants.{Other}
+use Rattle.cf_pcapng.specs.declared.head.Head.{Head}
+use Rattle.cf_pcapng.specs.declared.head.Head.TheVariants.{Short, Flawed, Stands}
+use Rattle.cf_pcapng.specs.declared.content.Interface.{Interface}
+use Rattle.cf_pcapng.specs.declared.content.Content.{Content}
+use Rattle.cf_pcapng.specs.declared.content.Content.TheVariants.{NewSection, NewInterface, Captures, Nothing}
+use Rattle.cf_pcapng.specs.declared.blocks.Next.{Next}
+use Rattle.cf_pcapng.specs.declared.blocks.Next.TheVariants as next
+use Rattle.cf_pcapng.specs.declared.passed.Passed.{Passed}
+use Rattle.cf_pcapng.specs.declared.passed.Resumed.{Resumed}
+use Rattle.cf_pcapng.specs.declared.passed.Resumed.TheVariants as resumed
+use Rattle.cf_pcapng.specs.Blocks.{head_of, content_of}
+use Rattle.cf_pcapng.specs.File.{State, fault_of, pcapng}
+
+-- the bytes of a packet lie in its block
+abbrev pub LiesIn : ℕ → Content → Type 0
+LiesIn size (NewSection order) = Unit {0}
+LiesIn size (NewInterface interface) = Unit {0}
+LiesIn size (Captures packet) = packet.begin + packet.caplen ≤ size
+LiesIn size Nothing = Unit {0}
+
+-- the block at the front, before anything of it is taken
+abbrev pub block_next : ℕ → Result Content Flaw → Next
+block_next total (Ok content) = next.Block total content
+block_next total (Err flaw) = next.Flawed flaw
+
+abbrev pub next_at : List Interface → List ℕ → Head → Next
+next_at interfaces bytes Short = next.Wants
+next_at interfaces bytes (Flawed flaw) = next.Flawed flaw
+next_at interfaces bytes (Stands order kind total) =
+    if nat_lt (length bytes) total then next.Wants else block_next total (content_of interfaces order kind (take total bytes))
+
+unfoldable pub next_of : State → List ℕ → Next
+next_of s bytes = next_at s.interfaces bytes (head_of s.order bytes)
+
+-- a block at the front has so many bytes, and a packet's bytes lie in it
+abbrev pub IsNextIn : ℕ → Next → Type 0
+IsNextIn size next.Wants = Unit {0}
+IsNextIn size (next.Flawed flaw) = Unit {0}
+IsNextIn size (next.Block total content) = (12 ≤ total) × (total ≤ size) × LiesIn total content
+
+-- what stands where the whole blocks end
+abbrev pub IsEnd : State → List ℕ → Option Flaw → Type 0
+IsEnd t rest None = pcapng.step t rest ≡ Wants
+IsEnd t rest (Some flaw) = pcapng.step t rest ≡ Bad (fault_of t.count flaw)
+
+-- the blocks at the front were read, up to the begin of one or a flaw
+pub record AreRead (s : State) (bytes : List ℕ) (frames : List Captured) (t : State) (rest : List ℕ) (flaw : Option Flaw) : Type 0 where
+  pub read : ReadsTo pcapng s bytes frames t rest
+  pub end : IsEnd t rest flaw
+
+-- bytes of a block at hand that is only passed over, which were let go
+abbrev pub WasPassed : Option Order → Option Passed → List ℕ → Type 0
+WasPassed order None gone = gone ≡ []
+WasPassed order (Some block) gone =
+    (head_of order gone ≡ Stands block.order Other block.total) × (length gone ≡ block.gone) × (block.gone + 4 ≤ block.total)
+
+-- the blocks were read up to the begin of one, whose bytes were let go or are held
+pub record Begins (s : State) (bytes : List ℕ) (frames : List Captured) (t : State) (passed : Option Passed) (held : List ℕ) : Type 0 where
+  pub gone : List ℕ
+  pub was : WasPassed t.order passed gone
+  pub read : ReadsTo pcapng s bytes frames t (gone ++ held)
+  pub part : pcapng.step t (gone ++ held) ≡ Wants
+  pub few : length held < 2 ^ 20
+
+-- the blocks were read up to a flaw
+pub record Breaks (s : State) (bytes : List ℕ) (frames : List Captured) (t : State) (flaw : Flaw) : Type 0 where
+  pub rest : List ℕ
+  pub read : ReadsTo pcapng s bytes frames t rest
+  pub bad : pcapng.step t rest ≡ Bad (fault_of t.count flaw)
+
+-- the blocks were read, where a block that is only passed over is let go up to its last field
+abbrev pub AreReadOn : State → List ℕ → List Captured → State → Option Passed → List ℕ → Option Flaw → Type 0
+AreReadOn s bytes frames t passed held None = Begins s bytes frames t passed held
+AreReadOn s bytes frames t passed held (Some flaw) = Breaks s bytes frames t flaw
+
+-- so many bytes of a block that is passed over are let go, of `size` that are there
+pub record IsLetGo (block : Passed) (size : ℕ) (after : Passed) (some : ℕ) : Type 0 where
+  pub order_is : after.order ≡ block.order
+  pub total_is : after.total ≡ block.total
+  pub gone_is : after.gone ≡ block.gone + some
+  pub room : after.gone + 4 ≤ block.total
+  pub most : some ≤ size
+  pub left : size < some + 4
+  pub first : 8 ≤ size → block.gone ≡ 0 → 12 ≤ block.total → 8 ≤ some
+
+-- a block that is only passed over begins here, and isn't whole
+abbrev pub IsPassedAt : Option Order → List ℕ → Option Passed → Type 0
+IsPassedAt section rest None = (order : Order) (total : ℕ) → length rest < total → head_of section rest ≡ Stands order Other total → ⊥
+IsPassedAt section rest (Some block) =
+    (head_of section rest ≡ Stands block.order Other block.total) × (block.gone ≡ 0) × (length rest < block.total)
+
+-- what comes of a block that is passed over, when these bytes come
+abbrev pub IsResumed : Passed → List ℕ → Resumed → Type 0
+IsResumed block bytes (resumed.Within passed some) = (block.gone + length bytes < block.total) × IsLetGo block (length bytes) passed some
+IsResumed block bytes resumed.Flawed =
+    (block.total ≤ block.gone + length bytes) × (number_in block.order 4 (drop (block.total - block.gone - 4) bytes) ≡ block.total → ⊥)
+IsResumed block bytes (resumed.Over left) =
+    (block.gone + left ≡ block.total) × (left ≤ length bytes) × (number_in block.order 4 (drop (left - 4) bytes) ≡ block.total)
+
+-- of a block that is passed over the last field isn't let go
+abbrev pub HasRoom : Option Passed → Type 0
+HasRoom None = Unit {0}
+HasRoom (Some block) = block.gone + 4 ≤ block.total
+
+-- what a reader has after `size` more bytes is no more than it had before and these
+pub record IsSoundOn (s : State) (size : ℕ) (t : State) (passed : Option Passed) (held : List ℕ) : Type 0 where
+  pub fits : t.count + length held ≤ s.count + size
+  pub room : HasRoom passed
+  pub few : length held < 2 ^ 20
+
+abbrev pub IsGoneOn : State → ℕ → State → Option Passed → List ℕ → Option Flaw → Type 0
+IsGoneOn s size t passed held None = IsSoundOn s size t passed held
+IsGoneOn s size t passed held (Some flaw) = Unit {0}
+
+-- one more byte may come
+abbrev pub MayGoOn : State → Option Passed → List ℕ → Option Flaw → Type 0
+MayGoOn t passed held None = HasRoom passed × (t.count + length held + 1 ≤ 2 ^ 32)
+MayGoOn t passed held (Some flaw) = Unit {0}

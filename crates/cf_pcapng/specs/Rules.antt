@@ -1,0 +1,241 @@
+-- The rules by which blocks are judged, one by one and each in this order, as relations. `step` of File says the same.
+use Rattle.std.specs.Prelude.{◌≡◌, ◌⊎◌, ℕ, ◌-◌, ◌%◌, ◌^◌, ◌<◌, ◌≤◌, true, false, List, [], ◌∷◌, length, take, drop, slice_get, Option, Some, None, is_some}
+use Rattle.byteorder.specs.Endian.{little_number}
+use Rattle.cf_pcap.specs.declared.form.Order.{Order}
+use Rattle.cf_pcap.specs.Capture.{Captured, number_in}
+use Rattle.cf_stream.specs.Format.{Bad, Takes, Part, items_of, seen}
+use Rattle.cf_pcapng.specs.declared.fault.Flaw.{Flaw}
+use Rattle.cf_pcapng.specs.declared.fault.Flaw.TheVariants.{BadMagic, BadVersion, BadLink, FrameTooLong, BadLength, NoInterface}
+use Rattle.cf_pcapng.specs.declared.fault.NgFault.{NgFault}
+use Rattle.cf_pcapng.specs.declared.fault.NgFault.TheVariants as faults
+use Rattle.cf_pcapng.specs.declared.head.Kind.{Kind}
+use Rattle.cf_pcapng.specs.declared.head.Kind.TheVariants.{SectionHeader, InterfaceDescription, EnhancedPacket, SimplePacket, Other}
+use Rattle.cf_pcapng.specs.declared.content.Interface.{Interface}
+use Rattle.cf_pcapng.specs.declared.content.Packet.{Packet}
+use Rattle.cf_pcapng.specs.declared.content.Content.{Content}
+use Rattle.cf_pcapng.specs.declared.content.Content.TheVariants.{NewSection, NewInterface, Captures, Nothing}
+use Rattle.cf_pcapng.specs.Blocks.{order_at, least, total_at, last_total, interface_at, enhanced_packet, simple_packet}
+use Rattle.cf_pcapng.specs.File.{State, fault_of, frames_of, after, pcapng, IsNg, HasNgFault}
+
+-- a section header's type
+abbrev pub IsSectionType : List ℕ → Type 0
+IsSectionType bytes = little_number 4 bytes ≡ 0x0a0d0d0a
+
+-- the types of other blocks
+abbrev pub IsType : Kind → ℕ → Type 0
+IsType SectionHeader n = ⊥
+IsType InterfaceDescription n = n ≡ 1
+IsType EnhancedPacket n = n ≡ 6
+IsType SimplePacket n = n ≡ 3
+IsType Other n = (n ≡ 1 → ⊥) × (n ≡ 6 → ⊥) × (n ≡ 3 → ⊥)
+
+-- a section header begins here, whose magic states this byte order
+pub record BeginsSection (bytes : List ℕ) (order : Order) : Type 0 where
+  pub size : 12 ≤ length bytes
+  pub type_is : IsSectionType bytes
+  pub magic : order_at bytes ≡ Some order
+
+-- another block begins here, in a section of this byte order
+pub record BeginsBlock (section : Option Order) (bytes : List ℕ) (order : Order) (kind : Kind) : Type 0 where
+  pub size : 8 ≤ length bytes
+  pub other : IsSectionType bytes → ⊥
+  pub within : section ≡ Some order
+  pub type_is : IsType kind (number_in order 4 bytes)
+
+-- a block of this byte order and kind begins here, of which enough is there to know its total length
+abbrev pub BeginsAs : Option Order → List ℕ → Order → Kind → Type 0
+BeginsAs section bytes order kind = ((kind ≡ SectionHeader) × BeginsSection bytes order) ⊎ BeginsBlock section bytes order kind
+
+-- a multiple of 4, no less than the kind's fields take, and no more than 2^20 in a block that is read
+pub record IsLawfulTotal (kind : Kind) (n : ℕ) : Type 0 where
+  pub fours : n % 4 ≡ 0
+  pub enough : least kind ≤ n
+  pub most : (kind ≡ Other → ⊥) → n ≤ 2 ^ 20
+
+-- a block of this byte order, kind and lawful total length begins here
+pub record HasHead (section : Option Order) (bytes : List ℕ) (order : Order) (kind : Kind) (total : ℕ) : Type 0 where
+  pub begins : BeginsAs section bytes order kind
+  pub total_is : total ≡ total_at order bytes
+  pub lawful : IsLawfulTotal kind total
+
+-- rule 1: the stream's first four bytes aren't a section header's type
+pub record BreaksRule1 (section : Option Order) (bytes : List ℕ) : Type 0 where
+  pub size : 4 ≤ length bytes
+  pub outside : section ≡ None
+  pub other : IsSectionType bytes → ⊥
+
+-- rule 2: a section header's magic is in neither byte order
+pub record BreaksRule2 (bytes : List ℕ) : Type 0 where
+  pub size : 12 ≤ length bytes
+  pub type_is : IsSectionType bytes
+  pub magic : order_at bytes ≡ None
+
+-- rule 3: the total length is unlawful
+pub record BreaksRule3 (section : Option Order) (bytes : List ℕ) : Type 0 where
+  pub order : Order
+  pub kind : Kind
+  pub begins : BeginsAs section bytes order kind
+  pub total : IsLawfulTotal kind (total_at order bytes) → ⊥
+
+abbrev pub HeadBreaks : Option Order → List ℕ → Flaw → Type 0
+HeadBreaks section bytes BadMagic = BreaksRule1 section bytes ⊎ BreaksRule2 bytes
+HeadBreaks section bytes BadLength = BreaksRule3 section bytes
+HeadBreaks section bytes BadVersion = ⊥
+HeadBreaks section bytes BadLink = ⊥
+HeadBreaks section bytes FrameTooLong = ⊥
+HeadBreaks section bytes NoInterface = ⊥
+
+-- LINKTYPE_ETHERNET and LINKTYPE_LINUX_SLL
+abbrev pub IsLink : ℕ → Type 0
+IsLink link = (link ≡ 1) ⊎ (link ≡ 113)
+
+-- rules 7 to 9, of a packet of an interface with this link, in a block with room for so many bytes
+abbrev pub PacketBreaks : ℕ → ℕ → Packet → Flaw → Type 0
+PacketBreaks link room packet BadLink = IsLink link → ⊥
+PacketBreaks link room packet FrameTooLong = IsLink link × (262144 < packet.caplen)
+PacketBreaks link room packet BadLength = IsLink link × (packet.caplen ≤ 262144) × (room < packet.caplen)
+PacketBreaks link room packet BadMagic = ⊥
+PacketBreaks link room packet BadVersion = ⊥
+PacketBreaks link room packet NoInterface = ⊥
+
+pub record IsLawfulPacket (link room : ℕ) (packet : Packet) : Type 0 where
+  pub link_is : IsLink link
+  pub short : packet.caplen ≤ 262144
+  pub fits : packet.caplen ≤ room
+
+-- rule 6, and 7 to 9 of a packet of its interface
+abbrev pub PacketOfBreaks : Option Interface → ℕ → (Interface → Packet) → Flaw → Type 0
+PacketOfBreaks None room packet flaw = flaw ≡ NoInterface
+PacketOfBreaks (Some interface) room packet flaw = PacketBreaks interface.link room (packet interface) flaw
+
+abbrev pub PacketOfStates : Option Interface → ℕ → (Interface → Packet) → Content → Type 0
+PacketOfStates None room packet content = ⊥
+PacketOfStates (Some interface) room packet content = IsLawfulPacket interface.link room (packet interface) × (content ≡ Captures (packet interface))
+
+-- rules 5 to 9, of a whole block in a section with these interfaces
+abbrev pub BlockBreaks : List Interface → Order → Kind → List ℕ → Flaw → Type 0
+BlockBreaks interfaces order SectionHeader block flaw = (flaw ≡ BadVersion) × (number_in order 2 (drop 12 block) ≡ 1 → ⊥)
+BlockBreaks interfaces order InterfaceDescription block flaw = ⊥
+BlockBreaks interfaces order EnhancedPacket block flaw = PacketOfBreaks (slice_get interfaces (number_in order 4 (drop 8 block))) (length block - 32) (λ i. enhanced_packet i order block) flaw
+BlockBreaks interfaces order SimplePacket block flaw = PacketOfBreaks (slice_get interfaces 0) (length block - 16) (λ i. simple_packet i order block) flaw
+BlockBreaks interfaces order Other block flaw = ⊥
+
+-- what a whole block states that breaks no rule
+abbrev pub BlockStates : List Interface → Order → Kind → List ℕ → Content → Type 0
+BlockStates interfaces order SectionHeader block content = (number_in order 2 (drop 12 block) ≡ 1) × (content ≡ NewSection order)
+BlockStates interfaces order InterfaceDescription block content = content ≡ NewInterface (interface_at order block)
+BlockStates interfaces order EnhancedPacket block content = PacketOfStates (slice_get interfaces (number_in order 4 (drop 8 block))) (length block - 32) (λ i. enhanced_packet i order block) content
+BlockStates interfaces order SimplePacket block content = PacketOfStates (slice_get interfaces 0) (length block - 16) (λ i. simple_packet i order block) content
+BlockStates interfaces order Other block content = content ≡ Nothing
+
+-- a block stands whole at the front: so many bytes
+pub record HasBlock (section : Option Order) (bytes : List ℕ) (order : Order) (kind : Kind) (total : ℕ) : Type 0 where
+  pub head : HasHead section bytes order kind total
+  pub whole : total ≤ length bytes
+
+-- rule 4: the second total length differs
+pub record BreaksRule4 (section : Option Order) (bytes : List ℕ) : Type 0 where
+  pub order : Order
+  pub kind : Kind
+  pub total : ℕ
+  pub block : HasBlock section bytes order kind total
+  pub last : last_total order (take total bytes) ≡ total → ⊥
+
+pub record BreaksRules5To9 (section : Option Order) (interfaces : List Interface) (bytes : List ℕ) (flaw : Flaw) : Type 0 where
+  pub order : Order
+  pub kind : Kind
+  pub total : ℕ
+  pub block : HasBlock section bytes order kind total
+  pub last : last_total order (take total bytes) ≡ total
+  pub breaks : BlockBreaks interfaces order kind (take total bytes) flaw
+
+-- the first rule that the block at the front breaks
+abbrev pub HasFlaw : State → List ℕ → Flaw → Type 0
+HasFlaw s bytes flaw = HeadBreaks s.order bytes flaw ⊎ (((flaw ≡ BadLength) × BreaksRule4 s.order bytes) ⊎ BreaksRules5To9 s.order s.interfaces bytes flaw)
+
+-- a block of n bytes at the front breaks none, and gives these frames and this state
+pub record IsBlock (s : State) (bytes : List ℕ) (n : ℕ) (frames : List Captured) (t : State) : Type 0 where
+  pub order : Order
+  pub kind : Kind
+  pub content : Content
+  pub block : HasBlock s.order bytes order kind n
+  pub last : last_total order (take n bytes) ≡ n
+  pub states : BlockStates s.interfaces order kind (take n bytes) content
+  pub frames_are : frames ≡ frames_of s.count content (take n bytes)
+  pub after_is : t ≡ after s content
+
+-- what the step of a pcapng file finds is what the rules say, both ways
+pub record StepsByRules (s : State) (bytes : List ℕ) : Type 0 where
+  pub bad : (fault : NgFault) → pcapng.step s bytes ≡ Bad fault → (flaw : Flaw) × (fault ≡ fault_of s.count flaw) × HasFlaw s bytes flaw
+  pub flaw : (flaw : Flaw) → HasFlaw s bytes flaw → pcapng.step s bytes ≡ Bad (fault_of s.count flaw)
+  pub takes : (n : ℕ) (frames : List Captured) (t : State) → pcapng.step s bytes ≡ Takes n frames t → IsBlock s bytes n frames t
+  pub block : (n : ℕ) (frames : List Captured) (t : State) → IsBlock s bytes n frames t → pcapng.step s bytes ≡ Takes n frames t
+
+-- Whole files, in these words.
+
+-- from a state the bytes are these blocks end to end, and then the rest
+abbrev pub AreBlocksThen : State → List (Part State Captured) → List ℕ → State → List ℕ → Type 0
+AreBlocksThen s [] bytes t rest = (s ≡ t) × (bytes ≡ rest)
+AreBlocksThen s (part ∷ parts) bytes t rest = IsBlock s bytes part.size part.items part.after × AreBlocksThen part.after parts (drop part.size bytes) t rest
+
+-- a file begins with blocks of these frames, which lead to a state, and then comes the rest
+pub record BeginsWith (file : List ℕ) (frames : List Captured) (last : State) (rest : List ℕ) : Type 0 where
+  pub parts : List (Part State Captured)
+  pub blocks : AreBlocksThen pcapng.start parts file last rest
+  pub frames_are : frames ≡ items_of parts
+
+-- a file below 2^32 bytes is blocks end to end, a section header first, and nothing else
+pub record IsFileOf (file : List ℕ) (frames : List Captured) : Type 0 where
+  pub size : length file < 2 ^ 32
+  pub last : State
+  pub read : BeginsWith file frames last []
+  pub begun : is_some last.order ≡ true
+
+-- after blocks of k frames comes one with this flaw
+pub record ShowsFlaw (file : List ℕ) (k : ℕ) (flaw : Flaw) : Type 0 where
+  pub frames : List Captured
+  pub last : State
+  pub rest : List ℕ
+  pub read : BeginsWith file frames last rest
+  pub number_is : k ≡ length frames
+  pub breaks : HasFlaw last rest flaw
+
+-- neither a whole block nor one with a flaw
+pub record IsPart (s : State) (bytes : List ℕ) : Type 0 where
+  pub no_flaw : (flaw : Flaw) → HasFlaw s bytes flaw → ⊥
+  pub no_block : (n : ℕ) (frames : List Captured) (t : State) → IsBlock s bytes n frames t → ⊥
+
+-- a file below 2^32 bytes ends within a block after k frames, or before its first section header
+pub record EndsWithin (file : List ℕ) (k : ℕ) : Type 0 where
+  pub size : length file < 2 ^ 32
+  pub frames : List Captured
+  pub last : State
+  pub rest : List ℕ
+  pub read : BeginsWith file frames last rest
+  pub number_is : k ≡ length frames
+  pub part : IsPart last rest
+  pub left : (0 < length rest) ⊎ (is_some last.order ≡ false)
+
+-- 2^32 bytes or more, of which the first 2^32 show no flaw
+pub record IsTooLong (file : List ℕ) : Type 0 where
+  pub size : 2 ^ 32 ≤ length file
+  pub first : (k : ℕ) (flaw : Flaw) → ShowsFlaw (seen file) k flaw → ⊥
+
+-- why a file is no capture
+abbrev pub HasFaultOf : List ℕ → NgFault → Type 0
+HasFaultOf file (faults.BadMagic k) = ShowsFlaw (seen file) k BadMagic
+HasFaultOf file (faults.BadVersion k) = ShowsFlaw (seen file) k BadVersion
+HasFaultOf file (faults.BadLink k) = ShowsFlaw (seen file) k BadLink
+HasFaultOf file (faults.FrameTooLong k) = ShowsFlaw (seen file) k FrameTooLong
+HasFaultOf file (faults.Cut k) = EndsWithin file k
+HasFaultOf file faults.TooManyBytes = IsTooLong file
+HasFaultOf file (faults.BadLength k) = ShowsFlaw (seen file) k BadLength
+HasFaultOf file (faults.NoInterface k) = ShowsFlaw (seen file) k NoInterface
+HasFaultOf file faults.Memory = ⊥
+
+-- the two ways to say what a file is, agree
+pub record FileByRules (file : List ℕ) : Type 0 where
+  pub capture : (frames : List Captured) → IsNg file frames → IsFileOf file frames
+  pub is_capture : (frames : List Captured) → IsFileOf file frames → IsNg file frames
+  pub fault : (fault : NgFault) → HasNgFault file fault → HasFaultOf file fault
+  pub is_fault : (fault : NgFault) → HasFaultOf file fault → HasNgFault file fault

@@ -1,0 +1,93 @@
+// The blocks of a file.
+ghost use Rattle.std.specs.Prelude.{◌≡◌, ◌+◌, ◌<◌, ◌≤◌, ◌^◌, length, IfOk};
+ghost use Rattle.cf_pcapng.specs.Reading.{next_of as next_block, IsNextIn, AreRead};
+
+use crate::content::{Content, content_of};
+use crate::fault::Flaw;
+use crate::head::{Head, head_of};
+use crate::position::Position;
+use cf_pcap::Frame;
+use std::alloc::{AllocError, Global};
+
+/// What stands at the front of some bytes.
+#[derive(Clone, Copy, Debug, PartialEq, Eq)]
+pub(crate) enum Next {
+    /// Only the begin of a block.
+    Wants,
+    Flawed(Flaw),
+    /// A lawful block of so many bytes.
+    Block(u32, Content),
+}
+
+/// What was read of some bytes: the frames, the bytes after the blocks, and the flaw that stands there.
+#[derive(Drop)]
+pub(crate) struct Read {
+    pub position: Position,
+    pub frames: Vec<Frame>,
+    pub rest: Vec<u8>,
+    pub flaw: Option<Flaw>,
+}
+
+// The block at the front.
+fn next_of(position: &Position, bytes: &[u8]) -> Next
+    ensures value { result ≡ next_block position.now bytes.now }
+    ensures within { IsNextIn (length bytes.now) result }
+{
+    match head_of(position.order(), bytes) {
+        Head::Short => Next::Wants,
+        Head::Flawed(flaw) => Next::Flawed(flaw),
+        Head::Stands(order, kind, total) => {
+            if bytes.len() < total as usize {
+                return Next::Wants;
+            }
+            let block = bytes.split_at(total as usize).0;
+            match content_of(position.interfaces(), order, kind, block) {
+                Ok(content) => Next::Block(total, content),
+                Err(flaw) => Next::Flawed(flaw),
+            }
+        }
+    }
+}
+
+// What was read, where the blocks end.
+fn stopped(
+    alloc: Global,
+    position: Position,
+    frames: Vec<Frame>,
+    left: &[u8],
+    flaw: Option<Flaw>,
+) -> Result<Read, AllocError>
+    ensures { IfOk result (λ read. (read.position ≡ position) × (read.frames.items ≡ frames.items) × (read.rest.items ≡ left.now) × (read.flaw ≡ flaw)) }
+{
+    let rest = left.to_vec(alloc)?;
+    Ok(Read {
+        position,
+        frames,
+        rest,
+        flaw,
+    })
+}
+
+// Reads the blocks at the front.
+pub(crate) fn read_blocks(
+    alloc: Global,
+    mut position: Position,
+    bytes: &[u8],
+) -> Result<Read, AllocError>
+    requires { position.count + length bytes.now ≤ 2 ^ 32 }
+    ensures { IfOk result (λ read. AreRead position bytes.now read.frames.items read.position read.rest.items read.flaw) }
+{
+    let mut frames = Vec::new(alloc);
+    let mut left = bytes;
+    loop {
+        match next_of(&position, left) {
+            Next::Block(total, content) => {
+                let (block, after) = left.split_at(total as usize);
+                position.pass(alloc, content, block, &mut frames)?;
+                left = after;
+            }
+            Next::Wants => return stopped(alloc, position, frames, left, None),
+            Next::Flawed(flaw) => return stopped(alloc, position, frames, left, Some(flaw)),
+        }
+    }
+}

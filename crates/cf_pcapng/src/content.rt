@@ -1,0 +1,181 @@
+// What a whole block states.
+ghost use Rattle.std.specs.Prelude.{◌≡◌, ◌≤◌, ◌+◌, ◌-◌, ◌*◌, ◌<◌, ◌^◌, length, drop, IfOk, slice_get};
+ghost use Rattle.cf_pcap.specs.Capture.{number_in};
+ghost use Rattle.cf_pcapng.specs.Blocks.{interface_at, is_link, packet_of as packet_by_rules, time_at, enhanced_of, simple_caplen as simple_caplen_of, simple_of, stated as stated_by, content_of as content_by_rules, least};
+ghost use Rattle.cf_pcapng.specs.Reading.{LiesIn};
+
+use crate::fault::Flaw;
+use crate::head::Kind;
+use crate::options::resolution_of;
+use crate::times::nanoseconds_of;
+use cf_pcap::Order;
+
+/// The most bytes that a packet may hold of its frame.
+const LONGEST: u32 = 262_144;
+
+/// An interface of a section.
+#[derive(Clone, Copy, Debug, PartialEq, Eq)]
+pub(crate) struct Interface {
+    pub link: u16,
+    pub snaplen: u32,
+    /// The unit of its times, as if_tsresol states it.
+    pub resolution: u8,
+}
+
+/// A packet of a block.
+#[derive(Clone, Copy, Debug, PartialEq, Eq)]
+pub(crate) struct Packet {
+    /// In nanoseconds.
+    pub ts: u64,
+    pub caplen: u32,
+    pub len: u32,
+    /// Where its bytes begin in the block.
+    pub begin: u32,
+}
+
+/// What a block states.
+#[derive(Clone, Copy, Debug, PartialEq, Eq)]
+pub(crate) enum Content {
+    NewSection(Order),
+    NewInterface(Interface),
+    Captures(Packet),
+    Nothing,
+}
+
+// Whether frames of this link are read.
+fn is_read(link: u16) -> bool
+    ensures { result ≡ is_link link }
+{
+    link == 1 || link == 113
+}
+
+// A packet of an interface with this link, in a block with room for so many bytes.
+#[tactic(auto, unfolding(crate::specs::Blocks::packet_of))]
+fn packet_of(link: u16, room: usize, packet: Packet) -> Result<Content, Flaw>
+    ensures value { result ≡ packet_by_rules link room packet }
+    ensures fits { IfOk result (λ content. LiesIn (packet.begin + room) content) }
+{
+    if !is_read(link) {
+        return Err(Flaw::BadLink);
+    }
+    if packet.caplen > LONGEST {
+        return Err(Flaw::FrameTooLong);
+    }
+    if packet.caplen as usize > room {
+        return Err(Flaw::BadLength);
+    }
+    Ok(Content::Captures(packet))
+}
+
+// The time of an enhanced packet.
+fn time_of(order: Order, block: &[u8]) -> u64
+    requires { 32 ≤ length block.now }
+    ensures { result ≡ time_at order block.now }
+{
+    let high = order.read_u32(&block[12..]);
+    let low = order.read_u32(&block[16..]);
+    high as u64 * 4_294_967_296 + low as u64
+}
+
+fn enhanced_packet(interfaces: &[Interface], order: Order, block: &[u8]) -> Result<Content, Flaw>
+    requires { 32 ≤ length block.now }
+    ensures value { result ≡ enhanced_of (slice_get interfaces.now (number_in order 4 (drop 8 block.now))) order block.now }
+    ensures fits { IfOk result (LiesIn (length block.now)) }
+{
+    let number = order.read_u32(&block[8..]);
+    let Some(interface) = interfaces.get(number as usize) else {
+        return Err(Flaw::NoInterface);
+    };
+    let packet = Packet {
+        ts: nanoseconds_of(interface.resolution, time_of(order, block)),
+        caplen: order.read_u32(&block[20..]),
+        len: order.read_u32(&block[24..]),
+        begin: 28,
+    };
+    packet_of(interface.link, block.len() - 32, packet)
+}
+
+// The captured length of a simple packet.
+fn simple_caplen(original: u32, snaplen: u32, room: u32) -> u32
+    ensures { result ≡ simple_caplen_of original snaplen room }
+{
+    let cut = if snaplen == 0 {
+        original
+    } else {
+        original.min(snaplen)
+    };
+    cut.min(room)
+}
+
+fn simple_packet(interfaces: &[Interface], order: Order, block: &[u8]) -> Result<Content, Flaw>
+    requires least { 16 ≤ length block.now }
+    requires most { length block.now < 2 ^ 32 }
+    ensures value { result ≡ simple_of (slice_get interfaces.now 0) order block.now }
+    ensures fits { IfOk result (LiesIn (length block.now)) }
+{
+    let Some(interface) = interfaces.first() else {
+        return Err(Flaw::NoInterface);
+    };
+    let original = order.read_u32(&block[8..]);
+    let room = block.len() - 16;
+    let packet = Packet {
+        ts: 0,
+        caplen: simple_caplen(original, interface.snaplen, room as u32),
+        len: original,
+        begin: 12,
+    };
+    packet_of(interface.link, room, packet)
+}
+
+// The interface that an interface description block states.
+fn interface_of(order: Order, block: &[u8]) -> Interface
+    requires { 20 ≤ length block.now }
+    ensures { result ≡ interface_at order block.now }
+{
+    Interface {
+        link: order.read_u16(&block[8..]),
+        snaplen: order.read_u32(&block[12..]),
+        resolution: resolution_of(order, &block[16..block.len() - 4]),
+    }
+}
+
+// What a block states whose last field is its length.
+fn stated(interfaces: &[Interface], order: Order, kind: Kind, block: &[u8]) -> Result<Content, Flaw>
+    requires least { least kind ≤ length block.now }
+    requires most { length block.now < 2 ^ 32 }
+    ensures value { result ≡ stated_by interfaces.now order kind block.now }
+    ensures fits { IfOk result (LiesIn (length block.now)) }
+{
+    match kind {
+        Kind::SectionHeader => {
+            if order.read_u16(&block[12..]) != 1 {
+                return Err(Flaw::BadVersion);
+            }
+            Ok(Content::NewSection(order))
+        }
+        Kind::InterfaceDescription => Ok(Content::NewInterface(interface_of(order, block))),
+        Kind::EnhancedPacket => enhanced_packet(interfaces, order, block),
+        Kind::SimplePacket => simple_packet(interfaces, order, block),
+        Kind::Other => Ok(Content::Nothing),
+    }
+}
+
+// What a whole block states, or its flaw.
+#[tactic(auto, unfolding(crate::specs::Blocks::content_of))]
+pub(crate) fn content_of(
+    interfaces: &[Interface],
+    order: Order,
+    kind: Kind,
+    block: &[u8],
+) -> Result<Content, Flaw>
+    requires least { least kind ≤ length block.now }
+    requires most { length block.now < 2 ^ 32 }
+    ensures value { result ≡ content_by_rules interfaces.now order kind block.now }
+    ensures fits { IfOk result (LiesIn (length block.now)) }
+{
+    let last = order.read_u32(&block[block.len() - 4..]);
+    if last as usize != block.len() {
+        return Err(Flaw::BadLength);
+    }
+    stated(interfaces, order, kind, block)
+}

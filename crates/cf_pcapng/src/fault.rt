@@ -1,0 +1,72 @@
+// Why a stream is refused.
+ghost use Rattle.std.specs.Prelude.{◌≡◌};
+ghost use Rattle.cf_pcapng.specs.File.{fault_of};
+ghost use Rattle.cf_pcapng.specs.declared.fault.NgFault.TheVariants.{Memory};
+
+use std::alloc::{AllocError, AllocFailed};
+
+/// Why a stream is no capture. The number is that of the frames before the fault.
+#[derive(Clone, Copy, Debug, PartialEq, Eq)]
+pub enum NgFault {
+    /// The first block is no section header, or a section header's byte-order magic is in neither order.
+    BadMagic(u32),
+    /// A section's major version isn't 1.
+    BadVersion(u32),
+    /// A packet's interface has a link other than Ethernet (1) and Linux SLL (113).
+    BadLink(u32),
+    /// A packet's captured length is above 262,144 bytes.
+    FrameTooLong(u32),
+    /// The stream ends inside a block, or before its first section header.
+    Cut(u32),
+    /// The stream has 2^32 bytes or more.
+    TooManyBytes,
+    /// A total length is unlawful or stands differently at the block's end, or a packet's bytes don't fit.
+    BadLength(u32),
+    /// A packet's interface isn't one of its section.
+    NoInterface(u32),
+    /// Want of memory, which is no fault of the stream.
+    Memory,
+}
+
+/// What is wrong with a block.
+#[derive(Clone, Copy, Debug, PartialEq, Eq)]
+pub(crate) enum Flaw {
+    BadMagic,
+    BadVersion,
+    BadLink,
+    FrameTooLong,
+    BadLength,
+    NoInterface,
+}
+
+impl Flaw {
+    // The fault of a stream that has it after so many frames.
+    pub(crate) fn after(self, count: u32) -> NgFault
+        ensures { result ≡ fault_of count self }
+    {
+        match self {
+            Flaw::BadMagic => NgFault::BadMagic(count),
+            Flaw::BadVersion => NgFault::BadVersion(count),
+            Flaw::BadLink => NgFault::BadLink(count),
+            Flaw::FrameTooLong => NgFault::FrameTooLong(count),
+            Flaw::BadLength => NgFault::BadLength(count),
+            Flaw::NoInterface => NgFault::NoInterface(count),
+        }
+    }
+}
+
+impl From<AllocError> for NgFault {
+    ghost from_gives = { λ _ e. e ≡ Memory };
+
+    fn from(_: AllocError) -> Self {
+        NgFault::Memory
+    }
+}
+
+impl<T: Drop> From<AllocFailed<T>> for NgFault {
+    ghost from_gives = { λ _ e. e ≡ Memory };
+
+    fn from(_: AllocFailed<T>) -> Self {
+        NgFault::Memory
+    }
+}

@@ -1,0 +1,24 @@
+//! Captures in the PCAP Next Generation format (draft-ietf-opsawg-pcapng), read as a stream that comes in any pieces.
+#![tactic(auto)]
+
+mod blocks;
+mod content;
+mod fault;
+mod head;
+mod laws;
+mod options;
+mod passed;
+mod position;
+mod reader;
+mod stage;
+mod times;
+
+pub use fault::NgFault;
+pub use laws::{
+    blocks_are_judged_by_the_rules, each_file_is_in_one_case, each_stream_gives_one_list,
+    files_are_judged_by_the_rules,
+};
+pub use reader::PcapNg;
+
+#[cfg(test)]
+mod tests;

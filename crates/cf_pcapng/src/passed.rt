@@ -1,0 +1,187 @@
+// Blocks that are passed over.
+ghost use Rattle.std.specs.Prelude.{◌≡◌, ℕ, List, ◌++◌, ◌+◌, ◌<◌, ◌≤◌, ◌^◌, length, IfOk};
+ghost use Rattle.cf_pcapng.specs.File.{State};
+ghost use Rattle.cf_pcapng.specs.Reading.{WasPassed, AreReadOn, AreRead, IsResumed, IsLetGo, IsPassedAt, HasRoom, IsGoneOn};
+
+use crate::blocks::{Read, read_blocks};
+use crate::fault::Flaw;
+use crate::head::{Head, Kind, head_of};
+use crate::position::Position;
+use cf_pcap::{Frame, Order};
+use std::alloc::{AllocError, Global};
+
+/// A block at hand that is only passed over, and may be very long: its bytes are let go up to the last field.
+#[derive(Clone, Copy, Debug, PartialEq, Eq)]
+pub(crate) struct Passed {
+    pub order: Order,
+    pub total: u32,
+    /// How many of its bytes were let go.
+    pub gone: u32,
+}
+
+/// What comes of a block at hand.
+#[derive(Clone, Copy, Debug, PartialEq, Eq)]
+pub(crate) enum Resumed {
+    /// It goes on, with so many bytes more let go.
+    Within(Passed, usize),
+    /// Its last field is false.
+    Flawed,
+    /// It ends after so many bytes.
+    Over(usize),
+}
+
+/// What was read of the bytes of a stream, and what a reader has of the block at hand.
+#[derive(Drop)]
+pub(crate) struct Given {
+    pub position: Position,
+    pub frames: Vec<Frame>,
+    pub passed: Option<Passed>,
+    pub held: Vec<u8>,
+    pub flaw: Option<Flaw>,
+}
+
+impl Passed {
+    // Lets go what comes before the last field.
+    fn within(self, bytes: &[u8]) -> (Passed, usize)
+        requires room { self.gone + 4 ≤ self.total }
+        requires short { self.gone + length bytes.now < self.total }
+        ensures { IsLetGo self (length bytes.now) result.0 result.1 }
+    {
+        let some = bytes.len().min((self.total - 4 - self.gone) as usize);
+        let passed = Passed {
+            order: self.order,
+            total: self.total,
+            gone: self.gone + some as u32,
+        };
+        (passed, some)
+    }
+
+    // Goes on with the next bytes.
+    fn resume(self, bytes: &[u8]) -> Resumed
+        requires { self.gone + 4 ≤ self.total }
+        ensures { IsResumed self bytes.now result }
+    {
+        let left = (self.total - self.gone) as usize;
+        if bytes.len() < left {
+            let (passed, some) = self.within(bytes);
+            return Resumed::Within(passed, some);
+        }
+        if self.order.read_u32(&bytes[left - 4..]) != self.total {
+            return Resumed::Flawed;
+        }
+        Resumed::Over(left)
+    }
+}
+
+// The block that begins here, where it is only passed over.
+fn passed_at(section: Option<Order>, rest: &[u8]) -> Option<Passed>
+    ensures { IsPassedAt section rest.now result }
+{
+    match head_of(section, rest) {
+        Head::Stands(order, Kind::Other, total) if rest.len() < total as usize => Some(Passed {
+            order,
+            total,
+            gone: 0,
+        }),
+        _ => None,
+    }
+}
+
+// Lets go of a block that is only passed over.
+fn let_go(alloc: Global, read: Read) -> Result<Given, AllocError>
+    ensures { IfOk result (λ given. (s : State) (bytes : List ℕ) → AreRead s bytes read.frames.items read.position read.rest.items read.flaw → AreReadOn s bytes given.frames.items given.position given.passed given.held.items given.flaw) }
+{
+    let Read {
+        position,
+        frames,
+        rest,
+        flaw,
+    } = read;
+    if flaw.is_some() {
+        return Ok(Given {
+            position,
+            frames,
+            passed: None,
+            held: Vec::new(alloc),
+            flaw,
+        });
+    }
+    match passed_at(position.order(), &rest) {
+        None => Ok(Given {
+            position,
+            frames,
+            passed: None,
+            held: rest,
+            flaw,
+        }),
+        Some(block) => {
+            let (passed, some) = block.within(&rest);
+            let held = rest.as_slice().split_at(some).1.to_vec(alloc)?;
+            Ok(Given {
+                position,
+                frames,
+                passed: Some(passed),
+                held,
+                flaw,
+            })
+        }
+    }
+}
+
+// Goes on in a block at hand, of which the next bytes come.
+fn go_past(
+    alloc: Global,
+    position: Position,
+    block: Passed,
+    bytes: &[u8],
+) -> Result<Given, AllocError>
+    requires block { block.gone + 4 ≤ block.total }
+    requires room { position.count + length bytes.now ≤ 2 ^ 32 }
+    ensures sound { IfOk result (λ given. IsGoneOn position (length bytes.now) given.position given.passed given.held.items given.flaw) }
+    ensures read { IfOk result (λ given. (gone : List ℕ) → WasPassed position.order (Some block) gone → AreReadOn position (gone ++ bytes.now) given.frames.items given.position given.passed given.held.items given.flaw) }
+{
+    match block.resume(bytes) {
+        Resumed::Over(left) => {
+            let read = read_blocks(alloc, position, bytes.split_at(left).1)?;
+            let_go(alloc, read)
+        }
+        Resumed::Within(passed, some) => {
+            let held = bytes.split_at(some).1.to_vec(alloc)?;
+            Ok(Given {
+                position,
+                frames: Vec::new(alloc),
+                passed: Some(passed),
+                held,
+                flaw: None,
+            })
+        }
+        Resumed::Flawed => Ok(Given {
+            position,
+            frames: Vec::new(alloc),
+            passed: None,
+            held: Vec::new(alloc),
+            flaw: Some(Flaw::BadLength),
+        }),
+    }
+}
+
+// Reads the bytes after those that were let go.
+pub(crate) fn go_on(
+    alloc: Global,
+    position: Position,
+    passed: Option<Passed>,
+    bytes: &[u8],
+) -> Result<Given, AllocError>
+    requires block { HasRoom passed }
+    requires room { position.count + length bytes.now ≤ 2 ^ 32 }
+    ensures sound { IfOk result (λ given. IsGoneOn position (length bytes.now) given.position given.passed given.held.items given.flaw) }
+    ensures read { IfOk result (λ given. (gone : List ℕ) → WasPassed position.order passed gone → AreReadOn position (gone ++ bytes.now) given.frames.items given.position given.passed given.held.items given.flaw) }
+{
+    match passed {
+        Some(block) => go_past(alloc, position, block, bytes),
+        None => {
+            let read = read_blocks(alloc, position, bytes)?;
+            let_go(alloc, read)
+        }
+    }
+}

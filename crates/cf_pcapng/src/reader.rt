@@ -1,0 +1,200 @@
+// The reader of a capture, which comes in pieces.
+ghost use Rattle.std.specs.Prelude.{◌≡◌, ◌≢◌, ℕ, List, [], ◌++◌, ◌<◌, ◌≤◌, ◌^◌, ◌+◌, length, take, drop, IfOk, Err};
+ghost use Rattle.cf_pcap.specs.Capture.{Captured};
+ghost use Rattle.cf_pcapng.specs.declared.stage.Stage.TheVariants.{Running};
+ghost use Rattle.cf_pcapng.specs.Reading.{HasRoom, MayGoOn};
+ghost use Rattle.cf_pcapng.specs.Reader.{IsStateOf, IsFed, IsEnded, AnswersFound, IsStageAtLimit, IsStageAfter, IsCalled, kept_at};
+
+use crate::fault::NgFault;
+use crate::passed::{Given, Passed, go_on};
+use crate::position::Position;
+use crate::stage::{Stage, answer_of};
+use cf_pcap::Frame;
+use std::alloc::{AllocError, Global};
+use std::marker::Model;
+
+/// The most bytes of a capture.
+const LAST: usize = (1 << 32) - 1;
+
+/// A reader of one capture. It keeps no more of the stream than the begin of a block that is read, and the interfaces of
+/// the section. Contracts speak of every stream whose state it has.
+#[derive(Drop)]
+pub struct PcapNg {
+    alloc: Global,
+    stage: Stage,
+    // How many bytes were taken, while the reader runs.
+    total: usize,
+    position: Position,
+    // The block at hand, where it is only passed over.
+    passed: Option<Passed>,
+    held: Vec<u8>,
+}
+
+impl Model for PcapNg {
+    ghost use Rattle.cf_pcapng.specs.Reader.{Reader, IsSound};
+
+    ghost Value = { Reader };
+
+    ghost view = { λ p. record { stage = p.stage; total = p.total; state = p.position; passed = p.passed; held = p.held.items } };
+
+    ghost invariant = { λ p. IsSound (record { stage = p.stage; total = p.total; state = p.position; passed = p.passed; held = p.held.items }) };
+}
+
+/// What a call that takes a piece comes to: the frames that it gives, and the reader after it.
+#[derive(Drop)]
+struct Called {
+    stage: Stage,
+    total: usize,
+    position: Position,
+    passed: Option<Passed>,
+    held: Vec<u8>,
+    frames: Vec<Frame>,
+}
+
+// The bytes that are held and those that come.
+fn joined(alloc: Global, held: &[u8], more: &[u8]) -> Result<Vec<u8>, AllocError>
+    ensures { IfOk result (λ bytes. bytes.items ≡ held.now ++ more.now) }
+{
+    let mut bytes = held.to_vec(alloc)?;
+    bytes.extend_from_slice(more)?;
+    Ok(bytes)
+}
+
+// The stage where a byte comes that makes the stream 2^32 bytes long.
+fn stage_at_limit(alloc: Global, given: &Given, byte: &[u8]) -> Result<Stage, AllocError>
+    requires one { length byte.now ≡ 1 }
+    requires block { HasRoom given.now.passed }
+    requires room { given.now.position.count + length given.now.held.items + 1 ≤ 2 ^ 32 }
+    ensures { IfOk result (IsStageAtLimit given.now.position given.now.passed given.now.held.items byte.now) }
+{
+    let bytes = joined(alloc, &given.held, byte)?;
+    let position = given.position.copy(alloc)?;
+    let last = go_on(alloc, position, given.passed, &bytes)?;
+    match last.flaw {
+        Some(flaw) => Ok(Stage::Stopped(flaw.after(last.position.count()))),
+        None => Ok(Stage::Stopped(NgFault::TooManyBytes)),
+    }
+}
+
+// The stage after the bytes that came early enough, where these come late.
+fn stage_after(alloc: Global, given: &Given, late: &[u8]) -> Result<Stage, AllocError>
+    requires { MayGoOn given.now.position given.now.passed given.now.held.items given.now.flaw }
+    ensures { IfOk result (IsStageAfter given.now.position given.now.passed given.now.held.items given.now.flaw late.now) }
+{
+    if let Some(flaw) = given.flaw {
+        return Ok(Stage::Stopped(flaw.after(given.position.count())));
+    }
+    if late.is_empty() {
+        return Ok(Stage::Running);
+    }
+    stage_at_limit(alloc, given, late.split_at(1).0)
+}
+
+// The first bytes of a piece, that many at most, and the others.
+fn cut(piece: &[u8], most: usize) -> (&[u8], &[u8])
+    ensures early { result.0.now ≡ take most piece.now }
+    ensures late { result.1.now ≡ drop most piece.now }
+{
+    if piece.len() <= most {
+        return (piece, &[]);
+    }
+    piece.split_at(most)
+}
+
+// The bytes that a reader keeps at a stage.
+fn kept(alloc: Global, stage: Stage, held: Vec<u8>) -> Vec<u8>
+    ensures { result.items ≡ kept_at stage held.items }
+{
+    match stage {
+        Stage::Stopped(_) => Vec::new(alloc),
+        Stage::Running => held,
+    }
+}
+
+impl PcapNg {
+    /// A reader that was fed nothing yet.
+    pub fn new(alloc: Global) -> Result<Self, AllocError>
+        ensures { IfOk result (λ pcapng. IsStateOf pcapng []) }
+    {
+        Ok(PcapNg {
+            alloc,
+            stage: Stage::Running,
+            total: 0,
+            position: Position::new(alloc),
+            passed: None,
+            held: Vec::new(alloc),
+        })
+    }
+
+    /// Takes the next piece of the stream, and adds to `out` the frames whose last byte lies in it and before any fault.
+    /// A fault is found by its place: the type of the first block after 4 bytes, a total length after 8 bytes of its block,
+    /// a byte-order magic and a section header's total length after 12, and others at the end of their block;
+    /// `TooManyBytes` at the byte that makes the stream 2^32 bytes. After a fault every call answers it. After `Memory`
+    /// nothing of the piece is taken, and it may be fed again.
+    pub fn feed(&mut self, piece: &[u8], out: &mut Vec<Frame>) -> Result<(), NgFault>
+        ensures fed { result ≢ Err NgFault.Memory → (given : List Captured) × (out.new.items ≡ out.old.items ++ given)
+            × ((stream : List ℕ) → IsStateOf self.old stream → IsFed stream piece.now given result self.new) }
+        ensures stopped { AnswersFound self.old result }
+        ensures memory { result ≡ Err NgFault.Memory → (self.new ≡ self.old) × (out.new.items ≡ out.old.items) }
+    {
+        if let Stage::Stopped(fault) = self.stage {
+            return Err(fault);
+        }
+        let mut called = self.call(piece)?;
+        out.append(&mut called.frames)?;
+        self.stage = called.stage;
+        self.total = called.total;
+        self.position = called.position;
+        self.passed = called.passed;
+        self.held = called.held;
+        answer_of(self.stage)
+    }
+
+    // What a call that takes a piece comes to.
+    fn call(&self, piece: &[u8]) -> Result<Called, AllocError>
+        requires { self.now.stage ≡ Running }
+        ensures { IfOk result (λ called. IsCalled self.now piece.now called.frames.items (record { stage = called.stage; total = called.total; state = called.position; passed = called.passed; held = called.held.items })) }
+    {
+        let (early, late) = cut(piece, LAST - self.total);
+        let bytes = joined(self.alloc, &self.held, early)?;
+        let position = self.position.copy(self.alloc)?;
+        let given = go_on(self.alloc, position, self.passed, &bytes)?;
+        let stage = stage_after(self.alloc, &given, late)?;
+        Ok(Called {
+            stage,
+            total: self.total + early.len(),
+            position: given.position,
+            passed: given.passed,
+            held: kept(self.alloc, stage, given.held),
+            frames: given.frames,
+        })
+    }
+
+    /// How many bytes of the stream are held: those of a block that has only begun.
+    pub fn held(&self) -> usize
+        ensures value { result ≡ length self.now.held }
+        ensures few { result ≤ 1048580 }
+    {
+        self.held.len()
+    }
+
+    /// The number of frames of the stream that was fed, or its fault. It takes no memory.
+    pub fn finish(self) -> Result<u32, NgFault>
+        ensures ended { (stream : List ℕ) → IsStateOf self stream → IsEnded stream result }
+        ensures no_memory { result ≢ Err NgFault.Memory }
+    {
+        let count = self.position.count();
+        match self.stage {
+            Stage::Stopped(fault) => Err(fault),
+            Stage::Running => {
+                if self.passed.is_some() || !self.held.is_empty() {
+                    return Err(NgFault::Cut(count));
+                }
+                if self.position.order().is_none() {
+                    return Err(NgFault::Cut(count));
+                }
+                Ok(count)
+            }
+        }
+    }
+}

@@ -1,0 +1,245 @@
+// Captures by tables.
+use crate::{NgFault, PcapNg};
+use cf_pcap::Frame;
+use std::alloc::{AllocError, Global};
+use std::test::Fail;
+
+/// A section, an interface, an enhanced and a simple packet, little-endian.
+const LITTLE: [u8; 104] = [
+    0x0a, 0x0d, 0x0d, 0x0a, 0x1c, 0, 0, 0, 0x4d, 0x3c, 0x2b, 0x1a, 1, 0, 0, 0, 0xff, 0xff, 0xff,
+    0xff, 0xff, 0xff, 0xff, 0xff, 0x1c, 0, 0, 0, 1, 0, 0, 0, 0x14, 0, 0, 0, 1, 0, 0, 0, 0, 0, 0, 0,
+    0x14, 0, 0, 0, 6, 0, 0, 0, 0x24, 0, 0, 0, 0, 0, 0, 0, 0, 0, 0, 0, 0x60, 0xe3, 0x16, 0, 2, 0, 0,
+    0, 0x3c, 0, 0, 0, 0xaa, 0xbb, 0, 0, 0x24, 0, 0, 0, 3, 0, 0, 0, 0x14, 0, 0, 0, 0x64, 0, 0, 0,
+    0xcc, 0, 0, 0, 0x14, 0, 0, 0,
+];
+
+/// The same blocks, big-endian.
+const BIG: [u8; 104] = [
+    0x0a, 0x0d, 0x0d, 0x0a, 0, 0, 0, 0x1c, 0x1a, 0x2b, 0x3c, 0x4d, 0, 1, 0, 0, 0xff, 0xff, 0xff,
+    0xff, 0xff, 0xff, 0xff, 0xff, 0, 0, 0, 0x1c, 0, 0, 0, 1, 0, 0, 0, 0x14, 0, 1, 0, 0, 0, 0, 0, 0,
+    0, 0, 0, 0x14, 0, 0, 0, 6, 0, 0, 0, 0x24, 0, 0, 0, 0, 0, 0, 0, 0, 0, 0x16, 0xe3, 0x60, 0, 0, 0,
+    2, 0, 0, 0, 0x3c, 0xaa, 0xbb, 0, 0, 0, 0, 0, 0x24, 0, 0, 0, 3, 0, 0, 0, 0x14, 0, 0, 0, 0x64,
+    0xcc, 0, 0, 0, 0, 0, 0, 0x14,
+];
+
+/// An interface whose times are in nanoseconds.
+const NANOSECONDS: [u8; 32] = [
+    1, 0, 0, 0, 0x20, 0, 0, 0, 1, 0, 0, 0, 0, 0, 0, 0, 9, 0, 1, 0, 9, 0, 0, 0, 0, 0, 0, 0, 0x20, 0,
+    0, 0,
+];
+
+/// A block of an unknown type with 5 bytes in its body, padded.
+const UNKNOWN: [u8; 20] = [
+    0xad, 0x0b, 0, 0, 0x14, 0, 0, 0, 1, 2, 3, 4, 5, 0, 0, 0, 0x14, 0, 0, 0,
+];
+
+/// After how many bytes a fault was found, if one was, and what the end answers.
+#[derive(Clone, Copy)]
+struct Told {
+    found: Option<usize>,
+    end: Result<u32, NgFault>,
+}
+
+/// Feeds a piece, and once more where memory is wanting.
+fn feed_again(pcapng: &mut PcapNg, piece: &[u8], out: &mut Vec<Frame>) -> Result<(), NgFault> {
+    match pcapng.feed(piece, out) {
+        Err(NgFault::Memory) => pcapng.feed(piece, out),
+        answer => answer,
+    }
+}
+
+/// Feeds a stream in pieces of that many bytes.
+fn feed_all(
+    alloc: Global,
+    stream: &[u8],
+    size: usize,
+    out: &mut Vec<Frame>,
+) -> Result<Told, AllocError> {
+    let mut pcapng = PcapNg::new(alloc)?;
+    let mut found = None;
+    let mut taken = 0usize;
+    for piece in stream.chunks(size.max(1)) {
+        let answer = feed_again(&mut pcapng, piece, out);
+        taken = taken.saturating_add(piece.len());
+        if answer.is_err() && found.is_none() {
+            found = Some(taken);
+        }
+    }
+    Ok(Told {
+        found,
+        end: pcapng.finish(),
+    })
+}
+
+/// The parts one after another.
+fn joined(alloc: Global, parts: &[&[u8]]) -> Result<Vec<u8>, AllocError> {
+    let mut all = Vec::new(alloc);
+    for part in parts {
+        all.extend_from_slice(part)?;
+    }
+    Ok(all)
+}
+
+/// A part of a stream.
+fn part(stream: &[u8], begin: usize, end: usize) -> &[u8] {
+    stream.get(begin..end).unwrap_or(&[])
+}
+
+#[test]
+fn each_order_gives_the_same_frames(rt: HostRuntime) -> Result<(), Fail> {
+    for stream in [LITTLE, BIG] {
+        for size in [1, 7, 24, 104] {
+            let mut out: Vec<Frame> = Vec::new(rt.alloc());
+            let told = feed_all(rt.alloc(), &stream, size, &mut out)?;
+            assert_eq!(rt;
+                (told.found, told.end),
+                (None, Ok(2)),
+                "in pieces of {size}"
+            );
+            let wanted = [
+                (0, 1_500_000_000, 2, 60, [0xaa, 0xbb].as_slice()),
+                (1, 0, 4, 100, [0xcc, 0, 0, 0].as_slice()),
+            ];
+            assert_eq!(rt; out.len(), wanted.len());
+            for (frame, (num, ts, caplen, len, bytes)) in out.iter().zip(wanted) {
+                assert_eq!(rt; (frame.num, frame.ts), (num, ts));
+                assert_eq!(rt; (frame.caplen, frame.len), (caplen, len));
+                assert_eq!(rt; frame.bytes.as_slice(), bytes);
+            }
+        }
+    }
+    Ok(())
+}
+
+#[test]
+fn a_resolution_option_counts(rt: HostRuntime) -> Result<(), Fail> {
+    let stream = joined(
+        rt.alloc(),
+        &[part(&LITTLE, 0, 28), &NANOSECONDS, part(&LITTLE, 48, 104)],
+    )?;
+    for size in [1, 7, 200] {
+        let mut out: Vec<Frame> = Vec::new(rt.alloc());
+        let told = feed_all(rt.alloc(), &stream, size, &mut out)?;
+        assert_eq!(rt; told.end, Ok(2));
+        assert_eq!(rt; out.first().map(|frame| frame.ts), Some(1_500_000));
+    }
+    Ok(())
+}
+
+#[test]
+fn other_blocks_are_passed_over(rt: HostRuntime) -> Result<(), Fail> {
+    let stream = joined(
+        rt.alloc(),
+        &[
+            part(&LITTLE, 0, 48),
+            &UNKNOWN,
+            part(&LITTLE, 48, 84),
+            &UNKNOWN,
+            &BIG,
+        ],
+    )?;
+    for size in [1, 3, 7, 300] {
+        let mut out: Vec<Frame> = Vec::new(rt.alloc());
+        let told = feed_all(rt.alloc(), &stream, size, &mut out)?;
+        assert_eq!(rt;
+            (told.found, told.end),
+            (None, Ok(3)),
+            "in pieces of {size}"
+        );
+        assert_eq!(rt; out.len(), 3);
+    }
+    Ok(())
+}
+
+/// Bytes of the little-endian stream with others in the place of two.
+fn changed(mut stream: [u8; 104], changes: &[(usize, u8)]) -> [u8; 104] {
+    for (at, byte) in changes {
+        if *at < stream.len() {
+            stream[*at] = *byte;
+        }
+    }
+    stream
+}
+
+#[test]
+fn each_fault_is_found_at_its_place(rt: HostRuntime) -> Result<(), Fail> {
+    let cases = [
+        ([(0, 0x0b), (1, 0x0d)], Some((4, NgFault::BadMagic(0)))),
+        ([(8, 0x4e), (9, 0x3c)], Some((12, NgFault::BadMagic(0)))),
+        ([(4, 0x1d), (5, 0)], Some((12, NgFault::BadLength(0)))),
+        ([(4, 0x18), (5, 0)], Some((12, NgFault::BadLength(0)))),
+        ([(24, 0x18), (25, 0)], Some((28, NgFault::BadLength(0)))),
+        ([(12, 2), (13, 0)], Some((28, NgFault::BadVersion(0)))),
+        ([(14, 2), (15, 0)], None),
+        ([(34, 0x10), (35, 0)], Some((36, NgFault::BadLength(0)))),
+        ([(32, 0x10), (33, 0)], Some((36, NgFault::BadLength(0)))),
+        ([(36, 2), (37, 0)], Some((84, NgFault::BadLink(0)))),
+        ([(36, 113), (37, 0)], None),
+        ([(56, 1), (57, 0)], Some((84, NgFault::NoInterface(0)))),
+        ([(70, 4), (68, 1)], Some((84, NgFault::FrameTooLong(0)))),
+        ([(68, 5), (69, 0)], Some((84, NgFault::BadLength(0)))),
+        ([(68, 4), (69, 0)], None),
+        ([(88, 0x0c), (89, 0)], Some((92, NgFault::BadLength(1)))),
+        ([(100, 0x15), (101, 0)], Some((104, NgFault::BadLength(1)))),
+    ];
+    for (changes, fault) in cases {
+        let stream = changed(LITTLE, &changes);
+        for size in [1, 7, 104] {
+            let mut out: Vec<Frame> = Vec::new(rt.alloc());
+            let told = feed_all(rt.alloc(), &stream, size, &mut out)?;
+            let (place, end) = match fault {
+                None => (None, Ok(2)),
+                Some((at, fault)) => (Some(at), Err(fault)),
+            };
+            assert_eq!(rt; told.end, end);
+            if size == 1 {
+                assert_eq!(rt; told.found, place);
+            }
+        }
+    }
+    Ok(())
+}
+
+#[test]
+fn a_cut_stream_is_cut_after_whole_blocks(rt: HostRuntime) -> Result<(), Fail> {
+    for stream in [LITTLE, BIG] {
+        for size in [1, 7, 104] {
+            for n in 0..105 {
+                let mut out: Vec<Frame> = Vec::new(rt.alloc());
+                let told = feed_all(rt.alloc(), part(&stream, 0, n), size, &mut out)?;
+                let end = match n {
+                    28 | 48 => Ok(0),
+                    84 => Ok(1),
+                    104 => Ok(2),
+                    0..=83 => Err(NgFault::Cut(0)),
+                    _ => Err(NgFault::Cut(1)),
+                };
+                assert_eq!(rt; (told.found, told.end), (None, end), "after {n} bytes");
+            }
+        }
+    }
+    Ok(())
+}
+
+#[test]
+fn a_long_block_is_passed_over_and_not_held(rt: HostRuntime) -> Result<(), Fail> {
+    // The last field of the block of 2^21 bytes, and what the end answers.
+    for (last, end) in [(0x20, Ok(0)), (0x21, Err(NgFault::BadLength(0)))] {
+        let mut pcapng = PcapNg::new(rt.alloc())?;
+        let mut out: Vec<Frame> = Vec::new(rt.alloc());
+        assert!(rt; feed_again(&mut pcapng, part(&LITTLE, 0, 28), &mut out).is_ok());
+        let head = [0xad, 0x0b, 0, 0, 0, 0, 0x20, 0];
+        assert!(rt; feed_again(&mut pcapng, &head, &mut out).is_ok());
+        let piece = [7u8; 4096];
+        for _ in 0..511 {
+            assert!(rt; feed_again(&mut pcapng, &piece, &mut out).is_ok());
+            assert_eq!(rt; pcapng.held(), 0);
+        }
+        let rest = piece.get(..4084).unwrap_or(&[]);
+        assert!(rt; feed_again(&mut pcapng, rest, &mut out).is_ok());
+        let answer = feed_again(&mut pcapng, &[0, 0, last, 0], &mut out);
+        assert_eq!(rt; answer.is_ok(), end.is_ok());
+        assert_eq!(rt; pcapng.finish(), end);
+    }
+    Ok(())
+}

@@ -1,0 +1,6 @@
+pub mod Units
+pub mod Seen
+pub mod Cases
+pub mod Given
+pub mod Feeding
+pub mod Ending
