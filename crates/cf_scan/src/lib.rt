@@ -1,0 +1,12 @@
+//! Questions about entries that no index answers, split among threads.
+#![tactic(auto)]
+
+mod found;
+mod laws;
+#[cfg(test)]
+mod tests;
+mod total;
+
+pub use found::scan;
+pub use laws::scans_are_lists;
+pub use total::scan_total;

@@ -1,0 +1,4 @@
+pub mod Lawful
+pub mod Sound
+pub mod Histories
+pub mod Cuts

@@ -1,0 +1,84 @@
+-- What a coordinator and its hosts hold, and what each event does.
+use Rattle.std.specs.Prelude.{◌≡◌, ℕ, ◌+◌, ◌^◌, Bool, true, false, ◌&&◌, not, nat_lt, List, length, replicate, set, fold, slice_index_or, if◌then◌else◌}
+use Rattle.std.specs.List.{list_all}
+use Rattle.std.specs.declared.option.Option.{Option}
+use Rattle.std.specs.declared.option.Option.TheVariants.{Some, None}
+use Rattle.cf_snapshot.specs.declared.event.SnapEvent.{SnapEvent}
+use Rattle.cf_snapshot.specs.declared.event.SnapEvent.TheVariants.{Cover, Begin, Freeze, Reply, Release, Thaw}
+
+-- of each host how many records it has covered, which is its tail, and whether it is frozen; of the coordinator the tail
+-- that each host has replied, which is 0 before, and whether it has replied
+pub record Snapshot : Type 0 where
+  pub tails : List ℕ
+  pub frozen : List Bool
+  pub replies : List ℕ
+  pub replied : List Bool
+  pub has_begun : Bool
+  pub is_released : Bool
+
+abbrev pub at_start : ℕ → Snapshot
+at_start hosts = record {
+  tails = replicate hosts 0;
+  frozen = replicate hosts false;
+  replies = replicate hosts 0;
+  replied = replicate hosts false;
+  has_begun = false;
+  is_released = false;
+}
+
+abbrev pub is_host : Snapshot → ℕ → Bool
+is_host s h = nat_lt h (length s.tails)
+
+abbrev pub tail_of : Snapshot → ℕ → ℕ
+tail_of s h = slice_index_or s.tails h 0
+
+abbrev pub is_frozen : Snapshot → ℕ → Bool
+is_frozen s h = slice_index_or s.frozen h false
+
+abbrev pub have_all_replied : Snapshot → Bool
+have_all_replied s = list_all (λ replied. replied) s.replied
+
+-- begun, and not yet released
+abbrev pub is_under_way : Snapshot → Bool
+is_under_way s = s.has_begun && not s.is_released
+
+-- when each event is lawful
+abbrev pub is_lawful : Snapshot → SnapEvent → Bool
+is_lawful s (Cover h) = is_host s h && not (is_frozen s h) && nat_lt (tail_of s h) (2 ^ 20)
+is_lawful s Begin = not s.has_begun
+is_lawful s (Freeze h) = is_host s h && is_under_way s && not (is_frozen s h)
+is_lawful s (Reply h) = is_host s h && is_under_way s && is_frozen s h
+is_lawful s Release = is_under_way s && have_all_replied s
+is_lawful s (Thaw h) = is_host s h && s.is_released && is_frozen s h
+
+-- what each lawful event does
+abbrev pub changed : Snapshot → SnapEvent → Snapshot
+changed s (Cover h) = record s { tails = set s.tails h (tail_of s h + 1) }
+changed s Begin = record s { has_begun = true }
+changed s (Freeze h) = record s { frozen = set s.frozen h true }
+changed s (Reply h) = record s { replies = set s.replies h (tail_of s h); replied = set s.replied h true }
+changed s Release = record s { is_released = true }
+changed s (Thaw h) = record s { frozen = set s.frozen h false }
+
+-- an event that isn't lawful is passed over
+abbrev pub after : Snapshot → SnapEvent → Snapshot
+after s event = if is_lawful s event then changed s event else s
+
+-- the state after a list of events
+abbrev pub state_after : ℕ → List SnapEvent → Snapshot
+state_after hosts events = fold after (at_start hosts) events
+
+-- the tails that the coordinator has, once it has released
+abbrev pub cut_of : Snapshot → Option (List ℕ)
+cut_of s = if s.is_released then Some s.replies else None
+
+-- each list has so many hosts
+pub record IsOf (hosts : ℕ) (s : Snapshot) : Type 0 where
+  pub tails : length s.tails ≡ hosts
+  pub frozen : length s.frozen ≡ hosts
+  pub replies : length s.replies ≡ hosts
+  pub replied : length s.replied ≡ hosts
+
+-- what is true of each snapshot
+abbrev pub IsSnapshot : Snapshot → Type 0
+IsSnapshot s = IsOf (length s.tails) s

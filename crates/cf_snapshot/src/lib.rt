@@ -1,0 +1,18 @@
+//! A snapshot over several hosts: a coordinator freezes the tails of all hosts, collects them and releases them.
+//!
+//! `Snap` is the coordinator and its hosts by themselves, moved by events; an event that isn't lawful changes nothing. The
+//! laws say, of every list of events, that a cut is of one moment.
+#![tactic(auto)]
+
+mod event;
+mod laws;
+mod snap;
+#[cfg(test)]
+mod tests;
+
+pub use event::SnapEvent;
+pub use laws::{
+    cuts_are_of_one_moment, cuts_come_by_release, cuts_end_at_the_last_freeze,
+    cuts_have_all_earlier,
+};
+pub use snap::{Snap, snap_step};
