@@ -15,7 +15,7 @@ mod tests {
     #[test]
     fn quads_of_two_numbers(rt: HostRuntime) {
         let quad = Quad::EMPTY.add(7).add(3);
-        for quad in [quad, quad.merge(Quad::EMPTY), Quad::EMPTY.merge(quad)] {
+        for quad in [quad, quad.merge(Quad::empty()), Quad::EMPTY.merge(quad)] {
             assert_eq!(rt; quad, Quad::new(2, 10, 3, 7));
         }
     }

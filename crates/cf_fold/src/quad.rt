@@ -26,7 +26,7 @@ impl Model for Quad {
 }
 
 impl Quad {
-    ghost use Rattle.cf_fold.specs.Quads.{quad_of, AreCounts};
+    ghost use Rattle.cf_fold.specs.Quads.{quad_of, plus, both, AreCounts};
 
     /// The quad of no number.
     pub const EMPTY: Quad = Quad {
@@ -77,9 +77,17 @@ impl Quad {
         self.greatest
     }
 
+    /// The quad of no number, which [`Quad::EMPTY`] is.
+    pub fn empty() -> Quad
+        ensures { result ≡ quad_of [] }
+    {
+        Quad::EMPTY
+    }
+
     /// The quad of the numbers and one more.
     pub fn add(self, value: u32) -> Quad
         requires few { self.count < 2 ^ 20 }
+        ensures plus { result ≡ plus self value }
         ensures added { (xs : List ℕ) → self ≡ quad_of xs → result ≡ quad_of (xs ++ value ∷ []) }
         ensures count { result.count ≡ self.count + 1 }
     {
@@ -103,6 +111,7 @@ impl Quad {
     /// The quad of both lists of numbers together.
     pub fn merge(self, other: Quad) -> Quad
         requires few { self.count + other.count ≤ 2 ^ 20 }
+        ensures both { result ≡ both self other }
         ensures merged { (xs ys : List ℕ) → self ≡ quad_of xs → other ≡ quad_of ys → result ≡ quad_of (xs ++ ys) }
         ensures count { result.count ≡ self.count + other.count }
     {
