@@ -60,7 +60,7 @@ pub(crate) fn fill<L: Ledger>(
     ensures pass { pass.new ≡ flying offset row.now (word_count_of log.now.shape.schema + 1) pass.old }
     ensures steps { steps.new ≡ steps.old + (word_count_of log.now.shape.schema + 1) }
 {
-    let schema = log.layout().schema();
+    let schema = log.shape().schema();
     let mut buffer = [0u64; 64];
     let words = &mut buffer[..word_count(schema) + 1];
     words_of(schema, row, pass.writer(), words);
@@ -94,7 +94,7 @@ pub fn append<L: Ledger>(
     };
     let _number = row.num();
     let found = log.take_ticket(pass, row, steps);
-    if found >= u64::from(log.layout().capacity()) {
+    if found >= u64::from(log.shape().capacity()) {
         return Err(AppendFault::Full);
     }
     let offset = found as u32;

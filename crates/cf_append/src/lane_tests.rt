@@ -112,9 +112,9 @@ fn linked<L: Ledger, R: Abort>(rt: &R, alloc: Global, blank: Blank) -> Result<()
     let mut steps = Steps::<L>::new(blank);
     let (log, mut root) = MultiLog::open(alloc, shape(rt, alloc)?)?;
     let rows = (row(alloc, 0x05)?, row(alloc, 0x16)?, row(alloc, 0x27)?);
-    assert!(rt; fits(log.layout().schema(), &rows.0));
-    assert!(rt; fits(log.layout().schema(), &rows.1));
-    assert!(rt; fits(log.layout().schema(), &rows.2));
+    assert!(rt; fits(log.shape().schema(), &rows.0));
+    assert!(rt; fits(log.shape().schema(), &rows.1));
+    assert!(rt; fits(log.shape().schema(), &rows.2));
     let mut passes = log.deal(alloc, &mut root)?.into_iter();
     let first = passes.next().expect(rt, "a pass");
     let second = passes.next().expect(rt, "a pass");

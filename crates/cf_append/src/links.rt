@@ -84,7 +84,7 @@ fn cell_quad<L: Ledger>(
     ensures quad { result ≡ quad_of (amounts log.now.shape lane (mine_chain (layout_of log.now.shape) (spot lane path) (book_of pass.old.view).mine)) }
     ensures steps { steps.new ≡ steps.old + 3 }
 {
-    let _lawful = log.layout();
+    let _lawful = log.shape();
     let first = log.load_cell(pass, offset, lane, 0, steps);
     let sum = log.load_cell(pass, offset, lane, 1, steps);
     let ends = log.load_cell(pass, offset, lane, 2, steps);
@@ -120,7 +120,7 @@ fn quad_with<L: Ledger>(
     ensures quad { result ≡ quad_of (measure_of log.now.shape lane row.now ∷ amounts log.now.shape lane (leaf_chain log.now.shape lane key (book_of pass.old.view))) }
     ensures steps { steps.new ≤ steps.old + 3 }
 {
-    let value = Quad::EMPTY.add(measure(log.layout(), lane, row));
+    let value = Quad::EMPTY.add(measure(log.shape(), lane, row));
     if previous == 0 {
         return value;
     }
@@ -151,7 +151,7 @@ fn store_three<L: Ledger>(
     ensures filled { HasFilled log.now.shape offset _row.now (cell_from log.now.shape (_leaf.0 + 1)) pass.old pass.new }
     ensures steps { steps.new ≡ steps.old + 3 }
 {
-    let _lawful = log.layout();
+    let _lawful = log.shape();
     log.store_cell(pass, offset, i, words.0, steps);
     log.store_cell(pass, offset, i + 1, words.1, steps);
     log.store_cell(pass, offset, i + 2, words.2, steps);
@@ -183,13 +183,13 @@ fn store_version<L: Ledger>(
     ensures next { result ≡ cell_from log.now.shape (lane + 1) }
     ensures steps { steps.new ≤ steps.old + 7 }
 {
-    let layout = log.layout();
-    if !selects(layout, lane, row) {
-        return i + cell_size(layout, lane);
+    let shape = log.shape();
+    if !selects(shape, lane, row) {
+        return i + cell_size(shape, lane);
     }
-    let key = key(layout, lane, row);
+    let key = key(shape, lane, row);
     let previous = own_head(log, pass, lane, key, leaf, steps);
-    if measures(layout, lane) {
+    if measures(shape, lane) {
         let quad = quad_with(log, pass, row, lane, key, previous, steps);
         let first = previous + quad.count() * 4_294_967_296;
         let ends = quad.least() + quad.greatest() * 4_294_967_296;
@@ -221,9 +221,9 @@ pub(crate) fn fill_cells<L: Ledger>(
     ensures filled { HasFilled log.now.shape offset row.now (word_count_of log.now.shape.schema + 1 + cell_count log.now.shape.lanes) pass.old pass.new }
     ensures steps { steps.new ≤ steps.old + 7 * length log.now.shape.lanes }
 {
-    let layout = log.layout();
-    let lanes = layout.lanes().len() as u8;
-    let mut i = word_count(layout.schema()) as u8 + 1;
+    let shape = log.shape();
+    let lanes = shape.lanes().len() as u8;
+    let mut i = word_count(shape.schema()) as u8 + 1;
     for lane in 0..lanes {
         i = store_version(
             log,
@@ -279,11 +279,11 @@ fn link_in<L: Ledger>(
     ensures linked { HasLinked log.now.shape offset row.now (lane + 1) pass.old pass.new }
     ensures steps { steps.new ≤ steps.old + 1 }
 {
-    let layout = log.layout();
-    if !selects(layout, lane, row) {
+    let shape = log.shape();
+    if !selects(shape, lane, row) {
         return;
     }
-    let key = key(layout, lane, row);
+    let key = key(shape, lane, row);
     store_top(log, pass, offset, lane, key, leaf, steps);
 }
 
@@ -306,7 +306,7 @@ pub(crate) fn link_all<L: Ledger>(
     ensures linked { HasLinked log.now.shape offset row.now (length log.now.shape.lanes) pass.old pass.new }
     ensures steps { steps.new ≤ steps.old + length log.now.shape.lanes }
 {
-    let lanes = log.layout().lanes().len() as u8;
+    let lanes = log.shape().lanes().len() as u8;
     for lane in 0..lanes {
         link_in(
             log,

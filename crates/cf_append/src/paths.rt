@@ -47,7 +47,7 @@ fn take_child<L: Ledger>(
     ensures begins { IfNone result (SeenFirst pass.new.view) }
     ensures steps { steps.new ≤ steps.old + 3 }
 {
-    let _lawful = log.layout();
+    let _lawful = log.shape();
     let found = log.load_child(pass, place, steps);
     if found != 0 {
         return Some((found - 1) as u32);
@@ -82,7 +82,7 @@ fn first_node<L: Ledger>(
     ensures begins { IfNone result (SeenFirst pass.new.view) }
     ensures steps { steps.new ≤ steps.old + 3 }
 {
-    let place = place_root(log.layout(), at.lane, (at.front % 16) as u8);
+    let place = place_root(log.shape(), at.lane, (at.front % 16) as u8);
     take_child(log, pass, place, at.level, (at, 0), steps)
 }
 
@@ -107,7 +107,7 @@ fn next_node<L: Ledger>(
     ensures begins { IfNone result (SeenFirst pass.new.view) }
     ensures steps { steps.new ≤ steps.old + 3 }
 {
-    let place = place_child(log.layout(), above, (at.front % 16) as u8);
+    let place = place_child(log.shape(), above, (at.front % 16) as u8);
     take_child(log, pass, place, at.level, (at, above), steps)
 }
 
@@ -164,14 +164,14 @@ fn make_path<L: Ledger>(
     ensures begins { IfNone result (SeenFirst pass.new.view) }
     ensures steps { steps.new ≤ steps.old + 3 * (levels_of log.now.shape lane - 1) }
 {
-    let layout = log.layout();
-    if !selects(layout, lane, row) {
+    let shape = log.shape();
+    if !selects(shape, lane, row) {
         return Some(0);
     }
     let at = Prefix {
         lane,
-        level: levels(layout, lane) - 1,
-        front: key(layout, lane, row) / 16,
+        level: levels(shape, lane) - 1,
+        front: key(shape, lane, row) / 16,
     };
     make_node(log, pass, at, steps)
 }
@@ -195,7 +195,7 @@ pub(crate) fn make_paths<L: Ledger>(
     ensures begins { IfNone result (SeenFirst pass.new.view) }
     ensures steps { steps.new ≤ steps.old + path_steps log.now.shape (length log.now.shape.lanes) }
 {
-    let lanes = log.layout().lanes().len() as u8;
+    let lanes = log.shape().lanes().len() as u8;
     let mut leaves = [0u32; 16];
     for lane in 0..lanes {
         let Some(leaf) = make_path(log, pass, row, lane, steps) else {

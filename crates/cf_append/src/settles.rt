@@ -28,7 +28,7 @@ pub(crate) fn move_tail<L: Ledger>(log: &MultiLog, pass: &mut WriterPass, steps:
     ensures steps { steps.new ≤ steps.old + 2 * (length pass.new.view.seen - length pass.old.view.seen + 1) }
 {
     log.load_tail(pass, false, steps);
-    let capacity = log.layout().capacity();
+    let capacity = log.shape().capacity();
     while pass.covered() < capacity {
         let t = pass.covered();
         if !log.look_done(pass, t, steps) {

@@ -52,7 +52,7 @@ fn append_next<L: Ledger, R: Abort>(
     ensures rest { Rests pass.new.view }
 {
     let answer = append(log, pass, row, steps);
-    if next >= log.layout().capacity() {
+    if next >= log.shape().capacity() {
         assert!(rt; matches!(answer, Err(AppendFault::Full)));
         assert!(rt; pass.over());
         return next;
@@ -113,7 +113,7 @@ fn appends<L: Ledger, R: Abort>(
     let mut steps = Steps::<L>::new(blank);
     let (log, mut root) = MultiLog::open(alloc, shape(rt, alloc, capacity, writers)?)?;
     let row = row(alloc, 7)?;
-    assert!(rt; fits(log.layout().schema(), &row));
+    assert!(rt; fits(log.shape().schema(), &row));
     let passes = log.deal(alloc, &mut root)?;
     append_each(rt, &log, &row, passes, rounds, &mut steps);
     Ok(())
@@ -151,7 +151,7 @@ fn behind<L: Ledger, R: Abort + Wait>(
     requires fits { Fits log.now.shape.schema row.now }
     requires fresh { IsFresh log.now first × IsFresh log.now second }
 {
-    assert!(rt; log.layout().capacity() > 1);
+    assert!(rt; log.shape().capacity() > 1);
     let Some(leaves) = make_paths(log, &mut first, row, steps) else {
         panic!(rt; "no node");
     };
@@ -175,7 +175,7 @@ fn two_at_once<L: Ledger, R: Abort + Wait>(rt: &R, alloc: Global, blank: Blank) 
     let mut steps = Steps::<L>::new(blank);
     let (log, mut root) = MultiLog::open(alloc, shape(rt, alloc, 8, 2)?)?;
     let row = row(alloc, 7)?;
-    assert!(rt; fits(log.layout().schema(), &row));
+    assert!(rt; fits(log.shape().schema(), &row));
     let mut passes = log.deal(alloc, &mut root)?.into_iter();
     let first = passes.next().expect(rt, "a pass");
     let second = passes.next().expect(rt, "a pass");

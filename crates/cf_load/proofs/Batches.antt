@@ -15,7 +15,7 @@ use Rattle.cf_law.proofs.Fronts.{table_length, table_at}
 use Rattle.cf_law.specs.Passes.{Own, Book, Pass}
 use Rattle.cf_law.specs.Steps.{Holds, IsAtRest}
 use Rattle.cf_law.specs.Readers.{mine_from}
-use Rattle.cf_table.specs.Held.{Held, LogValue, AreAlike, AreLaid, IsOf, book_of}
+use Rattle.cf_table.specs.Held.{Held, LogValue, IsOf, book_of}
 use Rattle.cf_table.specs.Rule.{root_pass}
 use Rattle.cf_table.specs.Moves.{Begins, IsSettled, AreDealt, AreAll, AreFit, Gathered, books_of, told_by}
 use Rattle.cf_table.proofs.Homing.{still_one, get_front, opened as opened_settled}
@@ -27,7 +27,7 @@ use Rattle.cf_load.specs.Loads.{LacksNodes}
 use Rattle.cf_load.proofs.Alls.{all_drop}
 use Rattle.cf_load.proofs.Written.{written_append, rows_then, WrotePart, all_written, log_more}
 use Rattle.cf_load.proofs.Pigeons.{has_left, has_right, in_either}
-use Rattle.cf_load.proofs.Nodes.{too_many, distinct_alike}
+use Rattle.cf_load.proofs.Nodes.{too_many}
 
 -- the rows of a book's tickets are what its writer wrote
 pub mine_rows : (w k : ℕ) (es : List Entry) → map (λ (own : Own). own.row) (mine_from w k es) ≡ written_by w es
@@ -381,12 +381,11 @@ needed_take shape n rows s needed = subst (λ (rs : List Numbered). IsNeeded sha
 
 -- A writer ran out of nodes in that batch: the rows need more different ones than it has, and each writer's entries are the first of
 -- its rows.
-pub batch_out : (whole : Bool) (log : LogValue) (rows : List Numbered) (b w : ℕ) (m r n : Held) (passes after : List Held) → IsShape log.shape → AreAlike log.shape log.whole → AreLaid log.shape log.whole → HasLoaded log (take (4096 * b) rows) m → 4096 * b ≤ length rows → length rows ≤ (log.shape).capacity
+pub batch_out : (whole : Bool) (log : LogValue) (rows : List Numbered) (b w : ℕ) (m r n : Held) (passes after : List Held) → IsShape log.shape → HasLoaded log (take (4096 * b) rows) m → 4096 * b ≤ length rows → length rows ≤ (log.shape).capacity
     → AreDealt log m passes r → AllZip (Wrote whole log (4096 * b) (take 4096 (drop (4096 * b) rows))) passes after → RanOut log (take 4096 (drop (4096 * b) rows)) w after → Gathered log.shape r after n → LacksNodes log rows w n
-batch_out whole log rows b w m r n passes after shape alike laid has within room dealt wrote_part_ out g = record {
+batch_out whole log rows b w m r n passes after shape has within room dealt wrote_part_ out g = record {
   exists = subst (λ (v : ℕ). v < W) out.writer_is (g.bounds.writer book.0 (book_of out.pass.view) (ap (λ (bs : List Book). slice_get bs book.0) g.books ∙ book.1));
-  many = subst (λ (d : ℕ). (log.shape).nodes < d) (distinct_alike log.shape log.whole rows alike laid)
-      (too_many log.shape rows (book_of out.pass.view) shape (λ j s used. more s (used_by whole log front part m r n passes after has dealt wrote g out.place out.pass j s out.at used)) (record {
+  many = (too_many log.shape rows (book_of out.pass.view) shape (λ j s used. more s (used_by whole log front part m r n passes after has dealt wrote g out.place out.pass j s out.at used)) (record {
         full = out.out.full;
         apart = out.out.apart;
         at = out.out.at;

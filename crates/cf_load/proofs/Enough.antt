@@ -8,10 +8,10 @@ use Rattle.cf_shape.specs.Lanes.{IsShape}
 use Rattle.cf_shape.specs.Nodes.{distinct}
 use Rattle.cf_history.specs.Order.{rows_of, written_by}
 use Rattle.cf_history.proofs.Logs.{written_own, written_other}
-use Rattle.cf_table.specs.Held.{Held, LogValue, AreAlike, AreLaid}
+use Rattle.cf_table.specs.Held.{Held, LogValue}
 use Rattle.cf_load.specs.Loading.{HasLoaded}
 use Rattle.cf_load.proofs.Pigeons.{Has}
-use Rattle.cf_load.proofs.Nodes.{few_enough, distinct_alike}
+use Rattle.cf_load.proofs.Nodes.{few_enough}
 
 -- each row is one of a writer's
 of_rows : (writers w k : ℕ) (rows : List Numbered) (i : ℕ) (row : Numbered) → slice_get rows i ≡ Some row → (k + i) % writers ≡ w → Has (rows_of writers w k rows) row
@@ -42,12 +42,11 @@ written_from w (e ∷ es) row h = elim (cases_eq e.writer w) [
     first rest (zero, at) = (0, e, refl, cc at)
     first rest (suc k, at) = later (rest (k, at))
 
-pub loaded_few : (log : LogValue) (rows : List Numbered) (n : Held) → IsShape log.shape → AreAlike log.shape log.whole → AreLaid log.shape log.whole → All (Fits (log.shape).schema) rows → HasLoaded log rows n
-    → distinct log.whole rows ≤ (log.shape).writers * (log.shape).nodes
-loaded_few log rows n shape alike laid fits has =
+pub loaded_few : (log : LogValue) (rows : List Numbered) (n : Held) → IsShape log.shape → All (Fits (log.shape).schema) rows → HasLoaded log rows n
+    → distinct log.shape rows ≤ (log.shape).writers * (log.shape).nodes
+loaded_few log rows n shape fits has =
     let W = (log.shape).writers in
     let some : 0 < W = shape.writers.0 in
-    subst (λ (d : ℕ). d ≤ W * (log.shape).nodes) (distinct_alike log.shape log.whole rows alike laid)
     (few_enough log.shape rows n.view shape (λ i row at. row_fits i row at) has.nodes
     (λ i row at. (let h = of_rows W ((0 + i) % W) 0 rows i row at refl in written_from ((0 + i) % W) (n.view).seen row (subst (λ (rs : List Numbered). Has rs row) (sym (has.own ((0 + i) % W) (omega (arith, some)))) h)))
     has.settled.count)

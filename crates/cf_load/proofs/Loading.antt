@@ -12,8 +12,8 @@ use Rattle.cf_load.proofs.Tails.{answered_more}
 
 -- the live answers beside it come after those before
 pub answered_beside : (log : LogValue) (rows : List Numbered) (plan : LivePlan) (b : ℕ) (m n : Held) (answers more : List Live) → HasLoaded log (take (4096 * b) rows) m → HasLoaded log (take (4096 * (b + 1)) rows) n → 4096 * b < length rows
-    → HasAnswered log.whole plan.asks.items plan.lives.items plan.rounds (length (take (4096 * b) rows)) (m.view).seen answers → AsksBeside log.whole plan b (m.view).seen (n.view).seen more
-    → HasAnswered log.whole plan.asks.items plan.lives.items plan.rounds (length (take (4096 * (b + 1)) rows)) (n.view).seen (answers ++ more)
+    → HasAnswered log.shape plan.asks.items plan.lives.items plan.rounds (length (take (4096 * b) rows)) (m.view).seen answers → AsksBeside log.shape plan b (m.view).seen (n.view).seen more
+    → HasAnswered log.shape plan.asks.items plan.lives.items plan.rounds (length (take (4096 * (b + 1)) rows)) (n.view).seen (answers ++ more)
 answered_beside log rows plan b m n answers more before after some has beside =
     let old = length-take (4096 * b) rows in
     let new = length-take (4096 * (b + 1)) rows in
@@ -21,8 +21,8 @@ answered_beside log rows plan b m n answers more before after some has beside =
     let grown = after.is.size in
     let k = length (take (4096 * (b + 1)) rows) - length (take (4096 * b) rows) in
     let sum : length (take (4096 * b) rows) + k ≡ length (take (4096 * (b + 1)) rows) = omega (arith, old, new, some) in
-    subst (λ c. HasAnswered log.whole plan.asks.items plan.lives.items plan.rounds c (n.view).seen (answers ++ more)) sum
-    (answered_more log.whole plan.asks.items plan.lives.items plan.rounds (length (take (4096 * b) rows)) b k (m.view).seen beside.read (n.view).seen answers more has (omega (arith, old, some)) size beside.asks beside.begins
+    subst (λ c. HasAnswered log.shape plan.asks.items plan.lives.items plan.rounds c (n.view).seen (answers ++ more)) sum
+    (answered_more log.shape plan.asks.items plan.lives.items plan.rounds (length (take (4096 * b) rows)) b k (m.view).seen beside.read (n.view).seen answers more has (omega (arith, old, some)) size beside.asks beside.begins
     (begins_then (m.view).seen beside.read (n.view).seen beside.asks.longer beside.begins) (grown ∙ sym sum) (omega (arith, old, new, some)) (omega (arith, old, new, some)))
 
 pub told_more : (told old now : List ℕ) (answers more : List Live) → old ≡ told ++ tails_of answers → now ≡ old ++ tails_of more → now ≡ told ++ tails_of (answers ++ more)

@@ -21,7 +21,6 @@ use Rattle.cf_law.specs.Nibbles.{nibbles}
 use Rattle.cf_law.specs.Passes.{Book, Pass}
 use Rattle.cf_law.specs.Shapes.{path_in}
 use Rattle.cf_law.proofs.Nibbles.{length-nibbles, nibbles_more, same_from_nibbles}
-use Rattle.cf_table.specs.Held.{AreAlike, AreLaid}
 use Rattle.cf_append.proofs.Distinct.{on_path_node}
 use Rattle.cf_append.proofs.Pathing.{path_some}
 use Rattle.cf_walk.proofs.Turns.{nibbles_split}
@@ -278,22 +277,3 @@ few_enough shape rows p is fits has seen count =
         let y = from_map spot_at (nodes_of shape rows) j s b in
         let same : x.0 ≡ y.0 = one_spot x.0 y.0 (small i x.0 x.1) (small j y.0 y.1) (x.2 ∙ sym y.2) in
         fold_apart (flat_map (nodes_for shape) rows) [] nothing_apart i j x.0 x.1 (y.1 ∙ ap (λ (n : Node). Some n) (sym same))
-
--- lanes that are alike but for what they measure need the same nodes
-key_alike : (shape whole : Shaped) (key : Key) (row : Numbered) → AreAlike shape whole → key_by shape key row ≡ key_by whole key row
-key_alike shape whole (keys.Attr a) row alike = refl
-key_alike shape whole keys.Bucket row alike = ap (λ (s : Shaped). key_by s keys.Bucket row) alike
-
-pub distinct_alike : (shape whole : Shaped) (rows : List Numbered) → AreAlike shape whole → AreLaid shape whole → distinct shape rows ≡ distinct whole rows
-distinct_alike shape whole rows alike laid = ap (λ (ns : List Node). length (fold add_node [] ns)) (same_flat (nodes_for shape) (nodes_for whole) rows same_for)
-  where
-    same_in : (row : Numbered) (lane : ℕ) → nodes_in shape row lane ≡ nodes_in whole row lane
-    same_in row lane =
-        let selects : selected_by shape lane row ≡ selected_by whole lane row = ap (λ (e : Expr). holds_of e row) (laid.selects lane) in
-        let key : key_of shape lane row ≡ key_of whole lane row = ap (λ (k : Key). key_by shape k row) (laid.keys lane) ∙ key_alike shape whole (lane_at whole lane).key row alike in
-        let levels : levels_of shape lane ≡ levels_of whole lane = ap₂ (λ (attrs : List Attr) (k : Key). nibbles_of_key attrs k) (ap (λ (s : Shaped). s.schema) alike) (laid.keys lane) in
-        ap (λ (b : Bool). cond {A = List Node} b (path_of lane (levels_of shape lane) (key_of shape lane row)) []) selects
-        ∙ ap₂ (λ (n k : ℕ). cond {A = List Node} (selected_by whole lane row) (path_of lane n k) []) levels key
-
-    same_for : (row : Numbered) → nodes_for shape row ≡ nodes_for whole row
-    same_for row = same_flat (nodes_in shape row) (nodes_in whole row) (range_with_len 0 (length shape.lanes)) (same_in row) ∙ ap (λ (n : ℕ). flat_map (nodes_in whole row) (range_with_len 0 n)) laid.count

@@ -27,17 +27,17 @@ pub record IsLoaded (log : LogValue) (rows : List Numbered) (plan : LivePlan) (m
   pub few : length rows ≤ (log.shape).capacity
   pub same : n ≡ record m { view = n.view }
   pub loaded : HasLoaded log rows n
-  pub finals : answered.finals ≡ map (answer_on log.whole (n.view).seen) plan.asks.items
-  pub alerts : answered.alerts ≡ map (marks_on log.whole (n.view).seen) plan.triggers.items
-  pub lives : HasAnswered log.whole plan.asks.items plan.lives.items plan.rounds (length rows) (n.view).seen answered.lives
+  pub finals : answered.finals ≡ map (answer_on log.shape (n.view).seen) plan.asks.items
+  pub alerts : answered.alerts ≡ map (marks_on log.shape (n.view).seen) plan.triggers.items
+  pub lives : HasAnswered log.shape plan.asks.items plan.lives.items plan.rounds (length rows) (n.view).seen answered.lives
   pub told : (n.view).told ≡ (m.view).told ++ tails_of answered.lives
-  pub few_nodes : distinct log.whole rows ≤ (log.shape).writers * (log.shape).nodes
+  pub few_nodes : distinct log.shape rows ≤ (log.shape).writers * (log.shape).nodes
 
 -- The rows need more different nodes than that writer has, which ran out of them. The root holds all books at rest, and each
 -- writer's entries are the first of its rows.
 pub record LacksNodes (log : LogValue) (rows : List Numbered) (writer : ℕ) (n : Held) : Type 0 where
   pub exists : writer < (log.shape).writers
-  pub many : (log.shape).nodes < distinct log.whole rows
+  pub many : (log.shape).nodes < distinct log.shape rows
   pub of : IsOf n log
   pub settled : IsSettled log.shape n.view
   pub fronts : (w : ℕ) → w < (log.shape).writers → (left : List Numbered) × (written_by w (n.view).seen ++ left ≡ rows_of (log.shape).writers w 0 rows)

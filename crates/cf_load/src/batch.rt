@@ -34,9 +34,9 @@ fn ask_beside<G: Gate>(
     reader: &mut ReaderPass,
 ) -> Result<Vec<Live>, Memory>
     requires of { IsOf reader.old log.now }
-    requires plan { IsPlan log.now.whole plan.now }
+    requires plan { IsPlan log.now.shape plan.now }
     ensures of { IsOf reader.new log.now }
-    ensures asks { IfOk result (λ more. AsksBatch log.now.whole plan.now.asks.items plan.now.lives.items plan.now.rounds batch reader.old.view.seen reader.new.view.seen more.items) }
+    ensures asks { IfOk result (λ more. AsksBatch log.now.shape plan.now.asks.items plan.now.lives.items plan.now.rounds batch reader.old.view.seen reader.new.view.seen more.items) }
     ensures read { IfOk result (λ more. HasRead reader.old reader.new more.items) }
 {
     ask_counted::<_, Brand>(log, alloc, gate, plan, batch, reader, Blank::new(1))
@@ -56,14 +56,14 @@ fn run_beside<R: Threads + Sync, G: Gate>(
     passes: &mut [WriterPass],
 ) -> (Option<u8>, Result<Vec<Live>, Memory>)
     requires of { IsOf reader.old log.now }
-    requires plan { IsPlan log.now.whole plan.now }
+    requires plan { IsPlan log.now.shape plan.now }
     requires ready { All (IsReady log.now) passes.old }
     requires fits { All (Fits log.now.shape.schema) rows.now }
     requires room { 4096 * batch + length rows.now < 2 ^ 32 }
     ensures wrote { AllZip (Wrote (is_none result.0) log.now (4096 * batch) rows.now) passes.old passes.new }
     ensures out { IfSome result.0 (λ writer. RanOut log.now rows.now writer passes.new) }
     ensures of { IsOf reader.new log.now }
-    ensures asks { IfOk result.1 (λ more. AsksBatch log.now.whole plan.now.asks.items plan.now.lives.items plan.now.rounds batch reader.old.view.seen reader.new.view.seen more.items) }
+    ensures asks { IfOk result.1 (λ more. AsksBatch log.now.shape plan.now.asks.items plan.now.lives.items plan.now.rounds batch reader.old.view.seen reader.new.view.seen more.items) }
     ensures read { IfOk result.1 (λ more. HasRead reader.old reader.new more.items) }
 {
     join_mut(
@@ -74,9 +74,9 @@ fn run_beside<R: Threads + Sync, G: Gate>(
             ensures out { IfSome result (λ writer. RanOut log.entry.now rows.entry.now writer passes.exit.now) }
         { run_writers(rt, log, gate, 4096 * u64::from(batch), rows, passes) },
         &mut || -> Result<Vec<Live>, Memory>
-            requires { IsSync G.row × IsOf reader.now log.now × IsPlan log.now.whole plan.now }
+            requires { IsSync G.row × IsOf reader.now log.now × IsPlan log.now.shape plan.now }
             ensures of { IsOf reader.exit.now log.entry.now }
-            ensures asks { IfOk result (λ more. AsksBatch log.entry.now.whole plan.entry.now.asks.items plan.entry.now.lives.items plan.entry.now.rounds batch reader.entry.now.view.seen reader.exit.now.view.seen more.items) }
+            ensures asks { IfOk result (λ more. AsksBatch log.entry.now.shape plan.entry.now.asks.items plan.entry.now.lives.items plan.entry.now.rounds batch reader.entry.now.view.seen reader.exit.now.view.seen more.items) }
             ensures read { IfOk result (λ more. HasRead reader.entry.now reader.exit.now more.items) }
         { ask_beside(log, alloc, gate, plan, batch, reader) },
     )
@@ -109,17 +109,17 @@ pub(crate) fn load_batch<R: Threads + Sync, G: Gate>(
     batch: u32,
 ) -> Result<Vec<Live>, LoadFault>
     requires loaded { HasLoaded log.now (take (4096 * batch) rows.now) root.old }
-    requires plan { IsPlan log.now.whole plan.now }
+    requires plan { IsPlan log.now.shape plan.now }
     requires fits { All (Fits log.now.shape.schema) rows.now }
     requires few { length rows.now ≤ log.now.shape.capacity }
     requires some { 4096 * batch < length rows.now }
     ensures same { root.new ≡ record root.old { view = root.new.view } }
     ensures loaded { IfOk result (λ _. HasLoaded log.now (take (4096 * (batch + 1)) rows.now) root.new) }
-    ensures asked { IfOk result (λ more. AsksBeside log.now.whole plan.now batch root.old.view.seen root.new.view.seen more.items) }
+    ensures asked { IfOk result (λ more. AsksBeside log.now.shape plan.now batch root.old.view.seen root.new.view.seen more.items) }
     ensures told { IfOk result (λ more. root.new.view.told ≡ root.old.view.told ++ tails_of more.items) }
     ensures stopped { IfErr result (HasStopped log.now rows.now root.new) }
 {
-    let _few = log.layout().capacity();
+    let _few = log.shape().capacity();
     let Ok(mut passes) = log.deal(alloc, root) else {
         return Err(LoadFault::Memory);
     };

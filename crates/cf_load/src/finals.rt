@@ -27,9 +27,9 @@ fn finals_of<L: Ledger>(
 ) -> Result<Vec<Answer>, Memory>
     requires of { IsOf root.old log.now }
     requires settled { IsSettled log.now.shape root.old.view }
-    requires suit { All (Suits log.now.whole) asks.now }
+    requires suit { All (Suits log.now.shape) asks.now }
     ensures keeps { Keeps root.old root.new }
-    ensures answers { IfOk result (λ finals. finals.items ≡ map (answer_on log.now.whole root.old.view.seen) asks.now) }
+    ensures answers { IfOk result (λ finals. finals.items ≡ map (answer_on log.now.shape root.old.view.seen) asks.now) }
 {
     let mut finals = Vec::new(alloc);
     for question in asks {
@@ -48,9 +48,9 @@ fn marks_of<L: Ledger>(
 ) -> Result<Marks, Memory>
     requires of { IsOf root.old log.now }
     requires settled { IsSettled log.now.shape root.old.view }
-    requires suits { SuitsTrigger log.now.whole trigger }
+    requires suits { SuitsTrigger log.now.shape trigger }
     ensures keeps { Keeps root.old root.new }
-    ensures marks { IfOk result (λ marks. marks ≡ marks_over log.now.whole trigger (rows_in root.old.view.seen)) }
+    ensures marks { IfOk result (λ marks. marks ≡ marks_over log.now.shape trigger (rows_in root.old.view.seen)) }
 {
     let answer = ask(log, alloc, root, &Ask::Fired(trigger), steps)?;
     match answer.body {
@@ -69,9 +69,9 @@ fn alerts_of<L: Ledger>(
 ) -> Result<Vec<Marks>, Memory>
     requires of { IsOf root.old log.now }
     requires settled { IsSettled log.now.shape root.old.view }
-    requires suit { All (SuitsTrigger log.now.whole) triggers.now }
+    requires suit { All (SuitsTrigger log.now.shape) triggers.now }
     ensures keeps { Keeps root.old root.new }
-    ensures marks { IfOk result (λ alerts. alerts.items ≡ map (marks_on log.now.whole root.old.view.seen) triggers.now) }
+    ensures marks { IfOk result (λ alerts. alerts.items ≡ map (marks_on log.now.shape root.old.view.seen) triggers.now) }
 {
     let mut alerts = Vec::new(alloc);
     for trigger in triggers {
@@ -91,11 +91,11 @@ fn answer_counted<L: Ledger>(
 ) -> Result<Loaded, Memory>
     requires of { IsOf root.old log.now }
     requires settled { IsSettled log.now.shape root.old.view }
-    requires plan { IsPlan log.now.whole plan.now }
+    requires plan { IsPlan log.now.shape plan.now }
     requires blank { (blank.name ≡ L.name) × (blank.parts ≡ L.parts) × (0 < L.parts) }
     ensures keeps { Keeps root.old root.new }
-    ensures finals { IfOk result (λ loaded. loaded.finals ≡ map (answer_on log.now.whole root.old.view.seen) plan.now.asks.items) }
-    ensures alerts { IfOk result (λ loaded. loaded.alerts ≡ map (marks_on log.now.whole root.old.view.seen) plan.now.triggers.items) }
+    ensures finals { IfOk result (λ loaded. loaded.finals ≡ map (answer_on log.now.shape root.old.view.seen) plan.now.asks.items) }
+    ensures alerts { IfOk result (λ loaded. loaded.alerts ≡ map (marks_on log.now.shape root.old.view.seen) plan.now.triggers.items) }
     ensures lives { IfOk result (λ loaded. loaded.lives ≡ lives.items) }
 {
     let mut steps = Steps::<L>::new(blank);
@@ -114,10 +114,10 @@ pub(crate) fn answer_all(
 ) -> Result<Loaded, Memory>
     requires of { IsOf root.old log.now }
     requires settled { IsSettled log.now.shape root.old.view }
-    requires plan { IsPlan log.now.whole plan.now }
+    requires plan { IsPlan log.now.shape plan.now }
     ensures keeps { Keeps root.old root.new }
-    ensures finals { IfOk result (λ loaded. loaded.finals ≡ map (answer_on log.now.whole root.old.view.seen) plan.now.asks.items) }
-    ensures alerts { IfOk result (λ loaded. loaded.alerts ≡ map (marks_on log.now.whole root.old.view.seen) plan.now.triggers.items) }
+    ensures finals { IfOk result (λ loaded. loaded.finals ≡ map (answer_on log.now.shape root.old.view.seen) plan.now.asks.items) }
+    ensures alerts { IfOk result (λ loaded. loaded.alerts ≡ map (marks_on log.now.shape root.old.view.seen) plan.now.triggers.items) }
     ensures lives { IfOk result (λ loaded. loaded.lives ≡ lives.items) }
 {
     answer_counted::<Brand>(log, alloc, root, plan, lives, Blank::new(1))

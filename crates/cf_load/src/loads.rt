@@ -37,16 +37,16 @@ fn load_batches<R: Threads + Sync, G: Gate>(
     gate: &G,
 ) -> Result<Vec<Live>, LoadFault>
     requires loaded { HasLoaded log.now [] root.old }
-    requires plan { IsPlan log.now.whole plan.now }
+    requires plan { IsPlan log.now.shape plan.now }
     requires fits { All (Fits log.now.shape.schema) rows.now }
     requires few { length rows.now ≤ log.now.shape.capacity }
     ensures same { root.new ≡ record root.old { view = root.new.view } }
     ensures loaded { IfOk result (λ _. HasLoaded log.now rows.now root.new) }
-    ensures answered { IfOk result (λ lives. HasAnswered log.now.whole plan.now.asks.items plan.now.lives.items plan.now.rounds (length rows.now) root.new.view.seen lives.items) }
+    ensures answered { IfOk result (λ lives. HasAnswered log.now.shape plan.now.asks.items plan.now.lives.items plan.now.rounds (length rows.now) root.new.view.seen lives.items) }
     ensures told { IfOk result (λ lives. root.new.view.told ≡ root.old.view.told ++ tails_of lives.items) }
     ensures stopped { IfErr result (HasStopped log.now rows.now root.new) }
 {
-    let _few = log.layout().capacity();
+    let _few = log.shape().capacity();
     let mut lives = Vec::new(alloc);
     let batches = rows.len().div_ceil(4096);
     for batch in 0..batches {
@@ -72,11 +72,11 @@ pub fn load<R: Threads + Sync, G: Gate>(
     gate: &G,
 ) -> Result<Loaded, LoadFault>
     requires loaded { HasLoaded log.now [] root.old }
-    requires plan { IsPlan log.now.whole plan.now }
+    requires plan { IsPlan log.now.shape plan.now }
     requires fits { All (Fits log.now.shape.schema) rows.now }
     ensures { Loads log.now rows.now plan.now root.old root.new result }
 {
-    if rows.len() > log.layout().capacity() as usize {
+    if rows.len() > log.shape().capacity() as usize {
         return Err(LoadFault::Full);
     }
     let lives = load_batches(rt, alloc, log, root, rows, plan, gate)?;

@@ -27,11 +27,11 @@ fn ask_round<L: Ledger>(
     steps: &mut Steps<L>,
 ) -> Result<(), Memory>
     requires of { IsOf reader.old log.now }
-    requires plan { IsPlan log.now.whole plan.now }
-    requires asks { AsksSome log.now.whole plan.now.asks.items plan.now.lives.items at.1 0 at.0 start.now.value.view.seen reader.old.view.seen answers.old.items }
+    requires plan { IsPlan log.now.shape plan.now }
+    requires asks { AsksSome log.now.shape plan.now.asks.items plan.now.lives.items at.1 0 at.0 start.now.value.view.seen reader.old.view.seen answers.old.items }
     requires read { HasRead start.now.value reader.old answers.old.items }
     ensures of { IsOf reader.new log.now }
-    ensures asks { IfOk result (λ _. AsksSome log.now.whole plan.now.asks.items plan.now.lives.items (at.1 + 1) 0 at.0 start.now.value.view.seen reader.new.view.seen answers.new.items) }
+    ensures asks { IfOk result (λ _. AsksSome log.now.shape plan.now.asks.items plan.now.lives.items (at.1 + 1) 0 at.0 start.now.value.view.seen reader.new.view.seen answers.new.items) }
     ensures read { IfOk result (λ _. HasRead start.now.value reader.new answers.new.items) }
 {
     let (batch, round) = at;
@@ -59,9 +59,9 @@ fn ask_rounds<G: Gate, L: Ledger>(
     steps: &mut Steps<L>,
 ) -> Result<Vec<Live>, Memory>
     requires of { IsOf reader.old log.now }
-    requires plan { IsPlan log.now.whole plan.now }
+    requires plan { IsPlan log.now.shape plan.now }
     ensures of { IsOf reader.new log.now }
-    ensures asks { IfOk result (λ more. AsksBatch log.now.whole plan.now.asks.items plan.now.lives.items plan.now.rounds batch reader.old.view.seen reader.new.view.seen more.items) }
+    ensures asks { IfOk result (λ more. AsksBatch log.now.shape plan.now.asks.items plan.now.lives.items plan.now.rounds batch reader.old.view.seen reader.new.view.seen more.items) }
     ensures read { IfOk result (λ more. HasRead reader.old reader.new more.items) }
 {
     let start = Snapshot::of(reader);
@@ -93,10 +93,10 @@ pub(crate) fn ask_counted<G: Gate, L: Ledger>(
     blank: Blank,
 ) -> Result<Vec<Live>, Memory>
     requires of { IsOf reader.old log.now }
-    requires plan { IsPlan log.now.whole plan.now }
+    requires plan { IsPlan log.now.shape plan.now }
     requires blank { (blank.name ≡ L.name) × (blank.parts ≡ L.parts) × (0 < L.parts) }
     ensures of { IsOf reader.new log.now }
-    ensures asks { IfOk result (λ more. AsksBatch log.now.whole plan.now.asks.items plan.now.lives.items plan.now.rounds batch reader.old.view.seen reader.new.view.seen more.items) }
+    ensures asks { IfOk result (λ more. AsksBatch log.now.shape plan.now.asks.items plan.now.lives.items plan.now.rounds batch reader.old.view.seen reader.new.view.seen more.items) }
     ensures read { IfOk result (λ more. HasRead reader.old reader.new more.items) }
 {
     let mut steps = Steps::<L>::new(blank);

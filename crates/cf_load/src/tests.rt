@@ -76,7 +76,7 @@ fn cover<R: Threads + Sync + Abort>(
     let rows = all.as_slice();
     let (log, mut root) = MultiLog::open(alloc, shape(rt, alloc, capacity, 2)?)?;
     assert!(rt; rows.len() < 100);
-    assert!(rt; all_fit(log.layout().schema(), rows));
+    assert!(rt; all_fit(log.shape().schema(), rows));
     let passes = log.deal(alloc, &mut root)?;
     Ok(run_home(rt, &log, &mut root, rows, passes))
 }
@@ -137,7 +137,7 @@ fn load_all<R: Threads + Sync + Abort>(
     let rows = all.as_slice();
     let plan = plan(alloc)?;
     let (log, mut root) = MultiLog::open(alloc, shape(rt, alloc, capacity, writers)?)?;
-    assert!(rt; all_fit(log.layout().schema(), rows));
+    assert!(rt; all_fit(log.shape().schema(), rows));
     assert!(rt; plan.suits(log.shape()));
     Ok(load(rt, alloc, &log, &mut root, rows, &plan, &FreeGate))
 }

@@ -31,7 +31,7 @@ fn write_rows<G: Gate, L: Ledger>(
     ensures wrote { Wrote (is_none result) log.now first batch.now pass.old pass.new }
     ensures out { IfSome result (λ writer. ((book_of pass.new.view).writer ≡ writer) × IsOut log.now.shape batch.now (book_of pass.new.view)) }
 {
-    let writers = u64::from(log.layout().writers());
+    let writers = u64::from(log.shape().writers());
     let writer = pass.writer();
     let mut number = first;
     for row in batch {

@@ -16,29 +16,14 @@ use Rattle.cf_law.specs.Passes.{Pass}
 use Rattle.cf_plain.specs.Asks.{rows_in, row_at, places, is_between, is_keyed_between, is_attr, eval, exists}
 use Rattle.cf_plain.specs.declared.ask.Ask.{Ask}
 use Rattle.cf_plain.specs.declared.answer.Answer.{Answer}
-use Rattle.cf_table.specs.Held.{Held, AreAlike, AreLaid}
+use Rattle.cf_table.specs.Held.{Held}
 use Rattle.cf_table.specs.Moves.{Begins, IsSettled, OnlyLooked}
 use Rattle.cf_walk.specs.Walks.{OnlyWalked}
 use Rattle.cf_query.specs.Asking.{HasAsked}
 
--- A lane's rows and keys are the same by both shapes.
-key_alike : (shape whole : Shaped) (key : Key) (row : Numbered) → AreAlike shape whole → key_by shape key row ≡ key_by whole key row
-key_alike shape whole (keys.Attr a) row alike = refl
-key_alike shape whole keys.Bucket row alike = ap (λ (s : Shaped). key_by s keys.Bucket row) alike
-
-keyed_alike : (shape whole : Shaped) (lane low high : ℕ) (row : Numbered) → AreAlike shape whole → AreLaid shape whole → is_keyed_between shape lane low high row ≡ is_keyed_between whole lane low high row
-keyed_alike shape whole lane low high row alike laid =
-    let selects : selected_by shape lane row ≡ selected_by whole lane row = ap (λ (e : Rattle.cf_row.specs.declared.expr.Expr.Expr). holds_of e row) (laid.selects lane) in
-    let key : key_of shape lane row ≡ key_of whole lane row = ap (λ (k : Key). key_by shape k row) (laid.keys lane) ∙ key_alike shape whole (lane_at whole lane).key row alike in
-    ap₂ (λ (a : Bool) (k : ℕ). a && is_between low high k) selects key
-
-pub places_alike : (shape whole : Shaped) (lane low high : ℕ) (rows : List Numbered) → AreAlike shape whole → AreLaid shape whole → places (is_keyed_between shape lane low high) rows ≡ places (is_keyed_between whole lane low high) rows
-places_alike shape whole lane low high rows alike laid =
-    filter_agree (λ place. is_keyed_between shape lane low high (row_at rows place)) (λ place. is_keyed_between whole lane low high (row_at rows place)) (λ place. keyed_alike shape whole lane low high (row_at rows place) alike laid) (range_with_len 0 (length rows))
-
--- a question that suits has its lane laid out
-pub lane_there : (shape whole : Shaped) (lane : ℕ) (b : Bool) → AreLaid shape whole → exists whole lane && b ≡ true → lane < length shape.lanes
-lane_there shape whole lane b laid suits = subst (λ (n : ℕ). lane < n) (sym laid.count) (ltb-true lane (length whole.lanes) (both (exists whole lane) b suits).0)
+-- a question that suits has its lane
+pub lane_there : (shape : Shaped) (lane : ℕ) (b : Bool) → exists shape lane && b ≡ true → lane < length shape.lanes
+lane_there shape lane b suits = ltb-true lane (length shape.lanes) (both (exists shape lane) b suits).0
 
 -- The read tail was loaded for an ask, and then trees and chains were walked.
 pub asked_walked : (shape : Shaped) (m n o : Held) → HasAsked shape m n → OnlyWalked n o → HasAsked shape m o
@@ -56,12 +41,12 @@ asked_walked shape m n o a b =
       fit = λ k e at. a.fit k e (ap (λ (es : List Entry). slice_get es k) (sym seen) ∙ at);
     }
 
-pub walked_answer : (shape whole : Shaped) (ask : Ask) (m n o : Held) (r : Result Answer AllocError) → HasAsked shape m n → OnlyWalked n o → IfOk r (λ a. (a.tail ≡ length (n.view).seen) × (a.body ≡ eval whole ask (n.view).seen))
-    → IfOk r (λ a. HasAsked shape m o × (a.tail ≡ length (o.view).seen) × (a.body ≡ eval whole ask (o.view).seen))
-walked_answer shape whole ask m n o (Ok a) asked walked is =
+pub walked_answer : (shape : Shaped) (ask : Ask) (m n o : Held) (r : Result Answer AllocError) → HasAsked shape m n → OnlyWalked n o → IfOk r (λ a. (a.tail ≡ length (n.view).seen) × (a.body ≡ eval shape ask (n.view).seen))
+    → IfOk r (λ a. HasAsked shape m o × (a.tail ≡ length (o.view).seen) × (a.body ≡ eval shape ask (o.view).seen))
+walked_answer shape ask m n o (Ok a) asked walked is =
     let seen : (n.view).seen ≡ (o.view).seen = sym (ap (λ (h : Held). (h.view).seen) walked.same) in
-    (asked_walked shape m n o asked walked, is.0 ∙ ap (λ (es : List Entry). length es) seen, is.1 ∙ ap (λ (es : List Entry). eval whole ask es) seen)
-walked_answer shape whole ask m n o (Err e) asked walked is = is
+    (asked_walked shape m n o asked walked, is.0 ∙ ap (λ (es : List Entry). length es) seen, is.1 ∙ ap (λ (es : List Entry). eval shape ask es) seen)
+walked_answer shape ask m n o (Err e) asked walked is = is
 
 pub walked_refused : (shape : Shaped) (m n o : Held) (r : Result Answer AllocError) → HasAsked shape m n → OnlyWalked n o → IfErr r (λ x. HasAsked shape m o ⊎ OnlyLooked m o)
 walked_refused shape m n o (Ok a) asked walked = tt

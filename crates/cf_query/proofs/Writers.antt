@@ -3,7 +3,7 @@ use Rattle.std.proofs.Common.{◌≡◌, ◌∙◌, ◌<◌, get_or, ℕ, zero, 
 use Rattle.std.specs.declared.alloc.AllocError.{AllocError}
 use Rattle.std.proofs.lemmas.Option.{slice_get_within}
 use Rattle.cf_row.specs.Row.{Numbered}
-use Rattle.cf_shape.specs.Lanes.{Shaped, unmeasured_shape}
+use Rattle.cf_shape.specs.Lanes.{Shaped}
 use Rattle.cf_law.specs.Passes.{Book, Pass}
 use Rattle.cf_law.specs.Steps.{Holds, IsAtRest}
 use Rattle.cf_law.specs.Events.{table, no_book}
@@ -35,13 +35,13 @@ dealt_at log m n hs k h is dealt at =
       writer_is = ap (λ (bs : List Book). (get_or bs 0 (no_book 0)).writer) one ∙ ap (λ (b : Book). b.writer) (sym e);
     }
 
-pub dealt_out : (shape : Shaped) (log : LogValue) (m n : Held) (hs : List Held) → log.whole ≡ shape → log.shape ≡ unmeasured_shape shape → m ≡ record { table = log.table; id = 0; nodes = (log.shape).nodes; view = root_pass log.shape } → AreDealt log m hs n
+pub dealt_out : (shape : Shaped) (log : LogValue) (m n : Held) (hs : List Held) → log.shape ≡ shape → m ≡ record { table = log.table; id = 0; nodes = (log.shape).nodes; view = root_pass log.shape } → AreDealt log m hs n
     → AreDealtOut shape log n hs
-dealt_out shape log m n hs whole plain is dealt =
-    let writers : (log.shape).writers ≡ shape.writers = ap (λ (s : Shaped). s.writers) plain in
+dealt_out shape log m n hs opened is dealt =
+    let writers : (log.shape).writers ≡ shape.writers = ap (λ (s : Shaped). s.writers) opened in
     let view : m.view ≡ root_pass log.shape = ap (λ (h : Held). h.view) is in
     record {
-      whole = whole;
+      opened = opened;
       writers = writers;
       of = record {
         table = ap (λ (h : Held). h.table) dealt.root ∙ ap (λ (h : Held). h.table) is;
@@ -130,6 +130,6 @@ pub home_same : (sh : Layout) (p q : Pass) → q.books ≡ p.books → AtHome sh
 home_same sh p q same home w lt = (let h = home w lt in (h.0, h.1, ap (λ (bs : List Book). slice_get bs h.0) same ∙ h.2, h.3, h.4))
 
 -- a log was opened and forked twice, and then its books were dealt
-pub forked_first : (shape : Shaped) (log : LogValue) (m p q n a : Held) (hs rest : List Held) → log.whole ≡ shape → log.shape ≡ unmeasured_shape shape → m ≡ record { table = log.table; id = 0; nodes = (log.shape).nodes; view = root_pass log.shape } → p ≡ m → q ≡ p
+pub forked_first : (shape : Shaped) (log : LogValue) (m p q n a : Held) (hs rest : List Held) → log.shape ≡ shape → m ≡ record { table = log.table; id = 0; nodes = (log.shape).nodes; view = root_pass log.shape } → p ≡ m → q ≡ p
     → AreDealt log q hs n → hs ≡ a ∷ rest → IsWriters log 0 a
-forked_first shape log m p q n a hs rest whole plain is one two dealt first = first_ready shape log n a hs rest (dealt_out shape log q n hs whole plain (two ∙ (one ∙ is)) dealt) first
+forked_first shape log m p q n a hs rest opened is one two dealt first = first_ready shape log n a hs rest (dealt_out shape log q n hs opened (two ∙ (one ∙ is)) dealt) first

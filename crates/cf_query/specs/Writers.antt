@@ -12,7 +12,7 @@ pub record IsWriters (log : LogValue) (writer : ℕ) (h : Held) : Type 0 where
 
 -- all books of a new log of the shape were dealt, each writer's in its place
 pub record AreDealtOut (shape : Shaped) (log : LogValue) (root : Held) (passes : List Held) : Type 0 where
-  pub whole : log.whole ≡ shape
+  pub opened : log.shape ≡ shape
   pub writers : (log.shape).writers ≡ shape.writers
   pub of : IsOf root log
   pub away : (root.view).books ≡ []

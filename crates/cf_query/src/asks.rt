@@ -34,10 +34,10 @@ fn collect<P: Pass, L: Ledger>(
     requires of { IsOf (P.held pass.old) log.now }
     requires few { length (P.held pass.old).view.seen ≤ log.now.shape.capacity }
     requires fit { AreFit log.now.shape (P.held pass.old).view }
-    ensures plain { IfOk result (λ plain. plain ≡ record { shape = log.now.whole; entries = (P.held pass.old).view.seen }) }
+    ensures plain { IfOk result (λ plain. plain ≡ record { shape = log.now.shape; entries = (P.held pass.old).view.seen }) }
     ensures looked { OnlyLooked (P.held pass.old) (P.held pass.new) }
 {
-    let _alike = log.layout();
+    let _lawful = log.shape();
     let mut plain = Plain::new(alloc, log.shape().copy(alloc)?);
     for offset in 0..pass.covered() {
         let entry = load_entry(log, alloc, pass, offset, steps)?;
@@ -55,10 +55,10 @@ pub(crate) fn answer<P: Pass, L: Ledger>(
     steps: &mut Steps<L>,
 ) -> Result<Answer, Memory>
     requires of { IsOf (P.held pass.old) log.now }
-    requires suits { Suits log.now.whole ask.now }
+    requires suits { Suits log.now.shape ask.now }
     requires few { length (P.held pass.old).view.seen ≤ log.now.shape.capacity }
     requires fit { AreFit log.now.shape (P.held pass.old).view }
-    ensures ok { IfOk result (λ answer. (answer.tail ≡ length (P.held pass.old).view.seen) × (answer.body ≡ eval log.now.whole ask.now (P.held pass.old).view.seen)) }
+    ensures ok { IfOk result (λ answer. (answer.tail ≡ length (P.held pass.old).view.seen) × (answer.body ≡ eval log.now.shape ask.now (P.held pass.old).view.seen)) }
     ensures looked { OnlyLooked (P.held pass.old) (P.held pass.new) }
 {
     let plain = collect(log, alloc, pass, steps)?;
@@ -75,8 +75,8 @@ pub fn ask<P: Pass, L: Ledger>(
     steps: &mut Steps<L>,
 ) -> Result<Answer, Memory>
     requires of { IsOf (P.held pass.old) log.now }
-    requires suits { Suits log.now.whole ask.now }
-    ensures ok { IfOk result (λ answer. HasAsked log.now.shape (P.held pass.old) (P.held pass.new) × (answer.tail ≡ length (P.held pass.new).view.seen) × (answer.body ≡ eval log.now.whole ask.now (P.held pass.new).view.seen)) }
+    requires suits { Suits log.now.shape ask.now }
+    ensures ok { IfOk result (λ answer. HasAsked log.now.shape (P.held pass.old) (P.held pass.new) × (answer.tail ≡ length (P.held pass.new).view.seen) × (answer.body ≡ eval log.now.shape ask.now (P.held pass.new).view.seen)) }
     ensures memory { IfErr result (λ _. HasAsked log.now.shape (P.held pass.old) (P.held pass.new) ⊎ OnlyLooked (P.held pass.old) (P.held pass.new)) }
     ensures steps { AsksOne ask.now → IfOk result (λ answer. steps.new ≤ steps.old + steps_of_one log.now.shape (lane_of ask.now) answer.body answer.tail) }
 {

@@ -28,7 +28,7 @@ fn load_words<P: Pass, L: Ledger>(
     ensures steps { steps.new ≡ steps.old + length words.old }
 {
     // No more is covered than there are places, as the first load tells.
-    let place = offset.min(log.layout().capacity() - 1);
+    let place = offset.min(log.shape().capacity() - 1);
     for i in 0..words.len() {
         words[i] = log.load_word(pass, place, i as u8, steps);
     }
@@ -48,7 +48,7 @@ pub(crate) fn load_entry<P: Pass, L: Ledger>(
     ensures looked { OnlyLooked (P.held pass.old) (P.held pass.new) }
     ensures steps { steps.new ≡ steps.old + (word_count_of log.now.shape.schema + 1) }
 {
-    let schema = log.layout().schema();
+    let schema = log.shape().schema();
     let mut buffer = [0u64; 64];
     let words = &mut buffer[..word_count(schema) + 1];
     load_words(log, pass, offset, words, steps);

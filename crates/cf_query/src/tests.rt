@@ -180,7 +180,7 @@ fn check<P: Pass, L: Ledger, R: Abort>(
     steps: &mut Steps<L>,
 ) -> Result<(), Memory>
     requires of { IsOf (P.held pass.old) log.now }
-    requires suits { Suits log.now.whole question.now }
+    requires suits { Suits log.now.shape question.now }
     ensures { OnOk result (IsOf (P.held pass.new) log.now) }
 {
     let answer = ask(log, alloc, pass, question, steps)?;
@@ -221,12 +221,12 @@ fn ask_between<L: Ledger, R: Abort + Wait>(
     requires ready { IsWriters log.now 0 first × IsWriters log.now 1 second }
 {
     let row = row_of(alloc, 0, &[7])?;
-    assert!(rt; fits(log.layout().schema(), &row));
+    assert!(rt; fits(log.shape().schema(), &row));
     let all = all_rows(alloc)?;
     assert!(rt; suits(log.shape(), &all));
     append_at(rt, log, 0, &mut first, &row, 0, steps);
     append_at(rt, log, 1, &mut second, &row, 1, steps);
-    assert!(rt; log.layout().capacity() == 8);
+    assert!(rt; log.shape().capacity() == 8);
     assert!(rt; matches!(settle(log, &mut first, 0, steps), Settled::Covered));
     check(rt, log, alloc, &mut first, &all, &[2, 0, 1], steps)?;
     assert!(rt; matches!(append_wait(log, rt, &mut second, &row, steps), Ok(2)));
@@ -260,9 +260,9 @@ fn find_between<L: Ledger, R: Abort>(
     requires ready { IsWriters log.now 0 first × IsWriters log.now 1 second }
 {
     let five = row_of(alloc, 0, &[0, 5])?;
-    assert!(rt; fits(log.layout().schema(), &five));
+    assert!(rt; fits(log.shape().schema(), &five));
     let six = row_of(alloc, 1, &[0, 6])?;
-    assert!(rt; fits(log.layout().schema(), &six));
+    assert!(rt; fits(log.shape().schema(), &six));
     append_at(rt, log, 0, &mut first, &five, 0, steps);
     append_at(rt, log, 1, &mut second, &five, 1, steps);
     append_at(rt, log, 0, &mut first, &six, 2, steps);
@@ -303,7 +303,7 @@ fn two_readers<L: Ledger, R: Abort>(rt: &R, alloc: Global, blank: Blank) -> Resu
     let mut writer = first_of(rt, log.deal(alloc, &mut root)?);
 
     let sent = row_of(alloc, 5, &[7])?;
-    assert!(rt; fits(log.layout().schema(), &sent));
+    assert!(rt; fits(log.shape().schema(), &sent));
     assert!(rt; matches!(append(&log, &mut writer, &sent, &mut steps), Ok(0)));
 
     let all = all_rows(alloc)?;
@@ -358,14 +358,14 @@ fn round<L: Ledger>(
     question: &Ask,
     steps: &mut Steps<L>,
 ) -> bool
-    requires suits { Suits log.now.whole question.now }
+    requires suits { Suits log.now.shape question.now }
     requires ready { IsWriters log.now _writer pass.old }
     ensures { IsWriters log.now _writer pass.new }
 {
     let Ok(row) = row_of(alloc, num, &[7]) else {
         return false;
     };
-    if !fits(log.layout().schema(), &row) {
+    if !fits(log.shape().schema(), &row) {
         return false;
     }
     if append(log, pass, &row, steps).is_err() {
@@ -385,7 +385,7 @@ fn rounds<L: Ledger>(
     question: &Ask,
     mut steps: Steps<L>,
 ) -> (WriterPass, bool)
-    requires suits { Suits log.now.whole question.now }
+    requires suits { Suits log.now.shape question.now }
     requires ready { IsWriters log.now writer pass }
     ensures { IsWriters log.now writer result.0 }
 {
@@ -421,11 +421,11 @@ fn beside<L: Ledger + Send + Sync, M: Ledger + Send + Sync, R: Threads + Sync + 
     let (low, high) = join(
         rt,
         || -> (WriterPass, bool)
-            requires { Suits log.now.whole question.now × IsWriters log.now 0 first }
+            requires { Suits log.now.shape question.now × IsWriters log.now 0 first }
             ensures { IsWriters log.entry.now 0 result.0 }
         { rounds(log, alloc, 0, first, question, mine) },
         || -> (WriterPass, bool)
-            requires { Suits log.now.whole question.now × IsWriters log.now 1 second }
+            requires { Suits log.now.shape question.now × IsWriters log.now 1 second }
             ensures { IsWriters log.entry.now 1 result.0 }
         { rounds(log, alloc, 1, second, question, others) },
     );
@@ -482,7 +482,7 @@ fn append_all<L: Ledger, R: Abort>(
     let mut offset = 0;
     for numbers in table {
         let row = row_of(alloc, offset, numbers)?;
-        assert!(rt; fits(log.layout().schema(), &row));
+        assert!(rt; fits(log.shape().schema(), &row));
         append_at(rt, log, 0, pass, &row, offset, steps);
         offset = offset.wrapping_add(1);
     }

@@ -23,14 +23,14 @@ pub(crate) fn walk<P: Pass, L: Ledger>(
     steps: &mut Steps<L>,
 ) -> Result<Answer, Memory>
     requires of { IsOf (P.held pass.old) log.now }
-    requires suits { Suits log.now.whole ask.now }
+    requires suits { Suits log.now.shape ask.now }
     requires few { length (P.held pass.old).view.seen ≤ log.now.shape.capacity }
     requires fit { AreFit log.now.shape (P.held pass.old).view }
-    ensures ok { IfOk result (λ answer. (answer.tail ≡ length (P.held pass.old).view.seen) × (answer.body ≡ eval log.now.whole ask.now (P.held pass.old).view.seen)) }
+    ensures ok { IfOk result (λ answer. (answer.tail ≡ length (P.held pass.old).view.seen) × (answer.body ≡ eval log.now.shape ask.now (P.held pass.old).view.seen)) }
     ensures walked { OnlyWalked (P.held pass.old) (P.held pass.new) }
     ensures steps { AsksOne ask.now → IfOk result (λ answer. steps.new + 1 ≤ steps.old + steps_of_one log.now.shape (lane_of ask.now) answer.body (length (P.held pass.old).view.seen)) }
 {
-    let _alike = log.layout();
+    let _lawful = log.shape();
     let tail = pass.covered();
     match ask {
         Ask::Find(lane, low, high) => {

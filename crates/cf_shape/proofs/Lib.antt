@@ -1,4 +1,3 @@
-pub mod Plainly
 pub mod Counts
 pub mod Measured
 pub mod Used

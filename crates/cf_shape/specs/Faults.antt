@@ -30,8 +30,11 @@ measure_exists attrs (Some attr) = option_passes any_kind (slice_get attrs attr)
 abbrev pub is_lane_of : List Attr → Lane → Bool
 is_lane_of attrs lane = is_of_schema attrs lane.select && key_exists attrs lane.key && measure_exists attrs lane.measure
 
+abbrev pub are_lanes_of : List Attr → List Lane → Bool
+are_lanes_of attrs lanes = list_all (is_lane_of attrs) lanes
+
 abbrev pub AreLanesOf : List Attr → List Lane → Type 0
-AreLanesOf attrs lanes = list_all (is_lane_of attrs) lanes ≡ true
+AreLanesOf attrs lanes = are_lanes_of attrs lanes ≡ true
 
 abbrev pub Within : ℕ → ℕ → ℕ → Type 0
 Within low high n = (low ≤ n) × (n ≤ high)

@@ -1,5 +1,5 @@
 -- Lanes: which rows each takes, by which key, and what it measures.
-use Rattle.std.specs.Prelude.{◌≡◌, ℕ, ◌/◌, ◌≤◌, ◌^◌, Bool, true, false, ◌&&◌, List, [], length, map, slice_get, slice_index_or}
+use Rattle.std.specs.Prelude.{◌≡◌, ℕ, ◌/◌, ◌≤◌, ◌^◌, Bool, true, false, ◌&&◌, List, [], length, slice_get, slice_index_or}
 use Rattle.std.specs.List.{list_all}
 use Rattle.std.specs.declared.option.Option.{Option}
 use Rattle.std.specs.declared.option.Option.TheVariants.{Some, None}
@@ -29,14 +29,6 @@ no_lane = record { select = []; key = keys.Bucket; measure = None }
 
 abbrev pub lane_at : Shaped → ℕ → Lane
 lane_at shape lane = slice_index_or shape.lanes lane no_lane
-
--- the lane, as one that measures nothing
-abbrev pub unmeasured : Lane → Lane
-unmeasured lane = record lane { measure = None }
-
--- the shape with its lanes as ones that measure nothing
-abbrev pub unmeasured_shape : Shaped → Shaped
-unmeasured_shape shape = record shape { lanes = map unmeasured shape.lanes }
 
 -- the lane takes the rows of which its expression holds
 abbrev pub selected_by : Shaped → ℕ → Numbered → Bool

@@ -18,10 +18,6 @@ has_measure (Some attr) = true
 abbrev pub is_measured : Shaped → ℕ → Bool
 is_measured shape lane = has_measure (lane_at shape lane).measure
 
--- no lane is measured
-abbrev pub AreUnmeasured : Shaped → Type 0
-AreUnmeasured shape = (lane : ℕ) → is_measured shape lane ≡ false
-
 -- a lane's cell has one word, or three where it is measured
 abbrev pub cell_words : Lane → ℕ
 cell_words lane = if has_measure lane.measure then 3 else 1

@@ -1,9 +1,9 @@
 // A lane of a log.
-ghost use Rattle.std.specs.Prelude.{◌≡◌, ◌+◌, ◌*◌, ◌<◌, ◌≤◌, length, map, IfOk};
-ghost use Rattle.cf_shape.specs.Lanes.{unmeasured as unmeasured_of};
+ghost use Rattle.std.specs.Prelude.{◌≡◌, ◌+◌, ◌*◌, ◌<◌, ◌≤◌, length, IfOk};
+ghost use Rattle.cf_shape.specs.Faults.{are_lanes_of, is_lane_of, key_exists, measure_exists};
 ghost use Rattle.cf_shape.specs.Uses.{cell_words as cell_words_of, cell_count as cell_count_of};
 
-use cf_row::{Expr, Memory};
+use cf_row::{Attr, Expr, Memory, Schema, is_of_schema};
 use std::alloc::Global;
 
 /// What a lane files its rows under: the value of an attribute, or the row's time in whole widths.
@@ -30,17 +30,6 @@ impl Lane {
             select: self.select.copy(alloc)?,
             key: self.key,
             measure: self.measure,
-        })
-    }
-
-    // An equal lane, but that it measures nothing.
-    fn unmeasured(&self, alloc: Global) -> Result<Lane, Memory>
-        ensures { IfOk result (λ lane. lane ≡ unmeasured_of self.now) }
-    {
-        Ok(Lane {
-            select: self.select.copy(alloc)?,
-            key: self.key,
-            measure: None,
         })
     }
 
@@ -78,12 +67,35 @@ pub(crate) fn copies(alloc: Global, lanes: &[Lane]) -> Result<Vec<Lane>, Memory>
     Ok(copied)
 }
 
-pub(crate) fn unmeasured(alloc: Global, lanes: &[Lane]) -> Result<Vec<Lane>, Memory>
-    ensures { IfOk result (λ copied. copied.items ≡ map unmeasured_of lanes.now) }
+fn has_key(attrs: &[Attr], key: Key) -> bool
+    ensures { result ≡ key_exists attrs.now key }
 {
-    let mut copied = Vec::with_capacity(alloc, lanes.len())?;
-    for lane in lanes {
-        copied.push(lane.unmeasured(alloc)?)?;
+    match key {
+        Key::Attr(attr) => attrs.get(attr as usize).is_some(),
+        Key::Bucket => true,
     }
-    Ok(copied)
+}
+
+fn has_measure(attrs: &[Attr], measure: Option<u8>) -> bool
+    ensures { result ≡ measure_exists attrs.now measure }
+{
+    match measure {
+        Some(attr) => attrs.get(attr as usize).is_some(),
+        None => true,
+    }
+}
+
+fn is_lane_of_schema(schema: &Schema, lane: &Lane) -> bool
+    ensures { result ≡ is_lane_of schema.now lane.now }
+{
+    is_of_schema(schema, &lane.select)
+        && has_key(schema.attrs(), lane.key)
+        && has_measure(schema.attrs(), lane.measure)
+}
+
+/// Whether each lane's expression is of the schema, and its key's and its measure's attributes are there.
+pub fn belongs(schema: &Schema, lanes: &[Lane]) -> bool
+    ensures { result ≡ are_lanes_of schema.now lanes.now }
+{
+    lanes.iter().all(|lane| is_lane_of_schema(schema, lane))
 }

@@ -14,7 +14,7 @@ mod shape;
 mod tests;
 
 pub use keys::{key, levels, measure, selects};
-pub use lane::{Key, Lane};
+pub use lane::{Key, Lane, belongs};
 pub use laws::places_differ;
 pub use places::{
     place_cell, place_child, place_done, place_head, place_label, place_read_tail, place_root,

@@ -3,16 +3,17 @@ ghost use Rattle.std.specs.Prelude.{◌≡◌, ℕ, ◌+◌, ◌<◌, ◌≤◌,
 ghost use Rattle.std.specs.List.{list_all};
 ghost use Rattle.cf_row.specs.Schema.{IsSchema};
 ghost use Rattle.cf_row.specs.Words.{word_count as word_count_of};
-ghost use Rattle.cf_shape.specs.Lanes.{Shaped, IsShape, lane_at, unmeasured_shape};
+ghost use Rattle.cf_shape.specs.Lanes.{Shaped, IsShape, lane_at};
 ghost use Rattle.cf_shape.specs.Uses.{ticket_words as ticket_words_of};
 ghost use Rattle.cf_shape.specs.Faults.{AreLanesOf, HasFault, AreGoodNumbers, HasNumberFault, have_good_keys, have_good_measures};
 
 use crate::Lane;
 use crate::kinds::{is_lawful_key, is_lawful_measure};
-use crate::lane::{cell_count, copies, unmeasured};
+use crate::lane::{cell_count, copies};
 use cf_row::{Memory, Schema, word_count};
 use std::alloc::Global;
 use std::marker::Model;
+use thiserror::Error;
 
 /// The shape of a log: its schema, its lanes, how many tickets, writers and nodes a writer it has, and the width of a
 /// bucket in the unit of the rows' time.
@@ -41,22 +42,31 @@ impl Model for Shape {
 }
 
 /// Why a shape was refused.
-#[derive(Clone, Copy, Debug, PartialEq, Eq)]
+#[derive(Clone, Copy, Debug, PartialEq, Eq, Error)]
 pub enum ShapeFault {
     /// More than 16 lanes.
+    #[error("more than 16 lanes")]
     TooManyLanes,
     /// A capacity outside 1 to 65,536.
+    #[error("a capacity outside 1 to 65536")]
     BadCapacity,
     /// Writers outside 1 to 15.
+    #[error("writers outside 1 to 15")]
     BadWriters,
     /// More than 65,536 nodes for each writer.
+    #[error("more than 65536 nodes for each writer")]
     BadNodes,
     /// A width outside 1 to 2^63.
+    #[error("a width outside 1 to 2^63")]
     BadWidth,
     /// A key over an attribute with bytes.
+    #[error("a key over an attribute with bytes")]
     BytesKey,
     /// A measure of an attribute with bytes or with numbers of 64 bits.
+    #[error("a measure of an attribute with bytes or with numbers of 64 bits")]
     WideMeasure,
+    /// Want of memory. The tests take none, so `Shape::new` never answers it.
+    #[error("out of memory")]
     Memory,
 }
 
@@ -105,7 +115,7 @@ fn good_measures(schema: &Schema, lanes: &[Lane]) -> bool
 }
 
 impl Shape {
-    /// The faults are tested in the order of `ShapeFault`. It takes no memory.
+    /// The faults are tested in the order of `ShapeFault`. It takes no memory. `belongs` is the test of what it requires.
     pub fn new(
         schema: Schema,
         lanes: Vec<Lane>,
@@ -176,22 +186,6 @@ impl Shape {
         Ok(Shape::lawful(
             schema,
             Vec::new(alloc),
-            self.capacity,
-            self.writers,
-            self.nodes,
-            self.width,
-        ))
-    }
-
-    /// The shape with its lanes as ones that measure nothing.
-    pub fn unmeasured(&self, alloc: Global) -> Result<Shape, Memory>
-        ensures { IfOk result (λ shape. shape ≡ unmeasured_shape self.now) }
-    {
-        let schema = self.schema.copy(alloc)?;
-        let lanes = unmeasured(alloc, &self.lanes)?;
-        Ok(Shape::lawful(
-            schema,
-            lanes,
             self.capacity,
             self.writers,
             self.nodes,

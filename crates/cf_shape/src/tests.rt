@@ -1,7 +1,3 @@
-ghost use Rattle.std.specs.Prelude.{◌≡◌, ◌↔◌, IsTrue, true, slice_get};
-ghost use Rattle.std.specs.List.{list_all};
-ghost use Rattle.cf_shape.specs.Faults.{is_lane_of, key_exists, measure_exists};
-
 use super::*;
 use cf_row::{
     Attr, Conjunction, Expr, Kind, Memory, Name, Row, Schema, Value, fits, is_of_schema,
@@ -10,39 +6,6 @@ use cf_row::{
 use std::alloc::Global;
 use std::process::Abort;
 use std::test::Fail;
-
-fn has_key(attrs: &[Attr], key: Key) -> bool
-    ensures { result ≡ key_exists attrs.now key }
-{
-    match key {
-        Key::Attr(attr) => attrs.get(attr as usize).is_some(),
-        Key::Bucket => true,
-    }
-}
-
-fn has_measure(attrs: &[Attr], measure: Option<u8>) -> bool
-    ensures { result ≡ measure_exists attrs.now measure }
-{
-    match measure {
-        Some(attr) => attrs.get(attr as usize).is_some(),
-        None => true,
-    }
-}
-
-// Whether the lane is of the schema.
-fn belongs(schema: &Schema, lane: &Lane) -> bool
-    ensures { result ≡ is_lane_of schema.now lane.now }
-{
-    is_of_schema(schema, &lane.select)
-        && has_key(schema.attrs(), lane.key)
-        && has_measure(schema.attrs(), lane.measure)
-}
-
-fn all_belong(schema: &Schema, lanes: &[Lane]) -> bool
-    ensures { result ≡ list_all (is_lane_of schema.now) lanes.now }
-{
-    lanes.iter().all(|lane| belongs(schema, lane))
-}
 
 // That many lanes, each of which takes all rows.
 fn lanes_of(
@@ -73,7 +36,7 @@ fn shape_of(
     lanes: Vec<Lane>,
     numbers: Numbers,
 ) -> Result<Option<Shape>, ShapeFault> {
-    if !all_belong(&schema, &lanes) {
+    if !belongs(&schema, &lanes) {
         return Ok(None);
     }
     let (capacity, writers, nodes, width) = numbers;

@@ -1,4 +1,3 @@
-pub mod Laid
 pub mod Allowed
 pub mod Seen
 pub mod Calls

@@ -1,7 +1,7 @@
 -- What contracts see of a log and of a pass.
 use Rattle.std.specs.Prelude.{ℕ, ◌≡◌, Option, Some, None, [], ◌∷◌, get_or, length, Bool}
 use Rattle.atomic_table.specs.Seated.{TableId}
-use Rattle.cf_shape.specs.Lanes.{Shaped, lane_at}
+use Rattle.cf_shape.specs.Lanes.{Shaped}
 use Rattle.cf_law.specs.Passes.{Book, Flight, Pass}
 use Rattle.cf_law.specs.Events.{no_book}
 
@@ -12,21 +12,10 @@ pub record Held : Type 0 where
   pub nodes : ℕ
   pub view : Pass
 
--- the shape by which the words are laid out, the whole one, and the table
+-- the shape and the table
 pub record LogValue : Type 0 where
   pub shape : Shaped
-  pub whole : Shaped
   pub table : TableId
-
--- the two shapes are alike but for the lanes
-abbrev pub AreAlike : Shaped → Shaped → Type 0
-AreAlike shape whole = shape ≡ record whole { lanes = shape.lanes }
-
--- and their lanes are alike but for what they measure
-pub record AreLaid (shape whole : Shaped) : Type 0 where
-  pub count : length shape.lanes ≡ length whole.lanes
-  pub selects : (l : ℕ) → (lane_at shape l).select ≡ (lane_at whole l).select
-  pub keys : (l : ℕ) → (lane_at shape l).key ≡ (lane_at whole l).key
 
 -- the pass is one of the log's
 pub record IsOf (h : Held) (log : LogValue) : Type 0 where

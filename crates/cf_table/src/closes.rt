@@ -84,7 +84,7 @@ impl MultiLog {
         ensures looked { OnlyLooked token.old token.new }
     {
         self.read_words(token, offset, words);
-        row_of(alloc, self.layout().schema(), words)
+        row_of(alloc, self.shape().schema(), words)
     }
 
     // All entries that were seen, which are lawful.
@@ -95,7 +95,7 @@ impl MultiLog {
         ensures entries { IfOk result (λ entries. entries.items ≡ token.old.view.seen) }
         ensures looked { OnlyLooked token.old token.new }
     {
-        let mut words = vec![in alloc; 0u64; word_count(self.layout().schema()) + 1]?;
+        let mut words = vec![in alloc; 0u64; word_count(self.shape().schema()) + 1]?;
         let mut entries = Vec::new(alloc);
         for offset in 0..token.known() {
             let entry = self.read_entry(alloc, token, offset, &mut words)?;
@@ -109,7 +109,7 @@ impl MultiLog {
         ensures entries { IfOk result (λ entries. entries.items ≡ token.old.view.seen) }
         ensures looked { OnlyLooked token.old token.new }
     {
-        let _lawful = self.layout();
+        let _lawful = self.shape();
         self.look_token(token, 0);
         self.read_seen(alloc, token)
     }

@@ -93,7 +93,7 @@ impl MultiLog {
         requires away { root.old.view.books ≡ [] }
         ensures { Gathered self.now.shape root.old passes.items root.new }
     {
-        let _lawful = self.layout();
+        let _lawful = self.shape();
         self.take_all(root, passes);
         self.settle_token(&mut root.token);
     }

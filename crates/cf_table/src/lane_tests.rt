@@ -1,7 +1,6 @@
 // The steps of lanes, each made once on a log that has a lane.
 ghost use Rattle.std.specs.Prelude.{◌≡◌, ◌+◌, ◌<◌, ◌≤◌, ◌∷◌, [], ◌↔◌, length, IfOk, IsTrue, true};
 ghost use Rattle.cf_row.specs.Words.{word_count as word_count_of, spelled};
-ghost use Rattle.cf_shape.specs.Faults.{is_lane_of, key_exists, measure_exists};
 ghost use Rattle.cf_law.specs.Steps.{newcomer};
 ghost use Rattle.cf_table.specs.Held.{IsOf};
 ghost use Rattle.cf_table.specs.Rule.{root_pass};
@@ -11,10 +10,9 @@ ghost use Rattle.cf_table.specs.Played.{LeadsTo, IsNew, AreNew, IsHome, took, kn
 use super::*;
 use crate::tests::is_of;
 use cf_row::{
-    Attr, Conjunction, Expr, Kind, Memory, Name, Row, Schema, Value, fits, is_of_schema,
-    word_count, words_of,
+    Attr, Conjunction, Expr, Kind, Memory, Name, Row, Schema, Value, fits, word_count, words_of,
 };
-use cf_shape::{Key, Lane, Shape, key, levels, place_root, selects};
+use cf_shape::{Key, Lane, Shape, belongs, key, levels, place_root, selects};
 use std::alloc::Global;
 use std::marker::Brand;
 use std::process::Abort;
@@ -57,7 +55,7 @@ fn take<L: Ledger, R: Abort>(
     ensures of { IsOf pass.new log.now }
     ensures view { pass.new.view ≡ took row.now }
 {
-    let _lawful = log.layout();
+    let _lawful = log.shape();
     let found = log.take_ticket(pass, row, steps);
     assert!(rt; found == 0);
 }
@@ -121,7 +119,7 @@ fn store_words<L: Ledger>(
     ensures view { pass.new.view ≡ knotted row.now (length words.now) [] }
 {
     let _row = row;
-    let _lawful = log.layout().lanes();
+    let _lawful = log.shape().lanes();
     for i in 0..words.len() {
         log.store_cell(pass, 0, i as u8, words[i], steps);
     }
@@ -135,8 +133,8 @@ fn fill<L: Ledger>(log: &MultiLog, pass: &mut WriterPass, row: &Row, steps: &mut
     ensures of { IsOf pass.new log.now }
     ensures view { pass.new.view ≡ knotted row.now (word_count_of log.now.shape.schema + 2) [] }
 {
-    let _lawful = log.layout().lanes();
-    let schema = log.layout().schema();
+    let _lawful = log.shape().lanes();
+    let schema = log.shape().schema();
     let mut buffer = [0u64; 64];
     let count = word_count(schema) + 1;
     let words = &mut buffer[..count];
@@ -171,7 +169,7 @@ fn walk<L: Ledger, R: Abort>(
     ensures of { IsOf pass.new log.now }
 {
     let _row = row;
-    let _lawful = log.layout().lanes();
+    let _lawful = log.shape().lanes();
     let head = log.load_head(pass, 0, 5, 0, steps);
     if head != 1 {
         panic!(rt; "no head");
@@ -188,7 +186,7 @@ fn finish<L: Ledger>(log: &MultiLog, pass: &mut WriterPass, row: &Row, steps: &m
     ensures home { IsHome log.now 0 pass.new }
 {
     let _row = row;
-    let _lawful = log.layout().lanes();
+    let _lawful = log.shape().lanes();
     log.finish_record(pass, 0, steps);
 }
 
@@ -216,33 +214,6 @@ fn play<L: Ledger, R: Abort>(
     finish(log, pass, row, steps);
 }
 
-fn has_key(attrs: &[Attr], key: Key) -> bool
-    ensures { result ≡ key_exists attrs.now key }
-{
-    match key {
-        Key::Attr(attr) => attrs.get(attr as usize).is_some(),
-        Key::Bucket => true,
-    }
-}
-
-fn has_measure(attrs: &[Attr], measure: Option<u8>) -> bool
-    ensures { result ≡ measure_exists attrs.now measure }
-{
-    match measure {
-        Some(attr) => attrs.get(attr as usize).is_some(),
-        None => true,
-    }
-}
-
-// Whether the lane is of the schema.
-fn belongs(schema: &Schema, lane: &Lane) -> bool
-    ensures { IsTrue result ↔ (is_lane_of schema.now lane.now ≡ true) }
-{
-    is_of_schema(schema, &lane.select)
-        && has_key(schema.attrs(), lane.key)
-        && has_measure(schema.attrs(), lane.measure)
-}
-
 // a schema of times and of numbers of one byte
 fn schema(rt: &impl Abort, alloc: Global) -> Result<Schema, Memory> {
     let mut attrs = Vec::new(alloc);
@@ -265,9 +236,9 @@ fn shape(rt: &impl Abort, alloc: Global) -> Result<Shape, Memory> {
         key: Key::Attr(1),
         measure: None,
     };
-    assert!(rt; belongs(&schema, &lane));
     let mut lanes = Vec::new(alloc);
     lanes.push(lane)?;
+    assert!(rt; belongs(&schema, &lanes));
     Ok(Shape::new(schema, lanes, 4, 2, 2, 10).expect(rt, "a shape"))
 }
 
@@ -277,8 +248,7 @@ fn opened(rt: &impl Abort, alloc: Global) -> Result<(MultiLog, Root), Memory>
     ensures of { IfOk result (λ r. IsOf r.1 r.0) }
     ensures home { IfOk result (λ r. IsSettled r.0.shape r.1.view) }
 {
-    let whole = shape(rt, alloc)?;
-    MultiLog::laid_out(alloc, whole.copy(alloc)?, whole)
+    MultiLog::open(alloc, shape(rt, alloc)?)
 }
 
 // the two passes come home, and the log is closed
@@ -316,7 +286,7 @@ fn walked<L: Ledger, R: Abort>(rt: &R, alloc: Global, blank: Blank) -> Result<()
     values.push(Value::Num(5))?;
     values.push(Value::Num(53))?;
     let row = Row::new(0, values);
-    assert!(rt; leads(log.layout(), &row));
+    assert!(rt; leads(log.shape(), &row));
     let mut reader = log.fork(&mut root);
     let mut passes = log.deal(alloc, &mut root)?.into_iter();
     let mut first = passes.next().expect(rt, "a pass");

@@ -1,10 +1,8 @@
 // The log: the words, and what they are for.
 ghost use Rattle.std.specs.Prelude.{◌≡◌, ◌+◌, ◌<◌, ◌≤◌, IfOk, map, vec_capacity};
-ghost use Rattle.cf_table.specs.Held.{AreAlike, AreLaid};
 ghost use Rattle.cf_law.specs.Events.{table, no_book};
 ghost use Rattle.cf_table.specs.Moves.{note_of, IsSettled};
-ghost use Rattle.cf_shape.specs.Lanes.{IsShape, unmeasured_shape};
-ghost use Rattle.cf_shape.specs.Uses.{AreUnmeasured};
+ghost use Rattle.cf_shape.specs.Lanes.{IsShape};
 ghost use Rattle.cf_table.specs.Rule.{root_pass};
 
 use crate::pass::{Note, Root};
@@ -15,55 +13,33 @@ use cf_shape::{Shape, word_total};
 use std::alloc::Global;
 use std::marker::Model;
 
-/// A log that threads share by `&`. Contracts see the shape by which its words are laid out, the whole shape, by whose lanes
-/// questions go, and which table it has.
+/// A log that threads share by `&`. Contracts see its shape, by which its words are laid out and questions go, and which table
+/// it has.
 #[derive(Drop)]
 pub struct MultiLog {
     pub(crate) table: Table<(), View, Shape, Law, Global>,
-    // by which the words are laid out
     pub(crate) shape: Shape,
-    whole: Shape,
 }
 
 impl Model for MultiLog {
     ghost use Rattle.std.specs.Prelude.{◌≡◌};
     ghost use Rattle.cf_shape.specs.Lanes.{IsShape};
     ghost use Rattle.cf_shape.specs.Places.{sizes_of, word_total};
-    ghost use Rattle.cf_table.specs.Held.{LogValue, AreAlike, AreLaid};
+    ghost use Rattle.cf_table.specs.Held.{LogValue};
 
     ghost Value = { LogValue };
 
-    ghost view = { λ m. record { shape = m.shape; whole = m.whole; table = m.table.shared.table_id } };
+    ghost view = { λ m. record { shape = m.shape; table = m.table.shared.table_id } };
 
-    ghost invariant = { λ m. (m.table.shared.key ≡ m.shape) × IsShape m.shape × (m.table.shared.table_id.words ≡ word_total (sizes_of m.shape)) × AreAlike m.shape m.whole × AreLaid m.shape m.whole };
+    ghost invariant = { λ m. (m.table.shared.key ≡ m.shape) × IsShape m.shape × (m.table.shared.table_id.words ≡ word_total (sizes_of m.shape)) };
 }
 
 impl MultiLog {
-    /// An empty log of the shape, with all words 0, and the pass that holds all its books. So far the words are laid out as
-    /// those of the shape whose lanes measure nothing.
+    /// An empty log of the shape, with all words 0, and the pass that holds all its books.
     pub fn open(alloc: Global, shape: Shape) -> Result<(MultiLog, Root), Memory>
-        ensures whole { IfOk result (λ r. r.0.whole ≡ shape) }
-        ensures plain { IfOk result (λ r. r.0.shape ≡ unmeasured_shape shape) }
-        ensures unmeasured { IfOk result (λ r. AreUnmeasured r.0.shape) }
+        ensures shape { IfOk result (λ r. r.0.shape ≡ shape) }
         ensures root { IfOk result (λ r. r.1 ≡ record { table = r.0.table; id = 0; nodes = r.0.shape.nodes; view = root_pass r.0.shape }) }
         ensures home { IfOk result (λ r. IsSettled r.0.shape r.1.view) }
-    {
-        let layout = shape.unmeasured(alloc)?;
-        MultiLog::laid_out(alloc, layout, shape)
-    }
-
-    // An empty log of the whole shape, whose words are laid out by the other one.
-    pub(crate) fn laid_out(
-        alloc: Global,
-        shape: Shape,
-        whole: Shape,
-    ) -> Result<(MultiLog, Root), Memory>
-        requires alike { AreAlike shape whole }
-        requires laid { AreLaid shape whole }
-        ensures whole { IfOk result (λ r. r.0.whole ≡ whole) }
-        ensures log { IfOk result (λ r. r.0.shape ≡ shape) }
-        ensures root { IfOk result (λ r. r.1 ≡ record { table = r.0.table; id = 0; nodes = shape.nodes; view = root_pass shape }) }
-        ensures home { IfOk result (λ r. IsSettled shape r.1.view) }
     {
         let _lawful = shape.lanes();
         let nodes = shape.nodes();
@@ -75,30 +51,16 @@ impl MultiLog {
             covered: 0,
             nodes,
         };
-        let log = MultiLog {
-            table,
-            shape,
-            whole,
-        };
+        let log = MultiLog { table, shape };
         Ok((log, Root { token, notes }))
     }
 
     /// The shape that the log was opened with.
     pub fn shape(&self) -> &Shape
-        ensures shape { result.now ≡ self.now.whole }
-        ensures lawful { IsShape self.now.whole }
-    {
-        let _lawful = self.whole.lanes();
-        &self.whole
-    }
-
-    /// The shape by which the log's words are laid out. It is alike but for what the lanes measure.
-    pub fn layout(&self) -> &Shape
         ensures shape { result.now ≡ self.now.shape }
         ensures lawful { IsShape self.now.shape }
-        ensures alike { AreAlike self.now.shape self.now.whole }
-        ensures laid { AreLaid self.now.shape self.now.whole }
     {
+        let _lawful = self.shape.lanes();
         &self.shape
     }
 }

@@ -25,7 +25,7 @@ impl MultiLog {
         requires of { IsOf token.old self.now }
         ensures { Settled self.now.shape token.old token.new }
     {
-        let capacity = self.layout().capacity();
+        let capacity = self.shape().capacity();
         while token.known() < capacity {
             let t = token.known();
             if self.look_token(token, t) != 1 {

@@ -135,7 +135,7 @@ fn dealt<R: Abort>(
     let mut values = Vec::new(alloc);
     values.push(Value::Num(7))?;
     let row = Row::new(0, values);
-    assert!(rt; is_of(log.layout(), &row));
+    assert!(rt; is_of(log.shape(), &row));
     let passes = log.deal(alloc, &mut root)?;
     Ok((log, row, passes))
 }

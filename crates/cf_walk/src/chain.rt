@@ -52,7 +52,7 @@ pub(crate) fn collect_chain<P: Pass, L: Ledger>(
     ensures walked { OnlyWalked (P.held pass.old) (P.held pass.new) }
     ensures steps { OnOk result (ChainSteps log.now.shape writer (P.held pass.old) (P.held pass.new) (length (chain_places log.now.shape leaf.lane leaf.key (P.held pass.old).view.seen writer)) steps.old steps.new) }
 {
-    let _lawful = log.layout();
+    let _lawful = log.shape();
     let mut link = begin(log, pass, leaf, writer, steps);
     while link > 0 {
         let place = (link - 1) as u32;
@@ -78,7 +78,7 @@ pub(crate) fn collect_leaf<P: Pass, L: Ledger>(
     ensures walked { OnlyWalked (P.held pass.old) (P.held pass.new) }
     ensures steps { OnOk result (steps.new ≤ steps.old + log.now.shape.writers + length (leaf_places log.now.shape leaf.lane leaf.key (P.held pass.old).view.seen log.now.shape.writers) + (log.now.shape.capacity - length (P.held pass.old).view.seen)) }
 {
-    for writer in 0..log.layout().writers() {
+    for writer in 0..log.shape().writers() {
         collect_chain(log, pass, leaf, writer, found, steps)?;
     }
     Ok(())

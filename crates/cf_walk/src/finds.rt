@@ -42,7 +42,7 @@ pub fn find<P: Pass, L: Ledger>(
     ensures steps { range.0 ≡ range.1 → IfOk result (λ found. steps.new ≤ steps.old + (levels_of log.now.shape lane - 1) + log.now.shape.writers + length found + (log.now.shape.capacity - length (P.held pass.old).view.seen)) }
 {
     let (low, high) = range;
-    let high = high.min(greatest_key(log.layout(), lane));
+    let high = high.min(greatest_key(log.shape(), lane));
     let mut found = Vec::new(alloc);
     if low <= high {
         collect_range(log, pass, lane, (low, high), &mut found, steps)?;

@@ -42,7 +42,7 @@ fn add_group<P: Pass, L: Ledger>(
     ensures found { IfOk result (HasGrouped log.now.shape lane range.0 range.1 (rows_in (P.held pass.old).view.seen) groups.old.items groups.new.items) }
     ensures walked { OnlyWalked (P.held pass.old) (P.held pass.new) }
 {
-    let _lawful = log.layout();
+    let _lawful = log.shape();
     let (last, quad) = measure_key(log, pass, lane, range, path, steps);
     if quad.count() > 0 {
         groups.push((range.0, quad))?;
@@ -67,7 +67,7 @@ pub fn groups<P: Pass, L: Ledger>(
     ensures found { IfOk result (λ found. found.items ≡ groups_by log.now.shape lane (rows_in (P.held pass.old).view.seen)) }
     ensures walked { OnlyWalked (P.held pass.old) (P.held pass.new) }
 {
-    let high = greatest_key(log.layout(), lane);
+    let high = greatest_key(log.shape(), lane);
     let mut groups = Vec::new(alloc);
     let mut path = no_path();
     let mut last = add_group(log, pass, lane, (0, high), &mut path, &mut groups, steps)?;

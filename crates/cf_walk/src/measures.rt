@@ -71,7 +71,7 @@ fn measure_keys<P: Pass, L: Ledger>(
     ensures steps { range.0 ≡ range.1 → steps.new ≤ steps.old + (levels_of log.now.shape lane - 1) + 4 * log.now.shape.writers + (log.now.shape.capacity - length (P.held pass.old).view.seen) }
 {
     let (low, high) = range;
-    let _lawful = log.layout();
+    let _lawful = log.shape();
     let mut path = no_path();
     let (mut last, mut total) = measure_key(log, pass, lane, (low, high), &mut path, steps);
     while last < high {
@@ -101,7 +101,7 @@ pub fn measure_range<P: Pass, L: Ledger>(
     ensures steps { range.0 ≡ range.1 → steps.new ≤ steps.old + (levels_of log.now.shape lane - 1) + 4 * log.now.shape.writers + (log.now.shape.capacity - length (P.held pass.old).view.seen) }
 {
     let (low, high) = range;
-    let high = high.min(greatest_key(log.layout(), lane));
+    let high = high.min(greatest_key(log.shape(), lane));
     if high < low {
         return Quad::EMPTY;
     }

@@ -31,7 +31,7 @@ fn read_quad<P: Pass, L: Ledger>(
     ensures met { (k v : ℕ) → Met (P.held pass.old).view k v → Met (P.held pass.new).view k v }
     ensures steps { steps.new ≡ steps.old + 3 }
 {
-    let _lawful = log.layout();
+    let _lawful = log.shape();
     let first = log.load_cell(pass, place, leaf.lane, 0, steps);
     let sum = log.load_cell(pass, place, leaf.lane, 1, steps);
     let ends = log.load_cell(pass, place, leaf.lane, 2, steps);
@@ -60,7 +60,7 @@ fn chain_quad<P: Pass, L: Ledger>(
     ensures walked { OnlyWalked (P.held pass.old) (P.held pass.new) }
     ensures steps { ChainSteps log.now.shape writer (P.held pass.old) (P.held pass.new) 3 steps.old steps.new }
 {
-    let _lawful = log.layout();
+    let _lawful = log.shape();
     let covered = u64::from(pass.covered());
     let mut link = begin(log, pass, leaf, writer, steps);
     while covered < link {
@@ -90,7 +90,7 @@ pub(crate) fn leaf_quad<P: Pass, L: Ledger>(
     ensures steps { steps.new ≤ steps.old + 4 * log.now.shape.writers + (log.now.shape.capacity - length (P.held pass.old).view.seen) }
 {
     let mut total = Quad::EMPTY;
-    for writer in 0..log.layout().writers() {
+    for writer in 0..log.shape().writers() {
         let quad = chain_quad(log, pass, leaf, writer, steps);
         total = total.merge(quad);
     }

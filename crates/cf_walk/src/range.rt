@@ -61,7 +61,7 @@ pub(crate) fn collect_range<P: Pass, L: Ledger>(
     ensures steps { range.0 ≡ range.1 → OnOk result (steps.new ≤ steps.old + (levels_of log.now.shape lane - 1) + log.now.shape.writers + (length found.new.items - length found.old.items) + (log.now.shape.capacity - length (P.held pass.old).view.seen)) }
 {
     let (low, high) = range;
-    let _lawful = log.layout();
+    let _lawful = log.shape();
     let mut path = no_path();
     let mut last = collect_key(log, pass, lane, (low, high), &mut path, found, steps)?;
     while last < high {

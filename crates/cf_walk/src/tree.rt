@@ -112,7 +112,7 @@ fn go_down<P: Pass, L: Ledger>(
     ensures turned { HasTurned log.now.shape turn.lane turn.level turn.front (P.held pass.old) result (P.held pass.new) }
     ensures steps { steps.new ≡ steps.old + 1 }
 {
-    let place = turn_place(log.layout(), turn);
+    let place = turn_place(log.shape(), turn);
     load_turn(log, pass, turn, place, steps)
 }
 
@@ -142,7 +142,7 @@ pub(crate) fn reach<P: Pass, L: Ledger>(
     ensures walked { OnlyWalked (P.held pass.old) (P.held pass.new) }
     ensures steps { steps.new ≤ steps.old + (levels_of log.now.shape lane - 1) }
 {
-    let levels = levels(log.layout(), lane);
+    let levels = levels(log.shape(), lane);
     let depth = common_depth(levels, path.depth, path.key, key);
     path.key = key;
     path.depth = depth;

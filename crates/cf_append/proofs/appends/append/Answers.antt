@@ -29,7 +29,7 @@ returns-then-found-from-clause-answer g c =
     let p = c.make_paths.new.pass in
     let past = c.if-found-from.true in
     let wide = c.from.ensures in
-    let room = c.capacity.ensures.capacity ∙ ap (λ (x : Shaped). x.capacity) c.layout.ensures.shape in
+    let room = c.capacity.ensures.capacity ∙ ap (λ (x : Shaped). x.capacity) c.shape.ensures.shape in
     let P : HasMade s row m p = record { strides = c.make_paths.ensures.strides; used = c.make_paths.ensures.used; leaves = c.in-Some.leaves; whole = c.in-Some.ensures.answer } in
     inr (late s row m p c.take_ticket-found.new.pass c.take_ticket-found.result (sym c.over.ensures ∙ c.if-over.false) P (omega (arith, past, wide, room)) c.take_ticket-found.ensures.made)
 
@@ -46,7 +46,7 @@ fill_cells-requires-clause-book g c =
     let row = c.args.row.now in
     let low = c.if-found-from.false in
     let wide = c.from.ensures in
-    let room = c.capacity.ensures.capacity ∙ ap (λ (x : Shaped). x.capacity) c.layout.ensures.shape in
+    let room = c.capacity.ensures.capacity ∙ ap (λ (x : Shaped). x.capacity) c.shape.ensures.shape in
     let B : HasBegun s row c.make_paths.new.pass c.take_ticket-found.new.pass c.fill.new.pass c.take_ticket-found.result = record { room = omega (arith, low, wide, room); took = c.take_ticket-found.ensures.made; is = c.fill.ensures.pass } in
     begun_book s row c.make_paths.new.pass c.take_ticket-found.new.pass c.fill.new.pass c.take_ticket-found.result B
 
@@ -56,7 +56,7 @@ fill_cells-requires-clause-filled g c =
     let row = c.args.row.now in
     let low = c.if-found-from.false in
     let wide = c.from.ensures in
-    let room = c.capacity.ensures.capacity ∙ ap (λ (x : Shaped). x.capacity) c.layout.ensures.shape in
+    let room = c.capacity.ensures.capacity ∙ ap (λ (x : Shaped). x.capacity) c.shape.ensures.shape in
     let B : HasBegun s row c.make_paths.new.pass c.take_ticket-found.new.pass c.fill.new.pass c.take_ticket-found.result = record { room = omega (arith, low, wide, room); took = c.take_ticket-found.ensures.made; is = c.fill.ensures.pass } in
     begun_self s row c.make_paths.new.pass c.take_ticket-found.new.pass c.fill.new.pass c.take_ticket-found.result B
 
@@ -66,7 +66,7 @@ fill_cells-requires-clause-leaves g c =
     let row = c.args.row.now in
     let low = c.if-found-from.false in
     let wide = c.from.ensures in
-    let room = c.capacity.ensures.capacity ∙ ap (λ (x : Shaped). x.capacity) c.layout.ensures.shape in
+    let room = c.capacity.ensures.capacity ∙ ap (λ (x : Shaped). x.capacity) c.shape.ensures.shape in
     let B : HasBegun s row c.make_paths.new.pass c.take_ticket-found.new.pass c.fill.new.pass c.take_ticket-found.result = record { room = omega (arith, low, wide, room); took = c.take_ticket-found.ensures.made; is = c.fill.ensures.pass } in
     begun_leaves s row c.make_paths.new.pass c.take_ticket-found.new.pass c.fill.new.pass c.take_ticket-found.result c.in-Some.leaves (length s.lanes) B c.in-Some.ensures.answer
 
@@ -76,7 +76,7 @@ link_all-requires-clause-writer g c =
     let row = c.args.row.now in
     let low = c.if-found-from.false in
     let wide = c.from.ensures in
-    let room = c.capacity.ensures.capacity ∙ ap (λ (x : Shaped). x.capacity) c.layout.ensures.shape in
+    let room = c.capacity.ensures.capacity ∙ ap (λ (x : Shaped). x.capacity) c.shape.ensures.shape in
     let C : HasCells s row c.make_paths.new.pass c.take_ticket-found.new.pass c.fill.new.pass c.fill_cells.new.pass c.take_ticket-found.result = record {
       begun = record { room = omega (arith, low, wide, room); took = c.take_ticket-found.ensures.made; is = c.fill.ensures.pass };
       strides = c.fill_cells.ensures.strides;
@@ -90,7 +90,7 @@ link_all-requires-clause-linked g c =
     let row = c.args.row.now in
     let low = c.if-found-from.false in
     let wide = c.from.ensures in
-    let room = c.capacity.ensures.capacity ∙ ap (λ (x : Shaped). x.capacity) c.layout.ensures.shape in
+    let room = c.capacity.ensures.capacity ∙ ap (λ (x : Shaped). x.capacity) c.shape.ensures.shape in
     let C : HasCells s row c.make_paths.new.pass c.take_ticket-found.new.pass c.fill.new.pass c.fill_cells.new.pass c.take_ticket-found.result = record {
       begun = record { room = omega (arith, low, wide, room); took = c.take_ticket-found.ensures.made; is = c.fill.ensures.pass };
       strides = c.fill_cells.ensures.strides;
@@ -104,14 +104,14 @@ link_all-requires-clause-leaves g c =
     let row = c.args.row.now in
     let low = c.if-found-from.false in
     let wide = c.from.ensures in
-    let room = c.capacity.ensures.capacity ∙ ap (λ (x : Shaped). x.capacity) c.layout.ensures.shape in
+    let room = c.capacity.ensures.capacity ∙ ap (λ (x : Shaped). x.capacity) c.shape.ensures.shape in
     let B : HasBegun s row c.make_paths.new.pass c.take_ticket-found.new.pass c.fill.new.pass c.take_ticket-found.result = record { room = omega (arith, low, wide, room); took = c.take_ticket-found.ensures.made; is = c.fill.ensures.pass } in
     leaves_still s row c.fill.new.pass c.fill_cells.new.pass c.in-Some.leaves (length s.lanes) c.fill_cells.ensures.strides
     (begun_leaves s row c.make_paths.new.pass c.take_ticket-found.new.pass c.fill.new.pass c.take_ticket-found.result c.in-Some.leaves (length s.lanes) B c.in-Some.ensures.answer)
 
 pub finish_record-requires-clause-lawful : goal.finish_record-requires-clause-lawful
 finish_record-requires-clause-lawful g c =
-    may_close c.args.log.now.shape c.fill_cells.new.pass c.link_all.new.pass c.take_ticket-found.result c.args.row.now c.layout.ensures.lawful c.link_all.ensures.linked
+    may_close c.args.log.now.shape c.fill_cells.new.pass c.link_all.new.pass c.take_ticket-found.result c.args.row.now c.shape.ensures.lawful c.link_all.ensures.linked
 
 pub returns-clause-answer : goal.returns-clause-answer
 returns-clause-answer g c =
@@ -122,7 +122,7 @@ returns-clause-answer g c =
     let o = c.take_ticket-found.result in
     let low = c.if-found-from.false in
     let wide = c.from.ensures in
-    let room = c.capacity.ensures.capacity ∙ ap (λ (x : Shaped). x.capacity) c.layout.ensures.shape in
+    let room = c.capacity.ensures.capacity ∙ ap (λ (x : Shaped). x.capacity) c.shape.ensures.shape in
     let P : HasMade s row m p = record { strides = c.make_paths.ensures.strides; used = c.make_paths.ensures.used; leaves = c.in-Some.leaves; whole = c.in-Some.ensures.answer } in
     let E : HasEnded s row p c.take_ticket-found.new.pass c.fill.new.pass c.fill_cells.new.pass c.link_all.new.pass c.finish_record.new.pass o = record {
       cells = record {
@@ -144,7 +144,7 @@ returns-clause-steps g c =
     let o = c.take_ticket-found.result in
     let low = c.if-found-from.false in
     let wide = c.from.ensures in
-    let room = c.capacity.ensures.capacity ∙ ap (λ (x : Shaped). x.capacity) c.layout.ensures.shape in
+    let room = c.capacity.ensures.capacity ∙ ap (λ (x : Shaped). x.capacity) c.shape.ensures.shape in
     let E : HasEnded s row p c.take_ticket-found.new.pass c.fill.new.pass c.fill_cells.new.pass c.link_all.new.pass c.finish_record.new.pass o = record {
       cells = record {
         begun = record { room = omega (arith, low, wide, room); took = c.take_ticket-found.ensures.made; is = c.fill.ensures.pass };
@@ -164,5 +164,5 @@ returns-clause-steps g c =
     let five = c.link_all.ensures.steps in
     let six = c.finish_record.ensures.steps in
     let seven = c.move_tail.ensures.steps in
-    let all = all_steps s (length s.lanes) c.layout.ensures.lawful (omega arith) in
+    let all = all_steps s (length s.lanes) c.shape.ensures.lawful (omega arith) in
     omega (arith, before, after, one, two, three, four, five, six, seven, all)

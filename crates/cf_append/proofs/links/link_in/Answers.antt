@@ -10,7 +10,7 @@ pub returns-then-not-selects-clause-linked : goal.returns-then-not-selects-claus
 returns-then-not-selects-clause-linked g c =
     let s = c.args.log.now.shape in
     linked_skip s c.args.pass.now c.args.pass.now c.args.offset c.args.lane c.args.row.now c.requires.linked
-    (selected_there s c.layout-layout.result.now c.args.row.now c.args.lane c.selects.result false c.layout-layout.ensures.shape c.selects.ensures c.if-not-selects.true)
+    (selected_there s c.shape-shape.result.now c.args.row.now c.args.lane c.selects.result false c.shape-shape.ensures.shape c.selects.ensures c.if-not-selects.true)
 
 pub store_top-requires : goal.store_top-requires
 store_top-requires g c κs within =
@@ -18,9 +18,9 @@ store_top-requires g c κs within =
     let l = c.args.lane in
     let row = c.args.row.now in
     let key = c.key-key.result in
-    let h = c.layout-layout.result.now in
-    let same = c.layout-layout.ensures.shape in
-    let many = levels_two s l c.layout-layout.ensures.lawful c.requires.lane in
+    let h = c.shape-shape.result.now in
+    let same = c.shape-shape.ensures.shape in
+    let many = levels_two s l c.shape-shape.ensures.lawful c.requires.lane in
     let takes = selected_there s h row l c.selects.result true same c.selects.ensures c.if-not-selects.false in
     let leads = row_path s h row l key same takes c.key-key.ensures many in
     let q = nibbles (levels_of s l - 1) (key / 16) in
@@ -31,4 +31,4 @@ pub returns-clause-linked : goal.returns-clause-linked
 returns-clause-linked g c =
     let s = c.args.log.now.shape in
     linked_more s c.args.pass.now c.store_top.new.pass c.args.offset c.args.lane c.args.leaf (c.key-key.result % 16) c.args.row.now c.requires.linked
-    (selected_there s c.layout-layout.result.now c.args.row.now c.args.lane c.selects.result true c.layout-layout.ensures.shape c.selects.ensures c.if-not-selects.false) c.store_top.ensures.made
+    (selected_there s c.shape-shape.result.now c.args.row.now c.args.lane c.selects.result true c.shape-shape.ensures.shape c.selects.ensures c.if-not-selects.false) c.store_top.ensures.made

@@ -13,7 +13,7 @@ overflow_cast-previous g c =
     let s = c.args.log.now.shape in
     let few = top_few s (spot c.args.lane (key_path s c.args.lane c.args.key)) (book_of c.args.pass.now.view) c.requires.book in
     let is = c.requires.previous in
-    let room = c.layout.ensures.lawful.capacity in
+    let room = c.shape.ensures.lawful.capacity in
     omega (arith, few, is, room)
 
 pub cell_quad-before-requires : goal.cell_quad-before-requires
@@ -32,7 +32,7 @@ merge-requires g c =
     let few = amounts_few s c.args.lane (spot c.args.lane (key_path s c.args.lane c.args.key)) b c.requires.book in
     let one = c.add-value.ensures.count in
     let is = ap (λ (q : Counts). q.count) c.cell_quad-before.ensures.quad in
-    let room = c.layout.ensures.lawful.capacity in
+    let room = c.shape.ensures.lawful.capacity in
     record { few = omega (arith, few, one, is, room) }
 
 pub returns-clause-quad : goal.returns-clause-quad
@@ -40,5 +40,5 @@ returns-clause-quad g c =
     let s = c.args.log.now.shape in
     let b = book_of c.args.pass.now.view in
     let l = c.args.lane in
-    let value = c.measure.ensures ∙ ap (λ (h : Shaped). measure_of h l c.args.row.now) c.layout.ensures.shape in
+    let value = c.measure.ensures ∙ ap (λ (h : Shaped). measure_of h l c.args.row.now) c.shape.ensures.shape in
     c.merge.ensures.merged (measure_of s l c.args.row.now ∷ []) (amounts s l (leaf_chain s l c.args.key b)) (c.add-value.ensures.added [] refl ∙ ap (λ v. quad_of (v ∷ [])) value) c.cell_quad-before.ensures.quad

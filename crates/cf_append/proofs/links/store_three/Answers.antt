@@ -163,7 +163,7 @@ overflow_add-i g c =
     let l = c.args._leaf.0 in
     let at = c.requires.at in
     let three = three_words s l c.requires.lane.1 in
-    omega (arith, at, three, cell_low s l c.requires.lane.0, ticket_few s c.layout-lawful.ensures.lawful)
+    omega (arith, at, three, cell_low s l c.requires.lane.0, ticket_few s c.shape-lawful.ensures.lawful)
 
 pub overflow_add-i-2 : goal.overflow_add-i-2
 overflow_add-i-2 g c =
@@ -171,4 +171,4 @@ overflow_add-i-2 g c =
     let l = c.args._leaf.0 in
     let at = c.requires.at in
     let three = three_words s l c.requires.lane.1 in
-    omega (arith, at, three, cell_low s l c.requires.lane.0, ticket_few s c.layout-lawful.ensures.lawful)
+    omega (arith, at, three, cell_low s l c.requires.lane.0, ticket_few s c.shape-lawful.ensures.lawful)

@@ -22,33 +22,33 @@ pub overflow_add-result : goal.overflow_add-result
 overflow_add-result g c =
     let s = c.args.log.now.shape in
     let at = c.requires.at in
-    let wide = c.cell_size.ensures ∙ ap (λ (h : Shaped). cell_words (lane_at h c.args.lane)) c.layout-layout.ensures.shape in
-    omega (arith, at, wide, cell_low s c.args.lane c.requires.lane, ticket_few s c.layout-layout.ensures.lawful)
+    let wide = c.cell_size.ensures ∙ ap (λ (h : Shaped). cell_words (lane_at h c.args.lane)) c.shape-shape.ensures.shape in
+    omega (arith, at, wide, cell_low s c.args.lane c.requires.lane, ticket_few s c.shape-shape.ensures.lawful)
 
 pub overflow_add-result-2 : goal.overflow_add-result-2
 overflow_add-result-2 g c =
     let s = c.args.log.now.shape in
     let at = c.requires.at in
-    omega (arith, at, cell_low s c.args.lane c.requires.lane, ticket_few s c.layout-layout.ensures.lawful)
+    omega (arith, at, cell_low s c.args.lane c.requires.lane, ticket_few s c.shape-shape.ensures.lawful)
 
 pub returns-then-not-selects-clause-filled : goal.returns-then-not-selects-clause-filled
 returns-then-not-selects-clause-filled g c =
     let s = c.args.log.now.shape in
     filled_skip s c.args.offset c.args.row.now c.args.lane c.args.pass.now c.args.pass.now c.requires.lane
-    (selected_there s c.layout-layout.result.now c.args.row.now c.args.lane c.selects.result false c.layout-layout.ensures.shape c.selects.ensures c.if-not-selects.true) c.requires.filled
+    (selected_there s c.shape-shape.result.now c.args.row.now c.args.lane c.selects.result false c.shape-shape.ensures.shape c.selects.ensures c.if-not-selects.true) c.requires.filled
 
 pub returns-then-not-selects-clause-next : goal.returns-then-not-selects-clause-next
 returns-then-not-selects-clause-next g c =
     let s = c.args.log.now.shape in
     let at = c.requires.at in
-    let wide = c.cell_size.ensures ∙ ap (λ (h : Shaped). cell_words (lane_at h c.args.lane)) c.layout-layout.ensures.shape in
+    let wide = c.cell_size.ensures ∙ ap (λ (h : Shaped). cell_words (lane_at h c.args.lane)) c.shape-shape.ensures.shape in
     omega (arith, at, wide, cell_next s c.args.lane c.requires.lane)
 
 pub returns-clause-next : goal.returns-clause-next
 returns-clause-next g c =
     let s = c.args.log.now.shape in
     let at = c.requires.at in
-    let bare : is_measured s c.args.lane ≡ false = ap (λ (h : Shaped). is_measured h c.args.lane) (sym c.layout-layout.ensures.shape) ∙ (sym c.measures.ensures ∙ c.if-measures.false) in
+    let bare : is_measured s c.args.lane ≡ false = ap (λ (h : Shaped). is_measured h c.args.lane) (sym c.shape-shape.ensures.shape) ∙ (sym c.measures.ensures ∙ c.if-measures.false) in
     omega (arith, at, unmeasured_next s c.args.lane c.requires.lane bare)
 
 pub own_head-previous-requires : goal.own_head-previous-requires
@@ -57,9 +57,9 @@ own_head-previous-requires g c κs within =
     let l = c.args.lane in
     let row = c.args.row.now in
     let key = c.key-key.result in
-    let h = c.layout-layout.result.now in
-    let same = c.layout-layout.ensures.shape in
-    let many = levels_two s l c.layout-layout.ensures.lawful c.requires.lane in
+    let h = c.shape-shape.result.now in
+    let same = c.shape-shape.ensures.shape in
+    let many = levels_two s l c.shape-shape.ensures.lawful c.requires.lane in
     let takes = selected_there s h row l c.selects.result true same c.selects.ensures c.if-not-selects.false in
     let leads = row_path s h row l key same takes c.key-key.ensures many in (
       within,
@@ -84,13 +84,13 @@ store_cell-requires-clause-place g c =
 pub store_cell-requires-clause-lawful : goal.store_cell-requires-clause-lawful
 store_cell-requires-clause-lawful g c =
     let s = c.args.log.now.shape in
-    let bare : is_measured s c.args.lane ≡ false = ap (λ (h : Shaped). is_measured h c.args.lane) (sym c.layout-layout.ensures.shape) ∙ (sym c.measures.ensures ∙ c.if-measures.false) in
+    let bare : is_measured s c.args.lane ≡ false = ap (λ (h : Shaped). is_measured h c.args.lane) (sym c.shape-shape.ensures.shape) ∙ (sym c.measures.ensures ∙ c.if-measures.false) in
     let l = c.args.lane in
     let row = c.args.row.now in
     let key = c.key-key.result in
-    let h = c.layout-layout.result.now in
-    let same = c.layout-layout.ensures.shape in
-    let many = levels_two s l c.layout-layout.ensures.lawful c.requires.lane in
+    let h = c.shape-shape.result.now in
+    let same = c.shape-shape.ensures.shape in
+    let many = levels_two s l c.shape-shape.ensures.lawful c.requires.lane in
     let takes = selected_there s h row l c.selects.result true same c.selects.ensures c.if-not-selects.false in
     let leads = row_path s h row l key same takes c.key-key.ensures many in
     may_version s c.args.pass.now c.own_head-previous.new.pass c.args.offset l c.args.i c.own_head-previous.result row (key % 16 ∷ nibbles (levels_of s l - 1) (key / 16)) c.requires.filled c.own_head-previous.ensures.books c.requires.lane bare c.requires.at
@@ -103,7 +103,7 @@ returns-clause-strides g c =
 pub returns-clause-filled : goal.returns-clause-filled
 returns-clause-filled g c =
     let s = c.args.log.now.shape in
-    let bare : is_measured s c.args.lane ≡ false = ap (λ (h : Shaped). is_measured h c.args.lane) (sym c.layout-layout.ensures.shape) ∙ (sym c.measures.ensures ∙ c.if-measures.false) in
+    let bare : is_measured s c.args.lane ≡ false = ap (λ (h : Shaped). is_measured h c.args.lane) (sym c.shape-shape.ensures.shape) ∙ (sym c.measures.ensures ∙ c.if-measures.false) in
     filled_more c.args.log.now.shape c.args.pass.now c.own_head-previous.new.pass c.store_cell.new.pass c.args.offset c.args.lane c.args.i c.own_head-previous.result c.args.row.now c.requires.filled c.own_head-previous.ensures.books c.requires.lane bare c.requires.at c.store_cell.ensures.made
 
 pub quad_with-quad-requires-clause-previous : goal.quad_with-quad-requires-clause-previous
@@ -112,8 +112,8 @@ quad_with-quad-requires-clause-previous g c =
     let l = c.args.lane in
     let row = c.args.row.now in
     let key = c.key-key.result in
-    let h = c.layout-layout.result.now in
-    let same = c.layout-layout.ensures.shape in
+    let h = c.shape-shape.result.now in
+    let same = c.shape-shape.ensures.shape in
     let m = c.args.pass.now in
     let n = c.own_head-previous.new.pass in
     let previous = head_chain s m n c.args.offset (cell_from s l) c.own_head-previous.result row (spot l (key_path s l key)) c.requires.filled c.own_head-previous.ensures.books c.own_head-previous.ensures.head in
@@ -125,8 +125,8 @@ overflow_mul-first g c =
     let l = c.args.lane in
     let row = c.args.row.now in
     let key = c.key-key.result in
-    let h = c.layout-layout.result.now in
-    let same = c.layout-layout.ensures.shape in
+    let h = c.shape-shape.result.now in
+    let same = c.shape-shape.ensures.shape in
     let m = c.args.pass.now in
     let n = c.own_head-previous.new.pass in
     let previous = head_chain s m n c.args.offset (cell_from s l) c.own_head-previous.result row (spot l (key_path s l key)) c.requires.filled c.own_head-previous.ensures.books c.own_head-previous.ensures.head in
@@ -137,7 +137,7 @@ overflow_mul-first g c =
     let count = ap (λ (q : Counts). q.count) quad in
     let counted = c.count.ensures in
     let few = amounts_few s l (spot l (key_path s l key)) (book_of n.view) own in
-    let room = c.layout-layout.ensures.lawful.capacity in
+    let room = c.shape-shape.ensures.lawful.capacity in
     omega (arith, count, counted, few, room)
 
 pub overflow_add-first : goal.overflow_add-first
@@ -146,8 +146,8 @@ overflow_add-first g c =
     let l = c.args.lane in
     let row = c.args.row.now in
     let key = c.key-key.result in
-    let h = c.layout-layout.result.now in
-    let same = c.layout-layout.ensures.shape in
+    let h = c.shape-shape.result.now in
+    let same = c.shape-shape.ensures.shape in
     let m = c.args.pass.now in
     let n = c.own_head-previous.new.pass in
     let previous = head_chain s m n c.args.offset (cell_from s l) c.own_head-previous.result row (spot l (key_path s l key)) c.requires.filled c.own_head-previous.ensures.books c.own_head-previous.ensures.head in
@@ -158,7 +158,7 @@ overflow_add-first g c =
     let count = ap (λ (q : Counts). q.count) quad in
     let counted = c.count.ensures in
     let few = amounts_few s l (spot l (key_path s l key)) (book_of n.view) own in
-    let room = c.layout-layout.ensures.lawful.capacity in
+    let room = c.shape-shape.ensures.lawful.capacity in
     let most = top_few s (spot l (key_path s l key)) (book_of n.view) own in
     omega (arith, count, counted, few, room, previous, most)
 
@@ -168,12 +168,12 @@ store_three-requires-clause-leads g c =
     let l = c.args.lane in
     let row = c.args.row.now in
     let key = c.key-key.result in
-    let h = c.layout-layout.result.now in
-    let same = c.layout-layout.ensures.shape in
+    let h = c.shape-shape.result.now in
+    let same = c.shape-shape.ensures.shape in
     let m = c.args.pass.now in
     let n = c.own_head-previous.new.pass in
     let previous = head_chain s m n c.args.offset (cell_from s l) c.own_head-previous.result row (spot l (key_path s l key)) c.requires.filled c.own_head-previous.ensures.books c.own_head-previous.ensures.head in
-    let many = levels_two s l c.layout-layout.ensures.lawful c.requires.lane in
+    let many = levels_two s l c.shape-shape.ensures.lawful c.requires.lane in
     let takes = selected_there s h row l c.selects.result true same c.selects.ensures c.if-not-selects.false in
     row_path s h row l key same takes c.key-key.ensures many
 
@@ -183,8 +183,8 @@ store_three-requires-clause-words g c =
     let l = c.args.lane in
     let row = c.args.row.now in
     let key = c.key-key.result in
-    let h = c.layout-layout.result.now in
-    let same = c.layout-layout.ensures.shape in
+    let h = c.shape-shape.result.now in
+    let same = c.shape-shape.ensures.shape in
     let m = c.args.pass.now in
     let n = c.own_head-previous.new.pass in
     let previous = head_chain s m n c.args.offset (cell_from s l) c.own_head-previous.result row (spot l (key_path s l key)) c.requires.filled c.own_head-previous.ensures.books c.own_head-previous.ensures.head in
@@ -201,12 +201,12 @@ pub overflow_add-result-then-measures : goal.overflow_add-result-then-measures
 overflow_add-result-then-measures g c =
     let s = c.args.log.now.shape in
     let at = c.requires.at in
-    let measured : is_measured s c.args.lane ≡ true = ap (λ (x : Shaped). is_measured x c.args.lane) (sym c.layout-layout.ensures.shape) ∙ (sym c.measures.ensures ∙ c.if-measures.true) in
-    omega (arith, at, three_words s c.args.lane measured, cell_low s c.args.lane c.requires.lane, ticket_few s c.layout-layout.ensures.lawful)
+    let measured : is_measured s c.args.lane ≡ true = ap (λ (x : Shaped). is_measured x c.args.lane) (sym c.shape-shape.ensures.shape) ∙ (sym c.measures.ensures ∙ c.if-measures.true) in
+    omega (arith, at, three_words s c.args.lane measured, cell_low s c.args.lane c.requires.lane, ticket_few s c.shape-shape.ensures.lawful)
 
 pub returns-then-measures-clause-next : goal.returns-then-measures-clause-next
 returns-then-measures-clause-next g c =
     let s = c.args.log.now.shape in
     let at = c.requires.at in
-    let measured : is_measured s c.args.lane ≡ true = ap (λ (x : Shaped). is_measured x c.args.lane) (sym c.layout-layout.ensures.shape) ∙ (sym c.measures.ensures ∙ c.if-measures.true) in
+    let measured : is_measured s c.args.lane ≡ true = ap (λ (x : Shaped). is_measured x c.args.lane) (sym c.shape-shape.ensures.shape) ∙ (sym c.measures.ensures ∙ c.if-measures.true) in
     omega (arith, at, three_words s c.args.lane measured, cell_next s c.args.lane c.requires.lane)

@@ -16,10 +16,10 @@ returns-clause-used g c =
     let s = c.args.log.now.shape in
     let l = c.args.lane in
     let at : Prefix = record { lane = l; level = c.levels.result - 1; front = c.key.result / 16 } in
-    let same = c.layout-layout.ensures.shape in
+    let same = c.shape-shape.ensures.shape in
     let w : IsWhole s c.args.row.now l at = record {
       selects = ap (λ (h : Shaped). selected_by h l c.args.row.now) (sym same) ∙ (sym c.selects.ensures ∙ c.if-not-selects.false);
-      many = levels_two s l c.layout-layout.ensures.lawful c.requires.lane;
+      many = levels_two s l c.shape-shape.ensures.lawful c.requires.lane;
       lane_is = refl;
       level = ap (λ (k : ℕ). k - 1) (c.levels.ensures ∙ ap (λ (h : Shaped). levels_of h l) same);
       front = ap (λ (k : ℕ). k / 16) (c.key.ensures ∙ ap (λ (h : Shaped). key_of h l c.args.row.now) same);
@@ -33,10 +33,10 @@ returns-clause-answer g c =
     let m = c.args.pass.now in
     let n = c.make_node.new.pass in
     let at : Prefix = record { lane = l; level = c.levels.result - 1; front = c.key.result / 16 } in
-    let same = c.layout-layout.ensures.shape in
+    let same = c.shape-shape.ensures.shape in
     let w : IsWhole s c.args.row.now l at = record {
       selects = ap (λ (h : Shaped). selected_by h l c.args.row.now) (sym same) ∙ (sym c.selects.ensures ∙ c.if-not-selects.false);
-      many = levels_two s l c.layout-layout.ensures.lawful c.requires.lane;
+      many = levels_two s l c.shape-shape.ensures.lawful c.requires.lane;
       lane_is = refl;
       level = ap (λ (k : ℕ). k - 1) (c.levels.ensures ∙ ap (λ (h : Shaped). levels_of h l) same);
       front = ap (λ (k : ℕ). k / 16) (c.key.ensures ∙ ap (λ (h : Shaped). key_of h l c.args.row.now) same);

@@ -15,8 +15,8 @@ take_child-requires g c κs within =
         (
           c.requires.rest,
           (
-            next_child c.args.log.now.shape c.args.pass.now.view at c.args.above c.layout.ensures.lawful c.requires.prefix c.requires.more c.requires.above,
-            (c.place_child-place.ensures ∙ ap (λ (s : Shaped). place_of s (child c.args.above (at.front % 16))) c.layout.ensures.shape, sym (length-nibbles at.level at.front)),
+            next_child c.args.log.now.shape c.args.pass.now.view at c.args.above c.shape.ensures.lawful c.requires.prefix c.requires.more c.requires.above,
+            (c.place_child-place.ensures ∙ ap (λ (s : Shaped). place_of s (child c.args.above (at.front % 16))) c.shape.ensures.shape, sym (length-nibbles at.level at.front)),
           ),
         ),
       ),

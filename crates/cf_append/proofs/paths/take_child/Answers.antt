@@ -18,7 +18,7 @@ pub overflow_cast-result : goal.overflow_cast-result
 overflow_cast-result g c =
     let s = c.args.log.now.shape in
     let low = (load_node s c.args.pass.now c.load_child-found.new.pass g.to.0 g.to.1 c.load_child-found.result c.load_child-found.ensures.made c.if-found-ne0.true).low in
-    let few = writers_nodes_small s c.layout-lawful.ensures.lawful in
+    let few = writers_nodes_small s c.shape-lawful.ensures.lawful in
     omega (arith, low, few)
 
 pub returns-then-found-ne0-clause-strides : goal.returns-then-found-ne0-clause-strides
@@ -45,7 +45,7 @@ overflow_mul-place g c =
     let s = c.args.log.now.shape in
     let at = c.requires.1.1.1.1.0 in
     let low = place_within (sizes_of s) g.to.1 c.requires.1.1.1.0.real in
-    let few = total_small s c.layout-lawful.ensures.lawful in
+    let few = total_small s c.shape-lawful.ensures.lawful in
     omega (arith, at, low, few)
 
 pub overflow_add-place : goal.overflow_add-place
@@ -53,7 +53,7 @@ overflow_add-place g c =
     let s = c.args.log.now.shape in
     let at = c.requires.1.1.1.1.0 in
     let low = place_within (sizes_of s) g.to.1 c.requires.1.1.1.0.real in
-    let few = total_small s c.layout-lawful.ensures.lawful in
+    let few = total_small s c.shape-lawful.ensures.lawful in
     let is = c.from.ensures in
     let small = c.ranges.level.fits in
     omega (arith, at, low, few, is, small)
@@ -106,7 +106,7 @@ pub overflow_cast-result-then-named-ne0 : goal.overflow_cast-result-then-named-n
 overflow_cast-result-then-named-ne0 g c =
     let s = c.args.log.now.shape in
     let low = (lost_node s c.label.new.pass c.link-named.new.pass g.to.0 g.to.1 c.in-Some.node c.link-named.result c.link-named.ensures.made c.if-named-ne0.true).low in
-    let few = writers_nodes_small s c.layout-lawful.ensures.lawful in
+    let few = writers_nodes_small s c.shape-lawful.ensures.lawful in
     omega (arith, low, few)
 
 pub returns-then-named-ne0-clause-strides : goal.returns-then-named-ne0-clause-strides

@@ -24,7 +24,7 @@ fill_cells-requires-clause-book g c =
     let p = c.make_paths.new.pass in
     let t = c.take_ticket-found.new.pass in
     let f = c.fill.new.pass in
-    let capacity = c.capacity.ensures.capacity ∙ ap (λ (x : Shaped). x.capacity) c.layout.ensures.shape in
+    let capacity = c.capacity.ensures.capacity ∙ ap (λ (x : Shaped). x.capacity) c.shape.ensures.shape in
     let room : 0 < s.capacity = search (rules, capacity) in
     let zero : c.take_ticket-found.result ≡ 0 = search rules in
     let B : HasBegun s row p t f 0 = record { room = room; took = subst (λ (k : ℕ). Made s (take_way s p.view row) p k t) zero c.take_ticket-found.ensures.made; is = c.fill.ensures.pass } in
@@ -37,7 +37,7 @@ fill_cells-requires-clause-filled g c =
     let p = c.make_paths.new.pass in
     let t = c.take_ticket-found.new.pass in
     let f = c.fill.new.pass in
-    let capacity = c.capacity.ensures.capacity ∙ ap (λ (x : Shaped). x.capacity) c.layout.ensures.shape in
+    let capacity = c.capacity.ensures.capacity ∙ ap (λ (x : Shaped). x.capacity) c.shape.ensures.shape in
     let room : 0 < s.capacity = search (rules, capacity) in
     let zero : c.take_ticket-found.result ≡ 0 = search rules in
     let B : HasBegun s row p t f 0 = record { room = room; took = subst (λ (k : ℕ). Made s (take_way s p.view row) p k t) zero c.take_ticket-found.ensures.made; is = c.fill.ensures.pass } in
@@ -50,7 +50,7 @@ fill_cells-requires-clause-leaves g c =
     let p = c.make_paths.new.pass in
     let t = c.take_ticket-found.new.pass in
     let f = c.fill.new.pass in
-    let capacity = c.capacity.ensures.capacity ∙ ap (λ (x : Shaped). x.capacity) c.layout.ensures.shape in
+    let capacity = c.capacity.ensures.capacity ∙ ap (λ (x : Shaped). x.capacity) c.shape.ensures.shape in
     let room : 0 < s.capacity = search (rules, capacity) in
     let zero : c.take_ticket-found.result ≡ 0 = search rules in
     let B : HasBegun s row p t f 0 = record { room = room; took = subst (λ (k : ℕ). Made s (take_way s p.view row) p k t) zero c.take_ticket-found.ensures.made; is = c.fill.ensures.pass } in
@@ -63,7 +63,7 @@ link_all-requires-clause-writer g c =
     let p = c.make_paths.new.pass in
     let t = c.take_ticket-found.new.pass in
     let f = c.fill.new.pass in
-    let capacity = c.capacity.ensures.capacity ∙ ap (λ (x : Shaped). x.capacity) c.layout.ensures.shape in
+    let capacity = c.capacity.ensures.capacity ∙ ap (λ (x : Shaped). x.capacity) c.shape.ensures.shape in
     let room : 0 < s.capacity = search (rules, capacity) in
     let zero : c.take_ticket-found.result ≡ 0 = search rules in
     let B : HasBegun s row p t f 0 = record { room = room; took = subst (λ (k : ℕ). Made s (take_way s p.view row) p k t) zero c.take_ticket-found.ensures.made; is = c.fill.ensures.pass } in
@@ -77,7 +77,7 @@ link_all-requires-clause-linked g c =
     let p = c.make_paths.new.pass in
     let t = c.take_ticket-found.new.pass in
     let f = c.fill.new.pass in
-    let capacity = c.capacity.ensures.capacity ∙ ap (λ (x : Shaped). x.capacity) c.layout.ensures.shape in
+    let capacity = c.capacity.ensures.capacity ∙ ap (λ (x : Shaped). x.capacity) c.shape.ensures.shape in
     let room : 0 < s.capacity = search (rules, capacity) in
     let zero : c.take_ticket-found.result ≡ 0 = search rules in
     let B : HasBegun s row p t f 0 = record { room = room; took = subst (λ (k : ℕ). Made s (take_way s p.view row) p k t) zero c.take_ticket-found.ensures.made; is = c.fill.ensures.pass } in
@@ -91,7 +91,7 @@ link_all-requires-clause-leaves g c =
     let p = c.make_paths.new.pass in
     let t = c.take_ticket-found.new.pass in
     let f = c.fill.new.pass in
-    let capacity = c.capacity.ensures.capacity ∙ ap (λ (x : Shaped). x.capacity) c.layout.ensures.shape in
+    let capacity = c.capacity.ensures.capacity ∙ ap (λ (x : Shaped). x.capacity) c.shape.ensures.shape in
     let room : 0 < s.capacity = search (rules, capacity) in
     let zero : c.take_ticket-found.result ≡ 0 = search rules in
     let B : HasBegun s row p t f 0 = record { room = room; took = subst (λ (k : ℕ). Made s (take_way s p.view row) p k t) zero c.take_ticket-found.ensures.made; is = c.fill.ensures.pass } in
@@ -99,4 +99,4 @@ link_all-requires-clause-leaves g c =
 
 pub finish_record-requires-clause-lawful : goal.finish_record-requires-clause-lawful
 finish_record-requires-clause-lawful g c =
-    may_close c.args.log.now.shape c.fill_cells.new.pass c.link_all.new.pass 0 c.args.row.now c.layout.ensures.lawful c.link_all.ensures.linked
+    may_close c.args.log.now.shape c.fill_cells.new.pass c.link_all.new.pass 0 c.args.row.now c.shape.ensures.lawful c.link_all.ensures.linked

@@ -59,7 +59,7 @@ home g c none =
     let low = c.requires.some in
     let few = c.requires.few in
     let wrote = subst (λ (o : Option ℕ). AllZip (Wrote (is_none o) c.args.log.now (4096 * c.args.batch) (take 4096 (drop (4096 * c.args.batch) c.args.rows.now))) c.in-Ok.passes.items c.run_beside-out.new.passes) none (written g c) in
-    batch_home c.args.log.now c.args.rows.now c.args.batch c.args.root.now c.deal.new.root c.gather.new.root c.fold_back.new.root (c.run_beside-out.new.reader).view c.in-Ok.passes.items c.run_beside-out.new.passes c.layout.ensures.lawful c.requires.loaded (omega (arith, low)) few
+    batch_home c.args.log.now c.args.rows.now c.args.batch c.args.root.now c.deal.new.root c.gather.new.root c.fold_back.new.root (c.run_beside-out.new.reader).view c.in-Ok.passes.items c.run_beside-out.new.passes c.shape.ensures.lawful c.requires.loaded (omega (arith, low)) few
     c.in-Ok.ensures.dealt wrote (gathered g c) c.fold_back.ensures.folded c.fold_back.ensures.books c.fold_back.ensures.stays
 
 lacking : (g : Over) (c : goal.After-outcome g) (w : ℕ) → c.run_beside-out.result.0 ≡ Some w → LacksNodes c.args.log.now c.args.rows.now w c.fold_back.new.root
@@ -70,7 +70,7 @@ lacking g c w is =
     let rows = c.args.rows.now in
     let out = subst (λ (o : Option ℕ). IfSome o (λ v. RanOut log (take 4096 (drop (4096 * c.args.batch) rows)) v c.run_beside-out.new.passes)) is (ran_out g c) in
     out_home log rows w c.gather.new.root c.fold_back.new.root (c.run_beside-out.new.reader).view
-    (batch_out (is_none c.run_beside-out.result.0) log rows c.args.batch w c.args.root.now c.deal.new.root c.gather.new.root c.in-Ok.passes.items c.run_beside-out.new.passes c.layout.ensures.lawful c.layout.ensures.alike c.layout.ensures.laid c.requires.loaded (omega (arith, low)) few
+    (batch_out (is_none c.run_beside-out.result.0) log rows c.args.batch w c.args.root.now c.deal.new.root c.gather.new.root c.in-Ok.passes.items c.run_beside-out.new.passes c.shape.ensures.lawful c.requires.loaded (omega (arith, low)) few
     c.in-Ok.ensures.dealt (written g c) out (gathered g c))
     c.fold_back.ensures.folded c.fold_back.ensures.books c.fold_back.ensures.stays
 

@@ -6,5 +6,5 @@ use Rattle.cf_load.proofs.finals.alerts_of.Given as goal
 abbrev pub invariant-loop-trigger : goal.invariant-loop-trigger
 invariant-loop-trigger g l = record {
   keeps : Keeps l.initial.root l.root;
-  marks : l.alerts.items ≡ map (marks_on (l.log).whole (l.initial.root.view).seen) (take l.trigger-index l.triggers);
+  marks : l.alerts.items ≡ map (marks_on (l.log).shape (l.initial.root.view).seen) (take l.trigger-index l.triggers);
 }

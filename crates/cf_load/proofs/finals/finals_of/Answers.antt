@@ -20,7 +20,7 @@ returns-in_err-push-clause-keeps g c =
 pub loop-question-preserved : goal.loop-question-preserved
 loop-question-preserved g c =
     let s = c.args.log.now.shape in
-    let whole = c.args.log.now.whole in
+    let whole = c.args.log.now.shape in
     let m = c.args.root.now in
     let k = c.loop-question.invariant.keeps in
     let made = c.in_ok-ask.ensures.ok in

@@ -13,7 +13,7 @@ returns-in-Ok g c =
     let made = c.in-Ok.ensures in
     let k = c.answer_all.ensures.keeps in
     let had = c.in_ok-lives.ensures in
-    let room = c.capacity.ensures.capacity ∙ ap (λ (s : Shaped). s.capacity) c.layout.ensures.shape in
+    let room = c.capacity.ensures.capacity ∙ ap (λ (s : Shaped). s.capacity) c.shape.ensures.shape in
     let not = c.if-rows-capacity.false in
     let few : length c.args.rows.now ≤ c.args.log.now.shape.capacity = omega (arith, room, not) in
     let same = c.answer_all.ensures.keeps.same ∙ ap (λ (h : Held). record h { view = c.answer_all.new.root.view }) c.load_batches.ensures.same in
@@ -25,12 +25,12 @@ returns-in-Ok g c =
       alerts = rw k.seen made.alerts;
       lives = rw (made.lives, k.seen) had.answered;
       told = rw made.lives (k.told ∙ had.told);
-      few_nodes = loaded_few c.args.log.now c.args.rows.now c.load_batches.new.root c.layout.ensures.lawful c.layout.ensures.alike c.layout.ensures.laid c.requires.fits had.loaded;
+      few_nodes = loaded_few c.args.log.now c.args.rows.now c.load_batches.new.root c.shape.ensures.lawful c.requires.fits had.loaded;
     }
 
 pub returns-in-Err : goal.returns-in-Err
 returns-in-Err g c =
-    let room = c.capacity.ensures.capacity ∙ ap (λ (s : Shaped). s.capacity) c.layout.ensures.shape in
+    let room = c.capacity.ensures.capacity ∙ ap (λ (s : Shaped). s.capacity) c.shape.ensures.shape in
     let not = c.if-rows-capacity.false in
     let few : length c.args.rows.now ≤ c.args.log.now.shape.capacity = omega (arith, room, not) in
     let same = c.answer_all.ensures.keeps.same ∙ ap (λ (h : Held). record h { view = c.answer_all.new.root.view }) c.load_batches.ensures.same in

@@ -19,7 +19,7 @@ loop-batch-preserved g c =
     record {
       same = c.load_batch.ensures.same ∙ ap (λ (h : Held). record h { view = n.view }) v.same;
       loaded = made.loaded;
-      answered = subst (HasAnswered log.whole plan.asks.items plan.lives.items plan.rounds (length (take (4096 * (b + 1)) rows)) (n.view).seen) (sym items)
+      answered = subst (HasAnswered log.shape plan.asks.items plan.lives.items plan.rounds (length (take (4096 * (b + 1)) rows)) (n.view).seen) (sym items)
           (answered_beside log rows plan b c.loop-batch.root n c.loop-batch.lives.items more v.loaded made.loaded some v.answered made.asked);
       told = rw items (told_more (c.args.root.now.view).told (c.loop-batch.root.view).told (n.view).told c.loop-batch.lives.items more v.told made.told);
     }

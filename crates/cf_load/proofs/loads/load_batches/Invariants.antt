@@ -7,6 +7,6 @@ abbrev pub invariant-loop-batch : goal.invariant-loop-batch
 invariant-loop-batch g l = record {
   same : l.root ≡ record l.initial.root { view = l.root.view };
   loaded : HasLoaded l.log (take (4096 * l.batch) l.rows) l.root;
-  answered : HasAnswered (l.log).whole (l.plan).asks.items (l.plan).lives.items (l.plan).rounds (length (take (4096 * l.batch) l.rows)) (l.root.view).seen l.lives.items;
+  answered : HasAnswered (l.log).shape (l.plan).asks.items (l.plan).lives.items (l.plan).rounds (length (take (4096 * l.batch) l.rows)) (l.root.view).seen l.lives.items;
   told : (l.root.view).told ≡ (l.initial.root.view).told ++ tails_of l.lives.items;
 }

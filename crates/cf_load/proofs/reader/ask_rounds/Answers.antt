@@ -14,6 +14,6 @@ loop-round-init g c =
     let none = sym c.new-answers.ensures.items in
     record {
       of = c.requires.of;
-      asks = subst (λ (xs : List Live). AsksSome log.whole plan.asks.items plan.lives.items 0 0 c.args.batch (m.view).seen (m.view).seen xs) none (asks_none log.whole plan.asks.items plan.lives.items c.args.batch (m.view).seen);
+      asks = subst (λ (xs : List Live). AsksSome log.shape plan.asks.items plan.lives.items 0 0 c.args.batch (m.view).seen (m.view).seen xs) none (asks_none log.shape plan.asks.items plan.lives.items c.args.batch (m.view).seen);
       read = subst (HasRead m m) none (read_none m);
     }

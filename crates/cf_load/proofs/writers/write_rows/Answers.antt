@@ -31,7 +31,7 @@ pub loop-row-preserved : goal.loop-row-preserved
 loop-row-preserved g c =
     let k = c.loop-row.number in
     let i = c.loop-row.row-index in
-    let writers = c.from-writers.ensures ∙ (c.writers.ensures.writers ∙ ap (λ (s : Shaped). s.writers) c.layout.ensures.shape) in
+    let writers = c.from-writers.ensures ∙ (c.writers.ensures.writers ∙ ap (λ (s : Shaped). s.writers) c.shape.ensures.shape) in
     let same = ap (λ n. k % n) writers in
     let writer = c.from.ensures ∙ c.writer-writer.ensures.writer in
     elim c.if-number-writers.branch [

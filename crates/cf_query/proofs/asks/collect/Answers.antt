@@ -15,7 +15,7 @@ append-requires-clause-fits g c =
     let o = c.loop-offset.offset in
     let v = c.loop-offset.invariant in
     let at = sym (ap (λ (h : Held). slice_get (h.view).seen o) v.looked) ∙ c.in_ok-entry.ensures.entry in
-    let schema = ap (λ (x : Shaped). x.schema) c.layout-alike.ensures.alike ∙ sym (ap (λ (x : Shaped). x.schema) v.shape) in
+    let schema = sym (ap (λ (x : Shaped). x.schema) v.shape) in
     subst (λ (attrs : List Attr). Fits attrs e.row) schema (entry_fits s e (c.requires.fit o e at))
 
 pub loop-offset-preserved : goal.loop-offset-preserved

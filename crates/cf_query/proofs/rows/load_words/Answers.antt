@@ -19,7 +19,7 @@ loop-i-preserved g c =
     let f = g.P.Pass.held c.args.pass.now in
     let m = g.P.Pass.held c.loop-i.pass in
     let n = g.P.Pass.held c.load_word.new.pass in
-    let cap = c.capacity.ensures.capacity ∙ ap (λ (x : Shaped). x.capacity) c.layout.ensures.shape in
+    let cap = c.capacity.ensures.capacity ∙ ap (λ (x : Shaped). x.capacity) c.shape.ensures.shape in
     let place : c.min-place.result ≡ min o (s.capacity - 1) = c.min-place.ensures ∙ ap (λ (k : ℕ). min o (k - 1)) cap in
     let same : entry_at m.view o ≡ entry_at f.view o = ap (λ (h : Held). entry_at h.view o) v.looked in
     let far = ap (λ (h : Held). length (h.view).seen) v.looked in
@@ -29,7 +29,7 @@ loop-i-preserved g c =
     let long = v.long in
     let count = v.steps in
     let more = c.load_word.ensures.steps in
-    let all = loaded s m n o c.min-place.result i c.load_word.result c.layout.ensures.lawful place (omega (arith, far, covered)) (omega (arith, low, wide)) c.load_word.ensures.made in
+    let all = loaded s m n o c.min-place.result i c.load_word.result c.shape.ensures.lawful place (omega (arith, far, covered)) (omega (arith, low, wide)) c.load_word.ensures.made in
     record {
       long = length-set c.loop-i.words i c.load_word.result ∙ long;
       read = read_more c.loop-i.words (entry_at f.view o) i c.load_word.result (omega (arith, low, long)) v.read (all.word ∙ ap (λ (e : Entry). get_or (spelled e) i 0) same);

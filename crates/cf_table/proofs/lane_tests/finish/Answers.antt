@@ -6,7 +6,7 @@ use Rattle.cf_table.proofs.lane_tests.finish.Goals as goal
 
 pub finish_record-requires-clause-lawful : goal.finish_record-requires-clause-lawful
 finish_record-requires-clause-lawful g c =
-    finishes_row c.args.log.now.shape c.args.row.now c.args.pass.now.view c.layout.ensures.lawful c.requires.leads c.requires.view
+    finishes_row c.args.log.now.shape c.args.row.now c.args.pass.now.view c.shape.ensures.lawful c.requires.leads c.requires.view
 
 pub returns : goal.returns
 returns g c =

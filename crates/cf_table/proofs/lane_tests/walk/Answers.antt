@@ -13,13 +13,13 @@ pub load_cell-before-requires-clause-place : goal.load_cell-before-requires-clau
 load_cell-before-requires-clause-place g c =
     let s = c.args.log.now.shape in
     let one = c.requires.leads.one in
-    let lawful = c.layout.ensures.lawful in
+    let lawful = c.shape.ensures.lawful in
     let room = lawful.capacity in
     (omega (arith, room), omega (arith, one), one_cell_word s c.args.row.now c.requires.leads)
 
 pub load_cell-before-requires-clause-lawful : goal.load_cell-before-requires-clause-lawful
 load_cell-before-requires-clause-lawful g c =
     let s = c.args.log.now.shape in
-    let lawful = c.layout.ensures.lawful in
+    let lawful = c.shape.ensures.lawful in
     let room = lawful.capacity in
     walks_cell s c.args.row.now c.args.pass.now c.load_head-head.new.pass c.load_head-head.result c.requires.leads (omega (arith, room)) c.if-head-ne1.false c.load_head-head.ensures.made

@@ -13,7 +13,7 @@ begin-link-requires g c κs within =
     let s = c.args.log.now.shape in
     let leaf = c.args.leaf in
     let above = c.requires.above in
-    let some = some_levels s leaf.lane c.layout-lawful.ensures.lawful above.exists in
+    let some = some_levels s leaf.lane c.shape-lawful.ensures.lawful above.exists in
     (search rules, (search rules, (c.requires.of, ((above.within, c.requires.writer), may_walk s (g.P.Pass.held c.args.pass.now).view leaf.lane _ leaf.node (leaf.key % 16) c.args.writer above.knows (above_long s leaf.lane leaf.key (omega (arith, some.0))) (omega arith) c.requires.writer))))
 
 pub loop-link-init : goal.loop-link-init
@@ -24,7 +24,7 @@ loop-link-init g c =
     let m = g.P.Pass.held c.args.pass.now in
     let n = g.P.Pass.held c.begin-link.new.pass in
     let v = c.begin-link.result in
-    let some = some_levels s leaf.lane c.layout-lawful.ensures.lawful above.exists in
+    let some = some_levels s leaf.lane c.shape-lawful.ensures.lawful above.exists in
     let b : HasBegun s m n c.args.writer (leaf_of s leaf.lane leaf.key) v = begun s m n leaf.lane leaf.key leaf.node c.args.writer v (omega (arith, some.0)) c.requires.writer above c.begin-link.ensures.made in
     let same : below s c.args.writer (leaf_of s leaf.lane leaf.key) (m.view).seen v ≡ below s c.args.writer (leaf_of s leaf.lane leaf.key) (m.view).seen (length (m.view).seen) = ap (λ (xs : List (ℕ × Numbered)). map (λ x. x.0) xs) b.all in
     let long = ap (λ (xs : List ℕ). length xs) same in
@@ -45,7 +45,7 @@ load_cell-link-requires-clause-lawful g c =
     let seen = ((g.P.Pass.held c.args.pass.now).view).seen in
     let some = c.loop-link-test.true in
     let next : c.loop-link.link ≡ suc o = omega (arith, some) in
-    may_step s p seen c.args.writer o (leaf_of s leaf.lane leaf.key) c.layout-lawful.ensures.lawful c.requires.above.exists (some_cell s leaf.lane)
+    may_step s p seen c.args.writer o (leaf_of s leaf.lane leaf.key) c.shape-lawful.ensures.lawful c.requires.above.exists (some_cell s leaf.lane)
     (subst (λ (k : ℕ). IsWalking s seen c.args.writer (leaf_of s leaf.lane leaf.key) k p) next c.loop-link.invariant.walking)
 
 pub loop-link-smaller : goal.loop-link-smaller
@@ -57,7 +57,7 @@ loop-link-smaller g c =
     let m = g.P.Pass.held c.loop-link.pass in
     let n = g.P.Pass.held c.load_cell-link.new.pass in
     let some = c.loop-link-test.true in
-    let st = stepped_from s m n c.args.writer (leaf_of s leaf.lane leaf.key) (f.view).seen c.loop-link.link c.load_cell-link.result some c.layout-lawful.ensures.lawful c.requires.above.exists (some_cell s leaf.lane) (walked_seen f m v.walked) v.walking c.load_cell-link.ensures.made in
+    let st = stepped_from s m n c.args.writer (leaf_of s leaf.lane leaf.key) (f.view).seen c.loop-link.link c.load_cell-link.result some c.shape-lawful.ensures.lawful c.requires.above.exists (some_cell s leaf.lane) (walked_seen f m v.walked) v.walking c.load_cell-link.ensures.made in
     let falls = st.falls in
     omega (arith, some, falls)
 
@@ -75,7 +75,7 @@ loop-link-preserved g c =
     let link = c.loop-link.link in
     let next = c.load_cell-link.result % 4294967296 in
     let some = c.loop-link-test.true in
-    let st : HasStepped s m n w spot seen (link - 1) next = stepped_from s m n w spot seen link c.load_cell-link.result some c.layout-lawful.ensures.lawful c.requires.above.exists (some_cell s leaf.lane) (walked_seen f m v.walked) v.walking c.load_cell-link.ensures.made in
+    let st : HasStepped s m n w spot seen (link - 1) next = stepped_from s m n w spot seen link c.load_cell-link.result some c.shape-lawful.ensures.lawful c.requires.above.exists (some_cell s leaf.lane) (walked_seen f m v.walked) v.walking c.load_cell-link.ensures.made in
     let falls = st.falls in
     let more = c.load_cell-link.ensures.steps in
     let here = below_next s w spot seen link some in

@@ -16,8 +16,8 @@ returns-clause-found g c =
     let low = c.args.range.0 in
     let high = c.args.range.1 in
     let seen = ((g.P.Pass.held c.args.pass.now).view).seen in
-    let is = c.layout.ensures.lawful in
-    let most : c.greatest_key.result + 1 ≡ 16 ^ levels_of s l = c.greatest_key.ensures ∙ ap (λ (x : Shaped). 16 ^ levels_of x l) c.layout.ensures.shape in
+    let is = c.shape.ensures.lawful in
+    let most : c.greatest_key.result + 1 ≡ 16 ^ levels_of s l = c.greatest_key.ensures ∙ ap (λ (x : Shaped). 16 ^ levels_of x l) c.shape.ensures.shape in
     let often : AsOften (c.if-low-high.found).items (places (is_keyed_between s l low high) (rows_in seen)) =
     elim c.if-low-high.branch [
       | then-low-high+in_ok-collect_range x ↦

@@ -31,8 +31,8 @@ returns-clause-found g c =
     let v = c.loop-last.invariant in
     let high = c.greatest_key-high.result in
     let seen = ((g.P.Pass.held c.args.pass.now).view).seen in
-    let most : high + 1 ≡ 16 ^ levels_of s l = c.greatest_key-high.ensures ∙ ap (λ (x : Shaped). 16 ^ levels_of x l) c.layout.ensures.shape in
+    let most : high + 1 ≡ 16 ^ levels_of s l = c.greatest_key-high.ensures ∙ ap (λ (x : Shaped). 16 ^ levels_of x l) c.shape.ensures.shape in
     let test = c.loop-last-test.false in
     let upto = v.grouped.upto in
     let end' : c.loop-last.last ≡ high = omega (arith, test, upto) in
-    all_groups s l high seen (c.loop-last.groups).items c.layout.ensures.lawful c.requires.lane c.requires.fit most (subst (λ (k : ℕ). HasGrouped s l 0 high (rows_in seen) [] (c.loop-last.groups).items k) end' v.grouped)
+    all_groups s l high seen (c.loop-last.groups).items c.shape.ensures.lawful c.requires.lane c.requires.fit most (subst (λ (k : ℕ). HasGrouped s l 0 high (rows_in seen) [] (c.loop-last.groups).items k) end' v.grouped)

@@ -14,7 +14,7 @@ begin-link-requires g c κs within =
     let s = c.args.log.now.shape in
     let leaf = c.args.leaf in
     let above = c.requires.above in
-    let some = some_levels s leaf.lane c.layout-lawful.ensures.lawful above.exists in
+    let some = some_levels s leaf.lane c.shape-lawful.ensures.lawful above.exists in
     (search rules, (search rules, (c.requires.of, ((above.within, c.requires.writer), may_walk s (g.P.Pass.held c.args.pass.now).view leaf.lane _ leaf.node (leaf.key % 16) c.args.writer above.knows (above_long s leaf.lane leaf.key (omega (arith, some.0))) (omega arith) c.requires.writer))))
 
 pub loop-link-init : goal.loop-link-init
@@ -25,7 +25,7 @@ loop-link-init g c =
     let m = g.P.Pass.held c.args.pass.now in
     let n = g.P.Pass.held c.begin-link.new.pass in
     let v = c.begin-link.result in
-    let some = some_levels s leaf.lane c.layout-lawful.ensures.lawful above.exists in
+    let some = some_levels s leaf.lane c.shape-lawful.ensures.lawful above.exists in
     let b : HasBegun s m n c.args.writer (leaf_of s leaf.lane leaf.key) v = begun s m n leaf.lane leaf.key leaf.node c.args.writer v (omega (arith, some.0)) c.requires.writer above c.begin-link.ensures.made in
     let count = c.begin-link.ensures.steps in
     record {
@@ -44,7 +44,7 @@ load_cell-link-requires-clause-lawful g c =
     let seen = ((g.P.Pass.held c.args.pass.now).view).seen in
     let some = c.loop-link-test.true in
     let next : c.loop-link.link ≡ suc o = omega (arith, some) in
-    may_step s p seen c.args.writer o (leaf_of s leaf.lane leaf.key) c.layout-lawful.ensures.lawful c.requires.above.exists (some_cell s leaf.lane)
+    may_step s p seen c.args.writer o (leaf_of s leaf.lane leaf.key) c.shape-lawful.ensures.lawful c.requires.above.exists (some_cell s leaf.lane)
     (subst (λ (k : ℕ). IsWalking s seen c.args.writer (leaf_of s leaf.lane leaf.key) k p) next c.loop-link.invariant.walking)
 
 pub loop-link-smaller : goal.loop-link-smaller
@@ -57,7 +57,7 @@ loop-link-smaller g c =
     let n = g.P.Pass.held c.load_cell-link.new.pass in
     let test = c.loop-link-test.true in
     let some : 0 < c.loop-link.link = omega (arith, test) in
-    let st = stepped_from s m n c.args.writer (leaf_of s leaf.lane leaf.key) (f.view).seen c.loop-link.link c.load_cell-link.result some c.layout-lawful.ensures.lawful c.requires.above.exists (some_cell s leaf.lane) (walked_seen f m v.walked) v.walking c.load_cell-link.ensures.made in
+    let st = stepped_from s m n c.args.writer (leaf_of s leaf.lane leaf.key) (f.view).seen c.loop-link.link c.load_cell-link.result some c.shape-lawful.ensures.lawful c.requires.above.exists (some_cell s leaf.lane) (walked_seen f m v.walked) v.walking c.load_cell-link.ensures.made in
     let falls = st.falls in
     omega (arith, some, falls)
 
@@ -79,7 +79,7 @@ loop-link-preserved g c =
     let wide = c.from-covered.ensures in
     let some : 0 < link = omega (arith, test) in
     let past : length seen ≤ link - 1 = omega (arith, test, covered, wide) in
-    let st : HasStepped s m n w spot seen (link - 1) next = stepped_from s m n w spot seen link c.load_cell-link.result some c.layout-lawful.ensures.lawful c.requires.above.exists (some_cell s leaf.lane) (walked_seen f m v.walked) v.walking c.load_cell-link.ensures.made in
+    let st : HasStepped s m n w spot seen (link - 1) next = stepped_from s m n w spot seen link c.load_cell-link.result some c.shape-lawful.ensures.lawful c.requires.above.exists (some_cell s leaf.lane) (walked_seen f m v.walked) v.walking c.load_cell-link.ensures.made in
     let more = c.load_cell-link.ensures.steps in
     record {
       walked = walked_then f m n v.walked st.walked;

@@ -45,7 +45,7 @@ new-requires g c =
     let n = g.P.Pass.held c.load_cell-ends.new.pass in
     let one = walked_seen m a (cell_only s m a c.args.place c.args.leaf.lane 0 c.load_cell-first.result c.load_cell-first.ensures.made) in
     let two = walked_seen a b (cell_only s a b c.args.place c.args.leaf.lane 1 c.load_cell-sum.result c.load_cell-sum.ensures.made) ∙ one in
-    (read s m a b n c.args.leaf.lane c.args.leaf.key c.args._writer c.args.place c.load_cell-first.result c.load_cell-sum.result c.load_cell-ends.result c.layout-lawful.ensures.lawful c.requires.lane c.requires.measured c.requires.place c.requires.entry c.requires.fit one two
+    (read s m a b n c.args.leaf.lane c.args.leaf.key c.args._writer c.args.place c.load_cell-first.result c.load_cell-sum.result c.load_cell-ends.result c.shape-lawful.ensures.lawful c.requires.lane c.requires.measured c.requires.place c.requires.entry c.requires.fit one two
     c.load_cell-first.ensures.made c.load_cell-sum.ensures.made c.load_cell-ends.ensures.made).lawful
 
 pub returns-clause-quad : goal.returns-clause-quad
@@ -57,7 +57,7 @@ returns-clause-quad g c =
     let n = g.P.Pass.held c.load_cell-ends.new.pass in
     let one = walked_seen m a (cell_only s m a c.args.place c.args.leaf.lane 0 c.load_cell-first.result c.load_cell-first.ensures.made) in
     let two = walked_seen a b (cell_only s a b c.args.place c.args.leaf.lane 1 c.load_cell-sum.result c.load_cell-sum.ensures.made) ∙ one in
-    c.new.ensures ∙ (read s m a b n c.args.leaf.lane c.args.leaf.key c.args._writer c.args.place c.load_cell-first.result c.load_cell-sum.result c.load_cell-ends.result c.layout-lawful.ensures.lawful c.requires.lane c.requires.measured c.requires.place c.requires.entry c.requires.fit one two
+    c.new.ensures ∙ (read s m a b n c.args.leaf.lane c.args.leaf.key c.args._writer c.args.place c.load_cell-first.result c.load_cell-sum.result c.load_cell-ends.result c.shape-lawful.ensures.lawful c.requires.lane c.requires.measured c.requires.place c.requires.entry c.requires.fit one two
     c.load_cell-first.ensures.made c.load_cell-sum.ensures.made c.load_cell-ends.ensures.made).quad
 
 pub returns-clause-met : goal.returns-clause-met

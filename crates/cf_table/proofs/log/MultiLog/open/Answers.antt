@@ -1,17 +1,32 @@
-use Rattle.std.proofs.Common.{◌≡◌, ◌∙◌, sym, subst, Result, Ok, Err, IfOk}
-use Rattle.cf_shape.specs.Lanes.{Shaped, unmeasured_shape}
-use Rattle.cf_shape.specs.Uses.{AreUnmeasured}
-use Rattle.cf_shape.proofs.Plainly.{plain_unmeasured}
-use Rattle.cf_table.specs.Held.{Held, LogValue, AreLaid}
-use Rattle.cf_table.proofs.Laid.{laid_unmeasured}
+use Rattle.std.proofs.Common.{◌≡◌, ◌∙◌, List, ℕ, [], ◌∷◌, ap, map, sym, subst, replicate, arith}
+use Rattle.cf_shape.specs.Places.{word_total, sizes_of}
+use Rattle.cf_law.specs.Lawful.{Lawful}
+use Rattle.cf_law.specs.Shapes.{layout}
+use Rattle.cf_law.proofs.Runs.{opening_lawful}
+use Rattle.cf_law.specs.Passes.{Book}
+use Rattle.cf_law.specs.Events.{table, no_book}
+use Rattle.cf_table.specs.Rule.{root_pass, Seated}
+use Rattle.cf_table.specs.Moves.{note_of, AreNoted, IsSettled}
+use Rattle.cf_table.proofs.Homing.{opened}
+use Rattle.cf_table.proofs.Notes.{first_noted}
 use Rattle.cf_table.proofs.log.MultiLog.open.Goals as goal
 
-laid_plain : {E : Type 0} (r : Result (LogValue × Held) E) (shape whole : Shaped) → shape ≡ unmeasured_shape whole → IfOk r (λ x. x.0.shape ≡ shape) → IfOk r (λ x. AreUnmeasured x.0.shape)
-laid_plain (Ok x) shape whole is laid = subst AreUnmeasured (sym (laid ∙ is)) (plain_unmeasured whole)
-laid_plain (Err e) shape whole is laid = laid
+pub of_words-requires : goal.of_words-requires
+of_words-requires c =
+    let s = c.args.shape in
+    let items : c.as_slice.result.now ≡ replicate (word_total (sizes_of s)) 0 = c.as_slice.ensures.value ∙ (c.in_ok-words.ensures.items_if_clones_equal (λ y h. h) ∙ ap (λ (n : ℕ). replicate n 0) c.word_total.ensures.total) in
+    subst (λ (ws : List ℕ). Lawful (layout s) ws (root_pass s ∷ [])) (sym items) (opening_lawful (layout s))
 
-pub returns-clause-unmeasured : goal.returns-clause-unmeasured
-returns-clause-unmeasured c = laid_plain c.laid_out.result c.in_ok-layout.layout c.args.shape c.in_ok-layout.ensures c.laid_out.ensures.log
+pub invariant_of-result : goal.invariant_of-result
+invariant_of-result c =
+    let s = c.args.shape in
+    let e = c.in_ok-notes.ensures in
+    let lawful = c.lanes-lawful.ensures.lawful in
+    let n = c.nodes-nodes.ensures.nodes in
+    let few = lawful.writers in
+    let low = lawful.nodes in
+    let noted = first_noted c.in_ok-notes.notes.items s.writers c.nodes-nodes.result (e.notes ∙ ap (λ (k : ℕ). map note_of (table no_book k)) c.writers.ensures.writers) few.1 (omega (arith, n, low)) in
+    (subst (λ (bs : List Book). AreNoted c.in_ok-notes.notes.items bs c.nodes-nodes.result) (sym (ap (λ (m : Seated). (m.0).books) c.in_ok-table.ensures.4)) noted, e.room)
 
-pub laid_out-requires-clause-laid : goal.laid_out-requires-clause-laid
-laid_out-requires-clause-laid c = subst (λ (s : Shaped). AreLaid s c.args.shape) (sym c.in_ok-layout.ensures) (laid_unmeasured c.args.shape)
+pub returns-clause-home : goal.returns-clause-home
+returns-clause-home c = subst (λ (m : Seated). IsSettled c.args.shape m.0) (sym c.in_ok-table.ensures.4) (opened c.args.shape)
