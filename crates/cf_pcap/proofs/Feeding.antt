@@ -1,5 +1,5 @@
 -- What a call that takes one more piece gives and answers.
-use Rattle.std.proofs.Common.{◌≡◌, inl, inr, ℕ, ◌<◌, ◌≤◌, ◌+◌, ◌-◌, ◌^◌, min, List, [], ◌++◌, length, take, drop, Err, Result, MatchResult, refl, sym, ap, subst, ◌∙◌, arith, append-nil, length-append, length-take}
+use Rattle.std.proofs.Common.{◌≡◌, inl, inr, ℕ, ◌<◌, ◌≤◌, ◌+◌, ◌-◌, ◌*◌, ◌^◌, min, List, [], ◌++◌, length, take, drop, Err, Result, MatchResult, refl, sym, ap, subst, ◌∙◌, arith, append-nil, length-append, length-take, length-drop}
 use Rattle.std.proofs.lemmas.Bool.{cases_lt}
 use Rattle.std.proofs.lemmas.Bool.Decides.{nat_tests}
 use Rattle.std.proofs.lemmas.List.{take_all}
@@ -11,7 +11,7 @@ use Rattle.cf_pcap.specs.declared.stage.Stage.TheVariants.{Heading, Reading, Sto
 use Rattle.cf_pcap.specs.Capture.{Captured, HasRecord, caplen_at, AreRecordsThen, IsReadTo, HasLongFrame, Shows, seen}
 use Rattle.cf_pcap.specs.Stream.{IsFound, AreGiven, Reader, IsHeading, IsReading, IsStateOf, IsFed}
 use Rattle.cf_pcap.specs.Reading.{HasHeaderFault, IsHeaderStage, IsRecordStage, AreRead, IsBegun, IsGoneOn, late_of, stage_at, answer_of, kept_by}
-use Rattle.cf_pcap.proofs.Following.{then_more}
+use Rattle.cf_pcap.proofs.Following.{then_more, sizes, few_ended}
 use Rattle.cf_pcap.proofs.Heading.{no_header, shown_by_header}
 use Rattle.cf_pcap.proofs.Seen.{seen_short, seen_cut, length_seen}
 use Rattle.cf_pcap.proofs.Verdict.{read_first, none_read, none_begun, found_first}
@@ -169,13 +169,18 @@ abbrev pub FedAfter : List ℕ → ℕ → ℕ → List ℕ → List Captured �
 FedAfter stream total count piece given held stage =
     IsFed stream piece given (answer_of (stage_at stage (total + length (take (2 ^ 32 - total) piece)))) (reader_after total count piece given held stage)
 
-fed_by : (stream piece : List ℕ) (before given : List Captured) (held : List ℕ) (stage : Stage) (total count : ℕ) → AreGiven stream before → Settled (stream ++ piece) (before ++ given) stage (total + length (take (2 ^ 32 - total) piece)) (count + length given) held → FedAfter stream total count piece given held stage
-fed_by stream piece before given held stage total count given_before now =
-    record { before = before; given_before = given_before; given_now = now.given; answer_is = now.outcome.1; state = now.outcome.0 }
+fed_by : (stream piece : List ℕ) (before given : List Captured) (held : List ℕ) (stage : Stage) (total count : ℕ) → AreGiven stream before → 16 * length given ≤ length piece + 15
+    → Settled (stream ++ piece) (before ++ given) stage (total + length (take (2 ^ 32 - total) piece)) (count + length given) held → FedAfter stream total count piece given held stage
+fed_by stream piece before given held stage total count given_before few now =
+    record { before = before; given_before = given_before; given_now = now.given; few = few; answer_is = now.outcome.1; state = now.outcome.0 }
 
 -- how many bytes were taken then
 total_taken : (stream piece : List ℕ) (total : ℕ) → total ≡ length stream → total + length (take (2 ^ 32 - total) piece) ≡ length (stream ++ take (2 ^ 32 - length stream) piece)
 total_taken stream piece total is = rw is (sym (length-append stream (take (2 ^ 32 - length stream) piece)))
+
+-- no more of a piece is taken than there is
+taken_len : (most : ℕ) (piece : List ℕ) → length (take most piece) ≤ length piece
+taken_len most piece = let len : length (take most piece) ≡ min most (length piece) = length-take most piece in omega (arith, len)
 
 pub fed_reading : (form : Form) (stream piece held rest : List ℕ) (given : List Captured) (stage : Stage) (total count : ℕ) → IsReading form (record { stage = Reading form; total = total; count = count; held = held }) stream → AreRead form count (late_of (total + length (take (2 ^ 32 - total) piece))) (held ++ take (2 ^ 32 - total) piece) given rest stage → FedAfter stream total count piece given rest stage
 fed_reading form stream piece held rest given stage total count state go =
@@ -197,7 +202,9 @@ fed_reading form stream piece held rest given stage total count state go =
       early = λ large. absurd (let len : length (seen stream) ≡ min (2 ^ 32) (length stream) = length_seen stream in omega (arith, size, large, len));
       last = λ h. absurd (state.part h);
     }) in
-    fed_by stream piece before given rest stage total count given_before (settled form stream piece rest (before ++ given) stage (total + length (take (2 ^ 32 - total) piece)) (count + length given) taken (total_taken stream piece total state.total_is ∙ sym (ap length taken.now_is)) (omega (arith, count_is, many)) all go.early go.last go.stage_is)
+    let few : 16 * length given ≤ length more + 15 = few_ended form count given held more rest go.records state.part in
+    let most : length more ≤ length piece = taken_len (2 ^ 32 - total) piece in
+    fed_by stream piece before given rest stage total count given_before (omega (arith, few, most)) (settled form stream piece rest (before ++ given) stage (total + length (take (2 ^ 32 - total) piece)) (count + length given) taken (total_taken stream piece total state.total_is ∙ sym (ap length taken.now_is)) (omega (arith, count_is, many)) all go.early go.last go.stage_is)
 
 -- where the file header has only begun, or has a fault
 begun_outcome : (stream bytes : List ℕ) (stage : Stage) (total count : ℕ) → (length bytes < 24 → bytes ≡ stream) → seen stream ≡ bytes → total ≡ length bytes → count ≡ 0 → IsHeaderStage bytes stage → ((form : Form) → stage ≡ Reading form → ⊥) → Settled stream [] stage total count bytes
@@ -218,6 +225,16 @@ begun_outcome stream bytes (Stopped fault) total count same seen_is total_is cou
       outcome = stopped_outcome fault total count bytes stream (found_shown stream fault (shown_by_header (seen stream) fault h));
     }
 
+-- the first bytes of a stream end no more frames than there is room for after the file header
+few_begun : (late : ℕ) (bytes : List ℕ) (given : List Captured) (rest : List ℕ) (stage : Stage) (room : ℕ) → IsBegun late bytes given rest stage → length bytes ≤ room + 24 → 16 * length given ≤ room + 15
+few_begun late bytes given rest stage room begun fits = elim begun [
+  | inl it ↦
+      let most : 16 * length given + length rest ≤ length (drop 24 bytes) = sizes it.0 0 given (drop 24 bytes) rest it.2.records in
+      let len : length (drop 24 bytes) ≡ length bytes - 24 = length-drop 24 bytes in
+      omega (arith, most, len, fits)
+  | inr it ↦ let nothing : length given ≡ 0 = ap length it.0 in omega (arith, nothing)
+]
+
 pub fed_heading : (stream piece held rest : List ℕ) (given : List Captured) (stage : Stage) (total count : ℕ) → IsHeading (record { stage = Heading; total = total; count = count; held = held }) stream → IsBegun (late_of (total + length (take (2 ^ 32 - total) piece))) (held ++ take (2 ^ 32 - total) piece) given rest stage → FedAfter stream total count piece given rest stage
 fed_heading stream piece held rest given stage total count state go =
     let size : length stream < 24 = state.size in
@@ -226,7 +243,11 @@ fed_heading stream piece held rest given stage total count state go =
     let total_is : total + length (take (2 ^ 32 - total) piece) ≡ length taken.now = total_taken stream piece total state.total_is ∙ sym (ap length taken.now_is) in
     let none : count ≡ 0 = state.count_is in
     let begun : IsBegun (late_of (total + length (take (2 ^ 32 - total) piece))) taken.now given rest stage = subst (λ (xs : List ℕ). IsBegun (late_of (total + length (take (2 ^ 32 - total) piece))) xs given rest stage) now go in
-    fed_by stream piece [] given rest stage total count (none_given stream size) (elim begun [
+    let len : length (held ++ take (2 ^ 32 - total) piece) ≡ length held + length (take (2 ^ 32 - total) piece) = length-append held (take (2 ^ 32 - total) piece) in
+    let held_len : length held ≡ length stream = ap length state.held_is in
+    let most : length (take (2 ^ 32 - total) piece) ≤ length piece = taken_len (2 ^ 32 - total) piece in
+    let few : 16 * length given ≤ length piece + 15 = few_begun (late_of (total + length (take (2 ^ 32 - total) piece))) (held ++ take (2 ^ 32 - total) piece) given rest stage (length piece) go (omega (arith, len, held_len, most, size)) in
+    fed_by stream piece [] given rest stage total count (none_given stream size) few (elim begun [
       | inl it ↦
           let many : 0 + length given ≡ count + length given = omega (arith, none) in
           settled it.0 stream piece rest given stage (total + length (take (2 ^ 32 - total) piece)) (count + length given) taken total_is (omega (arith, none)) (record { header = it.1; records = it.2.records }) it.2.early it.2.last (subst (λ (n : ℕ). IsRecordStage it.0 n rest stage) many it.2.stage_is)
@@ -251,6 +272,7 @@ fed_stopped fault stream piece held total count found =
       before = gives.0;
       given_before = gives.1;
       given_now = subst (AreGiven (stream ++ piece)) (sym (append-nil gives.0)) gives.2;
+      few = omega arith;
       answer_is = later;
       state = later;
     }
@@ -260,7 +282,7 @@ fed_kept : (stream piece rest : List ℕ) (given : List Captured) (answer : Resu
 fed_kept stream piece rest given answer Heading total count fed = fed
 fed_kept stream piece rest given answer (Reading form) total count fed = fed
 fed_kept stream piece rest given answer (Stopped fault) total count fed =
-    record { before = fed.before; given_before = fed.given_before; given_now = fed.given_now; answer_is = fed.answer_is; state = fed.state }
+    record { before = fed.before; given_before = fed.given_before; given_now = fed.given_now; few = fed.few; answer_is = fed.answer_is; state = fed.state }
 
 -- the same, with a name for each part of a call
 pub fed_call : (self : Reader) (piece taken bytes rest kept : List ℕ) (given : List Captured) (stage now : Stage) (late many : ℕ) (answer : Result (Unit {0}) PcapFault) → taken ≡ take (2 ^ 32 - self.total) piece → bytes ≡ self.held ++ taken → late ≡ late_of (self.total + length taken) → IsGoneOn self.stage self.count late bytes given rest stage → many ≡ length given → now ≡ stage_at stage (self.total + length taken) → answer ≡ answer_of now → kept ≡ kept_by now rest → (stream : List ℕ) → IsStateOf self stream → IsFed stream piece given answer (record { stage = now; total = self.total + length taken; count = self.count + many; held = kept })

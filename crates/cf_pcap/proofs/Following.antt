@@ -154,3 +154,20 @@ reach_in (suc n) form k late bytes small early = elim (record_there form late by
 
 pub reach : (form : Form) (k late : ℕ) (bytes : List ℕ) → late ≤ length bytes → Reach form k late bytes
 reach form k late bytes early = reach_in (length bytes) form k late bytes (omega arith) early
+
+-- after the begin of a record, so many more bytes end no more records than this: each has 16 bytes at least, and the first its last byte there
+pub few_ended : (form : Form) (k : ℕ) (frames : List Captured) (held more rest : List ℕ) → AreRecordsThen form k frames (held ++ more) rest → (HasRecord form held → ⊥) → 16 * length frames ≤ length more + 15
+few_ended form k [] held more rest h part = omega arith
+few_ended form k (frame ∷ frames) held more rest h part =
+    let bytes : List ℕ = held ++ more in
+    let short : caplen_at form bytes ≤ 262144 = h.0.short in
+    let whole : 16 + caplen_at form bytes ≤ length bytes = h.0.whole in
+    let last : 16 * length frames + length rest ≤ length (drop (16 + caplen_at form bytes) bytes) = sizes form (k + 1) frames (drop (16 + caplen_at form bytes) bytes) rest h.2 in
+    let left : length (drop (16 + caplen_at form bytes) bytes) ≡ length bytes - (16 + caplen_at form bytes) = length-drop (16 + caplen_at form bytes) bytes in
+    let both : length bytes ≡ length held + length more = length-append held more in
+    elim (cases_lt (length held) (16 + caplen_at form bytes)) [
+      | inl begun ↦ omega (arith, last, left, both, whole, begun)
+      | inr full ↦
+          let same : caplen_at form bytes ≡ caplen_at form held = caplen_first form held more (omega (arith, full)) in
+          absurd (part (record { short = rw (sym same) short; whole = rw (sym same) full }))
+    ]

@@ -65,11 +65,13 @@ IsAt (Stopped fault) reader stream = IsFound stream fault
 abbrev pub IsStateOf : Reader → List ℕ → Type 0
 IsStateOf reader stream = IsAt reader.stage reader stream
 
--- what a call that takes one more piece gives and answers
+-- what a call that takes one more piece gives and answers. Each frame needs the last byte of its record in this piece, and
+-- only the first of the records can have begun before it, so there are no more frames than the piece has room for.
 pub record IsFed (stream piece : List ℕ) (given : List Captured) (answer : Result (Unit {0}) PcapFault) (reader : Reader) : Type 0 where
   pub before : List Captured
   pub given_before : AreGiven stream before
   pub given_now : AreGiven (stream ++ piece) (before ++ given)
+  pub few : 16 * length given ≤ length piece + 15
   pub answer_is : MatchResult answer (λ _. (fault : PcapFault) → IsFound (stream ++ piece) fault → ⊥) (IsFound (stream ++ piece))
   pub state : IsStateOf reader (stream ++ piece)
 

@@ -3,23 +3,31 @@ ghost use Rattle.std.specs.Prelude.{◌≡◌};
 ghost use Rattle.cf_pcap.specs.declared.fault.PcapFault.TheVariants.{Memory};
 
 use std::alloc::{AllocError, AllocFailed};
+use thiserror::Error;
 
 /// Why a stream is no capture. The number is that of the whole records before the fault.
-#[derive(Clone, Copy, Debug, PartialEq, Eq)]
+#[derive(Clone, Copy, Debug, PartialEq, Eq, Error)]
 pub enum PcapFault {
     /// The first four bytes are no magic.
+    #[error("the first four bytes are no magic of a capture")]
     BadMagic,
     /// The version isn't 2.4.
+    #[error("the version isn't 2.4")]
     BadVersion,
     /// The link is neither Ethernet (LINKTYPE_ETHERNET, 1) nor cooked frames of Linux (LINKTYPE_LINUX_SLL, 113).
+    #[error("the link is neither Ethernet nor cooked frames of Linux")]
     BadLink,
     /// A record's captured length is above 262,144 bytes.
+    #[error("the captured length of record {0} is above 262144 bytes")]
     FrameTooLong(u32),
     /// The stream ends inside the file header or a record.
+    #[error("the stream ends inside the file header or a record, after {0} whole records")]
     Cut(u32),
     /// The stream has 2^32 bytes or more.
+    #[error("the stream has 2^32 bytes or more")]
     TooManyBytes,
     /// Want of memory, which is no fault of the stream.
+    #[error("out of memory")]
     Memory,
 }
 
