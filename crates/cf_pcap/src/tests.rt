@@ -140,13 +140,8 @@ fn each_field_that_counts_is_looked_at(rt: HostRuntime) -> Result<(), Fail> {
         ([(4, 1), (5, 0)], Some((8, PcapFault::BadVersion))),
         ([(4, 2), (6, 3)], Some((8, PcapFault::BadVersion))),
         ([(4, 0), (5, 2)], Some((8, PcapFault::BadVersion))),
-        ([(20, 113), (21, 0)], None),
         ([(20, 113), (21, 1)], Some((24, PcapFault::BadLink))),
-        ([(20, 112), (21, 0)], Some((24, PcapFault::BadLink))),
-        ([(20, 0), (21, 0)], Some((24, PcapFault::BadLink))),
-        ([(20, 147), (21, 0)], Some((24, PcapFault::BadLink))),
         ([(20, 1), (21, 1)], Some((24, PcapFault::BadLink))),
-        ([(22, 1), (23, 0x80)], None),
         ([(8, 1), (11, 0xff)], None),
         ([(12, 1), (15, 0xff)], None),
         ([(16, 1), (19, 0xff)], None),
@@ -178,17 +173,40 @@ fn each_field_that_counts_is_looked_at(rt: HostRuntime) -> Result<(), Fail> {
     Ok(())
 }
 
+/// The frames in both byte orders, with these low and high 16 bits of the link.
+fn of_link(link: u16, high: u16) -> [[u8; 59]; 2] {
+    let ([low, next], [third, last]) = (link.to_le_bytes(), high.to_le_bytes());
+    [
+        with(little(), &[(20, low), (21, next), (22, third), (23, last)]),
+        with(big(), &[(23, low), (22, next), (21, third), (20, last)]),
+    ]
+}
+
 #[test]
-fn each_frame_has_the_link_of_its_file(rt: HostRuntime) -> Result<(), Fail> {
-    for link in [1, 113] {
-        let stream = with(little(), &[(20, link), (22, 9)]);
-        for size in [1, 59] {
+fn a_capture_is_of_link_1_or_113_by_its_low_bits(rt: HostRuntime) -> Result<(), Fail> {
+    // The low and the high 16 bits of the link, and whether it is read.
+    let cases = [
+        (1, 0, true),
+        (113, 0, true),
+        (1, 0xf000, true),
+        (113, 9, true),
+        (0, 1, false),
+        (0, 113, false),
+        (147, 0, false),
+        (276, 0, false),
+        (276, 0x8000, false),
+    ];
+    for (link, high, lawful) in cases {
+        for stream in of_link(link, high) {
             let mut out: Vec<Frame> = Vec::new(rt.alloc());
-            let told = feed_all(rt.alloc(), &stream, size, &mut out)?;
-            assert_eq!(rt; (told.end, out.len()), (Ok(2), 2));
-            for frame in out.iter() {
-                assert_eq!(rt; frame.link, link as u16);
+            let told = feed_all(rt.alloc(), &stream, 1, &mut out)?;
+            if lawful {
+                assert_eq!(rt; (told.found, told.end), (None, Ok(2)), "link {link}");
+            } else {
+                let end = Err(PcapFault::BadLink);
+                assert_eq!(rt; (told.found, told.end), (Some(24), end), "link {link}");
             }
+            assert!(rt; out.iter().all(|frame| frame.link == link), "link {link}");
         }
     }
     Ok(())
