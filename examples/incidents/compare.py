@@ -1,0 +1,56 @@
+#!/usr/bin/env python3
+"""Compares the reports of the incidents with those that lie beside them.
+
+    examples/incidents/compare.py PROGRAM
+
+Makes each capture anew and compares its bytes with the stored file, sees that docs/INCIDENTS.md shows the stored report, and
+runs `PROGRAM run` over each setup, with one, four and fifteen writers. The part of the report up to the last `alert` has to be
+the stored one; what follows depends on threads. Ends with 1 where something differs.
+"""
+
+import pathlib
+import subprocess
+import sys
+
+sys.dont_write_bytecode = True
+
+import make_captures
+
+HERE = pathlib.Path(__file__).resolve().parent
+PAGE = HERE.parent.parent / "docs" / "INCIDENTS.md"
+CAPTURE_OF = {name: name for name in make_captures.CAPTURES} | {"port_scan_stranger": "port_scan"}
+
+
+def final_part(report):
+    """The lines up to the last `ask` or `alert`."""
+    return "".join(it for it in report.splitlines(True) if not it.startswith(("live ", "new ", "order")))
+
+
+def report_of(program, name, writers):
+    """What the program prints, or what it says of a refusal."""
+    words = [program, "run", "--setup", str(HERE / f"{name}.setup"), "--writers", str(writers), str(HERE / f"{CAPTURE_OF[name]}.pcap")]
+    ran = subprocess.run(words, stdout=subprocess.PIPE, text=True)
+    return ran.stdout if ran.returncode == 0 else f"status {ran.returncode}: {ran.stdout}"
+
+
+def shown(text):
+    """The text as the page shows it, four spaces before each line."""
+    return "".join(f"    {line}" for line in text.splitlines(True))
+
+
+def main():
+    if len(sys.argv) != 2:
+        sys.exit(__doc__)
+    wrong = [f"{name}.pcap" for name, made in make_captures.CAPTURES.items() if (HERE / f"{name}.pcap").read_bytes() != made()]
+    for name in CAPTURE_OF:
+        wanted = (HERE / f"{name}.report").read_text()
+        wrong += [] if shown(wanted) in PAGE.read_text() else [f"{name} in docs/INCIDENTS.md"]
+        wrong += [f"{name} by {writers} writers" for writers in (1, 4, 15) if final_part(report_of(sys.argv[1], name, writers)) != wanted]
+    for it in wrong:
+        print(f"differs: {it}")
+    print(f"{len(CAPTURE_OF)} incidents, {len(wrong)} differences")
+    sys.exit(1 if wrong else 0)
+
+
+if __name__ == "__main__":
+    main()

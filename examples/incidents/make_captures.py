@@ -1,0 +1,183 @@
+#!/usr/bin/env python3
+"""Writes the captures of the incidents: classic pcap files, the same bytes at each run.
+
+    examples/incidents/make_captures.py [FOLDER]
+
+FOLDER is where the files go; the folder of this script where it is not said. All addresses are of the ranges that are set
+aside for documentation (RFC 5737), and the addresses of the link are locally administered. Of each frame the first 96 bytes
+are kept, as `tcpdump -s 96` does; payloads are zeros.
+"""
+
+import pathlib
+import struct
+import sys
+
+KEPT = 96
+FIN, SYN, RST, PSH, ACK = 1, 2, 4, 8, 16
+
+
+def number_of(address):
+    """An IPv4 address as four bytes."""
+    return bytes(int(part) for part in address.split("."))
+
+
+def checksum(data):
+    """The Internet checksum (RFC 1071)."""
+    if len(data) % 2:
+        data += b"\0"
+    total = sum(struct.unpack(f">{len(data) // 2}H", data))
+    while total >> 16:
+        total = (total & 0xFFFF) + (total >> 16)
+    return ~total & 0xFFFF
+
+
+class Capture:
+    """Frames with their times in microseconds from a start in seconds, sorted by time when they are written."""
+
+    def __init__(self, start):
+        self.start = start
+        self.frames = []
+
+    def packet(self, at, sender, receiver, protocol, header, data, sum_at, tag=None):
+        """An IPv4 packet in an Ethernet frame, `at` microseconds after the start. `sum_at` is where its header has its checksum."""
+        pseudo = number_of(sender) + number_of(receiver) + struct.pack(">BBH", 0, protocol, len(header) + len(data))
+        header = header[:sum_at] + struct.pack(">H", checksum(pseudo + header + data)) + header[sum_at + 2 :]
+        ip = struct.pack(">BBHHHBBH", 0x45, 0, 20 + len(header) + len(data), 0, 0x4000, 64, protocol, 0) + number_of(sender) + number_of(receiver)
+        ip = ip[:10] + struct.pack(">H", checksum(ip)) + ip[12:]
+        # who is no neighbour comes by the router
+        macs = [b"\x02\0\0\0\0" + number_of(it)[3:] if it.startswith("192.0.2.") else b"\x02\0\0\0\0\xfe" for it in (receiver, sender)]
+        vlan = b"" if tag is None else struct.pack(">HH", 0x8100, tag)
+        self.frames.append((at, macs[0] + macs[1] + vlan + b"\x08\x00" + ip + header + data))
+
+    def segment(self, at, sender, sport, receiver, dport, flags, length=0, seq=0, ack=0, window=64240, tag=None):
+        """A TCP segment with a payload of `length` bytes."""
+        header = struct.pack(">HHIIBBHHH", sport, dport, seq, ack, 0x50, flags, window, 0, 0)
+        self.packet(at, sender, receiver, 6, header, bytes(length), 16, tag)
+
+    def datagram(self, at, sender, sport, receiver, dport, data, tag=None):
+        """A UDP datagram."""
+        self.packet(at, sender, receiver, 17, struct.pack(">HHHH", sport, dport, 8 + len(data), 0), data, 6, tag)
+
+    def visit(self, at, client, port, server, service, answer):
+        """A client opens a connection, asks, is answered with `answer` bytes, and both close it."""
+        there = (client, port, server, service)
+        back = (server, service, client, port)
+        self.segment(at, *there, SYN, seq=1000)
+        self.segment(at + 300, *back, SYN | ACK, seq=5000, ack=1001)
+        self.segment(at + 900, *there, ACK, seq=1001, ack=5001)
+        self.segment(at + 1000, *there, PSH | ACK, 310, seq=1001, ack=5001)
+        self.segment(at + 4000, *back, PSH | ACK, answer, seq=5001, ack=1311)
+        self.segment(at + 4600, *there, FIN | ACK, seq=1311, ack=5001 + answer)
+        self.segment(at + 4900, *back, FIN | ACK, seq=5001 + answer, ack=1312)
+        self.segment(at + 5500, *there, ACK, seq=1312, ack=5002 + answer)
+
+    def bytes(self):
+        """The file."""
+        out = struct.pack("<IHHIIII", 0xA1B2C3D4, 2, 4, 0, 0, KEPT, 1)
+        for at, frame in sorted(self.frames, key=lambda it: it[0]):
+            kept = frame[:KEPT]
+            out += struct.pack("<IIII", self.start + at // 10**6, at % 10**6, len(kept), len(frame)) + kept
+        return out
+
+
+def syn_flood():
+    """Twenty seconds at a web server. From second 12 to 15 it is flooded with openings from made-up addresses."""
+    server = "192.0.2.80"
+    capture = Capture(1700053200)
+    for k in range(8):
+        capture.visit(k * 2_400_000 + 130_000, f"192.0.2.{20 + k}", 50000 + k, server, 443, 700 + 90 * k)
+    for k in range(160):
+        at = 12_000_000 + k * 25_000
+        sender = f"198.51.100.{1 + k * 37 % 250}" if k % 2 else f"203.0.113.{1 + k * 53 % 250}"
+        capture.segment(at, sender, 1024 + k * 97 % 60000, server, 443, SYN, seq=k * 7919)
+        if k < 64:
+            capture.segment(at + 200, server, 443, sender, 1024 + k * 97 % 60000, SYN | ACK, seq=9000 + k, ack=k * 7919 + 1)
+    # a customer who gets no answer, and tries again
+    for at in (14_010_000, 15_010_000, 17_010_000):
+        capture.segment(at, "192.0.2.40", 51000, server, 443, SYN, seq=77)
+    capture.segment(17_010_300, server, 443, "192.0.2.40", 51000, SYN | ACK, seq=6000, ack=78)
+    capture.segment(17_010_900, "192.0.2.40", 51000, server, 443, ACK, seq=78, ack=6001)
+    return capture.bytes()
+
+
+def port_scan():
+    """Twelve seconds at a server with ssh and a web site. A stranger tries its ports one after the other."""
+    server, stranger = "192.0.2.10", "203.0.113.77"
+    capture = Capture(1700139600)
+    for k in range(5):
+        capture.visit(k * 2_200_000 + 410_000, f"192.0.2.{30 + k}", 52000 + k, server, 80, 1200)
+    # someone who has the wrong port once
+    capture.segment(1_700_000, "192.0.2.33", 53000, server, 8080, SYN, seq=5)
+    capture.segment(1_700_200, server, 8080, "192.0.2.33", 53000, RST | ACK, ack=6)
+    for k, port in enumerate(range(15, 85)):
+        at = 3_000_000 + k * 90_000
+        capture.segment(at, stranger, 40000 + k, server, port, SYN, seq=k, window=1024)
+        if port in (22, 80):
+            capture.segment(at + 150, server, port, stranger, 40000 + k, SYN | ACK, seq=8000 + k, ack=k + 1)
+            capture.segment(at + 40_000, stranger, 40000 + k, server, port, RST, seq=k + 1, window=0)
+        else:
+            capture.segment(at + 150, server, port, stranger, 40000 + k, RST | ACK, ack=k + 1, window=0)
+    return capture.bytes()
+
+
+def name_of(text):
+    """A name as DNS writes it (RFC 1035)."""
+    return b"".join(bytes([len(it)]) + it.encode() for it in text.split(".")) + b"\0"
+
+
+def resolver():
+    """Twelve seconds at a resolver, which fails from second 5 to 8: it answers with the question alone, and late."""
+    server = "192.0.2.53"
+    capture = Capture(1700226000)
+    for k in range(60):
+        at, client, port = k * 200_000 + 20_000, f"192.0.2.{20 + k % 7}", 30000 + k * 31
+        question = name_of(f"host{k % 9}.example.com") + struct.pack(">HH", 1, 1)
+        capture.datagram(at, client, port, server, 53, struct.pack(">HHHHHH", k, 0x0100, 1, 0, 0, 0) + question)
+        if 5_000_000 <= at < 9_000_000:
+            # SERVFAIL
+            capture.datagram(at + 1_900_000, server, 53, client, port, struct.pack(">HHHHHH", k, 0x8182, 1, 0, 0, 0) + question)
+        else:
+            answer = struct.pack(">HHHIH", 0xC00C, 1, 1, 300, 4) + number_of(f"192.0.2.{100 + k % 9}")
+            capture.datagram(at + 1_200, server, 53, client, port, struct.pack(">HHHHHH", k, 0x8180, 1, 1, 0, 0) + question + answer)
+    return capture.bytes()
+
+
+def microburst():
+    """Two seconds on a link of 100 Mbit/s, which looks idle by the second. In one millisecond two hosts send at once."""
+    capture = Capture(1700312400)
+    for k in range(100):
+        capture.segment(k * 20_000 + 500, "192.0.2.15", 55000, "192.0.2.90", 9000, PSH | ACK, 400, seq=1 + 400 * k, ack=1)
+    for k in range(12):
+        for sender, port in (("192.0.2.16", 55001), ("192.0.2.17", 55002)):
+            capture.segment(1_234_050 + k * 70, sender, port, "192.0.2.90", 9000, ACK, 1460, seq=1 + 1460 * k, ack=1)
+    return capture.bytes()
+
+
+def stray_vlan():
+    """Four seconds on a trunk that is to carry the VLANs 10 and 20. Somebody sends into VLAN 99."""
+    capture = Capture(1700398800)
+    for k in range(40):
+        tag = 10 if k % 2 else 20
+        capture.segment(k * 100_000, f"192.0.2.{40 + k % 4}", 56000 + k % 4, "192.0.2.200", 443, PSH | ACK, 120 + k, seq=1, ack=1, tag=tag)
+    for k in range(3):
+        capture.datagram(1_250_000 + k * 700_000, "192.0.2.66", 5353, "192.0.2.201", 5353, bytes(30 + k), tag=99)
+    return capture.bytes()
+
+
+CAPTURES = {
+    "syn_flood": syn_flood,
+    "port_scan": port_scan,
+    "resolver": resolver,
+    "microburst": microburst,
+    "stray_vlan": stray_vlan,
+}
+
+
+def main():
+    folder = pathlib.Path(sys.argv[1]) if len(sys.argv) > 1 else pathlib.Path(__file__).parent
+    for name, made in CAPTURES.items():
+        (folder / f"{name}.pcap").write_bytes(made())
+
+
+if __name__ == "__main__":
+    main()
