@@ -1,16 +1,21 @@
 #!/usr/bin/env python3
-"""Records loaded a second, by one, two and four writers, on 65,536 generated packets.
+"""Records loaded and live questions answered a second, on 65,536 generated packets.
 
 Run it from anywhere after `make run` has built the program:
 
     bench/speed.py [ROUNDS]
 
 It writes the generated capture to a temporary file, the same bytes that `confluo synth --seed 1` draws, and times whole
-commands: `confluo run` with one, two and four writers, and `tshark -r` and `tcpdump -r` on the same file where they are
-installed. Each command runs ROUNDS times (5 where it is not said), and the shortest time counts. It is no part of the gate.
+commands: `confluo run` with one, two and four writers and setups of no, one, four and sixteen lanes, and `tshark -r` and
+`tcpdump -r` on the same file where they are installed. Then it times live questions beside two writers, each by the time of a
+run that asks it 1,024 times less that of the same run without: one key of an index against a scan for it, the aggregate of a
+bucket against a scan of its records, and a trigger's marks. Each command runs ROUNDS times (5 where it is not said), and the
+shortest time counts. CONFLUO may name another build of the program. It is no part of the gate.
 """
 
+import os
 import pathlib
+import resource
 import shutil
 import struct
 import subprocess
@@ -19,7 +24,17 @@ import tempfile
 import time
 
 COUNT = 65536
-SETUP = b"schema packet\nwidth 1000000000\nfilter f *\naggregate a f len\nask m measure a 1 10\n"
+ATTRIBUTES = ["src", "dst", "sport", "dport", "proto", "ttl", "tos", "flags", "kind", "etype", "win", "iplen", "len", "seq", "ack", "caplen"]
+PLAIN = "schema packet\nask all list len>1080\n"
+QUESTIONS = {
+    "one key of an index": "index s seq\nask q find s 12345 12345\n",
+    "a scan for that key": "index s seq\nask q list seq==12345\n",
+    "a bucket's aggregate": "filter f *\naggregate a f len\nask q measure a 40 40\n",
+    "a scan of a bucket": "filter f *\naggregate a f len\nask q list ts in 40000000000..40000000010\n",
+    "a trigger's marks": "filter f *\naggregate a f len\ntrigger t a sum > 4294967295\nask q fired t\n",
+}
+ROUNDS_A_BATCH = 64
+BATCH = 4096
 
 
 def draws(seed):
@@ -56,39 +71,68 @@ def capture(seed, count):
     return b"".join(parts)
 
 
+def lanes(count):
+    """A setup with so many indexes, each over an attribute of its own."""
+    return PLAIN + "".join(f"index i{k} {name}\n" for k, name in enumerate(ATTRIBUTES[:count]))
+
+
 def shortest(command, rounds):
-    """The shortest of some times of a command, in seconds."""
-    times = []
+    """The shortest of some times of a command, and of its times on processors, in seconds."""
+    walls, works = [], []
     for _ in range(rounds):
+        before = resource.getrusage(resource.RUSAGE_CHILDREN)
         start = time.perf_counter()
         subprocess.run(command, check=True, stdout=subprocess.DEVNULL, stderr=subprocess.DEVNULL)
-        times.append(time.perf_counter() - start)
-    return min(times)
+        walls.append(time.perf_counter() - start)
+        after = resource.getrusage(resource.RUSAGE_CHILDREN)
+        works.append(after.ru_utime + after.ru_stime - before.ru_utime - before.ru_stime)
+    return min(walls), min(works)
 
 
-def commands(program, setup, file):
-    """What is timed, by name."""
-    for writers in (1, 2, 4):
-        options = ["--setup", setup, "--writers", str(writers), file]
-        yield f"confluo, {writers} writers", [program, "run", *options]
+def run_words(program, setup, file, writers, rounds=0):
+    """The words of a run whose index paths have all the nodes that they may need."""
+    return [program, "run", "--setup", setup, "--writers", str(writers), "--nodes", "65536", "--live", str(rounds), file]
+
+
+def time_loads(program, setup, file, rounds):
+    """Records loaded a second, by the number of lanes and of writers."""
+    for count in (0, 1, 4, 16):
+        pathlib.Path(setup).write_text(lanes(count))
+        for writers in (1, 2, 4):
+            seconds, work = shortest(run_words(program, setup, file, writers), rounds)
+            print(f"{count:2} lanes, {writers} writers {COUNT / seconds:12.0f} records a second {work * 1e6 / COUNT:8.2f} microseconds of work a record")
+
+
+def time_tools(file, rounds):
+    """The same for other readers of captures, where they are installed."""
     for tool in ("tshark", "tcpdump"):
         if shutil.which(tool):
-            yield f"{tool} -r", [tool, "-n", "-r", file]
+            seconds, _ = shortest([tool, "-n", "-r", file], rounds)
+            print(f"{tool + ' -n -r':20} {COUNT / seconds:12.0f} records a second")
+
+
+def time_questions(program, setup, file, rounds):
+    """Live questions answered a second beside two writers, by the wall clock and by the work of processors."""
+    asked = ROUNDS_A_BATCH * COUNT // BATCH
+    for name, question in QUESTIONS.items():
+        pathlib.Path(setup).write_text("schema packet\n" + question + "live q\n")
+        wall, work = shortest(run_words(program, setup, file, 2, ROUNDS_A_BATCH), rounds)
+        quiet_wall, quiet_work = shortest(run_words(program, setup, file, 2), rounds)
+        each_wall, each_work = max(wall - quiet_wall, 1e-9) / asked, max(work - quiet_work, 1e-9) / asked
+        print(f"{name:22} {1 / each_wall:12.0f} answers a second {each_work * 1e6:10.1f} microseconds of work each")
 
 
 def main():
     rounds = int(sys.argv[1]) if len(sys.argv) > 1 else 5
-    program = pathlib.Path(__file__).parent.parent / "crates/confluo/out/confluo"
+    built = pathlib.Path(__file__).parent.parent / "crates/confluo/out/confluo"
+    program = os.environ.get("CONFLUO", str(built))
     with tempfile.TemporaryDirectory() as folder:
-        setup = pathlib.Path(folder) / "setup"
-        file = pathlib.Path(folder) / "capture.pcap"
-        setup.write_bytes(SETUP)
-        file.write_bytes(capture(1, COUNT))
-        first = None
-        for name, command in commands(str(program), str(setup), str(file)):
-            seconds = shortest(command, rounds)
-            first = first or seconds
-            print(f"{name:20} {COUNT / seconds:12.0f} records a second {first / seconds:6.2f} of one writer")
+        setup = str(pathlib.Path(folder) / "setup")
+        file = str(pathlib.Path(folder) / "capture.pcap")
+        pathlib.Path(file).write_bytes(capture(1, COUNT))
+        time_loads(program, setup, file, rounds)
+        time_tools(file, rounds)
+        time_questions(program, setup, file, rounds)
 
 
 if __name__ == "__main__":
