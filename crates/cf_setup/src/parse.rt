@@ -13,17 +13,20 @@ use crate::take::take_said;
 use crate::{Setup, codes};
 use cf_filter::unspaced;
 use std::alloc::Global;
+use thiserror::Error;
 
 /// Why a text is no setup.
-#[derive(Clone, Copy, Debug, PartialEq, Eq)]
+#[derive(Clone, Copy, Debug, PartialEq, Eq, Error)]
 pub enum SetupFault {
     /// The first faulty line, from 1, and the least code of a rule that it breaks. A text of more than 65,536 bytes is line 0.
     ///
     /// The codes: 1 a byte that is no printed ASCII, 2 no statement, or one that is out of place, 3 not in the statement's
     /// form, 4 no schema, 5 a name that is taken, 6 a name of nothing, 7 no number, 8 an attribute of another kind, 9 too many,
     /// and of an expression 10 syntax, 11 an unknown name, 12 a bad operator, 13 a value out of range, 14 too long.
+    #[error("line {line} breaks rule {code}")]
     Bad { line: u32, code: u8 },
     /// Want of memory.
+    #[error("out of memory")]
     Memory,
 }
 

@@ -48,6 +48,7 @@ fn each_line_has_its_least_code(rt: HostRuntime) -> Result<(), Fail> {
         ("ask q list dmac<0x020000000001", (2, 12)),
         ("ask q list dport==65536", (2, 13)),
         ("ask q list len==4294967295", (0, 0)),
+        ("ask q list len==4294967296", (2, 13)),
         ("index s src\nask q find s 10.0.0.1 5", (0, 0)),
         ("index s src\nindex s nosuch", (3, 5)),
         ("ask q list dport==65536\nfoo", (2, 13)),
@@ -121,6 +122,20 @@ fn there_is_room_for_16_lanes_16_triggers_and_32_asks(rt: HostRuntime) -> Result
     ] {
         let text = lines(alloc, count, first, last)?;
         assert_eq!(rt; outcome(alloc, text.as_str()), want, "{first}");
+    }
+    Ok(())
+}
+
+#[test]
+fn an_expression_has_at_most_32_atoms(rt: HostRuntime) -> Result<(), Fail> {
+    let alloc = rt.alloc();
+    for (more, want) in [(31, (0, 0)), (32, (2, 14))] {
+        let mut text = String::from_str(alloc, RECORDS)?;
+        text.push_str("ask q list len==1")?;
+        for _i in 0..more {
+            text.push_str("||len==1")?;
+        }
+        assert_eq!(rt; outcome(alloc, text.as_str()), want, "{more}");
     }
     Ok(())
 }
