@@ -9,11 +9,11 @@ use Rattle.cf_shape.specs.declared.lane.Lane.{Lane}
 use Rattle.cf_shape.specs.Lanes.{Shaped, IsShape, no_lane, lane_at, selected_by}
 use Rattle.cf_shape.specs.Nodes.{levels_of}
 use Rattle.cf_shape.specs.Uses.{Use, use_at, cell_words, cell_count, ticket_words, is_measured}
-use Rattle.cf_shape.specs.Uses.Use.{plain, version}
+use Rattle.cf_shape.specs.Uses.Use.{version}
 use Rattle.cf_shape.specs.Places.{place, sizes_of, head_slot}
 use Rattle.cf_shape.proofs.Counts.{count_cons, count_none}
 use Rattle.cf_shape.proofs.Used.{version_at, before_fits}
-use Rattle.cf_words.specs.Words.{Spot, spot, Layout, Ticket, fresh_ticket, has, same_path, version_word, top}
+use Rattle.cf_words.specs.Words.{Spot, spot, fresh_ticket, has, same_path, version_word, top}
 use Rattle.cf_words.specs.Law.{IsWhole, Skips}
 use Rattle.cf_law.specs.Passes.{Book, Flight, Pass}
 use Rattle.cf_law.specs.Steps.{Knows, IsNext, ticket_of, fly, headed, finished, own_word, own_lane_word, mine_chain, head_loaded}
@@ -29,7 +29,7 @@ use Rattle.cf_append.specs.Appends.{with_own}
 use Rattle.cf_append.specs.Paths.{Strides}
 use Rattle.cf_append.specs.Linking.{HasFilled, HasLinked, IsBookOf, IsPassedOver, with_flight, cell_from, linked_to}
 use Rattle.cf_append.proofs.Walking.{strides_by}
-use Rattle.cf_append.proofs.Pathing.{path_none}
+use Rattle.cf_law.proofs.Paths.{path_none, skips_any}
 
 -- Where the cells stand.
 count_more : (xs : List Lane) (l : ℕ) → l < length xs → cell_count (take (suc l) xs) ≡ cell_count (take l xs) + cell_words (get_or xs l no_lane)
@@ -54,11 +54,6 @@ cell_one s l bare = ap (λ (b : Bool). cond {A = ℕ} b 3 1) bare
 
 pub cell_low : (s : Shaped) (l : ℕ) → l < length s.lanes → cell_from s l + cell_words (lane_at s l) < ticket_words s
 cell_low s l lt = omega (arith, before_fits s.lanes l lt)
-
--- words that are passed over
-skips_any : (sh : Layout) (t u : Ticket) (x : Use) → t.row ≡ u.row → Skips sh t x → Skips sh u x
-skips_any sh t u (plain i) e h = h
-skips_any sh t u (version l j) e h = ap (λ (r : Numbered). sh.path r l) (sym e) ∙ h
 
 passed_here : (s : Shaped) (row : Numbered) (l k : ℕ) → l < length s.lanes → path_in s row l ≡ None → cell_from s l ≤ k → k < cell_from s (l + 1) → IsPassedOver s row k
 passed_here s row l k there none ge lt =

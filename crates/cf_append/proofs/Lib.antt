@@ -1,7 +1,6 @@
 pub mod Settling
 pub mod Appending
 pub mod Walking
-pub mod Levels
 pub mod Pathing
 pub mod Cells
 pub mod Whole

@@ -1,5 +1,5 @@
 -- A row's paths: the spots of a key's prefixes, and the leaves in the lanes that select it.
-use Rattle.std.proofs.Common.{◌≡◌, ℕ, ◌+◌, ◌-◌, ◌*◌, ◌/◌, ◌%◌, ◌<◌, ◌≤◌, zero, suc, inl, inr, List, [], ◌∷◌, length, set, get_or, get_or-set_same, get_or-set_other, Bool, true, false, cond, Option, Some, None, MatchOption, slice_index, refl, ap, sym, subst, ◌∙◌, arith}
+use Rattle.std.proofs.Common.{◌≡◌, ℕ, ◌+◌, ◌-◌, ◌*◌, ◌/◌, ◌%◌, ◌<◌, ◌≤◌, zero, suc, inl, inr, List, [], ◌∷◌, length, set, get_or, get_or-set_same, get_or-set_other, Bool, true, false, Option, Some, None, MatchOption, slice_index, refl, ap, sym, subst, ◌∙◌, arith}
 use Rattle.std.proofs.lemmas.Bool.{cases_eq}
 use Rattle.cf_row.specs.Row.{Numbered}
 use Rattle.cf_shape.specs.Lanes.{Shaped, IsShape, selected_by, key_of}
@@ -9,6 +9,7 @@ use Rattle.cf_words.specs.Words.{Spot, spot}
 use Rattle.cf_law.specs.Nibbles.{nibbles}
 use Rattle.cf_law.specs.Passes.{Pass}
 use Rattle.cf_law.specs.Steps.{IsChild, Knows, Reaches}
+use Rattle.cf_law.proofs.Paths.{path_some, path_none}
 use Rattle.cf_law.specs.Shapes.{layout, path_in}
 use Rattle.cf_law.proofs.Nibbles.{length-nibbles, nibbles_more}
 use Rattle.cf_table.specs.Held.{Held}
@@ -72,13 +73,6 @@ along_before at before some lane level front s a = record {
   rest = at.front % 16 ∷ a.rest;
   is = nibbles_before at.level at.front some ∙ ap (λ (q : List ℕ). at.front % 16 ∷ q) (ap (λ (n : ℕ). nibbles n (at.front / 16)) (sym level) ∙ (ap (λ (k : ℕ). nibbles before.level k) (sym front) ∙ a.is));
 }
-
--- the row's path in a lane
-pub path_some : (s : Shaped) (row : Numbered) (l : ℕ) → selected_by s l row ≡ true → path_in s row l ≡ Some (nibbles (levels_of s l) (key_of s l row))
-path_some s row l e = ap (λ (b : Bool). cond {A = Option (List ℕ)} b (Some (nibbles (levels_of s l) (key_of s l row))) None) e
-
-pub path_none : (s : Shaped) (row : Numbered) (l : ℕ) → selected_by s l row ≡ false → path_in s row l ≡ None
-path_none s row l e = ap (λ (b : Bool). cond {A = Option (List ℕ)} b (Some (nibbles (levels_of s l) (key_of s l row))) None) e
 
 -- the prefix of the row's key without its last nibble
 pub record IsWhole (shape : Shaped) (row : Numbered) (lane : ℕ) (at : Prefix) : Type 0 where

@@ -1,5 +1,5 @@
 -- The read tail is moved over finished records.
-use Rattle.std.proofs.Common.{◌≡◌, ℕ, ◌+◌, ◌<◌, ◌≤◌, max, inl, inr, suc, Bool, List, length, length-take, false, take, slice_get, refl, ap, sym, subst, ◌∙◌, arith}
+use Rattle.std.proofs.Common.{◌≡◌, ◌⊎◌, ℕ, ◌+◌, ◌<◌, ◌≤◌, max, inl, inr, suc, Bool, List, length, length-take, false, take, slice_get, refl, ap, sym, subst, ◌∙◌, arith}
 use Rattle.std.specs.Bool.{nat_lt}
 use Rattle.std.proofs.lemmas.Bool.{cases_Bool}
 use Rattle.cf_row.specs.declared.row.Entry.{Entry}
@@ -17,7 +17,7 @@ use Rattle.cf_table.specs.Ways.{Made, Stored, tail_way, done_way, advance_way}
 use Rattle.cf_table.proofs.Seen.{grown, sees_books, advance_seen}
 use Rattle.cf_table.proofs.Folds.{sees_told, tail_entries}
 use Rattle.cf_table.proofs.Settling.{Moved, moved_none, settled_by, begins_then, last_word}
-use Rattle.cf_append.specs.Appends.{GoesOn, IsUnfinished, Rests, SeenFirst}
+use Rattle.cf_append.specs.Appends.{GoesOn, IsUnfinished, Stops, Rests, SeenFirst}
 
 pub goes_on : (m n : Held) → Moved m n → GoesOn m n
 goes_on m n moved = record { same = moved.same; longer = moved.longer; tails = moved.tails; told = moved.told }
@@ -116,3 +116,30 @@ advanced shape m n t le stored = advance_seen shape m.view n.view t stored.found
 
 pub begins_long : (xs ys : List Entry) → Begins xs ys → length xs ≤ length ys
 begins_long xs ys a = (let e = ap (λ (l : List Entry). length l) a in let f = length-take (length xs) ys in omega (arith, e, f))
+
+-- the tail stops where it did, for one that looked no more often
+pub stops_since : (shape : Shaped) (p q r : Pass) → (p.look).count ≤ (q.look).count → Stops shape q r → Stops shape p r
+stops_since shape p q r le stops = elim stops [
+  | inl all ↦ inl all
+  | inr u ↦ inr (record { word = u.word; value = u.value; since = (let since = u.since in omega (arith, le, since)); other = u.other })
+]
+
+-- and it stops where it is moved to then
+pub stops_then : (shape : Shaped) (m n o : Held) → GoesOn n o → Stops shape m.view n.view → Stops shape n.view o.view → Stops shape m.view o.view
+stops_then shape m n o goes before after = elim before [
+  | inl all ↦ inl (let more = begins_long (n.view).seen (o.view).seen goes.longer in omega (arith, all, more))
+  | inr u ↦ stops_since shape m.view n.view o.view (let since = u.since in omega (arith, since)) after
+]
+
+-- as it does where it may have stayed
+pub stops_on : (shape : Shaped) (m n o : Held) → GoesOn n o → (n ≡ m) ⊎ Stops shape m.view n.view → Stops shape n.view o.view → Stops shape m.view o.view
+stops_on shape m n o goes before after = elim before [
+  | inl same ↦ subst (λ (h : Held). Stops shape h.view o.view) same after
+  | inr stops ↦ stops_then shape m n o goes stops after
+]
+
+pub stops_still : (shape : Shaped) (m n o : Held) → GoesOn n o → Stops shape m.view n.view → (o ≡ n) ⊎ Stops shape n.view o.view → Stops shape m.view o.view
+stops_still shape m n o goes before after = elim after [
+  | inl same ↦ subst (λ (h : Held). Stops shape m.view h.view) (sym same) before
+  | inr stops ↦ stops_then shape m n o goes before stops
+]

@@ -20,7 +20,8 @@ use Rattle.cf_append.specs.Appends.{GoesOn, Stops, Rests, SeenFirst, HasMade, Is
 use Rattle.cf_append.specs.Paths.{Strides, HasLeaves, with_nodes, path_steps}
 use Rattle.cf_append.specs.Linking.{HasFilled, HasLinked, IsBookOf, lane_steps}
 use Rattle.cf_append.proofs.Appending.{began, rests_by}
-use Rattle.cf_append.proofs.Levels.{levels_two}
+use Rattle.cf_append.proofs.Settling.{stops_since}
+use Rattle.cf_shape.proofs.KeyLevels.{levels_two}
 use Rattle.cf_append.proofs.Walking.{strides_by, strides_then}
 use Rattle.cf_append.proofs.Pathing.{leaves_still, path_steps_none, path_steps_more}
 use Rattle.cf_append.proofs.Cells.{filled_self, filled_then, linked_begin, linked_self, linked_then, closed_books, close_strides}
@@ -161,6 +162,11 @@ appended shape row m p t f c l d z o fresh P E kept stops =
         ]
       ];
     }
+
+-- The read tail stops where the last step left it.
+pub appended_stops : (shape : Shaped) (row : Numbered) (m p t f c l d z : Held) (o : ℕ) → HasMade shape row m p → HasEnded shape row p t f c l d o → Stops shape d.view z.view → Stops shape m.view z.view
+appended_stops shape row m p t f c l d z o P E stops =
+    stops_since shape m.view d.view z.view (strides_then m p d P.strides (ended_strides shape row p t f c l d o E)).looks stops
 
 -- The ticket lay past the last place.
 late_books : (shape : Shaped) (p n : Held) (found : ℕ) (row : Numbered) → shape.capacity ≤ found → Made shape (take_way shape p.view row) p found n → (n.view).books ≡ marked (book_of p.view) ∷ []

@@ -4,7 +4,7 @@ ghost use Rattle.cf_row.specs.Row.{Fits};
 ghost use Rattle.cf_row.specs.Words.{word_count as word_count_of, spelled};
 ghost use Rattle.cf_table.specs.Held.{IsOf, book_of};
 ghost use Rattle.cf_table.specs.Moves.{HasAll};
-ghost use Rattle.cf_append.specs.Appends.{GoesOn, Rests, SeenFirst, IsAnswered, flying};
+ghost use Rattle.cf_append.specs.Appends.{GoesOn, Stops, Rests, SeenFirst, IsAnswered, flying};
 ghost use Rattle.cf_append.specs.Linking.{lane_steps};
 
 use crate::links::{fill_cells, link_all};
@@ -14,11 +14,16 @@ use cf_row::{Row, word_count, words_of};
 use cf_table::{MultiLog, Steps, WriterPass};
 use std::sync::Wait;
 use std::sync::ledger::Ledger;
+use thiserror::Error;
 
 /// Why a row wasn't appended: the log is full, or the writer's nodes are.
-#[derive(Clone, Copy, Debug, PartialEq, Eq)]
+#[derive(Clone, Copy, Debug, PartialEq, Eq, Error)]
 pub enum AppendFault {
+    /// All places are taken. The writer's book is marked.
+    #[error("the log is full")]
     Full,
+    /// A path of the row wants a node, and all of the writer's are used.
+    #[error("the writer's nodes are used")]
     NodesFull,
 }
 
@@ -68,8 +73,8 @@ pub(crate) fn fill<L: Ledger>(
 }
 
 /// Appends the row: makes its paths, takes a ticket, fills it, links it in each lane that selects the row, finishes it, and
-/// moves the read tail over each finished record, up to the first that isn't. Answers the record's offset. It is covered
-/// then, or stands behind a record that the last look found unfinished.
+/// moves the read tail over each finished record, up to the first that the last look found unfinished, or to the last place.
+/// Answers the record's offset. It is covered then, or stands behind that unfinished one.
 pub fn append<L: Ledger>(
     log: &MultiLog,
     pass: &mut WriterPass,
@@ -83,6 +88,7 @@ pub fn append<L: Ledger>(
     ensures rest { Rests pass.new.view }
     ensures answer { IsAnswered log.now.shape row.now pass.old pass.new result }
     ensures begins { (((book_of pass.old.view).over ≡ false) ⊎ SeenFirst pass.old.view) → SeenFirst pass.new.view }
+    ensures stops { IfOk result (λ _. Stops log.now.shape pass.old.view pass.new.view) }
     ensures alone { log.now.shape.writers ≡ 1 → IfOk result (λ _. HasAll pass.new.view) }
     ensures steps { steps.new ≤ steps.old + word_count_of log.now.shape.schema + 3 + lane_steps log.now.shape (length log.now.shape.lanes) + 2 * (length pass.new.view.seen - length pass.old.view.seen + 1) }
 {
@@ -121,6 +127,7 @@ pub fn append_wait<R: Wait, L: Ledger>(
     ensures rest { Rests pass.new.view }
     ensures answer { IsAnswered log.now.shape row.now pass.old pass.new result }
     ensures begins { (((book_of pass.old.view).over ≡ false) ⊎ SeenFirst pass.old.view) → SeenFirst pass.new.view }
+    ensures stops { IfOk result (λ _. Stops log.now.shape pass.old.view pass.new.view) }
     ensures alone { log.now.shape.writers ≡ 1 → IfOk result (λ _. HasAll pass.new.view) }
     ensures covered { IfOk result (λ o. o < length pass.new.view.seen) }
 {

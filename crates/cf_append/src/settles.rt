@@ -1,5 +1,5 @@
 // The read tail is moved up to the first record that isn't finished.
-ghost use Rattle.std.specs.Prelude.{◌≡◌, ◌+◌, ◌-◌, ◌*◌, ◌<◌, ◌≤◌, length};
+ghost use Rattle.std.specs.Prelude.{◌≡◌, ◌⊎◌, ◌+◌, ◌-◌, ◌*◌, ◌<◌, ◌≤◌, length};
 ghost use Rattle.cf_table.specs.Held.{IsOf};
 ghost use Rattle.cf_table.specs.Moves.{HasAll};
 ghost use Rattle.cf_append.specs.Appends.{GoesOn, Stops, Rests, SeenFirst, IsSettled};
@@ -52,6 +52,7 @@ pub fn settle<L: Ledger>(
     ensures goes_on { GoesOn pass.old pass.new }
     ensures books { pass.new.view.books ≡ pass.old.view.books }
     ensures answer { IsSettled log.now.shape offset pass.old.view pass.new.view result }
+    ensures stops { Stops log.now.shape pass.old.view pass.new.view }
     ensures begins { SeenFirst pass.new.view }
     ensures alone { log.now.shape.writers ≡ 1 → Rests pass.new.view → HasAll pass.new.view }
     ensures steps { steps.new ≤ steps.old + 2 * (length pass.new.view.seen - length pass.old.view.seen + 1) }
@@ -77,6 +78,7 @@ pub(crate) fn wait_for<R: Wait, L: Ledger>(
     ensures goes_on { GoesOn pass.old pass.new }
     ensures books { pass.new.view.books ≡ pass.old.view.books }
     ensures covered { offset < length pass.new.view.seen }
+    ensures stops { (pass.new ≡ pass.old) ⊎ Stops log.now.shape pass.old.view pass.new.view }
     ensures begins { SeenFirst pass.old.view → SeenFirst pass.new.view }
     ensures alone { log.now.shape.writers ≡ 1 → Rests pass.old.view → HasAll pass.old.view → HasAll pass.new.view }
 {

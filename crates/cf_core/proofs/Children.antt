@@ -1,21 +1,12 @@
 -- Child words by their places, and loads of them.
-use Rattle.std.proofs.Common.{◌≡◌, ℕ, ◌+◌, ◌*◌, ◌-◌, ◌<◌, zero, suc, List, [], ◌∷◌, length, set, get_or, Bool, true, false, ◌&&◌, Option, Some, None, MatchOption, slice_get, refl, arith, ap, ap₂, sym, ◌∙◌, subst}
-use Rattle.std.specs.List.{list_all}
+use Rattle.std.proofs.Common.{◌≡◌, ℕ, ◌+◌, ◌*◌, ◌<◌, zero, suc, List, [], ◌∷◌, length, set, get_or, Option, Some, None, MatchOption, slice_get, refl, arith, ap, ap₂, sym, ◌∙◌, subst}
 use Rattle.std.proofs.lemmas.Option.{slice_get_read}
-use Rattle.cf_row.specs.declared.schema.Attr.{Attr}
-use Rattle.cf_row.specs.declared.schema.Kind.{Kind}
-use Rattle.cf_row.specs.declared.schema.Kind.TheVariants.{U8, U16, U32, U64, Bytes}
-use Rattle.cf_row.specs.Expr.{is_of_schema}
-use Rattle.cf_shape.specs.declared.lane.Lane.{Lane}
-use Rattle.cf_shape.specs.declared.lane.Key.{Key}
-use Rattle.cf_shape.specs.declared.lane.Key.TheVariants as keys
-use Rattle.cf_shape.specs.Lanes.{Shaped, IsShape, lane_at, no_lane, is_number, option_passes, is_lawful_lane, is_lawful_key, is_lawful_measure}
-use Rattle.cf_shape.specs.Nodes.{levels_of, nibbles_of_kind, nibbles_of_attr, nibbles_of_key}
+use Rattle.cf_shape.proofs.KeyLevels.{levels_two}
 use Rattle.cf_shape.specs.Places.{Slot, place, IsReal}
 use Rattle.cf_shape.specs.Places.Slot.{root, body}
 use Rattle.cf_words.specs.Words.{Spot, spot}
 use Rattle.cf_law.specs.Passes.{Pass}
-use Rattle.cf_law.specs.Steps.{Reaches, IsChild, learn, looked, child_loaded}
+use Rattle.cf_law.specs.Steps.{Reaches, IsChild, child_loaded}
 use Rattle.cf_law.specs.Steps.Act.{load_child}
 use Rattle.cf_law.specs.Steps.Step.{loads_child}
 use Rattle.cf_law.specs.Readers.{IsBounded}
@@ -27,41 +18,6 @@ use Rattle.cf_law.proofs.Readers.{bounded}
 use Rattle.cf_core.specs.Worlds.{Held, IsHeld, IsLivePass, IsRootAt, NoRootAt, IsChildOf, NoneBelow, IsChildAt, NoChildAt, IsNode, world_of}
 use Rattle.cf_core.proofs.Making.{does_step, word_there, live_one}
 use Rattle.cf_core.proofs.Inverse.{acts_of, child_of}
-
--- keys have two nibbles at least
-both_left : (a b : Bool) → a && b ≡ true → a ≡ true
-both_left true b both = refl
-both_left false b both = both
-
-both_right : (a b : Bool) → a && b ≡ true → b ≡ true
-both_right true b both = both
-both_right false b both = cc
-
-pub lawful_at : (attrs : List Attr) (lanes : List Lane) (lane : ℕ) → lane < length lanes → list_all (is_lawful_lane attrs) lanes ≡ true → is_lawful_lane attrs (get_or lanes lane no_lane) ≡ true
-lawful_at attrs [] lane lt all = absurd (omega (arith, lt))
-lawful_at attrs (first ∷ lanes) zero lt all = both_left _ _ all
-lawful_at attrs (first ∷ lanes) (suc lane) lt all = lawful_at attrs lanes lane (omega (arith, lt)) (both_right _ _ all)
-
-kind_levels : (kind : Kind) → is_number kind ≡ true → 1 < nibbles_of_kind kind
-kind_levels U8 h = omega arith
-kind_levels U16 h = omega arith
-kind_levels U32 h = omega arith
-kind_levels U64 h = omega arith
-kind_levels (Bytes k) h = absurd (cc h)
-
-attr_levels : (attr : Option Attr) → option_passes is_number attr ≡ true → 1 < nibbles_of_attr attr
-attr_levels None h = absurd (cc h)
-attr_levels (Some attr) h = kind_levels attr.kind h
-
-key_levels : (attrs : List Attr) (key : Key) → is_lawful_key attrs key ≡ true → 1 < nibbles_of_key attrs key
-key_levels attrs (keys.Attr attr) h = attr_levels (slice_get attrs attr) h
-key_levels attrs keys.Bucket h = omega arith
-
-pub levels_two : (s : Shaped) (l : ℕ) → IsShape s → l < length s.lanes → 1 < levels_of s l
-levels_two s l is lt =
-    let lane = lane_at s l in
-    let a = both_left (is_of_schema s.schema lane.select && is_lawful_key s.schema lane.key) (is_lawful_measure s.schema lane.measure) (lawful_at s.schema s.lanes l lt is.lanes) in
-    key_levels s.schema lane.key (both_right (is_of_schema s.schema lane.select) (is_lawful_key s.schema lane.key) a)
 
 -- an item that was read
 pub item_is : {A : Type 0} (xs ys : List A) (i : ℕ) (x : A) → ys ≡ xs → i < length ys → x ≡ get_or ys i x → slice_get xs i ≡ Some x

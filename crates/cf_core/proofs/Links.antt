@@ -1,5 +1,5 @@
 -- Labels and links.
-use Rattle.std.proofs.Common.{◌≡◌, ℕ, ◌+◌, ◌*◌, ◌-◌, ◌/◌, ◌%◌, ◌<◌, ◌≤◌, zero, suc, List, length, set, get_or, Option, Some, None, slice_get, refl, arith, ap, ap₂, sym, ◌∙◌, subst}
+use Rattle.std.proofs.Common.{◌≡◌, ℕ, ◌+◌, ◌*◌, ◌/◌, ◌%◌, ◌<◌, ◌≤◌, zero, suc, List, length, set, get_or, Option, Some, None, slice_get, refl, arith, ap, ap₂, sym, ◌∙◌, subst}
 use Rattle.std.proofs.lemmas.Nat.{mul-add-lt}
 use Rattle.cf_row.specs.declared.schema.Attr.{Attr}
 use Rattle.cf_row.specs.declared.schema.Kind.{Kind}
@@ -13,7 +13,7 @@ use Rattle.cf_shape.specs.Places.Word.{label as label_word}
 use Rattle.cf_shape.specs.Places.Slot.{body}
 use Rattle.cf_words.specs.Words.{Spot}
 use Rattle.cf_law.specs.Passes.{Book, Pass}
-use Rattle.cf_law.specs.Steps.{Act, Holds, IsChild, at_book, labelled, linked, learn, link_tried, child_word, label_of, free_node}
+use Rattle.cf_law.specs.Steps.{Act, Holds, IsChild, at_book, labelled, link_tried, child_word, label_of, free_node}
 use Rattle.cf_law.specs.Steps.Act.{label, link}
 use Rattle.cf_law.specs.Steps.Step.{labels, links}
 use Rattle.cf_law.specs.Lawful.{World}

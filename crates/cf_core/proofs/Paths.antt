@@ -1,15 +1,13 @@
 -- Paths of rows in lanes, and the words of tickets that are passed over.
 use Rattle.std.proofs.Common.{◌≡◌, ℕ, ◌+◌, ◌-◌, ◌<◌, ◌≤◌, zero, suc, List, [], ◌∷◌, ◌++◌, length, take, drop, get_or, cond, Bool, true, false, Option, Some, None, slice_get, ◌==◌, inl, inr, refl, arith, ap, ap₂, sym, ◌∙◌, subst}
-use Rattle.std.proofs.lemmas.Bool.{cases_Bool, eq-eqb, ne_eqb}
+use Rattle.std.proofs.lemmas.Bool.{eq-eqb, ne_eqb}
 use Rattle.std.proofs.lemmas.Option.{get_or_from_slice_get}
 use Rattle.std.proofs.lemmas.List.{take_all, drop_more, drop_all}
 use Rattle.cf_row.specs.Row.{Numbered}
 use Rattle.cf_row.specs.Words.{word_count}
 use Rattle.cf_shape.specs.declared.lane.Lane.{Lane}
-use Rattle.cf_shape.specs.Lanes.{Shaped, lane_at, no_lane, selected_by, key_of}
-use Rattle.cf_shape.specs.Nodes.{levels_of}
-use Rattle.cf_shape.specs.Uses.{Use, cell_count, cell_words, cells_before, ticket_words, use_at}
-use Rattle.cf_shape.specs.Uses.Use.{plain, version}
+use Rattle.cf_shape.specs.Lanes.{Shaped, lane_at, no_lane, selected_by}
+use Rattle.cf_shape.specs.Uses.{cell_count, cell_words, cells_before, ticket_words, use_at}
 use Rattle.cf_shape.proofs.Counts.{count_cons, count_none}
 use Rattle.cf_shape.proofs.Used.{plain_at, version_at}
 use Rattle.cf_words.specs.Words.{Layout, Ticket, has, same_path}
@@ -17,7 +15,8 @@ use Rattle.cf_words.specs.Law.{Skips, IsWhole}
 use Rattle.cf_words.proofs.Chains.{same_bool, same_path_true, same_path_intro}
 use Rattle.cf_law.specs.Nibbles.{nibbles}
 use Rattle.cf_law.specs.Steps.{IsNext}
-use Rattle.cf_law.specs.Shapes.{layout, path_in}
+use Rattle.cf_law.specs.Shapes.{layout}
+use Rattle.cf_law.proofs.Paths.{path_none, none_path, skips_any}
 use Rattle.cf_law.proofs.Nibbles.{nibbles_more}
 use Rattle.cf_core.proofs.Children.{item_is}
 use Rattle.cf_core.specs.Worlds.{HasCell, IsPlainUse, IsCellUse, IsPassed, ArePassed, draft}
@@ -50,30 +49,7 @@ plain_use s i lt = (lt, plain_at s i lt)
 pub lane_is : (s : Shaped) (lanes : List Lane) (l : ℕ) (x : Lane) → lanes ≡ s.lanes → l < length lanes → x ≡ get_or lanes l x → lane_at s l ≡ x
 lane_is s lanes l x same lt is = get_or_from_slice_get s.lanes l x no_lane (item_is s.lanes lanes l x same lt is)
 
--- paths
-pub path_none : (s : Shaped) (row : Numbered) (l : ℕ) → selected_by s l row ≡ false → path_in s row l ≡ None
-path_none s row l e = ap (λ (b : Bool). cond {A = Option (List ℕ)} b (Some (nibbles (levels_of s l) (key_of s l row))) None) e
-
-pub path_some : (s : Shaped) (row : Numbered) (l : ℕ) → selected_by s l row ≡ true → path_in s row l ≡ Some (nibbles (levels_of s l) (key_of s l row))
-path_some s row l e = ap (λ (b : Bool). cond {A = Option (List ℕ)} b (Some (nibbles (levels_of s l) (key_of s l row))) None) e
-
-pub none_path : (s : Shaped) (row : Numbered) (l : ℕ) → path_in s row l ≡ None → selected_by s l row ≡ false
-none_path s row l h = elim (cases_Bool (selected_by s l row)) [
-  | inl e ↦ absurd (cc (sym (path_some s row l e) ∙ h))
-  | inr e ↦ e
-]
-
-pub some_path : (s : Shaped) (row : Numbered) (l : ℕ) (q : List ℕ) → path_in s row l ≡ Some q → selected_by s l row ≡ true
-some_path s row l q h = elim (cases_Bool (selected_by s l row)) [
-  | inl e ↦ e
-  | inr e ↦ absurd (cc (sym (path_none s row l e) ∙ h))
-]
-
 -- words that are passed over
-pub skips_any : (sh : Layout) (t u : Ticket) (x : Use) → t.row ≡ u.row → Skips sh t x → Skips sh u x
-skips_any sh t u (plain i) e h = h
-skips_any sh t u (version l j) e h = ap (λ (r : Numbered). sh.path r l) (sym e) ∙ h
-
 pub plain_not_passed : (s : Shaped) (row : Numbered) (i : ℕ) → IsPlainUse s i → IsPassed s row i → ⊥
 plain_not_passed s row i is h = subst (Skips (layout s) (draft row 0)) is.1 h
 

@@ -18,3 +18,4 @@ pub mod Tells
 pub mod Decides
 pub mod Homes
 pub mod Said
+pub mod Paths

@@ -1,5 +1,5 @@
 -- The laws of a lawful world, each in plain words.
-use Rattle.std.proofs.Common.{◌≡◌, ℕ, ◌+◌, ◌<◌, ◌≤◌, ◌⊎◌, ◌==◌, zero, suc, List, [], ◌∷◌, length, set, replicate, Option, Some, None, slice_get, cond, Bool, true, false, inl, inr, refl, arith, ap, sym, ◌∙◌, subst}
+use Rattle.std.proofs.Common.{◌≡◌, ℕ, ◌+◌, ◌<◌, ◌≤◌, ◌⊎◌, ◌==◌, zero, suc, List, [], ◌∷◌, length, set, take, replicate, Option, Some, None, slice_get, cond, Bool, true, false, inl, inr, refl, arith, ap, sym, ◌∙◌, subst}
 use Rattle.std.specs.Bool.{nat_lt}
 use Rattle.std.proofs.lemmas.Option.{slice_get_within}
 use Rattle.cf_row.specs.declared.row.Entry.{Entry}
@@ -8,14 +8,15 @@ use Rattle.cf_shape.specs.Places.{place}
 use Rattle.cf_shape.specs.Places.Slot.{tail, cell}
 use Rattle.cf_words.specs.Words.{Layout, Ticket, ticket_word, done_word, full_word}
 use Rattle.cf_words.specs.Law.{LayoutLaw}
-use Rattle.cf_law.specs.Passes.{Pass}
+use Rattle.cf_law.specs.Passes.{Cursor, Pass}
 use Rattle.cf_law.specs.Steps.{Act, Step}
-use Rattle.cf_law.specs.Lawful.{Base, BaseLaw, PassLaw, CursorLaw, CursorIs, Stands, Lawful, World}
+use Rattle.cf_law.specs.Lawful.{Base, BaseLaw, PassLaw, CursorLaw, CursorIs, Leads, Stands, Lawful, World, book_at}
 use Rattle.cf_law.specs.Events.{Event, Does, opening, no_book, table, word_at, spelt}
 use Rattle.cf_law.specs.Events.Does.{steps, parts, meets}
 use Rattle.cf_law.specs.Shapes.{layout}
 use Rattle.cf_law.specs.Readers.{Tells}
-use Rattle.cf_law.specs.Plainly.{SaysPlainly, LawfulSaysPlainly}
+use Rattle.cf_law.specs.Plainly.{SaysPlainly}
+use Rattle.cf_law.specs.PlainPasses.{SaysOfPasses, LawfulSaysAllPlainly}
 use Rattle.cf_law.specs.Laws.{Plays, EveryListKeepsTheLaw, OpeningIsEmpty, ReadTailCoversFinished, WriteTailIsBounded, SeenNeverChanges, WordsTell, StepsTell}
 use Rattle.cf_words.proofs.Chains.{eq_true, eq_false}
 use Rattle.cf_words.proofs.Heads.{lt_true}
@@ -29,9 +30,10 @@ use Rattle.cf_law.proofs.Loads.{tail_is}
 use Rattle.cf_law.proofs.Steps.{step_keeps}
 use Rattle.cf_law.proofs.Moves.{split_keeps, join_keeps}
 use Rattle.cf_law.proofs.Runs.{kept, opening_lawful}
-use Rattle.cf_law.proofs.Readers.{tells, step_lawful, write_tail_most, path_whole, named_spells, at_seen}
+use Rattle.cf_law.proofs.Readers.{tells, step_lawful, write_tail_most, path_whole, named_spells, at_seen, seen_at, entry_tells}
 use Rattle.cf_law.proofs.Tells.{label_tells, child_tells, named_once, unused_tells, spare_tells}
 use Rattle.cf_law.proofs.Homes.{done_one}
+use Rattle.cf_law.proofs.Fronts.{front_take}
 
 ticket_is : (sh : Layout) (m : Base) (o i : ℕ) → BaseLaw sh m → o < sh.sizes.tickets → i < sh.sizes.ticket_words → word_at sh m.words (cell o i) ≡ ticket_word sh m.log o i (slice_get m.log o)
 ticket_is sh m o i law lo li = law.spells (cell o i) (lo, li)
@@ -70,8 +72,30 @@ says sh m passes shaped S = let law = S.law in record {
       let word = shaped.cells c.spot.lane lane in named_spells sh m (length p.seen) c o i word.0 0 shaped law walk link word.2 word.1 small);
 }
 
-pub lawful_says_plainly : LawfulSaysPlainly
-lawful_says_plainly s words passes is law = (law.base, law.spelled, says (layout s) law.base passes (layout_law s is) law.stands)
+-- What it says of tickets' writers, books, and of what passes have seen and know.
+walk_of : (sh : Layout) (m : Base) (passes : List Pass) (k : ℕ) (p : Pass) (c : Cursor) → Stands sh m passes → slice_get passes k ≡ Some p → p.cursor ≡ Some c → CursorLaw sh m.log (length p.seen) c
+walk_of sh m passes k p c S at cursor = subst (CursorIs sh m.log (length p.seen)) cursor (S.knows k p at).walk
+
+says_of_passes : (sh : Layout) (m : Base) (passes : List Pass) → LayoutLaw sh → Stands sh m passes → SaysOfPasses sh m passes
+says_of_passes sh m passes shaped S = let law = S.law in record {
+  writer = law.writers;
+  whole = law.whole;
+  held = S.held;
+  one = S.once;
+  book = λ k i w h. (let b = (S.knows k h.pass h.at).books i h.book h.held in b.1 ∙ ap (book_at m) h.writer);
+  seen = λ k o p e at there. (let P = S.knows k p at in let s = seen_at sh m p o e law P there in let lt = s.4 in let within = P.within in let t = tail_is sh m 1 law (omega arith) in
+      (omega (arith, lt, within, t), s.0, s.1, s.2, s.3));
+  spells = λ k o i p e at there small. (entry_tells sh m p o i shaped law (S.knows k p at)).plains e there small;
+  olds = λ k j p old at there. (let P = S.knows k p at in let x = P.olds j old there in
+      ap (λ (es : List Entry). take (length old) es) P.seen ∙ (front_take m.log (length old) (length p.seen) x.0 ∙ sym x.1));
+  look = λ k o i p at lt last word value. (let d = (S.knows k p at).look o i lt last word value in done_one sh m o i d.0 law d.1 d.2 last);
+  named = λ k o p c at cursor link. (let walk = walk_of sh m passes k p c S at cursor in let leads = subst (Leads sh m.log c) link walk.leads in (leads.0, leads.1, leads.4));
+  left = λ k o p c e at cursor there stands. (let s = seen_at sh m p o e law (S.knows k p at) there in
+      (walk_of sh m passes k p c S at cursor).left o s.0 s.4 s.1 (sym (ap (λ (x : Entry). x.writer) s.3) ∙ stands.0) (ap (λ (x : Entry). sh.path x.row c.spot.lane) (sym s.3) ∙ stands.1));
+}
+
+pub lawful_says_plainly : LawfulSaysAllPlainly
+lawful_says_plainly s words passes is law = (law.base, law.spelled, says (layout s) law.base passes (layout_law s is) law.stands, says_of_passes (layout s) law.base passes (layout_law s is) law.stands)
 
 plays_kept : (sh : Layout) (x : World) (es : List (ℕ × Event)) (y : World) → LayoutLaw sh → Lawful sh x.words x.passes → Plays sh x es y → Lawful sh y.words y.passes
 plays_kept sh x [] y shaped law run = subst (λ (z : World). Lawful sh z.words z.passes) (sym run) law

@@ -8,3 +8,4 @@ pub mod Nibbles
 pub mod Shapes
 pub mod Plainly
 pub mod Laws
+pub mod PlainPasses

@@ -1,5 +1,5 @@
 // The theorems.
-ghost use Rattle.cf_law.specs.Plainly.{LawfulSaysPlainly};
+ghost use Rattle.cf_law.specs.PlainPasses.{LawfulSaysAllPlainly};
 ghost use Rattle.cf_law.specs.Laws.{EveryListKeepsTheLaw, OpeningIsEmpty, ReadTailCoversFinished, WriteTailIsBounded, SeenNeverChanges, WordsTell, StepsTell};
 
 /// The opening is lawful, with all words 0 and empty books.
@@ -12,9 +12,9 @@ pub fn every_list_keeps_the_law()
     ensures { EveryListKeepsTheLaw }
 {}
 
-/// What the law says of words, each clause by itself.
+/// What the law says of words, books and passes, each clause by itself.
 pub fn lawful_worlds_say_plainly()
-    ensures { LawfulSaysPlainly }
+    ensures { LawfulSaysAllPlainly }
 {}
 
 /// The read tail never passes an unfinished ticket.

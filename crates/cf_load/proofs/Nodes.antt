@@ -22,7 +22,7 @@ use Rattle.cf_law.specs.Passes.{Book, Pass}
 use Rattle.cf_law.specs.Shapes.{path_in}
 use Rattle.cf_law.proofs.Nibbles.{length-nibbles, nibbles_more, same_from_nibbles}
 use Rattle.cf_append.proofs.Distinct.{on_path_node}
-use Rattle.cf_append.proofs.Pathing.{path_some}
+use Rattle.cf_law.proofs.Paths.{path_some}
 use Rattle.cf_walk.proofs.Turns.{nibbles_split}
 use Rattle.cf_walk.proofs.Keys.{key_small}
 use Rattle.cf_load.specs.Needed.{IsNeeded, IsOut, HasNodes}

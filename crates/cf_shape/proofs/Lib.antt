@@ -3,3 +3,4 @@ pub mod Measured
 pub mod Used
 pub mod Slots
 pub mod Bounds
+pub mod KeyLevels

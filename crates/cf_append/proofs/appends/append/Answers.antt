@@ -5,7 +5,7 @@ use Rattle.cf_append.specs.Appends.{HasMade}
 use Rattle.cf_append.proofs.Appending.{may_begin}
 use Rattle.cf_append.proofs.Pathing.{leaves_still}
 use Rattle.cf_append.proofs.Cells.{may_close}
-use Rattle.cf_append.proofs.Whole.{HasBegun, HasCells, HasEnded, begun_book, begun_self, begun_leaves, cells_self, cells_writer, ended_strides, appended, late, all_steps, path_within}
+use Rattle.cf_append.proofs.Whole.{HasBegun, HasCells, HasEnded, begun_book, begun_self, begun_leaves, cells_self, cells_writer, ended_strides, appended, appended_stops, late, all_steps, path_within}
 use Rattle.cf_append.proofs.appends.append.Goals as goal
 
 pub returns-in_default-clause-steps : goal.returns-in_default-clause-steps
@@ -135,6 +135,29 @@ returns-clause-answer g c =
       finishes = c.finish_record.ensures.made;
     } in
     appended s row m p c.take_ticket-found.new.pass c.fill.new.pass c.fill_cells.new.pass c.link_all.new.pass c.finish_record.new.pass c.move_tail.new.pass o (sym c.over.ensures ∙ c.if-over.false) P E c.move_tail.ensures.books c.move_tail.ensures.stops
+
+pub returns-clause-stops : goal.returns-clause-stops
+returns-clause-stops g c =
+    let s = c.args.log.now.shape in
+    let row = c.args.row.now in
+    let m = c.args.pass.now in
+    let p = c.make_paths.new.pass in
+    let o = c.take_ticket-found.result in
+    let low = c.if-found-from.false in
+    let wide = c.from.ensures in
+    let room = c.capacity.ensures.capacity ∙ ap (λ (x : Shaped). x.capacity) c.shape.ensures.shape in
+    let P : HasMade s row m p = record { strides = c.make_paths.ensures.strides; used = c.make_paths.ensures.used; leaves = c.in-Some.leaves; whole = c.in-Some.ensures.answer } in
+    let E : HasEnded s row p c.take_ticket-found.new.pass c.fill.new.pass c.fill_cells.new.pass c.link_all.new.pass c.finish_record.new.pass o = record {
+      cells = record {
+        begun = record { room = omega (arith, low, wide, room); took = c.take_ticket-found.ensures.made; is = c.fill.ensures.pass };
+        strides = c.fill_cells.ensures.strides;
+        filled = c.fill_cells.ensures.filled;
+      };
+      strides = c.link_all.ensures.strides;
+      linked = c.link_all.ensures.linked;
+      finishes = c.finish_record.ensures.made;
+    } in
+    appended_stops s row m p c.take_ticket-found.new.pass c.fill.new.pass c.fill_cells.new.pass c.link_all.new.pass c.finish_record.new.pass c.move_tail.new.pass o P E c.move_tail.ensures.stops
 
 pub returns-clause-steps : goal.returns-clause-steps
 returns-clause-steps g c =

@@ -1,7 +1,7 @@
 use Rattle.std.proofs.Common.{◌-◌, ◌/◌, ◌%◌, false, true}
 use Rattle.cf_shape.specs.Nodes.{levels_of}
 use Rattle.cf_law.specs.Nibbles.{nibbles}
-use Rattle.cf_append.proofs.Levels.{levels_two}
+use Rattle.cf_shape.proofs.KeyLevels.{levels_two}
 use Rattle.cf_append.proofs.Pathing.{selected_there, row_path}
 use Rattle.cf_append.proofs.Cells.{may_top, linked_more, linked_skip}
 use Rattle.cf_append.proofs.links.link_in.Goals as goal

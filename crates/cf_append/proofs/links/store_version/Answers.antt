@@ -13,7 +13,7 @@ use Rattle.cf_law.specs.Passes.{Book}
 use Rattle.cf_table.specs.Held.{book_of}
 use Rattle.cf_append.specs.Linking.{amounts, key_path, leaf_chain, cell_from}
 use Rattle.cf_append.proofs.Newest.{amounts_few, top_few, quad_cell, three_words}
-use Rattle.cf_append.proofs.Levels.{levels_two}
+use Rattle.cf_shape.proofs.KeyLevels.{levels_two}
 use Rattle.cf_append.proofs.Pathing.{selected_there, row_path}
 use Rattle.cf_append.proofs.Cells.{cell_next, cell_low, unmeasured_next, head_chain, book_same, filled_skip, filled_more, may_version, store_strides}
 use Rattle.cf_append.proofs.links.store_version.Goals as goal

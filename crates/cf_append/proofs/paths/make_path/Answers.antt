@@ -4,7 +4,7 @@ use Rattle.cf_shape.specs.Nodes.{levels_of}
 use Rattle.cf_append.specs.declared.paths.Prefix.{Prefix}
 use Rattle.cf_append.specs.Paths.{IsAlong, IsOnPath}
 use Rattle.cf_append.proofs.Walking.{used_by, used_same}
-use Rattle.cf_append.proofs.Levels.{levels_two}
+use Rattle.cf_shape.proofs.KeyLevels.{levels_two}
 use Rattle.cf_append.proofs.Pathing.{IsWhole, on_path, leaf_there, whole_prefix}
 use Rattle.cf_append.proofs.paths.make_path.Goals as goal
 

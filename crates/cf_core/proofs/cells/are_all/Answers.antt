@@ -2,7 +2,7 @@ use Rattle.std.proofs.Common.{◌≡◌, true, sym, ◌∙◌}
 use Rattle.cf_shape.specs.Lanes.{selected_by, key_of}
 use Rattle.cf_shape.specs.Nodes.{levels_of}
 use Rattle.cf_law.specs.Nibbles.{nibbles}
-use Rattle.cf_core.proofs.Paths.{path_some}
+use Rattle.cf_law.proofs.Paths.{path_some}
 use Rattle.cf_core.proofs.cells.are_all.Goals as goal
 
 pub returns-then-not-is_in : goal.returns-then-not-is_in

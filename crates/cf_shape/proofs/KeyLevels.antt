@@ -19,7 +19,7 @@ both_right : (a b : Bool) → a && b ≡ true → b ≡ true
 both_right true b both = both
 both_right false b both = cc
 
-lawful_at : (attrs : List Attr) (lanes : List Lane) (lane : ℕ) → lane < length lanes → list_all (is_lawful_lane attrs) lanes ≡ true → is_lawful_lane attrs (get_or lanes lane no_lane) ≡ true
+pub lawful_at : (attrs : List Attr) (lanes : List Lane) (lane : ℕ) → lane < length lanes → list_all (is_lawful_lane attrs) lanes ≡ true → is_lawful_lane attrs (get_or lanes lane no_lane) ≡ true
 lawful_at attrs [] lane lt all = absurd (omega (arith, lt))
 lawful_at attrs (first ∷ lanes) zero lt all = both_left _ _ all
 lawful_at attrs (first ∷ lanes) (suc lane) lt all = lawful_at attrs lanes lane (omega (arith, lt)) (both_right _ _ all)
