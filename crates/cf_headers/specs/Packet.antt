@@ -11,7 +11,8 @@ use Rattle.cf_headers.specs.declared.transport.Transport.TheVariants.{Unread, Tc
 
 -- Of the link and the bytes of a frame. Numbers have their highest byte first (RFC 791, appendix B).
 
--- where the type stands: after two addresses of 6 bytes, or after 14 bytes of a cooked frame (link 113)
+-- where the type stands: after two addresses of 6 bytes, or after 14 bytes of a cooked frame (link 113). No capture that is
+-- read has a link other than 1 and 113; a frame of such a link is read as if its type stood at 12, and has no addresses.
 abbrev pub type_at : ℕ → ℕ
 type_at link = if link == 113 then 14 else 12
 

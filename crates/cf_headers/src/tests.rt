@@ -131,6 +131,12 @@ fn a_tag_counts_where_it_is_whole(rt: HostRuntime) -> Result<(), Fail> {
     service.truncate(12);
     service.extend_from_slice(&[0x88, 0xa8, 0x20, 0x05])?;
     service.extend_from_slice(&SEGMENT[12..])?;
+    let mut length = tagged(alloc)?;
+    length.truncate(16);
+    length.extend_from_slice(&[0x00, 0x26, 0x42, 0x42, 0x03])?;
+    let mut arp = cooked(alloc)?;
+    arp.truncate(14);
+    arp.extend_from_slice(&[0x08, 0x06, 0x00, 0x01, 0x08, 0x00])?;
     // The link, the bytes, how many of them there are, and etype, kind, dport and vlan.
     let cases = [
         (1, tagged(alloc)?, 58, [2048, 2, 80, 5]),
@@ -143,6 +149,7 @@ fn a_tag_counts_where_it_is_whole(rt: HostRuntime) -> Result<(), Fail> {
         (1, tagged(alloc)?, 13, [0, 0, 0, 0]),
         (1, tagged_twice(alloc)?, 62, [0x8100, 0, 0, 4095]),
         (1, service, 58, [0x88a8, 0, 0, 0]),
+        (1, length, 21, [0x26, 0, 0, 5]),
         (113, cooked(alloc)?, 56, [2048, 2, 80, 0]),
         (113, cooked(alloc)?, 36, [2048, 1, 0, 0]),
         (113, cooked(alloc)?, 35, [2048, 0, 0, 0]),
@@ -150,6 +157,7 @@ fn a_tag_counts_where_it_is_whole(rt: HostRuntime) -> Result<(), Fail> {
         (113, cooked(alloc)?, 15, [0, 0, 0, 0]),
         (113, cooked(alloc)?, 14, [0, 0, 0, 0]),
         (113, cooked(alloc)?, 13, [0, 0, 0, 0]),
+        (113, arp, 20, [0x0806, 0, 0, 0]),
         (113, cooked_and_tagged(alloc)?, 60, [2048, 2, 80, 4095]),
         (113, cooked_and_tagged(alloc)?, 20, [2048, 0, 0, 4095]),
         (113, cooked_and_tagged(alloc)?, 19, [0x8100, 0, 0, 0]),
