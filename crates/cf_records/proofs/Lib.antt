@@ -3,3 +3,4 @@ pub mod Values
 pub mod Nexts
 pub mod Outcomes
 pub mod OneOutcome
+pub mod SomeOutcome

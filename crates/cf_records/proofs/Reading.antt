@@ -94,6 +94,11 @@ unfolding Reached
 joined cfg s s2 xs ys [] after h rest = rw (h.0, h.1) rest
 joined cfg s s2 xs ys (r ∷ rows) after h rest = let more = joined cfg h.0.1 s2 h.0.2 ys rows after h.3 rest in (more.0, more.1, (h.0, h.1, h.2, more.2), more.3)
 
+-- a text has some records
+pub some_read : (text : List ℕ) → (records : List (List (List ℕ))) × AreRead text records
+unfolding AreRead
+some_read text = left_from default_config (length (strip_bom text)) st.StartRecord (strip_bom text) (omega arith)
+
 -- what was read so far is the front of the text's records
 pub read_to_end : (text : List ℕ) (s : State) (ys : List ℕ) (records : List (List (List ℕ))) → Reached default_config st.StartRecord (strip_bom text) records s ys → (after : List (List (List ℕ))) × AreRead text (records ++ after)
 unfolding AreRead

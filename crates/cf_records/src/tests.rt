@@ -68,3 +68,16 @@ fn a_file_is_shorter_than_2_to_24_bytes(rt: HostRuntime) -> Result<(), Fail> {
     );
     Ok(())
 }
+
+#[test]
+fn a_file_may_have_65536_records(rt: HostRuntime) -> Result<(), Fail> {
+    let alloc = rt.alloc();
+    let schema = schema(alloc)?;
+    let mut text = Vec::new(alloc);
+    text.extend_from_slice(b"ts,dport\n")?;
+    for _ in 0..65_536u32 {
+        text.extend_from_slice(b"0,80\n")?;
+    }
+    assert_eq!(rt; read_records(alloc, &schema, &text)?.len(), 65_536);
+    Ok(())
+}
