@@ -9,6 +9,13 @@ pub struct Fired {
     pub value: u64,
 }
 
+/// The rows of a lane that have one key, as the quad of what the lane measures of them.
+#[derive(Clone, Copy, Debug, PartialEq, Eq)]
+pub struct Group {
+    pub key: u64,
+    pub quad: Quad,
+}
+
 /// Places in a log. Those of an answer ascend.
 #[derive(Debug, Drop)]
 pub struct Places {

@@ -10,7 +10,7 @@ mod scan;
 #[cfg(test)]
 mod tests;
 
-pub use answer::{Answer, Body, Fired, Marks, Places};
+pub use answer::{Answer, Body, Fired, Group, Marks, Places};
 pub use ask::{Ask, suits};
 pub use calls::{Call, Reply, run_calls};
 pub use history::{replies_are_histories, spelled_are_histories};
