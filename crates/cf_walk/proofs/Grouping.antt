@@ -1,5 +1,6 @@
 -- The groups of a lane's entries by their keys.
-use Rattle.std.proofs.Common.{◌≡◌, ◌∙◌, ℕ, zero, suc, ◌+◌, ◌-◌, ◌^◌, ◌<◌, ◌≤◌, ◌==◌, ◌&&◌, inl, inr, List, [], ◌∷◌, ◌++◌, length, map, filter, Bool, true, false, not, cond, Some, slice_get, refl, sym, ap, ap₂, arith}
+use Rattle.std.proofs.Common.{◌≡◌, ◌∙◌, ℕ, zero, suc, ◌+◌, ◌-◌, ◌^◌, ◌<◌, ◌≤◌, ◌==◌, ◌&&◌, inl, inr, List, [], ◌∷◌, ◌++◌, length, map, filter, Bool, true, false, not, cond, Some, slice_get, IfOk, Result, Ok, Err, refl, sym, ap, ap₂, arith}
+use Rattle.std.specs.declared.alloc.AllocError.{AllocError}
 use Rattle.std.specs.List.{range_with_len, list_any}
 use Rattle.std.specs.Bool.{nat_lt}
 use Rattle.std.proofs.lemmas.Bool.{cases_Bool, cases_eq, cases_order, eq-eqb, ne_eqb, le-leb, lt-leb, lt-ltb}
@@ -9,12 +10,15 @@ use Rattle.cf_row.specs.Row.{Numbered}
 use Rattle.cf_row.specs.declared.row.Entry.{Entry}
 use Rattle.cf_row.proofs.Bytes.{both}
 use Rattle.cf_fold.specs.Quads.{Counts, quad_of}
+use Rattle.cf_fold.specs.declared.trigger.Trigger.{Trigger}
 use Rattle.cf_shape.specs.Lanes.{Shaped, IsShape, selected_by, key_of, measure_of}
 use Rattle.cf_shape.specs.Nodes.{levels_of}
 use Rattle.cf_law.specs.Readers.{IsFit}
 use Rattle.cf_law.specs.Shapes.{layout}
-use Rattle.cf_plain.specs.Asks.{rows_in, is_between, is_keyed_between, total_over}
-use Rattle.cf_plain.specs.Groups.{keys_in, has_key, group_of, groups}
+use Rattle.cf_plain.specs.Asks.{rows_in, is_between, is_keyed_between, total_over, marks_in}
+use Rattle.cf_plain.specs.declared.answer.Fired.{Fired}
+use Rattle.cf_plain.specs.Groups.{keys_in, has_key, group_of, groups, as_group, pair_of}
+use Rattle.cf_plain.specs.declared.answer.Group.{Group}
 use Rattle.cf_plain.proofs.Grouped.{rise_ascending, any_ascending}
 use Rattle.cf_plain.proofs.Rising.{rising_is_one}
 use Rattle.cf_plain.proofs.Found.{rise_range, any_range}
@@ -79,7 +83,7 @@ none_grouped shape lane low high k rows none from upto =
     let e : (group_of shape lane rows k).1.count ≡ 0 = omega (arith, less, a, b, none) in
     ap (λ (n : ℕ). not (n == 0)) e
 
-pub none_found : (shape : Shaped) (lane first high last : ℕ) (seen : List Entry) (found : Counts) (before : List (ℕ × Counts)) → IsShape shape → lane < length shape.lanes → ((o : ℕ) (e : Entry) → slice_get seen o ≡ Some e → IsFit (layout shape) e) → high < 16 ^ levels_of shape lane
+pub none_found : (shape : Shaped) (lane first high last : ℕ) (seen : List Entry) (found : Counts) (before : List Group) → IsShape shape → lane < length shape.lanes → ((o : ℕ) (e : Entry) → slice_get seen o ≡ Some e → IsFit (layout shape) e) → high < 16 ^ levels_of shape lane
     → HasMeasured shape lane first high seen found last → found.count ≡ 0 → HasGrouped shape lane first high (rows_in seen) before before last
 none_found shape lane first high last seen found before is there fit top m none =
     let from = m.from in
@@ -88,12 +92,12 @@ none_found shape lane first high last seen found before is there fit top m none 
     record {
       from = from;
       upto = m.upto;
-      found = sym (append-nil before) ∙ ap (λ (ks : List ℕ). before ++ map (group_of shape lane (rows_in seen)) ks) (sym out);
+      found = sym (append-nil before) ∙ ap (λ (ks : List ℕ). before ++ map as_group (map (group_of shape lane (rows_in seen)) ks)) (sym out);
     }
 
 -- a key with entries is a group
-pub one_found : (shape : Shaped) (lane first high last : ℕ) (seen : List Entry) (found : Counts) (before after : List (ℕ × Counts)) → IsShape shape → lane < length shape.lanes → ((o : ℕ) (e : Entry) → slice_get seen o ≡ Some e → IsFit (layout shape) e) → high < 16 ^ levels_of shape lane
-    → HasMeasured shape lane first high seen found last → 0 < found.count → last ≡ first → after ≡ before ++ (first, found) ∷ [] → HasGrouped shape lane first high (rows_in seen) before after last
+pub one_found : (shape : Shaped) (lane first high last : ℕ) (seen : List Entry) (found : Counts) (before after : List Group) → IsShape shape → lane < length shape.lanes → ((o : ℕ) (e : Entry) → slice_get seen o ≡ Some e → IsFit (layout shape) e) → high < 16 ^ levels_of shape lane
+    → HasMeasured shape lane first high seen found last → 0 < found.count → last ≡ first → after ≡ before ++ record { key = first; quad = found } ∷ [] → HasGrouped shape lane first high (rows_in seen) before after last
 one_found shape lane first high last seen found before after is there fit top m some one push =
     let rows = rows_in seen in
     let e : found ≡ (group_of shape lane rows first).1 =
@@ -106,7 +110,7 @@ one_found shape lane first high last seen found before after is there fit top m 
     record {
       from = m.from;
       upto = m.upto;
-      found = push ∙ ap (λ (gs : List (ℕ × Counts)). before ++ gs) (sym (ap (groups_from shape lane rows first) n ∙ here));
+      found = push ∙ ap (λ (gs : List (ℕ × Counts)). before ++ map as_group gs) (sym (ap (groups_from shape lane rows first) n ∙ here));
     }
 
 -- Ranges of keys, one after the other.
@@ -124,7 +128,7 @@ groups_more shape lane rows low n m =
     ap (λ (ks : List ℕ). map f (filter p ks)) (range_more low n m)
     ∙ (ap (map f) (filter-append p (range_with_len low n) (range_with_len (low + n) m)) ∙ map-append f (filter p (range_with_len low n)) (filter p (range_with_len (low + n) m)))
 
-pub grouped_then : (shape : Shaped) (lane low high first last : ℕ) (rows old : List Numbered) (before middle after : List (ℕ × Counts)) → old ≡ rows → HasGrouped shape lane low high rows before middle first → HasGrouped shape lane (first + 1) high old middle after last
+pub grouped_then : (shape : Shaped) (lane low high first last : ℕ) (rows old : List Numbered) (before middle after : List Group) → old ≡ rows → HasGrouped shape lane low high rows before middle first → HasGrouped shape lane (first + 1) high old middle after last
     → HasGrouped shape lane low high rows before after last
 grouped_then shape lane low high first last rows old before middle after same a b =
     let x = a.from in
@@ -136,11 +140,12 @@ grouped_then shape lane low high first last rows old before middle after same a 
       from = omega (arith, x, y);
       upto = b.upto;
       found = b.found
-          ∙ (ap₂ (λ (xs ys : List (ℕ × Counts)). xs ++ ys) a.found (ap (λ (rs : List Numbered). groups_from shape lane rs (first + 1) (last - (first + 1) + 1)) same)
-          ∙ (append_assoc before xs (groups_from shape lane rows (first + 1) (last - (first + 1) + 1))
-          ∙ ap (λ (gs : List (ℕ × Counts)). before ++ gs)
+          ∙ (ap₂ (λ (xs ys : List Group). xs ++ ys) a.found (ap (λ (rs : List Numbered). map as_group (groups_from shape lane rs (first + 1) (last - (first + 1) + 1))) same)
+          ∙ (append_assoc before (map as_group xs) (map as_group (groups_from shape lane rows (first + 1) (last - (first + 1) + 1)))
+          ∙ (ap (λ (gs : List Group). before ++ gs) (sym (map-append as_group xs (groups_from shape lane rows (first + 1) (last - (first + 1) + 1))))
+          ∙ ap (λ (gs : List (ℕ × Counts)). before ++ map as_group gs)
           (ap (λ (k : ℕ). xs ++ groups_from shape lane rows k (last - (first + 1) + 1)) (sym e)
-          ∙ (sym (groups_more shape lane rows low (first - low + 1) (last - (first + 1) + 1)) ∙ ap (groups_from shape lane rows low) f))));
+          ∙ (sym (groups_more shape lane rows low (first - low + 1) (last - (first + 1) + 1)) ∙ ap (groups_from shape lane rows low) f)))));
     }
 
 -- All keys have all groups.
@@ -169,17 +174,26 @@ and_all true b h = refl
 and_all false true h = h refl
 and_all false false h = refl
 
-pub all_groups : (shape : Shaped) (lane top : ℕ) (seen : List Entry) (found : List (ℕ × Counts)) → IsShape shape → lane < length shape.lanes → ((o : ℕ) (e : Entry) → slice_get seen o ≡ Some e → IsFit (layout shape) e) → top + 1 ≡ 16 ^ levels_of shape lane
-    → HasGrouped shape lane 0 top (rows_in seen) [] found top → found ≡ groups shape lane (rows_in seen)
+pub all_groups : (shape : Shaped) (lane top : ℕ) (seen : List Entry) (found : List Group) → IsShape shape → lane < length shape.lanes → ((o : ℕ) (e : Entry) → slice_get seen o ≡ Some e → IsFit (layout shape) e) → top + 1 ≡ 16 ^ levels_of shape lane
+    → HasGrouped shape lane 0 top (rows_in seen) [] found top → found ≡ map as_group (groups shape lane (rows_in seen))
 all_groups shape lane top seen found is there fit most h =
     let rows = rows_in seen in
     let p = is_grouped shape lane rows in
     let n = top - 0 + 1 in
     let ks = map (key_of shape lane) (filter (selected_by shape lane) rows) in
     h.found
-    ∙ ap (map (group_of shape lane rows))
+    ∙ ap (λ (ks : List ℕ). map as_group (map (group_of shape lane rows) ks))
     (rising_is_one (filter p (range_with_len 0 n)) (keys_in shape lane rows) (rise_range p 0 n) (rise_ascending ks)
     (λ q. any_range p q 0 n (omega arith)
     ∙ (and_all (nat_lt q (0 + n)) (p q) (λ yes'. lt-ltb q (0 + n)
     (let lt = grouped_small shape lane q (16 ^ levels_of shape lane) seen (λ o e at. key_small shape lane e.row is there (fits_of shape e (fit o e at))) (keys_grouped shape lane q rows ∙ yes') in omega (arith, lt, most)))
     ∙ (sym (keys_grouped shape lane q rows) ∙ sym (any_ascending ks q)))))
+
+-- groups and pairs of a key and its quad are the same
+pub pairs_of : (gs : List (ℕ × Counts)) → map pair_of (map as_group gs) ≡ gs
+pairs_of [] = refl
+pairs_of (g ∷ gs) = ap (λ (rest : List (ℕ × Counts)). g ∷ rest) (pairs_of gs)
+
+pub marks_then : (trigger : Trigger) (gs : List Group) (pairs : List (ℕ × Counts)) (r : Result (List Fired) AllocError) → gs ≡ map as_group pairs → IfOk r (λ found. found ≡ marks_in trigger (map pair_of gs)) → IfOk r (λ found. found ≡ marks_in trigger pairs)
+marks_then trigger gs pairs (Ok found) same is = is ∙ (ap (λ (xs : List Group). marks_in trigger (map pair_of xs)) same ∙ ap (marks_in trigger) (pairs_of pairs))
+marks_then trigger gs pairs (Err e) same is = is

@@ -6,7 +6,8 @@ use Rattle.cf_row.specs.declared.row.Entry.{Entry}
 use Rattle.cf_fold.specs.Quads.{Counts, quad_of}
 use Rattle.cf_shape.specs.Lanes.{Shaped, measure_of}
 use Rattle.cf_plain.specs.Asks.{rows_in, row_at}
-use Rattle.cf_plain.specs.Groups.{group_of}
+use Rattle.cf_plain.specs.Groups.{group_of, as_group}
+use Rattle.cf_plain.specs.declared.answer.Group.{Group}
 use Rattle.cf_walk.specs.Walks.{range_places}
 
 -- what the lane measures of the entries at these places, of those that were seen
@@ -28,7 +29,7 @@ abbrev pub groups_from : Shaped → ℕ → List Numbered → ℕ → ℕ → Li
 groups_from shape lane rows low n = map (group_of shape lane rows) (filter (is_grouped shape lane rows) (range_with_len low n))
 
 -- all keys from the first up to the last were gone over, and their groups were found
-pub record HasGrouped (shape : Shaped) (lane first high : ℕ) (rows : List Numbered) (before after : List (ℕ × Counts)) (last : ℕ) : Type 0 where
+pub record HasGrouped (shape : Shaped) (lane first high : ℕ) (rows : List Numbered) (before after : List Group) (last : ℕ) : Type 0 where
   pub from : first ≤ last
   pub upto : last ≤ high
-  pub found : after ≡ before ++ groups_from shape lane rows first (last - first + 1)
+  pub found : after ≡ before ++ map as_group (groups_from shape lane rows first (last - first + 1))

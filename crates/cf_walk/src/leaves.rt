@@ -1,9 +1,9 @@
 // The groups of a lane's entries by their keys.
-ghost use Rattle.std.specs.Prelude.{◌≡◌, ◌^◌, ◌<◌, ◌≤◌, length, true, IfOk};
+ghost use Rattle.std.specs.Prelude.{◌≡◌, ◌^◌, ◌<◌, ◌≤◌, length, map, true, IfOk};
 ghost use Rattle.cf_shape.specs.Nodes.{levels_of};
 ghost use Rattle.cf_shape.specs.Uses.{is_measured};
 ghost use Rattle.cf_plain.specs.Asks.{rows_in, marks_in, marks_over};
-ghost use Rattle.cf_plain.specs.Groups.{groups as groups_by};
+ghost use Rattle.cf_plain.specs.Groups.{groups as groups_by, as_group, pair_of};
 ghost use Rattle.cf_table.specs.Held.{IsOf};
 ghost use Rattle.cf_table.specs.Moves.{AreFit};
 ghost use Rattle.cf_walk.specs.Walks.{OnlyWalked};
@@ -13,8 +13,8 @@ ghost use Rattle.cf_walk.specs.Reached.{IsPath};
 use crate::finds::greatest_key;
 use crate::measures::measure_key;
 use crate::tree::{Path, no_path};
-use cf_fold::{Quad, Trigger, fires};
-use cf_plain::{Fired, Marks};
+use cf_fold::{Trigger, fires};
+use cf_plain::{Fired, Group, Marks};
 use cf_row::Memory;
 use cf_table::{MultiLog, Pass, Steps};
 use std::alloc::Global;
@@ -27,7 +27,7 @@ fn add_group<P: Pass, L: Ledger>(
     lane: u8,
     range: (u64, u64),
     path: &mut Path,
-    groups: &mut Vec<(u64, Quad)>,
+    groups: &mut Vec<Group>,
     steps: &mut Steps<L>,
 ) -> Result<u64, Memory>
     requires of { IsOf (P.held pass.old) log.now }
@@ -45,7 +45,7 @@ fn add_group<P: Pass, L: Ledger>(
     let _lawful = log.shape();
     let (last, quad) = measure_key(log, pass, lane, range, path, steps);
     if quad.count() > 0 {
-        groups.push((range.0, quad))?;
+        groups.push(Group { key: range.0, quad })?;
     }
     Ok(last)
 }
@@ -58,13 +58,13 @@ pub fn groups<P: Pass, L: Ledger>(
     pass: &mut P,
     lane: u8,
     steps: &mut Steps<L>,
-) -> Result<Vec<(u64, Quad)>, Memory>
+) -> Result<Vec<Group>, Memory>
     requires of { IsOf (P.held pass.old) log.now }
     requires lane { lane < length log.now.shape.lanes }
     requires measured { is_measured log.now.shape lane ≡ true }
     requires fit { AreFit log.now.shape (P.held pass.old).view }
     requires few { length (P.held pass.old).view.seen ≤ log.now.shape.capacity }
-    ensures found { IfOk result (λ found. found.items ≡ groups_by log.now.shape lane (rows_in (P.held pass.old).view.seen)) }
+    ensures found { IfOk result (λ found. found.items ≡ map as_group (groups_by log.now.shape lane (rows_in (P.held pass.old).view.seen))) }
     ensures walked { OnlyWalked (P.held pass.old) (P.held pass.new) }
 {
     let high = greatest_key(log.shape(), lane);
@@ -86,15 +86,15 @@ pub fn groups<P: Pass, L: Ledger>(
 }
 
 // The groups in which the trigger fires.
-fn marked(alloc: Global, trigger: &Trigger, groups: &[(u64, Quad)]) -> Result<Marks, Memory>
-    ensures { IfOk result (λ found. found ≡ marks_in trigger.now groups.now) }
+fn marked(alloc: Global, trigger: &Trigger, groups: &[Group]) -> Result<Marks, Memory>
+    ensures { IfOk result (λ found. found ≡ marks_in trigger.now (map pair_of groups.now)) }
 {
     let mut items = Vec::new(alloc);
-    for (key, quad) in groups {
-        if fires(trigger, quad) {
+    for group in groups {
+        if fires(trigger, &group.quad) {
             items.push(Fired {
-                bucket: *key,
-                value: trigger.part.of(*quad),
+                bucket: group.key,
+                value: trigger.part.of(group.quad),
             })?;
         }
     }
