@@ -24,4 +24,5 @@ has_asked shape m n found made stays long =
       stays = stays;
       few = told.bounds.seen;
       fit = λ o e at. told.fit o e (ap (λ (es : List Entry). slice_get es o) (sym entries) ∙ at);
+      first = told.mine;
     }

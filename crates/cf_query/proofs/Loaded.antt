@@ -1,9 +1,12 @@
 -- The words of an entry that was seen are loaded.
-use Rattle.std.proofs.Common.{◌≡◌, ◌∙◌, ◌+◌, ◌-◌, ◌<◌, ◌^◌, ℕ, zero, suc, min, List, [], ◌∷◌, ◌++◌, length, take, get_or, Some, slice_get, ap, sym, arith}
+use Rattle.std.proofs.Common.{◌≡◌, ◌∙◌, ◌+◌, ◌-◌, ◌<◌, ◌^◌, ℕ, zero, suc, min, Bool, true, false, cond, List, [], ◌∷◌, ◌++◌, length, filter, get_or, Some, slice_get, ap, ap₂, sym, arith, append-nil}
+use Rattle.std.specs.List.{range_with_len}
 use Rattle.std.specs.Bool.{nat_lt}
 use Rattle.std.proofs.lemmas.Bool.Decides.{nat_tests}
 use Rattle.std.proofs.lemmas.Option.{slice_get-get_or}
-use Rattle.cf_row.specs.Row.{Fits, values_fit}
+use Rattle.cf_row.specs.Row.{Fits, Numbered, values_fit}
+use Rattle.cf_row.specs.Expr.{holds_of}
+use Rattle.cf_row.specs.declared.expr.Atom.{Atom}
 use Rattle.cf_row.specs.Words.{IsEntry, word_count, spelled}
 use Rattle.cf_row.specs.declared.row.Entry.{Entry}
 use Rattle.cf_row.proofs.Bytes.{both}
@@ -12,6 +15,7 @@ use Rattle.cf_law.specs.Passes.{Pass}
 use Rattle.cf_law.specs.Shapes.{layout}
 use Rattle.cf_law.specs.Readers.{IsFit}
 use Rattle.cf_plain.specs.Asks.{rows_in, row_at}
+use Rattle.cf_plain.proofs.Scanned.{place_more}
 use Rattle.cf_table.specs.Held.{Held}
 use Rattle.cf_table.specs.Ways.{Made, word_way}
 use Rattle.cf_table.specs.Moves.{OnlyLooked}
@@ -60,8 +64,19 @@ row_is [] (suc o) e at = absurd (cc at)
 row_is (x ∷ xs) zero e at = (let same : x ≡ e = cc at in ap (λ (y : Entry). y.row) (sym same))
 row_is (x ∷ xs) (suc o) e at = row_is xs o e at
 
-pub take_one : (seen : List Entry) (o : ℕ) (e : Entry) → slice_get seen o ≡ Some e → take (suc o) seen ≡ take o seen ++ e ∷ []
-take_one [] zero e at = absurd (cc at)
-take_one [] (suc o) e at = absurd (cc at)
-take_one (x ∷ xs) zero e at = (let same : x ≡ e = cc at in ap (λ (y : Entry). y ∷ []) same)
-take_one (x ∷ xs) (suc o) e at = ap (λ (es : List Entry). x ∷ es) (take_one xs o e at)
+-- The places of the entries of which an expression holds, and one entry more.
+abbrev holds_at : List (List Atom) → List Entry → ℕ → Bool
+holds_at expr seen place = holds_of expr (row_at (rows_in seen) place)
+
+scanned_more : (expr : List (List Atom)) (seen : List Entry) (o : ℕ) (e : Entry) (b : Bool) (found : List ℕ) → slice_get seen o ≡ Some e → b ≡ holds_of expr e.row → found ≡ filter (holds_at expr seen) (range_with_len 0 o)
+    → found ++ cond b (o ∷ []) [] ≡ filter (holds_at expr seen) (range_with_len 0 (o + 1))
+scanned_more expr seen o e b found at holds is =
+    ap₂ (λ (xs : List ℕ) (t : Bool). xs ++ cond t (o ∷ []) []) is (holds ∙ ap (λ (row : Numbered). holds_of expr row) (row_is seen o e at)) ∙ sym (place_more (holds_at expr seen) o)
+
+pub scanned_one : (expr : List (List Atom)) (seen : List Entry) (o : ℕ) (e : Entry) (b : Bool) (found after : List ℕ) → slice_get seen o ≡ Some e → b ≡ holds_of expr e.row → b ≡ true → found ≡ filter (holds_at expr seen) (range_with_len 0 o) → after ≡ found ++ o ∷ []
+    → after ≡ filter (holds_at expr seen) (range_with_len 0 (o + 1))
+scanned_one expr seen o e b found after at holds passes is push = push ∙ (ap (λ (t : Bool). found ++ cond t (o ∷ []) []) (sym passes) ∙ scanned_more expr seen o e b found at holds is)
+
+pub scanned_none : (expr : List (List Atom)) (seen : List Entry) (o : ℕ) (e : Entry) (b : Bool) (found : List ℕ) → slice_get seen o ≡ Some e → b ≡ holds_of expr e.row → b ≡ false → found ≡ filter (holds_at expr seen) (range_with_len 0 o)
+    → found ≡ filter (holds_at expr seen) (range_with_len 0 (o + 1))
+scanned_none expr seen o e b found at holds fails is = sym (append-nil found) ∙ (ap (λ (t : Bool). found ++ cond t (o ∷ []) []) (sym fails) ∙ scanned_more expr seen o e b found at holds is)

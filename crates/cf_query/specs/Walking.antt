@@ -1,5 +1,5 @@
 -- Questions that walk the trees and chains of a lane.
-use Rattle.std.specs.Prelude.{ℕ, ◌≡◌, ◌≤◌, ◌+◌, ◌-◌, List, [], length, true}
+use Rattle.std.specs.Prelude.{ℕ, ◌≡◌, ◌+◌, ◌-◌, ◌*◌, List, [], length}
 use Rattle.cf_shape.specs.Lanes.{Shaped}
 use Rattle.cf_shape.specs.Nodes.{levels_of}
 use Rattle.cf_plain.specs.declared.ask.Ask.{Ask}
@@ -31,3 +31,7 @@ places_in (bodies.Marks marks) = []
 -- One step for the read tail, one for each level and writer, one for each place found, and one for each place at or past the tail.
 abbrev pub steps_of_one : Shaped → ℕ → Body → ℕ → ℕ
 steps_of_one shape lane body tail = 1 + levels_of shape lane + shape.writers + length (places_in body) + (shape.capacity - tail)
+
+-- One step for the read tail, one for each level, one for each writer's head and three for its newest cell, and one for each place at or past the tail.
+abbrev pub steps_of_bucket : Shaped → ℕ → ℕ → ℕ
+steps_of_bucket shape lane tail = 1 + levels_of shape lane + 4 * shape.writers + (shape.capacity - tail)

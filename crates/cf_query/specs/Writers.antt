@@ -10,6 +10,10 @@ pub record IsWriters (log : LogValue) (writer : ℕ) (h : Held) : Type 0 where
   pub rest : Rests h.view
   pub writer_is : (book_of h.view).writer ≡ writer
 
+-- each pass is at rest, with the book of a writer
+abbrev pub AreReady : LogValue → List Held → Type 0
+AreReady log passes = (k : ℕ) (h : Held) → slice_get passes k ≡ Some h → (w : ℕ) × IsWriters log w h
+
 -- all books of a new log of the shape were dealt, each writer's in its place
 pub record AreDealtOut (shape : Shaped) (log : LogValue) (root : Held) (passes : List Held) : Type 0 where
   pub opened : log.shape ≡ shape

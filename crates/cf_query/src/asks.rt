@@ -1,16 +1,18 @@
 // Questions are answered.
-ghost use Rattle.std.specs.Prelude.{◌≡◌, ◌+◌, ◌≤◌, ◌⊎◌, length, IfOk, IfErr};
+ghost use Rattle.std.specs.Prelude.{◌≡◌, ◌+◌, ◌<◌, ◌≤◌, length, map, true, IfOk, IfErr};
+ghost use Rattle.cf_shape.specs.Uses.{is_measured};
 ghost use Rattle.cf_table.specs.Held.{IsOf};
-ghost use Rattle.cf_table.specs.Moves.{OnlyLooked, AreFit};
-ghost use Rattle.cf_plain.specs.Asks.{Suits, eval};
+ghost use Rattle.cf_plain.specs.Asks.{Suits, eval, rows_in, is_aggregate, is_keyed_between, total_over};
+ghost use Rattle.cf_plain.specs.Groups.{groups as groups_by, as_group};
 ghost use Rattle.cf_query.specs.Asking.{HasAsked};
-ghost use Rattle.cf_query.specs.Walking.{AsksOne, lane_of, steps_of_one};
+ghost use Rattle.cf_query.specs.Walking.{AsksOne, lane_of, steps_of_one, steps_of_bucket};
 
-use crate::rows::load_entry;
-use crate::walks::walk;
-use cf_plain::{Answer, Ask, Plain};
+use crate::bodies::body_of;
+use cf_fold::Quad;
+use cf_plain::{Answer, Ask, Group};
 use cf_row::Memory;
 use cf_table::{MultiLog, Pass, Steps};
+use cf_walk::measure_range;
 use std::alloc::Global;
 use std::sync::ledger::Ledger;
 
@@ -24,49 +26,8 @@ pub fn tail<P: Pass, L: Ledger>(log: &MultiLog, pass: &mut P, steps: &mut Steps<
     log.load_tail(pass, true, steps)
 }
 
-// The entries that were seen, as the list of one thread.
-fn collect<P: Pass, L: Ledger>(
-    log: &MultiLog,
-    alloc: Global,
-    pass: &mut P,
-    steps: &mut Steps<L>,
-) -> Result<Plain, Memory>
-    requires of { IsOf (P.held pass.old) log.now }
-    requires few { length (P.held pass.old).view.seen ≤ log.now.shape.capacity }
-    requires fit { AreFit log.now.shape (P.held pass.old).view }
-    ensures plain { IfOk result (λ plain. plain ≡ record { shape = log.now.shape; entries = (P.held pass.old).view.seen }) }
-    ensures looked { OnlyLooked (P.held pass.old) (P.held pass.new) }
-{
-    let _lawful = log.shape();
-    let mut plain = Plain::new(alloc, log.shape().copy(alloc)?);
-    for offset in 0..pass.covered() {
-        let entry = load_entry(log, alloc, pass, offset, steps)?;
-        plain.append(entry.writer, entry.row)?;
-    }
-    Ok(plain)
-}
-
-// The question's meaning on the entries that were seen.
-pub(crate) fn answer<P: Pass, L: Ledger>(
-    log: &MultiLog,
-    alloc: Global,
-    pass: &mut P,
-    ask: &Ask,
-    steps: &mut Steps<L>,
-) -> Result<Answer, Memory>
-    requires of { IsOf (P.held pass.old) log.now }
-    requires suits { Suits log.now.shape ask.now }
-    requires few { length (P.held pass.old).view.seen ≤ log.now.shape.capacity }
-    requires fit { AreFit log.now.shape (P.held pass.old).view }
-    ensures ok { IfOk result (λ answer. (answer.tail ≡ length (P.held pass.old).view.seen) × (answer.body ≡ eval log.now.shape ask.now (P.held pass.old).view.seen)) }
-    ensures looked { OnlyLooked (P.held pass.old) (P.held pass.new) }
-{
-    let plain = collect(log, alloc, pass, steps)?;
-    plain.ask(alloc, ask)
-}
-
 /// The question's meaning on the entries that are covered then, and how many they are. The read tail is loaded once, and
-/// the pass notes it. `Find` and `Between` walk the lane's tree and chains, so that a question for one key reads few words.
+/// the pass notes it. All but `List` walk the lane's tree and chains, so that a question for one key reads few words.
 pub fn ask<P: Pass, L: Ledger>(
     log: &MultiLog,
     alloc: Global,
@@ -77,9 +38,54 @@ pub fn ask<P: Pass, L: Ledger>(
     requires of { IsOf (P.held pass.old) log.now }
     requires suits { Suits log.now.shape ask.now }
     ensures ok { IfOk result (λ answer. HasAsked log.now.shape (P.held pass.old) (P.held pass.new) × (answer.tail ≡ length (P.held pass.new).view.seen) × (answer.body ≡ eval log.now.shape ask.now (P.held pass.new).view.seen)) }
-    ensures memory { IfErr result (λ _. HasAsked log.now.shape (P.held pass.old) (P.held pass.new) ⊎ OnlyLooked (P.held pass.old) (P.held pass.new)) }
+    ensures memory { IfErr result (λ _. HasAsked log.now.shape (P.held pass.old) (P.held pass.new)) }
     ensures steps { AsksOne ask.now → IfOk result (λ answer. steps.new ≤ steps.old + steps_of_one log.now.shape (lane_of ask.now) answer.body answer.tail) }
 {
-    tail(log, pass, steps);
-    walk(log, alloc, pass, ask, steps)
+    let tail = tail(log, pass, steps);
+    let body = body_of(log, alloc, pass, ask, steps)?;
+    Ok(Answer { tail, body })
+}
+
+/// The quad of what the lane measures of its entries that are covered then and have a bucket in the range, both ends taken in,
+/// and how many entries are covered. The read tail is loaded once, and the pass notes it. The lane's tree and chains are
+/// walked, and no memory is taken.
+pub fn measure<P: Pass, L: Ledger>(
+    log: &MultiLog,
+    pass: &mut P,
+    lane: u8,
+    low: u64,
+    high: u64,
+    steps: &mut Steps<L>,
+) -> (u32, Quad)
+    requires of { IsOf (P.held pass.old) log.now }
+    requires suits { is_aggregate log.now.shape lane ≡ true }
+    ensures asked { HasAsked log.now.shape (P.held pass.old) (P.held pass.new) }
+    ensures tail { result.0 ≡ length (P.held pass.new).view.seen }
+    ensures quad { result.1 ≡ total_over log.now.shape lane (is_keyed_between log.now.shape lane low high) (rows_in (P.held pass.new).view.seen) }
+    ensures steps { low ≡ high → steps.new ≤ steps.old + steps_of_bucket log.now.shape lane result.0 }
+{
+    let tail = tail(log, pass, steps);
+    let quad = measure_range(log, pass, lane, (low, high), steps);
+    (tail, quad)
+}
+
+/// The groups of a lane that measures something: for each key that an entry has which is covered then, ascending, the key and the
+/// quad of what the lane measures of its entries; and how many entries are covered. The read tail is loaded once, and the pass
+/// notes it. The lane's tree and chains are walked.
+pub fn groups<P: Pass, L: Ledger>(
+    log: &MultiLog,
+    alloc: Global,
+    pass: &mut P,
+    lane: u8,
+    steps: &mut Steps<L>,
+) -> Result<(u32, Vec<Group>), Memory>
+    requires of { IsOf (P.held pass.old) log.now }
+    requires lane { lane < length log.now.shape.lanes }
+    requires measured { is_measured log.now.shape lane ≡ true }
+    ensures ok { IfOk result (λ found. HasAsked log.now.shape (P.held pass.old) (P.held pass.new) × (found.0 ≡ length (P.held pass.new).view.seen) × (found.1.items ≡ map as_group (groups_by log.now.shape lane (rows_in (P.held pass.new).view.seen)))) }
+    ensures memory { IfErr result (λ _. HasAsked log.now.shape (P.held pass.old) (P.held pass.new)) }
+{
+    let tail = tail(log, pass, steps);
+    let groups = cf_walk::groups(log, alloc, pass, lane, steps)?;
+    Ok((tail, groups))
 }

@@ -1,15 +1,17 @@
 //! Questions are asked of a shared log by any pass, while writers append.
 //!
-//! `Find` and `Between` walk the tree and chains of their lane. So far any other question goes over all words below its read tail.
+//! A list goes over the words of all entries below its read tail. All other questions walk the tree and chains of their lane.
 #![tactic(auto)]
 
 mod asks;
+mod bodies;
 mod history;
+#[cfg(test)]
+mod lane_tests;
 mod rows;
 #[cfg(test)]
 mod tests;
-mod walks;
 
-pub use asks::{ask, tail};
+pub use asks::{ask, groups, measure, tail};
 pub use history::seals_are_histories;
 pub use rows::row;

@@ -34,7 +34,7 @@ fn attrs(alloc: Global, kinds: &[(&str, Kind)]) -> Result<Vec<Attr>, Memory> {
     Ok(attrs)
 }
 
-fn row_of(alloc: Global, num: u32, numbers: &[u64]) -> Result<Row, Memory> {
+pub(crate) fn row_of(alloc: Global, num: u32, numbers: &[u64]) -> Result<Row, Memory> {
     let mut values = Vec::new(alloc);
     for number in numbers {
         values.push(Value::Num(*number))?;
@@ -42,7 +42,7 @@ fn row_of(alloc: Global, num: u32, numbers: &[u64]) -> Result<Row, Memory> {
     Ok(Row::new(num, values))
 }
 
-fn atom(attr: u8, op: Op, number: u64) -> Atom {
+pub(crate) fn atom(attr: u8, op: Op, number: u64) -> Atom {
     Atom {
         attr,
         op,
@@ -51,7 +51,7 @@ fn atom(attr: u8, op: Op, number: u64) -> Atom {
     }
 }
 
-fn expr_of(alloc: Global, conjunctions: &[&[Atom]]) -> Result<Expr, Memory> {
+pub(crate) fn expr_of(alloc: Global, conjunctions: &[&[Atom]]) -> Result<Expr, Memory> {
     let mut all = Vec::new(alloc);
     for atoms in conjunctions {
         all.push(Conjunction::new(atoms.to_vec(alloc)?))?;
@@ -97,7 +97,7 @@ fn belong(schema: &Schema, lanes: &[Lane]) -> bool
 }
 
 // A shape with these lanes, each of which takes all rows.
-fn shape_of<R: Abort>(
+pub(crate) fn shape_of<R: Abort>(
     rt: &R,
     alloc: Global,
     kinds: &[(&str, Kind)],
@@ -121,7 +121,7 @@ fn shape_of<R: Abort>(
 }
 
 // A log of that shape, with all its books dealt.
-fn dealt(alloc: Global, shape: Shape) -> Result<(MultiLog, Root, Vec<WriterPass>), Fail>
+pub(crate) fn dealt(alloc: Global, shape: Shape) -> Result<(MultiLog, Root, Vec<WriterPass>), Fail>
     ensures { IfOk result (λ r. AreDealtOut shape r.0 r.1 r.2.items) }
 {
     let (log, mut root) = MultiLog::open(alloc, shape)?;
@@ -130,14 +130,14 @@ fn dealt(alloc: Global, shape: Shape) -> Result<(MultiLog, Root, Vec<WriterPass>
 }
 
 // The first pass.
-fn first_of<R: Abort>(rt: &R, passes: Vec<WriterPass>) -> WriterPass
+pub(crate) fn first_of<R: Abort>(rt: &R, passes: Vec<WriterPass>) -> WriterPass
     ensures { (rest : List Held) × (passes.items ≡ result ∷ rest) }
 {
     passes.into_iter().next().expect(rt, "a pass")
 }
 
 // The first two passes.
-fn two_of<R: Abort>(rt: &R, passes: Vec<WriterPass>) -> (WriterPass, WriterPass)
+pub(crate) fn two_of<R: Abort>(rt: &R, passes: Vec<WriterPass>) -> (WriterPass, WriterPass)
     ensures { (rest : List Held) × (passes.items ≡ result.0 ∷ result.1 ∷ rest) }
 {
     let mut passes = passes.into_iter();
@@ -147,7 +147,7 @@ fn two_of<R: Abort>(rt: &R, passes: Vec<WriterPass>) -> (WriterPass, WriterPass)
 }
 
 // The numbers of a body, in order.
-fn numbers_of(alloc: Global, body: &Body) -> Result<Vec<u64>, Memory> {
+pub(crate) fn numbers_of(alloc: Global, body: &Body) -> Result<Vec<u64>, Memory> {
     let mut numbers = Vec::new(alloc);
     match body {
         Body::Places(places) => {
@@ -170,7 +170,7 @@ fn numbers_of(alloc: Global, body: &Body) -> Result<Vec<u64>, Memory> {
 }
 
 // Asks, and compares the tail and then what was found.
-fn check<P: Pass, L: Ledger, R: Abort>(
+pub(crate) fn check<P: Pass, L: Ledger, R: Abort>(
     rt: &R,
     log: &MultiLog,
     alloc: Global,
@@ -192,7 +192,7 @@ fn check<P: Pass, L: Ledger, R: Abort>(
 }
 
 // Appends the row as the writer's next, at this offset.
-fn append_at<L: Ledger, R: Abort>(
+pub(crate) fn append_at<L: Ledger, R: Abort>(
     rt: &R,
     log: &MultiLog,
     writer: u8,
@@ -468,7 +468,7 @@ fn writers_ask_in_threads(rt: HostRuntime) -> Result<(), Fail> {
 }
 
 // Appends the rows of these numbers.
-fn append_all<L: Ledger, R: Abort>(
+pub(crate) fn append_all<L: Ledger, R: Abort>(
     rt: &R,
     log: &MultiLog,
     alloc: Global,
@@ -513,7 +513,7 @@ fn check_all<P: Pass, L: Ledger, R: Abort>(
 }
 
 // Rows are appended to a log of one lane, and questions asked of it.
-fn answers<L: Ledger, R: Abort>(
+pub(crate) fn answers<L: Ledger, R: Abort>(
     rt: &R,
     alloc: Global,
     blank: Blank,
@@ -531,7 +531,7 @@ fn answers<L: Ledger, R: Abort>(
     Ok(())
 }
 
-fn trigger(part: Part, op: Op, number: u64) -> Ask {
+pub(crate) fn trigger(part: Part, op: Op, number: u64) -> Ask {
     Ask::Fired(Trigger {
         agg: 0,
         part,

@@ -1,8 +1,19 @@
-use Rattle.cf_query.proofs.Walking.{walked_answer, walked_refused}
+use Rattle.std.proofs.Common.{◌≡◌, ◌∙◌, List, length, ap}
+use Rattle.cf_row.specs.declared.row.Entry.{Entry}
+use Rattle.cf_plain.specs.Asks.{eval}
+use Rattle.cf_query.proofs.Walking.{asked_walked, walked_seen, refused_too}
 use Rattle.cf_query.proofs.asks.ask.Goals as goal
 
 pub returns-clause-ok : goal.returns-clause-ok
-returns-clause-ok g c = walked_answer c.args.log.now.shape c.args.ask.now (g.P.Pass.held c.args.pass.now) (g.P.Pass.held c.tail.new.pass) (g.P.Pass.held c.walk.new.pass) c.walk.result c.tail.ensures.asked c.walk.ensures.walked c.walk.ensures.ok
+returns-clause-ok g c =
+    let m = g.P.Pass.held c.args.pass.now in
+    let n = g.P.Pass.held c.tail-tail.new.pass in
+    let o = g.P.Pass.held c.body_of.new.pass in
+    let seen = walked_seen n o c.body_of.ensures.walked in (
+      asked_walked c.args.log.now.shape m n o c.tail-tail.ensures.asked c.body_of.ensures.walked,
+      c.tail-tail.ensures.tail ∙ ap (λ (es : List Entry). length es) seen,
+      c.in_ok-body.ensures.body ∙ ap (λ (es : List Entry). eval c.args.log.now.shape c.args.ask.now es) seen,
+    )
 
-pub returns-clause-memory : goal.returns-clause-memory
-returns-clause-memory g c = walked_refused c.args.log.now.shape (g.P.Pass.held c.args.pass.now) (g.P.Pass.held c.tail.new.pass) (g.P.Pass.held c.walk.new.pass) c.walk.result c.tail.ensures.asked c.walk.ensures.walked
+pub returns-in_err-body-clause-memory : goal.returns-in_err-body-clause-memory
+returns-in_err-body-clause-memory g c = refused_too c.from_residual.result (asked_walked c.args.log.now.shape (g.P.Pass.held c.args.pass.now) (g.P.Pass.held c.tail-tail.new.pass) (g.P.Pass.held c.body_of.new.pass) c.tail-tail.ensures.asked c.body_of.ensures.walked)

@@ -1,0 +1,36 @@
+use Rattle.std.proofs.Common.{◌≡◌, ◌∙◌, ℕ, List, Some, Vec, Global, slice_get, length, ap, sym, subst}
+use Rattle.std.proofs.lemmas.List.{length-map}
+use Rattle.cf_row.specs.Row.{Fits}
+use Rattle.cf_row.specs.declared.row.Entry.{Entry}
+use Rattle.cf_row.specs.declared.schema.Attr.{Attr}
+use Rattle.cf_shape.specs.Lanes.{Shaped}
+use Rattle.cf_table.specs.Held.{Held}
+use Rattle.cf_table.proofs.Reading.{looked_then}
+use Rattle.cf_query.proofs.Loaded.{entry_fits, scanned_one, scanned_none}
+use Rattle.cf_query.proofs.bodies.scan.Goals as goal
+use Rattle.cf_query.proofs.bodies.scan.Goals.{then-holds+in_ok-push, else-holds}
+
+pub holds-requires-clause-fits : goal.holds-requires-clause-fits
+holds-requires-clause-fits g c =
+    let s = c.args.log.now.shape in
+    let e = c.in_ok-entry.entry in
+    let o = c.loop-offset.offset in
+    let at = sym (ap (λ (h : Held). slice_get (h.view).seen o) c.loop-offset.invariant.looked) ∙ c.in_ok-entry.ensures.entry in
+    let schema = c.schema-schema.ensures ∙ ap (λ (x : Shaped). x.schema) c.shape.ensures.shape in
+    subst (λ (attrs : List Attr). Fits attrs e.row) (sym schema) (entry_fits s e (c.requires.fit o e at))
+
+pub loop-offset-preserved : goal.loop-offset-preserved
+loop-offset-preserved g c =
+    let e = c.in_ok-entry.entry in
+    let o = c.loop-offset.offset in
+    let v = c.loop-offset.invariant in
+    let f = g.P.Pass.held c.args.pass.now in
+    let seen = (f.view).seen in
+    let at : slice_get seen o ≡ Some e = sym (ap (λ (h : Held). slice_get (h.view).seen o) v.looked) ∙ c.in_ok-entry.ensures.entry in
+    record {
+      found = elim c.if-holds.branch [
+        | then-holds+in_ok-push w ↦ scanned_one c.args.expr.now seen o e c.holds.result (c.loop-offset.found).items (c.if-holds.found).items at c.holds.ensures w.if-holds.true v.found (ap (λ (x : Vec ℕ Global). x.items) w.found-is ∙ w.in_ok-push.ensures.items)
+        | else-holds w ↦ ap (λ (x : Vec ℕ Global). x.items) w.found-is ∙ scanned_none c.args.expr.now seen o e c.holds.result (c.loop-offset.found).items at c.holds.ensures w.if-holds.false v.found
+      ];
+      looked = looked_then f (g.P.Pass.held c.loop-offset.pass) (g.P.Pass.held c.load_entry.new.pass) v.looked c.load_entry.ensures.looked;
+    }
