@@ -6,3 +6,4 @@ pub mod Same
 pub mod Legal
 pub mod Reported
 pub mod Answering
+pub mod Sizes

@@ -17,6 +17,13 @@ abbrev pub FinalPartIsOne : Type 0
 FinalPartIsOne =
     (shape : Shaped) (setup : Settled) (rows : List Numbered) (writers : ℕ) (order : List ℕ) → 0 < writers → IsOrder order (length rows) writers → final_text shape setup (rows_in (log_of rows writers order)) ≡ final_text shape setup rows
 
+-- The final part doesn't depend on the sizes of the log: with any capacity, writers and nodes, on the log of any valid order, it is that
+-- on the rows with any others.
+abbrev pub FinalPartHasNoSizes : Type 0
+FinalPartHasNoSizes =
+    (setup : Settled) (capacity writers nodes other_capacity other_writers other_nodes : ℕ) (rows : List Numbered) (order : List ℕ) → 0 < writers → IsOrder order (length rows) writers →
+    final_text (shaped setup capacity writers nodes) setup (rows_in (log_of rows writers order)) ≡ final_text (shaped setup other_capacity other_writers other_nodes) setup rows
+
 -- Answers that are meant on the log of a valid order of some rows make a text that is the report of those rows; with the final
 -- form, the text is what the questions and triggers mean on the rows.
 pub record MeantAnswersMakeReports : Type 0 where

@@ -1,9 +1,14 @@
 // Laws of reports.
-ghost use Rattle.cf_report.specs.Laws.{FinalPartIsOne, MeantAnswersMakeReports, ReportsAreHistories};
+ghost use Rattle.cf_report.specs.Laws.{FinalPartHasNoSizes, FinalPartIsOne, MeantAnswersMakeReports, ReportsAreHistories};
 
 /// The final part on the log of some rows is that on the rows, however many writers wrote them and in whatever order.
 pub fn final_part_is_one()
     ensures { FinalPartIsOne }
+{}
+
+/// The final part is the same for any two numbers of writers, capacities and numbers of nodes.
+pub fn final_part_has_no_sizes()
+    ensures { FinalPartHasNoSizes }
 {}
 
 /// Where the answers given to `report` are what the questions and triggers mean on a log of some rows, `report`

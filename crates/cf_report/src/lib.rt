@@ -3,6 +3,7 @@
 #![tactic(auto)]
 
 mod body;
+mod condition;
 mod laws;
 mod lines;
 mod live;
@@ -12,6 +13,9 @@ mod order;
 mod tests;
 mod text;
 
-pub use laws::{final_part_is_one, meant_answers_make_reports, reports_are_histories};
+pub use condition::is_answering;
+pub use laws::{
+    final_part_has_no_sizes, final_part_is_one, meant_answers_make_reports, reports_are_histories,
+};
 pub use loaded::{Live, Loaded};
 pub use text::{Form, report};

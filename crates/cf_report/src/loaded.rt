@@ -42,6 +42,15 @@ impl Loaded {
         }
     }
 
+    /// Its three lists: the answers of all questions, the marks of all triggers, and the answers of the live questions.
+    pub fn into_parts(self) -> (Vec<Answer>, Vec<Marks>, Vec<Live>)
+        ensures finals { result.0.items ≡ self.finals }
+        ensures alerts { result.1.items ≡ self.alerts }
+        ensures lives { result.2.items ≡ self.lives }
+    {
+        (self.finals, self.alerts, self.lives)
+    }
+
     /// The answers of all questions on the whole log.
     pub fn finals(&self) -> &[Answer]
         ensures { result.now ≡ self.now.finals }

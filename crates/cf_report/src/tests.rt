@@ -1,109 +1,10 @@
-ghost use Rattle.std.specs.Prelude.{◌≡◌, ◌<◌, All, IsTrue, length, true};
-ghost use Rattle.cf_report.specs.Answered.{is_body_of, ask_at, tolds_of, IsWithin, IsAnswering};
-
 use super::*;
 use cf_fold::Quad;
-use cf_plain::{Answer, Ask, Body, Fired, Marks, Places};
+use cf_plain::{Answer, Body, Fired, Marks, Places};
 use cf_row::{Entry, Memory, Row};
-use cf_setup::{Setup, parse_setup};
+use cf_setup::parse_setup;
 use std::alloc::Global;
 use std::test::Fail;
-
-fn is_kind(ask: &Ask, body: &Body) -> bool
-    ensures { IsTrue result → is_body_of ask.now body.now ≡ true }
-{
-    match ask {
-        Ask::List(_) => matches!(body, Body::Places(_)),
-        Ask::Find(_, _, _) => matches!(body, Body::Places(_)),
-        Ask::Between(_, _, _) => matches!(body, Body::Places(_)),
-        Ask::Measure(_, _, _) => matches!(body, Body::Total(_)),
-        Ask::Fired(_) => matches!(body, Body::Marks(_)),
-    }
-}
-
-fn is_within(count: usize, body: &Body) -> bool
-    ensures { IsTrue result → IsWithin count body.now }
-{
-    match body {
-        Body::Places(places) => places
-            .as_slice()
-            .iter()
-            .all(|place| (*place as usize) < count),
-        Body::Total(_) => true,
-        Body::Marks(_) => true,
-    }
-}
-
-fn are_of_kind(asks: &[Ask], finals: &[Answer]) -> bool
-    requires { length finals.now ≡ length asks.now }
-    ensures { IsTrue result → All (λ told. is_body_of told.ask told.body ≡ true) (tolds_of asks.now finals.now) }
-{
-    for place in 0..asks.len() {
-        if !is_kind(&asks[place], &finals[place].body) {
-            return false;
-        }
-    }
-    true
-}
-
-fn are_within(count: usize, finals: &[Answer]) -> bool
-    ensures { IsTrue result → All (λ answer. IsWithin count answer.body) finals.now }
-{
-    for answer in finals {
-        if !is_within(count, &answer.body) {
-            return false;
-        }
-    }
-    true
-}
-
-fn lives_exist(asks: usize, lives: &[Live]) -> bool
-    ensures { IsTrue result → All (λ live. live.ask < asks) lives.now }
-{
-    for live in lives {
-        if live.ask as usize >= asks {
-            return false;
-        }
-    }
-    true
-}
-
-fn lives_are_of_kind(setup: &Setup, lives: &[Live]) -> bool
-    requires { All (λ live. live.ask < length setup.now.asks) lives.now }
-    ensures { IsTrue result → All (λ live. is_body_of (ask_at setup.now live.ask) live.answer.body ≡ true) lives.now }
-{
-    let asks = setup.asks();
-    for live in lives {
-        if !is_kind(&asks[live.ask as usize], &live.answer.body) {
-            return false;
-        }
-    }
-    true
-}
-
-fn lives_are_within(count: usize, lives: &[Live]) -> bool
-    ensures { IsTrue result → All (λ live. IsWithin count live.answer.body) lives.now }
-{
-    for live in lives {
-        if !is_within(count, &live.answer.body) {
-            return false;
-        }
-    }
-    true
-}
-
-// Whether a report can be made of the answers.
-fn are_answering(setup: &Setup, count: usize, loaded: &Loaded) -> bool
-    ensures { IsTrue result → IsAnswering setup.now count loaded.now }
-{
-    loaded.finals().len() == setup.asks().len()
-        && loaded.alerts().len() == setup.triggers().len()
-        && are_of_kind(setup.asks(), loaded.finals())
-        && are_within(count, loaded.finals())
-        && lives_exist(setup.asks().len(), loaded.lives())
-        && lives_are_of_kind(setup, loaded.lives())
-        && lives_are_within(count, loaded.lives())
-}
 
 // What a question found: places, numbers that were measured, or buckets with their values.
 #[derive(Drop)]
@@ -195,10 +96,17 @@ fn text_of(alloc: Global, case: &Case, form: Form) -> Result<Option<Vec<u8>>, Me
     };
     let entries = log_of(alloc, case.log)?;
     let loaded = loaded_of(alloc, case)?;
-    if !are_answering(&setup, entries.len(), &loaded) {
+    if !is_answering(&setup, entries.len(), &loaded) {
         return Ok(None);
     }
-    Ok(Some(report(alloc, &setup, &entries, &loaded, form)?))
+    let text = report(alloc, &setup, &entries, &loaded, form)?;
+    let (finals, alerts, lives) = loaded.into_parts();
+    if (finals.len(), alerts.len(), lives.len())
+        != (case.finals.len(), case.alerts.len(), case.lives.len())
+    {
+        return Ok(None);
+    }
+    Ok(Some(text))
 }
 
 const FEW: &str =
@@ -293,6 +201,36 @@ fn live_answers_are_printed_with_what_is_new(rt: HostRuntime) -> Result<(), Fail
             text_of(alloc, &case, form)?.as_deref(),
             Some(text.as_bytes())
         );
+    }
+    Ok(())
+}
+
+#[test]
+fn answers_that_are_not_the_setups_are_told(rt: HostRuntime) -> Result<(), Fail> {
+    let alloc = rt.alloc();
+    let setup = "schema packet\nask all list len>=0\nlive all\n";
+    let log: &[(u8, u32)] = &[(0, 0), (0, 1)];
+    for (finals, lives, answering) in [
+        (
+            [Found::At(&[0, 1])].as_slice(),
+            [(0, 0, 1, Found::At(&[0]))].as_slice(),
+            true,
+        ),
+        (&[], &[], false),
+        (&[Found::At(&[0, 2])], &[], false),
+        (&[Found::In(&[])], &[], false),
+        (&[Found::At(&[])], &[(0, 1, 1, Found::At(&[0]))], false),
+        (&[Found::At(&[])], &[(0, 0, 1, Found::Of(&[1]))], false),
+        (&[Found::At(&[])], &[(0, 0, 1, Found::At(&[2]))], false),
+    ] {
+        let case = Case {
+            setup,
+            log,
+            finals,
+            alerts: &[],
+            lives,
+        };
+        assert_eq!(rt; text_of(alloc, &case, Form::Final)?.is_some(), answering);
     }
     Ok(())
 }

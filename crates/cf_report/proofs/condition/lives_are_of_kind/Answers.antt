@@ -1,11 +1,11 @@
-use Rattle.std.proofs.Common.{◌≡◌, ◌<◌, true, get_or, length, sym, subst, ◌∙◌, rules}
+use Rattle.std.proofs.Common.{refl, ◌≡◌, ◌<◌, true, get_or, length, sym, subst, ◌∙◌, rules}
 use Rattle.std.specs.List.{All}
 use Rattle.std.proofs.lemmas.List.{take_all, get_or_default}
 use Rattle.std.proofs.lemmas.List.Elements.{All-more}
 use Rattle.cf_plain.specs.declared.ask.Ask.{Ask}
 use Rattle.cf_report.specs.declared.loaded.Live.{Live}
 use Rattle.cf_report.specs.Answered.{ask_at, no_ask, is_body_of}
-use Rattle.cf_report.proofs.tests.lives_are_of_kind.Goals as goal
+use Rattle.cf_report.proofs.condition.lives_are_of_kind.Goals as goal
 
 pub loop-live-preserved : goal.loop-live-preserved
 loop-live-preserved c =
@@ -21,4 +21,4 @@ loop-live-preserved c =
     (subst (λ (l : Live). is_body_of (ask_at setup l.ask) l.answer.body ≡ true) c.live-item.is (subst (λ (a : Ask). is_body_of a live.answer.body ≡ true) same own))
 
 pub returns : goal.returns
-returns c = λ t. subst (All (λ (live : Live). is_body_of (ask_at c.args.setup.now live.ask) live.answer.body ≡ true)) (take_all c.loop-live.live-index c.args.lives.now c.loop-live-test.false) c.loop-live.invariant
+returns c = (λ t. subst (All (λ (live : Live). is_body_of (ask_at c.args.setup.now live.ask) live.answer.body ≡ true)) (take_all c.loop-live.live-index c.args.lives.now c.loop-live-test.false) c.loop-live.invariant, λ all. refl)
