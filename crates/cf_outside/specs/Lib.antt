@@ -2,3 +2,4 @@ pub mod Causes
 pub mod Files
 pub mod Script
 pub mod Shown
+pub mod Gate

@@ -1,4 +1,7 @@
 // A gate that brings writers and a reader into one order.
+ghost use Rattle.std.specs.Prelude.{◌≡◌};
+ghost use Rattle.cf_outside.specs.Gate.{most_turns as turns_at_most};
+
 use crate::Gate;
 use std::sync::atomic::{AtomicU64, Ordering};
 use std::thread::yield_now;
@@ -40,7 +43,8 @@ enum Place {
 /// `before_append` until `after_ask(1)` was called. Other calls wait for nothing. A wait gives up
 /// after ten million turns.
 ///
-/// This is a test's tool: no contract says what it does, but that each call returns.
+/// This is a test's tool: contracts say how many turns a wait takes at most, and that each call returns, but not what a
+/// wait waits for.
 #[derive(Drop)]
 pub struct HoldGate {
     writers: u8,
@@ -54,12 +58,16 @@ pub struct HoldGate {
 
 impl HoldGate {
     /// A gate for the writers from 0 on, of which 16 are counted at most.
-    pub fn new(writers: u8) -> HoldGate {
+    pub fn new(writers: u8) -> HoldGate
+        ensures { turns_at_most result ≡ 10000000 }
+    {
         HoldGate::with_turns(writers, TURNS)
     }
 
     // The same, with waits that give up after that many turns.
-    pub(crate) fn with_turns(writers: u8, most_turns: u32) -> HoldGate {
+    pub(crate) fn with_turns(writers: u8, most_turns: u32) -> HoldGate
+        ensures { turns_at_most result ≡ most_turns }
+    {
         HoldGate {
             writers,
             most_turns,

@@ -6,18 +6,24 @@ ghost use Rattle.std.specs.Io.KnownBytes.{ReadConsumes};
 ghost use Rattle.cf_outside.specs.Causes.{HasCause, HasOpenCause};
 ghost use Rattle.cf_outside.specs.Files.{File, Opens};
 
+use thiserror::Error;
+
 /// A device has failed.
-#[derive(Clone, Copy, Debug, PartialEq, Eq)]
+#[derive(Clone, Copy, Debug, PartialEq, Eq, Error)]
+#[error("the device has failed")]
 pub struct Failed;
 
 /// Why a file was not opened.
-#[derive(Clone, Copy, Debug, PartialEq, Eq)]
+#[derive(Clone, Copy, Debug, PartialEq, Eq, Error)]
 pub enum OpenFault {
     /// The name has no file. This is no fault of the device.
+    #[error("no file has that name")]
     Missing,
     /// The device has failed.
+    #[error("the device has failed")]
     Failed,
     /// Want of memory, which is no fault of the device.
+    #[error("out of memory")]
     Memory,
 }
 
