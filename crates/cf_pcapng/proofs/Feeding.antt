@@ -1,5 +1,5 @@
 -- What a call that takes one more piece gives and answers, and what the end of a stream answers.
-use Rattle.std.proofs.Common.{◌≡◌, ◌⊎◌, inl, inr, ℕ, ◌<◌, ◌≤◌, ◌+◌, ◌-◌, ◌^◌, min, true, false, List, [], ◌∷◌, ◌++◌, length, take, drop, Option, Some, None, Result, Ok, Err, is_some, refl, sym, ap, subst, ◌∙◌, arith, append_assoc, append-nil, length-append, length-take, length-drop}
+use Rattle.std.proofs.Common.{◌≡◌, ◌⊎◌, inl, inr, ℕ, ◌<◌, ◌≤◌, ◌+◌, ◌-◌, ◌^◌, min, true, false, Bool, List, [], ◌∷◌, ◌++◌, length, take, drop, Option, Some, None, Result, Ok, Err, is_some, refl, sym, ap, subst, ◌∙◌, arith, append_assoc, append-nil, length-append, length-take, length-drop}
 use Rattle.std.proofs.lemmas.List.{take-append-drop}
 use Rattle.cf_pcap.specs.declared.form.Order.{Order}
 use Rattle.cf_pcap.specs.Capture.{Captured}
@@ -15,8 +15,11 @@ use Rattle.cf_pcapng.specs.declared.stage.Stage.{Stage}
 use Rattle.cf_pcapng.specs.declared.stage.Stage.TheVariants.{Running, Stopped}
 use Rattle.cf_pcapng.specs.declared.passed.Passed.{Passed}
 use Rattle.cf_pcapng.specs.File.{State, fault_of, step, pcapng}
+use Rattle.cf_pcapng.specs.Position.{listed, Since, state_of}
 use Rattle.cf_pcapng.specs.Reading.{WasPassed, Begins, Breaks, AreReadOn, IsGoneOn, MayGoOn}
-use Rattle.cf_pcapng.specs.Reader.{Reader, IsRunning, IsAt, IsStateOf, IsFed, AnswersFound, IsEnded, IsSoundAt, IsSound, answer_at, IsCalled, kept_at, ShowsLate, IsStageAtLimit, IsStageAfter}
+use Rattle.cf_pcapng.specs.Reader.{Reader, IsRunning, IsAt, IsStateOf, IsFed, AnswersFound, IsEnded, IsSoundAt, IsSound, answer_at, IsCalled, state_after, kept_at, ShowsLate, IsStageAtLimit, IsStageAfter}
+use Rattle.cf_pcapng.specs.declared.interfaces.Interface.{Interface}
+use Rattle.cf_pcapng.specs.declared.position.Reached.{Reached}
 use Rattle.cf_pcapng.specs.declared.head.Kind.TheVariants.{Other}
 use Rattle.cf_pcapng.proofs.Heads.{standing}
 use Rattle.cf_pcapng.proofs.Steps.{stepper}
@@ -168,6 +171,27 @@ called before piece early late bytes given s t passed held kept flaw total stage
           fed_case before stream piece early late given t passed held flaw total stage call (reads run.gone run.was) at total_is,
     ) in
     subst (λ (xs : List ℕ). IsCalled before piece given (record { stage = stage; total = total; state = t; passed = passed; held = xs })) (sym kept_is) done
+
+-- a state by its parts
+abbrev state_by : Option Order → List Interface → Bool → List Interface → ℕ → State
+state_by order had anew came count = record { order = order; interfaces = listed had anew came; count = count }
+
+-- the state that a piece brings a reader to, by the position at its end
+pub reached_is : (had : List Interface) (reached : Reached) (p : Since) → had ≡ p.listed.had → reached.order ≡ p.order → reached.anew ≡ p.listed.anew → reached.came.items ≡ p.listed.came → reached.count ≡ p.count → state_of p ≡ state_after had reached
+reached_is had reached p had_is order anew came count =
+    ap (λ x. state_by x p.listed.had p.listed.anew p.listed.came p.count) (sym order)
+    ∙ ap (λ x. state_by reached.order x p.listed.anew p.listed.came p.count) (sym had_is)
+    ∙ ap (λ x. state_by reached.order had x p.listed.came p.count) (sym anew)
+    ∙ ap (λ x. state_by reached.order had reached.anew x p.count) (sym came)
+    ∙ ap (λ x. state_by reached.order had reached.anew reached.came.items x) (sym count)
+
+-- at the begin of a file
+pub no_interfaces : (interfaces : List Interface) → interfaces ≡ [] → record { order = None; interfaces = interfaces; count = 0 } ≡ pcapng.start
+no_interfaces interfaces h = ap (λ x. state_by None [] true x 0) h
+
+-- a reader's own position
+pub position_is : (s : State) (p : Since) (had : List Interface) → had ≡ s.interfaces → p ≡ record { order = s.order; listed = record { had = had; anew = false; came = [] }; count = s.count } → state_of p ≡ s
+position_is s p had had_is is = ap state_of is ∙ ap (λ x. state_by s.order x false [] s.count) had_is ∙ ap (λ x. state_by s.order [] true x s.count) (append-nil s.interfaces)
 
 -- The other calls.
 

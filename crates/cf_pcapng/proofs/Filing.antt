@@ -1,14 +1,16 @@
 -- What a file is, by the rules.
-use Rattle.std.proofs.Common.{◌≡◌, inl, inr, ℕ, ◌+◌, List, [], ◌∷◌, length, drop, refl, sym, ap, subst, ◌∙◌, arith}
+use Rattle.std.proofs.Common.{◌≡◌, ◌⊎◌, inl, inr, ℕ, ◌+◌, List, [], ◌∷◌, length, drop, refl, sym, ap, subst, ◌∙◌, arith}
 use Rattle.cf_pcap.specs.Capture.{Captured}
-use Rattle.cf_stream.specs.Format.{Wants, Bad, Takes, Part, AreUnitsThen, ReadsTo, Shows, seen, HasTooManyBytes, IsCut}
+use Rattle.cf_stream.specs.Format.{Wants, Bad, Takes, Part, AreUnitsThen, ReadsTo, Shows, seen, HasTooManyBytes, IsCut, IsWhole, HasFault}
 use Rattle.cf_stream.proofs.Units.{reads_count}
+use Rattle.cf_stream.proofs.Cases.{one_case}
 use Rattle.cf_pcapng.specs.declared.fault.Flaw.{Flaw}
 use Rattle.cf_pcapng.specs.declared.fault.Flaw.TheVariants.{BadMagic, BadVersion, BadLink, FrameTooLong, BadLength, NoInterface}
 use Rattle.cf_pcapng.specs.declared.fault.NgFault.{NgFault}
 use Rattle.cf_pcapng.specs.declared.fault.NgFault.TheVariants as faults
 use Rattle.cf_pcapng.specs.File.{State, fault_of, step, pcapng, IsNg, HasNgFault}
 use Rattle.cf_pcapng.specs.Rules.{AreBlocksThen, BeginsWith, IsFileOf, ShowsFlaw, IsPart, EndsWithin, IsTooLong, HasFaultOf, FileByRules}
+use Rattle.cf_pcapng.specs.Laws.{OneCase}
 use Rattle.cf_pcapng.proofs.Steps.{Shown, stepper}
 use Rattle.cf_pcapng.proofs.Ruling.{steps_by_rules}
 
@@ -131,3 +133,19 @@ rules_by_fault file faults.Memory h = absurd h
 
 pub file_by_rules : (file : List ℕ) → FileByRules file
 file_by_rules file = record { capture = file_of file; is_capture = capture_of file; fault = fault_by_rules file; is_fault = rules_by_fault file }
+
+-- Each file is in one case.
+
+some_case : (file : List ℕ) → FileByRules file → ((frames : List Captured) × IsWhole pcapng file frames) ⊎ ((fault : NgFault) × HasFault pcapng file fault) → ((frames : List Captured) × IsFileOf file frames) ⊎ ((fault : NgFault) × HasFaultOf file fault)
+some_case file by (inl h) = inl (h.0, by.capture h.0 h.1)
+some_case file by (inr h) = inr (h.0, by.fault h.0 h.1)
+
+pub one_case_of : (file : List ℕ) → OneCase file
+one_case_of file =
+    let one = one_case pcapng stepper file in
+    let by : FileByRules file = file_by_rules file in record {
+      some = some_case file by one.some;
+      either = λ frames fault p q. one.either frames fault (by.is_capture frames p) (by.is_fault fault q);
+      one_capture = λ a b p q. one.one_whole a b (by.is_capture a p) (by.is_capture b q);
+      one_fault = λ a b p q. one.one_fault a b (by.is_fault a p) (by.is_fault b q);
+    }

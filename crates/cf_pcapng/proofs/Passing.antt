@@ -15,7 +15,7 @@ use Rattle.cf_pcapng.specs.declared.head.Kind.{Kind}
 use Rattle.cf_pcapng.specs.declared.head.Kind.TheVariants.{Other}
 use Rattle.cf_pcapng.specs.declared.head.Head.{Head}
 use Rattle.cf_pcapng.specs.declared.head.Head.TheVariants.{Short, Flawed, Stands}
-use Rattle.cf_pcapng.specs.declared.content.Interface.{Interface}
+use Rattle.cf_pcapng.specs.declared.interfaces.Interface.{Interface}
 use Rattle.cf_pcapng.specs.declared.content.Content.{Content}
 use Rattle.cf_pcapng.specs.declared.content.Content.TheVariants.{Nothing}
 use Rattle.cf_pcapng.specs.declared.passed.Passed.{Passed}

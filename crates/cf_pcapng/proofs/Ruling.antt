@@ -12,7 +12,7 @@ use Rattle.cf_pcapng.specs.declared.fault.NgFault.{NgFault}
 use Rattle.cf_pcapng.specs.declared.head.Kind.{Kind}
 use Rattle.cf_pcapng.specs.declared.head.Kind.TheVariants.{SectionHeader, InterfaceDescription, EnhancedPacket, SimplePacket, Other}
 use Rattle.cf_pcapng.specs.declared.head.Head.TheVariants.{Short, Flawed, Stands}
-use Rattle.cf_pcapng.specs.declared.content.Interface.{Interface}
+use Rattle.cf_pcapng.specs.declared.interfaces.Interface.{Interface}
 use Rattle.cf_pcapng.specs.declared.content.Packet.{Packet}
 use Rattle.cf_pcapng.specs.declared.content.Content.{Content}
 use Rattle.cf_pcapng.specs.declared.content.Content.TheVariants.{NewSection, NewInterface, Captures, Nothing}
@@ -48,35 +48,35 @@ test_le n m h = grind (arith, nat_tests)
 test_gt : (n m : ℕ) → m < n → nat_le n m ≡ false
 test_gt n m h = grind (arith, nat_tests)
 
-packet_other : (link room : ℕ) (packet : Packet) → is_link link ≡ false → packet_of link room packet ≡ Err BadLink
+packet_other : (room : ℕ) (packet : Packet) → is_link packet.link ≡ false → packet_of room packet ≡ Err BadLink
 unfolding packet_of
-packet_other link room packet h = rw h refl
+packet_other room packet h = rw h refl
 
-packet_long : (link room : ℕ) (packet : Packet) → is_link link ≡ true → 262144 < packet.caplen → packet_of link room packet ≡ Err FrameTooLong
+packet_long : (room : ℕ) (packet : Packet) → is_link packet.link ≡ true → 262144 < packet.caplen → packet_of room packet ≡ Err FrameTooLong
 unfolding packet_of
-packet_long link room packet h long = rw (h, test_gt packet.caplen 262144 long) refl
+packet_long room packet h long = rw (h, test_gt packet.caplen 262144 long) refl
 
-packet_over : (link room : ℕ) (packet : Packet) → is_link link ≡ true → packet.caplen ≤ 262144 → room < packet.caplen → packet_of link room packet ≡ Err BadLength
+packet_over : (room : ℕ) (packet : Packet) → is_link packet.link ≡ true → packet.caplen ≤ 262144 → room < packet.caplen → packet_of room packet ≡ Err BadLength
 unfolding packet_of
-packet_over link room packet h short over = rw (h, test_le packet.caplen 262144 short, test_gt packet.caplen room over) refl
+packet_over room packet h short over = rw (h, test_le packet.caplen 262144 short, test_gt packet.caplen room over) refl
 
-packet_fits : (link room : ℕ) (packet : Packet) → is_link link ≡ true → packet.caplen ≤ 262144 → packet.caplen ≤ room → packet_of link room packet ≡ Ok (Captures packet)
+packet_fits : (room : ℕ) (packet : Packet) → is_link packet.link ≡ true → packet.caplen ≤ 262144 → packet.caplen ≤ room → packet_of room packet ≡ Ok (Captures packet)
 unfolding packet_of
-packet_fits link room packet h short fits = rw (h, test_le packet.caplen 262144 short, test_le packet.caplen room fits) refl
+packet_fits room packet h short fits = rw (h, test_le packet.caplen 262144 short, test_le packet.caplen room fits) refl
 
 -- what a packet comes to
-data PacketCase (link room : ℕ) (packet : Packet) : Type 0 where
-  Broken : (flaw : Flaw) → packet_of link room packet ≡ Err flaw → PacketBreaks link room packet flaw → PacketCase link room packet
-  Lawful : packet_of link room packet ≡ Ok (Captures packet) → IsLawfulPacket link room packet → PacketCase link room packet
+data PacketCase (room : ℕ) (packet : Packet) : Type 0 where
+  Broken : (flaw : Flaw) → packet_of room packet ≡ Err flaw → PacketBreaks room packet flaw → PacketCase room packet
+  Lawful : packet_of room packet ≡ Ok (Captures packet) → IsLawfulPacket room packet → PacketCase room packet
 
-packet_case : (link room : ℕ) (packet : Packet) → PacketCase link room packet
-packet_case link room packet = elim (link_case link) [
-  | inr other ↦ Broken BadLink (packet_other link room packet other.1) other.0
+packet_case : (room : ℕ) (packet : Packet) → PacketCase room packet
+packet_case room packet = elim (link_case packet.link) [
+  | inr other ↦ Broken BadLink (packet_other room packet other.1) other.0
   | inl is ↦ elim (cases_lt 262144 packet.caplen) [
-    | inl long ↦ Broken FrameTooLong (packet_long link room packet is.1 long) (is.0, long)
+    | inl long ↦ Broken FrameTooLong (packet_long room packet is.1 long) (is.0, long)
     | inr short ↦ elim (cases_lt room packet.caplen) [
-      | inl over ↦ Broken BadLength (packet_over link room packet is.1 short over) (is.0, short, over)
-      | inr fits ↦ Lawful (packet_fits link room packet is.1 short fits) (record { link_is = is.0; short = short; fits = fits })
+      | inl over ↦ Broken BadLength (packet_over room packet is.1 short over) (is.0, short, over)
+      | inr fits ↦ Lawful (packet_fits room packet is.1 short fits) (record { link_is = is.0; short = short; fits = fits })
     ]
   ]
 ]
@@ -93,13 +93,13 @@ link_is_false link h = elim (link_case link) [
   | inr other ↦ other.1
 ]
 
-packet_broken : (link room : ℕ) (packet : Packet) (flaw : Flaw) → PacketBreaks link room packet flaw → packet_of link room packet ≡ Err flaw
-packet_broken link room packet BadLink h = packet_other link room packet (link_is_false link h)
-packet_broken link room packet FrameTooLong h = packet_long link room packet (link_is_true link h.0) h.1
-packet_broken link room packet BadLength h = packet_over link room packet (link_is_true link h.0) h.1 h.2
-packet_broken link room packet BadMagic h = absurd h
-packet_broken link room packet BadVersion h = absurd h
-packet_broken link room packet NoInterface h = absurd h
+packet_broken : (room : ℕ) (packet : Packet) (flaw : Flaw) → PacketBreaks room packet flaw → packet_of room packet ≡ Err flaw
+packet_broken room packet BadLink h = packet_other room packet (link_is_false packet.link h)
+packet_broken room packet FrameTooLong h = packet_long room packet (link_is_true packet.link h.0) h.1
+packet_broken room packet BadLength h = packet_over room packet (link_is_true packet.link h.0) h.1 h.2
+packet_broken room packet BadMagic h = absurd h
+packet_broken room packet BadVersion h = absurd h
+packet_broken room packet NoInterface h = absurd h
 
 -- Rules 5 to 9.
 
@@ -108,17 +108,17 @@ data BlockCase (found : Result Content Flaw) (Breaks : Flaw → Type 0) (States 
   Breaking : (flaw : Flaw) → found ≡ Err flaw → Breaks flaw → BlockCase found Breaks States
   Stating : (content : Content) → found ≡ Ok content → States content → BlockCase found Breaks States
 
-by_packet : (interface : Interface) (room : ℕ) (packet : Interface → Packet) → PacketCase interface.link room (packet interface) → BlockCase (packet_of interface.link room (packet interface)) (PacketOfBreaks (Some interface) room packet) (PacketOfStates (Some interface) room packet)
+by_packet : (interface : Interface) (room : ℕ) (packet : Interface → Packet) → PacketCase room (packet interface) → BlockCase (packet_of room (packet interface)) (PacketOfBreaks (Some interface) room packet) (PacketOfStates (Some interface) room packet)
 by_packet interface room packet (Broken flaw is h) = Breaking flaw is h
 by_packet interface room packet (Lawful is h) = Stating (Captures (packet interface)) is (h, refl)
 
 enhanced_case : (found : Option Interface) (order : Order) (block : List ℕ) → BlockCase (enhanced_of found order block) (PacketOfBreaks found (length block - 32) (λ i. enhanced_packet i order block)) (PacketOfStates found (length block - 32) (λ i. enhanced_packet i order block))
 enhanced_case None order block = Breaking NoInterface refl refl
-enhanced_case (Some interface) order block = by_packet interface (length block - 32) (λ i. enhanced_packet i order block) (packet_case interface.link (length block - 32) (enhanced_packet interface order block))
+enhanced_case (Some interface) order block = by_packet interface (length block - 32) (λ i. enhanced_packet i order block) (packet_case (length block - 32) (enhanced_packet interface order block))
 
 simple_case : (found : Option Interface) (order : Order) (block : List ℕ) → BlockCase (simple_of found order block) (PacketOfBreaks found (length block - 16) (λ i. simple_packet i order block)) (PacketOfStates found (length block - 16) (λ i. simple_packet i order block))
 simple_case None order block = Breaking NoInterface refl refl
-simple_case (Some interface) order block = by_packet interface (length block - 16) (λ i. simple_packet i order block) (packet_case interface.link (length block - 16) (simple_packet interface order block))
+simple_case (Some interface) order block = by_packet interface (length block - 16) (λ i. simple_packet i order block) (packet_case (length block - 16) (simple_packet interface order block))
 
 section_true : (interfaces : List Interface) (order : Order) (block : List ℕ) → number_in order 2 (drop 12 block) ≡ 1 → stated interfaces order SectionHeader block ≡ Ok (NewSection order)
 section_true interfaces order block h = let test : eqb (number_in order 2 (drop 12 block)) 1 ≡ true = eq-eqb (number_in order 2 (drop 12 block)) 1 h in rw test refl
@@ -136,14 +136,14 @@ stated_case interfaces order EnhancedPacket block = enhanced_case (slice_get int
 stated_case interfaces order SimplePacket block = simple_case (slice_get interfaces 0) order block
 stated_case interfaces order Other block = Stating Nothing refl refl
 
-packet_of_broken : (found : Option Interface) (room : ℕ) (packet : Interface → Packet) (flaw : Flaw) (result : Result Content Flaw) → ((is : found ≡ None) → result ≡ Err NoInterface) → ((i : Interface) → found ≡ Some i → result ≡ packet_of i.link room (packet i)) → PacketOfBreaks found room packet flaw → result ≡ Err flaw
+packet_of_broken : (found : Option Interface) (room : ℕ) (packet : Interface → Packet) (flaw : Flaw) (result : Result Content Flaw) → ((is : found ≡ None) → result ≡ Err NoInterface) → ((i : Interface) → found ≡ Some i → result ≡ packet_of room (packet i)) → PacketOfBreaks found room packet flaw → result ≡ Err flaw
 packet_of_broken None room packet flaw result none some h = none refl ∙ ap (λ (f : Flaw). Err f) (sym h)
-packet_of_broken (Some interface) room packet flaw result none some h = some interface refl ∙ packet_broken interface.link room (packet interface) flaw h
+packet_of_broken (Some interface) room packet flaw result none some h = some interface refl ∙ packet_broken room (packet interface) flaw h
 
-packet_of_lawful : (found : Option Interface) (room : ℕ) (packet : Interface → Packet) (content : Content) (result : Result Content Flaw) → ((i : Interface) → found ≡ Some i → result ≡ packet_of i.link room (packet i)) → PacketOfStates found room packet content → result ≡ Ok content
+packet_of_lawful : (found : Option Interface) (room : ℕ) (packet : Interface → Packet) (content : Content) (result : Result Content Flaw) → ((i : Interface) → found ≡ Some i → result ≡ packet_of room (packet i)) → PacketOfStates found room packet content → result ≡ Ok content
 packet_of_lawful None room packet content result some h = absurd h
 packet_of_lawful (Some interface) room packet content result some h =
-    some interface refl ∙ packet_fits interface.link room (packet interface) (link_is_true interface.link h.0.link_is) h.0.short h.0.fits ∙ ap (λ (c : Content). Ok c) (sym h.1)
+    some interface refl ∙ packet_fits room (packet interface) (link_is_true (packet interface).link h.0.link_is) h.0.short h.0.fits ∙ ap (λ (c : Content). Ok c) (sym h.1)
 
 stated_broken : (interfaces : List Interface) (order : Order) (kind : Kind) (block : List ℕ) (flaw : Flaw) → BlockBreaks interfaces order kind block flaw → stated interfaces order kind block ≡ Err flaw
 stated_broken interfaces order SectionHeader block flaw h = section_false interfaces order block h.1 ∙ ap (λ (f : Flaw). Err f) (sym h.0)

@@ -11,7 +11,7 @@ use Rattle.cf_pcapng.specs.declared.head.Kind.{Kind}
 use Rattle.cf_pcapng.specs.declared.head.Kind.TheVariants.{SectionHeader, InterfaceDescription, EnhancedPacket, SimplePacket, Other}
 use Rattle.cf_pcapng.specs.declared.head.Head.{Head}
 use Rattle.cf_pcapng.specs.declared.head.Head.TheVariants.{Short, Flawed, Stands}
-use Rattle.cf_pcapng.specs.declared.content.Interface.{Interface}
+use Rattle.cf_pcapng.specs.declared.interfaces.Interface.{Interface}
 use Rattle.cf_pcapng.specs.declared.content.Packet.{Packet}
 use Rattle.cf_pcapng.specs.declared.content.Content.{Content}
 use Rattle.cf_pcapng.specs.declared.content.Content.TheVariants.{NewSection, NewInterface, Captures, Nothing}
@@ -138,48 +138,50 @@ interface_at order block = record {
 abbrev pub is_link : ℕ → Bool
 is_link link = if link == 1 then true else link == 113
 
--- rules 7 to 9, of a packet of an interface with this link, in a block with room for so many bytes
-unfoldable pub packet_of : ℕ → ℕ → Packet → Result Content Flaw
-packet_of link room packet =
-    if is_link link then (if nat_le packet.caplen 262144 then (if nat_le packet.caplen room then Ok (Captures packet) else Err BadLength) else Err FrameTooLong)
+-- rules 7 to 9, of a packet in a block with room for so many bytes
+unfoldable pub packet_of : ℕ → Packet → Result Content Flaw
+packet_of room packet =
+    if is_link packet.link then (if nat_le packet.caplen 262144 then (if nat_le packet.caplen room then Ok (Captures packet) else Err BadLength) else Err FrameTooLong)
     else Err BadLink
 
 -- the time of an enhanced packet: the high and the low 32 bits
 abbrev pub time_at : Order → List ℕ → ℕ
 time_at order block = number_in order 4 (drop 12 block) * 2 ^ 32 + number_in order 4 (drop 16 block)
 
--- the packet of an enhanced packet block: interface, time, captured length, original length, bytes
+-- the packet of an enhanced packet block: the link of its interface, time, captured length, original length, bytes
 abbrev pub enhanced_packet : Interface → Order → List ℕ → Packet
 enhanced_packet interface order block = record {
   ts = nanoseconds_of interface.resolution (time_at order block);
   caplen = number_in order 4 (drop 20 block);
   len = number_in order 4 (drop 24 block);
+  link = interface.link;
   begin = 28;
 }
 
 -- rule 6 is on its interface
 abbrev pub enhanced_of : Option Interface → Order → List ℕ → Result Content Flaw
 enhanced_of None order block = Err NoInterface
-enhanced_of (Some interface) order block = packet_of interface.link (length block - 32) (enhanced_packet interface order block)
+enhanced_of (Some interface) order block = packet_of (length block - 32) (enhanced_packet interface order block)
 
 -- the captured length of a simple packet: its bytes are cut to the snapshot length, where that isn't 0, and end with the
 -- block
 abbrev pub simple_caplen : ℕ → ℕ → ℕ → ℕ
 simple_caplen original snaplen room = min (if snaplen == 0 then original else min original snaplen) room
 
--- the packet of a simple packet block: original length, bytes. It has no time.
+-- the packet of a simple packet block: the link of its interface, original length, bytes. It has no time.
 abbrev pub simple_packet : Interface → Order → List ℕ → Packet
 simple_packet interface order block = record {
   ts = 0;
   caplen = simple_caplen (number_in order 4 (drop 8 block)) interface.snaplen (length block - 16);
   len = number_in order 4 (drop 8 block);
+  link = interface.link;
   begin = 12;
 }
 
 -- it is of the section's first interface
 abbrev pub simple_of : Option Interface → Order → List ℕ → Result Content Flaw
 simple_of None order block = Err NoInterface
-simple_of (Some interface) order block = packet_of interface.link (length block - 16) (simple_packet interface order block)
+simple_of (Some interface) order block = packet_of (length block - 16) (simple_packet interface order block)
 
 -- rules 5 to 9, by the kind of block, in a section with these interfaces
 abbrev pub stated : List Interface → Order → Kind → List ℕ → Result Content Flaw

@@ -9,7 +9,7 @@ use Rattle.cf_pcapng.specs.declared.fault.NgFault.{NgFault}
 use Rattle.cf_pcapng.specs.declared.fault.NgFault.TheVariants as faults
 use Rattle.cf_pcapng.specs.declared.head.Head.{Head}
 use Rattle.cf_pcapng.specs.declared.head.Head.TheVariants.{Short, Flawed, Stands}
-use Rattle.cf_pcapng.specs.declared.content.Interface.{Interface}
+use Rattle.cf_pcapng.specs.declared.interfaces.Interface.{Interface}
 use Rattle.cf_pcapng.specs.declared.content.Content.{Content}
 use Rattle.cf_pcapng.specs.declared.content.Content.TheVariants.{NewSection, NewInterface, Captures, Nothing}
 use Rattle.cf_pcapng.specs.Blocks.{head_of, content_of}
@@ -39,6 +39,7 @@ frames_of k (Captures packet) block = record {
   ts = packet.ts;
   caplen = packet.caplen;
   len = packet.len;
+  link = packet.link;
   bytes = slice_range block packet.begin (packet.begin + packet.caplen);
 } ∷ []
 frames_of k Nothing block = []

@@ -1,5 +1,6 @@
 pub mod Blocks
 pub mod File
+pub mod Position
 pub mod Reading
 pub mod Reader
 pub mod Laws

@@ -10,7 +10,10 @@ use Rattle.cf_pcapng.specs.declared.fault.Flaw.{Flaw}
 use Rattle.cf_pcapng.specs.declared.stage.Stage.{Stage}
 use Rattle.cf_pcapng.specs.declared.stage.Stage.TheVariants.{Running, Stopped}
 use Rattle.cf_pcapng.specs.declared.passed.Passed.{Passed}
+use Rattle.cf_pcapng.specs.declared.interfaces.Interface.{Interface}
+use Rattle.cf_pcapng.specs.declared.position.Reached.{Reached}
 use Rattle.cf_pcapng.specs.File.{State, fault_of, pcapng}
+use Rattle.cf_pcapng.specs.Position.{listed}
 use Rattle.cf_pcapng.specs.Reading.{WasPassed, AreReadOn, HasRoom}
 
 -- a reader as contracts see it: how far it is, how many bytes it has had, and what it has of the block at hand
@@ -60,6 +63,10 @@ IsSound reader = IsSoundAt reader.stage reader
 abbrev pub answer_at : Stage → Result (Unit {0}) NgFault
 answer_at Running = Ok tt
 answer_at (Stopped fault) = Err fault
+
+-- the state that a piece brings a reader to, which had these interfaces
+abbrev pub state_after : List Interface → Reached → State
+state_after had reached = record { order = reached.order; interfaces = listed had reached.anew reached.came.items; count = reached.count }
 
 -- a call took a piece: what it gave, and the reader after it, whatever stream led to the reader before
 abbrev pub IsCalled : Reader → List ℕ → List Captured → Reader → Type 0

@@ -10,7 +10,7 @@ use Rattle.cf_pcapng.specs.declared.fault.NgFault.{NgFault}
 use Rattle.cf_pcapng.specs.declared.fault.NgFault.TheVariants as faults
 use Rattle.cf_pcapng.specs.declared.head.Kind.{Kind}
 use Rattle.cf_pcapng.specs.declared.head.Kind.TheVariants.{SectionHeader, InterfaceDescription, EnhancedPacket, SimplePacket, Other}
-use Rattle.cf_pcapng.specs.declared.content.Interface.{Interface}
+use Rattle.cf_pcapng.specs.declared.interfaces.Interface.{Interface}
 use Rattle.cf_pcapng.specs.declared.content.Packet.{Packet}
 use Rattle.cf_pcapng.specs.declared.content.Content.{Content}
 use Rattle.cf_pcapng.specs.declared.content.Content.TheVariants.{NewSection, NewInterface, Captures, Nothing}
@@ -89,28 +89,28 @@ HeadBreaks section bytes NoInterface = ⊥
 abbrev pub IsLink : ℕ → Type 0
 IsLink link = (link ≡ 1) ⊎ (link ≡ 113)
 
--- rules 7 to 9, of a packet of an interface with this link, in a block with room for so many bytes
-abbrev pub PacketBreaks : ℕ → ℕ → Packet → Flaw → Type 0
-PacketBreaks link room packet BadLink = IsLink link → ⊥
-PacketBreaks link room packet FrameTooLong = IsLink link × (262144 < packet.caplen)
-PacketBreaks link room packet BadLength = IsLink link × (packet.caplen ≤ 262144) × (room < packet.caplen)
-PacketBreaks link room packet BadMagic = ⊥
-PacketBreaks link room packet BadVersion = ⊥
-PacketBreaks link room packet NoInterface = ⊥
+-- rules 7 to 9, of a packet in a block with room for so many bytes
+abbrev pub PacketBreaks : ℕ → Packet → Flaw → Type 0
+PacketBreaks room packet BadLink = IsLink packet.link → ⊥
+PacketBreaks room packet FrameTooLong = IsLink packet.link × (262144 < packet.caplen)
+PacketBreaks room packet BadLength = IsLink packet.link × (packet.caplen ≤ 262144) × (room < packet.caplen)
+PacketBreaks room packet BadMagic = ⊥
+PacketBreaks room packet BadVersion = ⊥
+PacketBreaks room packet NoInterface = ⊥
 
-pub record IsLawfulPacket (link room : ℕ) (packet : Packet) : Type 0 where
-  pub link_is : IsLink link
+pub record IsLawfulPacket (room : ℕ) (packet : Packet) : Type 0 where
+  pub link_is : IsLink packet.link
   pub short : packet.caplen ≤ 262144
   pub fits : packet.caplen ≤ room
 
 -- rule 6, and 7 to 9 of a packet of its interface
 abbrev pub PacketOfBreaks : Option Interface → ℕ → (Interface → Packet) → Flaw → Type 0
 PacketOfBreaks None room packet flaw = flaw ≡ NoInterface
-PacketOfBreaks (Some interface) room packet flaw = PacketBreaks interface.link room (packet interface) flaw
+PacketOfBreaks (Some interface) room packet flaw = PacketBreaks room (packet interface) flaw
 
 abbrev pub PacketOfStates : Option Interface → ℕ → (Interface → Packet) → Content → Type 0
 PacketOfStates None room packet content = ⊥
-PacketOfStates (Some interface) room packet content = IsLawfulPacket interface.link room (packet interface) × (content ≡ Captures (packet interface))
+PacketOfStates (Some interface) room packet content = IsLawfulPacket room (packet interface) × (content ≡ Captures (packet interface))
 
 -- rules 5 to 9, of a whole block in a section with these interfaces
 abbrev pub BlockBreaks : List Interface → Order → Kind → List ℕ → Flaw → Type 0

@@ -1,5 +1,6 @@
 // The blocks of a file.
 ghost use Rattle.std.specs.Prelude.{◌≡◌, ◌+◌, ◌<◌, ◌≤◌, ◌^◌, length, IfOk};
+ghost use Rattle.cf_pcapng.specs.Position.{state_of};
 ghost use Rattle.cf_pcapng.specs.Reading.{next_of as next_block, IsNextIn, AreRead};
 
 use crate::content::{Content, content_of};
@@ -21,16 +22,16 @@ pub(crate) enum Next {
 
 /// What was read of some bytes: the frames, the bytes after the blocks, and the flaw that stands there.
 #[derive(Drop)]
-pub(crate) struct Read {
-    pub position: Position,
+pub(crate) struct Read<'a> {
+    pub position: Position<'a>,
     pub frames: Vec<Frame>,
     pub rest: Vec<u8>,
     pub flaw: Option<Flaw>,
 }
 
 // The block at the front.
-fn next_of(position: &Position, bytes: &[u8]) -> Next
-    ensures value { result ≡ next_block position.now bytes.now }
+fn next_of(position: &Position<'_>, bytes: &[u8]) -> Next
+    ensures value { result ≡ next_block (state_of position.now) bytes.now }
     ensures within { IsNextIn (length bytes.now) result }
 {
     match head_of(position.order(), bytes) {
@@ -50,14 +51,14 @@ fn next_of(position: &Position, bytes: &[u8]) -> Next
 }
 
 // What was read, where the blocks end.
-fn stopped(
+fn stopped<'a>(
     alloc: Global,
-    position: Position,
+    position: Position<'a>,
     frames: Vec<Frame>,
     left: &[u8],
     flaw: Option<Flaw>,
-) -> Result<Read, AllocError>
-    ensures { IfOk result (λ read. (read.position ≡ position) × (read.frames.items ≡ frames.items) × (read.rest.items ≡ left.now) × (read.flaw ≡ flaw)) }
+) -> Result<Read<'a>, AllocError>
+    ensures { IfOk result (λ read. (read.position ≡ position.entry) × (read.frames.items ≡ frames.items) × (read.rest.items ≡ left.now) × (read.flaw ≡ flaw)) }
 {
     let rest = left.to_vec(alloc)?;
     Ok(Read {
@@ -69,13 +70,14 @@ fn stopped(
 }
 
 // Reads the blocks at the front.
-pub(crate) fn read_blocks(
+pub(crate) fn read_blocks<'a>(
     alloc: Global,
-    mut position: Position,
+    mut position: Position<'a>,
     bytes: &[u8],
-) -> Result<Read, AllocError>
+) -> Result<Read<'a>, AllocError>
     requires { position.count + length bytes.now ≤ 2 ^ 32 }
-    ensures { IfOk result (λ read. AreRead position bytes.now read.frames.items read.position read.rest.items read.flaw) }
+    ensures read { IfOk result (λ read. AreRead (state_of position.entry) bytes.now read.frames.items (state_of read.position) read.rest.items read.flaw) }
+    ensures had { IfOk result (λ read. read.position.listed.had ≡ position.entry.listed.had) }
 {
     let mut frames = Vec::new(alloc);
     let mut left = bytes;

@@ -2,25 +2,18 @@
 ghost use Rattle.std.specs.Prelude.{◌≡◌, ◌≤◌, ◌+◌, ◌-◌, ◌*◌, ◌<◌, ◌^◌, length, drop, IfOk, slice_get};
 ghost use Rattle.cf_pcap.specs.Capture.{number_in};
 ghost use Rattle.cf_pcapng.specs.Blocks.{interface_at, is_link, packet_of as packet_by_rules, time_at, enhanced_of, simple_caplen as simple_caplen_of, simple_of, stated as stated_by, content_of as content_by_rules, least};
+ghost use Rattle.cf_pcapng.specs.Position.{interfaces_of};
 ghost use Rattle.cf_pcapng.specs.Reading.{LiesIn};
 
 use crate::fault::Flaw;
 use crate::head::Kind;
+use crate::interfaces::{Interface, Interfaces};
 use crate::options::resolution_of;
 use crate::times::nanoseconds_of;
 use cf_pcap::Order;
 
 /// The most bytes that a packet may hold of its frame.
 const LONGEST: u32 = 262_144;
-
-/// An interface of a section.
-#[derive(Clone, Copy, Debug, PartialEq, Eq)]
-pub(crate) struct Interface {
-    pub link: u16,
-    pub snaplen: u32,
-    /// The unit of its times, as if_tsresol states it.
-    pub resolution: u8,
-}
 
 /// A packet of a block.
 #[derive(Clone, Copy, Debug, PartialEq, Eq)]
@@ -29,6 +22,8 @@ pub(crate) struct Packet {
     pub ts: u64,
     pub caplen: u32,
     pub len: u32,
+    /// That of its interface.
+    pub link: u16,
     /// Where its bytes begin in the block.
     pub begin: u32,
 }
@@ -49,13 +44,13 @@ fn is_read(link: u16) -> bool
     link == 1 || link == 113
 }
 
-// A packet of an interface with this link, in a block with room for so many bytes.
+// A packet in a block with room for so many bytes.
 #[tactic(auto, unfolding(crate::specs::Blocks::packet_of))]
-fn packet_of(link: u16, room: usize, packet: Packet) -> Result<Content, Flaw>
-    ensures value { result ≡ packet_by_rules link room packet }
+fn packet_of(room: usize, packet: Packet) -> Result<Content, Flaw>
+    ensures value { result ≡ packet_by_rules room packet }
     ensures fits { IfOk result (λ content. LiesIn (packet.begin + room) content) }
 {
-    if !is_read(link) {
+    if !is_read(packet.link) {
         return Err(Flaw::BadLink);
     }
     if packet.caplen > LONGEST {
@@ -77,9 +72,9 @@ fn time_of(order: Order, block: &[u8]) -> u64
     high as u64 * 4_294_967_296 + low as u64
 }
 
-fn enhanced_packet(interfaces: &[Interface], order: Order, block: &[u8]) -> Result<Content, Flaw>
+fn enhanced_packet(interfaces: &Interfaces<'_>, order: Order, block: &[u8]) -> Result<Content, Flaw>
     requires { 32 ≤ length block.now }
-    ensures value { result ≡ enhanced_of (slice_get interfaces.now (number_in order 4 (drop 8 block.now))) order block.now }
+    ensures value { result ≡ enhanced_of (slice_get (interfaces_of interfaces.now) (number_in order 4 (drop 8 block.now))) order block.now }
     ensures fits { IfOk result (LiesIn (length block.now)) }
 {
     let number = order.read_u32(&block[8..]);
@@ -90,9 +85,10 @@ fn enhanced_packet(interfaces: &[Interface], order: Order, block: &[u8]) -> Resu
         ts: nanoseconds_of(interface.resolution, time_of(order, block)),
         caplen: order.read_u32(&block[20..]),
         len: order.read_u32(&block[24..]),
+        link: interface.link,
         begin: 28,
     };
-    packet_of(interface.link, block.len() - 32, packet)
+    packet_of(block.len() - 32, packet)
 }
 
 // The captured length of a simple packet.
@@ -107,13 +103,13 @@ fn simple_caplen(original: u32, snaplen: u32, room: u32) -> u32
     cut.min(room)
 }
 
-fn simple_packet(interfaces: &[Interface], order: Order, block: &[u8]) -> Result<Content, Flaw>
+fn simple_packet(interfaces: &Interfaces<'_>, order: Order, block: &[u8]) -> Result<Content, Flaw>
     requires least { 16 ≤ length block.now }
     requires most { length block.now < 2 ^ 32 }
-    ensures value { result ≡ simple_of (slice_get interfaces.now 0) order block.now }
+    ensures value { result ≡ simple_of (slice_get (interfaces_of interfaces.now) 0) order block.now }
     ensures fits { IfOk result (LiesIn (length block.now)) }
 {
-    let Some(interface) = interfaces.first() else {
+    let Some(interface) = interfaces.get(0) else {
         return Err(Flaw::NoInterface);
     };
     let original = order.read_u32(&block[8..]);
@@ -122,9 +118,10 @@ fn simple_packet(interfaces: &[Interface], order: Order, block: &[u8]) -> Result
         ts: 0,
         caplen: simple_caplen(original, interface.snaplen, room as u32),
         len: original,
+        link: interface.link,
         begin: 12,
     };
-    packet_of(interface.link, room, packet)
+    packet_of(room, packet)
 }
 
 // The interface that an interface description block states.
@@ -140,10 +137,15 @@ fn interface_of(order: Order, block: &[u8]) -> Interface
 }
 
 // What a block states whose last field is its length.
-fn stated(interfaces: &[Interface], order: Order, kind: Kind, block: &[u8]) -> Result<Content, Flaw>
+fn stated(
+    interfaces: &Interfaces<'_>,
+    order: Order,
+    kind: Kind,
+    block: &[u8],
+) -> Result<Content, Flaw>
     requires least { least kind ≤ length block.now }
     requires most { length block.now < 2 ^ 32 }
-    ensures value { result ≡ stated_by interfaces.now order kind block.now }
+    ensures value { result ≡ stated_by (interfaces_of interfaces.now) order kind block.now }
     ensures fits { IfOk result (LiesIn (length block.now)) }
 {
     match kind {
@@ -163,14 +165,14 @@ fn stated(interfaces: &[Interface], order: Order, kind: Kind, block: &[u8]) -> R
 // What a whole block states, or its flaw.
 #[tactic(auto, unfolding(crate::specs::Blocks::content_of))]
 pub(crate) fn content_of(
-    interfaces: &[Interface],
+    interfaces: &Interfaces<'_>,
     order: Order,
     kind: Kind,
     block: &[u8],
 ) -> Result<Content, Flaw>
     requires least { least kind ≤ length block.now }
     requires most { length block.now < 2 ^ 32 }
-    ensures value { result ≡ content_by_rules interfaces.now order kind block.now }
+    ensures value { result ≡ content_by_rules (interfaces_of interfaces.now) order kind block.now }
     ensures fits { IfOk result (LiesIn (length block.now)) }
 {
     let last = order.read_u32(&block[block.len() - 4..]);

@@ -4,27 +4,37 @@ ghost use Rattle.cf_pcapng.specs.File.{fault_of};
 ghost use Rattle.cf_pcapng.specs.declared.fault.NgFault.TheVariants.{Memory};
 
 use std::alloc::{AllocError, AllocFailed};
+use thiserror::Error;
 
 /// Why a stream is no capture. The number is that of the frames before the fault.
-#[derive(Clone, Copy, Debug, PartialEq, Eq)]
+#[derive(Clone, Copy, Debug, PartialEq, Eq, Error)]
 pub enum NgFault {
     /// The first block is no section header, or a section header's byte-order magic is in neither order.
+    #[error("a section header is missing or in neither byte order, after {0} frames")]
     BadMagic(u32),
     /// A section's major version isn't 1.
+    #[error("a section's major version isn't 1, after {0} frames")]
     BadVersion(u32),
     /// A packet's interface has a link other than Ethernet (1) and Linux SLL (113).
+    #[error("the link of packet {0} is neither Ethernet nor cooked frames of Linux")]
     BadLink(u32),
     /// A packet's captured length is above 262,144 bytes.
+    #[error("the captured length of packet {0} is above 262144 bytes")]
     FrameTooLong(u32),
     /// The stream ends inside a block, or before its first section header.
+    #[error("the stream ends inside a block or before its first section header, after {0} frames")]
     Cut(u32),
     /// The stream has 2^32 bytes or more.
+    #[error("the stream has 2^32 bytes or more")]
     TooManyBytes,
     /// A total length is unlawful or stands differently at the block's end, or a packet's bytes don't fit.
+    #[error("a length of a block is unlawful, after {0} frames")]
     BadLength(u32),
     /// A packet's interface isn't one of its section.
+    #[error("the interface of packet {0} isn't one of its section")]
     NoInterface(u32),
     /// Want of memory, which is no fault of the stream.
+    #[error("out of memory")]
     Memory,
 }
 

@@ -5,6 +5,7 @@ mod blocks;
 mod content;
 mod fault;
 mod head;
+mod interfaces;
 mod laws;
 mod options;
 mod passed;

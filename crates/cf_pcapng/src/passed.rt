@@ -1,6 +1,7 @@
 // Blocks that are passed over.
 ghost use Rattle.std.specs.Prelude.{◌≡◌, ℕ, List, ◌++◌, ◌+◌, ◌<◌, ◌≤◌, ◌^◌, length, IfOk};
 ghost use Rattle.cf_pcapng.specs.File.{State};
+ghost use Rattle.cf_pcapng.specs.Position.{state_of};
 ghost use Rattle.cf_pcapng.specs.Reading.{WasPassed, AreReadOn, AreRead, IsResumed, IsLetGo, IsPassedAt, HasRoom, IsGoneOn};
 
 use crate::blocks::{Read, read_blocks};
@@ -32,8 +33,8 @@ pub(crate) enum Resumed {
 
 /// What was read of the bytes of a stream, and what a reader has of the block at hand.
 #[derive(Drop)]
-pub(crate) struct Given {
-    pub position: Position,
+pub(crate) struct Given<'a> {
+    pub position: Position<'a>,
     pub frames: Vec<Frame>,
     pub passed: Option<Passed>,
     pub held: Vec<u8>,
@@ -88,8 +89,9 @@ fn passed_at(section: Option<Order>, rest: &[u8]) -> Option<Passed>
 }
 
 // Lets go of a block that is only passed over.
-fn let_go(alloc: Global, read: Read) -> Result<Given, AllocError>
-    ensures { IfOk result (λ given. (s : State) (bytes : List ℕ) → AreRead s bytes read.frames.items read.position read.rest.items read.flaw → AreReadOn s bytes given.frames.items given.position given.passed given.held.items given.flaw) }
+fn let_go<'a>(alloc: Global, read: Read<'a>) -> Result<Given<'a>, AllocError>
+    ensures read { IfOk result (λ given. (s : State) (bytes : List ℕ) → AreRead s bytes read.entry.frames.items (state_of read.entry.position) read.entry.rest.items read.entry.flaw → AreReadOn s bytes given.frames.items (state_of given.position) given.passed given.held.items given.flaw) }
+    ensures had { IfOk result (λ given. given.position.listed.had ≡ read.entry.position.listed.had) }
 {
     let Read {
         position,
@@ -129,16 +131,17 @@ fn let_go(alloc: Global, read: Read) -> Result<Given, AllocError>
 }
 
 // Goes on in a block at hand, of which the next bytes come.
-fn go_past(
+fn go_past<'a>(
     alloc: Global,
-    position: Position,
+    position: Position<'a>,
     block: Passed,
     bytes: &[u8],
-) -> Result<Given, AllocError>
+) -> Result<Given<'a>, AllocError>
     requires block { block.gone + 4 ≤ block.total }
     requires room { position.count + length bytes.now ≤ 2 ^ 32 }
-    ensures sound { IfOk result (λ given. IsGoneOn position (length bytes.now) given.position given.passed given.held.items given.flaw) }
-    ensures read { IfOk result (λ given. (gone : List ℕ) → WasPassed position.order (Some block) gone → AreReadOn position (gone ++ bytes.now) given.frames.items given.position given.passed given.held.items given.flaw) }
+    ensures sound { IfOk result (λ given. IsGoneOn (state_of position.entry) (length bytes.now) (state_of given.position) given.passed given.held.items given.flaw) }
+    ensures read { IfOk result (λ given. (gone : List ℕ) → WasPassed position.entry.order (Some block) gone → AreReadOn (state_of position.entry) (gone ++ bytes.now) given.frames.items (state_of given.position) given.passed given.held.items given.flaw) }
+    ensures had { IfOk result (λ given. given.position.listed.had ≡ position.entry.listed.had) }
 {
     match block.resume(bytes) {
         Resumed::Over(left) => {
@@ -166,16 +169,17 @@ fn go_past(
 }
 
 // Reads the bytes after those that were let go.
-pub(crate) fn go_on(
+pub(crate) fn go_on<'a>(
     alloc: Global,
-    position: Position,
+    position: Position<'a>,
     passed: Option<Passed>,
     bytes: &[u8],
-) -> Result<Given, AllocError>
+) -> Result<Given<'a>, AllocError>
     requires block { HasRoom passed }
     requires room { position.count + length bytes.now ≤ 2 ^ 32 }
-    ensures sound { IfOk result (λ given. IsGoneOn position (length bytes.now) given.position given.passed given.held.items given.flaw) }
-    ensures read { IfOk result (λ given. (gone : List ℕ) → WasPassed position.order passed gone → AreReadOn position (gone ++ bytes.now) given.frames.items given.position given.passed given.held.items given.flaw) }
+    ensures sound { IfOk result (λ given. IsGoneOn (state_of position.entry) (length bytes.now) (state_of given.position) given.passed given.held.items given.flaw) }
+    ensures read { IfOk result (λ given. (gone : List ℕ) → WasPassed position.entry.order passed gone → AreReadOn (state_of position.entry) (gone ++ bytes.now) given.frames.items (state_of given.position) given.passed given.held.items given.flaw) }
+    ensures had { IfOk result (λ given. given.position.listed.had ≡ position.entry.listed.had) }
 {
     match passed {
         Some(block) => go_past(alloc, position, block, bytes),

@@ -1,30 +1,43 @@
 // How far a file was read.
-ghost use Rattle.std.specs.Prelude.{◌≡◌, ◌+◌, ◌<◌, ◌≤◌, ◌++◌, ◌∷◌, [], ◌^◌, length, IfOk};
-ghost use Rattle.cf_pcapng.specs.File.{pcapng, frames_of, after};
+ghost use Rattle.std.specs.Prelude.{◌≡◌, ◌+◌, ◌<◌, ◌≤◌, ◌++◌, ◌∷◌, [], ◌^◌, false, length, IfOk};
+ghost use Rattle.cf_pcapng.specs.File.{frames_of, after};
+ghost use Rattle.cf_pcapng.specs.Position.{state_of};
 ghost use Rattle.cf_pcapng.specs.Reading.{LiesIn};
 
-use crate::content::{Content, Interface, Packet};
+use crate::content::{Content, Packet};
+use crate::interfaces::{Interface, Interfaces};
 use cf_pcap::{Frame, Order};
 use std::alloc::{AllocError, Global};
 use std::marker::Model;
 
-/// How far a file was read.
+/// How far a file was read since a reader's last piece.
 #[derive(Drop)]
-pub(crate) struct Position {
+pub(crate) struct Position<'a> {
     /// The byte order of its section, if one has begun.
     order: Option<Order>,
     /// The interfaces of the section.
-    interfaces: Vec<Interface>,
+    interfaces: Interfaces<'a>,
     /// The number of frames.
     count: u32,
 }
 
-impl Model for Position {
-    ghost use Rattle.cf_pcapng.specs.File.{State};
+impl<'a> Model for Position<'a> {
+    ghost use Rattle.cf_pcapng.specs.Position.{Since};
 
-    ghost Value = { State };
+    ghost Value = { Since };
 
-    ghost view = { λ p. record { order = p.order; interfaces = p.interfaces.items; count = p.count } };
+    ghost view = { λ p. record { order = p.order; listed = p.interfaces; count = p.count } };
+}
+
+/// Where a piece brings a reader.
+#[derive(Drop)]
+pub(crate) struct Reached {
+    pub order: Option<Order>,
+    /// Whether a section has begun.
+    pub anew: bool,
+    /// The interfaces that came.
+    pub came: Vec<Interface>,
+    pub count: u32,
 }
 
 // The frame of a packet.
@@ -39,28 +52,34 @@ fn frame_of(alloc: Global, num: u32, packet: Packet, block: &[u8]) -> Result<Fra
         ts: packet.ts,
         caplen: packet.caplen,
         len: packet.len,
+        link: packet.link,
         bytes,
     })
 }
 
-impl Position {
-    // At a file's begin.
-    pub(crate) fn new(alloc: Global) -> Self
-        ensures { result ≡ pcapng.start }
+impl<'a> Position<'a> {
+    // That of a reader.
+    pub(crate) fn new(
+        alloc: Global,
+        order: Option<Order>,
+        interfaces: &'a [Interface],
+        count: u32,
+    ) -> Self
+        ensures { result ≡ record { order = order; listed = record { had = interfaces.now; anew = false; came = [] }; count = count } }
     {
         Position {
-            order: None,
-            interfaces: Vec::new(alloc),
-            count: 0,
+            order,
+            interfaces: Interfaces::of(alloc, interfaces),
+            count,
         }
     }
 
-    pub(crate) fn copy(&self, alloc: Global) -> Result<Self, AllocError>
+    pub(crate) fn copy(&self, alloc: Global) -> Result<Position<'a>, AllocError>
         ensures { IfOk result (λ position. position ≡ self.now) }
     {
         Ok(Position {
             order: self.order,
-            interfaces: self.interfaces.as_slice().to_vec(alloc)?,
+            interfaces: self.interfaces.copy(alloc)?,
             count: self.count,
         })
     }
@@ -71,16 +90,31 @@ impl Position {
         self.order
     }
 
-    pub(crate) fn interfaces(&self) -> &[Interface]
-        ensures { result.now ≡ self.now.interfaces }
+    pub(crate) fn interfaces(&self) -> &Interfaces<'a>
+        ensures { result.now ≡ self.now.listed }
     {
-        self.interfaces.as_slice()
+        &self.interfaces
     }
 
     pub(crate) fn count(&self) -> u32
         ensures { result ≡ self.now.count }
     {
         self.count
+    }
+
+    pub(crate) fn reached(self) -> Reached
+        ensures order { result.order ≡ self.entry.order }
+        ensures anew { result.anew ≡ self.entry.listed.anew }
+        ensures came { result.came.items ≡ self.entry.listed.came }
+        ensures count { result.count ≡ self.entry.count }
+    {
+        let (anew, came) = self.interfaces.into_parts();
+        Reached {
+            order: self.order,
+            anew,
+            came,
+            count: self.count,
+        }
     }
 
     // Goes past a block.
@@ -93,7 +127,8 @@ impl Position {
     ) -> Result<(), AllocError>
         requires lies { LiesIn (length block.now) content }
         requires room { self.old.count + 1 < 2 ^ 32 }
-        ensures moved { IfOk result (λ _. self.new ≡ after self.old content) }
+        ensures moved { IfOk result (λ _. state_of self.new ≡ after (state_of self.old) content) }
+        ensures had { IfOk result (λ _. self.new.listed.had ≡ self.old.listed.had) }
         ensures given { IfOk result (λ _. frames.new.items ≡ frames.old.items ++ frames_of self.old.count content block.now) }
     {
         match content {

@@ -1,15 +1,17 @@
 // The reader of a capture, which comes in pieces.
-ghost use Rattle.std.specs.Prelude.{◌≡◌, ◌≢◌, ℕ, List, [], ◌++◌, ◌<◌, ◌≤◌, ◌^◌, ◌+◌, length, take, drop, IfOk, Err};
+ghost use Rattle.std.specs.Prelude.{◌≡◌, ◌≢◌, ℕ, List, [], ◌++◌, ◌<◌, ◌≤◌, ◌^◌, ◌+◌, length, take, drop, IfOk, is_ok, if◌then◌else◌, Err};
 ghost use Rattle.cf_pcap.specs.Capture.{Captured};
 ghost use Rattle.cf_pcapng.specs.declared.stage.Stage.TheVariants.{Running};
+ghost use Rattle.cf_pcapng.specs.Position.{listed, state_of};
 ghost use Rattle.cf_pcapng.specs.Reading.{HasRoom, MayGoOn};
-ghost use Rattle.cf_pcapng.specs.Reader.{IsStateOf, IsFed, IsEnded, AnswersFound, IsStageAtLimit, IsStageAfter, IsCalled, kept_at};
+ghost use Rattle.cf_pcapng.specs.Reader.{IsStateOf, IsFed, IsEnded, AnswersFound, IsStageAtLimit, IsStageAfter, IsCalled, kept_at, state_after};
 
 use crate::fault::NgFault;
+use crate::interfaces::Interface;
 use crate::passed::{Given, Passed, go_on};
-use crate::position::Position;
+use crate::position::{Position, Reached};
 use crate::stage::{Stage, answer_of};
-use cf_pcap::Frame;
+use cf_pcap::{Frame, Order};
 use std::alloc::{AllocError, Global};
 use std::marker::Model;
 
@@ -24,7 +26,12 @@ pub struct PcapNg {
     stage: Stage,
     // How many bytes were taken, while the reader runs.
     total: usize,
-    position: Position,
+    // The byte order of the section, if one has begun.
+    order: Option<Order>,
+    // The interfaces of the section.
+    interfaces: Vec<Interface>,
+    // The number of frames.
+    count: u32,
     // The block at hand, where it is only passed over.
     passed: Option<Passed>,
     held: Vec<u8>,
@@ -35,9 +42,9 @@ impl Model for PcapNg {
 
     ghost Value = { Reader };
 
-    ghost view = { λ p. record { stage = p.stage; total = p.total; state = p.position; passed = p.passed; held = p.held.items } };
+    ghost view = { λ p. record { stage = p.stage; total = p.total; state = record { order = p.order; interfaces = p.interfaces.items; count = p.count }; passed = p.passed; held = p.held.items } };
 
-    ghost invariant = { λ p. IsSound (record { stage = p.stage; total = p.total; state = p.position; passed = p.passed; held = p.held.items }) };
+    ghost invariant = { λ p. IsSound (record { stage = p.stage; total = p.total; state = record { order = p.order; interfaces = p.interfaces.items; count = p.count }; passed = p.passed; held = p.held.items }) };
 }
 
 /// What a call that takes a piece comes to: the frames that it gives, and the reader after it.
@@ -45,7 +52,7 @@ impl Model for PcapNg {
 struct Called {
     stage: Stage,
     total: usize,
-    position: Position,
+    reached: Reached,
     passed: Option<Passed>,
     held: Vec<u8>,
     frames: Vec<Frame>,
@@ -61,11 +68,11 @@ fn joined(alloc: Global, held: &[u8], more: &[u8]) -> Result<Vec<u8>, AllocError
 }
 
 // The stage where a byte comes that makes the stream 2^32 bytes long.
-fn stage_at_limit(alloc: Global, given: &Given, byte: &[u8]) -> Result<Stage, AllocError>
+fn stage_at_limit(alloc: Global, given: &Given<'_>, byte: &[u8]) -> Result<Stage, AllocError>
     requires one { length byte.now ≡ 1 }
     requires block { HasRoom given.now.passed }
     requires room { given.now.position.count + length given.now.held.items + 1 ≤ 2 ^ 32 }
-    ensures { IfOk result (IsStageAtLimit given.now.position given.now.passed given.now.held.items byte.now) }
+    ensures { IfOk result (IsStageAtLimit (state_of given.now.position) given.now.passed given.now.held.items byte.now) }
 {
     let bytes = joined(alloc, &given.held, byte)?;
     let position = given.position.copy(alloc)?;
@@ -77,9 +84,9 @@ fn stage_at_limit(alloc: Global, given: &Given, byte: &[u8]) -> Result<Stage, Al
 }
 
 // The stage after the bytes that came early enough, where these come late.
-fn stage_after(alloc: Global, given: &Given, late: &[u8]) -> Result<Stage, AllocError>
-    requires { MayGoOn given.now.position given.now.passed given.now.held.items given.now.flaw }
-    ensures { IfOk result (IsStageAfter given.now.position given.now.passed given.now.held.items given.now.flaw late.now) }
+fn stage_after(alloc: Global, given: &Given<'_>, late: &[u8]) -> Result<Stage, AllocError>
+    requires { MayGoOn (state_of given.now.position) given.now.passed given.now.held.items given.now.flaw }
+    ensures { IfOk result (IsStageAfter (state_of given.now.position) given.now.passed given.now.held.items given.now.flaw late.now) }
 {
     if let Some(flaw) = given.flaw {
         return Ok(Stage::Stopped(flaw.after(given.position.count())));
@@ -111,6 +118,27 @@ fn kept(alloc: Global, stage: Stage, held: Vec<u8>) -> Vec<u8>
     }
 }
 
+// Takes over what a piece brought: its interfaces and its frames, or none of them where memory is wanting.
+fn take_over(
+    interfaces: &mut Vec<Interface>,
+    anew: bool,
+    mut came: Vec<Interface>,
+    out: &mut Vec<Frame>,
+    mut frames: Vec<Frame>,
+) -> Result<(), AllocError>
+    ensures interfaces { interfaces.new.items ≡ (if is_ok result then listed interfaces.old.items anew came.items else interfaces.old.items) }
+    ensures frames { out.new.items ≡ (if is_ok result then out.old.items ++ frames.items else out.old.items) }
+{
+    if anew {
+        out.append(&mut frames)?;
+        *interfaces = came;
+        return Ok(());
+    }
+    interfaces.reserve(came.len())?;
+    out.append(&mut frames)?;
+    interfaces.append(&mut came)
+}
+
 impl PcapNg {
     /// A reader that was fed nothing yet.
     pub fn new(alloc: Global) -> Result<Self, AllocError>
@@ -120,7 +148,9 @@ impl PcapNg {
             alloc,
             stage: Stage::Running,
             total: 0,
-            position: Position::new(alloc),
+            order: None,
+            interfaces: Vec::new(alloc),
+            count: 0,
             passed: None,
             held: Vec::new(alloc),
         })
@@ -140,37 +170,52 @@ impl PcapNg {
         if let Stage::Stopped(fault) = self.stage {
             return Err(fault);
         }
-        let mut called = self.call(piece)?;
-        out.append(&mut called.frames)?;
-        self.stage = called.stage;
-        self.total = called.total;
-        self.position = called.position;
-        self.passed = called.passed;
-        self.held = called.held;
-        answer_of(self.stage)
+        let Called {
+            stage,
+            total,
+            reached,
+            passed,
+            held,
+            frames,
+        } = self.call(piece)?;
+        take_over(
+            &mut self.interfaces,
+            reached.anew,
+            reached.came,
+            out,
+            frames,
+        )?;
+        self.stage = stage;
+        self.total = total;
+        self.order = reached.order;
+        self.count = reached.count;
+        self.passed = passed;
+        self.held = held;
+        answer_of(stage)
     }
 
     // What a call that takes a piece comes to.
     fn call(&self, piece: &[u8]) -> Result<Called, AllocError>
         requires { self.now.stage ≡ Running }
-        ensures { IfOk result (λ called. IsCalled self.now piece.now called.frames.items (record { stage = called.stage; total = called.total; state = called.position; passed = called.passed; held = called.held.items })) }
+        ensures { IfOk result (λ called. IsCalled self.now piece.now called.frames.items (record { stage = called.stage; total = called.total; state = state_after self.now.state.interfaces called.reached; passed = called.passed; held = called.held.items })) }
     {
         let (early, late) = cut(piece, LAST - self.total);
         let bytes = joined(self.alloc, &self.held, early)?;
-        let position = self.position.copy(self.alloc)?;
+        let position = Position::new(self.alloc, self.order, &self.interfaces, self.count);
         let given = go_on(self.alloc, position, self.passed, &bytes)?;
         let stage = stage_after(self.alloc, &given, late)?;
         Ok(Called {
             stage,
             total: self.total + early.len(),
-            position: given.position,
+            reached: given.position.reached(),
             passed: given.passed,
             held: kept(self.alloc, stage, given.held),
             frames: given.frames,
         })
     }
 
-    /// How many bytes of the stream are held: those of a block that has only begun.
+    /// How many bytes of the stream are held: those of a block that has only begun. The interfaces of the section, which
+    /// are kept beside them, don't count.
     pub fn held(&self) -> usize
         ensures value { result ≡ length self.now.held }
         ensures few { result ≤ 1048580 }
@@ -183,17 +228,16 @@ impl PcapNg {
         ensures ended { (stream : List ℕ) → IsStateOf self stream → IsEnded stream result }
         ensures no_memory { result ≢ Err NgFault.Memory }
     {
-        let count = self.position.count();
         match self.stage {
             Stage::Stopped(fault) => Err(fault),
             Stage::Running => {
                 if self.passed.is_some() || !self.held.is_empty() {
-                    return Err(NgFault::Cut(count));
+                    return Err(NgFault::Cut(self.count));
                 }
-                if self.position.order().is_none() {
-                    return Err(NgFault::Cut(count));
+                if self.order.is_none() {
+                    return Err(NgFault::Cut(self.count));
                 }
-                Ok(count)
+                Ok(self.count)
             }
         }
     }

@@ -28,6 +28,12 @@ const NANOSECONDS: [u8; 32] = [
     0, 0,
 ];
 
+/// A little-endian section header.
+const SECTION: [u8; 28] = [
+    0x0a, 0x0d, 0x0d, 0x0a, 0x1c, 0, 0, 0, 0x4d, 0x3c, 0x2b, 0x1a, 1, 0, 0, 0, 0xff, 0xff, 0xff,
+    0xff, 0xff, 0xff, 0xff, 0xff, 0x1c, 0, 0, 0,
+];
+
 /// A block of an unknown type with 5 bytes in its body, padded.
 const UNKNOWN: [u8; 20] = [
     0xad, 0x0b, 0, 0, 0x14, 0, 0, 0, 1, 2, 3, 4, 5, 0, 0, 0, 0x14, 0, 0, 0,
@@ -103,7 +109,7 @@ fn each_order_gives_the_same_frames(rt: HostRuntime) -> Result<(), Fail> {
             assert_eq!(rt; out.len(), wanted.len());
             for (frame, (num, ts, caplen, len, bytes)) in out.iter().zip(wanted) {
                 assert_eq!(rt; (frame.num, frame.ts), (num, ts));
-                assert_eq!(rt; (frame.caplen, frame.len), (caplen, len));
+                assert_eq!(rt; (frame.caplen, frame.len, frame.link), (caplen, len, 1));
                 assert_eq!(rt; frame.bytes.as_slice(), bytes);
             }
         }
@@ -122,6 +128,202 @@ fn a_resolution_option_counts(rt: HostRuntime) -> Result<(), Fail> {
         let told = feed_all(rt.alloc(), &stream, size, &mut out)?;
         assert_eq!(rt; told.end, Ok(2));
         assert_eq!(rt; out.first().map(|frame| frame.ts), Some(1_500_000));
+    }
+    Ok(())
+}
+
+/// A little-endian block of this type, with these fields first and zeros after them.
+fn block(alloc: Global, number: u32, total: u32, fields: &[u8]) -> Result<Vec<u8>, AllocError> {
+    let mut bytes = Vec::new(alloc);
+    bytes.extend_from_slice(&number.to_le_bytes())?;
+    bytes.extend_from_slice(&total.to_le_bytes())?;
+    bytes.extend_from_slice(fields)?;
+    bytes.resize((total.max(4) as usize) - 4, 0)?;
+    bytes.extend_from_slice(&total.to_le_bytes())?;
+    Ok(bytes)
+}
+
+/// An interface of that link and snapshot length.
+fn interface(alloc: Global, link: u8, snaplen: u8, options: &[u8]) -> Result<Vec<u8>, AllocError> {
+    let head = [link, 0, 0, 0, snaplen, 0, 0, 0];
+    let total = options.len().min(1000) as u32 + 20;
+    block(alloc, 1, total, &joined(alloc, &[&head, options])?)
+}
+
+/// An enhanced packet of two bytes, of that interface and time.
+fn enhanced(alloc: Global, number: u8, time: u64) -> Result<Vec<u8>, AllocError> {
+    let high = ((time >> 32) as u32).to_le_bytes();
+    let low = ((time & 0xffff_ffff) as u32).to_le_bytes();
+    let sizes = [2, 0, 0, 0, 60, 0, 0, 0, 0xaa, 0xbb];
+    let fields = joined(alloc, &[&[number, 0, 0, 0], &high, &low, &sizes])?;
+    block(alloc, 6, 36, &fields)
+}
+
+/// The first frame's time, captured length and link, after a stream that ends well.
+fn first_of(
+    alloc: Global,
+    stream: &[u8],
+    size: usize,
+) -> Result<Option<(u64, u32, u16)>, AllocError> {
+    let mut out: Vec<Frame> = Vec::new(alloc);
+    let told = feed_all(alloc, stream, size, &mut out)?;
+    if told.end.is_err() {
+        return Ok(None);
+    }
+    Ok(
+        out.first()
+            .map(|frame| (frame.ts, frame.caplen, frame.link)),
+    )
+}
+
+#[test]
+fn options_state_the_unit_of_time(rt: HostRuntime) -> Result<(), Fail> {
+    let most = u64::MAX;
+    let cases: [(&[u8], u64, u64); 20] = [
+        (&[], 1_500_000, 1_500_000_000),
+        (&[9, 0, 1, 0, 0, 0, 0, 0], 3, 3_000_000_000),
+        (&[9, 0, 1, 0, 0, 0, 0, 0], most, most),
+        (&[9, 0, 1, 0, 6, 0, 0, 0], 1_500_000, 1_500_000_000),
+        (&[9, 0, 1, 0, 6, 0, 0, 0], most, most),
+        (&[9, 0, 1, 0, 9, 0, 0, 0], most, most),
+        (&[9, 0, 1, 0, 10, 0, 0, 0], 19, 1),
+        (&[9, 0, 1, 0, 0x8a, 0, 0, 0], 1, 976_562),
+        (&[9, 0, 1, 0, 0x8a, 0, 0, 0], 3072, 3_000_000_000),
+        (&[9, 0, 1, 0, 0x80, 0, 0, 0], 3, 3_000_000_000),
+        (&[9, 0, 1, 0, 28, 0, 0, 0], most, 1),
+        (&[9, 0, 1, 0, 29, 0, 0, 0], most, 0),
+        (&[9, 0, 1, 0, 127, 0, 0, 0], most, 0),
+        (&[9, 0, 1, 0, 0xff, 0, 0, 0], most, 0),
+        // The last counts, and none of another length, after the end of the options or behind one that doesn't fit.
+        (
+            &[9, 0, 1, 0, 9, 0, 0, 0, 9, 0, 1, 0, 0, 0, 0, 0],
+            3,
+            3_000_000_000,
+        ),
+        (&[9, 0, 2, 0, 9, 9, 0, 0], 3, 3000),
+        (&[0, 0, 0, 0, 9, 0, 1, 0, 9, 0, 0, 0], 3, 3000),
+        (&[2, 0, 9, 0, 9, 0, 1, 0, 9, 0, 0, 0], 3, 3000),
+        (&[9, 0, 1, 0], 3, 3000),
+        (
+            &[2, 0, 3, 0, 0x65, 0x74, 0x68, 0, 9, 0, 1, 0, 9, 0, 0, 0],
+            3,
+            3,
+        ),
+    ];
+    for (options, time, wanted) in cases {
+        let described = interface(rt.alloc(), 1, 0, options)?;
+        let packet = enhanced(rt.alloc(), 0, time)?;
+        let stream = joined(rt.alloc(), &[&SECTION, &described, &packet])?;
+        for size in [1, 300] {
+            let first = first_of(rt.alloc(), &stream, size)?;
+            assert_eq!(rt; first, Some((wanted, 2, 1)));
+        }
+    }
+    Ok(())
+}
+
+#[test]
+fn a_simple_packet_is_cut_by_its_interface_and_its_block(rt: HostRuntime) -> Result<(), Fail> {
+    // The snapshot length, the original length, the block's total length, and the captured length.
+    let cases = [
+        (0, 100, 20, 4),
+        (0, 2, 20, 2),
+        (0, 0, 16, 0),
+        (3, 100, 24, 3),
+        (3, 2, 24, 2),
+        (50, 100, 24, 8),
+    ];
+    for (snaplen, original, total, caplen) in cases {
+        let described = interface(rt.alloc(), 113, snaplen, &[])?;
+        // An interface of another snapshot length, which no simple packet is of.
+        let other = interface(rt.alloc(), 1, 1, &[])?;
+        let packet = block(rt.alloc(), 3, total, &[original, 0, 0, 0])?;
+        let stream = joined(rt.alloc(), &[&SECTION, &described, &other, &packet])?;
+        for size in [1, 300] {
+            let first = first_of(rt.alloc(), &stream, size)?;
+            assert_eq!(rt; first, Some((0, caplen, 113)));
+        }
+    }
+    Ok(())
+}
+
+#[test]
+fn interfaces_are_those_of_their_section(rt: HostRuntime) -> Result<(), Fail> {
+    let ethernet = interface(rt.alloc(), 1, 0, &[])?;
+    let cooked = interface(rt.alloc(), 113, 0, &[])?;
+    let zero = enhanced(rt.alloc(), 0, 7)?;
+    let one = enhanced(rt.alloc(), 1, 7)?;
+    let begun = joined(
+        rt.alloc(),
+        &[&SECTION, &ethernet, &cooked, &one, &zero, &BIG],
+    )?;
+    // What follows, what the end answers, and the links of the frames.
+    let cases: [(&[&[u8]], Result<u32, NgFault>, &[u16]); 4] = [
+        (&[], Ok(4), &[113, 1, 1, 1]),
+        (&[&SECTION, &cooked, &zero], Ok(5), &[113, 1, 1, 1, 113]),
+        (
+            &[&SECTION, &cooked, &one],
+            Err(NgFault::NoInterface(4)),
+            &[113, 1, 1, 1],
+        ),
+        (
+            &[&SECTION, &zero],
+            Err(NgFault::NoInterface(4)),
+            &[113, 1, 1, 1],
+        ),
+    ];
+    for (more, end, links) in cases {
+        let stream = joined(rt.alloc(), &[&begun, &joined(rt.alloc(), more)?])?;
+        for size in [1, 20, 36, 500] {
+            let mut out: Vec<Frame> = Vec::new(rt.alloc());
+            let told = feed_all(rt.alloc(), &stream, size, &mut out)?;
+            assert_eq!(rt; told.end, end);
+            assert_eq!(rt; out.len(), links.len());
+            for (frame, link) in out.iter().zip(links) {
+                assert_eq!(rt; frame.link, *link);
+            }
+        }
+    }
+    Ok(())
+}
+
+#[test]
+fn total_lengths_are_judged_at_their_bounds(rt: HostRuntime) -> Result<(), Fail> {
+    let section = [0x4d, 0x3c, 0x2b, 0x1a, 1];
+    let bad = Err(NgFault::BadLength(0));
+    // The type, the first fields, the total length, and what the end answers.
+    let cases: [(u32, &[u8], u32, Result<u32, NgFault>); 21] = [
+        (0x0a0d_0d0a, &section, 24, bad),
+        (0x0a0d_0d0a, &section, 28, Ok(0)),
+        (0x0a0d_0d0a, &section, 30, bad),
+        (0x0a0d_0d0a, &section, 1_048_576, Ok(0)),
+        (0x0a0d_0d0a, &section, 1_048_580, bad),
+        (1, &[1], 16, bad),
+        (1, &[1], 20, Ok(0)),
+        (1, &[1], 1_048_576, Ok(0)),
+        (1, &[1], 1_048_580, bad),
+        (6, &[], 28, bad),
+        (6, &[], 32, Ok(1)),
+        (6, &[], 1_048_576, Ok(1)),
+        (6, &[], 1_048_580, bad),
+        (3, &[], 12, bad),
+        (3, &[], 16, Ok(1)),
+        (3, &[0, 0, 4, 0], 1_048_576, Ok(1)),
+        (3, &[1, 0, 4, 0], 1_048_576, Err(NgFault::FrameTooLong(0))),
+        (3, &[], 1_048_580, bad),
+        (0xbad, &[], 8, bad),
+        (0xbad, &[], 12, Ok(0)),
+        (0xbad, &[], 1_048_580, Ok(0)),
+    ];
+    let described = interface(rt.alloc(), 1, 0, &[])?;
+    for (number, fields, total, end) in cases {
+        let last = block(rt.alloc(), number, total, fields)?;
+        let stream = joined(rt.alloc(), &[&SECTION, &described, &last])?;
+        for size in [65_536, 2_000_000] {
+            let mut out: Vec<Frame> = Vec::new(rt.alloc());
+            let told = feed_all(rt.alloc(), &stream, size, &mut out)?;
+            assert_eq!(rt; told.end, end);
+        }
     }
     Ok(())
 }

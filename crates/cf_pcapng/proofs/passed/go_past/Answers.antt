@@ -1,6 +1,7 @@
 use Rattle.std.proofs.Common.{◌≡◌, ℕ, List, [], ◌++◌, length, drop, Some, sym, subst, rules}
 use Rattle.cf_pcap.specs.Capture.{Captured}
 use Rattle.cf_pcapng.specs.declared.fault.Flaw.TheVariants.{BadLength}
+use Rattle.cf_pcapng.specs.Position.{state_of}
 use Rattle.cf_pcapng.specs.Reading.{AreRead, IsSoundOn, Begins, Breaks}
 use Rattle.cf_pcapng.proofs.Passing.{goes_within, goes_wrong, goes_over, sound_over, sound_within}
 use Rattle.cf_pcapng.proofs.Nexts.{by_ok}
@@ -8,16 +9,16 @@ use Rattle.cf_pcapng.proofs.passed.go_past.Goals as goal
 
 pub returns-in_ok-read-in-Over-clause-read : goal.returns-in_ok-read-in-Over-clause-read
 returns-in_ok-read-in-Over-clause-read c =
-    let s = c.args.position in
+    let s = state_of c.args.position in
     let bytes = c.args.bytes.now in
     let left = c.in-Over.left in
     let read = c.in_ok-read-in-Over.read in
-    let rest : AreRead s (drop left bytes) read.frames.items read.position read.rest.items read.flaw = subst (λ (xs : List ℕ). AreRead s xs read.frames.items read.position read.rest.items read.flaw) c.split_at.ensures.back c.in_ok-read-in-Over.ensures in
-    by_ok c.let_go.result _ _ (λ given on. λ gone was. on s (gone ++ bytes) (goes_over s c.args.block gone bytes left read.frames.items read.position read.rest.items read.flaw was c.in-Over.ensures.0 c.in-Over.ensures.1 c.in-Over.ensures.2 rest)) c.let_go.ensures
+    let rest : AreRead s (drop left bytes) read.frames.items (state_of read.position) read.rest.items read.flaw = subst (λ (xs : List ℕ). AreRead s xs read.frames.items (state_of read.position) read.rest.items read.flaw) c.split_at.ensures.back c.in_ok-read-in-Over.ensures.read in
+    by_ok c.let_go.result _ _ (λ given on. λ gone was. on s (gone ++ bytes) (goes_over s c.args.block gone bytes left read.frames.items (state_of read.position) read.rest.items read.flaw was c.in-Over.ensures.0 c.in-Over.ensures.1 c.in-Over.ensures.2 rest)) c.let_go.ensures.read
 
 pub returns-in_ok-held-in-Within-clause-read : goal.returns-in_ok-held-in-Within-clause-read
 returns-in_ok-held-in-Within-clause-read c = λ gone was.
-    let s = c.args.position in
+    let s = state_of c.args.position in
     let bytes = c.args.bytes.now in
     let passed = c.in-Within.passed in
     let some = c.in-Within.some in
@@ -28,23 +29,23 @@ returns-in_ok-held-in-Within-clause-read c = λ gone was.
 
 pub returns-in-Flawed-clause-read : goal.returns-in-Flawed-clause-read
 returns-in-Flawed-clause-read c = λ gone was.
-    let s = c.args.position in
+    let s = state_of c.args.position in
     let bytes = c.args.bytes.now in
     let none : c.new-in-Flawed.result.items ≡ [] = c.new-in-Flawed.ensures.items in
     subst (λ (xs : List Captured). Breaks s (gone ++ bytes) xs s BadLength) (sym none) (goes_wrong s c.args.block gone bytes was c.in-Flawed.ensures.0 c.in-Flawed.ensures.1)
 
 pub returns-in_ok-read-in-Over-clause-sound : goal.returns-in_ok-read-in-Over-clause-sound
 returns-in_ok-read-in-Over-clause-sound c =
-    let s = c.args.position in
+    let s = state_of c.args.position in
     let bytes = c.args.bytes.now in
     let left = c.in-Over.left in
     let read = c.in_ok-read-in-Over.read in
-    let rest : AreRead s (drop left bytes) read.frames.items read.position read.rest.items read.flaw = subst (λ (xs : List ℕ). AreRead s xs read.frames.items read.position read.rest.items read.flaw) c.split_at.ensures.back c.in_ok-read-in-Over.ensures in
-    by_ok c.let_go.result _ _ (λ given on. sound_over s bytes left given.frames.items given.position given.passed given.held.items given.flaw (on s (drop left bytes) rest)) c.let_go.ensures
+    let rest : AreRead s (drop left bytes) read.frames.items (state_of read.position) read.rest.items read.flaw = subst (λ (xs : List ℕ). AreRead s xs read.frames.items (state_of read.position) read.rest.items read.flaw) c.split_at.ensures.back c.in_ok-read-in-Over.ensures.read in
+    by_ok c.let_go.result _ _ (λ given on. sound_over s bytes left given.frames.items (state_of given.position) given.passed given.held.items given.flaw (on s (drop left bytes) rest)) c.let_go.ensures.read
 
 pub returns-in_ok-held-in-Within-clause-sound : goal.returns-in_ok-held-in-Within-clause-sound
 returns-in_ok-held-in-Within-clause-sound c =
-    let s = c.args.position in
+    let s = state_of c.args.position in
     let bytes = c.args.bytes.now in
     let passed = c.in-Within.passed in
     let some = c.in-Within.some in

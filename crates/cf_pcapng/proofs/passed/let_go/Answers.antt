@@ -1,6 +1,7 @@
 use Rattle.std.proofs.Common.{◌≡◌, ◌≤◌, ℕ, List, length, drop, Option, Some, None, sym, subst, arith, rules}
 use Rattle.cf_pcap.specs.declared.form.Order.{Order}
 use Rattle.cf_pcapng.specs.declared.fault.Flaw.{Flaw}
+use Rattle.cf_pcapng.specs.Position.{state_of}
 use Rattle.cf_pcapng.specs.Reading.{AreRead, AreReadOn, IsLetGo, IsPassedAt, Begins}
 use Rattle.cf_pcapng.proofs.Passing.{not_some, room_at, begins_whole, begins_passed}
 use Rattle.cf_pcapng.proofs.passed.let_go.Goals as goal
@@ -11,16 +12,16 @@ within-some-requires-clause-room c =
     let none : c.in-Some.block.gone ≡ 0 = c.in-Some.ensures.1 in
     omega (arith, most, none)
 
-pub returns-in-None : goal.returns-in-None
-returns-in-None c = λ s bytes read.
+pub returns-in-None-clause-read : goal.returns-in-None-clause-read
+returns-in-None-clause-read c = λ s bytes read.
     let all = c.args.read in
     let none : all.flaw ≡ None = not_some all.flaw (search rules) in
     let at : IsPassedAt all.position.order all.rest.items None = subst (λ (o : Option Order). IsPassedAt o all.rest.items None) c.order.ensures (subst (λ (xs : List ℕ). IsPassedAt c.order.result xs None) c.deref.ensures.value c.in-None.ensures) in
-    let now : AreRead s bytes all.frames.items all.position all.rest.items None = subst (λ (x : Option Flaw). AreRead s bytes all.frames.items all.position all.rest.items x) none read in
-    subst (λ (x : Option Flaw). AreReadOn s bytes all.frames.items all.position None all.rest.items x) (sym none) (begins_whole s bytes all.frames.items all.position all.rest.items now at)
+    let now : AreRead s bytes all.frames.items (state_of all.position) all.rest.items None = subst (λ (x : Option Flaw). AreRead s bytes all.frames.items (state_of all.position) all.rest.items x) none read in
+    subst (λ (x : Option Flaw). AreReadOn s bytes all.frames.items (state_of all.position) None all.rest.items x) (sym none) (begins_whole s bytes all.frames.items (state_of all.position) all.rest.items now at)
 
-pub returns-in_ok-held-in-Some : goal.returns-in_ok-held-in-Some
-returns-in_ok-held-in-Some c = λ s bytes read.
+pub returns-clause-read : goal.returns-clause-read
+returns-clause-read c = λ s bytes read.
     let all = c.args.read in
     let block = c.in-Some.block in
     let passed = c.within-some.result.0 in
@@ -29,7 +30,7 @@ returns-in_ok-held-in-Some c = λ s bytes read.
     let at : IsPassedAt all.position.order all.rest.items (Some block) = subst (λ (o : Option Order). IsPassedAt o all.rest.items (Some block)) c.order.ensures (subst (λ (xs : List ℕ). IsPassedAt c.order.result xs (Some block)) c.deref.ensures.value c.in-Some.ensures) in
     let go : IsLetGo block (length all.rest.items) passed some = subst (λ (xs : List ℕ). IsLetGo block (length xs) passed some) c.deref-in-Some.ensures.value c.within-some.ensures in
     let held : c.in_ok-held-in-Some.held.items ≡ drop some all.rest.items = search rules in
-    let now : AreRead s bytes all.frames.items all.position all.rest.items None = subst (λ (x : Option Flaw). AreRead s bytes all.frames.items all.position all.rest.items x) none read in
-    let done : Begins s bytes all.frames.items all.position (Some passed) (drop some all.rest.items) = begins_passed s bytes all.frames.items all.position all.rest.items block passed some now at go in
-    subst (λ (x : Option Flaw). AreReadOn s bytes all.frames.items all.position (Some passed) c.in_ok-held-in-Some.held.items x) (sym none)
-    (subst (λ (xs : List ℕ). Begins s bytes all.frames.items all.position (Some passed) xs) (sym held) done)
+    let now : AreRead s bytes all.frames.items (state_of all.position) all.rest.items None = subst (λ (x : Option Flaw). AreRead s bytes all.frames.items (state_of all.position) all.rest.items x) none read in
+    let done : Begins s bytes all.frames.items (state_of all.position) (Some passed) (drop some all.rest.items) = begins_passed s bytes all.frames.items (state_of all.position) all.rest.items block passed some now at go in
+    subst (λ (x : Option Flaw). AreReadOn s bytes all.frames.items (state_of all.position) (Some passed) c.in_ok-held-in-Some.held.items x) (sym none)
+    (subst (λ (xs : List ℕ). Begins s bytes all.frames.items (state_of all.position) (Some passed) xs) (sym held) done)

@@ -14,13 +14,13 @@ returns-in-Stopped-clause-stopped c =
     let is : c.args.self.now.stage ≡ Stopped c.in-Stopped.fault = subst (λ (r : Reader). r.stage ≡ Stopped c.in-Stopped.fault) c.self.view_is c.in-Stopped.is in
     answers_stopped c.in-Stopped.fault c.args.self.now is
 
-pub returns-in_err-called-clause-stopped : goal.returns-in_err-called-clause-stopped
-returns-in_err-called-clause-stopped c =
+pub returns-in_err-stage-clause-stopped : goal.returns-in_err-stage-clause-stopped
+returns-in_err-stage-clause-stopped c =
     let is : c.args.self.now.stage ≡ Running = subst (λ (r : Reader). r.stage ≡ Running) c.self.view_is (running_of c.self.inside.stage c.in_default.not-Stopped) in
     λ stream fault state found. absurd (not_found c.args.self.now stream fault is state found)
 
-pub returns-in_err-append-clause-stopped : goal.returns-in_err-append-clause-stopped
-returns-in_err-append-clause-stopped c =
+pub returns-in_err-take_over-clause-stopped : goal.returns-in_err-take_over-clause-stopped
+returns-in_err-take_over-clause-stopped c =
     let is : c.args.self.now.stage ≡ Running = subst (λ (r : Reader). r.stage ≡ Running) c.self.view_is (running_of c.self.inside.stage c.in_default.not-Stopped) in
     λ stream fault state found. absurd (not_found c.args.self.now stream fault is state found)
 

@@ -1,0 +1,27 @@
+-- How far a file was read since a reader's last piece.
+use Rattle.std.specs.Prelude.{ℕ, Bool, true, false, List, ◌++◌, Option}
+use Rattle.cf_pcap.specs.declared.form.Order.{Order}
+use Rattle.cf_pcapng.specs.declared.interfaces.Interface.{Interface}
+use Rattle.cf_pcapng.specs.File.{State}
+
+-- the interfaces of the section at hand: those that the reader had, unless a section has begun since, and those that came
+abbrev pub listed : List Interface → Bool → List Interface → List Interface
+listed had true came = came
+listed had false came = had ++ came
+
+-- what the reader had, whether a section has begun since, and what came
+pub record Listed : Type 0 where
+  pub had : List Interface
+  pub anew : Bool
+  pub came : List Interface
+
+abbrev pub interfaces_of : Listed → List Interface
+interfaces_of l = listed l.had l.anew l.came
+
+pub record Since : Type 0 where
+  pub order : Option Order
+  pub listed : Listed
+  pub count : ℕ
+
+abbrev pub state_of : Since → State
+state_of p = record { order = p.order; interfaces = interfaces_of p.listed; count = p.count }
