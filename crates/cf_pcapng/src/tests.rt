@@ -159,6 +159,11 @@ fn enhanced(alloc: Global, number: u8, time: u64) -> Result<Vec<u8>, AllocError>
     block(alloc, 6, 36, &fields)
 }
 
+/// A section of two blocks.
+fn section(alloc: Global, first: &[u8], second: &[u8]) -> Result<Vec<u8>, AllocError> {
+    joined(alloc, &[&SECTION, first, second])
+}
+
 /// The first frame's time, captured length and link, after a stream that ends well.
 fn first_of(
     alloc: Global,
@@ -253,27 +258,24 @@ fn interfaces_are_those_of_their_section(rt: HostRuntime) -> Result<(), Fail> {
     let cooked = interface(rt.alloc(), 113, 0, &[])?;
     let zero = enhanced(rt.alloc(), 0, 7)?;
     let one = enhanced(rt.alloc(), 1, 7)?;
-    let begun = joined(
-        rt.alloc(),
-        &[&SECTION, &ethernet, &cooked, &one, &zero, &BIG],
-    )?;
+    let mut begun = section(rt.alloc(), &ethernet, &cooked)?;
+    begun.extend_from_slice(&one)?;
+    begun.extend_from_slice(&zero)?;
+    begun.extend_from_slice(&BIG)?;
+    let known = section(rt.alloc(), &cooked, &zero)?;
+    let beyond = section(rt.alloc(), &cooked, &one)?;
+    let none = section(rt.alloc(), &[], &zero)?;
+    let missing = Err(NgFault::NoInterface(4));
     // What follows, what the end answers, and the links of the frames.
-    let cases: [(&[&[u8]], Result<u32, NgFault>, &[u16]); 4] = [
+    let cases: [(&[u8], Result<u32, NgFault>, &[u16]); 4] = [
         (&[], Ok(4), &[113, 1, 1, 1]),
-        (&[&SECTION, &cooked, &zero], Ok(5), &[113, 1, 1, 1, 113]),
-        (
-            &[&SECTION, &cooked, &one],
-            Err(NgFault::NoInterface(4)),
-            &[113, 1, 1, 1],
-        ),
-        (
-            &[&SECTION, &zero],
-            Err(NgFault::NoInterface(4)),
-            &[113, 1, 1, 1],
-        ),
+        (&known, Ok(5), &[113, 1, 1, 1, 113]),
+        (&beyond, missing, &[113, 1, 1, 1]),
+        (&none, missing, &[113, 1, 1, 1]),
     ];
     for (more, end, links) in cases {
-        let stream = joined(rt.alloc(), &[&begun, &joined(rt.alloc(), more)?])?;
+        let mut stream = begun.as_slice().to_vec(rt.alloc())?;
+        stream.extend_from_slice(more)?;
         for size in [1, 20, 36, 500] {
             let mut out: Vec<Frame> = Vec::new(rt.alloc());
             let told = feed_all(rt.alloc(), &stream, size, &mut out)?;
