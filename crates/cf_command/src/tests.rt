@@ -87,3 +87,31 @@ fn other_options_and_numbers_are_refused(rt: HostRuntime) -> Result<(), Fail> {
     }
     Ok(())
 }
+
+// The names of the setup and the capture, where there is one.
+fn names_of<'a>(alloc: Global, words: &'a [&'a str]) -> Result<Option<(&'a str, &'a str)>, Memory> {
+    match command_of(alloc, words)? {
+        Some(Command::Run(command)) => Ok(Some((command.setup, command.capture))),
+        Some(Command::Synth(command)) => Ok(Some((command.setup, ""))),
+        Some(Command::Dump(name)) => Ok(Some(("", name))),
+        None => Ok(None),
+    }
+}
+
+#[test]
+fn names_of_files_are_those_of_the_words(rt: HostRuntime) -> Result<(), Fail> {
+    let alloc = rt.alloc();
+    let table: [(&[&str], (&str, &str)); 4] = [
+        (&["run", "c.pcap", "--setup", "s"], ("s", "c.pcap")),
+        (&["run", "--setup=c", "s"], ("c", "s")),
+        (
+            &["synth", "--count", "1", "--seed", "2", "--setup", "s"],
+            ("s", ""),
+        ),
+        (&["dump", "run"], ("", "run")),
+    ];
+    for (words, names) in table {
+        assert_eq!(rt; names_of(alloc, words)?, Some(names));
+    }
+    Ok(())
+}
