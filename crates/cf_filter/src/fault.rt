@@ -1,5 +1,7 @@
 // What is wrong with a text, and where.
 
+use thiserror::Error;
+
 /// What is wrong with a token.
 #[derive(Clone, Copy, Debug, PartialEq, Eq)]
 pub enum Offence {
@@ -23,18 +25,24 @@ pub struct Stop {
 }
 
 /// Why a text is no expression of the schema. A place is the number of bytes before the first offending token.
-#[derive(Clone, Copy, Debug, PartialEq, Eq)]
+#[derive(Clone, Copy, Debug, PartialEq, Eq, Error)]
 pub enum FilterFault {
     /// A token of another kind than the one that is wanted there, or a value in none of the forms.
+    #[error("another token is wanted after {0} bytes")]
     Syntax(u32),
     /// A name that no attribute of the schema has.
+    #[error("no attribute has the name after {0} bytes")]
     UnknownName(u32),
     /// A word that is no operator, or one that the attribute doesn't have: byte strings have `==` and `!=` alone.
+    #[error("the attribute has no such operator as that after {0} bytes")]
     BadOperator(u32),
     /// A value that the attribute can't have, or a range whose low end is above the high one.
+    #[error("the attribute has no such value as that after {0} bytes")]
     ValueRange(u32),
     /// More than 32 atoms.
+    #[error("more than 32 atoms")]
     TooLong,
     /// Want of memory.
+    #[error("out of memory")]
     Memory,
 }
