@@ -386,12 +386,12 @@ pub batch_out : (whole : Bool) (log : LogValue) (rows : List Numbered) (b w : �
 batch_out whole log rows b w m r n passes after shape has within room dealt wrote_part_ out g = record {
   exists = subst (λ (v : ℕ). v < W) out.writer_is (g.bounds.writer book.0 (book_of out.pass.view) (ap (λ (bs : List Book). slice_get bs book.0) g.books ∙ book.1));
   many = (too_many log.shape rows (book_of out.pass.view) shape (λ j s used. more s (used_by whole log front part m r n passes after has dealt wrote g out.place out.pass j s out.at used)) (record {
-        full = out.out.full;
-        apart = out.out.apart;
-        at = out.out.at;
-        needed = more out.out.at (needed_right log.shape front part out.out.at out.out.needed);
-        other = out.out.other;
-      }));
+    full = out.out.full;
+    apart = out.out.apart;
+    at = out.out.at;
+    needed = more out.out.at (needed_right log.shape front part out.out.at out.out.needed);
+    other = out.out.other;
+  }));
   of = home_again whole log front part m r n passes after has dealt wrote g;
   settled = g.settled;
   fronts = fronts;

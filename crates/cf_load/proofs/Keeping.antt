@@ -1,12 +1,12 @@
 -- A root at home asks, and holds what it held.
-use Rattle.std.proofs.Common.{refl, ◌≡◌, ◌⊎◌, ◌∷◌, [], ◌++◌, ◌<◌, ◌+◌, ℕ, List, length, map, take, get_or, slice_get, sym, ap, ap₂, ◌∙◌, inl, inr}
+use Rattle.std.proofs.Common.{refl, ◌≡◌, ◌∷◌, [], ◌++◌, ◌<◌, ◌+◌, ℕ, List, length, map, take, get_or, slice_get, sym, ap, ap₂, ◌∙◌}
 use Rattle.std.proofs.lemmas.List.{map_push, take_more}
-use Rattle.cf_law.specs.Passes.{Book, Pass}
+use Rattle.cf_law.specs.Passes.{Book}
 use Rattle.cf_law.specs.Readers.{mine_from}
 use Rattle.cf_shape.specs.Lanes.{Shaped}
 use Rattle.cf_row.specs.Row.{Numbered}
 use Rattle.cf_table.specs.Held.{Held, LogValue, IsOf}
-use Rattle.cf_table.specs.Moves.{IsSettled, OnlyLooked}
+use Rattle.cf_table.specs.Moves.{IsSettled}
 use Rattle.cf_query.specs.Asking.{HasAsked}
 use Rattle.cf_load.specs.Loading.{HasLoaded}
 use Rattle.cf_load.specs.Loads.{Keeps}
@@ -23,21 +23,9 @@ keeps_then m n o a b = record {
   told = b.told ∙ a.told;
 }
 
--- after an ask of the root, and after one that was refused
+-- after an ask of the root, also one that was refused
 pub keeps_asked : (shape : Shaped) (m n : Held) → HasAsked shape m n → IsSettled shape m.view → Keeps m n
 keeps_asked shape m n asked settled = record { same = asked.same; seen = asked.stays settled; books = asked.books; told = asked.told }
-
-pub keeps_looked : (m n : Held) → OnlyLooked m n → Keeps m n
-keeps_looked m n looked = record {
-  same = looked ∙ ap (λ (p : Pass). record m { view = p }) (sym (ap (λ (h : Held). h.view) looked));
-  seen = ap (λ (h : Held). (h.view).seen) looked;
-  books = ap (λ (h : Held). (h.view).books) looked;
-  told = ap (λ (h : Held). (h.view).told) looked;
-}
-
-pub keeps_either : (shape : Shaped) (m n : Held) → IsSettled shape m.view → HasAsked shape m n ⊎ OnlyLooked m n → Keeps m n
-keeps_either shape m n settled (inl asked) = keeps_asked shape m n asked settled
-keeps_either shape m n settled (inr looked) = keeps_looked m n looked
 
 -- the books are still home
 pub settled_kept : (shape : Shaped) (m n : Held) → Keeps m n → IsSettled shape m.view → IsSettled shape n.view

@@ -8,13 +8,8 @@ use Rattle.std.proofs.lemmas.Bool.{cases_Bool, and_from}
 use Rattle.cf_row.specs.Row.{Numbered, Fits}
 use Rattle.cf_row.specs.declared.row.Entry.{Entry}
 use Rattle.cf_row.proofs.Bytes.{both}
-use Rattle.cf_row.specs.declared.expr.Expr.{Expr}
-use Rattle.cf_row.specs.declared.schema.Attr.{Attr}
-use Rattle.cf_row.specs.Expr.{holds_of}
-use Rattle.cf_shape.specs.declared.lane.Key.{Key}
-use Rattle.cf_shape.specs.declared.lane.Key.TheVariants as keys
-use Rattle.cf_shape.specs.Lanes.{Shaped, IsShape, selected_by, key_by, key_of, lane_at}
-use Rattle.cf_shape.specs.Nodes.{Node, levels_of, path_of, nodes_in, nodes_for, nodes_of, nibbles_of_key, same_node, add_node, distinct}
+use Rattle.cf_shape.specs.Lanes.{Shaped, IsShape, selected_by, key_of}
+use Rattle.cf_shape.specs.Nodes.{Node, levels_of, path_of, nodes_in, nodes_for, nodes_of, same_node, add_node, distinct}
 use Rattle.cf_words.specs.Words.{Spot, spot}
 use Rattle.cf_words.proofs.Chains.{eq_from}
 use Rattle.cf_law.specs.Nibbles.{nibbles}
@@ -26,7 +21,7 @@ use Rattle.cf_law.proofs.Paths.{path_some}
 use Rattle.cf_walk.proofs.Turns.{nibbles_split}
 use Rattle.cf_walk.proofs.Keys.{key_small}
 use Rattle.cf_load.specs.Needed.{IsNeeded, IsOut, HasNodes}
-use Rattle.cf_load.proofs.Pigeons.{Has, AreApart, no_more, has_flat, from_flat, flat_most, same_flat, has_map, from_map}
+use Rattle.cf_load.proofs.Pigeons.{Has, AreApart, no_more, has_flat, from_flat, flat_most, has_map, from_map}
 
 -- the spot of a node
 abbrev pub spot_at : Node → Spot

@@ -201,12 +201,12 @@ stops_out log first batch m k i n p answer row goes low at on rest answered err 
     let is : book_of p.view ≡ with_nodes out.used.spots out.used.label (book_of n.view) = ap (λ (bs : List Book). get_or bs 0 (no_book 0)) out.used.books in
     let writer : (book_of p.view).writer ≡ (book_of n.view).writer = ap (λ (b : Book). b.writer) is in (
       stopped_at false log first batch m k i n p goes on rest
-      (record {
-        writer = writer;
-        mine = ap (λ (b : Book). b.mine) is;
-        used = used_more log.shape batch m n p i row out.used.spots low at goes.used (ap (λ (b : Book). b.used) is) out.used.on;
-      })
-      (λ whole. absurd (cc whole)),
+          (record {
+            writer = writer;
+            mine = ap (λ (b : Book). b.mine) is;
+            used = used_more log.shape batch m n p i row out.used.spots low at goes.used (ap (λ (b : Book). b.used) is) out.used.on;
+          })
+          (λ whole. absurd (cc whole)),
       (
         writer ∙ goes.writer,
         record {

@@ -9,9 +9,9 @@ ghost use Rattle.cf_load.specs.Loads.{outcome_of, HasStopped};
 ghost use Rattle.cf_load.specs.Planned.{IsPlan, HasRead, tails_of};
 ghost use Rattle.cf_load.specs.Writing.{IsReady, RanOut, Wrote};
 
-use crate::{LivePlan, LoadFault};
 use crate::reader::ask_counted;
 use crate::writers::run_writers;
+use crate::{LivePlan, LoadFault};
 use cf_outside::Gate;
 use cf_report::Live;
 use cf_row::{Memory, Row};
@@ -82,10 +82,7 @@ fn run_beside<R: Threads + Sync, G: Gate>(
     )
 }
 
-fn outcome(
-    out: Option<u8>,
-    answers: Result<Vec<Live>, Memory>,
-) -> Result<Vec<Live>, LoadFault>
+fn outcome(out: Option<u8>, answers: Result<Vec<Live>, Memory>) -> Result<Vec<Live>, LoadFault>
     ensures { result ≡ outcome_of out answers }
 {
     match out {

@@ -14,15 +14,19 @@ use cf_row::Row;
 use cf_table::{MultiLog, Root};
 use std::alloc::Global;
 use std::thread::Threads;
+use thiserror::Error;
 
 /// Why rows weren't loaded.
-#[derive(Clone, Copy, Debug, PartialEq, Eq)]
+#[derive(Clone, Copy, Debug, PartialEq, Eq, Error)]
 pub enum LoadFault {
     /// There are more rows than the log's capacity. Nothing was appended.
+    #[error("more rows than the log has room for")]
     Full,
     /// The nodes of that writer are used up, and its next row wants another. Some of the rows may have been appended.
+    #[error("writer {0} has no node left")]
     NodesFull(u8),
     /// Want of memory. Some of the rows may have been appended.
+    #[error("out of memory")]
     Memory,
 }
 

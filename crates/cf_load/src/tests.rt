@@ -7,25 +7,45 @@ ghost use Rattle.cf_load.specs.Writing.{IsReady};
 use crate::writers::run_writers;
 use crate::{LivePlan, LoadFault, load};
 use cf_outside::FreeGate;
-use cf_plain::{Ask, Body};
-use cf_report::{Live, Loaded};
+use cf_plain::{Answer, Ask, Body};
+use cf_report::Loaded;
 use cf_row::{Attr, Conjunction, Expr, Kind, Memory, Name, Row, Schema, Value, fits};
-use cf_shape::Shape;
+use cf_shape::{Key, Lane, Shape, belongs};
 use cf_table::{MultiLog, Pass, Root, WriterPass};
 use std::alloc::Global;
 use std::process::Abort;
 use std::test::*;
 use std::thread::Threads;
 
-// a shape over the schema `ts:u64`, without lanes
-fn shape(rt: &impl Abort, alloc: Global, capacity: u32, writers: u8) -> Result<Shape, Memory> {
+// what every row passes
+fn every(alloc: Global) -> Result<Expr, Memory> {
+    let mut conjunctions = Vec::new(alloc);
+    conjunctions.push(Conjunction::new(Vec::new(alloc)))?;
+    Ok(Expr::new(conjunctions))
+}
+
+// A shape over the schema `ts:u64` with an index of `ts`. A row's path has 15 nodes.
+fn shape(
+    rt: &impl Abort,
+    alloc: Global,
+    capacity: u32,
+    writers: u8,
+    nodes: u32,
+) -> Result<Shape, Memory> {
     let mut attrs = Vec::new(alloc);
     attrs.push(Attr {
         name: Name::new(alloc, "ts")?,
         kind: Kind::U64,
     })?;
     let schema = Schema::new(attrs).expect(rt, "a schema");
-    let shape = Shape::new(schema, Vec::new(alloc), capacity, writers, 2, 10).expect(rt, "a shape");
+    let mut lanes = Vec::new(alloc);
+    lanes.push(Lane {
+        select: every(alloc)?,
+        key: Key::Attr(0),
+        measure: None,
+    })?;
+    assert!(rt; belongs(&schema, &lanes));
+    let shape = Shape::new(schema, lanes, capacity, writers, nodes, 10).expect(rt, "a shape");
     Ok(shape)
 }
 
@@ -74,7 +94,7 @@ fn cover<R: Threads + Sync + Abort>(
 ) -> Result<u32, Fail> {
     let all = rows(alloc, count)?;
     let rows = all.as_slice();
-    let (log, mut root) = MultiLog::open(alloc, shape(rt, alloc, capacity, 2)?)?;
+    let (log, mut root) = MultiLog::open(alloc, shape(rt, alloc, capacity, 2, 15)?)?;
     assert!(rt; rows.len() < 100);
     assert!(rt; all_fit(log.shape().schema(), rows));
     let passes = log.deal(alloc, &mut root)?;
@@ -89,15 +109,14 @@ fn two_threads(rt: HostRuntime) -> Result<(), Fail> {
     Ok(())
 }
 
-// all rows, asked live twice a round
+// all rows, by a scan and by their key, each asked live once a round
 fn plan(alloc: Global) -> Result<LivePlan, Memory> {
-    let mut conjunctions = Vec::new(alloc);
-    conjunctions.push(Conjunction::new(Vec::new(alloc)))?;
     let mut asks = Vec::new(alloc);
-    asks.push(Ask::List(Expr::new(conjunctions)))?;
+    asks.push(Ask::List(every(alloc)?))?;
+    asks.push(Ask::Find(0, 7, 7))?;
     let mut lives = Vec::new(alloc);
     lives.push(0)?;
-    lives.push(0)?;
+    lives.push(1)?;
     Ok(LivePlan {
         asks,
         triggers: Vec::new(alloc),
@@ -106,20 +125,23 @@ fn plan(alloc: Global) -> Result<LivePlan, Memory> {
     })
 }
 
-// how many places a live answer has, and how much of the log it saw
-fn seen_by(live: &Live) -> (usize, u32) {
-    match &live.answer.body {
-        Body::Places(places) => (places.as_slice().len(), live.answer.tail),
+// how many places an answer has, and how much of the log it saw
+fn seen_by(answer: &Answer) -> (usize, u32) {
+    match &answer.body {
+        Body::Places(places) => (places.as_slice().len(), answer.tail),
         _ => (0, u32::MAX),
     }
 }
 
-// Each live answer has as many places as it saw entries, in the order of its batch.
+// Each answer has as many places as it saw entries, the live ones in the order of their batches, and the final ones saw all.
 fn check<R: Abort>(rt: &R, loaded: &Loaded, count: u32) {
-    assert!(rt; loaded.finals().len() == 1 && loaded.lives().len() == 6);
+    assert!(rt; loaded.finals().len() == 2 && loaded.lives().len() == 6);
+    for answer in loaded.finals() {
+        assert_eq!(rt; seen_by(answer), (count as usize, count));
+    }
     let mut last = 0;
     for live in loaded.lives() {
-        let (places, tail) = seen_by(live);
+        let (places, tail) = seen_by(&live.answer);
         assert!(rt; places == tail as usize && last <= tail && tail <= count);
         last = tail;
     }
@@ -131,24 +153,41 @@ fn load_all<R: Threads + Sync + Abort>(
     alloc: Global,
     capacity: u32,
     writers: u8,
+    nodes: u32,
     count: u32,
 ) -> Result<Result<Loaded, LoadFault>, Fail> {
     let all = rows(alloc, count)?;
     let rows = all.as_slice();
     let plan = plan(alloc)?;
-    let (log, mut root) = MultiLog::open(alloc, shape(rt, alloc, capacity, writers)?)?;
+    let (log, mut root) = MultiLog::open(alloc, shape(rt, alloc, capacity, writers, nodes)?)?;
     assert!(rt; all_fit(log.shape().schema(), rows));
     assert!(rt; plan.suits(log.shape()));
     Ok(load(rt, alloc, &log, &mut root, rows, &plan, &FreeGate))
 }
 
 #[test]
-fn ten_thousand_rows(rt: HostRuntime) -> Result<(), Fail> {
+fn all_rows_have_one_path(rt: HostRuntime) -> Result<(), Fail> {
     for writers in [1, 2, 4, 15] {
-        let loaded = load_all(&rt, rt.alloc(), 10_000, writers, 10_000)?;
+        let loaded = load_all(&rt, rt.alloc(), 10_000, writers, 15, 10_000)?;
         check(&rt, &loaded.expect(&rt, "loaded"), 10_000);
     }
-    let full = load_all(&rt, rt.alloc(), 3, 2, 4)?;
-    assert!(rt; matches!(full, Err(LoadFault::Full)));
+    Ok(())
+}
+
+#[test]
+fn the_log_or_the_nodes_are_too_few(rt: HostRuntime) -> Result<(), Fail> {
+    for (capacity, writers, nodes, wanted) in [
+        (3, 2, 15, Some(LoadFault::Full)),
+        (4, 1, 14, Some(LoadFault::NodesFull(0))),
+        (3, 1, 14, Some(LoadFault::Full)),
+        (4, 1, 15, None),
+    ] {
+        let loaded = load_all(&rt, rt.alloc(), capacity, writers, nodes, 4)?;
+        assert_eq!(rt; loaded.err(), wanted);
+    }
+    for (writers, nodes) in [(2, 7), (14, 1), (15, 0)] {
+        let loaded = load_all(&rt, rt.alloc(), 4, writers, nodes, 4)?;
+        assert!(rt; matches!(loaded, Err(LoadFault::NodesFull(_))));
+    }
     Ok(())
 }

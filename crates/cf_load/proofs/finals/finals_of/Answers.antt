@@ -1,6 +1,6 @@
 use Rattle.std.proofs.Common.{◌≡◌, ap, ◌∙◌, rules}
 use Rattle.cf_report.specs.Meaning.{answer_on}
-use Rattle.cf_load.proofs.Keeping.{keeps_then, keeps_asked, keeps_either, settled_kept, made_more}
+use Rattle.cf_load.proofs.Keeping.{keeps_then, keeps_asked, settled_kept, made_more}
 use Rattle.cf_load.proofs.finals.finals_of.Goals as goal
 
 pub returns-in_err-ask-clause-keeps : goal.returns-in_err-ask-clause-keeps
@@ -8,7 +8,7 @@ returns-in_err-ask-clause-keeps g c =
     let s = c.args.log.now.shape in
     let m = c.args.root.now in
     let k = c.loop-question.invariant.keeps in
-    keeps_then m c.loop-question.root c.ask.new.pass k (keeps_either s c.loop-question.root c.ask.new.pass (settled_kept s m c.loop-question.root k c.requires.settled) c.in_err-ask.ensures.memory)
+    keeps_then m c.loop-question.root c.ask.new.pass k (keeps_asked s c.loop-question.root c.ask.new.pass c.in_err-ask.ensures.memory (settled_kept s m c.loop-question.root k c.requires.settled))
 
 pub returns-in_err-push-clause-keeps : goal.returns-in_err-push-clause-keeps
 returns-in_err-push-clause-keeps g c =

@@ -1,7 +1,7 @@
 use Rattle.std.proofs.Common.{◌≡◌, ◌%◌, ap, sym, ◌∙◌, Ok, Err, rules}
 use Rattle.cf_shape.specs.Lanes.{Shaped}
 use Rattle.cf_append.specs.declared.appends.AppendFault.TheVariants.{Full, NodesFull}
-use Rattle.cf_load.proofs.Progress.{goes_first, goes_other, goes_answered, ends, stops_full, stops_out}
+use Rattle.cf_load.proofs.Progress.{goes_first, goes_other, goes_answered, stops_full, stops_out}
 use Rattle.cf_load.proofs.writers.write_rows.Goals as goal
 use Rattle.cf_load.proofs.writers.write_rows.Goals.{then-number-writers+in-Ok, else-number-writers}
 
