@@ -18,7 +18,7 @@ use Rattle.cf_append.specs.declared.appends.AppendFault.{AppendFault}
 use Rattle.cf_append.specs.declared.appends.AppendFault.TheVariants.{Full, NodesFull}
 use Rattle.cf_append.proofs.Appending.{rests_by, rests_all}
 use Rattle.cf_query.specs.Asking.{HasAsked}
-use Rattle.cf_query.specs.Writers.{IsWriters, AreReady, AreDealtOut}
+use Rattle.cf_query.specs.Writers.{IsWriters, AreDealtOut}
 
 -- All books are dealt.
 dealt_at : (log : LogValue) (m n : Held) (hs : List Held) (k : ℕ) (h : Held) → m.view ≡ root_pass log.shape → AreDealt log m hs n → slice_get hs k ≡ Some h → IsWriters log k h
@@ -82,10 +82,6 @@ looked_books log w m n is looked =
 pub asked : (log : LogValue) (w : ℕ) (m n : Held) (A : Type 0) (P : A → Type 0) (r : Result A AllocError) → IsWriters log w m → IfOk r (λ a. HasAsked log.shape m n × P a) → IfErr r (λ x. HasAsked log.shape m n) → IsWriters log w n
 asked log w m n A P (Ok a) is ok err = same_books log w m n is (ok.0).same (ok.0).books
 asked log w m n A P (Err e) is ok err = same_books log w m n is err.same err.books
-
--- the first of some passes, and the others
-pub ready_next : (log : LogValue) (h : Held) (hs : List Held) → AreReady log (h ∷ hs) → ((w : ℕ) × IsWriters log w h) × AreReady log hs
-ready_next log h hs all = (all 0 h refl, λ k x at. all (suc k) x at)
 
 -- One writer's pass, or two, are all.
 pub each_one : (P : Held → Type 0) (a : Held) → P a → (k : ℕ) (h : Held) → slice_get (a ∷ []) k ≡ Some h → P h

@@ -12,7 +12,7 @@ use cf_append::append;
 use cf_fold::Part;
 use cf_plain::{Ask, Body, Plain, suits};
 use cf_row::{Kind, Memory, Op, Row, fits};
-use cf_shape::{Key, levels};
+use cf_shape::{Key, Shape, levels};
 use cf_table::{MultiLog, Pass, ReaderPass, Steps, WriterPass};
 use std::alloc::Global;
 use std::marker::Brand;
@@ -190,29 +190,36 @@ fn find_within<P: Pass, L: Ledger, R: Abort>(
     Ok(())
 }
 
-fn four_sources<L: Ledger, R: Abort>(rt: &R, alloc: Global, blank: Blank) -> Result<(), Fail>
+// One source is found among those of these rows.
+fn one_of<L: Ledger, R: Abort>(
+    rt: &R,
+    alloc: Global,
+    blank: Blank,
+    shape: Shape,
+    rows: &[&[u64]],
+) -> Result<(), Fail>
     requires { (blank.name ≡ L.name) × (blank.parts ≡ L.parts) × (0 < L.parts) }
 {
     let mut steps = Steps::<L>::new(blank);
-    let kinds = [("ts", Kind::U64), ("src", Kind::U32)];
-    let shape = shape_of(rt, alloc, &kinds, &[(Key::Attr(1), None)], 4, 1)?;
-    let (log, mut root, passes) = dealt(alloc, shape)?;
-    let mut reader = log.fork(&mut root);
+    let (log, _root, passes) = dealt(alloc, shape)?;
     let mut pass = first_of(rt, passes);
+    append_all(rt, &log, alloc, &mut pass, rows, &mut steps)?;
+    find_within(rt, &log, alloc, &mut pass, &mut steps)?;
+    Ok(())
+}
+
+#[test]
+fn one_source_of_four(rt: HostRuntime) -> Result<(), Fail> {
+    let alloc = rt.alloc();
+    let kinds = [("ts", Kind::U64), ("src", Kind::U32)];
+    let shape = shape_of(&rt, alloc, &kinds, &[(Key::Attr(1), None)], 4, 1)?;
     let sources: [&[u64]; 4] = [
         &[0, 0x09ff_ffff],
         &[0, 0x0a00_0000],
         &[0, 0x0aff_ffff],
         &[0, 0x0b00_0000],
     ];
-    append_all(rt, &log, alloc, &mut pass, &sources, &mut steps)?;
-    find_within(rt, &log, alloc, &mut reader, &mut steps)?;
-    Ok(())
-}
-
-#[test]
-fn one_source_of_four(rt: HostRuntime) -> Result<(), Fail> {
-    four_sources::<Brand, _>(&rt, rt.alloc(), Blank::new(1))
+    one_of::<Brand, _>(&rt, alloc, Blank::new(1), shape, &sources)
 }
 
 // Each writer appends the row, one after the other.

@@ -1,4 +1,4 @@
-use Rattle.std.proofs.Common.{arith}
+use Rattle.std.proofs.Common.{arith, rules}
 use Rattle.cf_append.proofs.Appending.{may_begin}
 use Rattle.cf_query.proofs.lane_tests.measure_below.Goals as goal
 
