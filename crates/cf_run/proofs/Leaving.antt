@@ -10,6 +10,7 @@ use Rattle.cf_run.specs.Devices.{IsTakenFrom, IsStopped}
 use Rattle.cf_run.specs.Due.{HasSetup}
 use Rattle.cf_run.specs.Left.{MayBeLeft}
 use Rattle.cf_run.specs.Work.{ArePackets, AreRowsOf, limit_of}
+use Rattle.cf_run.proofs.Capturing.{packets_end}
 use Rattle.cf_run.proofs.Loading.{ends_by}
 use Rattle.cf_run.proofs.SetupSize.{setup_short}
 
@@ -47,7 +48,7 @@ module _ (files : List File) (words : List (List ℕ)) where
 
   pub dump_left : (name : List ℕ) → IsDump words name → (capture : List ℕ) (rows : List Numbered) (before now : Option (List ℕ)) → file_named files name ≡ Some capture → ArePackets capture rows → now ≡ Some [] → MayBeLeft files words before now
   dump_left name is capture rows before now found rows_are none =
-      inr (inr (inr (inl (record { name = name; name_is = is; capture = capture; file = found; taken = whole_taken capture (2 ^ 32) now (let short : length capture < 2 ^ 32 = rows_are.frames_are.size in omega (arith, short)) none }))))
+      inr (inr (inr (inl (record { name = name; name_is = is; capture = capture; file = found; taken = whole_taken capture (2 ^ 32) now (let short : length capture < 2 ^ 32 = (packets_end capture rows rows_are) in omega (arith, short)) none }))))
 
   pub synth_stopped : (command : Drawn) → IsSynth words command → (before now : Option (List ℕ)) → IsStopped files command.setup 65537 before now → MayBeLeft files words before now
   synth_stopped command is before now stopped = elim stopped [

@@ -1,4 +1,5 @@
 pub mod Taking
+pub mod Capturing
 pub mod Writing
 pub mod Deciding
 pub mod Drawing

@@ -4,18 +4,15 @@ use Rattle.std.specs.declared.alloc.Global.{Global}
 use Rattle.cf_row.specs.Row.{Numbered}
 use Rattle.cf_row.specs.declared.schema.Attr.{Attr}
 use Rattle.cf_outside.specs.Files.{File}
-use Rattle.cf_pcap.specs.Capture.{HasPcapFault}
-use Rattle.cf_pcap.specs.declared.fault.PcapFault.{PcapFault}
-use Rattle.cf_pcap.specs.declared.fault.PcapFault.TheVariants as faults
-use Rattle.cf_pcap.proofs.Ending.{fault_of_front}
 use Rattle.cf_records.specs.Records.{HasRecordsFault, IsRecordFile}
 use Rattle.cf_records.specs.declared.fault.RecordFault.{RecordFault}
 use Rattle.cf_records.specs.declared.fault.RecordFault.TheVariants as records
 use Rattle.cf_setup.specs.Settled.{Settled}
 use Rattle.cf_run.specs.Devices.{IsFileRead}
-use Rattle.cf_run.specs.Faults.{HasPacketFault, HasLineFault, HasFaultBy, HasCaptureFault, code_of, record_of, line_code_of, line_of}
+use Rattle.cf_run.specs.Faults.{HasPacketFault, HasLineFault, HasFaultBy, HasCaptureFault, line_code_of, line_of}
 use Rattle.cf_run.specs.Parts.{Lawful, Faulty, IsRowsStop, LoadsRows, LoadsRowsOf, LoadsPackets, IsBad}
 use Rattle.cf_run.specs.Work.{ArePackets, AreRowsBy, AreRowsOf, limit_by, limit_of}
+use Rattle.cf_run.proofs.Capturing.{packets_end, packets_longer}
 use Rattle.cf_run.proofs.Taking.{left_after, stopped_read}
 use Rattle.cf_run.specs.declared.status.Status.{Status}
 use Rattle.cf_run.specs.declared.status.Status.TheVariants.{Done, Words, Setup, Capture, ReadFault, WriteFault, Full, Nodes, Memory, NoFile}
@@ -57,12 +54,6 @@ module _ (limit : ℕ) (lawful : Lawful) (faulty : Faulty) (ends : Ends limit la
   loads_rows_if None name bytes before now result read is = read
   loads_rows_if (Some files) name bytes before now result read is = loads_rows files name bytes before now result read is
 
-packets_end : Ends (2 ^ 32) ArePackets
-packets_end bytes rows are = are.frames_are.size
-
-packets_longer : Longer (2 ^ 32) HasPacketFault
-packets_longer bytes rest at code whole has = record { fault = has.fault; fault_is = fault_of_front bytes rest has.fault whole has.fault_is; record_is = has.record_is; code_is = has.code_is }
-
 full_line : (attrs : List Attr) (bytes rest : List ℕ) (fault : RecordFault) → length bytes ≡ 2 ^ 24 → HasRecordsFault attrs bytes fault → HasRecordsFault attrs (bytes ++ rest) fault
 full_line attrs bytes rest records.NoHeader full has = let small : length bytes < 2 ^ 24 = has.0 in absurd (omega (arith, small, full))
 full_line attrs bytes rest records.BadHeader full has = let small : length bytes < 2 ^ 24 = has.small in absurd (omega (arith, small, full))
@@ -97,18 +88,6 @@ pub loads_packets : (told : Option (List File)) (name bytes : List ℕ) (before 
 loads_packets told name bytes before now result read is = loads_rows_if (2 ^ 32) ArePackets HasPacketFault packets_end packets_longer told name bytes before now result read is
 
 -- a fault of the bytes refuses them, and want of memory is none
-packet_faulty : (bytes : List ℕ) (fault : PcapFault) (status : Status) → (fault ≡ faults.Memory → ⊥) → ((fault ≡ faults.Memory → ⊥) → status ≡ Capture (record_of fault) (code_of fault)) → ((fault ≡ faults.Memory → ⊥) → HasPcapFault bytes fault) → IsBad (HasPacketFault bytes) status
-packet_faulty bytes fault status none other has = subst (λ (s : Status). IsBad (HasPacketFault bytes) s) (sym (other none)) (record { fault = fault; fault_is = has none; record_is = refl; code_is = refl })
-
-pub bad_capture : (bytes : List ℕ) (fault : PcapFault) (status : Status) → (fault ≡ faults.Memory → status ≡ Memory) → ((fault ≡ faults.Memory → ⊥) → status ≡ Capture (record_of fault) (code_of fault)) → ((fault ≡ faults.Memory → ⊥) → HasPcapFault bytes fault) → IsBad (HasPacketFault bytes) status
-bad_capture bytes faults.Memory status memory other has = subst (λ (s : Status). IsBad (HasPacketFault bytes) s) (sym (memory refl)) tt
-bad_capture bytes faults.BadMagic status memory other has = packet_faulty bytes faults.BadMagic status (λ e. cc e) other has
-bad_capture bytes faults.BadVersion status memory other has = packet_faulty bytes faults.BadVersion status (λ e. cc e) other has
-bad_capture bytes faults.BadLink status memory other has = packet_faulty bytes faults.BadLink status (λ e. cc e) other has
-bad_capture bytes (faults.FrameTooLong k) status memory other has = packet_faulty bytes (faults.FrameTooLong k) status (λ e. cc e) other has
-bad_capture bytes (faults.Cut k) status memory other has = packet_faulty bytes (faults.Cut k) status (λ e. cc e) other has
-bad_capture bytes faults.TooManyBytes status memory other has = packet_faulty bytes faults.TooManyBytes status (λ e. cc e) other has
-
 line_faulty : (attrs : List Attr) (bytes : List ℕ) (fault : RecordFault) (status : Status) → (fault ≡ records.Memory → ⊥) → ((fault ≡ records.Memory → ⊥) → status ≡ Capture (line_of fault) (line_code_of fault)) → HasRecordsFault attrs bytes fault → IsBad (HasLineFault attrs bytes) status
 line_faulty attrs bytes fault status none other has = subst (λ (s : Status). IsBad (HasLineFault attrs bytes) s) (sym (other none)) (record { fault = fault; fault_is = has; record_is = refl; code_is = refl })
 

@@ -3,11 +3,15 @@ use Rattle.std.specs.Prelude.{◌≡◌, ℕ, Bool, true, false, List}
 use Rattle.cf_pcap.specs.Capture.{HasPcapFault}
 use Rattle.cf_pcap.specs.declared.fault.PcapFault.{PcapFault}
 use Rattle.cf_pcap.specs.declared.fault.PcapFault.TheVariants as faults
+use Rattle.cf_pcapng.specs.Rules.{HasFaultOf}
+use Rattle.cf_pcapng.specs.declared.fault.NgFault.{NgFault}
+use Rattle.cf_pcapng.specs.declared.fault.NgFault.TheVariants as ng
 use Rattle.cf_row.specs.declared.schema.Attr.{Attr}
 use Rattle.cf_records.specs.Records.{HasRecordsFault}
 use Rattle.cf_records.specs.declared.fault.RecordFault.{RecordFault}
 use Rattle.cf_records.specs.declared.fault.RecordFault.TheVariants as records
 use Rattle.cf_setup.specs.Settled.{Settled}
+use Rattle.cf_run.specs.Formats.{begins_section}
 
 -- the code of a capture's fault, and the record that it names
 abbrev pub code_of : PcapFault → ℕ
@@ -28,12 +32,50 @@ record_of (faults.Cut k) = k
 record_of faults.TooManyBytes = 0
 record_of faults.Memory = 0
 
--- the bytes are outside the format of captures, first at that record, by the rule of that code
-pub record HasPacketFault (bytes : List ℕ) (record_at code : ℕ) : Type 0 where
+-- the bytes are no capture in pcap, first at that record, by the rule of that code
+pub record HasRecordFault (bytes : List ℕ) (record_at code : ℕ) : Type 0 where
   pub fault : PcapFault
   pub fault_is : HasPcapFault bytes fault
   pub record_is : record_at ≡ record_of fault
   pub code_is : code ≡ code_of fault
+
+-- the code of a fault in pcapng, and the number of frames before it
+abbrev pub block_code_of : NgFault → ℕ
+block_code_of (ng.BadMagic k) = 21
+block_code_of (ng.BadVersion k) = 22
+block_code_of (ng.BadLink k) = 23
+block_code_of (ng.FrameTooLong k) = 24
+block_code_of (ng.Cut k) = 25
+block_code_of ng.TooManyBytes = 26
+block_code_of (ng.BadLength k) = 27
+block_code_of (ng.NoInterface k) = 28
+block_code_of ng.Memory = 0
+
+abbrev pub frame_of : NgFault → ℕ
+frame_of (ng.BadMagic k) = k
+frame_of (ng.BadVersion k) = k
+frame_of (ng.BadLink k) = k
+frame_of (ng.FrameTooLong k) = k
+frame_of (ng.Cut k) = k
+frame_of ng.TooManyBytes = 0
+frame_of (ng.BadLength k) = k
+frame_of (ng.NoInterface k) = k
+frame_of ng.Memory = 0
+
+-- the bytes are no capture in pcapng, first after so many frames, by the rule of that code
+pub record HasBlockFault (bytes : List ℕ) (record_at code : ℕ) : Type 0 where
+  pub fault : NgFault
+  pub fault_is : HasFaultOf bytes fault
+  pub record_is : record_at ≡ frame_of fault
+  pub code_is : code ≡ block_code_of fault
+
+-- the bytes are outside the format of captures that they begin as, first at that record, by the rule of that code
+abbrev pub HasFaultIn : Bool → List ℕ → ℕ → ℕ → Type 0
+HasFaultIn true bytes record_at code = HasBlockFault bytes record_at code
+HasFaultIn false bytes record_at code = HasRecordFault bytes record_at code
+
+abbrev pub HasPacketFault : List ℕ → ℕ → ℕ → Type 0
+HasPacketFault bytes record_at code = HasFaultIn (begins_section bytes) bytes record_at code
 
 -- the code of a fault of a file of records, and the record that it names
 abbrev pub line_code_of : RecordFault → ℕ

@@ -1,7 +1,9 @@
+pub mod Formats
 pub mod Work
 pub mod Faults
 pub mod Dumps
 pub mod Synth
+pub mod Laws
 pub mod Due
 pub mod Logs
 pub mod Seals

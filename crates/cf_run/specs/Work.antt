@@ -6,6 +6,8 @@ use Rattle.cf_headers.specs.Packet.{packet_row_of}
 use Rattle.cf_records.specs.Records.{IsRecordFile}
 use Rattle.cf_outside.specs.Files.{File, file_named}
 use Rattle.cf_pcap.specs.Capture.{Captured, IsCapture}
+use Rattle.cf_pcapng.specs.Rules.{IsFileOf}
+use Rattle.cf_run.specs.Formats.{begins_section}
 use Rattle.cf_command.specs.Command.{Asked, IsRun}
 use Rattle.cf_shape.specs.Nodes.{distinct}
 use Rattle.cf_setup.specs.Settled.{Settled, shaped}
@@ -16,10 +18,15 @@ use Rattle.cf_report.specs.Meaning.{IsReport}
 abbrev pub packet_rows : List Captured → List Numbered
 packet_rows frames = map packet_row_of frames
 
+-- the frames of a capture: of blocks in pcapng where it begins as such a file, of records in pcap otherwise
+abbrev pub AreFramesBy : Bool → List ℕ → List Captured → Type 0
+AreFramesBy true bytes frames = IsFileOf bytes frames
+AreFramesBy false bytes frames = IsCapture bytes frames
+
 -- the rows of a capture of packets
 pub record ArePackets (bytes : List ℕ) (rows : List Numbered) : Type 0 where
   pub frames : List Captured
-  pub frames_are : IsCapture bytes frames
+  pub frames_are : AreFramesBy (begins_section bytes) bytes frames
   pub rows_are : rows ≡ packet_rows frames
 
 -- by the schema of the setup: of packets, or of other records

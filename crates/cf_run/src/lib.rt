@@ -8,6 +8,8 @@
 mod devices;
 mod draft;
 mod dumping;
+mod frames;
+mod laws;
 mod load;
 mod log;
 mod prepare;
@@ -19,6 +21,7 @@ mod synth;
 mod tests;
 mod top;
 
+pub use laws::each_file_is_in_one_case;
 pub use program::start;
 pub use status::{Outcome, Status};
 pub use top::{run, run_steadily};

@@ -1,79 +1,22 @@
 // The rows of the bytes of a capture.
-ghost use Rattle.std.specs.Prelude.{◌≡◌, ◌<◌, ◌≤◌, ◌^◌, All, length, IfOk, MatchResult};
+ghost use Rattle.std.specs.Prelude.{◌≡◌, ◌≤◌, All, IfOk, MatchResult};
 ghost use Rattle.cf_row.specs.Row.{Fits};
 ghost use Rattle.cf_row.specs.Schema.{packet_attrs};
 ghost use Rattle.cf_make.specs.Generated.{generated_frames};
-ghost use Rattle.cf_pcap.specs.Capture.{IsCapture};
-ghost use Rattle.cf_pcap.specs.declared.fault.PcapFault.TheVariants as faults;
 ghost use Rattle.cf_records.specs.Records.{IsRecordFile};
 ghost use Rattle.cf_records.specs.declared.fault.RecordFault.TheVariants as record_faults;
-ghost use Rattle.cf_run.specs.Faults.{HasPacketFault, HasLineFault, code_of as code_of_fault, record_of as record_of_fault, line_code_of as line_code_of_fault, line_of as line_of_fault};
+ghost use Rattle.cf_run.specs.Faults.{HasPacketFault, HasLineFault, line_code_of as line_code_of_fault, line_of as line_of_fault};
 ghost use Rattle.cf_run.specs.Parts.{IsBad};
 ghost use Rattle.cf_run.specs.Work.{ArePackets, packet_rows};
 
 use crate::Status;
+use crate::frames::{frames_of, record_frames};
 use cf_headers::packet_row;
 use cf_make::make_capture;
-use cf_pcap::{Frame, Pcap, PcapFault};
+use cf_pcap::Frame;
 use cf_records::{RecordFault, read_records};
 use cf_row::{Memory, Row, Schema};
 use std::alloc::{AllocError, Global};
-
-fn code_of(fault: PcapFault) -> u8
-    ensures { result ≡ code_of_fault fault }
-{
-    match fault {
-        PcapFault::BadMagic => 1,
-        PcapFault::BadVersion => 2,
-        PcapFault::BadLink => 3,
-        PcapFault::FrameTooLong(_) => 4,
-        PcapFault::Cut(_) => 5,
-        PcapFault::TooManyBytes => 6,
-        PcapFault::Memory => 0,
-    }
-}
-
-fn record_of(fault: PcapFault) -> u32
-    ensures { result ≡ record_of_fault fault }
-{
-    match fault {
-        PcapFault::FrameTooLong(count) => count,
-        PcapFault::Cut(count) => count,
-        _ => 0,
-    }
-}
-
-// The status of a capture's fault.
-fn refused(fault: PcapFault) -> Status
-    ensures memory { fault ≡ faults.Memory → result ≡ Status.Memory }
-    ensures other { (fault ≡ faults.Memory → ⊥) → result ≡ Status.Capture (record_of_fault fault) (code_of_fault fault) }
-{
-    match fault {
-        PcapFault::Memory => Status::Memory,
-        _ => Status::Capture {
-            at: record_of(fault),
-            code: code_of(fault),
-        },
-    }
-}
-
-// The frames of a capture that is fed whole.
-fn frames_of(alloc: Global, bytes: &[u8]) -> Result<Vec<Frame>, Status>
-    ensures { MatchResult result (λ frames. IsCapture bytes.now frames.items × (length frames.items < 2 ^ 32)) (IsBad (HasPacketFault bytes.now)) }
-{
-    let mut frames = Vec::new(alloc);
-    let Ok(mut pcap) = Pcap::new(alloc) else {
-        return Err(Status::Memory);
-    };
-    match pcap.feed(bytes, &mut frames) {
-        Ok(()) => {}
-        Err(fault) => return Err(refused(fault)),
-    }
-    match pcap.finish() {
-        Ok(_) => Ok(frames),
-        Err(fault) => Err(refused(fault)),
-    }
-}
 
 // A row for each frame.
 fn rows_of(alloc: Global, frames: &[Frame]) -> Result<Vec<Row>, Memory>
@@ -109,8 +52,8 @@ pub(crate) fn drawn_packets(alloc: Global, seed: u64, count: u32) -> Result<Vec<
     ensures fit { IfOk result (λ rows. All (Fits packet_attrs) rows.items) }
 {
     let bytes = make_capture(alloc, seed, count)?;
-    match packets_of(alloc, &bytes) {
-        Ok(rows) => Ok(rows),
+    match record_frames(alloc, &bytes) {
+        Ok(frames) => rows_of(alloc, &frames),
         // What is made is a capture.
         Err(_) => Err(AllocError),
     }

@@ -276,6 +276,87 @@ fn a_capture_is_dumped_by_the_fields_of_its_headers(rt: HostRuntime) -> Result<(
     Ok(())
 }
 
+// A section header, an interface, an enhanced and a simple packet: blocks of pcapng.
+const BLOCKS: [u8; 104] = [
+    0x0a, 0x0d, 0x0d, 0x0a, 0x1c, 0, 0, 0, 0x4d, 0x3c, 0x2b, 0x1a, 1, 0, 0, 0, 0xff, 0xff, 0xff,
+    0xff, 0xff, 0xff, 0xff, 0xff, 0x1c, 0, 0, 0, 1, 0, 0, 0, 0x14, 0, 0, 0, 1, 0, 0, 0, 0, 0, 0, 0,
+    0x14, 0, 0, 0, 6, 0, 0, 0, 0x24, 0, 0, 0, 0, 0, 0, 0, 0, 0, 0, 0, 0x60, 0xe3, 0x16, 0, 2, 0, 0,
+    0, 0x3c, 0, 0, 0, 0xaa, 0xbb, 0, 0, 0x24, 0, 0, 0, 3, 0, 0, 0, 0x14, 0, 0, 0, 0x64, 0, 0, 0,
+    0xcc, 0, 0, 0, 0x14, 0, 0, 0,
+];
+
+// An interface whose times are in nanoseconds.
+const NANOSECONDS: [u8; 32] = [
+    1, 0, 0, 0, 0x20, 0, 0, 0, 1, 0, 0, 0, 0, 0, 0, 0, 9, 0, 1, 0, 9, 0, 0, 0, 0, 0, 0, 0, 0x20, 0,
+    0, 0,
+];
+
+// An enhanced packet of one byte, at two seconds.
+const ONE_BYTE: [u8; 36] = [
+    6, 0, 0, 0, 0x24, 0, 0, 0, 0, 0, 0, 0, 0, 0, 0, 0, 0x80, 0x84, 0x1e, 0, 1, 0, 0, 0, 0x64, 0, 0,
+    0, 0xcc, 0, 0, 0, 0x24, 0, 0, 0,
+];
+
+// Parts of the blocks round others.
+fn blocks_with(
+    alloc: Global,
+    before: usize,
+    others: &[u8],
+    after: usize,
+) -> Result<Vec<u8>, Memory> {
+    let mut capture = BLOCKS.get(..before).unwrap_or(&[]).to_vec(alloc)?;
+    capture.extend_from_slice(others)?;
+    capture.extend_from_slice(BLOCKS.get(after..).unwrap_or(&[]))?;
+    Ok(capture)
+}
+
+#[test]
+fn captures_in_pcapng_are_reported_and_dumped(rt: HostRuntime) -> Result<(), Fail> {
+    let alloc = rt.alloc();
+    expect(&rt, alloc, &WORDS, (SETUP, &BLOCKS), (0, REPORT))?;
+    let nanoseconds = blocks_with(alloc, 28, &NANOSECONDS, 48)?;
+    let text =
+        b"records 2\n0 ts=1500000 caplen=2 len=60 dmac=0x000000000000 smac=0x000000000000 etype=0 kind=0 tos=0 iplen=0 ttl=0 proto=0 src=0.0.0.0 dst=0.0.0.0 sport=0 dport=0 seq=0 ack=0 flags=0 win=0 vlan=0\n1 ts=0 caplen=4 len=100 dmac=0x000000000000 smac=0x000000000000 etype=0 kind=0 tos=0 iplen=0 ttl=0 proto=0 src=0.0.0.0 dst=0.0.0.0 sport=0 dport=0 seq=0 ack=0 flags=0 win=0 vlan=0\n";
+    expect(&rt, alloc, &["dump", "c"], (SETUP, &nanoseconds), (0, text))?;
+    // The same packets in both formats.
+    let records = two_frames(alloc)?;
+    let blocks = blocks_with(alloc, 84, &ONE_BYTE, 104)?;
+    let text =
+        b"records 2\n0 ts=1500000000 caplen=2 len=60 dmac=0x000000000000 smac=0x000000000000 etype=0 kind=0 tos=0 iplen=0 ttl=0 proto=0 src=0.0.0.0 dst=0.0.0.0 sport=0 dport=0 seq=0 ack=0 flags=0 win=0 vlan=0\n1 ts=2000000000 caplen=1 len=100 dmac=0x000000000000 smac=0x000000000000 etype=0 kind=0 tos=0 iplen=0 ttl=0 proto=0 src=0.0.0.0 dst=0.0.0.0 sport=0 dport=0 seq=0 ack=0 flags=0 win=0 vlan=0\n";
+    expect(&rt, alloc, &["dump", "c"], (SETUP, &records), (0, text))?;
+    expect(&rt, alloc, &["dump", "c"], (SETUP, &blocks), (0, text))?;
+    Ok(())
+}
+
+#[test]
+fn faults_of_pcapng_are_told_with_the_frames_before(rt: HostRuntime) -> Result<(), Fail> {
+    let alloc = rt.alloc();
+    let table: [(usize, usize, u8, &[u8]); 11] = [
+        (104, 8, 0x4e, b"capture: record 0 code 21\n"),
+        (104, 12, 2, b"capture: record 0 code 22\n"),
+        (104, 36, 147, b"capture: record 0 code 23\n"),
+        (104, 71, 1, b"capture: record 0 code 24\n"),
+        (103, 0, 0x0a, b"capture: record 1 code 25\n"),
+        (4, 0, 0x0a, b"capture: record 0 code 25\n"),
+        (104, 32, 0x10, b"capture: record 0 code 27\n"),
+        (104, 100, 0x15, b"capture: record 1 code 27\n"),
+        (104, 56, 1, b"capture: record 0 code 28\n"),
+        // What doesn't begin with a section header's type is read as pcap.
+        (3, 0, 0x0a, b"capture: record 0 code 5\n"),
+        (104, 3, 0x0b, b"capture: record 0 code 1\n"),
+    ];
+    for (size, place, byte, line) in table {
+        let mut capture = BLOCKS.to_vec(alloc)?;
+        if let Some(old) = capture.get_mut(place) {
+            *old = byte;
+        }
+        capture.truncate(size);
+        expect(&rt, alloc, &WORDS, (SETUP, &capture), (3, line))?;
+        expect(&rt, alloc, &["dump", "c"], (SETUP, &capture), (3, line))?;
+    }
+    Ok(())
+}
+
 // Setups over records with their files, and what is written of them.
 #[test]
 fn files_of_records_are_reported(rt: HostRuntime) -> Result<(), Fail> {
@@ -317,16 +398,23 @@ fn files_of_records_are_reported(rt: HostRuntime) -> Result<(), Fail> {
 #[test]
 fn a_log_has_as_many_nodes_as_its_writers(rt: HostRuntime) -> Result<(), Fail> {
     let alloc = rt.alloc();
-    let setup = b"schema records ts:u64,src:u32\nindex s src\nask a find s 10.0.0.0 10.255.255.255\n".as_slice();
-    let capture =
-        b"ts,src\n0,9.255.255.255\n0,10.0.0.0\n0,10.255.255.255\n0,11.0.0.0\n".as_slice();
+    let setup =
+        b"schema records ts:u64,src:u32\nindex s src\nask a find s 10.0.0.0 10.255.255.255\n".as_slice();
+    let capture = b"ts,src\n0,9.255.255.255\n0,10.0.0.0\n0,10.255.255.255\n0,11.0.0.0\n".as_slice();
     let table: [(&str, (u8, &[u8])); 2] = [
         ("23", (7, b"nodes: more than 23 nodes\n")),
         ("24", (0, b"records 4\nask a find 2: 1 2\norder 0*4\n")),
     ];
     for (nodes, answer) in table {
         let words = [
-            "run", "--setup", "s", "--writers", "1", "--nodes", nodes, "c",
+            "run",
+            "--setup",
+            "s",
+            "--writers",
+            "1",
+            "--nodes",
+            nodes,
+            "c",
         ];
         expect(&rt, alloc, &words, (setup, capture), answer)?;
     }

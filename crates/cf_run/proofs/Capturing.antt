@@ -1,0 +1,140 @@
+-- A file is read in the format that it begins as, and is in just one case of it.
+use Rattle.std.proofs.Common.{◌≡◌, ◌⊎◌, inl, inr, ℕ, ◌<◌, ◌≤◌, ◌^◌, Bool, true, false, List, [], ◌++◌, length, Result, MatchResult, Vec, refl, ap, sym, ◌∙◌, subst, arith, append-nil}
+use Rattle.std.specs.declared.alloc.Global.{Global}
+use Rattle.std.proofs.lemmas.List.{take-append-le}
+use Rattle.cf_row.specs.Row.{Numbered}
+use Rattle.cf_pcap.specs.Capture.{Captured, IsCapture, HasPcapFault}
+use Rattle.cf_pcap.specs.declared.fault.PcapFault.{PcapFault}
+use Rattle.cf_pcap.specs.declared.fault.PcapFault.TheVariants as faults
+use Rattle.cf_pcap.proofs.Ending.{fault_of_front}
+use Rattle.cf_pcap.proofs.Verdict as pcap
+use Rattle.cf_pcapng.specs.File.{pcapng}
+use Rattle.cf_pcapng.specs.Rules.{IsFileOf, HasFaultOf}
+use Rattle.cf_pcapng.specs.declared.fault.NgFault.{NgFault}
+use Rattle.cf_pcapng.specs.declared.fault.NgFault.TheVariants as ng
+use Rattle.cf_pcapng.proofs.Filing.{file_by_rules, one_case_of}
+use Rattle.cf_pcapng.proofs.Steps.{stepper}
+use Rattle.cf_stream.proofs.Ending as streams
+use Rattle.cf_run.specs.Faults.{HasRecordFault, HasBlockFault, HasFaultIn, HasPacketFault, code_of, record_of, block_code_of, frame_of}
+use Rattle.cf_run.specs.Formats.{begins_section}
+use Rattle.cf_run.specs.Laws.{OneCase}
+use Rattle.cf_run.specs.Parts.{IsBad}
+use Rattle.cf_run.specs.Work.{packet_rows, AreFramesBy, ArePackets}
+use Rattle.cf_run.specs.declared.status.Status.{Status}
+use Rattle.cf_run.specs.declared.status.Status.TheVariants.{Capture, Memory}
+
+-- Below 2^32 bytes.
+
+frames_end : (b : Bool) (bytes : List ℕ) (frames : List Captured) → AreFramesBy b bytes frames → length bytes < 2 ^ 32
+frames_end true bytes frames is = is.size
+frames_end false bytes frames is = is.size
+
+pub packets_end : (bytes : List ℕ) (rows : List Numbered) → ArePackets bytes rows → length bytes < 2 ^ 32
+packets_end bytes rows are = frames_end (begins_section bytes) bytes are.frames are.frames_are
+
+-- The fault of the first 2^32 bytes is that of the file.
+
+begins_same : (bytes rest : List ℕ) → 4 ≤ length bytes → begins_section (bytes ++ rest) ≡ begins_section bytes
+unfolding begins_section
+begins_same bytes rest size = rw (take-append-le 4 bytes rest size) refl
+
+begins_front : (bytes rest : List ℕ) → (rest ≡ []) ⊎ (length bytes ≡ 2 ^ 32) → begins_section (bytes ++ rest) ≡ begins_section bytes
+begins_front bytes rest (inl end) = ap (λ xs. begins_section (bytes ++ xs)) end ∙ ap begins_section (append-nil bytes)
+begins_front bytes rest (inr full) = begins_same bytes rest (omega (arith, full))
+
+longer_in : (b : Bool) (bytes rest : List ℕ) (at code : ℕ) → (rest ≡ []) ⊎ (length bytes ≡ 2 ^ 32) → HasFaultIn b bytes at code → HasFaultIn b (bytes ++ rest) at code
+longer_in true bytes rest at code whole has = record {
+  fault = has.fault;
+  fault_is = (file_by_rules (bytes ++ rest)).fault has.fault (streams.fault_of_front pcapng stepper bytes rest has.fault whole ((file_by_rules bytes).is_fault has.fault has.fault_is));
+  record_is = has.record_is;
+  code_is = has.code_is;
+}
+longer_in false bytes rest at code whole has = record { fault = has.fault; fault_is = fault_of_front bytes rest has.fault whole has.fault_is; record_is = has.record_is; code_is = has.code_is }
+
+pub packets_longer : (bytes rest : List ℕ) (at code : ℕ) → (rest ≡ []) ⊎ (length bytes ≡ 2 ^ 32) → HasPacketFault bytes at code → HasPacketFault (bytes ++ rest) at code
+packets_longer bytes rest at code whole has = subst (λ (b : Bool). HasFaultIn b (bytes ++ rest) at code) (sym (begins_front bytes rest whole)) (longer_in (begins_section bytes) bytes rest at code whole has)
+
+-- A fault of the bytes refuses them, and want of memory is none.
+
+record_faulty : (bytes : List ℕ) (fault : PcapFault) (status : Status) → (fault ≡ faults.Memory → ⊥) → ((fault ≡ faults.Memory → ⊥) → status ≡ Capture (record_of fault) (code_of fault)) → ((fault ≡ faults.Memory → ⊥) → HasPcapFault bytes fault) → IsBad (HasRecordFault bytes) status
+record_faulty bytes fault status none other has = subst (λ (s : Status). IsBad (HasRecordFault bytes) s) (sym (other none)) (record { fault = fault; fault_is = has none; record_is = refl; code_is = refl })
+
+pub bad_record : (bytes : List ℕ) (fault : PcapFault) (status : Status) → (fault ≡ faults.Memory → status ≡ Memory) → ((fault ≡ faults.Memory → ⊥) → status ≡ Capture (record_of fault) (code_of fault)) → ((fault ≡ faults.Memory → ⊥) → HasPcapFault bytes fault) → IsBad (HasRecordFault bytes) status
+bad_record bytes faults.Memory status memory other has = subst (λ (s : Status). IsBad (HasRecordFault bytes) s) (sym (memory refl)) tt
+bad_record bytes faults.BadMagic status memory other has = record_faulty bytes faults.BadMagic status (λ e. cc e) other has
+bad_record bytes faults.BadVersion status memory other has = record_faulty bytes faults.BadVersion status (λ e. cc e) other has
+bad_record bytes faults.BadLink status memory other has = record_faulty bytes faults.BadLink status (λ e. cc e) other has
+bad_record bytes (faults.FrameTooLong k) status memory other has = record_faulty bytes (faults.FrameTooLong k) status (λ e. cc e) other has
+bad_record bytes (faults.Cut k) status memory other has = record_faulty bytes (faults.Cut k) status (λ e. cc e) other has
+bad_record bytes faults.TooManyBytes status memory other has = record_faulty bytes faults.TooManyBytes status (λ e. cc e) other has
+
+block_faulty : (bytes : List ℕ) (fault : NgFault) (status : Status) → (fault ≡ ng.Memory → ⊥) → ((fault ≡ ng.Memory → ⊥) → status ≡ Capture (frame_of fault) (block_code_of fault)) → ((fault ≡ ng.Memory → ⊥) → HasFaultOf bytes fault) → IsBad (HasBlockFault bytes) status
+block_faulty bytes fault status none other has = subst (λ (s : Status). IsBad (HasBlockFault bytes) s) (sym (other none)) (record { fault = fault; fault_is = has none; record_is = refl; code_is = refl })
+
+pub bad_block : (bytes : List ℕ) (fault : NgFault) (status : Status) → (fault ≡ ng.Memory → status ≡ Memory) → ((fault ≡ ng.Memory → ⊥) → status ≡ Capture (frame_of fault) (block_code_of fault)) → ((fault ≡ ng.Memory → ⊥) → HasFaultOf bytes fault) → IsBad (HasBlockFault bytes) status
+bad_block bytes ng.Memory status memory other has = subst (λ (s : Status). IsBad (HasBlockFault bytes) s) (sym (memory refl)) tt
+bad_block bytes (ng.BadMagic k) status memory other has = block_faulty bytes (ng.BadMagic k) status (λ e. cc e) other has
+bad_block bytes (ng.BadVersion k) status memory other has = block_faulty bytes (ng.BadVersion k) status (λ e. cc e) other has
+bad_block bytes (ng.BadLink k) status memory other has = block_faulty bytes (ng.BadLink k) status (λ e. cc e) other has
+bad_block bytes (ng.FrameTooLong k) status memory other has = block_faulty bytes (ng.FrameTooLong k) status (λ e. cc e) other has
+bad_block bytes (ng.Cut k) status memory other has = block_faulty bytes (ng.Cut k) status (λ e. cc e) other has
+bad_block bytes ng.TooManyBytes status memory other has = block_faulty bytes ng.TooManyBytes status (λ e. cc e) other has
+bad_block bytes (ng.BadLength k) status memory other has = block_faulty bytes (ng.BadLength k) status (λ e. cc e) other has
+bad_block bytes (ng.NoInterface k) status memory other has = block_faulty bytes (ng.NoInterface k) status (λ e. cc e) other has
+
+-- One case.
+
+faults_same : (b : Bool) (bytes : List ℕ) (at code at' code' : ℕ) → HasFaultIn b bytes at code → HasFaultIn b bytes at' code' → (at ≡ at') × (code ≡ code')
+faults_same true bytes at code at' code' p q =
+    let one : p.fault ≡ q.fault = (one_case_of bytes).one_fault p.fault q.fault p.fault_is q.fault_is in
+    (p.record_is ∙ ap frame_of one ∙ sym q.record_is, p.code_is ∙ ap block_code_of one ∙ sym q.code_is)
+faults_same false bytes at code at' code' p q =
+    let one : p.fault ≡ q.fault = pcap.one_fault bytes p.fault q.fault p.fault_is q.fault_is in
+    (p.record_is ∙ ap record_of one ∙ sym q.record_is, p.code_is ∙ ap code_of one ∙ sym q.code_is)
+
+frames_either : (b : Bool) (bytes : List ℕ) (frames : List Captured) (at code : ℕ) → AreFramesBy b bytes frames → HasFaultIn b bytes at code → ⊥
+frames_either true bytes frames at code are has = (one_case_of bytes).either frames has.fault are has.fault_is
+frames_either false bytes frames at code are has = pcap.either bytes frames has.fault are has.fault_is
+
+frames_same : (b : Bool) (bytes : List ℕ) (p q : List Captured) → AreFramesBy b bytes p → AreFramesBy b bytes q → p ≡ q
+frames_same true bytes p q are also = (one_case_of bytes).one_capture p q are also
+frames_same false bytes p q are also = pcap.one_capture bytes p q are also
+
+pub packet_faults_same : (bytes : List ℕ) (at code at' code' : ℕ) → HasPacketFault bytes at code → HasPacketFault bytes at' code' → (at ≡ at') × (code ≡ code')
+packet_faults_same bytes at code at' code' p q = faults_same (begins_section bytes) bytes at code at' code' p q
+
+pub packets_either : (bytes : List ℕ) (rows : List Numbered) (at code : ℕ) → ArePackets bytes rows → HasPacketFault bytes at code → ⊥
+packets_either bytes rows at code are has = frames_either (begins_section bytes) bytes are.frames at code are.frames_are has
+
+pub packets_same : (bytes : List ℕ) (a b : List Numbered) → ArePackets bytes a → ArePackets bytes b → a ≡ b
+packets_same bytes a b p q = p.rows_are ∙ ap packet_rows (frames_same (begins_section bytes) bytes p.frames q.frames p.frames_are q.frames_are) ∙ sym q.rows_are
+
+record Fault (b : Bool) (bytes : List ℕ) : Type 0 where
+  place : ℕ
+  code : ℕ
+  has : HasFaultIn b bytes place code
+
+some_case : (b : Bool) (bytes : List ℕ) → ((frames : List Captured) × AreFramesBy b bytes frames) ⊎ Fault b bytes
+some_case true bytes = elim (one_case_of bytes).some [
+  | inl whole ↦ inl (whole.0, whole.1)
+  | inr bad ↦ inr (record { place = frame_of bad.0; code = block_code_of bad.0; has = record { fault = bad.0; fault_is = bad.1; record_is = refl; code_is = refl } })
+]
+some_case false bytes = elim (pcap.one_case bytes).some [
+  | inl whole ↦ inl (whole.0, whole.1)
+  | inr bad ↦ inr (record { place = record_of bad.0; code = code_of bad.0; has = record { fault = bad.0; fault_is = bad.1; record_is = refl; code_is = refl } })
+]
+
+pub one_packet_case : (bytes : List ℕ) → OneCase bytes
+one_packet_case bytes = record {
+  some = elim (some_case (begins_section bytes) bytes) [
+    | inl frames ↦ inl (packet_rows frames.0, record { frames = frames.0; frames_are = frames.1; rows_are = refl })
+    | inr fault ↦ inr (fault.place, fault.code, fault.has)
+  ];
+  either = packets_either bytes;
+  one_list = packets_same bytes;
+  one_fault = packet_faults_same bytes;
+}
+
+-- what the reader of the format that bytes begin as answers
+pub frames_by : (bytes : List ℕ) (b : Bool) (result : Result (Vec Captured Global) Status) → begins_section bytes ≡ b → MatchResult result (λ frames. AreFramesBy b bytes frames.items × (length frames.items < 2 ^ 32)) (IsBad (HasFaultIn b bytes)) → MatchResult result (λ frames. AreFramesBy (begins_section bytes) bytes frames.items × (length frames.items < 2 ^ 32)) (IsBad (HasPacketFault bytes))
+frames_by bytes b result is h = subst (λ (x : Bool). MatchResult result (λ frames. AreFramesBy x bytes frames.items × (length frames.items < 2 ^ 32)) (IsBad (HasFaultIn x bytes))) (sym is) h
