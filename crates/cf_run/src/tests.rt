@@ -65,7 +65,7 @@ fn expect<R: Threads + Sync + Abort>(
     answer: (u8, &[u8]),
 ) -> Result<(), Memory> {
     let mut shelf = shelf_of(alloc, &[], 7, files.0, files.1)?;
-    let mut sink = MemSink::new(alloc, 300, Vec::new(alloc), 5)?;
+    let mut sink = MemSink::new(alloc, 1000, Vec::new(alloc), 5)?;
     let outcome = run(rt, alloc, words, &mut shelf, &mut sink, &FreeGate);
     assert_eq!(rt; outcome.status.number(), answer.0);
     assert_eq!(rt; sink.held(), answer.1);
