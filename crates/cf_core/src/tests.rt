@@ -1,9 +1,6 @@
-ghost use Rattle.std.specs.Prelude.{◌≡◌, ◌↔◌, IsTrue, true};
-ghost use Rattle.cf_shape.specs.Faults.{is_lane_of, key_exists, measure_exists};
-
 use super::*;
-use cf_row::{Attr, Conjunction, Expr, Kind, Memory, Name, Row, Schema, Value, is_of_schema};
-use cf_shape::{Key, Lane, Shape};
+use cf_row::{Attr, Conjunction, Expr, Kind, Memory, Name, Row, Schema, Value};
+use cf_shape::{Key, Lane, Shape, belongs};
 use std::alloc::Global;
 use std::process::Abort;
 use std::test::Fail;
@@ -221,45 +218,17 @@ fn lane_world(
     let schema = Schema::new(attrs).expect(rt, "a schema");
     let mut all = Vec::new(alloc);
     all.push(Conjunction::new(Vec::new(alloc)))?;
-    let lane = Lane {
+    let mut lanes = Vec::new(alloc);
+    lanes.push(Lane {
         select: Expr::new(all),
         key,
         measure,
-    };
-    if !belongs(&schema, &lane) {
+    })?;
+    if !belongs(&schema, &lanes) {
         return Ok(None);
     }
-    let mut lanes = Vec::new(alloc);
-    lanes.push(lane)?;
     let shape = Shape::new(schema, lanes, 4, 2, nodes, 10).expect(rt, "a shape");
     Ok(Some(World::new(alloc, shape)?))
-}
-
-fn has_key(attrs: &[Attr], key: Key) -> bool
-    ensures { result ≡ key_exists attrs.now key }
-{
-    match key {
-        Key::Attr(attr) => attrs.get(attr as usize).is_some(),
-        Key::Bucket => true,
-    }
-}
-
-fn has_measure(attrs: &[Attr], measure: Option<u8>) -> bool
-    ensures { result ≡ measure_exists attrs.now measure }
-{
-    match measure {
-        Some(attr) => attrs.get(attr as usize).is_some(),
-        None => true,
-    }
-}
-
-// Whether the lane is of the schema.
-fn belongs(schema: &Schema, lane: &Lane) -> bool
-    ensures { IsTrue result ↔ (is_lane_of schema.now lane.now ≡ true) }
-{
-    is_of_schema(schema, &lane.select)
-        && has_key(schema.attrs(), lane.key)
-        && has_measure(schema.attrs(), lane.measure)
 }
 
 fn row_of(alloc: Global, num: u32, numbers: [u64; 2]) -> Result<Row, Memory> {
@@ -438,6 +407,13 @@ fn a_cell_counts_its_writers_rows(rt: HostRuntime) -> Result<(), Fail> {
         (Act::Done(2), true),
     ] {
         says(&rt, alloc, &mut world, 1, act, answer)?;
+    }
+    for (place, wanted) in [(19, 1 + two * 2), (20, 8), (21, 1 + two * 7), (22, 1)] {
+        assert_eq!(rt;
+            world.words().get(place).copied(),
+            Some(wanted),
+            "word {place}"
+        );
     }
     Ok(())
 }
