@@ -22,25 +22,33 @@ none_due (inl none) = absurd none
 none_due (inr (inl none)) = absurd none
 none_due (inr (inr none)) = absurd none
 
-answers_due : (files : List File) (words : List (List ℕ)) (status : Status) (text : List ℕ) (seals : List Sealed) (held now : Option (List ℕ)) → (due : IsDue files words status text) → AreSeals files words status text due seals → Appends held now text → Answers files words status seals held now
-answers_due files words Done text seals held now due are written = record { text = text; due = due; sealed = are; written = written }
-answers_due files words Words text seals held now due are written = record { text = text; due = due; written = written }
-answers_due files words (Setup line code) text seals held now due are written = record { text = text; due = due; written = written }
-answers_due files words (Capture at code) text seals held now due are written = record { text = text; due = due; written = written }
-answers_due files words NoFile text seals held now due are written = record { text = text; due = due; written = written }
-answers_due files words ReadFault text seals held now due are written = none_due due
-answers_due files words WriteFault text seals held now due are written = none_due due
-answers_due files words Full text seals held now due are written = record { text = text; due = due; written = written }
-answers_due files words Nodes text seals held now due are written = record { text = text; due = due; written = written }
-answers_due files words Memory text seals held now due are written = none_due due
+answers_due : (files : List File) (words : List (List ℕ)) (status : Status) (text : List ℕ) (seals : List Sealed) (held now before after : Option (List ℕ)) → (due : IsDue files words status text) → AreSeals files words status text due seals → Appends held now text → Answers files words status seals held now before after
+answers_due files words Done text seals held now before after due are written = record { text = text; due = due; sealed = are; written = written }
+answers_due files words Words text seals held now before after due are written = record { text = text; due = due; written = written }
+answers_due files words (Setup line code) text seals held now before after due are written = record { text = text; due = due; written = written }
+answers_due files words (Capture at code) text seals held now before after due are written = record { text = text; due = due; written = written }
+answers_due files words NoFile text seals held now before after due are written = record { text = text; due = due; written = written }
+answers_due files words ReadFault text seals held now before after due are written = none_due due
+answers_due files words WriteFault text seals held now before after due are written = none_due due
+answers_due files words Full text seals held now before after due are written = record { text = text; due = due; written = written }
+answers_due files words Nodes text seals held now before after due are written = record { text = text; due = due; written = written }
+answers_due files words Memory text seals held now before after due are written = none_due due
 
-pub answers_if : (told : Option (List File)) (words : List (List ℕ)) (status : Status) (text : List ℕ) (seals : List Sealed) (before after held now : Option (List ℕ)) → IfSome told (λ files. IsDrafted files words before after status text seals) → Appends held now text → IfSome told (λ files. Answers files words status seals held now)
+pub answers_if : (told : Option (List File)) (words : List (List ℕ)) (status : Status) (text : List ℕ) (seals : List Sealed) (before after held now : Option (List ℕ)) → IfSome told (λ files. IsDrafted files words before after status text seals) → Appends held now text → IfSome told (λ files. Answers files words status seals held now before after)
 answers_if None words status text seals before after held now prepared written = prepared
-answers_if (Some files) words status text seals before after held now prepared written = answers_due files words status text seals held now prepared.0 prepared.1 written
+answers_if (Some files) words status text seals before after held now prepared written = answers_due files words status text seals held now before after prepared.0 prepared.1 written
 
-pub answers_some : (told : Option (List File)) (words : List (List ℕ)) (status : Status) (text : List ℕ) (seals : List Sealed) (held now : Option (List ℕ)) → IfSome told (λ files. IsDue files words status text) → WritesFront held now text → IfSome told (λ files. Answers files words WriteFault seals held now)
-answers_some None words status text seals held now due written = due
-answers_some (Some files) words status text seals held now due written = record { status = status; front = written.front; rest = written.rest; due = subst (λ (t : List ℕ). IsDue files words status t) written.text_is due; written = written.written }
+pub answers_some : (told : Option (List File)) (words : List (List ℕ)) (status : Status) (text : List ℕ) (seals free : List Sealed) (before after held now : Option (List ℕ)) →
+    IfSome told (λ files. IsDrafted files words before after status text seals) → WritesFront held now text → IfSome told (λ files. Answers files words WriteFault free held now before after)
+answers_some None words status text seals free before after held now prepared written = prepared
+answers_some (Some files) words status text seals free before after held now prepared written = record {
+  status = status;
+  front = written.front;
+  rest = written.rest;
+  due = subst (λ (t : List ℕ). IsDue files words status t) written.text_is prepared.0;
+  written = written.written;
+  left = prepared.2;
+}
 
 pub decided_if : (told : Option (List File)) (words : List (List ℕ)) (status : Status) (text : List ℕ) → IfSome told (λ files. IsDue files words status text) → IfSome told (λ files. IsDecided files words status)
 decided_if None words status text due = due

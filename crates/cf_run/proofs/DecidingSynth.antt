@@ -1,8 +1,8 @@
 -- Words that draw packets call with the files for one status at most.
-use Rattle.std.proofs.Common.{◌≡◌, ◌⊎◌, ℕ, ◌<◌, ◌≤◌, Bool, true, false, List, length, Some, None, Result, Ok, Err, refl, sym, ap, ap₂, ◌∙◌, subst, inl, inr, arith}
+use Rattle.std.proofs.Common.{◌≡◌, ◌⊎◌, ℕ, ◌<◌, ◌≤◌, true, List, length, Some, None, Ok, Err, refl, sym, ap, ap₂, ◌∙◌, subst, inl, inr, arith}
 use Rattle.std.proofs.lemmas.Bool.{false≢true}
 use Rattle.cf_outside.specs.Files.{File, file_named}
-use Rattle.cf_command.specs.Command.{Drawn, IsSynth, NoCommand}
+use Rattle.cf_command.specs.Command.{Drawn, IsSynth}
 use Rattle.cf_command.specs.Table.{SynthSays}
 use Rattle.cf_command.proofs.Apart.{no_run_and_synth, no_synth_and_dump}
 use Rattle.cf_command.proofs.Numbers.{some_same, decimal_is_one}
@@ -13,7 +13,7 @@ use Rattle.cf_setup.specs.Settled.{Settled, shaped}
 use Rattle.cf_run.specs.Work.{packet_rows}
 use Rattle.cf_setup.specs.SetupText.{SetupText}
 use Rattle.cf_run.specs.Due.{IsRunDue, IsDumpDue, IsSynthDue, IsDue}
-use Rattle.cf_run.specs.Synth.{drawn_rows, IsSynthWork, IsSynthesized, IsSynthSetupRefused, IsOtherSchema, LacksSynthSetup, IsSynthFull, IsSynthOverNodes, IsLawfulSynth}
+use Rattle.cf_run.specs.Synth.{drawn_rows, IsSynthWork, IsSynthSetupRefused, IsOtherSchema, LacksSynthSetup, IsSynthFull, IsSynthOverNodes, IsLawfulSynth}
 use Rattle.cf_run.proofs.Deciding.{Agree, one_text, ok_same, no_fault, one_fault, setup_status, there, same_file, of_run, of_dump, run_or_dump, one_run_due, one_dump_due}
 use Rattle.cf_run.proofs.Drawing.{drawn_many}
 use Rattle.cf_run.specs.declared.status.Status.{Status}

@@ -1,5 +1,5 @@
 -- From a capture that is loaded to the dump that is due, and what is left of its file.
-use Rattle.std.proofs.Common.{◌≡◌, ◌⊎◌, ℕ, ◌^◌, List, [], Option, Some, None, Result, Ok, Err, Vec, MatchResult, IfSome, refl, inl, inr, arith}
+use Rattle.std.proofs.Common.{◌≡◌, ℕ, ◌^◌, List, [], Option, Some, None, Result, Ok, Err, Vec, IfSome, refl, inl, inr, arith}
 use Rattle.std.specs.declared.alloc.Global.{Global}
 use Rattle.cf_row.specs.Schema.{packet_attrs}
 use Rattle.cf_outside.specs.Files.{File}

@@ -10,6 +10,7 @@ pub mod Leaving
 pub mod Preparing
 pub mod Logs
 pub mod Answering
+pub mod ByCommands
 pub mod Loading
 pub mod MoreRows
 pub mod DumpDue

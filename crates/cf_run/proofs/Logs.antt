@@ -1,12 +1,12 @@
 -- From a log that is loaded and closed to what is told of it.
-use Rattle.std.proofs.Common.{◌≡◌, ℕ, ◌<◌, ◌≤◌, true, List, [], ◌∷◌, length, map, All, Result, Ok, Err, MatchResult, refl, sym, ap, subst, ◌∙◌, arith}
+use Rattle.std.proofs.Common.{◌≡◌, ℕ, ◌<◌, List, [], ◌∷◌, length, map, All, Result, Ok, Err, MatchResult, refl, sym, ap, subst, ◌∙◌}
 use Rattle.std.specs.List.{flat_map, range_with_len}
 use Rattle.std.proofs.lemmas.List.Sums.{AllPass-from_list_all}
 use borrow.Author.Tests.{ltb-true}
 use Rattle.cf_row.specs.Row.{Numbered}
 use Rattle.cf_row.specs.declared.row.Entry.{Entry}
 use Rattle.cf_fold.specs.declared.trigger.Trigger.{Trigger}
-use Rattle.cf_history.specs.Order.{IsOrder, IsLogOf, log_of, order_of}
+use Rattle.cf_history.specs.Order.{IsOrder, log_of, order_of}
 use Rattle.cf_history.specs.Tails.{Turn, AreTails, turns_of, batches_of}
 use Rattle.cf_history.proofs.Orders.{log_of_order, order_of_log}
 use Rattle.cf_shape.specs.Lanes.{Shaped}

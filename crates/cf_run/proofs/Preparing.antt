@@ -15,7 +15,7 @@ use Rattle.cf_run.specs.Faults.{HasCaptureFault}
 use Rattle.cf_run.specs.Parts.{IsFree, IsSetupStop, LoadsSetup, IsRowsStop, LoadsRowsOf, IsDrafted, IsPrepared}
 use Rattle.cf_run.specs.Stops.{IsRefusal, NoRefusal}
 use Rattle.cf_setup.specs.SetupText.{SetupText}
-use Rattle.cf_run.specs.Work.{AreRowsOf, limit_of, IsWork, IsReported}
+use Rattle.cf_run.specs.Work.{AreRowsOf, limit_of, IsWork}
 use Rattle.cf_run.proofs.Leaving.{setup_stopped, setup_left, capture_stopped, capture_left, dump_left, synth_left}
 use Rattle.cf_run.specs.declared.draft.Draft.{Draft}
 use Rattle.cf_run.specs.declared.status.Status.{Status}

@@ -4,6 +4,7 @@ use Rattle.std.specs.Io.KnownBytes.{Appends, Keeps}
 use Rattle.cf_outside.specs.Files.{File}
 use Rattle.cf_table.specs.Moves.{Sealed}
 use Rattle.cf_run.specs.Due.{IsDue}
+use Rattle.cf_run.specs.Left.{Leaves}
 use Rattle.cf_run.specs.Seals.{AreSealsOfDone}
 use Rattle.cf_run.specs.declared.status.Status.{Status}
 use Rattle.cf_run.specs.declared.status.Status.TheVariants.{Done, Words, Setup, Capture, ReadFault, WriteFault, Full, Nodes, Memory, NoFile}
@@ -38,25 +39,29 @@ pub record WroteSealed (files : List File) (words : List (List ℕ)) (seals : Li
   pub sealed : AreSealsOfDone files words text due seals
   pub written : Appends held now text
 
--- a front of the text that was due is there
-pub record WroteSome (files : List File) (words : List (List ℕ)) (held now : Option (List ℕ)) : Type 0 where
+-- a front of the text that was due is there, and of the opened files is left what is left with the status that was due: nothing is
+-- written before all was read
+pub record WroteSome (files : List File) (words : List (List ℕ)) (held now before after : Option (List ℕ)) : Type 0 where
   pub status : Status
   pub front : List ℕ
   pub rest : List ℕ
   pub due : IsDue files words status (front ++ rest)
   pub written : Appends held now front
+  pub left : Leaves files words status before after
 
-abbrev pub Answers : List File → List (List ℕ) → Status → List Sealed → Option (List ℕ) → Option (List ℕ) → Type 0
-Answers files words Done seals held now = WroteSealed files words seals held now
-Answers files words Words seals held now = Wrote files words Words held now
-Answers files words (Setup line code) seals held now = Wrote files words (Setup line code) held now
-Answers files words (Capture at code) seals held now = Wrote files words (Capture at code) held now
-Answers files words NoFile seals held now = Wrote files words NoFile held now
-Answers files words ReadFault seals held now = Keeps held now
-Answers files words Memory seals held now = Keeps held now
-Answers files words WriteFault seals held now = WroteSome files words held now
-Answers files words Full seals held now = Wrote files words Full held now
-Answers files words Nodes seals held now = Wrote files words Nodes held now
+-- By the status: what is written, from what the sink held to what it holds, and with `Done` the seals. The last two are what was left
+-- of the opened file and what is.
+abbrev pub Answers : List File → List (List ℕ) → Status → List Sealed → Option (List ℕ) → Option (List ℕ) → Option (List ℕ) → Option (List ℕ) → Type 0
+Answers files words Done seals held now before after = WroteSealed files words seals held now
+Answers files words Words seals held now before after = Wrote files words Words held now
+Answers files words (Setup line code) seals held now before after = Wrote files words (Setup line code) held now
+Answers files words (Capture at code) seals held now before after = Wrote files words (Capture at code) held now
+Answers files words NoFile seals held now before after = Wrote files words NoFile held now
+Answers files words ReadFault seals held now before after = Keeps held now
+Answers files words Memory seals held now before after = Keeps held now
+Answers files words WriteFault seals held now before after = WroteSome files words held now before after
+Answers files words Full seals held now before after = Wrote files words Full held now
+Answers files words Nodes seals held now before after = Wrote files words Nodes held now
 
 -- The threads decide between these two where the rows need more different nodes than one writer has, and no more than all: then both
 -- are called for.

@@ -8,6 +8,7 @@ pub mod Due
 pub mod Logs
 pub mod Seals
 pub mod Answers
+pub mod ByCommand
 pub mod Devices
 pub mod Left
 pub mod Parts

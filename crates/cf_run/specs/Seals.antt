@@ -7,7 +7,6 @@ use Rattle.cf_outside.specs.Files.{File}
 use Rattle.cf_history.specs.Order.{IsOrder, IsLogOf, log_of}
 use Rattle.cf_shape.specs.Nodes.{distinct}
 use Rattle.cf_setup.specs.Settled.{Settled, shaped}
-use Rattle.cf_report.specs.declared.loaded.Live.{Live}
 use Rattle.cf_report.specs.Answered.{Answered}
 use Rattle.cf_report.specs.Meaning.{IsReport, AreMeant, final_text}
 use Rattle.cf_table.specs.Moves.{Sealed}

@@ -14,6 +14,8 @@ mod load;
 mod log;
 mod prepare;
 mod program;
+#[cfg(test)]
+mod row_tests;
 mod rows;
 mod status;
 mod synth;

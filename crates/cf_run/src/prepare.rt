@@ -1,6 +1,7 @@
 // The work up to the text that is to be written.
-ghost use Rattle.std.specs.Prelude.{◌≡◌, [], IfOk, IfSome, MatchResult};
+ghost use Rattle.std.specs.Prelude.{◌≡◌, [], IfOk, IfSome, MatchResult, length};
 ghost use Rattle.cf_command.specs.Command.{IsRun, IsDump, NoCommand, asked_by, texts};
+ghost use Rattle.cf_run.specs.ByCommand.{IsByCommand, IsDumpKind};
 ghost use Rattle.cf_run.specs.Due.{refusal_line};
 ghost use Rattle.cf_run.specs.Parts.{IsFree, HasStopCause, IsPrepared};
 ghost use Rattle.cf_run.specs.Stops.{IsDrawn};
@@ -42,6 +43,7 @@ fn prepare_command<R: Threads + Sync, F: Shelf, G: Gate>(
     ensures cause { HasStopCause (F.faults shelf.old) (F.faults shelf.new) result }
     ensures drawn { MatchResult result (λ draft. IsDrawn draft.status × (draft.status ≡ Status.Words → ⊥)) IsFree }
     ensures unsealed { IfOk result (λ draft. (draft.status ≡ Status.Done → ⊥) → draft.seals.items ≡ []) }
+    ensures one_seal { IfOk result (λ draft. draft.status ≡ Status.Done → length draft.seals.items ≡ 1) }
 {
     let _ = words;
     let setup = match load_setup(alloc, shelf, command.setup) {
@@ -76,6 +78,7 @@ fn prepare_dump<F: Shelf>(
     ensures cause { HasStopCause (F.faults shelf.old) (F.faults shelf.new) result }
     ensures drawn { MatchResult result (λ draft. IsDrawn draft.status × (draft.status ≡ Status.Words → ⊥)) IsFree }
     ensures unsealed { IfOk result (λ draft. (draft.status ≡ Status.Done → ⊥) → draft.seals.items ≡ []) }
+    ensures kind { IfOk result (λ draft. IsDumpKind draft.status × (draft.seals.items ≡ [])) }
 {
     let _ = words;
     let rows = match load_packets(alloc, shelf, name) {
@@ -105,6 +108,7 @@ pub(crate) fn prepare<R: Threads + Sync, F: Shelf, G: Gate>(
     ensures cause { HasStopCause (F.faults shelf.old) (F.faults shelf.new) result }
     ensures drawn { MatchResult result (λ draft. IsDrawn draft.status) IsFree }
     ensures unsealed { IfOk result (λ draft. (draft.status ≡ Status.Done → ⊥) → draft.seals.items ≡ []) }
+    ensures by_command { IfOk result (λ draft. IsByCommand (texts words.now) draft.status draft.seals.items) }
     ensures words { IfOk result (λ draft. draft.status ≡ Status.Words → NoCommand (texts words.now) × (draft.text.items ≡ refusal_line Status.Words)) }
     ensures no_words { NoCommand (texts words.now) → MatchResult result (λ draft. draft.status ≡ Status.Words) (λ stop. stop ≡ Status.Memory) }
     ensures no_words_no_file { NoCommand (texts words.now) → shelf.new ≡ shelf.old }

@@ -1,5 +1,7 @@
 // The program over the real devices.
-ghost use Rattle.std.specs.Prelude.{◌≤◌};
+ghost use Rattle.std.specs.Prelude.{◌≡◌, ◌≤◌, ◌⊎◌, IfOk, MatchResult, map, string_bytes};
+ghost use Rattle.cf_command.specs.Command.{NoCommand, texts as texts_of};
+ghost use Rattle.cf_run.specs.Answers.{number_of};
 
 use crate::{Status, run};
 use cf_outside::{FileShelf, FreeGate, StdSink};
@@ -11,13 +13,19 @@ use std::thread::Threads;
 use std::{env, io};
 
 // Runs over the files of the system and standard output.
-fn run_words<R: Files + Print + Threads + Sync>(rt: &R, alloc: Global, words: &[&str]) -> Status {
+fn run_words<R: Files + Print + Threads + Sync>(rt: &R, alloc: Global, words: &[&str]) -> Status
+    ensures words { result ≡ Status.Words → NoCommand (texts_of words.now) }
+    ensures no_words { NoCommand (texts_of words.now) → (result ≡ Status.Words) ⊎ (result ≡ Status.Memory) ⊎ (result ≡ Status.WriteFault) }
+{
     let mut shelf = FileShelf::new(rt);
     let mut sink = StdSink::new(io::writer(rt));
     run(rt, alloc, words, &mut shelf, &mut sink, &FreeGate).status
 }
 
-fn texts(alloc: Global, owned: &[String]) -> Result<Vec<&str>, Memory> {
+// The words as they came.
+fn texts(alloc: Global, owned: &[String]) -> Result<Vec<&str>, Memory>
+    ensures { IfOk result (λ words. texts_of words.items ≡ map string_bytes owned.now) }
+{
     let mut words = Vec::with_capacity(alloc, owned.len())?;
     for word in owned {
         words.push(word.as_str())?;
@@ -46,13 +54,20 @@ fn run_args<R: Files + Print + Env + Threads + Sync + AllocGlobal>(
     Ok(run_words(rt, rt.alloc(), &words))
 }
 
+// The number with which the program is to end: that of the status, and that of want of memory where there is none for the words.
+fn exit_number(ended: Result<Status, Memory>) -> u8
+    ensures { MatchResult ended (λ status. result ≡ number_of status) (λ error. result ≡ 8) }
+{
+    match ended {
+        Ok(status) => status.number(),
+        Err(_) => Status::Memory.number(),
+    }
+}
+
 /// Does the work of the program, and gives the number with which it is to end. Where there is no memory for the words
 /// this is that of want of memory.
 pub fn start<R: Files + Print + Env + Threads + Sync + AllocGlobal>(rt: &R) -> u8
     ensures { result ≤ 9 }
 {
-    match run_args(rt) {
-        Ok(status) => status.number(),
-        Err(_) => Status::Memory.number(),
-    }
+    exit_number(run_args(rt))
 }

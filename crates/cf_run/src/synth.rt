@@ -1,6 +1,7 @@
 // The answers on packets that are drawn.
-ghost use Rattle.std.specs.Prelude.{◌≡◌, [], true, IfOk, IfSome, MatchResult};
+ghost use Rattle.std.specs.Prelude.{◌≡◌, [], true, IfOk, IfSome, MatchResult, length};
 ghost use Rattle.cf_command.specs.Command.{IsSynth, drawn_by, texts};
+ghost use Rattle.cf_run.specs.ByCommand.{IsSynthKind};
 ghost use Rattle.cf_run.specs.Parts.{IsFree, HasStopCause, IsPrepared, IsSynthDraft};
 ghost use Rattle.cf_run.specs.Stops.{IsDrawn, IsLoaded, AreInRange};
 
@@ -61,6 +62,7 @@ pub(crate) fn prepare_synth<R: Threads + Sync, F: Shelf, G: Gate>(
     ensures cause { HasStopCause (F.faults shelf.old) (F.faults shelf.new) result }
     ensures drawn { MatchResult result (λ draft. IsDrawn draft.status × (draft.status ≡ Status.Words → ⊥)) IsFree }
     ensures unsealed { IfOk result (λ draft. (draft.status ≡ Status.Done → ⊥) → draft.seals.items ≡ []) }
+    ensures kind { IfOk result (λ draft. IsSynthKind draft.status × (draft.status ≡ Status.Done → length draft.seals.items ≡ 1)) }
 {
     let _ = words;
     let setup = match load_setup(alloc, shelf, command.setup) {

@@ -12,15 +12,15 @@ use std::thread::Threads;
 
 const WORDS: [&str; 6] = ["run", "--setup", "s", "--writers", "1", "c"];
 
-const SETUP: &[u8] = b"schema packet\nask big list len>=100\n";
+pub(crate) const SETUP: &[u8] = b"schema packet\nask big list len>=100\n";
 
 // A file header with no record.
-const HEADER: [u8; 24] = [
+pub(crate) const HEADER: [u8; 24] = [
     0xd4, 0xc3, 0xb2, 0xa1, 2, 0, 4, 0, 0, 0, 0, 0, 0, 0, 0, 0, 0xff, 0xff, 0, 0, 1, 0, 0, 0,
 ];
 
 // The header and two records.
-fn two_frames(alloc: Global) -> Result<Vec<u8>, Memory> {
+pub(crate) fn two_frames(alloc: Global) -> Result<Vec<u8>, Memory> {
     let mut capture = HEADER.to_vec(alloc)?;
     capture.extend_from_slice(&[1, 0, 0, 0, 0x20, 0xa1, 7, 0])?;
     capture.extend_from_slice(&[2, 0, 0, 0, 0x3c, 0, 0, 0, 0xaa, 0xbb])?;
@@ -41,7 +41,7 @@ fn records(alloc: Global, count: usize) -> Result<Vec<u8>, Memory> {
     Ok(capture)
 }
 
-fn shelf_of(
+pub(crate) fn shelf_of(
     alloc: Global,
     failing: &[u64],
     most: usize,
@@ -57,7 +57,7 @@ fn shelf_of(
 }
 
 // Runs the words over the two files, and compares the status's number and the text.
-fn expect<R: Threads + Sync + Abort>(
+pub(crate) fn expect<R: Threads + Sync + Abort>(
     rt: &R,
     alloc: Global,
     words: &[&str],
@@ -443,7 +443,7 @@ fn faults_of_records_are_told_with_their_numbers(rt: HostRuntime) -> Result<(), 
     Ok(())
 }
 
-const SYNTH_X: [&str; 7] = ["synth", "--setup", "x", "--seed", "1", "--count", "1"];
+pub(crate) const SYNTH_X: [&str; 7] = ["synth", "--setup", "x", "--seed", "1", "--count", "1"];
 
 // Setups with the number of packets that are drawn, and what is written of them.
 #[test]
@@ -567,7 +567,7 @@ fn many_drawn_packets_are_answered(rt: HostRuntime) -> Result<(), Fail> {
     let setup =
         b"schema packet\nwidth 1000000000\nfilter f *\naggregate a f ttl\ntrigger t a count >= 1000\nask m measure a 1 50\n";
     let text = alerts(alloc)?;
-    for (writers, failing, size) in [("1", 0, 864), ("4", 0, 864), ("15", 3, 512)] {
+    for (writers, failing, size) in [("1", 0, 864), ("15", 0, 864), ("4", 3, 512)] {
         let words = [
             "synth",
             "--setup",
@@ -643,9 +643,9 @@ fn a_long_text_is_written_in_pieces(rt: HostRuntime) -> Result<(), Fail> {
 
 // Keeps the names that were opened.
 #[derive(Drop)]
-struct Listing {
-    shelf: MemShelf,
-    opened: String,
+pub(crate) struct Listing {
+    pub(crate) shelf: MemShelf,
+    pub(crate) opened: String,
 }
 
 impl Shelf for Listing {

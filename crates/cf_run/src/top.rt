@@ -3,6 +3,8 @@ ghost use Rattle.std.specs.Prelude.{◌≡◌, ◌⊎◌, ◌≤◌, ℕ, List, 
 ghost use Rattle.std.specs.Io.KnownBytes.{Appends};
 ghost use Rattle.cf_outside.specs.Causes.{Rose};
 ghost use Rattle.cf_run.specs.Answers.{Answers, Yields, IsDecided};
+ghost use Rattle.cf_run.specs.ByCommand.{IsByCommand};
+ghost use Rattle.cf_run.specs.Devices.{WritesFront};
 ghost use Rattle.cf_command.specs.Command.{NoCommand, texts};
 ghost use Rattle.cf_run.specs.Due.{refusal_line};
 ghost use Rattle.cf_run.specs.Dumps.{IsDumpWork};
@@ -39,8 +41,12 @@ pub fn run<R: Threads + Sync, F: Shelf, K: Sink, G: Gate>(
     gate: &G,
 ) -> Outcome
     // What was written is what the words and the files call for; with `Done` it is the report of a legal
-    // history, the final part of one, or a dump, and the seals are those of the log that it tells of.
-    ensures written { IfSome (F.files shelf.old) (λ files. Answers files (texts words.now) result.status result.seals.items (K.held sink.old) (K.held sink.new)) }
+    // history, the final part of one, or a dump, and the seals are those of the log that it tells of. With `WriteFault` it is
+    // a front of that, and all was read before.
+    ensures written { IfSome (F.files shelf.old) (λ files. Answers files (texts words.now) result.status result.seals.items (K.held sink.old) (K.held sink.new) (F.rest shelf.old) (F.rest shelf.new)) }
+
+    // Which statuses a run, a synth and a dump can come to, and how many seals they have, whatever the shelf tells.
+    ensures by_command { IsByCommand (texts words.now) result.status result.seals.items }
 
     // Only work that was done has seals.
     ensures no_seals { (result.status ≡ Status.Done → ⊥) → result.seals.items ≡ [] }
@@ -56,6 +62,7 @@ pub fn run<R: Threads + Sync, F: Shelf, K: Sink, G: Gate>(
     // Words that are no command, whatever the shelf tells.
     ensures words { result.status ≡ Status.Words → NoCommand (texts words.now) × Appends (K.held sink.old) (K.held sink.new) (refusal_line Status.Words) }
     ensures no_words { NoCommand (texts words.now) → (result.status ≡ Status.Words) ⊎ (result.status ≡ Status.Memory) ⊎ (result.status ≡ Status.WriteFault) }
+    ensures no_words_front { NoCommand (texts words.now) → result.status ≡ Status.WriteFault → WritesFront (K.held sink.old) (K.held sink.new) (refusal_line Status.Words) }
     ensures no_words_no_file { NoCommand (texts words.now) → shelf.new ≡ shelf.old }
 
     // No call changes the files, and a file is read no further than its longest lawful form.
@@ -94,10 +101,11 @@ pub fn run_steadily<R: Threads + Sync, G: Gate>(
     sink: &mut SteadySink,
     gate: &G,
 ) -> Outcome
-    ensures written { Answers shelf.old.files (texts words.now) result.status result.seals.items None None }
+    ensures written { Answers shelf.old.files (texts words.now) result.status result.seals.items None None (Some shelf.old.rest) (Some shelf.new.rest) }
     ensures no_seals { (result.status ≡ Status.Done → ⊥) → result.seals.items ≡ [] }
     ensures decided { IsDecided shelf.old.files (texts words.now) result.status }
     ensures complete { IsLawful shelf.old.files (texts words.now) → (result.status ≡ Status.Done) ⊎ (result.status ≡ Status.Memory) }
+    ensures dumps { IsDumpWork shelf.old.files (texts words.now) → (result.status ≡ Status.Done) ⊎ (result.status ≡ Status.Memory) }
     ensures synths { IsLawfulSynth shelf.old.files (texts words.now) → (result.status ≡ Status.Done) ⊎ (result.status ≡ Status.Memory) }
     ensures files { Some shelf.new.files ≡ Some shelf.old.files }
     ensures left { Leaves shelf.old.files (texts words.now) result.status (Some shelf.old.rest) (Some shelf.new.rest) }

@@ -1,4 +1,4 @@
-//! The program once more, run with words that are no command, so that a status other than 0 is seen.
+//! The program once more, run on more records than its log may hold, so that a status other than 0 is seen.
 #![tactic(auto)]
 
 use cf_run::start;

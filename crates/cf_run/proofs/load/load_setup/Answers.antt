@@ -1,4 +1,3 @@
-use Rattle.std.proofs.Common.{◌∙◌}
 use Rattle.cf_run.proofs.PacketSchema.{packet_setup_schema}
 use Rattle.cf_run.proofs.SetupSize.{loads_setup_ok, loads_setup_fault, text_of_ok, text_of_err}
 use Rattle.cf_run.proofs.load.load_setup.Goals as goal

@@ -1,8 +1,5 @@
-use Rattle.std.proofs.Common.{refl, ap, ◌∙◌, List}
-use Rattle.cf_row.specs.declared.row.Entry.{Entry}
+use Rattle.std.proofs.Common.{refl}
 use Rattle.cf_report.proofs.Answering.{are_answering}
-use Rattle.cf_report.specs.Text.{text_of}
-use Rattle.cf_report.specs.declared.text.Form.TheVariants as forms
 use Rattle.cf_setup.specs.Settled.{shaped}
 use Rattle.cf_run.proofs.Logs.{final_sealed}
 use Rattle.cf_run.proofs.log.final_of.Goals as goal

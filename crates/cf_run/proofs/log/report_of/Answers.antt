@@ -1,8 +1,4 @@
-use Rattle.std.proofs.Common.{ap, ◌∙◌, List}
-use Rattle.cf_row.specs.declared.row.Entry.{Entry}
 use Rattle.cf_report.proofs.Answering.{are_answering}
-use Rattle.cf_report.specs.Text.{text_of}
-use Rattle.cf_report.specs.declared.text.Form.TheVariants as forms
 use Rattle.cf_setup.specs.Settled.{shaped}
 use Rattle.cf_run.proofs.Logs.{report_sealed}
 use Rattle.cf_run.proofs.log.report_of.Goals as goal
