@@ -5,7 +5,9 @@ ghost use Rattle.cf_law.specs.Steps.{at_book, looked, tail_loaded, labelled, lin
 ghost use Rattle.cf_law.specs.Events.{table, no_book};
 ghost use Rattle.cf_pass.specs.Books.{MayTake, ticketed_at, NoneFlies, NoneHeld, NoneKnown, IsFreeIn, IsFree, NoneFree, HasFinished, HasOpen, Owns, MayRead};
 
-use crate::nodes::{KnownNode, NodeSpot, Walk, copy_known, copy_spots, copy_walk, learnt, met_by, walk_on};
+use crate::nodes::{
+    KnownNode, NodeSpot, Walk, copy_known, copy_spots, copy_walk, learnt, met_by, walk_on,
+};
 use cf_row::{Entry, Memory, Row};
 use std::alloc::{AllocError, Global};
 use std::marker::Model;
