@@ -30,8 +30,18 @@ fn each_write_of_a_refusal_may_fail(rt: HostRuntime) -> Result<(), Fail> {
     let alloc = rt.alloc();
     let empty = b"".as_slice();
     let table: [(&[&str], &[u8], &[u8], &[u8]); 6] = [
-        (&["run", "c"], SETUP, &TWO_RECORDS, b"words: not a command\n"),
-        (&["dump", "x"], SETUP, &TWO_RECORDS, b"file: none of that name\n"),
+        (
+            &["run", "c"],
+            SETUP,
+            &TWO_RECORDS,
+            b"words: not a command\n",
+        ),
+        (
+            &["dump", "x"],
+            SETUP,
+            &TWO_RECORDS,
+            b"file: none of that name\n",
+        ),
         (&WORDS, empty, &TWO_RECORDS, b"setup: line 1 code 2\n"),
         (&WORDS, SETUP, empty, b"capture: record 0 code 5\n"),
         (&DUMP, SETUP, empty, b"capture: record 0 code 5\n"),

@@ -67,7 +67,11 @@ fn a_record_file_of_a_quote_or_of_nothing_is_refused(rt: HostRuntime) -> Result<
         (b"ts\n\"", 3, b"capture: record 0 code 14\n"),
         (b"ts\n1\n2,3\n", 3, b"capture: record 1 code 13\n"),
         (b"ts\n1\n-2\n", 3, b"capture: record 1 code 14\n"),
-        (b"ts\n1\n\"2", 0, b"records 2\nask a list 2: 0 1\norder 0*2\n"),
+        (
+            b"ts\n1\n\"2",
+            0,
+            b"records 2\nask a list 2: 0 1\norder 0*2\n",
+        ),
     ];
     for (file, number, text) in table {
         expect(&rt, alloc, &WORDS, (setup, file), (number, text))?;

@@ -7,8 +7,11 @@ use std::process::Abort;
 use std::thread::Threads;
 
 pub(crate) const WORDS: [&str; 6] = ["run", "--setup", "s", "--writers", "1", "c"];
+
 pub(crate) const DUMP: [&str; 2] = ["dump", "c"];
+
 pub(crate) const SETUP: &[u8] = b"schema packet\nask big list len>=100\n";
+
 pub(crate) const REPORT: &[u8] = b"records 2\nask big list 1: 1\norder 0*2\n";
 
 // A file header, little-endian, in microseconds, and two records of 2 bytes and of 1.
