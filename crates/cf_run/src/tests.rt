@@ -310,6 +310,16 @@ fn blocks_with(
     Ok(capture)
 }
 
+// The capture is dumped as that text.
+fn dumps<R: Threads + Sync + Abort>(
+    rt: &R,
+    alloc: Global,
+    capture: &[u8],
+    text: &[u8],
+) -> Result<(), Memory> {
+    expect(rt, alloc, &["dump", "c"], (SETUP, capture), (0, text))
+}
+
 #[test]
 fn captures_in_pcapng_are_reported_and_dumped(rt: HostRuntime) -> Result<(), Fail> {
     let alloc = rt.alloc();
@@ -317,14 +327,14 @@ fn captures_in_pcapng_are_reported_and_dumped(rt: HostRuntime) -> Result<(), Fai
     let nanoseconds = blocks_with(alloc, 28, &NANOSECONDS, 48)?;
     let text =
         b"records 2\n0 ts=1500000 caplen=2 len=60 dmac=0x000000000000 smac=0x000000000000 etype=0 kind=0 tos=0 iplen=0 ttl=0 proto=0 src=0.0.0.0 dst=0.0.0.0 sport=0 dport=0 seq=0 ack=0 flags=0 win=0 vlan=0\n1 ts=0 caplen=4 len=100 dmac=0x000000000000 smac=0x000000000000 etype=0 kind=0 tos=0 iplen=0 ttl=0 proto=0 src=0.0.0.0 dst=0.0.0.0 sport=0 dport=0 seq=0 ack=0 flags=0 win=0 vlan=0\n";
-    expect(&rt, alloc, &["dump", "c"], (SETUP, &nanoseconds), (0, text))?;
+    dumps(&rt, alloc, &nanoseconds, text)?;
     // The same packets in both formats.
     let records = two_frames(alloc)?;
     let blocks = blocks_with(alloc, 84, &ONE_BYTE, 104)?;
     let text =
         b"records 2\n0 ts=1500000000 caplen=2 len=60 dmac=0x000000000000 smac=0x000000000000 etype=0 kind=0 tos=0 iplen=0 ttl=0 proto=0 src=0.0.0.0 dst=0.0.0.0 sport=0 dport=0 seq=0 ack=0 flags=0 win=0 vlan=0\n1 ts=2000000000 caplen=1 len=100 dmac=0x000000000000 smac=0x000000000000 etype=0 kind=0 tos=0 iplen=0 ttl=0 proto=0 src=0.0.0.0 dst=0.0.0.0 sport=0 dport=0 seq=0 ack=0 flags=0 win=0 vlan=0\n";
-    expect(&rt, alloc, &["dump", "c"], (SETUP, &records), (0, text))?;
-    expect(&rt, alloc, &["dump", "c"], (SETUP, &blocks), (0, text))?;
+    dumps(&rt, alloc, &records, text)?;
+    dumps(&rt, alloc, &blocks, text)?;
     Ok(())
 }
 
