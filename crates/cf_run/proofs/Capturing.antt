@@ -3,6 +3,7 @@ use Rattle.std.proofs.Common.{◌≡◌, ◌⊎◌, inl, inr, ℕ, ◌<◌, ◌�
 use Rattle.std.specs.declared.alloc.Global.{Global}
 use Rattle.std.proofs.lemmas.List.{take-append-le}
 use Rattle.cf_row.specs.Row.{Numbered}
+use Rattle.cf_row.specs.declared.schema.Attr.{Attr}
 use Rattle.cf_pcap.specs.Capture.{Captured, IsCapture, HasPcapFault}
 use Rattle.cf_pcap.specs.declared.fault.PcapFault.{PcapFault}
 use Rattle.cf_pcap.specs.declared.fault.PcapFault.TheVariants as faults
@@ -124,8 +125,8 @@ some_case false bytes = elim (pcap.one_case bytes).some [
   | inr bad ↦ inr (record { place = record_of bad.0; code = code_of bad.0; has = record { fault = bad.0; fault_is = bad.1; record_is = refl; code_is = refl } })
 ]
 
-pub one_packet_case : (bytes : List ℕ) → OneCase bytes
-one_packet_case bytes = record {
+pub one_packet_case : (attrs : List Attr) (bytes : List ℕ) → OneCase true attrs bytes
+one_packet_case attrs bytes = record {
   some = elim (some_case (begins_section bytes) bytes) [
     | inl frames ↦ inl (packet_rows frames.0, record { frames = frames.0; frames_are = frames.1; rows_are = refl })
     | inr fault ↦ inr (fault.place, fault.code, fault.has)

@@ -15,3 +15,4 @@ pub mod Loading
 pub mod MoreRows
 pub mod DumpDue
 pub mod SynthDue
+pub mod OneCase

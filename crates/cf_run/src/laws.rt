@@ -1,8 +1,10 @@
-// The theorem on captures of packets.
-ghost use Rattle.std.specs.Prelude.{ℕ, List};
+// The theorem on captures.
+ghost use Rattle.std.specs.Prelude.{ℕ, Bool, List};
+ghost use Rattle.cf_row.specs.declared.schema.Attr.{Attr};
 ghost use Rattle.cf_run.specs.Laws.{OneCase};
 
-/// Each file is a capture of one list of packets, in the format that it begins as, or has one fault.
+/// Each file is a capture of one list of rows in the format that a schema asks for, or has one fault: of packets in pcap or
+/// pcapng, by the first four bytes, or of the records of other attributes in CSV.
 pub fn each_file_is_in_one_case()
-    ensures { (bytes : List ℕ) → OneCase bytes }
+    ensures { (packet : Bool) (attrs : List Attr) (bytes : List ℕ) → OneCase packet attrs bytes }
 {}

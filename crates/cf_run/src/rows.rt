@@ -54,8 +54,9 @@ pub(crate) fn drawn_packets(alloc: Global, seed: u64, count: u32) -> Result<Vec<
     let bytes = make_capture(alloc, seed, count)?;
     match record_frames(alloc, &bytes) {
         Ok(frames) => rows_of(alloc, &frames),
+        Err(Status::Memory) => Err(AllocError),
         // What is made is a capture.
-        Err(_) => Err(AllocError),
+        Err(_) => unreachable!(),
     }
 }
 
