@@ -164,12 +164,71 @@ def stray_vlan():
     return capture.bytes()
 
 
+def full_link():
+    """Twelve seconds at the router of a field station, before its radio link of 256 kbit/s. From second 4 to 8 one host fills it."""
+    capture = Capture(1700485200)
+    # three sensors tell their readings each second; over a full link the acknowledgements are late
+    for k in range(36):
+        at, sensor = k // 3 * 1_000_000 + k % 3 * 310_000 + 40_000, f"192.0.2.{(20, 40, 55)[k % 3]}"
+        late = 950_000 if 4_000_000 <= at < 9_000_000 else 90_000
+        capture.segment(at, sensor, 57000 + k % 3, "198.51.100.10", 8883, PSH | ACK, 220, seq=1 + 220 * (k // 3), ack=1)
+        capture.segment(at + late, "198.51.100.10", 8883, sensor, 57000 + k % 3, ACK, seq=1, ack=221 + 220 * (k // 3))
+    there, back = ("192.0.2.31", 57100, "203.0.113.200", 443), ("203.0.113.200", 443, "192.0.2.31", 57100)
+    for k in range(102):
+        capture.segment(4_000_000 + k * 49_000, *there, ACK, 1460, seq=1 + 1460 * k, ack=1)
+        if k % 2:
+            capture.segment(4_600_000 + k * 49_000, *back, ACK, seq=1, ack=1461 + 1460 * k)
+    return capture.bytes()
+
+
+def upload(capture, at, client, port, server, first, sizes, arrives=True):
+    """A client sends a header, and then segments of these sizes. Where they do not arrive, it sends the first again, and gives up."""
+    there, back = (client, port, server, 445), (server, 445, client, port)
+    seq = first + 311
+    capture.segment(at, *there, SYN, seq=first)
+    capture.segment(at + 20_000, *back, SYN | ACK, seq=7000, ack=first + 1)
+    capture.segment(at + 20_600, *there, ACK, seq=first + 1, ack=7001)
+    capture.segment(at + 21_000, *there, PSH | ACK, 310, seq=first + 1, ack=7001)
+    capture.segment(at + 41_000, *back, ACK, seq=7001, ack=seq)
+    at += 42_000
+    if not arrives:
+        for late in (240_000, 720_000, 1_680_000, 3_600_000):
+            capture.segment(at + late, *there, ACK, sizes[0], seq=seq, ack=7001)
+    for k, size in enumerate(sizes):
+        capture.segment(at, *there, PSH | ACK if k == len(sizes) - 1 else ACK, size, seq=seq, ack=7001)
+        seq += size
+        if arrives:
+            capture.segment(at + 20_000, *back, ACK, seq=7001, ack=seq)
+        at += 9_000
+    if arrives:
+        capture.segment(at + 40_000, *there, FIN | ACK, seq=seq, ack=7001)
+        capture.segment(at + 60_000, *back, FIN | ACK, seq=7001, ack=seq + 1)
+        capture.segment(at + 60_600, *there, ACK, seq=seq + 1, ack=7002)
+    else:
+        capture.segment(at + 5_000_000, *there, RST | ACK, seq=seq, ack=7001)
+
+
+def broken_uploads():
+    """Twelve seconds at an office's router. Of what goes to one of two file servers, long segments do not arrive."""
+    capture = Capture(1700571600)
+    broken, sound = "198.51.100.60", "198.51.100.61"
+    for k, size in enumerate((500, 900, 1200, 700)):
+        upload(capture, k * 2_900_000 + 350_000, f"192.0.2.{21 + k}", 58000 + k, broken, 1_000_000_000 + k * 50_000_000, [size])
+    for k, at in enumerate((1_100_000, 3_400_000, 6_200_000)):
+        upload(capture, at, f"192.0.2.{31 + k}", 58100 + k, broken, 2_000_000_000 + k * 50_000_000, [1460, 1460], False)
+    for k, at in enumerate((2_600_000, 8_800_000)):
+        upload(capture, at, f"192.0.2.{31 + k}", 58200 + k, sound, 3_000_000_000 + k * 50_000_000, [1460, 1460, 1460, 1460, 1200])
+    return capture.bytes()
+
+
 CAPTURES = {
     "syn_flood": syn_flood,
     "port_scan": port_scan,
     "resolver": resolver,
     "microburst": microburst,
     "stray_vlan": stray_vlan,
+    "full_link": full_link,
+    "broken_uploads": broken_uploads,
 }
 
 
