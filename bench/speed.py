@@ -35,6 +35,8 @@ QUESTIONS = {
 }
 ROUNDS_A_BATCH = 64
 BATCH = 4096
+# What two runs of one command may differ by, in seconds.
+NOISE = 0.02
 
 
 def draws(seed):
@@ -118,7 +120,10 @@ def time_questions(program, setup, file, rounds):
         pathlib.Path(setup).write_text("schema packet\n" + question + "live q\n")
         wall, work = shortest(run_words(program, setup, file, 2, ROUNDS_A_BATCH), rounds)
         quiet_wall, quiet_work = shortest(run_words(program, setup, file, 2), rounds)
-        each_wall, each_work = max(wall - quiet_wall, 1e-9) / asked, max(work - quiet_work, 1e-9) / asked
+        if wall - quiet_wall < NOISE:
+            print(f"{name:22} {asked / NOISE:12.0f} answers a second or more: they take no longer than runs differ")
+            continue
+        each_wall, each_work = (wall - quiet_wall) / asked, (work - quiet_work) / asked
         print(f"{name:22} {1 / each_wall:12.0f} answers a second {each_work * 1e6:10.1f} microseconds of work each")
 
 
