@@ -3,10 +3,10 @@ use Rattle.std.proofs.Common.{◌≡◌, ℕ, ◌+◌, ◌-◌, ◌*◌, ◌^◌
 use Rattle.std.proofs.Math.Seq.{take-length}
 use Rattle.std.proofs.lemmas.Bool.{cases_lt, cases_eq, cases_Bool}
 use Rattle.std.proofs.lemmas.Bool.Decides.{nat_tests}
-use Rattle.cf_row.specs.Row.{Numbered}
+use Rattle.cf_row.specs.Row.{RowValue}
 use Rattle.cf_row.specs.Words.{word_count}
 use Rattle.cf_shape.specs.declared.lane.Lane.{Lane}
-use Rattle.cf_shape.specs.Lanes.{Shaped, IsShape, no_lane, lane_at, selected_by}
+use Rattle.cf_shape.specs.Lanes.{ShapeValue, IsShape, no_lane, lane_at, selected_by}
 use Rattle.cf_shape.specs.Nodes.{levels_of}
 use Rattle.cf_shape.specs.Uses.{Use, use_at, cell_words, cell_count, ticket_words, is_measured}
 use Rattle.cf_shape.specs.Uses.Use.{version}
@@ -16,14 +16,14 @@ use Rattle.cf_shape.proofs.Used.{version_at, before_fits}
 use Rattle.cf_words.specs.Words.{Spot, spot, fresh_ticket, has, same_path, version_word, top}
 use Rattle.cf_words.specs.Law.{IsWhole, Skips}
 use Rattle.cf_law.specs.Passes.{Book, Flight, Pass}
-use Rattle.cf_law.specs.Steps.{Knows, IsNext, ticket_of, fly, headed, finished, own_word, own_lane_word, mine_chain, head_loaded}
+use Rattle.cf_law.specs.Steps.{Knows, IsNext, ticket_of, book_with_flight, book_with_head, book_with_record, own_word, own_lane_word, mine_chain, pass_with_head}
 use Rattle.cf_law.specs.Steps.Act.{store_cell, store_head, finish_record}
 use Rattle.cf_law.specs.Readers.{own_top}
 use Rattle.cf_law.specs.Events.{no_book}
 use Rattle.cf_law.specs.Shapes.{layout, path_in}
 use Rattle.cf_law.proofs.Shapes.{layout_law}
-use Rattle.cf_table.specs.Held.{Held, book_of, flight_or}
-use Rattle.cf_table.specs.Ways.{May, Made, Stored, store_way, walk_way, head_way, finish_way}
+use Rattle.cf_table.specs.Values.{PassValue, book_of, flight_or}
+use Rattle.cf_table.specs.Effects.{IsLawfulStep, HasStepped, HasSteppedUnseen, store_effect, walk_effect, head_effect, finish_effect}
 use Rattle.cf_table.proofs.Mays.{the_book, may_store, may_head, may_finish}
 use Rattle.cf_append.specs.Appends.{with_own}
 use Rattle.cf_append.specs.Paths.{Strides}
@@ -37,32 +37,32 @@ count_more [] l lt = absurd (omega (arith, lt))
 count_more (x ∷ xs) zero lt = omega (arith, count_cons x [], count_none)
 count_more (x ∷ xs) (suc l) lt = omega (arith, count_cons x (take (suc l) xs), count_cons x (take l xs), count_more xs l (omega (arith, lt)))
 
-pub cell_first : (s : Shaped) → cell_from s 0 ≡ word_count s.schema + 1
+pub cell_first : (s : ShapeValue) → cell_from s 0 ≡ word_count s.schema + 1
 cell_first s = omega (arith, count_none)
 
-pub cell_last : (s : Shaped) → cell_from s (length s.lanes) ≡ word_count s.schema + 1 + cell_count s.lanes
+pub cell_last : (s : ShapeValue) → cell_from s (length s.lanes) ≡ word_count s.schema + 1 + cell_count s.lanes
 cell_last s = (let e = ap cell_count (take-length s.lanes) in omega (arith, e))
 
-pub cell_next : (s : Shaped) (l : ℕ) → l < length s.lanes → cell_from s (l + 1) ≡ cell_from s l + cell_words (lane_at s l)
+pub cell_next : (s : ShapeValue) (l : ℕ) → l < length s.lanes → cell_from s (l + 1) ≡ cell_from s l + cell_words (lane_at s l)
 cell_next s l lt =
     let e : l + 1 ≡ suc l = omega arith in
     let f = ap (λ (k : ℕ). cell_count (take k s.lanes)) e in
     omega (arith, f, count_more s.lanes l lt)
 
-pub cell_one : (s : Shaped) (l : ℕ) → is_measured s l ≡ false → cell_words (lane_at s l) ≡ 1
+pub cell_one : (s : ShapeValue) (l : ℕ) → is_measured s l ≡ false → cell_words (lane_at s l) ≡ 1
 cell_one s l bare = ap (λ (b : Bool). cond {A = ℕ} b 3 1) bare
 
-pub cell_low : (s : Shaped) (l : ℕ) → l < length s.lanes → cell_from s l + cell_words (lane_at s l) < ticket_words s
+pub cell_low : (s : ShapeValue) (l : ℕ) → l < length s.lanes → cell_from s l + cell_words (lane_at s l) < ticket_words s
 cell_low s l lt = omega (arith, before_fits s.lanes l lt)
 
-passed_here : (s : Shaped) (row : Numbered) (l k : ℕ) → l < length s.lanes → path_in s row l ≡ None → cell_from s l ≤ k → k < cell_from s (l + 1) → IsPassedOver s row k
+passed_here : (s : ShapeValue) (row : RowValue) (l k : ℕ) → l < length s.lanes → path_in s row l ≡ None → cell_from s l ≤ k → k < cell_from s (l + 1) → IsPassedOver s row k
 passed_here s row l k there none ge lt =
     let j : ℕ = k - cell_from s l in
     let at : cell_from s l + j ≡ k = omega (arith, ge) in
     let low : j < cell_words (lane_at s l) = omega (arith, ge, lt, cell_next s l there) in
     subst (λ (i : ℕ). IsPassedOver s row i) at (subst (λ (u : Use). Skips (layout s) (fresh_ticket 0 row) u) (sym (version_at s l j there low)) none)
 
-pub filled_skip : (s : Shaped) (o : ℕ) (row : Numbered) (l : ℕ) (m n : Held) → l < length s.lanes → selected_by s l row ≡ false → HasFilled s o row (cell_from s l) m n → HasFilled s o row (cell_from s (l + 1)) m n
+pub filled_skip : (s : ShapeValue) (o : ℕ) (row : RowValue) (l : ℕ) (m n : PassValue) → l < length s.lanes → selected_by s l row ≡ false → HasFilled s o row (cell_from s l) m n → HasFilled s o row (cell_from s (l + 1)) m n
 filled_skip s o row l m n there passes F =
     let from = F.from in record {
       filled = F.filled;
@@ -75,7 +75,7 @@ filled_skip s o row l m n there passes F =
     }
 
 -- Two parts of the filling.
-pub filled_self : (s : Shaped) (o : ℕ) (row : Numbered) (k : ℕ) (m n : Held) → HasFilled s o row k m n → HasFilled s o row k n n
+pub filled_self : (s : ShapeValue) (o : ℕ) (row : RowValue) (k : ℕ) (m n : PassValue) → HasFilled s o row k m n → HasFilled s o row k n n
 filled_self s o row k m n F = record {
   filled = F.filled;
   books = F.books ∙ ap (λ (b : Book). with_flight o row F.filled [] b ∷ []) (sym (the_book n.view (with_flight o row F.filled [] (book_of m.view)) F.books));
@@ -83,7 +83,7 @@ filled_self s o row k m n F = record {
   passed = F.passed;
 }
 
-pub filled_then : (s : Shaped) (o : ℕ) (row : Numbered) (j k : ℕ) (m n z : Held) → HasFilled s o row j m n → HasFilled s o row k n z → HasFilled s o row k m z
+pub filled_then : (s : ShapeValue) (o : ℕ) (row : RowValue) (j k : ℕ) (m n z : PassValue) → HasFilled s o row j m n → HasFilled s o row k n z → HasFilled s o row k m z
 filled_then s o row j k m n z F G = record {
   filled = G.filled;
   books = G.books ∙ ap (λ (b : Book). with_flight o row G.filled [] b ∷ []) (the_book n.view (with_flight o row F.filled [] (book_of m.view)) F.books);
@@ -91,21 +91,21 @@ filled_then s o row j k m n z F G = record {
   passed = G.passed;
 }
 
-pub filled_at : (s : Shaped) (o : ℕ) (row : Numbered) (j k : ℕ) (m n : Held) → j ≡ k → HasFilled s o row j m n → HasFilled s o row k m n
+pub filled_at : (s : ShapeValue) (o : ℕ) (row : RowValue) (j k : ℕ) (m n : PassValue) → j ≡ k → HasFilled s o row j m n → HasFilled s o row k m n
 filled_at s o row j k m n e F = subst (λ (i : ℕ). HasFilled s o row i m n) e F
 
-pub filled_writer : (s : Shaped) (o : ℕ) (row : Numbered) (k : ℕ) (m n : Held) → HasFilled s o row k m n → (book_of n.view).writer ≡ (book_of m.view).writer
+pub filled_writer : (s : ShapeValue) (o : ℕ) (row : RowValue) (k : ℕ) (m n : PassValue) → HasFilled s o row k m n → (book_of n.view).writer ≡ (book_of m.view).writer
 filled_writer s o row k m n F = ap (λ (b : Book). b.writer) (the_book n.view (with_flight o row F.filled [] (book_of m.view)) F.books)
 
 -- An own head was loaded.
-pub walk_strides : (shape : Shaped) (m n : Held) (s : Spot) (node d w found : ℕ) → Made shape (walk_way shape m.view s node d w) m found n → Strides m n
+pub walk_strides : (shape : ShapeValue) (m n : PassValue) (s : Spot) (node d w found : ℕ) → HasStepped shape (walk_effect shape m.view s node d w) m found n → Strides m n
 walk_strides shape m n s node d w found made =
-    strides_by m n (head_loaded (place (sizes_of shape) (head_slot (sizes_of shape) node d w)) w (spot s.lane (d ∷ s.path)) m.view found) made.same made.told.is refl refl refl (λ r k h. h) (omega arith)
+    strides_by m n (pass_with_head (place (sizes_of shape) (head_slot (sizes_of shape) node d w)) w (spot s.lane (d ∷ s.path)) m.view found) made.same made.told.is refl refl refl (λ r k h. h) (omega arith)
 
-pub walk_books : (shape : Shaped) (m n : Held) (s : Spot) (node d w found : ℕ) → Made shape (walk_way shape m.view s node d w) m found n → (n.view).books ≡ (m.view).books
+pub walk_books : (shape : ShapeValue) (m n : PassValue) (s : Spot) (node d w found : ℕ) → HasStepped shape (walk_effect shape m.view s node d w) m found n → (n.view).books ≡ (m.view).books
 walk_books shape m n s node d w found made = ap (λ (p : Pass). p.books) made.told.is
 
-pub walk_own : (shape : Shaped) (m n : Held) (s : Spot) (node d w found : ℕ) → Made shape (walk_way shape m.view s node d w) m found n → (m.view).books ≡ book_of m.view ∷ [] → w ≡ (book_of m.view).writer
+pub walk_own : (shape : ShapeValue) (m n : PassValue) (s : Spot) (node d w found : ℕ) → HasStepped shape (walk_effect shape m.view s node d w) m found n → (m.view).books ≡ book_of m.view ∷ [] → w ≡ (book_of m.view).writer
     → Knows m.view s node → suc (length s.path) ≡ levels_of shape s.lane → d < 16 → found ≡ own_top (layout shape) (book_of m.view) (spot s.lane (d ∷ s.path))
 walk_own shape m n s node d w found made one own knows level dl =
     made.told.tells.own 0 node d s.lane s.path (book_of m.view) (ap (λ (v : ℕ). head_slot (sizes_of shape) node d v) own) (ap (λ (bs : List Book). slice_get bs 0) one) knows level dl
@@ -114,25 +114,25 @@ has_nothing : (l : ℕ) → has [] l ≡ false
 unfolding has
 has_nothing l = refl
 
-own_plain_top : (shape : Shaped) (b : Book) (o : ℕ) (row : Numbered) (filled : ℕ) (s : Spot) → own_top (layout shape) (with_flight o row filled [] b) s ≡ top (mine_chain (layout shape) s b.mine)
+own_plain_top : (shape : ShapeValue) (b : Book) (o : ℕ) (row : RowValue) (filled : ℕ) (s : Spot) → own_top (layout shape) (with_flight o row filled [] b) s ≡ top (mine_chain (layout shape) s b.mine)
 own_plain_top shape b o row filled s =
     ap (λ (linked : Bool). cond {A = ℕ} (cond {A = Bool} linked (same_path (path_in shape row s.lane) s.path) false) (suc o) (top (mine_chain (layout shape) s b.mine))) (has_nothing s.lane)
 
-plain_version : (shape : Shaped) (l : ℕ) (c : List (ℕ × Numbered)) (row : Numbered) → is_measured shape l ≡ false → version_word (layout shape) l 0 c row ≡ top c
+plain_version : (shape : ShapeValue) (l : ℕ) (c : List (ℕ × RowValue)) (row : RowValue) → is_measured shape l ≡ false → version_word (layout shape) l 0 c row ≡ top c
 unfolding version_word
 plain_version shape l c row bare = ap (λ (b : Bool). top c + 2 ^ 32 * cond {A = ℕ} b (length c + 1) 0) bare ∙ omega arith
 
 -- A cell is stored.
-abbrev pub flight_at : ℕ → Numbered → ℕ → List ℕ → Flight
+abbrev pub flight_at : ℕ → RowValue → ℕ → List ℕ → Flight
 flight_at o row filled linked = record { offset = o; row = row; filled = filled; linked = linked }
 
-cell_use : (s : Shaped) (l i : ℕ) → l < length s.lanes → is_measured s l ≡ false → i ≡ cell_from s l → use_at s i ≡ version l 0
+cell_use : (s : ShapeValue) (l i : ℕ) → l < length s.lanes → is_measured s l ≡ false → i ≡ cell_from s l → use_at s i ≡ version l 0
 cell_use s l i there bare at =
     let e : i ≡ cell_from s l + 0 = omega (arith, at) in
     ap (use_at s) e ∙ version_at s l 0 there (omega (arith, cell_one s l bare))
 
-pub may_version : (shape : Shaped) (m n : Held) (o l i value : ℕ) (row : Numbered) (q : List ℕ) → HasFilled shape o row (cell_from shape l) m m → (n.view).books ≡ (m.view).books → l < length shape.lanes → is_measured shape l ≡ false → i ≡ cell_from shape l
-    → path_in shape row l ≡ Some q → value ≡ own_top (layout shape) (book_of m.view) (spot l q) → May shape n.view (store_cell o i value) (store_way n.view o i value)
+pub may_version : (shape : ShapeValue) (m n : PassValue) (o l i value : ℕ) (row : RowValue) (q : List ℕ) → HasFilled shape o row (cell_from shape l) m m → (n.view).books ≡ (m.view).books → l < length shape.lanes → is_measured shape l ≡ false → i ≡ cell_from shape l
+    → path_in shape row l ≡ Some q → value ≡ own_top (layout shape) (book_of m.view) (spot l q) → IsLawfulStep shape n.view (store_cell o i value) (store_effect n.view o i value)
 may_version shape m n o l i value row q F kept there bare at leads is =
     let sh = layout shape in
     let b : Book = with_flight o row F.filled [] (book_of m.view) in
@@ -152,41 +152,41 @@ may_version shape m n o l i value row q F kept there bare at leads is =
     ∙ (sym (plain_version shape l (mine_chain sh (spot l q) (book_of m.view).mine) row bare)
     ∙ (ap (λ (p : Option (List ℕ)). own_lane_word sh b row l 0 p) (sym leads) ∙ ap (λ (u : Use). own_word sh b row u) (sym stands))))))
 
-pub store_strides : (shape : Shaped) (m n : Held) (o i value : ℕ) → Stored shape (store_way m.view o i value) m n → Strides m n
-store_strides shape m n o i value stored = strides_by m n ((store_way m.view o i value).after 0 []) stored.made.same stored.made.told.is refl refl refl (λ r k h. h) (omega arith)
+pub store_strides : (shape : ShapeValue) (m n : PassValue) (o i value : ℕ) → HasSteppedUnseen shape (store_effect m.view o i value) m n → Strides m n
+store_strides shape m n o i value stored = strides_by m n ((store_effect m.view o i value).after 0 []) stored.made.same stored.made.told.is refl refl refl (λ r k h. h) (omega arith)
 
-pub filled_more : (shape : Shaped) (m n z : Held) (o l i value : ℕ) (row : Numbered) → HasFilled shape o row (cell_from shape l) m m → (n.view).books ≡ (m.view).books → l < length shape.lanes → is_measured shape l ≡ false → i ≡ cell_from shape l
-    → Stored shape (store_way n.view o i value) n z → HasFilled shape o row (cell_from shape (l + 1)) m z
+pub filled_more : (shape : ShapeValue) (m n z : PassValue) (o l i value : ℕ) (row : RowValue) → HasFilled shape o row (cell_from shape l) m m → (n.view).books ≡ (m.view).books → l < length shape.lanes → is_measured shape l ≡ false → i ≡ cell_from shape l
+    → HasSteppedUnseen shape (store_effect n.view o i value) n z → HasFilled shape o row (cell_from shape (l + 1)) m z
 filled_more shape m n z o l i value row F kept there bare at stored =
     let b : Book = with_flight o row F.filled [] (book_of m.view) in
     let next : cell_from shape (l + 1) ≡ suc i = omega (arith, at, cell_next shape l there, cell_one shape l bare) in record {
       filled = suc i;
       books = ap (λ (p : Pass). p.books) stored.made.told.is
-          ∙ ap (λ (bs : List Book). set bs 0 (fly (get_or bs 0 (no_book 0)) (record (flight_or (get_or bs 0 (no_book 0)).flight) { filled = suc i }))) (kept ∙ F.books);
+          ∙ ap (λ (bs : List Book). set bs 0 (book_with_flight (get_or bs 0 (no_book 0)) (record (flight_or (get_or bs 0 (no_book 0)).flight) { filled = suc i }))) (kept ∙ F.books);
       from = omega (arith, next);
       passed = λ k ge lt. absurd (omega (arith, ge, lt, next));
     }
 
 -- The lanes in which a record is linked.
-linked_none : (s : Shaped) (row : Numbered) → linked_to s row 0 ≡ []
+linked_none : (s : ShapeValue) (row : RowValue) → linked_to s row 0 ≡ []
 unfolding linked_to
 linked_none s row = refl
 
-linked_if : (s : Shaped) (row : Numbered) (l : ℕ) → linked_to s row (suc l) ≡ cond (selected_by s l row) (l ∷ linked_to s row l) (linked_to s row l)
+linked_if : (s : ShapeValue) (row : RowValue) (l : ℕ) → linked_to s row (suc l) ≡ cond (selected_by s l row) (l ∷ linked_to s row l) (linked_to s row l)
 unfolding linked_to
 linked_if s row l = refl
 
-linked_one : (s : Shaped) (row : Numbered) (l : ℕ) → selected_by s l row ≡ true → linked_to s row (suc l) ≡ l ∷ linked_to s row l
+linked_one : (s : ShapeValue) (row : RowValue) (l : ℕ) → selected_by s l row ≡ true → linked_to s row (suc l) ≡ l ∷ linked_to s row l
 linked_one s row l takes = linked_if s row l ∙ ap (λ (b : Bool). cond b (l ∷ linked_to s row l) (linked_to s row l)) takes
 
-linked_same : (s : Shaped) (row : Numbered) (l : ℕ) → selected_by s l row ≡ false → linked_to s row (suc l) ≡ linked_to s row l
+linked_same : (s : ShapeValue) (row : RowValue) (l : ℕ) → selected_by s l row ≡ false → linked_to s row (suc l) ≡ linked_to s row l
 linked_same s row l passes = linked_if s row l ∙ ap (λ (b : Bool). cond b (l ∷ linked_to s row l) (linked_to s row l)) passes
 
 has_first : (x : ℕ) (xs : List ℕ) (l : ℕ) → has (x ∷ xs) l ≡ cond (x == l) true (has xs l)
 unfolding has
 has_first x xs l = refl
 
-not_linked : (s : Shaped) (row : Numbered) (n l : ℕ) → n ≤ l → has (linked_to s row n) l ≡ false
+not_linked : (s : ShapeValue) (row : RowValue) (n l : ℕ) → n ≤ l → has (linked_to s row n) l ≡ false
 not_linked s row zero l le = ap (λ (ls : List ℕ). has ls l) (linked_none s row) ∙ has_nothing l
 not_linked s row (suc n) l le = elim (cases_Bool (selected_by s n row)) [
   | inl takes ↦
@@ -195,7 +195,7 @@ not_linked s row (suc n) l le = elim (cases_Bool (selected_by s n row)) [
   | inr passes ↦ ap (λ (ls : List ℕ). has ls l) (linked_same s row n passes) ∙ not_linked s row n l (omega (arith, le))
 ]
 
-is_linked : (s : Shaped) (row : Numbered) (n l : ℕ) → l < n → selected_by s l row ≡ true → has (linked_to s row n) l ≡ true
+is_linked : (s : ShapeValue) (row : RowValue) (n l : ℕ) → l < n → selected_by s l row ≡ true → has (linked_to s row n) l ≡ true
 is_linked s row zero l lt takes = absurd (omega (arith, lt))
 is_linked s row (suc n) l lt takes = elim (cases_eq l n) [
   | inl same ↦
@@ -213,38 +213,38 @@ is_linked s row (suc n) l lt takes = elim (cases_eq l n) [
 ]
 
 -- A head is stored.
-whole_ticket : (shape : Shaped) (o : ℕ) (row : Numbered) (filled : ℕ) (linked : List ℕ) (w : ℕ) → ((i : ℕ) → filled ≤ i → suc i < ticket_words shape → IsPassedOver shape row i) → IsWhole (layout shape) (ticket_of w (flight_at o row filled linked))
+whole_ticket : (shape : ShapeValue) (o : ℕ) (row : RowValue) (filled : ℕ) (linked : List ℕ) (w : ℕ) → ((i : ℕ) → filled ≤ i → suc i < ticket_words shape → IsPassedOver shape row i) → IsWhole (layout shape) (ticket_of w (flight_at o row filled linked))
 whole_ticket shape o row filled linked w whole k ge lt = skips_any (layout shape) (fresh_ticket 0 row) (ticket_of w (flight_at o row filled linked)) (use_at shape k) refl (whole k ge lt)
 
-pub linked_begin : (shape : Shaped) (o : ℕ) (row : Numbered) (m n : Held) → HasFilled shape o row (word_count shape.schema + 1 + cell_count shape.lanes) m n → HasLinked shape o row 0 m n
+pub linked_begin : (shape : ShapeValue) (o : ℕ) (row : RowValue) (m n : PassValue) → HasFilled shape o row (word_count shape.schema + 1 + cell_count shape.lanes) m n → HasLinked shape o row 0 m n
 linked_begin shape o row m n F = record {
   filled = F.filled;
   books = F.books ∙ ap (λ (ls : List ℕ). with_flight o row F.filled ls (book_of m.view) ∷ []) (sym (linked_none shape row));
   whole = λ i ge lt. F.passed i ge (omega (arith, lt));
 }
 
-pub may_top : (shape : Shaped) (m : Held) (o l node d : ℕ) (row : Numbered) (q : List ℕ) → HasLinked shape o row l m m → path_in shape row l ≡ Some (d ∷ q) → Knows m.view (spot l q) node → May shape m.view (store_head l node d o) (head_way shape m.view l node d o)
+pub may_top : (shape : ShapeValue) (m : PassValue) (o l node d : ℕ) (row : RowValue) (q : List ℕ) → HasLinked shape o row l m m → path_in shape row l ≡ Some (d ∷ q) → Knows m.view (spot l q) node → IsLawfulStep shape m.view (store_head l node d o) (head_effect shape m.view l node d o)
 may_top shape m o l node d row q L leads knows =
     let b : Book = with_flight o row L.filled (linked_to shape row l) (book_of m.view) in
     may_head shape m.view b (flight_at o row L.filled (linked_to shape row l)) l node d o q L.books refl refl (whole_ticket shape o row L.filled (linked_to shape row l) b.writer L.whole) (not_linked shape row l l (omega arith)) leads knows
 
-pub head_strides : (shape : Shaped) (m n : Held) (l node d o : ℕ) → Stored shape (head_way shape m.view l node d o) m n → Strides m n
-head_strides shape m n l node d o stored = strides_by m n ((head_way shape m.view l node d o).after 0 []) stored.made.same stored.made.told.is refl refl refl (λ r k h. h) (omega arith)
+pub head_strides : (shape : ShapeValue) (m n : PassValue) (l node d o : ℕ) → HasSteppedUnseen shape (head_effect shape m.view l node d o) m n → Strides m n
+head_strides shape m n l node d o stored = strides_by m n ((head_effect shape m.view l node d o).after 0 []) stored.made.same stored.made.told.is refl refl refl (λ r k h. h) (omega arith)
 
 one_more : (l : ℕ) → suc l ≡ l + 1
 one_more l = omega arith
 
-pub linked_more : (shape : Shaped) (m n : Held) (o l node d : ℕ) (row : Numbered) → HasLinked shape o row l m m → selected_by shape l row ≡ true → Stored shape (head_way shape m.view l node d o) m n → HasLinked shape o row (l + 1) m n
+pub linked_more : (shape : ShapeValue) (m n : PassValue) (o l node d : ℕ) (row : RowValue) → HasLinked shape o row l m m → selected_by shape l row ≡ true → HasSteppedUnseen shape (head_effect shape m.view l node d o) m n → HasLinked shape o row (l + 1) m n
 linked_more shape m n o l node d row L takes stored = record {
   filled = L.filled;
   books = ap (λ (p : Pass). p.books) stored.made.told.is
-      ∙ (ap (λ (bs : List Book). set bs 0 (headed l (get_or bs 0 (no_book 0)) (flight_or (get_or bs 0 (no_book 0)).flight))) L.books
+      ∙ (ap (λ (bs : List Book). set bs 0 (book_with_head l (get_or bs 0 (no_book 0)) (flight_or (get_or bs 0 (no_book 0)).flight))) L.books
       ∙ (ap (λ (ls : List ℕ). with_flight o row L.filled ls (book_of m.view) ∷ []) (sym (linked_one shape row l takes))
       ∙ ap (λ (k : ℕ). with_flight o row L.filled (linked_to shape row k) (book_of m.view) ∷ []) (one_more l)));
   whole = L.whole;
 }
 
-pub linked_skip : (shape : Shaped) (m n : Held) (o l : ℕ) (row : Numbered) → HasLinked shape o row l m n → selected_by shape l row ≡ false → HasLinked shape o row (l + 1) m n
+pub linked_skip : (shape : ShapeValue) (m n : PassValue) (o l : ℕ) (row : RowValue) → HasLinked shape o row l m n → selected_by shape l row ≡ false → HasLinked shape o row (l + 1) m n
 linked_skip shape m n o l row L passes = record {
   filled = L.filled;
   books = L.books ∙ (ap (λ (ls : List ℕ). with_flight o row L.filled ls (book_of m.view) ∷ []) (sym (linked_same shape row l passes))
@@ -252,47 +252,47 @@ linked_skip shape m n o l row L passes = record {
   whole = L.whole;
 }
 
-pub linked_self : (shape : Shaped) (o : ℕ) (row : Numbered) (k : ℕ) (m n : Held) → HasLinked shape o row k m n → HasLinked shape o row k n n
+pub linked_self : (shape : ShapeValue) (o : ℕ) (row : RowValue) (k : ℕ) (m n : PassValue) → HasLinked shape o row k m n → HasLinked shape o row k n n
 linked_self shape o row k m n L = record {
   filled = L.filled;
   books = L.books ∙ ap (λ (b : Book). with_flight o row L.filled (linked_to shape row k) b ∷ []) (sym (the_book n.view (with_flight o row L.filled (linked_to shape row k) (book_of m.view)) L.books));
   whole = L.whole;
 }
 
-pub linked_then : (shape : Shaped) (o : ℕ) (row : Numbered) (j k : ℕ) (m n z : Held) → HasLinked shape o row j m n → HasLinked shape o row k n z → HasLinked shape o row k m z
+pub linked_then : (shape : ShapeValue) (o : ℕ) (row : RowValue) (j k : ℕ) (m n z : PassValue) → HasLinked shape o row j m n → HasLinked shape o row k n z → HasLinked shape o row k m z
 linked_then shape o row j k m n z K L = record {
   filled = L.filled;
   books = L.books ∙ ap (λ (b : Book). with_flight o row L.filled (linked_to shape row k) b ∷ []) (the_book n.view (with_flight o row K.filled (linked_to shape row j) (book_of m.view)) K.books);
   whole = L.whole;
 }
 
-pub linked_writer : (shape : Shaped) (o : ℕ) (row : Numbered) (k : ℕ) (m n : Held) → HasLinked shape o row k m n → (book_of n.view).writer ≡ (book_of m.view).writer
+pub linked_writer : (shape : ShapeValue) (o : ℕ) (row : RowValue) (k : ℕ) (m n : PassValue) → HasLinked shape o row k m n → (book_of n.view).writer ≡ (book_of m.view).writer
 linked_writer shape o row k m n L = ap (λ (b : Book). b.writer) (the_book n.view (with_flight o row L.filled (linked_to shape row k) (book_of m.view)) L.books)
 
 -- The record is finished.
-pub some_path : (s : Shaped) (row : Numbered) (l : ℕ) (q : List ℕ) → path_in s row l ≡ Some q → selected_by s l row ≡ true
+pub some_path : (s : ShapeValue) (row : RowValue) (l : ℕ) (q : List ℕ) → path_in s row l ≡ Some q → selected_by s l row ≡ true
 some_path s row l q h = elim (cases_Bool (selected_by s l row)) [
   | inl e ↦ e
   | inr e ↦ absurd (let f : Some q ≡ None = sym h ∙ path_none s row l e in cc f)
 ]
 
-pub may_close : (shape : Shaped) (m n : Held) (o : ℕ) (row : Numbered) → IsShape shape → HasLinked shape o row (length shape.lanes) m n → May shape n.view (finish_record o) (finish_way shape n.view o)
+pub may_close : (shape : ShapeValue) (m n : PassValue) (o : ℕ) (row : RowValue) → IsShape shape → HasLinked shape o row (length shape.lanes) m n → IsLawfulStep shape n.view (finish_record o) (finish_effect shape n.view o)
 may_close shape m n o row lawful L =
     let ls = linked_to shape row (length shape.lanes) in
     let b : Book = with_flight o row L.filled ls (book_of m.view) in
     may_finish shape n.view b (flight_at o row L.filled ls) o L.books refl refl (whole_ticket shape o row L.filled ls b.writer L.whole)
     (λ l q leads. is_linked shape row (length shape.lanes) l ((layout_law shape lawful).lanes row l q leads) (some_path shape row l q leads))
 
-pub closed_books : (shape : Shaped) (m n z : Held) (o k : ℕ) (row : Numbered) → HasLinked shape o row k m n → Stored shape (finish_way shape n.view o) n z → (z.view).books ≡ with_own o row (book_of m.view) ∷ []
+pub closed_books : (shape : ShapeValue) (m n z : PassValue) (o k : ℕ) (row : RowValue) → HasLinked shape o row k m n → HasSteppedUnseen shape (finish_effect shape n.view o) n z → (z.view).books ≡ with_own o row (book_of m.view) ∷ []
 closed_books shape m n z o k row L stored =
-    ap (λ (p : Pass). p.books) stored.made.told.is ∙ ap (λ (bs : List Book). set bs 0 (finished (get_or bs 0 (no_book 0)) (flight_or (get_or bs 0 (no_book 0)).flight))) L.books
+    ap (λ (p : Pass). p.books) stored.made.told.is ∙ ap (λ (bs : List Book). set bs 0 (book_with_record (get_or bs 0 (no_book 0)) (flight_or (get_or bs 0 (no_book 0)).flight))) L.books
 
-pub close_strides : (shape : Shaped) (m n : Held) (o : ℕ) → Stored shape (finish_way shape m.view o) m n → Strides m n
-close_strides shape m n o stored = strides_by m n ((finish_way shape m.view o).after 0 []) stored.made.same stored.made.told.is refl refl refl (λ r k h. h) (omega arith)
+pub close_strides : (shape : ShapeValue) (m n : PassValue) (o : ℕ) → HasSteppedUnseen shape (finish_effect shape m.view o) m n → Strides m n
+close_strides shape m n o stored = strides_by m n ((finish_effect shape m.view o).after 0 []) stored.made.same stored.made.told.is refl refl refl (λ r k h. h) (omega arith)
 
 -- A word of a cell, wherever it stands.
-pub may_word : (shape : Shaped) (p : Held) (o l h i value : ℕ) (row : Numbered) (q : List ℕ) → HasFilled shape o row i p p → l < length shape.lanes → h < cell_words (lane_at shape l) → i ≡ cell_from shape l + h
-    → path_in shape row l ≡ Some q → value ≡ version_word (layout shape) l h (mine_chain (layout shape) (spot l q) (book_of p.view).mine) row → May shape p.view (store_cell o i value) (store_way p.view o i value)
+pub may_word : (shape : ShapeValue) (p : PassValue) (o l h i value : ℕ) (row : RowValue) (q : List ℕ) → HasFilled shape o row i p p → l < length shape.lanes → h < cell_words (lane_at shape l) → i ≡ cell_from shape l + h
+    → path_in shape row l ≡ Some q → value ≡ version_word (layout shape) l h (mine_chain (layout shape) (spot l q) (book_of p.view).mine) row → IsLawfulStep shape p.view (store_cell o i value) (store_effect p.view o i value)
 may_word shape p o l h i value row q F there low at leads is =
     let sh = layout shape in
     let b : Book = with_flight o row F.filled [] (book_of p.view) in
@@ -309,22 +309,22 @@ may_word shape p o l h i value row q F there low at leads is =
     may_store shape p.view b f o i value F.books refl refl next
     (is ∙ (ap (λ (r : Option (List ℕ)). own_lane_word sh b row l h r) (sym leads) ∙ ap (λ (u : Use). own_word sh b row u) (sym stands)))
 
-pub word_filled : (shape : Shaped) (p n : Held) (o i value : ℕ) (row : Numbered) → HasFilled shape o row i p p → Stored shape (store_way p.view o i value) p n → HasFilled shape o row (suc i) p n
+pub word_filled : (shape : ShapeValue) (p n : PassValue) (o i value : ℕ) (row : RowValue) → HasFilled shape o row i p p → HasSteppedUnseen shape (store_effect p.view o i value) p n → HasFilled shape o row (suc i) p n
 word_filled shape p n o i value row F stored = record {
   filled = suc i;
   books = ap (λ (q : Pass). q.books) stored.made.told.is
-      ∙ ap (λ (bs : List Book). set bs 0 (fly (get_or bs 0 (no_book 0)) (record (flight_or (get_or bs 0 (no_book 0)).flight) { filled = suc i }))) F.books;
+      ∙ ap (λ (bs : List Book). set bs 0 (book_with_flight (get_or bs 0 (no_book 0)) (record (flight_or (get_or bs 0 (no_book 0)).flight) { filled = suc i }))) F.books;
   from = omega arith;
   passed = λ k ge lt. absurd (omega (arith, ge, lt));
 }
 
-pub filled_mine : (s : Shaped) (o : ℕ) (row : Numbered) (k : ℕ) (m n : Held) → HasFilled s o row k m n → (book_of n.view).mine ≡ (book_of m.view).mine
+pub filled_mine : (s : ShapeValue) (o : ℕ) (row : RowValue) (k : ℕ) (m n : PassValue) → HasFilled s o row k m n → (book_of n.view).mine ≡ (book_of m.view).mine
 filled_mine s o row k m n F = ap (λ (b : Book). b.mine) (the_book n.view (with_flight o row F.filled [] (book_of m.view)) F.books)
 
-pub filled_kept : (shape : Shaped) (o : ℕ) (row : Numbered) (k : ℕ) (m n : Held) → HasFilled shape o row k m m → (n.view).books ≡ (m.view).books → HasFilled shape o row k m n
+pub filled_kept : (shape : ShapeValue) (o : ℕ) (row : RowValue) (k : ℕ) (m n : PassValue) → HasFilled shape o row k m m → (n.view).books ≡ (m.view).books → HasFilled shape o row k m n
 filled_kept shape o row k m n F kept = record { filled = F.filled; books = kept ∙ F.books; from = F.from; passed = F.passed }
 
-pub unmeasured_next : (s : Shaped) (l : ℕ) → l < length s.lanes → is_measured s l ≡ false → cell_from s (l + 1) ≡ cell_from s l + 1
+pub unmeasured_next : (s : ShapeValue) (l : ℕ) → l < length s.lanes → is_measured s l ≡ false → cell_from s (l + 1) ≡ cell_from s l + 1
 unmeasured_next s l there bare = omega (arith, cell_next s l there, cell_one s l bare)
 
 skip_words : (b : Bool) → 0 < cond {A = ℕ} b 3 1
@@ -332,15 +332,15 @@ skip_words true = omega arith
 skip_words false = omega arith
 
 -- an own head, where the ticket in flight isn't linked
-pub head_chain : (shape : Shaped) (m n : Held) (o k v : ℕ) (row : Numbered) (q : Spot) → HasFilled shape o row k m m → (n.view).books ≡ (m.view).books → v ≡ own_top (layout shape) (book_of m.view) q → v ≡ top (mine_chain (layout shape) q (book_of n.view).mine)
+pub head_chain : (shape : ShapeValue) (m n : PassValue) (o k v : ℕ) (row : RowValue) (q : Spot) → HasFilled shape o row k m m → (n.view).books ≡ (m.view).books → v ≡ own_top (layout shape) (book_of m.view) q → v ≡ top (mine_chain (layout shape) q (book_of n.view).mine)
 head_chain shape m n o k v row q F kept is =
     is ∙ (ap (λ (c : Book). own_top (layout shape) c q) (the_book m.view (with_flight o row F.filled [] (book_of m.view)) F.books)
     ∙ (own_plain_top shape (book_of m.view) o row F.filled q ∙ ap (λ (bs : List Book). top (mine_chain (layout shape) q (get_or bs 0 (no_book 0)).mine)) (sym kept)))
 
-pub book_same : (shape : Shaped) (m n : Held) → IsBookOf shape (book_of m.view) → (n.view).books ≡ (m.view).books → IsBookOf shape (book_of n.view)
+pub book_same : (shape : ShapeValue) (m n : PassValue) → IsBookOf shape (book_of m.view) → (n.view).books ≡ (m.view).books → IsBookOf shape (book_of n.view)
 book_same shape m n own kept = subst (λ (bs : List Book). IsBookOf shape (get_or bs 0 (no_book 0))) (sym kept) own
 
-pub filled_book : (s : Shaped) (o : ℕ) (row : Numbered) (k : ℕ) (m n : Held) → HasFilled s o row k m n → IsBookOf s (book_of m.view) → IsBookOf s (book_of n.view)
+pub filled_book : (s : ShapeValue) (o : ℕ) (row : RowValue) (k : ℕ) (m n : PassValue) → HasFilled s o row k m n → IsBookOf s (book_of m.view) → IsBookOf s (book_of n.view)
 filled_book s o row k m n F own =
     let is = the_book n.view (with_flight o row F.filled [] (book_of m.view)) F.books in
     subst (IsBookOf s) (sym is) (record { writer = own.writer; rows = own.rows; few = own.few })

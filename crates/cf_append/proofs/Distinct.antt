@@ -1,8 +1,8 @@
 -- A spot on a row's path is one of the distinct nodes that the row needs.
 use Rattle.std.proofs.Common.{◌≡◌, ℕ, ◌+◌, ◌-◌, ◌/◌, ◌^◌, ◌<◌, zero, suc, List, [], ◌∷◌, ◌++◌, length, length-append, drop, map, Bool, true, cond, Some, slice_get, refl, ap, sym, subst, ◌∙◌, arith}
 use Rattle.std.specs.List.{flat_map, range_with_len}
-use Rattle.cf_row.specs.Row.{Numbered}
-use Rattle.cf_shape.specs.Lanes.{Shaped, IsShape, selected_by, key_of}
+use Rattle.cf_row.specs.Row.{RowValue}
+use Rattle.cf_shape.specs.Lanes.{ShapeValue, IsShape, selected_by, key_of}
 use Rattle.cf_shape.specs.Nodes.{Node, levels_of, path_of, nodes_in, nodes_for}
 use Rattle.cf_words.specs.Words.{Spot, spot}
 use Rattle.cf_law.specs.Nibbles.{nibbles}
@@ -50,10 +50,10 @@ node_at_level : ℕ → ℕ → ℕ → ℕ → Node
 node_at_level lane levels key level = record { lane = lane; level = level; front = key / 16 ^ (levels - level) }
 
 -- the row's node of that spot
-abbrev pub IsRowNode : Shaped → Numbered → Spot → Node → Type 0
+abbrev pub IsRowNode : ShapeValue → RowValue → Spot → Node → Type 0
 IsRowNode shape row s n = Has (nodes_for shape row) n × (s ≡ spot n.lane (nibbles n.level n.front))
 
-row_nodes : (shape : Shaped) (row : Numbered) (lane level : ℕ) → lane < length shape.lanes → selected_by shape lane row ≡ true → 0 < level → level < levels_of shape lane
+row_nodes : (shape : ShapeValue) (row : RowValue) (lane level : ℕ) → lane < length shape.lanes → selected_by shape lane row ≡ true → 0 < level → level < levels_of shape lane
     → Has (nodes_for shape row) (record { lane = lane; level = level; front = key_of shape lane row / 16 ^ (levels_of shape lane - level) })
 row_nodes shape row lane level low takes some inner =
     let levels = levels_of shape lane in
@@ -65,7 +65,7 @@ row_nodes shape row lane level low takes some inner =
     let there : Has (nodes_in shape row lane) (f level) = (k, ap (λ (ns : List Node). slice_get ns k) all ∙ has_map f (range_with_len 1 (levels - 1)) k level at) in
     has_flat (nodes_in shape row) (range_with_len 0 (length shape.lanes)) lane lane (f level) (has_range 0 (length shape.lanes) lane low ∙ ap (λ (j : ℕ). Some j) (let e : 0 + lane ≡ lane = omega arith in e)) there
 
-pub on_path_node : (shape : Shaped) (row : Numbered) (s : Spot) → IsShape shape → IsOnPath shape row s → (n : Node) × IsRowNode shape row s n
+pub on_path_node : (shape : ShapeValue) (row : RowValue) (s : Spot) → IsShape shape → IsOnPath shape row s → (n : Node) × IsRowNode shape row s n
 on_path_node shape row s is on =
     let lane = s.lane in
     let level = length s.path in

@@ -1,8 +1,8 @@
 -- A row's paths: the spots of a key's prefixes, and the leaves in the lanes that select it.
 use Rattle.std.proofs.Common.{◌≡◌, ℕ, ◌+◌, ◌-◌, ◌*◌, ◌/◌, ◌%◌, ◌<◌, ◌≤◌, zero, suc, inl, inr, List, [], ◌∷◌, length, set, get_or, get_or-set_same, get_or-set_other, Bool, true, false, Option, Some, None, MatchOption, slice_index, refl, ap, sym, subst, ◌∙◌, arith}
 use Rattle.std.proofs.lemmas.Bool.{cases_eq}
-use Rattle.cf_row.specs.Row.{Numbered}
-use Rattle.cf_shape.specs.Lanes.{Shaped, IsShape, selected_by, key_of}
+use Rattle.cf_row.specs.Row.{RowValue}
+use Rattle.cf_shape.specs.Lanes.{ShapeValue, IsShape, selected_by, key_of}
 use Rattle.cf_shape.specs.Nodes.{levels_of}
 use Rattle.cf_shape.specs.Places.Slot.{root, body}
 use Rattle.cf_words.specs.Words.{Spot, spot}
@@ -12,7 +12,7 @@ use Rattle.cf_law.specs.Steps.{IsChild, Knows, Reaches}
 use Rattle.cf_law.proofs.Paths.{path_some, path_none}
 use Rattle.cf_law.specs.Shapes.{layout, path_in}
 use Rattle.cf_law.proofs.Nibbles.{length-nibbles, nibbles_more}
-use Rattle.cf_table.specs.Held.{Held}
+use Rattle.cf_table.specs.Values.{PassValue}
 use Rattle.cf_append.specs.declared.paths.Prefix.{Prefix}
 use Rattle.cf_append.specs.Paths.{Strides, IsPrefix, IsAlong, IsOnPath, IsStuck, IsNodeOf, IsLeafIn, HasLeaves, spot_of, spot_before, path_steps}
 use Rattle.cf_append.proofs.Walking.{strides_none, stuck_by}
@@ -25,7 +25,7 @@ one_nibble : (k : ℕ) → nibbles 1 k ≡ k % 16 ∷ []
 one_nibble k = nibbles_more 0 k ∙ ap (λ (q : List ℕ). k % 16 ∷ q) (no_nibbles (k / 16))
 
 -- below the root
-pub first_child : (shape : Shaped) (p : Pass) (at : Prefix) → IsPrefix shape at → at.level ≡ 1 → IsChild (layout shape) p (spot_of at) (root at.lane (at.front % 16))
+pub first_child : (shape : ShapeValue) (p : Pass) (at : Prefix) → IsPrefix shape at → at.level ≡ 1 → IsChild (layout shape) p (spot_of at) (root at.lane (at.front % 16))
 first_child shape p at prefix one =
     let path : nibbles at.level at.front ≡ at.front % 16 ∷ [] = ap (λ (n : ℕ). nibbles n at.front) one ∙ one_nibble at.front in
     let low = prefix.lane in
@@ -46,7 +46,7 @@ reaches_below p l (suc (suc j)) front above more knows =
     let known : Knows p (spot l ((front / 16) % 16 ∷ nibbles j (front / 16 / 16))) above = subst (λ (q : List ℕ). Knows p (spot l q) above) two knows in
     subst (λ (q : List ℕ). Reaches p l q (body above (suc (front % 16)))) (sym all) (above, known.0, known.1, omega arith, refl)
 
-pub next_child : (shape : Shaped) (p : Pass) (at : Prefix) (above : ℕ) → IsShape shape → IsPrefix shape at → 1 < at.level → IsNodeOf shape p (spot_before at) above → IsChild (layout shape) p (spot_of at) (body above (suc (at.front % 16)))
+pub next_child : (shape : ShapeValue) (p : Pass) (at : Prefix) (above : ℕ) → IsShape shape → IsPrefix shape at → 1 < at.level → IsNodeOf shape p (spot_before at) above → IsChild (layout shape) p (spot_of at) (body above (suc (at.front % 16)))
 next_child shape p at above is prefix more node =
     let inner = prefix.inner in
     let low = node.low in
@@ -57,7 +57,7 @@ next_child shape p at above is prefix more node =
     }
 
 -- the spots of the prefixes
-pub along_here : (shape : Shaped) (at : Prefix) → IsPrefix shape at → (s : Spot) → s ≡ spot_of at → IsAlong at s
+pub along_here : (shape : ShapeValue) (at : Prefix) → IsPrefix shape at → (s : Spot) → s ≡ spot_of at → IsAlong at s
 along_here shape at prefix s is =
     let some = prefix.some in
     subst (IsAlong at) (sym is) (record { lane = refl; some = omega (arith, some, length-nibbles at.level at.front); rest = []; is = refl })
@@ -75,20 +75,20 @@ along_before at before some lane level front s a = record {
 }
 
 -- the prefix of the row's key without its last nibble
-pub record IsWhole (shape : Shaped) (row : Numbered) (lane : ℕ) (at : Prefix) : Type 0 where
+pub record IsWhole (shape : ShapeValue) (row : RowValue) (lane : ℕ) (at : Prefix) : Type 0 where
   pub selects : selected_by shape lane row ≡ true
   pub many : 1 < levels_of shape lane
   pub lane_is : at.lane ≡ lane
   pub level : at.level ≡ levels_of shape lane - 1
   pub front : at.front ≡ key_of shape lane row / 16
 
-pub whole_path : (shape : Shaped) (row : Numbered) (lane : ℕ) (at : Prefix) → IsWhole shape row lane at → path_in shape row lane ≡ Some (key_of shape lane row % 16 ∷ nibbles at.level at.front)
+pub whole_path : (shape : ShapeValue) (row : RowValue) (lane : ℕ) (at : Prefix) → IsWhole shape row lane at → path_in shape row lane ≡ Some (key_of shape lane row % 16 ∷ nibbles at.level at.front)
 whole_path shape row lane at w =
     let many = w.many in
     path_some shape row lane w.selects ∙ ap (λ (q : List ℕ). Some q) (nibbles_before (levels_of shape lane) (key_of shape lane row) (omega (arith, many))
     ∙ (ap (λ (n : ℕ). key_of shape lane row % 16 ∷ nibbles n (key_of shape lane row / 16)) (sym w.level) ∙ ap (λ (k : ℕ). key_of shape lane row % 16 ∷ nibbles at.level k) (sym w.front)))
 
-pub whole_prefix : (shape : Shaped) (row : Numbered) (lane : ℕ) (at : Prefix) → lane < length shape.lanes → IsWhole shape row lane at → IsPrefix shape at
+pub whole_prefix : (shape : ShapeValue) (row : RowValue) (lane : ℕ) (at : Prefix) → lane < length shape.lanes → IsWhole shape row lane at → IsPrefix shape at
 whole_prefix shape row lane at low w =
     let many = w.many in
     let level = w.level in
@@ -99,7 +99,7 @@ whole_prefix shape row lane at low w =
       inner = omega (arith, many, level, levels);
     }
 
-pub on_path : (shape : Shaped) (row : Numbered) (lane : ℕ) (at : Prefix) → IsWhole shape row lane at → (s : Spot) → IsAlong at s → IsOnPath shape row s
+pub on_path : (shape : ShapeValue) (row : RowValue) (lane : ℕ) (at : Prefix) → IsWhole shape row lane at → (s : Spot) → IsAlong at s → IsOnPath shape row s
 on_path shape row lane at w s a = record {
   some = a.some;
   last = key_of shape lane row % 16;
@@ -107,23 +107,23 @@ on_path shape row lane at w s a = record {
   is = ap (λ (l : ℕ). path_in shape row l) (a.lane ∙ w.lane_is) ∙ (whole_path shape row lane at w ∙ ap (λ (q : List ℕ). Some (key_of shape lane row % 16 ∷ q)) a.is);
 }
 
-pub leaf_there : (shape : Shaped) (row : Numbered) (lane : ℕ) (at : Prefix) (p : Pass) (node : ℕ) → IsWhole shape row lane at → IsNodeOf shape p (spot_of at) node → IsLeafIn shape row p lane node
+pub leaf_there : (shape : ShapeValue) (row : RowValue) (lane : ℕ) (at : Prefix) (p : Pass) (node : ℕ) → IsWhole shape row lane at → IsNodeOf shape p (spot_of at) node → IsLeafIn shape row p lane node
 leaf_there shape row lane at p node w found last q leads =
     let same : ◌≡◌ {A = Option (List ℕ)} (Some (key_of shape lane row % 16 ∷ nibbles at.level at.front)) (Some (last ∷ q)) = sym (whole_path shape row lane at w) ∙ leads in
     let is : nibbles at.level at.front ≡ q = cc same in
     subst (λ (s : Spot). IsNodeOf shape p s node) (ap (λ (l : ℕ). spot l (nibbles at.level at.front)) w.lane_is ∙ ap (λ (r : List ℕ). spot lane r) is) found
 
-pub leaf_nowhere : (shape : Shaped) (row : Numbered) (lane : ℕ) (p : Pass) → selected_by shape lane row ≡ false → IsLeafIn shape row p lane 0
+pub leaf_nowhere : (shape : ShapeValue) (row : RowValue) (lane : ℕ) (p : Pass) → selected_by shape lane row ≡ false → IsLeafIn shape row p lane 0
 leaf_nowhere shape row lane p passes last q leads = absurd (cc (sym (path_none shape row lane passes) ∙ leads))
 
 -- the leaves so far
-pub node_still : (shape : Shaped) (m n : Held) (s : Spot) (node : ℕ) → Strides m n → IsNodeOf shape m.view s node → IsNodeOf shape n.view s node
+pub node_still : (shape : ShapeValue) (m n : PassValue) (s : Spot) (node : ℕ) → Strides m n → IsNodeOf shape m.view s node → IsNodeOf shape n.view s node
 node_still shape m n s node went is = record { knows = went.knows s node is.knows; low = is.low }
 
-pub leaves_still : (shape : Shaped) (row : Numbered) (m n : Held) (leaves : List ℕ) (k : ℕ) → Strides m n → HasLeaves shape row m.view leaves k → HasLeaves shape row n.view leaves k
+pub leaves_still : (shape : ShapeValue) (row : RowValue) (m n : PassValue) (leaves : List ℕ) (k : ℕ) → Strides m n → HasLeaves shape row m.view leaves k → HasLeaves shape row n.view leaves k
 leaves_still shape row m n leaves k went has lane low last q leads = node_still shape m n (spot lane q) (slice_index leaves lane) went (has lane low last q leads)
 
-pub leaves_more : (shape : Shaped) (row : Numbered) (p : Pass) (leaves : List ℕ) (k i leaf : ℕ) → i ≡ k → k < length leaves → HasLeaves shape row p leaves k → IsLeafIn shape row p k leaf → HasLeaves shape row p (set leaves i leaf) (k + 1)
+pub leaves_more : (shape : ShapeValue) (row : RowValue) (p : Pass) (leaves : List ℕ) (k i leaf : ℕ) → i ≡ k → k < length leaves → HasLeaves shape row p leaves k → IsLeafIn shape row p k leaf → HasLeaves shape row p (set leaves i leaf) (k + 1)
 leaves_more shape row p leaves k i leaf here low has is lane below last q leads = elim (cases_eq lane k) [
   | inl same ↦
       let at : leaf ≡ slice_index (set leaves k leaf) lane = sym (get_or-set_same leaves k leaf 0 low) ∙ ap (λ (j : ℕ). get_or (set leaves k leaf) j 0) (sym same) in
@@ -135,30 +135,30 @@ leaves_more shape row p leaves k i leaf here low has is lane below last q leads 
       (subst (IsNodeOf shape p (spot lane q)) (sym (get_or-set_other leaves k lane leaf 0 other)) (has lane (omega (arith, below, other)) last q leads))
 ]
 
-pub path_steps_none : (shape : Shaped) → path_steps shape 0 ≡ 0
+pub path_steps_none : (shape : ShapeValue) → path_steps shape 0 ≡ 0
 unfolding path_steps
 path_steps_none shape = refl
 
-pub path_steps_more : (shape : Shaped) (k : ℕ) → path_steps shape (suc k) ≡ path_steps shape k + 3 * (levels_of shape k - 1)
+pub path_steps_more : (shape : ShapeValue) (k : ℕ) → path_steps shape (suc k) ≡ path_steps shape k + 3 * (levels_of shape k - 1)
 unfolding path_steps
 path_steps_more shape k = refl
 
-pub path_steps_up : (shape : Shaped) (j k : ℕ) → j ≤ k → path_steps shape j ≤ path_steps shape k
+pub path_steps_up : (shape : ShapeValue) (j k : ℕ) → j ≤ k → path_steps shape j ≤ path_steps shape k
 path_steps_up shape j zero le = (let e : j ≡ 0 = omega (arith, le) in let f = ap (path_steps shape) e in omega (arith, f))
 path_steps_up shape j (suc k) le = elim (cases_eq j (suc k)) [
   | inl same ↦ (let f = ap (path_steps shape) same in omega (arith, f))
   | inr other ↦ (let up = path_steps_up shape j k (omega (arith, le, other)) in omega (arith, up, path_steps_more shape k))
 ]
 
-pub leaf_or : (shape : Shaped) (row : Numbered) (lane : ℕ) (at : Prefix) (m n : Held) (r : Option ℕ) → IsWhole shape row lane at → MatchOption r (IsStuck shape (IsAlong at) m n) (IsNodeOf shape n.view (spot_of at)) → MatchOption r (IsStuck shape (IsOnPath shape row) m n) (IsLeafIn shape row n.view lane)
+pub leaf_or : (shape : ShapeValue) (row : RowValue) (lane : ℕ) (at : Prefix) (m n : PassValue) (r : Option ℕ) → IsWhole shape row lane at → MatchOption r (IsStuck shape (IsAlong at) m n) (IsNodeOf shape n.view (spot_of at)) → MatchOption r (IsStuck shape (IsOnPath shape row) m n) (IsLeafIn shape row n.view lane)
 leaf_or shape row lane at m n None w a = stuck_by shape (IsAlong at) (IsOnPath shape row) m m n (on_path shape row lane at w) (strides_none m) a
 leaf_or shape row lane at m n (Some node) w a = leaf_there shape row lane at n.view node w a
 
 -- the path by what the shape's functions said
-pub selected_there : (s h : Shaped) (row : Numbered) (lane : ℕ) (takes answer : Bool) → h ≡ s → takes ≡ selected_by h lane row → takes ≡ answer → selected_by s lane row ≡ answer
-selected_there s h row lane takes answer same is told = ap (λ (x : Shaped). selected_by x lane row) (sym same) ∙ (sym is ∙ told)
+pub selected_there : (s h : ShapeValue) (row : RowValue) (lane : ℕ) (takes answer : Bool) → h ≡ s → takes ≡ selected_by h lane row → takes ≡ answer → selected_by s lane row ≡ answer
+selected_there s h row lane takes answer same is told = ap (λ (x : ShapeValue). selected_by x lane row) (sym same) ∙ (sym is ∙ told)
 
-pub row_path : (s h : Shaped) (row : Numbered) (lane key : ℕ) → h ≡ s → selected_by s lane row ≡ true → key ≡ key_of h lane row → 1 < levels_of s lane → path_in s row lane ≡ Some (key % 16 ∷ nibbles (levels_of s lane - 1) (key / 16))
+pub row_path : (s h : ShapeValue) (row : RowValue) (lane key : ℕ) → h ≡ s → selected_by s lane row ≡ true → key ≡ key_of h lane row → 1 < levels_of s lane → path_in s row lane ≡ Some (key % 16 ∷ nibbles (levels_of s lane - 1) (key / 16))
 row_path s h row lane key same takes is many =
-    path_some s row lane takes ∙ (ap (λ (k : ℕ). Some (nibbles (levels_of s lane) k)) (ap (λ (x : Shaped). key_of x lane row) (sym same) ∙ sym is)
+    path_some s row lane takes ∙ (ap (λ (k : ℕ). Some (nibbles (levels_of s lane) k)) (ap (λ (x : ShapeValue). key_of x lane row) (sym same) ∙ sym is)
     ∙ ap (λ (q : List ℕ). Some q) (nibbles_before (levels_of s lane) key (omega (arith, many))))

@@ -1,6 +1,6 @@
 // Rows are appended to a log that has a lane.
 ghost use Rattle.std.specs.Prelude.{◌≡◌, ◌<◌};
-ghost use Rattle.cf_table.specs.Held.{IsOf};
+ghost use Rattle.cf_table.specs.Values.{IsOf};
 ghost use Rattle.cf_table.specs.Fresh.{IsFresh};
 ghost use Rattle.cf_append.specs.Appends.{Rests};
 

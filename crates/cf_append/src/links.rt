@@ -11,8 +11,8 @@ ghost use Rattle.cf_law.specs.Steps.{mine_chain};
 ghost use Rattle.cf_law.specs.Steps.Act.{store_head as stores_head};
 ghost use Rattle.cf_law.specs.Readers.{own_top};
 ghost use Rattle.cf_law.specs.Shapes.{layout as layout_of, path_in};
-ghost use Rattle.cf_table.specs.Held.{IsOf, book_of};
-ghost use Rattle.cf_table.specs.Ways.{May, Stored, head_way};
+ghost use Rattle.cf_table.specs.Values.{IsOf, book_of};
+ghost use Rattle.cf_table.specs.Effects.{IsLawfulStep, HasSteppedUnseen, head_effect};
 ghost use Rattle.cf_append.specs.Paths.{Strides, IsNodeOf, IsLeafIn, HasLeaves};
 ghost use Rattle.cf_append.specs.Linking.{HasFilled, HasLinked, IsBookOf, IsNewest, IsCell, amounts, key_path, leaf_chain, cell_from};
 
@@ -251,8 +251,8 @@ fn store_top<L: Ledger>(
     ghost lane: { ℕ }
     requires of { IsOf pass.old log.now }
     requires place { (leaf < log.now.shape.writers * log.now.shape.nodes) × ((book_of pass.old.view).writer < log.now.shape.writers) }
-    requires lawful { May log.now.shape pass.old.view (stores_head lane leaf (key % 16) offset) (head_way log.now.shape pass.old.view lane leaf (key % 16) offset) }
-    ensures made { Stored log.now.shape (head_way log.now.shape pass.old.view lane leaf (key % 16) offset) pass.old pass.new }
+    requires lawful { IsLawfulStep log.now.shape pass.old.view (stores_head lane leaf (key % 16) offset) (head_effect log.now.shape pass.old.view lane leaf (key % 16) offset) }
+    ensures made { HasSteppedUnseen log.now.shape (head_effect log.now.shape pass.old.view lane leaf (key % 16) offset) pass.old pass.new }
     ensures steps { steps.new ≡ steps.old + 1 }
 {
     log.store_head(pass, leaf, (key % 16) as u8, offset, steps);

@@ -6,7 +6,7 @@ ghost use Rattle.cf_shape.specs.Places.{Slot, place as place_by, sizes_of};
 ghost use Rattle.cf_words.specs.Words.{Spot};
 ghost use Rattle.cf_law.specs.Steps.{IsChild};
 ghost use Rattle.cf_law.specs.Shapes.{layout as layout_of};
-ghost use Rattle.cf_table.specs.Held.{IsOf};
+ghost use Rattle.cf_table.specs.Values.{IsOf};
 ghost use Rattle.cf_append.specs.Appends.{Rests, SeenFirst};
 ghost use Rattle.cf_append.specs.Paths.{Strides, HasUsed, IsPrefix, IsAlong, IsOnPath, IsStuck, IsNodeOf, IsLeafIn, HasLeaves, spot_of, spot_before, path_steps};
 

@@ -1,8 +1,8 @@
 // The read tail is moved up to the first record that isn't finished.
 ghost use Rattle.std.specs.Prelude.{◌≡◌, ◌⊎◌, ◌+◌, ◌-◌, ◌*◌, ◌<◌, ◌≤◌, length};
-ghost use Rattle.cf_table.specs.Held.{IsOf};
+ghost use Rattle.cf_table.specs.Values.{IsOf};
 ghost use Rattle.cf_table.specs.Moves.{HasAll};
-ghost use Rattle.cf_append.specs.Appends.{GoesOn, Stops, Rests, SeenFirst, IsSettled};
+ghost use Rattle.cf_append.specs.Appends.{GoesOn, Stops, Rests, SeenFirst, IsSettledTo};
 
 use cf_table::{MultiLog, Pass, Steps, WriterPass};
 use std::sync::Wait;
@@ -51,7 +51,7 @@ pub fn settle<L: Ledger>(
     requires place { offset < log.now.shape.capacity }
     ensures goes_on { GoesOn pass.old pass.new }
     ensures books { pass.new.view.books ≡ pass.old.view.books }
-    ensures answer { IsSettled log.now.shape offset pass.old.view pass.new.view result }
+    ensures answer { IsSettledTo log.now.shape offset pass.old.view pass.new.view result }
     ensures stops { Stops log.now.shape pass.old.view pass.new.view }
     ensures begins { SeenFirst pass.new.view }
     ensures alone { log.now.shape.writers ≡ 1 → Rests pass.new.view → HasAll pass.new.view }

@@ -1,6 +1,6 @@
 -- What each event that was made asked for.
 use Rattle.std.proofs.Common.{◌≡◌, ℕ, ◌<◌, ◌≤◌, ◌⊎◌, suc, List, [], ◌∷◌, length, Option, Some, None, true, false, refl}
-use Rattle.cf_row.specs.Row.{Numbered}
+use Rattle.cf_row.specs.Row.{RowValue}
 use Rattle.cf_row.specs.declared.row.Entry.{Entry}
 use Rattle.cf_shape.specs.Places.{Slot, place}
 use Rattle.cf_shape.specs.Places.Slot.{cell}
@@ -8,14 +8,14 @@ use Rattle.cf_shape.specs.Uses.Use.{version}
 use Rattle.cf_words.specs.Words.{Spot, spot, Layout, has}
 use Rattle.cf_words.specs.Law.{IsWhole}
 use Rattle.cf_law.specs.Passes.{Book, Flight, Pass}
-use Rattle.cf_law.specs.Steps.{Act, Step, Splits, Holds, Flies, IsNext, IsAtRest, IsChild, Knows, IsOwn, IsNamed, free_node, label_of, ticket_of, own_word}
+use Rattle.cf_law.specs.Steps.{Act, Step, Splits, Holds, HoldsInFlight, IsNext, IsAtRest, IsChild, Knows, IsOwn, IsNamed, free_node, label_of, ticket_of, own_word}
 use Rattle.cf_law.specs.Steps.Act.{take_ticket, store_cell, finish_record, advance, look_done, load_word, label, link, store_head, load_child, load_head, load_cell}
 use Rattle.cf_law.specs.Steps.Step.{takes, stores, finishes, advances, looks_done, loads_word, labels, links, heads, loads_child, loads_head, loads_cell}
 use Rattle.cf_law.specs.Steps.Splits.{hands}
 use Rattle.cf_law.specs.Lawful.{World}
-use Rattle.cf_law.specs.Events.{Does, IsLive}
-use Rattle.cf_law.specs.Events.Event.{acts, splits, joins}
-use Rattle.cf_law.specs.Events.Does.{steps, parts, meets}
+use Rattle.cf_law.specs.Events.{IsEvent, IsLive}
+use Rattle.cf_law.specs.Events.WorldEvent.{acts, splits, joins}
+use Rattle.cf_law.specs.Events.IsEvent.{steps, parts, meets}
 
 -- a step of that name by the pass
 pub record Acts (sh : Layout) (x : World) (k : ℕ) (a : Act) : Type 0 where
@@ -26,24 +26,24 @@ pub record Acts (sh : Layout) (x : World) (k : ℕ) (a : Act) : Type 0 where
   pub live : IsLive x k pass
   pub step : Step sh pass a slot change after
 
-pub acts_of : (sh : Layout) (x : World) (k : ℕ) (a : Act) (y : World) → Does sh x k (acts a) y → Acts sh x k a
+pub acts_of : (sh : Layout) (x : World) (k : ℕ) (a : Act) (y : World) → IsEvent sh x k (acts a) y → Acts sh x k a
 acts_of sh x k a y (steps p c t f g live step) = record { pass = p; slot = t; change = f; after = g; live = live; step = step }
 
-pub record Takes (sh : Layout) (p : Pass) (r : Numbered) : Type 0 where
+pub record Takes (sh : Layout) (p : Pass) (r : RowValue) : Type 0 where
   pub book : Book
   pub fits : sh.fits r ≡ true
   pub one : p.books ≡ book ∷ []
   pub free : book.over ≡ false
   pub rests : book.flight ≡ None
 
-pub takes_of : (sh : Layout) (p : Pass) (r : Numbered) (t : Slot) (f : ℕ → ℕ) (g : ℕ → List Entry → Pass) → Step sh p (take_ticket r) t f g → Takes sh p r
+pub takes_of : (sh : Layout) (p : Pass) (r : RowValue) (t : Slot) (f : ℕ → ℕ) (g : ℕ → List Entry → Pass) → Step sh p (take_ticket r) t f g → Takes sh p r
 takes_of sh p r t f g (takes s b fits one free rests) = record { book = b; fits = fits; one = one; free = free; rests = rests }
 
 pub record Stores (sh : Layout) (p : Pass) (o i v : ℕ) : Type 0 where
   pub place : ℕ
   pub book : Book
   pub flight : Flight
-  pub flies : Flies p place book flight
+  pub flies : HoldsInFlight p place book flight
   pub next : IsNext sh (ticket_of book.writer flight) i
   pub offset : flight.offset ≡ o
   pub value : own_word sh book flight.row (sh.use_of i) ≡ v
@@ -55,7 +55,7 @@ pub record Finishes (sh : Layout) (p : Pass) (o : ℕ) : Type 0 where
   pub place : ℕ
   pub book : Book
   pub flight : Flight
-  pub flies : Flies p place book flight
+  pub flies : HoldsInFlight p place book flight
   pub whole : IsWhole sh (ticket_of book.writer flight)
   pub linked : (l : ℕ) (q : List ℕ) → sh.path flight.row l ≡ Some q → has flight.linked l ≡ true
   pub offset : flight.offset ≡ o
@@ -87,7 +87,7 @@ pub record Parts (sh : Layout) (x : World) (k : ℕ) (w : Option ℕ) : Type 0 w
   pub live : IsLive x k pass
   pub split : Splits pass w left right
 
-pub parts_of : (sh : Layout) (x : World) (k : ℕ) (w : Option ℕ) (y : World) → Does sh x k (splits w) y → Parts sh x k w
+pub parts_of : (sh : Layout) (x : World) (k : ℕ) (w : Option ℕ) (y : World) → IsEvent sh x k (splits w) y → Parts sh x k w
 parts_of sh x k w y (parts p left right v live split) = record { pass = p; left = left; right = right; live = live; split = split }
 
 pub hands_of : (p left right : Pass) (w : ℕ) → Splits p (Some w) left right → (k : ℕ) × (b : Book) × Holds p k b × (b.writer ≡ w)
@@ -101,7 +101,7 @@ pub record Meets (sh : Layout) (x : World) (k j : ℕ) : Type 0 where
   pub apart : j ≡ k → ⊥
   pub rests : IsAtRest other
 
-pub meets_of : (sh : Layout) (x : World) (k j : ℕ) (y : World) → Does sh x k (joins j) y → Meets sh x k j
+pub meets_of : (sh : Layout) (x : World) (k j : ℕ) (y : World) → IsEvent sh x k (joins j) y → Meets sh x k j
 meets_of sh x k j y (meets p q i live there apart rests) = record { pass = p; other = q; live = live; there = there; apart = apart; rests = rests }
 
 -- the child word, by its place
@@ -163,7 +163,7 @@ pub record Heads (sh : Layout) (p : Pass) (l node d o : ℕ) : Type 0 where
   pub above : List ℕ
   pub book : Book
   pub flight : Flight
-  pub flies : Flies p place book flight
+  pub flies : HoldsInFlight p place book flight
   pub whole : IsWhole sh (ticket_of book.writer flight)
   pub fresh : has flight.linked l ≡ false
   pub leads : sh.path flight.row l ≡ Some (d ∷ above)

@@ -10,19 +10,19 @@ use Rattle.cf_shape.specs.Places.{place}
 use Rattle.cf_shape.specs.Places.Slot.{tail, cell}
 use Rattle.cf_words.specs.Words.{Layout, Ticket, entry}
 use Rattle.cf_law.specs.Passes.{Pass}
-use Rattle.cf_law.specs.Steps.{sees, tail_loaded}
+use Rattle.cf_law.specs.Steps.{pass_that_sees, pass_with_tail}
 use Rattle.cf_law.specs.Steps.Act.{load_tail, advance}
 use Rattle.cf_law.specs.Steps.Step.{loads_tail, advances}
 use Rattle.cf_law.specs.Lawful.{World, DoneAt}
-use Rattle.cf_law.specs.Events.{table, Does, word_at, plain_at, spelt}
-use Rattle.cf_law.specs.Events.Event.{acts}
+use Rattle.cf_law.specs.Events.{table, IsEvent, word_at, plain_at, entries_spelled}
+use Rattle.cf_law.specs.Events.WorldEvent.{acts}
 use Rattle.cf_law.specs.Shapes.{layout}
 use Rattle.cf_law.proofs.Shapes.{layout_law}
 use Rattle.cf_law.proofs.Loads.{place_tail, tail_is}
 use Rattle.cf_law.proofs.Fronts.{plain_spells}
 use Rattle.cf_law.proofs.Passes.{no_gap}
 use Rattle.cf_pass.proofs.Books.{table_none, table_more}
-use Rattle.cf_core.specs.Worlds.{Held, IsHeld, IsLivePass, AreReadable, world_of}
+use Rattle.cf_core.specs.Worlds.{WorldValue, IsLawfulWorld, IsLivePass, AreReadable, world_of}
 use Rattle.cf_core.proofs.Making.{does_step, word_there, live_one}
 use Rattle.cf_core.proofs.Inverse.{acts_of, advances_of}
 
@@ -62,7 +62,7 @@ plain_range sh words o n le =
     (λ i lt. let small : i < n = omega (arith, table_long f n) in
     table_get f n i 0 small ∙ sym (get_or-take n (drop start words) i 0 small ∙ (get_or-drop start words i 0 ∙ ap (λ (k : ℕ). get_or words k 0) (let e : start + i ≡ place sh.sizes (cell o i) = omega (arith, place_cell sh o 0, place_cell sh o i) in e))))
 
-pub plain_room : (h : Held) (o : ℕ) → IsHeld h → o < h.shape.capacity → place (layout h.shape).sizes (cell o 0) + (word_count h.shape.schema + 1) ≤ length h.words
+pub plain_room : (h : WorldValue) (o : ℕ) → IsLawfulWorld h → o < h.shape.capacity → place (layout h.shape).sizes (cell o 0) + (word_count h.shape.schema + 1) ≤ length h.words
 plain_room h o is lt =
     let w = word_there h (cell o (word_count h.shape.schema)) is (lt, omega arith) in
     omega (arith, w, place_cell (layout h.shape) o 0, place_cell (layout h.shape) o (word_count h.shape.schema))
@@ -72,11 +72,11 @@ plain_kept : (sh : Layout) (words : List ℕ) (v o : ℕ) → plain_at sh (set w
 plain_kept sh words v o = table_same (λ i. word_at sh (set words 1 v) (cell o i)) (λ i. word_at sh words (cell o i)) sh.plain_words
     (λ i lt. get_or-set_other words 1 (place sh.sizes (cell o i)) v 0 (λ e. omega (arith, e, place_cell sh o i)))
 
-pub spelt_kept : (sh : Layout) (words : List ℕ) (v n : ℕ) → spelt sh (set words 1 v) n ≡ spelt sh words n
+pub spelt_kept : (sh : Layout) (words : List ℕ) (v n : ℕ) → entries_spelled sh (set words 1 v) n ≡ entries_spelled sh words n
 spelt_kept sh words v n = table_same (λ o. sh.reads (plain_at sh (set words 1 v) o)) (λ o. sh.reads (plain_at sh words o)) n (λ o lt. ap sh.reads (plain_kept sh words v o))
 
 -- the words of a finished ticket are those of an entry
-pub done_spelled : (h : Held) (o : ℕ) → IsHeld h → (is : IsHeld h) → DoneAt is.law.base.log o → AreSpelled h.shape.schema (plain_at (layout h.shape) h.words o)
+pub done_spelled : (h : WorldValue) (o : ℕ) → IsLawfulWorld h → (is : IsLawfulWorld h) → DoneAt is.law.base.log o → AreSpelled h.shape.schema (plain_at (layout h.shape) h.words o)
 done_spelled h o again is done =
     let m = is.law.base in
     let L = is.law.stands.law in
@@ -89,44 +89,44 @@ done_spelled h o again is done =
       spells = ap (λ (ws : List ℕ). plain_at (layout h.shape) ws o) (sym is.law.spelled) ∙ plain_spells (layout h.shape) m o t (layout_law h.shape is.shape) L done.1 done.2;
     }
 
-tail_of : (h : Held) → (is : IsHeld h) → get_or h.words 1 0 ≡ is.law.base.tails.1
+tail_of : (h : WorldValue) → (is : IsLawfulWorld h) → get_or h.words 1 0 ≡ is.law.base.tails.1
 tail_of h is = ap (λ (k : ℕ). get_or h.words k 0) (sym (place_tail (layout h.shape).sizes 1)) ∙ (ap (λ (ws : List ℕ). word_at (layout h.shape) ws (tail 1)) (sym is.law.spelled) ∙ tail_is (layout h.shape) is.law.base 1 is.law.stands.law (omega arith))
 
-pub tail_there : (h : Held) → IsHeld h → 1 < length h.words
+pub tail_there : (h : WorldValue) → IsLawfulWorld h → 1 < length h.words
 tail_there h is = let w = word_there h (tail 1) is (omega arith) in omega (arith, w, place_tail (layout h.shape).sizes 1)
 
-pub tail_within : (h : Held) → IsHeld h → get_or h.words 1 0 ≤ h.shape.capacity
+pub tail_within : (h : WorldValue) → IsLawfulWorld h → get_or h.words 1 0 ≤ h.shape.capacity
 tail_within h is = let L = is.law.stands.law in let a = L.covered in let b = L.room in omega (arith, a, b, tail_of h is)
 
-done_below : (h : Held) (is : IsHeld h) (o : ℕ) → o < is.law.base.tails.1 → DoneAt is.law.base.log o
+done_below : (h : WorldValue) (is : IsLawfulWorld h) (o : ℕ) → o < is.law.base.tails.1 → DoneAt is.law.base.log o
 done_below h is o lt = go (slice_get is.law.base.log o) refl
   where
     go : (x : Option Ticket) → slice_get is.law.base.log o ≡ x → DoneAt is.law.base.log o
     go None e = absurd (no_gap is.law.base.log o (let c = is.law.stands.law.covered in omega (arith, c)) e)
     go (Some t) e = (t, e, is.law.stands.law.done o t lt e)
 
-pub tail_readable : (h : Held) → IsHeld h → AreReadable h (get_or h.words 1 0)
+pub tail_readable : (h : WorldValue) → IsLawfulWorld h → AreReadable h (get_or h.words 1 0)
 tail_readable h is o lt = done_spelled h o is is (done_below h is o (omega (arith, lt, tail_of h is)))
 
 -- Loads of the read tail.
-pub tail_does : (h : Held) (k found : ℕ) (asked : Bool) (p after : Pass) (es : List Entry) → IsHeld h → IsLivePass h k p → found ≡ get_or h.words 1 0 → es ≡ spelt (layout h.shape) h.words found → after ≡ tail_loaded asked found es p
-    → Does (layout h.shape) (world_of h) k (acts (load_tail asked)) (record { words = set h.words 1 found; passes = set h.passes k after })
+pub tail_does : (h : WorldValue) (k found : ℕ) (asked : Bool) (p after : Pass) (es : List Entry) → IsLawfulWorld h → IsLivePass h k p → found ≡ get_or h.words 1 0 → es ≡ entries_spelled (layout h.shape) h.words found → after ≡ pass_with_tail asked found es p
+    → IsEvent (layout h.shape) (world_of h) k (acts (load_tail asked)) (record { words = set h.words 1 found; passes = set h.passes k after })
 tail_does h k found asked p after es is live v spelled is_after =
     let sh = layout h.shape in
     let one = place_tail sh.sizes 1 in
     let word : found ≡ word_at sh h.words (tail 1) = v ∙ ap (λ (n : ℕ). get_or h.words n 0) (sym one) in
     let same : set h.words 1 found ≡ h.words = ap (set h.words 1) v ∙ set-get_or h.words 1 0 in
-    let entries : spelt sh (set h.words 1 found) (word_at sh (set h.words 1 found) (tail 1)) ≡ es = ap (λ (ws : List ℕ). spelt sh ws (word_at sh ws (tail 1))) same ∙ (ap (spelt sh h.words) (sym word) ∙ sym spelled) in
-    does_step sh (world_of h) k p (load_tail asked) (tail 1) (λ n. n) (λ n xs. tail_loaded asked n xs p) 1 found after live (loads_tail asked) (sym one) word
-    (is_after ∙ ap₂ (λ (n : ℕ) (xs : List Entry). tail_loaded asked n xs p) word (sym entries))
+    let entries : entries_spelled sh (set h.words 1 found) (word_at sh (set h.words 1 found) (tail 1)) ≡ es = ap (λ (ws : List ℕ). entries_spelled sh ws (word_at sh ws (tail 1))) same ∙ (ap (entries_spelled sh h.words) (sym word) ∙ sym spelled) in
+    does_step sh (world_of h) k p (load_tail asked) (tail 1) (λ n. n) (λ n xs. pass_with_tail asked n xs p) 1 found after live (loads_tail asked) (sym one) word
+    (is_after ∙ ap₂ (λ (n : ℕ) (xs : List Entry). pass_with_tail asked n xs p) word (sym entries))
 
 -- Advances.
-sees_same : (n : ℕ) (xs ys : List Entry) (p : Pass) → take n xs ≡ take n ys → sees n xs p ≡ sees n ys p
+sees_same : (n : ℕ) (xs ys : List Entry) (p : Pass) → take n xs ≡ take n ys → pass_that_sees n xs p ≡ pass_that_sees n ys p
 sees_same n xs ys p e = ap (λ (zs : List Entry). cond (nat_lt (length p.seen) n) (record p { seen = zs; cursor = None }) p) e
 
-pub advance_does : (h : Held) (k t at i tail_found left : ℕ) (p after : Pass) (es : List Entry) → IsHeld h → IsLivePass h k p → t ≤ length p.seen → t < h.shape.capacity → suc i ≡ (layout h.shape).sizes.ticket_words → at ≡ place (layout h.shape).sizes (cell t i) → p.look.word ≡ at → p.look.value ≡ 1
-    → tail_found ≡ get_or h.words 1 0 → left ≡ cond (tail_found == t) (t + 1) tail_found → es ≡ spelt (layout h.shape) h.words (t + 1) → after ≡ sees (t + 1) es p
-    → Does (layout h.shape) (world_of h) k (acts (advance t)) (record { words = set h.words 1 left; passes = set h.passes k after })
+pub advance_does : (h : WorldValue) (k t at i tail_found left : ℕ) (p after : Pass) (es : List Entry) → IsLawfulWorld h → IsLivePass h k p → t ≤ length p.seen → t < h.shape.capacity → suc i ≡ (layout h.shape).sizes.ticket_words → at ≡ place (layout h.shape).sizes (cell t i) → p.look.word ≡ at → p.look.value ≡ 1
+    → tail_found ≡ get_or h.words 1 0 → left ≡ cond (tail_found == t) (t + 1) tail_found → es ≡ entries_spelled (layout h.shape) h.words (t + 1) → after ≡ pass_that_sees (t + 1) es p
+    → IsEvent (layout h.shape) (world_of h) k (acts (advance t)) (record { words = set h.words 1 left; passes = set h.passes k after })
 advance_does h k t at i found left p after es is live seen lt last where_is word value v change spelled is_after =
     let sh = layout h.shape in
     let m = is.law.base in
@@ -136,12 +136,12 @@ advance_does h k t at i found left p after es is live seen lt last where_is word
     let change' : left ≡ cond (word_at sh h.words (tail 1) == t) (suc t) (word_at sh h.words (tail 1)) = change ∙ (ap (λ (n : ℕ). cond (found == t) n found) next ∙ ap (λ (n : ℕ). cond (n == t) (suc t) n) tail_word) in
     let more : suc t ≤ left = reached found left change (let w = (is.law.stands.knows k p live.0).within in omega (arith, w, seen, v, tail_of h is)) in
     let left_word : word_at sh (set h.words 1 left) (tail 1) ≡ left = ap (λ (n : ℕ). get_or (set h.words 1 left) n 0) one ∙ Rattle.std.proofs.lemmas.List.get_or-set_same h.words 1 left 0 (tail_there h is) in
-    let there : take (suc t) (spelt sh (set h.words 1 left) (word_at sh (set h.words 1 left) (tail 1))) ≡ spelt sh h.words (suc t) =
-    ap (λ (n : ℕ). take (suc t) (spelt sh (set h.words 1 left) n)) left_word ∙ (ap (take (suc t)) (spelt_kept sh h.words left left) ∙ table_take (λ o. sh.reads (plain_at sh h.words o)) (suc t) left more) in
-    let here : take (suc t) es ≡ spelt sh h.words (suc t) =
-    ap (take (suc t)) (spelled ∙ ap (spelt sh h.words) next) ∙ table_take (λ o. sh.reads (plain_at sh h.words o)) (suc t) (suc t) (omega arith) in
-    does_step sh (world_of h) k p (advance t) (tail 1) (λ n. cond (n == t) (suc t) n) (λ n xs. sees (suc t) xs p) 1 left after live (advances t i seen lt last (word ∙ where_is) value) (sym one) change'
-    (is_after ∙ (ap (λ (n : ℕ). sees n es p) next ∙ sees_same (suc t) es _ p (here ∙ sym there)))
+    let there : take (suc t) (entries_spelled sh (set h.words 1 left) (word_at sh (set h.words 1 left) (tail 1))) ≡ entries_spelled sh h.words (suc t) =
+    ap (λ (n : ℕ). take (suc t) (entries_spelled sh (set h.words 1 left) n)) left_word ∙ (ap (take (suc t)) (spelt_kept sh h.words left left) ∙ table_take (λ o. sh.reads (plain_at sh h.words o)) (suc t) left more) in
+    let here : take (suc t) es ≡ entries_spelled sh h.words (suc t) =
+    ap (take (suc t)) (spelled ∙ ap (entries_spelled sh h.words) next) ∙ table_take (λ o. sh.reads (plain_at sh h.words o)) (suc t) (suc t) (omega arith) in
+    does_step sh (world_of h) k p (advance t) (tail 1) (λ n. cond (n == t) (suc t) n) (λ n xs. pass_that_sees (suc t) xs p) 1 left after live (advances t i seen lt last (word ∙ where_is) value) (sym one) change'
+    (is_after ∙ (ap (λ (n : ℕ). pass_that_sees n es p) next ∙ sees_same (suc t) es _ p (here ∙ sym there)))
   where
     reached : (n l : ℕ) → l ≡ cond (n == t) (t + 1) n → t ≤ n → suc t ≤ l
     reached n l e le = elim (cases_eq n t) [
@@ -150,13 +150,13 @@ advance_does h k t at i found left p after es is live seen lt last where_is word
     ]
 
 -- the places up to t are readable where the last look found t's done word 1
-pub look_readable : (h : Held) (k t at i : ℕ) (p : Pass) → IsHeld h → IsLivePass h k p → t ≤ length p.seen → t < h.shape.capacity → suc i ≡ (layout h.shape).sizes.ticket_words → at ≡ place (layout h.shape).sizes (cell t i) → p.look.word ≡ at → p.look.value ≡ 1 → AreReadable h (t + 1)
+pub look_readable : (h : WorldValue) (k t at i : ℕ) (p : Pass) → IsLawfulWorld h → IsLivePass h k p → t ≤ length p.seen → t < h.shape.capacity → suc i ≡ (layout h.shape).sizes.ticket_words → at ≡ place (layout h.shape).sizes (cell t i) → p.look.word ≡ at → p.look.value ≡ 1 → AreReadable h (t + 1)
 look_readable h k t at i p is live seen lt last where_is word value o low = elim (cases_eq o t) [
   | inl e ↦ done_spelled h o is is (subst (DoneAt is.law.base.log) (sym e) ((is.law.stands.knows k p live.0).look t i lt last (word ∙ where_is) value))
   | inr ne ↦ done_spelled h o is is (done_below h is o (let w = (is.law.stands.knows k p live.0).within in omega (arith, w, seen, low)))
 ]
 
-pub advance_only : (h : Held) (k t : ℕ) (p : Pass) (y : World) → IsLivePass h k p → Does (layout h.shape) (world_of h) k (acts (advance t)) y
+pub advance_only : (h : WorldValue) (k t : ℕ) (p : Pass) (y : World) → IsLivePass h k p → IsEvent (layout h.shape) (world_of h) k (acts (advance t)) y
     → (t ≤ length p.seen) × (t < h.shape.capacity) × ((i : ℕ) → suc i ≡ (layout h.shape).sizes.ticket_words → p.look.word ≡ place (layout h.shape).sizes (cell t i)) × (p.look.value ≡ 1)
 advance_only h k t p y live does =
     let A = acts_of (layout h.shape) (world_of h) k (advance t) y does in

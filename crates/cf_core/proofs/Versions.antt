@@ -2,11 +2,11 @@
 use Rattle.std.proofs.Common.{◌≡◌, ℕ, ◌+◌, ◌*◌, ◌-◌, ◌^◌, ◌<◌, ◌≤◌, ◌==◌, zero, suc, List, [], ◌∷◌, ◌++◌, length, map, take, drop, get_or, cond, Bool, true, false, Option, Some, None, slice_get, inl, inr, refl, arith, ap, ap₂, sym, ◌∙◌, subst, length-append}
 use Rattle.std.proofs.lemmas.Bool.{cases_Bool, eq-eqb, ne_eqb}
 use Rattle.std.proofs.lemmas.List.{take_all, drop_more, drop_all, map_push}
-use Rattle.cf_fold.specs.Quads.{Counts, quad_of, AreCounts}
+use Rattle.cf_fold.specs.Quads.{QuadValue, quad_of, IsQuad}
 use Rattle.cf_fold.proofs.Lawful.{AreLow, quad_is_lawful}
-use Rattle.cf_row.specs.Row.{Numbered, Fits, values_fit}
+use Rattle.cf_row.specs.Row.{RowValue, Fits, values_fit}
 use Rattle.cf_row.proofs.Bytes.{both}
-use Rattle.cf_shape.specs.Lanes.{Shaped, IsShape, measure_of}
+use Rattle.cf_shape.specs.Lanes.{ShapeValue, IsShape, measure_of}
 use Rattle.cf_shape.specs.Uses.{is_measured, use_at}
 use Rattle.cf_shape.proofs.Measured.{measure_low}
 use Rattle.cf_words.specs.Words.{Spot, spot, Layout, Ticket, same_path, top, version_word, measure_word}
@@ -15,7 +15,7 @@ use Rattle.cf_law.specs.Lawful.{mine_in}
 use Rattle.cf_law.specs.Steps.{Holds, mine_chain, own_word, own_lane_word}
 use Rattle.cf_law.specs.Shapes.{layout, path_in}
 use Rattle.cf_law.proofs.Owning.{mine_before}
-use Rattle.cf_core.specs.Worlds.{Held, IsHeld, IsLivePass, AreOwn, amounts, cell_word_of, IsCellUse, IsPlainUse}
+use Rattle.cf_core.specs.Worlds.{WorldValue, IsLawfulWorld, IsLivePass, AreOwn, amounts, cell_word_of, IsCellUse, IsPlainUse}
 use Rattle.cf_core.proofs.Children.{bounds}
 
 -- what a held book has finished
@@ -38,7 +38,7 @@ pub mine_few : (w k : ℕ) (log : List Ticket) → length (mine_in w k log) ≤ 
 mine_few w k [] = omega (arith, ap (length {A = Own}) (mine_none w k))
 mine_few w k (t ∷ ts) = omega (arith, mine_one w k t ts, mine_few w (suc k) ts)
 
-pub own_are : (h : Held) (k j : ℕ) (p : Pass) (b : Book) → IsHeld h → IsLivePass h k p → Holds p j b → AreOwn h.shape b.mine
+pub own_are : (h : WorldValue) (k j : ℕ) (p : Pass) (b : Book) → IsLawfulWorld h → IsLivePass h k p → Holds p j b → AreOwn h.shape b.mine
 own_are h k j p b is live held =
     let m = is.law.base in
     let L = is.law.stands.law in
@@ -76,49 +76,49 @@ pub chain_out : (sh : Layout) (s : Spot) (mine : List Own) (i : ℕ) (x : Own) �
 chain_out sh s mine i x lt is e =
     chain_from sh s mine i x lt is ∙ (chain_cons sh s x (drop (i + 1) mine) ∙ (ap (λ (b : Bool). mine_chain sh s (drop (i + 1) mine) ++ cond b ((x.offset, x.row) ∷ []) []) e ∙ Rattle.std.proofs.Common.append-nil (mine_chain sh s (drop (i + 1) mine))))
 
-top_push : (c : List (ℕ × Numbered)) (x : ℕ × Numbered) → top (c ++ x ∷ []) ≡ cond (top c == 0) (suc x.0) (top c)
+top_push : (c : List (ℕ × RowValue)) (x : ℕ × RowValue) → top (c ++ x ∷ []) ≡ cond (top c == 0) (suc x.0) (top c)
 top_push [] x = ap (λ (b : Bool). cond b (suc x.0) 0) (sym (eq-eqb 0 0 refl))
 top_push (y ∷ ys) x = ap (λ (b : Bool). cond b (suc x.0) (suc y.0)) (sym (ne_eqb (suc y.0) 0 (λ e. omega (arith, e))))
 
-pub newest_is : (c : List (ℕ × Numbered)) (x : ℕ × Numbered) (previous left : ℕ) → previous ≡ top c → left ≡ cond (previous == 0) (x.0 + 1) previous → left ≡ top (c ++ x ∷ [])
+pub newest_is : (c : List (ℕ × RowValue)) (x : ℕ × RowValue) (previous left : ℕ) → previous ≡ top c → left ≡ cond (previous == 0) (x.0 + 1) previous → left ≡ top (c ++ x ∷ [])
 newest_is c x previous left e is =
     is ∙ (ap₂ (λ (a b : ℕ). cond (a == 0) b a) e (let f : x.0 + 1 ≡ suc x.0 = omega arith in f) ∙ sym (top_push c x))
 
-pub amounts_push : (shape : Shaped) (lane : ℕ) (row : Numbered) (c : List (ℕ × Numbered)) (x : ℕ × Numbered) → amounts shape lane row (c ++ x ∷ []) ≡ amounts shape lane row c ++ measure_of shape lane x.1 ∷ []
+pub amounts_push : (shape : ShapeValue) (lane : ℕ) (row : RowValue) (c : List (ℕ × RowValue)) (x : ℕ × RowValue) → amounts shape lane row (c ++ x ∷ []) ≡ amounts shape lane row c ++ measure_of shape lane x.1 ∷ []
 amounts_push shape lane row c x =
-    ap (λ (rs : List Numbered). map (λ (r : Numbered). measure_of shape lane r) (row ∷ rs)) (map_push (λ (y : ℕ × Numbered). y.1) c x)
-    ∙ map_push (λ (r : Numbered). measure_of shape lane r) (row ∷ map (λ (y : ℕ × Numbered). y.1) c) x.1
+    ap (λ (rs : List RowValue). map (λ (r : RowValue). measure_of shape lane r) (row ∷ rs)) (map_push (λ (y : ℕ × RowValue). y.1) c x)
+    ∙ map_push (λ (r : RowValue). measure_of shape lane r) (row ∷ map (λ (y : ℕ × RowValue). y.1) c) x.1
 
-pub amounts_first : (shape : Shaped) (lane : ℕ) (row : Numbered) (c : List (ℕ × Numbered)) → c ≡ [] → amounts shape lane row c ≡ [] ++ measure_of shape lane row ∷ []
+pub amounts_first : (shape : ShapeValue) (lane : ℕ) (row : RowValue) (c : List (ℕ × RowValue)) → c ≡ [] → amounts shape lane row c ≡ [] ++ measure_of shape lane row ∷ []
 amounts_first shape lane row c e = ap (amounts shape lane row) e
 
-amounts_long : (shape : Shaped) (lane : ℕ) (row : Numbered) (c : List (ℕ × Numbered)) → length (amounts shape lane row c) ≡ suc (length c)
+amounts_long : (shape : ShapeValue) (lane : ℕ) (row : RowValue) (c : List (ℕ × RowValue)) → length (amounts shape lane row c) ≡ suc (length c)
 amounts_long shape lane row c =
-    omega (arith, Rattle.std.proofs.lemmas.List.length-map {A = Numbered} {B = ℕ} (row ∷ map (λ (y : ℕ × Numbered). y.1) c) (λ r. measure_of shape lane r), Rattle.std.proofs.lemmas.List.length-map {A = ℕ × Numbered} {B = Numbered} c (λ y. y.1))
+    omega (arith, Rattle.std.proofs.lemmas.List.length-map {A = RowValue} {B = ℕ} (row ∷ map (λ (y : ℕ × RowValue). y.1) c) (λ r. measure_of shape lane r), Rattle.std.proofs.lemmas.List.length-map {A = ℕ × RowValue} {B = RowValue} c (λ y. y.1))
 
 chain_few : (sh : Layout) (s : Spot) (mine : List Own) → length (mine_chain sh s mine) ≤ length mine
-chain_few sh s [] = omega (arith, ap (length {A = ℕ × Numbered}) (chain_none sh s))
+chain_few sh s [] = omega (arith, ap (length {A = ℕ × RowValue}) (chain_none sh s))
 chain_few sh s (x ∷ xs) =
-    omega (arith, ap (length {A = ℕ × Numbered}) (chain_cons sh s x xs), length-append (mine_chain sh s xs) (cond (same_path (sh.path x.row s.lane) s.path) ((x.offset, x.row) ∷ []) []), one (same_path (sh.path x.row s.lane) s.path), chain_few sh s xs)
+    omega (arith, ap (length {A = ℕ × RowValue}) (chain_cons sh s x xs), length-append (mine_chain sh s xs) (cond (same_path (sh.path x.row s.lane) s.path) ((x.offset, x.row) ∷ []) []), one (same_path (sh.path x.row s.lane) s.path), chain_few sh s xs)
   where
-    one : (b : Bool) → length (cond {A = List (ℕ × Numbered)} b ((x.offset, x.row) ∷ []) []) ≤ 1
+    one : (b : Bool) → length (cond {A = List (ℕ × RowValue)} b ((x.offset, x.row) ∷ []) []) ≤ 1
     one true = omega arith
     one false = omega arith
 
-pub quad_few : (shape : Shaped) (lane : ℕ) (row : Numbered) (s : Spot) (mine : List Own) (i : ℕ) (q : Counts) → q ≡ quad_of (amounts shape lane row (mine_chain (layout shape) s (drop i mine))) → length mine ≤ 65536 → q.count ≤ 65537
+pub quad_few : (shape : ShapeValue) (lane : ℕ) (row : RowValue) (s : Spot) (mine : List Own) (i : ℕ) (q : QuadValue) → q ≡ quad_of (amounts shape lane row (mine_chain (layout shape) s (drop i mine))) → length mine ≤ 65536 → q.count ≤ 65537
 quad_few shape lane row s mine i q e few =
     let c = mine_chain (layout shape) s (drop i mine) in
-    omega (arith, ap (λ (x : Counts). x.count) e, amounts_long shape lane row c, chain_few (layout shape) s (drop i mine), few, Rattle.std.proofs.Common.length-drop i mine)
+    omega (arith, ap (λ (x : QuadValue). x.count) e, amounts_long shape lane row c, chain_few (layout shape) s (drop i mine), few, Rattle.std.proofs.Common.length-drop i mine)
 
 -- a quad of own measures is lawful
 low_push : (xs : List ℕ) (y : ℕ) → AreLow xs → y < 2 ^ 32 → AreLow (xs ++ y ∷ [])
 low_push [] y low lt = (lt, tt)
 low_push (x ∷ xs) y low lt = (low.0, low_push xs y low.1 lt)
 
-rest_own : (shape : Shaped) (x : Own) (xs : List Own) → AreOwn shape (x ∷ xs) → AreOwn shape xs
+rest_own : (shape : ShapeValue) (x : Own) (xs : List Own) → AreOwn shape (x ∷ xs) → AreOwn shape xs
 rest_own shape x xs own = record { few = (let h = own.few in omega (arith, h)); fits = λ i y at. own.fits (suc i) y at; offset = λ i y at. own.offset (suc i) y at }
 
-pub amounts_low : (shape : Shaped) (lane : ℕ) (row : Numbered) (s : Spot) (mine : List Own) → IsShape shape → lane < length shape.lanes → Fits shape.schema row → AreOwn shape mine → AreLow (amounts shape lane row (mine_chain (layout shape) s mine))
+pub amounts_low : (shape : ShapeValue) (lane : ℕ) (row : RowValue) (s : Spot) (mine : List Own) → IsShape shape → lane < length shape.lanes → Fits shape.schema row → AreOwn shape mine → AreLow (amounts shape lane row (mine_chain (layout shape) s mine))
 amounts_low shape lane row s [] is lt fits own =
     subst AreLow (sym (amounts_first shape lane row (mine_chain (layout shape) s []) (chain_none (layout shape) s))) (measure_low shape lane row is lt fits, tt)
 amounts_low shape lane row s (x ∷ xs) is lt fits own = elim (cases_Bool (same_path (path_in shape x.row s.lane) s.path)) [
@@ -131,11 +131,11 @@ amounts_low shape lane row s (x ∷ xs) is lt fits own = elim (cases_Bool (same_
       subst AreLow (sym (ap (amounts shape lane row) whole)) (amounts_low shape lane row s xs is lt fits (rest_own shape x xs own))
 ]
 
-pub quad_lawful : (shape : Shaped) (lane : ℕ) (row : Numbered) (s : Spot) (mine : List Own) (q : Counts) → IsShape shape → lane < length shape.lanes → Fits shape.schema row → AreOwn shape mine → q ≡ quad_of (amounts shape lane row (mine_chain (layout shape) s mine)) → AreCounts q
-quad_lawful shape lane row s mine q is lt fits own e = subst AreCounts (sym e) (quad_is_lawful (amounts shape lane row (mine_chain (layout shape) s mine)) (amounts_low shape lane row s mine is lt fits own))
+pub quad_lawful : (shape : ShapeValue) (lane : ℕ) (row : RowValue) (s : Spot) (mine : List Own) (q : QuadValue) → IsShape shape → lane < length shape.lanes → Fits shape.schema row → AreOwn shape mine → q ≡ quad_of (amounts shape lane row (mine_chain (layout shape) s mine)) → IsQuad q
+quad_lawful shape lane row s mine q is lt fits own e = subst IsQuad (sym e) (quad_is_lawful (amounts shape lane row (mine_chain (layout shape) s mine)) (amounts_low shape lane row s mine is lt fits own))
 
 -- links are low
-pub top_low : (sh : Layout) (s : Spot) (mine : List Own) (shape : Shaped) → AreOwn shape mine → top (mine_chain sh s mine) ≤ 65536
+pub top_low : (sh : Layout) (s : Spot) (mine : List Own) (shape : ShapeValue) → AreOwn shape mine → top (mine_chain sh s mine) ≤ 65536
 top_low sh s [] shape own = omega (arith, ap top (chain_none sh s))
 top_low sh s (x ∷ xs) shape own = elim (cases_Bool (same_path (sh.path x.row s.lane) s.path)) [
   | inl e ↦
@@ -147,34 +147,34 @@ top_low sh s (x ∷ xs) shape own = elim (cases_Bool (same_path (sh.path x.row s
       omega (arith, ap top whole, top_low sh s xs shape (rest_own shape x xs own))
 ]
   where
-    pushed : (c : List (ℕ × Numbered)) → top c ≤ 65536 → x.offset < 65536 → top (c ++ (x.offset, x.row) ∷ []) ≤ 65536
+    pushed : (c : List (ℕ × RowValue)) → top c ≤ 65536 → x.offset < 65536 → top (c ++ (x.offset, x.row) ∷ []) ≤ 65536
     pushed [] le lt = omega arith
     pushed (y ∷ ys) le lt = le
 
 -- words of cells
-pub cell_word_more : (m : Bool) (previous : ℕ) (q : Counts) (j : ℕ) → 2 ≤ j → cell_word_of m previous q j ≡ q.least + 2 ^ 32 * q.greatest
+pub cell_word_more : (m : Bool) (previous : ℕ) (q : QuadValue) (j : ℕ) → 2 ≤ j → cell_word_of m previous q j ≡ q.least + 2 ^ 32 * q.greatest
 cell_word_more m previous q zero le = absurd (omega arith)
 cell_word_more m previous q (suc zero) le = absurd (omega arith)
 cell_word_more m previous q (suc (suc j)) le = refl
 
-word_is : (shape : Shaped) (lane j : ℕ) (c : List (ℕ × Numbered)) (row : Numbered) (m : Bool) (previous : ℕ) (q : Counts) → m ≡ is_measured shape lane → previous ≡ top c → q ≡ quad_of (amounts shape lane row c) → cell_word_of m previous q j ≡ version_word (layout shape) lane j c row
+word_is : (shape : ShapeValue) (lane j : ℕ) (c : List (ℕ × RowValue)) (row : RowValue) (m : Bool) (previous : ℕ) (q : QuadValue) → m ≡ is_measured shape lane → previous ≡ top c → q ≡ quad_of (amounts shape lane row c) → cell_word_of m previous q j ≡ version_word (layout shape) lane j c row
 unfolding version_word
 word_is shape lane zero c row m previous q me pe qe =
-    let count : q.count ≡ length c + 1 = omega (arith, ap (λ (x : Counts). x.count) qe, amounts_long shape lane row c) in
+    let count : q.count ≡ length c + 1 = omega (arith, ap (λ (x : QuadValue). x.count) qe, amounts_long shape lane row c) in
     ap (λ (b : Bool). previous + 2 ^ 32 * cond b q.count 0) me ∙ ap₂ (λ (a n : ℕ). a + 2 ^ 32 * cond (is_measured shape lane) n 0) pe count
 word_is shape lane (suc j) c row m previous q me pe qe = ap (measure_word j) qe
 
-pub version_is_word : (shape : Shaped) (b : Book) (row : Numbered) (lane j word : ℕ) (q : List ℕ) (m : Bool) (previous : ℕ) (quad : Counts) → path_in shape row lane ≡ Some q → m ≡ is_measured shape lane → previous ≡ top (mine_chain (layout shape) (spot lane q) b.mine)
+pub version_is_word : (shape : ShapeValue) (b : Book) (row : RowValue) (lane j word : ℕ) (q : List ℕ) (m : Bool) (previous : ℕ) (quad : QuadValue) → path_in shape row lane ≡ Some q → m ≡ is_measured shape lane → previous ≡ top (mine_chain (layout shape) (spot lane q) b.mine)
     → quad ≡ quad_of (amounts shape lane row (mine_chain (layout shape) (spot lane q) b.mine)) → word ≡ cell_word_of m previous quad j
     → word ≡ own_lane_word (layout shape) b row lane j (path_in shape row lane)
 version_is_word shape b row lane j word q m previous quad leads me pe qe is =
     is ∙ (word_is shape lane j (mine_chain (layout shape) (spot lane q) b.mine) row m previous quad me pe qe ∙ ap (own_lane_word (layout shape) b row lane j) (sym leads))
 
-pub version_none : (shape : Shaped) (b : Book) (row : Numbered) (lane j : ℕ) → path_in shape row lane ≡ None → 0 ≡ own_lane_word (layout shape) b row lane j (path_in shape row lane)
+pub version_none : (shape : ShapeValue) (b : Book) (row : RowValue) (lane j : ℕ) → path_in shape row lane ≡ None → 0 ≡ own_lane_word (layout shape) b row lane j (path_in shape row lane)
 version_none shape b row lane j none = ap (own_lane_word (layout shape) b row lane j) (sym none)
 
-pub own_plain : (shape : Shaped) (b : Book) (row : Numbered) (i : ℕ) → IsPlainUse shape i → own_word (layout shape) b row (use_at shape i) ≡ get_or (Rattle.cf_row.specs.Words.spelled (Rattle.cf_words.specs.Words.entry b.writer row)) i 0
+pub own_plain : (shape : ShapeValue) (b : Book) (row : RowValue) (i : ℕ) → IsPlainUse shape i → own_word (layout shape) b row (use_at shape i) ≡ get_or (Rattle.cf_row.specs.Words.spelled (Rattle.cf_words.specs.Words.entry b.writer row)) i 0
 own_plain shape b row i is = ap (own_word (layout shape) b row) is.1
 
-pub own_version : (shape : Shaped) (b : Book) (row : Numbered) (i l j : ℕ) → IsCellUse shape i l j → own_word (layout shape) b row (use_at shape i) ≡ own_lane_word (layout shape) b row l j (path_in shape row l)
+pub own_version : (shape : ShapeValue) (b : Book) (row : RowValue) (i l j : ℕ) → IsCellUse shape i l j → own_word (layout shape) b row (use_at shape i) ≡ own_lane_word (layout shape) b row l j (path_in shape row l)
 own_version shape b row i l j is = ap (own_word (layout shape) b row) is.1

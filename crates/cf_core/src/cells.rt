@@ -1,6 +1,6 @@
 // What the words of a ticket's cells are, and the paths of rows in lanes.
 ghost use Rattle.std.specs.Prelude.{◌≡◌, ◌+◌, ◌<◌, ◌≤◌, ◌==◌, cond, length, IfOk, IsTrue, ◌↔◌, MatchOption, Some, None, slice_index_or};
-ghost use Rattle.cf_fold.specs.Quads.{quad_of, AreCounts};
+ghost use Rattle.cf_fold.specs.Quads.{quad_of, IsQuad};
 ghost use Rattle.cf_row.specs.Row.{Fits};
 ghost use Rattle.cf_row.specs.Words.{spelled, word_count as word_total_of};
 ghost use Rattle.cf_shape.specs.Uses.{ticket_words, use_at, cell_words as cell_words_of, is_measured as is_measured_of};
@@ -232,7 +232,7 @@ fn is_measured(shape: &Shape, lane: u8) -> bool
 fn cell_word(measured: bool, previous: u64, quad: Quad, j: u8) -> u64
     requires previous { previous ≤ 65536 }
     requires few { quad.count ≤ 65537 }
-    requires quad { AreCounts quad }
+    requires quad { IsQuad quad }
     ensures { result ≡ cell_word_of measured previous quad j }
 {
     match j {

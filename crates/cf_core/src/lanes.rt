@@ -2,7 +2,7 @@
 ghost use Rattle.std.specs.Prelude.{◌≡◌, ℕ, ◌+◌, ◌*◌, ◌<◌, length, suc, IfOk, MatchResult, MatchOption, Some, None, slice_get, true, false, IsTrue, ◌↔◌};
 ghost use Rattle.cf_core.specs.Worlds.{Answers, IsLivePass, IsRootAt, NoRootAt, IsChildOf, IsBelow, NoneBelow, IsChildAt, NoChildAt, IsNode, IsLeaf, IsLabelOf, NoLabel, LeadsTo};
 ghost use Rattle.cf_row.specs.Row.{Fits};
-ghost use Rattle.cf_law.specs.Events.Event.{acts};
+ghost use Rattle.cf_law.specs.Events.WorldEvent.{acts};
 ghost use Rattle.cf_law.specs.Steps.{child_word};
 ghost use Rattle.cf_words.specs.Words.{Spot};
 ghost use Rattle.cf_law.specs.Steps.Act.{label, link, store_head, load_child, load_head, load_cell};

@@ -3,11 +3,11 @@ ghost use Rattle.std.specs.Prelude.{◌≡◌, ℕ, ◌+◌, ◌<◌, ◌≤◌,
 ghost use Rattle.cf_shape.specs.Places.{place};
 ghost use Rattle.cf_shape.specs.Places.Slot.{cell};
 ghost use Rattle.cf_shape.specs.Uses.{ticket_words};
-ghost use Rattle.cf_shape.specs.Lanes.{Shaped};
-ghost use Rattle.cf_core.specs.Worlds.{Held, IsHeld, AreReadable, Answers, NoPass, IsLivePass, event_of};
-ghost use Rattle.cf_law.specs.Events.{spelt, plain_at, opening};
+ghost use Rattle.cf_shape.specs.Lanes.{ShapeValue};
+ghost use Rattle.cf_core.specs.Worlds.{WorldValue, IsLawfulWorld, AreReadable, Answers, NoPass, IsLivePass, event_of};
+ghost use Rattle.cf_law.specs.Events.{entries_spelled, plain_at, opening};
 ghost use Rattle.cf_row.specs.Words.{AreSpelled};
-ghost use Rattle.cf_law.specs.Events.Event.{acts, splits, joins};
+ghost use Rattle.cf_law.specs.Events.WorldEvent.{acts, splits, joins};
 ghost use Rattle.cf_law.specs.Steps.Act.{take_ticket, store_cell, finish_record, look_done, load_word, load_tail, advance};
 ghost use Rattle.cf_law.specs.Lawful.{Lawful};
 ghost use Rattle.cf_law.specs.Shapes.{layout};
@@ -29,27 +29,27 @@ pub struct World {
 }
 
 impl Model for World {
-    ghost use Rattle.cf_core.specs.Worlds.{Held, IsHeld};
+    ghost use Rattle.cf_core.specs.Worlds.{WorldValue, IsLawfulWorld};
 
-    ghost Value = { Held };
+    ghost Value = { WorldValue };
 
     ghost view = { λ w. record { shape = w.shape; words = w.words.items; passes = w.passes.items } };
 
-    ghost invariant = { λ w. IsHeld (record { shape = w.shape; words = w.words.items; passes = w.passes.items }) };
+    ghost invariant = { λ w. IsLawfulWorld (record { shape = w.shape; words = w.words.items; passes = w.passes.items }) };
 }
 
 impl World {
     /// The words of the table.
     pub fn words(&self) -> &[u64]
         ensures words { result.now ≡ self.now.words }
-        ensures lawful { IsHeld self.now }
+        ensures lawful { IsLawfulWorld self.now }
     {
         &self.words
     }
 
     pub(crate) fn shape(&self) -> &Shape
         ensures shape { result.now ≡ self.now.shape }
-        ensures lawful { IsHeld self.now }
+        ensures lawful { IsLawfulWorld self.now }
     {
         &self.shape
     }
@@ -129,7 +129,7 @@ impl World {
     fn entries(&self, alloc: Global, n: u32) -> Result<Vec<Entry>, Memory>
         requires within { n ≤ self.now.shape.capacity }
         requires readable { AreReadable self.now n }
-        ensures { IfOk result (λ entries. entries.items ≡ spelt (layout self.now.shape) self.now.words n) }
+        ensures { IfOk result (λ entries. entries.items ≡ entries_spelled (layout self.now.shape) self.now.words n) }
     {
         let mut entries = Vec::new(alloc);
         for offset in 0..n {
@@ -177,7 +177,7 @@ impl World {
         ensures within { result ≤ self.now.shape.capacity }
         ensures few { result ≤ 65536 }
         ensures readable { AreReadable self.now result }
-        ensures lawful { IsHeld self.now }
+        ensures lawful { IsLawfulWorld self.now }
     {
         self.words()[1]
     }
@@ -207,7 +207,7 @@ impl World {
         ensures tail { result ≡ slice_index_or self.now.words 0 0 }
         ensures there { 0 < length self.now.words }
         ensures few { result ≤ 65551 }
-        ensures lawful { IsHeld self.now }
+        ensures lawful { IsLawfulWorld self.now }
     {
         self.words()[0]
     }
@@ -349,7 +349,7 @@ impl World {
     /// A world in which nothing has happened: all words are 0, and one pass holds all books, which are empty.
     pub fn new(alloc: Global, shape: Shape) -> Result<World, Memory>
         ensures opening { IfOk result (λ world. world ≡ record { shape = shape; words = (opening (layout shape)).words; passes = (opening (layout shape)).passes }) }
-        ensures lawful { IfOk result IsHeld }
+        ensures lawful { IfOk result IsLawfulWorld }
     {
         let _lawful = shape.lanes();
         let words = vec![in alloc; 0; word_total(&shape) as usize]?;

@@ -2,7 +2,7 @@
 use Rattle.std.specs.Prelude.{ℕ, ◌/◌, ◌%◌, ◌^◌, Bool, false, ◌||◌, List, [], ◌∷◌, ◌++◌, length, take, codes, decimal, slice_index_or, if◌then◌else◌}
 use Rattle.std.specs.List.{flat_map, range_with_len}
 use Rattle.std.specs.Fmt.{digit_glyph}
-use Rattle.cf_row.specs.Row.{Numbered, value_at}
+use Rattle.cf_row.specs.Row.{RowValue, value_at}
 use Rattle.cf_row.specs.Schema.{is_named}
 use Rattle.cf_row.specs.declared.row.Value.{Value}
 use Rattle.cf_row.specs.declared.row.Value.TheVariants.{Num, Raw}
@@ -36,13 +36,13 @@ attr_at attrs place = slice_index_or attrs place no_attr
 abbrev pub field_text : Attr → Value → List ℕ
 field_text attr value = codes " " ++ (attr.name ++ (codes "=" ++ value_text attr value))
 
-abbrev pub field_at : List Attr → Numbered → ℕ → List ℕ
+abbrev pub field_at : List Attr → RowValue → ℕ → List ℕ
 field_at attrs row place = field_text (attr_at attrs place) (value_at row place)
 
 -- the row's number, and its value of each attribute in order
-abbrev pub row_line : List Attr → Numbered → List ℕ
+abbrev pub row_line : List Attr → RowValue → List ℕ
 row_line attrs row = decimal row.num ++ (flat_map (field_at attrs row) (range_with_len 0 (length attrs)) ++ 10 ∷ [])
 
 -- how many rows there are, and a line for each
-abbrev pub dump_text : List Attr → List Numbered → List ℕ
+abbrev pub dump_text : List Attr → List RowValue → List ℕ
 dump_text attrs rows = codes "records " ++ (decimal (length rows) ++ (10 ∷ [] ++ flat_map (row_line attrs) rows))

@@ -2,7 +2,7 @@
 use Rattle.std.proofs.Common.{ℕ, ◌*◌, ◌<◌, ◌≤◌, ◌^◌, List, [], ◌∷◌, length, sum, fold, min, max, refl, arith}
 use Rattle.std.specs.List.{AllByRecursion}
 use Rattle.std.proofs.lemmas.List.Sums.{sum_by-cons}
-use Rattle.cf_fold.specs.Quads.{quad_of, AreCounts}
+use Rattle.cf_fold.specs.Quads.{quad_of, IsQuad}
 
 -- each number is below 2^32
 abbrev pub AreLow : List ℕ → Type 0
@@ -20,7 +20,7 @@ low_greatest : (a : ℕ) (xs : List ℕ) → a < 2 ^ 32 → AreLow xs → fold m
 low_greatest a [] lt low = lt
 low_greatest a (x ∷ xs) lt low = low_greatest (max a x) xs (omega (arith, lt, low.0)) low.1
 
-pub quad_is_lawful : (xs : List ℕ) → AreLow xs → AreCounts (quad_of xs)
+pub quad_is_lawful : (xs : List ℕ) → AreLow xs → IsQuad (quad_of xs)
 quad_is_lawful [] low = record { none = λ e. (refl, refl, refl); bounded = omega arith; least_is_low = omega arith; greatest_is_low = omega arith }
 quad_is_lawful (x ∷ xs) low = record {
   none = λ e. absurd (omega (arith, e));

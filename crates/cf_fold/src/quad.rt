@@ -14,19 +14,19 @@ pub struct Quad {
 }
 
 impl Model for Quad {
-    ghost use Rattle.cf_fold.specs.Quads.{Counts, AreCounts};
+    ghost use Rattle.cf_fold.specs.Quads.{QuadValue, IsQuad};
 
-    ghost Value = { Counts };
+    ghost Value = { QuadValue };
 
     ghost view = { λ q. record { count = q.count; sum = q.sum; least = q.least; greatest = q.greatest } };
 
     ghost inverse = { λ c. record { count = c.count; sum = c.sum; least = c.least; greatest = c.greatest } };
 
-    ghost invariant = { λ q. AreCounts (record { count = q.count; sum = q.sum; least = q.least; greatest = q.greatest }) };
+    ghost invariant = { λ q. IsQuad (record { count = q.count; sum = q.sum; least = q.least; greatest = q.greatest }) };
 }
 
 impl Quad {
-    ghost use Rattle.cf_fold.specs.Quads.{quad_of, plus, both, AreCounts};
+    ghost use Rattle.cf_fold.specs.Quads.{quad_of, plus, both, IsQuad};
 
     /// The quad of no number.
     pub const EMPTY: Quad = Quad {
@@ -38,7 +38,7 @@ impl Quad {
 
     /// The quad with these four numbers.
     pub fn new(count: u64, sum: u64, least: u64, greatest: u64) -> Quad
-        requires { AreCounts (record { count = count; sum = sum; least = least; greatest = greatest }) }
+        requires { IsQuad (record { count = count; sum = sum; least = least; greatest = greatest }) }
         ensures { result ≡ record { count = count; sum = sum; least = least; greatest = greatest } }
     {
         Quad {

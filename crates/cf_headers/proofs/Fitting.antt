@@ -11,7 +11,7 @@ use Rattle.cf_row.specs.Row.{Fits, values_fit, is_of_kind, is_byte_string}
 use Rattle.cf_row.specs.Schema.{packet_attrs}
 use Rattle.cf_row.proofs.Bytes.{AreBytes, bytes_of, bytes_take, bytes_drop, bytes_append, zeros_low}
 use Rattle.cf_row.proofs.Fitting.{byte_string}
-use Rattle.cf_pcap.specs.Capture.{Captured}
+use Rattle.cf_pcap.specs.Capture.{FrameValue}
 use Rattle.cf_headers.specs.declared.transport.Transport.{Transport}
 use Rattle.cf_headers.specs.declared.transport.Transport.TheVariants.{Unread, Tcp, Udp}
 use Rattle.cf_headers.specs.Packet.{packet_row_of, type_at, is_tagged, has_type, has_addresses, network_at, etype_of, vlan_of, is_ipv4, transport_of, kind_of, transport_values, byte_at, number_at, byte_if, number_if, address_if}
@@ -111,7 +111,7 @@ addresses_room : (link n : ℕ) (frame : List ℕ) → n ≤ 14 → has_addresse
 addresses_room link n frame few read = let h : 14 ≤ length frame = leb-true 14 (length frame) (and_parts (link == 1) (nat_le 14 (length frame)) read).1 in omega (arith, h, few)
 
 -- every field of a row of a packet is of its kind
-pub packet_fits : (packet : Captured) → packet.ts < 2 ^ 64 → packet.caplen < 2 ^ 32 → packet.len < 2 ^ 32 → HoldsBytes packet.bytes → Fits packet_attrs (packet_row_of packet)
+pub packet_fits : (packet : FrameValue) → packet.ts < 2 ^ 64 → packet.caplen < 2 ^ 32 → packet.len < 2 ^ 32 → HoldsBytes packet.bytes → Fits packet_attrs (packet_row_of packet)
 packet_fits packet ts caplen len low =
     let frame = packet.bytes in
     let link = packet.link in

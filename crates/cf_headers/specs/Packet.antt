@@ -4,8 +4,8 @@ use Rattle.std.specs.Prelude.{ℕ, ◌+◌, ◌*◌, ◌/◌, ◌%◌, ◌^◌, 
 use Rattle.byteorder.specs.Endian.{big_number}
 use Rattle.cf_row.specs.declared.row.Value.{Value}
 use Rattle.cf_row.specs.declared.row.Value.TheVariants.{Num, Raw}
-use Rattle.cf_row.specs.Row.{Numbered}
-use Rattle.cf_pcap.specs.Capture.{Captured}
+use Rattle.cf_row.specs.Row.{RowValue}
+use Rattle.cf_pcap.specs.Capture.{FrameValue}
 use Rattle.cf_headers.specs.declared.transport.Transport.{Transport}
 use Rattle.cf_headers.specs.declared.transport.Transport.TheVariants.{Unread, Tcp, Udp}
 
@@ -142,7 +142,7 @@ abbrev pub transport_of : ℕ → List ℕ → Transport
 transport_of link frame = transport_in (is_ipv4 link frame) (network_at link frame) frame
 
 -- the row of a captured packet: ts, caplen, len, the addresses, etype and kind, the fields of its other headers, and vlan
-abbrev pub packet_row_of : Captured → Numbered
+abbrev pub packet_row_of : FrameValue → RowValue
 packet_row_of packet = record {
   num = packet.num;
   values = (Num packet.ts ∷ Num packet.caplen ∷ Num packet.len ∷ [])

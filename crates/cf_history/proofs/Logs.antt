@@ -4,7 +4,7 @@ use Rattle.std.proofs.lemmas.Bool.{eq-eqb, ne_eqb, cases_eq}
 use Rattle.std.proofs.lemmas.List.{take-append-drop, drop-drop, drop_all}
 use Rattle.std.proofs.lemmas.List.Sums.{sum_by-cons, sum_by-append}
 use Rattle.std.specs.List.{sum_by, range_with_len, AllByRecursion}
-use Rattle.cf_row.specs.Row.{Numbered}
+use Rattle.cf_row.specs.Row.{RowValue}
 use Rattle.cf_row.specs.declared.row.Entry.{Entry}
 use Rattle.cf_history.specs.Order.{batch, rows_of, written_by, IsLogOf}
 
@@ -41,7 +41,7 @@ over_one f x c a (suc n) le lt = over_more (λ w. f w + cond (x == w) c 0) a n �
       rw (rest, ne_eqb x a ne) (omega (arith, over_more f a n))
 ]
 
-module _ (g : Numbered → ℕ) where
+module _ (g : RowValue → ℕ) where
   one_entry : (w : ℕ) (entry : Entry) (entries : List Entry) → sum_by g (written_by w (entry ∷ entries)) ≡ sum_by g (written_by w entries) + cond (entry.writer == w) (g entry.row) 0
   one_entry w entry entries = elim (cases_eq entry.writer w) [
     | inl e ↦ rw (eq-eqb entry.writer w e) (sum_by-cons g entry.row (written_by w entries) ∙ omega arith)
@@ -56,13 +56,13 @@ module _ (g : Numbered → ℕ) where
       let one : over (λ w. sum_by g (written_by w entries) + cond (entry.writer == w) (g entry.row) 0) 0 writers ≡ over (λ w. sum_by g (written_by w entries)) 0 writers + g entry.row = over_one (λ w. sum_by g (written_by w entries)) entry.writer (g entry.row) 0 writers (omega arith) (omega (arith, exist.0)) in
       sum_by-cons g entry.row (map (λ e. e.row) entries) ∙ omega (arith, rest, split, one)
 
-  one_row : (writers w k : ℕ) (row : Numbered) (rows : List Numbered) → sum_by g (rows_of writers w k (row ∷ rows)) ≡ sum_by g (rows_of writers w (k + 1) rows) + cond (k % writers == w) (g row) 0
+  one_row : (writers w k : ℕ) (row : RowValue) (rows : List RowValue) → sum_by g (rows_of writers w k (row ∷ rows)) ≡ sum_by g (rows_of writers w (k + 1) rows) + cond (k % writers == w) (g row) 0
   one_row writers w k row rows = elim (cases_eq (k % writers) w) [
     | inl e ↦ rw (eq-eqb (k % writers) w e) (sum_by-cons g row (rows_of writers w (k + 1) rows) ∙ omega arith)
     | inr ne ↦ rw (ne_eqb (k % writers) w ne) (omega arith)
   ]
 
-  by_owners : (writers k : ℕ) (rows : List Numbered) → 0 < writers → sum_by g rows ≡ over (λ w. sum_by g (rows_of writers w k rows)) 0 writers
+  by_owners : (writers k : ℕ) (rows : List RowValue) → 0 < writers → sum_by g rows ≡ over (λ w. sum_by g (rows_of writers w k rows)) 0 writers
   by_owners writers k [] some = sym (over_zero 0 writers)
   by_owners writers k (row ∷ rows) some =
       let rest : sum_by g rows ≡ over (λ w. sum_by g (rows_of writers w (k + 1) rows)) 0 writers = by_owners writers (k + 1) rows some in
@@ -71,11 +71,11 @@ module _ (g : Numbered → ℕ) where
       let one : over (λ w. sum_by g (rows_of writers w (k + 1) rows) + cond (k % writers == w) (g row) 0) 0 writers ≡ over (λ w. sum_by g (rows_of writers w (k + 1) rows)) 0 writers + g row = over_one (λ w. sum_by g (rows_of writers w (k + 1) rows)) (k % writers) (g row) 0 writers (omega arith) (omega (arith, lt)) in
       sum_by-cons g row rows ∙ omega (arith, rest, split, one)
 
-  same_batch : (writers k : ℕ) (entries : List Entry) (rows : List Numbered) → 0 < writers → AllByRecursion (λ entry. entry.writer < writers) entries → ((w : ℕ) → w < writers → written_by w entries ≡ rows_of writers w k rows) → sum_by g (map (λ e. e.row) entries) ≡ sum_by g rows
+  same_batch : (writers k : ℕ) (entries : List Entry) (rows : List RowValue) → 0 < writers → AllByRecursion (λ entry. entry.writer < writers) entries → ((w : ℕ) → w < writers → written_by w entries ≡ rows_of writers w k rows) → sum_by g (map (λ e. e.row) entries) ≡ sum_by g rows
   same_batch writers k entries rows some exist own =
       by_writers writers entries exist ∙ over_same _ _ 0 writers (λ w lt. ap (sum_by g) (own w (omega (arith, lt)))) ∙ sym (by_owners writers k rows some)
 
-  by_batches : (h : Entry → ℕ) (m n b : ℕ) (log : List Entry) (rows : List Numbered) → ((c : ℕ) → sum_by h (take m (drop (m * c) log)) ≡ sum_by g (take m (drop (m * c) rows))) → length log ≤ m * (b + n) → length rows ≤ m * (b + n) → sum_by h (drop (m * b) log) ≡ sum_by g (drop (m * b) rows)
+  by_batches : (h : Entry → ℕ) (m n b : ℕ) (log : List Entry) (rows : List RowValue) → ((c : ℕ) → sum_by h (take m (drop (m * c) log)) ≡ sum_by g (take m (drop (m * c) rows))) → length log ≤ m * (b + n) → length rows ≤ m * (b + n) → sum_by h (drop (m * b) log) ≡ sum_by g (drop (m * b) rows)
   by_batches h m zero b log rows same lows highs =
       let at : m * (b + 0) ≡ m * b = ap (λ c. m * c) (omega arith) in
       let no_log : drop (m * b) log ≡ [] = drop_all (m * b) log (omega (arith, lows, at)) in
@@ -88,7 +88,7 @@ module _ (g : Numbered → ℕ) where
       let log_is : drop m (drop (m * b) log) ≡ drop (m * (b + 1)) log = drop-drop m (m * b) log ∙ ap (λ c. drop c log) at in
       let rows_is : drop m (drop (m * b) rows) ≡ drop (m * (b + 1)) rows = drop-drop m (m * b) rows ∙ ap (λ c. drop c rows) at in
       let log_whole : sum_by h (drop (m * b) log) ≡ sum_by h (take m (drop (m * b) log)) + sum_by h (drop (m * (b + 1)) log) = ap (sum_by h) (sym (take-append-drop m (drop (m * b) log))) ∙ sum_by-append h (take m (drop (m * b) log)) (drop m (drop (m * b) log)) ∙ ap (λ (xs : List Entry). sum_by h (take m (drop (m * b) log)) + sum_by h xs) log_is in
-      let rows_whole : sum_by g (drop (m * b) rows) ≡ sum_by g (take m (drop (m * b) rows)) + sum_by g (drop (m * (b + 1)) rows) = ap (sum_by g) (sym (take-append-drop m (drop (m * b) rows))) ∙ sum_by-append g (take m (drop (m * b) rows)) (drop m (drop (m * b) rows)) ∙ ap (λ (xs : List Numbered). sum_by g (take m (drop (m * b) rows)) + sum_by g xs) rows_is in
+      let rows_whole : sum_by g (drop (m * b) rows) ≡ sum_by g (take m (drop (m * b) rows)) + sum_by g (drop (m * (b + 1)) rows) = ap (sum_by g) (sym (take-append-drop m (drop (m * b) rows))) ∙ sum_by-append g (take m (drop (m * b) rows)) (drop m (drop (m * b) rows)) ∙ ap (λ (xs : List RowValue). sum_by g (take m (drop (m * b) rows)) + sum_by g xs) rows_is in
       let here : sum_by h (take m (drop (m * b) log)) ≡ sum_by g (take m (drop (m * b) rows)) = same b in
       omega (arith, log_whole, rows_whole, here, rest)
 
@@ -106,7 +106,7 @@ module _ (g : Numbered → ℕ) where
   all_drop P (suc n) [] every = tt
   all_drop P (suc n) (x ∷ xs) every = all_drop P n xs every.1
 
-  pub same_rows : (rows : List Numbered) (writers : ℕ) (log : List Entry) → 0 < writers → IsLogOf rows writers log → sum_by g (map (λ e. e.row) log) ≡ sum_by g rows
+  pub same_rows : (rows : List RowValue) (writers : ℕ) (log : List Entry) → 0 < writers → IsLogOf rows writers log → sum_by g (map (λ e. e.row) log) ≡ sum_by g rows
   same_rows rows writers log some is =
       sym (sum_map log)
       ∙ by_batches (λ e. g e.row) 4096 (length rows) 0 log rows
@@ -133,4 +133,4 @@ same_written (e ∷ es) (f ∷ fs) order own =
       | inl mine ↦ let both : e.row ∷ written_by w es ≡ f.row ∷ written_by w fs = sym (written_own w e es mine) ∙ own w ∙ written_own w f fs (sym writer ∙ mine) in cc
       | inr other ↦ sym (written_other w e es other) ∙ own w ∙ written_other w f fs (λ mine. other (writer ∙ mine))
     ]) in
-    ap₂ (λ (x : Entry) (xs : List Entry). x ∷ xs) (ap₂ (λ (w : ℕ) (r : Numbered). record { writer = w; row = r }) writer row) rest
+    ap₂ (λ (x : Entry) (xs : List Entry). x ∷ xs) (ap₂ (λ (w : ℕ) (r : RowValue). record { writer = w; row = r }) writer row) rest

@@ -8,7 +8,7 @@ use Rattle.std.proofs.lemmas.Bool.{eq-eqb, ne_eqb, cases_eq, cases_lt}
 use Rattle.std.proofs.lemmas.List.{length-take, length-drop, length-map, take_all, take-map, drop-map, drop_all, take_at, append_cancel_left, take-append-drop, drop_more}
 use Rattle.std.proofs.lemmas.List.Sums.{sum_by-cons, sum_by-append}
 use Rattle.std.specs.List.{count_by, range_with_len, AllByRecursion}
-use Rattle.cf_row.specs.Row.{Numbered}
+use Rattle.cf_row.specs.Row.{RowValue}
 use Rattle.cf_row.specs.declared.row.Entry.{Entry}
 use Rattle.cf_history.specs.Order.{rows_of, written_by, order_of, log_after, log_of, IsOrder, IsLogOf}
 use Rattle.cf_history.proofs.Logs.{written_own, written_other, same_written}
@@ -60,13 +60,13 @@ written_none writers w [] le exist = refl
 written_none writers w (e ∷ es) le exist = written_other w e es (λ own. omega (arith, own, le, exist.0)) ∙ written_none writers w es le exist.1
 
 module _ (writers w : ℕ) where
-  own_row : (k : ℕ) (row : Numbered) (rows : List Numbered) → k % writers ≡ w → rows_of writers w k (row ∷ rows) ≡ row ∷ rows_of writers w (k + 1) rows
+  own_row : (k : ℕ) (row : RowValue) (rows : List RowValue) → k % writers ≡ w → rows_of writers w k (row ∷ rows) ≡ row ∷ rows_of writers w (k + 1) rows
   own_row k row rows own = rw (eq-eqb (k % writers) w own) refl
 
-  other_row : (k : ℕ) (row : Numbered) (rows : List Numbered) → (k % writers ≡ w → ⊥) → rows_of writers w k (row ∷ rows) ≡ rows_of writers w (k + 1) rows
+  other_row : (k : ℕ) (row : RowValue) (rows : List RowValue) → (k % writers ≡ w → ⊥) → rows_of writers w k (row ∷ rows) ≡ rows_of writers w (k + 1) rows
   other_row k row rows other = rw (ne_eqb (k % writers) w other) refl
 
-  rows_append : (k : ℕ) (xs ys : List Numbered) → rows_of writers w k (xs ++ ys) ≡ rows_of writers w k xs ++ rows_of writers w (k + length xs) ys
+  rows_append : (k : ℕ) (xs ys : List RowValue) → rows_of writers w k (xs ++ ys) ≡ rows_of writers w k xs ++ rows_of writers w (k + length xs) ys
   rows_append k [] ys = let e : k + 0 ≡ k = omega arith in rw e refl
   rows_append k (x ∷ xs) ys =
       let e : k + suc (length xs) ≡ k + 1 + length xs = omega arith in
@@ -75,7 +75,7 @@ module _ (writers w : ℕ) where
         | inr other ↦ other_row k x (xs ++ ys) other ∙ rw (other_row k x xs other, e) (rows_append (k + 1) xs ys)
       ]
 
-  count_rows : (k : ℕ) (rows : List Numbered) → count_by (λ i. i % writers == w) (range_with_len k (length rows)) ≡ length (rows_of writers w k rows)
+  count_rows : (k : ℕ) (rows : List RowValue) → count_by (λ i. i % writers == w) (range_with_len k (length rows)) ≡ length (rows_of writers w k rows)
   count_rows k [] = refl
   count_rows k (row ∷ rows) = sum_by-cons (λ i. cond (i % writers == w) 1 0) k (range_with_len (k + 1) (length rows)) ∙ elim (cases_eq (k % writers) w) [
     | inl own ↦ rw (own_row k row rows own, eq-eqb (k % writers) w own) (omega (arith, count_rows (k + 1) rows))
@@ -83,7 +83,7 @@ module _ (writers w : ℕ) where
   ]
 
   -- the writer's row number j stands j rounds and d rows further on, where its next row is d rows away
-  row_at : (k r d j : ℕ) (rows : List Numbered) → k % writers ≡ r → r < writers → w < writers → d < writers → ((r + d ≡ w) ⊎ (r + d ≡ w + writers)) → slice_get (rows_of writers w k rows) j ≡ slice_get rows (j * writers + d)
+  row_at : (k r d j : ℕ) (rows : List RowValue) → k % writers ≡ r → r < writers → w < writers → d < writers → ((r + d ≡ w) ⊎ (r + d ≡ w + writers)) → slice_get (rows_of writers w k rows) j ≡ slice_get rows (j * writers + d)
   row_at k r d j [] is lt w_lt d_lt away = refl
   row_at k r zero zero (row ∷ rows) is lt w_lt d_lt away =
       let same : r ≡ w = elim away [ inl e ↦ omega (arith, e) | inr e ↦ absurd (omega (arith, e, lt)) ] in
@@ -104,18 +104,18 @@ module _ (writers w : ℕ) where
         | inr past ↦ row_at (k + 1) 0 d j rows (next_round k writers r is (omega (arith, past, lt))) (omega (arith, lt)) w_lt (omega (arith, d_lt)) (elim away [ inl e ↦ absurd (omega (arith, e, past, w_lt)) | inr e ↦ inl (omega (arith, e, past, lt)) ])
       ])
 
-  own_at : (j : ℕ) (rows : List Numbered) → 0 % writers ≡ 0 → w < writers → slice_get (rows_of writers w 0 rows) j ≡ slice_get rows (j * writers + w)
+  own_at : (j : ℕ) (rows : List RowValue) → 0 % writers ≡ 0 → w < writers → slice_get (rows_of writers w 0 rows) j ≡ slice_get rows (j * writers + w)
   own_at j rows none w_lt = row_at 0 0 w j rows none (omega (arith, w_lt)) w_lt w_lt (inl (omega arith))
 
   -- the number at which a part of the rows begins
-  rows_place : (m j : ℕ) (rows : List Numbered) → rows_of writers w (0 + length (take j rows)) (take m (drop j rows)) ≡ rows_of writers w j (take m (drop j rows))
+  rows_place : (m j : ℕ) (rows : List RowValue) → rows_of writers w (0 + length (take j rows)) (take m (drop j rows)) ≡ rows_of writers w j (take m (drop j rows))
   rows_place m j rows = elim (cases_lt (length rows) j) [
-    | inl past ↦ rw (drop_all j rows (omega (arith, past)), take_all {A = Numbered} m [] (omega arith)) refl
+    | inl past ↦ rw (drop_all j rows (omega (arith, past)), take_all {A = RowValue} m [] (omega arith)) refl
     | inr within ↦ let e : 0 + length (take j rows) ≡ j = omega (arith, length-take j rows, within) in rw e refl
   ]
 
 -- The log of an order for which there are rows enough has that order, and each writer's next rows.
-abbrev none : Numbered
+abbrev none : RowValue
 none = record { num = 0; values = [] }
 
 abbrev turns : ℕ → List ℕ → ℕ
@@ -148,7 +148,7 @@ exist_of : (n : ℕ) (es : List Entry) → AllByRecursion (λ e. e.writer < n) e
 exist_of n [] exist = tt
 exist_of n (e ∷ es) exist = (exist.0, exist_of n es exist.1)
 
-module _ (rows : List Numbered) (writers : ℕ) (first : 0 % writers ≡ 0) where
+module _ (rows : List RowValue) (writers : ℕ) (first : 0 % writers ≡ 0) where
   abbrev Enough : List ℕ → List ℕ → Type 0
   Enough before order = (w : ℕ) → w < writers → turns w before + turns w order ≤ length (rows_of writers w 0 rows)
 
@@ -213,41 +213,41 @@ prefix_counts p q m xs ys same (suc b) =
     ∙ sym (sum_by-append (λ y. cond (q y) 1 0) (take (m * b) ys) (take m (drop (m * b) ys))))
 
 module _ (writers w m : ℕ) where
-  abbrev SameBatch : List Entry → List Numbered → ℕ → Type 0
+  abbrev SameBatch : List Entry → List RowValue → ℕ → Type 0
   SameBatch log rows b = written_by w (take m (drop (m * b) log)) ≡ rows_of writers w (m * b) (take m (drop (m * b) rows))
 
-  abbrev SameFront : List Entry → List Numbered → ℕ → Type 0
+  abbrev SameFront : List Entry → List RowValue → ℕ → Type 0
   SameFront log rows b = written_by w (take (m * b) log) ≡ rows_of writers w 0 (take (m * b) rows)
 
   written_front : (log : List Entry) (b : ℕ) → written_by w (take (m * suc b) log) ≡ written_by w (take (m * b) log) ++ written_by w (take m (drop (m * b) log))
   written_front log b = ap (λ i. written_by w (take i log)) (mul-suc m b) ∙ ap (written_by w) (take-add (m * b) m log) ∙ written_append w (take (m * b) log) (take m (drop (m * b) log))
 
-  rows_front : (rows : List Numbered) (b : ℕ) → rows_of writers w 0 (take (m * suc b) rows) ≡ rows_of writers w 0 (take (m * b) rows) ++ rows_of writers w (m * b) (take m (drop (m * b) rows))
+  rows_front : (rows : List RowValue) (b : ℕ) → rows_of writers w 0 (take (m * suc b) rows) ≡ rows_of writers w 0 (take (m * b) rows) ++ rows_of writers w (m * b) (take m (drop (m * b) rows))
   rows_front rows b =
       ap (λ i. rows_of writers w 0 (take i rows)) (mul-suc m b) ∙ ap (rows_of writers w 0) (take-add (m * b) m rows)
       ∙ rows_append writers w 0 (take (m * b) rows) (take m (drop (m * b) rows))
       ∙ ap (λ rs. rows_of writers w 0 (take (m * b) rows) ++ rs) (rows_place writers w m (m * b) rows)
 
-  front_from_batches : (log : List Entry) (rows : List Numbered) → ((b : ℕ) → SameBatch log rows b) → (b : ℕ) → SameFront log rows b
+  front_from_batches : (log : List Entry) (rows : List RowValue) → ((b : ℕ) → SameBatch log rows b) → (b : ℕ) → SameFront log rows b
   front_from_batches log rows same zero = let e : m * 0 ≡ 0 = omega arith in rw e refl
   front_from_batches log rows same (suc b) = written_front log b ∙ ap₂ (λ xs ys. xs ++ ys) (front_from_batches log rows same b) (same b) ∙ sym (rows_front rows b)
 
-  batch_from_fronts : (log : List Entry) (rows : List Numbered) → ((b : ℕ) → SameFront log rows b) → (b : ℕ) → SameBatch log rows b
+  batch_from_fronts : (log : List Entry) (rows : List RowValue) → ((b : ℕ) → SameFront log rows b) → (b : ℕ) → SameBatch log rows b
   batch_from_fronts log rows same b =
       append_cancel_left (rows_of writers w 0 (take (m * b) rows)) _ _
       (ap (λ xs. xs ++ written_by w (take m (drop (m * b) log))) (sym (same b)) ∙ sym (written_front log b) ∙ same (suc b) ∙ rows_front rows b)
 
   -- how many rows a writer has in a part
-  count_part : (j : ℕ) (rows : List Numbered) → count_by (λ i. i % writers == w) (take m (drop j (range_with_len 0 (length rows)))) ≡ length (rows_of writers w j (take m (drop j rows)))
+  count_part : (j : ℕ) (rows : List RowValue) → count_by (λ i. i % writers == w) (take m (drop j (range_with_len 0 (length rows)))) ≡ length (rows_of writers w j (take m (drop j rows)))
   count_part j rows =
       let long : min m (length rows - j) ≡ length (take m (drop j rows)) = sym (length-take m (drop j rows) ∙ ap (min m) (length-drop j rows)) in
       ap (count_by (λ i. i % writers == w)) (numbers_part m j (length rows) ∙ ap (range_with_len j) long) ∙ count_rows writers w j (take m (drop j rows))
 
-count_front : (writers w i : ℕ) (rows : List Numbered) → count_by (λ k. k % writers == w) (take i (range_with_len 0 (length rows))) ≡ length (rows_of writers w 0 (take i rows))
+count_front : (writers w i : ℕ) (rows : List RowValue) → count_by (λ k. k % writers == w) (take i (range_with_len 0 (length rows))) ≡ length (rows_of writers w 0 (take i rows))
 count_front writers w i rows =
     ap (count_by (λ k. k % writers == w)) (range_take i 0 (length rows) ∙ ap (range_with_len 0) (sym (length-take i rows))) ∙ count_rows writers w 0 (take i rows)
 
-module _ (rows : List Numbered) (writers m : ℕ) (first : 0 % writers ≡ 0) (reach : (n : ℕ) → n ≤ m * n) where
+module _ (rows : List RowValue) (writers m : ℕ) (first : 0 % writers ≡ 0) (reach : (n : ℕ) → n ≤ m * n) where
   module _ (order : List ℕ) (size : length order ≡ length rows) (exist : AllByRecursion (λ v. v < writers) order) (fair : (b w : ℕ) → w < writers → turns w (take m (drop (m * b) order)) ≡ count_by (λ k. k % writers == w) (take m (drop (m * b) (range_with_len 0 (length rows))))) where
     turns_front : (b w : ℕ) → w < writers → turns w (take (m * b) order) ≡ length (rows_of writers w 0 (take (m * b) rows))
     turns_front b w lt = prefix_counts (λ v. v == w) (λ k. k % writers == w) m order (range_with_len 0 (length rows)) (λ c. fair c w lt) b ∙ count_front writers w (m * b) rows
@@ -305,7 +305,7 @@ module _ (rows : List Numbered) (writers m : ℕ) (first : 0 % writers ≡ 0) (r
           ∙ sym (written_none writers w (log_of rows writers (order_of log)) le (exist_in writers (log_of rows writers (order_of log)) (subst (AllByRecursion (λ v. v < writers)) (sym order_again) (exist_of writers log exist))))
     ])
 
-pub log_of_order : (rows : List Numbered) (writers : ℕ) (order : List ℕ) → 0 < writers → IsOrder order (length rows) writers → IsLogOf rows writers (log_of rows writers order) × (order_of (log_of rows writers order) ≡ order)
+pub log_of_order : (rows : List RowValue) (writers : ℕ) (order : List ℕ) → 0 < writers → IsOrder order (length rows) writers → IsLogOf rows writers (log_of rows writers order) × (order_of (log_of rows writers order) ≡ order)
 log_of_order rows writers order some is =
     let first : 0 % writers ≡ 0 = zero_first writers some in
     let reach : (n : ℕ) → n ≤ 4096 * n = λ n. omega arith in
@@ -318,7 +318,7 @@ log_of_order rows writers order some is =
       same,
     )
 
-pub order_of_log : (rows : List Numbered) (writers : ℕ) (log : List Entry) → 0 < writers → IsLogOf rows writers log → IsOrder (order_of log) (length rows) writers × (log ≡ log_of rows writers (order_of log))
+pub order_of_log : (rows : List RowValue) (writers : ℕ) (log : List Entry) → 0 < writers → IsLogOf rows writers log → IsOrder (order_of log) (length rows) writers × (log ≡ log_of rows writers (order_of log))
 order_of_log rows writers log some is =
     let first : 0 % writers ≡ 0 = zero_first writers some in
     let reach : (n : ℕ) → n ≤ 4096 * n = λ n. omega arith in (
@@ -330,5 +330,5 @@ order_of_log rows writers log some is =
       log_again rows writers 4096 first reach log is.size is.exist is.own,
     )
 
-pub log_from_order : (rows : List Numbered) (writers : ℕ) (log : List Entry) → 0 < writers → IsOrder (order_of log) (length rows) writers × (log ≡ log_of rows writers (order_of log)) → IsLogOf rows writers log
+pub log_from_order : (rows : List RowValue) (writers : ℕ) (log : List Entry) → 0 < writers → IsOrder (order_of log) (length rows) writers × (log ≡ log_of rows writers (order_of log)) → IsLogOf rows writers log
 log_from_order rows writers log some is = subst (IsLogOf rows writers) (sym is.1) (log_of_order rows writers (order_of log) some is.0).0

@@ -1,15 +1,15 @@
 -- Laws of orders and their logs.
 use Rattle.std.specs.Prelude.{◌≡◌, ℕ, ◌<◌, ◌↔◌, List, length}
-use Rattle.cf_row.specs.Row.{Numbered}
+use Rattle.cf_row.specs.Row.{RowValue}
 use Rattle.cf_row.specs.declared.row.Entry.{Entry}
 use Rattle.cf_history.specs.Order.{IsOrder, log_of, IsLogOf, order_of}
 
 -- A valid order gives a log in which each row stands once, and this log has that order.
 abbrev pub OrdersGiveLogs : Type 0
 OrdersGiveLogs =
-    (rows : List Numbered) (writers : ℕ) (order : List ℕ) → 0 < writers → IsOrder order (length rows) writers → IsLogOf rows writers (log_of rows writers order) × (order_of (log_of rows writers order) ≡ order)
+    (rows : List RowValue) (writers : ℕ) (order : List ℕ) → 0 < writers → IsOrder order (length rows) writers → IsLogOf rows writers (log_of rows writers order) × (order_of (log_of rows writers order) ≡ order)
 
 -- Each row stands once in a log exactly where the log's order is valid and it is the log of that order.
 abbrev pub LogsHaveOrders : Type 0
 LogsHaveOrders =
-    (rows : List Numbered) (writers : ℕ) (log : List Entry) → 0 < writers → IsLogOf rows writers log ↔ (IsOrder (order_of log) (length rows) writers × (log ≡ log_of rows writers (order_of log)))
+    (rows : List RowValue) (writers : ℕ) (log : List Entry) → 0 < writers → IsLogOf rows writers log ↔ (IsOrder (order_of log) (length rows) writers × (log ≡ log_of rows writers (order_of log)))

@@ -2,7 +2,7 @@
 use Rattle.std.specs.Prelude.{◌≡◌, ℕ, ◌+◌, ◌*◌, ◌%◌, ◌<◌, List, [], ◌∷◌, ◌++◌, length, take, drop, map, slice_get, ◌==◌, if◌then◌else◌}
 use Rattle.std.specs.Option.{option_map}
 use Rattle.std.specs.List.{filter, count_by, cons_option, range_with_len, AllByRecursion}
-use Rattle.cf_row.specs.Row.{Numbered}
+use Rattle.cf_row.specs.Row.{RowValue}
 use Rattle.cf_row.specs.declared.row.Entry.{Entry}
 
 -- batches are 4,096 consecutive items, the last may be shorter
@@ -18,7 +18,7 @@ pub record IsOrder (order : List ℕ) (n writers : ℕ) : Type 0 where
       count_by (λ w. w == writer) (batch b order) ≡ count_by (λ k. k % writers == writer) (batch b (range_with_len 0 n))
 
 -- each writer of the order, after those before it, takes its next row
-abbrev pub log_after : List Numbered → ℕ → List ℕ → List ℕ → List Entry
+abbrev pub log_after : List RowValue → ℕ → List ℕ → List ℕ → List Entry
 log_after rows writers before [] = []
 log_after rows writers before (writer ∷ order) =
     cons_option
@@ -26,20 +26,20 @@ log_after rows writers before (writer ∷ order) =
     (log_after rows writers (before ++ writer ∷ []) order)
 
 -- the log of an order
-abbrev pub log_of : List Numbered → ℕ → List ℕ → List Entry
+abbrev pub log_of : List RowValue → ℕ → List ℕ → List Entry
 log_of rows writers order = log_after rows writers [] order
 
 -- The rows of one writer, where the first is row number k.
-abbrev pub rows_of : ℕ → ℕ → ℕ → List Numbered → List Numbered
+abbrev pub rows_of : ℕ → ℕ → ℕ → List RowValue → List RowValue
 rows_of writers writer k [] = []
 rows_of writers writer k (row ∷ rows) = if k % writers == writer then row ∷ rows_of writers writer (k + 1) rows else rows_of writers writer (k + 1) rows
 
 -- what one writer wrote among these entries
-abbrev pub written_by : ℕ → List Entry → List Numbered
+abbrev pub written_by : ℕ → List Entry → List RowValue
 written_by writer entries = map (λ entry. entry.row) (filter (λ entry. entry.writer == writer) entries)
 
 -- A log in which each row stands once: in each batch each writer's entries are its rows of that batch, in order.
-pub record IsLogOf (rows : List Numbered) (writers : ℕ) (log : List Entry) : Type 0 where
+pub record IsLogOf (rows : List RowValue) (writers : ℕ) (log : List Entry) : Type 0 where
   pub size : length log ≡ length rows
   pub exist : AllByRecursion (λ entry. entry.writer < writers) log
   pub own : (b writer : ℕ) → writer < writers → written_by writer (batch b log) ≡ rows_of writers writer (4096 * b) (batch b rows)

@@ -3,7 +3,7 @@ use Rattle.std.proofs.Common.{true, ◌≡◌, ◌≢◌, ℕ, ◌<◌, ◌≤�
 use Rattle.std.proofs.lemmas.Bool.{cases_eq}
 use Rattle.cf_words.specs.Words.{Layout}
 use Rattle.cf_law.specs.Passes.{Book, Pass}
-use Rattle.cf_law.specs.Steps.{Holds, at_book}
+use Rattle.cf_law.specs.Steps.{Holds, pass_with_book}
 use Rattle.cf_law.specs.Lawful.{Base, BaseLaw, book_at, PassLaw, HoldsAt, Stands}
 use Rattle.cf_words.proofs.Links.{Grows}
 use Rattle.cf_words.proofs.Heads.{get_set_same, get_set_other}
@@ -87,12 +87,12 @@ knows_more sh m passes k p p' S at same new =
 pub booked : (sh : Layout) (m m' : Base) (passes : List Pass) (k : ℕ) (p : Pass) (j : ℕ) (b c : Book) → Stands sh m passes → slice_get passes k ≡ Some p → Holds p j b
     → BaseLaw sh m' → Evolves m.log m'.log → Grows sh.sizes.nodes m.stocks m'.stocks → m.tails.1 ≤ m'.tails.1
     → c ≡ book_at m' b.writer → ((v : ℕ) → v ≢ b.writer → book_at m' v ≡ book_at m v)
-    → Stands sh m' (set passes k (at_book j c p))
+    → Stands sh m' (set passes k (pass_with_book j c p))
 booked sh m m' passes k p j b c S at held law ev grows more is others =
     let old = S.knows k p at in
     let own = old.books j b held in
     let writer : c.writer ≡ b.writer = ap (λ (d : Book). d.writer) is in
-    acted sh m m' passes k p (at_book j c p) S at law ev grows more
+    acted sh m m' passes k p (pass_with_book j c p) S at law ev grows more
     (λ w none. others w (λ e. none j b held (sym e)))
     (λ i d e. elim (get_from_set p.books j i b c d held e) [
       | inl h ↦ (b, ap (slice_get p.books) h.0 ∙ held, sym writer ∙ ap (λ (x : Book). x.writer) (sym h.1))

@@ -1,12 +1,12 @@
 -- What each kind of step makes of the words, tickets and nodes keeps their law.
 use Rattle.std.proofs.Common.{◌≡◌, ℕ, ◌+◌, ◌<◌, ◌≤◌, ◌⊎◌, suc, List, [], ◌∷◌, ◌++◌, length, set, get_or, Some, None, slice_get, true, false, inl, inr, refl, arith, ap, sym, ◌∙◌, subst, length-set, length-append}
-use Rattle.cf_row.specs.Row.{Numbered}
+use Rattle.cf_row.specs.Row.{RowValue}
 use Rattle.cf_shape.specs.Places.{head_slot}
 use Rattle.std.proofs.lemmas.Bool.{cases_eq, cases_lt}
 use Rattle.std.proofs.lemmas.Option.{slice_get_within}
 use Rattle.cf_shape.specs.Places.{Slot, place}
 use Rattle.cf_shape.specs.Places.Slot.{tail, cell, body}
-use Rattle.cf_words.specs.Words.{Spot, Layout, Ticket, Stock, stock_of, Spells, has, relabel, use_node, mark_over, marked, free_of, fill, link_in, finish, fresh_ticket, full_word}
+use Rattle.cf_words.specs.Words.{Spot, Layout, Ticket, Stock, stock_of, Spells, has, stocks_with_label, stocks_with_node, stocks_with_mark, marked, free_of, ticket_with_word, ticket_with_head, ticket_with_done, fresh_ticket, full_word}
 use Rattle.cf_words.specs.Law.{LayoutLaw, HasLeaf, CanLink, CanHead, CanFill, Skips, IsWhole}
 use Rattle.cf_law.specs.Lawful.{Base, BaseLaw, IsFilledIn}
 use Rattle.cf_words.proofs.Nodes.{get_push_same, get_push_other, over_node_at, relabel_marked, use_marked, over_marked, relabel_over, use_over}
@@ -23,7 +23,7 @@ abbrev pub stored : Layout → Slot → ℕ → Base → List ℕ
 stored sh t v x = set x.words (place sh.sizes t) v
 
 -- a ticket
-abbrev pub new_ticket : Layout → ℕ → Numbered → Base → Base
+abbrev pub new_ticket : Layout → ℕ → RowValue → Base → Base
 new_ticket sh w r x = record {
   words = stored sh (tail 0) (suc x.tails.0) x;
   tails = (suc x.tails.0, x.tails.1);
@@ -37,7 +37,7 @@ new_mark sh w x = record {
   words = stored sh (tail 0) (suc x.tails.0) x;
   tails = (suc x.tails.0, x.tails.1);
   log = x.log;
-  stocks = mark_over w x.stocks;
+  stocks = stocks_with_mark w x.stocks;
 }
 
 -- a change of ticket o to u and of the slot t to v: stored words, done words and heads
@@ -64,7 +64,7 @@ new_label sh w v x = record {
   words = stored sh (body (free_of sh.sizes.nodes x.stocks w) 0) v x;
   tails = x.tails;
   log = x.log;
-  stocks = relabel w v x.stocks;
+  stocks = stocks_with_label w v x.stocks;
 }
 
 -- a link that won
@@ -73,7 +73,7 @@ new_link sh w s t x = record {
   words = stored sh t (suc (free_of sh.sizes.nodes x.stocks w)) x;
   tails = x.tails;
   log = x.log;
-  stocks = use_node w s x.stocks;
+  stocks = stocks_with_node w s x.stocks;
 }
 
 -- what stands in a list with one element touched
@@ -173,9 +173,9 @@ change_base sh x o t u z v law at grown spells leaves full linked whole = record
 }
 
 -- A stored word.
-pub fill_base : (sh : Layout) (x : Base) (o k : ℕ) (t : Ticket) → BaseLaw sh x → CanFill sh x.log o t k → BaseLaw sh (touched sh o (fill k t) (cell o k) (full_word sh x.log o t k) x)
+pub fill_base : (sh : Layout) (x : Base) (o k : ℕ) (t : Ticket) → BaseLaw sh x → CanFill sh x.log o t k → BaseLaw sh (touched sh o (ticket_with_word k t) (cell o k) (full_word sh x.log o t k) x)
 fill_base sh x o k t law can =
-    change_base sh x o t (fill k t) (cell o k) (full_word sh x.log o t k) law can.at
+    change_base sh x o t (ticket_with_word k t) (cell o k) (full_word sh x.log o t k) law can.at
     (record { becomes = record { writer = refl; row = refl; filled = omega (arith, can.from); done = λ h. h }; links = λ l h. h })
     (fill_keeps sh x.tails x.log x.stocks x.words o k t can law.size (omega (arith, slice_get_within x.log o t can.at, law.room)) law.spells)
     (λ l h. law.leaves o t l can.at h)
@@ -187,9 +187,9 @@ fill_base sh x o k t law can =
 pub finish_base : (sh : Layout) (x : Base) (o k : ℕ) (t : Ticket) → BaseLaw sh x → slice_get x.log o ≡ Some t → suc k ≡ sh.sizes.ticket_words
     → ((l : ℕ) (p : List ℕ) → sh.path t.row l ≡ Some p → has t.linked l ≡ true)
     → IsWhole sh t
-    → BaseLaw sh (touched sh o (finish t) (cell o k) 1 x)
+    → BaseLaw sh (touched sh o (ticket_with_done t) (cell o k) 1 x)
 finish_base sh x o k t law at last linked whole =
-    change_base sh x o t (finish t) (cell o k) 1 law at
+    change_base sh x o t (ticket_with_done t) (cell o k) 1 law at
     (record { becomes = record { writer = refl; row = refl; filled = omega arith; done = λ h. refl }; links = λ l h. h })
     (finish_keeps sh x.tails x.log x.stocks x.words o k t at last law.size (omega (arith, slice_get_within x.log o t at, law.room)) law.spells)
     (λ l h. law.leaves o t l at h)
@@ -199,13 +199,13 @@ finish_base sh x o k t law at last linked whole =
 
 -- A head.
 pub head_base : (sh : Layout) (x : Base) (o : ℕ) (t : Ticket) (l d : ℕ) (p : List ℕ) (n : ℕ) → LayoutLaw sh → BaseLaw sh x → CanHead sh x.log x.stocks o t l d p n
-    → BaseLaw sh (touched sh o (link_in l t) (head_slot sh.sizes n d t.writer) (suc o) x)
+    → BaseLaw sh (touched sh o (ticket_with_head l t) (head_slot sh.sizes n d t.writer) (suc o) x)
 head_base sh x o t l d p n shaped law can =
-    change_base sh x o t (link_in l t) (head_slot sh.sizes n d t.writer) (suc o) law can.at
+    change_base sh x o t (ticket_with_head l t) (head_slot sh.sizes n d t.writer) (suc o) law can.at
     (record { becomes = record { writer = refl; row = refl; filled = omega arith; done = λ h. h }; links = λ i h. has_rest l i t.linked h })
     (head_keeps sh x.tails x.log x.stocks x.words o t l d p n shaped law.nodes law.flight can law.size law.spells)
     (λ i h. elim (has_more l i t.linked h) [
-      | inl e ↦ subst (λ (q : ℕ). HasLeaf sh x.stocks (link_in l t) q) e (d, p, n, can.leads, can.leaf)
+      | inl e ↦ subst (λ (q : ℕ). HasLeaf sh x.stocks (ticket_with_head l t) q) e (d, p, n, can.leads, can.leaf)
       | inr m ↦ law.leaves o t i can.at m
     ])
     (λ i h. elim (has_more l i t.linked h) [
@@ -221,7 +221,7 @@ head_base sh x o t l d p n shaped law can =
     (λ done. absurd (cc (done, can.flies)))
 
 -- A ticket.
-pub ticket_base : (sh : Layout) (x : Base) (w : ℕ) (r : Numbered) → BaseLaw sh x → sh.fits r ≡ true → w < sh.sizes.writers → length x.log < sh.sizes.tickets
+pub ticket_base : (sh : Layout) (x : Base) (w : ℕ) (r : RowValue) → BaseLaw sh x → sh.fits r ≡ true → w < sh.sizes.writers → length x.log < sh.sizes.tickets
     → ((o : ℕ) (t : Ticket) → slice_get x.log o ≡ Some t → t.writer ≡ w → t.is_done ≡ true)
     → BaseLaw sh (new_ticket sh w r x)
 ticket_base sh x w r law fit lt room none = let u = fresh_ticket w r in let len : length (x.log ++ u ∷ []) ≡ length x.log + 1 = length-append x.log (u ∷ []) in record {

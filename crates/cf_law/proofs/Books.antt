@@ -1,6 +1,6 @@
 -- The book of a writer, as the tickets change.
 use Rattle.std.proofs.Common.{◌≡◌, ℕ, ◌+◌, ◌<◌, ◌==◌, ◌≢◌, zero, suc, List, [], ◌∷◌, ◌++◌, length, set, Option, Some, None, slice_get, cond, Bool, true, false, inl, inr, refl, arith, ap, ap₂, sym, ◌∙◌, subst}
-use Rattle.cf_row.specs.Row.{Numbered}
+use Rattle.cf_row.specs.Row.{RowValue}
 use Rattle.std.proofs.lemmas.Bool.{cases_Bool}
 use Rattle.cf_words.specs.Words.{Ticket, fresh_ticket}
 use Rattle.cf_law.specs.Passes.{Own, Flight}
@@ -189,7 +189,7 @@ set_done w k (suc j) (x ∷ xs) f u h at there uw ud last =
     ]
 
 -- A ticket comes.
-pub push_own : (w k : ℕ) (log : List Ticket) (r : Numbered) → flight_in w k log ≡ None
+pub push_own : (w k : ℕ) (log : List Ticket) (r : RowValue) → flight_in w k log ≡ None
     → (mine_in w k (log ++ fresh_ticket w r ∷ []) ≡ mine_in w k log) × (flight_in w k (log ++ fresh_ticket w r ∷ []) ≡ Some (fresh_flight (k + length log) r))
 push_own w k [] r h =
     let a = open_cons w k (fresh_ticket w r) [] (eq_true w w refl) refl in

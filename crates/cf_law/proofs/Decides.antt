@@ -8,7 +8,7 @@ use Rattle.cf_words.specs.Words.{Spot, spot, Layout, Ticket, Stock, node_at, has
 use Rattle.cf_shape.specs.Uses.Use.{plain, version}
 use Rattle.cf_words.specs.Law.{LayoutLaw, Skips, IsWhole}
 use Rattle.cf_law.specs.Passes.{Book, Flight, Pass}
-use Rattle.cf_law.specs.Steps.{Holds, Flies, IsChild, Knows, free_node, ticket_of}
+use Rattle.cf_law.specs.Steps.{Holds, HoldsInFlight, IsChild, Knows, free_node, ticket_of}
 use Rattle.cf_law.specs.Lawful.{Base, BaseLaw, PassLaw, Stands}
 use Rattle.cf_law.specs.Decides.{skips, skips_all, linked_if, linked_all}
 use Rattle.cf_shape.proofs.Slots.{same_slot}
@@ -100,7 +100,7 @@ pub known_unique : (sh : Layout) (m : Base) (p : Pass) (s r : Spot) (n : ℕ) �
 known_unique sh m p s r n knows a b = cc (knows.known a.0 (s, n) a.1, knows.known b.0 (r, n) b.1)
 
 pub flight_unique : (sh : Layout) (m : Base) (passes : List Pass) (k : ℕ) (p : Pass) (i j : ℕ) (b c : Book) (f g : Flight) → Stands sh m passes → slice_get passes k ≡ Some p
-    → Flies p i b f → Flies p j c g → f.offset ≡ g.offset → i ≡ j
+    → HoldsInFlight p i b f → HoldsInFlight p j c g → f.offset ≡ g.offset → i ≡ j
 flight_unique sh m passes k p i j b c f g S at x y same =
     let a = aloft sh m p i b f S.law (S.knows k p at) x in
     let d = aloft sh m p j c g S.law (S.knows k p at) y in

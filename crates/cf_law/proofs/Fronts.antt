@@ -1,6 +1,6 @@
 -- What was seen, as the tickets change, and what the words spell.
 use Rattle.std.proofs.Common.{◌≡◌, ℕ, ◌<◌, ◌≤◌, zero, suc, List, [], ◌∷◌, ◌++◌, length, take, get_or, Option, Some, None, slice_get, cond, Bool, true, inl, inr, refl, arith, ap, ap₂, sym, ◌∙◌, subst, length-append}
-use Rattle.cf_row.specs.Row.{Numbered}
+use Rattle.cf_row.specs.Row.{RowValue}
 use Rattle.cf_row.specs.declared.row.Entry.{Entry}
 use Rattle.std.specs.Bool.{nat_lt}
 use Rattle.std.proofs.lemmas.Bool.{cases_lt, cases_eq}
@@ -9,7 +9,7 @@ use Rattle.cf_shape.specs.Places.Slot.{cell}
 use Rattle.cf_words.specs.Words.{Layout, entry, Ticket, ticket_word, full_word, used_word, done_word}
 use Rattle.cf_words.specs.Law.{LayoutLaw, Skips}
 use Rattle.cf_law.specs.Lawful.{Base, BaseLaw, front}
-use Rattle.cf_law.specs.Events.{table, word_at, plain_at, spelt}
+use Rattle.cf_law.specs.Events.{table, word_at, plain_at, entries_spelled}
 use Rattle.cf_words.proofs.Chains.{eq_false}
 use Rattle.cf_words.proofs.Nodes.{get_push_same, get_push_other}
 use Rattle.cf_words.proofs.Heads.{lt_true}
@@ -55,7 +55,7 @@ front_evolves (t ∷ ts) log' (suc n) le ev = go log' (ev 0 t refl) (λ r rs e. 
     go [] m rest = absurd (cc (m.1))
     go (r ∷ rs) m rest =
         let same : r ≡ m.0 = cc (m.1) in
-        ap₂ (λ (w : ℕ) (x : Numbered). entry w x ∷ front n ts) (sym m.2.writer ∙ ap (λ (z : Ticket). z.writer) (sym same)) (sym m.2.row ∙ ap (λ (z : Ticket). z.row) (sym same))
+        ap₂ (λ (w : ℕ) (x : RowValue). entry w x ∷ front n ts) (sym m.2.writer ∙ ap (λ (z : Ticket). z.writer) (sym same)) (sym m.2.row ∙ ap (λ (z : Ticket). z.row) (sym same))
         ∙ ap (λ (es : List Entry). entry r.writer r.row ∷ es) (rest r rs refl)
 
 pub front_length : (log : List Ticket) (n : ℕ) → n ≤ length log → length (front n log) ≡ n
@@ -114,14 +114,14 @@ plain_spells sh m o t shaped law at done =
     table_at f sh.plain_words i small ∙ (ap (λ (v : ℕ). Some v) (word_spells sh m o i t shaped law at done small) ∙ sym (get_from_or (sh.spelled t.row t.writer) i 0 (omega (arith, long)))))
 
 -- the words below the read tail spell the entries
-pub spelt_front : (sh : Layout) (m : Base) (n : ℕ) → LayoutLaw sh → BaseLaw sh m → n ≤ m.tails.1 → spelt sh m.words n ≡ front n m.log
+pub spelt_front : (sh : Layout) (m : Base) (n : ℕ) → LayoutLaw sh → BaseLaw sh m → n ≤ m.tails.1 → entries_spelled sh m.words n ≡ front n m.log
 spelt_front sh m n shaped law le =
     let g = λ (o : ℕ). sh.reads (plain_at sh m.words o) in
     let len = table_length g n in
     let front_len = front_length m.log n (omega (arith, law.covered)) in
-    same_list (spelt sh m.words n) (front n m.log) (len ∙ sym front_len) (λ o lt. go o (omega (arith, len)) (slice_get m.log o) refl)
+    same_list (entries_spelled sh m.words n) (front n m.log) (len ∙ sym front_len) (λ o lt. go o (omega (arith, len)) (slice_get m.log o) refl)
   where
-    go : (o : ℕ) → o < n → (x : Option Ticket) → slice_get m.log o ≡ x → slice_get (spelt sh m.words n) o ≡ slice_get (front n m.log) o
+    go : (o : ℕ) → o < n → (x : Option Ticket) → slice_get m.log o ≡ x → slice_get (entries_spelled sh m.words n) o ≡ slice_get (front n m.log) o
     go o lt None at = absurd (no_gap m.log o (omega (arith, law.covered)) at)
     go o lt (Some t) at =
         table_at (λ (k : ℕ). sh.reads (plain_at sh m.words k)) n o lt

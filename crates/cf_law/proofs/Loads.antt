@@ -11,9 +11,9 @@ use Rattle.cf_words.specs.Words.{Spot, spot, Layout, Ticket, Stock, node_at, IsN
 use Rattle.cf_shape.specs.Uses.Use.{version}
 use Rattle.cf_words.specs.Law.{LayoutLaw}
 use Rattle.cf_law.specs.Passes.{Cursor, Pass}
-use Rattle.cf_law.specs.Steps.{looked, sees, learn, met_of, walk_on, Reaches}
+use Rattle.cf_law.specs.Steps.{pass_with_look, pass_that_sees, pass_with_node, met_of, cursor_after_cell, Reaches}
 use Rattle.cf_law.specs.Lawful.{Base, BaseLaw, front, Known, CursorLaw, CursorIs, Leads, DoneAt, PassLaw}
-use Rattle.cf_law.specs.Events.{word_at, spelt}
+use Rattle.cf_law.specs.Events.{word_at, entries_spelled}
 use Rattle.cf_words.proofs.Chains.{eq_true, eq_from}
 use Rattle.cf_law.proofs.Passes.{WalkLaw, met_law, walk_begins, walk_goes, head_word, previous_word}
 use Rattle.cf_law.proofs.Fronts.{front_length, front_take, spelt_front}
@@ -40,9 +40,9 @@ pub tail_is : (sh : Layout) (m : Base) (k : ℕ) → BaseLaw sh m → k < 2 → 
 tail_is sh m k law lt = law.spells (tail k) lt
 
 -- what the words below the read tail spell
-pub spelt_is : (sh : Layout) (m : Base) (words : List ℕ) → LayoutLaw sh → BaseLaw sh m → m.words ≡ words → spelt sh words (word_at sh words (tail 1)) ≡ front m.tails.1 m.log
+pub spelt_is : (sh : Layout) (m : Base) (words : List ℕ) → LayoutLaw sh → BaseLaw sh m → m.words ≡ words → entries_spelled sh words (word_at sh words (tail 1)) ≡ front m.tails.1 m.log
 spelt_is sh m words shaped law same =
-    ap (λ (ws : List ℕ). spelt sh ws (word_at sh ws (tail 1))) (sym same) ∙ (ap (spelt sh m.words) (tail_is sh m 1 law (omega arith)) ∙ spelt_front sh m m.tails.1 shaped law (omega arith))
+    ap (λ (ws : List ℕ). entries_spelled sh ws (word_at sh ws (tail 1))) (sym same) ∙ (ap (entries_spelled sh m.words) (tail_is sh m 1 law (omega arith)) ∙ spelt_front sh m m.tails.1 shaped law (omega arith))
 
 -- a done word found 1 is that of a finished ticket
 done_from_word : (sh : Layout) (log : List Ticket) (o i v : ℕ) (t : Option Ticket) → slice_get log o ≡ t → suc i ≡ sh.sizes.ticket_words → v ≡ ticket_word sh log o i t → v ≡ 1 → DoneAt log o
@@ -60,7 +60,7 @@ done_from_word sh log o i v (Some t) at last word one =
 pub done_found : (sh : Layout) (m : Base) (o i : ℕ) → BaseLaw sh m → o < sh.sizes.tickets → suc i ≡ sh.sizes.ticket_words → word_at sh m.words (cell o i) ≡ 1 → DoneAt m.log o
 done_found sh m o i law lt last one = done_from_word sh m.log o i (word_at sh m.words (cell o i)) (slice_get m.log o) refl last (law.spells (cell o i) (lt, omega arith)) one
 
-pub looked_law : (sh : Layout) (m : Base) (p : Pass) (word v : ℕ) → BaseLaw sh m → get_or m.words word 0 ≡ v → PassLaw sh m p → PassLaw sh m (looked word v p)
+pub looked_law : (sh : Layout) (m : Base) (p : Pass) (word v : ℕ) → BaseLaw sh m → get_or m.words word 0 ≡ v → PassLaw sh m p → PassLaw sh m (pass_with_look word v p)
 looked_law sh m p word v law found old = record {
   within = old.within;
   seen = old.seen;
@@ -83,11 +83,11 @@ learn_known : (sh : Layout) (bs : List Stock) (s : Spot) (n : ℕ) (xs : List (S
 learn_known sh bs s n xs new old zero x h = let same : ◌≡◌ {A = Spot × ℕ} (s, n) x = cc h in subst (Known sh bs) same new
 learn_known sh bs s n xs new old (suc i) x h = old i x h
 
-pub learn_law : (sh : Layout) (m : Base) (p : Pass) (s : Spot) (n : ℕ) → Known sh m.stocks (s, n) → PassLaw sh m p → PassLaw sh m (learn s n p)
+pub learn_law : (sh : Layout) (m : Base) (p : Pass) (s : Spot) (n : ℕ) → Known sh m.stocks (s, n) → PassLaw sh m p → PassLaw sh m (pass_with_node s n p)
 learn_law sh m p s n new old = record { within = old.within; seen = old.seen; olds = old.olds; known = learn_known sh m.stocks s n p.known new old.known; walk = old.walk; look = old.look; books = old.books; ends = old.ends }
 
 -- `seen` grows, and then the cursor ends
-pub sees_law : (sh : Layout) (m : Base) (p : Pass) (n : ℕ) (es : List Entry) → BaseLaw sh m → n ≤ m.tails.1 → es ≡ front m.tails.1 m.log → PassLaw sh m p → PassLaw sh m (sees n es p)
+pub sees_law : (sh : Layout) (m : Base) (p : Pass) (n : ℕ) (es : List Entry) → BaseLaw sh m → n ≤ m.tails.1 → es ≡ front m.tails.1 m.log → PassLaw sh m p → PassLaw sh m (pass_that_sees n es p)
 sees_law sh m p n es law le spelt_here old = go (nat_lt (length p.seen) n) (cases_lt (length p.seen) n)
   where
     go : (b : Bool) → ((length p.seen < n) ⊎ (n ≤ length p.seen)) → PassLaw sh m (cond (nat_lt (length p.seen) n) (record p { seen = take n es; cursor = None }) p)
@@ -133,7 +133,7 @@ cell_goes sh m p o k c law le is within small link walk =
 
 -- a cell leads it on
 pub cell_walk : (sh : Layout) (m : Base) (p : Pass) (o l i k : ℕ) (c : Option Cursor) → BaseLaw sh m → length p.seen ≤ m.tails.1 → sh.use_of k ≡ version l i → suc k < sh.sizes.ticket_words → sh.sizes.tickets < 2 ^ 32
-    → CursorIs sh m.log (length p.seen) c → CursorIs sh m.log (length p.seen) (walk_on o l i (word_at sh m.words (cell o k)) c)
+    → CursorIs sh m.log (length p.seen) c → CursorIs sh m.log (length p.seen) (cursor_after_cell o l i (word_at sh m.words (cell o k)) c)
 cell_walk sh m p o l i k None law le is within small walk = tt
 cell_walk sh m p o l (suc i) k (Some c) law le is within small walk = walk
 cell_walk sh m p o l zero k (Some c) law le is within small walk = elim (cases_Bool (c.link == suc o)) [

@@ -1,6 +1,6 @@
 -- A writer's chains are made by what it has finished.
 use Rattle.std.proofs.Common.{◌≡◌, ℕ, ◌+◌, ◌<◌, ◌≤◌, ◌⊎◌, ◌==◌, zero, suc, cond, Bool, true, false, List, [], ◌∷◌, ◌++◌, Option, Some, None, slice_get, inl, inr, refl, arith, ap, ap₂, sym, ◌∙◌, subst, append_assoc}
-use Rattle.cf_row.specs.Row.{Numbered}
+use Rattle.cf_row.specs.Row.{RowValue}
 use Rattle.cf_shape.specs.Uses.{Use}
 use Rattle.std.proofs.lemmas.List.{append-nil}
 use Rattle.std.specs.Bool.{nat_lt}
@@ -19,11 +19,11 @@ pub lt_false : (a b : ℕ) → (a < b → ⊥) → nat_lt a b ≡ false
 lt_false a b h = grind (arith, nat_tests)
 
 -- over all tickets, from offset k on
-pub walk : Layout → ℕ → Spot → ℕ → List Ticket → ℕ → List (ℕ × Numbered)
+pub walk : Layout → ℕ → Spot → ℕ → List Ticket → ℕ → List (ℕ × RowValue)
 walk sh w s k [] o = []
 walk sh w s k (t ∷ ts) o = walk sh w s (suc k) ts o ++ cond (nat_lt k o) (entry_at sh w s k (Some t)) []
 
-cond_nil : (b : Bool) (xs : List (ℕ × Numbered)) → xs ≡ [] → cond b xs [] ≡ []
+cond_nil : (b : Bool) (xs : List (ℕ × RowValue)) → xs ≡ [] → cond b xs [] ≡ []
 cond_nil true xs h = h
 cond_nil false xs h = refl
 
@@ -32,28 +32,28 @@ walk_none : (sh : Layout) (w : ℕ) (s : Spot) (k : ℕ) (log : List Ticket) (o 
 unfolding walk
 walk_none sh w s k [] o h = refl
 walk_none sh w s k (t ∷ ts) o h =
-    ap₂ (λ (c : List (ℕ × Numbered)) (b : Bool). c ++ cond b (entry_at sh w s k (Some t)) []) (walk_none sh w s (suc k) ts o (omega arith)) (lt_false k o (λ g. omega arith))
+    ap₂ (λ (c : List (ℕ × RowValue)) (b : Bool). c ++ cond b (entry_at sh w s k (Some t)) []) (walk_none sh w s (suc k) ts o (omega arith)) (lt_false k o (λ g. omega arith))
 
 -- one offset more
 walk_more : (sh : Layout) (w : ℕ) (s : Spot) (k : ℕ) (log : List Ticket) (j o : ℕ) → o ≡ k + j → walk sh w s k log (suc o) ≡ entry_at sh w s o (slice_get log j) ++ walk sh w s k log o
 unfolding walk
-walk_more sh w s k [] j o h = ap (λ (e : List (ℕ × Numbered)). e ++ []) (sym (entry_none sh w s o))
+walk_more sh w s k [] j o h = ap (λ (e : List (ℕ × RowValue)). e ++ []) (sym (entry_none sh w s o))
 walk_more sh w s k (t ∷ ts) zero o h =
     let e : k ≡ o = omega arith in
-    ap₂ (λ (c : List (ℕ × Numbered)) (b : Bool). c ++ cond b (entry_at sh w s k (Some t)) []) (walk_none sh w s (suc k) ts (suc o) (omega arith)) (lt_true k (suc o) (omega arith))
+    ap₂ (λ (c : List (ℕ × RowValue)) (b : Bool). c ++ cond b (entry_at sh w s k (Some t)) []) (walk_none sh w s (suc k) ts (suc o) (omega arith)) (lt_true k (suc o) (omega arith))
     ∙ (ap (λ (n : ℕ). entry_at sh w s n (Some t)) e
     ∙ (sym (append-nil (entry_at sh w s o (Some t)))
-    ∙ ap (λ (c : List (ℕ × Numbered)). entry_at sh w s o (Some t) ++ c) (sym (walk_none sh w s k (t ∷ ts) o (omega arith)))))
+    ∙ ap (λ (c : List (ℕ × RowValue)). entry_at sh w s o (Some t) ++ c) (sym (walk_none sh w s k (t ∷ ts) o (omega arith)))))
 walk_more sh w s k (t ∷ ts) (suc j) o h =
     let E = entry_at sh w s k (Some t) in
-    ap₂ (λ (c : List (ℕ × Numbered)) (b : Bool). c ++ cond b E []) (walk_more sh w s (suc k) ts j o (omega arith)) (lt_true k (suc o) (omega arith))
+    ap₂ (λ (c : List (ℕ × RowValue)) (b : Bool). c ++ cond b E []) (walk_more sh w s (suc k) ts j o (omega arith)) (lt_true k (suc o) (omega arith))
     ∙ (append_assoc (entry_at sh w s o (slice_get ts j)) (walk sh w s (suc k) ts o) E
     ∙ ap (λ (b : Bool). entry_at sh w s o (slice_get ts j) ++ (walk sh w s (suc k) ts o ++ cond b E [])) (sym (lt_true k o (omega arith))))
 
 pub chain_walk : (sh : Layout) (log : List Ticket) (w : ℕ) (s : Spot) (o : ℕ) → chain sh log w s o ≡ walk sh w s 0 log o
 unfolding chain
 chain_walk sh log w s zero = sym (walk_none sh w s 0 log 0 (omega arith))
-chain_walk sh log w s (suc o) = ap (λ (c : List (ℕ × Numbered)). entry_at sh w s o (slice_get log o) ++ c) (chain_walk sh log w s o) ∙ sym (walk_more sh w s 0 log o o (omega arith))
+chain_walk sh log w s (suc o) = ap (λ (c : List (ℕ × RowValue)). entry_at sh w s o (slice_get log o) ++ c) (chain_walk sh log w s o) ∙ sym (walk_more sh w s 0 log o o (omega arith))
 
 -- what a ticket of the writer must be for its book to make the chain before o
 abbrev pub Settled : Layout → ℕ → ℕ → ℕ → Ticket → Type 0
@@ -75,7 +75,7 @@ walk_nil : (sh : Layout) (w : ℕ) (s : Spot) (k o : ℕ) → walk sh w s k [] o
 unfolding walk
 walk_nil sh w s k o = refl
 
-nil_cond : (b : Bool) (xs : List (ℕ × Numbered)) → xs ≡ [] → cond b xs [] ≡ []
+nil_cond : (b : Bool) (xs : List (ℕ × RowValue)) → xs ≡ [] → cond b xs [] ≡ []
 nil_cond true xs h = h
 nil_cond false xs h = refl
 
@@ -105,11 +105,11 @@ mine_walk sh w s k (t ∷ ts) o h =
             | inl l ↦ absurd (cc (e, eq_true t.writer w (links_true sh w s t l).0))
           ] in
           ap (mine_chain sh s) (other_cons w k t ts e).0 ∙ (rest ∙ (sym (append-nil (walk sh w s (suc k) ts o))
-          ∙ (ap (λ (c : List (ℕ × Numbered)). walk sh w s (suc k) ts o ++ c) (sym (nil_cond (nat_lt k o) _ (entry_unlinked sh w s k t none))) ∙ sym (walk_cons sh w s k t ts o (nat_lt k o) refl))))
+          ∙ (ap (λ (c : List (ℕ × RowValue)). walk sh w s (suc k) ts o ++ c) (sym (nil_cond (nat_lt k o) _ (entry_unlinked sh w s k t none))) ∙ sym (walk_cons sh w s k t ts o (nat_lt k o) refl))))
       | inl e ↦ elim (here (eq_from t.writer w e)) [
         | inl g ↦
             ap (mine_chain sh s) (done_cons w k t ts e g.0).0 ∙ (mine_more sh s (own_of k t) (mine_in w (suc k) ts)
-            ∙ (ap₂ (λ (a c : List (ℕ × Numbered)). a ++ c) rest (entry_done sh w s k t (eq_from t.writer w e) g.2) ∙ sym (walk_cons sh w s k t ts o true (lt_true k o g.1))))
+            ∙ (ap₂ (λ (a c : List (ℕ × RowValue)). a ++ c) rest (entry_done sh w s k t (eq_from t.writer w e) g.2) ∙ sym (walk_cons sh w s k t ts o true (lt_true k o g.1))))
         | inr g ↦
             ap (mine_chain sh s) (open_cons w k t ts e g.0).0 ∙ (rest ∙ (sym (append-nil (walk sh w s (suc k) ts o)) ∙ sym (walk_cons sh w s k t ts o false (lt_false k o (λ q. let r = g.1 in omega arith)))))
       ]
@@ -138,4 +138,4 @@ own_word_is sh m w o b f (version l j) law is at = go (sh.path f.row l)
   where
     go : (p : Option (List ℕ)) → own_lane_word sh b f.row l j p ≡ lane_word sh m.log o l j (ticket_of w f) p
     go None = refl
-    go (Some q) = ap (λ (c : List (ℕ × Numbered)). version_word sh l j c f.row) (ap (λ (c : Book). mine_chain sh (spot l q) c.mine) is ∙ chain_mine sh m w o (spot l q) (ticket_of w f) law at refl refl)
+    go (Some q) = ap (λ (c : List (ℕ × RowValue)). version_word sh l j c f.row) (ap (λ (c : Book). mine_chain sh (spot l q) c.mine) is ∙ chain_mine sh m w o (spot l q) (ticket_of w f) law at refl refl)

@@ -1,6 +1,6 @@
 -- What a writer's book says of its own words, and of what was seen of it.
 use Rattle.std.proofs.Common.{◌≡◌, ℕ, ◌+◌, ◌<◌, ◌≤◌, ◌==◌, zero, suc, cond, Bool, true, false, List, [], ◌∷◌, ◌++◌, length, take, Option, Some, None, slice_get, inl, inr, refl, arith, ap, ap₂, sym, ◌∙◌, subst}
-use Rattle.cf_row.specs.Row.{Numbered}
+use Rattle.cf_row.specs.Row.{RowValue}
 use Rattle.cf_row.specs.declared.row.Entry.{Entry}
 use Rattle.std.proofs.lemmas.Bool.{cases_Bool, cases_eq}
 use Rattle.std.proofs.lemmas.List.{take_at}
@@ -109,13 +109,13 @@ own_cell sh m p k j i l h q b x law knows held at within is leads =
     let r = mine_before b.writer 0 m.log j x at' in
     let t = r.ticket in
     let o : x.offset ≡ r.place = (let e = r.offset in omega arith) in
-    let leads' : sh.path t.row l ≡ Some q = ap (λ (y : Numbered). sh.path y l) (sym r.row) ∙ leads in
+    let leads' : sh.path t.row l ≡ Some q = ap (λ (y : RowValue). sh.path y l) (sym r.row) ∙ leads in
     let filled : i < t.filled = law.full r.place l t r.at (law.linked r.place l t q r.at r.done leads') i h is within in
     ap (λ (n : ℕ). word_at sh m.words (cell n i)) o
     ∙ (word_filled sh m r.place i t law r.at filled within
     ∙ (ap (used_word sh m.log r.place t) is ∙ (ap (lane_word sh m.log r.place l h t) leads'
     ∙ (ap₂ (λ (n w : ℕ). version_word sh l h (chain sh m.log w (spot l q) n) t.row) (sym o) r.writer
-    ∙ (ap (λ (c : List (ℕ × Numbered)). version_word sh l h c t.row) (chain_own sh m b.writer j (spot l q) x law at' ∙ ap (λ (xs : List Own). mine_chain sh (spot l q) (take j xs)) (sym mine))
+    ∙ (ap (λ (c : List (ℕ × RowValue)). version_word sh l h c t.row) (chain_own sh m b.writer j (spot l q) x law at' ∙ ap (λ (xs : List Own). mine_chain sh (spot l q) (take j xs)) (sym mine))
     ∙ ap (version_word sh l h (mine_chain sh (spot l q) (take j b.mine))) (sym r.row))))))
 
 -- at rest, a writer's whole chain is that of what it has finished

@@ -1,6 +1,6 @@
 -- What a pass knows stays true, and what its loads tell.
 use Rattle.std.proofs.Common.{◌≡◌, ℕ, ◌+◌, ◌*◌, ◌%◌, ◌^◌, ◌<◌, ◌≤◌, ◌⊎◌, zero, suc, List, [], ◌∷◌, length, get_or, Option, Some, None, slice_get, cond, Bool, true, false, inl, inr, refl, arith, ap, ap₂, sym, ◌∙◌, subst}
-use Rattle.cf_row.specs.Row.{Numbered}
+use Rattle.cf_row.specs.Row.{RowValue}
 use Rattle.cf_shape.specs.Places.{head_slot}
 use Rattle.std.proofs.lemmas.Bool.{cases_eq}
 use Rattle.std.specs.Bool.{nat_lt}
@@ -29,7 +29,7 @@ top_of_entry sh log w s n (suc o) h = h.0
 pub top_within : (sh : Layout) (log : List Ticket) (w : ℕ) (s : Spot) (n : ℕ) → top (chain sh log w s n) ≤ n
 top_within sh log w s n = top_of_entry sh log w s n (top (chain sh log w s n)) (chain_is sh log w s n)
 
-version_low : (sh : Layout) (l : ℕ) (c : List (ℕ × Numbered)) (r : Numbered) → top c < 2 ^ 32 → version_word sh l 0 c r % 2 ^ 32 ≡ top c
+version_low : (sh : Layout) (l : ℕ) (c : List (ℕ × RowValue)) (r : RowValue) → top c < 2 ^ 32 → version_word sh l 0 c r % 2 ^ 32 ≡ top c
 unfolding version_word
 version_low sh l c r h = omega arith
 
@@ -57,7 +57,7 @@ leads_evolves sh log log' c (suc o) ev h = let u = ev o h.0 h.1 in let b = u.2 i
   u.0,
   u.1,
   b.writer ∙ h.2,
-  ap (λ (r : Numbered). sh.path r c.spot.lane) b.row ∙ h.3,
+  ap (λ (r : RowValue). sh.path r c.spot.lane) b.row ∙ h.3,
   λ k j is within. let f = h.4 k j is within in omega (arith, f, b.filled),
 )
 
@@ -78,7 +78,7 @@ cursor_evolves sh log log' seen (Some c) ev le h = record {
         let same : u ≡ x.0 = cc (at, x.1) in
         let writer : t.writer ≡ c.writer = sym b.writer ∙ (ap (λ (q : Ticket). q.writer) (sym same) ∙ w) in
         let row : t.row ≡ u.row = sym b.row ∙ ap (λ (q : Ticket). q.row) (sym same) in
-        h.left i t lt e writer (ap (λ (r : Numbered). sh.path r c.spot.lane) row ∙ p)
+        h.left i t lt e writer (ap (λ (r : RowValue). sh.path r c.spot.lane) row ∙ p)
 
 pub done_evolves : (log log' : List Ticket) (o : ℕ) → Evolves log log' → DoneAt log o → DoneAt log' o
 done_evolves log log' o ev h = let u = ev o h.0 h.1 in (u.0, u.1, (u.2).done h.2)
@@ -152,5 +152,5 @@ previous_word sh ts log bs words c o k leads is within room small spells =
     ap (used_word sh log o t) is ∙ ap (lane_word sh log o c.spot.lane 0 t) leads.3 in
     let r3 : chain sh log t.writer c.spot o ≡ chain sh log c.writer c.spot o = ap (λ (w : ℕ). chain sh log w c.spot o) leads.2 in
     let below : top (chain sh log c.writer c.spot o) ≤ o = top_within sh log c.writer c.spot o in
-    ap (λ (q : ℕ). q % 2 ^ 32) (r0 ∙ (ap (ticket_word sh log o k) leads.1 ∙ (r1 ∙ (r2 ∙ ap (λ (q : List (ℕ × Numbered)). version_word sh c.spot.lane 0 q t.row) r3))))
+    ap (λ (q : ℕ). q % 2 ^ 32) (r0 ∙ (ap (ticket_word sh log o k) leads.1 ∙ (r1 ∙ (r2 ∙ ap (λ (q : List (ℕ × RowValue)). version_word sh c.spot.lane 0 q t.row) r3))))
     ∙ version_low sh c.spot.lane (chain sh log c.writer c.spot o) t.row (omega arith)

@@ -1,6 +1,6 @@
 -- What the law says of loads, in the terms of what a pass has seen and holds.
 use Rattle.std.proofs.Common.{◌≡◌, ℕ, ◌+◌, ◌*◌, ◌/◌, ◌<◌, ◌≤◌, ◌⊎◌, ◌==◌, zero, suc, List, [], ◌∷◌, ◌++◌, length, set, get_or, take, ◌%◌, ◌^◌, Option, Some, None, slice_get, cond, Bool, true, false, inl, inr, refl, arith, ap, ap₂, sym, ◌∙◌, subst}
-use Rattle.cf_row.specs.Row.{Numbered}
+use Rattle.cf_row.specs.Row.{RowValue}
 use Rattle.cf_row.specs.declared.row.Entry.{Entry}
 use Rattle.cf_shape.specs.Places.{head_slot}
 use Rattle.std.specs.Bool.{nat_lt}
@@ -13,11 +13,11 @@ use Rattle.cf_shape.specs.Places.Slot.{tail, cell}
 use Rattle.cf_shape.specs.Uses.Use.{version}
 use Rattle.cf_words.specs.Words.{marked, Spot, spot, Layout, entry, Ticket, Stock, stock_of, node_at, IsNamedBy, has, same_path, ticket_word, done_word, full_word, links, entry_at, chain, version_word, used_word, lane_word}
 use Rattle.cf_words.specs.Law.{LayoutLaw, NodesLaw}
-use Rattle.cf_law.specs.Passes.{Book, Cursor, Pass}
-use Rattle.cf_law.specs.Steps.{Holds, Flies, IsChild, Knows, Step, met_of, mine_chain, ticket_of}
+use Rattle.cf_law.specs.Passes.{Book, Flight, Cursor, Pass}
+use Rattle.cf_law.specs.Steps.{Holds, HoldsInFlight, IsChild, Knows, Step, met_of, mine_chain, ticket_of, own_word}
 use Rattle.cf_law.specs.Lawful.{Base, BaseLaw, front, CursorLaw, CursorIs, Leads, PassLaw, Stands, Lawful}
-use Rattle.cf_law.specs.Events.{word_at, spelt}
-use Rattle.cf_law.specs.Readers.{NoneThrough, NoneOwn, pick_at, picks, WalkTells, EntryTells, IsFit, HasNode, IsBounded, AtHome, Tells, GoesOn, Told}
+use Rattle.cf_law.specs.Events.{word_at, entries_spelled}
+use Rattle.cf_law.specs.Readers.{NoneThrough, NoneOwn, pick_at, picks, WalkTells, EntryTells, IsFit, HasNode, IsBounded, AtHome, Tells, GoesOn, StepTells}
 use Rattle.cf_words.proofs.Nodes.{node_of, node_within}
 use Rattle.cf_shape.proofs.Slots.{place_within}
 use Rattle.cf_words.proofs.Chains.{eq_true, both, both_intro, eq_from, same_bool, links_true, links_intro, same_path_true, same_path_intro, entry_linked, entry_unlinked}
@@ -25,7 +25,7 @@ use Rattle.cf_words.proofs.Links.{none_from_zero}
 use Rattle.cf_words.proofs.Heads.{get_set_same}
 use Rattle.cf_law.proofs.Passes.{no_gap, previous_word, top_within}
 use Rattle.cf_law.proofs.Fronts.{front_at, front_get, front_take, front_length, front_evolves, word_filled, word_spells}
-use Rattle.cf_law.proofs.Owned.{lt_false}
+use Rattle.cf_law.proofs.Owned.{lt_false, own_word_is}
 use Rattle.cf_law.proofs.Homes.{mine_few}
 use Rattle.cf_law.proofs.Owning.{mine_before, own_head_is, own_cell, mine_seen}
 use Rattle.cf_law.proofs.Loads.{reached, tail_is, head_walk, cell_walk, spelt_is}
@@ -98,7 +98,7 @@ walk_tells sh m p c law knows walk = record {
 }
 
 -- Below the read tail a chain has just the entries of the writer and leaf that were seen.
-flat : (a b : Bool) (e : List (ℕ × Numbered)) → cond a (cond b e []) [] ≡ cond (cond a b false) e []
+flat : (a b : Bool) (e : List (ℕ × RowValue)) → cond a (cond b e []) [] ≡ cond (cond a b false) e []
 flat true b e = refl
 flat false b e = refl
 
@@ -117,7 +117,7 @@ pick_same sh w s o t linked =
 pub chain_seen : (sh : Layout) (m : Base) (p : Pass) (w : ℕ) (s : Spot) (o : ℕ) → BaseLaw sh m → PassLaw sh m p → o ≤ length p.seen → chain sh m.log w s o ≡ picks sh w s p.seen o
 unfolding chain picks
 chain_seen sh m p w s zero law knows le = refl
-chain_seen sh m p w s (suc o) law knows le = ap₂ (λ (e c : List (ℕ × Numbered)). e ++ c) (go (slice_get m.log o) refl) (chain_seen sh m p w s o law knows (omega arith))
+chain_seen sh m p w s (suc o) law knows le = ap₂ (λ (e c : List (ℕ × RowValue)). e ++ c) (go (slice_get m.log o) refl) (chain_seen sh m p w s o law knows (omega arith))
   where
     go : (t : Option Ticket) → slice_get m.log o ≡ t → entry_at sh w s o (slice_get m.log o) ≡ pick_at sh w s o (slice_get p.seen o)
     go None e = absurd (no_gap m.log o (omega (arith, law.covered, knows.within)) e)
@@ -137,7 +137,7 @@ entry_tells sh m p o k shaped law knows = record {
       let le : o ≤ length p.seen = (let lt = s.4 in omega arith) in
       word_filled sh m o k s.0 law s.1 filled within
       ∙ (ap (used_word sh m.log o s.0) is ∙ (ap (lane_word sh m.log o l j s.0) leads'
-      ∙ (ap (λ (c : List (ℕ × Numbered)). version_word sh l j c s.0.row) (chain_seen sh m p s.0.writer (spot l q) o law knows le)
+      ∙ (ap (λ (c : List (ℕ × RowValue)). version_word sh l j c s.0.row) (chain_seen sh m p s.0.writer (spot l q) o law knows le)
       ∙ ap (λ (x : Entry). version_word sh l j (picks sh x.writer (spot l q) p.seen o) x.row) (sym s.3)))));
 }
 
@@ -224,6 +224,14 @@ head_is_real : (sh : Layout) (m : Base) (p : Pass) (node d w l : ℕ) (q : List 
 head_is_real sh m p node d w l q law knows known dl wl =
     (node_within sh.sizes.nodes sh.sizes.writers m.stocks node (spot l q) law.nodes.writers law.nodes.room (knows.known known.0 (spot l q, node) known.1), omega (arith, mul-add-lt d sh.sizes.writers w 16 dl wl))
 
+-- A filled word of the own ticket in flight.
+own_open : (sh : Layout) (m : Base) (p : Pass) (k i : ℕ) (b : Book) (f : Flight) → BaseLaw sh m → PassLaw sh m p → HoldsInFlight p k b f → i < f.filled → suc i < sh.sizes.ticket_words
+    → word_at sh m.words (cell f.offset i) ≡ own_word sh b f.row (sh.use_of i)
+own_open sh m p k i b f law knows flies filled within =
+    let A = aloft sh m p k b f law knows flies in
+    word_filled sh m f.offset i (ticket_of b.writer f) law A.at filled within
+    ∙ sym (own_word_is sh m b.writer f.offset b f (sh.use_of i) law A.book A.at)
+
 -- What the law says of the word found at a slot.
 pub tells : (sh : Layout) (m : Base) (p : Pass) (t : Slot) → LayoutLaw sh → BaseLaw sh m → PassLaw sh m p → Tells sh p t (word_at sh m.words t)
 tells sh m p t shaped law knows = record {
@@ -250,6 +258,7 @@ tells sh m p t shaped law knows = record {
   full = λ i home last ends k b held over. (let all = (whole sh m p i law knows home last (elim ends [ inl le ↦ inl le | inr far ↦ inr (far.0, λ one. far.2 (ap (word_at sh m.words) far.1 ∙ one)) ])).0 in
       all ∙ law.ends b.writer (sym (ap (λ (c : Book). c.over) (knows.books k b held).1) ∙ over));
   stays = λ is home all. subst (λ (u : Slot). word_at sh m.words u ≤ length p.seen) (sym is) (let e = tail_is sh m 1 law (omega arith) in let h = stays sh m p law knows home all in omega (arith, e, h));
+  own_open = λ k i b f is flies filled within. ap (word_at sh m.words) is ∙ own_open sh m p k i b f law knows flies filled within;
   own_done = λ k j i b x is held at last. ap (word_at sh m.words) is ∙ own_done sh m p k j i b x law knows held at last;
   home = λ i home last ends. (whole sh m p i law knows home last (elim ends [ inl le ↦ inl le | inr far ↦ inr (far.0, λ one. far.2 (ap (word_at sh m.words) far.1 ∙ one)) ])).1;
 }
@@ -267,11 +276,11 @@ abbrev pub words_after : Layout → List ℕ → Slot → ℕ → List ℕ
 words_after sh words t v = set words (place sh.sizes t) v
 
 abbrev pub entries_after : Layout → List ℕ → List Entry
-entries_after sh words = spelt sh words (word_at sh words (tail 1))
+entries_after sh words = entries_spelled sh words (word_at sh words (tail 1))
 
 pub record Stepped (sh : Layout) (words : List ℕ) (passes : List Pass) (k : ℕ) (p : Pass) (t : Slot) (f : ℕ → ℕ) (g : ℕ → List Entry → Pass) : Type 0 where
   pub lawful : Lawful sh (words_after sh words t (f (word_at sh words t))) (set passes k (g (word_at sh words t) (entries_after sh (words_after sh words t (f (word_at sh words t))))))
-  pub told : Told sh p t g (word_at sh words t) (f (word_at sh words t)) (g (word_at sh words t) (entries_after sh (words_after sh words t (f (word_at sh words t)))))
+  pub told : StepTells sh p t g (word_at sh words t) (f (word_at sh words t)) (g (word_at sh words t) (entries_after sh (words_after sh words t (f (word_at sh words t)))))
 
 pub step_lawful : (sh : Layout) (words : List ℕ) (passes : List Pass) (k : ℕ) (p : Pass) (a : Rattle.cf_law.specs.Steps.Act) (t : Slot) (f : ℕ → ℕ) (g : ℕ → List Entry → Pass)
     → LayoutLaw sh → Lawful sh words passes → slice_get passes k ≡ Some p → Step sh p a t f g → Stepped sh words passes k p t f g

@@ -9,12 +9,12 @@ use Rattle.cf_shape.specs.Places.Slot.{tail, cell, root, body}
 use Rattle.cf_words.specs.Words.{Spot, Layout, Stock, stock_of, node_at, spare_label, Word, BodyWord, marked}
 use Rattle.cf_words.specs.Law.{LayoutLaw}
 use Rattle.cf_law.specs.Passes.{Book, Pass}
-use Rattle.cf_law.specs.Steps.{newcomer}
+use Rattle.cf_law.specs.Steps.{new_pass}
 use Rattle.cf_law.specs.Lawful.{Base, BaseLaw, mine_in, flight_in, book_at, PassLaw, HoldsAt, Stands, World, Lawful}
-use Rattle.cf_law.specs.Events.{table, word_at, no_book, opening, Event, Does, Runs, RunsAreLawful, ShapesAreLawful}
+use Rattle.cf_law.specs.Events.{table, word_at, no_book, opening, WorldEvent, IsEvent, Runs, RunsAreLawful, ShapesAreLawful}
 use Rattle.cf_law.specs.Shapes.{layout}
 use Rattle.cf_law.proofs.Shapes.{layout_law}
-use Rattle.cf_law.specs.Events.Does.{steps, parts, meets}
+use Rattle.cf_law.specs.Events.IsEvent.{steps, parts, meets}
 use Rattle.cf_shape.proofs.Slots.{place_within}
 use Rattle.cf_law.proofs.Keeps.{made_book}
 use Rattle.cf_law.proofs.Fronts.{table_length, table_at, front_take}
@@ -101,7 +101,7 @@ opening_held sh k b e =
     let same : no_book k ≡ b = cc (table_at no_book sh.sizes.writers k lt, e) in
     (lt, sym same)
 
-opening_pass : (sh : Layout) → PassLaw sh (opening_base sh) (newcomer (table no_book sh.sizes.writers) [])
+opening_pass : (sh : Layout) → PassLaw sh (opening_base sh) (new_pass (table no_book sh.sizes.writers) [])
 opening_pass sh = record {
   within = omega arith;
   seen = front_take [] 0 0 (omega arith);
@@ -121,17 +121,17 @@ pub opening_stands : (sh : Layout) → Stands sh (opening_base sh) (opening sh).
 opening_stands sh = record {
   law = opening_law sh;
   knows = knows;
-  held = λ w lt. (0, w, record { pass = newcomer (table no_book sh.sizes.writers) []; book = no_book w; at = refl; held = table_at no_book sh.sizes.writers w lt; writer = refl });
+  held = λ w lt. (0, w, record { pass = new_pass (table no_book sh.sizes.writers) []; book = no_book w; at = refl; held = table_at no_book sh.sizes.writers w lt; writer = refl });
   once = λ j k h i w x y. let a = place_of j h w x in let b = place_of k i w y in (a.0 ∙ sym b.0, a.1 ∙ sym b.1);
 }
   where
     knows : (k : ℕ) (p : Pass) → slice_get (opening sh).passes k ≡ Some p → PassLaw sh (opening_base sh) p
-    knows zero p e = let same : newcomer (table no_book sh.sizes.writers) [] ≡ p = cc e in subst (PassLaw sh (opening_base sh)) same (opening_pass sh)
+    knows zero p e = let same : new_pass (table no_book sh.sizes.writers) [] ≡ p = cc e in subst (PassLaw sh (opening_base sh)) same (opening_pass sh)
     knows (suc k) p e = absurd (cc e)
 
     place_of : (j h w : ℕ) → HoldsAt (opening sh).passes j h w → (j ≡ 0) × (h ≡ w)
     place_of zero h w x =
-        let same : newcomer (table no_book sh.sizes.writers) [] ≡ x.pass = cc (x.at) in
+        let same : new_pass (table no_book sh.sizes.writers) [] ≡ x.pass = cc (x.at) in
         let b = opening_held sh h x.book (ap (λ (q : Pass). slice_get q.books h) same ∙ x.held) in
         (refl, sym (ap (λ (c : Book). c.writer) b.1) ∙ x.writer)
     place_of (suc j) h w x = absurd (cc (x.at))
@@ -140,20 +140,20 @@ pub opening_lawful : (sh : Layout) → Lawful sh (opening sh).words (opening sh)
 opening_lawful sh = record { base = opening_base sh; stands = opening_stands sh; spelled = refl }
 
 -- Each event keeps the law.
-pub kept : (sh : Layout) (x : World) (k : ℕ) (e : Event) (y : World) → LayoutLaw sh → Lawful sh x.words x.passes → Does sh x k e y → Lawful sh y.words y.passes
+pub kept : (sh : Layout) (x : World) (k : ℕ) (e : WorldEvent) (y : World) → LayoutLaw sh → Lawful sh x.words x.passes → IsEvent sh x k e y → Lawful sh y.words y.passes
 kept sh x k e y shaped law (steps p a t f g live step) =
     let words : List ℕ = set x.words (place sh.sizes t) (f (word_at sh x.words t)) in
     let same : words ≡ set law.base.words (place sh.sizes t) (f (word_at sh law.base.words t)) = ap (λ (ws : List ℕ). set ws (place sh.sizes t) (f (word_at sh ws t))) (sym law.spelled) in
     let n = step_keeps sh law.base x.passes k p a t f g shaped law.stands live.0 step words same in
     record {
       base = n.0;
-      stands = subst (λ (v : ℕ). Stands sh n.0 (set x.passes k (g v (Rattle.cf_law.specs.Events.spelt sh words (word_at sh words (tail 1)))))) (ap (λ (ws : List ℕ). word_at sh ws t) law.spelled) n.2;
+      stands = subst (λ (v : ℕ). Stands sh n.0 (set x.passes k (g v (Rattle.cf_law.specs.Events.entries_spelled sh words (word_at sh words (tail 1)))))) (ap (λ (ws : List ℕ). word_at sh ws t) law.spelled) n.2;
       spelled = n.1 ∙ sym same;
     }
 kept sh x k e y shaped law (parts p left right w live split) = record { base = law.base; stands = split_keeps sh law.base x.passes k p left right w law.stands live.0 split; spelled = law.spelled }
 kept sh x k e y shaped law (meets p q j live other ne rest) = record { base = law.base; stands = join_keeps sh law.base x.passes k j p q law.stands live.0 other.0 ne live.1; spelled = law.spelled }
 
-pub runs_kept : (sh : Layout) (x : World) (es : List (ℕ × Event)) (y : World) → LayoutLaw sh → Lawful sh x.words x.passes → Runs sh x es y → Lawful sh y.words y.passes
+pub runs_kept : (sh : Layout) (x : World) (es : List (ℕ × WorldEvent)) (y : World) → LayoutLaw sh → Lawful sh x.words x.passes → Runs sh x es y → Lawful sh y.words y.passes
 runs_kept sh x [] y shaped law run = subst (λ (z : World). Lawful sh z.words z.passes) (sym run) law
 runs_kept sh x (e ∷ es) y shaped law run = runs_kept sh run.0 es y shaped (kept sh x e.0 e.1 run.0 shaped law run.1) run.2
 

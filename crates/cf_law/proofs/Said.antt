@@ -3,7 +3,7 @@ use Rattle.std.proofs.Common.{◌≡◌, ℕ, ◌+◌, ◌<◌, ◌≤◌, ◌�
 use Rattle.std.specs.Bool.{nat_lt}
 use Rattle.std.proofs.lemmas.Option.{slice_get_within}
 use Rattle.cf_row.specs.declared.row.Entry.{Entry}
-use Rattle.cf_shape.specs.Lanes.{Shaped}
+use Rattle.cf_shape.specs.Lanes.{ShapeValue}
 use Rattle.cf_shape.specs.Places.{place}
 use Rattle.cf_shape.specs.Places.Slot.{tail, cell}
 use Rattle.cf_words.specs.Words.{Layout, Ticket, ticket_word, done_word, full_word}
@@ -11,8 +11,8 @@ use Rattle.cf_words.specs.Law.{LayoutLaw}
 use Rattle.cf_law.specs.Passes.{Cursor, Pass}
 use Rattle.cf_law.specs.Steps.{Act, Step}
 use Rattle.cf_law.specs.Lawful.{Base, BaseLaw, PassLaw, CursorLaw, CursorIs, Leads, Stands, Lawful, World, book_at}
-use Rattle.cf_law.specs.Events.{Event, Does, opening, no_book, table, word_at, spelt}
-use Rattle.cf_law.specs.Events.Does.{steps, parts, meets}
+use Rattle.cf_law.specs.Events.{WorldEvent, IsEvent, opening, no_book, table, word_at, entries_spelled}
+use Rattle.cf_law.specs.Events.IsEvent.{steps, parts, meets}
 use Rattle.cf_law.specs.Shapes.{layout}
 use Rattle.cf_law.specs.Readers.{Tells}
 use Rattle.cf_law.specs.Plainly.{SaysPlainly}
@@ -97,7 +97,7 @@ says_of_passes sh m passes shaped S = let law = S.law in record {
 pub lawful_says_plainly : LawfulSaysAllPlainly
 lawful_says_plainly s words passes is law = (law.base, law.spelled, says (layout s) law.base passes (layout_law s is) law.stands, says_of_passes (layout s) law.base passes (layout_law s is) law.stands)
 
-plays_kept : (sh : Layout) (x : World) (es : List (ℕ × Event)) (y : World) → LayoutLaw sh → Lawful sh x.words x.passes → Plays sh x es y → Lawful sh y.words y.passes
+plays_kept : (sh : Layout) (x : World) (es : List (ℕ × WorldEvent)) (y : World) → LayoutLaw sh → Lawful sh x.words x.passes → Plays sh x es y → Lawful sh y.words y.passes
 plays_kept sh x [] y shaped law run = subst (λ (z : World). Lawful sh z.words z.passes) (sym run) law
 plays_kept sh x (e ∷ es) y shaped law run = elim run.1 [
   | inl does ↦ plays_kept sh run.0 es y shaped (kept sh x e.0 e.1 run.0 shaped law does) run.2
@@ -115,11 +115,11 @@ opening_is_empty = record {
   lawful = λ s. opening_lawful (layout s);
 }
   where
-    root_seen : (s : Shaped) (p : Pass) → slice_get (opening (layout s)).passes 0 ≡ Some p → p.seen ≡ []
-    root_seen s p at = let same : Rattle.cf_law.specs.Steps.newcomer (table no_book s.writers) [] ≡ p = cc at in ap (λ (q : Pass). q.seen) (sym same)
+    root_seen : (s : ShapeValue) (p : Pass) → slice_get (opening (layout s)).passes 0 ≡ Some p → p.seen ≡ []
+    root_seen s p at = let same : Rattle.cf_law.specs.Steps.new_pass (table no_book s.writers) [] ≡ p = cc at in ap (λ (q : Pass). q.seen) (sym same)
 
-    root_books : (s : Shaped) (p : Pass) → slice_get (opening (layout s)).passes 0 ≡ Some p → p.books ≡ table no_book s.writers
-    root_books s p at = let same : Rattle.cf_law.specs.Steps.newcomer (table no_book s.writers) [] ≡ p = cc at in ap (λ (q : Pass). q.books) (sym same)
+    root_books : (s : ShapeValue) (p : Pass) → slice_get (opening (layout s)).passes 0 ≡ Some p → p.books ≡ table no_book s.writers
+    root_books s p at = let same : Rattle.cf_law.specs.Steps.new_pass (table no_book s.writers) [] ≡ p = cc at in ap (λ (q : Pass). q.books) (sym same)
 
 covers : (sh : Layout) (m : Base) (o i : ℕ) → BaseLaw sh m → o < word_at sh m.words (tail 1) → suc i ≡ sh.sizes.ticket_words → word_at sh m.words (cell o i) ≡ 1
 covers sh m o i law lt last = go (slice_get m.log o) refl
@@ -164,21 +164,21 @@ evolves_length (t ∷ ts) new ev = go (length ts) (slice_get (t ∷ ts) (length 
     go n None e = absurd (no_gap (t ∷ ts) (length ts) (omega arith) e)
     go n (Some u) e = let v = ev (length ts) u e in let lt = slice_get_within new (length ts) v.0 v.1 in omega (arith, lt)
 
-goes_one : (sh : Layout) (m : Base) (x : World) (k : ℕ) (e : Event) (y : World) → LayoutLaw sh → m.words ≡ x.words → Stands sh m x.passes → Does sh x k e y → Goes sh m y
+goes_one : (sh : Layout) (m : Base) (x : World) (k : ℕ) (e : WorldEvent) (y : World) → LayoutLaw sh → m.words ≡ x.words → Stands sh m x.passes → IsEvent sh x k e y → Goes sh m y
 goes_one sh m x k e y shaped same S (steps p a t f g live step) =
     let words : List ℕ = set x.words (place sh.sizes t) (f (word_at sh x.words t)) in
     let is : words ≡ set m.words (place sh.sizes t) (f (word_at sh m.words t)) = ap (λ (ws : List ℕ). set ws (place sh.sizes t) (f (word_at sh ws t))) (sym same) in
     let n = step_keeps sh m x.passes k p a t f g shaped S live.0 step words is in record {
       base = n.0;
       words = n.1 ∙ sym is;
-      stands = subst (λ (v : ℕ). Stands sh n.0 (set x.passes k (g v (spelt sh words (word_at sh words (tail 1)))))) (ap (λ (ws : List ℕ). word_at sh ws t) same) n.2;
+      stands = subst (λ (v : ℕ). Stands sh n.0 (set x.passes k (g v (entries_spelled sh words (word_at sh words (tail 1)))))) (ap (λ (ws : List ℕ). word_at sh ws t) same) n.2;
       evolves = (n.3).0;
       more = evolves_length m.log (n.0).log (n.3).0;
     }
 goes_one sh m x k e y shaped same S (parts p left right w live split) = record { base = m; words = same; stands = split_keeps sh m x.passes k p left right w S live.0 split; evolves = evolves_self m.log; more = omega arith }
 goes_one sh m x k e y shaped same S (meets p q j live other ne rest) = record { base = m; words = same; stands = join_keeps sh m x.passes k j p q S live.0 other.0 ne live.1; evolves = evolves_self m.log; more = omega arith }
 
-goes_all : (sh : Layout) (m : Base) (x : World) (es : List (ℕ × Event)) (y : World) → LayoutLaw sh → m.words ≡ x.words → Stands sh m x.passes → Plays sh x es y → Goes sh m y
+goes_all : (sh : Layout) (m : Base) (x : World) (es : List (ℕ × WorldEvent)) (y : World) → LayoutLaw sh → m.words ≡ x.words → Stands sh m x.passes → Plays sh x es y → Goes sh m y
 goes_all sh m x [] y shaped same S run = subst (λ (z : World). Goes sh m z) (sym run) (record { base = m; words = same; stands = S; evolves = evolves_self m.log; more = omega arith })
 goes_all sh m x (e ∷ es) y shaped same S run = elim run.1 [
   | inl does ↦

@@ -13,15 +13,15 @@ linked_if None b = true
 linked_if (Some q) b = b
 
 abbrev pub skips : Layout → Ticket → Use → Bool
-skips sh t (plain i) = false
-skips sh t (version l j) = is_none (sh.path t.row l)
+skips layout t (plain i) = false
+skips layout t (version l j) = is_none (layout.path t.row l)
 
 -- the words from k on, n of them, are all passed over
 unfoldable pub skips_all : Layout → Ticket → ℕ → ℕ → Bool
-skips_all sh t k zero = true
-skips_all sh t k (suc n) = cond (skips sh t (sh.use_of k)) (skips_all sh t (suc k) n) false
+skips_all layout t k zero = true
+skips_all layout t k (suc n) = cond (skips layout t (layout.use_of k)) (skips_all layout t (suc k) n) false
 
 -- the ticket is linked in each of the lanes below n that selects it
 unfoldable pub linked_all : Layout → Ticket → ℕ → Bool
-linked_all sh t zero = true
-linked_all sh t (suc n) = cond (linked_if (sh.path t.row n) (has t.linked n)) (linked_all sh t n) false
+linked_all layout t zero = true
+linked_all layout t (suc n) = cond (linked_if (layout.path t.row n) (has t.linked n)) (linked_all layout t n) false

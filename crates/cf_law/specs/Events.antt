@@ -6,15 +6,15 @@ use Rattle.cf_shape.specs.Places.Slot.{tail, cell}
 use Rattle.cf_words.specs.Words.{Layout}
 use Rattle.cf_words.specs.Law.{LayoutLaw}
 use Rattle.cf_law.specs.Passes.{Book, Pass}
-use Rattle.cf_law.specs.Steps.{Act, Step, Splits, newcomer, joined, spent_pass, IsAtRest}
+use Rattle.cf_law.specs.Steps.{Act, Step, Splits, new_pass, joined_pass, spent_pass, IsAtRest}
 use Rattle.cf_law.specs.Lawful.{World, Lawful}
-use Rattle.cf_shape.specs.Lanes.{Shaped, IsShape}
+use Rattle.cf_shape.specs.Lanes.{ShapeValue, IsShape}
 use Rattle.cf_law.specs.Shapes.{layout}
 
-pub data Event : Type 0 where
-  acts : Act → Event
-  splits : Option ℕ → Event
-  joins : ℕ → Event
+pub data WorldEvent : Type 0 where
+  acts : Act → WorldEvent
+  splits : Option ℕ → WorldEvent
+  joins : ℕ → WorldEvent
 
 -- the values at 0 .. n - 1
 unfoldable pub table : {A : Type 0} → (ℕ → A) → ℕ → List A
@@ -28,14 +28,14 @@ word_at sh words t = get_or words (place sh.sizes t) 0
 abbrev pub plain_at : Layout → List ℕ → ℕ → List ℕ
 plain_at sh words o = table (λ i. word_at sh words (cell o i)) sh.plain_words
 
-abbrev pub spelt : Layout → List ℕ → ℕ → List Entry
-spelt sh words n = table (λ o. sh.reads (plain_at sh words o)) n
+abbrev pub entries_spelled : Layout → List ℕ → ℕ → List Entry
+entries_spelled sh words n = table (λ o. sh.reads (plain_at sh words o)) n
 
 -- the word t becomes v, and the pass k becomes p
 abbrev pub world_after : Layout → World → ℕ → Slot → ℕ → (List Entry → Pass) → World
 world_after sh x k t v g = record {
   words = set x.words (place sh.sizes t) v;
-  passes = set x.passes k (g (spelt sh (set x.words (place sh.sizes t) v) (word_at sh (set x.words (place sh.sizes t) v) (tail 1))));
+  passes = set x.passes k (g (entries_spelled sh (set x.words (place sh.sizes t) v) (word_at sh (set x.words (place sh.sizes t) v) (tail 1))));
 }
 
 abbrev pub IsLive : World → ℕ → Pass → Type 0
@@ -45,26 +45,26 @@ abbrev pub no_book : ℕ → Book
 no_book w = record { writer = w; mine = []; flight = None; over = false; used = []; label = 0 }
 
 abbrev pub opening : Layout → World
-opening sh = record { words = replicate (word_total sh.sizes) 0; passes = newcomer (table no_book sh.sizes.writers) [] ∷ [] }
+opening sh = record { words = replicate (word_total sh.sizes) 0; passes = new_pass (table no_book sh.sizes.writers) [] ∷ [] }
 
 -- one event of pass k
-pub data Does (sh : Layout) (x : World) (k : ℕ) : Event → World → Type 0 where
+pub data IsEvent (sh : Layout) (x : World) (k : ℕ) : WorldEvent → World → Type 0 where
   steps : (p : Pass) (a : Act) (t : Slot) (f : ℕ → ℕ) (g : ℕ → List Entry → Pass) → IsLive x k p → Step sh p a t f g
-      → Does sh x k (acts a) (world_after sh x k t (f (word_at sh x.words t)) (g (word_at sh x.words t)))
+      → IsEvent sh x k (acts a) (world_after sh x k t (f (word_at sh x.words t)) (g (word_at sh x.words t)))
   parts : (p left right : Pass) (w : Option ℕ) → IsLive x k p → Splits p w left right
-      → Does sh x k (splits w) (record { words = x.words; passes = set x.passes k left ++ right ∷ [] })
+      → IsEvent sh x k (splits w) (record { words = x.words; passes = set x.passes k left ++ right ∷ [] })
   meets : (p q : Pass) (j : ℕ) → IsLive x k p → IsLive x j q → (j ≡ k → ⊥) → IsAtRest q
-      → Does sh x k (joins j) (record { words = x.words; passes = set (set x.passes k (joined p q)) j spent_pass })
+      → IsEvent sh x k (joins j) (record { words = x.words; passes = set (set x.passes k (joined_pass p q)) j spent_pass })
 
 -- a list of events, each with its pass
-abbrev pub Runs : Layout → World → List (ℕ × Event) → World → Type 0
+abbrev pub Runs : Layout → World → List (ℕ × WorldEvent) → World → Type 0
 Runs sh x [] y = y ≡ x
-Runs sh x (e ∷ es) y = (z : World) × Does sh x e.0 e.1 z × Runs sh z es y
+Runs sh x (e ∷ es) y = (z : World) × IsEvent sh x e.0 e.1 z × Runs sh z es y
 
 -- From the opening, every list of events keeps the law.
 abbrev pub RunsAreLawful : Type 0
-RunsAreLawful = (sh : Layout) (es : List (ℕ × Event)) (y : World) → LayoutLaw sh → Runs sh (opening sh) es y → Lawful sh y.words y.passes
+RunsAreLawful = (sh : Layout) (es : List (ℕ × WorldEvent)) (y : World) → LayoutLaw sh → Runs sh (opening sh) es y → Lawful sh y.words y.passes
 
 -- the same over lawful shapes
 abbrev pub ShapesAreLawful : Type 0
-ShapesAreLawful = (s : Shaped) (es : List (ℕ × Event)) (y : World) → IsShape s → Runs (layout s) (opening (layout s)) es y → Lawful (layout s) y.words y.passes
+ShapesAreLawful = (s : ShapeValue) (es : List (ℕ × WorldEvent)) (y : World) → IsShape s → Runs (layout s) (opening (layout s)) es y → Lawful (layout s) y.words y.passes

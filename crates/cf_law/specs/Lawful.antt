@@ -18,27 +18,27 @@ pub record Base : Type 0 where
 
 -- the cell of that lane is filled
 abbrev pub IsFilledIn : Layout → Ticket → ℕ → Type 0
-IsFilledIn sh t l = (k j : ℕ) → sh.use_of k ≡ version l j → suc k < sh.sizes.ticket_words → k < t.filled
+IsFilledIn layout t l = (k j : ℕ) → layout.use_of k ≡ version l j → suc k < layout.sizes.ticket_words → k < t.filled
 
-pub record BaseLaw (sh : Layout) (x : Base) : Type 0 where
-  pub size : length x.words ≡ word_total sh.sizes
-  pub spells : Spells sh x.tails x.log x.stocks x.words
-  pub nodes : NodesLaw sh x.stocks
-  pub room : length x.log ≤ sh.sizes.tickets
-  pub flight : FlightLaw x.log
-  pub leaves : LeavesLaw sh x.log x.stocks
+pub record BaseLaw (layout : Layout) (base : Base) : Type 0 where
+  pub size : length base.words ≡ word_total layout.sizes
+  pub spells : Spells layout base.tails base.log base.stocks base.words
+  pub nodes : NodesLaw layout base.stocks
+  pub room : length base.log ≤ layout.sizes.tickets
+  pub flight : FlightLaw base.log
+  pub leaves : LeavesLaw layout base.log base.stocks
   -- a linked ticket is filled there
-  pub full : (o l : ℕ) (t : Ticket) → slice_get x.log o ≡ Some t → has t.linked l ≡ true → IsFilledIn sh t l
+  pub full : (o l : ℕ) (t : Ticket) → slice_get base.log o ≡ Some t → has t.linked l ≡ true → IsFilledIn layout t l
   -- a finished ticket is linked in each lane that selects it
-  pub linked : (o l : ℕ) (t : Ticket) (p : List ℕ) → slice_get x.log o ≡ Some t → t.is_done ≡ true → sh.path t.row l ≡ Some p → has t.linked l ≡ true
+  pub linked : (o l : ℕ) (t : Ticket) (p : List ℕ) → slice_get base.log o ≡ Some t → t.is_done ≡ true → layout.path t.row l ≡ Some p → has t.linked l ≡ true
   -- a finished ticket is filled
-  pub whole : (o : ℕ) (t : Ticket) → slice_get x.log o ≡ Some t → t.is_done ≡ true → IsWhole sh t
-  pub marks : x.tails.0 ≡ length x.log + marked x.stocks
-  pub ends : (w : ℕ) → (stock_of x.stocks w).over ≡ true → length x.log ≡ sh.sizes.tickets
-  pub writers : (o : ℕ) (t : Ticket) → slice_get x.log o ≡ Some t → t.writer < sh.sizes.writers
-  pub fits : (o : ℕ) (t : Ticket) → slice_get x.log o ≡ Some t → sh.fits t.row ≡ true
-  pub covered : x.tails.1 ≤ length x.log
-  pub done : (o : ℕ) (t : Ticket) → o < x.tails.1 → slice_get x.log o ≡ Some t → t.is_done ≡ true
+  pub whole : (o : ℕ) (t : Ticket) → slice_get base.log o ≡ Some t → t.is_done ≡ true → IsWhole layout t
+  pub marks : base.tails.0 ≡ length base.log + marked base.stocks
+  pub ends : (w : ℕ) → (stock_of base.stocks w).over ≡ true → length base.log ≡ layout.sizes.tickets
+  pub writers : (o : ℕ) (t : Ticket) → slice_get base.log o ≡ Some t → t.writer < layout.sizes.writers
+  pub fits : (o : ℕ) (t : Ticket) → slice_get base.log o ≡ Some t → layout.fits t.row ≡ true
+  pub covered : base.tails.1 ≤ length base.log
+  pub done : (o : ℕ) (t : Ticket) → o < base.tails.1 → slice_get base.log o ≡ Some t → t.is_done ≡ true
 
 -- the first n entries
 unfoldable pub front : ℕ → List Ticket → List Entry
@@ -68,40 +68,40 @@ book_at m w = record {
 
 -- the node stands for the lane and prefix, and so each child word of these is the node's number plus 1 for good
 abbrev pub Known : Layout → List Stock → Spot × ℕ → Type 0
-Known sh bs x = node_at sh.sizes.nodes bs x.1 ≡ Some x.0
+Known layout bs x = node_at layout.sizes.nodes bs x.1 ≡ Some x.0
 
 abbrev pub Leads : Layout → List Ticket → Cursor → ℕ → Type 0
-Leads sh log c zero = Unit {0}
-Leads sh log c (suc o) = (t : Ticket) × (slice_get log o ≡ Some t) × (t.writer ≡ c.writer) × (sh.path t.row c.spot.lane ≡ Some c.spot.path) × IsFilledIn sh t c.spot.lane
+Leads layout log c zero = Unit {0}
+Leads layout log c (suc o) = (t : Ticket) × (slice_get log o ≡ Some t) × (t.writer ≡ c.writer) × (layout.path t.row c.spot.lane ≡ Some c.spot.path) × IsFilledIn layout t c.spot.lane
 
 -- the ticket at that offset is that writer's
 abbrev pub HasWriter : List Ticket → ℕ × ℕ → Type 0
 HasWriter log x = (t : Ticket) × (slice_get log x.0 ≡ Some t) × (t.writer ≡ x.1)
 
-pub record CursorLaw (sh : Layout) (log : List Ticket) (seen : ℕ) (c : Cursor) : Type 0 where
+pub record CursorLaw (layout : Layout) (log : List Ticket) (seen : ℕ) (cursor : Cursor) : Type 0 where
   -- the link is 0, or names a ticket of that writer and leaf, whose cell there is filled
-  pub leads : Leads sh log c c.link
+  pub leads : Leads layout log cursor cursor.link
   -- what was seen in the chain lies below the link, or the walk went by it
-  pub left : (i : ℕ) (t : Ticket) → i < seen → slice_get log i ≡ Some t → t.writer ≡ c.writer → sh.path t.row c.spot.lane ≡ Some c.spot.path → (i < c.link) ⊎ (has c.gone i ≡ true)
+  pub left : (i : ℕ) (t : Ticket) → i < seen → slice_get log i ≡ Some t → t.writer ≡ cursor.writer → layout.path t.row cursor.spot.lane ≡ Some cursor.spot.path → (i < cursor.link) ⊎ (has cursor.gone i ≡ true)
   -- what the walks went by are tickets of these writers
-  pub met : (i : ℕ) (x : ℕ × ℕ) → slice_get c.met i ≡ Some x → HasWriter log x
+  pub met : (i : ℕ) (x : ℕ × ℕ) → slice_get cursor.met i ≡ Some x → HasWriter log x
 
 abbrev pub CursorIs : Layout → List Ticket → ℕ → Option Cursor → Type 0
-CursorIs sh log seen None = Unit {0}
-CursorIs sh log seen (Some c) = CursorLaw sh log seen c
+CursorIs layout log seen None = Unit {0}
+CursorIs layout log seen (Some c) = CursorLaw layout log seen c
 
 abbrev pub DoneAt : List Ticket → ℕ → Type 0
 DoneAt log o = (t : Ticket) × (slice_get log o ≡ Some t) × (t.is_done ≡ true)
 
 -- what a pass knows and holds
-pub record PassLaw (sh : Layout) (m : Base) (p : Pass) : Type 0 where
-  pub within : length p.seen ≤ m.tails.1
-  pub seen : p.seen ≡ front (length p.seen) m.log
-  pub olds : (k : ℕ) (old : List Entry) → slice_get p.olds k ≡ Some old → (length old ≤ length p.seen) × (old ≡ front (length old) m.log)
-  pub known : (i : ℕ) (x : Spot × ℕ) → slice_get p.known i ≡ Some x → Known sh m.stocks x
-  pub walk : CursorIs sh m.log (length p.seen) p.cursor
-  pub look : (o i : ℕ) → o < sh.sizes.tickets → suc i ≡ sh.sizes.ticket_words → p.look.word ≡ place sh.sizes (cell o i) → p.look.value ≡ 1 → DoneAt m.log o
-  pub books : (k : ℕ) (b : Book) → Holds p k b → (b.writer < sh.sizes.writers) × (b ≡ book_at m b.writer)
+pub record PassLaw (layout : Layout) (base : Base) (p : Pass) : Type 0 where
+  pub within : length p.seen ≤ base.tails.1
+  pub seen : p.seen ≡ front (length p.seen) base.log
+  pub olds : (k : ℕ) (old : List Entry) → slice_get p.olds k ≡ Some old → (length old ≤ length p.seen) × (old ≡ front (length old) base.log)
+  pub known : (i : ℕ) (x : Spot × ℕ) → slice_get p.known i ≡ Some x → Known layout base.stocks x
+  pub walk : CursorIs layout base.log (length p.seen) p.cursor
+  pub look : (o i : ℕ) → o < layout.sizes.tickets → suc i ≡ layout.sizes.ticket_words → p.look.word ≡ place layout.sizes (cell o i) → p.look.value ≡ 1 → DoneAt base.log o
+  pub books : (k : ℕ) (b : Book) → Holds p k b → (b.writer < layout.sizes.writers) × (b ≡ book_at base b.writer)
   -- a pass that was joined away holds no book
   pub ends : p.spent ≡ true → p.books ≡ []
 
@@ -118,14 +118,14 @@ pub record HoldsAt (passes : List Pass) (k i w : ℕ) : Type 0 where
   pub writer : book.writer ≡ w
 
 -- The base stands for the words, and each pass knows and holds what is so.
-pub record Stands (sh : Layout) (m : Base) (passes : List Pass) : Type 0 where
-  pub law : BaseLaw sh m
-  pub knows : (k : ℕ) (p : Pass) → slice_get passes k ≡ Some p → PassLaw sh m p
+pub record Stands (layout : Layout) (base : Base) (passes : List Pass) : Type 0 where
+  pub law : BaseLaw layout base
+  pub knows : (k : ℕ) (p : Pass) → slice_get passes k ≡ Some p → PassLaw layout base p
   -- each book is held, and none twice
-  pub held : (w : ℕ) → w < sh.sizes.writers → (k : ℕ) × (i : ℕ) × HoldsAt passes k i w
+  pub held : (w : ℕ) → w < layout.sizes.writers → (k : ℕ) × (i : ℕ) × HoldsAt passes k i w
   pub once : (j k h i w : ℕ) → HoldsAt passes j h w → HoldsAt passes k i w → (j ≡ k) × (h ≡ i)
 
-pub record Lawful (sh : Layout) (words : List ℕ) (passes : List Pass) : Type 0 where
+pub record Lawful (layout : Layout) (words : List ℕ) (passes : List Pass) : Type 0 where
   pub base : Base
-  pub stands : Stands sh base passes
+  pub stands : Stands layout base passes
   pub spelled : base.words ≡ words

@@ -1,18 +1,18 @@
 -- Passes and their books: what a caller holds and knows.
 use Rattle.std.specs.Prelude.{ℕ, List, Bool, Option}
-use Rattle.cf_row.specs.Row.{Numbered}
+use Rattle.cf_row.specs.Row.{RowValue}
 use Rattle.cf_row.specs.declared.row.Entry.{Entry}
 use Rattle.cf_words.specs.Words.{Spot}
 
 -- a finished ticket
 pub record Own : Type 0 where
   pub offset : ℕ
-  pub row : Numbered
+  pub row : RowValue
 
 -- a ticket that is not finished: how far its words are filled, and the lanes in which it is linked
 pub record Flight : Type 0 where
   pub offset : ℕ
-  pub row : Numbered
+  pub row : RowValue
   pub filled : ℕ
   pub linked : List ℕ
 

@@ -1,6 +1,6 @@
 -- What a lawful world says of its words, each clause by itself.
 use Rattle.std.specs.Prelude.{ℕ, ◌+◌, ◌*◌, ◌<◌, ◌≤◌, ◌≡◌, suc, List, ◌∷◌, ◌++◌, length, get_or, true, Some, None, slice_get}
-use Rattle.cf_shape.specs.Lanes.{Shaped, IsShape}
+use Rattle.cf_shape.specs.Lanes.{ShapeValue, IsShape}
 use Rattle.cf_shape.specs.Places.{Slot, place, IsReal, head_slot}
 use Rattle.cf_shape.specs.Places.Slot.{tail, cell, body}
 use Rattle.cf_words.specs.Words.{Spot, spot, Layout, Ticket, Stock, stock_of, marked, node_at, IsNamedBy, free_of, has, done_word, full_word, chain, top}
@@ -10,46 +10,46 @@ use Rattle.cf_law.specs.Events.{word_at}
 use Rattle.cf_law.specs.Shapes.{layout}
 
 -- the slot t is a child word that stands for the spot s
-pub record IsChildWord (sh : Layout) (bs : List Stock) (s : Spot) (t : Slot) : Type 0 where
-  pub named : IsNamedBy sh.sizes.nodes bs s.lane s.path t
-  pub real : IsReal sh.sizes t
-  pub inner : length s.path < sh.levels s.lane
+pub record IsChildWord (sh : Layout) (stocks : List Stock) (spot : Spot) (slot : Slot) : Type 0 where
+  pub named : IsNamedBy sh.sizes.nodes stocks spot.lane spot.path slot
+  pub real : IsReal sh.sizes slot
+  pub inner : length spot.path < sh.levels spot.lane
 
-pub record SaysPlainly (sh : Layout) (m : Base) (passes : List Pass) : Type 0 where
+pub record SaysPlainly (sh : Layout) (base : Base) (passes : List Pass) : Type 0 where
   -- the tickets are at most the capacity; the write tail is their number and that of the marked books, and a mark exists only where all places are taken
-  pub tickets : length m.log ≤ sh.sizes.tickets
-  pub write_tail : word_at sh m.words (tail 0) ≡ length m.log + marked m.stocks
-  pub mark : (w : ℕ) → (stock_of m.stocks w).over ≡ true → length m.log ≡ sh.sizes.tickets
+  pub tickets : length base.log ≤ sh.sizes.tickets
+  pub write_tail : word_at sh base.words (tail 0) ≡ length base.log + marked base.stocks
+  pub mark : (w : ℕ) → (stock_of base.stocks w).over ≡ true → length base.log ≡ sh.sizes.tickets
   -- the read tail is at most the number of tickets, and those below it are finished
-  pub read_tail : word_at sh m.words (tail 1) ≤ length m.log
-  pub covered : (o : ℕ) (t : Ticket) → o < word_at sh m.words (tail 1) → slice_get m.log o ≡ Some t → t.is_done ≡ true
+  pub read_tail : word_at sh base.words (tail 1) ≤ length base.log
+  pub covered : (o : ℕ) (t : Ticket) → o < word_at sh base.words (tail 1) → slice_get base.log o ≡ Some t → t.is_done ≡ true
   -- a done word is 1 for finished tickets, else 0
-  pub done : (o i : ℕ) (t : Ticket) → slice_get m.log o ≡ Some t → suc i ≡ sh.sizes.ticket_words → word_at sh m.words (cell o i) ≡ done_word t.is_done
+  pub done : (o i : ℕ) (t : Ticket) → slice_get base.log o ≡ Some t → suc i ≡ sh.sizes.ticket_words → word_at sh base.words (cell o i) ≡ done_word t.is_done
   -- a filled word is what it has to be, the others are 0, and so are all words of places without ticket
-  pub filled : (o i : ℕ) (t : Ticket) → slice_get m.log o ≡ Some t → suc i < sh.sizes.ticket_words → i < t.filled → word_at sh m.words (cell o i) ≡ full_word sh m.log o t i
-  pub unfilled : (o i : ℕ) (t : Ticket) → slice_get m.log o ≡ Some t → suc i < sh.sizes.ticket_words → t.filled ≤ i → word_at sh m.words (cell o i) ≡ 0
-  pub empty : (o i : ℕ) → o < sh.sizes.tickets → i < sh.sizes.ticket_words → slice_get m.log o ≡ None → word_at sh m.words (cell o i) ≡ 0
+  pub filled : (o i : ℕ) (t : Ticket) → slice_get base.log o ≡ Some t → suc i < sh.sizes.ticket_words → i < t.filled → word_at sh base.words (cell o i) ≡ full_word sh base.log o t i
+  pub unfilled : (o i : ℕ) (t : Ticket) → slice_get base.log o ≡ Some t → suc i < sh.sizes.ticket_words → t.filled ≤ i → word_at sh base.words (cell o i) ≡ 0
+  pub empty : (o i : ℕ) → o < sh.sizes.tickets → i < sh.sizes.ticket_words → slice_get base.log o ≡ None → word_at sh base.words (cell o i) ≡ 0
   -- a head is the writer's newest ticket linked there
-  pub head : (node d w l : ℕ) (q : List ℕ) → node_at sh.sizes.nodes m.stocks node ≡ Some (spot l q) → suc (length q) ≡ sh.levels l → d < 16 → w < sh.sizes.writers
-      → word_at sh m.words (head_slot sh.sizes node d w) ≡ top (chain sh m.log w (spot l (d ∷ q)) (length m.log))
+  pub head : (node d w l : ℕ) (q : List ℕ) → node_at sh.sizes.nodes base.stocks node ≡ Some (spot l q) → suc (length q) ≡ sh.levels l → d < 16 → w < sh.sizes.writers
+      → word_at sh base.words (head_slot sh.sizes node d w) ≡ top (chain sh base.log w (spot l (d ∷ q)) (length base.log))
   -- a used node's label is the place of the child word that names it, and its level; that word names it
-  pub label : (n : ℕ) (s : Spot) → node_at sh.sizes.nodes m.stocks n ≡ Some s
-      → (t : Slot) × IsChildWord sh m.stocks s t × (word_at sh m.words (body n 0) ≡ 32 * place sh.sizes t + length s.path) × (word_at sh m.words t ≡ suc n)
+  pub label : (n : ℕ) (s : Spot) → node_at sh.sizes.nodes base.stocks n ≡ Some s
+      → (t : Slot) × IsChildWord sh base.stocks s t × (word_at sh base.words (body n 0) ≡ 32 * place sh.sizes t + length s.path) × (word_at sh base.words t ≡ suc n)
   -- a nonzero child word names a used node of its own lane and prefix, and each used node is named once
-  pub child : (n : ℕ) (s : Spot) (t : Slot) → IsChildWord sh m.stocks s t → word_at sh m.words t ≡ suc n → node_at sh.sizes.nodes m.stocks n ≡ Some s
-  pub once : (n : ℕ) (s r : Spot) (t u : Slot) → IsChildWord sh m.stocks s t → IsChildWord sh m.stocks r u → word_at sh m.words t ≡ suc n → word_at sh m.words u ≡ suc n → t ≡ u
+  pub child : (n : ℕ) (s : Spot) (t : Slot) → IsChildWord sh base.stocks s t → word_at sh base.words t ≡ suc n → node_at sh.sizes.nodes base.stocks n ≡ Some s
+  pub once : (n : ℕ) (s r : Spot) (t u : Slot) → IsChildWord sh base.stocks s t → IsChildWord sh base.stocks r u → word_at sh base.words t ≡ suc n → word_at sh base.words u ≡ suc n → t ≡ u
   -- a node that isn't used has no word but its label, and the least one's label is its book's
-  pub unused : (n j : ℕ) → IsReal sh.sizes (body n (suc j)) → node_at sh.sizes.nodes m.stocks n ≡ None → word_at sh m.words (body n (suc j)) ≡ 0
-  pub spare : (w : ℕ) → length (stock_of m.stocks w).used < sh.sizes.nodes → IsReal sh.sizes (body (free_of sh.sizes.nodes m.stocks w) 0) → word_at sh m.words (body (free_of sh.sizes.nodes m.stocks w) 0) ≡ (stock_of m.stocks w).label
+  pub unused : (n j : ℕ) → IsReal sh.sizes (body n (suc j)) → node_at sh.sizes.nodes base.stocks n ≡ None → word_at sh base.words (body n (suc j)) ≡ 0
+  pub spare : (w : ℕ) → length (stock_of base.stocks w).used < sh.sizes.nodes → IsReal sh.sizes (body (free_of sh.sizes.nodes base.stocks w) 0) → word_at sh base.words (body (free_of sh.sizes.nodes base.stocks w) 0) ≡ (stock_of base.stocks w).label
   -- a finished ticket is linked in each lane that selects it, and a linked one has a whole path
-  pub linked : (o l : ℕ) (t : Ticket) (p : List ℕ) → slice_get m.log o ≡ Some t → t.is_done ≡ true → sh.path t.row l ≡ Some p → has t.linked l ≡ true
-  pub path : (o l : ℕ) (t : Ticket) (d : ℕ) (xs : List ℕ) (e : ℕ) (p : List ℕ) → slice_get m.log o ≡ Some t → has t.linked l ≡ true → sh.path t.row l ≡ Some (d ∷ (xs ++ e ∷ p))
-      → (k : ℕ) × (node_at sh.sizes.nodes m.stocks k ≡ Some (spot l (e ∷ p)))
+  pub linked : (o l : ℕ) (t : Ticket) (p : List ℕ) → slice_get base.log o ≡ Some t → t.is_done ≡ true → sh.path t.row l ≡ Some p → has t.linked l ≡ true
+  pub path : (o l : ℕ) (t : Ticket) (d : ℕ) (xs : List ℕ) (e : ℕ) (p : List ℕ) → slice_get base.log o ≡ Some t → has t.linked l ≡ true → sh.path t.row l ≡ Some (d ∷ (xs ++ e ∷ p))
+      → (k : ℕ) × (node_at sh.sizes.nodes base.stocks k ≡ Some (spot l (e ∷ p)))
   -- a known child word has its value
-  pub known : (k i n : ℕ) (p : Pass) (s : Spot) (t : Slot) → slice_get passes k ≡ Some p → slice_get p.known i ≡ Some (s, n) → IsReal sh.sizes t → IsNamedBy sh.sizes.nodes m.stocks s.lane s.path t → word_at sh m.words t ≡ suc n
+  pub known : (k i n : ℕ) (p : Pass) (s : Spot) (t : Slot) → slice_get passes k ≡ Some p → slice_get p.known i ≡ Some (s, n) → IsReal sh.sizes t → IsNamedBy sh.sizes.nodes base.stocks s.lane s.path t → word_at sh base.words t ≡ suc n
   -- a cursor names a place whose words spell an entry of its writer and leaf
   pub cursor : (k o i : ℕ) (p : Pass) (c : Cursor) → slice_get passes k ≡ Some p → p.cursor ≡ Some c → c.link ≡ suc o → c.spot.lane < sh.sizes.lanes → i < sh.plain_words
-      → (t : Ticket) × (slice_get m.log o ≡ Some t) × (t.writer ≡ c.writer) × (sh.path t.row c.spot.lane ≡ Some c.spot.path) × (word_at sh m.words (cell o i) ≡ get_or (sh.spelled t.row t.writer) i 0)
+      → (t : Ticket) × (slice_get base.log o ≡ Some t) × (t.writer ≡ c.writer) × (sh.path t.row c.spot.lane ≡ Some c.spot.path) × (word_at sh base.words (cell o i) ≡ get_or (sh.spelled t.row t.writer) i 0)
 
 abbrev pub LawfulSaysPlainly : Type 0
-LawfulSaysPlainly = (s : Shaped) (words : List ℕ) (passes : List Pass) → IsShape s → Lawful (layout s) words passes → (m : Base) × (m.words ≡ words) × SaysPlainly (layout s) m passes
+LawfulSaysPlainly = (s : ShapeValue) (words : List ℕ) (passes : List Pass) → IsShape s → Lawful (layout s) words passes → (m : Base) × (m.words ≡ words) × SaysPlainly (layout s) m passes

@@ -1,9 +1,9 @@
 -- What a shape says of rows and words.
 use Rattle.std.specs.Prelude.{ℕ, ◌+◌, ◌^◌, ◌&&◌, List, Bool, cond, nat_lt, Option, Some, None}
 use Rattle.cf_row.specs.declared.schema.Attr.{Attr}
-use Rattle.cf_row.specs.Row.{Numbered, values_fit}
+use Rattle.cf_row.specs.Row.{RowValue, values_fit}
 use Rattle.cf_row.specs.Words.{word_count, spelled, entry_read}
-use Rattle.cf_shape.specs.Lanes.{Shaped, selected_by, key_of, measure_of}
+use Rattle.cf_shape.specs.Lanes.{ShapeValue, selected_by, key_of, measure_of}
 use Rattle.cf_shape.specs.Nodes.{levels_of}
 use Rattle.cf_shape.specs.Uses.{use_at, is_measured}
 use Rattle.cf_shape.specs.Places.{sizes_of}
@@ -11,14 +11,14 @@ use Rattle.cf_words.specs.Words.{entry, Layout}
 use Rattle.cf_law.specs.Nibbles.{nibbles}
 
 -- the row's path in a lane, where the lane selects it
-abbrev pub path_in : Shaped → Numbered → ℕ → Option (List ℕ)
+abbrev pub path_in : ShapeValue → RowValue → ℕ → Option (List ℕ)
 path_in shape row lane = cond (selected_by shape lane row) (Some (nibbles (levels_of shape lane) (key_of shape lane row))) None
 
 -- the row fits, with a number of 32 bits
-abbrev pub row_fits : List Attr → Numbered → Bool
+abbrev pub row_fits : List Attr → RowValue → Bool
 row_fits attrs row = values_fit attrs row.values && nat_lt row.num (2 ^ 32)
 
-abbrev pub layout : Shaped → Layout
+abbrev pub layout : ShapeValue → Layout
 layout shape = record {
   sizes = sizes_of shape;
   levels = levels_of shape;

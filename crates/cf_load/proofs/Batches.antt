@@ -5,19 +5,19 @@ use Rattle.std.proofs.lemmas.List.{append-nil, append_cancel_left, length-take, 
 use Rattle.std.proofs.Math.Seq.{take-add}
 use Rattle.std.proofs.lemmas.Option.{slice_get_within, slice_get-get_or}
 use Rattle.std.specs.List.{All, AllZip, AllByRecursion}
-use Rattle.cf_row.specs.Row.{Numbered}
+use Rattle.cf_row.specs.Row.{RowValue}
 use Rattle.cf_row.specs.declared.row.Entry.{Entry}
 use Rattle.cf_history.specs.Order.{rows_of, written_by, IsLogOf}
-use Rattle.cf_shape.specs.Lanes.{Shaped, IsShape}
+use Rattle.cf_shape.specs.Lanes.{ShapeValue, IsShape}
 use Rattle.cf_words.specs.Words.{Spot}
 use Rattle.cf_law.specs.Events.{table, no_book}
 use Rattle.cf_law.proofs.Fronts.{table_length, table_at}
 use Rattle.cf_law.specs.Passes.{Own, Book, Pass}
 use Rattle.cf_law.specs.Steps.{Holds, IsAtRest}
 use Rattle.cf_law.specs.Readers.{mine_from}
-use Rattle.cf_table.specs.Held.{Held, LogValue, IsOf, book_of}
+use Rattle.cf_table.specs.Values.{PassValue, LogValue, IsOf, book_of}
 use Rattle.cf_table.specs.Rule.{root_pass}
-use Rattle.cf_table.specs.Moves.{Begins, IsSettled, AreDealt, AreAll, AreFit, Gathered, books_of, told_by}
+use Rattle.cf_table.specs.Moves.{Begins, HoldsAllBooks, AreDealt, AreAll, AreFit, HasGathered, books_of, told_by}
 use Rattle.cf_table.proofs.Homing.{still_one, get_front, opened as opened_settled}
 use Rattle.cf_append.specs.Appends.{Rests}
 use Rattle.cf_load.specs.Needed.{IsNeeded, HasNodes}
@@ -56,12 +56,12 @@ get_back [] ys i x h = ap (slice_get ys) (let e : 0 + i ≡ i = omega arith in e
 get_back (y ∷ xs) ys i x h = ap (slice_get (y ∷ (xs ++ ys))) (let e : suc (length xs) + i ≡ suc (length xs + i) = omega arith in e) ∙ get_back xs ys i x h
 
 -- a pass's book is among those of all
-pub book_in : (passes : List Held) (k : ℕ) (h : Held) (b : Book) → slice_get passes k ≡ Some h → Holds h.view 0 b → (i : ℕ) × (slice_get (books_of passes) i ≡ Some b)
+pub book_in : (passes : List PassValue) (k : ℕ) (h : PassValue) (b : Book) → slice_get passes k ≡ Some h → Holds h.view 0 b → (i : ℕ) × (slice_get (books_of passes) i ≡ Some b)
 unfolding books_of
 book_in [] k h b at holds = absurd (cc at)
 book_in (x ∷ xs) zero h b at holds =
     let e : x ≡ h = cc at in
-    (0, get_front (x.view).books (books_of xs) 0 b (ap (λ (y : Held). slice_get (y.view).books 0) e ∙ holds))
+    (0, get_front (x.view).books (books_of xs) 0 b (ap (λ (y : PassValue). slice_get (y.view).books 0) e ∙ holds))
 book_in (x ∷ xs) (suc k) h b at holds =
     let r = book_in xs k h b at holds in
     (length (x.view).books + r.0, get_back (x.view).books (books_of xs) r.0 b r.1)
@@ -94,7 +94,7 @@ fit_exist writers [] each = tt
 fit_exist writers (e ∷ es) each = (each 0 e refl, fit_exist writers es (λ o x at. each (suc o) x at))
 
 -- a pass that was dealt is ready to write
-pub ready_one : (log : LogValue) (rows : List Numbered) (m r : Held) (passes : List Held) → HasLoaded log rows m → AreDealt log m passes r → (k : ℕ) (h : Held) → slice_get passes k ≡ Some h → IsReady log h
+pub ready_one : (log : LogValue) (rows : List RowValue) (m r : PassValue) (passes : List PassValue) → HasLoaded log rows m → AreDealt log m passes r → (k : ℕ) (h : PassValue) → slice_get passes k ≡ Some h → IsReady log h
 ready_one log rows m r passes has dealt k h at =
     let d = dealt.each k h at in
     let book : book_of h.view ≡ d.book = ap (λ (p : Pass). book_of p) d.view in record {
@@ -106,11 +106,11 @@ ready_one log rows m r passes has dealt k h at =
     }
 
 -- all passes that were dealt are ready to write
-pub ready_passes : (log : LogValue) (rows : List Numbered) (m r : Held) (passes : List Held) → HasLoaded log rows m → AreDealt log m passes r → All (IsReady log) passes
+pub ready_passes : (log : LogValue) (rows : List RowValue) (m r : PassValue) (passes : List PassValue) → HasLoaded log rows m → AreDealt log m passes r → All (IsReady log) passes
 ready_passes log rows m r passes has dealt k d lt = ready_one log rows m r passes has dealt k (get_or passes k d) (slice_get-get_or passes k d lt)
 
 -- passes that wrote may come home
-pub homeward : (whole : Bool) (log : LogValue) (first : ℕ) (batch : List Numbered) (passes after : List Held) → All (IsReady log) passes → AreAll log passes → AllZip (Wrote whole log first batch) passes after → AreAll log after
+pub homeward : (whole : Bool) (log : LogValue) (first : ℕ) (batch : List RowValue) (passes after : List PassValue) → All (IsReady log) passes → AreAll log passes → AllZip (Wrote whole log first batch) passes after → AreAll log after
 homeward whole log first batch passes after ready all wrote = record {
   of = λ k a at. of k a at;
   rest = λ k a at j b holds. rest k a at j b holds;
@@ -118,30 +118,30 @@ homeward whole log first batch passes after ready all wrote = record {
   writers = λ w lt. writers w lt;
 }
   where
-    of : (k : ℕ) (a : Held) → slice_get after k ≡ Some a → IsOf a log
+    of : (k : ℕ) (a : PassValue) → slice_get after k ≡ Some a → IsOf a log
     of k a at =
         let z = zip_back (Wrote whole log first batch) passes after k a wrote at in
         still_one log z.0 a (all.of k z.0 z.1) (z.2).same
 
-    rest : (k : ℕ) (a : Held) → slice_get after k ≡ Some a → IsAtRest a.view
+    rest : (k : ℕ) (a : PassValue) → slice_get after k ≡ Some a → IsAtRest a.view
     rest k a at j b holds =
         let z = zip_back (Wrote whole log first batch) passes after k a wrote at in
         ap (λ (c : Book). c.flight) (only_book a.view (z.2).rest j b holds) ∙ (z.2).rest.free
 
-    writers : (w : ℕ) → w < (log.shape).writers → (k : ℕ) × (h : Held) × (j : ℕ) × (b : Book) × (slice_get after k ≡ Some h) × Holds h.view j b × (b.writer ≡ w)
+    writers : (w : ℕ) → w < (log.shape).writers → (k : ℕ) × (h : PassValue) × (j : ℕ) × (b : Book) × (slice_get after k ≡ Some h) × Holds h.view j b × (b.writer ≡ w)
     writers w lt =
         let r = all.writers w lt in
         let k : ℕ = r.0 in
-        let h : Held = r.1 in
+        let h : PassValue = r.1 in
         let within : k < length passes = slice_get_within passes k h r.4 in
         let same : get_or passes k h ≡ h = (let f : Some (get_or passes k h) ≡ Some h = sym (slice_get-get_or passes k h within) ∙ r.4 in cc f) in
-        let rests : Rests h.view = subst (λ (x : Held). Rests x.view) same (ready k h within).rest in
+        let rests : Rests h.view = subst (λ (x : PassValue). Rests x.view) same (ready k h within).rest in
         let z = zip_at (Wrote whole log first batch) passes after k h wrote r.4 in
         let mine : (book_of h.view).writer ≡ w = ap (λ (c : Book). c.writer) (sym (only_book h.view rests r.2 r.3 r.5)) ∙ r.6 in
         (k, z.0, 0, book_of (z.0).view, z.1, first_book (z.0).view (z.2).rest, (z.2).writer ∙ mine)
 
 -- passes that were told nothing tell nothing
-pub quiet : (whole : Bool) (log : LogValue) (first : ℕ) (batch : List Numbered) (hs gs : List Held) (ts : List ℕ) → AllZip (Wrote whole log first batch) hs gs → ((k : ℕ) (h : Held) → slice_get hs k ≡ Some h → ((h.view).tails ≡ []) × ((h.view).told ≡ [])) → told_by ts gs ≡ ts
+pub quiet : (whole : Bool) (log : LogValue) (first : ℕ) (batch : List RowValue) (hs gs : List PassValue) (ts : List ℕ) → AllZip (Wrote whole log first batch) hs gs → ((k : ℕ) (h : PassValue) → slice_get hs k ≡ Some h → ((h.view).tails ≡ []) × ((h.view).told ≡ [])) → told_by ts gs ≡ ts
 unfolding told_by
 quiet whole log first batch [] [] ts all each = refl
 quiet whole log first batch [] (a ∷ gs) ts all each = absurd all
@@ -154,7 +154,7 @@ quiet whole log first batch (h ∷ hs) (a ∷ gs) ts all each =
     ap (λ (us : List ℕ). told_by us gs) none ∙ quiet whole log first batch hs gs ts all.1 (λ k x at. each (suc k) x at)
 
 -- passes that were dealt and then wrote tell a root nothing
-pub told_home : (whole : Bool) (log : LogValue) (first : ℕ) (batch : List Numbered) (m r : Held) (passes after : List Held) → AreDealt log m passes r → AllZip (Wrote whole log first batch) passes after → (told : List ℕ) → told_by told after ≡ told
+pub told_home : (whole : Bool) (log : LogValue) (first : ℕ) (batch : List RowValue) (m r : PassValue) (passes after : List PassValue) → AreDealt log m passes r → AllZip (Wrote whole log first batch) passes after → (told : List ℕ) → told_by told after ≡ told
 told_home whole log first batch m r passes after dealt wrote told =
     quiet whole log first batch passes after told wrote (λ k h at. (let d = dealt.each k h at in (ap (λ (p : Pass). p.tails) d.view, ap (λ (p : Pass). p.told) d.view)))
 
@@ -163,10 +163,10 @@ pub nothing : (X : Type 0) (j : ℕ) → take 4096 (drop {A = X} j []) ≡ []
 nothing X j = ap (take 4096) (drop_all {X = X} j [] (omega arith)) ∙ take_all 4096 [] (omega arith)
 
 -- a log just opened has no rows yet
-pub opened : (log : LogValue) (m : Held) → IsOf m log → m.view ≡ root_pass log.shape → HasLoaded log [] m
+pub opened : (log : LogValue) (m : PassValue) → IsOf m log → m.view ≡ root_pass log.shape → HasLoaded log [] m
 opened log m of is = record {
   of = of;
-  settled = subst (IsSettled log.shape) (sym is) (opened_settled log.shape);
+  settled = subst (HoldsAllBooks log.shape) (sym is) (opened_settled log.shape);
   is = subst (λ (p : Pass). IsLogOf [] (log.shape).writers p.seen) (sym is) none;
   own = λ w lt. ap (λ (p : Pass). written_by w p.seen) is;
   nodes = subst (λ (p : Pass). HasNodes log.shape [] p) (sym is) (record {
@@ -185,18 +185,18 @@ opened log m of is = record {
     none = record {
       size = refl;
       exist = tt;
-      own = λ b w lt. ap (written_by w) (nothing Entry (4096 * b)) ∙ ap (rows_of (log.shape).writers w (4096 * b)) (sym (nothing Numbered (4096 * b)));
+      own = λ b w lt. ap (written_by w) (nothing Entry (4096 * b)) ∙ ap (rows_of (log.shape).writers w (4096 * b)) (sym (nothing RowValue (4096 * b)));
     }
 
 -- rows that are needed are so among more
-pub needed_left : (shape : Shaped) (rows more : List Numbered) (s : Spot) → IsNeeded shape rows s → IsNeeded shape (rows ++ more) s
+pub needed_left : (shape : ShapeValue) (rows more : List RowValue) (s : Spot) → IsNeeded shape rows s → IsNeeded shape (rows ++ more) s
 needed_left shape rows more s n = record { place = n.place; row = n.row; at = has_left rows more n.place n.row n.at; on = n.on }
 
-pub needed_right : (shape : Shaped) (rows more : List Numbered) (s : Spot) → IsNeeded shape more s → IsNeeded shape (rows ++ more) s
+pub needed_right : (shape : ShapeValue) (rows more : List RowValue) (s : Spot) → IsNeeded shape more s → IsNeeded shape (rows ++ more) s
 needed_right shape rows more s n = (let h = has_right rows more n.row (n.place, n.at) in record { place = h.0; row = n.row; at = h.1; on = n.on })
 
 -- each of the books of passes at rest is a pass's one book
-pub book_from : (after : List Held) → ((i : ℕ) (a : Held) → slice_get after i ≡ Some a → Rests a.view) → (k : ℕ) (b : Book) → slice_get (books_of after) k ≡ Some b → (i : ℕ) × (a : Held) × (slice_get after i ≡ Some a) × (b ≡ book_of a.view)
+pub book_from : (after : List PassValue) → ((i : ℕ) (a : PassValue) → slice_get after i ≡ Some a → Rests a.view) → (k : ℕ) (b : Book) → slice_get (books_of after) k ≡ Some b → (i : ℕ) × (a : PassValue) × (slice_get after i ≡ Some a) × (b ≡ book_of a.view)
 unfolding books_of
 book_from [] rest k b at = absurd (cc at)
 book_from (x ∷ xs) rest k b at = elim (in_either (x.view).books (books_of xs) k b at) [
@@ -205,7 +205,7 @@ book_from (x ∷ xs) rest k b at = elim (in_either (x.view).books (books_of xs) 
 ]
 
 -- The passes that wrote came home.
-module _ (whole : Bool) (log : LogValue) (rows batch : List Numbered) (m r n : Held) (passes after : List Held) (has : HasLoaded log rows m) (dealt : AreDealt log m passes r) (wrote : AllZip (Wrote whole log (length rows) batch) passes after) (g : Gathered log.shape r after n) where
+module _ (whole : Bool) (log : LogValue) (rows batch : List RowValue) (m r n : PassValue) (passes after : List PassValue) (has : HasLoaded log rows m) (dealt : AreDealt log m passes r) (wrote : AllZip (Wrote whole log (length rows) batch) passes after) (g : HasGathered log.shape r after n) where
   -- what was seen before, what came, and how many writers there are
   abbrev pub seen : List Entry
   seen = (m.view).seen
@@ -219,7 +219,7 @@ module _ (whole : Bool) (log : LogValue) (rows batch : List Numbered) (m r n : H
   -- what was seen goes on
   pub goes_on : (n.view).seen ≡ seen ++ new
   goes_on =
-      let kept : (r.view).seen ≡ seen = ap (λ (h : Held). (h.view).seen) dealt.root in
+      let kept : (r.view).seen ≡ seen = ap (λ (h : PassValue). (h.view).seen) dealt.root in
       let begins : take (length seen) (n.view).seen ≡ seen = subst (λ (es : List Entry). Begins es (n.view).seen) kept g.own in
       sym (take-append-drop (length seen) (n.view).seen) ∙ ap (λ (es : List Entry). es ++ new) begins
 
@@ -228,7 +228,7 @@ module _ (whole : Bool) (log : LogValue) (rows batch : List Numbered) (m r n : H
   new_exist = all_drop (λ e. e.writer < W) (length seen) (n.view).seen (fit_exist W (n.view).seen (λ o e at. (g.fit o e at).1))
 
   -- what a pass wrote whose writer had this book
-  pub wrote_part : (w k : ℕ) (h a : Held) (b : Book) → Holds m.view k b → b.writer ≡ w → slice_get passes k ≡ Some h → slice_get after k ≡ Some a → Wrote whole log (length rows) batch h a → length rows + length batch ≤ (log.shape).capacity → WrotePart whole W (length rows) batch new w
+  pub wrote_part : (w k : ℕ) (h a : PassValue) (b : Book) → Holds m.view k b → b.writer ≡ w → slice_get passes k ≡ Some h → slice_get after k ≡ Some a → Wrote whole log (length rows) batch h a → length rows + length batch ≤ (log.shape).capacity → WrotePart whole W (length rows) batch new w
   wrote_part w k h a b held own at there wr room = record {
     left = wr.left;
     split = ap (λ rs. rs ++ wr.left) wrote_done ∙ (wr.split ∙ ap (λ v. rows_of W v (length rows) batch) writer);
@@ -272,7 +272,7 @@ module _ (whole : Bool) (log : LogValue) (rows batch : List Numbered) (m r n : H
       let k : ℕ = home.0 in
       let b : Book = home.1 in
       let low : k < length passes = omega (arith, slice_get_within (m.view).books k b home.2, dealt.count) in
-      let h : Held = get_or passes k m in
+      let h : PassValue = get_or passes k m in
       let at : slice_get passes k ≡ Some h = slice_get-get_or passes k m low in
       let z = zip_at (Wrote whole log (length rows) batch) passes after k h wrote at in
       wrote_part w k h z.0 b home.2 home.3 at z.1 z.2 room
@@ -280,17 +280,17 @@ module _ (whole : Bool) (log : LogValue) (rows batch : List Numbered) (m r n : H
   -- the root is still the log's
   pub home_again : IsOf n log
   home_again =
-      let root : IsOf r log = still_one log m r has.of (dealt.root ∙ ap (λ (p : Pass). record m { view = p }) (ap (λ (h : Held). h.view) (sym dealt.root))) in
+      let root : IsOf r log = still_one log m r has.of (dealt.root ∙ ap (λ (p : Pass). record m { view = p }) (ap (λ (h : PassValue). h.view) (sym dealt.root))) in
       still_one log r n root g.same
 
   -- a book that came home is that of a pass
-  pub book_home : (k : ℕ) (b : Book) → Holds n.view k b → (i : ℕ) × (a : Held) × (slice_get after i ≡ Some a) × (b ≡ book_of a.view)
+  pub book_home : (k : ℕ) (b : Book) → Holds n.view k b → (i : ℕ) × (a : PassValue) × (slice_get after i ≡ Some a) × (b ≡ book_of a.view)
   book_home k b held =
       let there : slice_get (books_of after) k ≡ Some b = ap (λ (bs : List Book). slice_get bs k) (sym g.books) ∙ held in
       book_from after (λ i a at. ((zip_back (Wrote whole log (length rows) batch) passes after i a wrote at).2).rest) k b there
 
   -- what its used nodes are for
-  pub used_by : (i : ℕ) (a : Held) (j : ℕ) (s : Spot) → slice_get after i ≡ Some a → slice_get (book_of a.view).used j ≡ Some s → IsNeeded log.shape (rows ++ batch) s
+  pub used_by : (i : ℕ) (a : PassValue) (j : ℕ) (s : Spot) → slice_get after i ≡ Some a → slice_get (book_of a.view).used j ≡ Some s → IsNeeded log.shape (rows ++ batch) s
   used_by i a j s at used =
       let z = zip_back (Wrote whole log (length rows) batch) passes after i a wrote at in
       let d = dealt.each i z.0 z.1 in
@@ -310,7 +310,7 @@ module _ (whole : Bool) (log : LogValue) (rows batch : List Numbered) (m r n : H
 
 -- Passes were dealt, each wrote of its rows of the batch what it could, and all came home: where there is room for all rows, all
 -- are in the log.
-pub batch_loaded : (log : LogValue) (rows batch : List Numbered) (b : ℕ) (m r n : Held) (passes after : List Held) → IsShape log.shape → HasLoaded log rows m → length rows ≡ 4096 * b → length batch ≤ 4096 → length rows + length batch ≤ (log.shape).capacity → AreDealt log m passes r → AllZip (Wrote true log (length rows) batch) passes after → Gathered log.shape r after n → HasLoaded log (rows ++ batch) n
+pub batch_loaded : (log : LogValue) (rows batch : List RowValue) (b : ℕ) (m r n : PassValue) (passes after : List PassValue) → IsShape log.shape → HasLoaded log rows m → length rows ≡ 4096 * b → length batch ≤ 4096 → length rows + length batch ≤ (log.shape).capacity → AreDealt log m passes r → AllZip (Wrote true log (length rows) batch) passes after → HasGathered log.shape r after n → HasLoaded log (rows ++ batch) n
 batch_loaded log rows batch b m r n passes after shape has long few room dealt wrote g =
     let W = (log.shape).writers in
     let some : 0 < W = shape.writers.0 in
@@ -322,28 +322,28 @@ batch_loaded log rows batch b m r n passes after shape has long few room dealt w
       settled = g.settled;
       is = subst (IsLogOf (rows ++ batch) W) (sym (goes_on true log rows batch m r n passes after has dealt wrote g)) is;
       own = λ w lt. ap (written_by w) (goes_on true log rows batch m r n passes after has dealt wrote g)
-          ∙ (written_append w (m.view).seen more ∙ (ap₂ (λ (a c : List Numbered). a ++ c) (has.own w lt) (own w lt) ∙ sym (rows_then W w rows batch)));
+          ∙ (written_append w (m.view).seen more ∙ (ap₂ (λ (a c : List RowValue). a ++ c) (has.own w lt) (own w lt) ∙ sym (rows_then W w rows batch)));
       nodes = nodes_home true log rows batch m r n passes after has dealt wrote g;
     }
 
 -- a root whose books were dealt is the log's, holds none, and has seen as much
-pub root_away : (log : LogValue) (m r : Held) (passes : List Held) → IsOf m log → AreDealt log m passes r → IsOf r log × ((r.view).books ≡ []) × ((r.view).seen ≡ (m.view).seen)
+pub root_away : (log : LogValue) (m r : PassValue) (passes : List PassValue) → IsOf m log → AreDealt log m passes r → IsOf r log × ((r.view).books ≡ []) × ((r.view).seen ≡ (m.view).seen)
 root_away log m r passes of dealt = (
-  record { table = ap (λ (h : Held). h.table) dealt.root ∙ of.table; nodes = ap (λ (h : Held). h.nodes) dealt.root ∙ of.nodes },
-  ap (λ (h : Held). (h.view).books) dealt.root,
-  ap (λ (h : Held). (h.view).seen) dealt.root,
+  record { table = ap (λ (h : PassValue). h.table) dealt.root ∙ of.table; nodes = ap (λ (h : PassValue). h.nodes) dealt.root ∙ of.nodes },
+  ap (λ (h : PassValue). (h.view).books) dealt.root,
+  ap (λ (h : PassValue). (h.view).seen) dealt.root,
 )
 
 -- what the root had seen when its books were dealt, it has seen when they are home
-pub seen_grows : (log : LogValue) (m r n : Held) (passes after : List Held) → AreDealt log m passes r → Gathered log.shape r after n → Begins (m.view).seen (n.view).seen
-seen_grows log m r n passes after dealt g = subst (λ (es : List Entry). Begins es (n.view).seen) (ap (λ (h : Held). (h.view).seen) dealt.root) g.own
+pub seen_grows : (log : LogValue) (m r n : PassValue) (passes after : List PassValue) → AreDealt log m passes r → HasGathered log.shape r after n → Begins (m.view).seen (n.view).seen
+seen_grows log m r n passes after dealt g = subst (λ (es : List Entry). Begins es (n.view).seen) (ap (λ (h : PassValue). (h.view).seen) dealt.root) g.own
 
 -- a root is told nothing by passes that wrote
-pub told_same : (whole : Bool) (log : LogValue) (first : ℕ) (batch : List Numbered) (m r n : Held) (passes after : List Held) → AreDealt log m passes r → AllZip (Wrote whole log first batch) passes after → Gathered log.shape r after n → (n.view).told ≡ (m.view).told
-told_same whole log first batch m r n passes after dealt wrote g = g.told ∙ (told_home whole log first batch m r passes after dealt wrote (r.view).told ∙ ap (λ (h : Held). (h.view).told) dealt.root)
+pub told_same : (whole : Bool) (log : LogValue) (first : ℕ) (batch : List RowValue) (m r n : PassValue) (passes after : List PassValue) → AreDealt log m passes r → AllZip (Wrote whole log first batch) passes after → HasGathered log.shape r after n → (n.view).told ≡ (m.view).told
+told_same whole log first batch m r n passes after dealt wrote g = g.told ∙ (told_home whole log first batch m r passes after dealt wrote (r.view).told ∙ ap (λ (h : PassValue). (h.view).told) dealt.root)
 
 -- a root that has its books and has seen the same is settled
-pub settled_still : (shape : Shaped) (m n : Held) → IsSettled shape m.view → (n.view).books ≡ (m.view).books → (n.view).seen ≡ (m.view).seen → IsSettled shape n.view
+pub settled_still : (shape : ShapeValue) (m n : PassValue) → HoldsAllBooks shape m.view → (n.view).books ≡ (m.view).books → (n.view).seen ≡ (m.view).seen → HoldsAllBooks shape n.view
 settled_still shape m n settled books seen_is = record {
   home = λ w lt. (let h = settled.home w lt in (h.0, h.1, ap (λ (bs : List Book). slice_get bs h.0) books ∙ h.2, h.3, h.4));
   rest = λ k b at. settled.rest k b (ap (λ (bs : List Book). slice_get bs k) (sym books) ∙ at);
@@ -352,7 +352,7 @@ settled_still shape m n settled books seen_is = record {
 }
 
 -- and still holds what was loaded
-pub still_loaded : (log : LogValue) (rows : List Numbered) (m n : Held) → HasLoaded log rows m → IsOf n log → (n.view).books ≡ (m.view).books → (n.view).seen ≡ (m.view).seen → HasLoaded log rows n
+pub still_loaded : (log : LogValue) (rows : List RowValue) (m n : PassValue) → HasLoaded log rows m → IsOf n log → (n.view).books ≡ (m.view).books → (n.view).seen ≡ (m.view).seen → HasLoaded log rows n
 still_loaded log rows m n has of books seen_is = record {
   of = of;
   settled = settled_still log.shape m n has.settled books seen_is;
@@ -366,7 +366,7 @@ still_loaded log rows m n has of books seen_is = record {
 }
 
 -- The next batch of some rows: where all have room, the first b batches were loaded and then this one.
-pub next_batch : (log : LogValue) (rows : List Numbered) (b : ℕ) (m r n : Held) (passes after : List Held) → IsShape log.shape → HasLoaded log (take (4096 * b) rows) m → 4096 * b ≤ length rows → length rows ≤ (log.shape).capacity → AreDealt log m passes r → AllZip (Wrote true log (4096 * b) (take 4096 (drop (4096 * b) rows))) passes after → Gathered log.shape r after n → HasLoaded log (take (4096 * (b + 1)) rows) n
+pub next_batch : (log : LogValue) (rows : List RowValue) (b : ℕ) (m r n : PassValue) (passes after : List PassValue) → IsShape log.shape → HasLoaded log (take (4096 * b) rows) m → 4096 * b ≤ length rows → length rows ≤ (log.shape).capacity → AreDealt log m passes r → AllZip (Wrote true log (4096 * b) (take 4096 (drop (4096 * b) rows))) passes after → HasGathered log.shape r after n → HasLoaded log (take (4096 * (b + 1)) rows) n
 next_batch log rows b m r n passes after shape has within room dealt wrote g =
     let front : length (take (4096 * b) rows) ≡ 4096 * b = length-take-le (4096 * b) rows within in
     let part : length (take 4096 (drop (4096 * b) rows)) ≤ 4096 = (let e = length-take 4096 (drop (4096 * b) rows) in omega (arith, e)) in
@@ -376,13 +376,13 @@ next_batch log rows b m r n passes after shape has within room dealt wrote g =
     (batch_loaded log (take (4096 * b) rows) (take 4096 (drop (4096 * b) rows)) b m r n passes after shape has front part few dealt (subst (λ first. AllZip (Wrote true log first (take 4096 (drop (4096 * b) rows))) passes after) (sym front) wrote) g)
 
 -- needed by some rows of all
-pub needed_take : (shape : Shaped) (n : ℕ) (rows : List Numbered) (s : Spot) → IsNeeded shape (take n rows) s → IsNeeded shape rows s
-needed_take shape n rows s needed = subst (λ (rs : List Numbered). IsNeeded shape rs s) (take-append-drop n rows) (needed_left shape (take n rows) (drop n rows) s needed)
+pub needed_take : (shape : ShapeValue) (n : ℕ) (rows : List RowValue) (s : Spot) → IsNeeded shape (take n rows) s → IsNeeded shape rows s
+needed_take shape n rows s needed = subst (λ (rs : List RowValue). IsNeeded shape rs s) (take-append-drop n rows) (needed_left shape (take n rows) (drop n rows) s needed)
 
 -- A writer ran out of nodes in that batch: the rows need more different ones than it has, and each writer's entries are the first of
 -- its rows.
-pub batch_out : (whole : Bool) (log : LogValue) (rows : List Numbered) (b w : ℕ) (m r n : Held) (passes after : List Held) → IsShape log.shape → HasLoaded log (take (4096 * b) rows) m → 4096 * b ≤ length rows → length rows ≤ (log.shape).capacity
-    → AreDealt log m passes r → AllZip (Wrote whole log (4096 * b) (take 4096 (drop (4096 * b) rows))) passes after → RanOut log (take 4096 (drop (4096 * b) rows)) w after → Gathered log.shape r after n → LacksNodes log rows w n
+pub batch_out : (whole : Bool) (log : LogValue) (rows : List RowValue) (b w : ℕ) (m r n : PassValue) (passes after : List PassValue) → IsShape log.shape → HasLoaded log (take (4096 * b) rows) m → 4096 * b ≤ length rows → length rows ≤ (log.shape).capacity
+    → AreDealt log m passes r → AllZip (Wrote whole log (4096 * b) (take 4096 (drop (4096 * b) rows))) passes after → RanOut log (take 4096 (drop (4096 * b) rows)) w after → HasGathered log.shape r after n → LacksNodes log rows w n
 batch_out whole log rows b w m r n passes after shape has within room dealt wrote_part_ out g = record {
   exists = subst (λ (v : ℕ). v < W) out.writer_is (g.bounds.writer book.0 (book_of out.pass.view) (ap (λ (bs : List Book). slice_get bs book.0) g.books ∙ book.1));
   many = (too_many log.shape rows (book_of out.pass.view) shape (λ j s used. more s (used_by whole log front part m r n passes after has dealt wrote g out.place out.pass j s out.at used)) (record {
@@ -400,10 +400,10 @@ batch_out whole log rows b w m r n passes after shape has within room dealt wrot
     W : ℕ
     W = (log.shape).writers
 
-    front : List Numbered
+    front : List RowValue
     front = take (4096 * b) rows
 
-    part : List Numbered
+    part : List RowValue
     part = take 4096 (drop (4096 * b) rows)
 
     front_long : length front ≡ 4096 * b
@@ -419,28 +419,28 @@ batch_out whole log rows b w m r n passes after shape has within room dealt wrot
     few = (let e = length-take 4096 (drop (4096 * b) rows) in let f = length-drop (4096 * b) rows in let long = front_long in omega (arith, e, f, long, within, room))
 
     more : (s : Spot) → IsNeeded log.shape (front ++ part) s → IsNeeded log.shape rows s
-    more s needed = needed_take log.shape (4096 * (b + 1)) rows s (subst (λ (rs : List Numbered). IsNeeded log.shape rs s) both needed)
+    more s needed = needed_take log.shape (4096 * (b + 1)) rows s (subst (λ (rs : List RowValue). IsNeeded log.shape rs s) both needed)
 
     book : (i : ℕ) × (slice_get (books_of after) i ≡ Some (book_of out.pass.view))
     book = book_in after out.place out.pass (book_of out.pass.view) out.at (first_book out.pass.view ((zip_back (Wrote whole log (length front) part) passes after out.place out.pass wrote out.at).2).rest)
 
-    fronts : (v : ℕ) → v < W → (left : List Numbered) × (written_by v (n.view).seen ++ left ≡ rows_of W v 0 rows)
+    fronts : (v : ℕ) → v < W → (left : List RowValue) × (written_by v (n.view).seen ++ left ≡ rows_of W v 0 rows)
     fronts v lt =
         let p = part_of whole log front part m r n passes after has dealt wrote g few v lt in
         let new : List Entry = drop (length (m.view).seen) (n.view).seen in
-        let rest : List Numbered = drop (4096 * (b + 1)) rows in
+        let rest : List RowValue = drop (4096 * (b + 1)) rows in
         let k : ℕ = length (front ++ part) in
         let written : written_by v (n.view).seen ≡ rows_of W v 0 front ++ written_by v new =
-        ap (written_by v) (goes_on whole log front part m r n passes after has dealt wrote g) ∙ (written_append v (m.view).seen new ∙ ap (λ (rs : List Numbered). rs ++ written_by v new) (has.own v lt)) in
+        ap (written_by v) (goes_on whole log front part m r n passes after has dealt wrote g) ∙ (written_append v (m.view).seen new ∙ ap (λ (rs : List RowValue). rs ++ written_by v new) (has.own v lt)) in
         let here : written_by v (n.view).seen ++ p.left ≡ rows_of W v 0 (front ++ part) =
-        ap (λ (rs : List Numbered). rs ++ p.left) written ∙ (append_assoc (rows_of W v 0 front) (written_by v new) p.left ∙ (ap (λ (rs : List Numbered). rows_of W v 0 front ++ rs) p.split ∙ sym (rows_then W v front part))) in
-        let all : (front ++ part) ++ rest ≡ rows = ap (λ (rs : List Numbered). rs ++ rest) both ∙ take-append-drop (4096 * (b + 1)) rows in (
+        ap (λ (rs : List RowValue). rs ++ p.left) written ∙ (append_assoc (rows_of W v 0 front) (written_by v new) p.left ∙ (ap (λ (rs : List RowValue). rows_of W v 0 front ++ rs) p.split ∙ sym (rows_then W v front part))) in
+        let all : (front ++ part) ++ rest ≡ rows = ap (λ (rs : List RowValue). rs ++ rest) both ∙ take-append-drop (4096 * (b + 1)) rows in (
           p.left ++ rows_of W v k rest,
-          sym (append_assoc (written_by v (n.view).seen) p.left (rows_of W v k rest)) ∙ (ap (λ (rs : List Numbered). rs ++ rows_of W v k rest) here ∙ (sym (rows_then W v (front ++ part) rest) ∙ ap (rows_of W v 0) all)),
+          sym (append_assoc (written_by v (n.view).seen) p.left (rows_of W v k rest)) ∙ (ap (λ (rs : List RowValue). rs ++ rows_of W v k rest) here ∙ (sym (rows_then W v (front ++ part) rest) ∙ ap (rows_of W v 0) all)),
         )
 
 -- the reader came home too
-pub lacks_kept : (log : LogValue) (rows : List Numbered) (w : ℕ) (n o : Held) → LacksNodes log rows w n → IsOf o log → (o.view).books ≡ (n.view).books → (o.view).seen ≡ (n.view).seen → LacksNodes log rows w o
+pub lacks_kept : (log : LogValue) (rows : List RowValue) (w : ℕ) (n o : PassValue) → LacksNodes log rows w n → IsOf o log → (o.view).books ≡ (n.view).books → (o.view).seen ≡ (n.view).seen → LacksNodes log rows w o
 lacks_kept log rows w n o lacks of books seen_is = record {
   exists = lacks.exists;
   many = lacks.many;

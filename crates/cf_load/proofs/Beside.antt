@@ -4,11 +4,11 @@ use Rattle.std.proofs.lemmas.Bool.{cases_lt}
 use Rattle.std.proofs.lemmas.List.{length-drop, take_all}
 use Rattle.std.proofs.Math.Seq.{take-length, drop-length}
 use Rattle.std.specs.List.{AllZip}
-use Rattle.cf_row.specs.Row.{Numbered}
+use Rattle.cf_row.specs.Row.{RowValue}
 use Rattle.cf_shape.specs.Lanes.{IsShape}
 use Rattle.cf_law.specs.Passes.{Pass}
-use Rattle.cf_table.specs.Held.{Held, LogValue, IsOf}
-use Rattle.cf_table.specs.Moves.{AreDealt, Folded, Gathered, IsSettled}
+use Rattle.cf_table.specs.Values.{PassValue, LogValue, IsOf}
+use Rattle.cf_table.specs.Moves.{AreDealt, HasFolded, HasGathered, HoldsAllBooks}
 use Rattle.std.specs.declared.alloc.AllocError.{AllocError}
 use Rattle.cf_load.specs.Loading.{HasLoaded}
 use Rattle.cf_load.specs.Loads.{outcome_of, LacksNodes}
@@ -49,24 +49,24 @@ part_is xs from to low is =
     ]
 
 -- the root, when the reader has come home too
-pub batch_home : (log : LogValue) (rows : List Numbered) (b : ℕ) (m r n o : Held) (q : Pass) (passes after : List Held) → IsShape log.shape → HasLoaded log (take (4096 * b) rows) m → 4096 * b ≤ length rows → length rows ≤ (log.shape).capacity
-    → AreDealt log m passes r → AllZip (Wrote true log (4096 * b) (take 4096 (drop (4096 * b) rows))) passes after → Gathered log.shape r after n → Folded log.shape n q o → (o.view).books ≡ (n.view).books → (IsSettled log.shape n.view → (o.view).seen ≡ (n.view).seen)
+pub batch_home : (log : LogValue) (rows : List RowValue) (b : ℕ) (m r n o : PassValue) (q : Pass) (passes after : List PassValue) → IsShape log.shape → HasLoaded log (take (4096 * b) rows) m → 4096 * b ≤ length rows → length rows ≤ (log.shape).capacity
+    → AreDealt log m passes r → AllZip (Wrote true log (4096 * b) (take 4096 (drop (4096 * b) rows))) passes after → HasGathered log.shape r after n → HasFolded log.shape n q o → (o.view).books ≡ (n.view).books → (HoldsAllBooks log.shape n.view → (o.view).seen ≡ (n.view).seen)
     → HasLoaded log (take (4096 * (b + 1)) rows) o
 batch_home log rows b m r n o q passes after shape has low few dealt wrote gathered folded books stays =
     let loaded = next_batch log rows b m r n passes after shape has low few dealt wrote gathered in
     let same = folded.made.same in
-    let of : IsOf o log = record { table = ap (λ (h : Held). h.table) same ∙ loaded.of.table; nodes = ap (λ (h : Held). h.nodes) same ∙ loaded.of.nodes } in
+    let of : IsOf o log = record { table = ap (λ (h : PassValue). h.table) same ∙ loaded.of.table; nodes = ap (λ (h : PassValue). h.nodes) same ∙ loaded.of.nodes } in
     still_loaded log (take (4096 * (b + 1)) rows) n o loaded of books (stays loaded.settled)
 
 -- what the root was told by then
-pub batch_told : (whole : Bool) (log : LogValue) (first : ℕ) (batch : List Numbered) (m r n o : Held) (q : Pass) (passes after : List Held) → AreDealt log m passes r → AllZip (Wrote whole log first batch) passes after → Gathered log.shape r after n → Folded log.shape n q o → q.told ≡ []
+pub batch_told : (whole : Bool) (log : LogValue) (first : ℕ) (batch : List RowValue) (m r n o : PassValue) (q : Pass) (passes after : List PassValue) → AreDealt log m passes r → AllZip (Wrote whole log first batch) passes after → HasGathered log.shape r after n → HasFolded log.shape n q o → q.told ≡ []
     → (o.view).told ≡ (m.view).told ++ q.tails
 batch_told whole log first batch m r n o q passes after dealt wrote gathered folded none =
     folded.told ∙ ap (λ ts. ts ++ q.tails) (ap (λ ts. (n.view).told ++ ts) none ∙ (append-nil (n.view).told ∙ told_same whole log first batch m r n passes after dealt wrote gathered))
 
 -- after a writer ran out of nodes
-pub out_home : (log : LogValue) (rows : List Numbered) (w : ℕ) (n o : Held) (q : Pass) → LacksNodes log rows w n → Folded log.shape n q o → (o.view).books ≡ (n.view).books → (IsSettled log.shape n.view → (o.view).seen ≡ (n.view).seen) → LacksNodes log rows w o
+pub out_home : (log : LogValue) (rows : List RowValue) (w : ℕ) (n o : PassValue) (q : Pass) → LacksNodes log rows w n → HasFolded log.shape n q o → (o.view).books ≡ (n.view).books → (HoldsAllBooks log.shape n.view → (o.view).seen ≡ (n.view).seen) → LacksNodes log rows w o
 out_home log rows w n o q lacks folded books stays =
     let same = folded.made.same in
-    let of : IsOf o log = record { table = ap (λ (h : Held). h.table) same ∙ lacks.of.table; nodes = ap (λ (h : Held). h.nodes) same ∙ lacks.of.nodes } in
+    let of : IsOf o log = record { table = ap (λ (h : PassValue). h.table) same ∙ lacks.of.table; nodes = ap (λ (h : PassValue). h.nodes) same ∙ lacks.of.nodes } in
     lacks_kept log rows w n o lacks of books (stays lacks.settled)

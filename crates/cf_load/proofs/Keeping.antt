@@ -3,32 +3,32 @@ use Rattle.std.proofs.Common.{refl, ◌≡◌, ◌∷◌, [], ◌++◌, ◌<◌,
 use Rattle.std.proofs.lemmas.List.{map_push, take_more}
 use Rattle.cf_law.specs.Passes.{Book}
 use Rattle.cf_law.specs.Readers.{mine_from}
-use Rattle.cf_shape.specs.Lanes.{Shaped}
-use Rattle.cf_row.specs.Row.{Numbered}
-use Rattle.cf_table.specs.Held.{Held, LogValue, IsOf}
-use Rattle.cf_table.specs.Moves.{IsSettled}
+use Rattle.cf_shape.specs.Lanes.{ShapeValue}
+use Rattle.cf_row.specs.Row.{RowValue}
+use Rattle.cf_table.specs.Values.{PassValue, LogValue, IsOf}
+use Rattle.cf_table.specs.Moves.{HoldsAllBooks}
 use Rattle.cf_query.specs.Asking.{HasAsked}
 use Rattle.cf_load.specs.Loading.{HasLoaded}
 use Rattle.cf_load.specs.Loads.{Keeps}
 use Rattle.cf_load.proofs.Batches.{still_loaded}
 
-pub keeps_none : (m : Held) → Keeps m m
+pub keeps_none : (m : PassValue) → Keeps m m
 keeps_none m = record { same = refl; seen = refl; books = refl; told = refl }
 
-pub keeps_then : (m n o : Held) → Keeps m n → Keeps n o → Keeps m o
+pub keeps_then : (m n o : PassValue) → Keeps m n → Keeps n o → Keeps m o
 keeps_then m n o a b = record {
-  same = b.same ∙ ap (λ (h : Held). record h { view = o.view }) a.same;
+  same = b.same ∙ ap (λ (h : PassValue). record h { view = o.view }) a.same;
   seen = b.seen ∙ a.seen;
   books = b.books ∙ a.books;
   told = b.told ∙ a.told;
 }
 
 -- after an ask of the root, also one that was refused
-pub keeps_asked : (shape : Shaped) (m n : Held) → HasAsked shape m n → IsSettled shape m.view → Keeps m n
+pub keeps_asked : (shape : ShapeValue) (m n : PassValue) → HasAsked shape m n → HoldsAllBooks shape m.view → Keeps m n
 keeps_asked shape m n asked settled = record { same = asked.same; seen = asked.stays settled; books = asked.books; told = asked.told }
 
 -- the books are still home
-pub settled_kept : (shape : Shaped) (m n : Held) → Keeps m n → IsSettled shape m.view → IsSettled shape n.view
+pub settled_kept : (shape : ShapeValue) (m n : PassValue) → Keeps m n → HoldsAllBooks shape m.view → HoldsAllBooks shape n.view
 settled_kept shape m n keeps settled = record {
   home = λ w lt. let h = settled.home w lt in (h.0, h.1, ap (λ (bs : List Book). slice_get bs h.0) keeps.books ∙ h.2, h.3, h.4);
   rest = λ k b held. settled.rest k b (ap (λ (bs : List Book). slice_get bs k) (sym keeps.books) ∙ held);
@@ -41,7 +41,7 @@ pub made_more : {X Y : Type 0} (f : X → Y) (xs : List X) (ys zs : List Y) (i :
 made_more f xs ys zs i d y is lt one more = more ∙ (ap₂ (λ made a. made ++ a ∷ []) is one ∙ (sym (map_push f (take i xs) (get_or xs i d)) ∙ ap (map f) (sym (take_more xs i d lt))))
 
 -- what was loaded is still there
-pub still_holds : (log : LogValue) (rows : List Numbered) (m n : Held) → HasLoaded log rows m → Keeps m n → HasLoaded log rows n
+pub still_holds : (log : LogValue) (rows : List RowValue) (m n : PassValue) → HasLoaded log rows m → Keeps m n → HasLoaded log rows n
 still_holds log rows m n has keeps =
-    let of : IsOf n log = record { table = ap (λ (h : Held). h.table) keeps.same ∙ has.of.table; nodes = ap (λ (h : Held). h.nodes) keeps.same ∙ has.of.nodes } in
+    let of : IsOf n log = record { table = ap (λ (h : PassValue). h.table) keeps.same ∙ has.of.table; nodes = ap (λ (h : PassValue). h.nodes) keeps.same ∙ has.of.nodes } in
     still_loaded log rows m n has of keeps.books keeps.seen

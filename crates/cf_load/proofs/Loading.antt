@@ -1,9 +1,9 @@
 -- One more batch is loaded.
 use Rattle.std.proofs.Common.{◌≡◌, ◌<◌, ◌+◌, ◌-◌, ◌*◌, ℕ, List, ◌++◌, length, take, append_assoc, sym, ap, subst, ◌∙◌, arith}
 use Rattle.std.proofs.lemmas.List.{length-take, map-append}
-use Rattle.cf_row.specs.Row.{Numbered}
+use Rattle.cf_row.specs.Row.{RowValue}
 use Rattle.cf_report.specs.declared.loaded.Live.{Live}
-use Rattle.cf_table.specs.Held.{Held, LogValue}
+use Rattle.cf_table.specs.Values.{PassValue, LogValue}
 use Rattle.cf_table.proofs.Settling.{begins_then}
 use Rattle.cf_load.specs.declared.plan.LivePlan.{LivePlan}
 use Rattle.cf_load.specs.Loading.{HasLoaded, HasAnswered, AsksBeside}
@@ -11,7 +11,7 @@ use Rattle.cf_load.specs.Planned.{tails_of}
 use Rattle.cf_load.proofs.Tails.{answered_more}
 
 -- the live answers beside it come after those before
-pub answered_beside : (log : LogValue) (rows : List Numbered) (plan : LivePlan) (b : ℕ) (m n : Held) (answers more : List Live) → HasLoaded log (take (4096 * b) rows) m → HasLoaded log (take (4096 * (b + 1)) rows) n → 4096 * b < length rows
+pub answered_beside : (log : LogValue) (rows : List RowValue) (plan : LivePlan) (b : ℕ) (m n : PassValue) (answers more : List Live) → HasLoaded log (take (4096 * b) rows) m → HasLoaded log (take (4096 * (b + 1)) rows) n → 4096 * b < length rows
     → HasAnswered log.shape plan.asks.items plan.lives.items plan.rounds (length (take (4096 * b) rows)) (m.view).seen answers → AsksBeside log.shape plan b (m.view).seen (n.view).seen more
     → HasAnswered log.shape plan.asks.items plan.lives.items plan.rounds (length (take (4096 * (b + 1)) rows)) (n.view).seen (answers ++ more)
 answered_beside log rows plan b m n answers more before after some has beside =

@@ -5,10 +5,10 @@ use Rattle.std.proofs.lemmas.List.{length-map}
 use Rattle.std.proofs.lemmas.Nat.{pow-add}
 use Rattle.std.proofs.Math.Nat.{pow-suc, div-lt_iff_lt-mul}
 use Rattle.std.proofs.lemmas.Bool.{cases_Bool, and_from}
-use Rattle.cf_row.specs.Row.{Numbered, Fits}
+use Rattle.cf_row.specs.Row.{RowValue, Fits}
 use Rattle.cf_row.specs.declared.row.Entry.{Entry}
 use Rattle.cf_row.proofs.Bytes.{both}
-use Rattle.cf_shape.specs.Lanes.{Shaped, IsShape, selected_by, key_of}
+use Rattle.cf_shape.specs.Lanes.{ShapeValue, IsShape, selected_by, key_of}
 use Rattle.cf_shape.specs.Nodes.{Node, levels_of, path_of, nodes_in, nodes_for, nodes_of, same_node, add_node, distinct}
 use Rattle.cf_words.specs.Words.{Spot, spot}
 use Rattle.cf_words.proofs.Chains.{eq_from}
@@ -126,14 +126,14 @@ nothing_apart : AreApart {A = Node} []
 nothing_apart i j x a b = absurd (cc a)
 
 -- a needed spot is that of one of the rows' nodes
-needed_node : (shape : Shaped) (rows : List Numbered) (s : Spot) → IsShape shape → IsNeeded shape rows s → (n : Node) × Has (nodes_of shape rows) n × (s ≡ spot_at n)
+needed_node : (shape : ShapeValue) (rows : List RowValue) (s : Spot) → IsShape shape → IsNeeded shape rows s → (n : Node) × Has (nodes_of shape rows) n × (s ≡ spot_at n)
 needed_node shape rows s is needed =
     let r = on_path_node shape needed.row s is needed.on in
     let all = has_flat (nodes_for shape) rows needed.place needed.row r.0 needed.at r.1.0 in
     (r.0, fold_new (flat_map (nodes_for shape) rows) [] all.0 r.0 all.1, r.1.1)
 
 -- where a writer's nodes are all used and one more is needed, the rows need more different nodes than a writer has
-pub too_many : (shape : Shaped) (rows : List Numbered) (b : Book) → IsShape shape → ((j : ℕ) (s : Spot) → slice_get b.used j ≡ Some s → IsNeeded shape rows s) → IsOut shape rows b → shape.nodes < distinct shape rows
+pub too_many : (shape : ShapeValue) (rows : List RowValue) (b : Book) → IsShape shape → ((j : ℕ) (s : Spot) → slice_get b.used j ≡ Some s → IsNeeded shape rows s) → IsOut shape rows b → shape.nodes < distinct shape rows
 too_many shape rows b is needed out =
     let few = no_more (out.at ∷ b.used) (map spot_at (nodes_of shape rows)) apart there in
     let many = length-map (nodes_of shape rows) spot_at in
@@ -160,14 +160,14 @@ from_range a (suc n) zero x at = (let e : a ≡ x = cc at in (omega (arith, e), 
 from_range a (suc n) (suc k) x at = (let r = from_range (a + 1) n k x at in let e = r.0 in let f = r.1 in (omega (arith, e), omega (arith, f)))
 
 -- the node is on the row's path in a lane that selects the row
-record IsNodeFor (shape : Shaped) (row : Numbered) (n : Node) : Type 0 where
+record IsNodeFor (shape : ShapeValue) (row : RowValue) (n : Node) : Type 0 where
   pub low : n.lane < length shape.lanes
   pub takes : selected_by shape n.lane row ≡ true
   pub some : 0 < n.level
   pub inner : n.level < levels_of shape n.lane
   pub front_is : n.front ≡ key_of shape n.lane row / 16 ^ (levels_of shape n.lane - n.level)
 
-node_for : (shape : Shaped) (row : Numbered) (n : Node) → Has (nodes_for shape row) n → IsNodeFor shape row n
+node_for : (shape : ShapeValue) (row : RowValue) (n : Node) → Has (nodes_for shape row) n → IsNodeFor shape row n
 node_for shape row n h =
     let r = from_flat (nodes_in shape row) (range_with_len 0 (length shape.lanes)) h.0 n h.1 in
     let lane = from_range 0 (length shape.lanes) r.0 r.1 r.2 in
@@ -200,7 +200,7 @@ front_small levels level key inner small =
     let p : 16 ^ levels ≡ 16 ^ level * 16 ^ (levels - level) = ap (λ (n : ℕ). 16 ^ n) (sym e) ∙ pow-add 16 level (levels - level) in
     (div-lt_iff_lt-mul {k = 16 ^ (levels - level)} {x = key} {y = 16 ^ level} (sixteens (levels - level))).1 (subst (λ (n : ℕ). key < n) p small)
 
-for_small : (shape : Shaped) (row : Numbered) (n : Node) → IsShape shape → Fits shape.schema row → IsNodeFor shape row n → n.front < 16 ^ n.level
+for_small : (shape : ShapeValue) (row : RowValue) (n : Node) → IsShape shape → Fits shape.schema row → IsNodeFor shape row n → n.front < 16 ^ n.level
 for_small shape row n is fits f =
     subst (λ (k : ℕ). k < 16 ^ n.level) (sym f.front_is) (front_small (levels_of shape n.lane) n.level (key_of shape n.lane row) f.inner (key_small shape n.lane row is f.low fits))
 
@@ -214,7 +214,7 @@ one_spot x y low high same =
     ∙ (ap (λ (n : ℕ). record { lane = y.lane; level = n; front = x.front }) level ∙ ap (λ (n : ℕ). record { lane = y.lane; level = y.level; front = n }) front)
 
 -- the node's spot stands on the row's path, and something of the path before it
-for_path : (shape : Shaped) (row : Numbered) (n : Node) → IsNodeFor shape row n
+for_path : (shape : ShapeValue) (row : RowValue) (n : Node) → IsNodeFor shape row n
     → (d e : ℕ) × (xs q : List ℕ) × (path_in shape row n.lane ≡ Some (d ∷ (xs ++ e ∷ q))) × (e ∷ q ≡ nibbles n.level n.front)
 for_path shape row n f =
     let levels = levels_of shape n.lane in
@@ -234,8 +234,8 @@ for_path shape row n f =
     (key % 16, rest % 16, nibbles i (key / 16), nibbles j (rest / 16), path_some shape row n.lane f.takes ∙ ap (λ (p : List ℕ). Some p) split, ends)
 
 -- Where every row was seen and the books are home, the rows need no more different nodes than all writers have.
-pub few_enough : (shape : Shaped) (rows : List Numbered) (p : Pass) → IsShape shape → ((i : ℕ) (row : Numbered) → slice_get rows i ≡ Some row → Fits shape.schema row) → HasNodes shape rows p
-    → ((i : ℕ) (row : Numbered) → slice_get rows i ≡ Some row → (o : ℕ) × (x : Entry) × (slice_get p.seen o ≡ Some x) × (x.row ≡ row)) → length p.books ≡ shape.writers → distinct shape rows ≤ shape.writers * shape.nodes
+pub few_enough : (shape : ShapeValue) (rows : List RowValue) (p : Pass) → IsShape shape → ((i : ℕ) (row : RowValue) → slice_get rows i ≡ Some row → Fits shape.schema row) → HasNodes shape rows p
+    → ((i : ℕ) (row : RowValue) → slice_get rows i ≡ Some row → (o : ℕ) × (x : Entry) × (slice_get p.seen o ≡ Some x) × (x.row ≡ row)) → length p.books ≡ shape.writers → distinct shape rows ≤ shape.writers * shape.nodes
 few_enough shape rows p is fits has seen count =
     let few = no_more (map spot_at (nodes_of shape rows)) (flat_map used p.books) apart there in
     let many = length-map (nodes_of shape rows) spot_at in
@@ -247,7 +247,7 @@ few_enough shape rows p is fits has seen count =
     used b = b.used
 
     -- a row that needs the node
-    row_of : (k : ℕ) (n : Node) → slice_get (nodes_of shape rows) k ≡ Some n → (i : ℕ) × (row : Numbered) × (slice_get rows i ≡ Some row) × IsNodeFor shape row n
+    row_of : (k : ℕ) (n : Node) → slice_get (nodes_of shape rows) k ≡ Some n → (i : ℕ) × (row : RowValue) × (slice_get rows i ≡ Some row) × IsNodeFor shape row n
     row_of k n at = elim (fold_from (flat_map (nodes_for shape) rows) [] n (k, at)) [
       | inl none ↦ absurd (cc none.1)
       | inr all ↦ (let r = from_flat (nodes_for shape) rows all.0 n all.1 in (r.0, r.1, r.2, node_for shape r.1 n r.3))
@@ -259,7 +259,7 @@ few_enough shape rows p is fits has seen count =
         let r = row_of k m.0 m.1 in
         let e = seen r.0 r.1 r.2 in
         let path = for_path shape r.1 m.0 r.3 in
-        let node = has.paths e.0 m.0.lane path.0 path.1 path.2 path.3 e.1 e.2 (ap (λ (row : Numbered). path_in shape row m.0.lane) e.3 ∙ path.4) in
+        let node = has.paths e.0 m.0.lane path.0 path.1 path.2 path.3 e.1 e.2 (ap (λ (row : RowValue). path_in shape row m.0.lane) e.3 ∙ path.4) in
         let spot_is : spot m.0.lane (path.1 ∷ path.3) ≡ s = ap (λ (q : List ℕ). spot m.0.lane q) path.5 ∙ m.2 in
         has_flat used p.books node.0 node.2 s node.3 (node.1, node.4 ∙ ap (λ (t : Spot). Some t) spot_is)
 

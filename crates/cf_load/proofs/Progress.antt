@@ -7,11 +7,11 @@ use Rattle.std.specs.List.{AllZip}
 use Rattle.std.proofs.lemmas.Bool.{ne_eqb}
 use Rattle.std.proofs.lemmas.List.{map-append, drop_all}
 use Rattle.std.proofs.Math.Seq.{take-length}
-use Rattle.cf_row.specs.Row.{Numbered}
-use Rattle.cf_shape.specs.Lanes.{Shaped}
+use Rattle.cf_row.specs.Row.{RowValue}
+use Rattle.cf_shape.specs.Lanes.{ShapeValue}
 use Rattle.cf_law.specs.Passes.{Book, Own}
 use Rattle.cf_law.specs.Events.{no_book}
-use Rattle.cf_table.specs.Held.{Held, LogValue, IsOf, book_of}
+use Rattle.cf_table.specs.Values.{PassValue, LogValue, IsOf, book_of}
 use Rattle.cf_table.specs.Moves.{Begins}
 use Rattle.cf_table.proofs.Settling.{begins_then}
 use Rattle.cf_words.specs.Words.{Spot}
@@ -25,20 +25,20 @@ use Rattle.cf_load.specs.Writing.{rows_of_book, IsReady, RanOut, Wrote}
 use Rattle.cf_load.proofs.Pigeons.{has_left, has_right, in_either}
 
 -- the writer's rows of the part of a batch from row i on, which is number k
-abbrev pub left_of : LogValue → List Numbered → Held → ℕ → ℕ → List Numbered
+abbrev pub left_of : LogValue → List RowValue → PassValue → ℕ → ℕ → List RowValue
 left_of log batch m k i = rows_of (log.shape).writers (book_of m.view).writer k (drop i batch)
 
 -- each used node was used before, or is needed by these rows
-abbrev pub UsedFor : Shaped → List Numbered → Held → Held → Type 0
+abbrev pub UsedFor : ShapeValue → List RowValue → PassValue → PassValue → Type 0
 UsedFor shape rows m n = (j : ℕ) (s : Spot) → slice_get (book_of n.view).used j ≡ Some s → ((i : ℕ) × (slice_get (book_of m.view).used i ≡ Some s)) ⊎ IsNeeded shape rows s
 
 -- The pass has appended its rows of the batch before row i, which is number k.
-pub record Goes (log : LogValue) (first : ℕ) (batch : List Numbered) (m : Held) (k i : ℕ) (n : Held) : Type 0 where
+pub record Goes (log : LogValue) (first : ℕ) (batch : List RowValue) (m : PassValue) (k i : ℕ) (n : PassValue) : Type 0 where
   pub same : n ≡ record m { view = n.view }
   pub ready : IsReady log n
   pub writer : (book_of n.view).writer ≡ (book_of m.view).writer
   pub number : k ≡ first + i
-  pub done : List Numbered
+  pub done : List RowValue
   pub split : done ++ left_of log batch m k i ≡ left_of log batch m first 0
   pub rows : rows_of_book (book_of n.view) ≡ rows_of_book (book_of m.view) ++ done
   pub used : UsedFor log.shape batch m n
@@ -46,7 +46,7 @@ pub record Goes (log : LogValue) (first : ℕ) (batch : List Numbered) (m : Held
   pub tails : (n.view).tails ≡ (m.view).tails
   pub told : (n.view).told ≡ (m.view).told
 
-pub goes_first : (log : LogValue) (first : ℕ) (batch : List Numbered) (m : Held) → IsReady log m → Goes log first batch m first 0 m
+pub goes_first : (log : LogValue) (first : ℕ) (batch : List RowValue) (m : PassValue) → IsReady log m → Goes log first batch m first 0 m
 goes_first log first batch m ready = record {
   same = refl;
   ready = ready;
@@ -62,27 +62,27 @@ goes_first log first batch m ready = record {
 }
 
 -- the pass stays one of the log's
-of_same : (log : LogValue) (m n : Held) → n ≡ record m { view = n.view } → IsOf m log → IsOf n log
-of_same log m n same of = record { table = ap (λ (h : Held). h.table) same ∙ of.table; nodes = ap (λ (h : Held). h.nodes) same ∙ of.nodes }
+of_same : (log : LogValue) (m n : PassValue) → n ≡ record m { view = n.view } → IsOf m log → IsOf n log
+of_same log m n same of = record { table = ap (λ (h : PassValue). h.table) same ∙ of.table; nodes = ap (λ (h : PassValue). h.nodes) same ∙ of.nodes }
 
-same_then : (m n p : Held) → n ≡ record m { view = n.view } → p ≡ record n { view = p.view } → p ≡ record m { view = p.view }
-same_then m n p a b = b ∙ ap (λ (h : Held). record h { view = p.view }) a
+same_then : (m n p : PassValue) → n ≡ record m { view = n.view } → p ≡ record n { view = p.view } → p ≡ record m { view = p.view }
+same_then m n p a b = b ∙ ap (λ (h : PassValue). record h { view = p.view }) a
 
 -- the next row of the batch, and those that are left behind it
-next_own : (writers w k i : ℕ) (batch : List Numbered) (row : Numbered) → i < length batch → get_or batch i row ≡ row → k % writers ≡ w → rows_of writers w k (drop i batch) ≡ row ∷ rows_of writers w (k + 1) (drop (i + 1) batch)
+next_own : (writers w k i : ℕ) (batch : List RowValue) (row : RowValue) → i < length batch → get_or batch i row ≡ row → k % writers ≡ w → rows_of writers w k (drop i batch) ≡ row ∷ rows_of writers w (k + 1) (drop (i + 1) batch)
 next_own writers w k i batch row low at own = ap (rows_of writers w k) (drop-cons batch i row low) ∙ rw (eq-eqb (k % writers) w own, at, add-one i) refl
 
-next_other : (writers w k i : ℕ) (batch : List Numbered) (row : Numbered) → i < length batch → (k % writers ≡ w → ⊥) → rows_of writers w k (drop i batch) ≡ rows_of writers w (k + 1) (drop (i + 1) batch)
+next_other : (writers w k i : ℕ) (batch : List RowValue) (row : RowValue) → i < length batch → (k % writers ≡ w → ⊥) → rows_of writers w k (drop i batch) ≡ rows_of writers w (k + 1) (drop (i + 1) batch)
 next_other writers w k i batch row low other = ap (rows_of writers w k) (drop-cons batch i row low) ∙ rw (ne_eqb (k % writers) w other, add-one i) refl
 
-pub goes_other : (log : LogValue) (first : ℕ) (batch : List Numbered) (m : Held) (k i : ℕ) (n : Held) (row : Numbered) → Goes log first batch m k i n → i < length batch → (k % (log.shape).writers ≡ (book_of m.view).writer → ⊥) → Goes log first batch m (k + 1) (i + 1) n
+pub goes_other : (log : LogValue) (first : ℕ) (batch : List RowValue) (m : PassValue) (k i : ℕ) (n : PassValue) (row : RowValue) → Goes log first batch m k i n → i < length batch → (k % (log.shape).writers ≡ (book_of m.view).writer → ⊥) → Goes log first batch m (k + 1) (i + 1) n
 goes_other log first batch m k i n row goes low other = record {
   same = goes.same;
   ready = goes.ready;
   writer = goes.writer;
   number = (let at = goes.number in omega (arith, at));
   done = goes.done;
-  split = ap (λ (rs : List Numbered). goes.done ++ rs) (sym (next_other (log.shape).writers (book_of m.view).writer k i batch row low other)) ∙ goes.split;
+  split = ap (λ (rs : List RowValue). goes.done ++ rs) (sym (next_other (log.shape).writers (book_of m.view).writer k i batch row low other)) ∙ goes.split;
   rows = goes.rows;
   used = goes.used;
   longer = goes.longer;
@@ -91,25 +91,25 @@ goes_other log first batch m k i n row goes low other = record {
 }
 
 -- the row's nodes are used beside those before
-used_more : (shape : Shaped) (batch : List Numbered) (m n p : Held) (i : ℕ) (row : Numbered) (spots : List Spot) → i < length batch → get_or batch i row ≡ row → UsedFor shape batch m n → (book_of p.view).used ≡ (book_of n.view).used ++ spots
+used_more : (shape : ShapeValue) (batch : List RowValue) (m n p : PassValue) (i : ℕ) (row : RowValue) (spots : List Spot) → i < length batch → get_or batch i row ≡ row → UsedFor shape batch m n → (book_of p.view).used ≡ (book_of n.view).used ++ spots
     → ((j : ℕ) (s : Spot) → slice_get spots j ≡ Some s → IsOnPath shape row s) → UsedFor shape batch m p
 used_more shape batch m n p i row spots low is used more on j s at = elim (in_either (book_of n.view).used spots j s (ap (λ (ss : List Spot). slice_get ss j) (sym more) ∙ at)) [
   | inl old ↦ used old.0 s old.1
-  | inr new ↦ inr (record { place = i; row = row; at = slice_get-get_or batch i row low ∙ ap (λ (r : Numbered). Some r) is; on = on new.0 s new.1 })
+  | inr new ↦ inr (record { place = i; row = row; at = slice_get-get_or batch i row low ∙ ap (λ (r : RowValue). Some r) is; on = on new.0 s new.1 })
 ]
 
 -- one row more is done, and one less is left
-longer_rows : (old now new done : List Numbered) (row : Numbered) → now ≡ old ++ done → new ≡ now ++ row ∷ [] → new ≡ old ++ (done ++ row ∷ [])
-longer_rows old now new done row e f = f ∙ (ap (λ (rs : List Numbered). rs ++ row ∷ []) e ∙ append_assoc old done (row ∷ []))
+longer_rows : (old now new done : List RowValue) (row : RowValue) → now ≡ old ++ done → new ≡ now ++ row ∷ [] → new ≡ old ++ (done ++ row ∷ [])
+longer_rows old now new done row e f = f ∙ (ap (λ (rs : List RowValue). rs ++ row ∷ []) e ∙ append_assoc old done (row ∷ []))
 
-shorter_left : (done before rest all : List Numbered) (row : Numbered) → before ≡ row ∷ rest → done ++ before ≡ all → (done ++ row ∷ []) ++ rest ≡ all
-shorter_left done before rest all row e f = append_assoc done (row ∷ []) rest ∙ (ap (λ (rs : List Numbered). done ++ rs) (sym e) ∙ f)
+shorter_left : (done before rest all : List RowValue) (row : RowValue) → before ≡ row ∷ rest → done ++ before ≡ all → (done ++ row ∷ []) ++ rest ≡ all
+shorter_left done before rest all row e f = append_assoc done (row ∷ []) rest ∙ (ap (λ (rs : List RowValue). done ++ rs) (sym e) ∙ f)
 
 -- the book of a pass at whose book a row was appended
-book_is : (shape : Shaped) (o : ℕ) (row : Numbered) (n p : Held) (appended : IsAppended shape o row n p) → book_of p.view ≡ with_own o row (with_nodes appended.paths.used.spots appended.paths.used.label (book_of n.view))
+book_is : (shape : ShapeValue) (o : ℕ) (row : RowValue) (n p : PassValue) (appended : IsAppended shape o row n p) → book_of p.view ≡ with_own o row (with_nodes appended.paths.used.spots appended.paths.used.label (book_of n.view))
 book_is shape o row n p appended = ap (λ (bs : List Book). get_or bs 0 (no_book 0)) appended.books
 
-pub goes_own : (log : LogValue) (first : ℕ) (batch : List Numbered) (m : Held) (k i : ℕ) (n p : Held) (o : ℕ) (row : Numbered) → Goes log first batch m k i n → i < length batch → get_or batch i row ≡ row → k % (log.shape).writers ≡ (book_of m.view).writer
+pub goes_own : (log : LogValue) (first : ℕ) (batch : List RowValue) (m : PassValue) (k i : ℕ) (n p : PassValue) (o : ℕ) (row : RowValue) → Goes log first batch m k i n → i < length batch → get_or batch i row ≡ row → k % (log.shape).writers ≡ (book_of m.view).writer
     → GoesOn n p → Rests p.view → IsAppended log.shape o row n p → Goes log first batch m (k + 1) (i + 1) p
 goes_own log first batch m k i n p o row goes low at own on rest appended =
     let w = (book_of m.view).writer in
@@ -128,20 +128,20 @@ goes_own log first batch m k i n p o row goes low at own on rest appended =
       told = on.told ∙ goes.told;
     }
 
-pub goes_answered : (log : LogValue) (first : ℕ) (batch : List Numbered) (m : Held) (k i : ℕ) (n p : Held) (answer : Result ℕ AppendFault) (o : ℕ) (row : Numbered) → Goes log first batch m k i n → i < length batch → get_or batch i row ≡ row → k % (log.shape).writers ≡ (book_of m.view).writer
+pub goes_answered : (log : LogValue) (first : ℕ) (batch : List RowValue) (m : PassValue) (k i : ℕ) (n p : PassValue) (answer : Result ℕ AppendFault) (o : ℕ) (row : RowValue) → Goes log first batch m k i n → i < length batch → get_or batch i row ≡ row → k % (log.shape).writers ≡ (book_of m.view).writer
     → GoesOn n p → Rests p.view → IsAnswered log.shape row n p answer → answer ≡ Ok o → Goes log first batch m (k + 1) (i + 1) p
 goes_answered log first batch m k i n p answer o row goes low at own on rest answered ok =
     goes_own log first batch m k i n p o row goes low at own on rest (subst (λ (r : Result ℕ AppendFault). IsAnswered log.shape row n p r) ok answered)
 
 -- the whole batch was gone through
-pub ends : (log : LogValue) (first : ℕ) (batch : List Numbered) (m : Held) (k i : ℕ) (n : Held) → Goes log first batch m k i n → length batch ≤ i → Wrote true log first batch m n
+pub ends : (log : LogValue) (first : ℕ) (batch : List RowValue) (m : PassValue) (k i : ℕ) (n : PassValue) → Goes log first batch m k i n → length batch ≤ i → Wrote true log first batch m n
 ends log first batch m k i n goes far = record {
   same = goes.same;
   rest = (goes.ready).rest;
   writer = goes.writer;
   done = goes.done;
   left = [];
-  split = ap (λ (rs : List Numbered). goes.done ++ rows_of (log.shape).writers (book_of m.view).writer k rs) (sym (drop_all i batch far)) ∙ goes.split;
+  split = ap (λ (rs : List RowValue). goes.done ++ rows_of (log.shape).writers (book_of m.view).writer k rs) (sym (drop_all i batch far)) ∙ goes.split;
   rows = goes.rows;
   all = λ whole. inl refl;
   used = goes.used;
@@ -151,13 +151,13 @@ ends log first batch m k i n goes far = record {
 }
 
 -- the book has as much finished, and nodes for a row of the batch are used
-record Stopped (shape : Shaped) (batch : List Numbered) (m n p : Held) : Type 0 where
+record Stopped (shape : ShapeValue) (batch : List RowValue) (m n p : PassValue) : Type 0 where
   pub writer : (book_of p.view).writer ≡ (book_of n.view).writer
   pub mine : (book_of p.view).mine ≡ (book_of n.view).mine
   pub used : UsedFor shape batch m p
 
 -- the batch stops there
-stopped_at : (whole : Bool) (log : LogValue) (first : ℕ) (batch : List Numbered) (m : Held) (k i : ℕ) (n p : Held) → Goes log first batch m k i n → GoesOn n p → Rests p.view → Stopped log.shape batch m n p → (whole ≡ true → (book_of p.view).over ≡ true) → Wrote whole log first batch m p
+stopped_at : (whole : Bool) (log : LogValue) (first : ℕ) (batch : List RowValue) (m : PassValue) (k i : ℕ) (n p : PassValue) → Goes log first batch m k i n → GoesOn n p → Rests p.view → Stopped log.shape batch m n p → (whole ≡ true → (book_of p.view).over ≡ true) → Wrote whole log first batch m p
 stopped_at whole log first batch m k i n p goes on rest book over = record {
   same = same_then m n p goes.same on.same;
   rest = rest;
@@ -174,11 +174,11 @@ stopped_at whole log first batch m k i n p goes on rest book over = record {
 }
 
 -- the log was found full
-pub stops_full : (log : LogValue) (first : ℕ) (batch : List Numbered) (m : Held) (k i : ℕ) (n p : Held) (answer : Result ℕ AppendFault) (row : Numbered) → Goes log first batch m k i n → i < length batch → get_or batch i row ≡ row
+pub stops_full : (log : LogValue) (first : ℕ) (batch : List RowValue) (m : PassValue) (k i : ℕ) (n p : PassValue) (answer : Result ℕ AppendFault) (row : RowValue) → Goes log first batch m k i n → i < length batch → get_or batch i row ≡ row
     → GoesOn n p → Rests p.view → IsAnswered log.shape row n p answer → answer ≡ Err Full → Wrote true log first batch m p
 stops_full log first batch m k i n p answer row goes low at on rest answered err = elim (subst (λ (r : Result ℕ AppendFault). IsAnswered log.shape row n p r) err answered) [
   | inl over ↦
-      let is = ap (λ (h : Held). book_of h.view) over.is in
+      let is = ap (λ (h : PassValue). book_of h.view) over.is in
       stopped_at true log first batch m k i n p goes on rest
       (record { writer = ap (λ (b : Book). b.writer) is; mine = ap (λ (b : Book). b.mine) is; used = λ j s there. goes.used j s (ap (λ (b : Book). slice_get b.used j) (sym is) ∙ there) })
       (λ whole. ap (λ (b : Book). b.over) is ∙ over.over)
@@ -194,7 +194,7 @@ stops_full log first batch m k i n p answer row goes low at on rest answered err
 ]
 
 -- the writer's nodes are used up
-pub stops_out : (log : LogValue) (first : ℕ) (batch : List Numbered) (m : Held) (k i : ℕ) (n p : Held) (answer : Result ℕ AppendFault) (row : Numbered) → Goes log first batch m k i n → i < length batch → get_or batch i row ≡ row
+pub stops_out : (log : LogValue) (first : ℕ) (batch : List RowValue) (m : PassValue) (k i : ℕ) (n p : PassValue) (answer : Result ℕ AppendFault) (row : RowValue) → Goes log first batch m k i n → i < length batch → get_or batch i row ≡ row
     → GoesOn n p → Rests p.view → IsAnswered log.shape row n p answer → answer ≡ Err NodesFull → Wrote false log first batch m p × (((book_of p.view).writer ≡ (book_of m.view).writer) × IsOut log.shape batch (book_of p.view))
 stops_out log first batch m k i n p answer row goes low at on rest answered err =
     let out : IsNodesFull log.shape row n p = subst (λ (r : Result ℕ AppendFault). IsAnswered log.shape row n p r) err answered in
@@ -213,7 +213,7 @@ stops_out log first batch m k i n p answer row goes low at on rest answered err 
           full = out.stuck.full;
           apart = out.stuck.apart;
           at = out.stuck.at;
-          needed = record { place = i; row = row; at = slice_get-get_or batch i row low ∙ ap (λ (r : Numbered). Some r) at; on = out.stuck.on };
+          needed = record { place = i; row = row; at = slice_get-get_or batch i row low ∙ ap (λ (r : RowValue). Some r) at; on = out.stuck.on };
           other = out.stuck.other;
         },
       ),
@@ -227,7 +227,7 @@ zip_append R (x ∷ xs) more [] others first second = absurd first
 zip_append R (x ∷ xs) more (y ∷ ys) others first second = (first.0, zip_append R xs more ys others first.1 second)
 
 -- a batch of which no more is said
-pub less_said : (whole : Bool) (log : LogValue) (first : ℕ) (batch : List Numbered) (m n : Held) → Wrote whole log first batch m n → Wrote false log first batch m n
+pub less_said : (whole : Bool) (log : LogValue) (first : ℕ) (batch : List RowValue) (m n : PassValue) → Wrote whole log first batch m n → Wrote false log first batch m n
 less_said whole log first batch m n w = record {
   same = w.same;
   rest = w.rest;
@@ -243,14 +243,14 @@ less_said whole log first batch m n w = record {
   told = w.told;
 }
 
-pub less_said_all : (whole : Bool) (log : LogValue) (first : ℕ) (batch : List Numbered) (ms ns : List Held) → AllZip (Wrote whole log first batch) ms ns → AllZip (Wrote false log first batch) ms ns
+pub less_said_all : (whole : Bool) (log : LogValue) (first : ℕ) (batch : List RowValue) (ms ns : List PassValue) → AllZip (Wrote whole log first batch) ms ns → AllZip (Wrote false log first batch) ms ns
 less_said_all whole log first batch [] [] all = tt
 less_said_all whole log first batch [] (n ∷ ns) all = absurd all
 less_said_all whole log first batch (m ∷ ms) [] all = absurd all
 less_said_all whole log first batch (m ∷ ms) (n ∷ ns) all = (less_said whole log first batch m n all.0, less_said_all whole log first batch ms ns all.1)
 
 -- the halves of the passes, and which of them ran out of nodes
-pub both_wrote : (log : LogValue) (first : ℕ) (batch : List Numbered) (ms more ns others : List Held) (a b : Option ℕ) → AllZip (Wrote (is_none a) log first batch) ms ns → AllZip (Wrote (is_none b) log first batch) more others
+pub both_wrote : (log : LogValue) (first : ℕ) (batch : List RowValue) (ms more ns others : List PassValue) (a b : Option ℕ) → AllZip (Wrote (is_none a) log first batch) ms ns → AllZip (Wrote (is_none b) log first batch) more others
     → AllZip (Wrote (is_none (option_or a b)) log first batch) (ms ++ more) (ns ++ others)
 both_wrote log first batch ms more ns others None b low high = half b low high
   where
@@ -259,19 +259,19 @@ both_wrote log first batch ms more ns others None b low high = half b low high
     half (Some w) l h = zip_append (Wrote false log first batch) ms more ns others (less_said_all true log first batch ms ns l) h
 both_wrote log first batch ms more ns others (Some w) b low high = zip_append (Wrote false log first batch) ms more ns others low (less_said_all (is_none b) log first batch more others high)
 
-out_low : (log : LogValue) (batch : List Numbered) (w : ℕ) (ns others : List Held) → RanOut log batch w ns → RanOut log batch w (ns ++ others)
+out_low : (log : LogValue) (batch : List RowValue) (w : ℕ) (ns others : List PassValue) → RanOut log batch w ns → RanOut log batch w (ns ++ others)
 out_low log batch w ns others r = record { place = r.place; pass = r.pass; at = has_left ns others r.place r.pass r.at; writer_is = r.writer_is; out = r.out }
 
-out_high : (log : LogValue) (batch : List Numbered) (w : ℕ) (ns others : List Held) → RanOut log batch w others → RanOut log batch w (ns ++ others)
+out_high : (log : LogValue) (batch : List RowValue) (w : ℕ) (ns others : List PassValue) → RanOut log batch w others → RanOut log batch w (ns ++ others)
 out_high log batch w ns others r = (let h = has_right ns others r.pass (r.place, r.at) in record { place = h.0; pass = r.pass; at = h.1; writer_is = r.writer_is; out = r.out })
 
-pub either_out : (log : LogValue) (batch : List Numbered) (ns others : List Held) (a b : Option ℕ) → IfSome a (λ w. RanOut log batch w ns) → IfSome b (λ w. RanOut log batch w others) → IfSome (option_or a b) (λ w. RanOut log batch w (ns ++ others))
+pub either_out : (log : LogValue) (batch : List RowValue) (ns others : List PassValue) (a b : Option ℕ) → IfSome a (λ w. RanOut log batch w ns) → IfSome b (λ w. RanOut log batch w others) → IfSome (option_or a b) (λ w. RanOut log batch w (ns ++ others))
 either_out log batch ns others (Some w) b low high = out_low log batch w ns others low
 either_out log batch ns others None None low high = tt
 either_out log batch ns others None (Some w) low high = out_high log batch w ns others high
 
 -- the one pass ran out
-pub first_out : (log : LogValue) (batch : List Numbered) (ms : List Held) (n : Held) (a : Option ℕ) → 0 < length ms → IfSome a (λ w. ((book_of n.view).writer ≡ w) × IsOut log.shape batch (book_of n.view)) → IfSome a (λ w. RanOut log batch w (slice_set ms 0 n))
+pub first_out : (log : LogValue) (batch : List RowValue) (ms : List PassValue) (n : PassValue) (a : Option ℕ) → 0 < length ms → IfSome a (λ w. ((book_of n.view).writer ≡ w) × IsOut log.shape batch (book_of n.view)) → IfSome a (λ w. RanOut log batch w (slice_set ms 0 n))
 first_out log batch [] n a some out = absurd (omega (arith, some))
 first_out log batch (m ∷ ms) n None some out = tt
 first_out log batch (m ∷ ms) n (Some w) some out = record { place = 0; pass = n; at = refl; writer_is = out.0; out = out.1 }

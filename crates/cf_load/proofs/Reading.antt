@@ -5,8 +5,8 @@ use Rattle.std.proofs.lemmas.Option.{slice_get-get_or}
 use Rattle.cf_plain.specs.declared.ask.Ask.{Ask}
 use Rattle.cf_report.specs.declared.loaded.Live.{Live}
 use Rattle.cf_report.specs.Answered.{no_ask}
-use Rattle.cf_shape.specs.Lanes.{Shaped}
-use Rattle.cf_table.specs.Held.{Held}
+use Rattle.cf_shape.specs.Lanes.{ShapeValue}
+use Rattle.cf_table.specs.Values.{PassValue}
 use Rattle.cf_query.specs.Asking.{HasAsked}
 use Rattle.cf_load.specs.Planned.{HasRead, tails_of}
 
@@ -15,9 +15,9 @@ pub get_there : {A : Type 0} (xs : List A) (i : ℕ) (d e : A) → i < length xs
 get_there xs i d e lt = let a = slice_get-get_or xs i d lt in let b = slice_get-get_or xs i e lt in cc (a, b)
 
 -- one more answer was given
-pub read_more : (shape : Shaped) (m n o : Held) (more : List Live) (live : Live) → HasRead m n more → HasAsked shape n o → live.answer.tail ≡ length (o.view).seen → HasRead m o (more ++ live ∷ [])
+pub read_more : (shape : ShapeValue) (m n o : PassValue) (more : List Live) (live : Live) → HasRead m n more → HasAsked shape n o → live.answer.tail ≡ length (o.view).seen → HasRead m o (more ++ live ∷ [])
 read_more shape m n o more live read asked tail = record {
-  same = asked.same ∙ ap (λ (h : Held). record h { view = o.view }) read.same;
+  same = asked.same ∙ ap (λ (h : PassValue). record h { view = o.view }) read.same;
   books = asked.books ∙ read.books;
   told = asked.told ∙ read.told;
   tails = asked.tails ∙ (ap (λ ts. ts ++ length (o.view).seen ∷ []) read.tails ∙ (append_assoc (m.view).tails (tails_of more) (length (o.view).seen ∷ []) ∙ ap (λ ts. (m.view).tails ++ ts) (ap (λ t. tails_of more ++ t ∷ []) (sym tail) ∙ sym (map_push (λ (l : Live). l.answer.tail) more live))));
@@ -30,5 +30,5 @@ ask_found asks items lives i x exist same lt is =
     is ∙ (ap (λ xs. get_or asks (get_or xs i 0) x) same ∙ get_there asks (get_or lives i 0) x no_ask there)
 
 -- no answer yet
-pub read_none : (m : Held) → HasRead m m []
+pub read_none : (m : PassValue) → HasRead m m []
 read_none m = record { same = refl; books = refl; told = refl; tails = sym (append-nil (m.view).tails) }

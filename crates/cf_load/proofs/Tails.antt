@@ -7,7 +7,7 @@ use Rattle.std.specs.List.{flat_map, range_with_len, AllByRecursion}
 use Rattle.cf_row.specs.declared.row.Entry.{Entry}
 use Rattle.cf_history.specs.History.{NeverFall}
 use Rattle.cf_history.specs.Tails.{Turn, turns_of, batches_of, IsWithinBatch}
-use Rattle.cf_shape.specs.Lanes.{Shaped}
+use Rattle.cf_shape.specs.Lanes.{ShapeValue}
 use Rattle.cf_plain.specs.Asks.{eval}
 use Rattle.cf_plain.specs.declared.ask.Ask.{Ask}
 use Rattle.cf_plain.specs.declared.answer.Body.{Body}
@@ -65,7 +65,7 @@ round_in batch lives round = map (λ ask. record { batch = batch; round = round;
 abbrev pub batch_in : ℕ → List ℕ → ℕ → List Turn
 batch_in rounds lives batch = flat_map (λ round. map (λ ask. record { batch = batch; round = round; ask = ask }) lives) (range_with_len 0 rounds)
 
-module _ (shape : Shaped) (asks : List Ask) (lives : List ℕ) where
+module _ (shape : ShapeValue) (asks : List Ask) (lives : List ℕ) where
   -- what a live question means on some entries
   abbrev pub meaning_in : Live → List Entry → Body
   meaning_in live entries = eval shape (get_or asks live.ask no_ask) entries

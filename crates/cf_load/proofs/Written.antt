@@ -3,7 +3,7 @@ use Rattle.std.proofs.Common.{◌≡◌, ◌⊎◌, ℕ, zero, suc, ◌+◌, ◌
 use Rattle.std.proofs.lemmas.Bool.{eq-eqb, ne_eqb, cases_eq, cases_lt}
 use Rattle.std.proofs.lemmas.List.{length-drop, take_all, take-append-le, drop_at, drop_all, drop-append-le, append-nil, nil_from_length}
 use Rattle.std.specs.List.{AllByRecursion}
-use Rattle.cf_row.specs.Row.{Numbered}
+use Rattle.cf_row.specs.Row.{RowValue}
 use Rattle.cf_row.specs.declared.row.Entry.{Entry}
 use Rattle.cf_history.specs.Order.{rows_of, written_by, IsLogOf}
 use Rattle.cf_history.proofs.Logs.{written_own, written_other}
@@ -74,7 +74,7 @@ one_entry w e es = elim (cases_eq e.writer w) [
 ]
 
 -- one more row counts for its writer
-pub one_row : (writers w k : ℕ) (row : Numbered) (rows : List Numbered) → length (rows_of writers w k (row ∷ rows)) ≡ more_at (k % writers) (λ v. length (rows_of writers v (k + 1) rows)) w
+pub one_row : (writers w k : ℕ) (row : RowValue) (rows : List RowValue) → length (rows_of writers w k (row ∷ rows)) ≡ more_at (k % writers) (λ v. length (rows_of writers v (k + 1) rows)) w
 one_row writers w k row rows = elim (cases_eq (k % writers) w) [
   | inl own ↦ rw (eq-eqb (k % writers) w own) refl
   | inr other ↦ rw (ne_eqb (k % writers) w other) refl
@@ -88,7 +88,7 @@ entries_counted writers (e ∷ es) exist =
     ∙ (total_more writers e.writer (λ v. length (written_by v es)) exist.0 ∙ ap suc (entries_counted writers es exist.1))
 
 -- the rows are those of all writers
-pub rows_counted : (writers k : ℕ) (rows : List Numbered) → 0 < writers → total writers (λ w. length (rows_of writers w k rows)) ≡ length rows
+pub rows_counted : (writers k : ℕ) (rows : List RowValue) → 0 < writers → total writers (λ w. length (rows_of writers w k rows)) ≡ length rows
 rows_counted writers k [] some = total_none writers
 rows_counted writers k (row ∷ rows) some =
     total_same writers _ (more_at (k % writers) (λ v. length (rows_of writers v (k + 1) rows))) (λ w lt. one_row writers w k row rows)
@@ -103,7 +103,7 @@ written_append w (e ∷ es) fs = elim (cases_eq e.writer w) [
 ]
 
 -- a writer's rows of two parts
-pub rows_append : (writers w k : ℕ) (rows more : List Numbered) → rows_of writers w k (rows ++ more) ≡ rows_of writers w k rows ++ rows_of writers w (k + length rows) more
+pub rows_append : (writers w k : ℕ) (rows more : List RowValue) → rows_of writers w k (rows ++ more) ≡ rows_of writers w k rows ++ rows_of writers w (k + length rows) more
 rows_append writers w k [] more = ap (λ (n : ℕ). rows_of writers w n more) (let e : k ≡ k + 0 = omega arith in e)
 rows_append writers w k (row ∷ rows) more =
     let next : k + 1 + length rows ≡ k + suc (length rows) = omega arith in
@@ -114,16 +114,16 @@ rows_append writers w k (row ∷ rows) more =
     ]
 
 -- from the first row on
-pub rows_then : (writers w : ℕ) (rows more : List Numbered) → rows_of writers w 0 (rows ++ more) ≡ rows_of writers w 0 rows ++ rows_of writers w (length rows) more
+pub rows_then : (writers w : ℕ) (rows more : List RowValue) → rows_of writers w 0 (rows ++ more) ≡ rows_of writers w 0 rows ++ rows_of writers w (length rows) more
 rows_then writers w rows more = rows_append writers w 0 rows more ∙ ap (λ (n : ℕ). rows_of writers w 0 rows ++ rows_of writers w n more) (let e : 0 + length rows ≡ length rows = omega arith in e)
 
 -- A writer wrote the first of its rows of a batch. Where some are left of a whole one, as many entries came as the batch has rows.
-pub record WrotePart (whole : Bool) (writers first : ℕ) (batch : List Numbered) (new : List Entry) (w : ℕ) : Type 0 where
-  pub left : List Numbered
+pub record WrotePart (whole : Bool) (writers first : ℕ) (batch : List RowValue) (new : List Entry) (w : ℕ) : Type 0 where
+  pub left : List RowValue
   pub split : written_by w new ++ left ≡ rows_of writers w first batch
   pub all : whole ≡ true → (left ≡ []) ⊎ (length batch ≤ length new)
 
-module _ (writers first : ℕ) (batch : List Numbered) (new : List Entry) (some : 0 < writers) (exist : AllByRecursion (λ e. e.writer < writers) new) where
+module _ (writers first : ℕ) (batch : List RowValue) (new : List Entry) (some : 0 < writers) (exist : AllByRecursion (λ e. e.writer < writers) new) where
   -- then nothing is left: each writer wrote all its rows of the batch
   pub all_written : ((w : ℕ) → w < writers → WrotePart true writers first batch new w) → (w : ℕ) → w < writers → written_by w new ≡ rows_of writers w first batch
   all_written part w lt =
@@ -161,7 +161,7 @@ part_there m j xs ys long few = ap (take m) (drop_at xs ys j long) ∙ take_all 
 pub part_after : {X : Type 0} (m j : ℕ) (xs : List X) → length xs ≤ j → take m (drop j xs) ≡ []
 part_after m j xs past = ap (take m) (drop_all j xs past) ∙ take_all m [] (omega arith)
 
-module _ (rows batch : List Numbered) (writers b m : ℕ) (log new : List Entry) (apart : (c d : ℕ) → c < d → m * c + m ≤ m * d) where
+module _ (rows batch : List RowValue) (writers b m : ℕ) (log new : List Entry) (apart : (c d : ℕ) → c < d → m * c + m ≤ m * d) where
   -- batch by batch what each writer wrote are its rows
   pub own_more : length rows ≡ m * b → length log ≡ m * b → length batch ≤ m → length new ≡ length batch
       → ((c w : ℕ) → w < writers → written_by w (take m (drop (m * c) log)) ≡ rows_of writers w (m * c) (take m (drop (m * c) rows)))
@@ -186,7 +186,7 @@ module _ (rows batch : List Numbered) (writers b m : ℕ) (log new : List Entry)
   ]
 
 -- a log of some whole batches and then each writer's rows of one more are a log of all these rows
-pub log_more : (rows batch : List Numbered) (writers b : ℕ) (log new : List Entry) → 0 < writers → IsLogOf rows writers log → length rows ≡ 4096 * b → length batch ≤ 4096 → AllByRecursion (λ e. e.writer < writers) new
+pub log_more : (rows batch : List RowValue) (writers b : ℕ) (log new : List Entry) → 0 < writers → IsLogOf rows writers log → length rows ≡ 4096 * b → length batch ≤ 4096 → AllByRecursion (λ e. e.writer < writers) new
     → ((w : ℕ) → w < writers → written_by w new ≡ rows_of writers w (4096 * b) batch) → IsLogOf (rows ++ batch) writers (log ++ new)
 log_more rows batch writers b log new some is long few exist more =
     let many : length new ≡ length batch = as_many writers (4096 * b) batch new some exist more in record {

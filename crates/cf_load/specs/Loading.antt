@@ -1,32 +1,32 @@
 -- What a log holds while it is loaded batch by batch, and what a reader beside the writers has answered.
 use Rattle.std.specs.Prelude.{◌≡◌, ◌<◌, ◌≤◌, ℕ, List, ◌++◌, length, map, take, slice_index_or}
 use Rattle.std.specs.List.{flat_map, range_with_len, AllByRecursion}
-use Rattle.cf_row.specs.Row.{Numbered}
+use Rattle.cf_row.specs.Row.{RowValue}
 use Rattle.cf_row.specs.declared.row.Entry.{Entry}
 use Rattle.cf_history.specs.History.{NeverFall}
 use Rattle.cf_history.specs.Order.{rows_of, written_by, IsLogOf}
 use Rattle.cf_history.specs.Tails.{AreTails}
-use Rattle.cf_shape.specs.Lanes.{Shaped}
+use Rattle.cf_shape.specs.Lanes.{ShapeValue}
 use Rattle.cf_plain.specs.Asks.{eval}
 use Rattle.cf_plain.specs.declared.ask.Ask.{Ask}
 use Rattle.cf_report.specs.declared.loaded.Live.{Live}
 use Rattle.cf_report.specs.Answered.{no_ask, turn_of}
 use Rattle.cf_load.specs.declared.plan.LivePlan.{LivePlan}
 use Rattle.cf_load.specs.Needed.{HasNodes}
-use Rattle.cf_table.specs.Held.{Held, LogValue, IsOf}
-use Rattle.cf_table.specs.Moves.{Begins, IsSettled}
+use Rattle.cf_table.specs.Values.{PassValue, LogValue, IsOf}
+use Rattle.cf_table.specs.Moves.{Begins, HoldsAllBooks}
 
 -- The root holds all books at rest, and what it has seen is a log of those rows, each of them once, with the nodes that they need.
-pub record HasLoaded (log : LogValue) (rows : List Numbered) (m : Held) : Type 0 where
-  pub of : IsOf m log
-  pub settled : IsSettled log.shape m.view
-  pub is : IsLogOf rows (log.shape).writers (m.view).seen
-  pub own : (w : ℕ) → w < (log.shape).writers → written_by w (m.view).seen ≡ rows_of (log.shape).writers w 0 rows
-  pub nodes : HasNodes log.shape rows m.view
+pub record HasLoaded (log : LogValue) (rows : List RowValue) (before : PassValue) : Type 0 where
+  pub of : IsOf before log
+  pub settled : HoldsAllBooks log.shape before.view
+  pub is : IsLogOf rows (log.shape).writers (before.view).seen
+  pub own : (w : ℕ) → w < (log.shape).writers → written_by w (before.view).seen ≡ rows_of (log.shape).writers w 0 rows
+  pub nodes : HasNodes log.shape rows before.view
 
 -- What the reader did beside a batch: a live answer for each round and each live question, in this order, each the question's
 -- meaning on as many entries as it saw. The lengths never fall.
-pub record AsksBatch (shape : Shaped) (asks : List Ask) (lives : List ℕ) (rounds batch : ℕ) (before after : List Entry) (more : List Live) : Type 0 where
+pub record AsksBatch (shape : ShapeValue) (asks : List Ask) (lives : List ℕ) (rounds batch : ℕ) (before after : List Entry) (more : List Live) : Type 0 where
   pub turns : map (λ (live : Live). (turn_of live).0) more ≡ flat_map (λ round. map (λ ask. record { batch = batch; round = round; ask = ask }) lives) (range_with_len 0 rounds)
   pub rise : NeverFall (map (λ (live : Live). live.answer.tail) more)
   pub within : AllByRecursion (λ live. (length before ≤ live.answer.tail) × (live.answer.tail ≤ length after)) more
@@ -36,7 +36,7 @@ pub record AsksBatch (shape : Shaped) (asks : List Ask) (lives : List ℕ) (roun
 
 -- What the reader did so far beside a batch: live answers in all turns of some rounds, and in the first turns of the next round, as
 -- many as were asked in it.
-pub record AsksSome (shape : Shaped) (asks : List Ask) (lives : List ℕ) (rounds asked batch : ℕ) (before after : List Entry) (more : List Live) : Type 0 where
+pub record AsksSome (shape : ShapeValue) (asks : List Ask) (lives : List ℕ) (rounds asked batch : ℕ) (before after : List Entry) (more : List Live) : Type 0 where
   pub turns : map (λ (live : Live). (turn_of live).0) more ≡
       flat_map (λ round. map (λ ask. record { batch = batch; round = round; ask = ask }) lives) (range_with_len 0 rounds) ++ map (λ ask. record { batch = batch; round = rounds; ask = ask }) (take asked lives)
   pub rise : NeverFall (map (λ (live : Live). live.answer.tail) more)
@@ -45,16 +45,16 @@ pub record AsksSome (shape : Shaped) (asks : List Ask) (lives : List ℕ) (round
   pub longer : Begins before after
 
 -- the live answers so far are those of the first n entries: each in its turn, and each the question's meaning on what it saw
-pub record HasAnswered (shape : Shaped) (asks : List Ask) (lives : List ℕ) (rounds n : ℕ) (seen : List Entry) (answers : List Live) : Type 0 where
+pub record HasAnswered (shape : ShapeValue) (asks : List Ask) (lives : List ℕ) (rounds n : ℕ) (seen : List Entry) (answers : List Live) : Type 0 where
   pub tails : AreTails n rounds lives (map turn_of answers)
   pub bodies : AllByRecursion (λ live. live.answer.body ≡ eval shape (slice_index_or asks live.ask no_ask) (take live.answer.tail seen)) answers
 
 -- the root holds all books at rest, and what it has seen is a log of the first of these rows
-abbrev pub HoldsSome : LogValue → List Numbered → Held → Type 0
+abbrev pub HoldsSome : LogValue → List RowValue → PassValue → Type 0
 HoldsSome log rows m = (count : ℕ) × HasLoaded log (take count rows) m
 
 -- The reader asked beside a batch. What it had seen then begins what was seen after it.
-pub record AsksBeside (shape : Shaped) (plan : LivePlan) (batch : ℕ) (before after : List Entry) (more : List Live) : Type 0 where
+pub record AsksBeside (shape : ShapeValue) (plan : LivePlan) (batch : ℕ) (before after : List Entry) (more : List Live) : Type 0 where
   pub read : List Entry
   pub asks : AsksBatch shape plan.asks.items plan.lives.items plan.rounds batch before read more
   pub begins : Begins read after

@@ -1,13 +1,13 @@
 -- What a load answers.
 use Rattle.std.specs.Prelude.{◌≡◌, ◌<◌, ◌≤◌, ◌*◌, ℕ, List, ◌++◌, length, map, Option, Some, None, Result, Ok, Err}
 use Rattle.std.specs.declared.alloc.AllocError.{AllocError}
-use Rattle.cf_row.specs.Row.{Numbered}
+use Rattle.cf_row.specs.Row.{RowValue}
 use Rattle.cf_shape.specs.Nodes.{distinct}
 use Rattle.cf_history.specs.Order.{rows_of, written_by}
-use Rattle.cf_report.specs.Answered.{Answered}
+use Rattle.cf_report.specs.Answered.{LoadedValue}
 use Rattle.cf_report.specs.Meaning.{answer_on}
-use Rattle.cf_table.specs.Held.{Held, LogValue, IsOf}
-use Rattle.cf_table.specs.Moves.{IsSettled}
+use Rattle.cf_table.specs.Values.{PassValue, LogValue, IsOf}
+use Rattle.cf_table.specs.Moves.{HoldsAllBooks}
 use Rattle.cf_load.specs.declared.plan.LivePlan.{LivePlan}
 use Rattle.cf_load.specs.declared.loads.LoadFault.{LoadFault}
 use Rattle.cf_load.specs.declared.loads.LoadFault.TheVariants.{Full, NodesFull, Memory}
@@ -15,32 +15,32 @@ use Rattle.cf_load.specs.Loading.{HasLoaded, HasAnswered, HoldsSome}
 use Rattle.cf_load.specs.Planned.{marks_on, tails_of}
 
 -- what the pass has seen, was told and holds stays
-pub record Keeps (m n : Held) : Type 0 where
-  pub same : n ≡ record m { view = n.view }
-  pub seen : (n.view).seen ≡ (m.view).seen
-  pub books : (n.view).books ≡ (m.view).books
-  pub told : (n.view).told ≡ (m.view).told
+pub record Keeps (before after : PassValue) : Type 0 where
+  pub same : after ≡ record before { view = after.view }
+  pub seen : (after.view).seen ≡ (before.view).seen
+  pub books : (after.view).books ≡ (before.view).books
+  pub told : (after.view).told ≡ (before.view).told
 
 -- All rows are in the log, each once, the books are home, and each answer is its question's meaning: the final ones and the marks
 -- on the whole log, the live ones, in their turns, on as much of it as they saw. The root was told of the live ones.
-pub record IsLoaded (log : LogValue) (rows : List Numbered) (plan : LivePlan) (m n : Held) (answered : Answered) : Type 0 where
+pub record IsLoaded (log : LogValue) (rows : List RowValue) (plan : LivePlan) (before after : PassValue) (answered : LoadedValue) : Type 0 where
   pub few : length rows ≤ (log.shape).capacity
-  pub same : n ≡ record m { view = n.view }
-  pub loaded : HasLoaded log rows n
-  pub finals : answered.finals ≡ map (answer_on log.shape (n.view).seen) plan.asks.items
-  pub alerts : answered.alerts ≡ map (marks_on log.shape (n.view).seen) plan.triggers.items
-  pub lives : HasAnswered log.shape plan.asks.items plan.lives.items plan.rounds (length rows) (n.view).seen answered.lives
-  pub told : (n.view).told ≡ (m.view).told ++ tails_of answered.lives
+  pub same : after ≡ record before { view = after.view }
+  pub loaded : HasLoaded log rows after
+  pub finals : answered.finals ≡ map (answer_on log.shape (after.view).seen) plan.asks.items
+  pub alerts : answered.alerts ≡ map (marks_on log.shape (after.view).seen) plan.triggers.items
+  pub lives : HasAnswered log.shape plan.asks.items plan.lives.items plan.rounds (length rows) (after.view).seen answered.lives
+  pub told : (after.view).told ≡ (before.view).told ++ tails_of answered.lives
   pub few_nodes : distinct log.shape rows ≤ (log.shape).writers * (log.shape).nodes
 
 -- The rows need more different nodes than that writer has, which ran out of them. The root holds all books at rest, and each
 -- writer's entries are the first of its rows.
-pub record LacksNodes (log : LogValue) (rows : List Numbered) (writer : ℕ) (n : Held) : Type 0 where
+pub record LacksNodes (log : LogValue) (rows : List RowValue) (writer : ℕ) (after : PassValue) : Type 0 where
   pub exists : writer < (log.shape).writers
   pub many : (log.shape).nodes < distinct log.shape rows
-  pub of : IsOf n log
-  pub settled : IsSettled log.shape n.view
-  pub fronts : (w : ℕ) → w < (log.shape).writers → (left : List Numbered) × (written_by w (n.view).seen ++ left ≡ rows_of (log.shape).writers w 0 rows)
+  pub of : IsOf after log
+  pub settled : HoldsAllBooks log.shape after.view
+  pub fronts : (w : ℕ) → w < (log.shape).writers → (left : List RowValue) × (written_by w (after.view).seen ++ left ≡ rows_of (log.shape).writers w 0 rows)
 
 -- a writer that ran out of nodes goes before want of memory
 abbrev pub outcome_of : {T : Type 0} → Option ℕ → Result T AllocError → Result T LoadFault
@@ -49,14 +49,14 @@ outcome_of None (Ok more) = Ok more
 outcome_of None (Err fault) = Err Memory
 
 -- what the log holds after a fault
-abbrev pub HasStopped : LogValue → List Numbered → Held → LoadFault → Type 0
+abbrev pub HasStopped : LogValue → List RowValue → PassValue → LoadFault → Type 0
 HasStopped log rows n Full = ⊥
 HasStopped log rows n (NodesFull writer) = LacksNodes log rows writer n
 HasStopped log rows n Memory = HoldsSome log rows n
 
 -- Full exactly where there are more rows than the capacity, and then nothing was done. After another fault the books are home, and
 -- some of the rows are in the log.
-abbrev pub Loads : LogValue → List Numbered → LivePlan → Held → Held → Result Answered LoadFault → Type 0
+abbrev pub Loads : LogValue → List RowValue → LivePlan → PassValue → PassValue → Result LoadedValue LoadFault → Type 0
 Loads log rows plan m n (Ok answered) = IsLoaded log rows plan m n answered
 Loads log rows plan m n (Err Full) = ((log.shape).capacity < length rows) × (n ≡ m)
 Loads log rows plan m n (Err (NodesFull writer)) = (length rows ≤ (log.shape).capacity) × (n ≡ record m { view = n.view }) × LacksNodes log rows writer n

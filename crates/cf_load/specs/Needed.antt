@@ -1,7 +1,7 @@
 -- Which nodes the rows of a log need.
 use Rattle.std.specs.Prelude.{ℕ, ◌≡◌, ◌≤◌, List, length, Some, slice_get}
-use Rattle.cf_row.specs.Row.{Numbered}
-use Rattle.cf_shape.specs.Lanes.{Shaped}
+use Rattle.cf_row.specs.Row.{RowValue}
+use Rattle.cf_shape.specs.Lanes.{ShapeValue}
 use Rattle.cf_words.specs.Words.{Spot}
 use Rattle.cf_law.specs.Passes.{Book, Pass}
 use Rattle.cf_law.specs.Steps.{Holds}
@@ -9,23 +9,23 @@ use Rattle.cf_table.specs.Moves.{HasPaths}
 use Rattle.cf_append.specs.Paths.{IsOnPath}
 
 -- the path of one of these rows goes through the spot
-pub record IsNeeded (shape : Shaped) (rows : List Numbered) (s : Spot) : Type 0 where
+pub record IsNeeded (shape : ShapeValue) (rows : List RowValue) (spot : Spot) : Type 0 where
   pub place : ℕ
-  pub row : Numbered
+  pub row : RowValue
   pub at : slice_get rows place ≡ Some row
-  pub on : IsOnPath shape row s
+  pub on : IsOnPath shape row spot
 
 -- all of the book's nodes are used, for different spots, and one more is needed
-pub record IsOut (shape : Shaped) (rows : List Numbered) (b : Book) : Type 0 where
-  pub full : length b.used ≡ shape.nodes
-  pub apart : (i j : ℕ) (s : Spot) → slice_get b.used i ≡ Some s → slice_get b.used j ≡ Some s → i ≡ j
+pub record IsOut (shape : ShapeValue) (rows : List RowValue) (book : Book) : Type 0 where
+  pub full : length book.used ≡ shape.nodes
+  pub apart : (i j : ℕ) (s : Spot) → slice_get book.used i ≡ Some s → slice_get book.used j ≡ Some s → i ≡ j
   pub at : Spot
   pub needed : IsNeeded shape rows at
-  pub other : (j : ℕ) → slice_get b.used j ≡ Some at → ⊥
+  pub other : (j : ℕ) → slice_get book.used j ≡ Some at → ⊥
 
 -- Each used node of the held books is needed by these rows, no book has used more than its own, and the paths of all that was
 -- seen are whole.
-pub record HasNodes (shape : Shaped) (rows : List Numbered) (p : Pass) : Type 0 where
-  pub needed : (k j : ℕ) (b : Book) (s : Spot) → Holds p k b → slice_get b.used j ≡ Some s → IsNeeded shape rows s
-  pub room : (k : ℕ) (b : Book) → Holds p k b → length b.used ≤ shape.nodes
-  pub paths : HasPaths shape p
+pub record HasNodes (shape : ShapeValue) (rows : List RowValue) (pass : Pass) : Type 0 where
+  pub needed : (k j : ℕ) (b : Book) (s : Spot) → Holds pass k b → slice_get b.used j ≡ Some s → IsNeeded shape rows s
+  pub room : (k : ℕ) (b : Book) → Holds pass k b → length b.used ≤ shape.nodes
+  pub paths : HasPaths shape pass

@@ -2,21 +2,21 @@
 use Rattle.std.specs.Prelude.{◌≡◌, ◌<◌, ℕ, List, ◌++◌, length, map, All}
 use Rattle.cf_row.specs.declared.row.Entry.{Entry}
 use Rattle.cf_fold.specs.declared.trigger.Trigger.{Trigger}
-use Rattle.cf_shape.specs.Lanes.{Shaped}
+use Rattle.cf_shape.specs.Lanes.{ShapeValue}
 use Rattle.cf_plain.specs.Asks.{Suits, SuitsTrigger, rows_in, marks_over}
 use Rattle.cf_plain.specs.declared.answer.Fired.{Fired}
 use Rattle.cf_report.specs.declared.loaded.Live.{Live}
-use Rattle.cf_table.specs.Held.{Held}
+use Rattle.cf_table.specs.Values.{PassValue}
 use Rattle.cf_load.specs.declared.plan.LivePlan.{LivePlan}
 
 -- the questions and triggers suit the shape, and each live question is one of them
-pub record IsPlan (shape : Shaped) (plan : LivePlan) : Type 0 where
+pub record IsPlan (shape : ShapeValue) (plan : LivePlan) : Type 0 where
   pub asks : All (Suits shape) plan.asks.items
   pub triggers : All (SuitsTrigger shape) plan.triggers.items
   pub lives : All (λ place. place < length plan.asks.items) plan.lives.items
 
 -- the marks of a trigger on some entries
-abbrev pub marks_on : Shaped → List Entry → Trigger → List Fired
+abbrev pub marks_on : ShapeValue → List Entry → Trigger → List Fired
 marks_on shape entries trigger = marks_over shape trigger (rows_in entries)
 
 -- how much of the log each answer saw
@@ -24,8 +24,8 @@ abbrev pub tails_of : List Live → List ℕ
 tails_of lives = map (λ (live : Live). live.answer.tail) lives
 
 -- the pass that asked is as it was but for what it has seen, and notes the tails of its answers
-pub record HasRead (m n : Held) (more : List Live) : Type 0 where
-  pub same : n ≡ record m { view = n.view }
-  pub books : (n.view).books ≡ (m.view).books
-  pub told : (n.view).told ≡ (m.view).told
-  pub tails : (n.view).tails ≡ (m.view).tails ++ tails_of more
+pub record HasRead (before after : PassValue) (more : List Live) : Type 0 where
+  pub same : after ≡ record before { view = after.view }
+  pub books : (after.view).books ≡ (before.view).books
+  pub told : (after.view).told ≡ (before.view).told
+  pub tails : (after.view).tails ≡ (before.view).tails ++ tails_of more

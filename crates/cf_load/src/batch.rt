@@ -3,7 +3,7 @@ ghost use Rattle.std.specs.Prelude.{◌≡◌, ◌+◌, ◌*◌, ◌<◌, ◌≤
 ghost use Rattle.std.specs.List.{AllZip};
 ghost use Rattle.std.specs.Thread.{IsSync};
 ghost use Rattle.cf_row.specs.Row.{Fits};
-ghost use Rattle.cf_table.specs.Held.{IsOf};
+ghost use Rattle.cf_table.specs.Values.{IsOf};
 ghost use Rattle.cf_load.specs.Loading.{AsksBatch, HasLoaded, AsksBeside};
 ghost use Rattle.cf_load.specs.Loads.{outcome_of, HasStopped};
 ghost use Rattle.cf_load.specs.Planned.{IsPlan, HasRead, tails_of};

@@ -2,8 +2,8 @@
 ghost use Rattle.std.specs.Prelude.{◌≡◌, ◌+◌, ◌<◌, ◌≤◌, All, map, length, IfOk};
 ghost use Rattle.cf_plain.specs.Asks.{Suits, SuitsTrigger, rows_in, marks_over};
 ghost use Rattle.cf_report.specs.Meaning.{answer_on};
-ghost use Rattle.cf_table.specs.Held.{IsOf};
-ghost use Rattle.cf_table.specs.Moves.{IsSettled};
+ghost use Rattle.cf_table.specs.Values.{IsOf};
+ghost use Rattle.cf_table.specs.Moves.{HoldsAllBooks};
 ghost use Rattle.cf_load.specs.Planned.{IsPlan, marks_on};
 ghost use Rattle.cf_load.specs.Loads.{Keeps};
 
@@ -26,7 +26,7 @@ fn finals_of<L: Ledger>(
     steps: &mut Steps<L>,
 ) -> Result<Vec<Answer>, Memory>
     requires of { IsOf root.old log.now }
-    requires settled { IsSettled log.now.shape root.old.view }
+    requires settled { HoldsAllBooks log.now.shape root.old.view }
     requires suit { All (Suits log.now.shape) asks.now }
     ensures keeps { Keeps root.old root.new }
     ensures answers { IfOk result (λ finals. finals.items ≡ map (answer_on log.now.shape root.old.view.seen) asks.now) }
@@ -47,7 +47,7 @@ fn marks_of<L: Ledger>(
     steps: &mut Steps<L>,
 ) -> Result<Marks, Memory>
     requires of { IsOf root.old log.now }
-    requires settled { IsSettled log.now.shape root.old.view }
+    requires settled { HoldsAllBooks log.now.shape root.old.view }
     requires suits { SuitsTrigger log.now.shape trigger }
     ensures keeps { Keeps root.old root.new }
     ensures marks { IfOk result (λ marks. marks ≡ marks_over log.now.shape trigger (rows_in root.old.view.seen)) }
@@ -68,7 +68,7 @@ fn alerts_of<L: Ledger>(
     steps: &mut Steps<L>,
 ) -> Result<Vec<Marks>, Memory>
     requires of { IsOf root.old log.now }
-    requires settled { IsSettled log.now.shape root.old.view }
+    requires settled { HoldsAllBooks log.now.shape root.old.view }
     requires suit { All (SuitsTrigger log.now.shape) triggers.now }
     ensures keeps { Keeps root.old root.new }
     ensures marks { IfOk result (λ alerts. alerts.items ≡ map (marks_on log.now.shape root.old.view.seen) triggers.now) }
@@ -90,7 +90,7 @@ fn answer_counted<L: Ledger>(
     blank: Blank,
 ) -> Result<Loaded, Memory>
     requires of { IsOf root.old log.now }
-    requires settled { IsSettled log.now.shape root.old.view }
+    requires settled { HoldsAllBooks log.now.shape root.old.view }
     requires plan { IsPlan log.now.shape plan.now }
     requires blank { (blank.name ≡ L.name) × (blank.parts ≡ L.parts) × (0 < L.parts) }
     ensures keeps { Keeps root.old root.new }
@@ -113,7 +113,7 @@ pub(crate) fn answer_all(
     lives: Vec<Live>,
 ) -> Result<Loaded, Memory>
     requires of { IsOf root.old log.now }
-    requires settled { IsSettled log.now.shape root.old.view }
+    requires settled { HoldsAllBooks log.now.shape root.old.view }
     requires plan { IsPlan log.now.shape plan.now }
     ensures keeps { Keeps root.old root.new }
     ensures finals { IfOk result (λ loaded. loaded.finals ≡ map (answer_on log.now.shape root.old.view.seen) plan.now.asks.items) }

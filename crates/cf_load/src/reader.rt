@@ -1,6 +1,6 @@
 // The reader asks its live questions while the writers append a batch.
 ghost use Rattle.std.specs.Prelude.{◌≡◌, ◌+◌, ◌<◌, IfOk};
-ghost use Rattle.cf_table.specs.Held.{IsOf};
+ghost use Rattle.cf_table.specs.Values.{IsOf};
 ghost use Rattle.cf_load.specs.Loading.{AsksBatch, AsksSome};
 ghost use Rattle.cf_load.specs.Planned.{IsPlan, HasRead};
 

@@ -1,6 +1,6 @@
 ghost use Rattle.std.specs.Prelude.{◌≡◌, ◌+◌, ◌<◌, ◌^◌, ◌↔◌, [], All, length, IsTrue};
 ghost use Rattle.cf_row.specs.Row.{Fits};
-ghost use Rattle.cf_table.specs.Held.{IsOf};
+ghost use Rattle.cf_table.specs.Values.{IsOf};
 ghost use Rattle.cf_table.specs.Moves.{AreAll};
 ghost use Rattle.cf_load.specs.Writing.{IsReady};
 

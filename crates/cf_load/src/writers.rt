@@ -3,7 +3,7 @@ ghost use Rattle.std.specs.Prelude.{◌≡◌, ◌+◌, ◌<◌, ◌^◌, All, l
 ghost use Rattle.std.specs.List.{AllZip};
 ghost use Rattle.std.specs.Thread.{IsSync};
 ghost use Rattle.cf_row.specs.Row.{Fits};
-ghost use Rattle.cf_table.specs.Held.{book_of};
+ghost use Rattle.cf_table.specs.Values.{book_of};
 ghost use Rattle.cf_load.specs.Needed.{IsOut};
 ghost use Rattle.cf_load.specs.Writing.{IsReady, RanOut, Wrote};
 

@@ -8,7 +8,7 @@ use Rattle.byteorder.specs.Numbers.{little_number-reads_back}
 use Rattle.cf_pcap.specs.declared.form.Order.TheVariants.{Little}
 use Rattle.cf_pcap.specs.declared.form.Precision.TheVariants.{Micro}
 use Rattle.cf_pcap.specs.declared.form.Form.{Form}
-use Rattle.cf_pcap.specs.Capture.{Captured, layout_of, caplen_at, frame_at, HasRecord, AreRecordsThen, IsFileHeader, IsCapture}
+use Rattle.cf_pcap.specs.Capture.{FrameValue, layout_of, caplen_at, frame_at, HasRecord, AreRecordsThen, IsFileHeader, IsCapture}
 use Rattle.cf_pcap.proofs.Following.{caplen_first, record_first, frame_first}
 use Rattle.cf_pcap.proofs.Heading.{header_first}
 use Rattle.cf_make.specs.Generated.{draw_of, is_udp, captured_length, wire_length, file_header, record_header, link_header, network_header, ports, datagram_header, segment_header, transport_header, packet_of, record_of, record_at, frame_of, frame_from, generated_bytes, generated_frames}
@@ -101,7 +101,7 @@ unfolding record_header
 length_read k draw rest = little_number-reads_back 4 (wire_length draw) rest (omega arith)
 
 same_frame : (k ts ts' caplen caplen' len len' link : ℕ) (bytes bytes' : List ℕ) → ts ≡ ts' → caplen ≡ caplen' → len ≡ len' → bytes ≡ bytes'
-    → ◌≡◌ {A = Captured} (record { num = k; ts = ts; caplen = caplen; len = len; link = link; bytes = bytes }) (record { num = k; ts = ts'; caplen = caplen'; len = len'; link = link; bytes = bytes' })
+    → ◌≡◌ {A = FrameValue} (record { num = k; ts = ts; caplen = caplen; len = len; link = link; bytes = bytes }) (record { num = k; ts = ts'; caplen = caplen'; len = len'; link = link; bytes = bytes' })
 same_frame k ts ts' caplen caplen' len len' link bytes bytes' p q r s = cc
 
 -- what stands between the record's header and its end
@@ -156,7 +156,7 @@ after_record k draw rest =
 abbrev records : ℕ → ℕ → ℕ → List ℕ
 records seed k n = flat_map (record_at seed) (range_with_len k n)
 
-abbrev frames : ℕ → ℕ → ℕ → List Captured
+abbrev frames : ℕ → ℕ → ℕ → List FrameValue
 frames seed k n = map (frame_from seed) (range_with_len k n)
 
 are_records : (seed k n : ℕ) → k + n ≤ 65536 → AreRecordsThen the_form k (frames seed k n) (records seed k n) []

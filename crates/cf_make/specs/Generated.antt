@@ -3,7 +3,7 @@
 use Rattle.std.specs.Prelude.{ℕ, zero, suc, ◌+◌, ◌-◌, ◌*◌, ◌/◌, ◌%◌, ◌^◌, ◌==◌, Bool, List, [], ◌∷◌, ◌++◌, map, flat_map, if◌then◌else◌}
 use Rattle.std.specs.List.{range_with_len}
 use Rattle.byteorder.specs.Endian.{little_bytes, big_bytes}
-use Rattle.cf_pcap.specs.Capture.{Captured}
+use Rattle.cf_pcap.specs.Capture.{FrameValue}
 
 -- a step of the generator, modulo 2^64; the multiplier and the increment are those of MMIX (D. E. Knuth, The Art of Computer
 -- Programming, volume 2, section 3.3.4)
@@ -103,7 +103,7 @@ generated_bytes seed count = file_header ++ flat_map (record_at seed) (range_wit
 -- The frames that a reader finds there.
 
 -- packet k, which comes k milliseconds after the first second, of Ethernet
-unfoldable pub frame_of : ℕ → ℕ → Captured
+unfoldable pub frame_of : ℕ → ℕ → FrameValue
 frame_of k draw = record {
   num = k;
   ts = 10 ^ 9 + k * 10 ^ 6;
@@ -114,9 +114,9 @@ frame_of k draw = record {
 }
 
 -- frame k of a seed's capture
-unfoldable pub frame_from : ℕ → ℕ → Captured
+unfoldable pub frame_from : ℕ → ℕ → FrameValue
 frame_from seed k = frame_of k (draw_of seed k)
 
 -- frames 0 to count - 1
-unfoldable pub generated_frames : ℕ → ℕ → List Captured
+unfoldable pub generated_frames : ℕ → ℕ → List FrameValue
 generated_frames seed count = map (frame_from seed) (range_with_len 0 count)

@@ -29,7 +29,7 @@ Opens None name before now result = OnErr result (now ≡ before)
 Opens (Some files) name before now result = OpensIn files name before now result
 
 -- the files of a shelf in memory, and what is left of the opened one
-pub record Piled : Type 0 where
+pub record PileValue : Type 0 where
   pub files : List File
   pub rest : List ℕ
 

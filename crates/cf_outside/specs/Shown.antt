@@ -3,28 +3,28 @@ use Rattle.std.specs.Prelude.{◌≡◌, ℕ, ◌==◌, [], Bool, ◌||◌, ◌&
 use Rattle.std.specs.declared.option.Option.{Option}
 use Rattle.std.specs.declared.option.Option.TheVariants.{Some, None}
 use Rattle.cf_outside.specs.Files.{File}
-use Rattle.cf_outside.specs.Script.{Scripted, fails_next, script_of}
+use Rattle.cf_outside.specs.Script.{ScriptValue, fails_next, script_of}
 
 -- `most` is the most bytes that a read moves
-pub record ShelfShown : Type 0 where
+pub record MemShelfValue : Type 0 where
   pub files : List File
   pub rest : List ℕ
   pub most : ℕ
-  pub script : Scripted
+  pub script : ScriptValue
 
 -- `room` is what is left of the sink's room, and `most` the most bytes that a write moves
-pub record SinkShown : Type 0 where
+pub record MemSinkValue : Type 0 where
   pub held : List ℕ
   pub room : ℕ
   pub most : ℕ
-  pub script : Scripted
+  pub script : ScriptValue
 
 -- whether a write of that piece fails: its call is to fail, or there is a byte and no room
-abbrev pub refuses : SinkShown → List ℕ → Bool
+abbrev pub refuses : MemSinkValue → List ℕ → Bool
 refuses sink piece = fails_next sink.script || ((sink.room == 0) && not (length piece == 0))
 
 -- a sink of that room, before the first call
-pub record IsFresh (room most : ℕ) (failing : List ℕ) (sink : SinkShown) : Type 0 where
+pub record IsFresh (room most : ℕ) (failing : List ℕ) (sink : MemSinkValue) : Type 0 where
   pub held : sink.held ≡ []
   pub room_is : sink.room ≡ room
   pub most_is : sink.most ≡ most
@@ -32,7 +32,7 @@ pub record IsFresh (room most : ℕ) (failing : List ℕ) (sink : SinkShown) : T
 
 -- a real device: its count of faults, and what the writer under it holds or the file under it has left, where that is
 -- known
-pub record EdgeShown : Type 0 where
+pub record EdgeValue : Type 0 where
   pub faults : ℕ
   pub known : Option (List ℕ)
 

@@ -23,9 +23,9 @@ pub struct MemShelf {
 
 impl Model for MemShelf {
     ghost use Rattle.std.specs.Prelude.{◌<◌};
-    ghost use Rattle.cf_outside.specs.Shown.{ShelfShown};
+    ghost use Rattle.cf_outside.specs.Shown.{MemShelfValue};
 
-    ghost Value = { ShelfShown };
+    ghost Value = { MemShelfValue };
 
     ghost view = { λ s. record { files = s.pile.files; rest = s.pile.rest; most = s.most; script = s.script } };
 

@@ -21,9 +21,9 @@ pub struct MemSink {
 
 impl Model for MemSink {
     ghost use Rattle.std.specs.Prelude.{◌<◌, ◌≤◌, vec_capacity, vec_len, ◌+◌};
-    ghost use Rattle.cf_outside.specs.Shown.{SinkShown};
+    ghost use Rattle.cf_outside.specs.Shown.{MemSinkValue};
 
-    ghost Value = { SinkShown };
+    ghost Value = { MemSinkValue };
 
     ghost view = { λ s. record { held = s.bytes.items; room = s.room; most = s.most; script = s.script } };
 

@@ -86,9 +86,9 @@ pub(crate) struct Pile {
 
 impl Model for Pile {
     ghost use Rattle.std.specs.Prelude.{slice_get, length, ◌≤◌};
-    ghost use Rattle.cf_outside.specs.Files.{Piled, rest_from};
+    ghost use Rattle.cf_outside.specs.Files.{PileValue, rest_from};
 
-    ghost Value = { Piled };
+    ghost Value = { PileValue };
 
     ghost view = { λ p. record { files = p.files.items; rest = rest_from (slice_get p.files.items p.opened) p.at } };
 

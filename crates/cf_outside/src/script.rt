@@ -13,9 +13,9 @@ pub(crate) struct Script {
 }
 
 impl Model for Script {
-    ghost use Rattle.cf_outside.specs.Script.{Scripted};
+    ghost use Rattle.cf_outside.specs.Script.{ScriptValue};
 
-    ghost Value = { Scripted };
+    ghost Value = { ScriptValue };
 
     ghost view = { λ s. record { calls = s.calls; failing = s.failing.items; faults = s.faults } };
 }

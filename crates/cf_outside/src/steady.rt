@@ -19,9 +19,9 @@ pub struct SteadyShelf {
 }
 
 impl Model for SteadyShelf {
-    ghost use Rattle.cf_outside.specs.Files.{Piled};
+    ghost use Rattle.cf_outside.specs.Files.{PileValue};
 
-    ghost Value = { Piled };
+    ghost Value = { PileValue };
 
     ghost view = { λ s. s.pile };
 }

@@ -35,9 +35,9 @@ pub struct FileShelf<'a, R: Files> {
 }
 
 impl<'a, R: Files> Model for FileShelf<'a, R> {
-    ghost use Rattle.cf_outside.specs.Shown.{EdgeShown, left_of};
+    ghost use Rattle.cf_outside.specs.Shown.{EdgeValue, left_of};
 
-    ghost Value = { EdgeShown };
+    ghost Value = { EdgeValue };
 
     ghost view = { λ s. record { faults = s.faults; known = left_of R.File.remaining s.file } };
 }
@@ -117,9 +117,9 @@ pub struct StdSink<W: Write + Drop> {
 }
 
 impl<W: Write + Drop> Model for StdSink<W> {
-    ghost use Rattle.cf_outside.specs.Shown.{EdgeShown};
+    ghost use Rattle.cf_outside.specs.Shown.{EdgeValue};
 
-    ghost Value = { EdgeShown };
+    ghost Value = { EdgeValue };
 
     ghost view = { λ s. record { faults = s.faults; known = W.contents s.inner } };
 }

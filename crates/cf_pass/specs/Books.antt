@@ -1,21 +1,21 @@
 -- What is asked of passes and their books, and what becomes of them.
 use Rattle.std.specs.Prelude.{ℕ, ◌+◌, ◌*◌, ◌%◌, ◌^◌, ◌<◌, ◌≡◌, ◌⊎◌, suc, List, [], ◌∷◌, cond, nat_lt, length, Some, None, slice_get, true, false}
-use Rattle.cf_row.specs.Row.{Numbered}
+use Rattle.cf_row.specs.Row.{RowValue}
 use Rattle.cf_words.specs.Words.{Spot}
 use Rattle.cf_law.specs.Passes.{Own, Flight, Book, Cursor, Pass}
-use Rattle.cf_law.specs.Steps.{fly, fresh_flight, Flies, Holds, Knows, IsOwn, IsNamed}
+use Rattle.cf_law.specs.Steps.{book_with_flight, fresh_flight, HoldsInFlight, Holds, Knows, IsOwn, IsNamed}
 
 -- just one book, which isn't marked and has no ticket in flight
 abbrev pub MayTake : Pass → Type 0
 MayTake p = (b : Book) × (p.books ≡ b ∷ []) × (b.over ≡ false) × (b.flight ≡ None)
 
 -- the write tail was n: a ticket, or the mark
-abbrev pub ticketed_at : ℕ → Numbered → ℕ → Book → Book
-ticketed_at capacity row n b = cond (nat_lt n capacity) (fly b (fresh_flight n row)) (record b { over = true })
+abbrev pub ticketed_at : ℕ → RowValue → ℕ → Book → Book
+ticketed_at capacity row n b = cond (nat_lt n capacity) (book_with_flight b (fresh_flight n row)) (record b { over = true })
 
 -- no ticket of that offset is in flight
 abbrev pub NoneFlies : Pass → ℕ → Type 0
-NoneFlies p offset = (j : ℕ) (b : Book) (f : Flight) → Flies p j b f → f.offset ≡ offset → ⊥
+NoneFlies p offset = (j : ℕ) (b : Book) (f : Flight) → HoldsInFlight p j b f → f.offset ≡ offset → ⊥
 
 -- no held book is of that writer
 abbrev pub NoneHeld : Pass → ℕ → Type 0

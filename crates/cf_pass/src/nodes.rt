@@ -1,7 +1,7 @@
 // What a pass knows of nodes: lanes and prefixes, the nodes that stand for them, and a walk down a chain.
 ghost use Rattle.std.specs.Prelude.{◌≡◌, ◌<◌, ◌^◌, ◌∷◌, [], IfOk, IsTrue, ◌↔◌, length};
 ghost use Rattle.cf_words.specs.Words.{spot as spot_of};
-ghost use Rattle.cf_law.specs.Steps.{met_of, walk_on as walk_on_of};
+ghost use Rattle.cf_law.specs.Steps.{met_of, cursor_after_cell as walk_on_of};
 ghost use Rattle.cf_pass.specs.Books.{gone_on_of, Names};
 
 use cf_row::Memory;

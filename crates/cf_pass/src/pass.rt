@@ -1,7 +1,7 @@
 // The passes of a world and their books.
 ghost use Rattle.std.specs.Prelude.{◌≡◌, ℕ, ◌+◌, ◌-◌, ◌*◌, ◌^◌, ◌<◌, ◌≤◌, ◌++◌, ◌∷◌, List, [], length, take, IfOk, IsTrue, ◌↔◌, Some, None, MatchOption, slice_get, set, false};
 ghost use Rattle.cf_law.specs.Passes.{Book, Pass};
-ghost use Rattle.cf_law.specs.Steps.{at_book, looked, tail_loaded, labelled, linked, link_tried, child_loaded, head_loaded, cell_loaded, sees, filled, headed, finished, newcomer, spent_pass, joined, but, IsAtRest, Flies, Holds, Knows, IsOwn, IsNamed};
+ghost use Rattle.cf_law.specs.Steps.{pass_with_book, pass_with_look, pass_with_tail, book_with_label, book_with_node, pass_with_link, pass_with_child, pass_with_head, pass_with_cell, pass_that_sees, book_with_word, book_with_head, book_with_record, new_pass, spent_pass, joined_pass, without, IsAtRest, HoldsInFlight, Holds, Knows, IsOwn, IsNamed};
 ghost use Rattle.cf_law.specs.Events.{table, no_book};
 ghost use Rattle.cf_pass.specs.Books.{MayTake, ticketed_at, NoneFlies, NoneHeld, NoneKnown, IsFreeIn, IsFree, NoneFree, HasFinished, HasOpen, Owns, MayRead};
 
@@ -254,7 +254,7 @@ impl WriterBook {
     /// The book once the ticket's words up to word i are filled.
     pub fn filled(&self, alloc: Global, ticket: &OpenTicket, i: u32) -> Result<WriterBook, Memory>
         requires { i < 2 ^ 32 - 1 }
-        ensures { IfOk result (λ book. book ≡ filled i self.now ticket.now) }
+        ensures { IfOk result (λ book. book ≡ book_with_word i self.now ticket.now) }
     {
         let mut book = self.copy(alloc)?;
         let mut ticket = ticket.copy(alloc)?;
@@ -265,7 +265,7 @@ impl WriterBook {
 
     /// The book once the ticket is linked in the lane.
     pub fn headed(&self, alloc: Global, ticket: &OpenTicket, lane: u8) -> Result<WriterBook, Memory>
-        ensures { IfOk result (λ book. book ≡ headed lane self.now ticket.now) }
+        ensures { IfOk result (λ book. book ≡ book_with_head lane self.now ticket.now) }
     {
         let mut linked = Vec::with_capacity(alloc, 1)?;
         linked.push(lane)?;
@@ -279,7 +279,7 @@ impl WriterBook {
 
     /// The book once the ticket is finished.
     pub fn finished(&self, alloc: Global, ticket: &OpenTicket) -> Result<WriterBook, Memory>
-        ensures { IfOk result (λ book. book ≡ finished self.now ticket.now) }
+        ensures { IfOk result (λ book. book ≡ book_with_record self.now ticket.now) }
     {
         let mut book = self.copy(alloc)?;
         book.mine.push(OwnTicket {
@@ -335,7 +335,7 @@ impl WriterBook {
 
     /// The book once the label is stored.
     pub fn labelled(&self, alloc: Global, value: u64) -> Result<WriterBook, Memory>
-        ensures { IfOk result (λ book. book ≡ labelled value self.now) }
+        ensures { IfOk result (λ book. book ≡ book_with_label value self.now) }
     {
         let mut book = self.copy(alloc)?;
         book.label = value;
@@ -344,7 +344,7 @@ impl WriterBook {
 
     // The book once its least free node is used for that lane and prefix.
     fn linked(&self, alloc: Global, spot: &NodeSpot) -> Result<WriterBook, Memory>
-        ensures { IfOk result (λ book. book ≡ linked spot.now self.now) }
+        ensures { IfOk result (λ book. book ≡ book_with_node spot.now self.now) }
     {
         let mut book = self.copy(alloc)?;
         book.used.push(spot.copy(alloc)?)?;
@@ -421,7 +421,7 @@ impl PassState {
 
     /// The pass after a load. The count of loads takes a word, and there is no memory for a greater one.
     pub fn looked(&self, alloc: Global, place: u64, found: u64) -> Result<PassState, Memory>
-        ensures { IfOk result (λ pass. pass ≡ looked place found self.now) }
+        ensures { IfOk result (λ pass. pass ≡ pass_with_look place found self.now) }
     {
         let mut pass = self.copy(alloc)?;
         if pass.look_count == u64::MAX {
@@ -441,7 +441,7 @@ impl PassState {
         book: WriterBook,
     ) -> Result<PassState, Memory>
         requires { place < length self.now.books }
-        ensures { IfOk result (λ pass. pass ≡ at_book place book self.now) }
+        ensures { IfOk result (λ pass. pass ≡ pass_with_book place book self.now) }
     {
         let mut pass = self.copy(alloc)?;
         pass.books[place] = book;
@@ -489,7 +489,7 @@ impl PassState {
         found: u64,
     ) -> Result<PassState, Memory>
         requires { at < length self.now.books }
-        ensures { IfOk result (λ pass. (b : Book) → Holds self.now at b → pass ≡ link_tried at b spot node self.now found) }
+        ensures { IfOk result (λ pass. (b : Book) → Holds self.now at b → pass ≡ pass_with_link at b spot node self.now found) }
     {
         if found != 0 {
             let mut pass = self.copy(alloc)?;
@@ -539,7 +539,7 @@ impl PassState {
         spot: NodeSpot,
         found: u64,
     ) -> Result<PassState, Memory>
-        ensures { IfOk result (λ pass. pass ≡ child_loaded place spot self.now found) }
+        ensures { IfOk result (λ pass. pass ≡ pass_with_child place spot self.now found) }
     {
         let mut pass = self.looked(alloc, place, found)?;
         if found != 0 {
@@ -557,7 +557,7 @@ impl PassState {
         spot: NodeSpot,
         found: u64,
     ) -> Result<PassState, Memory>
-        ensures { IfOk result (λ pass. pass ≡ head_loaded place writer spot self.now found) }
+        ensures { IfOk result (λ pass. pass ≡ pass_with_head place writer spot self.now found) }
     {
         let mut pass = self.looked(alloc, place, found)?;
         let met = met_by(alloc, &self.cursor)?;
@@ -575,7 +575,7 @@ impl PassState {
         i: u8,
         found: u64,
     ) -> Result<PassState, Memory>
-        ensures { IfOk result (λ pass. pass ≡ cell_loaded place offset lane i self.now found) }
+        ensures { IfOk result (λ pass. pass ≡ pass_with_cell place offset lane i self.now found) }
     {
         let mut pass = self.looked(alloc, place, found)?;
         pass.cursor = walk_on(alloc, &self.cursor, offset, lane, i, found)?;
@@ -612,7 +612,7 @@ impl PassState {
         entries: Vec<Entry>,
     ) -> Result<PassState, Memory>
         requires { length entries.items ≤ tail }
-        ensures { IfOk result (λ pass. pass ≡ tail_loaded asked tail entries.items self.now) }
+        ensures { IfOk result (λ pass. pass ≡ pass_with_tail asked tail entries.items self.now) }
     {
         let mut pass = self.copy(alloc)?;
         if pass.look_count == u64::MAX {
@@ -634,7 +634,7 @@ impl PassState {
     /// The pass once the read tail is above t, where these are the entries up to t.
     pub fn advanced(&self, alloc: Global, t: u32, entries: Vec<Entry>) -> Result<PassState, Memory>
         requires { length entries.items ≤ t + 1 }
-        ensures { IfOk result (λ pass. pass ≡ sees (t + 1) entries.items self.now) }
+        ensures { IfOk result (λ pass. pass ≡ pass_that_sees (t + 1) entries.items self.now) }
     {
         let mut pass = self.copy(alloc)?;
         if pass.seen.len() <= t as usize {
@@ -672,7 +672,7 @@ impl PassState {
 
     /// The ticket in flight of that offset, with its book and the book's place.
     pub fn flying(&self, offset: u32) -> Option<(usize, &WriterBook, &OpenTicket)>
-        ensures { MatchOption result (NoneFlies self.now offset) (λ x. Flies self.now x.0 x.1.now x.2.now × (x.2.now.offset ≡ offset)) }
+        ensures { MatchOption result (NoneFlies self.now offset) (λ x. HoldsInFlight self.now x.0 x.1.now x.2.now × (x.2.now.offset ≡ offset)) }
     {
         for (place, book) in self.books.iter().enumerate() {
             if let Some(ticket) = book.open() {
@@ -711,7 +711,7 @@ impl PassState {
 
     /// A pass with these books that has seen as much as these entries.
     pub fn newcomer(alloc: Global, books: Vec<WriterBook>, seen: Vec<Entry>) -> PassState
-        ensures { result ≡ newcomer books.items seen.items }
+        ensures { result ≡ new_pass books.items seen.items }
     {
         PassState {
             books,
@@ -739,7 +739,7 @@ impl PassState {
 
     /// A new pass of no book that has seen as much.
     pub fn fellow(&self, alloc: Global) -> Result<PassState, Memory>
-        ensures { IfOk result (λ pass. pass ≡ newcomer [] self.now.seen) }
+        ensures { IfOk result (λ pass. pass ≡ new_pass [] self.now.seen) }
     {
         let seen = copy_entries(alloc, &self.seen)?;
         Ok(PassState::newcomer(alloc, Vec::new(alloc), seen))
@@ -748,8 +748,8 @@ impl PassState {
     /// The pass without the book at that place, and a new pass of that book that has seen as much.
     pub fn handed(&self, alloc: Global, place: usize) -> Result<(PassState, PassState), Memory>
         requires { place < length self.now.books }
-        ensures stays { IfOk result (λ passes. passes.0 ≡ record self.now { books = but place self.now.books }) }
-        ensures goes { IfOk result (λ passes. (b : Book) → Holds self.now place b → passes.1 ≡ newcomer (b ∷ []) self.now.seen) }
+        ensures stays { IfOk result (λ passes. passes.0 ≡ record self.now { books = without place self.now.books }) }
+        ensures goes { IfOk result (λ passes. (b : Book) → Holds self.now place b → passes.1 ≡ new_pass (b ∷ []) self.now.seen) }
     {
         let mut left = self.copy(alloc)?;
         left.books = without(alloc, &self.books, place)?;
@@ -761,7 +761,7 @@ impl PassState {
 
     /// The pass once the other was joined into it.
     pub fn joined(&self, alloc: Global, other: &PassState) -> Result<PassState, Memory>
-        ensures { IfOk result (λ pass. pass ≡ joined self.now other.now) }
+        ensures { IfOk result (λ pass. pass ≡ joined_pass self.now other.now) }
     {
         let books = both_books(alloc, &self.books, &other.books)?;
         let olds = both_seen(alloc, &self.seen, &other.seen)?;
@@ -781,7 +781,7 @@ impl PassState {
 // The books but the one at that place.
 fn without(alloc: Global, books: &[WriterBook], place: usize) -> Result<Vec<WriterBook>, Memory>
     requires { place < length books.now }
-    ensures { IfOk result (λ left. left.items ≡ but place books.now) }
+    ensures { IfOk result (λ left. left.items ≡ without place books.now) }
 {
     let mut left = copy_books(alloc, books)?;
     left.remove(place);

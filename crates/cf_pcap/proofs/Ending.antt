@@ -6,8 +6,8 @@ use Rattle.cf_pcap.specs.declared.fault.PcapFault.{PcapFault}
 use Rattle.cf_pcap.specs.declared.fault.PcapFault.TheVariants.{BadMagic, BadVersion, BadLink, FrameTooLong, Cut, TooManyBytes, Memory}
 use Rattle.cf_pcap.specs.declared.stage.Stage.{Stage}
 use Rattle.cf_pcap.specs.declared.stage.Stage.TheVariants.{Heading, Reading, Stopped}
-use Rattle.cf_pcap.specs.Capture.{Captured, IsReadTo, IsCapture, Shows, seen, HasPcapFault, IsCut}
-use Rattle.cf_pcap.specs.Stream.{IsFound, AreGiven, Reader, IsHeading, IsReading, IsStateOf, IsFed, IsEnded, AnswersFound, IsAt}
+use Rattle.cf_pcap.specs.Capture.{FrameValue, IsReadTo, IsCapture, Shows, seen, HasPcapFault, IsCut}
+use Rattle.cf_pcap.specs.Stream.{IsFound, AreGiven, PcapValue, IsHeading, IsReading, IsStateOf, IsFed, IsEnded, AnswersFound, IsAt}
 use Rattle.cf_pcap.proofs.Seen.{seen_short, seen_of_front}
 use Rattle.cf_pcap.proofs.Feeding.{none_found}
 use Rattle.cf_pcap.proofs.Given.{one_given}
@@ -22,13 +22,13 @@ found_is_fault stream (Cut k) h = absurd h
 found_is_fault stream TooManyBytes h = h
 found_is_fault stream Memory h = h
 
-pub ended_heading : (reader : Reader) (stream : List ℕ) → IsHeading reader stream → IsCut 0 stream
+pub ended_heading : (reader : PcapValue) (stream : List ℕ) → IsHeading reader stream → IsCut 0 stream
 ended_heading reader stream state = cut_in_header stream state.size state.first
 
-pub ended_whole : (form : Form) (reader : Reader) (stream : List ℕ) → IsReading form reader stream → length reader.held ≡ 0 → (frames : List Captured) × IsCapture stream frames × (reader.count ≡ length frames)
+pub ended_whole : (form : Form) (reader : PcapValue) (stream : List ℕ) → IsReading form reader stream → length reader.held ≡ 0 → (frames : List FrameValue) × IsCapture stream frames × (reader.count ≡ length frames)
 ended_whole form reader stream state end = (state.frames, whole_capture stream form state.frames reader.held state.size state.read (nil_from_length reader.held end), state.count_is)
 
-pub ended_within : (form : Form) (reader : Reader) (stream : List ℕ) → IsReading form reader stream → 0 < length reader.held → IsCut reader.count stream
+pub ended_within : (form : Form) (reader : PcapValue) (stream : List ℕ) → IsReading form reader stream → 0 < length reader.held → IsCut reader.count stream
 ended_within form reader stream state left = subst (λ (n : ℕ). IsCut n stream) (sym state.count_is) (cut_in_record stream form state.frames reader.held state.size state.read left state.part state.short)
 
 -- a fault of 2^32 bytes is that of each file that begins with them
@@ -50,7 +50,7 @@ fault_of_front front rest fault (inl none) h = subst (λ (xs : List ℕ). HasPca
 fault_of_front front rest fault (inr full) h = full_fault front rest fault full h
 
 -- a capture gives its frames
-pub capture_gives : (file : List ℕ) (frames : List Captured) → IsCapture file frames → AreGiven file frames
+pub capture_gives : (file : List ℕ) (frames : List FrameValue) → IsCapture file frames → AreGiven file frames
 capture_gives file frames capture =
     let size : length file < 2 ^ 32 = capture.size in
     let same : seen file ≡ file = seen_short file (omega (arith, size)) in
@@ -62,7 +62,7 @@ capture_gives file frames capture =
       last = λ h. absurd (no_record_left capture.form h);
     })
 
-empty_gives : (before : List Captured) → AreGiven [] before → before ≡ []
+empty_gives : (before : List FrameValue) → AreGiven [] before → before ≡ []
 empty_gives before (inl h) =
     let size : 24 ≤ length (seen []) = h.read.header.size in
     let none : length (seen []) ≡ 0 = ap length (seen_short [] (omega arith)) in
@@ -70,17 +70,17 @@ empty_gives before (inl h) =
 empty_gives before (inr h) = h.1
 
 -- what a new reader gives of the first piece is what that piece gives as a stream
-pub fed_first : (piece : List ℕ) (given : List Captured) (answer : Result (Unit {0}) PcapFault) (reader : Reader) → IsFed [] piece given answer reader → AreGiven piece given
+pub fed_first : (piece : List ℕ) (given : List FrameValue) (answer : Result (Unit {0}) PcapFault) (reader : PcapValue) → IsFed [] piece given answer reader → AreGiven piece given
 fed_first piece given answer reader fed =
     let none : fed.before ≡ [] = empty_gives fed.before fed.given_before in
-    subst (λ (fs : List Captured). AreGiven piece (fs ++ given)) none fed.given_now
+    subst (λ (fs : List FrameValue). AreGiven piece (fs ++ given)) none fed.given_now
 
 -- a whole file as one piece for a new reader: the fault that `feed` answers is the file's
-pub whole_fault : (file : List ℕ) (given : List Captured) (fault : PcapFault) (reader : Reader) → IsFed [] file given (Err fault) reader → HasPcapFault file fault
+pub whole_fault : (file : List ℕ) (given : List FrameValue) (fault : PcapFault) (reader : PcapValue) → IsFed [] file given (Err fault) reader → HasPcapFault file fault
 whole_fault file given fault reader fed = found_is_fault file fault fed.answer_is
 
 -- the same, and then `finish`: a capture of just the frames given, or the file's fault
-pub whole_fed : (file : List ℕ) (given : List Captured) (reader : Reader) (answer : Result (Unit {0}) PcapFault) (end : Result ℕ PcapFault) → IsFed [] file given answer reader → ((stream : List ℕ) → IsStateOf reader stream → IsEnded stream end)
+pub whole_fed : (file : List ℕ) (given : List FrameValue) (reader : PcapValue) (answer : Result (Unit {0}) PcapFault) (end : Result ℕ PcapFault) → IsFed [] file given answer reader → ((stream : List ℕ) → IsStateOf reader stream → IsEnded stream end)
     → MatchResult end (λ count. IsCapture file given × (count ≡ length given)) (HasPcapFault file)
 whole_fed file given reader answer (Ok count) fed ended =
     let found = ended file fed.state in
@@ -89,16 +89,16 @@ whole_fed file given reader answer (Ok count) fed ended =
 whole_fed file given reader answer (Err fault) fed ended = ended file fed.state
 
 -- a reader that has found a fault answers it
-pub answers_stopped : (fault : PcapFault) (reader : Reader) → reader.stage ≡ Stopped fault → AnswersFound reader (Err fault)
+pub answers_stopped : (fault : PcapFault) (reader : PcapValue) → reader.stage ≡ Stopped fault → AnswersFound reader (Err fault)
 answers_stopped fault reader is = λ stream other state found.
     ap (λ f. Err f) (one_fault stream fault other (found_is_fault stream fault (subst (λ (s : Stage). IsAt s reader stream) is state)) (found_is_fault stream other found))
 
-none_running : (stage : Stage) (reader : Reader) (stream : List ℕ) (fault : PcapFault) → ((other : PcapFault) → stage ≡ Stopped other → ⊥) → IsAt stage reader stream → IsFound stream fault → ⊥
+none_running : (stage : Stage) (reader : PcapValue) (stream : List ℕ) (fault : PcapFault) → ((other : PcapFault) → stage ≡ Stopped other → ⊥) → IsAt stage reader stream → IsFound stream fault → ⊥
 none_running Heading reader stream fault runs state found = let size : length stream < 24 = state.size in none_found stream (omega (arith, size)) state.first fault found
 none_running (Reading form) reader stream fault runs state found =
     none_found stream state.size (none_shown stream form state.frames reader.held state.read state.part state.short) fault found
 none_running (Stopped other) reader stream fault runs state found = runs other refl
 
 -- one that runs has found none
-pub not_found : (reader now : Reader) (stream : List ℕ) (fault : PcapFault) → reader ≡ now → ((other : PcapFault) → reader.stage ≡ Stopped other → ⊥) → IsStateOf now stream → IsFound stream fault → ⊥
-not_found reader now stream fault same runs state found = none_running reader.stage reader stream fault runs (subst (λ (r : Reader). IsStateOf r stream) (sym same) state) found
+pub not_found : (reader now : PcapValue) (stream : List ℕ) (fault : PcapFault) → reader ≡ now → ((other : PcapFault) → reader.stage ≡ Stopped other → ⊥) → IsStateOf now stream → IsFound stream fault → ⊥
+not_found reader now stream fault same runs state found = none_running reader.stage reader stream fault runs (subst (λ (r : PcapValue). IsStateOf r stream) (sym same) state) found

@@ -8,8 +8,8 @@ use Rattle.cf_pcap.specs.declared.fault.PcapFault.{PcapFault}
 use Rattle.cf_pcap.specs.declared.fault.PcapFault.TheVariants.{BadMagic, BadVersion, BadLink, FrameTooLong, Cut, TooManyBytes, Memory}
 use Rattle.cf_pcap.specs.declared.stage.Stage.{Stage}
 use Rattle.cf_pcap.specs.declared.stage.Stage.TheVariants.{Heading, Reading, Stopped}
-use Rattle.cf_pcap.specs.Capture.{Captured, HasRecord, caplen_at, AreRecordsThen, IsReadTo, HasLongFrame, Shows, seen}
-use Rattle.cf_pcap.specs.Stream.{IsFound, AreGiven, Reader, IsHeading, IsReading, IsStateOf, IsFed}
+use Rattle.cf_pcap.specs.Capture.{FrameValue, HasRecord, caplen_at, AreRecordsThen, IsReadTo, HasLongFrame, Shows, seen}
+use Rattle.cf_pcap.specs.Stream.{IsFound, AreGiven, PcapValue, IsHeading, IsReading, IsStateOf, IsFed}
 use Rattle.cf_pcap.specs.Reading.{HasHeaderFault, IsHeaderStage, IsRecordStage, AreRead, IsBegun, IsGoneOn, late_of, stage_at, answer_of, kept_by}
 use Rattle.cf_pcap.proofs.Following.{then_more, sizes, few_ended}
 use Rattle.cf_pcap.proofs.Heading.{no_header, shown_by_header}
@@ -67,7 +67,7 @@ stopped_outcome : (fault : PcapFault) (total count : ℕ) (held stream : List �
 stopped_outcome fault total count held stream h = (h, h)
 
 -- where a stream below 2^32 bytes was read
-short_outcome : (form : Form) (stream rest : List ℕ) (all : List Captured) (stage : Stage) (total count : ℕ) → length stream < 2 ^ 32 → total ≡ length stream → count ≡ length all → IsReadTo form stream all rest → (HasRecord form rest → ⊥) → IsRecordStage form count rest stage → Outcome (stage_at stage total) total count rest stream
+short_outcome : (form : Form) (stream rest : List ℕ) (all : List FrameValue) (stage : Stage) (total count : ℕ) → length stream < 2 ^ 32 → total ≡ length stream → count ≡ length all → IsReadTo form stream all rest → (HasRecord form rest → ⊥) → IsRecordStage form count rest stage → Outcome (stage_at stage total) total count rest stream
 short_outcome form stream rest all Heading total count size total_is count_is read part at = absurd at
 short_outcome form stream rest all (Reading same) total count size total_is count_is read part at =
     let none : (fault : PcapFault) → Shows stream fault → ⊥ = none_read form stream rest all read (λ h. absurd (part h)) at.1 in
@@ -82,7 +82,7 @@ short_outcome form stream rest all (Stopped fault) total count size total_is cou
     stopped_outcome fault total count rest stream (subst (λ (f : PcapFault). IsFound stream f) (sym at.0) found)
 
 -- where its first 2^32 bytes were read
-full_outcome : (form : Form) (stream rest : List ℕ) (all : List Captured) (stage : Stage) (total count : ℕ) → 2 ^ 32 ≤ length stream → total ≡ 2 ^ 32 → count ≡ length all → IsReadTo form (seen stream) all rest → (HasRecord form rest → length rest ≡ 16 + caplen_at form rest) → IsRecordStage form count rest stage → Outcome (stage_at stage total) total count rest stream
+full_outcome : (form : Form) (stream rest : List ℕ) (all : List FrameValue) (stage : Stage) (total count : ℕ) → 2 ^ 32 ≤ length stream → total ≡ 2 ^ 32 → count ≡ length all → IsReadTo form (seen stream) all rest → (HasRecord form rest → length rest ≡ 16 + caplen_at form rest) → IsRecordStage form count rest stage → Outcome (stage_at stage total) total count rest stream
 full_outcome form stream rest all Heading total count size total_is count_is read fills at = absurd at
 full_outcome form stream rest all (Reading same) total count size total_is count_is read fills at =
     let found : IsFound stream TooManyBytes = record { size = size; first = none_read form (seen stream) rest all read fills at.1 } in
@@ -114,12 +114,12 @@ taken_of stream piece size =
       full = λ same. omega (arith, size, len, most, same, all);
     }
 
-record Settled (stream : List ℕ) (all : List Captured) (stage : Stage) (total count : ℕ) (rest : List ℕ) : Type 0 where
+record Settled (stream : List ℕ) (all : List FrameValue) (stage : Stage) (total count : ℕ) (rest : List ℕ) : Type 0 where
   given : AreGiven stream all
   outcome : Outcome (stage_at stage total) total count rest stream
 
 -- where records were read
-settled : (form : Form) (stream piece rest : List ℕ) (all : List Captured) (stage : Stage) (total count : ℕ) → (taken : Taken stream piece) → total ≡ length taken.now → count ≡ length all → IsReadTo form taken.now all rest → late_of total ≤ length rest → (HasRecord form rest → length rest < 16 + caplen_at form rest + late_of total) → IsRecordStage form count rest stage → Settled (stream ++ piece) all stage total count rest
+settled : (form : Form) (stream piece rest : List ℕ) (all : List FrameValue) (stage : Stage) (total count : ℕ) → (taken : Taken stream piece) → total ≡ length taken.now → count ≡ length all → IsReadTo form taken.now all rest → late_of total ≤ length rest → (HasRecord form rest → length rest < 16 + caplen_at form rest + late_of total) → IsRecordStage form count rest stage → Settled (stream ++ piece) all stage total count rest
 settled form stream piece rest all stage total count taken total_is count_is read early last at = elim (cases_lt (length taken.now) (2 ^ 32)) [
   | inl short ↦
       let none : late_of total ≡ 0 = late_short total (omega (arith, short, total_is)) in
@@ -161,15 +161,15 @@ abbrev total_after : ℕ → List ℕ → ℕ
 total_after total piece = total + length (take (2 ^ 32 - total) piece)
 
 -- the reader after a call that takes a piece
-abbrev pub reader_after : ℕ → ℕ → List ℕ → List Captured → List ℕ → Stage → Reader
+abbrev pub reader_after : ℕ → ℕ → List ℕ → List FrameValue → List ℕ → Stage → PcapValue
 reader_after total count piece given held stage =
     record { stage = stage_at stage (total + length (take (2 ^ 32 - total) piece)); total = total + length (take (2 ^ 32 - total) piece); count = count + length given; held = held }
 
-abbrev pub FedAfter : List ℕ → ℕ → ℕ → List ℕ → List Captured → List ℕ → Stage → Type 0
+abbrev pub FedAfter : List ℕ → ℕ → ℕ → List ℕ → List FrameValue → List ℕ → Stage → Type 0
 FedAfter stream total count piece given held stage =
     IsFed stream piece given (answer_of (stage_at stage (total + length (take (2 ^ 32 - total) piece)))) (reader_after total count piece given held stage)
 
-fed_by : (stream piece : List ℕ) (before given : List Captured) (held : List ℕ) (stage : Stage) (total count : ℕ) → AreGiven stream before → 16 * length given ≤ length piece + 15
+fed_by : (stream piece : List ℕ) (before given : List FrameValue) (held : List ℕ) (stage : Stage) (total count : ℕ) → AreGiven stream before → 16 * length given ≤ length piece + 15
     → Settled (stream ++ piece) (before ++ given) stage (total + length (take (2 ^ 32 - total) piece)) (count + length given) held → FedAfter stream total count piece given held stage
 fed_by stream piece before given held stage total count given_before few now =
     record { before = before; given_before = given_before; given_now = now.given; few = few; answer_is = now.outcome.1; state = now.outcome.0 }
@@ -182,10 +182,10 @@ total_taken stream piece total is = rw is (sym (length-append stream (take (2 ^ 
 taken_len : (most : ℕ) (piece : List ℕ) → length (take most piece) ≤ length piece
 taken_len most piece = let len : length (take most piece) ≡ min most (length piece) = length-take most piece in omega (arith, len)
 
-pub fed_reading : (form : Form) (stream piece held rest : List ℕ) (given : List Captured) (stage : Stage) (total count : ℕ) → IsReading form (record { stage = Reading form; total = total; count = count; held = held }) stream → AreRead form count (late_of (total + length (take (2 ^ 32 - total) piece))) (held ++ take (2 ^ 32 - total) piece) given rest stage → FedAfter stream total count piece given rest stage
+pub fed_reading : (form : Form) (stream piece held rest : List ℕ) (given : List FrameValue) (stage : Stage) (total count : ℕ) → IsReading form (record { stage = Reading form; total = total; count = count; held = held }) stream → AreRead form count (late_of (total + length (take (2 ^ 32 - total) piece))) (held ++ take (2 ^ 32 - total) piece) given rest stage → FedAfter stream total count piece given rest stage
 fed_reading form stream piece held rest given stage total count state go =
     let size : length stream < 2 ^ 32 = state.size in
-    let before : List Captured = state.frames in
+    let before : List FrameValue = state.frames in
     let taken = taken_of stream piece size in
     let more : List ℕ = take (2 ^ 32 - total) piece in
     let now : taken.now ≡ stream ++ more = taken.now_is ∙ ap (λ n. stream ++ take (2 ^ 32 - n) piece) (sym state.total_is) in
@@ -226,7 +226,7 @@ begun_outcome stream bytes (Stopped fault) total count same seen_is total_is cou
     }
 
 -- the first bytes of a stream end no more frames than there is room for after the file header
-few_begun : (late : ℕ) (bytes : List ℕ) (given : List Captured) (rest : List ℕ) (stage : Stage) (room : ℕ) → IsBegun late bytes given rest stage → length bytes ≤ room + 24 → 16 * length given ≤ room + 15
+few_begun : (late : ℕ) (bytes : List ℕ) (given : List FrameValue) (rest : List ℕ) (stage : Stage) (room : ℕ) → IsBegun late bytes given rest stage → length bytes ≤ room + 24 → 16 * length given ≤ room + 15
 few_begun late bytes given rest stage room begun fits = elim begun [
   | inl it ↦
       let most : 16 * length given + length rest ≤ length (drop 24 bytes) = sizes it.0 0 given (drop 24 bytes) rest it.2.records in
@@ -235,7 +235,7 @@ few_begun late bytes given rest stage room begun fits = elim begun [
   | inr it ↦ let nothing : length given ≡ 0 = ap length it.0 in omega (arith, nothing)
 ]
 
-pub fed_heading : (stream piece held rest : List ℕ) (given : List Captured) (stage : Stage) (total count : ℕ) → IsHeading (record { stage = Heading; total = total; count = count; held = held }) stream → IsBegun (late_of (total + length (take (2 ^ 32 - total) piece))) (held ++ take (2 ^ 32 - total) piece) given rest stage → FedAfter stream total count piece given rest stage
+pub fed_heading : (stream piece held rest : List ℕ) (given : List FrameValue) (stage : Stage) (total count : ℕ) → IsHeading (record { stage = Heading; total = total; count = count; held = held }) stream → IsBegun (late_of (total + length (take (2 ^ 32 - total) piece))) (held ++ take (2 ^ 32 - total) piece) given rest stage → FedAfter stream total count piece given rest stage
 fed_heading stream piece held rest given stage total count state go =
     let size : length stream < 24 = state.size in
     let taken = taken_of stream piece (omega (arith, size)) in
@@ -255,11 +255,11 @@ fed_heading stream piece held rest given stage total count state go =
           let nothing : length given ≡ 0 = ap length it.0 in
           let same : length taken.now < 24 → taken.now ≡ stream ++ piece = λ short. taken.whole (omega (arith, short)) in
           let at : Settled (stream ++ piece) [] stage (total + length (take (2 ^ 32 - total) piece)) (count + length given) taken.now = begun_outcome (stream ++ piece) taken.now stage (total + length (take (2 ^ 32 - total) piece)) (count + length given) same taken.seen_is total_is (omega (arith, none, nothing)) it.2 it.3 in
-          subst (λ (xs : List ℕ). Settled (stream ++ piece) given stage (total + length (take (2 ^ 32 - total) piece)) (count + length given) xs) (sym it.1) (subst (λ (fs : List Captured). Settled (stream ++ piece) fs stage (total + length (take (2 ^ 32 - total) piece)) (count + length given) taken.now) (sym it.0) at)
+          subst (λ (xs : List ℕ). Settled (stream ++ piece) given stage (total + length (take (2 ^ 32 - total) piece)) (count + length given) xs) (sym it.1) (subst (λ (fs : List FrameValue). Settled (stream ++ piece) fs stage (total + length (take (2 ^ 32 - total) piece)) (count + length given) taken.now) (sym it.0) at)
     ])
 
 -- a reader that runs and takes one more piece
-pub fed : (stream piece held rest : List ℕ) (given : List Captured) (at stage : Stage) (total count : ℕ) → IsStateOf (record { stage = at; total = total; count = count; held = held }) stream → IsGoneOn at count (late_of (total + length (take (2 ^ 32 - total) piece))) (held ++ take (2 ^ 32 - total) piece) given rest stage → FedAfter stream total count piece given rest stage
+pub fed : (stream piece held rest : List ℕ) (given : List FrameValue) (at stage : Stage) (total count : ℕ) → IsStateOf (record { stage = at; total = total; count = count; held = held }) stream → IsGoneOn at count (late_of (total + length (take (2 ^ 32 - total) piece))) (held ++ take (2 ^ 32 - total) piece) given rest stage → FedAfter stream total count piece given rest stage
 fed stream piece held rest given Heading stage total count state go = fed_heading stream piece held rest given stage total count state go
 fed stream piece held rest given (Reading form) stage total count state go = fed_reading form stream piece held rest given stage total count state go
 fed stream piece held rest given (Stopped fault) stage total count state go = absurd go
@@ -278,14 +278,14 @@ fed_stopped fault stream piece held total count found =
     }
 
 -- a reader that a fault has stopped may let its bytes go
-fed_kept : (stream piece rest : List ℕ) (given : List Captured) (answer : Result (Unit {0}) PcapFault) (now : Stage) (total count : ℕ) → IsFed stream piece given answer (record { stage = now; total = total; count = count; held = rest }) → IsFed stream piece given answer (record { stage = now; total = total; count = count; held = kept_by now rest })
+fed_kept : (stream piece rest : List ℕ) (given : List FrameValue) (answer : Result (Unit {0}) PcapFault) (now : Stage) (total count : ℕ) → IsFed stream piece given answer (record { stage = now; total = total; count = count; held = rest }) → IsFed stream piece given answer (record { stage = now; total = total; count = count; held = kept_by now rest })
 fed_kept stream piece rest given answer Heading total count fed = fed
 fed_kept stream piece rest given answer (Reading form) total count fed = fed
 fed_kept stream piece rest given answer (Stopped fault) total count fed =
     record { before = fed.before; given_before = fed.given_before; given_now = fed.given_now; few = fed.few; answer_is = fed.answer_is; state = fed.state }
 
 -- the same, with a name for each part of a call
-pub fed_call : (self : Reader) (piece taken bytes rest kept : List ℕ) (given : List Captured) (stage now : Stage) (late many : ℕ) (answer : Result (Unit {0}) PcapFault) → taken ≡ take (2 ^ 32 - self.total) piece → bytes ≡ self.held ++ taken → late ≡ late_of (self.total + length taken) → IsGoneOn self.stage self.count late bytes given rest stage → many ≡ length given → now ≡ stage_at stage (self.total + length taken) → answer ≡ answer_of now → kept ≡ kept_by now rest → (stream : List ℕ) → IsStateOf self stream → IsFed stream piece given answer (record { stage = now; total = self.total + length taken; count = self.count + many; held = kept })
+pub fed_call : (self : PcapValue) (piece taken bytes rest kept : List ℕ) (given : List FrameValue) (stage now : Stage) (late many : ℕ) (answer : Result (Unit {0}) PcapFault) → taken ≡ take (2 ^ 32 - self.total) piece → bytes ≡ self.held ++ taken → late ≡ late_of (self.total + length taken) → IsGoneOn self.stage self.count late bytes given rest stage → many ≡ length given → now ≡ stage_at stage (self.total + length taken) → answer ≡ answer_of now → kept ≡ kept_by now rest → (stream : List ℕ) → IsStateOf self stream → IsFed stream piece given answer (record { stage = now; total = self.total + length taken; count = self.count + many; held = kept })
 fed_call self piece taken bytes rest kept given stage now late many answer taken_is bytes_is late_is go many_is now_is answer_is kept_is stream state =
     let gone : IsGoneOn self.stage self.count (late_of (self.total + length (take (2 ^ 32 - self.total) piece))) (self.held ++ take (2 ^ 32 - self.total) piece) given rest stage =
     subst (λ (xs : List ℕ). IsGoneOn self.stage self.count (late_of (self.total + length xs)) (self.held ++ xs) given rest stage) taken_is

@@ -6,7 +6,7 @@ use Rattle.byteorder.specs.Numbers.{little_from-append, big_from-append}
 use Rattle.cf_pcap.specs.declared.form.Order.{Order}
 use Rattle.cf_pcap.specs.declared.form.Order.TheVariants.{Little, Big}
 use Rattle.cf_pcap.specs.declared.form.Form.{Form}
-use Rattle.cf_pcap.specs.Capture.{Captured, number_in, tick_of, caplen_at, frame_at, HasRecord, HasLongRecord, AreRecordsThen}
+use Rattle.cf_pcap.specs.Capture.{FrameValue, number_in, tick_of, caplen_at, frame_at, HasRecord, HasLongRecord, AreRecordsThen}
 
 -- what comes later doesn't change a number
 pub number_first : (order : Order) (n : ℕ) (xs ys : List ℕ) → n ≤ length xs → number_in order n (xs ++ ys) ≡ number_in order n xs
@@ -26,7 +26,7 @@ range_first a b xs ys ab h =
     ap (λ bytes. take (b - a) bytes) (drop-append-le a xs ys (omega (arith, ab, h))) ∙ take-append-le (b - a) (drop a xs) ys (rw (length-drop a xs) (omega (arith, ab, h)))
 
 same_fields : (num ts ts' caplen caplen' len len' link : ℕ) (bytes bytes' : List ℕ) → ts ≡ ts' → caplen ≡ caplen' → len ≡ len' → bytes ≡ bytes'
-    → ◌≡◌ {A = Captured} (record { num = num; ts = ts; caplen = caplen; len = len; link = link; bytes = bytes }) (record { num = num; ts = ts'; caplen = caplen'; len = len'; link = link; bytes = bytes' })
+    → ◌≡◌ {A = FrameValue} (record { num = num; ts = ts; caplen = caplen; len = len; link = link; bytes = bytes }) (record { num = num; ts = ts'; caplen = caplen'; len = len'; link = link; bytes = bytes' })
 same_fields num ts ts' caplen caplen' len len' link bytes bytes' p q r s = cc
 
 pub frame_first : (form : Form) (k : ℕ) (xs ys : List ℕ) → 16 + caplen_at form xs ≤ length xs → frame_at form k (xs ++ ys) ≡ frame_at form k xs
@@ -52,7 +52,7 @@ long_first form xs ys h =
     record { head = rw (length-append xs ys) (omega (arith, head)); long = rw (caplen_first form xs ys head) h.long }
 
 -- more bytes come after the rest
-pub more_after : (form : Form) (k : ℕ) (frames : List Captured) (bytes rest more : List ℕ) → AreRecordsThen form k frames bytes rest → AreRecordsThen form k frames (bytes ++ more) (rest ++ more)
+pub more_after : (form : Form) (k : ℕ) (frames : List FrameValue) (bytes rest more : List ℕ) → AreRecordsThen form k frames bytes rest → AreRecordsThen form k frames (bytes ++ more) (rest ++ more)
 more_after form k [] bytes rest more h = ap (λ xs. xs ++ more) h
 more_after form k (frame ∷ frames) bytes rest more h =
     let whole : 16 + caplen_at form bytes ≤ length bytes = h.0.whole in
@@ -64,19 +64,19 @@ more_after form k (frame ∷ frames) bytes rest more h =
     )
 
 -- more records come in the rest
-pub then_more : (form : Form) (k : ℕ) (frames more : List Captured) (bytes rest end : List ℕ) → AreRecordsThen form k frames bytes rest → AreRecordsThen form (k + length frames) more rest end → AreRecordsThen form k (frames ++ more) bytes end
+pub then_more : (form : Form) (k : ℕ) (frames more : List FrameValue) (bytes rest end : List ℕ) → AreRecordsThen form k frames bytes rest → AreRecordsThen form (k + length frames) more rest end → AreRecordsThen form k (frames ++ more) bytes end
 then_more form k [] more bytes rest end h g =
-    let n : k + length {A = Captured} [] ≡ k = omega arith in
+    let n : k + length {A = FrameValue} [] ≡ k = omega arith in
     subst (λ (xs : List ℕ). AreRecordsThen form k more xs end) (sym h) (subst (λ (m : ℕ). AreRecordsThen form m more rest end) n g)
 then_more form k (frame ∷ frames) more bytes rest end h g =
     let n : k + length (frame ∷ frames) ≡ (k + 1) + length frames = omega arith in
     (h.0, h.1, then_more form (k + 1) frames more (drop (16 + caplen_at form bytes) bytes) rest end h.2 (subst (λ (m : ℕ). AreRecordsThen form m more rest end) n g))
 
-pub one_more : (form : Form) (k : ℕ) (frames : List Captured) (bytes rest : List ℕ) (frame : Captured) → AreRecordsThen form k frames bytes rest → HasRecord form rest → frame ≡ frame_at form (k + length frames) rest → AreRecordsThen form k (frames ++ frame ∷ []) bytes (drop (16 + caplen_at form rest) rest)
+pub one_more : (form : Form) (k : ℕ) (frames : List FrameValue) (bytes rest : List ℕ) (frame : FrameValue) → AreRecordsThen form k frames bytes rest → HasRecord form rest → frame ≡ frame_at form (k + length frames) rest → AreRecordsThen form k (frames ++ frame ∷ []) bytes (drop (16 + caplen_at form rest) rest)
 one_more form k frames bytes rest frame h has is = then_more form k frames (frame ∷ []) bytes rest (drop (16 + caplen_at form rest) rest) h (has, is, refl)
 
 -- each record takes 16 bytes at least
-pub sizes : (form : Form) (k : ℕ) (frames : List Captured) (bytes rest : List ℕ) → AreRecordsThen form k frames bytes rest → 16 * length frames + length rest ≤ length bytes
+pub sizes : (form : Form) (k : ℕ) (frames : List FrameValue) (bytes rest : List ℕ) → AreRecordsThen form k frames bytes rest → 16 * length frames + length rest ≤ length bytes
 sizes form k [] bytes rest h = let same : length bytes ≡ length rest = ap length h in omega (arith, same)
 sizes form k (frame ∷ frames) bytes rest h =
     let more : 16 * length frames + length rest ≤ length (drop (16 + caplen_at form bytes) bytes) = sizes form (k + 1) frames (drop (16 + caplen_at form bytes) bytes) rest h.2 in
@@ -85,7 +85,7 @@ sizes form k (frame ∷ frames) bytes rest h =
     omega (arith, more, len, whole)
 
 -- as far as whole records go, there is one reading
-pub one_reading : (form : Form) (k : ℕ) (a b : List Captured) (bytes end last : List ℕ) → AreRecordsThen form k a bytes end → AreRecordsThen form k b bytes last → (HasRecord form end → ⊥) → (HasRecord form last → ⊥) → (a ≡ b) × (end ≡ last)
+pub one_reading : (form : Form) (k : ℕ) (a b : List FrameValue) (bytes end last : List ℕ) → AreRecordsThen form k a bytes end → AreRecordsThen form k b bytes last → (HasRecord form end → ⊥) → (HasRecord form last → ⊥) → (a ≡ b) × (end ≡ last)
 one_reading form k [] [] bytes end last h g p q = (refl, sym h ∙ g)
 one_reading form k [] (y ∷ b) bytes end last h g p q = absurd (p (subst (HasRecord form) h g.0))
 one_reading form k (x ∷ a) [] bytes end last h g p q = absurd (q (subst (HasRecord form) g h.0))
@@ -94,7 +94,7 @@ one_reading form k (x ∷ a) (y ∷ b) bytes end last h g p q =
     (ap (λ f. f ∷ a) (h.1 ∙ sym g.1) ∙ ap (λ fs. y ∷ fs) more.0, more.1)
 
 -- no captured length is too long after a rest that holds no record, but for one that fills it
-pub none_long : (form : Form) (k : ℕ) (a b : List Captured) (bytes end last : List ℕ) → AreRecordsThen form k a bytes end → AreRecordsThen form k b bytes last → (HasRecord form end → length end ≡ 16 + caplen_at form end) → (HasLongRecord form end → ⊥) → HasLongRecord form last → ⊥
+pub none_long : (form : Form) (k : ℕ) (a b : List FrameValue) (bytes end last : List ℕ) → AreRecordsThen form k a bytes end → AreRecordsThen form k b bytes last → (HasRecord form end → length end ≡ 16 + caplen_at form end) → (HasLongRecord form end → ⊥) → HasLongRecord form last → ⊥
 none_long form k [] [] bytes end last h g fills short long = short (subst (HasLongRecord form) (sym g ∙ h) long)
 none_long form k [] (y ∷ b) bytes end last h g fills short long =
     let full : length bytes ≡ 16 + caplen_at form bytes = subst (λ (xs : List ℕ). length xs ≡ 16 + caplen_at form xs) (sym h) (fills (subst (HasRecord form) h g.0)) in
@@ -111,7 +111,7 @@ none_long form k (x ∷ a) (y ∷ b) bytes end last h g fills short long =
 
 -- how far the records of some bytes go, where `late` of the last bytes come too late for one
 pub record Reach (form : Form) (k late : ℕ) (bytes : List ℕ) : Type 0 where
-  pub frames : List Captured
+  pub frames : List FrameValue
   pub rest : List ℕ
   pub records : AreRecordsThen form k frames bytes rest
   pub early : late ≤ length rest
@@ -156,7 +156,7 @@ pub reach : (form : Form) (k late : ℕ) (bytes : List ℕ) → late ≤ length 
 reach form k late bytes early = reach_in (length bytes) form k late bytes (omega arith) early
 
 -- after the begin of a record, so many more bytes end no more records than this: each has 16 bytes at least, and the first its last byte there
-pub few_ended : (form : Form) (k : ℕ) (frames : List Captured) (held more rest : List ℕ) → AreRecordsThen form k frames (held ++ more) rest → (HasRecord form held → ⊥) → 16 * length frames ≤ length more + 15
+pub few_ended : (form : Form) (k : ℕ) (frames : List FrameValue) (held more rest : List ℕ) → AreRecordsThen form k frames (held ++ more) rest → (HasRecord form held → ⊥) → 16 * length frames ≤ length more + 15
 few_ended form k [] held more rest h part = omega arith
 few_ended form k (frame ∷ frames) held more rest h part =
     let bytes : List ℕ = held ++ more in

@@ -6,14 +6,14 @@ use Rattle.cf_pcap.specs.declared.fault.PcapFault.{PcapFault}
 use Rattle.cf_pcap.specs.declared.fault.PcapFault.TheVariants.{FrameTooLong, TooManyBytes, Memory}
 use Rattle.cf_pcap.specs.declared.stage.Stage.{Stage}
 use Rattle.cf_pcap.specs.declared.stage.Stage.TheVariants.{Heading, Reading, Stopped}
-use Rattle.cf_pcap.specs.Capture.{Captured, HasRecord, HasLongRecord, caplen_at}
-use Rattle.cf_pcap.specs.Stream.{Reader, IsSoundAt, IsSound}
+use Rattle.cf_pcap.specs.Capture.{FrameValue, HasRecord, HasLongRecord, caplen_at}
+use Rattle.cf_pcap.specs.Stream.{PcapValue, IsSoundAt, IsSound}
 use Rattle.cf_pcap.specs.Reading.{HasHeaderFault, IsHeaderStage, IsRecordStage, IsGoneOn, late_of, stage_at, answer_of, kept_by}
 use Rattle.cf_pcap.proofs.Following.{sizes}
 use Rattle.cf_pcap.proofs.Feeding.{late_short, heading_short, reading_short, reading_full}
 
 -- a call makes no more bytes
-pub room_after : (at : Stage) (count late : ℕ) (bytes rest : List ℕ) (given : List Captured) (stage : Stage) → IsGoneOn at count late bytes given rest stage → 16 * length given + length rest ≤ length bytes
+pub room_after : (at : Stage) (count late : ℕ) (bytes rest : List ℕ) (given : List FrameValue) (stage : Stage) → IsGoneOn at count late bytes given rest stage → 16 * length given + length rest ≤ length bytes
 room_after Heading count late bytes rest given stage (inl it) =
     let most : 16 * length given + length rest ≤ length (drop 24 bytes) = sizes it.0 0 given (drop 24 bytes) rest it.2.records in
     let len : length (drop 24 bytes) ≡ length bytes - 24 = length-drop 24 bytes in
@@ -69,7 +69,7 @@ sound_header bytes (Stopped fault) total count at other total_is count_is = ((λ
 sound_taken : (total : ℕ) (piece : List ℕ) → total ≤ 2 ^ 32 → total + length (take (2 ^ 32 - total) piece) ≤ 2 ^ 32
 sound_taken total piece h = let len : length (take (2 ^ 32 - total) piece) ≡ min (2 ^ 32 - total) (length piece) = length-take (2 ^ 32 - total) piece in omega (arith, h, len)
 
-sound_on : (at stage : Stage) (total count late : ℕ) (held taken rest : List ℕ) (given : List Captured) → Sound at total count held → total + length taken ≤ 2 ^ 32 → late ≡ late_of (total + length taken) → IsGoneOn at count late (held ++ taken) given rest stage → SoundKept (stage_at stage (total + length taken)) (total + length taken) (count + length given) rest
+sound_on : (at stage : Stage) (total count late : ℕ) (held taken rest : List ℕ) (given : List FrameValue) → Sound at total count held → total + length taken ≤ 2 ^ 32 → late ≡ late_of (total + length taken) → IsGoneOn at count late (held ++ taken) given rest stage → SoundKept (stage_at stage (total + length taken)) (total + length taken) (count + length given) rest
 sound_on Heading stage total count late held taken rest given sound most late_is (inl it) =
     let total_is : total ≡ length held = sound.0 in
     let none : count ≡ 0 = sound.2 in
@@ -100,12 +100,12 @@ sound_room Heading total count held sound runs = let is : total ≡ length held 
 sound_room (Reading form) total count held sound runs = sound.1
 sound_room (Stopped fault) total count held sound runs = absurd (runs fault refl)
 
-goes : (at : Stage) (count late : ℕ) (bytes rest : List ℕ) (given : List Captured) (stage : Stage) → IsGoneOn at count late bytes given rest stage → (fault : PcapFault) → at ≡ Stopped fault → ⊥
+goes : (at : Stage) (count late : ℕ) (bytes rest : List ℕ) (given : List FrameValue) (stage : Stage) → IsGoneOn at count late bytes given rest stage → (fault : PcapFault) → at ≡ Stopped fault → ⊥
 goes Heading count late bytes rest given stage go fault is = cc
 goes (Reading form) count late bytes rest given stage go fault is = cc
 goes (Stopped other) count late bytes rest given stage go fault is = go
 
-pub sound_call : (self : Reader) (piece taken bytes rest kept : List ℕ) (given : List Captured) (stage now : Stage) (late many : ℕ) → taken ≡ take (2 ^ 32 - self.total) piece → bytes ≡ self.held ++ taken → late ≡ late_of (self.total + length taken) → IsGoneOn self.stage self.count late bytes given rest stage → many ≡ length given → now ≡ stage_at stage (self.total + length taken) → kept ≡ kept_by now rest → IsSound self → IsSound (record { stage = now; total = self.total + length taken; count = self.count + many; held = kept })
+pub sound_call : (self : PcapValue) (piece taken bytes rest kept : List ℕ) (given : List FrameValue) (stage now : Stage) (late many : ℕ) → taken ≡ take (2 ^ 32 - self.total) piece → bytes ≡ self.held ++ taken → late ≡ late_of (self.total + length taken) → IsGoneOn self.stage self.count late bytes given rest stage → many ≡ length given → now ≡ stage_at stage (self.total + length taken) → kept ≡ kept_by now rest → IsSound self → IsSound (record { stage = now; total = self.total + length taken; count = self.count + many; held = kept })
 sound_call self piece taken bytes rest kept given stage now late many taken_is bytes_is late_is go many_is now_is kept_is sound =
     let runs : (fault : PcapFault) → self.stage ≡ Stopped fault → ⊥ = goes self.stage self.count late bytes rest given stage go in
     let before : self.total ≤ 2 ^ 32 = sound_total self.stage self.total self.count self.held sound runs in
@@ -114,7 +114,7 @@ sound_call self piece taken bytes rest kept given stage now late many taken_is b
     rw (kept_is, now_is, many_is) (sound_on self.stage stage self.total self.count late self.held taken rest given sound most late_is gone)
 
 -- so many frames were given that their number fits
-pub count_fits : (self : Reader) (piece taken bytes rest : List ℕ) (given : List Captured) (stage : Stage) (late : ℕ) → taken ≡ take (2 ^ 32 - self.total) piece → bytes ≡ self.held ++ taken → IsGoneOn self.stage self.count late bytes given rest stage → IsSound self → self.count + length given < 2 ^ 32
+pub count_fits : (self : PcapValue) (piece taken bytes rest : List ℕ) (given : List FrameValue) (stage : Stage) (late : ℕ) → taken ≡ take (2 ^ 32 - self.total) piece → bytes ≡ self.held ++ taken → IsGoneOn self.stage self.count late bytes given rest stage → IsSound self → self.count + length given < 2 ^ 32
 count_fits self piece taken bytes rest given stage late taken_is bytes_is go sound =
     let runs : (fault : PcapFault) → self.stage ≡ Stopped fault → ⊥ = goes self.stage self.count late bytes rest given stage go in
     let before : self.total ≤ 2 ^ 32 = sound_total self.stage self.total self.count self.held sound runs in
@@ -128,9 +128,9 @@ err_same : (a b : PcapFault) → ◌≡◌ {A = Result (Unit {0}) PcapFault} (Er
 err_same a b h = cc
 
 -- the stage of a sound reader answers no want of memory
-pub no_memory : (reader : Reader) (answer : Result (Unit {0}) PcapFault) → IsSound reader → answer ≡ answer_of reader.stage → answer ≡ Err Memory → ⊥
+pub no_memory : (reader : PcapValue) (answer : Result (Unit {0}) PcapFault) → IsSound reader → answer ≡ answer_of reader.stage → answer ≡ Err Memory → ⊥
 no_memory reader answer sound is memory = at_stage reader.stage reader sound (sym is ∙ memory) where
-  at_stage : (stage : Stage) (reader : Reader) → IsSoundAt stage reader → answer_of stage ≡ Err Memory → ⊥
+  at_stage : (stage : Stage) (reader : PcapValue) → IsSoundAt stage reader → answer_of stage ≡ Err Memory → ⊥
   at_stage Heading reader sound h = cc
   at_stage (Reading form) reader sound h = cc
   at_stage (Stopped fault) reader sound h = sound.0 (err_same fault Memory h)

@@ -5,7 +5,7 @@ use Rattle.std.proofs.lemmas.List.{drop-append-le, nil_from_length}
 use Rattle.cf_pcap.specs.declared.form.Form.{Form}
 use Rattle.cf_pcap.specs.declared.fault.PcapFault.{PcapFault}
 use Rattle.cf_pcap.specs.declared.fault.PcapFault.TheVariants.{BadMagic, BadVersion, BadLink, FrameTooLong, Cut, TooManyBytes, Memory}
-use Rattle.cf_pcap.specs.Capture.{Captured, IsFileHeader, HasRecord, HasLongRecord, caplen_at, AreRecordsThen, IsReadTo, IsCapture, HasLongFrame, Shows, seen, HasTooManyBytes, IsCut, HasPcapFault}
+use Rattle.cf_pcap.specs.Capture.{FrameValue, IsFileHeader, HasRecord, HasLongRecord, caplen_at, AreRecordsThen, IsReadTo, IsCapture, HasLongFrame, Shows, seen, HasTooManyBytes, IsCut, HasPcapFault}
 use Rattle.cf_pcap.specs.Reading.{HasHeaderFault}
 use Rattle.cf_pcap.specs.Stream.{IsFound}
 use Rattle.cf_pcap.specs.Laws.{OneCase}
@@ -27,7 +27,7 @@ long_is_none form bytes long h =
     omega (arith, small, large)
 
 -- a reading goes on when more bytes come
-pub read_first : (form : Form) (bytes rest more : List ℕ) (frames : List Captured) → IsReadTo form bytes frames rest → IsReadTo form (bytes ++ more) frames (rest ++ more)
+pub read_first : (form : Form) (bytes rest more : List ℕ) (frames : List FrameValue) → IsReadTo form bytes frames rest → IsReadTo form (bytes ++ more) frames (rest ++ more)
 read_first form bytes rest more frames read =
     let size : 24 ≤ length bytes = read.header.size in record {
       header = header_first form bytes more read.header;
@@ -35,7 +35,7 @@ read_first form bytes rest more frames read =
     }
 
 -- whichever form, there is one reading
-pub one_read : (f g : Form) (a b : List Captured) (bytes end last : List ℕ) → IsReadTo f bytes a end → IsReadTo g bytes b last → (HasRecord f end → ⊥) → (HasRecord g last → ⊥) → (f ≡ g) × (a ≡ b) × (end ≡ last)
+pub one_read : (f g : Form) (a b : List FrameValue) (bytes end last : List ℕ) → IsReadTo f bytes a end → IsReadTo g bytes b last → (HasRecord f end → ⊥) → (HasRecord g last → ⊥) → (f ≡ g) × (a ≡ b) × (end ≡ last)
 one_read f g a b bytes end last p q none none' =
     let same : f ≡ g = one_form f g bytes p.header q.header in
     let records : AreRecordsThen f 0 b (drop 24 bytes) last = subst (λ (h : Form). AreRecordsThen h 0 b (drop 24 bytes) last) (sym same) q.records in
@@ -107,7 +107,7 @@ none_begun bytes short none fault h = elim (shown bytes fault h) [
 ]
 
 -- bytes that were read show no fault, where no record begins after them but one that fills the rest
-pub none_read : (form : Form) (bytes rest : List ℕ) (frames : List Captured) → IsReadTo form bytes frames rest → (HasRecord form rest → length rest ≡ 16 + caplen_at form rest) → (HasLongRecord form rest → ⊥) → (fault : PcapFault) → Shows bytes fault → ⊥
+pub none_read : (form : Form) (bytes rest : List ℕ) (frames : List FrameValue) → IsReadTo form bytes frames rest → (HasRecord form rest → length rest ≡ 16 + caplen_at form rest) → (HasLongRecord form rest → ⊥) → (fault : PcapFault) → Shows bytes fault → ⊥
 none_read form bytes rest frames read fills short fault h = elim (shown bytes fault h) [
   | inl header ↦ no_header form bytes fault header read.header
   | inr long ↦
@@ -118,13 +118,13 @@ none_read form bytes rest frames read fills short fault h = elim (shown bytes fa
 ]
 
 -- a capture shows no fault
-pub none_of_capture : (file : List ℕ) (frames : List Captured) → IsCapture file frames → (fault : PcapFault) → Shows (seen file) fault → ⊥
+pub none_of_capture : (file : List ℕ) (frames : List FrameValue) → IsCapture file frames → (fault : PcapFault) → Shows (seen file) fault → ⊥
 none_of_capture file frames capture fault h =
     let size : length file < 2 ^ 32 = capture.size in
     let shows : Shows file fault = subst (λ (xs : List ℕ). Shows xs fault) (seen_short file (omega (arith, size))) h in
     none_read capture.form file [] frames capture.whole (λ has. absurd (no_record_left capture.form has)) (no_long_left capture.form) fault shows
 
-cut_is_none : (k : ℕ) (file : List ℕ) (frames : List Captured) → IsCapture file frames → IsCut k file → ⊥
+cut_is_none : (k : ℕ) (file : List ℕ) (frames : List FrameValue) → IsCapture file frames → IsCut k file → ⊥
 cut_is_none k file frames capture cut = elim cut.ends [
   | inl header ↦ let size : 24 ≤ length file = capture.whole.header.size in let short : length file < 24 = header.size in omega (arith, size, short)
   | inr it ↦
@@ -134,10 +134,10 @@ cut_is_none k file frames capture cut = elim cut.ends [
       omega (arith, left, none)
 ]
 
-too_many_is_none : (file : List ℕ) (frames : List Captured) → IsCapture file frames → HasTooManyBytes file → ⊥
+too_many_is_none : (file : List ℕ) (frames : List FrameValue) → IsCapture file frames → HasTooManyBytes file → ⊥
 too_many_is_none file frames capture many = let size : length file < 2 ^ 32 = capture.size in let large : 2 ^ 32 ≤ length file = many.size in omega (arith, size, large)
 
-pub either : (file : List ℕ) (frames : List Captured) (fault : PcapFault) → IsCapture file frames → HasPcapFault file fault → ⊥
+pub either : (file : List ℕ) (frames : List FrameValue) (fault : PcapFault) → IsCapture file frames → HasPcapFault file fault → ⊥
 either file frames BadMagic capture h = none_of_capture file frames capture BadMagic h
 either file frames BadVersion capture h = none_of_capture file frames capture BadVersion h
 either file frames BadLink capture h = none_of_capture file frames capture BadLink h
@@ -147,10 +147,10 @@ either file frames TooManyBytes capture h = too_many_is_none file frames capture
 either file frames Memory capture h = h
 
 -- a file is a capture of one list of frames at most
-pub one_capture : (file : List ℕ) (a b : List Captured) → IsCapture file a → IsCapture file b → a ≡ b
+pub one_capture : (file : List ℕ) (a b : List FrameValue) → IsCapture file a → IsCapture file b → a ≡ b
 one_capture file a b p q = (one_read p.form q.form a b file [] [] p.whole q.whole (no_record_left p.form) (no_record_left q.form)).1
 
-pub few_frames : (file : List ℕ) (frames : List Captured) → IsCapture file frames → length frames < 2 ^ 32
+pub few_frames : (file : List ℕ) (frames : List FrameValue) → IsCapture file frames → length frames < 2 ^ 32
 few_frames file frames capture =
     let most : 16 * length frames + length {A = ℕ} [] ≤ length (drop 24 file) = sizes capture.form 0 frames (drop 24 file) [] capture.whole.records in
     let len : length (drop 24 file) ≡ length file - 24 = length-drop 24 file in
@@ -202,7 +202,7 @@ one_fault file a b p q = same_kind file a b (kind_of file a p) (kind_of file b q
 pub data Reading (bytes : List ℕ) : Type 0 where
   Showing : (fault : PcapFault) → Shows bytes fault → Reading bytes
   Heading : length bytes < 24 → ((fault : PcapFault) → HasHeaderFault bytes fault → ⊥) → Reading bytes
-  ReadTo : (form : Form) (frames : List Captured) (rest : List ℕ) → IsReadTo form bytes frames rest → (HasRecord form rest → ⊥) → (HasLongRecord form rest → ⊥) → Reading bytes
+  ReadTo : (form : Form) (frames : List FrameValue) (rest : List ℕ) → IsReadTo form bytes frames rest → (HasRecord form rest → ⊥) → (HasLongRecord form rest → ⊥) → Reading bytes
 
 record_left : (form : Form) (bytes : List ℕ) → IsFileHeader form bytes → (to : Reach form 0 0 (drop 24 bytes)) → Reading bytes
 record_left form bytes header to =
@@ -224,11 +224,11 @@ by_header bytes (Begun short none) = Heading short none
 pub reading_of : (bytes : List ℕ) → Reading bytes
 reading_of bytes = by_header bytes (header_of bytes)
 
-pub none_shown : (bytes : List ℕ) (form : Form) (frames : List Captured) (rest : List ℕ) → IsReadTo form bytes frames rest → (HasRecord form rest → ⊥) → (HasLongRecord form rest → ⊥) → (fault : PcapFault) → Shows bytes fault → ⊥
+pub none_shown : (bytes : List ℕ) (form : Form) (frames : List FrameValue) (rest : List ℕ) → IsReadTo form bytes frames rest → (HasRecord form rest → ⊥) → (HasLongRecord form rest → ⊥) → (fault : PcapFault) → Shows bytes fault → ⊥
 none_shown bytes form frames rest read part short = none_read form bytes rest frames read (λ h. absurd (part h)) short
 
 abbrev pub Case : List ℕ → Type 0
-Case file = ((frames : List Captured) × IsCapture file frames) ⊎ ((fault : PcapFault) × HasPcapFault file fault)
+Case file = ((frames : List FrameValue) × IsCapture file frames) ⊎ ((fault : PcapFault) × HasPcapFault file fault)
 
 shown_case : (file : List ℕ) (fault : PcapFault) → Shows (seen file) fault → Case file
 shown_case file BadMagic h = inr (BadMagic, h)
@@ -247,14 +247,14 @@ cut_in_header file short none = record {
   ends = inl (record { size = short; number_is = refl });
 }
 
-pub cut_in_record : (file : List ℕ) (form : Form) (frames : List Captured) (rest : List ℕ) → length file < 2 ^ 32 → IsReadTo form file frames rest → 0 < length rest → (HasRecord form rest → ⊥) → (HasLongRecord form rest → ⊥) → IsCut (length frames) file
+pub cut_in_record : (file : List ℕ) (form : Form) (frames : List FrameValue) (rest : List ℕ) → length file < 2 ^ 32 → IsReadTo form file frames rest → 0 < length rest → (HasRecord form rest → ⊥) → (HasLongRecord form rest → ⊥) → IsCut (length frames) file
 cut_in_record file form frames rest size read left part short = record {
   size = size;
   first = λ fault h. none_shown file form frames rest read part short fault (subst (λ (xs : List ℕ). Shows xs fault) (seen_short file (omega (arith, size))) h);
   ends = inr (record { form = form; frames = frames; rest = rest; read = read; number_is = refl; left = left; part = part });
 }
 
-pub whole_capture : (file : List ℕ) (form : Form) (frames : List Captured) (rest : List ℕ) → length file < 2 ^ 32 → IsReadTo form file frames rest → rest ≡ [] → IsCapture file frames
+pub whole_capture : (file : List ℕ) (form : Form) (frames : List FrameValue) (rest : List ℕ) → length file < 2 ^ 32 → IsReadTo form file frames rest → rest ≡ [] → IsCapture file frames
 whole_capture file form frames rest size read end = record { size = size; form = form; whole = subst (λ (xs : List ℕ). IsReadTo form file frames xs) end read }
 
 short_case : (file : List ℕ) → length file < 2 ^ 32 → Reading file → Case file

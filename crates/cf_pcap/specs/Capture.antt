@@ -11,7 +11,7 @@ use Rattle.cf_pcap.specs.declared.fault.PcapFault.{PcapFault}
 use Rattle.cf_pcap.specs.declared.fault.PcapFault.TheVariants.{BadMagic, BadVersion, BadLink, FrameTooLong, Cut, TooManyBytes, Memory}
 
 -- a frame as contracts see it
-pub record Captured : Type 0 where
+pub record FrameValue : Type 0 where
   pub num : ℕ
   pub ts : ℕ
   pub caplen : ℕ
@@ -76,7 +76,7 @@ pub record HasLongRecord (form : Form) (bytes : List ℕ) : Type 0 where
 
 -- the frame of the record at the front, as number k: seconds and their fraction, the captured length, the length on the
 -- wire, the link of the file, the captured bytes
-abbrev pub frame_at : Form → ℕ → List ℕ → Captured
+abbrev pub frame_at : Form → ℕ → List ℕ → FrameValue
 frame_at form k bytes = record {
   num = k;
   ts = number_in form.layout.order 4 bytes * 10 ^ 9 + number_in form.layout.order 4 (drop 4 bytes) * tick_of form.layout.precision;
@@ -87,19 +87,19 @@ frame_at form k bytes = record {
 }
 
 -- the bytes are the records of these frames end to end, numbered from k, and then the rest
-abbrev pub AreRecordsThen : Form → ℕ → List Captured → List ℕ → List ℕ → Type 0
+abbrev pub AreRecordsThen : Form → ℕ → List FrameValue → List ℕ → List ℕ → Type 0
 AreRecordsThen form k [] bytes rest = bytes ≡ rest
 AreRecordsThen form k (frame ∷ frames) bytes rest =
     HasRecord form bytes × (frame ≡ frame_at form k bytes)
     × AreRecordsThen form (k + 1) frames (drop (16 + caplen_at form bytes) bytes) rest
 
 -- a file header, the records of these frames, and then the rest
-pub record IsReadTo (form : Form) (bytes : List ℕ) (frames : List Captured) (rest : List ℕ) : Type 0 where
+pub record IsReadTo (form : Form) (bytes : List ℕ) (frames : List FrameValue) (rest : List ℕ) : Type 0 where
   pub header : IsFileHeader form bytes
   pub records : AreRecordsThen form 0 frames (drop 24 bytes) rest
 
 -- a file below 2^32 bytes is a capture of these frames: a file header and their records, and nothing else
-pub record IsCapture (file : List ℕ) (frames : List Captured) : Type 0 where
+pub record IsCapture (file : List ℕ) (frames : List FrameValue) : Type 0 where
   pub size : length file < 2 ^ 32
   pub form : Form
   pub whole : IsReadTo form file frames []
@@ -127,7 +127,7 @@ pub record HasBadLink (bytes : List ℕ) : Type 0 where
 -- after k whole records
 pub record HasLongFrame (k : ℕ) (bytes : List ℕ) : Type 0 where
   pub form : Form
-  pub frames : List Captured
+  pub frames : List FrameValue
   pub rest : List ℕ
   pub read : IsReadTo form bytes frames rest
   pub number_is : k ≡ length frames
@@ -160,7 +160,7 @@ pub record EndsInHeader (k : ℕ) (file : List ℕ) : Type 0 where
 -- after k whole records something is left, which is no whole record
 pub record EndsInRecord (k : ℕ) (file : List ℕ) : Type 0 where
   pub form : Form
-  pub frames : List Captured
+  pub frames : List FrameValue
   pub rest : List ℕ
   pub read : IsReadTo form file frames rest
   pub number_is : k ≡ length frames

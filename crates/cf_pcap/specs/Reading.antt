@@ -5,7 +5,7 @@ use Rattle.cf_pcap.specs.declared.fault.PcapFault.{PcapFault}
 use Rattle.cf_pcap.specs.declared.fault.PcapFault.TheVariants.{BadMagic, BadVersion, BadLink, FrameTooLong, Cut, TooManyBytes, Memory}
 use Rattle.cf_pcap.specs.declared.stage.Stage.{Stage}
 use Rattle.cf_pcap.specs.declared.stage.Stage.TheVariants.{Heading, Reading, Stopped}
-use Rattle.cf_pcap.specs.Capture.{Captured, IsFileHeader, HasRecord, HasLongRecord, AreRecordsThen, HasBadMagic, HasBadVersion, HasBadLink, caplen_at}
+use Rattle.cf_pcap.specs.Capture.{FrameValue, IsFileHeader, HasRecord, HasLongRecord, AreRecordsThen, HasBadMagic, HasBadVersion, HasBadLink, caplen_at}
 
 -- a fault of the file header
 abbrev pub HasHeaderFault : List ℕ → PcapFault → Type 0
@@ -30,20 +30,20 @@ IsRecordStage form count rest (Reading same) = (same ≡ form) × (HasLongRecord
 IsRecordStage form count rest (Stopped fault) = (fault ≡ FrameTooLong count) × HasLongRecord form rest
 
 -- the records of these frames were read, and no further one. `late` of the last bytes come too late for a frame.
-pub record AreRead (form : Form) (k late : ℕ) (bytes : List ℕ) (frames : List Captured) (rest : List ℕ) (stage : Stage) : Type 0 where
+pub record AreRead (form : Form) (k late : ℕ) (bytes : List ℕ) (frames : List FrameValue) (rest : List ℕ) (stage : Stage) : Type 0 where
   pub records : AreRecordsThen form k frames bytes rest
   pub early : late ≤ length rest
   pub last : HasRecord form rest → length rest < 16 + caplen_at form rest + late
   pub stage_is : IsRecordStage form (k + length frames) rest stage
 
 -- the first bytes of a stream were read
-abbrev pub IsBegun : ℕ → List ℕ → List Captured → List ℕ → Stage → Type 0
+abbrev pub IsBegun : ℕ → List ℕ → List FrameValue → List ℕ → Stage → Type 0
 IsBegun late bytes frames held stage =
     ((form : Form) × IsFileHeader form bytes × AreRead form 0 late (drop 24 bytes) frames held stage)
     ⊎ ((frames ≡ []) × (held ≡ bytes) × IsHeaderStage bytes stage × ((form : Form) → stage ≡ Reading form → ⊥))
 
 -- the bytes after those that a reader had were read
-abbrev pub IsGoneOn : Stage → ℕ → ℕ → List ℕ → List Captured → List ℕ → Stage → Type 0
+abbrev pub IsGoneOn : Stage → ℕ → ℕ → List ℕ → List FrameValue → List ℕ → Stage → Type 0
 IsGoneOn Heading k late bytes frames held stage = IsBegun late bytes frames held stage
 IsGoneOn (Reading form) k late bytes frames held stage = AreRead form k late bytes frames held stage
 IsGoneOn (Stopped fault) k late bytes frames held stage = ⊥

@@ -21,9 +21,9 @@ pub struct Frame {
 }
 
 impl Model for Frame {
-    ghost use Rattle.cf_pcap.specs.Capture.{Captured};
+    ghost use Rattle.cf_pcap.specs.Capture.{FrameValue};
 
-    ghost Value = { Captured };
+    ghost Value = { FrameValue };
 
     ghost view = { λ f. record { num = f.num; ts = f.ts; caplen = f.caplen; len = f.len; link = f.link; bytes = f.bytes.items } };
 }

@@ -1,6 +1,6 @@
 // The reader of a capture, which comes in pieces.
 ghost use Rattle.std.specs.Prelude.{◌≡◌, ◌≢◌, ℕ, List, [], ◌++◌, ◌<◌, ◌≤◌, ◌^◌, ◌+◌, ◌-◌, length, take, min, IfOk, Ok, Err};
-ghost use Rattle.cf_pcap.specs.Capture.{Captured};
+ghost use Rattle.cf_pcap.specs.Capture.{FrameValue};
 ghost use Rattle.cf_pcap.specs.Stream.{IsStateOf, IsFed, IsEnded, AnswersFound};
 
 use crate::records::go_on;
@@ -23,9 +23,9 @@ pub struct Pcap {
 }
 
 impl Model for Pcap {
-    ghost use Rattle.cf_pcap.specs.Stream.{Reader, IsSound};
+    ghost use Rattle.cf_pcap.specs.Stream.{PcapValue, IsSound};
 
-    ghost Value = { Reader };
+    ghost Value = { PcapValue };
 
     ghost view = { λ p. record { stage = p.stage; total = p.total; count = p.count; held = p.held.items } };
 
@@ -70,7 +70,7 @@ impl Pcap {
     /// after its record's 16, `TooManyBytes` at the byte that makes the stream 2^32 bytes. After a fault every call
     /// answers it. After `Memory` nothing of the piece is taken, and it may be fed again.
     pub fn feed(&mut self, piece: &[u8], out: &mut Vec<Frame>) -> Result<(), PcapFault>
-        ensures fed { result ≢ Err PcapFault.Memory → (given : List Captured) × (out.new.items ≡ out.old.items ++ given)
+        ensures fed { result ≢ Err PcapFault.Memory → (given : List FrameValue) × (out.new.items ≡ out.old.items ++ given)
             × ((stream : List ℕ) → IsStateOf self.old stream → IsFed stream piece.now given result self.new) }
         ensures stopped { AnswersFound self.old result }
         ensures memory { result ≡ Err PcapFault.Memory → (self.new ≡ self.old) × (out.new.items ≡ out.old.items) }

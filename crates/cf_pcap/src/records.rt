@@ -1,6 +1,6 @@
 // The records of a capture.
 ghost use Rattle.std.specs.Prelude.{◌≡◌, ℕ, List, ◌<◌, ◌≤◌, ◌+◌, ◌*◌, ◌^◌, length, IfOk, true, false};
-ghost use Rattle.cf_pcap.specs.Capture.{Captured, HasRecord, HasLongRecord, frame_at, caplen_at};
+ghost use Rattle.cf_pcap.specs.Capture.{FrameValue, HasRecord, HasLongRecord, frame_at, caplen_at};
 ghost use Rattle.cf_pcap.specs.Reading.{AreRead, IsBegun, IsGoneOn, Runs};
 
 use crate::form::Form;

@@ -1,6 +1,6 @@
 -- What a file is, by the rules.
 use Rattle.std.proofs.Common.{◌≡◌, ◌⊎◌, inl, inr, ℕ, ◌+◌, List, [], ◌∷◌, length, drop, refl, sym, ap, subst, ◌∙◌, arith}
-use Rattle.cf_pcap.specs.Capture.{Captured}
+use Rattle.cf_pcap.specs.Capture.{FrameValue}
 use Rattle.cf_stream.specs.Format.{Wants, Bad, Takes, Part, AreUnitsThen, ReadsTo, Shows, seen, HasTooManyBytes, IsCut, IsWhole, HasFault}
 use Rattle.cf_stream.proofs.Units.{reads_count}
 use Rattle.cf_stream.proofs.Cases.{one_case}
@@ -14,28 +14,28 @@ use Rattle.cf_pcapng.specs.Laws.{OneCase}
 use Rattle.cf_pcapng.proofs.Steps.{Shown, stepper}
 use Rattle.cf_pcapng.proofs.Ruling.{steps_by_rules}
 
-blocks_of : (s : State) (parts : List (Part State Captured)) (bytes : List ℕ) (t : State) (rest : List ℕ) → AreUnitsThen pcapng s parts bytes t rest → AreBlocksThen s parts bytes t rest
+blocks_of : (s : State) (parts : List (Part State FrameValue)) (bytes : List ℕ) (t : State) (rest : List ℕ) → AreUnitsThen pcapng s parts bytes t rest → AreBlocksThen s parts bytes t rest
 blocks_of s [] bytes t rest h = h
 blocks_of s (part ∷ parts) bytes t rest h = ((steps_by_rules s bytes).takes part.size part.items part.after h.0, blocks_of part.after parts (drop part.size bytes) t rest h.1)
 
-units_of : (s : State) (parts : List (Part State Captured)) (bytes : List ℕ) (t : State) (rest : List ℕ) → AreBlocksThen s parts bytes t rest → AreUnitsThen pcapng s parts bytes t rest
+units_of : (s : State) (parts : List (Part State FrameValue)) (bytes : List ℕ) (t : State) (rest : List ℕ) → AreBlocksThen s parts bytes t rest → AreUnitsThen pcapng s parts bytes t rest
 units_of s [] bytes t rest h = h
 units_of s (part ∷ parts) bytes t rest h = ((steps_by_rules s bytes).block part.size part.items part.after h.0, units_of part.after parts (drop part.size bytes) t rest h.1)
 
-begins_with : (file : List ℕ) (frames : List Captured) (last : State) (rest : List ℕ) → ReadsTo pcapng pcapng.start file frames last rest → BeginsWith file frames last rest
+begins_with : (file : List ℕ) (frames : List FrameValue) (last : State) (rest : List ℕ) → ReadsTo pcapng pcapng.start file frames last rest → BeginsWith file frames last rest
 begins_with file frames last rest h = record { parts = h.parts; blocks = blocks_of pcapng.start h.parts file last rest h.units; frames_are = h.items_are }
 
-reads_to : (file : List ℕ) (frames : List Captured) (last : State) (rest : List ℕ) → BeginsWith file frames last rest → ReadsTo pcapng pcapng.start file frames last rest
+reads_to : (file : List ℕ) (frames : List FrameValue) (last : State) (rest : List ℕ) → BeginsWith file frames last rest → ReadsTo pcapng pcapng.start file frames last rest
 reads_to file frames last rest h = record { parts = h.parts; units = units_of pcapng.start h.parts file last rest h.blocks; items_are = h.frames_are }
 
 -- the number of frames is that of the state
-number_of : (file : List ℕ) (frames : List Captured) (last : State) (rest : List ℕ) → ReadsTo pcapng pcapng.start file frames last rest → last.count ≡ length frames
+number_of : (file : List ℕ) (frames : List FrameValue) (last : State) (rest : List ℕ) → ReadsTo pcapng pcapng.start file frames last rest → last.count ≡ length frames
 number_of file frames last rest h = let all : last.count ≡ 0 + length frames = reads_count pcapng stepper pcapng.start file frames last rest h in omega (arith, all)
 
-file_of : (file : List ℕ) (frames : List Captured) → IsNg file frames → IsFileOf file frames
+file_of : (file : List ℕ) (frames : List FrameValue) → IsNg file frames → IsFileOf file frames
 file_of file frames h = record { size = h.size; last = h.last; read = begins_with file frames h.last [] h.read; begun = h.ends }
 
-capture_of : (file : List ℕ) (frames : List Captured) → IsFileOf file frames → IsNg file frames
+capture_of : (file : List ℕ) (frames : List FrameValue) → IsFileOf file frames → IsNg file frames
 capture_of file frames h = record { size = h.size; last = h.last; read = reads_to file frames h.last [] h.read; ends = h.begun }
 
 -- a flaw that is found by its place, and the number of frames before it
@@ -81,7 +81,7 @@ part_of s bytes h = record {
   wants_bad : (fault : NgFault) → ◌≡◌ {A = Shown} Wants (Bad fault) → ⊥
   wants_bad fault h = cc
 
-  wants_takes : (n : ℕ) (frames : List Captured) (t : State) → ◌≡◌ {A = Shown} Wants (Takes n frames t) → ⊥
+  wants_takes : (n : ℕ) (frames : List FrameValue) (t : State) → ◌≡◌ {A = Shown} Wants (Takes n frames t) → ⊥
   wants_takes n frames t h = cc
 
 wants_of : (s : State) (bytes : List ℕ) (found : Shown) → step s bytes ≡ found → IsPart s bytes → step s bytes ≡ Wants
@@ -136,7 +136,7 @@ file_by_rules file = record { capture = file_of file; is_capture = capture_of fi
 
 -- Each file is in one case.
 
-some_case : (file : List ℕ) → FileByRules file → ((frames : List Captured) × IsWhole pcapng file frames) ⊎ ((fault : NgFault) × HasFault pcapng file fault) → ((frames : List Captured) × IsFileOf file frames) ⊎ ((fault : NgFault) × HasFaultOf file fault)
+some_case : (file : List ℕ) → FileByRules file → ((frames : List FrameValue) × IsWhole pcapng file frames) ⊎ ((fault : NgFault) × HasFault pcapng file fault) → ((frames : List FrameValue) × IsFileOf file frames) ⊎ ((fault : NgFault) × HasFaultOf file fault)
 some_case file by (inl h) = inl (h.0, by.capture h.0 h.1)
 some_case file by (inr h) = inr (h.0, by.fault h.0 h.1)
 

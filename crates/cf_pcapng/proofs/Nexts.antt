@@ -2,7 +2,7 @@
 use Rattle.std.proofs.Common.{◌≡◌, inl, inr, ℕ, ◌<◌, ◌≤◌, ◌+◌, List, ◌++◌, length, take, drop, Option, Result, Ok, Err, IfOk, refl, sym, ap, subst, ◌∙◌, arith}
 use Rattle.std.proofs.lemmas.Bool.{cases_lt}
 use Rattle.cf_pcap.specs.declared.form.Order.{Order}
-use Rattle.cf_pcap.specs.Capture.{Captured}
+use Rattle.cf_pcap.specs.Capture.{FrameValue}
 use Rattle.cf_stream.specs.Format.{Wants, Bad, Takes, ReadsTo}
 use Rattle.cf_stream.proofs.Units.{reads_on, reads_one}
 use Rattle.cf_pcapng.specs.declared.fault.Flaw.{Flaw}
@@ -57,7 +57,7 @@ pub step_of : (s : State) (bytes : List ℕ) (found : Next) → found ≡ next_o
 step_of s bytes found h = step_by_next s bytes ∙ ap (λ (x : Next). shown_by s bytes x) (sym h)
 
 -- one more block is read
-pub one_more : (s : State) (bytes : List ℕ) (frames : List Captured) (t : State) (left : List ℕ) (total : ℕ) (content : Content) → ReadsTo pcapng s bytes frames t left → next.Block total content ≡ next_of t left → ReadsTo pcapng s bytes (frames ++ frames_of t.count content (take total left)) (after t content) (drop total left)
+pub one_more : (s : State) (bytes : List ℕ) (frames : List FrameValue) (t : State) (left : List ℕ) (total : ℕ) (content : Content) → ReadsTo pcapng s bytes frames t left → next.Block total content ≡ next_of t left → ReadsTo pcapng s bytes (frames ++ frames_of t.count content (take total left)) (after t content) (drop total left)
 one_more s bytes frames t left total content read is =
     reads_on pcapng s bytes frames (frames_of t.count content (take total left)) t left (after t content) (drop total left) read (reads_one pcapng t left total (frames_of t.count content (take total left)) (after t content) (step_of t left (next.Block total content) is))
 
@@ -68,11 +68,11 @@ count_after t (Captures packet) = omega arith
 count_after t Nothing = omega arith
 
 -- what was read, where the blocks end
-pub read_of : (s : State) (bytes : List ℕ) (frames given : List Captured) (t last : State) (left rest : List ℕ) (end flaw : Option Flaw) → ReadsTo pcapng s bytes frames t left → IsEnd t left end → last ≡ t → given ≡ frames → rest ≡ left → flaw ≡ end → AreRead s bytes given last rest flaw
+pub read_of : (s : State) (bytes : List ℕ) (frames given : List FrameValue) (t last : State) (left rest : List ℕ) (end flaw : Option Flaw) → ReadsTo pcapng s bytes frames t left → IsEnd t left end → last ≡ t → given ≡ frames → rest ≡ left → flaw ≡ end → AreRead s bytes given last rest flaw
 read_of s bytes frames given t last left rest end flaw read is p q r e =
     let done : AreRead s bytes frames t left end = record { read = read; end = is } in
     subst (λ (x : State). AreRead s bytes given x rest flaw) (sym p)
-    (subst (λ (x : List Captured). AreRead s bytes x t rest flaw) (sym q)
+    (subst (λ (x : List FrameValue). AreRead s bytes x t rest flaw) (sym q)
     (subst (λ (x : List ℕ). AreRead s bytes frames t x flaw) (sym r)
     (subst (λ (x : Option Flaw). AreRead s bytes frames t left x) (sym e) done)))
 

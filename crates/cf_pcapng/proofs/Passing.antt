@@ -5,7 +5,7 @@ use Rattle.std.proofs.lemmas.Bool.Decides.{nat_tests}
 use Rattle.std.proofs.lemmas.List.{take-append-drop}
 use Rattle.std.proofs.Math.Seq.{drop-append-add}
 use Rattle.cf_pcap.specs.declared.form.Order.{Order}
-use Rattle.cf_pcap.specs.Capture.{Captured, number_in}
+use Rattle.cf_pcap.specs.Capture.{FrameValue, number_in}
 use Rattle.cf_pcap.proofs.Following.{number_later}
 use Rattle.cf_stream.specs.Format.{Wants, Bad, Takes, ReadsTo}
 use Rattle.cf_stream.proofs.Units.{reads_nothing, reads_on, reads_one, reads_fit, reads_count}
@@ -100,7 +100,7 @@ few_at s rest (Stands order kind total) is h none = elim (cases_lt (length rest)
   | inr whole ↦ absurd (not_wants s (take total rest) (content_of s.interfaces order kind (take total rest)) (sym (found_whole s rest order kind total whole) ∙ h))
 ]
 
-pub begins_whole : (s : State) (bytes : List ℕ) (frames : List Captured) (t : State) (rest : List ℕ) → AreRead s bytes frames t rest None → IsPassedAt t.order rest None → Begins s bytes frames t None rest
+pub begins_whole : (s : State) (bytes : List ℕ) (frames : List FrameValue) (t : State) (rest : List ℕ) → AreRead s bytes frames t rest None → IsPassedAt t.order rest None → Begins s bytes frames t None rest
 begins_whole s bytes frames t rest read none = record {
   gone = [];
   was = refl;
@@ -125,7 +125,7 @@ room_at order rest block at =
     let least : 12 ≤ block.total = at_least Other block.total it.lawful in
     least
 
-pub begins_passed : (s : State) (bytes : List ℕ) (frames : List Captured) (t : State) (rest : List ℕ) (block passed : Passed) (some : ℕ) → AreRead s bytes frames t rest None → IsPassedAt t.order rest (Some block) → IsLetGo block (length rest) passed some → Begins s bytes frames t (Some passed) (drop some rest)
+pub begins_passed : (s : State) (bytes : List ℕ) (frames : List FrameValue) (t : State) (rest : List ℕ) (block passed : Passed) (some : ℕ) → AreRead s bytes frames t rest None → IsPassedAt t.order rest (Some block) → IsLetGo block (length rest) passed some → Begins s bytes frames t (Some passed) (drop some rest)
 begins_passed s bytes frames t rest block passed some read at go =
     let it = standing t.order rest block.order Other block.total at.0 in
     let size : 8 ≤ length rest = it.size in
@@ -176,7 +176,7 @@ goes_wrong s block gone bytes was whole other = record {
   bad = passed_flawed s block gone bytes was whole other;
 }
 
-pub goes_over : (s : State) (block : Passed) (gone bytes : List ℕ) (left : ℕ) (frames : List Captured) (t : State) (rest : List ℕ) (flaw : Option Flaw) → WasPassed s.order (Some block) gone → block.gone + left ≡ block.total → left ≤ length bytes → number_in block.order 4 (drop (left - 4) bytes) ≡ block.total → AreRead s (drop left bytes) frames t rest flaw → AreRead s (gone ++ bytes) frames t rest flaw
+pub goes_over : (s : State) (block : Passed) (gone bytes : List ℕ) (left : ℕ) (frames : List FrameValue) (t : State) (rest : List ℕ) (flaw : Option Flaw) → WasPassed s.order (Some block) gone → block.gone + left ≡ block.total → left ≤ length bytes → number_in block.order 4 (drop (left - 4) bytes) ≡ block.total → AreRead s (drop left bytes) frames t rest flaw → AreRead s (gone ++ bytes) frames t rest flaw
 goes_over s block gone bytes left frames t rest flaw was is whole last read =
     let had : length gone ≡ block.gone = was.1 in
     let at : block.total ≡ length gone + left = omega (arith, had, is) in
@@ -191,7 +191,7 @@ not_some None h = refl
 not_some (Some flaw) h = cc
 
 -- what a reader has is no more than it had and what came
-pub sound_of : (s : State) (bytes : List ℕ) (frames : List Captured) (t : State) (passed : Option Passed) (held : List ℕ) (flaw : Option Flaw) → AreReadOn s bytes frames t passed held flaw → IsGoneOn s (length bytes) t passed held flaw
+pub sound_of : (s : State) (bytes : List ℕ) (frames : List FrameValue) (t : State) (passed : Option Passed) (held : List ℕ) (flaw : Option Flaw) → AreReadOn s bytes frames t passed held flaw → IsGoneOn s (length bytes) t passed held flaw
 sound_of s bytes frames t passed held (Some flaw) on = tt
 sound_of s bytes frames t passed held None on =
     let fit : length frames + length (on.gone ++ held) ≤ length bytes = reads_fit pcapng stepper s bytes frames t (on.gone ++ held) on.read in
@@ -207,7 +207,7 @@ sound_more : (s : State) (size more : ℕ) (t : State) (passed : Option Passed) 
 sound_more s size more t passed held (Some flaw) few on = tt
 sound_more s size more t passed held None few on = let fits : t.count + length held ≤ s.count + size = on.fits in record { fits = omega (arith, fits, few); room = on.room; few = on.few }
 
-pub sound_over : (s : State) (bytes : List ℕ) (left : ℕ) (frames : List Captured) (t : State) (passed : Option Passed) (held : List ℕ) (flaw : Option Flaw) → AreReadOn s (drop left bytes) frames t passed held flaw → IsGoneOn s (length bytes) t passed held flaw
+pub sound_over : (s : State) (bytes : List ℕ) (left : ℕ) (frames : List FrameValue) (t : State) (passed : Option Passed) (held : List ℕ) (flaw : Option Flaw) → AreReadOn s (drop left bytes) frames t passed held flaw → IsGoneOn s (length bytes) t passed held flaw
 sound_over s bytes left frames t passed held flaw on =
     let len : length (drop left bytes) ≡ length bytes - left = length-drop left bytes in
     sound_more s (length (drop left bytes)) (length bytes) t passed held flaw (omega (arith, len)) (sound_of s (drop left bytes) frames t passed held flaw on)

@@ -4,7 +4,7 @@ use Rattle.std.proofs.lemmas.Bool.{cases_lt, cases_eq}
 use Rattle.std.proofs.lemmas.Bool.Decides.{nat_tests}
 use Rattle.byteorder.specs.Endian.{little_number}
 use Rattle.cf_pcap.specs.declared.form.Order.{Order}
-use Rattle.cf_pcap.specs.Capture.{Captured, number_in}
+use Rattle.cf_pcap.specs.Capture.{FrameValue, number_in}
 use Rattle.cf_stream.specs.Format.{Wants, Bad, Takes}
 use Rattle.cf_pcapng.specs.declared.fault.Flaw.{Flaw}
 use Rattle.cf_pcapng.specs.declared.fault.Flaw.TheVariants.{BadMagic, BadVersion, BadLink, FrameTooLong, BadLength, NoInterface}
@@ -382,22 +382,22 @@ by_head s bytes (Standing order kind total is h) = elim (cases_lt (length bytes)
 wants_bad : (fault : NgFault) → ◌≡◌ {A = Shown} Wants (Bad fault) → ⊥
 wants_bad fault h = cc
 
-wants_takes : (n : ℕ) (frames : List Captured) (t : State) → ◌≡◌ {A = Shown} Wants (Takes n frames t) → ⊥
+wants_takes : (n : ℕ) (frames : List FrameValue) (t : State) → ◌≡◌ {A = Shown} Wants (Takes n frames t) → ⊥
 wants_takes n frames t h = cc
 
-bad_takes : (fault : NgFault) (n : ℕ) (frames : List Captured) (t : State) → ◌≡◌ {A = Shown} (Bad fault) (Takes n frames t) → ⊥
+bad_takes : (fault : NgFault) (n : ℕ) (frames : List FrameValue) (t : State) → ◌≡◌ {A = Shown} (Bad fault) (Takes n frames t) → ⊥
 bad_takes fault n frames t h = cc
 
 bad_same : (a b : NgFault) → ◌≡◌ {A = Shown} (Bad a) (Bad b) → a ≡ b
 bad_same a b h = cc
 
-takes_size : (n m : ℕ) (a b : List Captured) (t u : State) → ◌≡◌ {A = Shown} (Takes n a t) (Takes m b u) → n ≡ m
+takes_size : (n m : ℕ) (a b : List FrameValue) (t u : State) → ◌≡◌ {A = Shown} (Takes n a t) (Takes m b u) → n ≡ m
 takes_size n m a b t u h = cc
 
-takes_frames : (n m : ℕ) (a b : List Captured) (t u : State) → ◌≡◌ {A = Shown} (Takes n a t) (Takes m b u) → a ≡ b
+takes_frames : (n m : ℕ) (a b : List FrameValue) (t u : State) → ◌≡◌ {A = Shown} (Takes n a t) (Takes m b u) → a ≡ b
 takes_frames n m a b t u h = cc
 
-takes_state : (n m : ℕ) (a b : List Captured) (t u : State) → ◌≡◌ {A = Shown} (Takes n a t) (Takes m b u) → t ≡ u
+takes_state : (n m : ℕ) (a b : List FrameValue) (t u : State) → ◌≡◌ {A = Shown} (Takes n a t) (Takes m b u) → t ≡ u
 takes_state n m a b t u h = cc
 
 bad_by_rules : (s : State) (bytes : List ℕ) (fault : NgFault) → step s bytes ≡ Bad fault → StepCase s bytes → (flaw : Flaw) × (fault ≡ fault_of s.count flaw) × HasFlaw s bytes flaw
@@ -405,20 +405,20 @@ bad_by_rules s bytes fault h (Wanting is) = absurd (wants_bad fault (sym is ∙ 
 bad_by_rules s bytes fault h (Flaws flaw is breaks) = (flaw, bad_same fault (fault_of s.count flaw) (sym h ∙ is), breaks)
 bad_by_rules s bytes fault h (Block n content is block) = absurd (bad_takes fault n (frames_of s.count content (take n bytes)) (after s content) (sym h ∙ is))
 
-takes_by_rules : (s : State) (bytes : List ℕ) (n : ℕ) (frames : List Captured) (t : State) → step s bytes ≡ Takes n frames t → StepCase s bytes → IsBlock s bytes n frames t
+takes_by_rules : (s : State) (bytes : List ℕ) (n : ℕ) (frames : List FrameValue) (t : State) → step s bytes ≡ Takes n frames t → StepCase s bytes → IsBlock s bytes n frames t
 takes_by_rules s bytes n frames t h (Wanting is) = absurd (wants_takes n frames t (sym is ∙ h))
 takes_by_rules s bytes n frames t h (Flaws flaw is breaks) = absurd (bad_takes (fault_of s.count flaw) n frames t (sym is ∙ h))
 takes_by_rules s bytes n frames t h (Block m content is block) =
-    let given : List Captured = frames_of s.count content (take m bytes) in
+    let given : List FrameValue = frames_of s.count content (take m bytes) in
     let next : State = after s content in
     subst (λ (k : ℕ). IsBlock s bytes k frames t) (takes_size m n given frames next t (sym is ∙ h))
-    (subst (λ (x : List Captured). IsBlock s bytes m x t) (takes_frames m n given frames next t (sym is ∙ h))
+    (subst (λ (x : List FrameValue). IsBlock s bytes m x t) (takes_frames m n given frames next t (sym is ∙ h))
     (subst (λ (x : State). IsBlock s bytes m given x) (takes_state m n given frames next t (sym is ∙ h)) block))
 
-block_taken : (s : State) (bytes : List ℕ) (n : ℕ) (frames : List Captured) (t : State) → IsBlock s bytes n frames t → step s bytes ≡ Takes n frames t
+block_taken : (s : State) (bytes : List ℕ) (n : ℕ) (frames : List FrameValue) (t : State) → IsBlock s bytes n frames t → step s bytes ≡ Takes n frames t
 block_taken s bytes n frames t h =
     step_block s bytes h.order h.kind n h.content h.block h.last h.states
-    ∙ ap (λ (x : List Captured). Takes n x (after s h.content)) (sym h.frames_are)
+    ∙ ap (λ (x : List FrameValue). Takes n x (after s h.content)) (sym h.frames_are)
     ∙ ap (λ (x : State). Takes n frames x) (sym h.after_is)
 
 pub steps_by_rules : (s : State) (bytes : List ℕ) → StepsByRules s bytes

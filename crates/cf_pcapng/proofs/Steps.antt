@@ -3,7 +3,7 @@ use Rattle.std.proofs.Common.{◌≡◌, inl, inr, ℕ, ◌<◌, ◌≤◌, ◌+
 use Rattle.std.proofs.lemmas.Bool.{cases_lt}
 use Rattle.std.proofs.lemmas.List.{take-append-le}
 use Rattle.cf_pcap.specs.declared.form.Order.{Order}
-use Rattle.cf_pcap.specs.Capture.{Captured}
+use Rattle.cf_pcap.specs.Capture.{FrameValue}
 use Rattle.cf_stream.specs.Format.{Found, Wants, Bad, Takes}
 use Rattle.cf_stream.specs.Stream.{IsStepper}
 use Rattle.cf_pcapng.specs.declared.fault.Flaw.{Flaw}
@@ -18,15 +18,15 @@ use Rattle.cf_pcapng.specs.File.{State, fault_of, frames_of, after, block_found,
 use Rattle.cf_pcapng.proofs.Heads.{below, not_below, head_short, head_stays, Standing, standing, at_least, least_12}
 
 abbrev pub Shown : Type 0
-Shown = Found State Captured NgFault
+Shown = Found State FrameValue NgFault
 
 wants_not_bad : (fault : NgFault) → ◌≡◌ {A = Shown} Wants (Bad fault) → ⊥
 wants_not_bad fault h = cc
 
-wants_not_takes : (n : ℕ) (items : List Captured) (t : State) → ◌≡◌ {A = Shown} Wants (Takes n items t) → ⊥
+wants_not_takes : (n : ℕ) (items : List FrameValue) (t : State) → ◌≡◌ {A = Shown} Wants (Takes n items t) → ⊥
 wants_not_takes n items t h = cc
 
-bad_not_takes : (fault : NgFault) (n : ℕ) (items : List Captured) (t : State) → ◌≡◌ {A = Shown} (Bad fault) (Takes n items t) → ⊥
+bad_not_takes : (fault : NgFault) (n : ℕ) (items : List FrameValue) (t : State) → ◌≡◌ {A = Shown} (Bad fault) (Takes n items t) → ⊥
 bad_not_takes fault n items t h = cc
 
 pub step_at : (s : State) (bytes : List ℕ) (head : Head) → head_of s.order bytes ≡ head → step s bytes ≡ found_at s bytes head
@@ -55,12 +55,12 @@ step_stays s xs ys seen =
 bad_stays : (s : State) (bytes more : List ℕ) (fault : NgFault) → step s bytes ≡ Bad fault → step s (bytes ++ more) ≡ Bad fault
 bad_stays s bytes more fault h = step_stays s bytes more (λ w. wants_not_bad fault (sym w ∙ h)) ∙ h
 
-takes_stays : (s : State) (bytes more : List ℕ) (n : ℕ) (items : List Captured) (t : State) → step s bytes ≡ Takes n items t → step s (bytes ++ more) ≡ Takes n items t
+takes_stays : (s : State) (bytes more : List ℕ) (n : ℕ) (items : List FrameValue) (t : State) → step s bytes ≡ Takes n items t → step s (bytes ++ more) ≡ Takes n items t
 takes_stays s bytes more n items t h = step_stays s bytes more (λ w. wants_not_takes n items t (sym w ∙ h)) ∙ h
 
 -- What a block that is taken is.
 
-pub record Taken (s : State) (bytes : List ℕ) (n : ℕ) (items : List Captured) (t : State) : Type 0 where
+pub record Taken (s : State) (bytes : List ℕ) (n : ℕ) (items : List FrameValue) (t : State) : Type 0 where
   pub order : Order
   pub kind : Kind
   pub stands : Standing s.order bytes order kind n
@@ -70,19 +70,19 @@ pub record Taken (s : State) (bytes : List ℕ) (n : ℕ) (items : List Captured
   pub items_are : items ≡ frames_of s.count content (take n bytes)
   pub after_is : t ≡ after s content
 
-taken_size : (n m : ℕ) (a b : List Captured) (t u : State) → ◌≡◌ {A = Shown} (Takes n a t) (Takes m b u) → n ≡ m
+taken_size : (n m : ℕ) (a b : List FrameValue) (t u : State) → ◌≡◌ {A = Shown} (Takes n a t) (Takes m b u) → n ≡ m
 taken_size n m a b t u h = cc
 
-taken_items : (n m : ℕ) (a b : List Captured) (t u : State) → ◌≡◌ {A = Shown} (Takes n a t) (Takes m b u) → a ≡ b
+taken_items : (n m : ℕ) (a b : List FrameValue) (t u : State) → ◌≡◌ {A = Shown} (Takes n a t) (Takes m b u) → a ≡ b
 taken_items n m a b t u h = cc
 
-taken_state : (n m : ℕ) (a b : List Captured) (t u : State) → ◌≡◌ {A = Shown} (Takes n a t) (Takes m b u) → t ≡ u
+taken_state : (n m : ℕ) (a b : List FrameValue) (t u : State) → ◌≡◌ {A = Shown} (Takes n a t) (Takes m b u) → t ≡ u
 taken_state n m a b t u h = cc
 
 pub length_front : (n : ℕ) (bytes : List ℕ) → n ≤ length bytes → length (take n bytes) ≡ n
 length_front n bytes h = omega (arith, h, length-take n bytes)
 
-taken_of_content : (s : State) (bytes : List ℕ) (order : Order) (kind : Kind) (total n : ℕ) (items : List Captured) (t : State) → Standing s.order bytes order kind total → total ≤ length bytes → (found : Result Content Flaw) → content_of s.interfaces order kind (take total bytes) ≡ found → block_found s (take total bytes) found ≡ Takes n items t → Taken s bytes n items t
+taken_of_content : (s : State) (bytes : List ℕ) (order : Order) (kind : Kind) (total n : ℕ) (items : List FrameValue) (t : State) → Standing s.order bytes order kind total → total ≤ length bytes → (found : Result Content Flaw) → content_of s.interfaces order kind (take total bytes) ≡ found → block_found s (take total bytes) found ≡ Takes n items t → Taken s bytes n items t
 taken_of_content s bytes order kind total n items t stands whole (Err flaw) is h = absurd (bad_not_takes (fault_of s.count flaw) n items t h)
 taken_of_content s bytes order kind total n items t stands whole (Ok content) is h =
     let block : List ℕ = take total bytes in
@@ -104,7 +104,7 @@ found_short s bytes order kind total h = rw (below (length bytes) total h) refl
 pub found_whole : (s : State) (bytes : List ℕ) (order : Order) (kind : Kind) (total : ℕ) → total ≤ length bytes → found_at s bytes (Stands order kind total) ≡ block_found s (take total bytes) (content_of s.interfaces order kind (take total bytes))
 found_whole s bytes order kind total h = rw (not_below (length bytes) total h) refl
 
-taken_at : (s : State) (bytes : List ℕ) (n : ℕ) (items : List Captured) (t : State) (head : Head) → head_of s.order bytes ≡ head → found_at s bytes head ≡ Takes n items t → Taken s bytes n items t
+taken_at : (s : State) (bytes : List ℕ) (n : ℕ) (items : List FrameValue) (t : State) (head : Head) → head_of s.order bytes ≡ head → found_at s bytes head ≡ Takes n items t → Taken s bytes n items t
 taken_at s bytes n items t Short is h = absurd (wants_not_takes n items t h)
 taken_at s bytes n items t (Flawed flaw) is h = absurd (bad_not_takes (fault_of s.count flaw) n items t h)
 taken_at s bytes n items t (Stands order kind total) is h = elim (cases_lt (length bytes) total) [
@@ -112,7 +112,7 @@ taken_at s bytes n items t (Stands order kind total) is h = elim (cases_lt (leng
   | inr whole ↦ taken_of_content s bytes order kind total n items t (standing s.order bytes order kind total is) whole (content_of s.interfaces order kind (take total bytes)) refl (sym (found_whole s bytes order kind total whole) ∙ h)
 ]
 
-pub taken : (s : State) (bytes : List ℕ) (n : ℕ) (items : List Captured) (t : State) → step s bytes ≡ Takes n items t → Taken s bytes n items t
+pub taken : (s : State) (bytes : List ℕ) (n : ℕ) (items : List FrameValue) (t : State) → step s bytes ≡ Takes n items t → Taken s bytes n items t
 taken s bytes n items t h = taken_at s bytes n items t (head_of s.order bytes) refl (sym (step_at s bytes (head_of s.order bytes) refl) ∙ h)
 
 frames_few : (k : ℕ) (content : Content) (block : List ℕ) → length (frames_of k content block) ≤ 1
@@ -127,7 +127,7 @@ counts s (NewInterface interface) block = omega arith
 counts s (Captures packet) block = omega arith
 counts s Nothing block = omega arith
 
-pub taken_least : (s : State) (bytes : List ℕ) (n : ℕ) (items : List Captured) (t : State) → Taken s bytes n items t → 12 ≤ n
+pub taken_least : (s : State) (bytes : List ℕ) (n : ℕ) (items : List FrameValue) (t : State) → Taken s bytes n items t → 12 ≤ n
 taken_least s bytes n items t taken =
     let most : 12 ≤ least taken.kind = least_12 taken.kind in
     let size : least taken.kind ≤ n = at_least taken.kind n taken.stands.lawful in

@@ -1,7 +1,7 @@
 -- Captures in the pcapng format, as whole files.
 use Rattle.std.specs.Prelude.{ℕ, ◌+◌, nat_lt, if◌then◌else◌, is_some, List, [], ◌∷◌, ◌++◌, length, take, slice_range, Option, Some, None, Result, Ok, Err}
 use Rattle.cf_pcap.specs.declared.form.Order.{Order}
-use Rattle.cf_pcap.specs.Capture.{Captured}
+use Rattle.cf_pcap.specs.Capture.{FrameValue}
 use Rattle.cf_stream.specs.Format.{Found, Wants, Bad, Takes, Format, IsWhole, HasFault}
 use Rattle.cf_pcapng.specs.declared.fault.Flaw.{Flaw}
 use Rattle.cf_pcapng.specs.declared.fault.Flaw.TheVariants.{BadMagic, BadVersion, BadLink, FrameTooLong, BadLength, NoInterface}
@@ -31,7 +31,7 @@ fault_of k BadLength = faults.BadLength k
 fault_of k NoInterface = faults.NoInterface k
 
 -- the frames that a block gives, as number k
-abbrev pub frames_of : ℕ → Content → List ℕ → List Captured
+abbrev pub frames_of : ℕ → Content → List ℕ → List FrameValue
 frames_of k (NewSection order) block = []
 frames_of k (NewInterface interface) block = []
 frames_of k (Captures packet) block = record {
@@ -52,23 +52,23 @@ after s (Captures packet) = record { order = s.order; interfaces = s.interfaces;
 after s Nothing = s
 
 -- what a whole block gives, or its fault
-abbrev pub block_found : State → List ℕ → Result Content Flaw → Found State Captured NgFault
+abbrev pub block_found : State → List ℕ → Result Content Flaw → Found State FrameValue NgFault
 block_found s block (Ok content) = Takes (length block) (frames_of s.count content block) (after s content)
 block_found s block (Err flaw) = Bad (fault_of s.count flaw)
 
 -- what the bytes at the front show, by their head
-abbrev pub found_at : State → List ℕ → Head → Found State Captured NgFault
+abbrev pub found_at : State → List ℕ → Head → Found State FrameValue NgFault
 found_at s bytes Short = Wants
 found_at s bytes (Flawed flaw) = Bad (fault_of s.count flaw)
 found_at s bytes (Stands order kind total) =
     if nat_lt (length bytes) total then Wants
     else block_found s (take total bytes) (content_of s.interfaces order kind (take total bytes))
 
-unfoldable pub step : State → List ℕ → Found State Captured NgFault
+unfoldable pub step : State → List ℕ → Found State FrameValue NgFault
 step s bytes = found_at s bytes (head_of s.order bytes)
 
 -- pcapng: blocks end to end, the first of them a section header
-abbrev pub pcapng : Format State Captured NgFault
+abbrev pub pcapng : Format State FrameValue NgFault
 pcapng = record {
   start = record { order = None; interfaces = []; count = 0 };
   step = step;
@@ -79,7 +79,7 @@ pcapng = record {
 }
 
 -- a file is a capture of these frames
-abbrev pub IsNg : List ℕ → List Captured → Type 0
+abbrev pub IsNg : List ℕ → List FrameValue → Type 0
 IsNg file frames = IsWhole pcapng file frames
 
 -- why a file is no capture

@@ -1,6 +1,6 @@
 -- Each file has one meaning.
 use Rattle.std.specs.Prelude.{◌≡◌, ◌⊎◌, ℕ, List}
-use Rattle.cf_pcap.specs.Capture.{Captured}
+use Rattle.cf_pcap.specs.Capture.{FrameValue}
 use Rattle.cf_stream.specs.Stream.{OneGift as OneGiftOf}
 use Rattle.cf_pcapng.specs.declared.fault.NgFault.{NgFault}
 use Rattle.cf_pcapng.specs.File.{pcapng}
@@ -8,9 +8,9 @@ use Rattle.cf_pcapng.specs.Rules.{IsFileOf, HasFaultOf}
 
 -- a file is a capture or has a fault, never both, and of one list of frames or by one fault alone
 pub record OneCase (file : List ℕ) : Type 0 where
-  pub some : ((frames : List Captured) × IsFileOf file frames) ⊎ ((fault : NgFault) × HasFaultOf file fault)
-  pub either : (frames : List Captured) (fault : NgFault) → IsFileOf file frames → HasFaultOf file fault → ⊥
-  pub one_capture : (a b : List Captured) → IsFileOf file a → IsFileOf file b → a ≡ b
+  pub some : ((frames : List FrameValue) × IsFileOf file frames) ⊎ ((fault : NgFault) × HasFaultOf file fault)
+  pub either : (frames : List FrameValue) (fault : NgFault) → IsFileOf file frames → HasFaultOf file fault → ⊥
+  pub one_capture : (a b : List FrameValue) → IsFileOf file a → IsFileOf file b → a ≡ b
   pub one_fault : (a b : NgFault) → HasFaultOf file a → HasFaultOf file b → a ≡ b
 
 -- a stream gives one list of frames

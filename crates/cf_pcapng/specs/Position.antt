@@ -10,18 +10,18 @@ listed had true came = came
 listed had false came = had ++ came
 
 -- what the reader had, whether a section has begun since, and what came
-pub record Listed : Type 0 where
+pub record InterfacesValue : Type 0 where
   pub had : List Interface
   pub anew : Bool
   pub came : List Interface
 
-abbrev pub interfaces_of : Listed → List Interface
+abbrev pub interfaces_of : InterfacesValue → List Interface
 interfaces_of l = listed l.had l.anew l.came
 
-pub record Since : Type 0 where
+pub record PositionValue : Type 0 where
   pub order : Option Order
-  pub listed : Listed
+  pub listed : InterfacesValue
   pub count : ℕ
 
-abbrev pub state_of : Since → State
+abbrev pub state_of : PositionValue → State
 state_of p = record { order = p.order; interfaces = interfaces_of p.listed; count = p.count }

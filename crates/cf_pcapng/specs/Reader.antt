@@ -1,6 +1,6 @@
 -- What a reader's state says of the stream that led to it.
 use Rattle.std.specs.Prelude.{◌≡◌, ℕ, ◌+◌, ◌<◌, ◌≤◌, ◌^◌, List, [], ◌∷◌, ◌++◌, length, Option, Some, None, Result, Ok, Err}
-use Rattle.cf_pcap.specs.Capture.{Captured}
+use Rattle.cf_pcap.specs.Capture.{FrameValue}
 use Rattle.cf_stream.specs.Format.{IsFound}
 use Rattle.cf_stream.specs.Stream.{Runs}
 use Rattle.cf_stream.specs.Stream as streams
@@ -17,7 +17,7 @@ use Rattle.cf_pcapng.specs.Position.{listed}
 use Rattle.cf_pcapng.specs.Reading.{WasPassed, AreReadOn, HasRoom}
 
 -- a reader as contracts see it: how far it is, how many bytes it has had, and what it has of the block at hand
-pub record Reader : Type 0 where
+pub record PcapNgValue : Type 0 where
   pub stage : Stage
   pub total : ℕ
   pub state : State
@@ -25,26 +25,26 @@ pub record Reader : Type 0 where
   pub held : List ℕ
 
 -- some blocks were read, and the bytes after them, those that were let go and those that are held, only begin one
-pub record IsRunning (reader : Reader) (stream : List ℕ) : Type 0 where
+pub record IsRunning (reader : PcapNgValue) (stream : List ℕ) : Type 0 where
   pub total_is : reader.total ≡ length stream
   pub gone : List ℕ
   pub was : WasPassed reader.state.order reader.passed gone
   pub runs : Runs pcapng reader.state (gone ++ reader.held) stream
 
-abbrev pub IsAt : Stage → Reader → List ℕ → Type 0
+abbrev pub IsAt : Stage → PcapNgValue → List ℕ → Type 0
 IsAt Running reader stream = IsRunning reader stream
 IsAt (Stopped fault) reader stream = IsFound pcapng stream fault
 
 -- the reader's state is that after this stream
-abbrev pub IsStateOf : Reader → List ℕ → Type 0
+abbrev pub IsStateOf : PcapNgValue → List ℕ → Type 0
 IsStateOf reader stream = IsAt reader.stage reader stream
 
 -- what a call that takes one more piece gives and answers
-abbrev pub IsFed : List ℕ → List ℕ → List Captured → Result (Unit {0}) NgFault → Reader → Type 0
+abbrev pub IsFed : List ℕ → List ℕ → List FrameValue → Result (Unit {0}) NgFault → PcapNgValue → Type 0
 IsFed stream piece given answer reader = streams.IsFed pcapng stream piece given answer (IsStateOf reader)
 
 -- a reader that has found a fault answers it, and no want of memory
-abbrev pub AnswersFound : Reader → Result (Unit {0}) NgFault → Type 0
+abbrev pub AnswersFound : PcapNgValue → Result (Unit {0}) NgFault → Type 0
 AnswersFound reader answer = (stream : List ℕ) (fault : NgFault) → IsStateOf reader stream → IsFound pcapng stream fault → answer ≡ Err fault
 
 -- what the end of the stream answers: the number of a capture's frames, or the fault
@@ -52,11 +52,11 @@ abbrev pub IsEnded : List ℕ → Result ℕ NgFault → Type 0
 IsEnded stream answer = streams.IsEnded pcapng stream answer
 
 -- what holds of every reader: its bytes and frames fit, it holds less than a block, and want of memory doesn't stop it
-abbrev pub IsSoundAt : Stage → Reader → Type 0
+abbrev pub IsSoundAt : Stage → PcapNgValue → Type 0
 IsSoundAt Running reader = (reader.total < 2 ^ 32) × (reader.state.count + length reader.held ≤ reader.total) × (length reader.held < 2 ^ 20) × HasRoom reader.passed
 IsSoundAt (Stopped fault) reader = (fault ≡ Memory → ⊥) × (reader.held ≡ [])
 
-abbrev pub IsSound : Reader → Type 0
+abbrev pub IsSound : PcapNgValue → Type 0
 IsSound reader = IsSoundAt reader.stage reader
 
 -- what a call that ends at this stage answers
@@ -69,7 +69,7 @@ abbrev pub state_after : List Interface → Reached → State
 state_after had reached = record { order = reached.order; interfaces = listed had reached.anew reached.came.items; count = reached.count }
 
 -- a call took a piece: what it gave, and the reader after it, whatever stream led to the reader before
-abbrev pub IsCalled : Reader → List ℕ → List Captured → Reader → Type 0
+abbrev pub IsCalled : PcapNgValue → List ℕ → List FrameValue → PcapNgValue → Type 0
 IsCalled before piece given reader =
     IsSound reader × ((stream : List ℕ) → IsRunning before stream → IsFed stream piece given (answer_at reader.stage) reader)
 
@@ -90,7 +90,7 @@ pub record IsStageAtLimit (s : State) (passed : Option Passed) (held byte : List
   pub flaw : Option Flaw
   pub last : State
   pub shows : ShowsLate flaw last fault
-  pub read : (gone : List ℕ) → WasPassed s.order passed gone → (frames : List Captured) × (block : Option Passed) × (rest : List ℕ) × AreReadOn s (gone ++ (held ++ byte)) frames last block rest flaw
+  pub read : (gone : List ℕ) → WasPassed s.order passed gone → (frames : List FrameValue) × (block : Option Passed) × (rest : List ℕ) × AreReadOn s (gone ++ (held ++ byte)) frames last block rest flaw
 
 -- the stage after the bytes that came early enough, where `late` come late
 abbrev pub IsStageAfter : State → Option Passed → List ℕ → Option Flaw → List ℕ → Stage → Type 0

@@ -1,7 +1,7 @@
 -- What the parts of a reader do.
 use Rattle.std.specs.Prelude.{◌≡◌, ℕ, ◌+◌, ◌-◌, ◌≤◌, ◌<◌, ◌^◌, nat_lt, if◌then◌else◌, List, [], ◌++◌, length, take, drop, Option, Some, None, Result, Ok, Err}
 use Rattle.cf_pcap.specs.declared.form.Order.{Order}
-use Rattle.cf_pcap.specs.Capture.{Captured, number_in}
+use Rattle.cf_pcap.specs.Capture.{FrameValue, number_in}
 use Rattle.cf_stream.specs.Format.{Wants, Bad, ReadsTo}
 use Rattle.cf_pcapng.specs.declared.fault.Flaw.{Flaw}
 use Rattle.cf_pcapng.specs.declared.head.Kind.TheVariants.{Other}
@@ -51,7 +51,7 @@ IsEnd t rest None = pcapng.step t rest ≡ Wants
 IsEnd t rest (Some flaw) = pcapng.step t rest ≡ Bad (fault_of t.count flaw)
 
 -- the blocks at the front were read, up to the begin of one or a flaw
-pub record AreRead (s : State) (bytes : List ℕ) (frames : List Captured) (t : State) (rest : List ℕ) (flaw : Option Flaw) : Type 0 where
+pub record AreRead (s : State) (bytes : List ℕ) (frames : List FrameValue) (t : State) (rest : List ℕ) (flaw : Option Flaw) : Type 0 where
   pub read : ReadsTo pcapng s bytes frames t rest
   pub end : IsEnd t rest flaw
 
@@ -62,7 +62,7 @@ WasPassed order (Some block) gone =
     (head_of order gone ≡ Stands block.order Other block.total) × (length gone ≡ block.gone) × (block.gone + 4 ≤ block.total)
 
 -- the blocks were read up to the begin of one, whose bytes were let go or are held
-pub record Begins (s : State) (bytes : List ℕ) (frames : List Captured) (t : State) (passed : Option Passed) (held : List ℕ) : Type 0 where
+pub record Begins (s : State) (bytes : List ℕ) (frames : List FrameValue) (t : State) (passed : Option Passed) (held : List ℕ) : Type 0 where
   pub gone : List ℕ
   pub was : WasPassed t.order passed gone
   pub read : ReadsTo pcapng s bytes frames t (gone ++ held)
@@ -70,13 +70,13 @@ pub record Begins (s : State) (bytes : List ℕ) (frames : List Captured) (t : S
   pub few : length held < 2 ^ 20
 
 -- the blocks were read up to a flaw
-pub record Breaks (s : State) (bytes : List ℕ) (frames : List Captured) (t : State) (flaw : Flaw) : Type 0 where
+pub record Breaks (s : State) (bytes : List ℕ) (frames : List FrameValue) (t : State) (flaw : Flaw) : Type 0 where
   pub rest : List ℕ
   pub read : ReadsTo pcapng s bytes frames t rest
   pub bad : pcapng.step t rest ≡ Bad (fault_of t.count flaw)
 
 -- the blocks were read, where a block that is only passed over is let go up to its last field
-abbrev pub AreReadOn : State → List ℕ → List Captured → State → Option Passed → List ℕ → Option Flaw → Type 0
+abbrev pub AreReadOn : State → List ℕ → List FrameValue → State → Option Passed → List ℕ → Option Flaw → Type 0
 AreReadOn s bytes frames t passed held None = Begins s bytes frames t passed held
 AreReadOn s bytes frames t passed held (Some flaw) = Breaks s bytes frames t flaw
 

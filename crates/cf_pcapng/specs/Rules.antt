@@ -2,7 +2,7 @@
 use Rattle.std.specs.Prelude.{◌≡◌, ◌⊎◌, ℕ, ◌-◌, ◌%◌, ◌^◌, ◌<◌, ◌≤◌, true, false, List, [], ◌∷◌, length, take, drop, slice_get, Option, Some, None, is_some}
 use Rattle.byteorder.specs.Endian.{little_number}
 use Rattle.cf_pcap.specs.declared.form.Order.{Order}
-use Rattle.cf_pcap.specs.Capture.{Captured, number_in}
+use Rattle.cf_pcap.specs.Capture.{FrameValue, number_in}
 use Rattle.cf_stream.specs.Format.{Bad, Takes, Part, items_of, seen}
 use Rattle.cf_pcapng.specs.declared.fault.Flaw.{Flaw}
 use Rattle.cf_pcapng.specs.declared.fault.Flaw.TheVariants.{BadMagic, BadVersion, BadLink, FrameTooLong, BadLength, NoInterface}
@@ -154,7 +154,7 @@ abbrev pub HasFlaw : State → List ℕ → Flaw → Type 0
 HasFlaw s bytes flaw = HeadBreaks s.order bytes flaw ⊎ (((flaw ≡ BadLength) × BreaksRule4 s.order bytes) ⊎ BreaksRules5To9 s.order s.interfaces bytes flaw)
 
 -- a block of n bytes at the front breaks none, and gives these frames and this state
-pub record IsBlock (s : State) (bytes : List ℕ) (n : ℕ) (frames : List Captured) (t : State) : Type 0 where
+pub record IsBlock (s : State) (bytes : List ℕ) (n : ℕ) (frames : List FrameValue) (t : State) : Type 0 where
   pub order : Order
   pub kind : Kind
   pub content : Content
@@ -168,24 +168,24 @@ pub record IsBlock (s : State) (bytes : List ℕ) (n : ℕ) (frames : List Captu
 pub record StepsByRules (s : State) (bytes : List ℕ) : Type 0 where
   pub bad : (fault : NgFault) → pcapng.step s bytes ≡ Bad fault → (flaw : Flaw) × (fault ≡ fault_of s.count flaw) × HasFlaw s bytes flaw
   pub flaw : (flaw : Flaw) → HasFlaw s bytes flaw → pcapng.step s bytes ≡ Bad (fault_of s.count flaw)
-  pub takes : (n : ℕ) (frames : List Captured) (t : State) → pcapng.step s bytes ≡ Takes n frames t → IsBlock s bytes n frames t
-  pub block : (n : ℕ) (frames : List Captured) (t : State) → IsBlock s bytes n frames t → pcapng.step s bytes ≡ Takes n frames t
+  pub takes : (n : ℕ) (frames : List FrameValue) (t : State) → pcapng.step s bytes ≡ Takes n frames t → IsBlock s bytes n frames t
+  pub block : (n : ℕ) (frames : List FrameValue) (t : State) → IsBlock s bytes n frames t → pcapng.step s bytes ≡ Takes n frames t
 
 -- Whole files, in these words.
 
 -- from a state the bytes are these blocks end to end, and then the rest
-abbrev pub AreBlocksThen : State → List (Part State Captured) → List ℕ → State → List ℕ → Type 0
+abbrev pub AreBlocksThen : State → List (Part State FrameValue) → List ℕ → State → List ℕ → Type 0
 AreBlocksThen s [] bytes t rest = (s ≡ t) × (bytes ≡ rest)
 AreBlocksThen s (part ∷ parts) bytes t rest = IsBlock s bytes part.size part.items part.after × AreBlocksThen part.after parts (drop part.size bytes) t rest
 
 -- a file begins with blocks of these frames, which lead to a state, and then comes the rest
-pub record BeginsWith (file : List ℕ) (frames : List Captured) (last : State) (rest : List ℕ) : Type 0 where
-  pub parts : List (Part State Captured)
+pub record BeginsWith (file : List ℕ) (frames : List FrameValue) (last : State) (rest : List ℕ) : Type 0 where
+  pub parts : List (Part State FrameValue)
   pub blocks : AreBlocksThen pcapng.start parts file last rest
   pub frames_are : frames ≡ items_of parts
 
 -- a file below 2^32 bytes is blocks end to end, a section header first, and nothing else
-pub record IsFileOf (file : List ℕ) (frames : List Captured) : Type 0 where
+pub record IsFileOf (file : List ℕ) (frames : List FrameValue) : Type 0 where
   pub size : length file < 2 ^ 32
   pub last : State
   pub read : BeginsWith file frames last []
@@ -193,7 +193,7 @@ pub record IsFileOf (file : List ℕ) (frames : List Captured) : Type 0 where
 
 -- after blocks of k frames comes one with this flaw
 pub record ShowsFlaw (file : List ℕ) (k : ℕ) (flaw : Flaw) : Type 0 where
-  pub frames : List Captured
+  pub frames : List FrameValue
   pub last : State
   pub rest : List ℕ
   pub read : BeginsWith file frames last rest
@@ -203,12 +203,12 @@ pub record ShowsFlaw (file : List ℕ) (k : ℕ) (flaw : Flaw) : Type 0 where
 -- neither a whole block nor one with a flaw
 pub record IsPart (s : State) (bytes : List ℕ) : Type 0 where
   pub no_flaw : (flaw : Flaw) → HasFlaw s bytes flaw → ⊥
-  pub no_block : (n : ℕ) (frames : List Captured) (t : State) → IsBlock s bytes n frames t → ⊥
+  pub no_block : (n : ℕ) (frames : List FrameValue) (t : State) → IsBlock s bytes n frames t → ⊥
 
 -- a file below 2^32 bytes ends within a block after k frames, or before its first section header
 pub record EndsWithin (file : List ℕ) (k : ℕ) : Type 0 where
   pub size : length file < 2 ^ 32
-  pub frames : List Captured
+  pub frames : List FrameValue
   pub last : State
   pub rest : List ℕ
   pub read : BeginsWith file frames last rest
@@ -235,7 +235,7 @@ HasFaultOf file faults.Memory = ⊥
 
 -- the two ways to say what a file is, agree
 pub record FileByRules (file : List ℕ) : Type 0 where
-  pub capture : (frames : List Captured) → IsNg file frames → IsFileOf file frames
-  pub is_capture : (frames : List Captured) → IsFileOf file frames → IsNg file frames
+  pub capture : (frames : List FrameValue) → IsNg file frames → IsFileOf file frames
+  pub is_capture : (frames : List FrameValue) → IsFileOf file frames → IsNg file frames
   pub fault : (fault : NgFault) → HasNgFault file fault → HasFaultOf file fault
   pub is_fault : (fault : NgFault) → HasFaultOf file fault → HasNgFault file fault

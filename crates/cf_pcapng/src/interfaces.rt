@@ -26,9 +26,9 @@ pub(crate) struct Interfaces<'a> {
 }
 
 impl<'a> Model for Interfaces<'a> {
-    ghost use Rattle.cf_pcapng.specs.Position.{Listed};
+    ghost use Rattle.cf_pcapng.specs.Position.{InterfacesValue};
 
-    ghost Value = { Listed };
+    ghost Value = { InterfacesValue };
 
     ghost view = { λ i. record { had = i.had.now; anew = i.anew; came = i.came.items } };
 }

@@ -22,9 +22,9 @@ pub(crate) struct Position<'a> {
 }
 
 impl<'a> Model for Position<'a> {
-    ghost use Rattle.cf_pcapng.specs.Position.{Since};
+    ghost use Rattle.cf_pcapng.specs.Position.{PositionValue};
 
-    ghost Value = { Since };
+    ghost Value = { PositionValue };
 
     ghost view = { λ p. record { order = p.order; listed = p.interfaces; count = p.count } };
 }

@@ -1,6 +1,6 @@
 // The reader of a capture, which comes in pieces.
 ghost use Rattle.std.specs.Prelude.{◌≡◌, ◌≢◌, ℕ, List, [], ◌++◌, ◌<◌, ◌≤◌, ◌^◌, ◌+◌, length, take, drop, IfOk, is_ok, if◌then◌else◌, Err};
-ghost use Rattle.cf_pcap.specs.Capture.{Captured};
+ghost use Rattle.cf_pcap.specs.Capture.{FrameValue};
 ghost use Rattle.cf_pcapng.specs.declared.stage.Stage.TheVariants.{Running};
 ghost use Rattle.cf_pcapng.specs.Position.{listed, state_of};
 ghost use Rattle.cf_pcapng.specs.Reading.{HasRoom, MayGoOn};
@@ -38,9 +38,9 @@ pub struct PcapNg {
 }
 
 impl Model for PcapNg {
-    ghost use Rattle.cf_pcapng.specs.Reader.{Reader, IsSound};
+    ghost use Rattle.cf_pcapng.specs.Reader.{PcapNgValue, IsSound};
 
-    ghost Value = { Reader };
+    ghost Value = { PcapNgValue };
 
     ghost view = { λ p. record { stage = p.stage; total = p.total; state = record { order = p.order; interfaces = p.interfaces.items; count = p.count }; passed = p.passed; held = p.held.items } };
 
@@ -162,7 +162,7 @@ impl PcapNg {
     /// `TooManyBytes` at the byte that makes the stream 2^32 bytes. After a fault every call answers it. After `Memory`
     /// nothing of the piece is taken, and it may be fed again.
     pub fn feed(&mut self, piece: &[u8], out: &mut Vec<Frame>) -> Result<(), NgFault>
-        ensures fed { result ≢ Err NgFault.Memory → (given : List Captured) × (out.new.items ≡ out.old.items ++ given)
+        ensures fed { result ≢ Err NgFault.Memory → (given : List FrameValue) × (out.new.items ≡ out.old.items ++ given)
             × ((stream : List ℕ) → IsStateOf self.old stream → IsFed stream piece.now given result self.new) }
         ensures stopped { AnswersFound self.old result }
         ensures memory { result ≡ Err NgFault.Memory → (self.new ≡ self.old) × (out.new.items ≡ out.old.items) }

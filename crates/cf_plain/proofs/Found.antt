@@ -2,7 +2,7 @@
 use Rattle.std.proofs.Common.{◌≡◌, ℕ, zero, suc, ◌+◌, ◌<◌, ◌≤◌, Bool, true, false, cond, ◌&&◌, ◌==◌, nat_lt, List, ◌∷◌, length, filter, refl, sym, ◌∙◌, inl, inr, arith}
 use Rattle.std.specs.List.{AllByRecursion, list_any, range_with_len}
 use Rattle.std.proofs.lemmas.Bool.{eq-eqb, ne_eqb, lt-ltb, le-ltb, cases_eq}
-use Rattle.cf_row.specs.Row.{Numbered}
+use Rattle.cf_row.specs.Row.{RowValue}
 use Rattle.cf_plain.specs.Asks.{row_at, places}
 use Rattle.cf_plain.proofs.Grouped.{Rise}
 use Rattle.cf_plain.proofs.Rising.{rising_is_one}
@@ -22,7 +22,7 @@ rise_range p a (suc n) = elim (p a) as (λ b. Rise (cond b (a ∷ filter p (rang
 ]
 
 -- the places of the rows that pass ascend
-pub places_rise : (passes : Numbered → Bool) (rows : List Numbered) → Rise (places passes rows)
+pub places_rise : (passes : RowValue → Bool) (rows : List RowValue) → Rise (places passes rows)
 places_rise passes rows = rise_range (λ place. passes (row_at rows place)) 0 (length rows)
 
 below_range : (p : ℕ → Bool) (j a n : ℕ) → j < a → list_any (λ x. j == x) (filter p (range_with_len a n)) ≡ false
@@ -51,9 +51,9 @@ any_range p j a (suc n) le = elim (cases_eq j a) [
 ]
 
 -- a place is among them exactly where its row passes
-pub places_have : (passes : Numbered → Bool) (rows : List Numbered) (j : ℕ) → list_any (λ x. j == x) (places passes rows) ≡ (nat_lt j (length rows) && passes (row_at rows j))
+pub places_have : (passes : RowValue → Bool) (rows : List RowValue) (j : ℕ) → list_any (λ x. j == x) (places passes rows) ≡ (nat_lt j (length rows) && passes (row_at rows j))
 places_have passes rows j = let same : 0 + length rows ≡ length rows = omega arith in rw same at (any_range (λ place. passes (row_at rows place)) j 0 (length rows) (omega arith))
 
 -- and no other ascending list has that
-pub places_are : (passes : Numbered → Bool) (rows : List Numbered) (found : List ℕ) → Rise found → ((j : ℕ) → list_any (λ x. j == x) found ≡ (nat_lt j (length rows) && passes (row_at rows j))) → found ≡ places passes rows
+pub places_are : (passes : RowValue → Bool) (rows : List RowValue) (found : List ℕ) → Rise found → ((j : ℕ) → list_any (λ x. j == x) found ≡ (nat_lt j (length rows) && passes (row_at rows j))) → found ≡ places passes rows
 places_are passes rows found rise have = rising_is_one found (places passes rows) rise (places_rise passes rows) (λ j. have j ∙ sym (places_have passes rows j))

@@ -3,23 +3,23 @@ use Rattle.std.proofs.Common.{◌≡◌, ℕ, ◌+◌, Bool, true, false, cond, 
 use Rattle.std.specs.List.{sum_by, count_by}
 use Rattle.std.proofs.lemmas.Bool.{cases_Bool}
 use Rattle.std.proofs.lemmas.List.Sums.{sum_by-cons, sum_by-append}
-use Rattle.cf_row.specs.Row.{Numbered}
-use Rattle.cf_fold.specs.Quads.{Counts, quad_of}
+use Rattle.cf_row.specs.Row.{RowValue}
+use Rattle.cf_fold.specs.Quads.{QuadValue, quad_of}
 use Rattle.cf_fold.proofs.Sorted.{AsOften, quad_is_one}
-use Rattle.cf_shape.specs.Lanes.{Shaped, selected_by, key_of, measure_of}
+use Rattle.cf_shape.specs.Lanes.{ShapeValue, selected_by, key_of, measure_of}
 use Rattle.cf_plain.specs.Asks.{total_over}
 use Rattle.cf_plain.specs.Groups.{keys_in, has_key, group_of, groups}
 use Rattle.cf_plain.proofs.Rising.{same_keys}
 
 -- each kind of row stands in both lists as often
-abbrev pub SameRows : List Numbered → List Numbered → Type 0
-SameRows rows others = (g : Numbered → ℕ) → sum_by g rows ≡ sum_by g others
+abbrev pub SameRows : List RowValue → List RowValue → Type 0
+SameRows rows others = (g : RowValue → ℕ) → sum_by g rows ≡ sum_by g others
 
 -- how often a number comes from a row that passes
-pub count_map : (f : Numbered → ℕ) (p : Numbered → Bool) (n : ℕ) (rows : List Numbered) → count_by (λ x. x == n) (map f (filter p rows)) ≡ sum_by (λ row. cond (p row) (cond (f row == n) 1 0) 0) rows
+pub count_map : (f : RowValue → ℕ) (p : RowValue → Bool) (n : ℕ) (rows : List RowValue) → count_by (λ x. x == n) (map f (filter p rows)) ≡ sum_by (λ row. cond (p row) (cond (f row == n) 1 0) 0) rows
 count_map f p n [] = refl
 count_map f p n (row ∷ rows) =
-    let h : Numbered → ℕ = λ r. cond (p r) (cond (f r == n) 1 0) 0 in
+    let h : RowValue → ℕ = λ r. cond (p r) (cond (f r == n) 1 0) 0 in
     let rest : count_by (λ x. x == n) (map f (filter p rows)) ≡ sum_by h rows = count_map f p n rows in
     let right : sum_by h (row ∷ rows) ≡ h row + sum_by h rows = sum_by-cons h row rows in
     elim (cases_Bool (p row)) [
@@ -34,7 +34,7 @@ count_map f p n (row ∷ rows) =
           omega (arith, rest, right, here, left)
     ]
 
-pub often : (f : Numbered → ℕ) (p : Numbered → Bool) (rows others : List Numbered) → SameRows rows others → AsOften (map f (filter p rows)) (map f (filter p others))
+pub often : (f : RowValue → ℕ) (p : RowValue → Bool) (rows others : List RowValue) → SameRows rows others → AsOften (map f (filter p rows)) (map f (filter p others))
 often f p rows others same n = count_map f p n rows ∙ same (λ row. cond (p row) (cond (f row == n) 1 0) 0) ∙ sym (count_map f p n others)
 
 one : (x y : Bool) (n : ℕ) → cond x n 0 ≡ cond (x && y) n 0 + cond (x && not y) n 0
@@ -42,7 +42,7 @@ one true true n = omega arith
 one true false n = omega arith
 one false y n = refl
 
-split_sum : (g : Numbered → ℕ) (p q : Numbered → Bool) (rows : List Numbered) → sum_by (λ row. cond (p row) (g row) 0) rows ≡ sum_by (λ row. cond (p row && q row) (g row) 0) rows + sum_by (λ row. cond (p row && not (q row)) (g row) 0) rows
+split_sum : (g : RowValue → ℕ) (p q : RowValue → Bool) (rows : List RowValue) → sum_by (λ row. cond (p row) (g row) 0) rows ≡ sum_by (λ row. cond (p row && q row) (g row) 0) rows + sum_by (λ row. cond (p row && not (q row)) (g row) 0) rows
 split_sum g p q [] = refl
 split_sum g p q (row ∷ rows) =
     let a = sum_by-cons (λ r. cond (p r) (g r) 0) row rows in
@@ -52,7 +52,7 @@ split_sum g p q (row ∷ rows) =
     omega (arith, a, b, c, here, split_sum g p q rows)
 
 -- the quad of some rows is that of those that pass a test together with those that don't, in any order
-pub total_split : (shape : Shaped) (lane : ℕ) (p q : Numbered → Bool) (rows : List Numbered) → total_over shape lane p rows ≡ quad_of (map (measure_of shape lane) (filter (λ row. p row && q row) rows) ++ map (measure_of shape lane) (filter (λ row. p row && not (q row)) rows))
+pub total_split : (shape : ShapeValue) (lane : ℕ) (p q : RowValue → Bool) (rows : List RowValue) → total_over shape lane p rows ≡ quad_of (map (measure_of shape lane) (filter (λ row. p row && q row) rows) ++ map (measure_of shape lane) (filter (λ row. p row && not (q row)) rows))
 total_split shape lane p q rows = quad_is_one (map (measure_of shape lane) (filter p rows)) (map (measure_of shape lane) (filter (λ row. p row && q row) rows) ++ map (measure_of shape lane) (filter (λ row. p row && not (q row)) rows)) (λ n.
     let left = count_map (measure_of shape lane) p n rows in
     let with' = count_map (measure_of shape lane) (λ row. p row && q row) n rows in
@@ -66,17 +66,17 @@ map_agree f g same [] = refl
 map_agree f g same (x ∷ xs) = ap₂ (λ y ys. y ∷ ys) (same x) (map_agree f g same xs)
 
 -- as many rows
-length_sum : (rows : List Numbered) → sum_by (λ row. 1) rows ≡ length rows
+length_sum : (rows : List RowValue) → sum_by (λ row. 1) rows ≡ length rows
 length_sum [] = refl
 length_sum (row ∷ rows) = sum_by-cons (λ r. 1) row rows ∙ omega (arith, length_sum rows)
 
-module _ (shape : Shaped) (rows others : List Numbered) (same : SameRows rows others) where
-  pub same_total : (lane : ℕ) (p : Numbered → Bool) → total_over shape lane p rows ≡ total_over shape lane p others
+module _ (shape : ShapeValue) (rows others : List RowValue) (same : SameRows rows others) where
+  pub same_total : (lane : ℕ) (p : RowValue → Bool) → total_over shape lane p rows ≡ total_over shape lane p others
   same_total lane p = quad_is_one _ _ (often (measure_of shape lane) p rows others same)
 
   pub same_groups : (lane : ℕ) → groups shape lane rows ≡ groups shape lane others
   same_groups lane =
-      map_agree (group_of shape lane rows) (group_of shape lane others) (λ k. ap (λ (q : Counts). (k, q)) (same_total lane (has_key shape lane k))) (keys_in shape lane rows)
+      map_agree (group_of shape lane rows) (group_of shape lane others) (λ k. ap (λ (q : QuadValue). (k, q)) (same_total lane (has_key shape lane k))) (keys_in shape lane rows)
       ∙ ap (map (group_of shape lane others)) (same_keys (map (key_of shape lane) (filter (selected_by shape lane) rows)) (map (key_of shape lane) (filter (selected_by shape lane) others)) (often (key_of shape lane) (selected_by shape lane) rows others same))
 
   pub same_length : length rows ≡ length others

@@ -2,12 +2,12 @@
 use Rattle.std.specs.Prelude.{◌≡◌, ℕ, ◌≤◌, ◌^◌, Bool, true, false, ◌&&◌, not, nat_lt, nat_le, List, [], length, map, filter, All, slice_index_or, is_some}
 use Rattle.std.specs.List.{range_with_len}
 use Rattle.cf_row.specs.declared.row.Entry.{Entry}
-use Rattle.cf_row.specs.Row.{Numbered, Fits}
+use Rattle.cf_row.specs.Row.{RowValue, Fits}
 use Rattle.cf_row.specs.Expr.{holds_of, is_of_schema, is_within}
-use Rattle.cf_fold.specs.Quads.{Counts, quad_of}
+use Rattle.cf_fold.specs.Quads.{QuadValue, quad_of}
 use Rattle.cf_fold.specs.Triggers.{fires_of, part_of}
 use Rattle.cf_fold.specs.declared.trigger.Trigger.{Trigger}
-use Rattle.cf_shape.specs.Lanes.{Shaped, lane_at, selected_by, key_of, measure_of}
+use Rattle.cf_shape.specs.Lanes.{ShapeValue, lane_at, selected_by, key_of, measure_of}
 use Rattle.cf_shape.specs.declared.lane.Key.{Key}
 use Rattle.cf_shape.specs.declared.lane.Key.TheVariants as keys
 use Rattle.cf_plain.specs.Groups.{groups}
@@ -17,28 +17,28 @@ use Rattle.cf_plain.specs.declared.answer.Fired.{Fired}
 use Rattle.cf_plain.specs.declared.answer.Body.{Body}
 use Rattle.cf_plain.specs.declared.answer.Body.TheVariants as bodies
 
-abbrev pub rows_in : List Entry → List Numbered
+abbrev pub rows_in : List Entry → List RowValue
 rows_in entries = map (λ entry. entry.row) entries
 
-abbrev pub no_row : Numbered
+abbrev pub no_row : RowValue
 no_row = record { num = 0; values = [] }
 
-abbrev pub row_at : List Numbered → ℕ → Numbered
+abbrev pub row_at : List RowValue → ℕ → RowValue
 row_at rows place = slice_index_or rows place no_row
 
 -- the places of the rows that pass, ascending
-abbrev pub places : (Numbered → Bool) → List Numbered → List ℕ
+abbrev pub places : (RowValue → Bool) → List RowValue → List ℕ
 places passes rows = filter (λ place. passes (row_at rows place)) (range_with_len 0 (length rows))
 
 -- ranges take in both ends
 abbrev pub is_between : ℕ → ℕ → ℕ → Bool
 is_between low high n = nat_le low n && nat_le n high
 
-abbrev pub is_keyed_between : Shaped → ℕ → ℕ → ℕ → Numbered → Bool
+abbrev pub is_keyed_between : ShapeValue → ℕ → ℕ → ℕ → RowValue → Bool
 is_keyed_between shape lane low high row = selected_by shape lane row && is_between low high (key_of shape lane row)
 
 -- whether a row counts for a question
-abbrev pub counts_for : Shaped → Ask → Numbered → Bool
+abbrev pub counts_for : ShapeValue → Ask → RowValue → Bool
 counts_for shape (asks.List expr) row = holds_of expr row
 counts_for shape (asks.Find lane low high) row = is_keyed_between shape lane low high row
 counts_for shape (asks.Between lane low high) row = is_keyed_between shape lane low high row
@@ -46,21 +46,21 @@ counts_for shape (asks.Measure lane low high) row = is_keyed_between shape lane 
 counts_for shape (asks.Fired trigger) row = selected_by shape trigger.agg row
 
 -- the quad of what the lane measures of the rows that pass
-abbrev pub total_over : Shaped → ℕ → (Numbered → Bool) → List Numbered → Counts
+abbrev pub total_over : ShapeValue → ℕ → (RowValue → Bool) → List RowValue → QuadValue
 total_over shape lane passes rows = quad_of (map (measure_of shape lane) (filter passes rows))
 
-abbrev pub mark_of : Trigger → ℕ × Counts → Fired
+abbrev pub mark_of : Trigger → ℕ × QuadValue → Fired
 mark_of trigger group = record { bucket = group.0; value = part_of trigger.part group.1 }
 
 -- the groups in which a trigger fires
-abbrev pub marks_in : Trigger → List (ℕ × Counts) → List Fired
+abbrev pub marks_in : Trigger → List (ℕ × QuadValue) → List Fired
 marks_in trigger groups = map (mark_of trigger) (filter (λ group. fires_of trigger group.1) groups)
 
-abbrev pub marks_over : Shaped → Trigger → List Numbered → List Fired
+abbrev pub marks_over : ShapeValue → Trigger → List RowValue → List Fired
 marks_over shape trigger rows = marks_in trigger (groups shape trigger.agg rows)
 
 -- what a question's answer on a list of rows is
-abbrev pub eval_rows : Shaped → Ask → List Numbered → Body
+abbrev pub eval_rows : ShapeValue → Ask → List RowValue → Body
 eval_rows shape (asks.List expr) rows = bodies.Places (places (counts_for shape (asks.List expr)) rows)
 eval_rows shape (asks.Find lane low high) rows = bodies.Places (places (counts_for shape (asks.Find lane low high)) rows)
 eval_rows shape (asks.Between lane low high) rows = bodies.Places (places (counts_for shape (asks.Between lane low high)) rows)
@@ -68,53 +68,53 @@ eval_rows shape (asks.Measure lane low high) rows = bodies.Total (total_over sha
 eval_rows shape (asks.Fired trigger) rows = bodies.Marks (marks_over shape trigger rows)
 
 -- the same on the entries of a log
-abbrev pub eval : Shaped → Ask → List Entry → Body
+abbrev pub eval : ShapeValue → Ask → List Entry → Body
 eval shape ask entries = eval_rows shape ask (rows_in entries)
 
 abbrev pub is_attr : Key → Bool
 is_attr (keys.Attr attr) = true
 is_attr keys.Bucket = false
 
-abbrev pub exists : Shaped → ℕ → Bool
+abbrev pub exists : ShapeValue → ℕ → Bool
 exists shape lane = nat_lt lane (length shape.lanes)
 
 -- a lane whose key is an attribute
-abbrev pub is_indexed : Shaped → ℕ → Bool
+abbrev pub is_indexed : ShapeValue → ℕ → Bool
 is_indexed shape lane = exists shape lane && is_attr (lane_at shape lane).key
 
 -- a lane whose key is the bucket
-abbrev pub is_bucketed : Shaped → ℕ → Bool
+abbrev pub is_bucketed : ShapeValue → ℕ → Bool
 is_bucketed shape lane = exists shape lane && not (is_attr (lane_at shape lane).key)
 
 -- one that also measures something
-abbrev pub is_aggregate : Shaped → ℕ → Bool
+abbrev pub is_aggregate : ShapeValue → ℕ → Bool
 is_aggregate shape lane = is_bucketed shape lane && is_some (lane_at shape lane).measure
 
-abbrev pub suits_trigger : Shaped → Trigger → Bool
+abbrev pub suits_trigger : ShapeValue → Trigger → Bool
 suits_trigger shape trigger = is_aggregate shape trigger.agg && not (is_within trigger.op)
 
-abbrev pub SuitsTrigger : Shaped → Trigger → Type 0
+abbrev pub SuitsTrigger : ShapeValue → Trigger → Type 0
 SuitsTrigger shape trigger = suits_trigger shape trigger ≡ true
 
 -- the question can be asked of a log of that shape
-abbrev pub suits_of : Shaped → Ask → Bool
+abbrev pub suits_of : ShapeValue → Ask → Bool
 suits_of shape (asks.List expr) = is_of_schema shape.schema expr
 suits_of shape (asks.Find lane low high) = is_indexed shape lane
 suits_of shape (asks.Between lane low high) = is_bucketed shape lane
 suits_of shape (asks.Measure lane low high) = is_aggregate shape lane
 suits_of shape (asks.Fired trigger) = suits_trigger shape trigger
 
-abbrev pub Suits : Shaped → Ask → Type 0
+abbrev pub Suits : ShapeValue → Ask → Type 0
 Suits shape ask = suits_of shape ask ≡ true
 
-abbrev pub FitAll : Shaped → List Entry → Type 0
+abbrev pub FitAll : ShapeValue → List Entry → Type 0
 FitAll shape entries = All (λ entry. Fits shape.schema entry.row) entries
 
 -- a list of one thread as contracts see it
-pub record Held : Type 0 where
-  pub shape : Shaped
+pub record PlainValue : Type 0 where
+  pub shape : ShapeValue
   pub entries : List Entry
 
-pub record IsHeld (held : Held) : Type 0 where
+pub record IsPlainList (held : PlainValue) : Type 0 where
   pub fit : FitAll held.shape held.entries
   pub few : length held.entries ≤ 2 ^ 20

@@ -19,17 +19,17 @@ pub struct Plain {
 }
 
 impl Model for Plain {
-    ghost use Rattle.cf_plain.specs.Asks.{Held, IsHeld};
+    ghost use Rattle.cf_plain.specs.Asks.{PlainValue, IsPlainList};
 
-    ghost Value = { Held };
+    ghost Value = { PlainValue };
 
     ghost view = { λ p. record { shape = p.shape; entries = p.entries.items } };
 
-    ghost invariant = { λ p. IsHeld (record { shape = p.shape; entries = p.entries.items }) };
+    ghost invariant = { λ p. IsPlainList (record { shape = p.shape; entries = p.entries.items }) };
 }
 
 impl Plain {
-    ghost use Rattle.cf_plain.specs.Asks.{IsHeld};
+    ghost use Rattle.cf_plain.specs.Asks.{IsPlainList};
 
     /// The empty log of that shape. It takes no memory; `alloc` is kept for the entries.
     pub fn new(alloc: Global, shape: Shape) -> Plain
@@ -52,7 +52,7 @@ impl Plain {
     /// The entries, in the order in which they were appended.
     pub fn entries(&self) -> &[Entry]
         ensures entries { result.now ≡ self.now.entries }
-        ensures held { IsHeld self.now }
+        ensures held { IsPlainList self.now }
     {
         self.entries.as_slice()
     }

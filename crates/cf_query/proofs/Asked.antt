@@ -1,16 +1,16 @@
 -- The read tail is loaded for an ask.
 use Rattle.std.proofs.Common.{◌≡◌, ◌∙◌, ℕ, List, [], ◌∷◌, ◌++◌, true, length, take, slice_get, ap, sym}
 use Rattle.cf_row.specs.declared.row.Entry.{Entry}
-use Rattle.cf_shape.specs.Lanes.{Shaped}
+use Rattle.cf_shape.specs.Lanes.{ShapeValue}
 use Rattle.cf_law.specs.Passes.{Pass}
-use Rattle.cf_table.specs.Held.{Held}
-use Rattle.cf_table.specs.Ways.{Made, tail_way}
-use Rattle.cf_table.specs.Moves.{IsSettled}
+use Rattle.cf_table.specs.Values.{PassValue}
+use Rattle.cf_table.specs.Effects.{HasStepped, tail_effect}
+use Rattle.cf_table.specs.Moves.{HoldsAllBooks}
 use Rattle.cf_table.proofs.Seen.{sees_books}
 use Rattle.cf_table.proofs.Folds.{sees_told, tail_entries}
 use Rattle.cf_query.specs.Asking.{HasAsked}
 
-pub has_asked : (shape : Shaped) (m n : Held) (found : ℕ) → Made shape (tail_way m.view true) m found n → (IsSettled shape m.view → (n.view).seen ≡ (m.view).seen) → length (n.view).seen ≡ found → HasAsked shape m n
+pub has_asked : (shape : ShapeValue) (m n : PassValue) (found : ℕ) → HasStepped shape (tail_effect m.view true) m found n → (HoldsAllBooks shape m.view → (n.view).seen ≡ (m.view).seen) → length (n.view).seen ≡ found → HasAsked shape m n
 has_asked shape m n found made stays long =
     let told = made.told in
     let p = m.view in

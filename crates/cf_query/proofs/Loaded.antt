@@ -4,20 +4,20 @@ use Rattle.std.specs.List.{range_with_len}
 use Rattle.std.specs.Bool.{nat_lt}
 use Rattle.std.proofs.lemmas.Bool.Decides.{nat_tests}
 use Rattle.std.proofs.lemmas.Option.{slice_get-get_or}
-use Rattle.cf_row.specs.Row.{Fits, Numbered, values_fit}
+use Rattle.cf_row.specs.Row.{Fits, RowValue, values_fit}
 use Rattle.cf_row.specs.Expr.{holds_of}
 use Rattle.cf_row.specs.declared.expr.Atom.{Atom}
 use Rattle.cf_row.specs.Words.{IsEntry, word_count, spelled}
 use Rattle.cf_row.specs.declared.row.Entry.{Entry}
 use Rattle.cf_row.proofs.Bytes.{both}
-use Rattle.cf_shape.specs.Lanes.{Shaped, IsShape}
+use Rattle.cf_shape.specs.Lanes.{ShapeValue, IsShape}
 use Rattle.cf_law.specs.Passes.{Pass}
 use Rattle.cf_law.specs.Shapes.{layout}
 use Rattle.cf_law.specs.Readers.{IsFit}
 use Rattle.cf_plain.specs.Asks.{rows_in, row_at}
 use Rattle.cf_plain.proofs.Scanned.{place_more}
-use Rattle.cf_table.specs.Held.{Held}
-use Rattle.cf_table.specs.Ways.{Made, word_way}
+use Rattle.cf_table.specs.Values.{PassValue}
+use Rattle.cf_table.specs.Effects.{HasStepped, word_effect}
 use Rattle.cf_table.specs.Moves.{OnlyLooked}
 use Rattle.cf_table.proofs.Reading.{word_is, looked_word}
 
@@ -27,10 +27,10 @@ no_entry = record { writer = 0; row = record { num = 0; values = [] } }
 abbrev pub entry_at : Pass → ℕ → Entry
 entry_at p o = get_or p.seen o no_entry
 
-pub entry_fits : (shape : Shaped) (e : Entry) → IsFit (layout shape) e → Fits shape.schema e.row
+pub entry_fits : (shape : ShapeValue) (e : Entry) → IsFit (layout shape) e → Fits shape.schema e.row
 entry_fits shape e fit = (both (values_fit shape.schema (e.row).values) (nat_lt (e.row).num (2 ^ 32)) fit.0).0
 
-entry_by : (shape : Shaped) (e : Entry) → IsShape shape → IsFit (layout shape) e → IsEntry shape.schema e
+entry_by : (shape : ShapeValue) (e : Entry) → IsShape shape → IsFit (layout shape) e → IsEntry shape.schema e
 entry_by shape e is fit =
     let b = both (values_fit shape.schema (e.row).values) (nat_lt (e.row).num (2 ^ 32)) fit.0 in
     let low = b.1 in
@@ -39,12 +39,12 @@ entry_by shape e is fit =
     record { fits = b.0; num = grind (arith, nat_tests); writer = omega (arith, few, writer) }
 
 -- what a load of word i tells of the entry at o
-pub record IsLoaded (shape : Shaped) (m n : Held) (o i found : ℕ) : Type 0 where
+pub record IsLoaded (shape : ShapeValue) (m n : PassValue) (o i found : ℕ) : Type 0 where
   pub lawful : IsEntry shape.schema (entry_at m.view o)
   pub word : found ≡ get_or (spelled (entry_at m.view o)) i 0
   pub looked : OnlyLooked m n
 
-pub loaded : (shape : Shaped) (m n : Held) (o place i found : ℕ) → IsShape shape → place ≡ min o (shape.capacity - 1) → o < length (m.view).seen → i < word_count shape.schema + 1 → Made shape (word_way shape m.view place i) m found n → IsLoaded shape m n o i found
+pub loaded : (shape : ShapeValue) (m n : PassValue) (o place i found : ℕ) → IsShape shape → place ≡ min o (shape.capacity - 1) → o < length (m.view).seen → i < word_count shape.schema + 1 → HasStepped shape (word_effect shape m.view place i) m found n → IsLoaded shape m n o i found
 loaded shape m n o place i found is at lt low made =
     let told = made.told in
     let same : length (n.view).seen ≡ length (m.view).seen = ap (λ (q : Pass). length q.seen) told.is in
@@ -71,7 +71,7 @@ holds_at expr seen place = holds_of expr (row_at (rows_in seen) place)
 scanned_more : (expr : List (List Atom)) (seen : List Entry) (o : ℕ) (e : Entry) (b : Bool) (found : List ℕ) → slice_get seen o ≡ Some e → b ≡ holds_of expr e.row → found ≡ filter (holds_at expr seen) (range_with_len 0 o)
     → found ++ cond b (o ∷ []) [] ≡ filter (holds_at expr seen) (range_with_len 0 (o + 1))
 scanned_more expr seen o e b found at holds is =
-    ap₂ (λ (xs : List ℕ) (t : Bool). xs ++ cond t (o ∷ []) []) is (holds ∙ ap (λ (row : Numbered). holds_of expr row) (row_is seen o e at)) ∙ sym (place_more (holds_at expr seen) o)
+    ap₂ (λ (xs : List ℕ) (t : Bool). xs ++ cond t (o ∷ []) []) is (holds ∙ ap (λ (row : RowValue). holds_of expr row) (row_is seen o e at)) ∙ sym (place_more (holds_at expr seen) o)
 
 pub scanned_one : (expr : List (List Atom)) (seen : List Entry) (o : ℕ) (e : Entry) (b : Bool) (found after : List ℕ) → slice_get seen o ≡ Some e → b ≡ holds_of expr e.row → b ≡ true → found ≡ filter (holds_at expr seen) (range_with_len 0 o) → after ≡ found ++ o ∷ []
     → after ≡ filter (holds_at expr seen) (range_with_len 0 (o + 1))

@@ -2,15 +2,15 @@
 use Rattle.std.specs.Prelude.{◌≡◌, List, length}
 use Rattle.std.specs.List.{AllByRecursion}
 use Rattle.cf_row.specs.declared.row.Entry.{Entry}
-use Rattle.cf_shape.specs.Lanes.{Shaped}
-use Rattle.cf_history.specs.History.{Told, NeverGoBack, spell, IsHistoryOf}
+use Rattle.cf_shape.specs.Lanes.{ShapeValue}
+use Rattle.cf_history.specs.History.{AskReply, NeverGoBack, spell, IsHistoryOf}
 use Rattle.cf_plain.specs.Asks.{eval}
 use Rattle.cf_plain.specs.declared.ask.Ask.{Ask}
 use Rattle.cf_plain.specs.declared.answer.Body.{Body}
-use Rattle.cf_table.specs.Moves.{Begins, Sealed}
+use Rattle.cf_table.specs.Moves.{Begins, SealValue}
 
 -- the question was answered on some beginning of the log
-pub record IsAnswered (shape : Shaped) (entries : List Entry) (t : Told Ask Body) : Type 0 where
+pub record IsAnswered (shape : ShapeValue) (entries : List Entry) (t : AskReply Ask Body) : Type 0 where
   pub seen : List Entry
   pub begins : Begins seen entries
   pub tail : t.tail ≡ length seen
@@ -20,4 +20,4 @@ pub record IsAnswered (shape : Shaped) (entries : List Entry) (t : Told Ask Body
 -- history of one thread.
 abbrev pub SealsAreHistories : Type 0
 SealsAreHistories =
-    (shape : Shaped) (seal : Sealed) (passes : List (List (Told Ask Body))) → AllByRecursion (AllByRecursion (IsAnswered shape seal.entries)) passes → NeverGoBack passes → IsHistoryOf (eval shape) seal.entries passes (spell seal.entries passes)
+    (shape : ShapeValue) (seal : SealValue) (passes : List (List (AskReply Ask Body))) → AllByRecursion (AllByRecursion (IsAnswered shape seal.entries)) passes → NeverGoBack passes → IsHistoryOf (eval shape) seal.entries passes (spell seal.entries passes)

@@ -1,6 +1,6 @@
 -- Questions that walk the trees and chains of a lane.
 use Rattle.std.specs.Prelude.{ℕ, ◌≡◌, ◌+◌, ◌-◌, ◌*◌, List, [], length}
-use Rattle.cf_shape.specs.Lanes.{Shaped}
+use Rattle.cf_shape.specs.Lanes.{ShapeValue}
 use Rattle.cf_shape.specs.Nodes.{levels_of}
 use Rattle.cf_plain.specs.declared.ask.Ask.{Ask}
 use Rattle.cf_plain.specs.declared.ask.Ask.TheVariants as asks
@@ -29,9 +29,9 @@ places_in (bodies.Total total) = []
 places_in (bodies.Marks marks) = []
 
 -- One step for the read tail, one for each level and writer, one for each place found, and one for each place at or past the tail.
-abbrev pub steps_of_one : Shaped → ℕ → Body → ℕ → ℕ
+abbrev pub steps_of_one : ShapeValue → ℕ → Body → ℕ → ℕ
 steps_of_one shape lane body tail = 1 + levels_of shape lane + shape.writers + length (places_in body) + (shape.capacity - tail)
 
 -- One step for the read tail, one for each level, one for each writer's head and three for its newest cell, and one for each place at or past the tail.
-abbrev pub steps_of_bucket : Shaped → ℕ → ℕ → ℕ
+abbrev pub steps_of_bucket : ShapeValue → ℕ → ℕ → ℕ
 steps_of_bucket shape lane tail = 1 + levels_of shape lane + 4 * shape.writers + (shape.capacity - tail)

@@ -1,7 +1,7 @@
 // Questions are answered.
 ghost use Rattle.std.specs.Prelude.{◌≡◌, ◌+◌, ◌<◌, ◌≤◌, length, map, true, IfOk, IfErr};
 ghost use Rattle.cf_shape.specs.Uses.{is_measured};
-ghost use Rattle.cf_table.specs.Held.{IsOf};
+ghost use Rattle.cf_table.specs.Values.{IsOf};
 ghost use Rattle.cf_plain.specs.Asks.{Suits, eval, rows_in, is_aggregate, is_keyed_between, total_over};
 ghost use Rattle.cf_plain.specs.Groups.{groups as groups_by, as_group};
 ghost use Rattle.cf_query.specs.Asking.{HasAsked};

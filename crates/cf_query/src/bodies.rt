@@ -1,7 +1,7 @@
 // What questions mean on the entries that a pass has seen.
 ghost use Rattle.std.specs.Prelude.{◌≡◌, ◌+◌, ◌≤◌, length, IfOk};
 ghost use Rattle.cf_row.specs.Expr.{IsOfSchema, holds_of};
-ghost use Rattle.cf_table.specs.Held.{IsOf};
+ghost use Rattle.cf_table.specs.Values.{IsOf};
 ghost use Rattle.cf_table.specs.Moves.{OnlyLooked, AreFit};
 ghost use Rattle.cf_plain.specs.Asks.{Suits, eval, places, rows_in};
 ghost use Rattle.cf_walk.specs.Walks.{OnlyWalked};

@@ -1,7 +1,7 @@
 // Rows are read back from the log.
 ghost use Rattle.std.specs.Prelude.{◌≡◌, ◌+◌, ◌<◌, ◌≤◌, length, IfOk, Some, slice_get};
 ghost use Rattle.cf_row.specs.Words.{word_count as word_count_of};
-ghost use Rattle.cf_table.specs.Held.{IsOf};
+ghost use Rattle.cf_table.specs.Values.{IsOf};
 ghost use Rattle.cf_table.specs.Moves.{OnlyLooked};
 ghost use Rattle.cf_plain.specs.Asks.{rows_in, row_at};
 ghost use Rattle.cf_query.specs.Asking.{AreWordsAt};

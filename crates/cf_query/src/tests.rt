@@ -2,7 +2,7 @@ ghost use Rattle.std.specs.Prelude.{◌≡◌, ◌+◌, ◌<◌, ◌∷◌, ℕ,
 ghost use Rattle.std.specs.List.{list_all};
 ghost use Rattle.cf_row.specs.Row.{Fits};
 ghost use Rattle.cf_shape.specs.Faults.{is_lane_of, key_exists, measure_exists};
-ghost use Rattle.cf_table.specs.Held.{Held, IsOf};
+ghost use Rattle.cf_table.specs.Values.{PassValue, IsOf};
 ghost use Rattle.cf_plain.specs.Asks.{Suits};
 ghost use Rattle.cf_query.specs.Writers.{IsWriters, AreDealtOut};
 
@@ -131,14 +131,14 @@ pub(crate) fn dealt(alloc: Global, shape: Shape) -> Result<(MultiLog, Root, Vec<
 
 // The first pass.
 pub(crate) fn first_of<R: Abort>(rt: &R, passes: Vec<WriterPass>) -> WriterPass
-    ensures { (rest : List Held) × (passes.items ≡ result ∷ rest) }
+    ensures { (rest : List PassValue) × (passes.items ≡ result ∷ rest) }
 {
     passes.into_iter().next().expect(rt, "a pass")
 }
 
 // The first two passes.
 pub(crate) fn two_of<R: Abort>(rt: &R, passes: Vec<WriterPass>) -> (WriterPass, WriterPass)
-    ensures { (rest : List Held) × (passes.items ≡ result.0 ∷ result.1 ∷ rest) }
+    ensures { (rest : List PassValue) × (passes.items ≡ result.0 ∷ result.1 ∷ rest) }
 {
     let mut passes = passes.into_iter();
     let first = passes.next().expect(rt, "a pass");

@@ -3,7 +3,7 @@ use Rattle.std.proofs.Common.{List, ℕ, zero, suc, ◌≡◌, ◌≢◌, ◌<�
 use Rattle.cf_row.specs.declared.schema.Attr.{Attr}
 use Rattle.cf_row.specs.declared.schema.Kind.{Kind}
 use Rattle.cf_row.specs.declared.row.Value.{Value}
-use Rattle.cf_row.specs.Row.{Numbered}
+use Rattle.cf_row.specs.Row.{RowValue}
 use Rattle.cf_filter.specs.Grammar.{ValueText}
 use Rattle.cf_filter.proofs.ValueLaws.{value_only}
 use Rattle.cf_records.specs.declared.fault.RecordFault.{RecordFault}
@@ -30,10 +30,10 @@ one_values (attr ∷ attrs) (f ∷ fields) [] b p q = absurd p
 one_values (attr ∷ attrs) (f ∷ fields) (x ∷ a) [] p q = absurd q
 one_values (attr ∷ attrs) (f ∷ fields) (x ∷ a) (y ∷ b) p q = ap₂ ◌∷◌ (one_value attr.kind f x y p.0 q.0) (one_values attrs fields a b p.1 q.1)
 
-same_row : (a b : Numbered) → a.num ≡ b.num → a.values ≡ b.values → a ≡ b
+same_row : (a b : RowValue) → a.num ≡ b.num → a.values ≡ b.values → a ≡ b
 same_row a b num values = ap₂ (λ (n : ℕ) (vs : List Value). record { num = n; values = vs }) num values
 
-one_rows : (attrs : List Attr) (num : ℕ) (records : Records) (a b : List Numbered) → AreRows attrs num records a → AreRows attrs num records b → a ≡ b
+one_rows : (attrs : List Attr) (num : ℕ) (records : Records) (a b : List RowValue) → AreRows attrs num records a → AreRows attrs num records b → a ≡ b
 one_rows attrs num [] [] [] p q = refl
 one_rows attrs num [] [] (y ∷ b) p q = absurd q
 one_rows attrs num [] (x ∷ a) b p q = absurd p
@@ -114,7 +114,7 @@ no_record_fault attrs fields num values TooManyBytes have q = q
 no_record_fault attrs fields num values Memory have q = q
 
 -- rows up to a record give values of it
-row_there : (attrs : List Attr) (num : ℕ) (before : Records) (fields : List (List ℕ)) (after : Records) (rows : List Numbered) → AreRows attrs num (before ++ (fields ∷ after)) rows → (values : List Value) × HaveValues attrs fields values
+row_there : (attrs : List Attr) (num : ℕ) (before : Records) (fields : List (List ℕ)) (after : Records) (rows : List RowValue) → AreRows attrs num (before ++ (fields ∷ after)) rows → (values : List Value) × HaveValues attrs fields values
 row_there attrs num [] fields after [] are = absurd are
 row_there attrs num [] fields after (row ∷ rows) are = (row.values, are.1)
 row_there attrs num (f ∷ before) fields after [] are = absurd are
@@ -146,18 +146,18 @@ same_head : (a b : List (List ℕ)) (x y : Records) → ◌≡◌ {A = Records} 
 same_head a b x y h = cc
 
 module _ (attrs : List Attr) (text : List ℕ) where
-  files_same : (a b : List Numbered) → IsRecordFile attrs text a → IsRecordFile attrs text b → a ≡ b
+  files_same : (a b : List RowValue) → IsRecordFile attrs text a → IsRecordFile attrs text b → a ≡ b
   files_same a b p q =
       let same : p.records ≡ q.records = same_tail _ _ p.records q.records (one_read text _ _ p.read q.read) in
       one_rows attrs 0 p.records a b p.rows_are (subst (λ (rs : Records). AreRows attrs 0 rs b) (sym same) q.rows_are)
 
-  file_faulty : (rows : List Numbered) (fault : RecordFault) → IsRecordFile attrs text rows → HasFaultyRecord attrs text fault → ⊥
+  file_faulty : (rows : List RowValue) (fault : RecordFault) → IsRecordFile attrs text rows → HasFaultyRecord attrs text fault → ⊥
   file_faulty rows fault p q =
       let same : p.records ≡ q.before ++ (q.fields ∷ q.after) = same_tail _ _ p.records _ (one_read text _ _ p.read q.read) in
       let found = row_there attrs 0 q.before q.fields q.after rows (subst (λ (rs : Records). AreRows attrs 0 rs rows) same p.rows_are) in
       no_record_fault attrs q.fields (length q.before) found.0 fault found.1 q.fault_is
 
-  later_faulty : (before : Records) (rows : List Numbered) (fields : List (List ℕ)) (num : ℕ) (before' : Records) (fault : RecordFault) → AreRows attrs 0 before rows → Cut before before' fields → HasRecordFault attrs fields num fault → ⊥
+  later_faulty : (before : Records) (rows : List RowValue) (fields : List (List ℕ)) (num : ℕ) (before' : Records) (fault : RecordFault) → AreRows attrs 0 before rows → Cut before before' fields → HasRecordFault attrs fields num fault → ⊥
   later_faulty before rows fields num before' fault are later wrong =
       let found = row_there attrs 0 before' fields later.0 rows (subst (λ (rs : Records). AreRows attrs 0 rs rows) later.1 are) in
       no_record_fault attrs fields num found.0 fault found.1 wrong
@@ -184,7 +184,7 @@ module _ (attrs : List Attr) (text : List ℕ) where
   large_small small large = absurd (omega (arith, small, large))
 
   -- no header, another header, a faulty record and too many bytes keep each other out
-  file_fault : (rows : List Numbered) (fault : RecordFault) → IsRecordFile attrs text rows → HasRecordsFault attrs text fault → ⊥
+  file_fault : (rows : List RowValue) (fault : RecordFault) → IsRecordFile attrs text rows → HasRecordsFault attrs text fault → ⊥
   file_fault rows NoHeader p q = no_header _ _ q.1 p.read
   file_fault rows BadHeader p q = q.other (headed q.header q.records p.records q.read p.read)
   file_fault rows (BadCount k) p q = file_faulty rows (BadCount k) p q
@@ -228,8 +228,8 @@ module _ (attrs : List Attr) (text : List ℕ) where
   faults_same TooManyBytes Memory p q = absurd q
   faults_same Memory b p q = absurd p
 
-  pub one_records : (a b : Result (List Numbered) RecordFault) → RecordsText attrs text a → RecordsText attrs text b → a ≡ b
-  one_records (Ok a) (Ok b) p q = ap (λ (rows : List Numbered). Ok rows) (files_same a b p q)
+  pub one_records : (a b : Result (List RowValue) RecordFault) → RecordsText attrs text a → RecordsText attrs text b → a ≡ b
+  one_records (Ok a) (Ok b) p q = ap (λ (rows : List RowValue). Ok rows) (files_same a b p q)
   one_records (Ok a) (Err b) p q = absurd (file_fault a b p q)
   one_records (Err a) (Ok b) p q = absurd (file_fault b a q p)
   one_records (Err a) (Err b) p q = ap (λ (fault : RecordFault). Err fault) (faults_same a b p q)

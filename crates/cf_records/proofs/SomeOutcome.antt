@@ -4,7 +4,7 @@ use Rattle.std.proofs.lemmas.Bool.{cases_lt, cases_eq}
 use Rattle.cf_row.specs.declared.schema.Attr.{Attr}
 use Rattle.cf_row.specs.declared.schema.Kind.{Kind}
 use Rattle.cf_row.specs.declared.row.Value.{Value}
-use Rattle.cf_row.specs.Row.{Numbered}
+use Rattle.cf_row.specs.Row.{RowValue}
 use Rattle.cf_filter.specs.Grammar.{ValueText}
 use Rattle.cf_filter.specs.Values.{value_at}
 use Rattle.cf_filter.proofs.ValueLaws.{value_only, value_found}
@@ -101,7 +101,7 @@ record IsFaulty (attrs : List Attr) (num : ℕ) (records : Records) : Type 0 whe
   fields : List (List ℕ)
   after : Records
   records_are : records ≡ before ++ (fields ∷ after)
-  rows : List Numbered
+  rows : List RowValue
   rows_are : AreRows attrs num before rows
   fault : RecordFault
   fault_is : HasRecordFault attrs fields (num + length before) fault
@@ -132,7 +132,7 @@ faulty_later attrs num fields records values have bad = record {
 
 -- records are rows, or one of them has the first fault
 abbrev AreJudged : List Attr → ℕ → Records → Type 0
-AreJudged attrs num records = ((rows : List Numbered) × AreRows attrs num records rows) ⊎ IsFaulty attrs num records
+AreJudged attrs num records = ((rows : List RowValue) × AreRows attrs num records rows) ⊎ IsFaulty attrs num records
 
 all_judged : (attrs : List Attr) (num : ℕ) (records : Records) → AreJudged attrs num records
 all_judged attrs num [] = inl ([], tt)
@@ -146,7 +146,7 @@ all_judged attrs num (fields ∷ records) = elim (judged attrs fields num) [
 
 -- a text is something
 abbrev pub IsSomething : List Attr → List ℕ → Type 0
-IsSomething attrs text = (answer : Result (List Numbered) RecordFault) × RecordsText attrs text answer
+IsSomething attrs text = (answer : Result (List RowValue) RecordFault) × RecordsText attrs text answer
 
 has_fault : (attrs : List Attr) (text : List ℕ) (fault : RecordFault) → HasFaultyRecord attrs text fault → HasRecordsFault attrs text fault
 has_fault attrs text (BadCount k) bad = bad

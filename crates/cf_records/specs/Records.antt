@@ -7,7 +7,7 @@ use Rattle.csv.specs.declared.reader.Trim.TheVariants as trim
 use Rattle.csv.specs.declared.reader.Reader.{Reader}
 use Rattle.cf_row.specs.declared.schema.Attr.{Attr}
 use Rattle.cf_row.specs.declared.row.Value.{Value}
-use Rattle.cf_row.specs.Row.{Numbered}
+use Rattle.cf_row.specs.Row.{RowValue}
 use Rattle.cf_filter.specs.Grammar.{ValueText}
 use Rattle.cf_records.specs.declared.fault.RecordFault.{RecordFault}
 use Rattle.cf_records.specs.declared.fault.RecordFault.TheVariants.{NoHeader, BadHeader, BadCount, BadValue, TooManyBytes, Memory}
@@ -30,7 +30,7 @@ HaveValues (attr ∷ attrs) (field ∷ fields) [] = ⊥
 HaveValues (attr ∷ attrs) (field ∷ fields) (value ∷ values) = ValueText attr.kind field value × HaveValues attrs fields values
 
 -- the records are rows, numbered from that number on
-abbrev pub AreRows : List Attr → ℕ → List (List (List ℕ)) → List Numbered → Type 0
+abbrev pub AreRows : List Attr → ℕ → List (List (List ℕ)) → List RowValue → Type 0
 AreRows attrs num [] [] = ⊤
 AreRows attrs num [] (row ∷ rows) = ⊥
 AreRows attrs num (fields ∷ records) [] = ⊥
@@ -56,7 +56,7 @@ HasRecordFault attrs fields num TooManyBytes = ⊥
 HasRecordFault attrs fields num Memory = ⊥
 
 -- a text of rows
-pub record IsRecordFile (attrs : List Attr) (text : List ℕ) (rows : List Numbered) : Type 0 where
+pub record IsRecordFile (attrs : List Attr) (text : List ℕ) (rows : List RowValue) : Type 0 where
   pub small : length text < 2 ^ 24
   pub records : List (List (List ℕ))
   pub read : AreRead text (names_of attrs ∷ records)
@@ -69,7 +69,7 @@ pub record HasFaultyRecord (attrs : List Attr) (text : List ℕ) (fault : Record
   pub fields : List (List ℕ)
   pub after : List (List (List ℕ))
   pub read : AreRead text (names_of attrs ∷ (before ++ (fields ∷ after)))
-  pub rows : List Numbered
+  pub rows : List RowValue
   pub rows_are : AreRows attrs 0 before rows
   pub fault_is : HasRecordFault attrs fields (length before) fault
 
@@ -89,7 +89,7 @@ HasRecordsFault attrs text TooManyBytes = 2 ^ 24 ≤ length text
 HasRecordsFault attrs text Memory = ⊥
 
 -- what a text is: rows, or its first fault
-abbrev pub RecordsText : List Attr → List ℕ → Result (List Numbered) RecordFault → Type 0
+abbrev pub RecordsText : List Attr → List ℕ → Result (List RowValue) RecordFault → Type 0
 RecordsText attrs text (Ok rows) = IsRecordFile attrs text rows
 RecordsText attrs text (Err fault) = HasRecordsFault attrs text fault
 

@@ -7,10 +7,10 @@ use Rattle.std.proofs.lemmas.List.Sums.{AllPass-from_list_all}
 use Rattle.std.proofs.lemmas.List.FromFn.{length-range_with_len, get_or-range_with_len}
 use Rattle.std.proofs.lemmas.List.Elements.{All-filter, All-map, All-append, All-nil, All-from_recursion, recursion_from_All}
 use Rattle.cf_row.specs.declared.row.Entry.{Entry}
-use Rattle.cf_row.specs.Row.{Numbered}
-use Rattle.cf_history.specs.History.{Told}
+use Rattle.cf_row.specs.Row.{RowValue}
+use Rattle.cf_history.specs.History.{AskReply}
 use Rattle.cf_history.specs.Tails.{Turn, turns_of, batches_of}
-use Rattle.cf_shape.specs.Lanes.{Shaped}
+use Rattle.cf_shape.specs.Lanes.{ShapeValue}
 use Rattle.cf_plain.specs.Asks.{rows_in, row_at, counts_for, eval, eval_rows, marks_over}
 use Rattle.cf_plain.specs.declared.ask.Ask.{Ask}
 use Rattle.cf_plain.specs.declared.ask.Ask.TheVariants as asks
@@ -18,26 +18,26 @@ use Rattle.cf_plain.specs.declared.answer.Answer.{Answer}
 use Rattle.cf_plain.specs.declared.answer.Body.{Body}
 use Rattle.cf_plain.specs.declared.answer.Body.TheVariants as bodies
 use Rattle.cf_plain.specs.declared.answer.Fired.{Fired}
-use Rattle.cf_setup.specs.Settled.{Settled, IsSetup}
+use Rattle.cf_setup.specs.Setups.{SetupValue, IsSetup}
 use Rattle.cf_report.specs.declared.loaded.Live.{Live}
-use Rattle.cf_report.specs.Answered.{Answered, ask_at, is_body_of, IsWithin, IsAnswering, turn_of}
+use Rattle.cf_report.specs.Answered.{LoadedValue, ask_at, is_body_of, IsWithin, IsAnswering, turn_of}
 use Rattle.cf_report.specs.Meaning.{told_on, answer_on, IsMeant, AreMeant}
 use Rattle.cf_report.proofs.Legal.{finals_meant}
 
 low_range : (n : ℕ) → All (λ place. place < n) (range_with_len 0 n)
 low_range n k d lt = let e = get_or-range_with_len 0 n k d (omega (arith, lt, length-range_with_len 0 n)) in omega (arith, e, lt, length-range_with_len 0 n)
 
-low_places : (p : Numbered → Bool) (rows : List Numbered) → All (λ place. place < length rows) (filter (λ place. p (row_at rows place)) (range_with_len 0 (length rows)))
+low_places : (p : RowValue → Bool) (rows : List RowValue) → All (λ place. place < length rows) (filter (λ place. p (row_at rows place)) (range_with_len 0 (length rows)))
 low_places p rows = All-filter (λ place. p (row_at rows place)) (λ place. place < length rows) (range_with_len 0 (length rows)) (low_range (length rows))
 
-body_within : (shape : Shaped) (ask : Ask) (rows : List Numbered) → IsWithin (length rows) (eval_rows shape ask rows)
+body_within : (shape : ShapeValue) (ask : Ask) (rows : List RowValue) → IsWithin (length rows) (eval_rows shape ask rows)
 body_within shape (asks.List expr) rows = low_places (counts_for shape (asks.List expr)) rows
 body_within shape (asks.Find lane low high) rows = low_places (counts_for shape (asks.Find lane low high)) rows
 body_within shape (asks.Between lane low high) rows = low_places (counts_for shape (asks.Between lane low high)) rows
 body_within shape (asks.Measure lane low high) rows = tt
 body_within shape (asks.Fired trigger) rows = tt
 
-body_kind : (shape : Shaped) (ask : Ask) (rows : List Numbered) → is_body_of ask (eval_rows shape ask rows) ≡ true
+body_kind : (shape : ShapeValue) (ask : Ask) (rows : List RowValue) → is_body_of ask (eval_rows shape ask rows) ≡ true
 body_kind shape (asks.List expr) rows = refl
 body_kind shape (asks.Find lane low high) rows = refl
 body_kind shape (asks.Between lane low high) rows = refl
@@ -49,10 +49,10 @@ within_more m n (bodies.Places places) le within = λ k d lt. let low = within k
 within_more m n (bodies.Total quad) le within = tt
 within_more m n (bodies.Marks marks) le within = tt
 
-within_log : (shape : Shaped) (ask : Ask) (log : List Entry) (n : ℕ) → length log ≤ n → IsWithin n (eval shape ask log)
+within_log : (shape : ShapeValue) (ask : Ask) (log : List Entry) (n : ℕ) → length log ≤ n → IsWithin n (eval shape ask log)
 within_log shape ask log n le = let same : length (rows_in log) ≡ length log = length-map log (λ (entry : Entry). entry.row) in within_more (length (rows_in log)) n (eval shape ask log) (omega (arith, same, le)) (body_within shape ask (rows_in log))
 
-module _ (shape : Shaped) (setup : Settled) (log : List Entry) where
+module _ (shape : ShapeValue) (setup : SetupValue) (log : List Entry) where
   lives_kind : (lives : List Live) → AllByRecursion (IsMeant shape setup log) lives → AllByRecursion (λ live. is_body_of (ask_at setup live.ask) live.answer.body ≡ true) lives
   lives_kind [] meant = tt
   lives_kind (live ∷ lives) meant = (ap (is_body_of (ask_at setup live.ask)) meant.0 ∙ body_kind shape (ask_at setup live.ask) (rows_in (take live.answer.tail log)), lives_kind lives meant.1)
@@ -78,7 +78,7 @@ from_turns : (n : ℕ) (lives : List Live) → AllByRecursion (λ (turn : Turn).
 from_turns n [] low = tt
 from_turns n (live ∷ lives) low = (low.0, from_turns n lives low.1)
 
-module _ (setup : Settled) (shape : Shaped) (rounds : ℕ) (log : List Entry) (answered : Answered) (lawful : IsSetup setup) (meant : AreMeant setup shape rounds log answered) where
+module _ (setup : SetupValue) (shape : ShapeValue) (rounds : ℕ) (log : List Entry) (answered : LoadedValue) (lawful : IsSetup setup) (meant : AreMeant setup shape rounds log answered) where
   asks_exist : All (λ ask. ask < length setup.asks) setup.lives
   asks_exist = λ k d lt. ltb-true (get_or setup.lives k d) (length setup.asks) (AllPass-from_list_all (λ live. nat_lt live (length setup.asks)) setup.lives lawful.lives k d lt)
 
@@ -87,7 +87,7 @@ module _ (setup : Settled) (shape : Shaped) (rounds : ℕ) (log : List Entry) (a
     finals = ap (λ (answers : List Answer). length answers) meant.finals ∙ length-map setup.asks (answer_on shape log);
     alerts = ap (λ (found : List (List Fired)). length found) meant.alerts ∙ length-map setup.triggers (λ trigger. marks_over shape trigger (rows_in log));
     lives = All-from_recursion (λ live. live.ask < length setup.asks) answered.lives (from_turns (length setup.asks) answered.lives (recursion_from_All (λ (turn : Turn). turn.ask < length setup.asks) (map (λ (at : Turn × ℕ). at.0) (map turn_of answered.lives)) (subst (All (λ (turn : Turn). turn.ask < length setup.asks)) (sym meant.tails.turns) (turns_exist (length setup.asks) (batches_of (length log)) rounds setup.lives asks_exist))));
-    final_kinds = subst (All (λ (told : Told Ask Body). is_body_of told.ask told.body ≡ true)) (sym (finals_meant setup shape rounds log answered meant)) (All-map (λ (told : Told Ask Body). is_body_of told.ask told.body ≡ true) (told_on shape (rows_in log)) setup.asks (λ k d lt. body_kind shape (get_or setup.asks k d) (rows_in log)));
+    final_kinds = subst (All (λ (told : AskReply Ask Body). is_body_of told.ask told.body ≡ true)) (sym (finals_meant setup shape rounds log answered meant)) (All-map (λ (told : AskReply Ask Body). is_body_of told.ask told.body ≡ true) (told_on shape (rows_in log)) setup.asks (λ k d lt. body_kind shape (get_or setup.asks k d) (rows_in log)));
     final_places = subst (All (λ (answer : Answer). IsWithin (length log) answer.body)) (sym meant.finals) (All-map (λ (answer : Answer). IsWithin (length log) answer.body) (answer_on shape log) setup.asks (λ k d lt. within_log shape (get_or setup.asks k d) log (length log) (omega arith)));
     live_kinds = All-from_recursion (λ live. is_body_of (ask_at setup live.ask) live.answer.body ≡ true) answered.lives (lives_kind shape setup log answered.lives meant.lives);
     live_places = All-from_recursion (λ live. IsWithin (length log) live.answer.body) answered.lives (lives_within shape setup log answered.lives meant.lives);

@@ -4,9 +4,9 @@ use Rattle.std.proofs.lemmas.Bool.{eq-eqb}
 use Rattle.std.proofs.lemmas.List.{take_more, drop_more, get_or_default}
 use Rattle.std.proofs.lemmas.List.Elements.{filter-append}
 use Rattle.std.specs.List.{last_or}
-use Rattle.cf_row.specs.Row.{Numbered}
+use Rattle.cf_row.specs.Row.{RowValue}
 use Rattle.cf_report.specs.declared.loaded.Live.{Live}
-use Rattle.cf_setup.specs.Settled.{Settled}
+use Rattle.cf_setup.specs.Setups.{SetupValue}
 use Rattle.cf_report.specs.Report.{marks_of, marks_of_live, marks_before, live_line, new_line, live_lines}
 
 last_or_push : (o : Option Live) (xs : List Live) (y : Live) → last_or o (xs ++ y ∷ []) ≡ Some y
@@ -24,7 +24,7 @@ before_found earlier place ask x y some within x_is y_is asked =
     ap (filter (λ (l : Live). l.ask == ask)) more ∙ filter-append (λ (l : Live). l.ask == ask) (take (place - 1) earlier) (y ∷ []) ∙ ap (λ (b : Bool). filter (λ (l : Live). l.ask == ask) (take (place - 1) earlier) ++ cond b (y ∷ []) []) own in
     sym (ap (λ (ls : List Live). marks_of_live (last_or None ls)) kept ∙ ap marks_of_live (last_or_push None (filter (λ (l : Live). l.ask == ask) (take (place - 1) earlier)) y))
 
-pub lives_step : (q : Settled) (rows : List Numbered) (lives : List Live) (place : ℕ) (x : Live) (text after all : List ℕ) → place < length lives → x ≡ get_or lives place x → text ++ live_lines q rows (take place lives) (drop place lives) ≡ all → after ≡ text ++ (live_line q rows x ++ new_line q (take place lives) x x.answer.body) → after ++ live_lines q rows (take (place + 1) lives) (drop (place + 1) lives) ≡ all
+pub lives_step : (q : SetupValue) (rows : List RowValue) (lives : List Live) (place : ℕ) (x : Live) (text after all : List ℕ) → place < length lives → x ≡ get_or lives place x → text ++ live_lines q rows (take place lives) (drop place lives) ≡ all → after ≡ text ++ (live_line q rows x ++ new_line q (take place lives) x x.answer.body) → after ++ live_lines q rows (take (place + 1) lives) (drop (place + 1) lives) ≡ all
 lives_step q rows lives place x text after all lt x_is was is =
     let front : take (place + 1) lives ≡ take place lives ++ x ∷ [] = take_more lives place x lt ∙ ap (λ (l : Live). take place lives ++ l ∷ []) (sym x_is) in
     let back : drop place lives ≡ x ∷ drop (place + 1) lives = drop_more lives place x lt ∙ ap (λ (l : Live). l ∷ drop (place + 1) lives) (sym x_is) in

@@ -1,33 +1,33 @@
 -- Answers that are meant on the log of a valid order make the report of the rows.
 use Rattle.std.proofs.Common.{◌≡◌, ℕ, ◌<◌, List, [], ◌∷◌, length, map, replicate, refl, sym, ap, ap₂, subst, ◌∙◌, arith}
 use Rattle.std.specs.List.{AllByRecursion, flat_map, range_with_len}
-use Rattle.cf_row.specs.Row.{Numbered}
+use Rattle.cf_row.specs.Row.{RowValue}
 use Rattle.cf_row.specs.declared.row.Entry.{Entry}
-use Rattle.cf_history.specs.History.{Told}
+use Rattle.cf_history.specs.History.{AskReply}
 use Rattle.cf_history.specs.Order.{IsOrder, log_of}
 use Rattle.cf_history.specs.Tails.{Turn, AreTails, batches_of}
 use Rattle.cf_history.proofs.Orders.{log_of_order}
 use Rattle.cf_history.proofs.OneWriter.{alone, is_order_one, log_of_one}
-use Rattle.cf_shape.specs.Lanes.{Shaped}
+use Rattle.cf_shape.specs.Lanes.{ShapeValue}
 use Rattle.cf_plain.specs.Asks.{rows_in}
 use Rattle.cf_plain.specs.declared.ask.Ask.{Ask}
 use Rattle.cf_plain.specs.declared.answer.Body.{Body}
 use Rattle.cf_plain.specs.declared.answer.Fired.{Fired}
-use Rattle.cf_setup.specs.Settled.{Settled, shaped}
+use Rattle.cf_setup.specs.Setups.{SetupValue, shaped}
 use Rattle.cf_report.specs.declared.text.Form.TheVariants.{Whole, Final}
 use Rattle.cf_report.specs.declared.loaded.Live.{Live}
-use Rattle.cf_report.specs.Answered.{Answered, tolds_of, turn_of}
+use Rattle.cf_report.specs.Answered.{LoadedValue, tolds_of, turn_of}
 use Rattle.cf_report.specs.Report.{final_part, report_text}
 use Rattle.cf_report.specs.Meaning.{answer_on, alerts_on, final_text, IsReport, IsMeant, AreMeant}
 use Rattle.cf_report.specs.Text.{text_of}
 use Rattle.cf_report.proofs.Legal.{finals_meant, report_told, report_history}
 use Rattle.cf_report.proofs.Same.{one_final}
 
-module _ (setup : Settled) (capacity writers nodes rounds : ℕ) (rows : List Numbered) (order : List ℕ) (answered : Answered) (some : 0 < writers) (valid : IsOrder order (length rows) writers) (meant : AreMeant setup (shaped setup capacity writers nodes) rounds (log_of rows writers order) answered) where
+module _ (setup : SetupValue) (capacity writers nodes rounds : ℕ) (rows : List RowValue) (order : List ℕ) (answered : LoadedValue) (some : 0 < writers) (valid : IsOrder order (length rows) writers) (meant : AreMeant setup (shaped setup capacity writers nodes) rounds (log_of rows writers order) answered) where
   -- the final part that is printed is that of the rows
   printed_final : final_part setup (rows_in (log_of rows writers order)) (tolds_of setup.asks answered.finals) answered.alerts ≡ final_text (shaped setup capacity writers nodes) setup rows
   printed_final =
-      ap₂ (λ (ts : List (Told Ask Body)) (found : List (List Fired)). final_part setup (rows_in (log_of rows writers order)) ts found) (finals_meant setup (shaped setup capacity writers nodes) rounds (log_of rows writers order) answered meant) meant.alerts
+      ap₂ (λ (ts : List (AskReply Ask Body)) (found : List (List Fired)). final_part setup (rows_in (log_of rows writers order)) ts found) (finals_meant setup (shaped setup capacity writers nodes) rounds (log_of rows writers order) answered meant) meant.alerts
       ∙ one_final (shaped setup capacity writers nodes) setup rows writers order some valid
 
   -- the whole text is the report
@@ -58,7 +58,7 @@ no_turns : (n : ℕ) (lives : List ℕ) → AreTails n 0 lives []
 no_turns n lives = record { turns = sym (no_rounds (range_with_len 0 (batches_of n)) lives); rise = tt; within = tt }
 
 -- answers on a log to which no live question was asked
-pub meant_alone : (setup : Settled) (shape : Shaped) (log : List Entry) (answered : Answered) → answered.finals ≡ map (answer_on shape log) setup.asks → answered.alerts ≡ alerts_on shape setup (rows_in log) → answered.lives ≡ [] → AreMeant setup shape 0 log answered
+pub meant_alone : (setup : SetupValue) (shape : ShapeValue) (log : List Entry) (answered : LoadedValue) → answered.finals ≡ map (answer_on shape log) setup.asks → answered.alerts ≡ alerts_on shape setup (rows_in log) → answered.lives ≡ [] → AreMeant setup shape 0 log answered
 meant_alone setup shape log answered finals alerts none = record {
   finals = finals;
   alerts = alerts;
@@ -67,7 +67,7 @@ meant_alone setup shape log answered finals alerts none = record {
 }
 
 -- The report of the rows of one writer, with no live answers: the log is the rows one after the other.
-pub report_of_one : (setup : Settled) (capacity nodes : ℕ) (rows : List Numbered) (answered : Answered) → answered.finals ≡ map (answer_on (shaped setup capacity 1 nodes) (alone rows)) setup.asks → answered.alerts ≡ alerts_on (shaped setup capacity 1 nodes) setup (rows_in (alone rows)) → answered.lives ≡ [] → IsReport setup capacity 1 nodes 0 rows (replicate (length rows) 0) (text_of Whole setup (alone rows) answered)
+pub report_of_one : (setup : SetupValue) (capacity nodes : ℕ) (rows : List RowValue) (answered : LoadedValue) → answered.finals ≡ map (answer_on (shaped setup capacity 1 nodes) (alone rows)) setup.asks → answered.alerts ≡ alerts_on (shaped setup capacity 1 nodes) setup (rows_in (alone rows)) → answered.lives ≡ [] → IsReport setup capacity 1 nodes 0 rows (replicate (length rows) 0) (text_of Whole setup (alone rows) answered)
 report_of_one setup capacity nodes rows answered finals alerts none =
     let log : List Entry = log_of rows 1 (replicate (length rows) 0) in
     let same : alone rows ≡ log = sym (log_of_one rows) in

@@ -1,6 +1,6 @@
 -- The answers of a load, as contracts see them.
 use Rattle.std.specs.Prelude.{◌≡◌, ℕ, ◌<◌, Bool, true, false, List, [], ◌∷◌, All, length, slice_index_or}
-use Rattle.cf_history.specs.History.{Told}
+use Rattle.cf_history.specs.History.{AskReply}
 use Rattle.cf_history.specs.Tails.{Turn}
 use Rattle.cf_plain.specs.declared.ask.Ask.{Ask}
 use Rattle.cf_plain.specs.declared.ask.Ask.TheVariants as asks
@@ -8,11 +8,11 @@ use Rattle.cf_plain.specs.declared.answer.Answer.{Answer}
 use Rattle.cf_plain.specs.declared.answer.Body.{Body}
 use Rattle.cf_plain.specs.declared.answer.Body.TheVariants as bodies
 use Rattle.cf_plain.specs.declared.answer.Fired.{Fired}
-use Rattle.cf_setup.specs.Settled.{Settled}
+use Rattle.cf_setup.specs.Setups.{SetupValue}
 use Rattle.cf_report.specs.declared.loaded.Live.{Live}
 
 -- the answers on the whole log, what each trigger found there, and the answers of the live questions in their turns
-pub record Answered : Type 0 where
+pub record LoadedValue : Type 0 where
   pub finals : List Answer
   pub alerts : List (List Fired)
   pub lives : List Live
@@ -20,21 +20,21 @@ pub record Answered : Type 0 where
 abbrev pub no_ask : Ask
 no_ask = asks.List []
 
-abbrev pub ask_at : Settled → ℕ → Ask
+abbrev pub ask_at : SetupValue → ℕ → Ask
 ask_at setup place = slice_index_or setup.asks place no_ask
 
 -- a question with its answer
-abbrev pub told_by : Ask → Answer → Told Ask Body
+abbrev pub told_by : Ask → Answer → AskReply Ask Body
 told_by ask answer = record { ask = ask; tail = answer.tail; body = answer.body }
 
 -- each question with the answer at its place
-abbrev pub tolds_of : List Ask → List Answer → List (Told Ask Body)
+abbrev pub tolds_of : List Ask → List Answer → List (AskReply Ask Body)
 tolds_of [] answers = []
 tolds_of (ask ∷ rest) [] = []
 tolds_of (ask ∷ rest) (answer ∷ answers) = told_by ask answer ∷ tolds_of rest answers
 
 -- a live question with its answer
-abbrev pub told_live : Settled → Live → Told Ask Body
+abbrev pub told_live : SetupValue → Live → AskReply Ask Body
 told_live setup live = told_by (ask_at setup live.ask) live.answer
 
 -- the reader's turn in which a live answer was given, and how much of the log it saw
@@ -72,7 +72,7 @@ IsWithin n (bodies.Marks marks) = Unit {0}
 
 -- An answer to each question, marks to each trigger, and live answers to questions that exist. Each body is of its question's
 -- kind, and its places are those of the n entries.
-pub record IsAnswering (setup : Settled) (n : ℕ) (answered : Answered) : Type 0 where
+pub record IsAnswering (setup : SetupValue) (n : ℕ) (answered : LoadedValue) : Type 0 where
   pub finals : length answered.finals ≡ length setup.asks
   pub alerts : length answered.alerts ≡ length setup.triggers
   pub lives : All (λ live. live.ask < length setup.asks) answered.lives

@@ -1,8 +1,8 @@
 -- The text of a question's answer. Numbers are decimal, and a line ends with byte 10.
 use Rattle.std.specs.Prelude.{ℕ, ◌==◌, List, [], ◌∷◌, ◌++◌, length, map, codes, decimal, if◌then◌else◌}
 use Rattle.std.specs.List.{flat_map}
-use Rattle.cf_row.specs.Row.{Numbered}
-use Rattle.cf_fold.specs.Quads.{Counts}
+use Rattle.cf_row.specs.Row.{RowValue}
+use Rattle.cf_fold.specs.Quads.{QuadValue}
 use Rattle.cf_plain.specs.Asks.{row_at}
 use Rattle.cf_plain.specs.declared.ask.Ask.{Ask}
 use Rattle.cf_plain.specs.declared.ask.Ask.TheVariants as asks
@@ -14,7 +14,7 @@ abbrev pub line : List ℕ → List ℕ
 line text = text ++ 10 ∷ []
 
 -- the numbers in the input of the rows at some places
-abbrev pub nums_at : List Numbered → List ℕ → List ℕ
+abbrev pub nums_at : List RowValue → List ℕ → List ℕ
 nums_at rows places = map (λ place. (row_at rows place).num) places
 
 abbrev pub number_text : ℕ → List ℕ
@@ -29,7 +29,7 @@ abbrev pub bound_text : ℕ → ℕ → List ℕ
 bound_text count bound = if count == 0 then codes "-" else decimal bound
 
 -- ` count C sum S least L greatest G`
-abbrev pub quad_text : Counts → List ℕ
+abbrev pub quad_text : QuadValue → List ℕ
 quad_text quad =
     codes " count " ++ decimal quad.count ++ codes " sum " ++ decimal quad.sum ++ codes " least " ++ bound_text quad.count quad.least ++ codes " greatest " ++ bound_text quad.count quad.greatest
 

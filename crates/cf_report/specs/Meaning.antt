@@ -1,52 +1,52 @@
 -- What a report tells: the answers of one legal history of a one-thread list.
 use Rattle.std.specs.Prelude.{◌≡◌, ℕ, List, [], ◌∷◌, length, map, take}
 use Rattle.std.specs.List.{AllByRecursion}
-use Rattle.cf_row.specs.Row.{Numbered}
+use Rattle.cf_row.specs.Row.{RowValue}
 use Rattle.cf_row.specs.declared.row.Entry.{Entry}
-use Rattle.cf_history.specs.History.{Told, IsHistoryOf, AreToldBy, spell}
+use Rattle.cf_history.specs.History.{AskReply, IsHistoryOf, AreToldBy, spell}
 use Rattle.cf_history.specs.Order.{IsOrder, log_of}
 use Rattle.cf_history.specs.Tails.{AreTails}
-use Rattle.cf_shape.specs.Lanes.{Shaped}
+use Rattle.cf_shape.specs.Lanes.{ShapeValue}
 use Rattle.cf_plain.specs.Asks.{rows_in, eval, eval_rows, marks_over}
 use Rattle.cf_plain.specs.declared.ask.Ask.{Ask}
 use Rattle.cf_plain.specs.declared.answer.Answer.{Answer}
 use Rattle.cf_plain.specs.declared.answer.Body.{Body}
 use Rattle.cf_plain.specs.declared.answer.Fired.{Fired}
-use Rattle.cf_setup.specs.Settled.{Settled, shaped}
+use Rattle.cf_setup.specs.Setups.{SetupValue, shaped}
 use Rattle.cf_report.specs.declared.loaded.Live.{Live}
-use Rattle.cf_report.specs.Answered.{Answered, ask_at, told_live, turn_of}
+use Rattle.cf_report.specs.Answered.{LoadedValue, ask_at, told_live, turn_of}
 use Rattle.cf_report.specs.Report.{final_part, report_text}
 
 -- a question's answer on all of some rows
-abbrev pub told_on : Shaped → List Numbered → Ask → Told Ask Body
+abbrev pub told_on : ShapeValue → List RowValue → Ask → AskReply Ask Body
 told_on shape rows ask = record { ask = ask; tail = length rows; body = eval_rows shape ask rows }
 
 -- the answers of all questions on all of some rows
-abbrev pub finals_on : Shaped → Settled → List Numbered → List (Told Ask Body)
+abbrev pub finals_on : ShapeValue → SetupValue → List RowValue → List (AskReply Ask Body)
 finals_on shape setup rows = map (told_on shape rows) setup.asks
 
 -- the marks of all triggers on all of some rows
-abbrev pub alerts_on : Shaped → Settled → List Numbered → List (List Fired)
+abbrev pub alerts_on : ShapeValue → SetupValue → List RowValue → List (List Fired)
 alerts_on shape setup rows = map (λ trigger. marks_over shape trigger rows) setup.triggers
 
 -- the final part, where the answers are what the questions and triggers mean on these rows
-abbrev pub final_text : Shaped → Settled → List Numbered → List ℕ
+abbrev pub final_text : ShapeValue → SetupValue → List RowValue → List ℕ
 final_text shape setup rows = final_part setup rows (finals_on shape setup rows) (alerts_on shape setup rows)
 
 -- the asking passes: the reader beside the writers, and then the final questions
-abbrev pub passes_of : Settled → List (Told Ask Body) → List Live → List (List (Told Ask Body))
+abbrev pub passes_of : SetupValue → List (AskReply Ask Body) → List Live → List (List (AskReply Ask Body))
 passes_of setup finals lives = map (told_live setup) lives ∷ finals ∷ []
 
 -- A report over some rows, which the writers brought into the log in this order. The answers that it prints are those of one
 -- legal history of a one-thread list. The shape is the setup's with that many tickets, writers and nodes.
-pub record IsReport (setup : Settled) (capacity writers nodes rounds : ℕ) (rows : List Numbered) (order : List ℕ) (text : List ℕ) : Type 0 where
+pub record IsReport (setup : SetupValue) (capacity writers nodes rounds : ℕ) (rows : List RowValue) (order : List ℕ) (text : List ℕ) : Type 0 where
   -- each row is in the log once, in an order that the writers can have made
   pub order_is : IsOrder order (length rows) writers
   -- the live answers, in their turns
   pub lives : List Live
   pub tails_are : AreTails (length rows) rounds setup.lives (map turn_of lives)
   -- the final answers and the alerts, each on the whole log
-  pub finals : List (Told Ask Body)
+  pub finals : List (AskReply Ask Body)
   pub finals_are : finals ≡ finals_on (shaped setup capacity writers nodes) setup (rows_in (log_of rows writers order))
   pub alerts : List (List Fired)
   pub alerts_are : alerts ≡ alerts_on (shaped setup capacity writers nodes) setup (rows_in (log_of rows writers order))
@@ -59,16 +59,16 @@ pub record IsReport (setup : Settled) (capacity writers nodes rounds : ℕ) (row
   pub final_is : final_part setup (rows_in (log_of rows writers order)) finals alerts ≡ final_text (shaped setup capacity writers nodes) setup rows
 
 -- a final answer, which saw all of some entries
-abbrev pub answer_on : Shaped → List Entry → Ask → Answer
+abbrev pub answer_on : ShapeValue → List Entry → Ask → Answer
 answer_on shape log ask = record { tail = length log; body = eval shape ask log }
 
 -- a live answer is its question's meaning on the entries that it saw
-abbrev pub IsMeant : Shaped → Settled → List Entry → Live → Type 0
+abbrev pub IsMeant : ShapeValue → SetupValue → List Entry → Live → Type 0
 IsMeant shape setup log live = live.answer.body ≡ eval shape (ask_at setup live.ask) (take live.answer.tail log)
 
 -- The answers of a load of a log: the final ones and the alerts mean what they do on all of it, and the live ones, in their
 -- turns, on what each saw of it.
-pub record AreMeant (setup : Settled) (shape : Shaped) (rounds : ℕ) (log : List Entry) (answered : Answered) : Type 0 where
+pub record AreMeant (setup : SetupValue) (shape : ShapeValue) (rounds : ℕ) (log : List Entry) (answered : LoadedValue) : Type 0 where
   pub finals : answered.finals ≡ map (answer_on shape log) setup.asks
   pub alerts : answered.alerts ≡ alerts_on shape setup (rows_in log)
   pub tails : AreTails (length log) rounds setup.lives (map turn_of answered.lives)

@@ -3,12 +3,12 @@ use Rattle.std.specs.Prelude.{ℕ, List}
 use Rattle.cf_row.specs.declared.row.Entry.{Entry}
 use Rattle.cf_history.specs.Order.{order_of}
 use Rattle.cf_plain.specs.Asks.{rows_in}
-use Rattle.cf_setup.specs.Settled.{Settled}
+use Rattle.cf_setup.specs.Setups.{SetupValue}
 use Rattle.cf_report.specs.declared.text.Form.{Form}
 use Rattle.cf_report.specs.declared.text.Form.TheVariants.{Whole, Final}
-use Rattle.cf_report.specs.Answered.{Answered, tolds_of}
+use Rattle.cf_report.specs.Answered.{LoadedValue, tolds_of}
 use Rattle.cf_report.specs.Report.{final_part, report_text}
 
-abbrev pub text_of : Form → Settled → List Entry → Answered → List ℕ
+abbrev pub text_of : Form → SetupValue → List Entry → LoadedValue → List ℕ
 text_of Whole setup log answered = report_text setup log (order_of log) (tolds_of setup.asks answered.finals) answered.alerts answered.lives
 text_of Final setup log answered = final_part setup (rows_in log) (tolds_of setup.asks answered.finals) answered.alerts

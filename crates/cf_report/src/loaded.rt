@@ -21,9 +21,9 @@ pub struct Loaded {
 }
 
 impl Model for Loaded {
-    ghost use Rattle.cf_report.specs.Answered.{Answered};
+    ghost use Rattle.cf_report.specs.Answered.{LoadedValue};
 
-    ghost Value = { Answered };
+    ghost Value = { LoadedValue };
 
     ghost view = { λ l. record { finals = l.finals.items; alerts = l.alerts.items; lives = l.lives.items } };
 }

@@ -3,7 +3,7 @@ use Rattle.std.proofs.Common.{◌≡◌, ◌⊎◌, ℕ, List, Option, Some, Non
 use Rattle.std.specs.Io.KnownBytes.{Appends}
 use Rattle.cf_outside.specs.Files.{File}
 use Rattle.cf_command.proofs.Apart.{not_both, no_run_and_synth, no_synth_and_dump}
-use Rattle.cf_table.specs.Moves.{Sealed}
+use Rattle.cf_table.specs.Moves.{SealValue}
 use Rattle.cf_run.specs.Due.{IsDue}
 use Rattle.cf_run.specs.Parts.{IsDrafted}
 use Rattle.cf_run.specs.Seals.{AreSeals}
@@ -22,7 +22,7 @@ none_due (inl none) = absurd none
 none_due (inr (inl none)) = absurd none
 none_due (inr (inr none)) = absurd none
 
-answers_due : (files : List File) (words : List (List ℕ)) (status : Status) (text : List ℕ) (seals : List Sealed) (held now before after : Option (List ℕ)) → (due : IsDue files words status text) → AreSeals files words status text due seals → Appends held now text → Answers files words status seals held now before after
+answers_due : (files : List File) (words : List (List ℕ)) (status : Status) (text : List ℕ) (seals : List SealValue) (held now before after : Option (List ℕ)) → (due : IsDue files words status text) → AreSeals files words status text due seals → Appends held now text → Answers files words status seals held now before after
 answers_due files words Done text seals held now before after due are written = record { text = text; due = due; sealed = are; written = written }
 answers_due files words Words text seals held now before after due are written = record { text = text; due = due; written = written }
 answers_due files words (Setup line code) text seals held now before after due are written = record { text = text; due = due; written = written }
@@ -34,11 +34,11 @@ answers_due files words Full text seals held now before after due are written = 
 answers_due files words Nodes text seals held now before after due are written = record { text = text; due = due; written = written }
 answers_due files words Memory text seals held now before after due are written = none_due due
 
-pub answers_if : (told : Option (List File)) (words : List (List ℕ)) (status : Status) (text : List ℕ) (seals : List Sealed) (before after held now : Option (List ℕ)) → IfSome told (λ files. IsDrafted files words before after status text seals) → Appends held now text → IfSome told (λ files. Answers files words status seals held now before after)
+pub answers_if : (told : Option (List File)) (words : List (List ℕ)) (status : Status) (text : List ℕ) (seals : List SealValue) (before after held now : Option (List ℕ)) → IfSome told (λ files. IsDrafted files words before after status text seals) → Appends held now text → IfSome told (λ files. Answers files words status seals held now before after)
 answers_if None words status text seals before after held now prepared written = prepared
 answers_if (Some files) words status text seals before after held now prepared written = answers_due files words status text seals held now before after prepared.0 prepared.1 written
 
-pub answers_some : (told : Option (List File)) (words : List (List ℕ)) (status : Status) (text : List ℕ) (seals free : List Sealed) (before after held now : Option (List ℕ)) →
+pub answers_some : (told : Option (List File)) (words : List (List ℕ)) (status : Status) (text : List ℕ) (seals free : List SealValue) (before after held now : Option (List ℕ)) →
     IfSome told (λ files. IsDrafted files words before after status text seals) → WritesFront held now text → IfSome told (λ files. Answers files words WriteFault free held now before after)
 answers_some None words status text seals free before after held now prepared written = prepared
 answers_some (Some files) words status text seals free before after held now prepared written = record {

@@ -2,7 +2,7 @@
 use Rattle.std.proofs.Common.{◌≡◌, ℕ, List, [], length, Result, Ok, Err, MatchResult, IfOk, inl, inr, sym, subst, ◌∙◌}
 use Rattle.cf_command.specs.Command.{Asked, Drawn, IsRun, IsSynth, IsDump, NoCommand}
 use Rattle.cf_command.proofs.Apart.{not_both, no_run_and_synth, no_synth_and_dump}
-use Rattle.cf_table.specs.Moves.{Sealed}
+use Rattle.cf_table.specs.Moves.{SealValue}
 use Rattle.cf_run.specs.Answers.{Yields}
 use Rattle.cf_run.specs.ByCommand.{IsByCommand, IsSynthKind, IsDumpKind}
 use Rattle.cf_run.specs.Parts.{IsFree}
@@ -11,7 +11,7 @@ use Rattle.cf_run.specs.declared.draft.Draft.{Draft}
 use Rattle.cf_run.specs.declared.status.Status.{Status}
 use Rattle.cf_run.specs.declared.status.Status.TheVariants.{Done, Words, ReadFault, WriteFault, Memory}
 
-module _ (words : List (List ℕ)) (status : Status) (seals : List Sealed) where
+module _ (words : List (List ℕ)) (status : Status) (seals : List SealValue) where
   pub by_run : (command : Asked) → IsRun words command → (status ≡ Words → ⊥) → (status ≡ Done → length seals ≡ 1) → IsByCommand words status seals
   by_run command is said one = record {
     run = λ other it. (said, one);
@@ -41,14 +41,14 @@ module _ (words : List (List ℕ)) (status : Status) (seals : List Sealed) where
   }
 
 -- what can come whatever the words are
-by_one : (words : List (List ℕ)) (status other : Status) (seals : List Sealed) → status ≡ other → (other ≡ Words → ⊥) → (other ≡ Done → ⊥) → IsSynthKind other → IsDumpKind other → seals ≡ [] → IsByCommand words status seals
+by_one : (words : List (List ℕ)) (status other : Status) (seals : List SealValue) → status ≡ other → (other ≡ Words → ⊥) → (other ≡ Done → ⊥) → IsSynthKind other → IsDumpKind other → seals ≡ [] → IsByCommand words status seals
 by_one words status other seals same no_words undone synth dump none = record {
   run = λ command it. (λ is. no_words (sym same ∙ is), λ is. absurd (undone (sym same ∙ is)));
   synth = λ command it. (subst IsSynthKind (sym same) synth, λ is. absurd (undone (sym same ∙ is)));
   dump = λ command it. (subst IsDumpKind (sym same) dump, none);
 }
 
-pub by_yielding : (words : List (List ℕ)) (status : Status) (seals : List Sealed) → Yields status → seals ≡ [] → IsByCommand words status seals
+pub by_yielding : (words : List (List ℕ)) (status : Status) (seals : List SealValue) → Yields status → seals ≡ [] → IsByCommand words status seals
 by_yielding words status seals yields none = elim yields [
   | inl memory ↦ by_one words status Memory seals memory (λ is. cc is) (λ is. cc is) tt tt none
   | inr device ↦ elim device [

@@ -2,9 +2,9 @@
 use Rattle.std.proofs.Common.{◌≡◌, ◌⊎◌, inl, inr, ℕ, ◌<◌, ◌≤◌, ◌^◌, Bool, true, false, List, [], ◌++◌, length, Result, MatchResult, Vec, refl, ap, sym, ◌∙◌, subst, arith, append-nil}
 use Rattle.std.specs.declared.alloc.Global.{Global}
 use Rattle.std.proofs.lemmas.List.{take-append-le}
-use Rattle.cf_row.specs.Row.{Numbered}
+use Rattle.cf_row.specs.Row.{RowValue}
 use Rattle.cf_row.specs.declared.schema.Attr.{Attr}
-use Rattle.cf_pcap.specs.Capture.{Captured, IsCapture, HasPcapFault}
+use Rattle.cf_pcap.specs.Capture.{FrameValue, IsCapture, HasPcapFault}
 use Rattle.cf_pcap.specs.declared.fault.PcapFault.{PcapFault}
 use Rattle.cf_pcap.specs.declared.fault.PcapFault.TheVariants as faults
 use Rattle.cf_pcap.proofs.Ending.{fault_of_front}
@@ -26,11 +26,11 @@ use Rattle.cf_run.specs.declared.status.Status.TheVariants.{Capture, Memory}
 
 -- Below 2^32 bytes.
 
-frames_end : (b : Bool) (bytes : List ℕ) (frames : List Captured) → AreFramesBy b bytes frames → length bytes < 2 ^ 32
+frames_end : (b : Bool) (bytes : List ℕ) (frames : List FrameValue) → AreFramesBy b bytes frames → length bytes < 2 ^ 32
 frames_end true bytes frames is = is.size
 frames_end false bytes frames is = is.size
 
-pub packets_end : (bytes : List ℕ) (rows : List Numbered) → ArePackets bytes rows → length bytes < 2 ^ 32
+pub packets_end : (bytes : List ℕ) (rows : List RowValue) → ArePackets bytes rows → length bytes < 2 ^ 32
 packets_end bytes rows are = frames_end (begins_section bytes) bytes are.frames are.frames_are
 
 -- The fault of the first 2^32 bytes is that of the file.
@@ -93,21 +93,21 @@ faults_same false bytes at code at' code' p q =
     let one : p.fault ≡ q.fault = pcap.one_fault bytes p.fault q.fault p.fault_is q.fault_is in
     (p.record_is ∙ ap record_of one ∙ sym q.record_is, p.code_is ∙ ap code_of one ∙ sym q.code_is)
 
-frames_either : (b : Bool) (bytes : List ℕ) (frames : List Captured) (at code : ℕ) → AreFramesBy b bytes frames → HasFaultIn b bytes at code → ⊥
+frames_either : (b : Bool) (bytes : List ℕ) (frames : List FrameValue) (at code : ℕ) → AreFramesBy b bytes frames → HasFaultIn b bytes at code → ⊥
 frames_either true bytes frames at code are has = (one_case_of bytes).either frames has.fault are has.fault_is
 frames_either false bytes frames at code are has = pcap.either bytes frames has.fault are has.fault_is
 
-frames_same : (b : Bool) (bytes : List ℕ) (p q : List Captured) → AreFramesBy b bytes p → AreFramesBy b bytes q → p ≡ q
+frames_same : (b : Bool) (bytes : List ℕ) (p q : List FrameValue) → AreFramesBy b bytes p → AreFramesBy b bytes q → p ≡ q
 frames_same true bytes p q are also = (one_case_of bytes).one_capture p q are also
 frames_same false bytes p q are also = pcap.one_capture bytes p q are also
 
 pub packet_faults_same : (bytes : List ℕ) (at code at' code' : ℕ) → HasPacketFault bytes at code → HasPacketFault bytes at' code' → (at ≡ at') × (code ≡ code')
 packet_faults_same bytes at code at' code' p q = faults_same (begins_section bytes) bytes at code at' code' p q
 
-pub packets_either : (bytes : List ℕ) (rows : List Numbered) (at code : ℕ) → ArePackets bytes rows → HasPacketFault bytes at code → ⊥
+pub packets_either : (bytes : List ℕ) (rows : List RowValue) (at code : ℕ) → ArePackets bytes rows → HasPacketFault bytes at code → ⊥
 packets_either bytes rows at code are has = frames_either (begins_section bytes) bytes are.frames at code are.frames_are has
 
-pub packets_same : (bytes : List ℕ) (a b : List Numbered) → ArePackets bytes a → ArePackets bytes b → a ≡ b
+pub packets_same : (bytes : List ℕ) (a b : List RowValue) → ArePackets bytes a → ArePackets bytes b → a ≡ b
 packets_same bytes a b p q = p.rows_are ∙ ap packet_rows (frames_same (begins_section bytes) bytes p.frames q.frames p.frames_are q.frames_are) ∙ sym q.rows_are
 
 record Fault (b : Bool) (bytes : List ℕ) : Type 0 where
@@ -115,7 +115,7 @@ record Fault (b : Bool) (bytes : List ℕ) : Type 0 where
   code : ℕ
   has : HasFaultIn b bytes place code
 
-some_case : (b : Bool) (bytes : List ℕ) → ((frames : List Captured) × AreFramesBy b bytes frames) ⊎ Fault b bytes
+some_case : (b : Bool) (bytes : List ℕ) → ((frames : List FrameValue) × AreFramesBy b bytes frames) ⊎ Fault b bytes
 some_case true bytes = elim (one_case_of bytes).some [
   | inl whole ↦ inl (whole.0, whole.1)
   | inr bad ↦ inr (record { place = frame_of bad.0; code = block_code_of bad.0; has = record { fault = bad.0; fault_is = bad.1; record_is = refl; code_is = refl } })
@@ -137,5 +137,5 @@ one_packet_case attrs bytes = record {
 }
 
 -- what the reader of the format that bytes begin as answers
-pub frames_by : (bytes : List ℕ) (b : Bool) (result : Result (Vec Captured Global) Status) → begins_section bytes ≡ b → MatchResult result (λ frames. AreFramesBy b bytes frames.items × (length frames.items < 2 ^ 32)) (IsBad (HasFaultIn b bytes)) → MatchResult result (λ frames. AreFramesBy (begins_section bytes) bytes frames.items × (length frames.items < 2 ^ 32)) (IsBad (HasPacketFault bytes))
+pub frames_by : (bytes : List ℕ) (b : Bool) (result : Result (Vec FrameValue Global) Status) → begins_section bytes ≡ b → MatchResult result (λ frames. AreFramesBy b bytes frames.items × (length frames.items < 2 ^ 32)) (IsBad (HasFaultIn b bytes)) → MatchResult result (λ frames. AreFramesBy (begins_section bytes) bytes frames.items × (length frames.items < 2 ^ 32)) (IsBad (HasPacketFault bytes))
 frames_by bytes b result is h = subst (λ (x : Bool). MatchResult result (λ frames. AreFramesBy x bytes frames.items × (length frames.items < 2 ^ 32)) (IsBad (HasFaultIn x bytes))) (sym is) h

@@ -6,10 +6,10 @@ use Rattle.cf_command.specs.Command.{Drawn, IsSynth}
 use Rattle.cf_command.specs.Table.{SynthSays}
 use Rattle.cf_command.proofs.Apart.{no_run_and_synth, no_synth_and_dump}
 use Rattle.cf_command.proofs.Numbers.{some_same, decimal_is_one}
-use Rattle.cf_row.specs.Row.{Numbered}
+use Rattle.cf_row.specs.Row.{RowValue}
 use Rattle.cf_make.specs.Generated.{generated_frames}
 use Rattle.cf_shape.specs.Nodes.{distinct}
-use Rattle.cf_setup.specs.Settled.{Settled, shaped}
+use Rattle.cf_setup.specs.Setups.{SetupValue, shaped}
 use Rattle.cf_run.specs.Work.{packet_rows}
 use Rattle.cf_setup.specs.SetupText.{SetupText}
 use Rattle.cf_run.specs.Due.{IsRunDue, IsDumpDue, IsSynthDue, IsDue}
@@ -19,13 +19,13 @@ use Rattle.cf_run.proofs.Drawing.{drawn_many}
 use Rattle.cf_run.specs.declared.status.Status.{Status}
 use Rattle.cf_run.specs.declared.status.Status.TheVariants.{Done, Words, Setup, Capture, ReadFault, WriteFault, Full, Nodes, Memory, NoFile}
 
-setups_agree : (bytes : List ℕ) (a b : Settled) → SetupText bytes (Ok a) → SetupText bytes (Ok b) → a ≡ b
+setups_agree : (bytes : List ℕ) (a b : SetupValue) → SetupText bytes (Ok a) → SetupText bytes (Ok b) → a ≡ b
 setups_agree bytes a b p q = ok_same a b (one_text bytes (Ok a) (Ok b) p q)
 
 other_status : (bytes : List ℕ) (line code line' code' : ℕ) → IsOtherSchema bytes line code → IsOtherSchema bytes line' code' → Setup line code ≡ Setup line' code'
 other_status bytes line code line' code' p q =
     let same : p.setup ≡ q.setup = setups_agree bytes p.setup q.setup p.setup_is q.setup_is in
-    ap₂ (λ (l c : ℕ). Setup l c) (p.line_is ∙ ap (λ (s : Settled). s.schema_line) same ∙ sym q.line_is) (p.code_is ∙ sym q.code_is)
+    ap₂ (λ (l c : ℕ). Setup l c) (p.line_is ∙ ap (λ (s : SetupValue). s.schema_line) same ∙ sym q.line_is) (p.code_is ∙ sym q.code_is)
 
 -- what refuses one file
 cause_status : (bytes : List ℕ) (line code line' code' : ℕ) → SetupText bytes (Err (line, code)) ⊎ IsOtherSchema bytes line code → SetupText bytes (Err (line', code')) ⊎ IsOtherSchema bytes line' code' → Setup line code ≡ Setup line' code'
@@ -34,10 +34,10 @@ cause_status bytes line code line' code' (inl p) (inr q) = absurd (no_fault byte
 cause_status bytes line code line' code' (inr p) (inl q) = absurd (no_fault bytes p.setup line' code' p.setup_is q)
 cause_status bytes line code line' code' (inr p) (inr q) = other_status bytes line code line' code' p q
 
-packets_no_cause : (bytes : List ℕ) (setup : Settled) (line code : ℕ) → SetupText bytes (Ok setup) → setup.packet ≡ true → SetupText bytes (Err (line, code)) ⊎ IsOtherSchema bytes line code → ⊥
+packets_no_cause : (bytes : List ℕ) (setup : SetupValue) (line code : ℕ) → SetupText bytes (Ok setup) → setup.packet ≡ true → SetupText bytes (Err (line, code)) ⊎ IsOtherSchema bytes line code → ⊥
 packets_no_cause bytes setup line code is packets (inl fault) = no_fault bytes setup line code is fault
 packets_no_cause bytes setup line code is packets (inr other) =
-    false≢true (sym other.records ∙ ap (λ (s : Settled). s.packet) (setups_agree bytes other.setup setup other.setup_is is) ∙ packets)
+    false≢true (sym other.records ∙ ap (λ (s : SetupValue). s.packet) (setups_agree bytes other.setup setup other.setup_is is) ∙ packets)
 
 module _ (files : List File) (words : List (List ℕ)) where
   one_drawn : (a b : Drawn) → (p : IsSynth words a) → (q : IsSynth words b) → p.said ≡ q.said
@@ -174,7 +174,7 @@ module _ (files : List File) (words : List (List ℕ)) where
           let rows : drawn_rows l.work.command ≡ drawn_rows other.command = ap₂ (λ (seed count : ℕ). packet_rows (generated_frames seed count)) (one_seed l.work.command other.command l.work.command_is other.command_is) (one_count l.work.command other.command l.work.command_is other.command_is) in
           let nodes : l.work.command.nodes ≡ other.command.nodes = one_nodes l.work.command other.command l.work.command_is other.command_is in
           let needs : distinct (shaped l.work.setup l.work.command.capacity l.work.command.writers l.work.command.nodes) (drawn_rows l.work.command) ≡ distinct (shaped other.setup other.command.capacity other.command.writers other.command.nodes) (drawn_rows other.command) =
-          ap₂ (λ (s : Settled) (rs : List Numbered). distinct (shaped s 0 0 0) rs) setup rows in
+          ap₂ (λ (s : SetupValue) (rs : List RowValue). distinct (shaped s 0 0 0) rs) setup rows in
           let few : distinct (shaped l.work.setup l.work.command.capacity l.work.command.writers l.work.command.nodes) (drawn_rows l.work.command) ≤ l.work.command.nodes = l.few_nodes in
           let many : other.command.nodes < distinct (shaped other.setup other.command.capacity other.command.writers other.command.nodes) (drawn_rows other.command) = o.many in
           omega (arith, nodes, needs, few, many)

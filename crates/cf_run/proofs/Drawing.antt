@@ -2,8 +2,8 @@
 use Rattle.std.proofs.Common.{◌≡◌, ℕ, ◌≤◌, List, length, Result, Vec, IfOk, ◌∙◌, subst, sym, refl}
 use Rattle.std.specs.declared.alloc.Global.{Global}
 use Rattle.std.proofs.lemmas.List.{length-map}
-use Rattle.cf_row.specs.Row.{Numbered}
-use Rattle.cf_pcap.specs.Capture.{Captured, IsCapture}
+use Rattle.cf_row.specs.Row.{RowValue}
+use Rattle.cf_pcap.specs.Capture.{FrameValue, IsCapture}
 use Rattle.cf_headers.specs.Packet.{packet_row_of}
 use Rattle.cf_make.specs.Generated.{generated_bytes, generated_frames}
 use Rattle.cf_make.proofs.Reading.{is_capture, frames_many}
@@ -35,7 +35,7 @@ pub drawn_many : (command : Drawn) → length (drawn_rows command) ≡ command.c
 drawn_many command = length-map (generated_frames command.seed command.count) packet_row_of ∙ frames_many command.seed command.count
 
 -- what is read of a made capture are the rows of its packets
-pub drawn_are : {E : Type 0} (seed count : ℕ) (bytes : List ℕ) (frames now : List Captured) (result : Result (Vec Numbered Global) E) → count ≤ 65536 → bytes ≡ generated_bytes seed count → IsCapture bytes frames → now ≡ frames → IfOk result (λ rows. rows.items ≡ packet_rows now) → IfOk result (λ rows. rows.items ≡ packet_rows (generated_frames seed count))
+pub drawn_are : {E : Type 0} (seed count : ℕ) (bytes : List ℕ) (frames now : List FrameValue) (result : Result (Vec RowValue Global) E) → count ≤ 65536 → bytes ≡ generated_bytes seed count → IsCapture bytes frames → now ≡ frames → IfOk result (λ rows. rows.items ≡ packet_rows now) → IfOk result (λ rows. rows.items ≡ packet_rows (generated_frames seed count))
 drawn_are seed count bytes frames now result few made is same rows =
     let drawn : frames ≡ generated_frames seed count = one_capture (generated_bytes seed count) frames (generated_frames seed count) (subst (λ (x : List ℕ). IsCapture x frames) made is) (is_capture seed count few) in
-    subst (λ (x : List Captured). IfOk result (λ all. all.items ≡ packet_rows x)) (same ∙ drawn) rows
+    subst (λ (x : List FrameValue). IfOk result (λ all. all.items ≡ packet_rows x)) (same ∙ drawn) rows

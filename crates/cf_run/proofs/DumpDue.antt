@@ -3,10 +3,10 @@ use Rattle.std.proofs.Common.{◌≡◌, ℕ, ◌^◌, List, [], Option, Some, N
 use Rattle.std.specs.declared.alloc.Global.{Global}
 use Rattle.cf_row.specs.Schema.{packet_attrs}
 use Rattle.cf_outside.specs.Files.{File}
-use Rattle.cf_row.specs.Row.{Numbered}
+use Rattle.cf_row.specs.Row.{RowValue}
 use Rattle.cf_command.specs.Command.{IsDump}
 use Rattle.cf_dump.specs.Dump.{dump_text}
-use Rattle.cf_table.specs.Moves.{Sealed}
+use Rattle.cf_table.specs.Moves.{SealValue}
 use Rattle.cf_run.specs.Due.{refusal_line}
 use Rattle.cf_run.specs.Dumps.{LacksDumped}
 use Rattle.cf_run.specs.Left.{MayBeLeft}
@@ -70,8 +70,8 @@ module _ (words : List (List ℕ)) (name : List ℕ) (is : IsDump words name) (b
   dump_refused None status result stop refused = stop
   dump_refused (Some files) status result stop refused = refused_in files words name is before now status result stop refused
 
-  module _ (rows : Vec Numbered Global) where
-    pub dump_prepared : (told : Option (List File)) (text : List ℕ) (seals : List Sealed) → IfSome told (λ files. LoadsPackets files name before now (Ok rows)) → text ≡ dump_text packet_attrs rows.items → seals ≡ [] → IfSome told (λ files. IsDrafted files words before now Done text seals)
+  module _ (rows : Vec RowValue Global) where
+    pub dump_prepared : (told : Option (List File)) (text : List ℕ) (seals : List SealValue) → IfSome told (λ files. LoadsPackets files name before now (Ok rows)) → text ≡ dump_text packet_attrs rows.items → seals ≡ [] → IfSome told (λ files. IsDrafted files words before now Done text seals)
     dump_prepared None text seals loaded shown bare = loaded
     dump_prepared (Some files) text seals loaded shown bare =
         (inr (inl (record { work = record { name = name; name_is = is; capture = loaded.0; file = loaded.1; rows = rows.items; rows_are = loaded.2 }; text_is = shown })), bare, loaded.3)

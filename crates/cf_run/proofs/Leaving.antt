@@ -2,9 +2,9 @@
 use Rattle.std.proofs.Common.{◌≡◌, ℕ, ◌≤◌, ◌<◌, ◌^◌, List, [], length, Option, Some, Ok, sym, ap, ◌∙◌, inl, inr, arith}
 use Rattle.std.proofs.lemmas.List.{drop_all}
 use Rattle.cf_outside.specs.Files.{File, file_named}
-use Rattle.cf_row.specs.Row.{Numbered}
+use Rattle.cf_row.specs.Row.{RowValue}
 use Rattle.cf_command.specs.Command.{Asked, Drawn, IsRun, IsSynth, IsDump}
-use Rattle.cf_setup.specs.Settled.{Settled}
+use Rattle.cf_setup.specs.Setups.{SetupValue}
 use Rattle.cf_setup.specs.SetupText.{SetupText}
 use Rattle.cf_run.specs.Devices.{IsTakenFrom, IsStopped}
 use Rattle.cf_run.specs.Due.{HasSetup}
@@ -36,7 +36,7 @@ module _ (files : List File) (words : List (List ℕ)) where
     | inr taken ↦ inr (inr (inl (record { has = has; capture = taken.0; file = taken.1; taken = taken.2 })))
   ]
 
-  pub capture_left : (has : HasSetup files words) (capture : List ℕ) (rows : List Numbered) (before now : Option (List ℕ)) → file_named files has.command.capture ≡ Some capture → AreRowsOf has.setup capture rows → now ≡ Some [] → MayBeLeft files words before now
+  pub capture_left : (has : HasSetup files words) (capture : List ℕ) (rows : List RowValue) (before now : Option (List ℕ)) → file_named files has.command.capture ≡ Some capture → AreRowsOf has.setup capture rows → now ≡ Some [] → MayBeLeft files words before now
   capture_left has capture rows before now found rows_are none =
       inr (inr (inl (record { has = has; capture = capture; file = found; taken = whole_taken capture (limit_of has.setup) now (let short : length capture < limit_of has.setup = ends_by has.setup.packet has.setup.schema capture rows rows_are in omega (arith, short)) none })))
 
@@ -46,7 +46,7 @@ module _ (files : List File) (words : List (List ℕ)) where
     | inr taken ↦ inr (inr (inr (inl (record { name = name; name_is = is; capture = taken.0; file = taken.1; taken = taken.2 }))))
   ]
 
-  pub dump_left : (name : List ℕ) → IsDump words name → (capture : List ℕ) (rows : List Numbered) (before now : Option (List ℕ)) → file_named files name ≡ Some capture → ArePackets capture rows → now ≡ Some [] → MayBeLeft files words before now
+  pub dump_left : (name : List ℕ) → IsDump words name → (capture : List ℕ) (rows : List RowValue) (before now : Option (List ℕ)) → file_named files name ≡ Some capture → ArePackets capture rows → now ≡ Some [] → MayBeLeft files words before now
   dump_left name is capture rows before now found rows_are none =
       inr (inr (inr (inl (record { name = name; name_is = is; capture = capture; file = found; taken = whole_taken capture (2 ^ 32) now (let short : length capture < 2 ^ 32 = (packets_end capture rows rows_are) in omega (arith, short)) none }))))
 
@@ -56,6 +56,6 @@ module _ (files : List File) (words : List (List ℕ)) where
     | inr taken ↦ inr (inr (inr (inr (record { command = command; command_is = is; bytes = taken.0; file = taken.1; taken = taken.2 }))))
   ]
 
-  pub synth_left : (command : Drawn) → IsSynth words command → (bytes : List ℕ) (setup : Settled) (before now : Option (List ℕ)) → file_named files command.setup ≡ Some bytes → SetupText bytes (Ok setup) → now ≡ Some [] → MayBeLeft files words before now
+  pub synth_left : (command : Drawn) → IsSynth words command → (bytes : List ℕ) (setup : SetupValue) (before now : Option (List ℕ)) → file_named files command.setup ≡ Some bytes → SetupText bytes (Ok setup) → now ≡ Some [] → MayBeLeft files words before now
   synth_left command is bytes setup before now found text none =
       inr (inr (inr (inr (record { command = command; command_is = is; bytes = bytes; file = found; taken = whole_taken bytes 65537 now (let short : length bytes ≤ 65536 = setup_short bytes setup text in omega (arith, short)) none }))))

@@ -1,13 +1,13 @@
 -- From a file that is read to what loading its rows answers.
 use Rattle.std.proofs.Common.{◌≡◌, ◌⊎◌, ℕ, ◌+◌, ◌<◌, ◌≤◌, ◌^◌, Bool, true, false, List, [], ◌++◌, length, Option, Some, None, Result, Ok, Err, refl, ap, sym, ◌∙◌, inl, inr, IfSome, MatchResult, subst, arith, append-nil, length-append, Vec}
 use Rattle.std.specs.declared.alloc.Global.{Global}
-use Rattle.cf_row.specs.Row.{Numbered}
+use Rattle.cf_row.specs.Row.{RowValue}
 use Rattle.cf_row.specs.declared.schema.Attr.{Attr}
 use Rattle.cf_outside.specs.Files.{File}
 use Rattle.cf_records.specs.Records.{HasRecordsFault, IsRecordFile}
 use Rattle.cf_records.specs.declared.fault.RecordFault.{RecordFault}
 use Rattle.cf_records.specs.declared.fault.RecordFault.TheVariants as records
-use Rattle.cf_setup.specs.Settled.{Settled}
+use Rattle.cf_setup.specs.Setups.{SetupValue}
 use Rattle.cf_run.specs.Devices.{IsFileRead}
 use Rattle.cf_run.specs.Faults.{HasPacketFault, HasLineFault, HasFaultBy, HasCaptureFault, line_code_of, line_of}
 use Rattle.cf_run.specs.Parts.{Lawful, Faulty, IsRowsStop, LoadsRows, LoadsRowsOf, LoadsPackets, IsBad}
@@ -19,13 +19,13 @@ use Rattle.cf_run.specs.declared.status.Status.TheVariants.{Done, Words, Setup, 
 
 -- lawful files are below the limit, and the fault of what was read as far as the limit is that of the file
 abbrev Ends : ℕ → Lawful → Type 0
-Ends limit lawful = (bytes : List ℕ) (rows : List Numbered) → lawful bytes rows → length bytes < limit
+Ends limit lawful = (bytes : List ℕ) (rows : List RowValue) → lawful bytes rows → length bytes < limit
 
 abbrev Longer : ℕ → Faulty → Type 0
 Longer limit faulty = (bytes rest : List ℕ) (at code : ℕ) → (rest ≡ []) ⊎ (length bytes ≡ limit) → faulty bytes at code → faulty (bytes ++ rest) at code
 
 module _ (limit : ℕ) (lawful : Lawful) (faulty : Faulty) (ends : Ends limit lawful) (longer : Longer limit faulty) where
-  rows_end : (files : List File) (name bytes : List ℕ) (now : Option (List ℕ)) (rows : List Numbered) → (read : IsFileRead files name limit now bytes) → lawful bytes rows → read.rest ≡ []
+  rows_end : (files : List File) (name bytes : List ℕ) (now : Option (List ℕ)) (rows : List RowValue) → (read : IsFileRead files name limit now bytes) → lawful bytes rows → read.rest ≡ []
   rows_end files name bytes now rows read is = elim read.whole [
     | inl end ↦ end
     | inr more ↦ let size : length bytes < limit = ends bytes rows is in absurd (omega (arith, size, more))
@@ -44,13 +44,13 @@ module _ (limit : ℕ) (lawful : Lawful) (faulty : Faulty) (ends : Ends limit la
   rows_stop files name bytes before now Full read bad = absurd bad
   rows_stop files name bytes before now Nodes read bad = absurd bad
 
-  loads_rows : (files : List File) (name bytes : List ℕ) (before now : Option (List ℕ)) (result : Result (Vec Numbered Global) Status) → IsFileRead files name limit now bytes → MatchResult result (λ rows. lawful bytes rows.items) (IsBad (faulty bytes)) → LoadsRows limit lawful faulty files name before now result
+  loads_rows : (files : List File) (name bytes : List ℕ) (before now : Option (List ℕ)) (result : Result (Vec RowValue Global) Status) → IsFileRead files name limit now bytes → MatchResult result (λ rows. lawful bytes rows.items) (IsBad (faulty bytes)) → LoadsRows limit lawful faulty files name before now result
   loads_rows files name bytes before now (Ok rows) read is =
       let end : read.rest ≡ [] = rows_end files name bytes now rows.items read is in
       (bytes, read.file_is ∙ ap (λ rest. Some (bytes ++ rest)) end ∙ ap (λ xs. Some xs) (append-nil bytes), is, read.left ∙ ap (λ xs. Some xs) end)
   loads_rows files name bytes before now (Err status) read bad = rows_stop files name bytes before now status read bad
 
-  loads_rows_if : (told : Option (List File)) (name bytes : List ℕ) (before now : Option (List ℕ)) (result : Result (Vec Numbered Global) Status) → IfSome told (λ files. IsFileRead files name limit now bytes) → MatchResult result (λ rows. lawful bytes rows.items) (IsBad (faulty bytes)) → IfSome told (λ files. LoadsRows limit lawful faulty files name before now result)
+  loads_rows_if : (told : Option (List File)) (name bytes : List ℕ) (before now : Option (List ℕ)) (result : Result (Vec RowValue Global) Status) → IfSome told (λ files. IsFileRead files name limit now bytes) → MatchResult result (λ rows. lawful bytes rows.items) (IsBad (faulty bytes)) → IfSome told (λ files. LoadsRows limit lawful faulty files name before now result)
   loads_rows_if None name bytes before now result read is = read
   loads_rows_if (Some files) name bytes before now result read is = loads_rows files name bytes before now result read is
 
@@ -81,10 +81,10 @@ longer_by : (packet : Bool) (attrs : List Attr) → Longer (limit_by packet) (Ha
 longer_by true attrs = packets_longer
 longer_by false attrs = lines_longer attrs
 
-pub loads_rows_of : (setup : Settled) (told : Option (List File)) (name bytes : List ℕ) (before now : Option (List ℕ)) (result : Result (Vec Numbered Global) Status) → IfSome told (λ files. IsFileRead files name (limit_of setup) now bytes) → MatchResult result (λ rows. AreRowsOf setup bytes rows.items) (IsBad (HasCaptureFault setup bytes)) → IfSome told (λ files. LoadsRowsOf setup files name before now result)
+pub loads_rows_of : (setup : SetupValue) (told : Option (List File)) (name bytes : List ℕ) (before now : Option (List ℕ)) (result : Result (Vec RowValue Global) Status) → IfSome told (λ files. IsFileRead files name (limit_of setup) now bytes) → MatchResult result (λ rows. AreRowsOf setup bytes rows.items) (IsBad (HasCaptureFault setup bytes)) → IfSome told (λ files. LoadsRowsOf setup files name before now result)
 loads_rows_of setup told name bytes before now result read is = loads_rows_if (limit_of setup) (AreRowsOf setup) (HasCaptureFault setup) (ends_by setup.packet setup.schema) (longer_by setup.packet setup.schema) told name bytes before now result read is
 
-pub loads_packets : (told : Option (List File)) (name bytes : List ℕ) (before now : Option (List ℕ)) (result : Result (Vec Numbered Global) Status) → IfSome told (λ files. IsFileRead files name (2 ^ 32) now bytes) → MatchResult result (λ rows. ArePackets bytes rows.items) (IsBad (HasPacketFault bytes)) → IfSome told (λ files. LoadsPackets files name before now result)
+pub loads_packets : (told : Option (List File)) (name bytes : List ℕ) (before now : Option (List ℕ)) (result : Result (Vec RowValue Global) Status) → IfSome told (λ files. IsFileRead files name (2 ^ 32) now bytes) → MatchResult result (λ rows. ArePackets bytes rows.items) (IsBad (HasPacketFault bytes)) → IfSome told (λ files. LoadsPackets files name before now result)
 loads_packets told name bytes before now result read is = loads_rows_if (2 ^ 32) ArePackets HasPacketFault packets_end packets_longer told name bytes before now result read is
 
 -- a fault of the bytes refuses them, and want of memory is none

@@ -3,25 +3,25 @@ use Rattle.std.proofs.Common.{◌≡◌, ℕ, ◌<◌, List, [], ◌∷◌, leng
 use Rattle.std.specs.List.{flat_map, range_with_len}
 use Rattle.std.proofs.lemmas.List.Sums.{AllPass-from_list_all}
 use borrow.Author.Tests.{ltb-true}
-use Rattle.cf_row.specs.Row.{Numbered}
+use Rattle.cf_row.specs.Row.{RowValue}
 use Rattle.cf_row.specs.declared.row.Entry.{Entry}
 use Rattle.cf_fold.specs.declared.trigger.Trigger.{Trigger}
 use Rattle.cf_history.specs.Order.{IsOrder, log_of, order_of}
 use Rattle.cf_history.specs.Tails.{Turn, AreTails, turns_of, batches_of}
 use Rattle.cf_history.proofs.Orders.{log_of_order, order_of_log}
-use Rattle.cf_shape.specs.Lanes.{Shaped}
+use Rattle.cf_shape.specs.Lanes.{ShapeValue}
 use Rattle.cf_plain.specs.Asks.{Suits, SuitsTrigger, suits_of, suits_trigger}
 use Rattle.cf_plain.specs.declared.ask.Ask.{Ask}
-use Rattle.cf_setup.specs.Settled.{Settled, IsSetup, shaped}
+use Rattle.cf_setup.specs.Setups.{SetupValue, IsSetup, shaped}
 use Rattle.cf_report.specs.declared.loaded.Live.{Live}
 use Rattle.cf_report.specs.declared.text.Form.TheVariants as forms
-use Rattle.cf_report.specs.Answered.{Answered, tolds_of, turn_of}
+use Rattle.cf_report.specs.Answered.{LoadedValue, tolds_of, turn_of}
 use Rattle.cf_report.specs.Meaning.{IsReport, AreMeant}
 use Rattle.cf_report.specs.Report.{report_text}
 use Rattle.cf_report.specs.Text.{text_of}
 use Rattle.cf_report.proofs.Legal.{finals_meant, report_told, report_history}
 use Rattle.cf_report.proofs.Reported.{final_is}
-use Rattle.cf_table.specs.Moves.{Sealed}
+use Rattle.cf_table.specs.Moves.{SealValue}
 use Rattle.cf_table.specs.declared.closes.Closed.{Closed}
 use Rattle.cf_load.specs.Loading.{HasAnswered}
 use Rattle.cf_load.specs.Planned.{IsPlan, tails_of}
@@ -33,7 +33,7 @@ use Rattle.cf_run.specs.declared.log.Unmade.TheVariants.{Nodes, Memory}
 use Rattle.cf_run.specs.Seals.{IsClosed, IsSealedReport, IsSealedFinal, seal_of}
 
 -- what a setup asks can be asked of a log of its shape
-pub plan_suits : (setup : Settled) (capacity writers nodes rounds : ℕ) (plan : LivePlan) → IsSetup setup → IsPlanOf setup rounds plan → IsPlan (shaped setup capacity writers nodes) plan
+pub plan_suits : (setup : SetupValue) (capacity writers nodes rounds : ℕ) (plan : LivePlan) → IsSetup setup → IsPlanOf setup rounds plan → IsPlan (shaped setup capacity writers nodes) plan
 plan_suits setup capacity writers nodes rounds plan lawful of = record {
   asks = subst (λ (qs : List Ask). All (Suits (shaped setup capacity writers nodes)) qs) (sym of.asks) (AllPass-from_list_all (suits_of (shaped setup capacity writers nodes)) setup.asks (lawful.asks capacity writers nodes));
   triggers = subst (λ (ts : List Trigger). All (SuitsTrigger (shaped setup capacity writers nodes)) ts) (sym of.triggers) (AllPass-from_list_all (suits_trigger (shaped setup capacity writers nodes)) setup.triggers (lawful.triggers capacity writers nodes));
@@ -42,7 +42,7 @@ plan_suits setup capacity writers nodes rounds plan lawful of = record {
 }
 
 -- by the setup's plan, each answer is meant
-pub closed_of : (setup : Settled) (capacity writers nodes rounds : ℕ) (plan : LivePlan) (rows : List Numbered) (entries : List Entry) (seal : Sealed) (answered : Answered) → IsPlanOf setup rounds plan → IsLogClosed (shaped setup capacity writers nodes) plan rows entries seal answered → IsClosed setup capacity writers nodes rounds rows entries seal answered
+pub closed_of : (setup : SetupValue) (capacity writers nodes rounds : ℕ) (plan : LivePlan) (rows : List RowValue) (entries : List Entry) (seal : SealValue) (answered : LoadedValue) → IsPlanOf setup rounds plan → IsLogClosed (shaped setup capacity writers nodes) plan rows entries seal answered → IsClosed setup capacity writers nodes rounds rows entries seal answered
 closed_of setup capacity writers nodes rounds plan rows entries seal answered of closed =
     let lives : HasAnswered (shaped setup capacity writers nodes) setup.asks setup.lives rounds (length rows) entries answered.lives = rw (of.asks, of.lives, of.rounds_are) at closed.lives in
     record {
@@ -57,15 +57,15 @@ closed_of setup capacity writers nodes rounds plan rows entries seal answered of
       few_nodes = closed.few_nodes;
     }
 
-pub closed_if : (setup : Settled) (capacity writers nodes rounds : ℕ) (plan : LivePlan) (rows : List Numbered) (shape : Shaped) (result : Result (Closed × Answered) Unmade) → IsPlanOf setup rounds plan → shape ≡ shaped setup capacity writers nodes
+pub closed_if : (setup : SetupValue) (capacity writers nodes rounds : ℕ) (plan : LivePlan) (rows : List RowValue) (shape : ShapeValue) (result : Result (Closed × LoadedValue) Unmade) → IsPlanOf setup rounds plan → shape ≡ shaped setup capacity writers nodes
     → MatchResult result (λ made. IsLogClosed shape plan rows made.0.entries.items made.0.seal made.1) (IsUnmade shape rows)
     → MatchResult result (λ made. IsClosed setup capacity writers nodes rounds rows made.0.entries.items made.0.seal made.1) (IsUnmade (shaped setup capacity writers nodes) rows)
 closed_if setup capacity writers nodes rounds plan rows shape (Ok made) of is closed =
-    closed_of setup capacity writers nodes rounds plan rows made.0.entries.items made.0.seal made.1 of (subst (λ (s : Shaped). IsLogClosed s plan rows made.0.entries.items made.0.seal made.1) is closed)
-closed_if setup capacity writers nodes rounds plan rows shape (Err why) of is closed = subst (λ (s : Shaped). IsUnmade s rows why) is closed
+    closed_of setup capacity writers nodes rounds plan rows made.0.entries.items made.0.seal made.1 of (subst (λ (s : ShapeValue). IsLogClosed s plan rows made.0.entries.items made.0.seal made.1) is closed)
+closed_if setup capacity writers nodes rounds plan rows shape (Err why) of is closed = subst (λ (s : ShapeValue). IsUnmade s rows why) is closed
 
 -- why there is no log
-pub short_of : {T : Type 0} (shape : Shaped) (rows : List Numbered) (r : Result T Unmade) (P : T → Type 0) → MatchResult r P (IsUnmade shape rows) → r ≡ Err Nodes → shape.nodes < distinct shape rows
+pub short_of : {T : Type 0} (shape : ShapeValue) (rows : List RowValue) (r : Result T Unmade) (P : T → Type 0) → MatchResult r P (IsUnmade shape rows) → r ≡ Err Nodes → shape.nodes < distinct shape rows
 short_of shape rows (Ok x) P made is = absurd (cc is)
 short_of shape rows (Err Nodes) P made is = made
 short_of shape rows (Err Memory) P made is = absurd (cc is)
@@ -79,7 +79,7 @@ untold : (n : ℕ) (asks : List ℕ) (lives : List Live) → map (λ (at : Turn 
 untold n asks [] turns = refl
 untold n asks (live ∷ lives) turns = let none = turns ∙ no_rounds (range_with_len 0 (batches_of n)) asks in cc none
 
-module _ (setup : Settled) (capacity writers nodes rounds : ℕ) (rows : List Numbered) (entries : List Entry) (seal : Sealed) (answered : Answered) (some : 0 < writers) (closed : IsClosed setup capacity writers nodes rounds rows entries seal answered) where
+module _ (setup : SetupValue) (capacity writers nodes rounds : ℕ) (rows : List RowValue) (entries : List Entry) (seal : SealValue) (answered : LoadedValue) (some : 0 < writers) (closed : IsClosed setup capacity writers nodes rounds rows entries seal answered) where
   valid : IsOrder (order_of entries) (length rows) writers
   valid = (order_of_log rows writers entries some closed.is).0
 

@@ -2,11 +2,11 @@
 use Rattle.std.proofs.Common.{◌≡◌, ℕ, zero, suc, ◌<◌, ◌+◌, List, [], ◌∷◌, ◌++◌, length, map, take, get_or, sym, ap, ap₂, ◌∙◌, arith, All, subst, refl, length-append}
 use Rattle.std.proofs.lemmas.List.{map-append}
 use Rattle.std.proofs.lemmas.List.Elements.{All-append}
-use Rattle.cf_row.specs.Row.{Numbered, Fits}
+use Rattle.cf_row.specs.Row.{RowValue, Fits}
 use Rattle.cf_row.specs.Schema.{packet_attrs}
 use Rattle.cf_row.specs.declared.row.Entry.{Entry}
 use Rattle.cf_history.proofs.OneWriter.{alone}
-use Rattle.cf_pcap.specs.Capture.{Captured}
+use Rattle.cf_pcap.specs.Capture.{FrameValue}
 use Rattle.cf_headers.specs.Packet.{packet_row_of}
 use Rattle.cf_run.specs.Work.{packet_rows}
 
@@ -22,25 +22,25 @@ more {A} {B} f xs i x y ys zs lt is row before now =
     now ∙ ap₂ (λ (a b : List B). a ++ b) before (ap (λ (z : B). z ∷ []) row)
     ∙ sym (map-append f (take i xs) (x ∷ [])) ∙ ap (λ (q : List A). map f q) (sym (take_more xs i x lt is))
 
-pub more_rows : (frames : List Captured) (i : ℕ) (frame : Captured) (row : Numbered) (rows now : List Numbered) → i < length frames → frame ≡ get_or frames i frame → row ≡ packet_row_of frame → rows ≡ packet_rows (take i frames) → now ≡ rows ++ (row ∷ []) → now ≡ packet_rows (take (i + 1) frames)
+pub more_rows : (frames : List FrameValue) (i : ℕ) (frame : FrameValue) (row : RowValue) (rows now : List RowValue) → i < length frames → frame ≡ get_or frames i frame → row ≡ packet_row_of frame → rows ≡ packet_rows (take i frames) → now ≡ rows ++ (row ∷ []) → now ≡ packet_rows (take (i + 1) frames)
 more_rows frames i frame row rows now lt is row_is before grown = more packet_row_of frames i frame row rows now lt is row_is before grown
 
-rows_grown : (frames : List Captured) (i : ℕ) (frame : Captured) → i < length frames → frame ≡ get_or frames i frame → packet_rows (take (i + 1) frames) ≡ packet_rows (take i frames) ++ (packet_row_of frame ∷ [])
-rows_grown frames i frame lt is = ap (λ (q : List Captured). map packet_row_of q) (take_more frames i frame lt is) ∙ map-append packet_row_of (take i frames) (frame ∷ [])
+rows_grown : (frames : List FrameValue) (i : ℕ) (frame : FrameValue) → i < length frames → frame ≡ get_or frames i frame → packet_rows (take (i + 1) frames) ≡ packet_rows (take i frames) ++ (packet_row_of frame ∷ [])
+rows_grown frames i frame lt is = ap (λ (q : List FrameValue). map packet_row_of q) (take_more frames i frame lt is) ∙ map-append packet_row_of (take i frames) (frame ∷ [])
 
-pub more_entries : (frames : List Captured) (i : ℕ) (frame : Captured) (row : Numbered) (entries now : List Entry) → i < length frames → frame ≡ get_or frames i frame → row ≡ packet_row_of frame → entries ≡ alone (packet_rows (take i frames)) → now ≡ entries ++ ((record { writer = 0; row = row }) ∷ []) → now ≡ alone (packet_rows (take (i + 1) frames))
+pub more_entries : (frames : List FrameValue) (i : ℕ) (frame : FrameValue) (row : RowValue) (entries now : List Entry) → i < length frames → frame ≡ get_or frames i frame → row ≡ packet_row_of frame → entries ≡ alone (packet_rows (take i frames)) → now ≡ entries ++ ((record { writer = 0; row = row }) ∷ []) → now ≡ alone (packet_rows (take (i + 1) frames))
 more_entries frames i frame row entries now lt is row_is before grown =
     grown
-    ∙ ap₂ (λ (a b : List Entry). a ++ b) before (ap (λ (r : Numbered). alone (r ∷ [])) row_is)
-    ∙ sym (map-append (λ (r : Numbered). record { writer = 0; row = r }) (packet_rows (take i frames)) (packet_row_of frame ∷ []))
-    ∙ ap (λ (rows : List Numbered). alone rows) (sym (rows_grown frames i frame lt is))
+    ∙ ap₂ (λ (a b : List Entry). a ++ b) before (ap (λ (r : RowValue). alone (r ∷ [])) row_is)
+    ∙ sym (map-append (λ (r : RowValue). record { writer = 0; row = r }) (packet_rows (take i frames)) (packet_row_of frame ∷ []))
+    ∙ ap (λ (rows : List RowValue). alone rows) (sym (rows_grown frames i frame lt is))
 
-one_fits : (row : Numbered) → Fits packet_attrs row → All (Fits packet_attrs) (row ∷ [])
+one_fits : (row : RowValue) → Fits packet_attrs row → All (Fits packet_attrs) (row ∷ [])
 one_fits row fits zero other lt = fits
 one_fits row fits (suc k) other lt = absurd (omega (arith, lt))
 
-pub all_fit : (rows now : List Numbered) (row : Numbered) → All (Fits packet_attrs) rows → Fits packet_attrs row → now ≡ rows ++ (row ∷ []) → All (Fits packet_attrs) now
-all_fit rows now row fit fits grown = subst (λ (rs : List Numbered). All (Fits packet_attrs) rs) (sym grown) (All-append (Fits packet_attrs) rows (row ∷ []) fit (one_fits row fits))
+pub all_fit : (rows now : List RowValue) (row : RowValue) → All (Fits packet_attrs) rows → Fits packet_attrs row → now ≡ rows ++ (row ∷ []) → All (Fits packet_attrs) now
+all_fit rows now row fit fits grown = subst (λ (rs : List RowValue). All (Fits packet_attrs) rs) (sym grown) (All-append (Fits packet_attrs) rows (row ∷ []) fit (one_fits row fits))
 
 pub one_longer : (entries now : List Entry) (row : Entry) (n : ℕ) → length entries ≡ n → now ≡ entries ++ (row ∷ []) → length now ≡ n + 1
 one_longer entries now row n before grown =

@@ -1,6 +1,6 @@
 -- A file of records is in just one case too.
 use Rattle.std.proofs.Common.{◌≡◌, ◌⊎◌, inl, inr, ℕ, Bool, true, false, List, Result, Ok, Err, refl, ap, sym, ◌∙◌}
-use Rattle.cf_row.specs.Row.{Numbered}
+use Rattle.cf_row.specs.Row.{RowValue}
 use Rattle.cf_row.specs.declared.schema.Attr.{Attr}
 use Rattle.cf_records.specs.Records.{RecordsText}
 use Rattle.cf_records.specs.declared.fault.RecordFault.{RecordFault}
@@ -11,18 +11,18 @@ use Rattle.cf_run.specs.Laws.{OneCase}
 use Rattle.cf_run.specs.Work.{AreRowsBy}
 use Rattle.cf_run.proofs.Capturing.{one_packet_case}
 
-some_of : (attrs : List Attr) (bytes : List ℕ) (answer : Result (List Numbered) RecordFault) → RecordsText attrs bytes answer
-    → ((rows : List Numbered) × AreRowsBy false attrs bytes rows) ⊎ ((record_at : ℕ) × (code : ℕ) × HasFaultBy false attrs bytes record_at code)
+some_of : (attrs : List Attr) (bytes : List ℕ) (answer : Result (List RowValue) RecordFault) → RecordsText attrs bytes answer
+    → ((rows : List RowValue) × AreRowsBy false attrs bytes rows) ⊎ ((record_at : ℕ) × (code : ℕ) × HasFaultBy false attrs bytes record_at code)
 some_of attrs bytes (Ok rows) is = inl (rows, is)
 some_of attrs bytes (Err fault) is = inr (line_of fault, line_code_of fault, record { fault = fault; fault_is = is; record_is = refl; code_is = refl })
 
-same_rows : (a b : List Numbered) → ◌≡◌ {A = Result (List Numbered) RecordFault} (Ok a) (Ok b) → a ≡ b
+same_rows : (a b : List RowValue) → ◌≡◌ {A = Result (List RowValue) RecordFault} (Ok a) (Ok b) → a ≡ b
 same_rows a b e = cc e
 
-same_fault : (a b : RecordFault) → ◌≡◌ {A = Result (List Numbered) RecordFault} (Err a) (Err b) → a ≡ b
+same_fault : (a b : RecordFault) → ◌≡◌ {A = Result (List RowValue) RecordFault} (Err a) (Err b) → a ≡ b
 same_fault a b e = cc e
 
-not_both : (rows : List Numbered) (fault : RecordFault) → ◌≡◌ {A = Result (List Numbered) RecordFault} (Ok rows) (Err fault) → ⊥
+not_both : (rows : List RowValue) (fault : RecordFault) → ◌≡◌ {A = Result (List RowValue) RecordFault} (Ok rows) (Err fault) → ⊥
 not_both rows fault e = absurd (cc e)
 
 one_record_case : (attrs : List Attr) (bytes : List ℕ) → OneCase false attrs bytes

@@ -2,11 +2,11 @@
 use Rattle.std.proofs.Common.{◌≡◌, ◌⊎◌, ℕ, ◌<◌, ◌≤◌, ◌^◌, List, [], ◌∷◌, length, Option, Some, None, Result, Ok, Err, Vec, MatchResult, IfSome, refl, sym, ap, subst, ◌∙◌, inl, inr, arith}
 use Rattle.std.specs.declared.alloc.Global.{Global}
 use Rattle.cf_outside.specs.Files.{File, file_named}
-use Rattle.cf_row.specs.Row.{Numbered}
+use Rattle.cf_row.specs.Row.{RowValue}
 use Rattle.cf_command.specs.Command.{Asked, IsRun}
 use Rattle.cf_shape.specs.Nodes.{distinct}
-use Rattle.cf_setup.specs.Settled.{Settled, shaped}
-use Rattle.cf_table.specs.Moves.{Sealed}
+use Rattle.cf_setup.specs.Setups.{SetupValue, shaped}
+use Rattle.cf_table.specs.Moves.{SealValue}
 use Rattle.cf_run.specs.Seals.{AreSeals, IsSealedReport}
 use Rattle.cf_run.specs.Due.{LacksSetup, HasSetup, LacksCapture, IsRunDue, IsDumpDue, IsSynthDue, IsDue, refusal_line, full_line, nodes_line}
 use Rattle.cf_run.specs.Synth.{IsSynthWork}
@@ -30,11 +30,11 @@ if_mapped None P Q f here = here
 if_mapped (Some files) P Q f here = f files here
 
 -- a status with its text is due
-pub prepared_draft : (files : List File) (words : List (List ℕ)) (before now : Option (List ℕ)) (draft : Draft) (status : Status) (line : List ℕ) (seals : List Sealed) → draft.status ≡ status → draft.text.items ≡ line → draft.seals.items ≡ seals → (due : IsDue files words status line) → Leaves files words status before now → AreSeals files words status line due seals → IsPrepared files words before now (Ok draft)
+pub prepared_draft : (files : List File) (words : List (List ℕ)) (before now : Option (List ℕ)) (draft : Draft) (status : Status) (line : List ℕ) (seals : List SealValue) → draft.status ≡ status → draft.text.items ≡ line → draft.seals.items ≡ seals → (due : IsDue files words status line) → Leaves files words status before now → AreSeals files words status line due seals → IsPrepared files words before now (Ok draft)
 prepared_draft files words before now draft status line seals same text sealed due leaves are =
     subst (λ (s : Status). IsDrafted files words before now s draft.text.items draft.seals.items) (sym same)
     (subst (λ (t : List ℕ). IsDrafted files words before now status t draft.seals.items) (sym text)
-    (subst (λ (q : List Sealed). IsDrafted files words before now status line q) (sym sealed) (due, are, leaves)))
+    (subst (λ (q : List SealValue). IsDrafted files words before now status line q) (sym sealed) (due, are, leaves)))
 
 pub prepared_stop : (files : List File) (words : List (List ℕ)) (before now : Option (List ℕ)) (stop status : Status) → (stop ≡ Memory) ⊎ ((stop ≡ status) × NoRefusal status) → (NoRefusal status → IsFree status) → MayBeLeft files words before now → IsPrepared files words before now (Err stop)
 prepared_stop files words before now stop status why free left = (elim why [ inl memory ↦ inl memory | inr same ↦ subst IsFree (sym same.0) (free same.1) ], left)
@@ -85,7 +85,7 @@ module _ (files : List File) (words : List (List ℕ)) (command : Asked) (is : I
   setup_prepared_in now status (Ok draft) stop refused = setup_draft now status draft stop refused.0 refused.1 refused.2 refused.3
   setup_prepared_in now status (Err other) stop refused = prepared_stop files words before now other status refused (setup_free now status stop) (setup_may now status stop)
 
-  module _ (bytes : List ℕ) (setup : Settled) (mid : Option (List ℕ)) (named : file_named files command.setup ≡ Some bytes) (text_is : SetupText bytes (Ok setup)) (read : mid ≡ Some []) where
+  module _ (bytes : List ℕ) (setup : SetupValue) (mid : Option (List ℕ)) (named : file_named files command.setup ≡ Some bytes) (text_is : SetupText bytes (Ok setup)) (read : mid ≡ Some []) where
     abbrev has : HasSetup files words
     has = record { command = command; command_is = is; bytes = bytes; file = named; setup = setup; setup_is = text_is }
 
@@ -134,7 +134,7 @@ module _ (files : List File) (words : List (List ℕ)) (command : Asked) (is : I
     capture_prepared_in now status (Ok draft) stop refused = capture_draft now status draft stop refused.0 refused.1 refused.2 refused.3
     capture_prepared_in now status (Err other) stop refused = prepared_stop files words before now other status refused (capture_free now status stop) (capture_may now status stop)
 
-    module _ (capture : List ℕ) (rows : List Numbered) (now : Option (List ℕ)) (found : file_named files command.capture ≡ Some capture) (rows_are : AreRowsOf setup capture rows) (end : now ≡ Some []) where
+    module _ (capture : List ℕ) (rows : List RowValue) (now : Option (List ℕ)) (found : file_named files command.capture ≡ Some capture) (rows_are : AreRowsOf setup capture rows) (end : now ≡ Some []) where
       abbrev work : IsWork files words
       work = record { command = command; command_is = is; setup_bytes = bytes; setup_file = named; setup = setup; setup_is = text_is; capture = capture; capture_file = found; rows = rows; rows_are = rows_are }
 
@@ -144,10 +144,10 @@ module _ (files : List File) (words : List (List ℕ)) (command : Asked) (is : I
       short_in : (draft : Draft) → length rows ≤ command.capacity → command.nodes < distinct (shaped setup command.capacity command.writers command.nodes) rows → draft.status ≡ Nodes → draft.text.items ≡ nodes_line command.nodes → draft.seals.items ≡ [] → IsPrepared files words before now (Ok draft)
       short_in draft few many same text bare = prepared_draft files words before now draft Nodes (nodes_line command.nodes) [] same text bare (inl ((record { work = work; few = few; many = many }), refl)) end refl
 
-      reported_in : (draft : Draft) (text : List ℕ) (seal : Sealed) → length rows ≤ command.capacity → IsSealedReport setup command.capacity command.writers command.nodes command.rounds rows text seal → draft.status ≡ Done → draft.text.items ≡ text → draft.seals.items ≡ seal ∷ [] → IsPrepared files words before now (Ok draft)
+      reported_in : (draft : Draft) (text : List ℕ) (seal : SealValue) → length rows ≤ command.capacity → IsSealedReport setup command.capacity command.writers command.nodes command.rounds rows text seal → draft.status ≡ Done → draft.text.items ≡ text → draft.seals.items ≡ seal ∷ [] → IsPrepared files words before now (Ok draft)
       reported_in draft text seal few made same shown sealed =
           prepared_draft files words before now draft Done text (seal ∷ []) same shown sealed
-          (inl (record { work = work; few = few; few_nodes = made.few_nodes; order = made.order; report = made.report })) end (ap (λ (one : Sealed). one ∷ []) made.seal_is)
+          (inl (record { work = work; few = few; few_nodes = made.few_nodes; order = made.order; report = made.report })) end (ap (λ (one : SealValue). one ∷ []) made.seal_is)
 
       unmade_in : (stop : Status) → stop ≡ Memory → IsPrepared files words before now (Err stop)
       unmade_in stop memory = (inl memory, capture_left files words has capture rows before now found rows_are end)
@@ -157,14 +157,14 @@ module _ (words : List (List ℕ)) (command : Asked) (is : IsRun words command) 
   setup_prepared None before now status result stop refused = stop
   setup_prepared (Some files) before now status result stop refused = setup_prepared_in files words command is before now status result stop refused
 
-  module _ (setup : Settled) (before mid now : Option (List ℕ)) where
+  module _ (setup : SetupValue) (before mid now : Option (List ℕ)) where
     pub capture_prepared : (told later : Option (List File)) (status : Status) (result : Result Draft Status) → later ≡ told → IfSome told (λ files. LoadsSetup files command.setup before mid (Ok setup)) → IfSome later (λ files. LoadsRowsOf setup files command.capture mid now (Err status)) → IsRefused status result → IfSome told (λ files. IsPrepared files words before now result)
     capture_prepared None later status result same loaded stop refused = loaded
     capture_prepared (Some files) later status result same loaded stop refused =
         let stop' : IfSome (Some files) (λ fs. LoadsRowsOf setup fs command.capture mid now (Err status)) = rw same at stop in
         capture_prepared_in files words command is before loaded.0 setup mid loaded.1 loaded.2 loaded.3 now status result stop' refused
 
-    module _ (rows : Vec Numbered Global) where
+    module _ (rows : Vec RowValue Global) where
       pub full_prepared : (told later : Option (List File)) (result : Result Draft Status) → later ≡ told → IfSome told (λ files. LoadsSetup files command.setup before mid (Ok setup)) → IfSome later (λ files. LoadsRowsOf setup files command.capture mid now (Ok rows)) → command.capacity < length rows.items
           → MatchResult result (λ draft. (draft.status ≡ Full) × (draft.text.items ≡ full_line command.capacity) × (draft.seals.items ≡ [])) (λ stop. stop ≡ Memory) → IfSome told (λ files. IsPrepared files words before now result)
       full_prepared None later result same loaded captured many made = loaded
@@ -186,7 +186,7 @@ module _ (words : List (List ℕ)) (command : Asked) (is : IsRun words command) 
           let captured' : IfSome (Some files) (λ fs. LoadsRowsOf setup fs command.capture mid now (Ok rows)) = rw same at captured in
           unmade_in files words command is before loaded.0 setup mid loaded.1 loaded.2 loaded.3 captured'.0 rows.items now captured'.1 captured'.2 captured'.3 stop made
 
-      pub report_prepared : (told later : Option (List File)) (text : List ℕ) (seal : Sealed) (result : Result Draft Status) → later ≡ told → IfSome told (λ files. LoadsSetup files command.setup before mid (Ok setup)) → IfSome later (λ files. LoadsRowsOf setup files command.capture mid now (Ok rows)) → length rows.items ≤ command.capacity
+      pub report_prepared : (told later : Option (List File)) (text : List ℕ) (seal : SealValue) (result : Result Draft Status) → later ≡ told → IfSome told (λ files. LoadsSetup files command.setup before mid (Ok setup)) → IfSome later (λ files. LoadsRowsOf setup files command.capture mid now (Ok rows)) → length rows.items ≤ command.capacity
           → IsSealedReport setup command.capacity command.writers command.nodes command.rounds rows.items text seal
           → MatchResult result (λ draft. (draft.status ≡ Done) × (draft.text.items ≡ text) × (draft.seals.items ≡ seal ∷ [])) (λ stop. stop ≡ Memory) → IfSome told (λ files. IsPrepared files words before now result)
       report_prepared None later text seal result same loaded captured few report made = loaded
@@ -274,7 +274,7 @@ leaves_may files words status text before now (inl run) left = run_leaves_may fi
 leaves_may files words status text before now (inr (inl dump)) left = dump_leaves_may files words status text before now dump left
 leaves_may files words status text before now (inr (inr synth)) left = synth_leaves_may files words status text before now synth left
 
-module _ (told : Option (List File)) (words : List (List ℕ)) (status : Status) (text : List ℕ) (seals : List Sealed) (before now : Option (List ℕ)) where
+module _ (told : Option (List File)) (words : List (List ℕ)) (status : Status) (text : List ℕ) (seals : List SealValue) (before now : Option (List ℕ)) where
   pub leaves_some : IfSome told (λ files. IsDrafted files words before now status text seals) → IfSome told (λ files. Leaves files words WriteFault before now)
   leaves_some prepared = if_mapped told (λ files. IsDrafted files words before now status text seals) (λ files. Leaves files words WriteFault before now) (λ files drafted. leaves_may files words status text before now drafted.0 drafted.2) prepared
 

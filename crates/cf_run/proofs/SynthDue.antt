@@ -1,14 +1,14 @@
 -- From a setup that is loaded to the answers on drawn packets that are due, and what is left of its file.
 use Rattle.std.proofs.Common.{◌≡◌, ℕ, ◌<◌, ◌≤◌, true, false, List, [], ◌∷◌, length, drop, Option, Some, None, Result, Ok, Err, MatchResult, IfSome, refl, sym, ap, subst, ◌∙◌, inl, inr, arith}
 use Rattle.std.proofs.lemmas.List.{drop_all}
-use Rattle.cf_row.specs.Row.{Numbered}
+use Rattle.cf_row.specs.Row.{RowValue}
 use Rattle.cf_outside.specs.Files.{File, file_named}
 use Rattle.cf_command.specs.Command.{Drawn, IsSynth}
 use Rattle.cf_report.specs.Meaning.{final_text}
 use Rattle.cf_shape.specs.Nodes.{distinct}
-use Rattle.cf_setup.specs.Settled.{Settled, shaped}
+use Rattle.cf_setup.specs.Setups.{SetupValue, shaped}
 use Rattle.cf_setup.specs.SetupText.{SetupText}
-use Rattle.cf_table.specs.Moves.{Sealed}
+use Rattle.cf_table.specs.Moves.{SealValue}
 use Rattle.cf_run.specs.Seals.{IsSealedFinal}
 use Rattle.cf_run.specs.Due.{refusal_line, full_line, nodes_line}
 use Rattle.cf_run.specs.Synth.{drawn_rows, IsSynthWork, LacksSynthSetup}
@@ -68,7 +68,7 @@ module _ (files : List File) (words : List (List ℕ)) (command : Drawn) (is : I
   refused_in now status (Ok draft) stop refused = stop_draft now status draft stop refused.0 refused.1 refused.2 refused.3
   refused_in now status (Err other) stop refused = prepared_stop files words before now other status refused (stop_free now status stop) (stop_may now status stop)
 
-  module _ (bytes : List ℕ) (setup : Settled) (now : Option (List ℕ)) (named : file_named files command.setup ≡ Some bytes) (text_is : SetupText bytes (Ok setup)) (read : now ≡ Some []) where
+  module _ (bytes : List ℕ) (setup : SetupValue) (now : Option (List ℕ)) (named : file_named files command.setup ≡ Some bytes) (text_is : SetupText bytes (Ok setup)) (read : now ≡ Some []) where
     read_may : MayBeLeft files words before now
     read_may = synth_left files words command is bytes setup before now named text_is read
 
@@ -103,36 +103,36 @@ module _ (words : List (List ℕ)) (command : Drawn) (is : IsSynth words command
   synth_refused None status result stop refused = stop
   synth_refused (Some files) status result stop refused = refused_in files words command is before now status result stop refused
 
-  pub synth_other : (told : Option (List File)) (setup : Settled) (result : Result Draft Status) → IfSome told (λ files. LoadsSetup files command.setup before now (Ok setup)) → setup.packet ≡ false → IsRefused (Setup setup.schema_line 4) result → IfSome told (λ files. IsPrepared files words before now result)
+  pub synth_other : (told : Option (List File)) (setup : SetupValue) (result : Result Draft Status) → IfSome told (λ files. LoadsSetup files command.setup before now (Ok setup)) → setup.packet ≡ false → IsRefused (Setup setup.schema_line 4) result → IfSome told (λ files. IsPrepared files words before now result)
   synth_other None setup result loaded records refused = loaded
   synth_other (Some files) setup result loaded records refused = other_in files words command is before loaded.0 setup now loaded.1 loaded.2 loaded.3 result records refused
 
-  pub synth_prepared : (told : Option (List File)) (setup : Settled) (result : Result Draft Status) → IfSome told (λ files. LoadsSetup files command.setup before now (Ok setup)) → setup.packet ≡ true → MatchResult result (IsSynthDraft setup command) (λ stop. stop ≡ Memory) → IfSome told (λ files. IsPrepared files words before now result)
+  pub synth_prepared : (told : Option (List File)) (setup : SetupValue) (result : Result Draft Status) → IfSome told (λ files. LoadsSetup files command.setup before now (Ok setup)) → setup.packet ≡ true → MatchResult result (IsSynthDraft setup command) (λ stop. stop ≡ Memory) → IfSome told (λ files. IsPrepared files words before now result)
   synth_prepared None setup result loaded packets made = loaded
   synth_prepared (Some files) setup result loaded packets made = drawn_in files words command is before loaded.0 setup now loaded.1 loaded.2 loaded.3 result packets made
 
 -- the final part of the drawn rows' report, with its seal
-pub synth_sealed : (setup : Settled) (command : Drawn) (rows : List Numbered) (text : List ℕ) (seal : Sealed) (result : Result Draft Status) → rows ≡ drawn_rows command → length rows ≤ command.capacity → IsSealedFinal setup command.capacity command.writers command.nodes rows text seal
+pub synth_sealed : (setup : SetupValue) (command : Drawn) (rows : List RowValue) (text : List ℕ) (seal : SealValue) (result : Result Draft Status) → rows ≡ drawn_rows command → length rows ≤ command.capacity → IsSealedFinal setup command.capacity command.writers command.nodes rows text seal
     → MatchResult result (λ draft. (draft.status ≡ Done) × (draft.text.items ≡ text) × (draft.seals.items ≡ seal ∷ [])) (λ stop. stop ≡ Memory) → MatchResult result (IsSynthDraft setup command) (λ stop. stop ≡ Memory)
 synth_sealed setup command rows text seal (Ok draft) is few final made =
-    let own : IsSealedFinal setup command.capacity command.writers command.nodes (drawn_rows command) text seal = subst (λ (rs : List Numbered). IsSealedFinal setup command.capacity command.writers command.nodes rs text seal) is final in
+    let own : IsSealedFinal setup command.capacity command.writers command.nodes (drawn_rows command) text seal = subst (λ (rs : List RowValue). IsSealedFinal setup command.capacity command.writers command.nodes rs text seal) is final in
     inl (record {
       status = made.0;
-      few = subst (λ (rs : List Numbered). length rs ≤ command.capacity) is few;
+      few = subst (λ (rs : List RowValue). length rs ≤ command.capacity) is few;
       few_nodes = own.few_nodes;
       text = made.1 ∙ own.text_is;
-      seals = record { order = own.order; order_is = own.order_is; seals_are = made.2 ∙ ap (λ (one : Sealed). one ∷ []) own.seal_is };
+      seals = record { order = own.order; order_is = own.order_is; seals_are = made.2 ∙ ap (λ (one : SealValue). one ∷ []) own.seal_is };
     })
 synth_sealed setup command rows text seal (Err stop) is few final made = made
 
 -- more nodes are needed than a writer has
-pub synth_short : (setup : Settled) (command : Drawn) (rows : List Numbered) (result : Result Draft Status) → rows ≡ drawn_rows command → length rows ≤ command.capacity → command.nodes < distinct (shaped setup command.capacity command.writers command.nodes) rows
+pub synth_short : (setup : SetupValue) (command : Drawn) (rows : List RowValue) (result : Result Draft Status) → rows ≡ drawn_rows command → length rows ≤ command.capacity → command.nodes < distinct (shaped setup command.capacity command.writers command.nodes) rows
     → MatchResult result (λ draft. (draft.status ≡ Nodes) × (draft.text.items ≡ nodes_line command.nodes) × (draft.seals.items ≡ [])) (λ stop. stop ≡ Memory) → MatchResult result (IsSynthDraft setup command) (λ stop. stop ≡ Memory)
 synth_short setup command rows (Ok draft) is few many made =
     inr (inr (record {
       status = made.0;
-      few = subst (λ (rs : List Numbered). length rs ≤ command.capacity) is few;
-      many = subst (λ (rs : List Numbered). command.nodes < distinct (shaped setup command.capacity command.writers command.nodes) rs) is many;
+      few = subst (λ (rs : List RowValue). length rs ≤ command.capacity) is few;
+      many = subst (λ (rs : List RowValue). command.nodes < distinct (shaped setup command.capacity command.writers command.nodes) rs) is many;
       text = made.1;
       seals = made.2;
     }))

@@ -2,7 +2,7 @@
 use Rattle.std.specs.Prelude.{◌≡◌, ◌⊎◌, ℕ, List, ◌++◌, Option}
 use Rattle.std.specs.Io.KnownBytes.{Appends, Keeps}
 use Rattle.cf_outside.specs.Files.{File}
-use Rattle.cf_table.specs.Moves.{Sealed}
+use Rattle.cf_table.specs.Moves.{SealValue}
 use Rattle.cf_run.specs.Due.{IsDue}
 use Rattle.cf_run.specs.Left.{Leaves}
 use Rattle.cf_run.specs.Seals.{AreSealsOfDone}
@@ -33,7 +33,7 @@ pub record Wrote (files : List File) (words : List (List ℕ)) (status : Status)
   pub written : Appends held now text
 
 -- of work that was done: so are the seals those of the log that the text tells of
-pub record WroteSealed (files : List File) (words : List (List ℕ)) (seals : List Sealed) (held now : Option (List ℕ)) : Type 0 where
+pub record WroteSealed (files : List File) (words : List (List ℕ)) (seals : List SealValue) (held now : Option (List ℕ)) : Type 0 where
   pub text : List ℕ
   pub due : IsDue files words Done text
   pub sealed : AreSealsOfDone files words text due seals
@@ -51,7 +51,7 @@ pub record WroteSome (files : List File) (words : List (List ℕ)) (held now bef
 
 -- By the status: what is written, from what the sink held to what it holds, and with `Done` the seals. The last two are what was left
 -- of the opened file and what is.
-abbrev pub Answers : List File → List (List ℕ) → Status → List Sealed → Option (List ℕ) → Option (List ℕ) → Option (List ℕ) → Option (List ℕ) → Type 0
+abbrev pub Answers : List File → List (List ℕ) → Status → List SealValue → Option (List ℕ) → Option (List ℕ) → Option (List ℕ) → Option (List ℕ) → Type 0
 Answers files words Done seals held now before after = WroteSealed files words seals held now
 Answers files words Words seals held now before after = Wrote files words Words held now
 Answers files words (Setup line code) seals held now before after = Wrote files words (Setup line code) held now

@@ -2,7 +2,7 @@
 use Rattle.std.specs.Prelude.{◌≡◌, ℕ, List, Some, None}
 use Rattle.cf_row.specs.Schema.{packet_attrs}
 use Rattle.cf_outside.specs.Files.{File, file_named}
-use Rattle.cf_row.specs.Row.{Numbered}
+use Rattle.cf_row.specs.Row.{RowValue}
 use Rattle.cf_dump.specs.Dump.{dump_text}
 use Rattle.cf_command.specs.Command.{IsDump}
 use Rattle.cf_run.specs.Faults.{HasPacketFault}
@@ -14,7 +14,7 @@ pub record IsDumpWork (files : List File) (words : List (List ℕ)) : Type 0 whe
   pub name_is : IsDump words name
   pub capture : List ℕ
   pub file : file_named files name ≡ Some capture
-  pub rows : List Numbered
+  pub rows : List RowValue
   pub rows_are : ArePackets capture rows
 
 -- The text is the dump of the capture, each captured packet being one row.

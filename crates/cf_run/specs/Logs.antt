@@ -1,14 +1,14 @@
 -- How the log of some rows is loaded.
 use Rattle.std.specs.Prelude.{◌≡◌, ◌<◌, ◌≤◌, ◌*◌, ℕ, List, length, map}
-use Rattle.cf_row.specs.Row.{Numbered}
+use Rattle.cf_row.specs.Row.{RowValue}
 use Rattle.cf_row.specs.declared.row.Entry.{Entry}
 use Rattle.cf_history.specs.Order.{IsLogOf}
-use Rattle.cf_shape.specs.Lanes.{Shaped}
+use Rattle.cf_shape.specs.Lanes.{ShapeValue}
 use Rattle.cf_shape.specs.Nodes.{distinct}
-use Rattle.cf_setup.specs.Settled.{Settled}
-use Rattle.cf_report.specs.Answered.{Answered}
+use Rattle.cf_setup.specs.Setups.{SetupValue}
+use Rattle.cf_report.specs.Answered.{LoadedValue}
 use Rattle.cf_report.specs.Meaning.{answer_on}
-use Rattle.cf_table.specs.Moves.{Sealed}
+use Rattle.cf_table.specs.Moves.{SealValue}
 use Rattle.cf_load.specs.Loading.{HasAnswered}
 use Rattle.cf_load.specs.Planned.{marks_on, tails_of}
 use Rattle.cf_load.specs.declared.plan.LivePlan.{LivePlan}
@@ -23,7 +23,7 @@ pub record AreSizes (sizes : Sizes) : Type 0 where
   pub nodes : sizes.nodes ≤ 65536
 
 -- the plan has the setup's questions and triggers, and the live ones so often
-pub record IsPlanOf (setup : Settled) (rounds : ℕ) (plan : LivePlan) : Type 0 where
+pub record IsPlanOf (setup : SetupValue) (rounds : ℕ) (plan : LivePlan) : Type 0 where
   pub asks : plan.asks.items ≡ setup.asks
   pub triggers : plan.triggers.items ≡ setup.triggers
   pub lives : plan.lives.items ≡ setup.lives
@@ -31,7 +31,7 @@ pub record IsPlanOf (setup : Settled) (rounds : ℕ) (plan : LivePlan) : Type 0 
 
 -- The entries of a closed log of the shape and its seal, and the answers to a plan: each row stands in it once, the final answers
 -- and the marks are those of the whole log, and each live answer, in its turn, that of the entries that it saw.
-pub record IsLogClosed (shape : Shaped) (plan : LivePlan) (rows : List Numbered) (entries : List Entry) (seal : Sealed) (answered : Answered) : Type 0 where
+pub record IsLogClosed (shape : ShapeValue) (plan : LivePlan) (rows : List RowValue) (entries : List Entry) (seal : SealValue) (answered : LoadedValue) : Type 0 where
   pub is : IsLogOf rows shape.writers entries
   pub finals : answered.finals ≡ map (answer_on shape entries) plan.asks.items
   pub alerts : answered.alerts ≡ map (marks_on shape entries) plan.triggers.items
@@ -40,6 +40,6 @@ pub record IsLogClosed (shape : Shaped) (plan : LivePlan) (rows : List Numbered)
   pub few_nodes : distinct shape rows ≤ shape.writers * shape.nodes
 
 -- why a log of rows wasn't made: their paths need more different nodes than a writer has, or memory ran out
-abbrev pub IsUnmade : Shaped → List Numbered → Unmade → Type 0
+abbrev pub IsUnmade : ShapeValue → List RowValue → Unmade → Type 0
 IsUnmade shape rows Nodes = shape.nodes < distinct shape rows
 IsUnmade shape rows Memory = Unit {0}

@@ -3,16 +3,16 @@ use Rattle.std.specs.Prelude.{◌≡◌, ◌⊎◌, ℕ, ◌<◌, ◌≤◌, ◌
 use Rattle.std.specs.declared.alloc.Global.{Global}
 use Rattle.cf_outside.specs.Causes.{Rose}
 use Rattle.cf_outside.specs.Files.{File, file_named}
-use Rattle.cf_row.specs.Row.{Numbered}
+use Rattle.cf_row.specs.Row.{RowValue}
 use Rattle.cf_command.specs.Command.{Drawn}
 use Rattle.cf_report.specs.Meaning.{final_text}
 use Rattle.cf_shape.specs.Nodes.{distinct}
-use Rattle.cf_setup.specs.Settled.{Settled, shaped}
+use Rattle.cf_setup.specs.Setups.{SetupValue, shaped}
 use Rattle.cf_run.specs.Devices.{IsStopped}
 use Rattle.cf_run.specs.Due.{IsDue, full_line, nodes_line}
 use Rattle.cf_run.specs.Seals.{AreSeals, IsSynthSeal}
 use Rattle.cf_run.specs.Synth.{drawn_rows}
-use Rattle.cf_table.specs.Moves.{Sealed}
+use Rattle.cf_table.specs.Moves.{SealValue}
 use Rattle.cf_run.specs.Faults.{HasPacketFault, HasCaptureFault}
 use Rattle.cf_run.specs.Left.{MayBeLeft, Leaves}
 use Rattle.cf_setup.specs.SetupText.{SetupText}
@@ -44,13 +44,13 @@ IsSetupStop files name before now Full = ⊥
 IsSetupStop files name before now Nodes = ⊥
 
 -- a lawful setup is read to its end
-abbrev pub LoadsSetup : List File → List ℕ → Option (List ℕ) → Option (List ℕ) → Result Settled Status → Type 0
+abbrev pub LoadsSetup : List File → List ℕ → Option (List ℕ) → Option (List ℕ) → Result SetupValue Status → Type 0
 LoadsSetup files name before now (Ok setup) = (bytes : List ℕ) × (file_named files name ≡ Some bytes) × SetupText bytes (Ok setup) × (now ≡ Some [])
 LoadsSetup files name before now (Err stop) = IsSetupStop files name before now stop
 
 -- what makes bytes lawful, as these rows, and what makes them faulty, at a record and by a rule
 abbrev pub Lawful : Type 1
-Lawful = List ℕ → List Numbered → Type 0
+Lawful = List ℕ → List RowValue → Type 0
 
 abbrev pub Faulty : Type 1
 Faulty = List ℕ → ℕ → ℕ → Type 0
@@ -69,15 +69,15 @@ IsRowsStop limit faulty files name before now Full = ⊥
 IsRowsStop limit faulty files name before now Nodes = ⊥
 
 -- a lawful file is read to its end
-abbrev pub LoadsRows : ℕ → Lawful → Faulty → List File → List ℕ → Option (List ℕ) → Option (List ℕ) → Result (Vec Numbered Global) Status → Type 0
+abbrev pub LoadsRows : ℕ → Lawful → Faulty → List File → List ℕ → Option (List ℕ) → Option (List ℕ) → Result (Vec RowValue Global) Status → Type 0
 LoadsRows limit lawful faulty files name before now (Ok rows) = (bytes : List ℕ) × (file_named files name ≡ Some bytes) × lawful bytes rows.items × (now ≡ Some [])
 LoadsRows limit lawful faulty files name before now (Err stop) = IsRowsStop limit faulty files name before now stop
 
 -- the rows of a setup's capture, and those of a capture of packets
-abbrev pub LoadsRowsOf : Settled → List File → List ℕ → Option (List ℕ) → Option (List ℕ) → Result (Vec Numbered Global) Status → Type 0
+abbrev pub LoadsRowsOf : SetupValue → List File → List ℕ → Option (List ℕ) → Option (List ℕ) → Result (Vec RowValue Global) Status → Type 0
 LoadsRowsOf setup = LoadsRows (limit_of setup) (AreRowsOf setup) (HasCaptureFault setup)
 
-abbrev pub LoadsPackets : List File → List ℕ → Option (List ℕ) → Option (List ℕ) → Result (Vec Numbered Global) Status → Type 0
+abbrev pub LoadsPackets : List File → List ℕ → Option (List ℕ) → Option (List ℕ) → Result (Vec RowValue Global) Status → Type 0
 LoadsPackets = LoadsRows (2 ^ 32) ArePackets HasPacketFault
 
 -- why bytes are refused
@@ -94,7 +94,7 @@ IsBad faulty Full = ⊥
 IsBad faulty Nodes = ⊥
 
 -- a status with its text is due, these are its seals, and the files are left as they are with it
-abbrev pub IsDrafted : List File → List (List ℕ) → Option (List ℕ) → Option (List ℕ) → Status → List ℕ → List Sealed → Type 0
+abbrev pub IsDrafted : List File → List (List ℕ) → Option (List ℕ) → Option (List ℕ) → Status → List ℕ → List SealValue → Type 0
 IsDrafted files words before now status text seals = (due : IsDue files words status text) × AreSeals files words status text due seals × Leaves files words status before now
 
 -- a text is due, or the work stopped for want of memory or by the device
@@ -103,7 +103,7 @@ IsPrepared files words before now (Ok draft) = IsDrafted files words before now 
 IsPrepared files words before now (Err stop) = IsFree stop × MayBeLeft files words before now
 
 -- the answers on drawn packets that fit, with the seal of their log
-pub record IsSynthDone (setup : Settled) (command : Drawn) (draft : Draft) : Type 0 where
+pub record IsSynthDone (setup : SetupValue) (command : Drawn) (draft : Draft) : Type 0 where
   pub status : draft.status ≡ Done
   pub few : length (drawn_rows command) ≤ command.capacity
   pub few_nodes : distinct (shaped setup command.capacity command.writers command.nodes) (drawn_rows command) ≤ command.writers * command.nodes
@@ -118,7 +118,7 @@ pub record IsSynthOver (command : Drawn) (draft : Draft) : Type 0 where
   pub seals : draft.seals.items ≡ []
 
 -- packets whose paths need more different nodes than a writer has
-pub record IsSynthShort (setup : Settled) (command : Drawn) (draft : Draft) : Type 0 where
+pub record IsSynthShort (setup : SetupValue) (command : Drawn) (draft : Draft) : Type 0 where
   pub status : draft.status ≡ Nodes
   pub few : length (drawn_rows command) ≤ command.capacity
   pub many : command.nodes < distinct (shaped setup command.capacity command.writers command.nodes) (drawn_rows command)
@@ -126,5 +126,5 @@ pub record IsSynthShort (setup : Settled) (command : Drawn) (draft : Draft) : Ty
   pub seals : draft.seals.items ≡ []
 
 -- what drawn packets come to, by a setup over packets
-abbrev pub IsSynthDraft : Settled → Drawn → Draft → Type 0
+abbrev pub IsSynthDraft : SetupValue → Drawn → Draft → Type 0
 IsSynthDraft setup command draft = IsSynthDone setup command draft ⊎ IsSynthOver command draft ⊎ IsSynthShort setup command draft

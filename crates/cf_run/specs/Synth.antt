@@ -1,17 +1,17 @@
 -- What is told of packets that are drawn from a seed.
 use Rattle.std.specs.Prelude.{◌≡◌, ◌⊎◌, ℕ, ◌<◌, ◌≤◌, ◌*◌, true, false, List, length, Some, None, Ok, Err}
-use Rattle.cf_row.specs.Row.{Numbered}
+use Rattle.cf_row.specs.Row.{RowValue}
 use Rattle.cf_outside.specs.Files.{File, file_named}
 use Rattle.cf_make.specs.Generated.{generated_frames}
 use Rattle.cf_command.specs.Command.{Drawn, IsSynth}
 use Rattle.cf_shape.specs.Nodes.{distinct}
-use Rattle.cf_setup.specs.Settled.{Settled, shaped}
+use Rattle.cf_setup.specs.Setups.{SetupValue, shaped}
 use Rattle.cf_setup.specs.SetupText.{SetupText}
 use Rattle.cf_report.specs.Meaning.{final_text}
 use Rattle.cf_run.specs.Work.{packet_rows}
 
 -- the rows of the drawn packets
-abbrev pub drawn_rows : Drawn → List Numbered
+abbrev pub drawn_rows : Drawn → List RowValue
 drawn_rows command = packet_rows (generated_frames command.seed command.count)
 
 -- The words are `synth`, and the file of its setup's name is a setup over packets.
@@ -20,7 +20,7 @@ pub record IsSynthWork (files : List File) (words : List (List ℕ)) : Type 0 wh
   pub command_is : IsSynth words command
   pub bytes : List ℕ
   pub file : file_named files command.setup ≡ Some bytes
-  pub setup : Settled
+  pub setup : SetupValue
   pub setup_is : SetupText bytes (Ok setup)
   pub packets : setup.packet ≡ true
 
@@ -47,7 +47,7 @@ pub record LacksSynthSetup (files : List File) (words : List (List ℕ)) : Type 
 
 -- a lawful setup over another schema than packets, at the line of the schema
 pub record IsOtherSchema (bytes : List ℕ) (line code : ℕ) : Type 0 where
-  pub setup : Settled
+  pub setup : SetupValue
   pub setup_is : SetupText bytes (Ok setup)
   pub records : setup.packet ≡ false
   pub line_is : line ≡ setup.schema_line

@@ -1,7 +1,7 @@
 // The log of some rows, and what is told of it.
 ghost use Rattle.std.specs.Prelude.{◌≡◌, ◌≤◌, All, length, IfOk, MatchResult};
 ghost use Rattle.cf_row.specs.Row.{Fits};
-ghost use Rattle.cf_setup.specs.Settled.{IsSetup, shaped};
+ghost use Rattle.cf_setup.specs.Setups.{IsSetup, shaped};
 ghost use Rattle.cf_load.specs.Planned.{IsPlan};
 ghost use Rattle.cf_run.specs.Logs.{AreSizes, IsPlanOf, IsLogClosed, IsUnmade};
 ghost use Rattle.cf_run.specs.Seals.{IsClosed, IsSealedReport, IsSealedFinal};

@@ -8,19 +8,19 @@ use Rattle.std.proofs.lemmas.List.Concat.{flat_map-append}
 use Rattle.cf_row.specs.declared.row.Entry.{Entry}
 use Rattle.cf_row.specs.declared.schema.Attr.{Attr}
 use Rattle.cf_row.specs.declared.expr.Atom.{Atom}
-use Rattle.cf_row.specs.Row.{Numbered, Fits}
+use Rattle.cf_row.specs.Row.{RowValue, Fits}
 use Rattle.cf_row.specs.Expr.{holds_of}
 use Rattle.cf_row.specs.Times.{number_at}
-use Rattle.cf_fold.specs.Quads.{Counts, quad_of}
+use Rattle.cf_fold.specs.Quads.{QuadValue, quad_of}
 use Rattle.cf_row.specs.Schema.{IsSchema}
-use Rattle.cf_shape.specs.Lanes.{Shaped, IsShape}
+use Rattle.cf_shape.specs.Lanes.{ShapeValue, IsShape}
 use Rattle.cf_shape.specs.declared.lane.Key.TheVariants as keys
 use Rattle.cf_shape.proofs.Measured.{measure_low}
 use Rattle.cf_plain.specs.Asks.{rows_in}
 use Rattle.cf_scan.specs.Scans.{IsNarrow, amounts}
 
 -- a shape whose lane measures the attribute
-abbrev measuring : List Attr → ℕ → Shaped
+abbrev measuring : List Attr → ℕ → ShapeValue
 measuring attrs attr = record { schema = attrs; lanes = record { select = []; key = keys.Bucket; measure = Some attr } ∷ []; capacity = 1; writers = 1; nodes = 0; width = 1 }
 
 is_shape : (attrs : List Attr) (attr : ℕ) → IsSchema attrs → IsNarrow attrs attr → IsShape (measuring attrs attr)
@@ -35,7 +35,7 @@ is_shape attrs attr schema narrow = record {
 }
 
 -- such a number is below 2^32
-pub amount_low : (attrs : List Attr) (attr : ℕ) (row : Numbered) → IsSchema attrs → IsNarrow attrs attr → Fits attrs row → number_at row attr < 2 ^ 32
+pub amount_low : (attrs : List Attr) (attr : ℕ) (row : RowValue) → IsSchema attrs → IsNarrow attrs attr → Fits attrs row → number_at row attr < 2 ^ 32
 amount_low attrs attr row schema narrow fits = measure_low (measuring attrs attr) 0 row (is_shape attrs attr schema narrow) (omega arith) fits
 
 -- what is added up of entries
@@ -43,20 +43,20 @@ abbrev pub amounts_in : ℕ → List (List Atom) → List Entry → List ℕ
 amounts_in attr expr entries = amounts attr expr (rows_in entries)
 
 module _ (attr : ℕ) (expr : List (List Atom)) where
-  one : (b : Bool) (row : Numbered) → map (λ (r : Numbered). number_at r attr) (cond b (row ∷ []) []) ≡ cond b (number_at row attr ∷ []) []
+  one : (b : Bool) (row : RowValue) → map (λ (r : RowValue). number_at r attr) (cond b (row ∷ []) []) ≡ cond b (number_at row attr ∷ []) []
   one true row = refl
   one false row = refl
 
   pub amounts_append : (xs ys : List Entry) → amounts_in attr expr (xs ++ ys) ≡ amounts_in attr expr xs ++ amounts_in attr expr ys
   amounts_append xs ys =
       ap (amounts attr expr) (map-append (λ (e : Entry). e.row) xs ys)
-      ∙ ap (map (λ (row : Numbered). number_at row attr)) (filter-append (holds_of expr) (rows_in xs) (rows_in ys))
-      ∙ map-append (λ (row : Numbered). number_at row attr) (filter (holds_of expr) (rows_in xs)) (filter (holds_of expr) (rows_in ys))
+      ∙ ap (map (λ (row : RowValue). number_at row attr)) (filter-append (holds_of expr) (rows_in xs) (rows_in ys))
+      ∙ map-append (λ (row : RowValue). number_at row attr) (filter (holds_of expr) (rows_in xs)) (filter (holds_of expr) (rows_in ys))
 
   pub amounts_few : (entries : List Entry) → length (amounts_in attr expr entries) ≤ length entries
   amounts_few entries =
       let rows = rows_in entries in
-      omega (arith, length-map (filter (holds_of expr) rows) (λ (row : Numbered). number_at row attr), length-filter (holds_of expr) rows, count_by-le-length (holds_of expr) rows, length-map entries (λ (e : Entry). e.row))
+      omega (arith, length-map (filter (holds_of expr) rows) (λ (row : RowValue). number_at row attr), length-filter (holds_of expr) rows, count_by-le-length (holds_of expr) rows, length-map entries (λ (e : Entry). e.row))
 
   pub amounts_one : (entry : Entry) → amounts_in attr expr (entry ∷ []) ≡ cond (holds_of expr entry.row) (number_at entry.row attr ∷ []) []
   amounts_one entry = one (holds_of expr entry.row) entry.row
@@ -79,9 +79,9 @@ lists_more lists i lt =
     ap (flat_map own) (take_more lists i [] lt) ∙ flat_map-append own (take i lists) (last ∷ []) ∙ ap (λ ns. flat_map own (take i lists) ++ ns) (append-nil last)
 
 -- how many numbers some lists have
-pub lists_count : (lists : List (List ℕ)) → sum_by (λ (part : Counts). part.count) (map quad_of lists) ≡ length (flat_map (λ (ns : List ℕ). ns) lists)
+pub lists_count : (lists : List (List ℕ)) → sum_by (λ (part : QuadValue). part.count) (map quad_of lists) ≡ length (flat_map (λ (ns : List ℕ). ns) lists)
 lists_count [] = refl
 lists_count (ns ∷ lists) =
-    let count = λ (part : Counts). part.count in
+    let count = λ (part : QuadValue). part.count in
     let first : sum_by count (map quad_of (ns ∷ lists)) ≡ length ns + sum_by count (map quad_of lists) = sum_by-cons count (quad_of ns) (map quad_of lists) in
     omega (arith, first, lists_count lists, length-append ns (flat_map (λ (xs : List ℕ). xs) lists))

@@ -7,7 +7,7 @@ use Rattle.rayon.proofs.ListFacts.{All-parts}
 use Rattle.rayon.proofs.ToStd.{chunks_of-concat}
 use Rattle.cf_row.specs.declared.row.Entry.{Entry}
 use Rattle.cf_row.specs.declared.expr.Atom.{Atom}
-use Rattle.cf_fold.specs.Quads.{Counts, quad_of}
+use Rattle.cf_fold.specs.Quads.{QuadValue, quad_of}
 use Rattle.cf_plain.specs.Asks.{rows_in}
 use Rattle.cf_scan.specs.Scans.{total}
 use Rattle.cf_scan.proofs.Amounts.{amounts_in, amounts_concat, amounts_few, lists_count}
@@ -20,7 +20,7 @@ all_parts P (xs ∷ lists) all (suc k) d lt = all_parts P lists (All-parts P xs 
 
 module _ (attr : ℕ) (expr : List (List Atom)) (entries : List Entry) (size : ℕ) (some : 0 < size) where
   -- the quads of the chunks
-  abbrev pub parts : List Counts
+  abbrev pub parts : List QuadValue
   parts = map (λ (chunk : List Entry). total attr expr (rows_in chunk)) (chunks_of size entries)
 
   -- the numbers of the chunks
@@ -33,7 +33,7 @@ module _ (attr : ℕ) (expr : List (List Atom)) (entries : List Entry) (size : �
   pub lists_whole : flat_map (λ (ns : List ℕ). ns) lists ≡ amounts_in attr expr entries
   lists_whole = amounts_concat attr expr (chunks_of size entries) ∙ ap (amounts_in attr expr) (chunks_of-concat size entries some)
 
-  pub parts_few : sum_by (λ (part : Counts). part.count) parts ≤ length entries
+  pub parts_few : sum_by (λ (part : QuadValue). part.count) parts ≤ length entries
   parts_few =
-      let count = ap (sum_by (λ (part : Counts). part.count)) parts_of_lists ∙ lists_count lists ∙ ap length lists_whole in
+      let count = ap (sum_by (λ (part : QuadValue). part.count)) parts_of_lists ∙ lists_count lists ∙ ap length lists_whole in
       omega (arith, count, amounts_few attr expr entries)

@@ -3,10 +3,10 @@ use Rattle.std.specs.Prelude.{◌≡◌, ℕ, true, List, map, filter, All, slic
 use Rattle.cf_row.specs.declared.row.Entry.{Entry}
 use Rattle.cf_row.specs.declared.schema.Attr.{Attr}
 use Rattle.cf_row.specs.declared.expr.Atom.{Atom}
-use Rattle.cf_row.specs.Row.{Numbered, Fits}
+use Rattle.cf_row.specs.Row.{RowValue, Fits}
 use Rattle.cf_row.specs.Expr.{holds_of}
 use Rattle.cf_row.specs.Times.{number_at}
-use Rattle.cf_fold.specs.Quads.{Counts, quad_of}
+use Rattle.cf_fold.specs.Quads.{QuadValue, quad_of}
 use Rattle.cf_shape.specs.Lanes.{option_passes, is_narrow}
 
 -- each row fits
@@ -18,9 +18,9 @@ abbrev pub IsNarrow : List Attr → ℕ → Type 0
 IsNarrow attrs attr = option_passes is_narrow (slice_get attrs attr) ≡ true
 
 -- the attribute's numbers in the rows of which the expression holds, in order
-abbrev pub amounts : ℕ → List (List Atom) → List Numbered → List ℕ
+abbrev pub amounts : ℕ → List (List Atom) → List RowValue → List ℕ
 amounts attr expr rows = map (λ row. number_at row attr) (filter (holds_of expr) rows)
 
 -- their quad
-abbrev pub total : ℕ → List (List Atom) → List Numbered → Counts
+abbrev pub total : ℕ → List (List Atom) → List RowValue → QuadValue
 total attr expr rows = quad_of (amounts attr expr rows)

@@ -14,7 +14,7 @@ use Rattle.cf_filter.specs.declared.fault.Stop.{Stop}
 use Rattle.cf_filter.specs.Reading.{attr_named}
 use Rattle.cf_filter.specs.Exprs.{expr_at}
 use Rattle.cf_filter.specs.Grammar.{ValueText, ExprRead}
-use Rattle.cf_setup.specs.Stated.{Stated, attrs_of, with_lane, with_trigger, with_ask, index_over, filter_by, aggregate_by}
+use Rattle.cf_setup.specs.Drafts.{DraftValue, attrs_of, with_lane, with_trigger, with_ask, index_over, filter_by, aggregate_by}
 use Rattle.cf_setup.specs.Forms.{Form}
 use Rattle.cf_setup.specs.Forms.Form.{packet_schema, record_schema, bucket_width, new_index, new_filter, new_aggregate, new_trigger, ask_list, ask_find, ask_between, ask_measure, ask_fired, ask_live}
 use Rattle.cf_setup.specs.Named.{place_in, is_index, is_filter, is_aggregate, lane_named, trigger_named, index_kind}
@@ -49,24 +49,24 @@ some_same e = cc
 
 -- expressions
 
-expr_some : (before : Stated) (text : List ℕ) (expr : List (List Atom)) → expr_of before text ≡ Some expr → ExprRead (attrs_of before) text (Ok expr)
+expr_some : (before : DraftValue) (text : List ℕ) (expr : List (List Atom)) → expr_of before text ≡ Some expr → ExprRead (attrs_of before) text (Ok expr)
 expr_some before text expr h = by (expr_at (attrs_of before) text) refl h
   where
     by : (r : Result (List (List Atom)) Stop) → expr_at (attrs_of before) text ≡ r → expr_in r ≡ Some expr → ExprRead (attrs_of before) text (Ok expr)
     by (Ok found) e k = let same : found ≡ expr = cc in expr_ok (attrs_of before) text expr (e ∙ ap Ok same)
     by (Err stop) e k = cc
 
-expr_known : (before : Stated) (text : List ℕ) (expr : List (List Atom)) → ExprRead (attrs_of before) text (Ok expr) → expr_of before text ≡ Some expr
+expr_known : (before : DraftValue) (text : List ℕ) (expr : List (List Atom)) → ExprRead (attrs_of before) text (Ok expr) → expr_of before text ≡ Some expr
 expr_known before text expr h = ap expr_in (expr_is (attrs_of before) text (Ok expr) h)
 
-offence_breaks : (before : Stated) (text : List ℕ) (stop : Stop) (offence : Offence) → ExprRead (attrs_of before) text (Err stop) → stop.offence ≡ offence → (code : ℕ) × IsBroken before code (expr_rules text)
+offence_breaks : (before : DraftValue) (text : List ℕ) (stop : Stop) (offence : Offence) → ExprRead (attrs_of before) text (Err stop) → stop.offence ≡ offence → (code : ℕ) × IsBroken before code (expr_rules text)
 offence_breaks before text stop Syntax h e = (10, inl (refl, (stop, h, e)))
 offence_breaks before text stop UnknownName h e = (11, inr (inl (refl, (stop, h, e))))
 offence_breaks before text stop BadOperator h e = (12, inr (inr (inl (refl, (stop, h, e)))))
 offence_breaks before text stop ValueRange h e = (13, inr (inr (inr (inl (refl, (stop, h, e))))))
 offence_breaks before text stop TooLong h e = (14, inr (inr (inr (inr (inl (refl, (stop, h, e)))))))
 
-expr_breaks : (before : Stated) (text : List ℕ) → expr_of before text ≡ None → (code : ℕ) × IsBroken before code (expr_rules text)
+expr_breaks : (before : DraftValue) (text : List ℕ) → expr_of before text ≡ None → (code : ℕ) × IsBroken before code (expr_rules text)
 expr_breaks before text h = by (expr_at (attrs_of before) text) refl h
   where
     by : (r : Result (List (List Atom)) Stop) → expr_at (attrs_of before) text ≡ r → expr_in r ≡ None → (code : ℕ) × IsBroken before code (expr_rules text)
@@ -75,21 +75,21 @@ expr_breaks before text h = by (expr_at (attrs_of before) text) refl h
 
 -- where no rule is broken something is added
 
-module _ (line : ℕ) (before : Stated) where
+module _ (line : ℕ) (before : DraftValue) where
   abbrev sound : Form → Type 0
   sound form = (code : ℕ) → IsBroken before code (rules form) → ⊥
 
-  ends_none : (kind_rule : List ℕ → Rule) (read : List ℕ → Option ℕ) (low high : List ℕ) (make : ℕ → ℕ → Stated)
+  ends_none : (kind_rule : List ℕ → Rule) (read : List ℕ → Option ℕ) (low high : List ℕ) (make : ℕ → ℕ → DraftValue)
       → ((text : List ℕ) → read text ≡ None → Broken before (kind_rule text))
       → (Broken before (kind_rule low) → ⊥) → (Broken before (kind_rule high) → ⊥)
       → option_and_then (λ first. option_and_then (λ last. Some (make first last)) (read high)) (read low) ≡ None → ⊥
   ends_none kind_rule read low high make breaks not_low not_high h = by (then_none (λ first. option_and_then (λ last. Some (make first last)) (read high)) (read low) h)
     where
-      by_last : (first : ℕ) → (read high ≡ None) ⊎ ((last : ℕ) × (read high ≡ Some last) × (◌≡◌ {A = Option Stated} (Some (make first last)) None)) → ⊥
+      by_last : (first : ℕ) → (read high ≡ None) ⊎ ((last : ℕ) × (read high ≡ Some last) × (◌≡◌ {A = Option DraftValue} (Some (make first last)) None)) → ⊥
       by_last first (inl e) = not_high (breaks high e)
       by_last first (inr e) = never e.2
         where
-          never : {x : Stated} → ◌≡◌ {A = Option Stated} (Some x) None → ⊥
+          never : {x : DraftValue} → ◌≡◌ {A = Option DraftValue} (Some x) None → ⊥
           never k = cc
 
       by : (read low ≡ None) ⊎ ((first : ℕ) × (read low ≡ Some first) × (option_and_then (λ last. Some (make first last)) (read high) ≡ None)) → ⊥
@@ -110,11 +110,11 @@ module _ (line : ℕ) (before : Stated) where
   never (new_filter name expr) s h = let broken = expr_breaks before expr (map_none (λ read. with_lane before name (filter_by read)) (expr_of before expr) h) in s broken.0 (inr (inr broken.1))
   never (new_aggregate name filter attr) s h = by (then_none _ (lane_named is_filter before filter) h)
     where
-      by_attr : (lane : ℕ × Lane) → (attr_named (attrs_of before) attr ≡ None) ⊎ ((found : ℕ × Kind) × (attr_named (attrs_of before) attr ≡ Some found) × (◌≡◌ {A = Option Stated} (Some (with_lane before name (aggregate_by lane.1.select found.0))) None)) → ⊥
+      by_attr : (lane : ℕ × Lane) → (attr_named (attrs_of before) attr ≡ None) ⊎ ((found : ℕ × Kind) × (attr_named (attrs_of before) attr ≡ Some found) × (◌≡◌ {A = Option DraftValue} (Some (with_lane before name (aggregate_by lane.1.select found.0))) None)) → ⊥
       by_attr lane (inl e) = s 6 (inr (inr (inl (refl, e))))
       by_attr lane (inr e) = never_some e.2
         where
-          never_some : {x : Stated} → ◌≡◌ {A = Option Stated} (Some x) None → ⊥
+          never_some : {x : DraftValue} → ◌≡◌ {A = Option DraftValue} (Some x) None → ⊥
           never_some k = cc
 
       by : (lane_named is_filter before filter ≡ None) ⊎ ((lane : ℕ × Lane) × (lane_named is_filter before filter ≡ Some lane) × (option_and_then (λ found. Some (with_lane before name (aggregate_by lane.1.select found.0))) (attr_named (attrs_of before) attr) ≡ None)) → ⊥
@@ -122,11 +122,11 @@ module _ (line : ℕ) (before : Stated) where
       by (inr e) = by_attr e.0 (then_none _ (attr_named (attrs_of before) attr) e.2)
   never (new_trigger name aggregate part op number) s h = by (then_none _ (lane_named is_aggregate before aggregate) h)
     where
-      by_number : (lane : ℕ × Lane) → (number_of U64 number ≡ None) ⊎ ((n : ℕ) × (number_of U64 number ≡ Some n) × (◌≡◌ {A = Option Stated} (Some (with_trigger before name (record { agg = lane.0; part = part; op = op; number = n }))) None)) → ⊥
+      by_number : (lane : ℕ × Lane) → (number_of U64 number ≡ None) ⊎ ((n : ℕ) × (number_of U64 number ≡ Some n) × (◌≡◌ {A = Option DraftValue} (Some (with_trigger before name (record { agg = lane.0; part = part; op = op; number = n }))) None)) → ⊥
       by_number lane (inl e) = s 7 (inr (inr (inl (refl, number_none number e))))
       by_number lane (inr e) = never_some e.2
         where
-          never_some : {x : Stated} → ◌≡◌ {A = Option Stated} (Some x) None → ⊥
+          never_some : {x : DraftValue} → ◌≡◌ {A = Option DraftValue} (Some x) None → ⊥
           never_some k = cc
 
       by : (lane_named is_aggregate before aggregate ≡ None) ⊎ ((lane : ℕ × Lane) × (lane_named is_aggregate before aggregate ≡ Some lane) × (option_and_then (λ n. Some (with_trigger before name (record { agg = lane.0; part = part; op = op; number = n }))) (number_of U64 number) ≡ None)) → ⊥
@@ -163,7 +163,7 @@ module _ (line : ℕ) (before : Stated) where
       by None e k = cc
       by (Some kind) e k = (kind, e)
 
-  pub adds_found : (form : Form) (new : Stated) → added line before form ≡ Some new → Adds line before form new
+  pub adds_found : (form : Form) (new : DraftValue) → added line before form ≡ Some new → Adds line before form new
   adds_found packet_schema new h = some_same h
   adds_found (record_schema list) new h = let m = map_some (with_schema line before false) (schema_at list) new h in (m.0, schema_found list m.0 m.1, m.2)
   adds_found (bucket_width number) new h = let m = map_some (λ n. record before { width = Some n }) (width_of number) new h in let w = width_found number m.0 m.1 in (m.0, w.value, w.low, w.high, m.2)
@@ -200,7 +200,7 @@ module _ (line : ℕ) (before : Stated) where
   key_only : (index text : List ℕ) (kind : Kind) (n : ℕ) → index_kind before index ≡ Some kind → ValueText kind text (Num n) → key_of before index text ≡ Some n
   key_only index text kind n k h = ap (λ o. key_in o text) k ∙ number_only kind text n h
 
-  pub adds_only : (form : Form) (new : Stated) → Adds line before form new → added line before form ≡ Some new
+  pub adds_only : (form : Form) (new : DraftValue) → Adds line before form new → added line before form ≡ Some new
   adds_only packet_schema new h = ap Some (sym h)
   adds_only (record_schema list) new h = ap (option_map (with_schema line before false)) (schema_only list h.0 h.1) ∙ ap Some (sym h.2)
   adds_only (bucket_width number) new h = ap (option_map (λ n. record before { width = Some n })) (width_only number h.0 h.1 h.2 h.3) ∙ ap Some (sym h.4)

@@ -15,7 +15,7 @@ use Rattle.cf_row.specs.Schema.{IsSchema, packet_attrs}
 use Rattle.cf_row.specs.Expr.{is_of_schema, is_within}
 use Rattle.cf_fold.specs.declared.trigger.Trigger.{Trigger}
 use Rattle.cf_shape.specs.declared.lane.Lane.{Lane}
-use Rattle.cf_shape.specs.Lanes.{Shaped, no_lane, lane_at, is_number, is_narrow, is_lawful_key, is_lawful_measure, is_lawful_lane, option_passes}
+use Rattle.cf_shape.specs.Lanes.{ShapeValue, no_lane, lane_at, is_number, is_narrow, is_lawful_key, is_lawful_measure, is_lawful_lane, option_passes}
 use Rattle.cf_plain.specs.declared.ask.Ask.{Ask}
 use Rattle.cf_plain.specs.declared.ask.Ask.TheVariants as asks
 use Rattle.cf_plain.specs.Asks.{exists, is_attr, is_indexed, is_bucketed, is_aggregate as is_aggregate_at, suits_trigger, suits_of}
@@ -25,8 +25,8 @@ use Rattle.cf_filter.proofs.Lawful.{named_stands, expr_fits}
 use Rattle.cf_setup.specs.declared.statement.Statement.{Statement}
 use Rattle.cf_setup.specs.declared.statement.Statement.TheVariants as statements
 use Rattle.cf_setup.specs.Lines.{is_silent, word_at}
-use Rattle.cf_setup.specs.Stated.{Stated, nothing_stated, attrs_of, with_lane, with_trigger, with_ask, index_over, filter_by, aggregate_by}
-use Rattle.cf_setup.specs.Settled.{settled, shaped, IsSetup, IsDraft}
+use Rattle.cf_setup.specs.Drafts.{DraftValue, nothing_stated, attrs_of, with_lane, with_trigger, with_ask, index_over, filter_by, aggregate_by}
+use Rattle.cf_setup.specs.Setups.{settled, shaped, IsSetup, IsDraft}
 use Rattle.cf_setup.specs.Few.{IsFew}
 use Rattle.cf_setup.specs.Forms.{Form}
 use Rattle.cf_setup.specs.Forms.Form.{packet_schema, record_schema, bucket_width, new_index, new_filter, new_aggregate, new_trigger, ask_list, ask_find, ask_between, ask_measure, ask_fired, ask_live}
@@ -62,38 +62,38 @@ module _ {A : Type 0} where
 
 -- asks and triggers go on to suit a shape that gets one lane more
 
-abbrev grown : Shaped → Lane → Shaped
+abbrev grown : ShapeValue → Lane → ShapeValue
 grown s lane = record s { lanes = s.lanes ++ lane ∷ [] }
 
-exists_more : (s : Shaped) (lane : Lane) (k : ℕ) → exists s k ≡ true → exists (grown s lane) k ≡ true
+exists_more : (s : ShapeValue) (lane : Lane) (k : ℕ) → exists s k ≡ true → exists (grown s lane) k ≡ true
 exists_more s lane k h = let below = ltb-true k (length s.lanes) h in let size = one_more s.lanes lane in lt-ltb k (length (s.lanes ++ lane ∷ [])) (omega (arith, below, size))
 
-lane_kept : (s : Shaped) (lane : Lane) (k : ℕ) → exists s k ≡ true → lane_at (grown s lane) k ≡ lane_at s k
+lane_kept : (s : ShapeValue) (lane : Lane) (k : ℕ) → exists s k ≡ true → lane_at (grown s lane) k ≡ lane_at s k
 lane_kept s lane k h = get_or_append_left s.lanes (lane ∷ []) no_lane k (ltb-true k (length s.lanes) h)
 
-kept : (test : Lane → Bool) (s : Shaped) (lane : Lane) (k : ℕ) → (exists s k && test (lane_at s k)) ≡ true → (exists (grown s lane) k && test (lane_at (grown s lane) k)) ≡ true
+kept : (test : Lane → Bool) (s : ShapeValue) (lane : Lane) (k : ℕ) → (exists s k && test (lane_at s k)) ≡ true → (exists (grown s lane) k && test (lane_at (grown s lane) k)) ≡ true
 kept test s lane k h =
     let both = and_parts (exists s k) (test (lane_at s k)) h in
     and_from (exists (grown s lane) k) (test (lane_at (grown s lane) k)) (exists_more s lane k both.0) (ap test (lane_kept s lane k both.0) ∙ both.1)
 
-indexed_more : (s : Shaped) (lane : Lane) (k : ℕ) → is_indexed s k ≡ true → is_indexed (grown s lane) k ≡ true
+indexed_more : (s : ShapeValue) (lane : Lane) (k : ℕ) → is_indexed s k ≡ true → is_indexed (grown s lane) k ≡ true
 indexed_more s lane k h = kept (λ l. is_attr l.key) s lane k h
 
-bucketed_more : (s : Shaped) (lane : Lane) (k : ℕ) → is_bucketed s k ≡ true → is_bucketed (grown s lane) k ≡ true
+bucketed_more : (s : ShapeValue) (lane : Lane) (k : ℕ) → is_bucketed s k ≡ true → is_bucketed (grown s lane) k ≡ true
 bucketed_more s lane k h = kept (λ l. not (is_attr l.key)) s lane k h
 
-aggregate_more : (s : Shaped) (lane : Lane) (k : ℕ) → is_aggregate_at s k ≡ true → is_aggregate_at (grown s lane) k ≡ true
+aggregate_more : (s : ShapeValue) (lane : Lane) (k : ℕ) → is_aggregate_at s k ≡ true → is_aggregate_at (grown s lane) k ≡ true
 aggregate_more s lane k h =
     let both = and_parts (is_bucketed s k) (is_some (lane_at s k).measure) h in
     let there = and_parts (exists s k) (not (is_attr (lane_at s k).key)) both.0 in
     and_from (is_bucketed (grown s lane) k) (is_some (lane_at (grown s lane) k).measure) (bucketed_more s lane k both.0) (ap (λ l. is_some l.measure) (lane_kept s lane k there.0) ∙ both.1)
 
-trigger_more : (s : Shaped) (lane : Lane) (trigger : Trigger) → suits_trigger s trigger ≡ true → suits_trigger (grown s lane) trigger ≡ true
+trigger_more : (s : ShapeValue) (lane : Lane) (trigger : Trigger) → suits_trigger s trigger ≡ true → suits_trigger (grown s lane) trigger ≡ true
 trigger_more s lane trigger h =
     let both = and_parts (is_aggregate_at s trigger.agg) (not (is_within trigger.op)) h in
     and_from (is_aggregate_at (grown s lane) trigger.agg) (not (is_within trigger.op)) (aggregate_more s lane trigger.agg both.0) both.1
 
-ask_more : (s : Shaped) (lane : Lane) (ask : Ask) → suits_of s ask ≡ true → suits_of (grown s lane) ask ≡ true
+ask_more : (s : ShapeValue) (lane : Lane) (ask : Ask) → suits_of s ask ≡ true → suits_of (grown s lane) ask ≡ true
 ask_more s lane (asks.List expr) h = h
 ask_more s lane (asks.Find k low high) h = indexed_more s lane k h
 ask_more s lane (asks.Between k low high) h = bucketed_more s lane k h
@@ -112,7 +112,7 @@ pair place lane = (place, lane)
 
 -- one statement more
 
-module _ (before : Stated) (attrs : List Attr) (is : IsSetup (settled before attrs)) where
+module _ (before : DraftValue) (attrs : List Attr) (is : IsSetup (settled before attrs)) where
   width_step : (n : ℕ) → 1 ≤ n → n ≤ 2 ^ 63 → IsSetup (settled (record before { width = Some n }) attrs)
   width_step n low high = record {
     schema = is.schema;
@@ -317,29 +317,29 @@ draft_of line packet attrs schema = record { unstated = λ e. some_none e; lawfu
 
 -- a statement after the schema
 
-abbrev sound : Stated → Form → Type 0
+abbrev sound : DraftValue → Form → Type 0
 sound before form = (code : ℕ) → IsBroken before code (rules form) → ⊥
 
-later : (line : ℕ) (before : Stated) (form : Form) (new : Stated) (attrs : List Attr) → before.schema ≡ Some attrs → IsSetup (settled before attrs) → is_schema_form form ≡ false → has_sign form ≡ true → sound before form → Adds line before form new → (new.schema ≡ Some attrs) × IsSetup (settled new attrs)
+later : (line : ℕ) (before : DraftValue) (form : Form) (new : DraftValue) (attrs : List Attr) → before.schema ≡ Some attrs → IsSetup (settled before attrs) → is_schema_form form ≡ false → has_sign form ≡ true → sound before form → Adds line before form new → (new.schema ≡ Some attrs) × IsSetup (settled new attrs)
 later line before packet_schema new attrs e is k sign s h = absurd (false≢true (sym k))
 later line before (record_schema list) new attrs e is k sign s h = absurd (false≢true (sym k))
-later line before (bucket_width number) new attrs e is k sign s h = subst (λ (x : Stated). (x.schema ≡ Some attrs) × IsSetup (settled x attrs)) (sym h.4) (e, width_step before attrs is h.0 h.2 h.3)
+later line before (bucket_width number) new attrs e is k sign s h = subst (λ (x : DraftValue). (x.schema ≡ Some attrs) × IsSetup (settled x attrs)) (sym h.4) (e, width_step before attrs is h.0 h.2 h.3)
 later line before (new_index name attr) new attrs e is k sign s h =
     let found = h.0 in
     let known : attr_named attrs attr ≡ Some found = ap (λ a. attr_named a attr) (sym (ap (λ o. unwrap_or o []) e)) ∙ h.1 in
     let passes = kind_passes is_number (attr_named (attrs_of before) attr) found (λ b. s 8 (inr (inr (inl (refl, b))))) h.1 in
-    subst (λ (x : Stated). (x.schema ≡ Some attrs) × IsSetup (settled x attrs)) (sym h.2)
+    subst (λ (x : DraftValue). (x.schema ≡ Some attrs) × IsSetup (settled x attrs)) (sym h.2)
     (e, lane_step before attrs is name (index_over found.0) (λ full. s 9 (inr (inr (inr (inl (refl, full)))))) (index_lawful attrs attr found known passes))
 later line before (new_filter name expr) new attrs e is k sign s h =
     let read : ExprRead attrs expr (Ok h.0) = subst (λ (a : List Attr). ExprRead a expr (Ok h.0)) (ap (λ o. unwrap_or o []) e) h.1 in
-    subst (λ (x : Stated). (x.schema ≡ Some attrs) × IsSetup (settled x attrs)) (sym h.2)
+    subst (λ (x : DraftValue). (x.schema ≡ Some attrs) × IsSetup (settled x attrs)) (sym h.2)
     (e, lane_step before attrs is name (filter_by h.0) (λ full. s 9 (inr (inl (refl, full)))) (filter_lawful attrs expr h.0 read))
 later line before (new_aggregate name filter attr) new attrs e is k sign s h =
     let lane = h.0 in
     let found = h.1 in
     let known : attr_named attrs attr ≡ Some found = ap (λ a. attr_named a attr) (sym (ap (λ o. unwrap_or o []) e)) ∙ h.3 in
     let passes = kind_passes is_narrow (attr_named (attrs_of before) attr) found (λ b. s 8 (inr (inr (inr (inl (refl, b)))))) h.3 in
-    subst (λ (x : Stated). (x.schema ≡ Some attrs) × IsSetup (settled x attrs)) (sym h.4) (
+    subst (λ (x : DraftValue). (x.schema ≡ Some attrs) × IsSetup (settled x attrs)) (sym h.4) (
       e,
       lane_step before attrs is name (aggregate_by lane.1.select found.0) (λ full. s 9 (inr (inr (inr (inr (inl (refl, full)))))))
           (aggregate_lawful attrs lane.1 attr found (lane_lawful before attrs is is_filter filter lane h.2) known passes),
@@ -348,36 +348,36 @@ later line before (new_trigger name aggregate part op number) new attrs e is k s
     let lane = h.0 in
     let n = h.1 in
     let trigger : Trigger = record { agg = lane.0; part = part; op = op; number = n } in
-    subst (λ (x : Stated). (x.schema ≡ Some attrs) × IsSetup (settled x attrs)) (sym h.4) (
+    subst (λ (x : DraftValue). (x.schema ≡ Some attrs) × IsSetup (settled x attrs)) (sym h.4) (
       e,
       trigger_step before attrs is name trigger (λ full. s 9 (inr (inr (inr (inl (refl, full))))))
           (λ c w m. and_from (is_aggregate_at (shaped (settled before attrs) c w m) lane.0) (not (is_within op)) (aggregate_there before attrs is aggregate lane c w m h.2) sign),
     )
 later line before (ask_list name expr) new attrs e is k sign s h =
     let read : ExprRead attrs expr (Ok h.0) = subst (λ (a : List Attr). ExprRead a expr (Ok h.0)) (ap (λ o. unwrap_or o []) e) h.1 in
-    subst (λ (x : Stated). (x.schema ≡ Some attrs) × IsSetup (settled x attrs)) (sym h.2)
+    subst (λ (x : DraftValue). (x.schema ≡ Some attrs) × IsSetup (settled x attrs)) (sym h.2)
     (e, ask_step before attrs is name (asks.List h.0) (λ full. s 9 (inr (inl (refl, full)))) (λ c w n. expr_fits attrs expr h.0 read))
 later line before (ask_find name index low high) new attrs e is k sign s h =
     let lane = h.0 in
-    subst (λ (x : Stated). (x.schema ≡ Some attrs) × IsSetup (settled x attrs)) (sym h.7)
+    subst (λ (x : DraftValue). (x.schema ≡ Some attrs) × IsSetup (settled x attrs)) (sym h.7)
     (e, ask_step before attrs is name (asks.Find lane.0 h.2 h.3) (λ full. s 9 (inr (inr (inr (inr (inl (refl, full))))))) (λ c w n. index_there before attrs is index lane c w n h.4))
 later line before (ask_between name filter low high) new attrs e is k sign s h =
     let lane = h.0 in
-    subst (λ (x : Stated). (x.schema ≡ Some attrs) × IsSetup (settled x attrs)) (sym h.5)
+    subst (λ (x : DraftValue). (x.schema ≡ Some attrs) × IsSetup (settled x attrs)) (sym h.5)
     (e, ask_step before attrs is name (asks.Between lane.0 h.1 h.2) (λ full. s 9 (inr (inr (inr (inr (inl (refl, full))))))) (λ c w n. filter_there before attrs is filter lane c w n h.3))
 later line before (ask_measure name aggregate low high) new attrs e is k sign s h =
     let lane = h.0 in
-    subst (λ (x : Stated). (x.schema ≡ Some attrs) × IsSetup (settled x attrs)) (sym h.5)
+    subst (λ (x : DraftValue). (x.schema ≡ Some attrs) × IsSetup (settled x attrs)) (sym h.5)
     (e, ask_step before attrs is name (asks.Measure lane.0 h.1 h.2) (λ full. s 9 (inr (inr (inr (inr (inl (refl, full))))))) (λ c w n. aggregate_there before attrs is aggregate lane c w n h.3))
 later line before (ask_fired name trigger) new attrs e is k sign s h =
-    subst (λ (x : Stated). (x.schema ≡ Some attrs) × IsSetup (settled x attrs)) (sym h.2)
+    subst (λ (x : DraftValue). (x.schema ≡ Some attrs) × IsSetup (settled x attrs)) (sym h.2)
     (e, ask_step before attrs is name (asks.Fired h.0) (λ full. s 9 (inr (inr (inl (refl, full))))) (λ c w n. trigger_suits before attrs is trigger h.0 c w n h.1))
 later line before (ask_live ask) new attrs e is k sign s h =
-    subst (λ (x : Stated). (x.schema ≡ Some attrs) × IsSetup (settled x attrs)) (sym h.2) (e, live_step before attrs is ask h.0 h.1)
+    subst (λ (x : DraftValue). (x.schema ≡ Some attrs) × IsSetup (settled x attrs)) (sym h.2) (e, live_step before attrs is ask h.0 h.1)
 
 -- the schema's statement
 
-started : (line : ℕ) (form : Form) (new : Stated) → is_schema_form form ≡ true → Adds line nothing_stated form new → IsDraft new
+started : (line : ℕ) (form : Form) (new : DraftValue) → is_schema_form form ≡ true → Adds line nothing_stated form new → IsDraft new
 started line packet_schema new k h = subst IsDraft (sym h) (draft_of line true packet_attrs packet_is)
 started line (record_schema list) new k h = let l = h.1 in subst IsDraft (sym h.2) (draft_of line false h.0 l.schema)
 started line (bucket_width number) new k h = absurd (false≢true k)
@@ -392,7 +392,7 @@ started line (ask_measure name aggregate low high) new k h = absurd (false≢tru
 started line (ask_fired name trigger) new k h = absurd (false≢true k)
 started line (ask_live ask) new k h = absurd (false≢true k)
 
-draft_after : (new : Stated) (attrs : List Attr) → new.schema ≡ Some attrs → IsSetup (settled new attrs) → IsDraft new
+draft_after : (new : DraftValue) (attrs : List Attr) → new.schema ≡ Some attrs → IsSetup (settled new attrs) → IsDraft new
 draft_after new attrs e is = record { unstated = λ n. some_none n; lawful = λ other f. subst (λ (x : List Attr). IsSetup (settled new x)) (some_same f) is }
   where
     some_none : new.schema ≡ None → new ≡ nothing_stated
@@ -401,7 +401,7 @@ draft_after new attrs e is = record { unstated = λ n. some_none n; lawful = λ 
     some_same : {other : List Attr} → new.schema ≡ Some other → attrs ≡ other
     some_same f = let both : Some attrs ≡ Some _ = sym e ∙ f in cc
 
-not_later : (before : Stated) (statement : Statement) → is_later before statement ≡ true → is_schema_statement statement ≡ false
+not_later : (before : DraftValue) (statement : Statement) → is_later before statement ≡ true → is_schema_statement statement ≡ false
 not_later before statements.Schema h = absurd (false≢true h)
 not_later before statements.Width h = refl
 not_later before statements.Index h = refl
@@ -411,7 +411,7 @@ not_later before statements.Trigger h = refl
 not_later before statements.Ask h = refl
 not_later before statements.Live h = refl
 
-stated_lawful : (number : ℕ) (before : Stated) (line : List ℕ) (new : Stated) → IsDraft before → States number before line new → IsDraft new
+stated_lawful : (number : ℕ) (before : DraftValue) (line : List ℕ) (new : DraftValue) → IsDraft before → States number before line new → IsDraft new
 stated_lawful number before line new d s = by before.schema refl
   where
     in_place : (b : Bool) → is_in_place before s.statement ≡ b → b ≡ true
@@ -428,17 +428,17 @@ stated_lawful number before line new d s = by before.schema refl
     by None e =
         let fits = form_fits s.statement (word_at line).1 s.form s.form_is in
         let first : is_schema_statement s.statement ≡ true = sym (ap (λ o. cond (is_some o) (is_later before s.statement) (is_schema_statement s.statement)) e) ∙ place in
-        started number s.form new (fits.kind ∙ first) (subst (λ (x : Stated). Adds number x s.form new) (d.unstated e) s.adds)
+        started number s.form new (fits.kind ∙ first) (subst (λ (x : DraftValue). Adds number x s.form new) (d.unstated e) s.adds)
     by (Some attrs) e =
         let fits = form_fits s.statement (word_at line).1 s.form s.form_is in
         let after : is_later before s.statement ≡ true = sym (ap (λ o. cond (is_some o) (is_later before s.statement) (is_schema_statement s.statement)) e) ∙ place in
         let next = later number before s.form new attrs e (d.lawful attrs e) (fits.kind ∙ not_later before s.statement after) fits.sign broken s.adds in
         draft_after new attrs next.0 next.1
 
-pub said_lawful : (number : ℕ) (before : Stated) (line : List ℕ) (new : Stated) → IsDraft before → said number before line ≡ Ok new → IsDraft new
+pub said_lawful : (number : ℕ) (before : DraftValue) (line : List ℕ) (new : DraftValue) → IsDraft before → said number before line ≡ Ok new → IsDraft new
 said_lawful number before line new d h = by (is_silent line) h
   where
-    same : ◌≡◌ {A = Result Stated ℕ} (Ok before) (Ok new) → before ≡ new
+    same : ◌≡◌ {A = Result DraftValue ℕ} (Ok before) (Ok new) → before ≡ new
     same e = cc
 
     by : (b : Bool) → cond b (Ok before) (line_read number before line) ≡ Ok new → IsDraft new
@@ -451,7 +451,7 @@ nothing_lawful = record { unstated = λ e. refl; lawful = λ attrs e. clash attr
     clash : (attrs : List Attr) → None ≡ Some attrs → IsSetup (settled nothing_stated attrs)
     clash attrs e = cc
 
-pub draft_few : (before : Stated) → IsDraft before → IsFew before
+pub draft_few : (before : DraftValue) → IsDraft before → IsFew before
 draft_few before d = by before.schema refl
   where
     by : (o : Option (List Attr)) → before.schema ≡ o → IsFew before

@@ -7,7 +7,7 @@ use Rattle.cf_filter.specs.Tokens.{passes}
 use Rattle.cf_filter.specs.Grammar.{Only}
 use Rattle.cf_setup.specs.declared.statement.Statement.{Statement}
 use Rattle.cf_setup.specs.Lines.{word_at}
-use Rattle.cf_setup.specs.Stated.{Stated}
+use Rattle.cf_setup.specs.Drafts.{DraftValue}
 use Rattle.cf_setup.specs.Forms.{Form, statement_named, form_at}
 use Rattle.cf_setup.specs.Rules.{rules, IsBroken}
 use Rattle.cf_setup.specs.SetupText.{is_in_place, Breaks, LineRead}
@@ -16,7 +16,7 @@ use Rattle.cf_setup.specs.Reading.{first_broken, added, coded_or, ruled as ruled
 use Rattle.cf_setup.proofs.RuleLaws.{above, first_some, first_none, ascends}
 use Rattle.cf_setup.proofs.AddsLaws.{never, adds_found, adds_only}
 
-module _ (number : ℕ) (before : Stated) (line : List ℕ) where
+module _ (number : ℕ) (before : DraftValue) (line : List ℕ) where
   abbrev word : List ℕ
   word = (word_at line).0
 
@@ -41,7 +41,7 @@ module _ (number : ℕ) (before : Stated) (line : List ℕ) where
       let one = same_form s other form some is in
       subst (λ (x : Form). IsBroken before code (rules x)) one b
 
-  ruled_holds : (s : Statement) (form : Form) → list_all (passes classes.Text) line ≡ true → statement_named word ≡ Some s → is_in_place before s ≡ true → form_at s rest ≡ Some form → (o : Option ℕ) → first_broken before (rules form) ≡ o → (a : Option Stated) → added number before form ≡ a → LineRead number before line (coded_or o a)
+  ruled_holds : (s : Statement) (form : Form) → list_all (passes classes.Text) line ≡ true → statement_named word ≡ Some s → is_in_place before s ≡ true → form_at s rest ≡ Some form → (o : Option ℕ) → first_broken before (rules form) ≡ o → (a : Option DraftValue) → added number before form ≡ a → LineRead number before line (coded_or o a)
   ruled_holds s form text known place is None o (Some new) a = record { lawful = λ code b. first_none before (rules form) code o (only_rules s form code text known place is b); statement = s; form = form; statement_is = known; form_is = is; adds = adds_found number before form new a }
   ruled_holds s form text known place is None o None a = absurd (never number before form (λ code b. first_none before (rules form) code o b) a)
   ruled_holds s form text known place is (Some code) o x a =
@@ -90,7 +90,7 @@ module _ (number : ℕ) (before : Stated) (line : List ℕ) where
   text_holds true b = known_holds b (statement_named word) refl
   text_holds false b = record { breaks = not_text refl b; least = λ other o. at_least_1 other o }
 
-  line_same : (r s : Result Stated ℕ) → LineRead number before line r → LineRead number before line s → r ≡ s
+  line_same : (r s : Result DraftValue ℕ) → LineRead number before line r → LineRead number before line s → r ≡ s
   line_same (Ok x) (Ok y) h k =
       let same = same_statement h.statement k.statement h.statement_is k.statement_is in
       let some : form_at k.statement rest ≡ Some h.form = ap (λ t. form_at t rest) (sym same) ∙ h.form_is in

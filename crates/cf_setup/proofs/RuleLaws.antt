@@ -18,7 +18,7 @@ use Rattle.cf_filter.specs.Exprs.{expr_at}
 use Rattle.cf_filter.specs.Grammar.{ValueText, ExprRead}
 use Rattle.cf_filter.proofs.ValueLaws.{value_only, value_found}
 use Rattle.cf_filter.proofs.ExprLaws.{expr_only}
-use Rattle.cf_setup.specs.Stated.{Stated, attrs_of}
+use Rattle.cf_setup.specs.Drafts.{DraftValue, attrs_of}
 use Rattle.cf_setup.specs.Forms.{Form}
 use Rattle.cf_setup.specs.Forms.Form.{packet_schema, record_schema, bucket_width, new_index, new_filter, new_aggregate, new_trigger, ask_list, ask_find, ask_between, ask_measure, ask_fired, ask_live}
 use Rattle.cf_setup.specs.Named.{place_in, is_index, is_filter, is_aggregate, lane_named, trigger_named, index_kind}
@@ -129,7 +129,7 @@ fails_to test o found e h = ap (fails test) e ∙ ap not h
 
 -- a test that fails is a broken rule
 
-pub broken_from : (before : Stated) (rule : Rule) → is_broken before rule ≡ true → Broken before rule
+pub broken_from : (before : DraftValue) (rule : Rule) → is_broken before rule ≡ true → Broken before rule
 broken_from before (schema_list list) h = λ attrs l. let none = none_is (schema_at list) h in let some = schema_only list attrs l in cc
 broken_from before (free_name name) h = h
 broken_from before (live_once ask) h = by (place_in before.ask_names ask) refl h
@@ -159,7 +159,7 @@ broken_from before (no_offence offence text) h = by (expr_at (attrs_of before) t
 
 -- a broken rule is a test that fails
 
-pub broken_to : (before : Stated) (rule : Rule) → Broken before rule → is_broken before rule ≡ true
+pub broken_to : (before : DraftValue) (rule : Rule) → Broken before rule → is_broken before rule ≡ true
 broken_to before (schema_list list) h = by (schema_at list) refl
   where
     by : (o : Option (List Attr)) → schema_at list ≡ o → is_none o ≡ true
@@ -207,7 +207,7 @@ abbrev pub Ascends : ℕ → List (ℕ × Rule) → Type 0
 Ascends low [] = Unit {0}
 Ascends low (rule ∷ rest) = (low ≤ rule.0) × Ascends rule.0 rest
 
-module _ (before : Stated) where
+module _ (before : DraftValue) where
   pub above : (low code : ℕ) (rs : List (ℕ × Rule)) → Ascends low rs → IsBroken before code rs → low ≤ code
   above low code [] h b = absurd b
   above low code (rule ∷ rest) h (inl b) = let e = b.0 in let low_is = h.0 in omega (arith, e, low_is)

@@ -5,19 +5,19 @@ use Rattle.cf_row.specs.declared.schema.Attr.{Attr}
 use Rattle.cf_filter.specs.Tokens.{unspaced}
 use Rattle.cf_filter.specs.Grammar.{Only}
 use Rattle.cf_setup.specs.Lines.{is_silent, lines_of}
-use Rattle.cf_setup.specs.Stated.{Stated, nothing_stated}
-use Rattle.cf_setup.specs.Settled.{Settled, settled}
+use Rattle.cf_setup.specs.Drafts.{DraftValue, nothing_stated}
+use Rattle.cf_setup.specs.Setups.{SetupValue, settled}
 use Rattle.cf_setup.specs.SetupText.{LineSaid, AllSaid, SetupText}
 use Rattle.cf_setup.specs.SetupText.LineSaid.{silent, spoken}
 use Rattle.cf_setup.specs.SetupText.SetupText.{whole, faulty, empty, large}
 use Rattle.cf_setup.specs.Reading.{line_read, said, settled_or, setup_from, setup_at}
 use Rattle.cf_setup.proofs.LineReads.{line_only}
 
-said_only : (number : ℕ) (before : Stated) (line : List ℕ) (read : Result Stated ℕ) → LineSaid number before line read → said number before (unspaced line) ≡ read
+said_only : (number : ℕ) (before : DraftValue) (line : List ℕ) (read : Result DraftValue ℕ) → LineSaid number before line read → said number before (unspaced line) ≡ read
 said_only number before line read (silent s e) = rw s (sym e)
 said_only number before line read (spoken s h) = let one = line_only number before (unspaced line) in rw s (sym (one.only read h))
 
-said_holds : (number : ℕ) (before : Stated) (line : List ℕ) → LineSaid number before line (said number before (unspaced line))
+said_holds : (number : ℕ) (before : DraftValue) (line : List ℕ) → LineSaid number before line (said number before (unspaced line))
 said_holds number before line = by (is_silent (unspaced line)) refl
   where
     by : (b : Bool) → is_silent (unspaced line) ≡ b → LineSaid number before line (cond b (Ok before) (line_read number before (unspaced line)))
@@ -25,7 +25,7 @@ said_holds number before line = by (is_silent (unspaced line)) refl
     by false b = spoken b (let one = line_only number before (unspaced line) in one.holds)
 
 -- lawful lines are passed over
-passed : (number : ℕ) (before new : Stated) (front rest : List (List ℕ)) → AllSaid number before front new → setup_from number before (front ++ rest) ≡ setup_from (length front + number) new rest
+passed : (number : ℕ) (before new : DraftValue) (front rest : List (List ℕ)) → AllSaid number before front new → setup_from number before (front ++ rest) ≡ setup_from (length front + number) new rest
 unfolding setup_from
 passed number before new [] rest h = ap (λ n. setup_from n before rest) (zero_more number) ∙ ap (λ s. setup_from (0 + number) s rest) (sym h)
   where
@@ -45,11 +45,11 @@ append_nothing [] = refl
 append_nothing (x ∷ xs) = ap (λ ys. x ∷ ys) (append_nothing xs)
 
 -- all lines are lawful
-ended : (bytes : List ℕ) (stated : Stated) → AllSaid 1 nothing_stated (lines_of bytes) stated → setup_from 1 nothing_stated (lines_of bytes) ≡ settled_or (length (lines_of bytes) + 1) stated stated.schema
+ended : (bytes : List ℕ) (stated : DraftValue) → AllSaid 1 nothing_stated (lines_of bytes) stated → setup_from 1 nothing_stated (lines_of bytes) ≡ settled_or (length (lines_of bytes) + 1) stated stated.schema
 unfolding setup_from
 ended bytes stated all = ap (setup_from 1 nothing_stated) (sym (append_nothing (lines_of bytes))) ∙ passed 1 nothing_stated stated (lines_of bytes) [] all
 
-setup_same : (bytes : List ℕ) (read : Result Settled (ℕ × ℕ)) → SetupText bytes read → read ≡ setup_at bytes
+setup_same : (bytes : List ℕ) (read : Result SetupValue (ℕ × ℕ)) → SetupText bytes read → read ≡ setup_at bytes
 unfolding setup_from
 setup_same bytes read (whole stated attrs size all some e) =
     let q : setup_from 1 nothing_stated (lines_of bytes) ≡ Ok (settled stated attrs) = ended bytes stated all ∙ ap (settled_or (length (lines_of bytes) + 1) stated) some in
@@ -66,11 +66,11 @@ setup_same bytes read (empty stated size all none e) =
 setup_same bytes read (large size e) = e ∙ rw (lt-ltb 65536 (length bytes) size) refl
 
 -- either some line is the first faulty one, or all are lawful
-pub data Ending (number : ℕ) (before : Stated) (lines : List (List ℕ)) : Type 0 where
-  all : (new : Stated) → AllSaid number before lines new → Ending number before lines
-  first : (front rest : List (List ℕ)) (line : List ℕ) (at_fault : Stated) (code : ℕ) → lines ≡ front ++ line ∷ rest → AllSaid number before front at_fault → LineSaid (length front + number) at_fault line (Err code) → Ending number before lines
+pub data Ending (number : ℕ) (before : DraftValue) (lines : List (List ℕ)) : Type 0 where
+  all : (new : DraftValue) → AllSaid number before lines new → Ending number before lines
+  first : (front rest : List (List ℕ)) (line : List ℕ) (at_fault : DraftValue) (code : ℕ) → lines ≡ front ++ line ∷ rest → AllSaid number before front at_fault → LineSaid (length front + number) at_fault line (Err code) → Ending number before lines
 
-ending : (number : ℕ) (before : Stated) (lines : List (List ℕ)) → Ending number before lines
+ending : (number : ℕ) (before : DraftValue) (lines : List (List ℕ)) → Ending number before lines
 ending number before [] = all before refl
 ending number before (line ∷ lines) = by (λ next. ending (number + 1) next lines) (said number before (unspaced line)) refl
   where
@@ -80,29 +80,29 @@ ending number before (line ∷ lines) = by (λ next. ending (number + 1) next li
     zero_more : (n : ℕ) → n ≡ 0 + n
     zero_more n = omega arith
 
-    more : (next : Stated) → LineSaid number before line (Ok next) → Ending (number + 1) next lines → Ending number before (line ∷ lines)
+    more : (next : DraftValue) → LineSaid number before line (Ok next) → Ending (number + 1) next lines → Ending number before (line ∷ lines)
     more next h (all new k) = all new (next, h, k)
     more next h (first front rest bad at_fault code e k f) = first (line ∷ front) rest bad at_fault code (ap (λ xs. line ∷ xs) e) (next, h, k) (subst (λ (n : ℕ). LineSaid n at_fault bad (Err code)) (shift (length front) number) f)
 
-    by : ((next : Stated) → Ending (number + 1) next lines) → (r : Result Stated ℕ) → said number before (unspaced line) ≡ r → Ending number before (line ∷ lines)
-    by later (Ok next) e = more next (subst (λ (r : Result Stated ℕ). LineSaid number before line r) e (said_holds number before line)) (later next)
-    by later (Err code) e = first [] lines line before code refl refl (subst (λ (n : ℕ). LineSaid n before line (Err code)) (zero_more number) (subst (λ (r : Result Stated ℕ). LineSaid number before line r) e (said_holds number before line)))
+    by : ((next : DraftValue) → Ending (number + 1) next lines) → (r : Result DraftValue ℕ) → said number before (unspaced line) ≡ r → Ending number before (line ∷ lines)
+    by later (Ok next) e = more next (subst (λ (r : Result DraftValue ℕ). LineSaid number before line r) e (said_holds number before line)) (later next)
+    by later (Err code) e = first [] lines line before code refl refl (subst (λ (n : ℕ). LineSaid n before line (Err code)) (zero_more number) (subst (λ (r : Result DraftValue ℕ). LineSaid number before line r) e (said_holds number before line)))
 
-setup_holds : (bytes : List ℕ) → (read : Result Settled (ℕ × ℕ)) × SetupText bytes read
+setup_holds : (bytes : List ℕ) → (read : Result SetupValue (ℕ × ℕ)) × SetupText bytes read
 setup_holds bytes = by (nat_lt 65536 (length bytes)) refl
   where
-    last : length bytes ≤ 65536 → (new : Stated) → AllSaid 1 nothing_stated (lines_of bytes) new → (o : Option (List Attr)) → new.schema ≡ o → (read : Result Settled (ℕ × ℕ)) × SetupText bytes read
+    last : length bytes ≤ 65536 → (new : DraftValue) → AllSaid 1 nothing_stated (lines_of bytes) new → (o : Option (List Attr)) → new.schema ≡ o → (read : Result SetupValue (ℕ × ℕ)) × SetupText bytes read
     last size new h (Some attrs) o = (Ok (settled new attrs), whole new attrs size h o refl)
     last size new h None o = (Err (length (lines_of bytes) + 1, 2), empty new size h o refl)
 
-    small : length bytes ≤ 65536 → Ending 1 nothing_stated (lines_of bytes) → (read : Result Settled (ℕ × ℕ)) × SetupText bytes read
+    small : length bytes ≤ 65536 → Ending 1 nothing_stated (lines_of bytes) → (read : Result SetupValue (ℕ × ℕ)) × SetupText bytes read
     small size (all new h) = last size new h new.schema refl
     small size (first front rest line at_fault code e h f) = (Err (length front + 1, code), faulty front rest line at_fault code size e h f refl)
 
-    by : (b : Bool) → nat_lt 65536 (length bytes) ≡ b → (read : Result Settled (ℕ × ℕ)) × SetupText bytes read
+    by : (b : Bool) → nat_lt 65536 (length bytes) ≡ b → (read : Result SetupValue (ℕ × ℕ)) × SetupText bytes read
     by true b = (Err (0, 9), large (ltb-true 65536 (length bytes) b) refl)
     by false b = small (ltb-false 65536 (length bytes) b) (ending 1 nothing_stated (lines_of bytes))
 
 -- each text has one outcome, and it is what is read
 pub setup_only : (bytes : List ℕ) → Only (SetupText bytes) (setup_at bytes)
-setup_only bytes = let h = setup_holds bytes in record { holds = subst (λ (r : Result Settled (ℕ × ℕ)). SetupText bytes r) (setup_same bytes h.0 h.1) h.1; only = λ other k. setup_same bytes other k }
+setup_only bytes = let h = setup_holds bytes in record { holds = subst (λ (r : Result SetupValue (ℕ × ℕ)). SetupText bytes r) (setup_same bytes h.0 h.1) h.1; only = λ other k. setup_same bytes other k }

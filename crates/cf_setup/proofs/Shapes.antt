@@ -10,7 +10,7 @@ use Rattle.cf_shape.specs.declared.lane.Key.{Key}
 use Rattle.cf_shape.specs.declared.lane.Key.TheVariants as keys
 use Rattle.cf_shape.specs.declared.shape.ShapeFault.{ShapeFault}
 use Rattle.cf_shape.specs.declared.shape.ShapeFault.TheVariants.{TooManyLanes, BadCapacity, BadWriters, BadNodes, BadWidth, BytesKey, WideMeasure, Memory}
-use Rattle.cf_shape.specs.Lanes.{Shaped, option_passes, is_lawful_key, is_lawful_measure, is_lawful_lane, IsShape}
+use Rattle.cf_shape.specs.Lanes.{ShapeValue, option_passes, is_lawful_key, is_lawful_measure, is_lawful_lane, IsShape}
 use Rattle.cf_shape.specs.Faults.{any_kind, key_exists, measure_exists, is_lane_of, AreLanesOf, HasFault, have_good_keys, have_good_measures}
 
 exists : (passes : Kind → Bool) (o : Option Attr) → option_passes passes o ≡ true → option_passes any_kind o ≡ true
@@ -65,7 +65,7 @@ outside : (low high n : ℕ) → (low ≤ n) × (n ≤ high) → (n < low) ⊎ (
 outside low high n within (inl out) = let above = within.0 in omega (arith, out, above)
 outside low high n within (inr out) = let below = within.1 in omega (arith, out, below)
 
-pub no_fault : (shape : Shaped) → IsShape shape → (fault : ShapeFault) → HasFault shape fault → ⊥
+pub no_fault : (shape : ShapeValue) → IsShape shape → (fault : ShapeFault) → HasFault shape fault → ⊥
 no_fault shape is TooManyLanes h = let few = is.few in omega (arith, few, h)
 no_fault shape is BadCapacity h = outside 1 65536 shape.capacity is.capacity h.1
 no_fault shape is BadWriters h = outside 1 15 shape.writers is.writers h.2

@@ -10,7 +10,7 @@ use Rattle.cf_filter.specs.Values.{value_at}
 use Rattle.cf_filter.specs.Exprs.{expr_at}
 use Rattle.cf_filter.specs.Grammar.{ValueText}
 use Rattle.cf_filter.proofs.ValueLaws.{value_only}
-use Rattle.cf_setup.specs.Stated.{Stated, attrs_of}
+use Rattle.cf_setup.specs.Drafts.{DraftValue, attrs_of}
 use Rattle.cf_setup.specs.Rules.{expr_rules}
 use Rattle.cf_setup.specs.Reading.{code_of, coded, first_broken, ExprTaken}
 
@@ -22,14 +22,14 @@ value_is kind text None h n found = by (value_at kind text) refl
     by None e = sym e
     by (Some value) e = absurd (n value (found value e))
 
-offence_found : (before : Stated) (text : List ℕ) (stop : Stop) (offence : Offence) → stop.offence ≡ offence → expr_at (attrs_of before) text ≡ Err stop → first_broken before (expr_rules text) ≡ Some (code_of offence)
+offence_found : (before : DraftValue) (text : List ℕ) (stop : Stop) (offence : Offence) → stop.offence ≡ offence → expr_at (attrs_of before) text ≡ Err stop → first_broken before (expr_rules text) ≡ Some (code_of offence)
 offence_found before text stop Syntax o e = rw (e, o) refl
 offence_found before text stop UnknownName o e = rw (e, o) refl
 offence_found before text stop BadOperator o e = rw (e, o) refl
 offence_found before text stop ValueRange o e = rw (e, o) refl
 offence_found before text stop TooLong o e = rw (e, o) refl
 
-pub taken_is : (before : Stated) (text : List ℕ) (read : Result (List (List Atom)) ℕ) → read ≡ coded (expr_at (attrs_of before) text) → ExprTaken before text read
+pub taken_is : (before : DraftValue) (text : List ℕ) (read : Result (List (List Atom)) ℕ) → read ≡ coded (expr_at (attrs_of before) text) → ExprTaken before text read
 taken_is before text read h = subst (ExprTaken before text) (sym h) (by (expr_at (attrs_of before) text) refl)
   where
     by : (r : Result (List (List Atom)) Stop) → expr_at (attrs_of before) text ≡ r → ExprTaken before text (coded r)

@@ -2,18 +2,18 @@
 use Rattle.std.proofs.Common.{◌≡◌, ℕ, ◌+◌, List, [], ◌∷◌, Ok, Err, refl, ap, ◌∙◌, length, arith}
 use Rattle.cf_filter.specs.Tokens.{unspaced}
 use Rattle.cf_setup.specs.Lines.{lines_of, lines_after}
-use Rattle.cf_setup.specs.Stated.{Stated}
+use Rattle.cf_setup.specs.Drafts.{DraftValue}
 use Rattle.cf_setup.specs.Reading.{setup_from, settled_or, said}
 
-pub line_ok : (number : ℕ) (before new : Stated) (bytes line rest : List ℕ) → lines_of bytes ≡ line ∷ lines_of rest → said number before (unspaced line) ≡ Ok new → setup_from number before (lines_of bytes) ≡ setup_from (number + 1) new (lines_of rest)
+pub line_ok : (number : ℕ) (before new : DraftValue) (bytes line rest : List ℕ) → lines_of bytes ≡ line ∷ lines_of rest → said number before (unspaced line) ≡ Ok new → setup_from number before (lines_of bytes) ≡ setup_from (number + 1) new (lines_of rest)
 unfolding setup_from
 line_ok number before new bytes line rest e h = ap (setup_from number before) e ∙ rw h refl
 
-pub line_err : (number code : ℕ) (before : Stated) (bytes line rest : List ℕ) → lines_of bytes ≡ line ∷ lines_of rest → said number before (unspaced line) ≡ Err code → setup_from number before (lines_of bytes) ≡ Err (number, code)
+pub line_err : (number code : ℕ) (before : DraftValue) (bytes line rest : List ℕ) → lines_of bytes ≡ line ∷ lines_of rest → said number before (unspaced line) ≡ Err code → setup_from number before (lines_of bytes) ≡ Err (number, code)
 unfolding setup_from
 line_err number code before bytes line rest e h = ap (setup_from number before) e ∙ rw h refl
 
-pub line_none : (number : ℕ) (before : Stated) (bytes : List ℕ) → bytes ≡ [] → setup_from number before (lines_of bytes) ≡ settled_or number before before.schema
+pub line_none : (number : ℕ) (before : DraftValue) (bytes : List ℕ) → bytes ≡ [] → setup_from number before (lines_of bytes) ≡ settled_or number before before.schema
 unfolding setup_from lines_after
 line_none number before bytes e = ap (λ b. setup_from number before (lines_of b)) e
 

@@ -11,14 +11,14 @@ use Rattle.cf_shape.specs.declared.lane.Lane.{Lane}
 use Rattle.cf_plain.specs.declared.ask.Ask.TheVariants as asks
 use Rattle.cf_filter.specs.Reading.{attr_named}
 use Rattle.cf_filter.specs.Grammar.{ValueText, ExprRead}
-use Rattle.cf_setup.specs.Stated.{Stated, attrs_of, with_lane, with_trigger, with_ask, index_over, filter_by, aggregate_by}
+use Rattle.cf_setup.specs.Drafts.{DraftValue, attrs_of, with_lane, with_trigger, with_ask, index_over, filter_by, aggregate_by}
 use Rattle.cf_setup.specs.Forms.{Form}
 use Rattle.cf_setup.specs.Forms.Form.{packet_schema, record_schema, bucket_width, new_index, new_filter, new_aggregate, new_trigger, ask_list, ask_find, ask_between, ask_measure, ask_fired, ask_live}
 use Rattle.cf_setup.specs.Named.{place_in, is_index, is_filter, is_aggregate, lane_named, trigger_named, index_kind}
 use Rattle.cf_setup.specs.Schemas.{ListText}
 
 -- a schema at that line
-abbrev pub with_schema : ℕ → Stated → Bool → List Attr → Stated
+abbrev pub with_schema : ℕ → DraftValue → Bool → List Attr → DraftValue
 with_schema line before packet attrs = record before { packet = packet; schema_line = line; schema = Some attrs }
 
 -- both ends of a range as values of the kind
@@ -27,7 +27,7 @@ pub record AreEnds (kind : Kind) (low high : List ℕ) (first last : ℕ) : Type
   pub high_is : ValueText kind high (Num last)
 
 -- the statement at that line adds this
-abbrev pub Adds : ℕ → Stated → Form → Stated → Type 0
+abbrev pub Adds : ℕ → DraftValue → Form → DraftValue → Type 0
 Adds line before packet_schema new = new ≡ with_schema line before true packet_attrs
 Adds line before (record_schema list) new = (attrs : List Attr) × ListText list attrs × (new ≡ with_schema line before false attrs)
 Adds line before (bucket_width number) new = (n : ℕ) × ValueText U64 number (Num n) × (1 ≤ n) × (n ≤ 2 ^ 63) × (new ≡ record before { width = Some n })

@@ -1,5 +1,5 @@
 pub mod Lines
-pub mod Stated
+pub mod Drafts
 pub mod Forms
 pub mod Named
 pub mod Schemas
@@ -7,5 +7,5 @@ pub mod Rules
 pub mod Adds
 pub mod Reading
 pub mod SetupText
-pub mod Settled
+pub mod Setups
 pub mod Few

@@ -13,7 +13,7 @@ use Rattle.cf_plain.specs.Asks.{is_attr}
 use Rattle.cf_filter.specs.Values.{◌>>=◌}
 use Rattle.cf_setup.specs.declared.draft.Family.{Family}
 use Rattle.cf_setup.specs.declared.draft.Family.TheVariants as families
-use Rattle.cf_setup.specs.Stated.{Stated, attrs_of}
+use Rattle.cf_setup.specs.Drafts.{DraftValue, attrs_of}
 
 -- the place of a name
 abbrev pub place_in : List (List ℕ) → List ℕ → Option ℕ
@@ -24,7 +24,7 @@ abbrev pub is_among : List (List ℕ) → List ℕ → Bool
 is_among names name = list_any (λ other. bytes_eq other name) names
 
 -- lanes, triggers and asks have their names in one space
-abbrev pub is_taken : Stated → List ℕ → Bool
+abbrev pub is_taken : DraftValue → List ℕ → Bool
 is_taken before name = (is_among before.lane_names name || is_among before.trigger_names name) || is_among before.ask_names name
 
 -- all rows by an attribute
@@ -46,14 +46,14 @@ is_of families.Filter lane = is_filter lane
 is_of families.Aggregate lane = is_aggregate lane
 
 -- the number of the lane of that name and the lane, if it passes
-abbrev pub lane_named : (Lane → Bool) → Stated → List ℕ → Option (ℕ × Lane)
+abbrev pub lane_named : (Lane → Bool) → DraftValue → List ℕ → Option (ℕ × Lane)
 lane_named passes before name = do
   place ← place_in before.lane_names name
   lane ← slice_get before.lanes place
   if passes lane then Some (place, lane) else None
 
 -- the trigger of that name
-abbrev pub trigger_named : Stated → List ℕ → Option Trigger
+abbrev pub trigger_named : DraftValue → List ℕ → Option Trigger
 trigger_named before name = do
   place ← place_in before.trigger_names name
   slice_get before.triggers place
@@ -64,7 +64,7 @@ kind_of_key attrs (keys.Attr attr) = option_map (λ attr. attr.kind) (slice_get 
 kind_of_key attrs keys.Bucket = None
 
 -- the kind of an index's values
-abbrev pub index_kind : Stated → List ℕ → Option Kind
+abbrev pub index_kind : DraftValue → List ℕ → Option Kind
 index_kind before name = do
   index ← lane_named is_index before name
   kind_of_key (attrs_of before) index.1.key

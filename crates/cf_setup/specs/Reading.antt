@@ -23,7 +23,7 @@ use Rattle.cf_setup.specs.declared.statement.Statement.{Statement}
 use Rattle.cf_setup.specs.declared.parse.SetupFault.{SetupFault}
 use Rattle.cf_setup.specs.declared.parse.SetupFault.TheVariants.{Bad, Memory}
 use Rattle.cf_setup.specs.Lines.{lines_of, is_silent, word_at}
-use Rattle.cf_setup.specs.Stated.{Stated, nothing_stated, attrs_of, with_lane, with_trigger, with_ask, index_over, filter_by, aggregate_by}
+use Rattle.cf_setup.specs.Drafts.{DraftValue, nothing_stated, attrs_of, with_lane, with_trigger, with_ask, index_over, filter_by, aggregate_by}
 use Rattle.cf_setup.specs.Forms.{Form, statement_named, form_at}
 use Rattle.cf_setup.specs.Forms.Form.{packet_schema, record_schema, bucket_width, new_index, new_filter, new_aggregate, new_trigger, ask_list, ask_find, ask_between, ask_measure, ask_fired, ask_live}
 use Rattle.cf_setup.specs.Named.{is_taken, place_in, is_index, is_filter, is_aggregate, lane_named, trigger_named, index_kind}
@@ -32,7 +32,7 @@ use Rattle.cf_setup.specs.Rules.{Rule, rules, expr_rules}
 use Rattle.cf_setup.specs.Rules.Rule.{schema_list, free_name, live_once, known_attr, known_index, known_filter, known_aggregate, known_trigger, known_ask, a_number, a_width, a_key, number_attr, narrow_attr, lane_room, trigger_room, ask_room, no_offence}
 use Rattle.cf_setup.specs.Adds.{with_schema}
 use Rattle.cf_setup.specs.SetupText.{is_in_place}
-use Rattle.cf_setup.specs.Settled.{Settled, settled}
+use Rattle.cf_setup.specs.Setups.{SetupValue, settled}
 
 -- the number of a value
 abbrev pub number_in_value : Value → Option ℕ
@@ -55,11 +55,11 @@ key_in None text = None
 key_in (Some kind) text = number_of kind text
 
 -- the value of the index's attribute that a text is
-abbrev pub key_of : Stated → List ℕ → List ℕ → Option ℕ
+abbrev pub key_of : DraftValue → List ℕ → List ℕ → Option ℕ
 key_of before index text = key_in (index_kind before index) text
 
 -- the ask at that place is live
-abbrev pub is_live : Stated → Option ℕ → Bool
+abbrev pub is_live : DraftValue → Option ℕ → Bool
 is_live before None = false
 is_live before (Some place) = list_any (λ live. live == place) before.lives
 
@@ -83,7 +83,7 @@ offends offence (Ok expr) = false
 offends offence (Err stop) = same_offence offence stop.offence
 
 -- the rule's test fails
-abbrev pub is_broken : Stated → Rule → Bool
+abbrev pub is_broken : DraftValue → Rule → Bool
 is_broken before (schema_list list) = is_none (schema_at list)
 is_broken before (free_name name) = is_taken before name
 is_broken before (live_once ask) = is_live before (place_in before.ask_names ask)
@@ -104,7 +104,7 @@ is_broken before ask_room = nat_le 32 (length before.asks)
 is_broken before (no_offence offence text) = offends offence (expr_at (attrs_of before) text)
 
 -- the code of the first rule whose test fails
-abbrev pub first_broken : Stated → List (ℕ × Rule) → Option ℕ
+abbrev pub first_broken : DraftValue → List (ℕ × Rule) → Option ℕ
 first_broken before [] = None
 first_broken before (rule ∷ rest) = if is_broken before rule.1 then Some rule.0 else first_broken before rest
 
@@ -114,11 +114,11 @@ expr_in (Ok expr) = Some expr
 expr_in (Err stop) = None
 
 -- the expression that a text is
-abbrev pub expr_of : Stated → List ℕ → Option (List (List Atom))
+abbrev pub expr_of : DraftValue → List ℕ → Option (List (List Atom))
 expr_of before text = expr_in (expr_at (attrs_of before) text)
 
 -- what is stated after a lawful statement
-abbrev pub added : ℕ → Stated → Form → Option Stated
+abbrev pub added : ℕ → DraftValue → Form → Option DraftValue
 added line before packet_schema = Some (with_schema line before true packet_attrs)
 added line before (record_schema list) = option_map (with_schema line before false) (schema_at list)
 added line before (bucket_width number) = option_map (λ n. record before { width = Some n }) (width_of number)
@@ -152,54 +152,54 @@ added line before (ask_fired name trigger) = option_map (λ found. with_ask befo
 added line before (ask_live ask) = option_map (λ place. record before { lives = before.lives ++ place ∷ [] }) (place_in before.ask_names ask)
 
 -- where no test fails, something is stated
-abbrev pub coded_or : Option ℕ → Option Stated → Result Stated ℕ
+abbrev pub coded_or : Option ℕ → Option DraftValue → Result DraftValue ℕ
 coded_or (Some code) new = Err code
 coded_or None None = Err 0
 coded_or None (Some new) = Ok new
 
 -- the code of the first broken rule, or what is stated then
-unfoldable pub ruled : ℕ → Stated → Form → Result Stated ℕ
+unfoldable pub ruled : ℕ → DraftValue → Form → Result DraftValue ℕ
 ruled line before form = coded_or (first_broken before (rules form)) (added line before form)
 
 -- what a statement in its form states
-abbrev pub form_read : ℕ → Stated → Option Form → Result Stated ℕ
+abbrev pub form_read : ℕ → DraftValue → Option Form → Result DraftValue ℕ
 form_read line before None = Err 3
 form_read line before (Some form) = ruled line before form
 
 -- what a statement states where it is in place
-abbrev pub statement_read : ℕ → Stated → List ℕ → Option Statement → Result Stated ℕ
+abbrev pub statement_read : ℕ → DraftValue → List ℕ → Option Statement → Result DraftValue ℕ
 statement_read line before rest None = Err 2
 statement_read line before rest (Some statement) = if is_in_place before statement then form_read line before (form_at statement rest) else Err 2
 
 -- what is stated after the line of that number, or the least code of a rule that it breaks
-unfoldable pub line_read : ℕ → Stated → List ℕ → Result Stated ℕ
+unfoldable pub line_read : ℕ → DraftValue → List ℕ → Result DraftValue ℕ
 line_read number before line = if list_all (passes classes.Text) line then statement_read number before (word_at line).1 (statement_named (word_at line).0) else Err 1
 
 -- a line after the spaces at its front
-abbrev pub said : ℕ → Stated → List ℕ → Result Stated ℕ
+abbrev pub said : ℕ → DraftValue → List ℕ → Result DraftValue ℕ
 said number before line = if is_silent line then Ok before else line_read number before line
 
 -- the setup, if its schema is stated, or the line that lacks it
-abbrev pub settled_or : ℕ → Stated → Option (List Attr) → Result Settled (ℕ × ℕ)
+abbrev pub settled_or : ℕ → DraftValue → Option (List Attr) → Result SetupValue (ℕ × ℕ)
 settled_or line stated None = Err (line, 2)
 settled_or line stated (Some attrs) = Ok (settled stated attrs)
 
 -- what is read of the lines after the one that is read so
-abbrev pub after_line : ℕ → Result Stated ℕ → (Stated → Result Settled (ℕ × ℕ)) → Result Settled (ℕ × ℕ)
+abbrev pub after_line : ℕ → Result DraftValue ℕ → (DraftValue → Result SetupValue (ℕ × ℕ)) → Result SetupValue (ℕ × ℕ)
 after_line number (Ok stated) later = later stated
 after_line number (Err code) later = Err (number, code)
 
 -- the lines, the first of which has that number
-unfoldable pub setup_from : ℕ → Stated → List (List ℕ) → Result Settled (ℕ × ℕ)
+unfoldable pub setup_from : ℕ → DraftValue → List (List ℕ) → Result SetupValue (ℕ × ℕ)
 setup_from number before [] = settled_or number before before.schema
 setup_from number before (line ∷ lines) = after_line number (said number before (unspaced line)) (λ stated. setup_from (number + 1) stated lines)
 
 -- the setup that a text is, or its first faulty line
-abbrev pub setup_at : List ℕ → Result Settled (ℕ × ℕ)
+abbrev pub setup_at : List ℕ → Result SetupValue (ℕ × ℕ)
 setup_at bytes = if nat_lt 65536 (length bytes) then Err (0, 9) else setup_from 1 nothing_stated (lines_of bytes)
 
 -- want of memory says nothing of the text
-abbrev pub Answers : Result Settled SetupFault → Result Settled (ℕ × ℕ) → Type 0
+abbrev pub Answers : Result SetupValue SetupFault → Result SetupValue (ℕ × ℕ) → Type 0
 Answers (Ok setup) read = read ≡ Ok setup
 Answers (Err (Bad line code)) read = read ≡ Err (line, code)
 Answers (Err Memory) read = Unit {0}
@@ -218,6 +218,6 @@ coded (Ok expr) = Ok expr
 coded (Err stop) = Err (code_of stop.offence)
 
 -- what an expression that is taken says of its rules
-abbrev pub ExprTaken : Stated → List ℕ → Result (List (List Atom)) ℕ → Type 0
+abbrev pub ExprTaken : DraftValue → List ℕ → Result (List (List Atom)) ℕ → Type 0
 ExprTaken before text (Ok expr) = (first_broken before (expr_rules text) ≡ None) × (expr_of before text ≡ Some expr)
 ExprTaken before text (Err code) = first_broken before (expr_rules text) ≡ Some code

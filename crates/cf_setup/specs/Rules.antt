@@ -11,7 +11,7 @@ use Rattle.cf_filter.specs.declared.fault.Offence.TheVariants.{Syntax, UnknownNa
 use Rattle.cf_filter.specs.declared.fault.Stop.{Stop}
 use Rattle.cf_filter.specs.Reading.{attr_named}
 use Rattle.cf_filter.specs.Grammar.{ValueText, ExprRead}
-use Rattle.cf_setup.specs.Stated.{Stated, attrs_of}
+use Rattle.cf_setup.specs.Drafts.{DraftValue, attrs_of}
 use Rattle.cf_setup.specs.Forms.{Form}
 use Rattle.cf_setup.specs.Forms.Form.{packet_schema, record_schema, bucket_width, new_index, new_filter, new_aggregate, new_trigger, ask_list, ask_find, ask_between, ask_measure, ask_fired, ask_live}
 use Rattle.cf_setup.specs.Named.{is_taken, place_in, is_index, is_filter, is_aggregate, lane_named, trigger_named, index_kind}
@@ -39,7 +39,7 @@ pub data Rule : Type 0 where
   no_offence : (offence : Offence) (text : List ℕ) → Rule
 
 -- the rule is broken after what is stated before
-abbrev pub Broken : Stated → Rule → Type 0
+abbrev pub Broken : DraftValue → Rule → Type 0
 Broken before (schema_list list) = (attrs : List Attr) → ListText list attrs → ⊥
 Broken before (free_name name) = is_taken before name ≡ true
 Broken before (live_once ask) = (place : ℕ) × (place_in before.ask_names ask ≡ Some place) × (list_any (λ live. live == place) before.lives ≡ true)
@@ -86,6 +86,6 @@ rules (ask_fired name trigger) = (5, free_name name) ∷ (6, known_trigger trigg
 rules (ask_live ask) = (5, live_once ask) ∷ (6, known_ask ask) ∷ []
 
 -- some rule with this code is broken
-abbrev pub IsBroken : Stated → ℕ → List (ℕ × Rule) → Type 0
+abbrev pub IsBroken : DraftValue → ℕ → List (ℕ × Rule) → Type 0
 IsBroken before code [] = ⊥
 IsBroken before code (rule ∷ rest) = ((code ≡ rule.0) × Broken before rule.1) ⊎ IsBroken before code rest

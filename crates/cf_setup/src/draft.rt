@@ -4,7 +4,7 @@ ghost use Rattle.std.specs.List.{list_any};
 ghost use Rattle.std.specs.Option.{option_map, option_copied};
 ghost use Rattle.std.specs.Str.{bytes_eq};
 ghost use Rattle.cf_filter.specs.Reading.{attr_named};
-ghost use Rattle.cf_setup.specs.Stated.{Stated, nothing_stated, attrs_of};
+ghost use Rattle.cf_setup.specs.Drafts.{DraftValue, nothing_stated, attrs_of};
 ghost use Rattle.cf_setup.specs.Named.{place_in, is_among as is_among_of, is_taken as is_taken_of, lane_named, is_of as is_of_family, trigger_named, kind_of_key as kind_of_key_in};
 
 use cf_filter::find_attr;
@@ -32,9 +32,9 @@ pub(crate) struct Draft {
 }
 
 impl Model for Draft {
-    ghost use Rattle.cf_setup.specs.Stated.{Stated};
+    ghost use Rattle.cf_setup.specs.Drafts.{DraftValue};
 
-    ghost Value = { Stated };
+    ghost Value = { DraftValue };
 
     ghost view = { λ s. record { packet = s.packet; schema_line = s.schema_line; schema = s.schema; width = s.width; lanes = s.lanes.items; triggers = s.triggers.items; asks = s.asks.items; lives = s.lives.items; lane_names = s.lane_names.items; trigger_names = s.trigger_names.items; ask_names = s.ask_names.items } };
 }

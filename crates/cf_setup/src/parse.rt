@@ -1,9 +1,9 @@
 // From the bytes of a setup to the setup.
 ghost use Rattle.std.specs.Prelude.{◌≡◌, ℕ, List, ◌≤◌, ◌<◌, length, IfOk, Result};
 ghost use Rattle.cf_setup.specs.Lines.{lines_of};
-ghost use Rattle.cf_setup.specs.Stated.{nothing_stated};
+ghost use Rattle.cf_setup.specs.Drafts.{nothing_stated};
 ghost use Rattle.cf_setup.specs.Reading.{setup_at, setup_from, settled_or, Answers};
-ghost use Rattle.cf_setup.specs.Settled.{Settled, IsSetup, IsDraft};
+ghost use Rattle.cf_setup.specs.Setups.{SetupValue, IsSetup, IsDraft};
 ghost use Rattle.cf_setup.specs.SetupText.{SetupText};
 ghost use Rattle.cf_filter.specs.Grammar.{Only};
 
@@ -106,9 +106,9 @@ fn read_setup(alloc: Global, bytes: &[u8]) -> Result<Setup, SetupFault>
 /// The setup that the bytes are the text of, or its first faulty line with the least code of a rule that it breaks.
 pub fn parse_setup(alloc: Global, bytes: &[u8]) -> Result<Setup, SetupFault>
     // The answer is what the text is, as a setup or by its first faulty line.
-    ensures found { (read : Result Settled (ℕ × ℕ)) × SetupText bytes.now read × Answers result read }
+    ensures found { (read : Result SetupValue (ℕ × ℕ)) × SetupText bytes.now read × Answers result read }
     // What the text is is the answer, unless memory runs out.
-    ensures only { (read : Result Settled (ℕ × ℕ)) → SetupText bytes.now read → Answers result read }
+    ensures only { (read : Result SetupValue (ℕ × ℕ)) → SetupText bytes.now read → Answers result read }
     ensures lawful { IfOk result IsSetup }
 {
     read_setup(alloc, bytes)

@@ -1,6 +1,6 @@
 // A setup, and the shape of its log.
 ghost use Rattle.std.specs.Prelude.{◌≡◌, ℕ, ◌≤◌, IfOk, List};
-ghost use Rattle.cf_setup.specs.Settled.{IsSetup, shaped};
+ghost use Rattle.cf_setup.specs.Setups.{IsSetup, shaped};
 ghost use Rattle.cf_shape.specs.Lanes.{IsShape};
 
 use cf_fold::Trigger;
@@ -27,9 +27,9 @@ pub struct Setup {
 }
 
 impl Model for Setup {
-    ghost use Rattle.cf_setup.specs.Settled.{Settled, IsSetup};
+    ghost use Rattle.cf_setup.specs.Setups.{SetupValue, IsSetup};
 
-    ghost Value = { Settled };
+    ghost Value = { SetupValue };
 
     ghost view = { λ s. record { packet = s.packet; schema_line = s.schema_line; schema = s.schema; width = s.width; lanes = s.lanes.items; triggers = s.triggers.items; asks = s.asks.items; lives = s.lives.items; lane_names = s.lane_names.items; trigger_names = s.trigger_names.items; ask_names = s.ask_names.items } };
 

@@ -5,7 +5,7 @@ ghost use Rattle.cf_shape.specs.Lanes.{is_number as is_number_of, is_narrow as i
 ghost use Rattle.cf_setup.specs.Forms.{schema_form, width_form, index_form, filter_form, aggregate_form, trigger_form, ask_form, question_form, live_form, form_at};
 ghost use Rattle.cf_setup.specs.declared.statement.Question.TheVariants as questions;
 ghost use Rattle.cf_setup.specs.SetupText.{is_in_place as is_in_place_of, is_later as is_later_of};
-ghost use Rattle.cf_setup.specs.Stated.{with_lane as with_lane_of, with_trigger as with_trigger_of, with_ask as with_ask_of, attrs_of};
+ghost use Rattle.cf_setup.specs.Drafts.{with_lane as with_lane_of, with_trigger as with_trigger_of, with_ask as with_ask_of, attrs_of};
 ghost use Rattle.cf_setup.specs.Adds.{with_schema as with_schema_of};
 ghost use Rattle.cf_setup.specs.Reading.{number_of as number_in, width_of as width_in, key_in, form_read, line_read, statement_read, said, coded, ExprTaken};
 ghost use Rattle.cf_filter.specs.Values.{value_at};

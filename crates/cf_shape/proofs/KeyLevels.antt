@@ -8,7 +8,7 @@ use Rattle.cf_row.specs.Expr.{is_of_schema}
 use Rattle.cf_shape.specs.declared.lane.Lane.{Lane}
 use Rattle.cf_shape.specs.declared.lane.Key.{Key}
 use Rattle.cf_shape.specs.declared.lane.Key.TheVariants as keys
-use Rattle.cf_shape.specs.Lanes.{Shaped, IsShape, lane_at, no_lane, is_number, option_passes, is_lawful_lane, is_lawful_key, is_lawful_measure}
+use Rattle.cf_shape.specs.Lanes.{ShapeValue, IsShape, lane_at, no_lane, is_number, option_passes, is_lawful_lane, is_lawful_key, is_lawful_measure}
 use Rattle.cf_shape.specs.Nodes.{levels_of, nibbles_of_kind, nibbles_of_attr, nibbles_of_key}
 
 both_left : (a b : Bool) → a && b ≡ true → a ≡ true
@@ -39,7 +39,7 @@ key_levels : (attrs : List Attr) (key : Key) → is_lawful_key attrs key ≡ tru
 key_levels attrs (keys.Attr attr) h = attr_levels (slice_get attrs attr) h
 key_levels attrs keys.Bucket h = omega arith
 
-pub levels_two : (s : Shaped) (l : ℕ) → IsShape s → l < length s.lanes → 1 < levels_of s l
+pub levels_two : (s : ShapeValue) (l : ℕ) → IsShape s → l < length s.lanes → 1 < levels_of s l
 levels_two s l is lt =
     let lane = lane_at s l in
     let a = both_left (is_of_schema s.schema lane.select && is_lawful_key s.schema lane.key) (is_lawful_measure s.schema lane.measure) (lawful_at s.schema s.lanes l lt is.lanes) in

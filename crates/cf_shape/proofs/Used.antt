@@ -4,7 +4,7 @@ use Rattle.std.proofs.lemmas.List.{get_or_append_left, get_or-append-add, get_or
 use Rattle.std.proofs.lemmas.Bool.{cases_lt}
 use Rattle.cf_row.specs.Words.{word_count}
 use Rattle.cf_shape.specs.declared.lane.Lane.{Lane}
-use Rattle.cf_shape.specs.Lanes.{Shaped, no_lane, lane_at}
+use Rattle.cf_shape.specs.Lanes.{ShapeValue, no_lane, lane_at}
 use Rattle.cf_shape.specs.Uses.{Use, plains, versions, cells, uses, use_at, cell_words, cell_count, cells_before, ticket_words}
 use Rattle.cf_shape.specs.Uses.Use.{plain, version}
 use Rattle.cf_shape.proofs.Counts.{count_cons, count_none}
@@ -91,25 +91,25 @@ before_fits [] l lt = absurd (omega arith)
 before_fits (x ∷ xs) zero lt = omega (arith, count_cons x xs, count_none)
 before_fits (x ∷ xs) (suc l) lt = omega (arith, count_cons x xs, count_cons x (take l xs), before_fits xs l (omega arith))
 
-pub uses_long : (s : Shaped) → suc (length (uses s)) ≡ ticket_words s
+pub uses_long : (s : ShapeValue) → suc (length (uses s)) ≡ ticket_words s
 uses_long s = omega (arith, length-append (plains 0 (word_count s.schema + 1)) (cells 0 s.lanes), plains_long 0 (word_count s.schema + 1), cells_long 0 s.lanes)
 
-pub plain_at : (s : Shaped) (i : ℕ) → i < word_count s.schema + 1 → use_at s i ≡ plain i
+pub plain_at : (s : ShapeValue) (i : ℕ) → i < word_count s.schema + 1 → use_at s i ≡ plain i
 plain_at s i lt = plains_at 0 (word_count s.schema + 1) i (cells 0 s.lanes) lt ∙ ap plain (let e : 0 + i ≡ i = omega arith in e)
 
-past_plains : (s : Shaped) (i : ℕ) → use_at s (word_count s.schema + 1 + i) ≡ get_or (cells 0 s.lanes) i (plain 0)
+past_plains : (s : ShapeValue) (i : ℕ) → use_at s (word_count s.schema + 1 + i) ≡ get_or (cells 0 s.lanes) i (plain 0)
 past_plains s i =
     ap (λ (m : ℕ). get_or (uses s) (m + i) (plain 0)) (sym (plains_long 0 (word_count s.schema + 1)))
     ∙ get_or-append-add (plains 0 (word_count s.schema + 1)) (cells 0 s.lanes) i (plain 0)
 
 -- word i of a lane's cell
-pub version_at : (s : Shaped) (l i : ℕ) → l < length s.lanes → i < cell_words (lane_at s l) → use_at s (word_count s.schema + 1 + cells_before s l + i) ≡ version l i
+pub version_at : (s : ShapeValue) (l i : ℕ) → l < length s.lanes → i < cell_words (lane_at s l) → use_at s (word_count s.schema + 1 + cells_before s l + i) ≡ version l i
 version_at s l i lt low =
     let e : word_count s.schema + 1 + cells_before s l + i ≡ word_count s.schema + 1 + (cells_before s l + i) = omega arith in
     ap (use_at s) e ∙ (past_plains s (cells_before s l + i) ∙ (cells_at 0 s.lanes l i lt low ∙ ap (λ (m : ℕ). version m i) (let f : 0 + l ≡ l = omega arith in f)))
 
 -- the word whose use it is
-pub version_is : (s : Shaped) (k l i : ℕ) → suc k < ticket_words s → use_at s k ≡ version l i → (l < length s.lanes) × (i < cell_words (lane_at s l)) × (k ≡ word_count s.schema + 1 + cells_before s l + i)
+pub version_is : (s : ShapeValue) (k l i : ℕ) → suc k < ticket_words s → use_at s k ≡ version l i → (l < length s.lanes) × (i < cell_words (lane_at s l)) × (k ≡ word_count s.schema + 1 + cells_before s l + i)
 version_is s k l i lt is = elim (cases_lt k (word_count s.schema + 1)) [
   | inl low ↦ let p = plain_at s k low in absurd (cc (sym p ∙ is))
   | inr le ↦
@@ -125,7 +125,7 @@ version_is s k l i lt is = elim (cases_lt k (word_count s.schema + 1)) [
 ]
 
 -- a word of an attribute or the tag is before the cells
-pub plain_is : (s : Shaped) (k i : ℕ) → suc k < ticket_words s → use_at s k ≡ plain i → (k < word_count s.schema + 1) × (k ≡ i)
+pub plain_is : (s : ShapeValue) (k i : ℕ) → suc k < ticket_words s → use_at s k ≡ plain i → (k < word_count s.schema + 1) × (k ≡ i)
 plain_is s k i lt is = elim (cases_lt k (word_count s.schema + 1)) [
   | inl low ↦ (low, (let e : k ≡ i = cc (sym (plain_at s k low) ∙ is) in e))
   | inr le ↦

@@ -12,7 +12,7 @@ use Rattle.cf_shape.specs.declared.lane.Key.{Key}
 use Rattle.cf_shape.specs.declared.lane.Key.TheVariants as keys
 use Rattle.cf_shape.specs.declared.shape.ShapeFault.{ShapeFault}
 use Rattle.cf_shape.specs.declared.shape.ShapeFault.TheVariants.{TooManyLanes, BadCapacity, BadWriters, BadNodes, BadWidth, BytesKey, WideMeasure, Memory}
-use Rattle.cf_shape.specs.Lanes.{Shaped, option_passes, is_lawful_key, is_lawful_measure}
+use Rattle.cf_shape.specs.Lanes.{ShapeValue, option_passes, is_lawful_key, is_lawful_measure}
 
 abbrev pub any_kind : Kind → Bool
 any_kind kind = true
@@ -68,11 +68,11 @@ have_good_keys attrs lanes = list_all (λ lane. is_lawful_key attrs lane.key) la
 abbrev pub have_good_measures : List Attr → List Lane → Bool
 have_good_measures attrs lanes = list_all (λ lane. is_lawful_measure attrs lane.measure) lanes
 
-abbrev pub HasGoodNumbers : Shaped → Type 0
+abbrev pub HasGoodNumbers : ShapeValue → Type 0
 HasGoodNumbers shape = AreGoodNumbers (length shape.lanes) shape.capacity shape.writers shape.nodes shape.width
 
 -- The first test that fails. The making takes no memory.
-abbrev pub HasFault : Shaped → ShapeFault → Type 0
+abbrev pub HasFault : ShapeValue → ShapeFault → Type 0
 HasFault shape TooManyLanes = HasNumberFault (length shape.lanes) shape.capacity shape.writers shape.nodes shape.width TooManyLanes
 HasFault shape BadCapacity = HasNumberFault (length shape.lanes) shape.capacity shape.writers shape.nodes shape.width BadCapacity
 HasFault shape BadWriters = HasNumberFault (length shape.lanes) shape.capacity shape.writers shape.nodes shape.width BadWriters

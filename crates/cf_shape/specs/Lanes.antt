@@ -7,7 +7,7 @@ use Rattle.cf_row.specs.declared.schema.Attr.{Attr}
 use Rattle.cf_row.specs.declared.schema.Kind.{Kind}
 use Rattle.cf_row.specs.declared.schema.Kind.TheVariants.{U8, U16, U32, U64, Bytes}
 use Rattle.cf_row.specs.Expr.{holds_of, is_of_schema}
-use Rattle.cf_row.specs.Row.{Numbered}
+use Rattle.cf_row.specs.Row.{RowValue}
 use Rattle.cf_row.specs.Schema.{IsSchema}
 use Rattle.cf_row.specs.Times.{number_at, time_of}
 use Rattle.cf_shape.specs.declared.lane.Lane.{Lane}
@@ -15,7 +15,7 @@ use Rattle.cf_shape.specs.declared.lane.Key.{Key}
 use Rattle.cf_shape.specs.declared.lane.Key.TheVariants as keys
 
 -- a log's shape as contracts see it
-pub record Shaped : Type 0 where
+pub record ShapeValue : Type 0 where
   pub schema : List Attr
   pub lanes : List Lane
   pub capacity : ℕ
@@ -27,30 +27,30 @@ pub record Shaped : Type 0 where
 abbrev pub no_lane : Lane
 no_lane = record { select = []; key = keys.Bucket; measure = None }
 
-abbrev pub lane_at : Shaped → ℕ → Lane
+abbrev pub lane_at : ShapeValue → ℕ → Lane
 lane_at shape lane = slice_index_or shape.lanes lane no_lane
 
 -- the lane takes the rows of which its expression holds
-abbrev pub selected_by : Shaped → ℕ → Numbered → Bool
+abbrev pub selected_by : ShapeValue → ℕ → RowValue → Bool
 selected_by shape lane row = holds_of (lane_at shape lane).select row
 
 -- a row's bucket: its time in whole widths
-abbrev pub bucket_of : Shaped → Numbered → ℕ
+abbrev pub bucket_of : ShapeValue → RowValue → ℕ
 bucket_of shape row = time_of shape.schema row / shape.width
 
-abbrev pub key_by : Shaped → Key → Numbered → ℕ
+abbrev pub key_by : ShapeValue → Key → RowValue → ℕ
 key_by shape (keys.Attr attr) row = number_at row attr
 key_by shape keys.Bucket row = bucket_of shape row
 
-abbrev pub key_of : Shaped → ℕ → Numbered → ℕ
+abbrev pub key_of : ShapeValue → ℕ → RowValue → ℕ
 key_of shape lane row = key_by shape (lane_at shape lane).key row
 
 -- 0 where the lane measures nothing
-abbrev pub measure_by : Option ℕ → Numbered → ℕ
+abbrev pub measure_by : Option ℕ → RowValue → ℕ
 measure_by None row = 0
 measure_by (Some attr) row = number_at row attr
 
-abbrev pub measure_of : Shaped → ℕ → Numbered → ℕ
+abbrev pub measure_of : ShapeValue → ℕ → RowValue → ℕ
 measure_of shape lane row = measure_by (lane_at shape lane).measure row
 
 -- the attribute exists, and its kind passes
@@ -84,7 +84,7 @@ is_lawful_measure attrs (Some attr) = option_passes is_narrow (slice_get attrs a
 abbrev pub is_lawful_lane : List Attr → Lane → Bool
 is_lawful_lane attrs lane = is_of_schema attrs lane.select && is_lawful_key attrs lane.key && is_lawful_measure attrs lane.measure
 
-pub record IsShape (shape : Shaped) : Type 0 where
+pub record IsShape (shape : ShapeValue) : Type 0 where
   pub schema : IsSchema shape.schema
   pub few : length shape.lanes ≤ 16
   pub capacity : (1 ≤ shape.capacity) × (shape.capacity ≤ 65536)

@@ -1,7 +1,7 @@
 -- The places of the words of a log's table: a slot says what a word is, and `place` says where it stands.
 use Rattle.std.specs.Prelude.{ℕ, ◌+◌, ◌*◌, ◌<◌, ◌≡◌, Bool, true, false, zero, suc, length}
 use Rattle.cf_row.specs.Words.{word_count}
-use Rattle.cf_shape.specs.Lanes.{Shaped, lane_at}
+use Rattle.cf_shape.specs.Lanes.{ShapeValue, lane_at}
 use Rattle.cf_shape.specs.Uses.{ticket_words, cells_before, cell_count, cell_words}
 
 pub record Sizes : Type 0 where
@@ -47,7 +47,7 @@ place g (body n j) = nodes_at g + (n * node_words g + j)
 abbrev pub head_slot : Sizes → ℕ → ℕ → ℕ → Slot
 head_slot g n d w = body n (suc (d * g.writers + w))
 
-abbrev pub sizes_of : Shaped → Sizes
+abbrev pub sizes_of : ShapeValue → Sizes
 sizes_of shape = record { tickets = shape.capacity; ticket_words = ticket_words shape; lanes = length shape.lanes; writers = shape.writers; nodes = shape.nodes }
 
 -- The words by name. A node has children, or heads at the last level.
@@ -63,7 +63,7 @@ pub data Word : Type 0 where
   head : ℕ → ℕ → ℕ → Word
 
 -- the word exists, where `is_inner` says which nodes have children
-abbrev pub Exists : Shaped → (ℕ → Bool) → Word → Type 0
+abbrev pub Exists : ShapeValue → (ℕ → Bool) → Word → Type 0
 Exists shape is_inner write_tail = Unit {0}
 Exists shape is_inner read_tail = Unit {0}
 Exists shape is_inner (word offset i) = (offset < shape.capacity) × (i < word_count shape.schema + 1)
@@ -75,7 +75,7 @@ Exists shape is_inner (child node d) = (node < shape.writers * shape.nodes) × (
 Exists shape is_inner (head node d writer) = (node < shape.writers * shape.nodes) × (d < 16) × (writer < shape.writers) × (is_inner node ≡ false)
 
 -- the slot of a word
-abbrev pub slot_of : Shaped → Word → Slot
+abbrev pub slot_of : ShapeValue → Word → Slot
 slot_of shape write_tail = tail 0
 slot_of shape read_tail = tail 1
 slot_of shape (word offset i) = cell offset i
@@ -87,5 +87,5 @@ slot_of shape (child node d) = body node (suc d)
 slot_of shape (head node d writer) = head_slot (sizes_of shape) node d writer
 
 -- the place of a word
-abbrev pub place_of : Shaped → Word → ℕ
+abbrev pub place_of : ShapeValue → Word → ℕ
 place_of shape w = place (sizes_of shape) (slot_of shape w)

@@ -4,7 +4,7 @@ use Rattle.std.specs.declared.option.Option.{Option}
 use Rattle.std.specs.declared.option.Option.TheVariants.{Some, None}
 use Rattle.cf_row.specs.Words.{word_count}
 use Rattle.cf_shape.specs.declared.lane.Lane.{Lane}
-use Rattle.cf_shape.specs.Lanes.{Shaped, lane_at}
+use Rattle.cf_shape.specs.Lanes.{ShapeValue, lane_at}
 
 -- word i of the attributes and tag, or word i of the cell of a lane
 pub data Use : Type 0 where
@@ -15,7 +15,7 @@ abbrev pub has_measure : Option ℕ → Bool
 has_measure None = false
 has_measure (Some attr) = true
 
-abbrev pub is_measured : Shaped → ℕ → Bool
+abbrev pub is_measured : ShapeValue → ℕ → Bool
 is_measured shape lane = has_measure (lane_at shape lane).measure
 
 -- a lane's cell has one word, or three where it is measured
@@ -28,14 +28,14 @@ cell_count [] = 0
 cell_count (lane ∷ lanes) = cell_words lane + cell_count lanes
 
 -- the words before a lane's cell
-abbrev pub cells_before : Shaped → ℕ → ℕ
+abbrev pub cells_before : ShapeValue → ℕ → ℕ
 cells_before shape lane = cell_count (take lane shape.lanes)
 
 -- the words of a ticket
-abbrev pub ticket_words : Shaped → ℕ
+abbrev pub ticket_words : ShapeValue → ℕ
 ticket_words shape = word_count shape.schema + 1 + cell_count shape.lanes + 1
 
-abbrev pub TakesWords : Shaped → ℕ → Type 0
+abbrev pub TakesWords : ShapeValue → ℕ → Type 0
 TakesWords shape n = n ≡ ticket_words shape
 
 unfoldable pub plains : ℕ → ℕ → List Use
@@ -51,8 +51,8 @@ cells k [] = []
 cells k (lane ∷ lanes) = versions k 0 (cell_words lane) ++ cells (suc k) lanes
 
 -- the uses of a ticket's words in their order
-abbrev pub uses : Shaped → List Use
+abbrev pub uses : ShapeValue → List Use
 uses shape = plains 0 (word_count shape.schema + 1) ++ cells 0 shape.lanes
 
-abbrev pub use_at : Shaped → ℕ → Use
+abbrev pub use_at : ShapeValue → ℕ → Use
 use_at shape i = slice_index_or (uses shape) i (plain 0)

@@ -3,7 +3,7 @@ ghost use Rattle.std.specs.Prelude.{◌≡◌, ℕ, ◌+◌, ◌<◌, ◌≤◌,
 ghost use Rattle.std.specs.List.{list_all};
 ghost use Rattle.cf_row.specs.Schema.{IsSchema};
 ghost use Rattle.cf_row.specs.Words.{word_count as word_count_of};
-ghost use Rattle.cf_shape.specs.Lanes.{Shaped, IsShape, lane_at};
+ghost use Rattle.cf_shape.specs.Lanes.{ShapeValue, IsShape, lane_at};
 ghost use Rattle.cf_shape.specs.Uses.{ticket_words as ticket_words_of};
 ghost use Rattle.cf_shape.specs.Faults.{AreLanesOf, HasFault, AreGoodNumbers, HasNumberFault, have_good_keys, have_good_measures};
 
@@ -30,9 +30,9 @@ pub struct Shape {
 }
 
 impl Model for Shape {
-    ghost use Rattle.cf_shape.specs.Lanes.{Shaped, IsShape};
+    ghost use Rattle.cf_shape.specs.Lanes.{ShapeValue, IsShape};
 
-    ghost Value = { Shaped };
+    ghost Value = { ShapeValue };
 
     ghost view = { λ s. record { schema = s.schema; lanes = s.lanes.items; capacity = s.capacity; writers = s.writers; nodes = s.nodes; width = s.width } };
 

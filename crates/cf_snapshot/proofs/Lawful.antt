@@ -5,44 +5,44 @@ use Rattle.std.proofs.lemmas.Bool.{and_parts, not-true, ltb-true, cond-true, con
 use Rattle.std.proofs.lemmas.List.{take_all, take_more}
 use Rattle.std.proofs.lemmas.List.Sums.{fold-append}
 use Rattle.std.proofs.lemmas.Option.{slice_get_within, get_or_from_slice_get, slice_get-get_or}
-use Rattle.cf_snapshot.specs.Snapshots.{Snapshot, is_host, is_frozen, is_under_way, is_lawful, changed, after, at_start, state_after}
+use Rattle.cf_snapshot.specs.Snapshots.{SnapValue, is_host, is_frozen, is_under_way, is_lawful, changed, after, at_start, state_after}
 use Rattle.cf_snapshot.specs.Laws.{state_at}
 use Rattle.cf_snapshot.specs.declared.event.SnapEvent.{SnapEvent}
 use Rattle.cf_snapshot.specs.declared.event.SnapEvent.TheVariants.{Cover, Freeze, Reply, Release, Thaw}
 
-pub cover_parts : (s : Snapshot) (h : ℕ) → is_lawful s (Cover h) ≡ true → (h < length s.tails) × (is_frozen s h ≡ false)
+pub cover_parts : (s : SnapValue) (h : ℕ) → is_lawful s (Cover h) ≡ true → (h < length s.tails) × (is_frozen s h ≡ false)
 cover_parts s h lawful =
     let all = and_parts _ _ lawful in
     let front = and_parts (is_host s h) (not (is_frozen s h)) all.0 in
     (ltb-true h (length s.tails) front.0, not-true (is_frozen s h) front.1)
 
-going_parts : (s : Snapshot) → is_under_way s ≡ true → s.is_released ≡ false
+going_parts : (s : SnapValue) → is_under_way s ≡ true → s.is_released ≡ false
 going_parts s going = not-true s.is_released (and_parts s.has_begun (not s.is_released) going).1
 
-pub freeze_parts : (s : Snapshot) (h : ℕ) → is_lawful s (Freeze h) ≡ true → (h < length s.tails) × (s.is_released ≡ false)
+pub freeze_parts : (s : SnapValue) (h : ℕ) → is_lawful s (Freeze h) ≡ true → (h < length s.tails) × (s.is_released ≡ false)
 freeze_parts s h lawful =
     let all = and_parts (is_host s h && is_under_way s) (not (is_frozen s h)) lawful in
     let front = and_parts (is_host s h) (is_under_way s) all.0 in
     (ltb-true h (length s.tails) front.0, going_parts s front.1)
 
-pub reply_parts : (s : Snapshot) (h : ℕ) → is_lawful s (Reply h) ≡ true → (h < length s.tails) × (s.is_released ≡ false) × (is_frozen s h ≡ true)
+pub reply_parts : (s : SnapValue) (h : ℕ) → is_lawful s (Reply h) ≡ true → (h < length s.tails) × (s.is_released ≡ false) × (is_frozen s h ≡ true)
 reply_parts s h lawful =
     let all = and_parts (is_host s h && is_under_way s) (is_frozen s h) lawful in
     let front = and_parts (is_host s h) (is_under_way s) all.0 in
     (ltb-true h (length s.tails) front.0, going_parts s front.1, all.1)
 
-pub release_parts : (s : Snapshot) → is_lawful s Release ≡ true → (s.is_released ≡ false) × (list_all (λ replied. replied) s.replied ≡ true)
+pub release_parts : (s : SnapValue) → is_lawful s Release ≡ true → (s.is_released ≡ false) × (list_all (λ replied. replied) s.replied ≡ true)
 release_parts s lawful = let all = and_parts (is_under_way s) _ lawful in (going_parts s all.0, all.1)
 
-pub thaw_parts : (s : Snapshot) (h : ℕ) → is_lawful s (Thaw h) ≡ true → s.is_released ≡ true
+pub thaw_parts : (s : SnapValue) (h : ℕ) → is_lawful s (Thaw h) ≡ true → s.is_released ≡ true
 thaw_parts s h lawful =
     let all = and_parts (is_host s h && s.is_released) (is_frozen s h) lawful in
     (and_parts (is_host s h) s.is_released all.0).1
 
-pub taken : (s : Snapshot) (e : SnapEvent) → is_lawful s e ≡ true → after s e ≡ changed s e
+pub taken : (s : SnapValue) (e : SnapEvent) → is_lawful s e ≡ true → after s e ≡ changed s e
 taken s e lawful = cond-true (is_lawful s e) (changed s e) s lawful
 
-pub passed_over : (s : Snapshot) (e : SnapEvent) → is_lawful s e ≡ false → after s e ≡ s
+pub passed_over : (s : SnapValue) (e : SnapEvent) → is_lawful s e ≡ false → after s e ≡ s
 passed_over s e unlawful = cond-false (is_lawful s e) (changed s e) s unlawful
 
 -- there is an event at that position

@@ -4,27 +4,27 @@ use Rattle.std.specs.List.{list_all}
 use Rattle.std.proofs.lemmas.Bool.{both_ways, cases_eq, cases_Bool}
 use Rattle.std.proofs.lemmas.List.{length-set, length-replicate, get_or-set_same, get_or-set_other, ext_get_or}
 use Rattle.std.proofs.lemmas.List.Folds.{list_all_at}
-use Rattle.cf_snapshot.specs.Snapshots.{Snapshot, tail_of, is_frozen, is_lawful, changed, at_start, IsOf}
+use Rattle.cf_snapshot.specs.Snapshots.{SnapValue, tail_of, is_frozen, is_lawful, changed, at_start, IsOf}
 use Rattle.cf_snapshot.specs.Laws.{AllFrozen}
 use Rattle.cf_snapshot.specs.declared.event.SnapEvent.{SnapEvent}
 use Rattle.cf_snapshot.specs.declared.event.SnapEvent.TheVariants.{Cover, Begin, Freeze, Reply, Release, Thaw}
 use Rattle.cf_snapshot.proofs.Lawful.{cover_parts, freeze_parts, reply_parts, release_parts, thaw_parts}
 
-abbrev pub has_replied : Snapshot → ℕ → Bool
+abbrev pub has_replied : SnapValue → ℕ → Bool
 has_replied s h = get_or s.replied h false
 
-abbrev pub reply_of : Snapshot → ℕ → ℕ
+abbrev pub reply_of : SnapValue → ℕ → ℕ
 reply_of s h = get_or s.replies h 0
 
 -- what the coordinator has of a host is its tail, at which it is frozen
-abbrev pub IsKnown : Snapshot → ℕ → Type 0
+abbrev pub IsKnown : SnapValue → ℕ → Type 0
 IsKnown s h = (is_frozen s h ≡ true) × (reply_of s h ≡ tail_of s h)
 
-pub record Sound (hosts : ℕ) (s : Snapshot) : Type 0 where
+pub record Sound (hosts : ℕ) (s : SnapValue) : Type 0 where
   pub lens : IsOf hosts s
   pub known : s.is_released ≡ false → (h : ℕ) → has_replied s h ≡ true → IsKnown s h
 
-lens_kept : (hosts : ℕ) (s : Snapshot) (e : SnapEvent) → IsOf hosts s → IsOf hosts (changed s e)
+lens_kept : (hosts : ℕ) (s : SnapValue) (e : SnapEvent) → IsOf hosts s → IsOf hosts (changed s e)
 lens_kept hosts s (Cover h) l = record { tails = length-set s.tails h (tail_of s h + 1) ∙ l.tails; frozen = l.frozen; replies = l.replies; replied = l.replied }
 lens_kept hosts s Begin l = record { tails = l.tails; frozen = l.frozen; replies = l.replies; replied = l.replied }
 lens_kept hosts s (Freeze h) l = record { tails = l.tails; frozen = length-set s.frozen h true ∙ l.frozen; replies = l.replies; replied = l.replied }
@@ -38,12 +38,12 @@ kept_true xs h k lt was = elim (cases_eq k h) [
   | inr other ↦ get_or-set_other xs h k true false other ∙ was
 ]
 
-known_cover : (hosts : ℕ) (s : Snapshot) (h k : ℕ) → is_frozen s h ≡ false → IsKnown s k → IsKnown (changed s (Cover h)) k
+known_cover : (hosts : ℕ) (s : SnapValue) (h k : ℕ) → is_frozen s h ≡ false → IsKnown s k → IsKnown (changed s (Cover h)) k
 known_cover hosts s h k free known =
     let other : k ≢ h = λ same. both_ways (is_frozen s h) free (ap (is_frozen s) (sym same) ∙ known.0) in
     (known.0, known.1 ∙ sym (get_or-set_other s.tails h k (tail_of s h + 1) 0 other))
 
-known_reply : (hosts : ℕ) (s : Snapshot) (h k : ℕ) → h < length s.replies → is_frozen s h ≡ true → (has_replied s k ≡ true → IsKnown s k) → has_replied (changed s (Reply h)) k ≡ true → IsKnown (changed s (Reply h)) k
+known_reply : (hosts : ℕ) (s : SnapValue) (h k : ℕ) → h < length s.replies → is_frozen s h ≡ true → (has_replied s k ≡ true → IsKnown s k) → has_replied (changed s (Reply h)) k ≡ true → IsKnown (changed s (Reply h)) k
 known_reply hosts s h k lt frozen known replied = elim (cases_eq k h) [
   | inl same ↦
       let now : get_or (set s.replies h (tail_of s h)) h 0 ≡ tail_of s h = get_or-set_same s.replies h (tail_of s h) 0 lt in
@@ -53,7 +53,7 @@ known_reply hosts s h k lt frozen known replied = elim (cases_eq k h) [
       (before.0, get_or-set_other s.replies h k (tail_of s h) 0 other ∙ before.1)
 ]
 
-known_kept : (hosts : ℕ) (s : Snapshot) (e : SnapEvent) → is_lawful s e ≡ true → Sound hosts s → (changed s e).is_released ≡ false → (k : ℕ) → has_replied (changed s e) k ≡ true → IsKnown (changed s e) k
+known_kept : (hosts : ℕ) (s : SnapValue) (e : SnapEvent) → is_lawful s e ≡ true → Sound hosts s → (changed s e).is_released ≡ false → (k : ℕ) → has_replied (changed s e) k ≡ true → IsKnown (changed s e) k
 known_kept hosts s (Cover h) lawful sound going k replied = known_cover hosts s h k (cover_parts s h lawful).1 (sound.known going k replied)
 known_kept hosts s Begin lawful sound going k replied = sound.known going k replied
 known_kept hosts s (Freeze h) lawful sound going k replied =
@@ -67,7 +67,7 @@ known_kept hosts s (Reply h) lawful sound going k replied =
 known_kept hosts s Release lawful sound going k replied = absurd (both_ways true going refl)
 known_kept hosts s (Thaw h) lawful sound going k replied = absurd (both_ways s.is_released going (thaw_parts s h lawful))
 
-pub sound_kept : (hosts : ℕ) (s : Snapshot) (e : SnapEvent) → is_lawful s e ≡ true → Sound hosts s → Sound hosts (changed s e)
+pub sound_kept : (hosts : ℕ) (s : SnapValue) (e : SnapEvent) → is_lawful s e ≡ true → Sound hosts s → Sound hosts (changed s e)
 sound_kept hosts s e lawful sound = record { lens = lens_kept hosts s e sound.lens; known = known_kept hosts s e lawful sound }
 
 none_of : (hosts h : ℕ) → get_or (replicate hosts false) h false ≡ false
@@ -91,7 +91,7 @@ all_true bs h all lt = elim (cases_Bool (get_or bs h false)) [
 ]
 
 -- where all have replied, all are frozen, and the coordinator has their tails
-pub all_known : (hosts : ℕ) (s : Snapshot) → is_lawful s Release ≡ true → Sound hosts s → AllFrozen s × (s.replies ≡ s.tails)
+pub all_known : (hosts : ℕ) (s : SnapValue) → is_lawful s Release ≡ true → Sound hosts s → AllFrozen s × (s.replies ≡ s.tails)
 all_known hosts s lawful sound =
     let parts = release_parts s lawful in
     let l = sound.lens in

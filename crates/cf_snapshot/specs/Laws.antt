@@ -1,11 +1,11 @@
 -- The laws of cuts, for every list of events.
 use Rattle.std.specs.Prelude.{◌≡◌, ℕ, ◌+◌, ◌<◌, ◌↔◌, true, List, length, take, slice_get, slice_index_or, Some, IsSome}
-use Rattle.cf_snapshot.specs.Snapshots.{Snapshot, tail_of, is_frozen, is_lawful, state_after, cut_of}
+use Rattle.cf_snapshot.specs.Snapshots.{SnapValue, tail_of, is_frozen, is_lawful, state_after, cut_of}
 use Rattle.cf_snapshot.specs.declared.event.SnapEvent.{SnapEvent}
 use Rattle.cf_snapshot.specs.declared.event.SnapEvent.TheVariants.{Cover, Freeze, Release}
 
 -- the state before the event at a position
-abbrev pub state_at : ℕ → List SnapEvent → ℕ → Snapshot
+abbrev pub state_at : ℕ → List SnapEvent → ℕ → SnapValue
 state_at hosts events i = state_after hosts (take i events)
 
 -- this event stands at that position, and is lawful there
@@ -19,7 +19,7 @@ pub record IsLastFreeze (hosts : ℕ) (events : List SnapEvent) (i : ℕ) : Type
   pub freezes : Happens hosts events i (Freeze host)
   pub last : (j h : ℕ) → i < j → Happens hosts events j (Freeze h) → ⊥
 
-abbrev pub AllFrozen : Snapshot → Type 0
+abbrev pub AllFrozen : SnapValue → Type 0
 AllFrozen s = (h : ℕ) → h < length s.tails → is_frozen s h ≡ true
 
 -- the list of events leaves that cut

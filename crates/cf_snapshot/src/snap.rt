@@ -18,9 +18,9 @@ pub struct Snap {
 }
 
 impl Model for Snap {
-    ghost use Rattle.cf_snapshot.specs.Snapshots.{Snapshot, IsSnapshot};
+    ghost use Rattle.cf_snapshot.specs.Snapshots.{SnapValue, IsSnapshot};
 
-    ghost Value = { Snapshot };
+    ghost Value = { SnapValue };
 
     ghost view = { λ s. record { tails = s.tails.items; frozen = s.frozen.items; replies = s.replies.items; replied = s.replied.items; has_begun = s.has_begun; is_released = s.is_released } };
 

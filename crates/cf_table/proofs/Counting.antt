@@ -5,14 +5,14 @@ use Rattle.std.proofs.Math.Seq.{take-length}
 use Rattle.std.proofs.lemmas.Bool.{cases_lt, cases_Bool}
 use Rattle.std.proofs.lemmas.Bool.Decides.{nat_tests}
 use Rattle.cf_row.specs.declared.row.Entry.{Entry}
-use Rattle.cf_shape.specs.Lanes.{Shaped}
+use Rattle.cf_shape.specs.Lanes.{ShapeValue}
 use Rattle.cf_words.proofs.Chains.{eq_from, eq_true}
 use Rattle.cf_law.specs.Passes.{Own, Book, Pass}
-use Rattle.cf_law.specs.Steps.{Holds, but, joined}
+use Rattle.cf_law.specs.Steps.{Holds, without, joined_pass}
 use Rattle.cf_law.specs.Shapes.{layout}
 use Rattle.cf_law.specs.Readers.{AtHome, mine_from}
-use Rattle.cf_table.specs.Held.{Held}
-use Rattle.cf_table.specs.Moves.{Begins, Folded, IsSettled, HasAll, tickets_in}
+use Rattle.cf_table.specs.Values.{PassValue}
+use Rattle.cf_table.specs.Moves.{Begins, HasFolded, HoldsAllBooks, HasAll, tickets_in}
 use Rattle.cf_table.proofs.Seen.{grown}
 use Rattle.cf_table.proofs.Folds.{all_of, home_stays}
 
@@ -89,8 +89,8 @@ abbrev by_writer : (ℕ → ℕ) → List Book → ℕ
 by_writer f [] = 0
 by_writer f (b ∷ bs) = f b.writer + by_writer f bs
 
-by_writer_but : (f : ℕ → ℕ) (k : ℕ) (bs : List Book) (b : Book) → slice_get bs k ≡ Some b → (by_writer f bs ≡ by_writer f (but k bs) + f b.writer) × (length bs ≡ suc (length (but k bs)))
-unfolding but
+by_writer_but : (f : ℕ → ℕ) (k : ℕ) (bs : List Book) (b : Book) → slice_get bs k ≡ Some b → (by_writer f bs ≡ by_writer f (without k bs) + f b.writer) × (length bs ≡ suc (length (without k bs)))
+unfolding without
 by_writer_but f k [] b at = absurd (cc at)
 by_writer_but f zero (x ∷ xs) b at =
     let e : x ≡ b = cc at in
@@ -100,8 +100,8 @@ by_writer_but f (suc k) (x ∷ xs) b at =
     let r = by_writer_but f k xs b at in
     let first = r.0 in (omega (arith, first), ap suc r.1)
 
-still_held : (k j : ℕ) (bs : List Book) (b c : Book) → slice_get bs k ≡ Some b → slice_get bs j ≡ Some c → (c.writer ≡ b.writer → ⊥) → (i : ℕ) × (slice_get (but k bs) i ≡ Some c)
-unfolding but
+still_held : (k j : ℕ) (bs : List Book) (b c : Book) → slice_get bs k ≡ Some b → slice_get bs j ≡ Some c → (c.writer ≡ b.writer → ⊥) → (i : ℕ) × (slice_get (without k bs) i ≡ Some c)
+unfolding without
 still_held k j [] b c at there ne = absurd (cc at)
 still_held zero zero (x ∷ xs) b c at there ne = (let e : b ≡ c = cc (at, there) in absurd (ne (ap (λ (a : Book). a.writer) (sym e))))
 still_held zero (suc j) (x ∷ xs) b c at there ne = (j, there)
@@ -120,11 +120,11 @@ each_once f (suc n) bs long of =
     let b : Book = last.1 in
     let less = by_writer_but f last.0 bs b last.2 in
     let short = less.1 in
-    let others : AreOf n (but last.0 bs) = λ w lt.
+    let others : AreOf n (without last.0 bs) = λ w lt.
     (let other = of w (omega arith) in
     let i = still_held last.0 other.0 bs b other.1 last.2 other.2 (λ (g : (other.1).writer ≡ b.writer). absurd (omega (arith, g, last.3, other.3, lt))) in
     (i.0, other.1, i.1, other.3)) in
-    let r = each_once f n (but last.0 bs) (omega (arith, short, long)) others in
+    let r = each_once f n (without last.0 bs) (omega (arith, short, long)) others in
     let same = ap f last.3 in
     let all = less.0 in
     omega (arith, all, r, same)
@@ -138,17 +138,17 @@ tickets_by es (b ∷ bs) all =
     omega (arith, first, r)
 
 -- what was seen are all tickets
-pub all_seen : (shape : Shaped) (p : Pass) → AtHome (layout shape) p → length p.books ≡ shape.writers → HasAll p → AreBelow shape.writers p.seen → length p.seen ≡ tickets_in p.books
+pub all_seen : (shape : ShapeValue) (p : Pass) → AtHome (layout shape) p → length p.books ≡ shape.writers → HasAll p → AreBelow shape.writers p.seen → length p.seen ≡ tickets_in p.books
 all_seen shape p home count all below =
     let of : AreOf shape.writers p.books = λ w lt. (let h = home w lt in (h.0, h.1, h.2, h.3)) in
     sym (tickets_by p.seen p.books all ∙ (each_once (many 0 p.seen) shape.writers p.books count of ∙ all_counted shape.writers 0 p.seen below))
 
 -- A pass with no book comes home: what it has seen are no more than the tickets of the books there.
-joined_seen : (p q : Pass) → length (joined p q).seen ≤ length p.seen → (joined p q).seen ≡ p.seen
+joined_seen : (p q : Pass) → length (joined_pass p q).seen ≤ length p.seen → (joined_pass p q).seen ≡ p.seen
 joined_seen p q le = elim (cases_lt (length p.seen) (length q.seen)) [
   | inl lt ↦
       let t : nat_lt (length p.seen) (length q.seen) ≡ true = grind (arith, nat_tests) in
-      let long : length (joined p q).seen ≡ length q.seen = ap (λ (b : Bool). length (grown (length q.seen) q.seen p b).seen) t ∙ ap (λ (es : List Entry). length es) (take-length q.seen) in
+      let long : length (joined_pass p q).seen ≡ length q.seen = ap (λ (b : Bool). length (grown (length q.seen) q.seen p b).seen) t ∙ ap (λ (es : List Entry). length es) (take-length q.seen) in
       absurd (omega (arith, le, lt, long))
   | inr ge ↦
       let t : nat_lt (length p.seen) (length q.seen) ≡ false = grind (arith, nat_tests) in
@@ -169,7 +169,7 @@ abbrev pub SeenFirst : Pass → Type 0
 SeenFirst q = (k : ℕ) (b : Book) → Holds q k b → take (length (mine_from b.writer 0 q.seen)) b.mine ≡ mine_from b.writer 0 q.seen
 
 -- where all tickets of all books were seen, a pass with these books has seen no more
-no_more : (shape : Shaped) (p q : Pass) → IsSettled shape p → q.books ≡ p.books → AreBelow shape.writers p.seen → AreBelow shape.writers q.seen → SeenFirst q → length q.seen ≤ length p.seen
+no_more : (shape : ShapeValue) (p q : Pass) → HoldsAllBooks shape p → q.books ≡ p.books → AreBelow shape.writers p.seen → AreBelow shape.writers q.seen → SeenFirst q → length q.seen ≤ length p.seen
 no_more shape p q settled books own joint first =
     let few : (w : ℕ) → w < shape.writers → many 0 q.seen w ≤ many 0 p.seen w = λ w lt.
     (let h = settled.home w lt in
@@ -180,17 +180,17 @@ no_more shape p q settled books own joint first =
     let more = all_counted shape.writers 0 q.seen joint in
     let less = all_counted shape.writers 0 p.seen own in omega (arith, le, more, less)
 
-pub nothing_new : (shape : Shaped) (p q : Pass) → IsSettled shape p → q.books ≡ p.books → Begins p.seen q.seen → AreBelow shape.writers q.seen → SeenFirst q → q.seen ≡ p.seen
+pub nothing_new : (shape : ShapeValue) (p q : Pass) → HoldsAllBooks shape p → q.books ≡ p.books → Begins p.seen q.seen → AreBelow shape.writers q.seen → SeenFirst q → q.seen ≡ p.seen
 nothing_new shape p q settled books begins below first =
     let le = no_more shape p q settled books (λ o e at. below o e (begins_at p.seen q.seen o e begins at)) below first in
     let least = ap (λ (es : List Entry). length es) begins in
     let taken = length-take (length p.seen) q.seen in
     sym (all_of q.seen (length p.seen) (omega (arith, le, least, taken))) ∙ begins
 
-pub folded_stays : (shape : Shaped) (m : Held) (q : Pass) (n : Held) → Folded shape m q n → q.books ≡ [] → IsSettled shape m.view → (n.view).seen ≡ (m.view).seen
+pub folded_stays : (shape : ShapeValue) (m : PassValue) (q : Pass) (n : PassValue) → HasFolded shape m q n → q.books ≡ [] → HoldsAllBooks shape m.view → (n.view).seen ≡ (m.view).seen
 folded_stays shape m q n f bare settled =
     let p = m.view in
-    let j : Pass = joined p q in
+    let j : Pass = joined_pass p q in
     let told = f.made.told in
     let books : j.books ≡ p.books = ap (λ (bs : List Book). p.books ++ bs) bare ∙ append-nil p.books in
     let held : (k : ℕ) (b : Book) → Holds j k b → Holds p k b = λ k b at. ap (λ (bs : List Book). slice_get bs k) (sym books) ∙ at in

@@ -5,26 +5,26 @@ use Rattle.std.proofs.lemmas.Option.{slice_get_within}
 use Rattle.cf_law.specs.Passes.{Book, Pass}
 use Rattle.cf_law.specs.Events.{table, no_book}
 use Rattle.cf_law.proofs.Fronts.{table_length, table_at}
-use Rattle.cf_table.specs.Held.{Held, LogValue}
+use Rattle.cf_table.specs.Values.{PassValue, LogValue}
 use Rattle.cf_table.specs.Rule.{root_pass}
 use Rattle.cf_table.specs.Moves.{AreDealt}
 use Rattle.cf_words.proofs.Nodes.{get_push_same}
 use Rattle.cf_table.proofs.Homing.{get_front}
 use Rattle.cf_table.specs.Fresh.{IsFresh, AreFresh}
 
-pub fresh_first : (log : LogValue) (h : Held) (hs : List Held) → AreFresh log (h ∷ hs) → IsFresh log h
+pub fresh_first : (log : LogValue) (h : PassValue) (hs : List PassValue) → AreFresh log (h ∷ hs) → IsFresh log h
 fresh_first log h hs all = all 0 h refl
 
-pub fresh_next : (log : LogValue) (h : Held) (hs : List Held) → AreFresh log (h ∷ hs) → AreFresh log hs
+pub fresh_next : (log : LogValue) (h : PassValue) (hs : List PassValue) → AreFresh log (h ∷ hs) → AreFresh log hs
 fresh_next log h hs all k x at = all (suc k) x at
 
-pub fresh_last : (log : LogValue) (xs ys : List Held) (o : Option Held) (x : Held) → AreFresh log xs → xs ≡ ys ++ option_to_list o → o ≡ Some x → IsFresh log x × AreFresh log ys
+pub fresh_last : (log : LogValue) (xs ys : List PassValue) (o : Option PassValue) (x : PassValue) → AreFresh log xs → xs ≡ ys ++ option_to_list o → o ≡ Some x → IsFresh log x × AreFresh log ys
 fresh_last log xs ys o x all is last =
-    let end : xs ≡ ys ++ x ∷ [] = is ∙ ap (λ (q : Option Held). ys ++ option_to_list q) last in
+    let end : xs ≡ ys ++ x ∷ [] = is ∙ ap (λ (q : Option PassValue). ys ++ option_to_list q) last in
     let both : AreFresh log (ys ++ x ∷ []) = subst (AreFresh log) end all in
     (both (length ys) x (get_push_same ys x), λ k h at. both k h (get_front ys (x ∷ []) k h at))
 
-pub dealt_fresh : (log : LogValue) (m n : Held) (hs : List Held) → m.view ≡ root_pass log.shape → AreDealt log m hs n → AreFresh log hs
+pub dealt_fresh : (log : LogValue) (m n : PassValue) (hs : List PassValue) → m.view ≡ root_pass log.shape → AreDealt log m hs n → AreFresh log hs
 dealt_fresh log m n hs is dealt k h at =
     let d = dealt.each k h at in
     let w = (log.shape).writers in

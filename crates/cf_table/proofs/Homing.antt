@@ -1,7 +1,7 @@
 -- The passes come home one by one.
 use Rattle.std.proofs.Common.{◌≡◌, ℕ, ◌+◌, ◌<◌, inl, inr, zero, suc, List, [], ◌∷◌, ◌++◌, length, get_or, take, append_assoc, append-nil, Some, None, slice_get, refl, sym, ap, subst, ◌∙◌, arith}
 use Rattle.std.proofs.Math.Seq.{take-length}
-use Rattle.cf_shape.specs.Lanes.{Shaped}
+use Rattle.cf_shape.specs.Lanes.{ShapeValue}
 use Rattle.cf_law.specs.Passes.{Book, Pass}
 use Rattle.cf_law.specs.Steps.{IsAtRest, Holds}
 use Rattle.cf_law.specs.Shapes.{layout}
@@ -11,21 +11,21 @@ use Rattle.cf_law.proofs.Fronts.{table_length, table_at}
 use Rattle.cf_law.specs.Events.{table, no_book}
 use Rattle.std.proofs.lemmas.Option.{slice_get_within, slice_get-get_or}
 use Rattle.cf_table.specs.Rule.{root_pass}
-use Rattle.cf_table.specs.Held.{Held, LogValue, IsOf}
-use Rattle.cf_table.specs.Moves.{Begins, IsSettled, AreDealt, AreAll, Folded, Gathers, Gathered, Settled, books_of, told_by}
+use Rattle.cf_table.specs.Values.{PassValue, LogValue, IsOf}
+use Rattle.cf_table.specs.Moves.{Begins, HoldsAllBooks, AreDealt, AreAll, HasFolded, Gathers, HasGathered, HasSettled, books_of, told_by}
 use Rattle.cf_table.proofs.Settling.{begins_then}
 use Rattle.cf_table.proofs.Counting.{all_seen}
 
 -- each is the log's, and at rest
-pub record AreHomeward (log : LogValue) (passes : List Held) : Type 0 where
-  pub of : (k : ℕ) (h : Held) → slice_get passes k ≡ Some h → IsOf h log
-  pub rest : (k : ℕ) (h : Held) → slice_get passes k ≡ Some h → IsAtRest h.view
+pub record AreHomeward (log : LogValue) (passes : List PassValue) : Type 0 where
+  pub of : (k : ℕ) (h : PassValue) → slice_get passes k ≡ Some h → IsOf h log
+  pub rest : (k : ℕ) (h : PassValue) → slice_get passes k ≡ Some h → IsAtRest h.view
 
-pub homeward_next : (log : LogValue) (h : Held) (hs : List Held) → AreHomeward log (h ∷ hs) → AreHomeward log hs
+pub homeward_next : (log : LogValue) (h : PassValue) (hs : List PassValue) → AreHomeward log (h ∷ hs) → AreHomeward log hs
 homeward_next log h hs H = record { of = λ k g at. H.of (suc k) g at; rest = λ k g at. H.rest (suc k) g at }
 
-pub still_one : (log : LogValue) (m n : Held) → IsOf m log → n ≡ record m { view = n.view } → IsOf n log
-still_one log m n is same = record { table = ap (λ (h : Held). h.table) same ∙ is.table; nodes = ap (λ (h : Held). h.nodes) same ∙ is.nodes }
+pub still_one : (log : LogValue) (m n : PassValue) → IsOf m log → n ≡ record m { view = n.view } → IsOf n log
+still_one log m n is same = record { table = ap (λ (h : PassValue). h.table) same ∙ is.table; nodes = ap (λ (h : PassValue). h.nodes) same ∙ is.nodes }
 
 pub get_front : {A : Type 0} (xs ys : List A) (i : ℕ) (x : A) → slice_get xs i ≡ Some x → slice_get (xs ++ ys) i ≡ Some x
 get_front [] ys i x h = absurd (cc h)
@@ -37,29 +37,29 @@ get_back [] ys i x h = ap (slice_get ys) (let e : 0 + i ≡ i = omega arith in e
 get_back (y ∷ xs) ys i x h = ap (slice_get (y ∷ (xs ++ ys))) (let e : suc (length xs) + i ≡ suc (length xs + i) = omega arith in e) ∙ get_back xs ys i x h
 
 -- what is known once all have come home
-pub record Homes (m n : Held) (passes : List Held) : Type 0 where
+pub record Homes (m n : PassValue) (passes : List PassValue) : Type 0 where
   pub same : n ≡ record m { view = n.view }
   pub books : (n.view).books ≡ (m.view).books ++ books_of passes
   pub tails : (n.view).tails ≡ (m.view).tails
   pub told : (n.view).told ≡ told_by (m.view).told passes
   pub own : Begins (m.view).seen (n.view).seen
-  pub others : (k : ℕ) (h : Held) → slice_get passes k ≡ Some h → Begins (h.view).seen (n.view).seen
+  pub others : (k : ℕ) (h : PassValue) → slice_get passes k ≡ Some h → Begins (h.view).seen (n.view).seen
 
-pub homes : (shape : Shaped) (m n : Held) (passes : List Held) → Gathers shape m passes n → Homes m n passes
+pub homes : (shape : ShapeValue) (m n : PassValue) (passes : List PassValue) → Gathers shape m passes n → Homes m n passes
 unfolding Gathers books_of told_by
 homes shape m n [] g = record {
-  same = g ∙ ap (λ (h : Held). record m { view = h.view }) (sym g);
-  books = ap (λ (h : Held). (h.view).books) g ∙ sym (append-nil (m.view).books);
-  tails = ap (λ (h : Held). (h.view).tails) g;
-  told = ap (λ (h : Held). (h.view).told) g;
-  own = ap (λ (h : Held). take (length (m.view).seen) (h.view).seen) g ∙ take-length (m.view).seen;
+  same = g ∙ ap (λ (h : PassValue). record m { view = h.view }) (sym g);
+  books = ap (λ (h : PassValue). (h.view).books) g ∙ sym (append-nil (m.view).books);
+  tails = ap (λ (h : PassValue). (h.view).tails) g;
+  told = ap (λ (h : PassValue). (h.view).told) g;
+  own = ap (λ (h : PassValue). take (length (m.view).seen) (h.view).seen) g ∙ take-length (m.view).seen;
   others = λ k h at. absurd (cc at);
 }
 homes shape m n (h ∷ hs) g =
     let k = g.0 in
     let f = g.1 in
     let r = homes shape k n hs g.2 in record {
-      same = r.same ∙ ap (λ (x : Held). record x { view = n.view }) f.made.same;
+      same = r.same ∙ ap (λ (x : PassValue). record x { view = n.view }) f.made.same;
       books = r.books ∙ (ap (λ (bs : List Book). bs ++ books_of hs) f.books ∙ append_assoc (m.view).books (h.view).books (books_of hs));
       tails = r.tails ∙ f.tails;
       told = r.told ∙ ap (λ (ts : List ℕ). told_by ts hs) f.told;
@@ -67,21 +67,21 @@ homes shape m n (h ∷ hs) g =
       others = λ i x at. other i x at f.other r.own r.others;
     }
   where
-    other : (i : ℕ) (x : Held) → slice_get (h ∷ hs) i ≡ Some x → Begins (h.view).seen ((g.0).view).seen → Begins ((g.0).view).seen (n.view).seen → ((j : ℕ) (y : Held) → slice_get hs j ≡ Some y → Begins (y.view).seen (n.view).seen) → Begins (x.view).seen (n.view).seen
-    other zero x at mine on rest = let e : h ≡ x = cc at in subst (λ (y : Held). Begins (y.view).seen (n.view).seen) e (begins_then (h.view).seen ((g.0).view).seen (n.view).seen mine on)
+    other : (i : ℕ) (x : PassValue) → slice_get (h ∷ hs) i ≡ Some x → Begins (h.view).seen ((g.0).view).seen → Begins ((g.0).view).seen (n.view).seen → ((j : ℕ) (y : PassValue) → slice_get hs j ≡ Some y → Begins (y.view).seen (n.view).seen) → Begins (x.view).seen (n.view).seen
+    other zero x at mine on rest = let e : h ≡ x = cc at in subst (λ (y : PassValue). Begins (y.view).seen (n.view).seen) e (begins_then (h.view).seen ((g.0).view).seen (n.view).seen mine on)
     other (suc j) x at mine on rest = rest j x at
 
-in_books : (passes : List Held) (k j : ℕ) (h : Held) (b : Book) → slice_get passes k ≡ Some h → Holds h.view j b → (i : ℕ) × (slice_get (books_of passes) i ≡ Some b)
+in_books : (passes : List PassValue) (k j : ℕ) (h : PassValue) (b : Book) → slice_get passes k ≡ Some h → Holds h.view j b → (i : ℕ) × (slice_get (books_of passes) i ≡ Some b)
 unfolding books_of
 in_books [] k j h b at holds = absurd (cc at)
 in_books (x ∷ xs) zero j h b at holds =
     let e : x ≡ h = cc at in
-    (j, get_front (x.view).books (books_of xs) j b (ap (λ (y : Held). slice_get (y.view).books j) e ∙ holds))
+    (j, get_front (x.view).books (books_of xs) j b (ap (λ (y : PassValue). slice_get (y.view).books j) e ∙ holds))
 in_books (x ∷ xs) (suc k) j h b at holds =
     let r = in_books xs k j h b at holds in
     (length (x.view).books + r.0, get_back (x.view).books (books_of xs) r.0 b r.1)
 
-rest_of : (passes : List Held) → ((k : ℕ) (h : Held) → slice_get passes k ≡ Some h → IsAtRest h.view) → (i : ℕ) (b : Book) → slice_get (books_of passes) i ≡ Some b → b.flight ≡ None
+rest_of : (passes : List PassValue) → ((k : ℕ) (h : PassValue) → slice_get passes k ≡ Some h → IsAtRest h.view) → (i : ℕ) (b : Book) → slice_get (books_of passes) i ≡ Some b → b.flight ≡ None
 unfolding books_of
 rest_of [] each i b at = absurd (cc at)
 rest_of (h ∷ hs) each i b at = elim (at_either (h.view).books (books_of hs) i b at) [
@@ -90,19 +90,19 @@ rest_of (h ∷ hs) each i b at = elim (at_either (h.view).books (books_of hs) i 
 ]
 
 -- all books are held, at rest
-pub at_home : (log : LogValue) (passes : List Held) (p : Pass) → AreAll log passes → p.books ≡ books_of passes → AtHome (layout log.shape) p
+pub at_home : (log : LogValue) (passes : List PassValue) (p : Pass) → AreAll log passes → p.books ≡ books_of passes → AtHome (layout log.shape) p
 at_home log passes p all is w lt =
     let r = all.writers w lt in
     let i = in_books passes r.0 r.2 r.1 r.3 r.4 r.5 in
     (i.0, r.3, ap (λ (bs : List Book). slice_get bs i.0) is ∙ i.1, r.6, all.rest r.0 r.1 r.4 r.2 r.3 r.5)
 
-pub gathered : (log : LogValue) (m n o : Held) (passes : List Held) → AreAll log passes → (m.view).books ≡ [] → length (n.view).books ≡ length passes → Gathers log.shape m passes n → Settled log.shape n o → Gathered log.shape m passes o
+pub gathered : (log : LogValue) (m n o : PassValue) (passes : List PassValue) → AreAll log passes → (m.view).books ≡ [] → length (n.view).books ≡ length passes → Gathers log.shape m passes n → HasSettled log.shape n o → HasGathered log.shape m passes o
 gathered log m n o passes all away many g s =
     let r = homes log.shape m n passes g in
     let books : (o.view).books ≡ books_of passes = s.books ∙ (r.books ∙ ap (λ (bs : List Book). bs ++ books_of passes) away) in
     let home : AtHome (layout log.shape) o.view = at_home log passes o.view all books in
     let many_are : length (o.view).books ≡ (log.shape).writers = ap (λ (bs : List Book). length bs) s.books ∙ (many ∙ all.count) in record {
-      same = s.same ∙ ap (λ (x : Held). record x { view = o.view }) r.same;
+      same = s.same ∙ ap (λ (x : PassValue). record x { view = o.view }) r.same;
       books = books;
       tails = s.tails ∙ r.tails;
       told = s.told ∙ r.told;
@@ -121,20 +121,20 @@ gathered log m n o passes all away many g s =
       count = all_seen log.shape o.view home many_are (s.all home) (λ k e at. (s.fit k e at).1);
     }
 
-pub gathers_next : (shape : Shaped) (m k n : Held) (h : Held) (hs : List Held) → Folded shape m h.view k → Gathers shape k hs n → Gathers shape m (h ∷ hs) n
+pub gathers_next : (shape : ShapeValue) (m k n : PassValue) (h : PassValue) (hs : List PassValue) → HasFolded shape m h.view k → Gathers shape k hs n → Gathers shape m (h ∷ hs) n
 unfolding Gathers
 gathers_next shape m k n h hs f g = (k, f, g)
 
-pub gathers_none : (shape : Shaped) (m : Held) (hs : List Held) → hs ≡ [] → Gathers shape m hs m
+pub gathers_none : (shape : ShapeValue) (m : PassValue) (hs : List PassValue) → hs ≡ [] → Gathers shape m hs m
 unfolding Gathers
-gathers_none shape m hs none = subst (λ (xs : List Held). Gathers shape m xs m) (sym none) refl
+gathers_none shape m hs none = subst (λ (xs : List PassValue). Gathers shape m xs m) (sym none) refl
 
 no_mine : (w : ℕ) → mine_from w 0 [] ≡ []
 unfolding mine_from
 no_mine w = refl
 
 -- an opened log's root
-pub opened : (shape : Shaped) → IsSettled shape (root_pass shape)
+pub opened : (shape : ShapeValue) → HoldsAllBooks shape (root_pass shape)
 opened shape = record {
   home = λ w lt. (w, no_book w, table_at no_book shape.writers w lt, refl, refl);
   rest = λ k b at. (let e = first_book k b at in ap (λ (c : Book). c.flight) (sym e));
@@ -148,7 +148,7 @@ opened shape = record {
         let f : Some (no_book k) ≡ Some b = sym (table_at no_book shape.writers k lt) ∙ e in cc f
 
 -- passes that were just dealt may come home as they are
-pub dealt_all : (log : LogValue) (m n : Held) (passes : List Held) → IsSettled log.shape m.view → AreDealt log m passes n → AreAll log passes
+pub dealt_all : (log : LogValue) (m n : PassValue) (passes : List PassValue) → HoldsAllBooks log.shape m.view → AreDealt log m passes n → AreAll log passes
 dealt_all log m n passes settled dealt = record {
   of = λ k h at. (dealt.each k h at).of;
   rest = λ k h at j b holds. rest k h at j b holds;
@@ -160,13 +160,13 @@ dealt_all log m n passes settled dealt = record {
     only b c zero e = cc e
     only b c (suc j) e = absurd (cc e)
 
-    rest : (k : ℕ) (h : Held) → slice_get passes k ≡ Some h → (j : ℕ) (b : Book) → Holds h.view j b → b.flight ≡ None
+    rest : (k : ℕ) (h : PassValue) → slice_get passes k ≡ Some h → (j : ℕ) (b : Book) → Holds h.view j b → b.flight ≡ None
     rest k h at j b holds =
         let d = dealt.each k h at in
         let e : d.book ≡ b = only d.book b j (ap (λ (p : Pass). slice_get p.books j) (sym d.view) ∙ holds) in
         ap (λ (c : Book). c.flight) (sym e) ∙ settled.rest k d.book d.at
 
-    writers : (w : ℕ) → w < (log.shape).writers → (k : ℕ) × (h : Held) × (j : ℕ) × (b : Book) × (slice_get passes k ≡ Some h) × Holds h.view j b × (b.writer ≡ w)
+    writers : (w : ℕ) → w < (log.shape).writers → (k : ℕ) × (h : PassValue) × (j : ℕ) × (b : Book) × (slice_get passes k ≡ Some h) × Holds h.view j b × (b.writer ≡ w)
     writers w lt =
         let r = settled.home w lt in
         let k = r.0 in

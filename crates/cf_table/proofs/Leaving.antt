@@ -9,45 +9,45 @@ use Rattle.std.proofs.lemmas.List.{length-map, map-append}
 use Rattle.cf_table.proofs.Calls.{Holding}
 use Rattle.cf_words.proofs.Nodes.{get_push_same, get_push_other}
 use Rattle.cf_law.specs.Passes.{Book}
-use Rattle.cf_law.specs.Steps.{newcomer, but}
+use Rattle.cf_law.specs.Steps.{new_pass, without}
 use Rattle.cf_law.specs.Events.{no_book}
 use Rattle.cf_table.specs.declared.pass.Note.{Note}
-use Rattle.cf_table.specs.Held.{Held, LogValue, IsOf, book_of}
+use Rattle.cf_table.specs.Values.{PassValue, LogValue, IsOf, book_of}
 use Rattle.cf_table.specs.Moves.{IsDealt, AreNoted, note_of}
 
 -- the pass once the first i books have left
-abbrev pub left_with : Held → ℕ → Held
+abbrev pub left_with : PassValue → ℕ → PassValue
 left_with m i = record m { view = record m.view { books = drop i (m.view).books } }
 
-abbrev pub book_at : Held → ℕ → Book
+abbrev pub book_at : PassValue → ℕ → Book
 book_at m i = get_or (m.view).books i (no_book 0)
 
 -- the i-th book is the first then
-pub first_left : (m : Held) (i : ℕ) → i < length (m.view).books → (drop i (m.view).books ≡ book_at m i ∷ drop (suc i) (m.view).books) × (slice_get (m.view).books i ≡ Some (book_at m i))
+pub first_left : (m : PassValue) (i : ℕ) → i < length (m.view).books → (drop i (m.view).books ≡ book_at m i ∷ drop (suc i) (m.view).books) × (slice_get (m.view).books i ≡ Some (book_at m i))
 first_left m i lt = (drop-cons (m.view).books i (no_book 0) lt, slice_get-get_or (m.view).books i (no_book 0) lt)
 
-pub first_is : (m t : Held) (i : ℕ) → i < length (m.view).books → t ≡ left_with m i → (book_of t.view ≡ book_at m i) × (slice_get (t.view).books 0 ≡ Some (book_at m i)) × (but 0 (t.view).books ≡ drop (suc i) (m.view).books)
-unfolding but
+pub first_is : (m t : PassValue) (i : ℕ) → i < length (m.view).books → t ≡ left_with m i → (book_of t.view ≡ book_at m i) × (slice_get (t.view).books 0 ≡ Some (book_at m i)) × (without 0 (t.view).books ≡ drop (suc i) (m.view).books)
+unfolding without
 first_is m t i lt is =
     let f = first_left m i lt in
-    let books : (t.view).books ≡ book_at m i ∷ drop (suc i) (m.view).books = ap (λ (h : Held). (h.view).books) is ∙ f.0 in
-    (ap (λ (bs : List Book). get_or bs 0 (no_book 0)) books, ap (λ (bs : List Book). slice_get bs 0) books, ap (λ (bs : List Book). but 0 bs) books)
+    let books : (t.view).books ≡ book_at m i ∷ drop (suc i) (m.view).books = ap (λ (h : PassValue). (h.view).books) is ∙ f.0 in
+    (ap (λ (bs : List Book). get_or bs 0 (no_book 0)) books, ap (λ (bs : List Book). slice_get bs 0) books, ap (λ (bs : List Book). without 0 bs) books)
 
-pub noted_at : (notes : List Note) (m : Held) (i : ℕ) (note : Note) → AreNoted notes (m.view).books m.nodes → i < length (m.view).books → slice_get notes i ≡ Some note → note ≡ note_of (book_at m i)
+pub noted_at : (notes : List Note) (m : PassValue) (i : ℕ) (note : Note) → AreNoted notes (m.view).books m.nodes → i < length (m.view).books → slice_get notes i ≡ Some note → note ≡ note_of (book_at m i)
 noted_at notes m i note noted lt at =
     let f = first_left m i lt in
     let e : Some note ≡ Some (note_of (book_at m i)) = sym at ∙ (ap (λ (ns : List Note). slice_get ns i) noted.notes_are ∙ (slice_get-map note_of (m.view).books i ∙ ap (λ (x : Option Book). Rattle.std.specs.Option.option_map note_of x) f.1)) in
     cc e
 
-pub as_many : (notes : List Note) (m : Held) → AreNoted notes (m.view).books m.nodes → length notes ≡ length (m.view).books
+pub as_many : (notes : List Note) (m : PassValue) → AreNoted notes (m.view).books m.nodes → length notes ≡ length (m.view).books
 as_many notes m noted = ap (λ (ns : List Note). length ns) noted.notes_are ∙ length-map (m.view).books note_of
 
-pub still_of : (log : LogValue) (m t : Held) (i : ℕ) → IsOf m log → t ≡ left_with m i → IsOf t log
-still_of log m t i is same = record { table = ap (λ (h : Held). h.table) same ∙ is.table; nodes = ap (λ (h : Held). h.nodes) same ∙ is.nodes }
+pub still_of : (log : LogValue) (m t : PassValue) (i : ℕ) → IsOf m log → t ≡ left_with m i → IsOf t log
+still_of log m t i is same = record { table = ap (λ (h : PassValue). h.table) same ∙ is.table; nodes = ap (λ (h : PassValue). h.nodes) same ∙ is.nodes }
 
 -- one more is dealt
-pub dealt_more : (log : LogValue) (m : Held) (i : ℕ) (passes : List Held) (h : Held) → i < length (m.view).books → length passes ≡ i → IsOf h log → h.view ≡ newcomer (book_at m i ∷ []) (m.view).seen
-    → ((k : ℕ) (g : Held) → slice_get passes k ≡ Some g → IsDealt log m k g) → (k : ℕ) (g : Held) → slice_get (passes ++ h ∷ []) k ≡ Some g → IsDealt log m k g
+pub dealt_more : (log : LogValue) (m : PassValue) (i : ℕ) (passes : List PassValue) (h : PassValue) → i < length (m.view).books → length passes ≡ i → IsOf h log → h.view ≡ new_pass (book_at m i ∷ []) (m.view).seen
+    → ((k : ℕ) (g : PassValue) → slice_get passes k ≡ Some g → IsDealt log m k g) → (k : ℕ) (g : PassValue) → slice_get (passes ++ h ∷ []) k ≡ Some g → IsDealt log m k g
 dealt_more log m i passes h lt long of view each k g at = elim (cases_Bool (k == i)) [
   | inl t ↦
       let e : k ≡ i = eq_from k i t in
@@ -57,16 +57,16 @@ dealt_more log m i passes h lt long of view each k g at = elim (cases_Bool (k ==
   | inr t ↦ each k g (sym (get_push_other passes h k (λ f. absurd (cc (sym t ∙ eq_true k i (f ∙ long))))) ∙ at)
 ]
 
-pub next_left : (m t n : Held) (i : ℕ) → i < length (m.view).books → t ≡ left_with m i → n ≡ record t { view = record t.view { books = but 0 (t.view).books } } → n ≡ left_with m (suc i)
+pub next_left : (m t n : PassValue) (i : ℕ) → i < length (m.view).books → t ≡ left_with m i → n ≡ record t { view = record t.view { books = without 0 (t.view).books } } → n ≡ left_with m (suc i)
 next_left m t n i lt is went =
     let f = first_is m t i lt is in
-    went ∙ (ap (λ (bs : List Book). record t { view = record t.view { books = bs } }) f.2 ∙ ap (λ (h : Held). record h { view = record h.view { books = drop (suc i) (m.view).books } }) is)
+    went ∙ (ap (λ (bs : List Book). record t { view = record t.view { books = bs } }) f.2 ∙ ap (λ (h : PassValue). record h { view = record h.view { books = drop (suc i) (m.view).books } }) is)
 
-pub all_left : (m : Held) (i : ℕ) → length (m.view).books ≤ i → left_with m i ≡ record m { view = record m.view { books = [] } }
+pub all_left : (m : PassValue) (i : ℕ) → length (m.view).books ≤ i → left_with m i ≡ record m { view = record m.view { books = [] } }
 all_left m i le = ap (λ (bs : List Book). record m { view = record m.view { books = bs } }) (drop_of_length-le (m.view).books le)
 
 -- one book more is home
-pub noted_more : (notes all : List Note) (m n q : Held) (writer : ℕ) (over : Bool) (used : ℕ) → AreNoted notes (m.view).books m.nodes → Holding writer over used q → q.nodes ≡ m.nodes → n.nodes ≡ m.nodes
+pub noted_more : (notes all : List Note) (m n q : PassValue) (writer : ℕ) (over : Bool) (used : ℕ) → AreNoted notes (m.view).books m.nodes → Holding writer over used q → q.nodes ≡ m.nodes → n.nodes ≡ m.nodes
     → all ≡ notes ++ record { writer = writer; over = over; used = used } ∷ [] → (n.view).books ≡ (m.view).books ++ (q.view).books → AreNoted all (n.view).books n.nodes
 noted_more notes all m n q writer over used noted H same nodes is books =
     let W = H.0 in

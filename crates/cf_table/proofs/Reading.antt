@@ -7,37 +7,37 @@ use Rattle.std.proofs.lemmas.List.{get_or-set_same, get_or-set_other}
 use Rattle.cf_row.specs.Row.{values_fit}
 use Rattle.cf_row.specs.Words.{IsEntry, word_count, spelled}
 use Rattle.cf_row.specs.declared.row.Entry.{Entry}
-use Rattle.cf_shape.specs.Lanes.{Shaped, IsShape}
+use Rattle.cf_shape.specs.Lanes.{ShapeValue, IsShape}
 use Rattle.cf_words.proofs.Chains.{eq_from, eq_true}
 use Rattle.cf_row.proofs.Bytes.{both}
 use Rattle.cf_law.specs.Passes.{Pass}
 use Rattle.cf_law.specs.Shapes.{layout}
 use Rattle.cf_law.specs.Readers.{IsFit}
-use Rattle.cf_table.specs.Held.{Held}
-use Rattle.cf_table.specs.Ways.{Made, word_way, done_way}
+use Rattle.cf_table.specs.Values.{PassValue}
+use Rattle.cf_table.specs.Effects.{HasStepped, word_effect, done_effect}
 use Rattle.cf_table.specs.Moves.{OnlyLooked, AreEntries}
 
-pub word_is : (shape : Shaped) (m n : Held) (o i found : ℕ) (e : Entry) → Made shape (word_way shape m.view o i) m found n → slice_get (m.view).seen o ≡ Some e → i < word_count shape.schema + 1 → found ≡ get_or (spelled e) i 0
+pub word_is : (shape : ShapeValue) (m n : PassValue) (o i found : ℕ) (e : Entry) → HasStepped shape (word_effect shape m.view o i) m found n → slice_get (m.view).seen o ≡ Some e → i < word_count shape.schema + 1 → found ≡ get_or (spelled e) i 0
 word_is shape m n o i found e made at lt = (made.told.tells.entry o i refl).plains e at lt
 
-abbrev with_look : Held → Rattle.cf_law.specs.Passes.Look → Held
+abbrev with_look : PassValue → Rattle.cf_law.specs.Passes.Look → PassValue
 with_look m x = record m { view = record m.view { look = x } }
 
-only_by : (m n : Held) (x : Rattle.cf_law.specs.Passes.Look) → n ≡ record m { view = n.view } → n.view ≡ record m.view { look = x } → OnlyLooked m n
+only_by : (m n : PassValue) (x : Rattle.cf_law.specs.Passes.Look) → n ≡ record m { view = n.view } → n.view ≡ record m.view { look = x } → OnlyLooked m n
 only_by m n x same is =
     let look : (n.view).look ≡ x = ap (λ (q : Pass). q.look) is in
     same ∙ (ap (λ (q : Pass). record m { view = q }) is ∙ ap (with_look m) (sym look))
 
-pub looked_word : (shape : Shaped) (m n : Held) (o i found : ℕ) → Made shape (word_way shape m.view o i) m found n → OnlyLooked m n
+pub looked_word : (shape : ShapeValue) (m n : PassValue) (o i found : ℕ) → HasStepped shape (word_effect shape m.view o i) m found n → OnlyLooked m n
 looked_word shape m n o i found made = only_by m n _ made.same made.told.is
 
-pub looked_done : (shape : Shaped) (m n : Held) (o found : ℕ) → Made shape (done_way shape m.view o) m found n → OnlyLooked m n
+pub looked_done : (shape : ShapeValue) (m n : PassValue) (o found : ℕ) → HasStepped shape (done_effect shape m.view o) m found n → OnlyLooked m n
 looked_done shape m n o found made = only_by m n _ made.same made.told.is
 
-pub looked_then : (m n o : Held) → OnlyLooked m n → OnlyLooked n o → OnlyLooked m o
-looked_then m n o a b = b ∙ ap (λ (h : Held). with_look h (o.view).look) a
+pub looked_then : (m n o : PassValue) → OnlyLooked m n → OnlyLooked n o → OnlyLooked m o
+looked_then m n o a b = b ∙ ap (λ (h : PassValue). with_look h (o.view).look) a
 
-pub looked_none : (m : Held) → OnlyLooked m m
+pub looked_none : (m : PassValue) → OnlyLooked m m
 looked_none m = refl
 
 -- one word more is read
@@ -52,7 +52,7 @@ read_more words e i v lt before is k low = elim (cases_Bool (k == i)) [
       get_or-set_other words i k v 0 ne ∙ before k (omega (arith, ne))
 ]
 
-entry_by : (shape : Shaped) (e : Entry) → IsShape shape → IsFit (layout shape) e → IsEntry shape.schema e
+entry_by : (shape : ShapeValue) (e : Entry) → IsShape shape → IsFit (layout shape) e → IsEntry shape.schema e
 entry_by shape e is fit =
     let b = both (values_fit shape.schema (e.row).values) (nat_lt (e.row).num (2 ^ 32)) fit.0 in
     let low = b.1 in
@@ -61,6 +61,6 @@ entry_by shape e is fit =
     record { fits = b.0; num = grind (arith, nat_tests); writer = omega (arith, few, writer) }
 
 -- what was seen is lawful
-pub entries_by : (shape : Shaped) (m n : Held) (o found : ℕ) → IsShape shape → Made shape (done_way shape m.view o) m found n → AreEntries shape.schema (n.view).seen
+pub entries_by : (shape : ShapeValue) (m n : PassValue) (o found : ℕ) → IsShape shape → HasStepped shape (done_effect shape m.view o) m found n → AreEntries shape.schema (n.view).seen
 entries_by shape m n o found is made k e at =
     entry_by shape e is (made.told.tells.fit k e (ap (λ (q : Pass). slice_get q.seen k) (sym made.told.is) ∙ at))

@@ -4,14 +4,14 @@ use Rattle.std.specs.Bool.{nat_lt}
 use Rattle.std.proofs.lemmas.Bool.{cases_lt, cases_Bool}
 use Rattle.std.proofs.lemmas.Bool.Decides.{nat_tests}
 use Rattle.cf_row.specs.declared.row.Entry.{Entry}
-use Rattle.cf_shape.specs.Lanes.{Shaped}
+use Rattle.cf_shape.specs.Lanes.{ShapeValue}
 use Rattle.cf_shape.specs.Places.Slot.{tail}
 use Rattle.cf_law.specs.Passes.{Pass}
-use Rattle.cf_law.specs.Steps.{sees}
+use Rattle.cf_law.specs.Steps.{pass_that_sees}
 use Rattle.cf_law.specs.Shapes.{layout}
-use Rattle.cf_law.specs.Readers.{Told}
-use Rattle.cf_table.specs.Ways.{tail_way, advance_way, May}
-use Rattle.cf_table.specs.Rule.{Seated, TellsSome, given_advance}
+use Rattle.cf_law.specs.Readers.{StepTells}
+use Rattle.cf_table.specs.Effects.{tail_effect, advance_effect, IsLawfulStep}
+use Rattle.cf_table.specs.Rule.{SeatView, TellsSome, given_advance}
 
 abbrev pub grown : ℕ → List Entry → Pass → Bool → Pass
 grown n es p b = cond b (record p { seen = take n es; cursor = None }) p
@@ -19,10 +19,10 @@ grown n es p b = cond b (record p { seen = take n es; cursor = None }) p
 grown_books : (n : ℕ) (es : List Entry) (p : Pass) (b : Bool) → (grown n es p b).books ≡ p.books
 grown_books n es p b = elim (cases_Bool b) [ inl e ↦ ap (λ (c : Bool). (grown n es p c).books) e | inr e ↦ ap (λ (c : Bool). (grown n es p c).books) e ]
 
-pub sees_books : (n : ℕ) (es : List Entry) (p : Pass) → (sees n es p).books ≡ p.books
+pub sees_books : (n : ℕ) (es : List Entry) (p : Pass) → (pass_that_sees n es p).books ≡ p.books
 sees_books n es p = grown_books n es p (nat_lt (length p.seen) n)
 
-pub sees_length : (n : ℕ) (es : List Entry) (p : Pass) → n ≤ length es → length (sees n es p).seen ≡ max (length p.seen) n
+pub sees_length : (n : ℕ) (es : List Entry) (p : Pass) → n ≤ length es → length (pass_that_sees n es p).seen ≡ max (length p.seen) n
 sees_length n es p le = elim (cases_lt (length p.seen) n) [
   | inl lt ↦
       let t : nat_lt (length p.seen) n ≡ Rattle.std.proofs.Common.true = grind (arith, nat_tests) in
@@ -33,13 +33,13 @@ sees_length n es p le = elim (cases_lt (length p.seen) n) [
 ]
 
 -- after a load of the read tail just as much is seen
-pub tail_seen : (shape : Shaped) (p q : Pass) (asked : Bool) (found : ℕ) → Told (layout shape) p (tail 1) (tail_way p asked).after found found q → length q.seen ≡ found
+pub tail_seen : (shape : ShapeValue) (p q : Pass) (asked : Bool) (found : ℕ) → StepTells (layout shape) p (tail 1) (tail_effect p asked).after found found q → length q.seen ≡ found
 tail_seen shape p q asked found told =
     let long : length told.entries ≡ found = told.long refl in
     let ahead = told.tells.ahead 1 (omega arith) refl in
     ap (λ (r : Pass). length r.seen) told.is ∙ (sees_length found told.entries p (omega arith) ∙ omega arith)
 
-pub advance_seen : (shape : Shaped) (p q : Pass) (t found : ℕ) → t ≤ length p.seen → Told (layout shape) p (tail 1) (advance_way p t).after found (cond (found == t) (suc t) found) q → length q.seen ≡ max (length p.seen) (t + 1)
+pub advance_seen : (shape : ShapeValue) (p q : Pass) (t found : ℕ) → t ≤ length p.seen → StepTells (layout shape) p (tail 1) (advance_effect p t).after found (cond (found == t) (suc t) found) q → length q.seen ≡ max (length p.seen) (t + 1)
 advance_seen shape p q t found le told =
     let long : length told.entries ≡ cond (found == t) (suc t) found = told.long refl in
     let ahead = told.tells.ahead 1 (omega arith) refl in
@@ -54,10 +54,10 @@ pub advance_asks : (sh : Rattle.cf_words.specs.Words.Layout) (p : Pass) (t : ℕ
 advance_asks sh p t s f g (Rattle.cf_law.specs.Steps.Step.advances u i le lt last word value) = (le, lt)
 
 -- what a pass that moved the read tail keeps of its counts
-pub advance_kept : (shape : Shaped) (t covered r : ℕ) (m n : Seated) (p : Pass) → m.0 ≡ p → May shape p (Rattle.cf_law.specs.Steps.Act.advance t) (advance_way p t) → TellsSome (given_advance shape p t) m n
+pub advance_kept : (shape : ShapeValue) (t covered r : ℕ) (m n : SeatView) (p : Pass) → m.0 ≡ p → IsLawfulStep shape p (Rattle.cf_law.specs.Steps.Act.advance t) (advance_effect p t) → TellsSome (given_advance shape p t) m n
     → covered ≡ length m.0.seen → r ≡ max covered (t + 1) → m.0.spent ≡ false → (n.1 ≡ []) × (r ≡ length n.0.seen) × (n.0.spent ≡ false)
 advance_kept shape t covered r m n p is may some counted result live =
-    let told = subst (λ (q : Pass). Told (layout shape) q (tail 1) (advance_way p t).after some.found (cond (some.found == t) (suc t) some.found) n.0) is some.all.told in
-    let more = advance_seen shape p n.0 t some.found (advance_asks (layout shape) p t (tail 1) (advance_way p t).change (advance_way p t).after may).0 told in
+    let told = subst (λ (q : Pass). StepTells (layout shape) q (tail 1) (advance_effect p t).after some.found (cond (some.found == t) (suc t) some.found) n.0) is some.all.told in
+    let more = advance_seen shape p n.0 t some.found (advance_asks (layout shape) p t (tail 1) (advance_effect p t).change (advance_effect p t).after may).0 told in
     let same : length m.0.seen ≡ length p.seen = ap (λ (q : Pass). length q.seen) is in
     (some.all.bare, omega (arith, more, same), some.all.lives ∙ live)

@@ -1,15 +1,15 @@
 -- Passes that may take their first ticket.
 use Rattle.std.specs.Prelude.{ℕ, ◌≡◌, List, [], ◌∷◌, Some, None, slice_get, false}
 use Rattle.cf_law.specs.Passes.{Book}
-use Rattle.cf_table.specs.Held.{Held, LogValue, IsOf}
+use Rattle.cf_table.specs.Values.{PassValue, LogValue, IsOf}
 
 -- the pass has one book, which isn't marked and has no ticket in flight
-pub record IsFresh (log : LogValue) (h : Held) : Type 0 where
-  pub of : IsOf h log
+pub record IsFresh (log : LogValue) (pass : PassValue) : Type 0 where
+  pub of : IsOf pass log
   pub book : Book
-  pub one : (h.view).books ≡ book ∷ []
+  pub one : (pass.view).books ≡ book ∷ []
   pub free : book.over ≡ false
   pub rests : book.flight ≡ None
 
-abbrev pub AreFresh : LogValue → List Held → Type 0
-AreFresh log hs = (k : ℕ) (h : Held) → slice_get hs k ≡ Some h → IsFresh log h
+abbrev pub AreFresh : LogValue → List PassValue → Type 0
+AreFresh log hs = (k : ℕ) (h : PassValue) → slice_get hs k ≡ Some h → IsFresh log h

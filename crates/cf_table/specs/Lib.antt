@@ -1,5 +1,5 @@
-pub mod Held
-pub mod Ways
+pub mod Values
+pub mod Effects
 pub mod Rule
 pub mod Moves
 pub mod Fresh

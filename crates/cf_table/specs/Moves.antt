@@ -3,29 +3,29 @@ use Rattle.std.specs.Prelude.{ℕ, ◌+◌, ◌<◌, ◌≤◌, ◌≡◌, List,
 use Rattle.cf_row.specs.declared.schema.Attr.{Attr}
 use Rattle.cf_row.specs.declared.row.Entry.{Entry}
 use Rattle.cf_row.specs.Words.{IsEntry}
-use Rattle.cf_shape.specs.Lanes.{Shaped}
+use Rattle.cf_shape.specs.Lanes.{ShapeValue}
 use Rattle.cf_words.specs.Words.{spot}
 use Rattle.cf_law.specs.Passes.{Book, Pass}
-use Rattle.cf_law.specs.Steps.{Holds, IsAtRest, joined, newcomer}
+use Rattle.cf_law.specs.Steps.{Holds, IsAtRest, joined_pass, new_pass}
 use Rattle.cf_law.specs.Shapes.{layout}
 use Rattle.cf_law.specs.Readers.{AtHome, HasNode, IsBounded, IsFit, mine_from}
 use Rattle.cf_table.specs.declared.pass.Note.{Note}
-use Rattle.cf_table.specs.Held.{Held, LogValue, IsOf}
-use Rattle.cf_table.specs.Ways.{Made, tail_way}
+use Rattle.cf_table.specs.Values.{PassValue, LogValue, IsOf}
+use Rattle.cf_table.specs.Effects.{HasStepped, tail_effect}
 
 -- the second list begins with the first
 abbrev pub Begins : List Entry → List Entry → Type 0
 Begins xs ys = take (length xs) ys ≡ xs
 
 -- The other pass was joined, and then the read tail was loaded: what both had seen is seen.
-pub record Folded (shape : Shaped) (m : Held) (q : Pass) (n : Held) : Type 0 where
+pub record HasFolded (shape : ShapeValue) (before : PassValue) (q : Pass) (after : PassValue) : Type 0 where
   pub found : ℕ
-  pub made : Made shape (tail_way (joined m.view q) false) (record m { view = joined m.view q }) found n
-  pub own : Begins (m.view).seen (n.view).seen
-  pub other : Begins q.seen (n.view).seen
-  pub books : (n.view).books ≡ (m.view).books ++ q.books
-  pub tails : (n.view).tails ≡ (m.view).tails
-  pub told : (n.view).told ≡ ((m.view).told ++ q.told) ++ q.tails
+  pub made : HasStepped shape (tail_effect (joined_pass before.view q) false) (record before { view = joined_pass before.view q }) found after
+  pub own : Begins (before.view).seen (after.view).seen
+  pub other : Begins q.seen (after.view).seen
+  pub books : (after.view).books ≡ (before.view).books ++ q.books
+  pub tails : (after.view).tails ≡ (before.view).tails
+  pub told : (after.view).told ≡ ((before.view).told ++ q.told) ++ q.tails
 
 -- what a root notes of a book
 abbrev pub note_of : Book → Note
@@ -42,38 +42,38 @@ abbrev pub HasAll : Pass → Type 0
 HasAll p = (k : ℕ) (b : Book) → Holds p k b → b.mine ≡ mine_from b.writer 0 p.seen
 
 -- all books are held, one for each writer and at rest, and all that they have finished was seen
-pub record IsSettled (shape : Shaped) (p : Pass) : Type 0 where
-  pub home : AtHome (layout shape) p
-  pub rest : IsAtRest p
-  pub count : length p.books ≡ shape.writers
-  pub all : HasAll p
+pub record HoldsAllBooks (shape : ShapeValue) (pass : Pass) : Type 0 where
+  pub home : AtHome (layout shape) pass
+  pub rest : IsAtRest pass
+  pub count : length pass.books ≡ shape.writers
+  pub all : HasAll pass
 
 -- pass k of the dealt ones has the k-th book, and has seen as much
-pub record IsDealt (log : LogValue) (m : Held) (k : ℕ) (h : Held) : Type 0 where
+pub record IsDealt (log : LogValue) (before : PassValue) (k : ℕ) (pass : PassValue) : Type 0 where
   pub book : Book
-  pub at : slice_get (m.view).books k ≡ Some book
-  pub of : IsOf h log
-  pub view : h.view ≡ newcomer (book ∷ []) (m.view).seen
+  pub at : slice_get (before.view).books k ≡ Some book
+  pub of : IsOf pass log
+  pub view : pass.view ≡ new_pass (book ∷ []) (before.view).seen
 
 -- the books left the pass, each for a pass of its own
-pub record AreDealt (log : LogValue) (m : Held) (passes : List Held) (n : Held) : Type 0 where
-  pub count : length passes ≡ length (m.view).books
-  pub each : (k : ℕ) (h : Held) → slice_get passes k ≡ Some h → IsDealt log m k h
-  pub root : n ≡ record m { view = record m.view { books = [] } }
+pub record AreDealt (log : LogValue) (before : PassValue) (passes : List PassValue) (after : PassValue) : Type 0 where
+  pub count : length passes ≡ length (before.view).books
+  pub each : (k : ℕ) (h : PassValue) → slice_get passes k ≡ Some h → IsDealt log before k h
+  pub root : after ≡ record before { view = record before.view { books = [] } }
 
 -- Each writer's pass is one of these, and all are at rest.
-pub record AreAll (log : LogValue) (passes : List Held) : Type 0 where
-  pub of : (k : ℕ) (h : Held) → slice_get passes k ≡ Some h → IsOf h log
-  pub rest : (k : ℕ) (h : Held) → slice_get passes k ≡ Some h → IsAtRest h.view
+pub record AreAll (log : LogValue) (passes : List PassValue) : Type 0 where
+  pub of : (k : ℕ) (h : PassValue) → slice_get passes k ≡ Some h → IsOf h log
+  pub rest : (k : ℕ) (h : PassValue) → slice_get passes k ≡ Some h → IsAtRest h.view
   pub count : length passes ≡ (log.shape).writers
-  pub writers : (w : ℕ) → w < (log.shape).writers → (k : ℕ) × (h : Held) × (j : ℕ) × (b : Book) × (slice_get passes k ≡ Some h) × Holds h.view j b × (b.writer ≡ w)
+  pub writers : (w : ℕ) → w < (log.shape).writers → (k : ℕ) × (h : PassValue) × (j : ℕ) × (b : Book) × (slice_get passes k ≡ Some h) × Holds h.view j b × (b.writer ≡ w)
 
-unfoldable pub books_of : List Held → List Book
+unfoldable pub books_of : List PassValue → List Book
 books_of [] = []
 books_of (h ∷ hs) = (h.view).books ++ books_of hs
 
 -- what a root is told by passes that come home in this order
-unfoldable pub told_by : List ℕ → List Held → List ℕ
+unfoldable pub told_by : List ℕ → List PassValue → List ℕ
 told_by told [] = told
 told_by told (h ∷ hs) = told_by ((told ++ (h.view).told) ++ (h.view).tails) hs
 
@@ -83,56 +83,56 @@ tickets_in [] = 0
 tickets_in (b ∷ bs) = length b.mine + tickets_in bs
 
 -- each entry that was seen fits, and its writer is one
-abbrev pub AreFit : Shaped → Pass → Type 0
+abbrev pub AreFit : ShapeValue → Pass → Type 0
 AreFit shape p = (o : ℕ) (e : Entry) → slice_get p.seen o ≡ Some e → IsFit (layout shape) e
 
 -- a book is marked only where all places are taken
-abbrev pub MarkedIsFull : Shaped → Pass → Type 0
+abbrev pub MarkedIsFull : ShapeValue → Pass → Type 0
 MarkedIsFull shape p = (k : ℕ) (b : Book) → Holds p k b → b.over ≡ true → length p.seen ≡ shape.capacity
 
 -- each proper prefix of the path of an entry that was seen has a used node of a held book
-abbrev pub HasPaths : Shaped → Pass → Type 0
+abbrev pub HasPaths : ShapeValue → Pass → Type 0
 HasPaths shape p = (o l d e : ℕ) (xs q : List ℕ) (x : Entry) → slice_get p.seen o ≡ Some x → (layout shape).path x.row l ≡ Some (d ∷ (xs ++ e ∷ q)) → HasNode p (spot l (e ∷ q))
 
 -- The read tail was moved up to the first ticket that isn't finished.
-pub record Settled (shape : Shaped) (m n : Held) : Type 0 where
-  pub same : n ≡ record m { view = n.view }
-  pub books : (n.view).books ≡ (m.view).books
-  pub tails : (n.view).tails ≡ (m.view).tails
-  pub told : (n.view).told ≡ (m.view).told
-  pub longer : Begins (m.view).seen (n.view).seen
-  pub all : AtHome (layout shape) n.view → HasAll n.view
-  pub full : AtHome (layout shape) n.view → MarkedIsFull shape n.view
-  pub paths : AtHome (layout shape) n.view → HasPaths shape n.view
-  pub bounds : IsBounded (layout shape) n.view
-  pub fit : AreFit shape n.view
+pub record HasSettled (shape : ShapeValue) (before after : PassValue) : Type 0 where
+  pub same : after ≡ record before { view = after.view }
+  pub books : (after.view).books ≡ (before.view).books
+  pub tails : (after.view).tails ≡ (before.view).tails
+  pub told : (after.view).told ≡ (before.view).told
+  pub longer : Begins (before.view).seen (after.view).seen
+  pub all : AtHome (layout shape) after.view → HasAll after.view
+  pub full : AtHome (layout shape) after.view → MarkedIsFull shape after.view
+  pub paths : AtHome (layout shape) after.view → HasPaths shape after.view
+  pub bounds : IsBounded (layout shape) after.view
+  pub fit : AreFit shape after.view
 
 -- The passes came home in this order. All books are held, at rest, and what was seen are all tickets of all of them.
-pub record Gathered (shape : Shaped) (m : Held) (passes : List Held) (n : Held) : Type 0 where
-  pub same : n ≡ record m { view = n.view }
-  pub books : (n.view).books ≡ books_of passes
-  pub tails : (n.view).tails ≡ (m.view).tails
-  pub told : (n.view).told ≡ told_by (m.view).told passes
-  pub own : Begins (m.view).seen (n.view).seen
-  pub others : (k : ℕ) (h : Held) → slice_get passes k ≡ Some h → Begins (h.view).seen (n.view).seen
-  pub settled : IsSettled shape n.view
-  pub full : MarkedIsFull shape n.view
-  pub paths : HasPaths shape n.view
-  pub bounds : IsBounded (layout shape) n.view
-  pub fit : AreFit shape n.view
-  pub count : length (n.view).seen ≡ tickets_in (n.view).books
+pub record HasGathered (shape : ShapeValue) (before : PassValue) (passes : List PassValue) (after : PassValue) : Type 0 where
+  pub same : after ≡ record before { view = after.view }
+  pub books : (after.view).books ≡ books_of passes
+  pub tails : (after.view).tails ≡ (before.view).tails
+  pub told : (after.view).told ≡ told_by (before.view).told passes
+  pub own : Begins (before.view).seen (after.view).seen
+  pub others : (k : ℕ) (h : PassValue) → slice_get passes k ≡ Some h → Begins (h.view).seen (after.view).seen
+  pub settled : HoldsAllBooks shape after.view
+  pub full : MarkedIsFull shape after.view
+  pub paths : HasPaths shape after.view
+  pub bounds : IsBounded (layout shape) after.view
+  pub fit : AreFit shape after.view
+  pub count : length (after.view).seen ≡ tickets_in (after.view).books
 
 -- each of the passes, in this order, was folded in
-unfoldable pub Gathers : Shaped → Held → List Held → Held → Type 0
+unfoldable pub Gathers : ShapeValue → PassValue → List PassValue → PassValue → Type 0
 Gathers shape m [] n = n ≡ m
-Gathers shape m (h ∷ hs) n = (k : Held) × Folded shape m h.view k × Gathers shape k hs n
+Gathers shape m (h ∷ hs) n = (k : PassValue) × HasFolded shape m h.view k × Gathers shape k hs n
 
 -- only the last look is another
-abbrev pub OnlyLooked : Held → Held → Type 0
+abbrev pub OnlyLooked : PassValue → PassValue → Type 0
 OnlyLooked m n = n ≡ record m { view = record m.view { look = (n.view).look } }
 
 -- what a seal keeps: the entries of the log, and the tails of the asks that its root was told of
-pub record Sealed : Type 0 where
+pub record SealValue : Type 0 where
   pub entries : List Entry
   pub told : List ℕ
 

@@ -1,19 +1,19 @@
 -- What a test of the steps of lanes plays: writer 0's first row, which its one lane leads to the leaf of the nibbles 3 and 5.
 use Rattle.std.specs.Prelude.{ℕ, ◌≡◌, List, [], ◌∷◌, true, length, Some, None, slice_get}
-use Rattle.cf_row.specs.Row.{Numbered, Fits}
-use Rattle.cf_shape.specs.Lanes.{Shaped, lane_at}
+use Rattle.cf_row.specs.Row.{RowValue, Fits}
+use Rattle.cf_shape.specs.Lanes.{ShapeValue, lane_at}
 use Rattle.cf_shape.specs.Nodes.{levels_of}
 use Rattle.cf_shape.specs.Places.{place, sizes_of}
 use Rattle.cf_shape.specs.Places.Slot.{root}
 use Rattle.cf_words.specs.Words.{Spot, spot}
 use Rattle.cf_law.specs.Passes.{Book, Pass}
-use Rattle.cf_law.specs.Steps.{newcomer}
+use Rattle.cf_law.specs.Steps.{new_pass}
 use Rattle.cf_law.specs.Events.{no_book}
 use Rattle.cf_law.specs.Shapes.{layout, path_in}
-use Rattle.cf_table.specs.Held.{Held, LogValue, IsOf}
+use Rattle.cf_table.specs.Values.{PassValue, LogValue, IsOf}
 
 -- two writers with two nodes each, and one lane, of two levels, that measures nothing and leads the row to that leaf
-pub record LeadsTo (shape : Shaped) (row : Numbered) : Type 0 where
+pub record LeadsTo (shape : ShapeValue) (row : RowValue) : Type 0 where
   pub fits : Fits shape.schema row
   pub row_fits : (layout shape).fits row ≡ true
   pub one : length shape.lanes ≡ 1
@@ -25,32 +25,32 @@ pub record LeadsTo (shape : Shaped) (row : Numbered) : Type 0 where
   pub nodes : shape.nodes ≡ 2
 
 -- the node above the leaf
-abbrev pub knot : Spot
-knot = spot 0 (3 ∷ [])
+abbrev pub spot_above_leaf : Spot
+spot_above_leaf = spot 0 (3 ∷ [])
 
 -- a writer's pass that was just dealt
-pub record IsNew (log : LogValue) (w : ℕ) (h : Held) : Type 0 where
-  pub of : IsOf h log
-  pub view : h.view ≡ newcomer (no_book w ∷ []) []
+pub record IsNew (log : LogValue) (w : ℕ) (pass : PassValue) : Type 0 where
+  pub of : IsOf pass log
+  pub view : pass.view ≡ new_pass (no_book w ∷ []) []
 
-abbrev pub AreNew : LogValue → List Held → Type 0
-AreNew log hs = (k : ℕ) (h : Held) → slice_get hs k ≡ Some h → IsNew log k h
+abbrev pub AreNew : LogValue → List PassValue → Type 0
+AreNew log hs = (k : ℕ) (h : PassValue) → slice_get hs k ≡ Some h → IsNew log k h
 
 -- a writer's pass at rest
-pub record IsHome (log : LogValue) (w : ℕ) (h : Held) : Type 0 where
-  pub of : IsOf h log
+pub record IsHome (log : LogValue) (w : ℕ) (pass : PassValue) : Type 0 where
+  pub of : IsOf pass log
   pub book : Book
-  pub one : (h.view).books ≡ book ∷ []
+  pub one : (pass.view).books ≡ book ∷ []
   pub writer : book.writer ≡ w
   pub free : book.flight ≡ None
 
 -- writer 0's book with ticket 0 in flight, of which so many words are stored
-abbrev pub in_flight : Numbered → List Spot → ℕ → List ℕ → Book
-in_flight row used filled linked = record (no_book 0) { flight = Some record { offset = 0; row = row; filled = filled; linked = linked }; used = used }
+abbrev pub book_in_flight : RowValue → List Spot → ℕ → List ℕ → Book
+book_in_flight row used filled linked = record (no_book 0) { flight = Some record { offset = 0; row = row; filled = filled; linked = linked }; used = used }
 
 -- its pass, before the node is linked and after
-abbrev pub took : Numbered → Pass
-took row = newcomer (in_flight row [] 0 [] ∷ []) []
+abbrev pub pass_with_first_ticket : RowValue → Pass
+pass_with_first_ticket row = new_pass (book_in_flight row [] 0 [] ∷ []) []
 
-abbrev pub knotted : Numbered → ℕ → List ℕ → Pass
-knotted row filled linked = record (newcomer (in_flight row (knot ∷ []) filled linked ∷ []) []) { known = (knot, 0) ∷ [] }
+abbrev pub pass_with_linked_node : RowValue → ℕ → List ℕ → Pass
+pass_with_linked_node row filled linked = record (new_pass (book_in_flight row (spot_above_leaf ∷ []) filled linked ∷ []) []) { known = (spot_above_leaf, 0) ∷ [] }

@@ -5,9 +5,9 @@ ghost use Rattle.cf_row.specs.declared.row.Entry.{Entry};
 ghost use Rattle.cf_shape.specs.Uses.{ticket_words};
 ghost use Rattle.cf_law.specs.Shapes.{layout};
 ghost use Rattle.cf_law.specs.Readers.{AtHome};
-ghost use Rattle.cf_table.specs.Held.{IsOf};
-ghost use Rattle.cf_table.specs.Ways.{Made, word_way};
-ghost use Rattle.cf_table.specs.Rule.{Calls};
+ghost use Rattle.cf_table.specs.Values.{IsOf};
+ghost use Rattle.cf_table.specs.Effects.{HasStepped, word_effect};
+ghost use Rattle.cf_table.specs.Rule.{AsksOnWord};
 ghost use Rattle.cf_table.specs.Moves.{OnlyLooked, AreEntries};
 
 use crate::log::MultiLog;
@@ -26,9 +26,9 @@ pub struct Seal {
 }
 
 impl Model for Seal {
-    ghost use Rattle.cf_table.specs.Moves.{Sealed};
+    ghost use Rattle.cf_table.specs.Moves.{SealValue};
 
-    ghost Value = { Sealed };
+    ghost Value = { SealValue };
 
     ghost view = { λ s. record { entries = s.root.value.view.seen; told = s.root.value.view.told } };
 }
@@ -45,7 +45,7 @@ impl MultiLog {
         requires of { IsOf token.old self.now }
         requires place { (offset < self.now.shape.capacity) × (i < ticket_words self.now.shape) }
         requires seen { offset < length token.old.view.seen }
-        ensures made { Made self.now.shape (word_way self.now.shape token.old.view offset i) token.old result token.new }
+        ensures made { HasStepped self.now.shape (word_effect self.now.shape token.old.view offset i) token.old result token.new }
     {
         let word = place_ticket(&self.shape, offset, i);
         word_as::<Brand>(self, token, offset, i, word)
@@ -136,8 +136,8 @@ impl MultiLog {
 // `_offset` and `_i` are for the proof: what a call gives its step is picked from the step's own arguments.
 fn word_as<N: Gives>(log: &MultiLog, token: &mut Token, _offset: u32, _i: u64, word: u64) -> u64
     requires of { IsOf token.old log.now }
-    requires lawful { Calls log.now.shape N.given token.old.view word (λ n. n) }
-    ensures made { Made log.now.shape (N.given).way token.old result token.new }
+    requires lawful { AsksOnWord log.now.shape N.given token.old.view word (λ n. n) }
+    ensures made { HasStepped log.now.shape (N.given).effect token.old result token.new }
 {
     log.load_token::<N>(token, word)
 }

@@ -1,8 +1,8 @@
 // The books are dealt, and come home.
 ghost use Rattle.std.specs.Prelude.{◌≡◌, ◌+◌, ◌<◌, ◌≤◌, ◌∷◌, [], length, map, slice_get, Some, IfOk, MatchResult, vec_len, vec_capacity};
-ghost use Rattle.cf_law.specs.Steps.{Holds, IsAtRest, newcomer, but};
-ghost use Rattle.cf_table.specs.Held.{IsOf, book_of};
-ghost use Rattle.cf_table.specs.Moves.{AreNoted, AreDealt, AreAll, Folded, Gathers, Gathered, IsSettled, note_of};
+ghost use Rattle.cf_law.specs.Steps.{Holds, IsAtRest, new_pass, without};
+ghost use Rattle.cf_table.specs.Values.{IsOf, book_of};
+ghost use Rattle.cf_table.specs.Moves.{AreNoted, AreDealt, AreAll, HasFolded, Gathers, HasGathered, HoldsAllBooks, note_of};
 
 use crate::log::MultiLog;
 use crate::pass::{Note, Root, WriterPass};
@@ -17,9 +17,9 @@ impl MultiLog {
         requires held { Holds token.old.view 0 (book_of token.old.view) }
         requires noted { note.now ≡ note_of (book_of token.old.view) }
         requires bounds { (token.old.nodes ≤ 65536) × ((book_of token.old.view).writer < 16) × (length (book_of token.old.view).used ≤ token.old.nodes) }
-        ensures stays { token.new ≡ record token.old { view = record token.old.view { books = but 0 token.old.view.books } } }
+        ensures stays { token.new ≡ record token.old { view = record token.old.view { books = without 0 token.old.view.books } } }
         ensures of { IsOf result self.now }
-        ensures view { result.view ≡ newcomer (book_of token.old.view ∷ []) token.old.view.seen }
+        ensures view { result.view ≡ new_pass (book_of token.old.view ∷ []) token.old.view.seen }
     {
         WriterPass {
             token: self.hand_token(token),
@@ -45,7 +45,7 @@ impl MultiLog {
     pub fn deal(&self, alloc: Global, root: &mut Root) -> Result<Vec<WriterPass>, Memory>
         requires of { IsOf root.old self.now }
         ensures dealt { MatchResult result (λ passes. AreDealt self.now root.old passes.items root.new) (λ _. root.new ≡ root.old) }
-        ensures all { IsSettled self.now.shape root.old.view → IfOk result (λ passes. AreAll self.now passes.items) }
+        ensures all { HoldsAllBooks self.now.shape root.old.view → IfOk result (λ passes. AreAll self.now passes.items) }
     {
         let mut passes = Vec::with_capacity(alloc, root.notes.len())?;
         self.deal_all(&mut root.token, &root.notes, &mut passes);
@@ -58,7 +58,7 @@ impl MultiLog {
         requires of { IsOf root.old self.now × IsOf pass self.now }
         requires rest { IsAtRest pass.view }
         requires room { length root.old.view.books < 16 }
-        ensures folded { Folded self.now.shape root.old pass.view root.new }
+        ensures folded { HasFolded self.now.shape root.old pass.view root.new }
         ensures one { length root.new.view.books ≡ length root.old.view.books + 1 }
     {
         let WriterPass {
@@ -91,7 +91,7 @@ impl MultiLog {
         requires of { IsOf root.old self.now }
         requires all { AreAll self.now passes.items }
         requires away { root.old.view.books ≡ [] }
-        ensures { Gathered self.now.shape root.old passes.items root.new }
+        ensures { HasGathered self.now.shape root.old passes.items root.new }
     {
         let _lawful = self.shape();
         self.take_all(root, passes);

@@ -1,11 +1,11 @@
 // The steps of lanes, each made once on a log that has a lane.
 ghost use Rattle.std.specs.Prelude.{◌≡◌, ◌+◌, ◌<◌, ◌≤◌, ◌∷◌, [], ◌↔◌, length, IfOk, IsTrue, true};
 ghost use Rattle.cf_row.specs.Words.{word_count as word_count_of, spelled};
-ghost use Rattle.cf_law.specs.Steps.{newcomer};
-ghost use Rattle.cf_table.specs.Held.{IsOf};
+ghost use Rattle.cf_law.specs.Steps.{new_pass};
+ghost use Rattle.cf_table.specs.Values.{IsOf};
 ghost use Rattle.cf_table.specs.Rule.{root_pass};
-ghost use Rattle.cf_table.specs.Moves.{IsSettled};
-ghost use Rattle.cf_table.specs.Played.{LeadsTo, IsNew, AreNew, IsHome, took, knotted, knot};
+ghost use Rattle.cf_table.specs.Moves.{HoldsAllBooks};
+ghost use Rattle.cf_table.specs.Played.{LeadsTo, IsNew, AreNew, IsHome, pass_with_first_ticket, pass_with_linked_node, spot_above_leaf};
 
 use super::*;
 use crate::tests::is_of;
@@ -53,7 +53,7 @@ fn take<L: Ledger, R: Abort>(
     requires new { IsNew log.now 0 pass.old }
     requires leads { LeadsTo log.now.shape row.now }
     ensures of { IsOf pass.new log.now }
-    ensures view { pass.new.view ≡ took row.now }
+    ensures view { pass.new.view ≡ pass_with_first_ticket row.now }
 {
     let _lawful = log.shape();
     let found = log.take_ticket(pass, row, steps);
@@ -69,10 +69,10 @@ fn link_knot<L: Ledger, R: Abort>(
     steps: &mut Steps<L>,
 )
     requires of { IsOf pass.old log.now }
-    requires view { pass.old.view ≡ took row.now }
+    requires view { pass.old.view ≡ pass_with_first_ticket row.now }
     requires leads { LeadsTo log.now.shape row.now }
     ensures of { IsOf pass.new log.now }
-    ensures view { pass.new.view ≡ knotted row.now 0 [] }
+    ensures view { pass.new.view ≡ pass_with_linked_node row.now 0 [] }
 {
     let _row = row;
     log.label(pass, 0, 801, steps);
@@ -91,10 +91,10 @@ fn find_knot<L: Ledger, R: Abort>(
     steps: &mut Steps<L>,
 )
     requires of { IsOf pass.old log.now }
-    requires view { pass.old.view ≡ newcomer [] [] }
+    requires view { pass.old.view ≡ new_pass [] [] }
     requires leads { LeadsTo log.now.shape row.now }
     ensures of { IsOf pass.new log.now }
-    ensures known { pass.new.view.known ≡ (knot, 0) ∷ [] }
+    ensures known { pass.new.view.known ≡ (spot_above_leaf, 0) ∷ [] }
 {
     let _row = row;
     let found = log.load_child(pass, 25, steps);
@@ -112,11 +112,11 @@ fn store_words<L: Ledger>(
     steps: &mut Steps<L>,
 )
     requires of { IsOf pass.old log.now }
-    requires view { pass.old.view ≡ knotted row.now 0 [] }
+    requires view { pass.old.view ≡ pass_with_linked_node row.now 0 [] }
     requires few { length words.now ≤ 64 }
     requires words { (length words.now ≡ word_count_of log.now.shape.schema + 1) × (words.now ≡ spelled record { writer = 0; row = row.now }) }
     ensures of { IsOf pass.new log.now }
-    ensures view { pass.new.view ≡ knotted row.now (length words.now) [] }
+    ensures view { pass.new.view ≡ pass_with_linked_node row.now (length words.now) [] }
 {
     let _row = row;
     let _lawful = log.shape().lanes();
@@ -128,10 +128,10 @@ fn store_words<L: Ledger>(
 // the ticket's row and its cell are stored
 fn fill<L: Ledger>(log: &MultiLog, pass: &mut WriterPass, row: &Row, steps: &mut Steps<L>)
     requires of { IsOf pass.old log.now }
-    requires view { pass.old.view ≡ knotted row.now 0 [] }
+    requires view { pass.old.view ≡ pass_with_linked_node row.now 0 [] }
     requires leads { LeadsTo log.now.shape row.now }
     ensures of { IsOf pass.new log.now }
-    ensures view { pass.new.view ≡ knotted row.now (word_count_of log.now.shape.schema + 2) [] }
+    ensures view { pass.new.view ≡ pass_with_linked_node row.now (word_count_of log.now.shape.schema + 2) [] }
 {
     let _lawful = log.shape().lanes();
     let schema = log.shape().schema();
@@ -146,10 +146,10 @@ fn fill<L: Ledger>(log: &MultiLog, pass: &mut WriterPass, row: &Row, steps: &mut
 // the ticket is linked in the lane
 fn link_row<L: Ledger>(log: &MultiLog, pass: &mut WriterPass, row: &Row, steps: &mut Steps<L>)
     requires of { IsOf pass.old log.now }
-    requires view { pass.old.view ≡ knotted row.now (word_count_of log.now.shape.schema + 2) [] }
+    requires view { pass.old.view ≡ pass_with_linked_node row.now (word_count_of log.now.shape.schema + 2) [] }
     requires leads { LeadsTo log.now.shape row.now }
     ensures of { IsOf pass.new log.now }
-    ensures view { pass.new.view ≡ knotted row.now (word_count_of log.now.shape.schema + 2) (0 ∷ []) }
+    ensures view { pass.new.view ≡ pass_with_linked_node row.now (word_count_of log.now.shape.schema + 2) (0 ∷ []) }
 {
     let _row = row;
     log.store_head(pass, 0, 5, 0, steps);
@@ -164,7 +164,7 @@ fn walk<L: Ledger, R: Abort>(
     steps: &mut Steps<L>,
 )
     requires of { IsOf pass.old log.now }
-    requires known { pass.old.view.known ≡ (knot, 0) ∷ [] }
+    requires known { pass.old.view.known ≡ (spot_above_leaf, 0) ∷ [] }
     requires leads { LeadsTo log.now.shape row.now }
     ensures of { IsOf pass.new log.now }
 {
@@ -181,7 +181,7 @@ fn walk<L: Ledger, R: Abort>(
 // the record is finished
 fn finish<L: Ledger>(log: &MultiLog, pass: &mut WriterPass, row: &Row, steps: &mut Steps<L>)
     requires of { IsOf pass.old log.now }
-    requires view { pass.old.view ≡ knotted row.now (word_count_of log.now.shape.schema + 2) (0 ∷ []) }
+    requires view { pass.old.view ≡ pass_with_linked_node row.now (word_count_of log.now.shape.schema + 2) (0 ∷ []) }
     requires leads { LeadsTo log.now.shape row.now }
     ensures home { IsHome log.now 0 pass.new }
 {
@@ -201,7 +201,7 @@ fn play<L: Ledger, R: Abort>(
 )
     requires new { IsNew log.now 0 pass.old }
     requires of { IsOf reader.old log.now }
-    requires view { reader.old.view ≡ newcomer [] [] }
+    requires view { reader.old.view ≡ new_pass [] [] }
     requires leads { LeadsTo log.now.shape row.now }
     ensures home { IsHome log.now 0 pass.new }
 {
@@ -246,7 +246,7 @@ fn shape(rt: &impl Abort, alloc: Global) -> Result<Shape, Memory> {
 fn opened(rt: &impl Abort, alloc: Global) -> Result<(MultiLog, Root), Memory>
     ensures root { IfOk result (λ r. r.1.view ≡ root_pass r.0.shape) }
     ensures of { IfOk result (λ r. IsOf r.1 r.0) }
-    ensures home { IfOk result (λ r. IsSettled r.0.shape r.1.view) }
+    ensures home { IfOk result (λ r. HoldsAllBooks r.0.shape r.1.view) }
 {
     MultiLog::open(alloc, shape(rt, alloc)?)
 }

@@ -5,10 +5,10 @@ ghost use Rattle.cf_shape.specs.Lanes.{lane_at};
 ghost use Rattle.cf_shape.specs.Places.{Slot};
 ghost use Rattle.cf_shape.specs.Uses.{ticket_words, cell_words};
 ghost use Rattle.cf_words.specs.Words.{Spot};
-ghost use Rattle.cf_table.specs.Held.{IsOf};
-ghost use Rattle.cf_table.specs.Ways.{May, Made, Stored, advance_way, tail_way, done_way, word_way, child_way, walk_way, cell_way};
-ghost use Rattle.cf_table.specs.Rule.{Calls, KeepsBooks};
-ghost use Rattle.cf_table.specs.Moves.{IsSettled};
+ghost use Rattle.cf_table.specs.Values.{IsOf};
+ghost use Rattle.cf_table.specs.Effects.{IsLawfulStep, HasStepped, HasSteppedUnseen, advance_effect, tail_effect, done_effect, word_effect, child_effect, walk_effect, cell_effect};
+ghost use Rattle.cf_table.specs.Rule.{AsksOnWord, KeepsBooks};
+ghost use Rattle.cf_table.specs.Moves.{HoldsAllBooks};
 
 use crate::count::Steps;
 use crate::log::MultiLog;
@@ -22,9 +22,9 @@ impl MultiLog {
     /// Moves the read tail from t, where it stands there. Nothing new is seen while all books are home.
     pub fn advance<P: Pass, L: Ledger>(&self, pass: &mut P, t: u32, steps: &mut Steps<L>)
         requires of { IsOf (P.held pass.old) self.now }
-        requires lawful { May self.now.shape (P.held pass.old).view (advances t) (advance_way (P.held pass.old).view t) }
-        ensures made { Stored self.now.shape (advance_way (P.held pass.old).view t) (P.held pass.old) (P.held pass.new) }
-        ensures stays { IsSettled self.now.shape (P.held pass.old).view → (P.held pass.new).view.seen ≡ (P.held pass.old).view.seen }
+        requires lawful { IsLawfulStep self.now.shape (P.held pass.old).view (advances t) (advance_effect (P.held pass.old).view t) }
+        ensures made { HasSteppedUnseen self.now.shape (advance_effect (P.held pass.old).view t) (P.held pass.old) (P.held pass.new) }
+        ensures stays { HoldsAllBooks self.now.shape (P.held pass.old).view → (P.held pass.new).view.seen ≡ (P.held pass.old).view.seen }
         ensures steps { steps.new ≡ steps.old + 1 }
     {
         pass.advance_by(self, t, steps);
@@ -38,8 +38,8 @@ impl MultiLog {
         steps: &mut Steps<L>,
     ) -> u32
         requires of { IsOf (P.held pass.old) self.now }
-        ensures made { Made self.now.shape (tail_way (P.held pass.old).view asked) (P.held pass.old) result (P.held pass.new) }
-        ensures stays { IsSettled self.now.shape (P.held pass.old).view → (P.held pass.new).view.seen ≡ (P.held pass.old).view.seen }
+        ensures made { HasStepped self.now.shape (tail_effect (P.held pass.old).view asked) (P.held pass.old) result (P.held pass.new) }
+        ensures stays { HoldsAllBooks self.now.shape (P.held pass.old).view → (P.held pass.new).view.seen ≡ (P.held pass.old).view.seen }
         ensures seen { length (P.held pass.new).view.seen ≡ result }
         ensures steps { steps.new ≡ steps.old + 1 }
     {
@@ -55,7 +55,7 @@ impl MultiLog {
     ) -> bool
         requires of { IsOf (P.held pass.old) self.now }
         requires place { offset < self.now.shape.capacity }
-        ensures made { Made self.now.shape (done_way self.now.shape (P.held pass.old).view offset) (P.held pass.old) (P.held pass.new).view.look.value (P.held pass.new) }
+        ensures made { HasStepped self.now.shape (done_effect self.now.shape (P.held pass.old).view offset) (P.held pass.old) (P.held pass.new).view.look.value (P.held pass.new) }
         ensures found { IsTrue result ↔ ((P.held pass.new).view.look.value ≡ 1) }
         ensures steps { steps.new ≡ steps.old + 1 }
     {
@@ -74,7 +74,7 @@ impl MultiLog {
         requires of { IsOf (P.held pass.old) self.now }
         requires place { (offset < self.now.shape.capacity) × (i < ticket_words self.now.shape) }
         requires lawful { offset < length (P.held pass.old).view.seen }
-        ensures made { Made self.now.shape (word_way self.now.shape (P.held pass.old).view offset i) (P.held pass.old) result (P.held pass.new) }
+        ensures made { HasStepped self.now.shape (word_effect self.now.shape (P.held pass.old).view offset i) (P.held pass.old) result (P.held pass.new) }
         ensures steps { steps.new ≡ steps.old + 1 }
     {
         let word = place_ticket(&self.shape, offset, u64::from(i));
@@ -90,8 +90,8 @@ impl MultiLog {
     ) -> u64
         ghost to: { Spot × Slot }
         requires of { IsOf (P.held pass.old) self.now }
-        requires lawful { May self.now.shape (P.held pass.old).view (loads_child place) (child_way self.now.shape (P.held pass.old).view to.0 to.1) }
-        ensures made { Made self.now.shape (child_way self.now.shape (P.held pass.old).view to.0 to.1) (P.held pass.old) result (P.held pass.new) }
+        requires lawful { IsLawfulStep self.now.shape (P.held pass.old).view (loads_child place) (child_effect self.now.shape (P.held pass.old).view to.0 to.1) }
+        ensures made { HasStepped self.now.shape (child_effect self.now.shape (P.held pass.old).view to.0 to.1) (P.held pass.old) result (P.held pass.new) }
         ensures steps { steps.new ≡ steps.old + 1 }
     {
         load_as::<Brand, P, L>(self, pass, (0, 0, 0), place, steps)
@@ -110,8 +110,8 @@ impl MultiLog {
         ghost of_node: { Spot }
         requires of { IsOf (P.held pass.old) self.now }
         requires place { (node < self.now.shape.writers * self.now.shape.nodes) × (d < 16) × (writer < self.now.shape.writers) }
-        requires lawful { May self.now.shape (P.held pass.old).view (loads_head node d writer) (walk_way self.now.shape (P.held pass.old).view of_node node d writer) }
-        ensures made { Made self.now.shape (walk_way self.now.shape (P.held pass.old).view of_node node d writer) (P.held pass.old) result (P.held pass.new) }
+        requires lawful { IsLawfulStep self.now.shape (P.held pass.old).view (loads_head node d writer) (walk_effect self.now.shape (P.held pass.old).view of_node node d writer) }
+        ensures made { HasStepped self.now.shape (walk_effect self.now.shape (P.held pass.old).view of_node node d writer) (P.held pass.old) result (P.held pass.new) }
         ensures steps { steps.new ≡ steps.old + 1 }
     {
         let word = place_head(&self.shape, node, d, writer);
@@ -129,8 +129,8 @@ impl MultiLog {
     ) -> u64
         requires of { IsOf (P.held pass.old) self.now }
         requires place { (offset < self.now.shape.capacity) × (lane < length self.now.shape.lanes) × (i < cell_words (lane_at self.now.shape lane)) }
-        requires lawful { May self.now.shape (P.held pass.old).view (loads_cell offset lane i) (cell_way self.now.shape (P.held pass.old).view offset lane i) }
-        ensures made { Made self.now.shape (cell_way self.now.shape (P.held pass.old).view offset lane i) (P.held pass.old) result (P.held pass.new) }
+        requires lawful { IsLawfulStep self.now.shape (P.held pass.old).view (loads_cell offset lane i) (cell_effect self.now.shape (P.held pass.old).view offset lane i) }
+        ensures made { HasStepped self.now.shape (cell_effect self.now.shape (P.held pass.old).view offset lane i) (P.held pass.old) result (P.held pass.new) }
         ensures steps { steps.new ≡ steps.old + 1 }
     {
         let word = place_cell(&self.shape, offset, lane, i);
@@ -147,9 +147,9 @@ fn load_as<N: Gives, P: Pass, L: Ledger>(
     steps: &mut Steps<L>,
 ) -> u64
     requires of { IsOf (P.held pass.old) log.now }
-    requires lawful { Calls log.now.shape N.given (P.held pass.old).view word (λ n. n) }
-    requires books { KeepsBooks (N.given).way (P.held pass.old).view }
-    ensures made { Made log.now.shape (N.given).way (P.held pass.old) result (P.held pass.new) }
+    requires lawful { AsksOnWord log.now.shape N.given (P.held pass.old).view word (λ n. n) }
+    requires books { KeepsBooks (N.given).effect (P.held pass.old).view }
+    ensures made { HasStepped log.now.shape (N.given).effect (P.held pass.old) result (P.held pass.new) }
     ensures steps { steps.new ≡ steps.old + 1 }
 {
     pass.load_by::<N, L>(log, word, steps)

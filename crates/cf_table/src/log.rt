@@ -1,7 +1,7 @@
 // The log: the words, and what they are for.
 ghost use Rattle.std.specs.Prelude.{◌≡◌, ◌+◌, ◌<◌, ◌≤◌, IfOk, map, vec_capacity};
 ghost use Rattle.cf_law.specs.Events.{table, no_book};
-ghost use Rattle.cf_table.specs.Moves.{note_of, IsSettled};
+ghost use Rattle.cf_table.specs.Moves.{note_of, HoldsAllBooks};
 ghost use Rattle.cf_shape.specs.Lanes.{IsShape};
 ghost use Rattle.cf_table.specs.Rule.{root_pass};
 
@@ -25,7 +25,7 @@ impl Model for MultiLog {
     ghost use Rattle.std.specs.Prelude.{◌≡◌};
     ghost use Rattle.cf_shape.specs.Lanes.{IsShape};
     ghost use Rattle.cf_shape.specs.Places.{sizes_of, word_total};
-    ghost use Rattle.cf_table.specs.Held.{LogValue};
+    ghost use Rattle.cf_table.specs.Values.{LogValue};
 
     ghost Value = { LogValue };
 
@@ -39,7 +39,7 @@ impl MultiLog {
     pub fn open(alloc: Global, shape: Shape) -> Result<(MultiLog, Root), Memory>
         ensures shape { IfOk result (λ r. r.0.shape ≡ shape) }
         ensures root { IfOk result (λ r. r.1 ≡ record { table = r.0.table; id = 0; nodes = r.0.shape.nodes; view = root_pass r.0.shape }) }
-        ensures home { IfOk result (λ r. IsSettled r.0.shape r.1.view) }
+        ensures home { IfOk result (λ r. HoldsAllBooks r.0.shape r.1.view) }
     {
         let _lawful = shape.lanes();
         let nodes = shape.nodes();

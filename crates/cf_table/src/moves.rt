@@ -1,8 +1,8 @@
 // Passes are split and joined.
 ghost use Rattle.std.specs.Prelude.{◌≡◌, ◌<◌, ◌≤◌, ◌∷◌, [], length, false, slice_get, Some};
-ghost use Rattle.cf_law.specs.Steps.{Splits, IsAtRest, Holds, newcomer, joined, but};
-ghost use Rattle.cf_table.specs.Held.{IsOf, book_of};
-ghost use Rattle.cf_table.specs.Moves.{Folded, IsSettled};
+ghost use Rattle.cf_law.specs.Steps.{Splits, IsAtRest, Holds, new_pass, joined_pass, without};
+ghost use Rattle.cf_table.specs.Values.{IsOf, book_of};
+ghost use Rattle.cf_table.specs.Moves.{HasFolded, HoldsAllBooks};
 
 use crate::log::MultiLog;
 use crate::pass::{ReaderPass, Root};
@@ -31,7 +31,7 @@ impl MultiLog {
     pub(crate) fn note_token(&self, token: &mut Token) -> Token
         requires of { IsOf token.old self.now }
         ensures stays { token.new ≡ token.old }
-        ensures goes { (result.table ≡ token.old.table) × (result.nodes ≡ token.old.nodes) × (result.view ≡ newcomer [] token.old.view.seen) }
+        ensures goes { (result.table ≡ token.old.table) × (result.nodes ≡ token.old.nodes) × (result.view ≡ new_pass [] token.old.view.seen) }
     {
         split_as::<Brand>(self, token)
     }
@@ -40,8 +40,8 @@ impl MultiLog {
     pub(crate) fn hand_token(&self, token: &mut Token) -> Token
         requires of { IsOf token.old self.now }
         requires held { Holds token.old.view 0 (book_of token.old.view) }
-        ensures stays { token.new ≡ record token.old { view = record token.old.view { books = but 0 token.old.view.books } } }
-        ensures goes { (result.table ≡ token.old.table) × (result.nodes ≡ token.old.nodes) × (result.view ≡ newcomer (book_of token.old.view ∷ []) token.old.view.seen) }
+        ensures stays { token.new ≡ record token.old { view = record token.old.view { books = without 0 token.old.view.books } } }
+        ensures goes { (result.table ≡ token.old.table) × (result.nodes ≡ token.old.nodes) × (result.view ≡ new_pass (book_of token.old.view ∷ []) token.old.view.seen) }
     {
         split_as::<Brand>(self, token)
     }
@@ -49,7 +49,7 @@ impl MultiLog {
     pub(crate) fn join_token(&self, token: &mut Token, other: Token)
         requires of { IsOf token.old self.now × IsOf other self.now }
         requires rest { IsAtRest other.view }
-        ensures { token.new ≡ record token.old { view = joined token.old.view other.view } }
+        ensures { token.new ≡ record token.old { view = joined_pass token.old.view other.view } }
     {
         let Token {
             seat,
@@ -64,7 +64,7 @@ impl MultiLog {
     pub(crate) fn fold_token(&self, token: &mut Token, other: Token)
         requires of { IsOf token.old self.now × IsOf other self.now }
         requires rest { IsAtRest other.view }
-        ensures { Folded self.now.shape token.old other.view token.new }
+        ensures { HasFolded self.now.shape token.old other.view token.new }
     {
         self.join_token(token, other);
         self.load_tail_token(token, false);
@@ -75,7 +75,7 @@ impl MultiLog {
         requires of { IsOf root.old self.now }
         ensures root { root.new ≡ root.old }
         ensures of { IsOf result self.now }
-        ensures view { result.view ≡ newcomer [] root.old.view.seen }
+        ensures view { result.view ≡ new_pass [] root.old.view.seen }
     {
         ReaderPass {
             token: self.note_token(&mut root.token),
@@ -85,9 +85,9 @@ impl MultiLog {
     /// The pass comes home, and the root has then seen what it has, which is no more while all books are home.
     pub fn fold_back(&self, root: &mut Root, pass: ReaderPass)
         requires of { IsOf root.old self.now × IsOf pass self.now }
-        ensures folded { Folded self.now.shape root.old pass.view root.new }
+        ensures folded { HasFolded self.now.shape root.old pass.view root.new }
         ensures books { root.new.view.books ≡ root.old.view.books }
-        ensures stays { IsSettled self.now.shape root.old.view → root.new.view.seen ≡ root.old.view.seen }
+        ensures stays { HoldsAllBooks self.now.shape root.old.view → root.new.view.seen ≡ root.old.view.seen }
     {
         let ReaderPass { token } = pass;
         self.fold_token(&mut root.token, token);
@@ -97,7 +97,7 @@ impl MultiLog {
     pub fn meet(&self, from: &mut ReaderPass, to: &mut ReaderPass)
         requires of { IsOf from.old self.now × IsOf to.old self.now }
         ensures from { from.new ≡ from.old }
-        ensures to { Folded self.now.shape to.old (newcomer [] from.old.view.seen) to.new }
+        ensures to { HasFolded self.now.shape to.old (new_pass [] from.old.view.seen) to.new }
     {
         let note = self.note_token(&mut from.token);
         self.fold_token(&mut to.token, note);

@@ -1,9 +1,9 @@
 // The kinds of pass.
 ghost use Rattle.std.specs.Prelude.{◌≡◌, ◌+◌, ◌*◌, ◌<◌, ◌≤◌, length, MatchOption};
 ghost use Rattle.cf_law.specs.Steps.Act.{advance};
-ghost use Rattle.cf_table.specs.Held.{IsOf, book_of, Writes};
-ghost use Rattle.cf_table.specs.Ways.{May, Made, Stored, tail_way, advance_way};
-ghost use Rattle.cf_table.specs.Rule.{Calls, KeepsBooks};
+ghost use Rattle.cf_table.specs.Values.{IsOf, book_of, Writes};
+ghost use Rattle.cf_table.specs.Effects.{IsLawfulStep, HasStepped, HasSteppedUnseen, tail_effect, advance_effect};
+ghost use Rattle.cf_table.specs.Rule.{AsksOnWord, KeepsBooks};
 
 use crate::count::Steps;
 use crate::log::MultiLog;
@@ -13,9 +13,9 @@ use std::sync::ledger::Ledger;
 
 /// What takes part: it has seen entries, and makes each step that isn't a writer's.
 pub trait Pass {
-    ghost use Rattle.cf_table.specs.Held.{Held};
+    ghost use Rattle.cf_table.specs.Values.{PassValue};
 
-    ghost held: { Self → Held };
+    ghost held: { Self → PassValue };
 
     /// How many entries it knows as covered.
     fn covered(&self) -> u32
@@ -29,22 +29,22 @@ pub trait Pass {
         steps: &mut Steps<L>,
     ) -> u64
         requires of { IsOf (held self.old) log.now }
-        requires lawful { Calls log.now.shape N.given (held self.old).view word (λ n. n) }
-        requires books { KeepsBooks (N.given).way (held self.old).view }
-        ensures made { Made log.now.shape (N.given).way (held self.old) result (held self.new) }
+        requires lawful { AsksOnWord log.now.shape N.given (held self.old).view word (λ n. n) }
+        requires books { KeepsBooks (N.given).effect (held self.old).view }
+        ensures made { HasStepped log.now.shape (N.given).effect (held self.old) result (held self.new) }
         ensures steps { steps.new ≡ steps.old + 1 };
 
     /// Loads the read tail.
     fn load_tail_by<L: Ledger>(&mut self, log: &MultiLog, asked: bool, steps: &mut Steps<L>) -> u32
         requires of { IsOf (held self.old) log.now }
-        ensures made { Made log.now.shape (tail_way (held self.old).view asked) (held self.old) result (held self.new) }
+        ensures made { HasStepped log.now.shape (tail_effect (held self.old).view asked) (held self.old) result (held self.new) }
         ensures steps { steps.new ≡ steps.old + 1 };
 
     /// Moves the read tail from t.
     fn advance_by<L: Ledger>(&mut self, log: &MultiLog, t: u32, steps: &mut Steps<L>)
         requires of { IsOf (held self.old) log.now }
-        requires lawful { May log.now.shape (held self.old).view (advance t) (advance_way (held self.old).view t) }
-        ensures made { Stored log.now.shape (advance_way (held self.old).view t) (held self.old) (held self.new) }
+        requires lawful { IsLawfulStep log.now.shape (held self.old).view (advance t) (advance_effect (held self.old).view t) }
+        ensures made { HasSteppedUnseen log.now.shape (advance_effect (held self.old).view t) (held self.old) (held self.new) }
         ensures steps { steps.new ≡ steps.old + 1 };
 }
 
@@ -59,9 +59,9 @@ pub struct WriterPass {
 
 impl Model for WriterPass {
     ghost use Rattle.std.specs.Prelude.{◌<◌, ◌≤◌};
-    ghost use Rattle.cf_table.specs.Held.{Held, Writes};
+    ghost use Rattle.cf_table.specs.Values.{PassValue, Writes};
 
-    ghost Value = { Held };
+    ghost Value = { PassValue };
 
     ghost view = { λ w. w.token };
 
@@ -75,10 +75,10 @@ pub struct ReaderPass {
 }
 
 impl Model for ReaderPass {
-    ghost use Rattle.cf_table.specs.Held.{Held};
+    ghost use Rattle.cf_table.specs.Values.{PassValue};
     ghost use Rattle.std.specs.Prelude.{◌≡◌, []};
 
-    ghost Value = { Held };
+    ghost Value = { PassValue };
 
     ghost view = { λ w. w.token };
 
@@ -103,10 +103,10 @@ pub struct Root {
 
 impl Model for Root {
     ghost use Rattle.std.specs.Prelude.{◌≤◌, vec_capacity};
-    ghost use Rattle.cf_table.specs.Held.{Held};
+    ghost use Rattle.cf_table.specs.Values.{PassValue};
     ghost use Rattle.cf_table.specs.Moves.{AreNoted};
 
-    ghost Value = { Held };
+    ghost Value = { PassValue };
 
     ghost view = { λ w. w.token };
 

@@ -19,9 +19,9 @@ impl Model for View {
 pub(crate) struct Law;
 
 impl TableRule<(), View, Shape> for Law {
-    ghost use Rattle.cf_table.specs.Rule.{Under, root_pass};
+    ghost use Rattle.cf_table.specs.Rule.{IsLawfulState, root_pass};
 
-    ghost holds = { Under };
+    ghost holds = { IsLawfulState };
 
     ghost first = { root_pass };
 }
@@ -38,9 +38,9 @@ pub struct Token {
 
 impl Model for Token {
     ghost use Rattle.std.specs.Prelude.{◌≡◌, [], length, false};
-    ghost use Rattle.cf_table.specs.Held.{Held};
+    ghost use Rattle.cf_table.specs.Values.{PassValue};
 
-    ghost Value = { Held };
+    ghost Value = { PassValue };
 
     ghost view = { λ t. record { table = t.seat.table_id; id = t.seat.id; nodes = t.nodes; view = t.seat.me.0 } };
 
@@ -49,9 +49,9 @@ impl Model for Token {
 
 /// What a call gives its step.
 pub trait Gives {
-    ghost use Rattle.cf_table.specs.Rule.{Given};
+    ghost use Rattle.cf_table.specs.Rule.{StepGiven};
 
-    ghost given: { Given };
+    ghost given: { StepGiven };
 }
 
 impl Gives for Brand {
@@ -112,9 +112,9 @@ impl<N: Parts> Split<View> for Hands<N> {
 pub(crate) struct Comes;
 
 impl Join<View> for Comes {
-    ghost use Rattle.cf_law.specs.Steps.{joined, spent_pass};
+    ghost use Rattle.cf_law.specs.Steps.{joined_pass, spent_pass};
 
-    ghost both = { joined };
+    ghost both = { joined_pass };
 
     ghost spent = { spent_pass };
 }

@@ -2,9 +2,9 @@
 ghost use Rattle.std.specs.Prelude.{ℕ, suc, ◌≡◌, ◌+◌, ◌<◌, ◌≤◌, cond, ◌==◌};
 ghost use Rattle.cf_law.specs.Steps.Act.{advance};
 ghost use Rattle.cf_shape.specs.Places.Slot.{tail};
-ghost use Rattle.cf_table.specs.Held.{IsOf};
-ghost use Rattle.cf_table.specs.Ways.{May, Made, Stored, tail_way, advance_way};
-ghost use Rattle.cf_table.specs.Rule.{Calls, KeepsBooks, exchanged, given_tail, given_advance};
+ghost use Rattle.cf_table.specs.Values.{IsOf};
+ghost use Rattle.cf_table.specs.Effects.{IsLawfulStep, HasStepped, HasSteppedUnseen, tail_effect, advance_effect};
+ghost use Rattle.cf_table.specs.Rule.{AsksOnWord, KeepsBooks, value_after_exchange, given_tail, given_advance};
 
 use crate::log::MultiLog;
 use crate::rule::{Acts, Gives, Stores, Token};
@@ -13,9 +13,9 @@ use std::marker::Brand;
 impl MultiLog {
     pub(crate) fn load_token<N: Gives>(&self, token: &mut Token, word: u64) -> u64
         requires of { IsOf token.old self.now }
-        requires lawful { Calls self.now.shape N.given token.old.view word (λ n. n) }
-        ensures made { Made self.now.shape (N.given).way token.old result token.new }
-        ensures books { KeepsBooks (N.given).way token.old.view → token.new.view.books ≡ token.old.view.books }
+        requires lawful { AsksOnWord self.now.shape N.given token.old.view word (λ n. n) }
+        ensures made { HasStepped self.now.shape (N.given).effect token.old result token.new }
+        ensures books { KeepsBooks (N.given).effect token.old.view → token.new.view.books ≡ token.old.view.books }
     {
         self.table
             .shared
@@ -24,8 +24,8 @@ impl MultiLog {
 
     pub(crate) fn store_token<N: Gives>(&self, token: &mut Token, word: u64, value: u64)
         requires of { IsOf token.old self.now }
-        requires lawful { Calls self.now.shape N.given token.old.view word (λ _. value) }
-        ensures made { Stored self.now.shape (N.given).way token.old token.new }
+        requires lawful { AsksOnWord self.now.shape N.given token.old.view word (λ _. value) }
+        ensures made { HasSteppedUnseen self.now.shape (N.given).effect token.old token.new }
     {
         self.table
             .shared
@@ -35,8 +35,8 @@ impl MultiLog {
     // Stores the value where the word is 0.
     pub(crate) fn exchange_token<N: Gives>(&self, token: &mut Token, word: u64, value: u64) -> u64
         requires of { IsOf token.old self.now }
-        requires lawful { Calls self.now.shape N.given token.old.view word (λ n. exchanged value n) }
-        ensures made { Made self.now.shape (N.given).way token.old result token.new }
+        requires lawful { AsksOnWord self.now.shape N.given token.old.view word (λ n. value_after_exchange value n) }
+        ensures made { HasStepped self.now.shape (N.given).effect token.old result token.new }
     {
         self.table
             .shared
@@ -46,8 +46,8 @@ impl MultiLog {
     // Adds 1 to the write tail.
     pub(crate) fn add_token<N: Gives>(&self, token: &mut Token) -> u64
         requires of { IsOf token.old self.now }
-        requires lawful { Calls self.now.shape N.given token.old.view 0 (λ n. suc n) × ((N.given).way.slot ≡ tail 0) }
-        ensures made { Made self.now.shape (N.given).way token.old result token.new }
+        requires lawful { AsksOnWord self.now.shape N.given token.old.view 0 (λ n. suc n) × ((N.given).effect.slot ≡ tail 0) }
+        ensures made { HasStepped self.now.shape (N.given).effect token.old result token.new }
     {
         self.table
             .shared
@@ -56,7 +56,7 @@ impl MultiLog {
 
     pub(crate) fn load_tail_token(&self, token: &mut Token, asked: bool) -> u32
         requires of { IsOf token.old self.now }
-        ensures made { Made self.now.shape (tail_way token.old.view asked) token.old result token.new }
+        ensures made { HasStepped self.now.shape (tail_effect token.old.view asked) token.old result token.new }
         ensures books { token.new.view.books ≡ token.old.view.books }
     {
         tail_as::<Brand>(self, token, asked)
@@ -64,8 +64,8 @@ impl MultiLog {
 
     pub(crate) fn advance_token(&self, token: &mut Token, t: u32)
         requires of { IsOf token.old self.now }
-        requires lawful { May self.now.shape token.old.view (advance t) (advance_way token.old.view t) }
-        ensures made { Stored self.now.shape (advance_way token.old.view t) token.old token.new }
+        requires lawful { IsLawfulStep self.now.shape token.old.view (advance t) (advance_effect token.old.view t) }
+        ensures made { HasSteppedUnseen self.now.shape (advance_effect token.old.view t) token.old token.new }
         ensures books { token.new.view.books ≡ token.old.view.books }
     {
         advance_as::<Brand>(self, token, t);
@@ -76,7 +76,7 @@ impl MultiLog {
 fn tail_as<N: Gives>(log: &MultiLog, token: &mut Token, asked: bool) -> u32
     requires of { IsOf token.old log.now }
     requires given { N.given ≡ given_tail log.now.shape token.old.view asked }
-    ensures made { Made log.now.shape (tail_way token.old.view asked) token.old result token.new }
+    ensures made { HasStepped log.now.shape (tail_effect token.old.view asked) token.old result token.new }
     ensures books { token.new.view.books ≡ token.old.view.books }
 {
     let found = log.table.shared.load::<Acts<N>>(&mut token.seat, 1);
@@ -87,8 +87,8 @@ fn tail_as<N: Gives>(log: &MultiLog, token: &mut Token, asked: bool) -> u32
 fn advance_as<N: Gives>(log: &MultiLog, token: &mut Token, t: u32)
     requires of { IsOf token.old log.now }
     requires given { N.given ≡ given_advance log.now.shape token.old.view t }
-    requires lawful { May log.now.shape token.old.view (advance t) (advance_way token.old.view t) }
-    ensures made { Stored log.now.shape (advance_way token.old.view t) token.old token.new }
+    requires lawful { IsLawfulStep log.now.shape token.old.view (advance t) (advance_effect token.old.view t) }
+    ensures made { HasSteppedUnseen log.now.shape (advance_effect token.old.view t) token.old token.new }
     ensures books { token.new.view.books ≡ token.old.view.books }
 {
     log.table

@@ -4,9 +4,9 @@ ghost use Rattle.cf_law.specs.Steps.Act.{take_ticket as takes_ticket, store_cell
 ghost use Rattle.cf_shape.specs.Places.{Slot};
 ghost use Rattle.cf_shape.specs.Uses.{ticket_words};
 ghost use Rattle.cf_words.specs.Words.{Spot};
-ghost use Rattle.cf_table.specs.Held.{IsOf, book_of};
-ghost use Rattle.cf_table.specs.Ways.{May, Made, Stored, take_way, store_way, finish_way, label_way, link_way, head_way};
-ghost use Rattle.cf_table.specs.Rule.{Calls, exchanged, given_take};
+ghost use Rattle.cf_table.specs.Values.{IsOf, book_of};
+ghost use Rattle.cf_table.specs.Effects.{IsLawfulStep, HasStepped, HasSteppedUnseen, take_effect, store_effect, finish_effect, label_effect, link_effect, head_effect};
+ghost use Rattle.cf_table.specs.Rule.{AsksOnWord, value_after_exchange, given_take};
 
 use crate::count::Steps;
 use crate::log::MultiLog;
@@ -26,8 +26,8 @@ impl MultiLog {
         steps: &mut Steps<L>,
     ) -> u64
         requires of { IsOf pass.old self.now }
-        requires lawful { May self.now.shape pass.old.view (takes_ticket row.now) (take_way self.now.shape pass.old.view row.now) }
-        ensures made { Made self.now.shape (take_way self.now.shape pass.old.view row.now) pass.old result pass.new }
+        requires lawful { IsLawfulStep self.now.shape pass.old.view (takes_ticket row.now) (take_effect self.now.shape pass.old.view row.now) }
+        ensures made { HasStepped self.now.shape (take_effect self.now.shape pass.old.view row.now) pass.old result pass.new }
         ensures steps { steps.new ≡ steps.old + 1 }
     {
         steps.tick();
@@ -49,8 +49,8 @@ impl MultiLog {
     )
         requires of { IsOf pass.old self.now }
         requires place { (offset < self.now.shape.capacity) × (i < ticket_words self.now.shape) }
-        requires lawful { May self.now.shape pass.old.view (stores_cell offset i value) (store_way pass.old.view offset i value) }
-        ensures made { Stored self.now.shape (store_way pass.old.view offset i value) pass.old pass.new }
+        requires lawful { IsLawfulStep self.now.shape pass.old.view (stores_cell offset i value) (store_effect pass.old.view offset i value) }
+        ensures made { HasSteppedUnseen self.now.shape (store_effect pass.old.view offset i value) pass.old pass.new }
         ensures steps { steps.new ≡ steps.old + 1 }
     {
         steps.tick();
@@ -62,8 +62,8 @@ impl MultiLog {
     pub fn finish_record<L: Ledger>(&self, pass: &mut WriterPass, offset: u32, steps: &mut Steps<L>)
         requires of { IsOf pass.old self.now }
         requires place { offset < self.now.shape.capacity }
-        requires lawful { May self.now.shape pass.old.view (finishes_record offset) (finish_way self.now.shape pass.old.view offset) }
-        ensures made { Stored self.now.shape (finish_way self.now.shape pass.old.view offset) pass.old pass.new }
+        requires lawful { IsLawfulStep self.now.shape pass.old.view (finishes_record offset) (finish_effect self.now.shape pass.old.view offset) }
+        ensures made { HasSteppedUnseen self.now.shape (finish_effect self.now.shape pass.old.view offset) pass.old pass.new }
         ensures steps { steps.new ≡ steps.old + 1 }
     {
         steps.tick();
@@ -81,8 +81,8 @@ impl MultiLog {
     )
         requires of { IsOf pass.old self.now }
         requires place { node < self.now.shape.writers * self.now.shape.nodes }
-        requires lawful { May self.now.shape pass.old.view (labels node value) (label_way pass.old.view node value) }
-        ensures made { Stored self.now.shape (label_way pass.old.view node value) pass.old pass.new }
+        requires lawful { IsLawfulStep self.now.shape pass.old.view (labels node value) (label_effect pass.old.view node value) }
+        ensures made { HasSteppedUnseen self.now.shape (label_effect pass.old.view node value) pass.old pass.new }
         ensures steps { steps.new ≡ steps.old + 1 }
     {
         steps.tick();
@@ -101,8 +101,8 @@ impl MultiLog {
     ) -> u64
         ghost to: { Spot × Slot }
         requires of { IsOf pass.old self.now }
-        requires lawful { May self.now.shape pass.old.view (links place node) (link_way pass.old.view to.0 to.1 node) }
-        ensures made { Made self.now.shape (link_way pass.old.view to.0 to.1 node) pass.old result pass.new }
+        requires lawful { IsLawfulStep self.now.shape pass.old.view (links place node) (link_effect pass.old.view to.0 to.1 node) }
+        ensures made { HasStepped self.now.shape (link_effect pass.old.view to.0 to.1 node) pass.old result pass.new }
         ensures steps { steps.new ≡ steps.old + 1 }
     {
         steps.tick();
@@ -125,8 +125,8 @@ impl MultiLog {
         ghost lane: { ℕ }
         requires of { IsOf pass.old self.now }
         requires place { (node < self.now.shape.writers * self.now.shape.nodes) × (d < 16) × ((book_of pass.old.view).writer < self.now.shape.writers) }
-        requires lawful { May self.now.shape pass.old.view (stores_head lane node d offset) (head_way self.now.shape pass.old.view lane node d offset) }
-        ensures made { Stored self.now.shape (head_way self.now.shape pass.old.view lane node d offset) pass.old pass.new }
+        requires lawful { IsLawfulStep self.now.shape pass.old.view (stores_head lane node d offset) (head_effect self.now.shape pass.old.view lane node d offset) }
+        ensures made { HasSteppedUnseen self.now.shape (head_effect self.now.shape pass.old.view lane node d offset) pass.old pass.new }
         ensures steps { steps.new ≡ steps.old + 1 }
     {
         steps.tick();
@@ -145,24 +145,24 @@ impl MultiLog {
 fn take_as<N: Gives>(log: &MultiLog, token: &mut Token, _row: &Row) -> u64
     requires of { IsOf token.old log.now }
     requires given { N.given ≡ given_take log.now.shape token.old.view _row.now }
-    requires lawful { May log.now.shape token.old.view (takes_ticket _row.now) (take_way log.now.shape token.old.view _row.now) }
-    ensures made { Made log.now.shape (take_way log.now.shape token.old.view _row.now) token.old result token.new }
+    requires lawful { IsLawfulStep log.now.shape token.old.view (takes_ticket _row.now) (take_effect log.now.shape token.old.view _row.now) }
+    ensures made { HasStepped log.now.shape (take_effect log.now.shape token.old.view _row.now) token.old result token.new }
 {
     log.add_token::<N>(token)
 }
 
 fn store_as<N: Gives>(log: &MultiLog, token: &mut Token, _at: (u32, u8, u32), word: u64, value: u64)
     requires of { IsOf token.old log.now }
-    requires lawful { Calls log.now.shape N.given token.old.view word (λ _. value) }
-    ensures made { Stored log.now.shape (N.given).way token.old token.new }
+    requires lawful { AsksOnWord log.now.shape N.given token.old.view word (λ _. value) }
+    ensures made { HasSteppedUnseen log.now.shape (N.given).effect token.old token.new }
 {
     log.store_token::<N>(token, word, value);
 }
 
 fn link_as<N: Gives>(log: &MultiLog, token: &mut Token, place: u64, node: u32) -> u64
     requires of { IsOf token.old log.now }
-    requires lawful { Calls log.now.shape N.given token.old.view place (λ n. exchanged (node + 1) n) }
-    ensures made { Made log.now.shape (N.given).way token.old result token.new }
+    requires lawful { AsksOnWord log.now.shape N.given token.old.view place (λ n. value_after_exchange (node + 1) n) }
+    ensures made { HasStepped log.now.shape (N.given).effect token.old result token.new }
 {
     log.exchange_token::<N>(token, place, node as u64 + 1)
 }

@@ -1,12 +1,12 @@
 -- What walks went by past what was seen: how many steps that takes.
 use Rattle.std.proofs.Common.{◌≡◌, ◌∙◌, ℕ, zero, suc, ◌+◌, ◌-◌, ◌<◌, ◌≤◌, ◌⊎◌, inl, inr, List, [], ◌∷◌, ◌++◌, length, Bool, true, false, cond, slice_get, refl, sym, ap, ap₂, subst, arith}
 use Rattle.std.proofs.lemmas.Bool.{cases_Bool, cases_eq}
-use Rattle.cf_shape.specs.Lanes.{Shaped}
+use Rattle.cf_shape.specs.Lanes.{ShapeValue}
 use Rattle.cf_words.specs.Words.{has}
 use Rattle.cf_words.proofs.Chains.{eq_false, has_more, has_first, has_rest, has_nothing}
 use Rattle.cf_law.specs.Passes.{Pass}
 use Rattle.cf_law.specs.Steps.{met_of}
-use Rattle.cf_table.specs.Held.{Held}
+use Rattle.cf_table.specs.Values.{PassValue}
 use Rattle.cf_walk.specs.Walks.{Met, Distinct, WentBy, ChainSteps}
 
 met_on : (p q : Pass) (o w i v : ℕ) → met_of q.cursor ≡ (o, w) ∷ met_of p.cursor → Met p i v → Met q i v
@@ -19,13 +19,13 @@ met_same : (p q : Pass) (i v : ℕ) → met_of q.cursor ≡ met_of p.cursor → 
 met_same p q i v is x = (x.0, ap (λ (xs : List (ℕ × ℕ)). slice_get xs x.0) is ∙ x.1)
 
 -- One chain: so many steps were taken, and so many places are left to be found.
-pub record IsCounting (shape : Shaped) (w : ℕ) (f p : Held) (link left start steps : ℕ) : Type 0 where
+pub record IsCounting (shape : ShapeValue) (w : ℕ) (f p : PassValue) (link left start steps : ℕ) : Type 0 where
   pub fresh : List ℕ
   pub went : WentBy shape w f p fresh
   pub above : (o : ℕ) → has fresh o ≡ true → link ≤ o
   pub count : steps + left ≤ start + length fresh
 
-pub counting_begins : (shape : Shaped) (w : ℕ) (f p : Held) (link left start steps : ℕ) → met_of (p.view).cursor ≡ met_of (f.view).cursor → steps + left ≤ start → IsCounting shape w f p link left start steps
+pub counting_begins : (shape : ShapeValue) (w : ℕ) (f p : PassValue) (link left start steps : ℕ) → met_of (p.view).cursor ≡ met_of (f.view).cursor → steps + left ≤ start → IsCounting shape w f p link left start steps
 counting_begins shape w f p link left start steps is few = record {
   fresh = [];
   went = record {
@@ -40,7 +40,7 @@ counting_begins shape w f p link left start steps is few = record {
 }
 
 -- the walk went by a place that was seen
-pub counting_known : (shape : Shaped) (w : ℕ) (f m n : Held) (link next o left rest start steps more : ℕ) → IsCounting shape w f m link left start steps → met_of (n.view).cursor ≡ (o, w) ∷ met_of (m.view).cursor → next ≤ link → left ≡ suc rest → more ≡ steps + 1
+pub counting_known : (shape : ShapeValue) (w : ℕ) (f m n : PassValue) (link next o left rest start steps more : ℕ) → IsCounting shape w f m link left start steps → met_of (n.view).cursor ≡ (o, w) ∷ met_of (m.view).cursor → next ≤ link → left ≡ suc rest → more ≡ steps + 1
     → IsCounting shape w f n next rest start more
 counting_known shape w f m n link next o left rest start steps more c is le one tick =
     let before = c.count in
@@ -58,7 +58,7 @@ counting_known shape w f m n link next o left rest start steps more c is le one 
     }
 
 -- the walk went by a place past what was seen
-pub counting_new : (shape : Shaped) (w : ℕ) (f m n : Held) (link next left rest start steps more : ℕ) → IsCounting shape w f m link left start steps → met_of (n.view).cursor ≡ (link - 1, w) ∷ met_of (m.view).cursor → ((v : ℕ) → Met m.view (link - 1) v → v ≡ w)
+pub counting_new : (shape : ShapeValue) (w : ℕ) (f m n : PassValue) (link next left rest start steps more : ℕ) → IsCounting shape w f m link left start steps → met_of (n.view).cursor ≡ (link - 1, w) ∷ met_of (m.view).cursor → ((v : ℕ) → Met m.view (link - 1) v → v ≡ w)
     → 0 < link → length (f.view).seen ≤ link - 1 → link ≤ shape.capacity → next ≤ link - 1 → left ≡ rest → more ≡ steps + 1 → IsCounting shape w f n next rest start more
 counting_new shape w f m n link next left rest start steps more c is apart some past low le one tick =
     let o = link - 1 in
@@ -93,7 +93,7 @@ counting_new shape w f m n link next left rest start steps more c is apart some 
       count = omega (arith, before, one, tick);
     }
 
-pub counting_ends : (shape : Shaped) (w : ℕ) (f p : Held) (link left before found steps : ℕ) → IsCounting shape w f p link left (before + 1 + found) steps → ChainSteps shape w f p found before steps
+pub counting_ends : (shape : ShapeValue) (w : ℕ) (f p : PassValue) (link left before found steps : ℕ) → IsCounting shape w f p link left (before + 1 + found) steps → ChainSteps shape w f p found before steps
 counting_ends shape w f p link left before found steps c = (let count = c.count in record { fresh = c.fresh; went = c.went; steps = omega (arith, count) })
 
 -- how many of n numbers, from t on, stand in the list
@@ -160,15 +160,15 @@ reached_both (x ∷ xs) places t n distinct within out =
     omega (arith, one, rest)
 
 -- The chains of a leaf, of all writers below one.
-pub record IsCountingAll (shape : Shaped) (p : Held) (t w start found steps : ℕ) : Type 0 where
+pub record IsCountingAll (shape : ShapeValue) (p : PassValue) (t w start found steps : ℕ) : Type 0 where
   pub places : List ℕ
   pub by : (o : ℕ) → has places o ≡ true → (v : ℕ) × (v < w) × Met p.view o v
   pub count : steps ≤ start + w + found + reached places t (shape.capacity - t)
 
-pub all_begins : (shape : Shaped) (p : Held) (t start found : ℕ) → IsCountingAll shape p t 0 start found start
+pub all_begins : (shape : ShapeValue) (p : PassValue) (t start found : ℕ) → IsCountingAll shape p t 0 start found start
 all_begins shape p t start found = record { places = []; by = λ o h. absurd (has_nothing o h); count = omega arith }
 
-pub all_more : (shape : Shaped) (m n : Held) (t w next start found more all steps after : ℕ) → length (m.view).seen ≡ t → next ≡ suc w → all ≡ found + more → IsCountingAll shape m t w start found steps → ChainSteps shape w m n more steps after
+pub all_more : (shape : ShapeValue) (m n : PassValue) (t w next start found more all steps after : ℕ) → length (m.view).seen ≡ t → next ≡ suc w → all ≡ found + more → IsCountingAll shape m t w start found steps → ChainSteps shape w m n more steps after
     → IsCountingAll shape n t next start all after
 all_more shape m n t w next start found more all steps after far one sum c s =
     let fresh = s.fresh in
@@ -190,5 +190,5 @@ all_more shape m n t w next start found more all steps after far one sum c s =
       count = omega (arith, r, before, these, one, sum);
     }
 
-pub all_ends : (shape : Shaped) (p : Held) (t w start found steps : ℕ) → IsCountingAll shape p t w start found steps → steps ≤ start + w + found + (shape.capacity - t)
+pub all_ends : (shape : ShapeValue) (p : PassValue) (t w start found steps : ℕ) → IsCountingAll shape p t w start found steps → steps ≤ start + w + found + (shape.capacity - t)
 all_ends shape p t w start found steps c = (let count = c.count in let most = reached_most c.places t (shape.capacity - t) in omega (arith, count, most))

@@ -6,12 +6,12 @@ use Rattle.std.specs.Bool.{nat_lt}
 use Rattle.std.proofs.lemmas.Bool.{cases_Bool, cases_eq, cases_order, eq-eqb, ne_eqb, le-leb, lt-leb, lt-ltb}
 use Rattle.std.proofs.lemmas.List.{length-map, map-append, append_assoc, append-nil}
 use Rattle.std.proofs.lemmas.List.Elements.{filter-append, filter_agree}
-use Rattle.cf_row.specs.Row.{Numbered}
+use Rattle.cf_row.specs.Row.{RowValue}
 use Rattle.cf_row.specs.declared.row.Entry.{Entry}
 use Rattle.cf_row.proofs.Bytes.{both}
-use Rattle.cf_fold.specs.Quads.{Counts, quad_of}
+use Rattle.cf_fold.specs.Quads.{QuadValue, quad_of}
 use Rattle.cf_fold.specs.declared.trigger.Trigger.{Trigger}
-use Rattle.cf_shape.specs.Lanes.{Shaped, IsShape, selected_by, key_of, measure_of}
+use Rattle.cf_shape.specs.Lanes.{ShapeValue, IsShape, selected_by, key_of, measure_of}
 use Rattle.cf_shape.specs.Nodes.{levels_of}
 use Rattle.cf_law.specs.Readers.{IsFit}
 use Rattle.cf_law.specs.Shapes.{layout}
@@ -35,13 +35,13 @@ between_one k n = elim (cases_order n k) [
   | inr (inr gt) ↦ rw (le-leb k n (omega (arith, gt)), lt-leb n k gt, ne_eqb n k (λ e. omega (arith, e, gt))) refl
 ]
 
-one_group : (shape : Shaped) (lane k : ℕ) (rows : List Numbered) → total_over shape lane (is_keyed_between shape lane k k) rows ≡ (group_of shape lane rows k).1
+one_group : (shape : ShapeValue) (lane k : ℕ) (rows : List RowValue) → total_over shape lane (is_keyed_between shape lane k k) rows ≡ (group_of shape lane rows k).1
 one_group shape lane k rows =
-    ap (λ (rs : List Numbered). quad_of (map (measure_of shape lane) rs))
+    ap (λ (rs : List RowValue). quad_of (map (measure_of shape lane) rs))
     (filter_agree (is_keyed_between shape lane k k) (has_key shape lane k) (λ row. ap (λ (b : Bool). selected_by shape lane row && b) (between_one k (key_of shape lane row))) rows)
 
 -- a test that lets more through
-filter_less : (p q : Numbered → Bool) → ((x : Numbered) → p x ≡ true → q x ≡ true) → (xs : List Numbered) → length (filter p xs) ≤ length (filter q xs)
+filter_less : (p q : RowValue → Bool) → ((x : RowValue) → p x ≡ true → q x ≡ true) → (xs : List RowValue) → length (filter p xs) ≤ length (filter q xs)
 filter_less p q less [] = omega arith
 filter_less p q less (x ∷ xs) = elim (cases_Bool (p x)) [
   | inl t ↦ rw (t, less x t) (let rest = filter_less p q less xs in omega (arith, rest))
@@ -52,7 +52,7 @@ filter_less p q less (x ∷ xs) = elim (cases_Bool (p x)) [
     more true le = omega (arith, le)
     more false le = le
 
-in_range : (shape : Shaped) (lane low high k : ℕ) (row : Numbered) → low ≤ k → k ≤ high → has_key shape lane k row ≡ true → is_keyed_between shape lane low high row ≡ true
+in_range : (shape : ShapeValue) (lane low high k : ℕ) (row : RowValue) → low ≤ k → k ≤ high → has_key shape lane k row ≡ true → is_keyed_between shape lane low high row ≡ true
 in_range shape lane low high k row from upto h =
     let b = both (selected_by shape lane row) (key_of shape lane row == k) h in
     let e : key_of shape lane row ≡ k = key_is (key_of shape lane row) k b.1 in
@@ -73,7 +73,7 @@ none_kept p a (suc n) out =
     let rest = none_kept p (a + 1) n (λ i lt. let e : a + 1 + i ≡ a + suc i = omega arith in ap p e ∙ out (suc i) (omega (arith, lt))) in
     ap (λ (b : Bool). cond b (a ∷ filter p (range_with_len (a + 1) n)) (filter p (range_with_len (a + 1) n))) here ∙ rest
 
-none_grouped : (shape : Shaped) (lane low high k : ℕ) (rows : List Numbered) → (total_over shape lane (is_keyed_between shape lane low high) rows).count ≡ 0 → low ≤ k → k ≤ high → is_grouped shape lane rows k ≡ false
+none_grouped : (shape : ShapeValue) (lane low high k : ℕ) (rows : List RowValue) → (total_over shape lane (is_keyed_between shape lane low high) rows).count ≡ 0 → low ≤ k → k ≤ high → is_grouped shape lane rows k ≡ false
 none_grouped shape lane low high k rows none from upto =
     let p = has_key shape lane k in
     let q = is_keyed_between shape lane low high in
@@ -83,11 +83,11 @@ none_grouped shape lane low high k rows none from upto =
     let e : (group_of shape lane rows k).1.count ≡ 0 = omega (arith, less, a, b, none) in
     ap (λ (n : ℕ). not (n == 0)) e
 
-pub none_found : (shape : Shaped) (lane first high last : ℕ) (seen : List Entry) (found : Counts) (before : List Group) → IsShape shape → lane < length shape.lanes → ((o : ℕ) (e : Entry) → slice_get seen o ≡ Some e → IsFit (layout shape) e) → high < 16 ^ levels_of shape lane
+pub none_found : (shape : ShapeValue) (lane first high last : ℕ) (seen : List Entry) (found : QuadValue) (before : List Group) → IsShape shape → lane < length shape.lanes → ((o : ℕ) (e : Entry) → slice_get seen o ≡ Some e → IsFit (layout shape) e) → high < 16 ^ levels_of shape lane
     → HasMeasured shape lane first high seen found last → found.count ≡ 0 → HasGrouped shape lane first high (rows_in seen) before before last
 none_found shape lane first high last seen found before is there fit top m none =
     let from = m.from in
-    let e : (total_over shape lane (is_keyed_between shape lane first last) (rows_in seen)).count ≡ 0 = sym (ap (λ (q : Counts). q.count) (total_of shape lane first high last seen found is there fit top m)) ∙ none in
+    let e : (total_over shape lane (is_keyed_between shape lane first last) (rows_in seen)).count ≡ 0 = sym (ap (λ (q : QuadValue). q.count) (total_of shape lane first high last seen found is there fit top m)) ∙ none in
     let out = none_kept (is_grouped shape lane (rows_in seen)) first (last - first + 1) (λ i lt. none_grouped shape lane first last (first + i) (rows_in seen) e (omega arith) (omega (arith, lt, from))) in
     record {
       from = from;
@@ -96,21 +96,21 @@ none_found shape lane first high last seen found before is there fit top m none 
     }
 
 -- a key with entries is a group
-pub one_found : (shape : Shaped) (lane first high last : ℕ) (seen : List Entry) (found : Counts) (before after : List Group) → IsShape shape → lane < length shape.lanes → ((o : ℕ) (e : Entry) → slice_get seen o ≡ Some e → IsFit (layout shape) e) → high < 16 ^ levels_of shape lane
+pub one_found : (shape : ShapeValue) (lane first high last : ℕ) (seen : List Entry) (found : QuadValue) (before after : List Group) → IsShape shape → lane < length shape.lanes → ((o : ℕ) (e : Entry) → slice_get seen o ≡ Some e → IsFit (layout shape) e) → high < 16 ^ levels_of shape lane
     → HasMeasured shape lane first high seen found last → 0 < found.count → last ≡ first → after ≡ before ++ record { key = first; quad = found } ∷ [] → HasGrouped shape lane first high (rows_in seen) before after last
 one_found shape lane first high last seen found before after is there fit top m some one push =
     let rows = rows_in seen in
     let e : found ≡ (group_of shape lane rows first).1 =
     total_of shape lane first high last seen found is there fit top m ∙ (ap (λ (k : ℕ). total_over shape lane (is_keyed_between shape lane first k) rows) one ∙ one_group shape lane first rows) in
     let n : last - first + 1 ≡ 1 = omega (arith, one) in
-    let c : (group_of shape lane rows first).1.count ≡ found.count = ap (λ (q : Counts). q.count) (sym e) in
+    let c : (group_of shape lane rows first).1.count ≡ found.count = ap (λ (q : QuadValue). q.count) (sym e) in
     let g : is_grouped shape lane rows first ≡ true = ap not (ne_eqb ((group_of shape lane rows first).1.count) 0 (λ f. omega (arith, f, c, some))) in
     let here : groups_from shape lane rows first 1 ≡ (first, found) ∷ [] =
-    ap (λ (b : Bool). map (group_of shape lane rows) (cond b (first ∷ []) [])) g ∙ ap (λ (q : Counts). (first, q) ∷ []) (sym e) in
+    ap (λ (b : Bool). map (group_of shape lane rows) (cond b (first ∷ []) [])) g ∙ ap (λ (q : QuadValue). (first, q) ∷ []) (sym e) in
     record {
       from = m.from;
       upto = m.upto;
-      found = push ∙ ap (λ (gs : List (ℕ × Counts)). before ++ map as_group gs) (sym (ap (groups_from shape lane rows first) n ∙ here));
+      found = push ∙ ap (λ (gs : List (ℕ × QuadValue)). before ++ map as_group gs) (sym (ap (groups_from shape lane rows first) n ∙ here));
     }
 
 -- Ranges of keys, one after the other.
@@ -121,14 +121,14 @@ range_more a (suc n) m =
     let f : a + 1 + n ≡ a + suc n = omega arith in
     ap (range_with_len a) e ∙ (ap (λ (ks : List ℕ). a ∷ ks) (range_more (a + 1) n m) ∙ ap (λ (k : ℕ). a ∷ range_with_len (a + 1) n ++ range_with_len k m) f)
 
-groups_more : (shape : Shaped) (lane : ℕ) (rows : List Numbered) (low n m : ℕ) → groups_from shape lane rows low (n + m) ≡ groups_from shape lane rows low n ++ groups_from shape lane rows (low + n) m
+groups_more : (shape : ShapeValue) (lane : ℕ) (rows : List RowValue) (low n m : ℕ) → groups_from shape lane rows low (n + m) ≡ groups_from shape lane rows low n ++ groups_from shape lane rows (low + n) m
 groups_more shape lane rows low n m =
     let p = is_grouped shape lane rows in
     let f = group_of shape lane rows in
     ap (λ (ks : List ℕ). map f (filter p ks)) (range_more low n m)
     ∙ (ap (map f) (filter-append p (range_with_len low n) (range_with_len (low + n) m)) ∙ map-append f (filter p (range_with_len low n)) (filter p (range_with_len (low + n) m)))
 
-pub grouped_then : (shape : Shaped) (lane low high first last : ℕ) (rows old : List Numbered) (before middle after : List Group) → old ≡ rows → HasGrouped shape lane low high rows before middle first → HasGrouped shape lane (first + 1) high old middle after last
+pub grouped_then : (shape : ShapeValue) (lane low high first last : ℕ) (rows old : List RowValue) (before middle after : List Group) → old ≡ rows → HasGrouped shape lane low high rows before middle first → HasGrouped shape lane (first + 1) high old middle after last
     → HasGrouped shape lane low high rows before after last
 grouped_then shape lane low high first last rows old before middle after same a b =
     let x = a.from in
@@ -140,16 +140,16 @@ grouped_then shape lane low high first last rows old before middle after same a 
       from = omega (arith, x, y);
       upto = b.upto;
       found = b.found
-          ∙ (ap₂ (λ (xs ys : List Group). xs ++ ys) a.found (ap (λ (rs : List Numbered). map as_group (groups_from shape lane rs (first + 1) (last - (first + 1) + 1))) same)
+          ∙ (ap₂ (λ (xs ys : List Group). xs ++ ys) a.found (ap (λ (rs : List RowValue). map as_group (groups_from shape lane rs (first + 1) (last - (first + 1) + 1))) same)
           ∙ (append_assoc before (map as_group xs) (map as_group (groups_from shape lane rows (first + 1) (last - (first + 1) + 1)))
           ∙ (ap (λ (gs : List Group). before ++ gs) (sym (map-append as_group xs (groups_from shape lane rows (first + 1) (last - (first + 1) + 1))))
-          ∙ ap (λ (gs : List (ℕ × Counts)). before ++ map as_group gs)
+          ∙ ap (λ (gs : List (ℕ × QuadValue)). before ++ map as_group gs)
           (ap (λ (k : ℕ). xs ++ groups_from shape lane rows k (last - (first + 1) + 1)) (sym e)
           ∙ (sym (groups_more shape lane rows low (first - low + 1) (last - (first + 1) + 1)) ∙ ap (groups_from shape lane rows low) f)))));
     }
 
 -- All keys have all groups.
-keys_grouped : (shape : Shaped) (lane q : ℕ) (rows : List Numbered) → list_any (λ n. q == n) (map (key_of shape lane) (filter (selected_by shape lane) rows)) ≡ is_grouped shape lane rows q
+keys_grouped : (shape : ShapeValue) (lane q : ℕ) (rows : List RowValue) → list_any (λ n. q == n) (map (key_of shape lane) (filter (selected_by shape lane) rows)) ≡ is_grouped shape lane rows q
 keys_grouped shape lane q [] = refl
 keys_grouped shape lane q (row ∷ rows) = elim (cases_Bool (selected_by shape lane row)) [
   | inr out ↦ rw out (keys_grouped shape lane q rows)
@@ -159,7 +159,7 @@ keys_grouped shape lane q (row ∷ rows) = elim (cases_Bool (selected_by shape l
   ]
 ]
 
-grouped_small : (shape : Shaped) (lane q top : ℕ) (seen : List Entry) → ((o : ℕ) (e : Entry) → slice_get seen o ≡ Some e → key_of shape lane e.row < top) → list_any (λ n. q == n) (map (key_of shape lane) (filter (selected_by shape lane) (rows_in seen))) ≡ true → q < top
+grouped_small : (shape : ShapeValue) (lane q top : ℕ) (seen : List Entry) → ((o : ℕ) (e : Entry) → slice_get seen o ≡ Some e → key_of shape lane e.row < top) → list_any (λ n. q == n) (map (key_of shape lane) (filter (selected_by shape lane) (rows_in seen))) ≡ true → q < top
 grouped_small shape lane q top [] small h = absurd (cc h)
 grouped_small shape lane q top (e ∷ es) small h = elim (cases_Bool (selected_by shape lane e.row)) [
   | inr out ↦ grouped_small shape lane q top es (λ o x at. small (suc o) x at) (rw out at h)
@@ -174,7 +174,7 @@ and_all true b h = refl
 and_all false true h = h refl
 and_all false false h = refl
 
-pub all_groups : (shape : Shaped) (lane top : ℕ) (seen : List Entry) (found : List Group) → IsShape shape → lane < length shape.lanes → ((o : ℕ) (e : Entry) → slice_get seen o ≡ Some e → IsFit (layout shape) e) → top + 1 ≡ 16 ^ levels_of shape lane
+pub all_groups : (shape : ShapeValue) (lane top : ℕ) (seen : List Entry) (found : List Group) → IsShape shape → lane < length shape.lanes → ((o : ℕ) (e : Entry) → slice_get seen o ≡ Some e → IsFit (layout shape) e) → top + 1 ≡ 16 ^ levels_of shape lane
     → HasGrouped shape lane 0 top (rows_in seen) [] found top → found ≡ map as_group (groups shape lane (rows_in seen))
 all_groups shape lane top seen found is there fit most h =
     let rows = rows_in seen in
@@ -190,10 +190,10 @@ all_groups shape lane top seen found is there fit most h =
     ∙ (sym (keys_grouped shape lane q rows) ∙ sym (any_ascending ks q)))))
 
 -- groups and pairs of a key and its quad are the same
-pub pairs_of : (gs : List (ℕ × Counts)) → map pair_of (map as_group gs) ≡ gs
+pub pairs_of : (gs : List (ℕ × QuadValue)) → map pair_of (map as_group gs) ≡ gs
 pairs_of [] = refl
-pairs_of (g ∷ gs) = ap (λ (rest : List (ℕ × Counts)). g ∷ rest) (pairs_of gs)
+pairs_of (g ∷ gs) = ap (λ (rest : List (ℕ × QuadValue)). g ∷ rest) (pairs_of gs)
 
-pub marks_then : (trigger : Trigger) (gs : List Group) (pairs : List (ℕ × Counts)) (r : Result (List Fired) AllocError) → gs ≡ map as_group pairs → IfOk r (λ found. found ≡ marks_in trigger (map pair_of gs)) → IfOk r (λ found. found ≡ marks_in trigger pairs)
+pub marks_then : (trigger : Trigger) (gs : List Group) (pairs : List (ℕ × QuadValue)) (r : Result (List Fired) AllocError) → gs ≡ map as_group pairs → IfOk r (λ found. found ≡ marks_in trigger (map pair_of gs)) → IfOk r (λ found. found ≡ marks_in trigger pairs)
 marks_then trigger gs pairs (Ok found) same is = is ∙ (ap (λ (xs : List Group). marks_in trigger (map pair_of xs)) same ∙ ap (marks_in trigger) (pairs_of pairs))
 marks_then trigger gs pairs (Err e) same is = is

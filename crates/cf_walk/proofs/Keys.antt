@@ -8,7 +8,7 @@ use Rattle.cf_row.specs.declared.schema.Kind.{Kind}
 use Rattle.cf_row.specs.declared.schema.Kind.TheVariants.{U8, U16, U32, U64, Bytes}
 use Rattle.cf_row.specs.declared.row.Value.{Value}
 use Rattle.cf_row.specs.declared.row.Value.TheVariants.{Num, Raw}
-use Rattle.cf_row.specs.Row.{Numbered, Fits, is_of_kind, values_fit, value_at}
+use Rattle.cf_row.specs.Row.{RowValue, Fits, is_of_kind, values_fit, value_at}
 use Rattle.cf_row.specs.Expr.{is_of_schema, number_of}
 use Rattle.cf_row.specs.Times.{number_at, time_of}
 use Rattle.cf_row.specs.Schema.{ts_place}
@@ -16,7 +16,7 @@ use Rattle.cf_row.proofs.Bytes.{both}
 use Rattle.cf_shape.specs.declared.lane.Lane.{Lane}
 use Rattle.cf_shape.specs.declared.lane.Key.{Key}
 use Rattle.cf_shape.specs.declared.lane.Key.TheVariants as keys
-use Rattle.cf_shape.specs.Lanes.{Shaped, IsShape, no_lane, lane_at, key_by, key_of, option_passes, is_number, is_lawful_key, is_lawful_measure, is_lawful_lane}
+use Rattle.cf_shape.specs.Lanes.{ShapeValue, IsShape, no_lane, lane_at, key_by, key_of, option_passes, is_number, is_lawful_key, is_lawful_measure, is_lawful_lane}
 use Rattle.cf_shape.specs.Nodes.{nibbles_of_kind, nibbles_of_attr, nibbles_of_key, levels_of}
 use Rattle.cf_shape.specs.Uses.{has_measure, cell_words}
 
@@ -25,7 +25,7 @@ lawful_at attrs [] l h lt = absurd (omega (arith, lt))
 lawful_at attrs (x ∷ xs) zero h lt = (both (is_lawful_lane attrs x) (list_all (is_lawful_lane attrs) xs) h).0
 lawful_at attrs (x ∷ xs) (suc l) h lt = lawful_at attrs xs l (both (is_lawful_lane attrs x) (list_all (is_lawful_lane attrs) xs) h).1 (omega (arith, lt))
 
-lawful_key : (shape : Shaped) (l : ℕ) → IsShape shape → l < length shape.lanes → is_lawful_key shape.schema (lane_at shape l).key ≡ true
+lawful_key : (shape : ShapeValue) (l : ℕ) → IsShape shape → l < length shape.lanes → is_lawful_key shape.schema (lane_at shape l).key ≡ true
 lawful_key shape l is lt =
     let lane = lane_at shape l in
     let all = lawful_at shape.schema shape.lanes l is.lanes lt in
@@ -48,14 +48,14 @@ key_levels attrs (keys.Attr a) h = attr_levels (slice_get attrs a) h
 key_levels attrs keys.Bucket h = (omega arith, omega arith)
 
 -- a lane's keys have between 2 and 16 nibbles
-pub some_levels : (shape : Shaped) (l : ℕ) → IsShape shape → l < length shape.lanes → (2 ≤ levels_of shape l) × (levels_of shape l ≤ 16)
+pub some_levels : (shape : ShapeValue) (l : ℕ) → IsShape shape → l < length shape.lanes → (2 ≤ levels_of shape l) × (levels_of shape l ≤ 16)
 some_levels shape l is lt = key_levels shape.schema (lane_at shape l).key (lawful_key shape l is lt)
 
 some_words : (m : Option ℕ) → 0 < cond (has_measure m) 3 1
 some_words None = omega arith
 some_words (Some a) = omega arith
 
-pub some_cell : (shape : Shaped) (l : ℕ) → 0 < cell_words (lane_at shape l)
+pub some_cell : (shape : ShapeValue) (l : ℕ) → 0 < cell_words (lane_at shape l)
 some_cell shape l = some_words (lane_at shape l).measure
 
 -- A key of a row that fits is below all numbers of more nibbles.
@@ -95,16 +95,16 @@ number_fits (x ∷ xs) [] a fits = absurd (cc)
 number_fits (x ∷ xs) (v ∷ vs) zero fits = value_small x.kind v (both (is_of_kind x.kind v) (values_fit xs vs) fits).0
 number_fits (x ∷ xs) (v ∷ vs) (suc a) fits = number_fits xs vs a (both (is_of_kind x.kind v) (values_fit xs vs) fits).1
 
-attr_small : (attrs : List Attr) (row : Numbered) (a : ℕ) (attr : Option Attr) → values_fit attrs row.values ≡ true → slice_get attrs a ≡ attr → option_passes is_number attr ≡ true → number_at row a < 16 ^ nibbles_of_attr attr
+attr_small : (attrs : List Attr) (row : RowValue) (a : ℕ) (attr : Option Attr) → values_fit attrs row.values ≡ true → slice_get attrs a ≡ attr → option_passes is_number attr ≡ true → number_at row a < 16 ^ nibbles_of_attr attr
 attr_small attrs row a None fits at lawful = absurd (cc)
 attr_small attrs row a (Some attr) fits at lawful = number_small attr.kind (value_at row a) (value_fits attrs row.values a attr fits at) lawful
 
-key_small_by : (shape : Shaped) (row : Numbered) (key : Key) → Fits shape.schema row → is_lawful_key shape.schema key ≡ true → key_by shape key row < 16 ^ nibbles_of_key shape.schema key
+key_small_by : (shape : ShapeValue) (row : RowValue) (key : Key) → Fits shape.schema row → is_lawful_key shape.schema key ≡ true → key_by shape key row < 16 ^ nibbles_of_key shape.schema key
 key_small_by shape row (keys.Attr a) fits lawful = attr_small shape.schema row a (slice_get shape.schema a) fits refl lawful
 key_small_by shape row keys.Bucket fits lawful =
     let t = number_fits shape.schema row.values (ts_place shape.schema) fits in
     let d = div-le_self (time_of shape.schema row) shape.width in
     omega (arith, t, d)
 
-pub key_small : (shape : Shaped) (l : ℕ) (row : Numbered) → IsShape shape → l < length shape.lanes → Fits shape.schema row → key_of shape l row < 16 ^ levels_of shape l
+pub key_small : (shape : ShapeValue) (l : ℕ) (row : RowValue) → IsShape shape → l < length shape.lanes → Fits shape.schema row → key_of shape l row < 16 ^ levels_of shape l
 key_small shape l row is lt fits = key_small_by shape row (lane_at shape l).key fits (lawful_key shape l is lt)

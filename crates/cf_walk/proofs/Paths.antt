@@ -2,19 +2,19 @@
 use Rattle.std.proofs.Common.{◌≡◌, ◌∙◌, ℕ, zero, suc, ◌+◌, ◌-◌, ◌*◌, ◌/◌, ◌^◌, ◌<◌, ◌≤◌, inl, inr, List, length, slice_index_or, slice_set, sym, ap, subst, arith}
 use Rattle.std.proofs.lemmas.Bool.{cases_eq}
 use Rattle.std.proofs.lemmas.List.{length-set, get_or-set_same, get_or-set_other}
-use Rattle.cf_shape.specs.Lanes.{Shaped}
+use Rattle.cf_shape.specs.Lanes.{ShapeValue}
 use Rattle.cf_shape.specs.Nodes.{levels_of}
 use Rattle.cf_words.specs.Words.{spot}
 use Rattle.cf_law.specs.Nibbles.{nibbles}
 use Rattle.cf_law.specs.Passes.{Pass}
 use Rattle.cf_law.specs.Steps.{Knows}
-use Rattle.cf_table.specs.Held.{Held}
+use Rattle.cf_table.specs.Values.{PassValue}
 use Rattle.cf_walk.specs.Walks.{OnlyWalked, spot_above}
 use Rattle.cf_walk.specs.Reached.{IsPath}
 use Rattle.cf_walk.specs.declared.tree.Path.{Path}
 use Rattle.cf_walk.proofs.Turns.{front_up}
 
-pub path_none : (shape : Shaped) (lane : ℕ) (path : Path) (p : Pass) → path.depth ≡ 0 → length path.nodes ≡ 16 → 0 < levels_of shape lane → IsPath shape lane path p
+pub path_none : (shape : ShapeValue) (lane : ℕ) (path : Path) (p : Pass) → path.depth ≡ 0 → length path.nodes ≡ 16 → 0 < levels_of shape lane → IsPath shape lane path p
 path_none shape lane path p none long some = record {
   inner = omega (arith, none, some);
   long = long;
@@ -22,7 +22,7 @@ path_none shape lane path p none long some = record {
   knows = λ i a b. absurd (omega (arith, a, b, none));
 }
 
-pub path_then : (shape : Shaped) (lane : ℕ) (path : Path) (m n : Held) → OnlyWalked m n → IsPath shape lane path m.view → IsPath shape lane path n.view
+pub path_then : (shape : ShapeValue) (lane : ℕ) (path : Path) (m n : PassValue) → OnlyWalked m n → IsPath shape lane path m.view → IsPath shape lane path n.view
 path_then shape lane path m n a is = record { inner = is.inner; long = is.long; within = is.within; knows = λ i x y. a.knows _ _ (is.knows i x y) }
 
 -- keys that begin alike do so at each level above
@@ -39,7 +39,7 @@ alike_above levels before key (suc d) i le a b same = elim (cases_eq i (suc d)) 
 ]
 
 -- the nodes that are on the key's path too
-pub path_turns : (shape : Shaped) (lane levels : ℕ) (old new : Path) (p : Pass) → levels ≡ levels_of shape lane → IsPath shape lane old p → new.nodes ≡ old.nodes → new.depth ≤ old.depth
+pub path_turns : (shape : ShapeValue) (lane levels : ℕ) (old new : Path) (p : Pass) → levels ≡ levels_of shape lane → IsPath shape lane old p → new.nodes ≡ old.nodes → new.depth ≤ old.depth
     → (0 < new.depth → old.key / 16 ^ (levels - new.depth) ≡ new.key / 16 ^ (levels - new.depth)) → IsPath shape lane new p
 path_turns shape lane levels old new p all is nodes most common =
     let inner = is.inner in
@@ -55,7 +55,7 @@ path_turns shape lane levels old new p all is nodes most common =
     }
 
 -- one node more
-pub path_longer : (shape : Shaped) (lane level node : ℕ) (old new : Path) (p : Pass) → IsPath shape lane old p → new.key ≡ old.key → new.nodes ≡ slice_set old.nodes level node → new.depth ≡ level → level ≡ old.depth + 1 → level < levels_of shape lane → levels_of shape lane ≤ 16
+pub path_longer : (shape : ShapeValue) (lane level node : ℕ) (old new : Path) (p : Pass) → IsPath shape lane old p → new.key ≡ old.key → new.nodes ≡ slice_set old.nodes level node → new.depth ≡ level → level ≡ old.depth + 1 → level < levels_of shape lane → levels_of shape lane ≤ 16
     → node < shape.writers * shape.nodes → Knows p (spot_above shape lane old.key level) node → IsPath shape lane new p
 path_longer shape lane level node old new p is key nodes depth next low most within knows = record {
   inner = omega (arith, depth, low);
@@ -79,16 +79,16 @@ path_longer shape lane level node old new p is key nodes depth next low most wit
     there i ne = ap (λ (ns : List ℕ). slice_index_or ns i 0) nodes ∙ get_or-set_other old.nodes level i node 0 ne
 
 -- the last node of the path, where there is one
-pub path_within : (shape : Shaped) (lane level : ℕ) (path : Path) (p : Pass) → IsPath shape lane path p → level ≡ path.depth + 1 → 1 < level → slice_index_or path.nodes path.depth 0 < shape.writers * shape.nodes
+pub path_within : (shape : ShapeValue) (lane level : ℕ) (path : Path) (p : Pass) → IsPath shape lane path p → level ≡ path.depth + 1 → 1 < level → slice_index_or path.nodes path.depth 0 < shape.writers * shape.nodes
 path_within shape lane level path p is next some = is.within path.depth (omega (arith, next, some)) (omega arith)
 
-pub path_knows : (shape : Shaped) (lane level key : ℕ) (path : Path) (p : Pass) → IsPath shape lane path p → path.key ≡ key → level ≡ path.depth + 1 → 1 < level → Knows p (spot_above shape lane key (level - 1)) (slice_index_or path.nodes path.depth 0)
+pub path_knows : (shape : ShapeValue) (lane level key : ℕ) (path : Path) (p : Pass) → IsPath shape lane path p → path.key ≡ key → level ≡ path.depth + 1 → 1 < level → Knows p (spot_above shape lane key (level - 1)) (slice_index_or path.nodes path.depth 0)
 path_knows shape lane level key path p is same next some =
     let e : path.depth ≡ level - 1 = omega (arith, next) in
     subst (λ (k : ℕ). Knows p (spot_above shape lane key k) (slice_index_or path.nodes path.depth 0)) e
     (subst (λ (k : ℕ). Knows p (spot_above shape lane k path.depth) (slice_index_or path.nodes path.depth 0)) same (is.knows path.depth (omega (arith, next, some)) (omega arith)))
 
 -- a node that was found is that of the path's key
-pub path_node : (shape : Shaped) (lane key old level node span : ℕ) (p : Pass) → old ≡ key → span ≡ 16 ^ (levels_of shape lane - level) → Knows p (spot lane (nibbles level (key / span))) node → Knows p (spot_above shape lane old level) node
+pub path_node : (shape : ShapeValue) (lane key old level node span : ℕ) (p : Pass) → old ≡ key → span ≡ 16 ^ (levels_of shape lane - level) → Knows p (spot lane (nibbles level (key / span))) node → Knows p (spot_above shape lane old level) node
 path_node shape lane key old level node span p same is knows =
     subst (λ (k : ℕ). Knows p (spot_above shape lane k level) node) (sym same) (subst (λ (v : ℕ). Knows p (spot lane (nibbles level (key / v))) node) is knows)

@@ -2,7 +2,7 @@
 use Rattle.std.proofs.Common.{◌≡◌, ◌∙◌, ℕ, zero, suc, ◌<◌, ◌≤◌, ◌==◌, inl, inr, List, [], ◌∷◌, ◌++◌, length, Bool, true, cond, Option, Some, None, slice_get, refl, ap, arith}
 use Rattle.std.proofs.lemmas.Bool.{cases_Bool, cases_lt}
 use Rattle.std.proofs.lemmas.Option.{slice_get_within}
-use Rattle.cf_row.specs.Row.{Numbered}
+use Rattle.cf_row.specs.Row.{RowValue}
 use Rattle.cf_row.specs.declared.row.Entry.{Entry}
 use Rattle.cf_words.specs.Words.{Spot, Layout, same_path}
 use Rattle.cf_words.proofs.Chains.{eq_from, eq_true, same_path_true, same_path_intro}
@@ -43,7 +43,7 @@ pub picks_skip : (sh : Layout) (w : ℕ) (s : Spot) (seen : List Entry) (k n : �
 picks_skip sh w s seen k zero le none = (let e : 0 ≡ k = omega (arith, le) in ap (picks sh w s seen) e)
 picks_skip sh w s seen k (suc n) le none = elim (cases_lt n k) [
   | inl past ↦ (let e : suc n ≡ k = omega (arith, le, past) in ap (picks sh w s seen) e)
-  | inr low ↦ picks_next sh w s seen n ∙ (ap (λ (xs : List (ℕ × Numbered)). xs ++ picks sh w s seen n) (here (slice_get seen n) refl low) ∙ picks_skip sh w s seen k n low (λ i e a b. none i e a (omega (arith, b))))
+  | inr low ↦ picks_next sh w s seen n ∙ (ap (λ (xs : List (ℕ × RowValue)). xs ++ picks sh w s seen n) (here (slice_get seen n) refl low) ∙ picks_skip sh w s seen k n low (λ i e a b. none i e a (omega (arith, b))))
 ]
   where
     here : (e : Option Entry) → slice_get seen n ≡ e → k ≤ n → pick_at sh w s n (slice_get seen n) ≡ []

@@ -8,12 +8,12 @@ use Rattle.std.proofs.lemmas.Bool.{cases_Bool, cases_lt, cases_eq, leb-true, le-
 use Rattle.std.proofs.lemmas.List.{length-map}
 use Rattle.std.proofs.lemmas.List.Sums.{sum_by-append}
 use Rattle.std.proofs.lemmas.Option.{slice_get-get_or, slice_get_within}
-use Rattle.cf_row.specs.Row.{Numbered, Fits, values_fit}
+use Rattle.cf_row.specs.Row.{RowValue, Fits, values_fit}
 use Rattle.cf_row.specs.declared.row.Entry.{Entry}
 use Rattle.cf_row.proofs.Bytes.{both}
 use Rattle.cf_fold.specs.Sort.{sort}
 use Rattle.cf_fold.proofs.Sorted.{AsOften, Climbs, count, count_same, count_other, climbs_sort, count_sort, climbing_is_one, sort_is_one, sort_leaves}
-use Rattle.cf_shape.specs.Lanes.{Shaped, IsShape, selected_by, key_of}
+use Rattle.cf_shape.specs.Lanes.{ShapeValue, IsShape, selected_by, key_of}
 use Rattle.cf_shape.specs.Nodes.{levels_of}
 use Rattle.cf_words.specs.Words.{Spot, Layout}
 use Rattle.cf_law.specs.Nibbles.{nibbles}
@@ -66,14 +66,14 @@ chained sh w s seen n = map (λ x. x.0) (picks sh w s seen n)
 
 picked_in : (sh : Layout) (w : ℕ) (s : Spot) (seen : List Entry) (j : ℕ) (e : Entry) → slice_get seen j ≡ Some e → IsIn sh w s e → count j (picked sh w s seen j) ≡ 1
 picked_in sh w s seen j e at is =
-    ap (λ (x : Option Entry). count j (map (λ x. x.0) (pick_at sh w s j x))) at ∙ (ap (λ (xs : List (ℕ × Numbered)). count j (map (λ x. x.0) xs)) (pick_some sh w s j e is) ∙ count_it j j refl)
+    ap (λ (x : Option Entry). count j (map (λ x. x.0) (pick_at sh w s j x))) at ∙ (ap (λ (xs : List (ℕ × RowValue)). count j (map (λ x. x.0) xs)) (pick_some sh w s j e is) ∙ count_it j j refl)
 
 picked_out : (sh : Layout) (w : ℕ) (s : Spot) (seen : List Entry) (j : ℕ) (x : Option Entry) → slice_get seen j ≡ x → ((e : Entry) → slice_get seen j ≡ Some e → IsIn sh w s e → ⊥) → count j (picked sh w s seen j) ≡ 0
 picked_out sh w s seen j None at out = ap (λ (x : Option Entry). count j (map (λ x. x.0) (pick_at sh w s j x))) at
 picked_out sh w s seen j (Some e) at out =
-    ap (λ (x : Option Entry). count j (map (λ x. x.0) (pick_at sh w s j x))) at ∙ ap (λ (xs : List (ℕ × Numbered)). count j (map (λ x. x.0) xs)) (pick_none sh w s j e (out e at))
+    ap (λ (x : Option Entry). count j (map (λ x. x.0) (pick_at sh w s j x))) at ∙ ap (λ (xs : List (ℕ × RowValue)). count j (map (λ x. x.0) xs)) (pick_none sh w s j e (out e at))
 
-flat_else : (j i : ℕ) (a b : Bool) (r : Numbered) → (i ≡ j → ⊥) → count j (map (λ (x : ℕ × Numbered). x.0) (cond a (cond b ((i, r) ∷ []) []) [])) ≡ 0
+flat_else : (j i : ℕ) (a b : Bool) (r : RowValue) → (i ≡ j → ⊥) → count j (map (λ (x : ℕ × RowValue). x.0) (cond a (cond b ((i, r) ∷ []) []) [])) ≡ 0
 flat_else j i false b r ne = refl
 flat_else j i true false r ne = refl
 flat_else j i true true r ne = count_else j i ne
@@ -83,15 +83,15 @@ picked_else sh w s j i None ne = refl
 picked_else sh w s j i (Some e) ne = flat_else j i _ _ e.row ne
 
 chain_start : (sh : Layout) (w : ℕ) (s : Spot) (seen : List Entry) (j : ℕ) → count j (chained sh w s seen 0) ≡ 0
-chain_start sh w s seen j = ap (λ (xs : List (ℕ × Numbered)). count j (map (λ x. x.0) xs)) (picks_zero sh w s seen)
+chain_start sh w s seen j = ap (λ (xs : List (ℕ × RowValue)). count j (map (λ x. x.0) xs)) (picks_zero sh w s seen)
 
-map_both : (xs ys : List (ℕ × Numbered)) → map (λ (x : ℕ × Numbered). x.0) (xs ++ ys) ≡ map (λ x. x.0) xs ++ map (λ x. x.0) ys
+map_both : (xs ys : List (ℕ × RowValue)) → map (λ (x : ℕ × RowValue). x.0) (xs ++ ys) ≡ map (λ x. x.0) xs ++ map (λ x. x.0) ys
 map_both [] ys = refl
 map_both (x ∷ xs) ys = ap (λ (zs : List ℕ). x.0 ∷ zs) (map_both xs ys)
 
 chain_more : (sh : Layout) (w : ℕ) (s : Spot) (seen : List Entry) (j n : ℕ) → count j (chained sh w s seen (suc n)) ≡ count j (chained sh w s seen n) + count j (picked sh w s seen n)
 chain_more sh w s seen j n =
-    ap (λ (xs : List (ℕ × Numbered)). count j (map (λ x. x.0) xs)) (picks_next sh w s seen n)
+    ap (λ (xs : List (ℕ × RowValue)). count j (map (λ x. x.0) xs)) (picks_next sh w s seen n)
     ∙ (ap (count j) (map_both (pick_at sh w s n (slice_get seen n)) (picks sh w s seen n))
     ∙ (count_both j (picked sh w s seen n) (chained sh w s seen n) ∙ omega arith))
 
@@ -109,42 +109,42 @@ chain_lacks sh w s seen j out =
     ])
 
 -- In a leaf.
-leaf_start : (shape : Shaped) (lane key : ℕ) (seen : List Entry) (j : ℕ) → count j (leaf_places shape lane key seen 0) ≡ 0
+leaf_start : (shape : ShapeValue) (lane key : ℕ) (seen : List Entry) (j : ℕ) → count j (leaf_places shape lane key seen 0) ≡ 0
 unfolding leaf_places
 leaf_start shape lane key seen j = refl
 
-leaf_one : (shape : Shaped) (lane key : ℕ) (seen : List Entry) (j n : ℕ) → count j (leaf_places shape lane key seen (suc n)) ≡ count j (leaf_places shape lane key seen n) + count j (chain_places shape lane key seen n)
+leaf_one : (shape : ShapeValue) (lane key : ℕ) (seen : List Entry) (j n : ℕ) → count j (leaf_places shape lane key seen (suc n)) ≡ count j (leaf_places shape lane key seen n) + count j (chain_places shape lane key seen n)
 unfolding leaf_places
 leaf_one shape lane key seen j n = count_both j (leaf_places shape lane key seen n) (chain_places shape lane key seen n)
 
-abbrev InLeaf : Shaped → ℕ → ℕ → Entry → Type 0
+abbrev InLeaf : ShapeValue → ℕ → ℕ → Entry → Type 0
 InLeaf shape lane key e = path_in shape e.row lane ≡ Some (nibbles (levels_of shape lane) key)
 
-leaf_has : (shape : Shaped) (lane key n : ℕ) (seen : List Entry) (j : ℕ) (e : Entry) → slice_get seen j ≡ Some e → e.writer < n → InLeaf shape lane key e → count j (leaf_places shape lane key seen n) ≡ 1
+leaf_has : (shape : ShapeValue) (lane key n : ℕ) (seen : List Entry) (j : ℕ) (e : Entry) → slice_get seen j ≡ Some e → e.writer < n → InLeaf shape lane key e → count j (leaf_places shape lane key seen n) ≡ 1
 leaf_has shape lane key n seen j e at lt leaf =
     sum_one (λ k. count j (leaf_places shape lane key seen k)) (λ w. count j (chain_places shape lane key seen w)) (leaf_start shape lane key seen j) (leaf_one shape lane key seen j) n e.writer lt
     (chain_has (layout shape) e.writer (leaf_of shape lane key) seen j e at (refl, leaf))
     (λ w lt ne. chain_lacks (layout shape) w (leaf_of shape lane key) seen j (λ x there is. let same : x ≡ e = (let f : Some x ≡ Some e = sym there ∙ at in cc f) in ne (sym (ap (λ (y : Entry). y.writer) (sym same) ∙ is.0))))
 
-leaf_lacks : (shape : Shaped) (lane key n : ℕ) (seen : List Entry) (j : ℕ) → ((e : Entry) → slice_get seen j ≡ Some e → InLeaf shape lane key e → ⊥) → count j (leaf_places shape lane key seen n) ≡ 0
+leaf_lacks : (shape : ShapeValue) (lane key n : ℕ) (seen : List Entry) (j : ℕ) → ((e : Entry) → slice_get seen j ≡ Some e → InLeaf shape lane key e → ⊥) → count j (leaf_places shape lane key seen n) ≡ 0
 leaf_lacks shape lane key n seen j out =
     sum_none (λ k. count j (leaf_places shape lane key seen k)) (λ w. count j (chain_places shape lane key seen w)) (leaf_start shape lane key seen j) (leaf_one shape lane key seen j) n
     (λ w lt. chain_lacks (layout shape) w (leaf_of shape lane key) seen j (λ e at is. out e at is.1))
 
 -- In a range.
-range_start : (shape : Shaped) (lane low : ℕ) (seen : List Entry) (j : ℕ) → count j (range_places shape lane low seen 0) ≡ 0
+range_start : (shape : ShapeValue) (lane low : ℕ) (seen : List Entry) (j : ℕ) → count j (range_places shape lane low seen 0) ≡ 0
 unfolding range_places
 range_start shape lane low seen j = refl
 
-range_one : (shape : Shaped) (lane low : ℕ) (seen : List Entry) (j n : ℕ) → count j (range_places shape lane low seen (suc n)) ≡ count j (range_places shape lane low seen n) + count j (leaf_places shape lane (low + n) seen shape.writers)
+range_one : (shape : ShapeValue) (lane low : ℕ) (seen : List Entry) (j n : ℕ) → count j (range_places shape lane low seen (suc n)) ≡ count j (range_places shape lane low seen n) + count j (leaf_places shape lane (low + n) seen shape.writers)
 unfolding range_places
 range_one shape lane low seen j n = count_both j (range_places shape lane low seen n) (leaf_places shape lane (low + n) seen shape.writers)
 
-leads : (shape : Shaped) (lane : ℕ) (e : Entry) → selected_by shape lane e.row ≡ true → InLeaf shape lane (key_of shape lane e.row) e
+leads : (shape : ShapeValue) (lane : ℕ) (e : Entry) → selected_by shape lane e.row ≡ true → InLeaf shape lane (key_of shape lane e.row) e
 leads shape lane e sel = ap (λ (b : Bool). cond {A = Option (List ℕ)} b (Some (nibbles (levels_of shape lane) (key_of shape lane e.row))) None) sel
 
 -- the leaf of an entry is that of its key alone
-leaf_key : (shape : Shaped) (lane k : ℕ) (e : Entry) → key_of shape lane e.row < 16 ^ levels_of shape lane → k < 16 ^ levels_of shape lane → InLeaf shape lane k e → (selected_by shape lane e.row ≡ true) × (key_of shape lane e.row ≡ k)
+leaf_key : (shape : ShapeValue) (lane k : ℕ) (e : Entry) → key_of shape lane e.row < 16 ^ levels_of shape lane → k < 16 ^ levels_of shape lane → InLeaf shape lane k e → (selected_by shape lane e.row ≡ true) × (key_of shape lane e.row ≡ k)
 leaf_key shape lane k e small low is = elim (cases_Bool (selected_by shape lane e.row)) [
   | inl sel ↦ (
     sel,
@@ -158,7 +158,7 @@ leaf_key shape lane k e small low is = elim (cases_Bool (selected_by shape lane 
 same_entry : (seen : List Entry) (j : ℕ) (x e : Entry) → slice_get seen j ≡ Some x → slice_get seen j ≡ Some e → x ≡ e
 same_entry seen j x e a b = (let f : Some x ≡ Some e = sym a ∙ b in cc f)
 
-range_has : (shape : Shaped) (lane low n : ℕ) (seen : List Entry) (j : ℕ) (e : Entry) → slice_get seen j ≡ Some e → e.writer < shape.writers → selected_by shape lane e.row ≡ true → key_of shape lane e.row < 16 ^ levels_of shape lane
+range_has : (shape : ShapeValue) (lane low n : ℕ) (seen : List Entry) (j : ℕ) (e : Entry) → slice_get seen j ≡ Some e → e.writer < shape.writers → selected_by shape lane e.row ≡ true → key_of shape lane e.row < 16 ^ levels_of shape lane
     → low ≤ key_of shape lane e.row → key_of shape lane e.row < low + n → ((i : ℕ) → i < n → low + i < 16 ^ levels_of shape lane) → count j (range_places shape lane low seen n) ≡ 1
 range_has shape lane low n seen j e at writer sel small from upto bound =
     let key = key_of shape lane e.row in
@@ -171,7 +171,7 @@ range_has shape lane low n seen j e at writer sel small from upto bound =
     let eq = k.1 in
     ne (omega (arith, eq, from))))
 
-range_lacks : (shape : Shaped) (lane low n : ℕ) (seen : List Entry) (j : ℕ) → ((e : Entry) → slice_get seen j ≡ Some e → key_of shape lane e.row < 16 ^ levels_of shape lane) → ((i : ℕ) → i < n → low + i < 16 ^ levels_of shape lane)
+range_lacks : (shape : ShapeValue) (lane low n : ℕ) (seen : List Entry) (j : ℕ) → ((e : Entry) → slice_get seen j ≡ Some e → key_of shape lane e.row < 16 ^ levels_of shape lane) → ((i : ℕ) → i < n → low + i < 16 ^ levels_of shape lane)
     → ((e : Entry) → slice_get seen j ≡ Some e → selected_by shape lane e.row ≡ true → low ≤ key_of shape lane e.row → key_of shape lane e.row < low + n → ⊥) → count j (range_places shape lane low seen n) ≡ 0
 range_lacks shape lane low n seen j small bound out =
     sum_none (λ m. count j (range_places shape lane low seen m)) (λ i. count j (leaf_places shape lane (low + i) seen shape.writers)) (range_start shape lane low seen j) (range_one shape lane low seen j) n
@@ -220,15 +220,15 @@ both_true : (a b : Bool) → a ≡ true → b ≡ true → a && b ≡ true
 both_true a b e f = rw (e, f) refl
 
 -- n keys from the lowest on are those of the range, as far as the lane has them
-pub record Covers (shape : Shaped) (lane low high n : ℕ) : Type 0 where
+pub record Covers (shape : ShapeValue) (lane low high n : ℕ) : Type 0 where
   pub inside : (k : ℕ) → k < 16 ^ levels_of shape lane → low ≤ k → k ≤ high → k < low + n
   pub outside : (k : ℕ) → low ≤ k → k < low + n → k ≤ high
   pub bound : (i : ℕ) → i < n → low + i < 16 ^ levels_of shape lane
 
-pub fits_of : (shape : Shaped) (e : Entry) → IsFit (layout shape) e → Fits shape.schema e.row
+pub fits_of : (shape : ShapeValue) (e : Entry) → IsFit (layout shape) e → Fits shape.schema e.row
 fits_of shape e fit = (both (values_fit shape.schema (e.row).values) (nat_lt (e.row).num (2 ^ 32)) fit.0).0
 
-pub as_often : (shape : Shaped) (lane low high n : ℕ) (seen : List Entry) → IsShape shape → lane < length shape.lanes → ((o : ℕ) (e : Entry) → slice_get seen o ≡ Some e → IsFit (layout shape) e) → Covers shape lane low high n
+pub as_often : (shape : ShapeValue) (lane low high n : ℕ) (seen : List Entry) → IsShape shape → lane < length shape.lanes → ((o : ℕ) (e : Entry) → slice_get seen o ≡ Some e → IsFit (layout shape) e) → Covers shape lane low high n
     → AsOften (range_places shape lane low seen n) (places (is_keyed_between shape lane low high) (rows_in seen))
 as_often shape lane low high n seen is there fit covers j =
     let passes = is_keyed_between shape lane low high in
@@ -278,19 +278,19 @@ climbs_rise : (ns : List ℕ) → Rise ns → Climbs ns
 climbs_rise [] rise = tt
 climbs_rise (n ∷ ns) rise = (above_all n ns rise.0, climbs_rise ns rise.1)
 
-pub sorted_are : (passes : Numbered → Bool) (rows : List Numbered) (found sorted : List ℕ) → AsOften found (places passes rows) → IsPermutation found sorted → IsSorted nat_cmp sorted → sorted ≡ places passes rows
+pub sorted_are : (passes : RowValue → Bool) (rows : List RowValue) (found sorted : List ℕ) → AsOften found (places passes rows) → IsPermutation found sorted → IsSorted nat_cmp sorted → sorted ≡ places passes rows
 sorted_are passes rows found sorted same moved up =
     let ps = places passes rows in
     sort_leaves found sorted moved up ∙ (sort_is_one found ps same ∙ climbing_is_one (sort ps) ps (climbs_sort ps) (climbs_rise ps (places_rise passes rows)) (λ n. count_sort n ps))
 
-pub covers_some : (shape : Shaped) (lane low high top upto : ℕ) → top + 1 ≡ 16 ^ levels_of shape lane → upto ≡ min high top → low ≤ upto → Covers shape lane low high (upto - low + 1)
+pub covers_some : (shape : ShapeValue) (lane low high top upto : ℕ) → top + 1 ≡ 16 ^ levels_of shape lane → upto ≡ min high top → low ≤ upto → Covers shape lane low high (upto - low + 1)
 covers_some shape lane low high top upto most is le = record {
   inside = λ k small from le'. omega (arith, most, is, le, small, from, le');
   outside = λ k from lt. omega (arith, is, le, from, lt);
   bound = λ i lt. omega (arith, most, is, le, lt);
 }
 
-pub covers_none : (shape : Shaped) (lane low high top upto : ℕ) → top + 1 ≡ 16 ^ levels_of shape lane → upto ≡ min high top → upto < low → Covers shape lane low high 0
+pub covers_none : (shape : ShapeValue) (lane low high top upto : ℕ) → top + 1 ≡ 16 ^ levels_of shape lane → upto ≡ min high top → upto < low → Covers shape lane low high 0
 covers_none shape lane low high top upto most is lt = record {
   inside = λ k small from le'. absurd (omega (arith, most, is, lt, small, from, le'));
   outside = λ k from below. absurd (omega (arith, from, below));
@@ -298,11 +298,11 @@ covers_none shape lane low high top upto most is lt = record {
 }
 
 -- the same of a list that is these places, or none
-pub some_often : (shape : Shaped) (lane low high n : ℕ) (seen : List Entry) (items : List ℕ) → IsShape shape → lane < length shape.lanes → ((o : ℕ) (e : Entry) → slice_get seen o ≡ Some e → IsFit (layout shape) e) → Covers shape lane low high n
+pub some_often : (shape : ShapeValue) (lane low high n : ℕ) (seen : List Entry) (items : List ℕ) → IsShape shape → lane < length shape.lanes → ((o : ℕ) (e : Entry) → slice_get seen o ≡ Some e → IsFit (layout shape) e) → Covers shape lane low high n
     → items ≡ range_places shape lane low seen n → AsOften items (places (is_keyed_between shape lane low high) (rows_in seen))
 some_often shape lane low high n seen items is there fit covers same j = ap (count j) same ∙ as_often shape lane low high n seen is there fit covers j
 
-pub none_often : (shape : Shaped) (lane low high : ℕ) (seen : List Entry) (items : List ℕ) → IsShape shape → lane < length shape.lanes → ((o : ℕ) (e : Entry) → slice_get seen o ≡ Some e → IsFit (layout shape) e) → Covers shape lane low high 0
+pub none_often : (shape : ShapeValue) (lane low high : ℕ) (seen : List Entry) (items : List ℕ) → IsShape shape → lane < length shape.lanes → ((o : ℕ) (e : Entry) → slice_get seen o ≡ Some e → IsFit (layout shape) e) → Covers shape lane low high 0
     → items ≡ [] → AsOften items (places (is_keyed_between shape lane low high) (rows_in seen))
 unfolding range_places
 none_often shape lane low high seen items is there fit covers same j = ap (count j) same ∙ as_often shape lane low high 0 seen is there fit covers j

@@ -2,7 +2,7 @@
 use Rattle.std.proofs.Common.{◌≡◌, ◌∙◌, ℕ, zero, suc, ◌+◌, ◌-◌, ◌*◌, ◌/◌, ◌%◌, ◌^◌, ◌<◌, ◌≤◌, List, [], ◌∷◌, ◌++◌, length, Bool, cond, Some, slice_get, refl, sym, ap, ap₂, subst, arith}
 use Rattle.std.proofs.Math.Nat.{pow-suc, pow-succ', div-div-eq-div-mul}
 use Rattle.cf_row.specs.declared.row.Entry.{Entry}
-use Rattle.cf_shape.specs.Lanes.{Shaped, IsShape}
+use Rattle.cf_shape.specs.Lanes.{ShapeValue, IsShape}
 use Rattle.cf_shape.specs.Nodes.{levels_of}
 use Rattle.cf_shape.specs.Places.{sizes_of, IsReal}
 use Rattle.cf_shape.specs.Places.Slot.{root, body}
@@ -14,8 +14,8 @@ use Rattle.cf_law.specs.Passes.{Pass}
 use Rattle.cf_law.specs.Steps.{IsChild, Knows, Reaches}
 use Rattle.cf_law.specs.Readers.{NoneThrough}
 use Rattle.cf_law.specs.Shapes.{layout}
-use Rattle.cf_table.specs.Held.{Held}
-use Rattle.cf_table.specs.Ways.{Made, child_way}
+use Rattle.cf_table.specs.Values.{PassValue}
+use Rattle.cf_table.specs.Effects.{HasStepped, child_effect}
 use Rattle.cf_walk.specs.Walks.{IsTurn, HasTurned, IsGap, turn_slot, spot_above}
 use Rattle.cf_walk.proofs.Walked.{walked_by}
 
@@ -37,7 +37,7 @@ node_turn : (lane level front node : ℕ) → (level ≡ 1 → ⊥) → turn_slo
 node_turn lane level front node e = ap (λ (b : Bool). cond b (root lane (front % 16)) (body node (suc (front % 16)))) (eq_false level 1 e)
 
 -- the child word may be loaded
-pub turn_child : (shape : Shaped) (p : Pass) (lane level front node : ℕ) → IsShape shape → IsTurn shape lane level front node p → IsChild (layout shape) p (spot lane (nibbles level front)) (turn_slot lane level front node)
+pub turn_child : (shape : ShapeValue) (p : Pass) (lane level front node : ℕ) → IsShape shape → IsTurn shape lane level front node p → IsChild (layout shape) p (spot lane (nibbles level front)) (turn_slot lane level front node)
 turn_child shape p lane zero front node is turn = absurd (let h = turn.inner in omega (arith, h.0))
 turn_child shape p lane (suc zero) front node is turn =
     let at = root_turn lane 1 front node refl in
@@ -61,7 +61,7 @@ turn_child shape p lane (suc (suc j)) front node is turn =
     }
 
 -- it was loaded
-pub turned : (shape : Shaped) (m n : Held) (lane level front node found : ℕ) → IsShape shape → IsTurn shape lane level front node m.view → Made shape (child_way shape m.view (spot lane (nibbles level front)) (turn_slot lane level front node)) m found n
+pub turned : (shape : ShapeValue) (m n : PassValue) (lane level front node found : ℕ) → IsShape shape → IsTurn shape lane level front node m.view → HasStepped shape (child_effect shape m.view (spot lane (nibbles level front)) (turn_slot lane level front node)) m found n
     → HasTurned shape lane level front m found n
 turned shape m n lane level front node zero is turn made =
     let told = made.told in
@@ -95,7 +95,7 @@ nibbles_split (suc i) n k =
     ∙ ap (λ (m : ℕ). k % 16 ∷ (nibbles i (k / 16) ++ nibbles n m)) (div-div-eq-div-mul k 16 (16 ^ i) ∙ ap (λ (m : ℕ). k / m) (sym (pow-succ' 16 i))))
 
 -- where no entry that was seen goes through a node, none has a key that begins as it does
-pub gap_from_none : (shape : Shaped) (p : Pass) (lane key level rest span : ℕ) (seen : List Entry) → rest + level ≡ levels_of shape lane → 0 < rest → span ≡ 16 ^ rest → p.seen ≡ seen
+pub gap_from_none : (shape : ShapeValue) (p : Pass) (lane key level rest span : ℕ) (seen : List Entry) → rest + level ≡ levels_of shape lane → 0 < rest → span ≡ 16 ^ rest → p.seen ≡ seen
     → NoneThrough (layout shape) p (spot lane (nibbles level (key / span))) → IsGap shape lane key span seen
 gap_from_none shape p lane key level zero span seen all some is same none o k e at path begins = absurd (omega (arith, some))
 gap_from_none shape p lane key level (suc rest) span seen all some is same none o k e at path begins =
@@ -113,7 +113,7 @@ front_up levels level key some le =
     div-div-eq-div-mul key (16 ^ (levels - level)) 16 ∙ (ap (λ (v : ℕ). key / v) (sym (pow-suc 16 (levels - level))) ∙ ap (λ (v : ℕ). key / 16 ^ v) (sym e))
 
 -- the next turn
-pub turn_next : (shape : Shaped) (lane key level node span : ℕ) (p : Pass) → lane < length shape.lanes → 1 ≤ level → level < levels_of shape lane → span ≡ 16 ^ (levels_of shape lane - level) → (1 < level → node < shape.writers * shape.nodes)
+pub turn_next : (shape : ShapeValue) (lane key level node span : ℕ) (p : Pass) → lane < length shape.lanes → 1 ≤ level → level < levels_of shape lane → span ≡ 16 ^ (levels_of shape lane - level) → (1 < level → node < shape.writers * shape.nodes)
     → (1 < level → Knows p (spot_above shape lane key (level - 1)) node) → IsTurn shape lane level (key / span) node p
 turn_next shape lane key level node span p exists some lt is within knows = record {
   exists = exists;
@@ -123,7 +123,7 @@ turn_next shape lane key level node span p exists some lt is within knows = reco
 }
 
 -- and where it leads
-pub turn_knows : (shape : Shaped) (lane key level next node span : ℕ) (p : Pass) → next ≡ suc level → span ≡ 16 ^ (levels_of shape lane - level) → Knows p (spot lane (nibbles level (key / span))) node → Knows p (spot_above shape lane key (next - 1)) node
+pub turn_knows : (shape : ShapeValue) (lane key level next node span : ℕ) (p : Pass) → next ≡ suc level → span ≡ 16 ^ (levels_of shape lane - level) → Knows p (spot lane (nibbles level (key / span))) node → Knows p (spot_above shape lane key (next - 1)) node
 turn_knows shape lane key level next node span p one is knows =
     let e : level ≡ next - 1 = omega (arith, one) in
     subst (λ (v : ℕ). Knows p (spot_above shape lane key v) node) e (subst (λ (v : ℕ). Knows p (spot lane (nibbles level (key / v))) node) is knows)

@@ -2,8 +2,8 @@
 ghost use Rattle.std.specs.Prelude.{◌≡◌, ◌+◌, ◌-◌, ◌*◌, ◌%◌, ◌<◌, ◌≤◌, ◌++◌, length, OnOk};
 ghost use Rattle.cf_words.specs.Words.{Spot};
 ghost use Rattle.cf_law.specs.Steps.Act.{load_head};
-ghost use Rattle.cf_table.specs.Held.{IsOf};
-ghost use Rattle.cf_table.specs.Ways.{May, Made, walk_way};
+ghost use Rattle.cf_table.specs.Values.{IsOf};
+ghost use Rattle.cf_table.specs.Effects.{IsLawfulStep, HasStepped, walk_effect};
 ghost use Rattle.cf_walk.specs.Walks.{IsAbove, OnlyWalked, ChainSteps, chain_places, leaf_places};
 
 use cf_row::Memory;
@@ -29,8 +29,8 @@ pub(crate) fn begin<P: Pass, L: Ledger>(
     ghost above: { Spot }
     requires of { IsOf (P.held pass.old) log.now }
     requires place { (leaf.node < log.now.shape.writers * log.now.shape.nodes) × (writer < log.now.shape.writers) }
-    requires lawful { May log.now.shape (P.held pass.old).view (load_head leaf.node (leaf.key % 16) writer) (walk_way log.now.shape (P.held pass.old).view above leaf.node (leaf.key % 16) writer) }
-    ensures made { Made log.now.shape (walk_way log.now.shape (P.held pass.old).view above leaf.node (leaf.key % 16) writer) (P.held pass.old) result (P.held pass.new) }
+    requires lawful { IsLawfulStep log.now.shape (P.held pass.old).view (load_head leaf.node (leaf.key % 16) writer) (walk_effect log.now.shape (P.held pass.old).view above leaf.node (leaf.key % 16) writer) }
+    ensures made { HasStepped log.now.shape (walk_effect log.now.shape (P.held pass.old).view above leaf.node (leaf.key % 16) writer) (P.held pass.old) result (P.held pass.new) }
     ensures steps { steps.new ≡ steps.old + 1 }
 {
     log.load_head(pass, leaf.node, (leaf.key % 16) as u8, writer, steps)

@@ -4,7 +4,7 @@ ghost use Rattle.cf_shape.specs.Nodes.{levels_of};
 ghost use Rattle.cf_shape.specs.Uses.{is_measured};
 ghost use Rattle.cf_plain.specs.Asks.{rows_in, marks_in, marks_over};
 ghost use Rattle.cf_plain.specs.Groups.{groups as groups_by, as_group, pair_of};
-ghost use Rattle.cf_table.specs.Held.{IsOf};
+ghost use Rattle.cf_table.specs.Values.{IsOf};
 ghost use Rattle.cf_table.specs.Moves.{AreFit};
 ghost use Rattle.cf_walk.specs.Walks.{OnlyWalked};
 ghost use Rattle.cf_walk.specs.Measures.{HasGrouped};

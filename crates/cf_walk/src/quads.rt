@@ -2,7 +2,7 @@
 ghost use Rattle.std.specs.Prelude.{ℕ, ◌≡◌, ◌+◌, ◌-◌, ◌*◌, ◌<◌, ◌≤◌, length, true};
 ghost use Rattle.cf_fold.specs.Quads.{quad_of};
 ghost use Rattle.cf_shape.specs.Uses.{is_measured};
-ghost use Rattle.cf_table.specs.Held.{IsOf};
+ghost use Rattle.cf_table.specs.Values.{IsOf};
 ghost use Rattle.cf_table.specs.Moves.{AreFit};
 ghost use Rattle.cf_walk.specs.Walks.{OnlyWalked, Met, IsAbove, IsEntryOf, ChainSteps, amounts_below, leaf_amounts};
 

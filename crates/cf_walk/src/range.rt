@@ -1,7 +1,7 @@
 // The leaves of a range of keys.
 ghost use Rattle.std.specs.Prelude.{◌≡◌, ◌+◌, ◌-◌, ◌<◌, ◌≤◌, ◌++◌, length, suc, IfOk, OnOk};
 ghost use Rattle.cf_shape.specs.Nodes.{levels_of};
-ghost use Rattle.cf_table.specs.Held.{IsOf};
+ghost use Rattle.cf_table.specs.Values.{IsOf};
 ghost use Rattle.cf_walk.specs.Walks.{OnlyWalked, range_places, WentOver};
 ghost use Rattle.cf_walk.specs.Reached.{IsPath};
 

@@ -4,8 +4,8 @@ ghost use Rattle.cf_shape.specs.Nodes.{levels_of};
 ghost use Rattle.cf_shape.specs.Places.{Slot, place as place_of_slot, sizes_of};
 ghost use Rattle.cf_words.specs.Words.{Spot};
 ghost use Rattle.cf_law.specs.Steps.Act.{load_child};
-ghost use Rattle.cf_table.specs.Held.{IsOf};
-ghost use Rattle.cf_table.specs.Ways.{May, Made, child_way};
+ghost use Rattle.cf_table.specs.Values.{IsOf};
+ghost use Rattle.cf_table.specs.Effects.{IsLawfulStep, HasStepped, child_effect};
 ghost use Rattle.cf_walk.specs.Walks.{IsTurn, HasTurned, OnlyWalked, turn_slot};
 ghost use Rattle.cf_walk.specs.Reached.{Reached, IsPath};
 
@@ -93,8 +93,8 @@ fn load_turn<P: Pass, L: Ledger>(
 ) -> u64
     ghost to: { Spot × Slot }
     requires of { IsOf (P.held pass.old) log.now }
-    requires lawful { May log.now.shape (P.held pass.old).view (load_child place) (child_way log.now.shape (P.held pass.old).view to.0 to.1) }
-    ensures made { Made log.now.shape (child_way log.now.shape (P.held pass.old).view to.0 to.1) (P.held pass.old) result (P.held pass.new) }
+    requires lawful { IsLawfulStep log.now.shape (P.held pass.old).view (load_child place) (child_effect log.now.shape (P.held pass.old).view to.0 to.1) }
+    ensures made { HasStepped log.now.shape (child_effect log.now.shape (P.held pass.old).view to.0 to.1) (P.held pass.old) result (P.held pass.new) }
     ensures steps { steps.new ≡ steps.old + 1 }
 {
     log.load_child(pass, place, steps)

@@ -1,6 +1,6 @@
 -- What a chain has.
 use Rattle.std.proofs.Common.{◌≡◌, ℕ, ◌<◌, ◌≤◌, ◌⊎◌, ◌==◌, zero, suc, List, [], ◌∷◌, ◌++◌, Option, Some, None, slice_get, cond, Bool, true, false, inl, inr, refl, arith, ap, ap₂, sym, ◌∙◌, subst}
-use Rattle.cf_row.specs.Row.{Numbered}
+use Rattle.cf_row.specs.Row.{RowValue}
 use Rattle.std.proofs.lemmas.Bool.{cases_Bool, cases_eq, cases_lt}
 use Rattle.std.proofs.lemmas.Bool.Decides.{nat_tests}
 use Rattle.cf_words.specs.Words.{Spot, Layout, Ticket, has, same_path, links, entry_at, chain, top, fresh_ticket}
@@ -84,8 +84,8 @@ links_intro sh w s t e h p =
 
 pub links_of : (sh : Layout) (w : ℕ) (s : Spot) (t u : Ticket) → u.writer ≡ t.writer → u.row ≡ t.row → u.linked ≡ t.linked → links sh w s t ≡ links sh w s u
 links_of sh w s t u ew er el = same_bool _ _
-    (λ h. let x = links_true sh w s t h in links_intro sh w s u (ew ∙ x.0) (ap (λ (q : List ℕ). has q s.lane) el ∙ x.1) (ap (λ (r : Numbered). sh.path r s.lane) er ∙ x.2))
-    (λ h. let x = links_true sh w s u h in links_intro sh w s t (sym ew ∙ x.0) (ap (λ (q : List ℕ). has q s.lane) (sym el) ∙ x.1) (ap (λ (r : Numbered). sh.path r s.lane) (sym er) ∙ x.2))
+    (λ h. let x = links_true sh w s t h in links_intro sh w s u (ew ∙ x.0) (ap (λ (q : List ℕ). has q s.lane) el ∙ x.1) (ap (λ (r : RowValue). sh.path r s.lane) er ∙ x.2))
+    (λ h. let x = links_true sh w s u h in links_intro sh w s t (sym ew ∙ x.0) (ap (λ (q : List ℕ). has q s.lane) (sym el) ∙ x.1) (ap (λ (r : RowValue). sh.path r s.lane) (sym er) ∙ x.2))
 
 pub entry_linked : (sh : Layout) (w : ℕ) (s : Spot) (o : ℕ) (t : Ticket) → links sh w s t ≡ true → entry_at sh w s o (Some t) ≡ (o, t.row) ∷ []
 unfolding entry_at
@@ -97,7 +97,7 @@ entry_unlinked sh w s o t h = ap (λ (b : Bool). cond b ((o, t.row) ∷ []) []) 
 
 pub entry_same : (sh : Layout) (w : ℕ) (s : Spot) (o : ℕ) (t u : Ticket) → links sh w s t ≡ links sh w s u → t.row ≡ u.row → entry_at sh w s o (Some t) ≡ entry_at sh w s o (Some u)
 unfolding entry_at
-entry_same sh w s o t u h e = ap₂ (λ (b : Bool) (r : Numbered). cond b ((o, r) ∷ []) []) h e
+entry_same sh w s o t u h e = ap₂ (λ (b : Bool) (r : RowValue). cond b ((o, r) ∷ []) []) h e
 
 pub entry_none : (sh : Layout) (w : ℕ) (s : Spot) (o : ℕ) → entry_at sh w s o None ≡ []
 unfolding entry_at
@@ -110,14 +110,14 @@ pub chain_same : (sh : Layout) (log log' : List Ticket) (w : ℕ) (s : Spot) (o 
 unfolding chain
 chain_same sh log log' w s zero h = refl
 chain_same sh log log' w s (suc o) h =
-    ap₂ (λ (e c : List (ℕ × Numbered)). e ++ c) (h o (omega arith)) (chain_same sh log log' w s o (λ i l. h i (omega arith)))
+    ap₂ (λ (e c : List (ℕ × RowValue)). e ++ c) (h o (omega arith)) (chain_same sh log log' w s o (λ i l. h i (omega arith)))
 
 pub chain_none : (sh : Layout) (log : List Ticket) (w : ℕ) (s : Spot) (o : ℕ)
     → ((i : ℕ) → i < o → entry_at sh w s i (slice_get log i) ≡ []) → chain sh log w s o ≡ []
 unfolding chain
 chain_none sh log w s zero h = refl
 chain_none sh log w s (suc o) h =
-    ap (λ (e : List (ℕ × Numbered)). e ++ chain sh log w s o) (h o (omega arith)) ∙ chain_none sh log w s o (λ i l. h i (omega arith))
+    ap (λ (e : List (ℕ × RowValue)). e ++ chain sh log w s o) (h o (omega arith)) ∙ chain_none sh log w s o (λ i l. h i (omega arith))
 
 -- the chain goes on from o where there is nothing between
 pub chain_from : (sh : Layout) (log : List Ticket) (w : ℕ) (s : Spot) (o n : ℕ) → o ≤ n
@@ -126,28 +126,28 @@ unfolding chain
 chain_from sh log w s o zero le h = ap (chain sh log w s) (let e : zero ≡ o = omega arith in e)
 chain_from sh log w s o (suc n) le h = elim (cases_eq o (suc n)) [
   | inl e ↦ ap (chain sh log w s) (sym e)
-  | inr ne ↦ ap (λ (e : List (ℕ × Numbered)). e ++ chain sh log w s n) (h n (omega arith) (omega arith)) ∙ chain_from sh log w s o n (omega arith) (λ i l k. h i l (omega arith))
+  | inr ne ↦ ap (λ (e : List (ℕ × RowValue)). e ++ chain sh log w s n) (h n (omega arith) (omega arith)) ∙ chain_from sh log w s o n (omega arith) (λ i l k. h i l (omega arith))
 ]
 
-chain_suc_top : (sh : Layout) (log : List Ticket) (w : ℕ) (s : Spot) (o : ℕ) (r : Numbered) → entry_at sh w s o (slice_get log o) ≡ (o, r) ∷ [] → top (chain sh log w s (suc o)) ≡ suc o
+chain_suc_top : (sh : Layout) (log : List Ticket) (w : ℕ) (s : Spot) (o : ℕ) (r : RowValue) → entry_at sh w s o (slice_get log o) ≡ (o, r) ∷ [] → top (chain sh log w s (suc o)) ≡ suc o
 unfolding chain
-chain_suc_top sh log w s o r e = ap (λ (c : List (ℕ × Numbered)). top (c ++ chain sh log w s o)) e
+chain_suc_top sh log w s o r e = ap (λ (c : List (ℕ × RowValue)). top (c ++ chain sh log w s o)) e
 
 -- the newest entry is on top
-pub chain_top : (sh : Layout) (log : List Ticket) (w : ℕ) (s : Spot) (o n : ℕ) (r : Numbered) → o < n
+pub chain_top : (sh : Layout) (log : List Ticket) (w : ℕ) (s : Spot) (o n : ℕ) (r : RowValue) → o < n
     → entry_at sh w s o (slice_get log o) ≡ (o, r) ∷ []
     → ((i : ℕ) → o < i → i < n → entry_at sh w s i (slice_get log i) ≡ []) → top (chain sh log w s n) ≡ suc o
 chain_top sh log w s o n r lt here h =
     ap top (chain_from sh log w s (suc o) n lt (λ i l k. h i l k)) ∙ chain_suc_top sh log w s o r here
 
-pub fresh_unlinked : (sh : Layout) (v : ℕ) (s : Spot) (w : ℕ) (r : Numbered) → links sh v s (fresh_ticket w r) ≡ false
+pub fresh_unlinked : (sh : Layout) (v : ℕ) (s : Spot) (w : ℕ) (r : RowValue) → links sh v s (fresh_ticket w r) ≡ false
 fresh_unlinked sh v s w r = elim (cases_Bool (links sh v s (fresh_ticket w r))) [
   | inr f ↦ f
   | inl h ↦ absurd (has_nothing s.lane (links_true sh v s (fresh_ticket w r) h).1)
 ]
 
 -- what a chain says of the log: its top is the newest entry that is linked there
-top_after : (sh : Layout) (w : ℕ) (s : Spot) (n i : ℕ) (o : Option Ticket) (c : List (ℕ × Numbered)) → i < suc n → (i < n → i < top c) → ((t : Ticket) → i ≡ n → o ≡ Some t → links sh w s t ≡ true) → (i ≡ n → (t : Ticket) × (o ≡ Some t))
+top_after : (sh : Layout) (w : ℕ) (s : Spot) (n i : ℕ) (o : Option Ticket) (c : List (ℕ × RowValue)) → i < suc n → (i < n → i < top c) → ((t : Ticket) → i ≡ n → o ≡ Some t → links sh w s t ≡ true) → (i ≡ n → (t : Ticket) × (o ≡ Some t))
     → i < top (entry_at sh w s n o ++ c)
 unfolding entry_at
 top_after sh w s n i None c lt below here there = elim (cases_lt i n) [
@@ -179,7 +179,7 @@ entry_weaker : (sh : Layout) (log : List Ticket) (w : ℕ) (s : Spot) (n v : ℕ
 entry_weaker sh log w s n zero h = h
 entry_weaker sh log w s n (suc o) h = let lt = h.0 in (omega arith, h.1, h.2, h.3)
 
-top_entry : (sh : Layout) (log : List Ticket) (w : ℕ) (s : Spot) (n : ℕ) (o : Option Ticket) (c : List (ℕ × Numbered)) → slice_get log n ≡ o → IsEntry sh log w s n (top c)
+top_entry : (sh : Layout) (log : List Ticket) (w : ℕ) (s : Spot) (n : ℕ) (o : Option Ticket) (c : List (ℕ × RowValue)) → slice_get log n ≡ o → IsEntry sh log w s n (top c)
     → IsEntry sh log w s (suc n) (top (entry_at sh w s n o ++ c))
 unfolding entry_at
 top_entry sh log w s n None c e h = entry_weaker sh log w s n (top c) h

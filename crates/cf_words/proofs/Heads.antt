@@ -1,6 +1,6 @@
 -- A head, a cell's word, a done word and a new ticket keep what the words mean.
 use Rattle.std.proofs.Common.{◌≡◌, ℕ, ◌+◌, ◌*◌, ◌/◌, ◌%◌, ◌<◌, ◌==◌, zero, suc, List, [], ◌∷◌, ◌++◌, length, set, Option, Some, None, slice_get, cond, Bool, true, false, inl, inr, refl, arith, ap, ap₂, sym, ◌∙◌, subst, length-set, length-append}
-use Rattle.cf_row.specs.Row.{Numbered}
+use Rattle.cf_row.specs.Row.{RowValue}
 use Rattle.cf_shape.specs.Places.{head_slot}
 use Rattle.cf_shape.specs.Uses.{Use}
 use Rattle.std.proofs.lemmas.Bool.{cases_eq, cases_lt, cases_Bool}
@@ -10,7 +10,7 @@ use Rattle.std.proofs.lemmas.Option.{slice_get_within, slice_get_past}
 use Rattle.std.proofs.lemmas.Nat.{mul-add-lt, div-add-mod'}
 use Rattle.cf_shape.specs.Places.{Slot, place, IsReal, word_total}
 use Rattle.cf_shape.specs.Places.Slot.{tail, cell, root, body}
-use Rattle.cf_words.specs.Words.{Spot, spot, Layout, Ticket, Stock, node_at, NodeWord, BodyWord, is_inner, Word, Spells, links, entry_at, chain, top, tail_word, ticket_word, full_word, used_word, lane_word, version_word, done_word, fill, link_in, finish, fresh_ticket}
+use Rattle.cf_words.specs.Words.{Spot, spot, Layout, Ticket, Stock, node_at, NodeWord, BodyWord, is_inner, Word, Spells, links, entry_at, chain, top, tail_word, ticket_word, full_word, used_word, lane_word, version_word, done_word, ticket_with_word, ticket_with_head, ticket_with_done, fresh_ticket}
 use Rattle.cf_shape.specs.Uses.Use.{plain, version}
 use Rattle.cf_words.specs.Law.{LayoutLaw, NodesLaw, FlightLaw, CanHead, CanFill, Skips}
 use Rattle.cf_words.proofs.Nodes.{cond_zero, get_push_same, get_push_other, row_of, col_of, node_within}
@@ -72,7 +72,7 @@ full_same sh log log' o i t (version l j) same = go (sh.path t.row l)
   where
     go : (p : Option (List ℕ)) → lane_word sh log o l j t p ≡ lane_word sh log' o l j t p
     go None = refl
-    go (Some p) = ap (λ (c : List (ℕ × Numbered)). version_word sh l j c t.row) (same (spot l p))
+    go (Some p) = ap (λ (c : List (ℕ × RowValue)). version_word sh l j c t.row) (same (spot l p))
 
 ticket_same : (sh : Layout) (log log' : List Ticket) (o i : ℕ) (t : Option Ticket)
     → ((r : Ticket) (s : Spot) → t ≡ Some r → chain sh log r.writer s o ≡ chain sh log' r.writer s o)
@@ -82,10 +82,10 @@ ticket_same sh log log' o i (Some r) same =
     ap (λ (k : ℕ). cond (suc i == sh.sizes.ticket_words) (done_word r.is_done) (cond (nat_lt i r.filled) k 0)) (full_same sh log log' o i r (sh.use_of i) (λ s. same r s refl))
 
 -- A head. Where the writer, lane or path is another, the link changes no entry.
-link_elsewhere : (sh : Layout) (w : ℕ) (s : Spot) (t : Ticket) (l : ℕ) (p : List ℕ) → sh.path t.row l ≡ Some p → (t.writer ≡ w → s ≡ spot l p → ⊥) → links sh w s t ≡ links sh w s (link_in l t)
+link_elsewhere : (sh : Layout) (w : ℕ) (s : Spot) (t : Ticket) (l : ℕ) (p : List ℕ) → sh.path t.row l ≡ Some p → (t.writer ≡ w → s ≡ spot l p → ⊥) → links sh w s t ≡ links sh w s (ticket_with_head l t)
 link_elsewhere sh w s t l p leads far = same_bool _ _
-    (λ h. let x = links_true sh w s t h in links_intro sh w s (link_in l t) x.0 (has_rest l s.lane t.linked x.1) x.2)
-    (λ h. let x = links_true sh w s (link_in l t) h in
+    (λ h. let x = links_true sh w s t h in links_intro sh w s (ticket_with_head l t) x.0 (has_rest l s.lane t.linked x.1) x.2)
+    (λ h. let x = links_true sh w s (ticket_with_head l t) h in
     elim (has_more l s.lane t.linked x.1) [
       | inl e ↦
           let q : p ≡ s.path = cc (ap (sh.path t.row) e, leads, x.2) in
@@ -95,13 +95,13 @@ link_elsewhere sh w s t l p leads far = same_bool _ _
 
 -- the entries of the log after the link, elsewhere
 entries_elsewhere : (sh : Layout) (log : List Ticket) (o : ℕ) (t : Ticket) (l w : ℕ) (s : Spot) (p : List ℕ) → slice_get log o ≡ Some t → sh.path t.row l ≡ Some p
-    → (t.writer ≡ w → s ≡ spot l p → ⊥) → (i : ℕ) → entry_at sh w s i (slice_get log i) ≡ entry_at sh w s i (slice_get (set log o (link_in l t)) i)
+    → (t.writer ≡ w → s ≡ spot l p → ⊥) → (i : ℕ) → entry_at sh w s i (slice_get log i) ≡ entry_at sh w s i (slice_get (set log o (ticket_with_head l t)) i)
 entries_elsewhere sh log o t l w s p at leads far i = elim (cases_eq i o) [
   | inl e ↦
-      let a : entry_at sh w s o (slice_get log o) ≡ entry_at sh w s o (Some (link_in l t)) = ap (entry_at sh w s o) at ∙ entry_same sh w s o t (link_in l t) (link_elsewhere sh w s t l p leads far) refl in
-      let b : entry_at sh w s o (slice_get log o) ≡ entry_at sh w s o (slice_get (set log o (link_in l t)) o) = a ∙ ap (entry_at sh w s o) (sym (get_set_same log o (link_in l t) t at)) in
-      subst (λ (k : ℕ). entry_at sh w s k (slice_get log k) ≡ entry_at sh w s k (slice_get (set log o (link_in l t)) k)) (sym e) b
-  | inr ne ↦ ap (entry_at sh w s i) (sym (get_set_other log o i (link_in l t) ne))
+      let a : entry_at sh w s o (slice_get log o) ≡ entry_at sh w s o (Some (ticket_with_head l t)) = ap (entry_at sh w s o) at ∙ entry_same sh w s o t (ticket_with_head l t) (link_elsewhere sh w s t l p leads far) refl in
+      let b : entry_at sh w s o (slice_get log o) ≡ entry_at sh w s o (slice_get (set log o (ticket_with_head l t)) o) = a ∙ ap (entry_at sh w s o) (sym (get_set_same log o (ticket_with_head l t) t at)) in
+      subst (λ (k : ℕ). entry_at sh w s k (slice_get log k) ≡ entry_at sh w s k (slice_get (set log o (ticket_with_head l t)) k)) (sym e) b
+  | inr ne ↦ ap (entry_at sh w s i) (sym (get_set_other log o i (ticket_with_head l t) ne))
 ]
 
 -- no ticket of the writer stands after the one in flight
@@ -110,23 +110,23 @@ none_after log o i t u flight at flies at' same lt = absurd (cc (flight o i t u 
 
 -- a chain below a ticket of the writer stays
 chains_below : (sh : Layout) (log : List Ticket) (o : ℕ) (t u : Ticket) (l i : ℕ) (s : Spot) (p : List ℕ) → FlightLaw log → slice_get log o ≡ Some t → t.is_done ≡ false → sh.path t.row l ≡ Some p
-    → slice_get log i ≡ Some u → chain sh log u.writer s i ≡ chain sh (set log o (link_in l t)) u.writer s i
+    → slice_get log i ≡ Some u → chain sh log u.writer s i ≡ chain sh (set log o (ticket_with_head l t)) u.writer s i
 chains_below sh log o t u l i s p flight at flies leads at' = elim (cases_lt o i) [
-  | inl lt ↦ chain_same sh log (set log o (link_in l t)) u.writer s i (λ k h. entries_elsewhere sh log o t l u.writer s p at leads (λ e f. none_after log o i t u flight at flies at' (sym e) lt) k)
-  | inr ge ↦ chain_same sh log (set log o (link_in l t)) u.writer s i (λ k h. ap (entry_at sh u.writer s k) (sym (get_set_other log o k (link_in l t) (λ e. absurd (omega arith)))))
+  | inl lt ↦ chain_same sh log (set log o (ticket_with_head l t)) u.writer s i (λ k h. entries_elsewhere sh log o t l u.writer s p at leads (λ e f. none_after log o i t u flight at flies at' (sym e) lt) k)
+  | inr ge ↦ chain_same sh log (set log o (ticket_with_head l t)) u.writer s i (λ k h. ap (entry_at sh u.writer s k) (sym (get_set_other log o k (ticket_with_head l t) (λ e. absurd (omega arith)))))
 ]
 
 head_cells : (sh : Layout) (log : List Ticket) (o : ℕ) (t : Ticket) (l i k : ℕ) (p : List ℕ) → FlightLaw log → slice_get log o ≡ Some t → t.is_done ≡ false → sh.path t.row l ≡ Some p
-    → ticket_word sh log i k (slice_get log i) ≡ ticket_word sh (set log o (link_in l t)) i k (slice_get (set log o (link_in l t)) i)
+    → ticket_word sh log i k (slice_get log i) ≡ ticket_word sh (set log o (ticket_with_head l t)) i k (slice_get (set log o (ticket_with_head l t)) i)
 head_cells sh log o t l i k p flight at flies leads =
-    let log' = set log o (link_in l t) in
+    let log' = set log o (ticket_with_head l t) in
     let same = ticket_same sh log log' i k (slice_get log i) (λ r s e. chains_below sh log o t r l i s p flight at flies leads e) in
     elim (cases_eq i o) [
       | inl e ↦
           let here : slice_get log i ≡ Some t = ap (slice_get log) e ∙ at in
-          let there : slice_get log' i ≡ Some (link_in l t) = ap (slice_get log') e ∙ get_set_same log o (link_in l t) t at in
+          let there : slice_get log' i ≡ Some (ticket_with_head l t) = ap (slice_get log') e ∙ get_set_same log o (ticket_with_head l t) t at in
           same ∙ (ap (ticket_word sh log' i k) here ∙ ap (ticket_word sh log' i k) (sym there))
-      | inr ne ↦ same ∙ ap (ticket_word sh log' i k) (sym (get_set_other log o i (link_in l t) ne))
+      | inr ne ↦ same ∙ ap (ticket_word sh log' i k) (sym (get_set_other log o i (ticket_with_head l t) ne))
     ]
 
 -- the head that changes is that of the ticket's own leaf
@@ -143,35 +143,35 @@ head_far sh log bs o t l d p n law can k j s at ne w e =
     ne (ap₂ body node (ap suc column))
 
 head_others : (sh : Layout) (ts : ℕ × ℕ) (log : List Ticket) (bs : List Stock) (o : ℕ) (t : Ticket) (l d : ℕ) (p : List ℕ) (n : ℕ) → NodesLaw sh bs → FlightLaw log → CanHead sh log bs o t l d p n
-    → (u : Slot) → (u ≡ head_slot sh.sizes n d t.writer → ⊥) → (x : ℕ) → Word sh ts log bs u x → Word sh ts (set log o (link_in l t)) bs u x
-head_others sh ts log bs o t l d p n law flight can u ne x = let log' = set log o (link_in l t) in
+    → (u : Slot) → (u ≡ head_slot sh.sizes n d t.writer → ⊥) → (x : ℕ) → Word sh ts log bs u x → Word sh ts (set log o (ticket_with_head l t)) bs u x
+head_others sh ts log bs o t l d p n law flight can u ne x = let log' = set log o (ticket_with_head l t) in
     log_keeps sh ts ts log log' bs u x (λ k e. refl)
     (λ i k e. head_cells sh log o t l i k (d ∷ p) flight can.at can.flies can.leads)
     (λ k j s e at inner.
     let c = chain_same sh log log' (j % sh.sizes.writers) (spot s.lane (j / sh.sizes.writers ∷ s.path)) (length log) (λ i h.
     entries_elsewhere sh log o t l (j % sh.sizes.writers) (spot s.lane (j / sh.sizes.writers ∷ s.path)) (d ∷ p) can.at can.leads
     (λ w f. head_far sh log bs o t l d p n law can k j s at (λ g. ne (e ∙ g)) w f) i) in
-    ap top (c ∙ ap (chain sh log' (j % sh.sizes.writers) (spot s.lane (j / sh.sizes.writers ∷ s.path))) (sym (length-set log o (link_in l t)))))
+    ap top (c ∙ ap (chain sh log' (j % sh.sizes.writers) (spot s.lane (j / sh.sizes.writers ∷ s.path))) (sym (length-set log o (ticket_with_head l t)))))
 
 -- the new head
 own_chain : (sh : Layout) (log : List Ticket) (bs : List Stock) (o : ℕ) (t : Ticket) (l d : ℕ) (p : List ℕ) (n : ℕ) → FlightLaw log → CanHead sh log bs o t l d p n
-    → top (chain sh (set log o (link_in l t)) t.writer (spot l (d ∷ p)) (length (set log o (link_in l t)))) ≡ suc o
-own_chain sh log bs o t l d p n flight can = let log' = set log o (link_in l t) in let s = spot l (d ∷ p) in
-    let there : slice_get log' o ≡ Some (link_in l t) = get_set_same log o (link_in l t) t can.at in
+    → top (chain sh (set log o (ticket_with_head l t)) t.writer (spot l (d ∷ p)) (length (set log o (ticket_with_head l t)))) ≡ suc o
+own_chain sh log bs o t l d p n flight can = let log' = set log o (ticket_with_head l t) in let s = spot l (d ∷ p) in
+    let there : slice_get log' o ≡ Some (ticket_with_head l t) = get_set_same log o (ticket_with_head l t) t can.at in
     chain_top sh log' t.writer s o (length log') t.row (slice_get_within log' o _ there)
-    (ap (entry_at sh t.writer s o) there ∙ entry_linked sh t.writer s o (link_in l t) (links_intro sh t.writer s (link_in l t) refl (has_first l t.linked) can.leads))
+    (ap (entry_at sh t.writer s o) there ∙ entry_linked sh t.writer s o (ticket_with_head l t) (links_intro sh t.writer s (ticket_with_head l t) refl (has_first l t.linked) can.leads))
     (λ i lt within. after i lt (slice_get log i) refl)
   where
-    after : (i : ℕ) → o < i → (u : Option Ticket) → slice_get log i ≡ u → entry_at sh t.writer (spot l (d ∷ p)) i (slice_get (set log o (link_in l t)) i) ≡ []
-    after i lt None e = ap (entry_at sh t.writer (spot l (d ∷ p)) i) (get_set_other log o i (link_in l t) (λ f. absurd (omega arith)) ∙ e) ∙ entry_none sh t.writer (spot l (d ∷ p)) i
+    after : (i : ℕ) → o < i → (u : Option Ticket) → slice_get log i ≡ u → entry_at sh t.writer (spot l (d ∷ p)) i (slice_get (set log o (ticket_with_head l t)) i) ≡ []
+    after i lt None e = ap (entry_at sh t.writer (spot l (d ∷ p)) i) (get_set_other log o i (ticket_with_head l t) (λ f. absurd (omega arith)) ∙ e) ∙ entry_none sh t.writer (spot l (d ∷ p)) i
     after i lt (Some u) e =
-        ap (entry_at sh t.writer (spot l (d ∷ p)) i) (get_set_other log o i (link_in l t) (λ f. absurd (omega arith)) ∙ e)
+        ap (entry_at sh t.writer (spot l (d ∷ p)) i) (get_set_other log o i (ticket_with_head l t) (λ f. absurd (omega arith)) ∙ e)
         ∙ elim (cases_Bool (links sh t.writer (spot l (d ∷ p)) u)) [
           | inr f ↦ entry_unlinked sh t.writer (spot l (d ∷ p)) i u f
           | inl h ↦ absurd (none_after log o i t u flight can.at can.flies e (links_true sh t.writer (spot l (d ∷ p)) u h).0 lt)
         ]
 
-pub leaf_not_inner : (sh : Layout) (r : Numbered) (l d : ℕ) (p : List ℕ) → LayoutLaw sh → sh.path r l ≡ Some (d ∷ p) → is_inner sh (spot l p) ≡ false
+pub leaf_not_inner : (sh : Layout) (r : RowValue) (l d : ℕ) (p : List ℕ) → LayoutLaw sh → sh.path r l ≡ Some (d ∷ p) → is_inner sh (spot l p) ≡ false
 leaf_not_inner sh r l d p shaped leads = lt_false _ _ (λ h. omega (arith, shaped.long r l (d ∷ p) leads, h))
 
 pub head_real : (sh : Layout) (log : List Ticket) (bs : List Stock) (o : ℕ) (t : Ticket) (l d : ℕ) (p : List ℕ) (n : ℕ) → LayoutLaw sh → NodesLaw sh bs → CanHead sh log bs o t l d p n
@@ -182,9 +182,9 @@ head_real sh log bs o t l d p n shaped law can =
 pub head_keeps : (sh : Layout) (ts : ℕ × ℕ) (log : List Ticket) (bs : List Stock) (words : List ℕ) (o : ℕ) (t : Ticket) (l d : ℕ) (p : List ℕ) (n : ℕ)
     → LayoutLaw sh → NodesLaw sh bs → FlightLaw log → CanHead sh log bs o t l d p n → length words ≡ word_total sh.sizes
     → Spells sh ts log bs words
-    → Spells sh ts (set log o (link_in l t)) bs (set words (place sh.sizes (head_slot sh.sizes n d t.writer)) (suc o))
+    → Spells sh ts (set log o (ticket_with_head l t)) bs (set words (place sh.sizes (head_slot sh.sizes n d t.writer)) (suc o))
 head_keeps sh ts log bs words o t l d p n shaped law flight can len spells =
-    let log' = set log o (link_in l t) in
+    let log' = set log o (ticket_with_head l t) in
     let own : suc o ≡ top (chain sh log' ((d * sh.sizes.writers + t.writer) % sh.sizes.writers) (spot l ((d * sh.sizes.writers + t.writer) / sh.sizes.writers ∷ p)) (length log')) =
     sym (ap₂ (λ (w e : ℕ). top (chain sh log' w (spot l (e ∷ p)) (length log'))) (col_of sh.sizes.writers d t.writer can.writer) (row_of sh.sizes.writers d t.writer can.writer) ∙ own_chain sh log bs o t l d p n flight can) in
     let word : NodeWord sh log' bs (spot l p) (d * sh.sizes.writers + t.writer) (suc o) (is_inner sh (spot l p)) =
@@ -230,7 +230,7 @@ skipped_zero sh log o t (version l j) h = ap (lane_word sh log o l j t) h
 
 -- what a fill changes
 filled_word : (sh : Layout) (log log' : List Ticket) (o k i : ℕ) (t : Ticket) → CanFill sh log o t k → (i ≡ k → ⊥)
-    → ticket_word sh log' o i (Some t) ≡ ticket_word sh log' o i (Some (fill k t))
+    → ticket_word sh log' o i (Some t) ≡ ticket_word sh log' o i (Some (ticket_with_word k t))
 filled_word sh log log' o k i t can ne = ap (λ (n : ℕ). cond (suc i == sh.sizes.ticket_words) (done_word t.is_done) n) (elim (cases_lt i t.filled) [
   | inl lt ↦ ap (λ (b : Bool). cond b (full_word sh log' o t i) 0) (lt_true _ _ lt ∙ sym (lt_true _ _ (omega (arith, can.from))))
   | inr ge ↦ elim (cases_lt i k) [
@@ -244,33 +244,33 @@ filled_word sh log log' o k i t can ne = ap (λ (n : ℕ). cond (suc i == sh.siz
 pub fill_keeps : (sh : Layout) (ts : ℕ × ℕ) (log : List Ticket) (bs : List Stock) (words : List ℕ) (o k : ℕ) (t : Ticket)
     → CanFill sh log o t k → length words ≡ word_total sh.sizes → o < sh.sizes.tickets
     → Spells sh ts log bs words
-    → Spells sh ts (set log o (fill k t)) bs (set words (place sh.sizes (cell o k)) (full_word sh log o t k))
+    → Spells sh ts (set log o (ticket_with_word k t)) bs (set words (place sh.sizes (cell o k)) (full_word sh log o t k))
 fill_keeps sh ts log bs words o k t can len room spells =
-    let log' = set log o (fill k t) in
-    let same : full_word sh log o t k ≡ full_word sh log' o t k = full_same sh log log' o k t (sh.use_of k) (λ s. chain_same sh log log' t.writer s o (λ i h. entries_kept sh log o t (fill k t) can.at refl refl refl t.writer s i)) in
-    let word : full_word sh log o t k ≡ ticket_word sh log' o k (Some (fill k t)) =
+    let log' = set log o (ticket_with_word k t) in
+    let same : full_word sh log o t k ≡ full_word sh log' o t k = full_same sh log log' o k t (sh.use_of k) (λ s. chain_same sh log log' t.writer s o (λ i h. entries_kept sh log o t (ticket_with_word k t) can.at refl refl refl t.writer s i)) in
+    let word : full_word sh log o t k ≡ ticket_word sh log' o k (Some (ticket_with_word k t)) =
     same ∙ (ap (λ (b : Bool). cond b (full_word sh log' o t k) 0) (sym (lt_true k (suc k) (omega arith)))
     ∙ ap (λ (b : Bool). cond b (done_word t.is_done) (cond (nat_lt k (suc k)) (full_word sh log' o t k) 0)) (sym (eq_false (suc k) sh.sizes.ticket_words (λ e. omega (arith, can.within))))) in
     store_keeps sh ts ts log log' bs bs words (cell o k) (full_word sh log o t k) len (room, omega (arith, can.within)) spells
-    (λ u r ne x. retouch_others sh ts log bs o k t (fill k t) can.at refl refl refl (λ i far. filled_word sh log log' o k i t can far) u ne x)
-    (word ∙ ap (ticket_word sh log' o k) (sym (get_set_same log o (fill k t) t can.at)))
+    (λ u r ne x. retouch_others sh ts log bs o k t (ticket_with_word k t) can.at refl refl refl (λ i far. filled_word sh log log' o k i t can far) u ne x)
+    (word ∙ ap (ticket_word sh log' o k) (sym (get_set_same log o (ticket_with_word k t) t can.at)))
 
 pub finish_keeps : (sh : Layout) (ts : ℕ × ℕ) (log : List Ticket) (bs : List Stock) (words : List ℕ) (o k : ℕ) (t : Ticket)
     → slice_get log o ≡ Some t → suc k ≡ sh.sizes.ticket_words → length words ≡ word_total sh.sizes → o < sh.sizes.tickets
     → Spells sh ts log bs words
-    → Spells sh ts (set log o (finish t)) bs (set words (place sh.sizes (cell o k)) 1)
+    → Spells sh ts (set log o (ticket_with_done t)) bs (set words (place sh.sizes (cell o k)) 1)
 finish_keeps sh ts log bs words o k t at last len room spells =
-    let log' = set log o (finish t) in
-    let word : 1 ≡ ticket_word sh log' o k (Some (finish t)) = ap (λ (b : Bool). cond b 1 (cond (nat_lt k t.filled) (full_word sh log' o t k) 0)) (sym (eq_true (suc k) sh.sizes.ticket_words last)) in
+    let log' = set log o (ticket_with_done t) in
+    let word : 1 ≡ ticket_word sh log' o k (Some (ticket_with_done t)) = ap (λ (b : Bool). cond b 1 (cond (nat_lt k t.filled) (full_word sh log' o t k) 0)) (sym (eq_true (suc k) sh.sizes.ticket_words last)) in
     store_keeps sh ts ts log log' bs bs words (cell o k) 1 len (room, omega arith) spells
-    (λ u r ne x. retouch_others sh ts log bs o k t (finish t) at refl refl refl
+    (λ u r ne x. retouch_others sh ts log bs o k t (ticket_with_done t) at refl refl refl
     (λ i far. let other : (suc i == sh.sizes.ticket_words) ≡ false = eq_false _ _ (λ e. far (omega arith)) in
     ap (λ (b : Bool). cond b (done_word t.is_done) (cond (nat_lt i t.filled) (full_word sh log' o t i) 0)) other
     ∙ ap (λ (b : Bool). cond b 1 (cond (nat_lt i t.filled) (full_word sh log' o t i) 0)) (sym other)) u ne x)
-    (word ∙ ap (ticket_word sh log' o k) (sym (get_set_same log o (finish t) t at)))
+    (word ∙ ap (ticket_word sh log' o k) (sym (get_set_same log o (ticket_with_done t) t at)))
 
 -- A ticket: a new one has no entry, and its words are 0.
-pub entries_pushed : (sh : Layout) (log : List Ticket) (w : ℕ) (r : Numbered) (v : ℕ) (s : Spot) (i : ℕ) → entry_at sh v s i (slice_get log i) ≡ entry_at sh v s i (slice_get (log ++ fresh_ticket w r ∷ []) i)
+pub entries_pushed : (sh : Layout) (log : List Ticket) (w : ℕ) (r : RowValue) (v : ℕ) (s : Spot) (i : ℕ) → entry_at sh v s i (slice_get log i) ≡ entry_at sh v s i (slice_get (log ++ fresh_ticket w r ∷ []) i)
 entries_pushed sh log w r v s i = elim (cases_eq i (length log)) [
   | inr ne ↦ ap (entry_at sh v s i) (sym (get_push_other log (fresh_ticket w r) i ne))
   | inl e ↦
@@ -279,7 +279,7 @@ entries_pushed sh log w r v s i = elim (cases_eq i (length log)) [
       ap (entry_at sh v s i) here ∙ (entry_none sh v s i ∙ (sym (entry_unlinked sh v s i (fresh_ticket w r) (fresh_unlinked sh v s w r)) ∙ ap (entry_at sh v s i) (sym there)))
 ]
 
-chains_pushed : (sh : Layout) (log : List Ticket) (w : ℕ) (r : Numbered) (v : ℕ) (s : Spot) → chain sh log v s (length log) ≡ chain sh (log ++ fresh_ticket w r ∷ []) v s (length (log ++ fresh_ticket w r ∷ []))
+chains_pushed : (sh : Layout) (log : List Ticket) (w : ℕ) (r : RowValue) (v : ℕ) (s : Spot) → chain sh log v s (length log) ≡ chain sh (log ++ fresh_ticket w r ∷ []) v s (length (log ++ fresh_ticket w r ∷ []))
 chains_pushed sh log w r v s =
     let log' = log ++ fresh_ticket w r ∷ [] in
     let len : length log' ≡ length log + 1 = length-append log (fresh_ticket w r ∷ []) in
@@ -288,11 +288,11 @@ chains_pushed sh log w r v s =
     let past : slice_get log i ≡ None = slice_get_past log i ge in
     sym (entries_pushed sh log w r v s i) ∙ (ap (entry_at sh v s i) past ∙ entry_none sh v s i)))
 
-fresh_zero : (sh : Layout) (log : List Ticket) (o i w : ℕ) (r : Numbered) → 0 ≡ ticket_word sh log o i (Some (fresh_ticket w r))
+fresh_zero : (sh : Layout) (log : List Ticket) (o i w : ℕ) (r : RowValue) → 0 ≡ ticket_word sh log o i (Some (fresh_ticket w r))
 fresh_zero sh log o i w r =
     sym (ap (λ (b : Bool). cond (suc i == sh.sizes.ticket_words) 0 (cond b (full_word sh log o (fresh_ticket w r) i) 0)) (lt_false i 0 (λ h. omega arith)) ∙ cond_zero (suc i == sh.sizes.ticket_words))
 
-pub ticket_keeps : (sh : Layout) (ts : ℕ × ℕ) (log : List Ticket) (bs : List Stock) (words : List ℕ) (w : ℕ) (r : Numbered)
+pub ticket_keeps : (sh : Layout) (ts : ℕ × ℕ) (log : List Ticket) (bs : List Stock) (words : List ℕ) (w : ℕ) (r : RowValue)
     → length words ≡ word_total sh.sizes
     → Spells sh ts log bs words
     → Spells sh (suc ts.0, ts.1) (log ++ fresh_ticket w r ∷ []) bs (set words (place sh.sizes (tail 0)) (suc ts.0))

@@ -6,7 +6,7 @@ use Rattle.std.proofs.lemmas.Bool.Decides.{nat_tests}
 use Rattle.std.specs.Bool.{nat_lt}
 use Rattle.cf_shape.specs.Places.{Sizes, Slot, place, IsReal, word_total}
 use Rattle.cf_shape.specs.Places.Slot.{tail, cell, root, body}
-use Rattle.cf_words.specs.Words.{Spot, spot, Layout, Ticket, Stock, stock_of, node_at, spare_label, relabel, use_node, mark_over, free_of, Names, IsNamedBy, NodeWord, BodyWord, is_inner, Word, Spells, links, entry_at, chain, top}
+use Rattle.cf_words.specs.Words.{Spot, spot, Layout, Ticket, Stock, stock_of, node_at, spare_label, stocks_with_label, stocks_with_node, stocks_with_mark, free_of, Names, IsNamedBy, NodeWord, BodyWord, is_inner, Word, Spells, links, entry_at, chain, top}
 use Rattle.cf_words.specs.Law.{NodesLaw, LeavesLaw, CanLink}
 use Rattle.cf_words.proofs.Nodes.{free_is_free, label_node_at, label_spare_here, label_spare_other, spare_free, relabel_length, relabel_used, over_used, over_length, over_node_at, over_spare, use_length, use_room, use_node_at_here, use_node_at_other, use_spare}
 use Rattle.cf_words.proofs.Stores.{store_keeps}
@@ -30,19 +30,19 @@ free_real : (g : Sizes) (bs : List Stock) (w : ℕ) → length bs ≡ g.writers 
 free_real g bs w e h room = (omega (arith, mul-add-lt w g.nodes (length (stock_of bs w).used) g.writers (omega arith) room), omega arith)
 
 -- The link of the free node of w as the spot s.
-pub link_grows : (m : ℕ) (bs : List Stock) (w : ℕ) (s : Spot) → w < length bs → length (stock_of bs w).used < m → Grows m bs (use_node w s bs)
+pub link_grows : (m : ℕ) (bs : List Stock) (w : ℕ) (s : Spot) → w < length bs → length (stock_of bs w).used < m → Grows m bs (stocks_with_node w s bs)
 link_grows m bs w s h room n r e = use_node_at_other m bs w s n h (λ f. absurd (cc (free_is_free m bs w room, ap (node_at m bs) f, e))) ∙ e
 
 -- a used node after the link is the new one or was used
 link_from : (m : ℕ) (bs : List Stock) (w : ℕ) (s : Spot) (n : ℕ) (r : Spot) → w < length bs → length (stock_of bs w).used < m
-    → node_at m (use_node w s bs) n ≡ Some r → ((n ≡ free_of m bs w) × (r ≡ s)) ⊎ (node_at m bs n ≡ Some r)
+    → node_at m (stocks_with_node w s bs) n ≡ Some r → ((n ≡ free_of m bs w) × (r ≡ s)) ⊎ (node_at m bs n ≡ Some r)
 link_from m bs w s n r h room e = elim (cases_eq n (free_of m bs w)) [
-  | inl f ↦ inl (f, cc (use_node_at_here m bs w s h room, ap (node_at m (use_node w s bs)) f, e))
+  | inl f ↦ inl (f, cc (use_node_at_here m bs w s h room, ap (node_at m (stocks_with_node w s bs)) f, e))
   | inr ne ↦ inr (sym (use_node_at_other m bs w s n h ne) ∙ e)
 ]
 
 link_names : (m : ℕ) (bs : List Stock) (w : ℕ) (s r : Spot) (v : ℕ) → w < length bs → length (stock_of bs w).used < m
-    → (r ≡ s → ⊥) → Names m bs r v → Names m (use_node w s bs) r v
+    → (r ≡ s → ⊥) → Names m bs r v → Names m (stocks_with_node w s bs) r v
 link_names m bs w s r v h room ne (inl k) = inl (k.0, λ n e. elim (link_from m bs w s n r h room e) [ inl f ↦ ne f.1 | inr f ↦ k.1 n f ])
 link_names m bs w s r v h room ne (inr k) = inr (k.0, k.1, link_grows m bs w s h room k.0 r k.2)
 
@@ -82,27 +82,27 @@ body_keeps sh log bs bs' n (suc j) v (Some s) grows spare names h = node_keeps s
 
 -- The label of the free node.
 label_others : (sh : Layout) (ts : ℕ × ℕ) (log : List Ticket) (bs : List Stock) (w v : ℕ) → w < length bs
-    → (t : Slot) → (t ≡ body (free_of sh.sizes.nodes bs w) 0 → ⊥) → (x : ℕ) → Word sh ts log bs t x → Word sh ts log (relabel w v bs) t x
+    → (t : Slot) → (t ≡ body (free_of sh.sizes.nodes bs w) 0 → ⊥) → (x : ℕ) → Word sh ts log bs t x → Word sh ts log (stocks_with_label w v bs) t x
 label_others sh ts log bs w v h (tail k) ne x r = r
 label_others sh ts log bs w v h (cell o i) ne x r = r
-label_others sh ts log bs w v h (root l d) ne x r = names_same sh.sizes.nodes bs (relabel w v bs) _ x (λ n. label_node_at sh.sizes.nodes bs w v n h) r
+label_others sh ts log bs w v h (root l d) ne x r = names_same sh.sizes.nodes bs (stocks_with_label w v bs) _ x (λ n. label_node_at sh.sizes.nodes bs w v n h) r
 label_others sh ts log bs w v h (body n j) ne x r =
     let same = λ (k : ℕ). label_node_at sh.sizes.nodes bs w v k h in
-    subst (λ (o : Option Spot). BodyWord sh log (relabel w v bs) n j x o) (sym (same n))
-    (body_keeps sh log bs (relabel w v bs) n j x (node_at sh.sizes.nodes bs n) (λ k s e. same k ∙ e)
+    subst (λ (o : Option Spot). BodyWord sh log (stocks_with_label w v bs) n j x o) (sym (same n))
+    (body_keeps sh log bs (stocks_with_label w v bs) n j x (node_at sh.sizes.nodes bs n) (λ k s e. same k ∙ e)
     (λ j0. label_spare_other sh.sizes.nodes bs w v n h (λ e. ne (ap₂ body e j0)))
-    (λ s i e f. names_same sh.sizes.nodes bs (relabel w v bs) _ x same) r)
+    (λ s i e f. names_same sh.sizes.nodes bs (stocks_with_label w v bs) _ x same) r)
 
 pub label_keeps : (sh : Layout) (ts : ℕ × ℕ) (log : List Ticket) (bs : List Stock) (words : List ℕ) (w v : ℕ)
     → NodesLaw sh bs → w < length bs → length (stock_of bs w).used < sh.sizes.nodes → length words ≡ word_total sh.sizes
     → Spells sh ts log bs words
-    → Spells sh ts log (relabel w v bs) (set words (place sh.sizes (body (free_of sh.sizes.nodes bs w) 0)) v)
+    → Spells sh ts log (stocks_with_label w v bs) (set words (place sh.sizes (body (free_of sh.sizes.nodes bs w) 0)) v)
 label_keeps sh ts log bs words w v law h room len spells =
     let m = sh.sizes.nodes in
-    let free : node_at m (relabel w v bs) (free_of m bs w) ≡ None = label_node_at m bs w v _ h ∙ free_is_free m bs w room in
-    store_keeps sh ts ts log log bs (relabel w v bs) words (body (free_of m bs w) 0) v len (free_real sh.sizes bs w law.writers h room) spells
+    let free : node_at m (stocks_with_label w v bs) (free_of m bs w) ≡ None = label_node_at m bs w v _ h ∙ free_is_free m bs w room in
+    store_keeps sh ts ts log log bs (stocks_with_label w v bs) words (body (free_of m bs w) 0) v len (free_real sh.sizes bs w law.writers h room) spells
     (λ t r ne x. label_others sh ts log bs w v h t ne x)
-    (subst (λ (o : Option Spot). BodyWord sh log (relabel w v bs) (free_of m bs w) 0 v o) (sym free) (sym (label_spare_here m bs w v h room)))
+    (subst (λ (o : Option Spot). BodyWord sh log (stocks_with_label w v bs) (free_of m bs w) 0 v o) (sym free) (sym (label_spare_here m bs w v h room)))
 
 -- The link of the free node.
 -- no ticket is linked below a spot that no node has
@@ -142,12 +142,12 @@ fresh_word sh log bs s i false none empty = sym (ap top (empty (i % sh.sizes.wri
 -- the words of the new node
 fresh_body : (sh : Layout) (log : List Ticket) (bs : List Stock) (w : ℕ) (s : Spot) (t : Slot) (j x : ℕ) → NodesLaw sh bs → LeavesLaw sh log bs → CanLink sh bs w s t
     → ((n : ℕ) → node_at sh.sizes.nodes bs n ≡ Some s → ⊥)
-    → BodyWord sh log bs (free_of sh.sizes.nodes bs w) j x None → BodyWord sh log (use_node w s bs) (free_of sh.sizes.nodes bs w) j x (Some s)
+    → BodyWord sh log bs (free_of sh.sizes.nodes bs w) j x None → BodyWord sh log (stocks_with_node w s bs) (free_of sh.sizes.nodes bs w) j x (Some s)
 fresh_body sh log bs w s t zero x law leaves can none r =
-    (t, named_grows sh.sizes.nodes bs (use_node w s bs) (link_grows sh.sizes.nodes bs w s can.writer can.room) s.lane s.path t can.named, can.real, r ∙ (spare_free sh.sizes.nodes bs w can.room ∙ can.label))
+    (t, named_grows sh.sizes.nodes bs (stocks_with_node w s bs) (link_grows sh.sizes.nodes bs w s can.writer can.room) s.lane s.path t can.named, can.real, r ∙ (spare_free sh.sizes.nodes bs w can.room ∙ can.label))
 fresh_body sh log bs w s t (suc i) x law leaves can none r =
-    subst (λ (y : ℕ). NodeWord sh log (use_node w s bs) s i y (is_inner sh s)) (sym r)
-    (fresh_word sh log (use_node w s bs) s i (is_inner sh s)
+    subst (λ (y : ℕ). NodeWord sh log (stocks_with_node w s bs) s i y (is_inner sh s)) (sym r)
+    (fresh_word sh log (stocks_with_node w s bs) s i (is_inner sh s)
     (λ n e. elim (link_from sh.sizes.nodes bs w s n _ can.writer can.room e) [
       | inl f ↦ omega (arith, ap (λ (q : Spot). length q.path) f.1)
       | inr f ↦ no_child sh bs s i law (named_long sh.sizes.nodes bs s.lane s.path t can.named) none n f
@@ -156,7 +156,7 @@ fresh_body sh log bs w s t (suc i) x law leaves can none r =
 
 link_others : (sh : Layout) (ts : ℕ × ℕ) (log : List Ticket) (bs : List Stock) (w : ℕ) (s : Spot) (t : Slot) → NodesLaw sh bs → LeavesLaw sh log bs → CanLink sh bs w s t
     → ((n : ℕ) → node_at sh.sizes.nodes bs n ≡ Some s → ⊥)
-    → (u : Slot) → (u ≡ t → ⊥) → (x : ℕ) → Word sh ts log bs u x → Word sh ts log (use_node w s bs) u x
+    → (u : Slot) → (u ≡ t → ⊥) → (x : ℕ) → Word sh ts log bs u x → Word sh ts log (stocks_with_node w s bs) u x
 link_others sh ts log bs w s t law leaves can none (tail k) ne x r = r
 link_others sh ts log bs w s t law leaves can none (cell o i) ne x r = r
 link_others sh ts log bs w s t law leaves can none (root l d) ne x r =
@@ -167,11 +167,11 @@ link_others sh ts log bs w s t law leaves can none (body n j) ne x r = elim (cas
       let r0 : BodyWord sh log bs (free_of sh.sizes.nodes bs w) j x (node_at sh.sizes.nodes bs (free_of sh.sizes.nodes bs w)) = subst (λ (k : ℕ). BodyWord sh log bs k j x (node_at sh.sizes.nodes bs k)) e r in
       let r1 : BodyWord sh log bs (free_of sh.sizes.nodes bs w) j x None = subst (λ (o : Option Spot). BodyWord sh log bs (free_of sh.sizes.nodes bs w) j x o) (free_is_free sh.sizes.nodes bs w can.room) r0 in
       let r2 = fresh_body sh log bs w s t j x law leaves can none r1 in
-      let r3 = subst (λ (o : Option Spot). BodyWord sh log (use_node w s bs) (free_of sh.sizes.nodes bs w) j x o) (sym (use_node_at_here sh.sizes.nodes bs w s can.writer can.room)) r2 in
-      subst (λ (k : ℕ). BodyWord sh log (use_node w s bs) k j x (node_at sh.sizes.nodes (use_node w s bs) k)) (sym e) r3
+      let r3 = subst (λ (o : Option Spot). BodyWord sh log (stocks_with_node w s bs) (free_of sh.sizes.nodes bs w) j x o) (sym (use_node_at_here sh.sizes.nodes bs w s can.writer can.room)) r2 in
+      subst (λ (k : ℕ). BodyWord sh log (stocks_with_node w s bs) k j x (node_at sh.sizes.nodes (stocks_with_node w s bs) k)) (sym e) r3
   | inr far ↦
-      subst (λ (o : Option Spot). BodyWord sh log (use_node w s bs) n j x o) (sym (use_node_at_other sh.sizes.nodes bs w s n can.writer far))
-      (body_keeps sh log bs (use_node w s bs) n j x (node_at sh.sizes.nodes bs n) (link_grows sh.sizes.nodes bs w s can.writer can.room)
+      subst (λ (o : Option Spot). BodyWord sh log (stocks_with_node w s bs) n j x o) (sym (use_node_at_other sh.sizes.nodes bs w s n can.writer far))
+      (body_keeps sh log bs (stocks_with_node w s bs) n j x (node_at sh.sizes.nodes bs n) (link_grows sh.sizes.nodes bs w s can.writer can.room)
       (λ j0. use_spare sh.sizes.nodes bs w s n can.writer far)
       (λ q i e f. link_names sh.sizes.nodes bs w s (spot q.lane (i ∷ q.path)) x can.writer can.room (λ g.
       ne (ap (body n) f ∙ named_child sh.sizes.nodes bs n i q.lane q.path t (λ k. law.unique n k) e (law.shaped n q e).1
@@ -231,16 +231,16 @@ known_word sh ts log bs words s t n law inner real named spells at =
 pub link_keeps : (sh : Layout) (ts : ℕ × ℕ) (log : List Ticket) (bs : List Stock) (words : List ℕ) (w : ℕ) (s : Spot) (t : Slot)
     → NodesLaw sh bs → LeavesLaw sh log bs → CanLink sh bs w s t → length words ≡ word_total sh.sizes
     → Spells sh ts log bs words → get_or words (place sh.sizes t) 0 ≡ 0
-    → Spells sh ts log (use_node w s bs) (set words (place sh.sizes t) (suc (free_of sh.sizes.nodes bs w)))
+    → Spells sh ts log (stocks_with_node w s bs) (set words (place sh.sizes t) (suc (free_of sh.sizes.nodes bs w)))
 link_keeps sh ts log bs words w s t law leaves can len spells zero_word =
     let none = none_from_zero sh ts log bs words s t can.inner can.real can.named spells zero_word in
-    store_keeps sh ts ts log log bs (use_node w s bs) words t (suc (free_of sh.sizes.nodes bs w)) len can.real spells
+    store_keeps sh ts ts log log bs (stocks_with_node w s bs) words t (suc (free_of sh.sizes.nodes bs w)) len can.real spells
     (λ u r ne x. link_others sh ts log bs w s t law leaves can none u ne x)
-    (named_word sh ts log (use_node w s bs) s.lane s.path t _ can.inner
-    (named_grows sh.sizes.nodes bs (use_node w s bs) (link_grows sh.sizes.nodes bs w s can.writer can.room) s.lane s.path t can.named)
+    (named_word sh ts log (stocks_with_node w s bs) s.lane s.path t _ can.inner
+    (named_grows sh.sizes.nodes bs (stocks_with_node w s bs) (link_grows sh.sizes.nodes bs w s can.writer can.room) s.lane s.path t can.named)
     (use_node_at_here sh.sizes.nodes bs w s can.writer can.room))
 
-pub label_law : (sh : Layout) (bs : List Stock) (w v : ℕ) → w < length bs → NodesLaw sh bs → NodesLaw sh (relabel w v bs)
+pub label_law : (sh : Layout) (bs : List Stock) (w v : ℕ) → w < length bs → NodesLaw sh bs → NodesLaw sh (stocks_with_label w v bs)
 label_law sh bs w v h law = let same = λ (n : ℕ). label_node_at sh.sizes.nodes bs w v n h in record {
   writers = relabel_length w v bs ∙ law.writers;
   room = λ u. subst (λ (k : ℕ). k ≤ sh.sizes.nodes) (sym (relabel_used w v bs u h)) (law.room u);
@@ -250,8 +250,8 @@ label_law sh bs w v h law = let same = λ (n : ℕ). label_node_at sh.sizes.node
 }
 
 pub link_law : (sh : Layout) (bs : List Stock) (w : ℕ) (s : Spot) (t : Slot) → NodesLaw sh bs → CanLink sh bs w s t
-    → ((n : ℕ) → node_at sh.sizes.nodes bs n ≡ Some s → ⊥) → NodesLaw sh (use_node w s bs)
-link_law sh bs w s t law can none = let from = λ (n : ℕ) (r : Spot) (e : node_at sh.sizes.nodes (use_node w s bs) n ≡ Some r). link_from sh.sizes.nodes bs w s n r can.writer can.room e in record {
+    → ((n : ℕ) → node_at sh.sizes.nodes bs n ≡ Some s → ⊥) → NodesLaw sh (stocks_with_node w s bs)
+link_law sh bs w s t law can none = let from = λ (n : ℕ) (r : Spot) (e : node_at sh.sizes.nodes (stocks_with_node w s bs) n ≡ Some r). link_from sh.sizes.nodes bs w s n r can.writer can.room e in record {
   writers = use_length w s bs ∙ law.writers;
   room = λ u. use_room sh.sizes.nodes w s bs u can.writer can.room (law.room u);
   unique = λ n k r e f. elim (from n r e) [
@@ -277,34 +277,34 @@ link_law sh bs w s t law can none = let from = λ (n : ℕ) (r : Spot) (e : node
 }
 
 pub link_leaves : (sh : Layout) (log : List Ticket) (bs : List Stock) (w : ℕ) (s : Spot) → w < length bs → length (stock_of bs w).used < sh.sizes.nodes
-    → LeavesLaw sh log bs → LeavesLaw sh log (use_node w s bs)
+    → LeavesLaw sh log bs → LeavesLaw sh log (stocks_with_node w s bs)
 link_leaves sh log bs w s h room leaves o t l at linked = let y = leaves o t l at linked in (y.0, y.1, y.2, y.3, link_grows sh.sizes.nodes bs w s h room y.2 _ y.4)
 
 pub label_leaves : (sh : Layout) (log : List Ticket) (bs : List Stock) (w v : ℕ) → w < length bs
-    → LeavesLaw sh log bs → LeavesLaw sh log (relabel w v bs)
+    → LeavesLaw sh log bs → LeavesLaw sh log (stocks_with_label w v bs)
 label_leaves sh log bs w v h leaves o t l at linked = let y = leaves o t l at linked in (y.0, y.1, y.2, y.3, label_node_at sh.sizes.nodes bs w v y.2 h ∙ y.4)
 
 -- The mark, past the end.
 over_others : (sh : Layout) (ts ts' : ℕ × ℕ) (log : List Ticket) (bs : List Stock) (w : ℕ) → w < length bs → ts'.1 ≡ ts.1
-    → (t : Slot) → (t ≡ tail 0 → ⊥) → (x : ℕ) → Word sh ts log bs t x → Word sh ts' log (mark_over w bs) t x
+    → (t : Slot) → (t ≡ tail 0 → ⊥) → (x : ℕ) → Word sh ts log bs t x → Word sh ts' log (stocks_with_mark w bs) t x
 over_others sh ts ts' log bs w h e (tail zero) ne x r = absurd (ne refl)
 over_others sh ts ts' log bs w h e (tail (suc k)) ne x r = r ∙ sym e
 over_others sh ts ts' log bs w h e (cell o i) ne x r = r
-over_others sh ts ts' log bs w h e (root l d) ne x r = names_same sh.sizes.nodes bs (mark_over w bs) _ x (λ n. over_node_at sh.sizes.nodes bs w n h) r
+over_others sh ts ts' log bs w h e (root l d) ne x r = names_same sh.sizes.nodes bs (stocks_with_mark w bs) _ x (λ n. over_node_at sh.sizes.nodes bs w n h) r
 over_others sh ts ts' log bs w h e (body n j) ne x r =
     let same = λ (k : ℕ). over_node_at sh.sizes.nodes bs w k h in
-    subst (λ (o : Option Spot). BodyWord sh log (mark_over w bs) n j x o) (sym (same n))
-    (body_keeps sh log bs (mark_over w bs) n j x (node_at sh.sizes.nodes bs n) (λ k s f. same k ∙ f)
+    subst (λ (o : Option Spot). BodyWord sh log (stocks_with_mark w bs) n j x o) (sym (same n))
+    (body_keeps sh log bs (stocks_with_mark w bs) n j x (node_at sh.sizes.nodes bs n) (λ k s f. same k ∙ f)
     (λ j0. over_spare sh.sizes.nodes bs w n h)
-    (λ s i f g. names_same sh.sizes.nodes bs (mark_over w bs) _ x same) r)
+    (λ s i f g. names_same sh.sizes.nodes bs (stocks_with_mark w bs) _ x same) r)
 
 pub over_keeps : (sh : Layout) (ts : ℕ × ℕ) (log : List Ticket) (bs : List Stock) (words : List ℕ) (w : ℕ) → length words ≡ word_total sh.sizes → w < length bs
-    → Spells sh ts log bs words → Spells sh (suc ts.0, ts.1) log (mark_over w bs) (set words (place sh.sizes (tail 0)) (suc ts.0))
+    → Spells sh ts log bs words → Spells sh (suc ts.0, ts.1) log (stocks_with_mark w bs) (set words (place sh.sizes (tail 0)) (suc ts.0))
 over_keeps sh ts log bs words w len h spells =
-    store_keeps sh ts (suc ts.0, ts.1) log log bs (mark_over w bs) words (tail 0) (suc ts.0) len (omega arith) spells
+    store_keeps sh ts (suc ts.0, ts.1) log log bs (stocks_with_mark w bs) words (tail 0) (suc ts.0) len (omega arith) spells
     (λ u r ne x. over_others sh ts (suc ts.0, ts.1) log bs w h refl u ne x) refl
 
-pub over_law : (sh : Layout) (bs : List Stock) (w : ℕ) → w < length bs → NodesLaw sh bs → NodesLaw sh (mark_over w bs)
+pub over_law : (sh : Layout) (bs : List Stock) (w : ℕ) → w < length bs → NodesLaw sh bs → NodesLaw sh (stocks_with_mark w bs)
 over_law sh bs w h law = let same = λ (n : ℕ). over_node_at sh.sizes.nodes bs w n h in record {
   writers = over_length w bs ∙ law.writers;
   room = λ u. subst (λ (k : ℕ). k ≤ sh.sizes.nodes) (sym (over_used bs w u h)) (law.room u);

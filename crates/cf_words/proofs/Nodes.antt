@@ -6,7 +6,7 @@ use Rattle.std.proofs.lemmas.Nat.{div-add-mod', div-mul-add, mul-add-lt}
 use Rattle.std.proofs.lemmas.Bool.{cases_eq, cases_lt}
 use Rattle.std.proofs.lemmas.Option.{slice_get_past, slice_get_within}
 use Rattle.std.proofs.lemmas.Bool.Decides.{nat_tests}
-use Rattle.cf_words.specs.Words.{Spot, Stock, stock_of, node_at, spare_label, relabel, use_node, free_of, mark_over, marked}
+use Rattle.cf_words.specs.Words.{Spot, Stock, stock_of, node_at, spare_label, stocks_with_label, stocks_with_node, free_of, stocks_with_mark, marked}
 
 pub cond_zero : (b : Bool) → ◌≡◌ {A = ℕ} (cond b 0 0) 0
 cond_zero true = refl
@@ -55,8 +55,8 @@ free_is_free m bs w room = let h = at_free m bs w room in
     ap₂ (λ (q k : ℕ). slice_get (stock_of bs q).used k) h.0 h.1 ∙ slice_get_past (stock_of bs w).used _ (omega arith)
 
 -- A label leaves every node's spot, and every spare label but one.
-pub label_node_at : (m : ℕ) (bs : List Stock) (w v n : ℕ) → w < length bs → node_at m (relabel w v bs) n ≡ node_at m bs n
-unfolding node_at relabel
+pub label_node_at : (m : ℕ) (bs : List Stock) (w v n : ℕ) → w < length bs → node_at m (stocks_with_label w v bs) n ≡ node_at m bs n
+unfolding node_at stocks_with_label
 label_node_at m bs w v n h =
     let b : Stock = record { used = (stock_of bs w).used; label = v; over = (stock_of bs w).over } in
     elim (cases_eq (n / m) w) [
@@ -71,8 +71,8 @@ eq_false : (a b : ℕ) → (a ≡ b → ⊥) → (a == b) ≡ false
 eq_false a b e = grind (arith, nat_tests)
 
 pub label_spare_here : (m : ℕ) (bs : List Stock) (w v : ℕ) → w < length bs → length (stock_of bs w).used < m
-    → spare_label m (relabel w v bs) (free_of m bs w) ≡ v
-unfolding spare_label relabel
+    → spare_label m (stocks_with_label w v bs) (free_of m bs w) ≡ v
+unfolding spare_label stocks_with_label
 label_spare_here m bs w v h room =
     let b : Stock = record { used = (stock_of bs w).used; label = v; over = (stock_of bs w).over } in
     let at = at_free m bs w room in
@@ -81,8 +81,8 @@ label_spare_here m bs w v h room =
     ∙ ap (λ (t : Bool). cond t v 0) (eq_true _ _ refl))
 
 pub label_spare_other : (m : ℕ) (bs : List Stock) (w v n : ℕ) → w < length bs → (n ≡ free_of m bs w → ⊥)
-    → spare_label m (relabel w v bs) n ≡ spare_label m bs n
-unfolding spare_label relabel
+    → spare_label m (stocks_with_label w v bs) n ≡ spare_label m bs n
+unfolding spare_label stocks_with_label
 label_spare_other m bs w v n h ne =
     let b : Stock = record { used = (stock_of bs w).used; label = v; over = (stock_of bs w).over } in
     let f = λ (c : Stock). cond (n % m == length c.used) c.label 0 in
@@ -103,8 +103,8 @@ spare_free m bs w room =
 
 -- A link gives the free node its spot, and leaves every other node's.
 pub use_node_at_here : (m : ℕ) (bs : List Stock) (w : ℕ) (s : Spot) → w < length bs → length (stock_of bs w).used < m
-    → node_at m (use_node w s bs) (free_of m bs w) ≡ Some s
-unfolding node_at use_node
+    → node_at m (stocks_with_node w s bs) (free_of m bs w) ≡ Some s
+unfolding node_at stocks_with_node
 use_node_at_here m bs w s h room =
     let b : Stock = record { used = (stock_of bs w).used ++ s ∷ []; label = 0; over = (stock_of bs w).over } in
     let at = at_free m bs w room in
@@ -112,8 +112,8 @@ use_node_at_here m bs w s h room =
     ∙ (ap (λ (c : Stock). slice_get c.used (length (stock_of bs w).used)) (book_same bs w b h) ∙ get_push_same (stock_of bs w).used s)
 
 pub use_node_at_other : (m : ℕ) (bs : List Stock) (w : ℕ) (s : Spot) (n : ℕ) → w < length bs → (n ≡ free_of m bs w → ⊥)
-    → node_at m (use_node w s bs) n ≡ node_at m bs n
-unfolding node_at use_node
+    → node_at m (stocks_with_node w s bs) n ≡ node_at m bs n
+unfolding node_at stocks_with_node
 use_node_at_other m bs w s n h ne =
     let b : Stock = record { used = (stock_of bs w).used ++ s ∷ []; label = 0; over = (stock_of bs w).over } in
     let f = λ (c : Stock). slice_get c.used (n % m) in
@@ -125,8 +125,8 @@ use_node_at_other m bs w s n h ne =
 
 -- a node past the last used one of its writer has the spare label 0, and the label is spent by a link
 pub use_spare : (m : ℕ) (bs : List Stock) (w : ℕ) (s : Spot) (n : ℕ) → w < length bs → (n ≡ free_of m bs w → ⊥)
-    → spare_label m (use_node w s bs) n ≡ spare_label m bs n
-unfolding spare_label use_node
+    → spare_label m (stocks_with_node w s bs) n ≡ spare_label m bs n
+unfolding spare_label stocks_with_node
 use_spare m bs w s n h ne =
     let b : Stock = record { used = (stock_of bs w).used ++ s ∷ []; label = 0; over = (stock_of bs w).over } in
     let f = λ (c : Stock). cond (n % m == length c.used) c.label 0 in
@@ -139,16 +139,16 @@ use_spare m bs w s n h ne =
     ]
 
 -- the books themselves
-pub relabel_length : (w v : ℕ) (bs : List Stock) → length (relabel w v bs) ≡ length bs
-unfolding relabel
+pub relabel_length : (w v : ℕ) (bs : List Stock) → length (stocks_with_label w v bs) ≡ length bs
+unfolding stocks_with_label
 relabel_length w v bs = length-set bs w _
 
-pub use_length : (w : ℕ) (s : Spot) (bs : List Stock) → length (use_node w s bs) ≡ length bs
-unfolding use_node
+pub use_length : (w : ℕ) (s : Spot) (bs : List Stock) → length (stocks_with_node w s bs) ≡ length bs
+unfolding stocks_with_node
 use_length w s bs = length-set bs w _
 
-pub relabel_used : (w v : ℕ) (bs : List Stock) (u : ℕ) → w < length bs → length (stock_of (relabel w v bs) u).used ≡ length (stock_of bs u).used
-unfolding relabel
+pub relabel_used : (w v : ℕ) (bs : List Stock) (u : ℕ) → w < length bs → length (stock_of (stocks_with_label w v bs) u).used ≡ length (stock_of bs u).used
+unfolding stocks_with_label
 relabel_used w v bs u h = let b : Stock = record { used = (stock_of bs w).used; label = v; over = (stock_of bs w).over } in
     elim (cases_eq u w) [
       | inl e ↦ ap (λ (q : ℕ). length (stock_of (set bs w b) q).used) e ∙ (ap (λ (c : Stock). length c.used) (book_same bs w b h) ∙ ap (λ (q : ℕ). length (stock_of bs q).used) (sym e))
@@ -156,8 +156,8 @@ relabel_used w v bs u h = let b : Stock = record { used = (stock_of bs w).used; 
     ]
 
 pub use_room : (m w : ℕ) (s : Spot) (bs : List Stock) (u : ℕ) → w < length bs → length (stock_of bs w).used < m → length (stock_of bs u).used ≤ m
-    → length (stock_of (use_node w s bs) u).used ≤ m
-unfolding use_node
+    → length (stock_of (stocks_with_node w s bs) u).used ≤ m
+unfolding stocks_with_node
 use_room m w s bs u h room old = let b : Stock = record { used = (stock_of bs w).used ++ s ∷ []; label = 0; over = (stock_of bs w).over } in
     elim (cases_eq u w) [
       | inl e ↦
@@ -176,8 +176,8 @@ node_within m k bs n s len room h =
     ]
 
 -- A mark leaves the nodes and labels.
-over_book : (bs : List Stock) (w u : ℕ) → w < length bs → ((stock_of (mark_over w bs) u).used ≡ (stock_of bs u).used) × ((stock_of (mark_over w bs) u).label ≡ (stock_of bs u).label)
-unfolding mark_over
+over_book : (bs : List Stock) (w u : ℕ) → w < length bs → ((stock_of (stocks_with_mark w bs) u).used ≡ (stock_of bs u).used) × ((stock_of (stocks_with_mark w bs) u).label ≡ (stock_of bs u).label)
+unfolding stocks_with_mark
 over_book bs w u h = let b : Stock = record { used = (stock_of bs w).used; label = (stock_of bs w).label; over = true } in
     elim (cases_eq u w) [
       | inl e ↦ (
@@ -187,18 +187,18 @@ over_book bs w u h = let b : Stock = record { used = (stock_of bs w).used; label
       | inr ne ↦ (ap (λ (c : Stock). c.used) (book_other bs w u b ne), ap (λ (c : Stock). c.label) (book_other bs w u b ne))
     ]
 
-pub over_used : (bs : List Stock) (w u : ℕ) → w < length bs → length (stock_of (mark_over w bs) u).used ≡ length (stock_of bs u).used
+pub over_used : (bs : List Stock) (w u : ℕ) → w < length bs → length (stock_of (stocks_with_mark w bs) u).used ≡ length (stock_of bs u).used
 over_used bs w u h = ap (length {A = Spot}) (over_book bs w u h).0
 
-pub over_length : (w : ℕ) (bs : List Stock) → length (mark_over w bs) ≡ length bs
-unfolding mark_over
+pub over_length : (w : ℕ) (bs : List Stock) → length (stocks_with_mark w bs) ≡ length bs
+unfolding stocks_with_mark
 over_length w bs = length-set bs w _
 
-pub over_node_at : (m : ℕ) (bs : List Stock) (w n : ℕ) → w < length bs → node_at m (mark_over w bs) n ≡ node_at m bs n
+pub over_node_at : (m : ℕ) (bs : List Stock) (w n : ℕ) → w < length bs → node_at m (stocks_with_mark w bs) n ≡ node_at m bs n
 unfolding node_at
 over_node_at m bs w n h = ap (λ (xs : List Spot). slice_get xs (n % m)) (over_book bs w (n / m) h).0
 
-pub over_spare : (m : ℕ) (bs : List Stock) (w n : ℕ) → w < length bs → spare_label m (mark_over w bs) n ≡ spare_label m bs n
+pub over_spare : (m : ℕ) (bs : List Stock) (w n : ℕ) → w < length bs → spare_label m (stocks_with_mark w bs) n ≡ spare_label m bs n
 unfolding spare_label
 over_spare m bs w n h = let b = over_book bs w (n / m) h in ap₂ (λ (xs : List Spot) (l : ℕ). cond (n % m == length xs) l 0) b.0 b.1
 
@@ -212,16 +212,16 @@ count_set (c ∷ bs) (suc w) b h = omega (arith, count_set bs w b (omega arith))
 count_same : (bs : List Stock) (w : ℕ) (b : Stock) → w < length bs → b.over ≡ (stock_of bs w).over → marked (set bs w b) ≡ marked bs
 count_same bs w b h e = omega (arith, count_set bs w b h, ap (λ (t : Bool). cond {A = ℕ} t 1 0) e)
 
-pub relabel_marked : (w v : ℕ) (bs : List Stock) → w < length bs → marked (relabel w v bs) ≡ marked bs
-unfolding relabel
+pub relabel_marked : (w v : ℕ) (bs : List Stock) → w < length bs → marked (stocks_with_label w v bs) ≡ marked bs
+unfolding stocks_with_label
 relabel_marked w v bs h = count_same bs w _ h refl
 
-pub use_marked : (w : ℕ) (s : Spot) (bs : List Stock) → w < length bs → marked (use_node w s bs) ≡ marked bs
-unfolding use_node
+pub use_marked : (w : ℕ) (s : Spot) (bs : List Stock) → w < length bs → marked (stocks_with_node w s bs) ≡ marked bs
+unfolding stocks_with_node
 use_marked w s bs h = count_same bs w _ h refl
 
-pub over_marked : (w : ℕ) (bs : List Stock) → w < length bs → (stock_of bs w).over ≡ false → marked (mark_over w bs) ≡ suc (marked bs)
-unfolding mark_over
+pub over_marked : (w : ℕ) (bs : List Stock) → w < length bs → (stock_of bs w).over ≡ false → marked (stocks_with_mark w bs) ≡ suc (marked bs)
+unfolding stocks_with_mark
 over_marked w bs h e = omega (arith, count_set bs w (record { used = (stock_of bs w).used; label = (stock_of bs w).label; over = true }) h, ap (λ (t : Bool). cond {A = ℕ} t 1 0) e)
 
 over_set : (bs : List Stock) (w u : ℕ) (b : Stock) → w < length bs → b.over ≡ (stock_of bs w).over → (stock_of (set bs w b) u).over ≡ (stock_of bs u).over
@@ -230,21 +230,21 @@ over_set bs w u b h same = elim (cases_eq u w) [
   | inr ne ↦ ap (λ (c : Stock). c.over) (book_other bs w u b ne)
 ]
 
-pub relabel_over : (w v : ℕ) (bs : List Stock) (u : ℕ) → w < length bs → (stock_of (relabel w v bs) u).over ≡ (stock_of bs u).over
-unfolding relabel
+pub relabel_over : (w v : ℕ) (bs : List Stock) (u : ℕ) → w < length bs → (stock_of (stocks_with_label w v bs) u).over ≡ (stock_of bs u).over
+unfolding stocks_with_label
 relabel_over w v bs u h = over_set bs w u _ h refl
 
-pub use_over : (w : ℕ) (s : Spot) (bs : List Stock) (u : ℕ) → w < length bs → (stock_of (use_node w s bs) u).over ≡ (stock_of bs u).over
-unfolding use_node
+pub use_over : (w : ℕ) (s : Spot) (bs : List Stock) (u : ℕ) → w < length bs → (stock_of (stocks_with_node w s bs) u).over ≡ (stock_of bs u).over
+unfolding stocks_with_node
 use_over w s bs u h = over_set bs w u _ h refl
 
 -- the book of a link
-pub use_book_same : (w : ℕ) (s : Spot) (bs : List Stock) → w < length bs → stock_of (use_node w s bs) w ≡ record { used = (stock_of bs w).used ++ s ∷ []; label = 0; over = (stock_of bs w).over }
-unfolding use_node
+pub use_book_same : (w : ℕ) (s : Spot) (bs : List Stock) → w < length bs → stock_of (stocks_with_node w s bs) w ≡ record { used = (stock_of bs w).used ++ s ∷ []; label = 0; over = (stock_of bs w).over }
+unfolding stocks_with_node
 use_book_same w s bs h = book_same bs w _ h
 
-pub use_book_other : (w : ℕ) (s : Spot) (bs : List Stock) (u : ℕ) → u ≢ w → stock_of (use_node w s bs) u ≡ stock_of bs u
-unfolding use_node
+pub use_book_other : (w : ℕ) (s : Spot) (bs : List Stock) (u : ℕ) → u ≢ w → stock_of (stocks_with_node w s bs) u ≡ stock_of bs u
+unfolding stocks_with_node
 use_book_other w s bs u h = book_other bs w u _ h
 
 -- an own used node by its place in the book

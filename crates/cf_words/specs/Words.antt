@@ -1,8 +1,8 @@
 -- What the words mean.
 use Rattle.std.specs.Prelude.{ℕ, ◌+◌, ◌*◌, ◌/◌, ◌%◌, ◌^◌, ◌<◌, ◌≤◌, ◌≡◌, ◌==◌, ◌⊎◌, suc, zero, List, [], ◌∷◌, ◌++◌, set, nat_lt, Bool, true, false, cond, length, get_or, Option, Some, None, slice_get, map}
-use Rattle.cf_row.specs.Row.{Numbered}
+use Rattle.cf_row.specs.Row.{RowValue}
 use Rattle.cf_shape.specs.Places.{Sizes, Slot, place, IsReal}
-use Rattle.cf_fold.specs.Quads.{Counts, quad_of}
+use Rattle.cf_fold.specs.Quads.{QuadValue, quad_of}
 use Rattle.cf_row.specs.declared.row.Entry.{Entry}
 use Rattle.cf_shape.specs.Uses.{Use}
 use Rattle.cf_shape.specs.Uses.Use.{plain, version}
@@ -17,7 +17,7 @@ abbrev pub spot : ℕ → List ℕ → Spot
 spot l p = record { lane = l; path = p }
 
 -- the entry of a writer and a row
-abbrev pub entry : ℕ → Numbered → Entry
+abbrev pub entry : ℕ → RowValue → Entry
 entry w r = record { writer = w; row = r }
 
 -- what a shape says of rows and words. `path` is None where the lane does not select the row.
@@ -25,18 +25,18 @@ entry w r = record { writer = w; row = r }
 pub record Layout : Type 0 where
   pub sizes : Sizes
   pub levels : ℕ → ℕ
-  pub path : Numbered → ℕ → Option (List ℕ)
-  pub fits : Numbered → Bool
+  pub path : RowValue → ℕ → Option (List ℕ)
+  pub fits : RowValue → Bool
   pub plain_words : ℕ
-  pub spelled : Numbered → ℕ → List ℕ
+  pub spelled : RowValue → ℕ → List ℕ
   pub reads : List ℕ → Entry
   pub use_of : ℕ → Use
-  pub amount : Numbered → ℕ → ℕ
+  pub amount : RowValue → ℕ → ℕ
   pub is_measured : ℕ → Bool
 
 pub record Ticket : Type 0 where
   pub writer : ℕ
-  pub row : Numbered
+  pub row : RowValue
   pub filled : ℕ
   pub linked : List ℕ
   pub is_done : Bool
@@ -86,21 +86,21 @@ abbrev pub done_word : Bool → ℕ
 done_word b = cond b 1 0
 
 -- the words of a measure after the first: the sum, then the least and the greatest
-abbrev pub measure_word : ℕ → Counts → ℕ
+abbrev pub measure_word : ℕ → QuadValue → ℕ
 measure_word zero q = q.sum
 measure_word (suc j) q = q.least + 2 ^ 32 * q.greatest
 
 -- book w gets the label v
-unfoldable pub relabel : ℕ → ℕ → List Stock → List Stock
-relabel w v bs = set bs w (record { used = (stock_of bs w).used; label = v; over = (stock_of bs w).over })
+unfoldable pub stocks_with_label : ℕ → ℕ → List Stock → List Stock
+stocks_with_label w v bs = set bs w (record { used = (stock_of bs w).used; label = v; over = (stock_of bs w).over })
 
 -- the least unused node of writer w is used for s
-unfoldable pub use_node : ℕ → Spot → List Stock → List Stock
-use_node w s bs = set bs w (record { used = (stock_of bs w).used ++ s ∷ []; label = 0; over = (stock_of bs w).over })
+unfoldable pub stocks_with_node : ℕ → Spot → List Stock → List Stock
+stocks_with_node w s bs = set bs w (record { used = (stock_of bs w).used ++ s ∷ []; label = 0; over = (stock_of bs w).over })
 
 -- book w is marked over
-unfoldable pub mark_over : ℕ → List Stock → List Stock
-mark_over w bs = set bs w (record { used = (stock_of bs w).used; label = (stock_of bs w).label; over = true })
+unfoldable pub stocks_with_mark : ℕ → List Stock → List Stock
+stocks_with_mark w bs = set bs w (record { used = (stock_of bs w).used; label = (stock_of bs w).label; over = true })
 
 -- how many books are marked
 unfoldable pub marked : List Stock → ℕ
@@ -112,78 +112,78 @@ abbrev pub free_of : ℕ → List Stock → ℕ → ℕ
 free_of m bs w = w * m + length (stock_of bs w).used
 
 -- what a ticket becomes
-abbrev pub fill : ℕ → Ticket → Ticket
-fill i t = record t { filled = suc i }
+abbrev pub ticket_with_word : ℕ → Ticket → Ticket
+ticket_with_word i t = record t { filled = suc i }
 
-abbrev pub link_in : ℕ → Ticket → Ticket
-link_in l t = record t { linked = l ∷ t.linked }
+abbrev pub ticket_with_head : ℕ → Ticket → Ticket
+ticket_with_head l t = record t { linked = l ∷ t.linked }
 
-abbrev pub finish : Ticket → Ticket
-finish t = record t { is_done = true }
+abbrev pub ticket_with_done : Ticket → Ticket
+ticket_with_done t = record t { is_done = true }
 
-abbrev pub fresh_ticket : ℕ → Numbered → Ticket
+abbrev pub fresh_ticket : ℕ → RowValue → Ticket
 fresh_ticket w r = record { writer = w; row = r; filled = 0; linked = []; is_done = false }
 
 -- the ticket is linked in that leaf by that writer
 unfoldable pub links : Layout → ℕ → Spot → Ticket → Bool
-links sh w s t = cond (t.writer == w) (cond (has t.linked s.lane) (same_path (sh.path t.row s.lane) s.path) false) false
+links layout w s t = cond (t.writer == w) (cond (has t.linked s.lane) (same_path (layout.path t.row s.lane) s.path) false) false
 
-unfoldable pub entry_at : Layout → ℕ → Spot → ℕ → Option Ticket → List (ℕ × Numbered)
-entry_at sh w s o None = []
-entry_at sh w s o (Some t) = cond (links sh w s t) ((o, t.row) ∷ []) []
+unfoldable pub entry_at : Layout → ℕ → Spot → ℕ → Option Ticket → List (ℕ × RowValue)
+entry_at layout w s o None = []
+entry_at layout w s o (Some t) = cond (links layout w s t) ((o, t.row) ∷ []) []
 
 -- the entries of the writer linked in the leaf before offset o, the newest first
-unfoldable pub chain : Layout → List Ticket → ℕ → Spot → ℕ → List (ℕ × Numbered)
-chain sh log w s zero = []
-chain sh log w s (suc o) = entry_at sh w s o (slice_get log o) ++ chain sh log w s o
+unfoldable pub chain : Layout → List Ticket → ℕ → Spot → ℕ → List (ℕ × RowValue)
+chain layout log w s zero = []
+chain layout log w s (suc o) = entry_at layout w s o (slice_get log o) ++ chain layout log w s o
 
 -- 0, or the newest offset plus 1
-abbrev pub top : List (ℕ × Numbered) → ℕ
+abbrev pub top : List (ℕ × RowValue) → ℕ
 top [] = 0
 top (x ∷ xs) = suc x.0
 
 -- word j of the cell of lane l, for a row whose chain before it is c: the previous offset and the count, the sum, and the least and greatest
-unfoldable pub version_word : Layout → ℕ → ℕ → List (ℕ × Numbered) → Numbered → ℕ
-version_word sh l zero c r = top c + 2 ^ 32 * cond (sh.is_measured l) (length c + 1) 0
-version_word sh l (suc j) c r = measure_word j (quad_of (map (λ x. sh.amount x l) (r ∷ map (λ x. x.1) c)))
+unfoldable pub version_word : Layout → ℕ → ℕ → List (ℕ × RowValue) → RowValue → ℕ
+version_word layout l zero c r = top c + 2 ^ 32 * cond (layout.is_measured l) (length c + 1) 0
+version_word layout l (suc j) c r = measure_word j (quad_of (map (λ x. layout.amount x l) (r ∷ map (λ x. x.1) c)))
 
 abbrev pub lane_word : Layout → List Ticket → ℕ → ℕ → ℕ → Ticket → Option (List ℕ) → ℕ
-lane_word sh log o l j t None = 0
-lane_word sh log o l j t (Some p) = version_word sh l j (chain sh log t.writer (spot l p) o) t.row
+lane_word layout log o l j t None = 0
+lane_word layout log o l j t (Some p) = version_word layout l j (chain layout log t.writer (spot l p) o) t.row
 
 abbrev pub used_word : Layout → List Ticket → ℕ → Ticket → Use → ℕ
-used_word sh log o t (plain i) = get_or (sh.spelled t.row t.writer) i 0
-used_word sh log o t (version l j) = lane_word sh log o l j t (sh.path t.row l)
+used_word layout log o t (plain i) = get_or (layout.spelled t.row t.writer) i 0
+used_word layout log o t (version l j) = lane_word layout log o l j t (layout.path t.row l)
 
 -- what word i of ticket o has to be once it is filled
 abbrev pub full_word : Layout → List Ticket → ℕ → Ticket → ℕ → ℕ
-full_word sh log o t i = used_word sh log o t (sh.use_of i)
+full_word layout log o t i = used_word layout log o t (layout.use_of i)
 
 abbrev pub ticket_word : Layout → List Ticket → ℕ → ℕ → Option Ticket → ℕ
-ticket_word sh log o i None = 0
-ticket_word sh log o i (Some t) = cond (suc i == sh.sizes.ticket_words) (done_word t.is_done) (cond (nat_lt i t.filled) (full_word sh log o t i) 0)
+ticket_word layout log o i None = 0
+ticket_word layout log o i (Some t) = cond (suc i == layout.sizes.ticket_words) (done_word t.is_done) (cond (nat_lt i t.filled) (full_word layout log o t i) 0)
 
 -- word j, from 1, of a used node. Above the last level it is a child, at the last a head
 abbrev pub NodeWord : Layout → List Ticket → List Stock → Spot → ℕ → ℕ → Bool → Type 0
-NodeWord sh log bs s j v true = ((j < 16) × Names sh.sizes.nodes bs (spot s.lane (j ∷ s.path)) v) ⊎ ((16 ≤ j) × (v ≡ 0))
-NodeWord sh log bs s j v false = v ≡ top (chain sh log (j % sh.sizes.writers) (spot s.lane (j / sh.sizes.writers ∷ s.path)) (length log))
+NodeWord layout log bs s j v true = ((j < 16) × Names layout.sizes.nodes bs (spot s.lane (j ∷ s.path)) v) ⊎ ((16 ≤ j) × (v ≡ 0))
+NodeWord layout log bs s j v false = v ≡ top (chain layout log (j % layout.sizes.writers) (spot s.lane (j / layout.sizes.writers ∷ s.path)) (length log))
 
 abbrev pub is_inner : Layout → Spot → Bool
-is_inner sh s = nat_lt (suc (length s.path)) (sh.levels s.lane)
+is_inner layout s = nat_lt (suc (length s.path)) (layout.levels s.lane)
 
 abbrev pub BodyWord : Layout → List Ticket → List Stock → ℕ → ℕ → ℕ → Option Spot → Type 0
-BodyWord sh log bs n zero v None = v ≡ spare_label sh.sizes.nodes bs n
-BodyWord sh log bs n (suc j) v None = v ≡ 0
-BodyWord sh log bs n zero v (Some s) = (t : Slot) × IsNamedBy sh.sizes.nodes bs s.lane s.path t × IsReal sh.sizes t × (v ≡ 32 * place sh.sizes t + length s.path)
-BodyWord sh log bs n (suc j) v (Some s) = NodeWord sh log bs s j v (is_inner sh s)
+BodyWord layout log bs n zero v None = v ≡ spare_label layout.sizes.nodes bs n
+BodyWord layout log bs n (suc j) v None = v ≡ 0
+BodyWord layout log bs n zero v (Some s) = (t : Slot) × IsNamedBy layout.sizes.nodes bs s.lane s.path t × IsReal layout.sizes t × (v ≡ 32 * place layout.sizes t + length s.path)
+BodyWord layout log bs n (suc j) v (Some s) = NodeWord layout log bs s j v (is_inner layout s)
 
 -- the words that need no more than the tails, the log and the books
 abbrev pub Word : Layout → ℕ × ℕ → List Ticket → List Stock → Slot → ℕ → Type 0
-Word sh ts log bs (tail k) v = v ≡ tail_word ts k
-Word sh ts log bs (cell o i) v = v ≡ ticket_word sh log o i (slice_get log o)
-Word sh ts log bs (root l d) v = Names sh.sizes.nodes bs (spot l (d ∷ [])) v
-Word sh ts log bs (body n j) v = BodyWord sh log bs n j v (node_at sh.sizes.nodes bs n)
+Word layout ts log bs (tail k) v = v ≡ tail_word ts k
+Word layout ts log bs (cell o i) v = v ≡ ticket_word layout log o i (slice_get log o)
+Word layout ts log bs (root l d) v = Names layout.sizes.nodes bs (spot l (d ∷ [])) v
+Word layout ts log bs (body n j) v = BodyWord layout log bs n j v (node_at layout.sizes.nodes bs n)
 
 -- each word is what the model says
 abbrev pub Spells : Layout → ℕ × ℕ → List Ticket → List Stock → List ℕ → Type 0
-Spells sh ts log bs words = (t : Slot) → IsReal sh.sizes t → Word sh ts log bs t (get_or words (place sh.sizes t) 0)
+Spells layout ts log bs words = (t : Slot) → IsReal layout.sizes t → Word layout ts log bs t (get_or words (place layout.sizes t) 0)

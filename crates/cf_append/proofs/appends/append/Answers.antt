@@ -1,6 +1,6 @@
 use Rattle.std.proofs.Common.{◌∙◌, inr, length, List, ap, sym, arith}
 use Rattle.cf_row.specs.declared.row.Entry.{Entry}
-use Rattle.cf_shape.specs.Lanes.{Shaped}
+use Rattle.cf_shape.specs.Lanes.{ShapeValue}
 use Rattle.cf_append.specs.Appends.{HasMade}
 use Rattle.cf_append.proofs.Appending.{may_begin}
 use Rattle.cf_append.proofs.Pathing.{leaves_still}
@@ -29,7 +29,7 @@ returns-then-found-from-clause-answer g c =
     let p = c.make_paths.new.pass in
     let past = c.if-found-from.true in
     let wide = c.from.ensures in
-    let room = c.capacity.ensures.capacity ∙ ap (λ (x : Shaped). x.capacity) c.shape.ensures.shape in
+    let room = c.capacity.ensures.capacity ∙ ap (λ (x : ShapeValue). x.capacity) c.shape.ensures.shape in
     let P : HasMade s row m p = record { strides = c.make_paths.ensures.strides; used = c.make_paths.ensures.used; leaves = c.in-Some.leaves; whole = c.in-Some.ensures.answer } in
     inr (late s row m p c.take_ticket-found.new.pass c.take_ticket-found.result (sym c.over.ensures ∙ c.if-over.false) P (omega (arith, past, wide, room)) c.take_ticket-found.ensures.made)
 
@@ -46,7 +46,7 @@ fill_cells-requires-clause-book g c =
     let row = c.args.row.now in
     let low = c.if-found-from.false in
     let wide = c.from.ensures in
-    let room = c.capacity.ensures.capacity ∙ ap (λ (x : Shaped). x.capacity) c.shape.ensures.shape in
+    let room = c.capacity.ensures.capacity ∙ ap (λ (x : ShapeValue). x.capacity) c.shape.ensures.shape in
     let B : HasBegun s row c.make_paths.new.pass c.take_ticket-found.new.pass c.fill.new.pass c.take_ticket-found.result = record { room = omega (arith, low, wide, room); took = c.take_ticket-found.ensures.made; is = c.fill.ensures.pass } in
     begun_book s row c.make_paths.new.pass c.take_ticket-found.new.pass c.fill.new.pass c.take_ticket-found.result B
 
@@ -56,7 +56,7 @@ fill_cells-requires-clause-filled g c =
     let row = c.args.row.now in
     let low = c.if-found-from.false in
     let wide = c.from.ensures in
-    let room = c.capacity.ensures.capacity ∙ ap (λ (x : Shaped). x.capacity) c.shape.ensures.shape in
+    let room = c.capacity.ensures.capacity ∙ ap (λ (x : ShapeValue). x.capacity) c.shape.ensures.shape in
     let B : HasBegun s row c.make_paths.new.pass c.take_ticket-found.new.pass c.fill.new.pass c.take_ticket-found.result = record { room = omega (arith, low, wide, room); took = c.take_ticket-found.ensures.made; is = c.fill.ensures.pass } in
     begun_self s row c.make_paths.new.pass c.take_ticket-found.new.pass c.fill.new.pass c.take_ticket-found.result B
 
@@ -66,7 +66,7 @@ fill_cells-requires-clause-leaves g c =
     let row = c.args.row.now in
     let low = c.if-found-from.false in
     let wide = c.from.ensures in
-    let room = c.capacity.ensures.capacity ∙ ap (λ (x : Shaped). x.capacity) c.shape.ensures.shape in
+    let room = c.capacity.ensures.capacity ∙ ap (λ (x : ShapeValue). x.capacity) c.shape.ensures.shape in
     let B : HasBegun s row c.make_paths.new.pass c.take_ticket-found.new.pass c.fill.new.pass c.take_ticket-found.result = record { room = omega (arith, low, wide, room); took = c.take_ticket-found.ensures.made; is = c.fill.ensures.pass } in
     begun_leaves s row c.make_paths.new.pass c.take_ticket-found.new.pass c.fill.new.pass c.take_ticket-found.result c.in-Some.leaves (length s.lanes) B c.in-Some.ensures.answer
 
@@ -76,7 +76,7 @@ link_all-requires-clause-writer g c =
     let row = c.args.row.now in
     let low = c.if-found-from.false in
     let wide = c.from.ensures in
-    let room = c.capacity.ensures.capacity ∙ ap (λ (x : Shaped). x.capacity) c.shape.ensures.shape in
+    let room = c.capacity.ensures.capacity ∙ ap (λ (x : ShapeValue). x.capacity) c.shape.ensures.shape in
     let C : HasCells s row c.make_paths.new.pass c.take_ticket-found.new.pass c.fill.new.pass c.fill_cells.new.pass c.take_ticket-found.result = record {
       begun = record { room = omega (arith, low, wide, room); took = c.take_ticket-found.ensures.made; is = c.fill.ensures.pass };
       strides = c.fill_cells.ensures.strides;
@@ -90,7 +90,7 @@ link_all-requires-clause-linked g c =
     let row = c.args.row.now in
     let low = c.if-found-from.false in
     let wide = c.from.ensures in
-    let room = c.capacity.ensures.capacity ∙ ap (λ (x : Shaped). x.capacity) c.shape.ensures.shape in
+    let room = c.capacity.ensures.capacity ∙ ap (λ (x : ShapeValue). x.capacity) c.shape.ensures.shape in
     let C : HasCells s row c.make_paths.new.pass c.take_ticket-found.new.pass c.fill.new.pass c.fill_cells.new.pass c.take_ticket-found.result = record {
       begun = record { room = omega (arith, low, wide, room); took = c.take_ticket-found.ensures.made; is = c.fill.ensures.pass };
       strides = c.fill_cells.ensures.strides;
@@ -104,7 +104,7 @@ link_all-requires-clause-leaves g c =
     let row = c.args.row.now in
     let low = c.if-found-from.false in
     let wide = c.from.ensures in
-    let room = c.capacity.ensures.capacity ∙ ap (λ (x : Shaped). x.capacity) c.shape.ensures.shape in
+    let room = c.capacity.ensures.capacity ∙ ap (λ (x : ShapeValue). x.capacity) c.shape.ensures.shape in
     let B : HasBegun s row c.make_paths.new.pass c.take_ticket-found.new.pass c.fill.new.pass c.take_ticket-found.result = record { room = omega (arith, low, wide, room); took = c.take_ticket-found.ensures.made; is = c.fill.ensures.pass } in
     leaves_still s row c.fill.new.pass c.fill_cells.new.pass c.in-Some.leaves (length s.lanes) c.fill_cells.ensures.strides
     (begun_leaves s row c.make_paths.new.pass c.take_ticket-found.new.pass c.fill.new.pass c.take_ticket-found.result c.in-Some.leaves (length s.lanes) B c.in-Some.ensures.answer)
@@ -122,7 +122,7 @@ returns-clause-answer g c =
     let o = c.take_ticket-found.result in
     let low = c.if-found-from.false in
     let wide = c.from.ensures in
-    let room = c.capacity.ensures.capacity ∙ ap (λ (x : Shaped). x.capacity) c.shape.ensures.shape in
+    let room = c.capacity.ensures.capacity ∙ ap (λ (x : ShapeValue). x.capacity) c.shape.ensures.shape in
     let P : HasMade s row m p = record { strides = c.make_paths.ensures.strides; used = c.make_paths.ensures.used; leaves = c.in-Some.leaves; whole = c.in-Some.ensures.answer } in
     let E : HasEnded s row p c.take_ticket-found.new.pass c.fill.new.pass c.fill_cells.new.pass c.link_all.new.pass c.finish_record.new.pass o = record {
       cells = record {
@@ -145,7 +145,7 @@ returns-clause-stops g c =
     let o = c.take_ticket-found.result in
     let low = c.if-found-from.false in
     let wide = c.from.ensures in
-    let room = c.capacity.ensures.capacity ∙ ap (λ (x : Shaped). x.capacity) c.shape.ensures.shape in
+    let room = c.capacity.ensures.capacity ∙ ap (λ (x : ShapeValue). x.capacity) c.shape.ensures.shape in
     let P : HasMade s row m p = record { strides = c.make_paths.ensures.strides; used = c.make_paths.ensures.used; leaves = c.in-Some.leaves; whole = c.in-Some.ensures.answer } in
     let E : HasEnded s row p c.take_ticket-found.new.pass c.fill.new.pass c.fill_cells.new.pass c.link_all.new.pass c.finish_record.new.pass o = record {
       cells = record {
@@ -167,7 +167,7 @@ returns-clause-steps g c =
     let o = c.take_ticket-found.result in
     let low = c.if-found-from.false in
     let wide = c.from.ensures in
-    let room = c.capacity.ensures.capacity ∙ ap (λ (x : Shaped). x.capacity) c.shape.ensures.shape in
+    let room = c.capacity.ensures.capacity ∙ ap (λ (x : ShapeValue). x.capacity) c.shape.ensures.shape in
     let E : HasEnded s row p c.take_ticket-found.new.pass c.fill.new.pass c.fill_cells.new.pass c.link_all.new.pass c.finish_record.new.pass o = record {
       cells = record {
         begun = record { room = omega (arith, low, wide, room); took = c.take_ticket-found.ensures.made; is = c.fill.ensures.pass };

@@ -2,7 +2,7 @@ use Rattle.std.proofs.Common.{◌∙◌, ◌<◌, take, inl, arith}
 use Rattle.cf_words.specs.Words.{spot}
 use Rattle.cf_law.specs.Steps.{mine_chain}
 use Rattle.cf_law.specs.Shapes.{layout}
-use Rattle.cf_table.specs.Held.{book_of}
+use Rattle.cf_table.specs.Values.{book_of}
 use Rattle.cf_table.proofs.Mays.{may_cell}
 use Rattle.cf_append.proofs.Newest.{own_at, read_books, read_word, three_words, quad_there, counts_there}
 use Rattle.cf_append.specs.Linking.{IsCell}

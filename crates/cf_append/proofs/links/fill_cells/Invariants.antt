@@ -1,5 +1,5 @@
 use Rattle.std.proofs.Common.{◌≡◌, ◌+◌, ◌*◌, ◌≤◌}
-use Rattle.cf_table.specs.Held.{IsOf}
+use Rattle.cf_table.specs.Values.{IsOf}
 use Rattle.cf_append.specs.Paths.{Strides}
 use Rattle.cf_append.specs.Linking.{HasFilled, cell_from}
 use Rattle.cf_append.proofs.links.fill_cells.Given as goal

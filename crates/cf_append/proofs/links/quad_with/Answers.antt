@@ -1,9 +1,9 @@
 use Rattle.std.proofs.Common.{◌≡◌, ◌∙◌, ◌∷◌, ◌++◌, ◌-◌, ◌≤◌, [], length, ap, sym, subst, refl, arith, rules}
-use Rattle.cf_fold.specs.Quads.{Counts, quad_of}
-use Rattle.cf_shape.specs.Lanes.{Shaped, measure_of}
+use Rattle.cf_fold.specs.Quads.{QuadValue, quad_of}
+use Rattle.cf_shape.specs.Lanes.{ShapeValue, measure_of}
 use Rattle.cf_words.specs.Words.{spot, top}
 use Rattle.cf_law.specs.Shapes.{layout}
-use Rattle.cf_table.specs.Held.{book_of}
+use Rattle.cf_table.specs.Values.{book_of}
 use Rattle.cf_append.specs.Linking.{key_path, leaf_chain, amounts}
 use Rattle.cf_append.proofs.Newest.{newest, top_few, amounts_few}
 use Rattle.cf_append.proofs.links.quad_with.Goals as goal
@@ -31,7 +31,7 @@ merge-requires g c =
     let b = book_of c.args.pass.now.view in
     let few = amounts_few s c.args.lane (spot c.args.lane (key_path s c.args.lane c.args.key)) b c.requires.book in
     let one = c.add-value.ensures.count in
-    let is = ap (λ (q : Counts). q.count) c.cell_quad-before.ensures.quad in
+    let is = ap (λ (q : QuadValue). q.count) c.cell_quad-before.ensures.quad in
     let room = c.shape.ensures.lawful.capacity in
     record { few = omega (arith, few, one, is, room) }
 
@@ -40,5 +40,5 @@ returns-clause-quad g c =
     let s = c.args.log.now.shape in
     let b = book_of c.args.pass.now.view in
     let l = c.args.lane in
-    let value = c.measure.ensures ∙ ap (λ (h : Shaped). measure_of h l c.args.row.now) c.shape.ensures.shape in
+    let value = c.measure.ensures ∙ ap (λ (h : ShapeValue). measure_of h l c.args.row.now) c.shape.ensures.shape in
     c.merge.ensures.merged (measure_of s l c.args.row.now ∷ []) (amounts s l (leaf_chain s l c.args.key b)) (c.add-value.ensures.added [] refl ∙ ap (λ v. quad_of (v ∷ [])) value) c.cell_quad-before.ensures.quad

@@ -4,13 +4,13 @@ use Rattle.cf_shape.specs.Nodes.{levels_of}
 use Rattle.cf_law.specs.Nibbles.{nibbles}
 use Rattle.cf_law.proofs.Nibbles.{length-nibbles}
 use Rattle.cf_append.proofs.Walking.{strides_then, one_book, same_book}
-use Rattle.cf_row.specs.Row.{Numbered}
-use Rattle.cf_fold.specs.Quads.{Counts, quad_of}
-use Rattle.cf_shape.specs.Lanes.{Shaped, lane_at, measure_of}
+use Rattle.cf_row.specs.Row.{RowValue}
+use Rattle.cf_fold.specs.Quads.{QuadValue, quad_of}
+use Rattle.cf_shape.specs.Lanes.{ShapeValue, lane_at, measure_of}
 use Rattle.cf_shape.specs.Uses.{cell_words, is_measured}
 use Rattle.cf_words.specs.Words.{spot, top}
 use Rattle.cf_law.specs.Passes.{Book}
-use Rattle.cf_table.specs.Held.{book_of}
+use Rattle.cf_table.specs.Values.{book_of}
 use Rattle.cf_append.specs.Linking.{amounts, key_path, leaf_chain, cell_from}
 use Rattle.cf_append.proofs.Newest.{amounts_few, top_few, quad_cell, three_words}
 use Rattle.cf_shape.proofs.KeyLevels.{levels_two}
@@ -22,7 +22,7 @@ pub overflow_add-result : goal.overflow_add-result
 overflow_add-result g c =
     let s = c.args.log.now.shape in
     let at = c.requires.at in
-    let wide = c.cell_size.ensures ∙ ap (λ (h : Shaped). cell_words (lane_at h c.args.lane)) c.shape-shape.ensures.shape in
+    let wide = c.cell_size.ensures ∙ ap (λ (h : ShapeValue). cell_words (lane_at h c.args.lane)) c.shape-shape.ensures.shape in
     omega (arith, at, wide, cell_low s c.args.lane c.requires.lane, ticket_few s c.shape-shape.ensures.lawful)
 
 pub overflow_add-result-2 : goal.overflow_add-result-2
@@ -41,14 +41,14 @@ pub returns-then-not-selects-clause-next : goal.returns-then-not-selects-clause-
 returns-then-not-selects-clause-next g c =
     let s = c.args.log.now.shape in
     let at = c.requires.at in
-    let wide = c.cell_size.ensures ∙ ap (λ (h : Shaped). cell_words (lane_at h c.args.lane)) c.shape-shape.ensures.shape in
+    let wide = c.cell_size.ensures ∙ ap (λ (h : ShapeValue). cell_words (lane_at h c.args.lane)) c.shape-shape.ensures.shape in
     omega (arith, at, wide, cell_next s c.args.lane c.requires.lane)
 
 pub returns-clause-next : goal.returns-clause-next
 returns-clause-next g c =
     let s = c.args.log.now.shape in
     let at = c.requires.at in
-    let bare : is_measured s c.args.lane ≡ false = ap (λ (h : Shaped). is_measured h c.args.lane) (sym c.shape-shape.ensures.shape) ∙ (sym c.measures.ensures ∙ c.if-measures.false) in
+    let bare : is_measured s c.args.lane ≡ false = ap (λ (h : ShapeValue). is_measured h c.args.lane) (sym c.shape-shape.ensures.shape) ∙ (sym c.measures.ensures ∙ c.if-measures.false) in
     omega (arith, at, unmeasured_next s c.args.lane c.requires.lane bare)
 
 pub own_head-previous-requires : goal.own_head-previous-requires
@@ -84,7 +84,7 @@ store_cell-requires-clause-place g c =
 pub store_cell-requires-clause-lawful : goal.store_cell-requires-clause-lawful
 store_cell-requires-clause-lawful g c =
     let s = c.args.log.now.shape in
-    let bare : is_measured s c.args.lane ≡ false = ap (λ (h : Shaped). is_measured h c.args.lane) (sym c.shape-shape.ensures.shape) ∙ (sym c.measures.ensures ∙ c.if-measures.false) in
+    let bare : is_measured s c.args.lane ≡ false = ap (λ (h : ShapeValue). is_measured h c.args.lane) (sym c.shape-shape.ensures.shape) ∙ (sym c.measures.ensures ∙ c.if-measures.false) in
     let l = c.args.lane in
     let row = c.args.row.now in
     let key = c.key-key.result in
@@ -103,7 +103,7 @@ returns-clause-strides g c =
 pub returns-clause-filled : goal.returns-clause-filled
 returns-clause-filled g c =
     let s = c.args.log.now.shape in
-    let bare : is_measured s c.args.lane ≡ false = ap (λ (h : Shaped). is_measured h c.args.lane) (sym c.shape-shape.ensures.shape) ∙ (sym c.measures.ensures ∙ c.if-measures.false) in
+    let bare : is_measured s c.args.lane ≡ false = ap (λ (h : ShapeValue). is_measured h c.args.lane) (sym c.shape-shape.ensures.shape) ∙ (sym c.measures.ensures ∙ c.if-measures.false) in
     filled_more c.args.log.now.shape c.args.pass.now c.own_head-previous.new.pass c.store_cell.new.pass c.args.offset c.args.lane c.args.i c.own_head-previous.result c.args.row.now c.requires.filled c.own_head-previous.ensures.books c.requires.lane bare c.requires.at c.store_cell.ensures.made
 
 pub quad_with-quad-requires-clause-previous : goal.quad_with-quad-requires-clause-previous
@@ -134,7 +134,7 @@ overflow_mul-first g c =
     let z = c.quad_with-quad.new.pass in
     let b = book_of n.view in
     let quad = c.quad_with-quad.ensures.quad in
-    let count = ap (λ (q : Counts). q.count) quad in
+    let count = ap (λ (q : QuadValue). q.count) quad in
     let counted = c.count.ensures in
     let few = amounts_few s l (spot l (key_path s l key)) (book_of n.view) own in
     let room = c.shape-shape.ensures.lawful.capacity in
@@ -155,7 +155,7 @@ overflow_add-first g c =
     let z = c.quad_with-quad.new.pass in
     let b = book_of n.view in
     let quad = c.quad_with-quad.ensures.quad in
-    let count = ap (λ (q : Counts). q.count) quad in
+    let count = ap (λ (q : QuadValue). q.count) quad in
     let counted = c.count.ensures in
     let few = amounts_few s l (spot l (key_path s l key)) (book_of n.view) own in
     let room = c.shape-shape.ensures.lawful.capacity in
@@ -189,11 +189,11 @@ store_three-requires-clause-words g c =
     let n = c.own_head-previous.new.pass in
     let previous = head_chain s m n c.args.offset (cell_from s l) c.own_head-previous.result row (spot l (key_path s l key)) c.requires.filled c.own_head-previous.ensures.books c.own_head-previous.ensures.head in
     let z = c.quad_with-quad.new.pass in
-    let measured : is_measured s l ≡ true = ap (λ (x : Shaped). is_measured x l) (sym same) ∙ (sym c.measures.ensures ∙ c.if-measures.true) in
+    let measured : is_measured s l ≡ true = ap (λ (x : ShapeValue). is_measured x l) (sym same) ∙ (sym c.measures.ensures ∙ c.if-measures.true) in
     let kept = same_book n z c.quad_with-quad.ensures.books in
     let chain = ap (λ (b : Book). leaf_chain s l key b) (sym kept) in
     let cell = quad_cell s l (leaf_chain s l key (book_of z.view)) row c.quad_with-quad.result c.own_head-previous.result _ _ measured (previous ∙ ap top chain)
-    (c.quad_with-quad.ensures.quad ∙ ap (λ (d : List (ℕ × Numbered)). quad_of (measure_of s l row ∷ amounts s l d)) chain)
+    (c.quad_with-quad.ensures.quad ∙ ap (λ (d : List (ℕ × RowValue)). quad_of (measure_of s l row ∷ amounts s l d)) chain)
     (ap (λ (k : ℕ). c.own_head-previous.result + k * 4294967296) c.count.ensures) (ap₂ (λ (x y : ℕ). x + y * 4294967296) c.least.ensures c.greatest.ensures) in
     record { first_is = cell.first_is; sum_is = c.sum.ensures ∙ cell.sum_is; ends_is = cell.ends_is }
 
@@ -201,12 +201,12 @@ pub overflow_add-result-then-measures : goal.overflow_add-result-then-measures
 overflow_add-result-then-measures g c =
     let s = c.args.log.now.shape in
     let at = c.requires.at in
-    let measured : is_measured s c.args.lane ≡ true = ap (λ (x : Shaped). is_measured x c.args.lane) (sym c.shape-shape.ensures.shape) ∙ (sym c.measures.ensures ∙ c.if-measures.true) in
+    let measured : is_measured s c.args.lane ≡ true = ap (λ (x : ShapeValue). is_measured x c.args.lane) (sym c.shape-shape.ensures.shape) ∙ (sym c.measures.ensures ∙ c.if-measures.true) in
     omega (arith, at, three_words s c.args.lane measured, cell_low s c.args.lane c.requires.lane, ticket_few s c.shape-shape.ensures.lawful)
 
 pub returns-then-measures-clause-next : goal.returns-then-measures-clause-next
 returns-then-measures-clause-next g c =
     let s = c.args.log.now.shape in
     let at = c.requires.at in
-    let measured : is_measured s c.args.lane ≡ true = ap (λ (x : Shaped). is_measured x c.args.lane) (sym c.shape-shape.ensures.shape) ∙ (sym c.measures.ensures ∙ c.if-measures.true) in
+    let measured : is_measured s c.args.lane ≡ true = ap (λ (x : ShapeValue). is_measured x c.args.lane) (sym c.shape-shape.ensures.shape) ∙ (sym c.measures.ensures ∙ c.if-measures.true) in
     omega (arith, at, three_words s c.args.lane measured, cell_next s c.args.lane c.requires.lane)

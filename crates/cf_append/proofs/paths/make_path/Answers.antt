@@ -1,5 +1,5 @@
 use Rattle.std.proofs.Common.{◌-◌, ◌/◌, refl, ap, sym, ◌∙◌, ℕ}
-use Rattle.cf_shape.specs.Lanes.{Shaped, selected_by, key_of}
+use Rattle.cf_shape.specs.Lanes.{ShapeValue, selected_by, key_of}
 use Rattle.cf_shape.specs.Nodes.{levels_of}
 use Rattle.cf_append.specs.declared.paths.Prefix.{Prefix}
 use Rattle.cf_append.specs.Paths.{IsAlong, IsOnPath}
@@ -18,11 +18,11 @@ returns-clause-used g c =
     let at : Prefix = record { lane = l; level = c.levels.result - 1; front = c.key.result / 16 } in
     let same = c.shape-shape.ensures.shape in
     let w : IsWhole s c.args.row.now l at = record {
-      selects = ap (λ (h : Shaped). selected_by h l c.args.row.now) (sym same) ∙ (sym c.selects.ensures ∙ c.if-not-selects.false);
+      selects = ap (λ (h : ShapeValue). selected_by h l c.args.row.now) (sym same) ∙ (sym c.selects.ensures ∙ c.if-not-selects.false);
       many = levels_two s l c.shape-shape.ensures.lawful c.requires.lane;
       lane_is = refl;
-      level = ap (λ (k : ℕ). k - 1) (c.levels.ensures ∙ ap (λ (h : Shaped). levels_of h l) same);
-      front = ap (λ (k : ℕ). k / 16) (c.key.ensures ∙ ap (λ (h : Shaped). key_of h l c.args.row.now) same);
+      level = ap (λ (k : ℕ). k - 1) (c.levels.ensures ∙ ap (λ (h : ShapeValue). levels_of h l) same);
+      front = ap (λ (k : ℕ). k / 16) (c.key.ensures ∙ ap (λ (h : ShapeValue). key_of h l c.args.row.now) same);
     } in
     used_by (IsAlong at) (IsOnPath s c.args.row.now) c.args.pass.now c.make_node.new.pass (on_path s c.args.row.now l at w) c.make_node.ensures.used
 
@@ -35,10 +35,10 @@ returns-clause-answer g c =
     let at : Prefix = record { lane = l; level = c.levels.result - 1; front = c.key.result / 16 } in
     let same = c.shape-shape.ensures.shape in
     let w : IsWhole s c.args.row.now l at = record {
-      selects = ap (λ (h : Shaped). selected_by h l c.args.row.now) (sym same) ∙ (sym c.selects.ensures ∙ c.if-not-selects.false);
+      selects = ap (λ (h : ShapeValue). selected_by h l c.args.row.now) (sym same) ∙ (sym c.selects.ensures ∙ c.if-not-selects.false);
       many = levels_two s l c.shape-shape.ensures.lawful c.requires.lane;
       lane_is = refl;
-      level = ap (λ (k : ℕ). k - 1) (c.levels.ensures ∙ ap (λ (h : Shaped). levels_of h l) same);
-      front = ap (λ (k : ℕ). k / 16) (c.key.ensures ∙ ap (λ (h : Shaped). key_of h l c.args.row.now) same);
+      level = ap (λ (k : ℕ). k - 1) (c.levels.ensures ∙ ap (λ (h : ShapeValue). levels_of h l) same);
+      front = ap (λ (k : ℕ). k / 16) (c.key.ensures ∙ ap (λ (h : ShapeValue). key_of h l c.args.row.now) same);
     } in
     Rattle.cf_append.proofs.Pathing.leaf_or s c.args.row.now l at m n c.make_node.result w c.make_node.ensures.answer

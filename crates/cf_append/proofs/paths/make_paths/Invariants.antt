@@ -1,5 +1,5 @@
 use Rattle.std.proofs.Common.{◌≡◌, ◌+◌, ◌≤◌, length}
-use Rattle.cf_table.specs.Held.{IsOf}
+use Rattle.cf_table.specs.Values.{IsOf}
 use Rattle.cf_append.specs.Appends.{Rests}
 use Rattle.cf_append.specs.Paths.{Strides, HasUsed, IsOnPath, HasLeaves, path_steps}
 use Rattle.cf_append.proofs.paths.make_paths.Given as goal

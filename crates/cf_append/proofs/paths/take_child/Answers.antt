@@ -3,7 +3,7 @@ use Rattle.cf_shape.proofs.Bounds.{total_small, writers_nodes_small}
 use Rattle.cf_shape.proofs.Slots.{place_within}
 use Rattle.cf_shape.specs.Places.{sizes_of}
 use Rattle.cf_law.specs.Shapes.{layout}
-use Rattle.cf_table.specs.Held.{Held}
+use Rattle.cf_table.specs.Values.{PassValue}
 use Rattle.cf_table.proofs.Homing.{still_one}
 use Rattle.cf_table.proofs.Mays.{may_child, may_label, may_link}
 use Rattle.cf_append.proofs.Walking.{strides_then, load_strides, load_books, load_node, load_stuck, label_strides, label_books, link_strides, link_lost, won_node, lost_node, used_same, used_none, rests_same, same_book, node_low, label_room, child_still, writer_low}
@@ -38,7 +38,7 @@ returns-in_default-clause-answer g c =
     let m = c.args.pass.now in
     let n = c.load_child-found.new.pass in
     load_stuck c.args.log.now.shape m n g.to.0 g.to.1 c.load_child-found.result c.if-found-ne0.false c.load_child-found.ensures.made c.requires.1.1.1.0 c.requires.1.1.0
-    (c.in_default.ensures ∙ (ap (λ (h : Held). h.nodes) c.load_child-found.ensures.made.same ∙ c.requires.1.0.nodes))
+    (c.in_default.ensures ∙ (ap (λ (h : PassValue). h.nodes) c.load_child-found.ensures.made.same ∙ c.requires.1.0.nodes))
 
 pub overflow_mul-place : goal.overflow_mul-place
 overflow_mul-place g c =
@@ -64,7 +64,7 @@ label-requires-clause-place g c =
     let m = c.args.pass.now in
     let n = c.load_child-found.new.pass in
     let made = c.load_child-found.ensures.made in
-    let nodes = ap (λ (h : Held). h.nodes) made.same ∙ c.requires.1.0.nodes in
+    let nodes = ap (λ (h : PassValue). h.nodes) made.same ∙ c.requires.1.0.nodes in
     node_low s n c.in-Some.node nodes (writer_low s m n g.to.0 g.to.1 c.load_child-found.result c.requires.1.1.0 made) c.in-Some.ensures
 
 pub label-requires-clause-lawful : goal.label-requires-clause-lawful
@@ -73,7 +73,7 @@ label-requires-clause-lawful g c =
     let m = c.args.pass.now in
     let n = c.load_child-found.new.pass in
     let made = c.load_child-found.ensures.made in
-    let nodes = ap (λ (h : Held). h.nodes) made.same ∙ c.requires.1.0.nodes in
+    let nodes = ap (λ (h : PassValue). h.nodes) made.same ∙ c.requires.1.0.nodes in
     let rest = rests_same m n c.requires.1.1.0 (load_books s m n g.to.0 g.to.1 c.load_child-found.result made) in
     let room = label_room s n c.in-Some.node nodes c.in-Some.ensures in
     let child = child_still (layout s) m n g.to.0 g.to.1 (load_strides s m n g.to.0 g.to.1 c.load_child-found.result made) c.requires.1.1.1.0 in
@@ -88,7 +88,7 @@ link-named-requires g c κs within =
     let o = c.label.new.pass in
     let made = c.load_child-found.ensures.made in
     let stored = c.label.ensures.made in
-    let nodes = ap (λ (h : Held). h.nodes) made.same ∙ c.requires.1.0.nodes in
+    let nodes = ap (λ (h : PassValue). h.nodes) made.same ∙ c.requires.1.0.nodes in
     let rest = rests_same m n c.requires.1.1.0 (load_books s m n g.to.0 g.to.1 c.load_child-found.result made) in
     let room = label_room s n c.in-Some.node nodes c.in-Some.ensures in
     let child = child_still (layout s) m n g.to.0 g.to.1 (load_strides s m n g.to.0 g.to.1 c.load_child-found.result made) c.requires.1.1.1.0 in

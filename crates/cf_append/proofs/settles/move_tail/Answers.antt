@@ -1,5 +1,5 @@
 use Rattle.std.proofs.Common.{◌≡◌, ◌∙◌, ℕ, true, false, inl, inr, length, ap, sym, arith}
-use Rattle.cf_shape.specs.Lanes.{Shaped}
+use Rattle.cf_shape.specs.Lanes.{ShapeValue}
 use Rattle.cf_shape.specs.Places.{slot_of}
 use Rattle.cf_shape.specs.Places.Word.{done}
 use Rattle.cf_law.specs.Passes.{Pass, Look}
@@ -17,7 +17,7 @@ advance-requires-clause-lawful g c =
     let seen = ap length (looked_seen s m n t (n.view.look).value look) in
     let at = c.covered-t.ensures in
     let low = c.loop-pass-test.true in
-    let room = c.capacity-capacity.ensures.capacity ∙ ap (λ (x : Shaped). x.capacity) c.shape.ensures.shape in
+    let room = c.capacity-capacity.ensures.capacity ∙ ap (λ (x : ShapeValue). x.capacity) c.shape.ensures.shape in
     let known = c.covered.ensures in
     may_advance s n.view t (omega (arith, seen, at)) (omega (arith, at, low, room, known)) (ap (λ (q : Pass). (q.look).word) look.told.is) (c.look_done.ensures.found.0 c.if-not-look_done.false)
 
@@ -58,7 +58,7 @@ returns-then-not-look_done-clause-alone g c =
     let m = c.loop-pass.pass in
     let n = c.look_done.new.pass in
     let t = c.covered-t.result in
-    let room = c.capacity-capacity.ensures.capacity ∙ ap (λ (x : Shaped). x.capacity) c.shape.ensures.shape in
+    let room = c.capacity-capacity.ensures.capacity ∙ ap (λ (x : ShapeValue). x.capacity) c.shape.ensures.shape in
     let at = c.covered-t.ensures in
     let low = c.loop-pass-test.true in
     let known = c.covered.ensures in
@@ -72,7 +72,7 @@ returns-clause-alone g c =
     let s = c.args.log.now.shape in
     let m = c.loop-pass.pass in
     let n = c.look_done-2.new.pass in
-    let room = c.capacity-capacity.ensures.capacity ∙ ap (λ (x : Shaped). x.capacity) c.shape.ensures.shape in
+    let room = c.capacity-capacity.ensures.capacity ∙ ap (λ (x : ShapeValue). x.capacity) c.shape.ensures.shape in
     let known = c.covered.ensures in
     let past = c.loop-pass-test.false in
     all_alone s m n 0 (n.view.look).value c.look_done-2.ensures.made (inl (omega (arith, past, room, known)))

@@ -1,6 +1,6 @@
 use Rattle.std.proofs.Common.{◌≡◌, ◌∷◌, List, sym, subst, rules}
 use Rattle.std.specs.Vec.Iter.{into_iter_items}
-use Rattle.cf_table.specs.Held.{Held}
+use Rattle.cf_table.specs.Values.{PassValue}
 use Rattle.cf_table.specs.Fresh.{AreFresh}
 use Rattle.cf_table.proofs.Fresh.{fresh_first, fresh_next}
 use Rattle.cf_append.proofs.Appending.{rests_by}
@@ -8,20 +8,20 @@ use Rattle.cf_append.proofs.tests.append_each.Goals as goal
 
 pub append_some-next-requires-clause-of : goal.append_some-next-requires-clause-of
 append_some-next-requires-clause-of g c =
-    let rest : List Held = into_iter_items c.next.new.self in
+    let rest : List PassValue = into_iter_items c.next.new.self in
     let split : into_iter_items c.loop-pass.pass-iterator ≡ c.in-Some.pass ∷ rest = c.in-Some.ensures.steps.0 in
     (fresh_first c.args.log.now c.in-Some.pass rest (subst (AreFresh c.args.log.now) split c.loop-pass.invariant.fresh)).of
 
 pub append_some-next-requires-clause-rest : goal.append_some-next-requires-clause-rest
 append_some-next-requires-clause-rest g c =
-    let rest : List Held = into_iter_items c.next.new.self in
+    let rest : List PassValue = into_iter_items c.next.new.self in
     let split : into_iter_items c.loop-pass.pass-iterator ≡ c.in-Some.pass ∷ rest = c.in-Some.ensures.steps.0 in
     let f = fresh_first c.args.log.now c.in-Some.pass rest (subst (AreFresh c.args.log.now) split c.loop-pass.invariant.fresh) in
     rests_by (c.in-Some.pass).view f.book f.one f.rests
 
 pub loop-pass-preserved : goal.loop-pass-preserved
 loop-pass-preserved g c =
-    let rest : List Held = into_iter_items c.next.new.self in
+    let rest : List PassValue = into_iter_items c.next.new.self in
     let split : into_iter_items c.loop-pass.pass-iterator ≡ c.in-Some.pass ∷ rest = c.in-Some.ensures.steps.0 in
     record { fresh = fresh_next c.args.log.now c.in-Some.pass rest (subst (AreFresh c.args.log.now) split c.loop-pass.invariant.fresh) }
 

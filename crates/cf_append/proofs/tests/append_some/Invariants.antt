@@ -1,4 +1,4 @@
-use Rattle.cf_table.specs.Held.{IsOf}
+use Rattle.cf_table.specs.Values.{IsOf}
 use Rattle.cf_append.specs.Appends.{Rests}
 use Rattle.cf_append.proofs.tests.append_some.Given as goal
 

@@ -1,6 +1,6 @@
 use Rattle.std.proofs.Common.{◌≡◌, ◌∙◌, ◌<◌, ◌≤◌, ℕ, length, ap, sym, subst, arith, rules}
-use Rattle.cf_shape.specs.Lanes.{Shaped}
-use Rattle.cf_table.specs.Ways.{Made, take_way}
+use Rattle.cf_shape.specs.Lanes.{ShapeValue}
+use Rattle.cf_table.specs.Effects.{HasStepped, take_effect}
 use Rattle.cf_table.proofs.Mays.{the_book}
 use Rattle.cf_append.proofs.Appending.{may_begin}
 use Rattle.cf_append.proofs.Pathing.{leaves_still}
@@ -24,10 +24,10 @@ fill_cells-requires-clause-book g c =
     let p = c.make_paths.new.pass in
     let t = c.take_ticket-found.new.pass in
     let f = c.fill.new.pass in
-    let capacity = c.capacity.ensures.capacity ∙ ap (λ (x : Shaped). x.capacity) c.shape.ensures.shape in
+    let capacity = c.capacity.ensures.capacity ∙ ap (λ (x : ShapeValue). x.capacity) c.shape.ensures.shape in
     let room : 0 < s.capacity = search (rules, capacity) in
     let zero : c.take_ticket-found.result ≡ 0 = search rules in
-    let B : HasBegun s row p t f 0 = record { room = room; took = subst (λ (k : ℕ). Made s (take_way s p.view row) p k t) zero c.take_ticket-found.ensures.made; is = c.fill.ensures.pass } in
+    let B : HasBegun s row p t f 0 = record { room = room; took = subst (λ (k : ℕ). HasStepped s (take_effect s p.view row) p k t) zero c.take_ticket-found.ensures.made; is = c.fill.ensures.pass } in
     begun_book s row p t f 0 B
 
 pub fill_cells-requires-clause-filled : goal.fill_cells-requires-clause-filled
@@ -37,10 +37,10 @@ fill_cells-requires-clause-filled g c =
     let p = c.make_paths.new.pass in
     let t = c.take_ticket-found.new.pass in
     let f = c.fill.new.pass in
-    let capacity = c.capacity.ensures.capacity ∙ ap (λ (x : Shaped). x.capacity) c.shape.ensures.shape in
+    let capacity = c.capacity.ensures.capacity ∙ ap (λ (x : ShapeValue). x.capacity) c.shape.ensures.shape in
     let room : 0 < s.capacity = search (rules, capacity) in
     let zero : c.take_ticket-found.result ≡ 0 = search rules in
-    let B : HasBegun s row p t f 0 = record { room = room; took = subst (λ (k : ℕ). Made s (take_way s p.view row) p k t) zero c.take_ticket-found.ensures.made; is = c.fill.ensures.pass } in
+    let B : HasBegun s row p t f 0 = record { room = room; took = subst (λ (k : ℕ). HasStepped s (take_effect s p.view row) p k t) zero c.take_ticket-found.ensures.made; is = c.fill.ensures.pass } in
     begun_self s row p t f 0 B
 
 pub fill_cells-requires-clause-leaves : goal.fill_cells-requires-clause-leaves
@@ -50,10 +50,10 @@ fill_cells-requires-clause-leaves g c =
     let p = c.make_paths.new.pass in
     let t = c.take_ticket-found.new.pass in
     let f = c.fill.new.pass in
-    let capacity = c.capacity.ensures.capacity ∙ ap (λ (x : Shaped). x.capacity) c.shape.ensures.shape in
+    let capacity = c.capacity.ensures.capacity ∙ ap (λ (x : ShapeValue). x.capacity) c.shape.ensures.shape in
     let room : 0 < s.capacity = search (rules, capacity) in
     let zero : c.take_ticket-found.result ≡ 0 = search rules in
-    let B : HasBegun s row p t f 0 = record { room = room; took = subst (λ (k : ℕ). Made s (take_way s p.view row) p k t) zero c.take_ticket-found.ensures.made; is = c.fill.ensures.pass } in
+    let B : HasBegun s row p t f 0 = record { room = room; took = subst (λ (k : ℕ). HasStepped s (take_effect s p.view row) p k t) zero c.take_ticket-found.ensures.made; is = c.fill.ensures.pass } in
     begun_leaves s row p t f 0 c.in-Some.leaves (length s.lanes) B c.in-Some.ensures.answer
 
 pub link_all-requires-clause-writer : goal.link_all-requires-clause-writer
@@ -63,10 +63,10 @@ link_all-requires-clause-writer g c =
     let p = c.make_paths.new.pass in
     let t = c.take_ticket-found.new.pass in
     let f = c.fill.new.pass in
-    let capacity = c.capacity.ensures.capacity ∙ ap (λ (x : Shaped). x.capacity) c.shape.ensures.shape in
+    let capacity = c.capacity.ensures.capacity ∙ ap (λ (x : ShapeValue). x.capacity) c.shape.ensures.shape in
     let room : 0 < s.capacity = search (rules, capacity) in
     let zero : c.take_ticket-found.result ≡ 0 = search rules in
-    let B : HasBegun s row p t f 0 = record { room = room; took = subst (λ (k : ℕ). Made s (take_way s p.view row) p k t) zero c.take_ticket-found.ensures.made; is = c.fill.ensures.pass } in
+    let B : HasBegun s row p t f 0 = record { room = room; took = subst (λ (k : ℕ). HasStepped s (take_effect s p.view row) p k t) zero c.take_ticket-found.ensures.made; is = c.fill.ensures.pass } in
     let C : HasCells s row p t f c.fill_cells.new.pass 0 = record { begun = B; strides = c.fill_cells.ensures.strides; filled = c.fill_cells.ensures.filled } in
     cells_writer s row p t f c.fill_cells.new.pass 0 C
 
@@ -77,10 +77,10 @@ link_all-requires-clause-linked g c =
     let p = c.make_paths.new.pass in
     let t = c.take_ticket-found.new.pass in
     let f = c.fill.new.pass in
-    let capacity = c.capacity.ensures.capacity ∙ ap (λ (x : Shaped). x.capacity) c.shape.ensures.shape in
+    let capacity = c.capacity.ensures.capacity ∙ ap (λ (x : ShapeValue). x.capacity) c.shape.ensures.shape in
     let room : 0 < s.capacity = search (rules, capacity) in
     let zero : c.take_ticket-found.result ≡ 0 = search rules in
-    let B : HasBegun s row p t f 0 = record { room = room; took = subst (λ (k : ℕ). Made s (take_way s p.view row) p k t) zero c.take_ticket-found.ensures.made; is = c.fill.ensures.pass } in
+    let B : HasBegun s row p t f 0 = record { room = room; took = subst (λ (k : ℕ). HasStepped s (take_effect s p.view row) p k t) zero c.take_ticket-found.ensures.made; is = c.fill.ensures.pass } in
     let C : HasCells s row p t f c.fill_cells.new.pass 0 = record { begun = B; strides = c.fill_cells.ensures.strides; filled = c.fill_cells.ensures.filled } in
     cells_self s row p t f c.fill_cells.new.pass 0 C
 
@@ -91,10 +91,10 @@ link_all-requires-clause-leaves g c =
     let p = c.make_paths.new.pass in
     let t = c.take_ticket-found.new.pass in
     let f = c.fill.new.pass in
-    let capacity = c.capacity.ensures.capacity ∙ ap (λ (x : Shaped). x.capacity) c.shape.ensures.shape in
+    let capacity = c.capacity.ensures.capacity ∙ ap (λ (x : ShapeValue). x.capacity) c.shape.ensures.shape in
     let room : 0 < s.capacity = search (rules, capacity) in
     let zero : c.take_ticket-found.result ≡ 0 = search rules in
-    let B : HasBegun s row p t f 0 = record { room = room; took = subst (λ (k : ℕ). Made s (take_way s p.view row) p k t) zero c.take_ticket-found.ensures.made; is = c.fill.ensures.pass } in
+    let B : HasBegun s row p t f 0 = record { room = room; took = subst (λ (k : ℕ). HasStepped s (take_effect s p.view row) p k t) zero c.take_ticket-found.ensures.made; is = c.fill.ensures.pass } in
     leaves_still s row f c.fill_cells.new.pass c.in-Some.leaves (length s.lanes) c.fill_cells.ensures.strides (begun_leaves s row p t f 0 c.in-Some.leaves (length s.lanes) B c.in-Some.ensures.answer)
 
 pub finish_record-requires-clause-lawful : goal.finish_record-requires-clause-lawful

@@ -1,7 +1,7 @@
 use Rattle.std.proofs.Common.{◌≡◌, ℕ, ◌+◌, ◌-◌, ◌<◌, ◌==◌, ◌++◌, ◌∷◌, [], List, cond, drop, length, refl, arith, ap, sym, ◌∙◌, rules}
 use Rattle.std.proofs.lemmas.Option.{slice_get_read}
-use Rattle.cf_fold.specs.Quads.{Counts, quad_of}
-use Rattle.cf_row.specs.Row.{Numbered}
+use Rattle.cf_fold.specs.Quads.{QuadValue, quad_of}
+use Rattle.cf_row.specs.Row.{RowValue}
 use Rattle.cf_shape.specs.Lanes.{measure_of}
 use Rattle.cf_words.specs.Words.{spot, same_path, top}
 use Rattle.cf_law.specs.Passes.{Own}
@@ -16,7 +16,7 @@ loop-at-init c =
     let sh = layout c.args.shape.now in
     let s = spot c.args.lane c.args.path.now in
     let none : mine_chain sh s (drop (length c.args.mine.now) c.args.mine.now) ≡ [] = chain_end sh s c.args.mine.now (length c.args.mine.now) (omega arith) in
-    let empty : ◌≡◌ {A = Counts} (record { count = 0; sum = 0; least = 0; greatest = 0 }) (quad_of []) = refl in
+    let empty : ◌≡◌ {A = QuadValue} (record { count = 0; sum = 0; least = 0; greatest = 0 }) (quad_of []) = refl in
     let added : c.add-quad.result ≡ quad_of ([] ++ c.measure.result ∷ []) = c.add-quad.ensures.added [] empty in (
       sym (ap top none),
       added ∙ (ap (λ (v : ℕ). quad_of ([] ++ v ∷ [])) c.measure.ensures ∙ ap quad_of (sym (amounts_first c.args.shape.now c.args.lane c.args.row.now (mine_chain sh s (drop (length c.args.mine.now) c.args.mine.now)) none))),
@@ -38,10 +38,10 @@ loop-at-preserved-then-not-branch c =
     let low : c.loop-at.at - 1 < length mine = omega (arith, c.loop-at-test.true, c.loop-at.auto.at) in
     let back : c.loop-at.at - 1 + 1 ≡ c.loop-at.at = omega (arith, c.loop-at-test.true) in
     let same : c.in_ok-has_path.field-0 ≡ same_path (path_in c.args.shape.now c.index-mine-at.result.row c.args.lane) c.args.path.now =
-    (let g : c.in_ok-has_path.field-0 ≡ same_path (path_in c.args.shape.now c.row.result.now c.args.lane) c.args.path.now = search (rules, c.in_ok-has_path.ensures) in g ∙ ap (λ (r : Numbered). same_path (path_in c.args.shape.now r c.args.lane) c.args.path.now) c.row.ensures) in
+    (let g : c.in_ok-has_path.field-0 ≡ same_path (path_in c.args.shape.now c.row.result.now c.args.lane) c.args.path.now = search (rules, c.in_ok-has_path.ensures) in g ∙ ap (λ (r : RowValue). same_path (path_in c.args.shape.now r c.args.lane) c.args.path.now) c.row.ensures) in
     let whole : mine_chain sh s (drop (c.loop-at.at - 1) mine) ≡ mine_chain sh s (drop c.loop-at.at mine) =
     chain_out sh s mine (c.loop-at.at - 1) c.index-mine-at.result low c.index-mine-at.is (sym same ∙ c.if-not-branch.true) ∙ ap (λ (n : ℕ). mine_chain sh s (drop n mine)) back in
-    (c.loop-at.invariant.0 ∙ ap top (sym whole), c.loop-at.invariant.1 ∙ ap (λ (ch : List (ℕ × Numbered)). quad_of (amounts c.args.shape.now c.args.lane c.args.row.now ch)) (sym whole))
+    (c.loop-at.invariant.0 ∙ ap top (sym whole), c.loop-at.invariant.1 ∙ ap (λ (ch : List (ℕ × RowValue)). quad_of (amounts c.args.shape.now c.args.lane c.args.row.now ch)) (sym whole))
 
 pub measure-requires-in-loop-at-clause-fits : goal.measure-requires-in-loop-at-clause-fits
 measure-requires-in-loop-at-clause-fits c =
@@ -64,7 +64,7 @@ loop-at-preserved c =
     let low : c.loop-at.at - 1 < length mine = omega (arith, c.loop-at-test.true, c.loop-at.auto.at) in
     let back : c.loop-at.at - 1 + 1 ≡ c.loop-at.at = omega (arith, c.loop-at-test.true) in
     let same : c.in_ok-has_path.field-0 ≡ same_path (path_in c.args.shape.now c.index-mine-at.result.row c.args.lane) c.args.path.now =
-    (let g : c.in_ok-has_path.field-0 ≡ same_path (path_in c.args.shape.now c.row.result.now c.args.lane) c.args.path.now = search (rules, c.in_ok-has_path.ensures) in g ∙ ap (λ (r : Numbered). same_path (path_in c.args.shape.now r c.args.lane) c.args.path.now) c.row.ensures) in
+    (let g : c.in_ok-has_path.field-0 ≡ same_path (path_in c.args.shape.now c.row.result.now c.args.lane) c.args.path.now = search (rules, c.in_ok-has_path.ensures) in g ∙ ap (λ (r : RowValue). same_path (path_in c.args.shape.now r c.args.lane) c.args.path.now) c.row.ensures) in
     let x : Own = c.index-mine-at.result in
     let ch = mine_chain sh s (drop c.loop-at.at mine) in
     let whole : mine_chain sh s (drop (c.loop-at.at - 1) mine) ≡ ch ++ (x.offset, x.row) ∷ [] =

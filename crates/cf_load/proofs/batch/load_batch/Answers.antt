@@ -1,7 +1,7 @@
 use Rattle.std.proofs.Common.{rules, ◌≡◌, ◌+◌, ◌-◌, ◌*◌, ◌++◌, [], ℕ, Option, Some, None, IfSome, is_none, length, take, drop, ap, sym, subst, ◌∙◌, arith}
 use Rattle.std.proofs.lemmas.Result.{IfOk-weaker}
 use Rattle.std.specs.List.{AllZip}
-use Rattle.cf_table.specs.Moves.{AreAll, Gathered}
+use Rattle.cf_table.specs.Moves.{AreAll, HasGathered}
 use Rattle.cf_load.specs.Loading.{HasLoaded}
 use Rattle.cf_law.specs.Passes.{Pass}
 use Rattle.cf_load.specs.Planned.{tails_of}
@@ -39,7 +39,7 @@ written g c =
     rw (sym part, sym c.as_mut_slice.ensures.value) c.run_beside-out.ensures.wrote
 
 -- and came home
-gathered : (g : Over) (c : goal.After-outcome g) → Gathered c.args.log.now.shape c.deal.new.root c.run_beside-out.new.passes c.gather.new.root
+gathered : (g : Over) (c : goal.After-outcome g) → HasGathered c.args.log.now.shape c.deal.new.root c.run_beside-out.new.passes c.gather.new.root
 gathered g c =
     let v = c.in-Ok.passes in
     let after = c.run_beside-out.new.passes in

@@ -1,5 +1,5 @@
 use Rattle.std.proofs.Common.{rules, ◌≡◌, ◌+◌, ◌<◌, ◌*◌, ◌++◌, length, take, ap, sym, subst, ◌∙◌, arith}
-use Rattle.cf_table.specs.Held.{Held}
+use Rattle.cf_table.specs.Values.{PassValue}
 use Rattle.cf_load.specs.Loading.{HasAnswered}
 use Rattle.cf_load.proofs.Loading.{answered_beside, told_more}
 use Rattle.cf_load.proofs.loads.load_batches.Goals as goal
@@ -17,7 +17,7 @@ loop-batch-preserved g c =
     let items : c.append.new.self.items ≡ c.loop-batch.lives.items ++ more = search rules in
     let some : 4096 * b < length rows = (let lt = c.loop-batch-test.true in let many = c.div_ceil-batches.ensures in omega (arith, lt, many)) in
     record {
-      same = c.load_batch.ensures.same ∙ ap (λ (h : Held). record h { view = n.view }) v.same;
+      same = c.load_batch.ensures.same ∙ ap (λ (h : PassValue). record h { view = n.view }) v.same;
       loaded = made.loaded;
       answered = subst (HasAnswered log.shape plan.asks.items plan.lives.items plan.rounds (length (take (4096 * (b + 1)) rows)) (n.view).seen) (sym items)
           (answered_beside log rows plan b c.loop-batch.root n c.loop-batch.lives.items more v.loaded made.loaded some v.answered made.asked);

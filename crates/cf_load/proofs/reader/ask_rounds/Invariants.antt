@@ -1,4 +1,4 @@
-use Rattle.cf_table.specs.Held.{IsOf}
+use Rattle.cf_table.specs.Values.{IsOf}
 use Rattle.cf_load.specs.Loading.{AsksSome}
 use Rattle.cf_load.specs.Planned.{HasRead}
 use Rattle.cf_load.proofs.reader.ask_rounds.Given as goal

@@ -1,5 +1,5 @@
 use Rattle.std.proofs.Common.{◌≡◌, ◌%◌, ap, sym, ◌∙◌, Ok, Err, rules}
-use Rattle.cf_shape.specs.Lanes.{Shaped}
+use Rattle.cf_shape.specs.Lanes.{ShapeValue}
 use Rattle.cf_append.specs.declared.appends.AppendFault.TheVariants.{Full, NodesFull}
 use Rattle.cf_load.proofs.Progress.{goes_first, goes_other, goes_answered, stops_full, stops_out}
 use Rattle.cf_load.proofs.writers.write_rows.Goals as goal
@@ -31,7 +31,7 @@ pub loop-row-preserved : goal.loop-row-preserved
 loop-row-preserved g c =
     let k = c.loop-row.number in
     let i = c.loop-row.row-index in
-    let writers = c.from-writers.ensures ∙ (c.writers.ensures.writers ∙ ap (λ (s : Shaped). s.writers) c.shape.ensures.shape) in
+    let writers = c.from-writers.ensures ∙ (c.writers.ensures.writers ∙ ap (λ (s : ShapeValue). s.writers) c.shape.ensures.shape) in
     let same = ap (λ n. k % n) writers in
     let writer = c.from.ensures ∙ c.writer-writer.ensures.writer in
     elim c.if-number-writers.branch [

@@ -1,5 +1,5 @@
 use Rattle.std.proofs.Common.{rules, arith, ◌≡◌, ◌≤◌, ◌+◌, ◌-◌, ◌*◌, ◌∙◌, ap, [], ◌∷◌, ◌++◌, length, drop, length-append, length-drop}
-use Rattle.cf_pcap.specs.Capture.{Captured, HasRecord, frame_at, caplen_at}
+use Rattle.cf_pcap.specs.Capture.{FrameValue, HasRecord, frame_at, caplen_at}
 use Rattle.cf_pcap.proofs.Following.{one_more}
 use Rattle.cf_pcap.proofs.records.read_records.Goals as goal
 
@@ -13,7 +13,7 @@ loop-frames-preserved c =
     let is : frame ≡ frame_at form (c.args.num + length frames) rest = rw count at c.in_ok-frame.ensures in
     let has : HasRecord form rest = c.has_record.ensures.yes c.loop-frames-test.true in
     let fits : 16 + caplen_at form rest + c.args.late ≤ length rest = c.has_record.ensures.early c.loop-frames-test.true in
-    let end : c.record_len-end.result ≡ 16 + caplen_at form rest = c.record_len-end.ensures ∙ ap (λ (f : Captured). 16 + f.caplen) is in
+    let end : c.record_len-end.result ≡ 16 + caplen_at form rest = c.record_len-end.ensures ∙ ap (λ (f : FrameValue). 16 + f.caplen) is in
     let back : c.split_at.result.1.now ≡ drop (16 + caplen_at form rest) rest = c.split_at.ensures.back ∙ ap (λ n. drop n rest) end in
     let all : c.push.new.self.items ≡ frames ++ frame ∷ [] = c.in_ok-push.ensures.items in
     let many : length (frames ++ frame ∷ []) ≡ length frames + 1 = length-append frames (frame ∷ []) in

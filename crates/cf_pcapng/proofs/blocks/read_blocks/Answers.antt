@@ -1,5 +1,5 @@
 use Rattle.std.proofs.Common.{◌≡◌, ◌≤◌, ◌+◌, ◌-◌, ◌^◌, ℕ, List, ◌++◌, length, take, drop, Some, None, sym, ap, subst, ◌∙◌, arith, length-drop}
-use Rattle.cf_pcap.specs.Capture.{Captured}
+use Rattle.cf_pcap.specs.Capture.{FrameValue}
 use Rattle.cf_stream.specs.Format.{ReadsTo}
 use Rattle.cf_pcapng.specs.declared.blocks.Next.TheVariants as next
 use Rattle.cf_pcapng.specs.File.{State, frames_of, after, pcapng}
@@ -26,7 +26,7 @@ loop-total-preserved c =
     let len : length (drop total at.left.now) ≡ length at.left.now - total = length-drop total at.left.now in
     let room : now.count + length at.left.now ≤ 2 ^ 32 = at.invariant.room in
     let small : (after now content).count + length (drop total at.left.now) ≤ 2 ^ 32 = omega (arith, count, size, fits, len, room) in record {
-      read = subst (λ (x : List Captured). ReadsTo pcapng s c.args.bytes.now x (state_of c.pass.new.self) c.split_at.result.1.now) (sym given)
+      read = subst (λ (x : List FrameValue). ReadsTo pcapng s c.args.bytes.now x (state_of c.pass.new.self) c.split_at.result.1.now) (sym given)
           (subst (λ (x : State). ReadsTo pcapng s c.args.bytes.now (at.frames.items ++ frames_of now.count content (take total at.left.now)) x c.split_at.result.1.now) (sym moved)
           (subst (λ (x : List ℕ). ReadsTo pcapng s c.args.bytes.now (at.frames.items ++ frames_of now.count content (take total at.left.now)) (after now content) x) (sym back) more));
       had = c.in_ok-pass-in-Block.ensures.had ∙ at.invariant.had;

@@ -1,5 +1,5 @@
 use Rattle.std.proofs.Common.{◌≡◌, ℕ, List, [], ◌++◌, length, drop, Some, sym, subst, rules}
-use Rattle.cf_pcap.specs.Capture.{Captured}
+use Rattle.cf_pcap.specs.Capture.{FrameValue}
 use Rattle.cf_pcapng.specs.declared.fault.Flaw.TheVariants.{BadLength}
 use Rattle.cf_pcapng.specs.Position.{state_of}
 use Rattle.cf_pcapng.specs.Reading.{AreRead, IsSoundOn, Begins, Breaks}
@@ -24,7 +24,7 @@ returns-in_ok-held-in-Within-clause-read c = λ gone was.
     let some = c.in-Within.some in
     let held : c.in_ok-held-in-Within.held.items ≡ drop some bytes = search rules in
     let none : c.new.result.items ≡ [] = c.new.ensures.items in
-    subst (λ (xs : List Captured). Begins s (gone ++ bytes) xs s (Some passed) c.in_ok-held-in-Within.held.items) (sym none)
+    subst (λ (xs : List FrameValue). Begins s (gone ++ bytes) xs s (Some passed) c.in_ok-held-in-Within.held.items) (sym none)
     (subst (λ (xs : List ℕ). Begins s (gone ++ bytes) [] s (Some passed) xs) (sym held) (goes_within s c.args.block passed some gone bytes was c.in-Within.ensures.0 c.in-Within.ensures.1))
 
 pub returns-in-Flawed-clause-read : goal.returns-in-Flawed-clause-read
@@ -32,7 +32,7 @@ returns-in-Flawed-clause-read c = λ gone was.
     let s = state_of c.args.position in
     let bytes = c.args.bytes.now in
     let none : c.new-in-Flawed.result.items ≡ [] = c.new-in-Flawed.ensures.items in
-    subst (λ (xs : List Captured). Breaks s (gone ++ bytes) xs s BadLength) (sym none) (goes_wrong s c.args.block gone bytes was c.in-Flawed.ensures.0 c.in-Flawed.ensures.1)
+    subst (λ (xs : List FrameValue). Breaks s (gone ++ bytes) xs s BadLength) (sym none) (goes_wrong s c.args.block gone bytes was c.in-Flawed.ensures.0 c.in-Flawed.ensures.1)
 
 pub returns-in_ok-read-in-Over-clause-sound : goal.returns-in_ok-read-in-Over-clause-sound
 returns-in_ok-read-in-Over-clause-sound c =

@@ -3,8 +3,8 @@ use Rattle.std.proofs.lemmas.List.{length-map}
 use Rattle.cf_row.specs.Row.{Fits}
 use Rattle.cf_row.specs.declared.row.Entry.{Entry}
 use Rattle.cf_row.specs.declared.schema.Attr.{Attr}
-use Rattle.cf_shape.specs.Lanes.{Shaped}
-use Rattle.cf_table.specs.Held.{Held}
+use Rattle.cf_shape.specs.Lanes.{ShapeValue}
+use Rattle.cf_table.specs.Values.{PassValue}
 use Rattle.cf_table.proofs.Reading.{looked_then}
 use Rattle.cf_query.proofs.Loaded.{entry_fits, scanned_one, scanned_none}
 use Rattle.cf_query.proofs.bodies.scan.Goals as goal
@@ -15,8 +15,8 @@ holds-requires-clause-fits g c =
     let s = c.args.log.now.shape in
     let e = c.in_ok-entry.entry in
     let o = c.loop-offset.offset in
-    let at = sym (ap (λ (h : Held). slice_get (h.view).seen o) c.loop-offset.invariant.looked) ∙ c.in_ok-entry.ensures.entry in
-    let schema = c.schema-schema.ensures ∙ ap (λ (x : Shaped). x.schema) c.shape.ensures.shape in
+    let at = sym (ap (λ (h : PassValue). slice_get (h.view).seen o) c.loop-offset.invariant.looked) ∙ c.in_ok-entry.ensures.entry in
+    let schema = c.schema-schema.ensures ∙ ap (λ (x : ShapeValue). x.schema) c.shape.ensures.shape in
     subst (λ (attrs : List Attr). Fits attrs e.row) (sym schema) (entry_fits s e (c.requires.fit o e at))
 
 pub loop-offset-preserved : goal.loop-offset-preserved
@@ -26,7 +26,7 @@ loop-offset-preserved g c =
     let v = c.loop-offset.invariant in
     let f = g.P.Pass.held c.args.pass.now in
     let seen = (f.view).seen in
-    let at : slice_get seen o ≡ Some e = sym (ap (λ (h : Held). slice_get (h.view).seen o) v.looked) ∙ c.in_ok-entry.ensures.entry in
+    let at : slice_get seen o ≡ Some e = sym (ap (λ (h : PassValue). slice_get (h.view).seen o) v.looked) ∙ c.in_ok-entry.ensures.entry in
     record {
       found = elim c.if-holds.branch [
         | then-holds+in_ok-push w ↦ scanned_one c.args.expr.now seen o e c.holds.result (c.loop-offset.found).items (c.if-holds.found).items at c.holds.ensures w.if-holds.true v.found (ap (λ (x : Vec ℕ Global). x.items) w.found-is ∙ w.in_ok-push.ensures.items)

@@ -1,4 +1,4 @@
-use Rattle.cf_table.specs.Held.{IsOf}
+use Rattle.cf_table.specs.Values.{IsOf}
 use Rattle.cf_query.proofs.lane_tests.agree.Given as goal
 
 abbrev pub invariant-loop-question : goal.invariant-loop-question

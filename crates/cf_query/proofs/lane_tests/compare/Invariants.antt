@@ -1,4 +1,4 @@
-use Rattle.cf_table.specs.Held.{IsOf}
+use Rattle.cf_table.specs.Values.{IsOf}
 use Rattle.cf_query.specs.Writers.{IsWriters}
 use Rattle.cf_query.proofs.lane_tests.compare.Given as goal
 

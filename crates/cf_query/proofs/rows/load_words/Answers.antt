@@ -4,8 +4,8 @@ use Rattle.std.proofs.lemmas.Option.{slice_get-get_or}
 use Rattle.cf_row.specs.Words.{IsEntry, spelled}
 use Rattle.cf_row.specs.declared.row.Entry.{Entry}
 use Rattle.cf_row.proofs.Spelling.{spelled_long}
-use Rattle.cf_shape.specs.Lanes.{Shaped}
-use Rattle.cf_table.specs.Held.{Held}
+use Rattle.cf_shape.specs.Lanes.{ShapeValue}
+use Rattle.cf_table.specs.Values.{PassValue}
 use Rattle.cf_table.proofs.Reading.{looked_then, read_more}
 use Rattle.cf_query.proofs.Loaded.{no_entry, entry_at, loaded}
 use Rattle.cf_query.proofs.rows.load_words.Goals as goal
@@ -19,10 +19,10 @@ loop-i-preserved g c =
     let f = g.P.Pass.held c.args.pass.now in
     let m = g.P.Pass.held c.loop-i.pass in
     let n = g.P.Pass.held c.load_word.new.pass in
-    let cap = c.capacity.ensures.capacity ∙ ap (λ (x : Shaped). x.capacity) c.shape.ensures.shape in
+    let cap = c.capacity.ensures.capacity ∙ ap (λ (x : ShapeValue). x.capacity) c.shape.ensures.shape in
     let place : c.min-place.result ≡ min o (s.capacity - 1) = c.min-place.ensures ∙ ap (λ (k : ℕ). min o (k - 1)) cap in
-    let same : entry_at m.view o ≡ entry_at f.view o = ap (λ (h : Held). entry_at h.view o) v.looked in
-    let far = ap (λ (h : Held). length (h.view).seen) v.looked in
+    let same : entry_at m.view o ≡ entry_at f.view o = ap (λ (h : PassValue). entry_at h.view o) v.looked in
+    let far = ap (λ (h : PassValue). length (h.view).seen) v.looked in
     let covered = c.requires.covered in
     let low = c.loop-i-test.true in
     let wide = c.requires.long in

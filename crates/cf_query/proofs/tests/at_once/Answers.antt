@@ -1,5 +1,5 @@
 use Rattle.std.proofs.Common.{◌∙◌, List, sym, subst}
-use Rattle.cf_table.specs.Held.{Held}
+use Rattle.cf_table.specs.Values.{PassValue}
 use Rattle.cf_table.specs.Moves.{AreAll}
 use Rattle.cf_query.proofs.Writers.{both_ready, all_two}
 use Rattle.cf_query.proofs.tests.at_once.Goals as goal
@@ -13,4 +13,4 @@ gather-requires-clause-all g c =
     let log = c.in_ok-log.log in
     let ready = c.in_ok-first.ensures in
     let all = all_two log c.in_ok-first.first c.in_ok-first.second ((c.in_ok-log.ensures).writers ∙ c.in_ok-shape.ensures) ready.0 ready.1 in
-    subst (λ (hs : List Held). AreAll log hs) (sym c.in_ok-vec.ensures.items) all
+    subst (λ (hs : List PassValue). AreAll log hs) (sym c.in_ok-vec.ensures.items) all

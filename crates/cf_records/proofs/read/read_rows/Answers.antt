@@ -2,7 +2,7 @@ use Rattle.std.proofs.Common.{Bor, Bool, true, false, ◌≡◌, ◌≢◌, ◌�
 use Rattle.std.proofs.lemmas.List.Elements.{All-append}
 use Rattle.csv.specs.Records.{fields_of}
 use Rattle.csv.specs.declared.reader.Reader.{Reader}
-use Rattle.cf_row.specs.Row.{Numbered, Fits}
+use Rattle.cf_row.specs.Row.{RowValue, Fits}
 use Rattle.cf_records.specs.Records.{AreRead, AreRows, HasRead, HasRecordFault, ReadsOn, names_of}
 use Rattle.cf_records.proofs.Outcomes.{misnamed, first_fault, rows_more, all_fit, none_fit, no_rows, lines_more}
 use Rattle.cf_records.proofs.read.read_rows.Goals as goal
@@ -56,6 +56,6 @@ loop-num-preserved c = record {
       let on : HasRead text ((names_of c.args.schema.now ∷ far.0) ++ (fields ∷ [])) c.read_next-in-loop-num.new.reader = as_found text (names_of c.args.schema.now ∷ far.0) c.read_next-in-loop-num.new.reader fields c.in_ok-read_next-2.field-0 true c.if-not-branch-2.false (c.in_ok-read_next-2.ensures text (names_of c.args.schema.now ∷ far.0) far.1) in
       let row = c.in-Ok.row in
       let more = rows_more c.args.schema.now 0 far.0 c.loop-num.rows.items fields row far.2 (let n = c.in-Ok.ensures.row.0 in let l = far.3 in omega (arith, n, l)) c.in-Ok.ensures.row.1 in
-      (far.0 ++ (fields ∷ []), on, subst (λ (rs : List Numbered). AreRows c.args.schema.now 0 (far.0 ++ (fields ∷ [])) rs) (sym c.in_ok-push-in-Ok.ensures.items) more, lines_more far.0 fields c.loop-num.num far.3);
+      (far.0 ++ (fields ∷ []), on, subst (λ (rs : List RowValue). AreRows c.args.schema.now 0 (far.0 ++ (fields ∷ [])) rs) (sym c.in_ok-push-in-Ok.ensures.items) more, lines_more far.0 fields c.loop-num.num far.3);
   fit = all_fit c.args.schema.now c.loop-num.rows.items c.push.new.self.items c.in-Ok.row c.loop-num.invariant.fit c.in-Ok.ensures.fits c.in_ok-push-in-Ok.ensures.items;
 }

@@ -2,7 +2,7 @@ use Rattle.std.proofs.Common.{refl, ◌≡◌, ◌<◌, ◌≤◌, true, get_or,
 use Rattle.std.specs.List.{All}
 use Rattle.std.proofs.lemmas.List.{take_all}
 use Rattle.std.proofs.lemmas.List.Elements.{All-more}
-use Rattle.cf_history.specs.History.{Told}
+use Rattle.cf_history.specs.History.{AskReply}
 use Rattle.cf_plain.specs.declared.ask.Ask.{Ask}
 use Rattle.cf_plain.specs.declared.answer.Body.{Body}
 use Rattle.cf_report.specs.Answered.{is_body_of, told_by, tolds_of}
@@ -10,7 +10,7 @@ use Rattle.cf_report.specs.Report.{nothing_told}
 use Rattle.cf_report.proofs.Tolds.{told_at, length_tolds}
 use Rattle.cf_report.proofs.condition.are_of_kind.Goals as goal
 
-abbrev IsOfKind : Told Ask Body → Type 0
+abbrev IsOfKind : AskReply Ask Body → Type 0
 IsOfKind told = is_body_of told.ask told.body ≡ true
 
 pub loop-place-preserved : goal.loop-place-preserved

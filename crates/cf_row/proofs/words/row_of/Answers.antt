@@ -2,7 +2,7 @@ use Rattle.std.proofs.Common.{◌≡◌, ℕ, ◌/◌, ◌%◌, ◌<◌, ◌^◌
 use Rattle.cf_row.specs.declared.row.Entry.{Entry}
 use Rattle.cf_row.specs.declared.row.Value.{Value}
 use Rattle.cf_row.specs.declared.schema.Attr.{Attr}
-use Rattle.cf_row.specs.Row.{Numbered}
+use Rattle.cf_row.specs.Row.{RowValue}
 use Rattle.cf_row.specs.Words.{word_count, values_read, entry_read, spelled, IsEntry, AreSpelled}
 use Rattle.cf_row.proofs.Readable.{spelled_fits, spelled_read}
 use Rattle.cf_row.proofs.words.row_of.Goals as goal
@@ -17,9 +17,9 @@ pub bounds-words-word_count : goal.bounds-words-word_count
 bounds-words-word_count c = let f = spelled_fits c.args.schema.now c.args.words.now c.requires in let l = f.0 in omega (arith, l, c.word_count.ensures.count)
 
 -- what is read is the entry
-made : (attrs : List Attr) (ws : List ℕ) (n : ℕ) (vs : List Value) (row : Numbered) → n ≡ word_count attrs → vs ≡ values_read attrs ws → row ≡ record { num = get_or ws n 0 / 16; values = vs } → ◌≡◌ {A = Entry} (record { writer = get_or ws n 0 % 16; row = row }) (entry_read attrs ws)
+made : (attrs : List Attr) (ws : List ℕ) (n : ℕ) (vs : List Value) (row : RowValue) → n ≡ word_count attrs → vs ≡ values_read attrs ws → row ≡ record { num = get_or ws n 0 / 16; values = vs } → ◌≡◌ {A = Entry} (record { writer = get_or ws n 0 % 16; row = row }) (entry_read attrs ws)
 made attrs ws n vs row count values is =
-    ap (λ (r : Numbered). record { writer = get_or ws n 0 % 16; row = r }) is
+    ap (λ (r : RowValue). record { writer = get_or ws n 0 % 16; row = r }) is
     ∙ ap₂ (λ (k : ℕ) (xs : List Value). record { writer = get_or ws k 0 % 16; row = record { num = get_or ws k 0 / 16; values = xs } }) count values
 
 tag_low : (attrs : List Attr) (ws : List ℕ) → AreSpelled attrs ws → get_or ws (word_count attrs) 0 / 16 < 2 ^ 32

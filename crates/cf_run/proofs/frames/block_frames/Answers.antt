@@ -1,5 +1,5 @@
 use Rattle.std.proofs.Common.{◌≡◌, [], List, ◌++◌, Result, Ok, Err, subst, sym, ◌∙◌, ap}
-use Rattle.cf_pcap.specs.Capture.{Captured}
+use Rattle.cf_pcap.specs.Capture.{FrameValue}
 use Rattle.cf_stream.proofs.Ending.{whole_fault, whole_fed, few_items}
 use Rattle.cf_pcapng.specs.declared.fault.NgFault.{NgFault}
 use Rattle.cf_pcapng.specs.declared.fault.NgFault.TheVariants.{Memory}
@@ -15,7 +15,7 @@ returns-in-Ok-finish c =
     let fed = c.in-Ok-feed.ensures.fed (λ e. cc e) in
     let same : c.feed.new.out.items ≡ fed.0 = fed.1 ∙ ap (λ xs. xs ++ fed.0) c.new-frames.ensures.items in
     let whole = whole_fed pcapng stepper c.args.bytes.now fed.0 (IsStateOf c.feed.new.self) (Ok tt) (Ok c.in-Ok-finish.field-0) (fed.2 [] c.in-Ok.ensures) c.in-Ok-finish.ensures.ended in
-    let capture : IsNg c.args.bytes.now c.feed.new.out.items = subst (λ (fs : List Captured). IsNg c.args.bytes.now fs) (sym same) whole.0 in
+    let capture : IsNg c.args.bytes.now c.feed.new.out.items = subst (λ (fs : List FrameValue). IsNg c.args.bytes.now fs) (sym same) whole.0 in
     ((file_by_rules c.args.bytes.now).capture c.feed.new.out.items capture, few_items pcapng stepper c.args.bytes.now c.feed.new.out.items capture)
 
 err_same : (a b : NgFault) → ◌≡◌ {A = Result (Unit {0}) NgFault} (Err a) (Err b) → a ≡ b

@@ -1,5 +1,5 @@
 use Rattle.cf_report.proofs.Answering.{are_answering}
-use Rattle.cf_setup.specs.Settled.{shaped}
+use Rattle.cf_setup.specs.Setups.{shaped}
 use Rattle.cf_run.proofs.Logs.{report_sealed}
 use Rattle.cf_run.proofs.log.report_of.Goals as goal
 

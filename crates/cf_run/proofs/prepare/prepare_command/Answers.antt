@@ -1,5 +1,5 @@
 use Rattle.std.proofs.Common.{◌≡◌, Err, arith, rules}
-use Rattle.cf_setup.specs.Settled.{shaped}
+use Rattle.cf_setup.specs.Setups.{shaped}
 use Rattle.cf_run.specs.declared.log.Unmade.TheVariants.{Nodes}
 use Rattle.cf_run.proofs.Logs.{short_of}
 use Rattle.cf_run.proofs.Preparing.{setup_prepared, capture_prepared, full_prepared, short_prepared, report_prepared, unmade_prepared}

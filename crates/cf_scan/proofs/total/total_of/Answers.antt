@@ -1,6 +1,6 @@
 use Rattle.std.proofs.Common.{ap, arith, take}
 use Rattle.std.proofs.lemmas.List.{length-take}
-use Rattle.cf_fold.specs.Quads.{Counts}
+use Rattle.cf_fold.specs.Quads.{QuadValue}
 use Rattle.cf_scan.proofs.Amounts.{amounts_few}
 use Rattle.cf_scan.proofs.total.total_of.Goals as goal
 
@@ -8,5 +8,5 @@ pub add-total-requires : goal.add-total-requires
 add-total-requires c =
     let seen = take c.loop-entry.entry-index c.args.entries.now in
     let few = amounts_few c.args.attr c.args.expr.now seen in
-    let same = ap (λ (t : Counts). t.count) c.loop-entry.invariant in
+    let same = ap (λ (t : QuadValue). t.count) c.loop-entry.invariant in
     omega (arith, few, same, length-take c.loop-entry.entry-index c.args.entries.now)

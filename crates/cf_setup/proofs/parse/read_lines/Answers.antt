@@ -2,7 +2,7 @@ use Rattle.std.proofs.Common.{◌≡◌, length, Ok, Err, sym, ◌∙◌, ap, ar
 use Rattle.std.proofs.lemmas.Bool.{eqb-true}
 use Rattle.cf_filter.specs.Tokens.{unspaced}
 use Rattle.cf_setup.specs.Lines.{lines_of}
-use Rattle.cf_setup.specs.Stated.{nothing_stated}
+use Rattle.cf_setup.specs.Drafts.{nothing_stated}
 use Rattle.cf_setup.specs.Reading.{setup_from, settled_or, said, Answers}
 use Rattle.cf_setup.proofs.Lawful.{said_lawful, draft_few}
 use Rattle.cf_setup.proofs.Whole.{line_ok, line_err, line_none, empty_is}

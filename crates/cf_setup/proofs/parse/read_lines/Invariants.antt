@@ -1,8 +1,8 @@
 use Rattle.std.proofs.Common.{◌≡◌, ◌+◌, ◌≤◌, length}
 use Rattle.cf_setup.specs.Lines.{lines_of}
-use Rattle.cf_setup.specs.Stated.{nothing_stated}
+use Rattle.cf_setup.specs.Drafts.{nothing_stated}
 use Rattle.cf_setup.specs.Reading.{setup_from}
-use Rattle.cf_setup.specs.Settled.{IsDraft}
+use Rattle.cf_setup.specs.Setups.{IsDraft}
 use Rattle.cf_setup.proofs.parse.read_lines.Given as goal
 
 abbrev pub invariant-loop-rest : goal.invariant-loop-rest

@@ -1,10 +1,10 @@
 use Rattle.std.proofs.Common.{◌≡◌, ◌∙◌, ◌-◌, ◌%◌, ◌++◌, ◌∷◌, ℕ, suc, List, Vec, Global, length, map, ap, subst, arith, rules}
-use Rattle.cf_row.specs.Row.{Numbered}
+use Rattle.cf_row.specs.Row.{RowValue}
 use Rattle.cf_table.proofs.Mays.{may_walk}
 use Rattle.cf_walk.specs.Walks.{leaf_of}
 use Rattle.cf_walk.proofs.Keys.{some_levels, some_cell}
 use Rattle.cf_walk.proofs.Counted.{counting_begins, counting_known, counting_new, counting_ends}
-use Rattle.cf_walk.proofs.Walked.{IsWalking, HasBegun, HasStepped, begun, may_step, walked_then, walked_seen, below, kept_known, kept_new, kept_all, above_long, stepped_from, below_next}
+use Rattle.cf_walk.proofs.Walked.{IsWalking, HasBegun, HasWalkedOn, begun, may_step, walked_then, walked_seen, below, kept_known, kept_new, kept_all, above_long, stepped_from, below_next}
 use Rattle.cf_walk.proofs.chain.collect_chain.Goals as goal
 use Rattle.cf_walk.proofs.chain.collect_chain.Goals.{then-place-covered+in_ok-push, else-place-covered}
 
@@ -26,7 +26,7 @@ loop-link-init g c =
     let v = c.begin-link.result in
     let some = some_levels s leaf.lane c.shape-lawful.ensures.lawful above.exists in
     let b : HasBegun s m n c.args.writer (leaf_of s leaf.lane leaf.key) v = begun s m n leaf.lane leaf.key leaf.node c.args.writer v (omega (arith, some.0)) c.requires.writer above c.begin-link.ensures.made in
-    let same : below s c.args.writer (leaf_of s leaf.lane leaf.key) (m.view).seen v ≡ below s c.args.writer (leaf_of s leaf.lane leaf.key) (m.view).seen (length (m.view).seen) = ap (λ (xs : List (ℕ × Numbered)). map (λ x. x.0) xs) b.all in
+    let same : below s c.args.writer (leaf_of s leaf.lane leaf.key) (m.view).seen v ≡ below s c.args.writer (leaf_of s leaf.lane leaf.key) (m.view).seen (length (m.view).seen) = ap (λ (xs : List (ℕ × RowValue)). map (λ x. x.0) xs) b.all in
     let long = ap (λ (xs : List ℕ). length xs) same in
     let count = c.begin-link.ensures.steps in
     record {
@@ -75,7 +75,7 @@ loop-link-preserved g c =
     let link = c.loop-link.link in
     let next = c.load_cell-link.result % 4294967296 in
     let some = c.loop-link-test.true in
-    let st : HasStepped s m n w spot seen (link - 1) next = stepped_from s m n w spot seen link c.load_cell-link.result some c.shape-lawful.ensures.lawful c.requires.above.exists (some_cell s leaf.lane) (walked_seen f m v.walked) v.walking c.load_cell-link.ensures.made in
+    let st : HasWalkedOn s m n w spot seen (link - 1) next = stepped_from s m n w spot seen link c.load_cell-link.result some c.shape-lawful.ensures.lawful c.requires.above.exists (some_cell s leaf.lane) (walked_seen f m v.walked) v.walking c.load_cell-link.ensures.made in
     let falls = st.falls in
     let more = c.load_cell-link.ensures.steps in
     let here = below_next s w spot seen link some in

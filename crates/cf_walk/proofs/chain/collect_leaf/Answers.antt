@@ -1,6 +1,6 @@
 use Rattle.std.proofs.Common.{◌≡◌, ◌∙◌, ◌+◌, ◌-◌, ◌≤◌, ℕ, List, length, ap, subst, arith}
 use Rattle.cf_row.specs.declared.row.Entry.{Entry}
-use Rattle.cf_shape.specs.Lanes.{Shaped}
+use Rattle.cf_shape.specs.Lanes.{ShapeValue}
 use Rattle.cf_walk.specs.Walks.{leaf_places}
 use Rattle.cf_walk.proofs.Counted.{all_begins, all_more, all_ends}
 use Rattle.cf_walk.proofs.Walked.{walked_none, walked_then, walked_seen, above_then, of_walked, leaf_more, leaf_none, leaf_long}
@@ -36,7 +36,7 @@ returns-clause-steps g c =
     let seen = ((g.P.Pass.held c.args.pass.now).view).seen in
     let past = c.loop-writer-test.false in
     let upto = c.loop-writer.auto.writer-end in
-    let all : c.writers-writer-end.result ≡ s.writers = c.writers-writer-end.ensures.writers ∙ ap (λ (x : Shaped). x.writers) c.shape.ensures.shape in
+    let all : c.writers-writer-end.result ≡ s.writers = c.writers-writer-end.ensures.writers ∙ ap (λ (x : ShapeValue). x.writers) c.shape.ensures.shape in
     let last : c.loop-writer.writer ≡ s.writers = omega (arith, past, upto, all) in
     subst (λ (w : ℕ). c.loop-writer.steps ≤ c.args.steps.now + w + length (leaf_places s leaf.lane leaf.key seen w) + (s.capacity - length seen)) last
     (all_ends s (g.P.Pass.held c.loop-writer.pass) (length seen) c.loop-writer.writer c.args.steps.now _ c.loop-writer.steps c.loop-writer.invariant.count)

@@ -1,6 +1,6 @@
 use Rattle.std.proofs.Common.{◌≡◌, ◌∙◌, ◌+◌, ◌-◌, ◌^◌, ◌++◌, ℕ, List, Vec, Global, ap, sym, subst}
 use Rattle.cf_fold.proofs.Sorted.{AsOften}
-use Rattle.cf_shape.specs.Lanes.{Shaped}
+use Rattle.cf_shape.specs.Lanes.{ShapeValue}
 use Rattle.cf_shape.specs.Nodes.{levels_of}
 use Rattle.cf_plain.specs.Asks.{rows_in, places, is_keyed_between}
 use Rattle.cf_walk.specs.Walks.{OnlyWalked, range_places}
@@ -17,7 +17,7 @@ returns-clause-found g c =
     let high = c.args.range.1 in
     let seen = ((g.P.Pass.held c.args.pass.now).view).seen in
     let is = c.shape.ensures.lawful in
-    let most : c.greatest_key.result + 1 ≡ 16 ^ levels_of s l = c.greatest_key.ensures ∙ ap (λ (x : Shaped). 16 ^ levels_of x l) c.shape.ensures.shape in
+    let most : c.greatest_key.result + 1 ≡ 16 ^ levels_of s l = c.greatest_key.ensures ∙ ap (λ (x : ShapeValue). 16 ^ levels_of x l) c.shape.ensures.shape in
     let often : AsOften (c.if-low-high.found).items (places (is_keyed_between s l low high) (rows_in seen)) =
     elim c.if-low-high.branch [
       | then-low-high+in_ok-collect_range x ↦

@@ -1,6 +1,6 @@
 use Rattle.std.proofs.Common.{◌≡◌, ◌∙◌, ◌+◌, ◌^◌, List, [], slice_get, ap, sym, subst, arith, ℕ}
 use Rattle.cf_row.specs.declared.row.Entry.{Entry}
-use Rattle.cf_shape.specs.Lanes.{Shaped}
+use Rattle.cf_shape.specs.Lanes.{ShapeValue}
 use Rattle.cf_shape.specs.Nodes.{levels_of}
 use Rattle.cf_plain.specs.Asks.{rows_in}
 use Rattle.cf_walk.specs.Measures.{HasGrouped}
@@ -31,7 +31,7 @@ returns-clause-found g c =
     let v = c.loop-last.invariant in
     let high = c.greatest_key-high.result in
     let seen = ((g.P.Pass.held c.args.pass.now).view).seen in
-    let most : high + 1 ≡ 16 ^ levels_of s l = c.greatest_key-high.ensures ∙ ap (λ (x : Shaped). 16 ^ levels_of x l) c.shape.ensures.shape in
+    let most : high + 1 ≡ 16 ^ levels_of s l = c.greatest_key-high.ensures ∙ ap (λ (x : ShapeValue). 16 ^ levels_of x l) c.shape.ensures.shape in
     let test = c.loop-last-test.false in
     let upto = v.grouped.upto in
     let end' : c.loop-last.last ≡ high = omega (arith, test, upto) in

@@ -5,7 +5,7 @@ use Rattle.cf_walk.specs.Walks.{leaf_of, amounts_below}
 use Rattle.cf_table.proofs.Mays.{may_walk}
 use Rattle.cf_walk.proofs.Keys.{some_levels, some_cell}
 use Rattle.cf_walk.proofs.Counted.{counting_begins, counting_new}
-use Rattle.cf_walk.proofs.Walked.{IsWalking, HasBegun, HasStepped, begun, stepped_from, may_step, walked_then, walked_seen, above_long, picks_from}
+use Rattle.cf_walk.proofs.Walked.{IsWalking, HasBegun, HasWalkedOn, begun, stepped_from, may_step, walked_then, walked_seen, above_long, picks_from}
 use Rattle.cf_walk.proofs.Versions.{no_amounts, same_amounts, entry_of, quad_steps}
 use Rattle.cf_walk.proofs.quads.chain_quad.Goals as goal
 
@@ -79,7 +79,7 @@ loop-link-preserved g c =
     let wide = c.from-covered.ensures in
     let some : 0 < link = omega (arith, test) in
     let past : length seen ≤ link - 1 = omega (arith, test, covered, wide) in
-    let st : HasStepped s m n w spot seen (link - 1) next = stepped_from s m n w spot seen link c.load_cell-link.result some c.shape-lawful.ensures.lawful c.requires.above.exists (some_cell s leaf.lane) (walked_seen f m v.walked) v.walking c.load_cell-link.ensures.made in
+    let st : HasWalkedOn s m n w spot seen (link - 1) next = stepped_from s m n w spot seen link c.load_cell-link.result some c.shape-lawful.ensures.lawful c.requires.above.exists (some_cell s leaf.lane) (walked_seen f m v.walked) v.walking c.load_cell-link.ensures.made in
     let more = c.load_cell-link.ensures.steps in
     record {
       walked = walked_then f m n v.walked st.walked;

@@ -1,7 +1,7 @@
 use Rattle.std.proofs.Common.{◌≡◌, ◌∙◌, ◌+◌, ◌*◌, ℕ, List, slice_get, length, ap, sym, arith}
 use Rattle.cf_row.specs.declared.row.Entry.{Entry}
-use Rattle.cf_fold.specs.Quads.{Counts, quad_of}
-use Rattle.cf_shape.specs.Lanes.{Shaped}
+use Rattle.cf_fold.specs.Quads.{QuadValue, quad_of}
+use Rattle.cf_shape.specs.Lanes.{ShapeValue}
 use Rattle.cf_walk.specs.Walks.{leaf_amounts}
 use Rattle.cf_walk.proofs.Counted.{all_begins, all_more, all_ends}
 use Rattle.cf_walk.proofs.Walked.{walked_none, walked_then, walked_seen, of_walked, above_then}
@@ -35,10 +35,10 @@ merge-total-requires g c =
     let lawful = c.shape.ensures.lawful in
     let room = lawful.capacity in
     let hands = lawful.writers in
-    let all : c.writers-writer-end.result ≡ s.writers = c.writers-writer-end.ensures.writers ∙ ap (λ (x : Shaped). x.writers) c.shape.ensures.shape in
+    let all : c.writers-writer-end.result ≡ s.writers = c.writers-writer-end.ensures.writers ∙ ap (λ (x : ShapeValue). x.writers) c.shape.ensures.shape in
     let test = c.loop-writer-test.true in
     let far = ap (λ (es : List Entry). length es) (walked_seen f m v.walked) in
-    let mine = ap (λ (q : Counts). q.count) c.chain_quad-quad.ensures.quad in
+    let mine = ap (λ (q : QuadValue). q.count) c.chain_quad-quad.ensures.quad in
     let most = amounts_few s c.args.leaf.lane c.args.leaf.key c.loop-writer.writer (length (m.view).seen) (m.view).seen in
     let few = c.requires.few in
     let before = v.few in
@@ -56,7 +56,7 @@ loop-writer-preserved g c =
     let same = walked_seen f m v.walked in
     let room = c.shape.ensures.lawful.capacity in
     let far = ap (λ (es : List Entry). length es) same in
-    let mine = ap (λ (q : Counts). q.count) c.chain_quad-quad.ensures.quad in
+    let mine = ap (λ (q : QuadValue). q.count) c.chain_quad-quad.ensures.quad in
     let most = amounts_few s leaf.lane leaf.key w (length (m.view).seen) (m.view).seen in
     let few = c.requires.few in
     let before = v.few in
@@ -74,7 +74,7 @@ returns-clause-quad g c =
     let seen = ((g.P.Pass.held c.args.pass.now).view).seen in
     let past = c.loop-writer-test.false in
     let upto = c.loop-writer.auto.writer-end in
-    let all : c.writers-writer-end.result ≡ s.writers = c.writers-writer-end.ensures.writers ∙ ap (λ (x : Shaped). x.writers) c.shape.ensures.shape in
+    let all : c.writers-writer-end.result ≡ s.writers = c.writers-writer-end.ensures.writers ∙ ap (λ (x : ShapeValue). x.writers) c.shape.ensures.shape in
     let last : c.loop-writer.writer ≡ s.writers = omega (arith, past, upto, all) in
     c.loop-writer.invariant.quad ∙ ap (λ (w : ℕ). quad_of (leaf_amounts s c.args.leaf.lane c.args.leaf.key seen w)) last
 
@@ -84,6 +84,6 @@ returns-clause-steps g c =
     let seen = ((g.P.Pass.held c.args.pass.now).view).seen in
     let past = c.loop-writer-test.false in
     let upto = c.loop-writer.auto.writer-end in
-    let all : c.writers-writer-end.result ≡ s.writers = c.writers-writer-end.ensures.writers ∙ ap (λ (x : Shaped). x.writers) c.shape.ensures.shape in
+    let all : c.writers-writer-end.result ≡ s.writers = c.writers-writer-end.ensures.writers ∙ ap (λ (x : ShapeValue). x.writers) c.shape.ensures.shape in
     let ends = all_ends s (g.P.Pass.held c.loop-writer.pass) (length seen) c.loop-writer.writer c.args.steps.now (3 * c.loop-writer.writer) c.loop-writer.steps c.loop-writer.invariant.count in
     omega (arith, past, upto, all, ends)

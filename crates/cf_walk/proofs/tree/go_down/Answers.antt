@@ -1,7 +1,7 @@
 use Rattle.std.proofs.Common.{◌∙◌, ap, rules}
 use Rattle.cf_words.specs.Words.{spot}
 use Rattle.cf_law.specs.Nibbles.{nibbles}
-use Rattle.cf_shape.specs.Lanes.{Shaped}
+use Rattle.cf_shape.specs.Lanes.{ShapeValue}
 use Rattle.cf_shape.specs.Places.{place, sizes_of}
 use Rattle.cf_table.proofs.Mays.{may_child}
 use Rattle.cf_walk.specs.Walks.{turn_slot}
@@ -19,7 +19,7 @@ load_turn-requires g c κs within =
         (
           c.requires.of,
           may_child s p (spot t.lane (nibbles t.level t.front)) (turn_slot t.lane t.level t.front t.node) c.turn_place-place.result
-              (c.turn_place-place.ensures ∙ ap (λ (x : Shaped). place (sizes_of x) (turn_slot t.lane t.level t.front t.node)) c.shape.ensures.shape) (turn_child s p t.lane t.level t.front t.node c.shape.ensures.lawful c.requires.turn),
+              (c.turn_place-place.ensures ∙ ap (λ (x : ShapeValue). place (sizes_of x) (turn_slot t.lane t.level t.front t.node)) c.shape.ensures.shape) (turn_child s p t.lane t.level t.front t.node c.shape.ensures.lawful c.requires.turn),
         ),
       ),
     )

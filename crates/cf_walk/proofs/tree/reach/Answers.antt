@@ -1,5 +1,5 @@
 use Rattle.std.proofs.Common.{◌≡◌, ◌∙◌, ◌+◌, ◌-◌, ◌^◌, ◌<◌, ℕ, refl, sym, ap, subst, arith}
-use Rattle.cf_shape.specs.Lanes.{Shaped}
+use Rattle.cf_shape.specs.Lanes.{ShapeValue}
 use Rattle.cf_shape.specs.Nodes.{levels_of}
 use Rattle.cf_law.specs.Steps.{Knows}
 use Rattle.cf_walk.specs.Walks.{spot_above}
@@ -15,7 +15,7 @@ pub go_down-child-requires-clause-turn : goal.go_down-child-requires-clause-turn
 go_down-child-requires-clause-turn g c =
     let s = c.args.log.now.shape in
     let v = c.loop-level.invariant in
-    let all : c.levels-levels.result ≡ levels_of s c.args.lane = c.levels-levels.ensures ∙ ap (λ (x : Shaped). levels_of x c.args.lane) c.shape.ensures.shape in
+    let all : c.levels-levels.result ≡ levels_of s c.args.lane = c.levels-levels.ensures ∙ ap (λ (x : ShapeValue). levels_of x c.args.lane) c.shape.ensures.shape in
     let test = c.loop-level-test.true in
     let low = c.loop-level.auto.level in
     turn_next s c.args.lane c.args.key c.loop-level.level c.loop-level.node c.span_of-span.result (g.P.Pass.held c.loop-level.pass).view c.requires.lane (omega (arith, low)) (omega (arith, test, all))
@@ -25,7 +25,7 @@ pub returns-then-child-eq0-clause-reached : goal.returns-then-child-eq0-clause-r
 returns-then-child-eq0-clause-reached g c =
     let s = c.args.log.now.shape in
     let v = c.loop-level.invariant in
-    let all : c.levels-levels.result ≡ levels_of s c.args.lane = c.levels-levels.ensures ∙ ap (λ (x : Shaped). levels_of x c.args.lane) c.shape.ensures.shape in
+    let all : c.levels-levels.result ≡ levels_of s c.args.lane = c.levels-levels.ensures ∙ ap (λ (x : ShapeValue). levels_of x c.args.lane) c.shape.ensures.shape in
     let test = c.loop-level-test.true in
     let m = g.P.Pass.held c.loop-level.pass in (
       c.span_of-span.ensures.some,
@@ -38,7 +38,7 @@ loop-level-init g c =
     let s = c.args.log.now.shape in
     let m = g.P.Pass.held c.args.pass.now in
     let d = c.common_depth-depth.result in
-    let all : c.levels-levels.result ≡ levels_of s c.args.lane = c.levels-levels.ensures ∙ ap (λ (x : Shaped). levels_of x c.args.lane) c.shape.ensures.shape in
+    let all : c.levels-levels.result ≡ levels_of s c.args.lane = c.levels-levels.ensures ∙ ap (λ (x : ShapeValue). levels_of x c.args.lane) c.shape.ensures.shape in
     let p : Path = record { key = c.args.key; depth = d; nodes = c.args.path.now.nodes } in
     let is : IsPath s c.args.lane p m.view = path_turns s c.args.lane c.levels-levels.result c.args.path.now p m.view all c.requires.path refl c.common_depth-depth.ensures.most c.common_depth-depth.ensures.common in
     record {
@@ -55,7 +55,7 @@ pub loop-level-preserved : goal.loop-level-preserved
 loop-level-preserved g c =
     let s = c.args.log.now.shape in
     let v = c.loop-level.invariant in
-    let all : c.levels-levels.result ≡ levels_of s c.args.lane = c.levels-levels.ensures ∙ ap (λ (x : Shaped). levels_of x c.args.lane) c.shape.ensures.shape in
+    let all : c.levels-levels.result ≡ levels_of s c.args.lane = c.levels-levels.ensures ∙ ap (λ (x : ShapeValue). levels_of x c.args.lane) c.shape.ensures.shape in
     let turned = c.go_down-child.ensures.turned in
     let some = c.if-child-eq0.false in
     let before = v.steps in
@@ -81,7 +81,7 @@ pub returns-clause-reached : goal.returns-clause-reached
 returns-clause-reached g c =
     let s = c.args.log.now.shape in
     let v = c.loop-level.invariant in
-    let all : c.levels-levels.result ≡ levels_of s c.args.lane = c.levels-levels.ensures ∙ ap (λ (x : Shaped). levels_of x c.args.lane) c.shape.ensures.shape in
+    let all : c.levels-levels.result ≡ levels_of s c.args.lane = c.levels-levels.ensures ∙ ap (λ (x : ShapeValue). levels_of x c.args.lane) c.shape.ensures.shape in
     let past = c.loop-level-test.false in
     let far = c.loop-level.auto in
     let some = (some_levels s c.args.lane c.shape.ensures.lawful c.requires.lane).0 in

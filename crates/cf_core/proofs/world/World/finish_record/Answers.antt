@@ -1,11 +1,11 @@
 use Rattle.std.proofs.Common.{◌≡◌, ◌-◌, suc, true, arith, rules, refl}
 use Rattle.std.proofs.lemmas.Option.{slice_get_within}
-use Rattle.cf_law.specs.Events.Event.{acts}
+use Rattle.cf_law.specs.Events.WorldEvent.{acts}
 use Rattle.cf_law.specs.Shapes.{layout}
 use Rattle.cf_words.specs.Law.{IsWhole}
 use Rattle.cf_shape.specs.Uses.{ticket_words}
 use Rattle.cf_core.specs.Worlds.{draft, AllLinked}
-use Rattle.cf_law.specs.Steps.{at_book, finished}
+use Rattle.cf_law.specs.Steps.{pass_with_book, book_with_record}
 use Rattle.cf_law.specs.Steps.Act.{finish_record}
 use Rattle.cf_core.proofs.Making.{made, made_lawful, pass_there}
 use Rattle.cf_core.proofs.Tickets.{done_does, done_only, aloft_is}
@@ -52,7 +52,7 @@ put-requires-clause-lawful c =
     let all : AllLinked c.args.self.now.shape c.in-Some-flying.ticket.now.row c.in-Some-flying.ticket.now.linked = rw (c.shape-shape.ensures.shape, c.row-row.ensures, c.linked.ensures) at ((c.are_all.ensures).0 c.if-not-are_all.false) in
     let words = rw c.shape-shape.ensures.shape at c.ticket_words.ensures.words in
     let last : suc (c.ticket_words.result - 1) ≡ ticket_words c.args.self.now.shape = omega (arith, words) in
-    let after : c.in_ok-after.after ≡ at_book c.in-Some-flying.place (finished c.in-Some-flying.book.now c.in-Some-flying.ticket.now) c.in-Some.pass.now = search (rules, c.in_ok-after.ensures, c.in_ok-finished.ensures) in
+    let after : c.in_ok-after.after ≡ pass_with_book c.in-Some-flying.place (book_with_record c.in-Some-flying.book.now c.in-Some-flying.ticket.now) c.in-Some.pass.now = search (rules, c.in_ok-after.ensures, c.in_ok-finished.ensures) in
     let does = done_does c.args.self.now c.args.k c.args.offset (c.ticket_words.result - 1) c.ticket_place-at.result c.in-Some-flying.place c.in-Some.pass.now c.in_ok-after.after c.in-Some-flying.book.now c.in-Some-flying.ticket.now c.in-Some.ensures c.in-Some-flying.ensures.0 c.in-Some-flying.ensures.1 last whole all c.ticket_place-at.ensures.at after in
     made_lawful c.args.self.now c.args.k (acts (finish_record c.args.offset)) _ c.shape-shape.ensures.lawful does
 
@@ -62,6 +62,6 @@ returns c =
     let all : AllLinked c.args.self.now.shape c.in-Some-flying.ticket.now.row c.in-Some-flying.ticket.now.linked = rw (c.shape-shape.ensures.shape, c.row-row.ensures, c.linked.ensures) at ((c.are_all.ensures).0 c.if-not-are_all.false) in
     let words = rw c.shape-shape.ensures.shape at c.ticket_words.ensures.words in
     let last : suc (c.ticket_words.result - 1) ≡ ticket_words c.args.self.now.shape = omega (arith, words) in
-    let after : c.in_ok-after.after ≡ at_book c.in-Some-flying.place (finished c.in-Some-flying.book.now c.in-Some-flying.ticket.now) c.in-Some.pass.now = search (rules, c.in_ok-after.ensures, c.in_ok-finished.ensures) in
+    let after : c.in_ok-after.after ≡ pass_with_book c.in-Some-flying.place (book_with_record c.in-Some-flying.book.now c.in-Some-flying.ticket.now) c.in-Some.pass.now = search (rules, c.in_ok-after.ensures, c.in_ok-finished.ensures) in
     let does = done_does c.args.self.now c.args.k c.args.offset (c.ticket_words.result - 1) c.ticket_place-at.result c.in-Some-flying.place c.in-Some.pass.now c.in_ok-after.after c.in-Some-flying.book.now c.in-Some-flying.ticket.now c.in-Some.ensures c.in-Some-flying.ensures.0 c.in-Some-flying.ensures.1 last whole all c.ticket_place-at.ensures.at after in
     made c.args.self.now c.put.new.self c.args.k (acts (finish_record c.args.offset)) _ _ c.put.ensures does

@@ -1,9 +1,9 @@
 use Rattle.std.proofs.Common.{◌≡◌, refl, rules}
 use Rattle.std.proofs.lemmas.Option.{slice_get_within}
 use Rattle.cf_words.specs.Words.{Spot}
-use Rattle.cf_law.specs.Events.Event.{acts}
+use Rattle.cf_law.specs.Events.WorldEvent.{acts}
 use Rattle.cf_law.specs.Steps.Act.{label}
-use Rattle.cf_law.specs.Steps.{at_book, labelled}
+use Rattle.cf_law.specs.Steps.{pass_with_book, book_with_label}
 use Rattle.cf_shape.specs.Places.{place_of}
 use Rattle.cf_shape.specs.Places.Word.{label as label_word}
 use Rattle.cf_core.specs.Worlds.{IsLabelOf, NoLabel}
@@ -45,7 +45,7 @@ put-requires-clause-lawful c =
     let free : IsFree c.args.self.now.shape.nodes c.in-Some.pass.now c.args.node c.in-Some-free.at c.in-Some-free.book.now = rw c.shape-shape.ensures.shape at (rw c.nodes.ensures.nodes at c.in-Some-free.ensures) in
     let at : c.place_label-place.result ≡ place_of c.args.self.now.shape (label_word c.args.node) = rw c.shape-shape.ensures.shape at c.place_label-place.ensures in
     let named : (s : Spot) × IsLabelOf c.args.self.now c.in-Some.pass.now c.args.value s = search (rules, c.in_ok-is_label.ensures.some c.if-not-branch.false) in
-    let after : c.in_ok-after.after ≡ at_book c.in-Some-free.at (labelled c.args.value c.in-Some-free.book.now) c.in-Some.pass.now = search (rules, c.in_ok-after.ensures, c.in_ok-labelled.ensures) in
+    let after : c.in_ok-after.after ≡ pass_with_book c.in-Some-free.at (book_with_label c.args.value c.in-Some-free.book.now) c.in-Some.pass.now = search (rules, c.in_ok-after.ensures, c.in_ok-labelled.ensures) in
     let does = label_does c.args.self.now c.args.k c.place_label-place.result c.args.node c.args.value c.in-Some-free.at c.in-Some.pass.now c.in_ok-after.after c.in-Some-free.book.now named.0 c.in-Some.ensures free named.1 at after in
     made_lawful c.args.self.now c.args.k (acts (label c.args.node c.args.value)) _ c.shape-shape.ensures.lawful does
 
@@ -54,6 +54,6 @@ returns c =
     let free : IsFree c.args.self.now.shape.nodes c.in-Some.pass.now c.args.node c.in-Some-free.at c.in-Some-free.book.now = rw c.shape-shape.ensures.shape at (rw c.nodes.ensures.nodes at c.in-Some-free.ensures) in
     let at : c.place_label-place.result ≡ place_of c.args.self.now.shape (label_word c.args.node) = rw c.shape-shape.ensures.shape at c.place_label-place.ensures in
     let named : (s : Spot) × IsLabelOf c.args.self.now c.in-Some.pass.now c.args.value s = search (rules, c.in_ok-is_label.ensures.some c.if-not-branch.false) in
-    let after : c.in_ok-after.after ≡ at_book c.in-Some-free.at (labelled c.args.value c.in-Some-free.book.now) c.in-Some.pass.now = search (rules, c.in_ok-after.ensures, c.in_ok-labelled.ensures) in
+    let after : c.in_ok-after.after ≡ pass_with_book c.in-Some-free.at (book_with_label c.args.value c.in-Some-free.book.now) c.in-Some.pass.now = search (rules, c.in_ok-after.ensures, c.in_ok-labelled.ensures) in
     let does = label_does c.args.self.now c.args.k c.place_label-place.result c.args.node c.args.value c.in-Some-free.at c.in-Some.pass.now c.in_ok-after.after c.in-Some-free.book.now named.0 c.in-Some.ensures free named.1 at after in
     made c.args.self.now c.put.new.self c.args.k (acts (label c.args.node c.args.value)) _ _ c.put.ensures does

@@ -1,8 +1,8 @@
 use Rattle.std.proofs.Common.{◌≡◌, true, refl, rules}
 use Rattle.std.proofs.lemmas.Option.{slice_get_within}
-use Rattle.cf_law.specs.Events.Event.{acts}
+use Rattle.cf_law.specs.Events.WorldEvent.{acts}
 use Rattle.cf_law.specs.Steps.Act.{link}
-use Rattle.cf_law.specs.Steps.{link_tried}
+use Rattle.cf_law.specs.Steps.{pass_with_link}
 use Rattle.cf_core.specs.Worlds.{IsChildAt, NoChildAt}
 use Rattle.cf_pass.specs.Books.{IsFree, NoneFree}
 use Rattle.cf_core.proofs.Making.{made, made_lawful, pass_there}
@@ -49,7 +49,7 @@ pub put-requires-clause-lawful : goal.put-requires-clause-lawful
 put-requires-clause-lawful c =
     let child : IsChildAt c.args.self.now c.in-Some.pass.now c.args.place c.in-Some-2.spot = rw c.in-Some-2.is at c.in_ok-spot.ensures in
     let free : IsFree c.args.self.now.shape.nodes c.in-Some.pass.now c.args.node c.in-Some-free.at c.in-Some-free.book.now = rw c.shape-shape.ensures.shape at (rw c.nodes.ensures.nodes at c.in-Some-free.ensures) in
-    let after : c.in_ok-after.after ≡ link_tried c.in-Some-free.at c.in-Some-free.book.now c.in-Some-2.spot c.args.node c.in-Some.pass.now c.word-found.result = search (rules, c.in_ok-after.ensures c.in-Some-free.book.now free.0) in
+    let after : c.in_ok-after.after ≡ pass_with_link c.in-Some-free.at c.in-Some-free.book.now c.in-Some-2.spot c.args.node c.in-Some.pass.now c.word-found.result = search (rules, c.in_ok-after.ensures c.in-Some-free.book.now free.0) in
     let does = link_does c.args.self.now c.args.k c.args.place c.args.node c.word-found.result c.linked_word.result c.in-Some-free.at c.in-Some.pass.now c.in_ok-after.after c.in-Some-free.book.now c.in-Some-2.spot c.in-Some.ensures free child ((c.is_labelled.ensures).0 c.if-not-is_labelled.false) c.word-found.ensures c.linked_word.ensures after in
     made_lawful c.args.self.now c.args.k (acts (link c.args.place c.args.node)) _ c.shape-shape.ensures.lawful does
 
@@ -57,6 +57,6 @@ pub returns : goal.returns
 returns c =
     let child : IsChildAt c.args.self.now c.in-Some.pass.now c.args.place c.in-Some-2.spot = rw c.in-Some-2.is at c.in_ok-spot.ensures in
     let free : IsFree c.args.self.now.shape.nodes c.in-Some.pass.now c.args.node c.in-Some-free.at c.in-Some-free.book.now = rw c.shape-shape.ensures.shape at (rw c.nodes.ensures.nodes at c.in-Some-free.ensures) in
-    let after : c.in_ok-after.after ≡ link_tried c.in-Some-free.at c.in-Some-free.book.now c.in-Some-2.spot c.args.node c.in-Some.pass.now c.word-found.result = search (rules, c.in_ok-after.ensures c.in-Some-free.book.now free.0) in
+    let after : c.in_ok-after.after ≡ pass_with_link c.in-Some-free.at c.in-Some-free.book.now c.in-Some-2.spot c.args.node c.in-Some.pass.now c.word-found.result = search (rules, c.in_ok-after.ensures c.in-Some-free.book.now free.0) in
     let does = link_does c.args.self.now c.args.k c.args.place c.args.node c.word-found.result c.linked_word.result c.in-Some-free.at c.in-Some.pass.now c.in_ok-after.after c.in-Some-free.book.now c.in-Some-2.spot c.in-Some.ensures free child ((c.is_labelled.ensures).0 c.if-not-is_labelled.false) c.word-found.ensures c.linked_word.ensures after in
     made c.args.self.now c.put.new.self c.args.k (acts (link c.args.place c.args.node)) _ _ c.put.ensures does

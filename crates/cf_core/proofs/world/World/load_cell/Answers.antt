@@ -1,7 +1,7 @@
 use Rattle.std.proofs.Common.{◌≡◌, ◌<◌, true, refl, arith, rules}
-use Rattle.cf_law.specs.Events.Event.{acts}
+use Rattle.cf_law.specs.Events.WorldEvent.{acts}
 use Rattle.cf_law.specs.Steps.Act.{load_cell}
-use Rattle.cf_law.specs.Steps.{cell_loaded}
+use Rattle.cf_law.specs.Steps.{pass_with_cell}
 use Rattle.cf_shape.specs.Places.{place_of}
 use Rattle.cf_shape.specs.Places.Word.{version}
 use Rattle.cf_core.specs.Worlds.{HasCell}
@@ -53,7 +53,7 @@ put-requires-clause-lawful c =
     let at : c.place_cell-place.result ≡ place_of c.args.self.now.shape (version c.args.offset c.args.lane c.args.i) = rw c.shape-shape.ensures.shape at c.place_cell-place.ensures in
     let has : HasCell c.args.self.now.shape c.args.lane c.args.i = rw c.shape-shape.ensures.shape at ((c.has_cell.ensures).0 c.if-not-has_cell.false) in
     let low : c.args.offset < c.args.self.now.shape.capacity = rw c.shape-shape.ensures.shape at (rw c.capacity.ensures.capacity at c.if-offset-capacity.false) in
-    let after : c.in_ok-after.after ≡ cell_loaded c.place_cell-place.result c.args.offset c.args.lane c.args.i c.in-Some.pass.now c.word-found.result = search (rules, c.in_ok-after.ensures) in
+    let after : c.in_ok-after.after ≡ pass_with_cell c.place_cell-place.result c.args.offset c.args.lane c.args.i c.in-Some.pass.now c.word-found.result = search (rules, c.in_ok-after.ensures) in
     let does = cell_load_does c.args.self.now c.args.k c.place_cell-place.result c.args.offset c.args.lane c.args.i c.word-found.result c.in-Some.pass.now c.in_ok-after.after c.in-Some.ensures low has ((c.may_read.ensures).0 c.if-not-may_read.false) at c.word-found.ensures after in
     made_lawful c.args.self.now c.args.k (acts (load_cell c.args.offset c.args.lane c.args.i)) _ c.shape-shape.ensures.lawful does
 
@@ -62,6 +62,6 @@ returns c =
     let at : c.place_cell-place.result ≡ place_of c.args.self.now.shape (version c.args.offset c.args.lane c.args.i) = rw c.shape-shape.ensures.shape at c.place_cell-place.ensures in
     let has : HasCell c.args.self.now.shape c.args.lane c.args.i = rw c.shape-shape.ensures.shape at ((c.has_cell.ensures).0 c.if-not-has_cell.false) in
     let low : c.args.offset < c.args.self.now.shape.capacity = rw c.shape-shape.ensures.shape at (rw c.capacity.ensures.capacity at c.if-offset-capacity.false) in
-    let after : c.in_ok-after.after ≡ cell_loaded c.place_cell-place.result c.args.offset c.args.lane c.args.i c.in-Some.pass.now c.word-found.result = search (rules, c.in_ok-after.ensures) in
+    let after : c.in_ok-after.after ≡ pass_with_cell c.place_cell-place.result c.args.offset c.args.lane c.args.i c.in-Some.pass.now c.word-found.result = search (rules, c.in_ok-after.ensures) in
     let does = cell_load_does c.args.self.now c.args.k c.place_cell-place.result c.args.offset c.args.lane c.args.i c.word-found.result c.in-Some.pass.now c.in_ok-after.after c.in-Some.ensures low has ((c.may_read.ensures).0 c.if-not-may_read.false) at c.word-found.ensures after in
     made c.args.self.now c.put.new.self c.args.k (acts (load_cell c.args.offset c.args.lane c.args.i)) _ _ c.put.ensures does

@@ -1,7 +1,7 @@
 use Rattle.std.proofs.Common.{◌≡◌, ◌∷◌, ◌<◌, true, refl, arith, rules}
-use Rattle.cf_law.specs.Events.Event.{acts}
+use Rattle.cf_law.specs.Events.WorldEvent.{acts}
 use Rattle.cf_law.specs.Steps.Act.{load_head}
-use Rattle.cf_law.specs.Steps.{head_loaded}
+use Rattle.cf_law.specs.Steps.{pass_with_head}
 use Rattle.cf_shape.specs.Places.{place_of}
 use Rattle.cf_shape.specs.Places.Word.{head}
 use Rattle.cf_words.specs.Words.{spot}
@@ -52,7 +52,7 @@ put-requires-clause-lawful c =
     let at : c.place_head-place.result ≡ place_of c.args.self.now.shape (head c.args.node c.args.d c.args.writer) = rw c.shape-shape.ensures.shape at c.place_head-place.ensures in
     let low : c.args.writer < c.args.self.now.shape.writers = (let writers = rw c.shape-shape.ensures.shape at c.writers.ensures.writers in omega (arith, writers, c.if-writer-writers.false)) in
     let leaf : c.in_ok-leaf.leaf ≡ spot c.in-Some-spot_of.above.now.lane (c.args.d ∷ c.in-Some-spot_of.above.now.path) = search (rules, c.in_ok-leaf.ensures) in
-    let after : c.in_ok-after.after ≡ head_loaded c.place_head-place.result c.args.writer c.in_ok-leaf.leaf c.in-Some.pass.now c.word-found.result = search (rules, c.in_ok-after.ensures) in
+    let after : c.in_ok-after.after ≡ pass_with_head c.place_head-place.result c.args.writer c.in_ok-leaf.leaf c.in-Some.pass.now c.word-found.result = search (rules, c.in_ok-after.ensures) in
     let does = head_does c.args.self.now c.args.k c.place_head-place.result c.args.node c.args.d c.args.writer c.word-found.result c.in-Some.pass.now c.in_ok-after.after c.in-Some-spot_of.above.now c.in_ok-leaf.leaf c.in-Some.ensures c.in-Some-spot_of.ensures ((c.is_leaf.ensures).0 c.if-not-is_leaf.false) c.if-d-ge16.false low at c.word-found.ensures leaf after in
     made_lawful c.args.self.now c.args.k (acts (load_head c.args.node c.args.d c.args.writer)) _ c.shape-shape.ensures.lawful does
 
@@ -61,6 +61,6 @@ returns c =
     let at : c.place_head-place.result ≡ place_of c.args.self.now.shape (head c.args.node c.args.d c.args.writer) = rw c.shape-shape.ensures.shape at c.place_head-place.ensures in
     let low : c.args.writer < c.args.self.now.shape.writers = (let writers = rw c.shape-shape.ensures.shape at c.writers.ensures.writers in omega (arith, writers, c.if-writer-writers.false)) in
     let leaf : c.in_ok-leaf.leaf ≡ spot c.in-Some-spot_of.above.now.lane (c.args.d ∷ c.in-Some-spot_of.above.now.path) = search (rules, c.in_ok-leaf.ensures) in
-    let after : c.in_ok-after.after ≡ head_loaded c.place_head-place.result c.args.writer c.in_ok-leaf.leaf c.in-Some.pass.now c.word-found.result = search (rules, c.in_ok-after.ensures) in
+    let after : c.in_ok-after.after ≡ pass_with_head c.place_head-place.result c.args.writer c.in_ok-leaf.leaf c.in-Some.pass.now c.word-found.result = search (rules, c.in_ok-after.ensures) in
     let does = head_does c.args.self.now c.args.k c.place_head-place.result c.args.node c.args.d c.args.writer c.word-found.result c.in-Some.pass.now c.in_ok-after.after c.in-Some-spot_of.above.now c.in_ok-leaf.leaf c.in-Some.ensures c.in-Some-spot_of.ensures ((c.is_leaf.ensures).0 c.if-not-is_leaf.false) c.if-d-ge16.false low at c.word-found.ensures leaf after in
     made c.args.self.now c.put.new.self c.args.k (acts (load_head c.args.node c.args.d c.args.writer)) _ _ c.put.ensures does

@@ -1,6 +1,6 @@
 use Rattle.std.proofs.Common.{◌≡◌, ◌++◌, ◌∷◌, [], List, ap₂, ◌∙◌, rules}
 use Rattle.cf_law.specs.Passes.{Pass}
-use Rattle.cf_law.specs.Steps.{newcomer}
+use Rattle.cf_law.specs.Steps.{new_pass}
 use Rattle.cf_law.specs.Events.{opening, table, no_book}
 use Rattle.cf_law.specs.Shapes.{layout}
 use Rattle.cf_core.proofs.Handing.{opening_held}
@@ -12,7 +12,7 @@ invariant_of-result c =
     let books : c.in_ok-books.books.items ≡ table no_book c.args.shape.writers = search (rules, c.in_ok-books.ensures, c.writers.ensures.writers) in
     let items : c.push.new.self.items ≡ c.in_ok-passes.passes.items ++ c.newcomer.result ∷ [] = search (rules, c.in_ok-push.ensures.items) in
     let none : c.in_ok-passes.passes.items ≡ [] = search (rules, c.in_ok-passes.ensures.items) in
-    let one : c.newcomer.result ≡ newcomer (table no_book c.args.shape.writers) [] = c.newcomer.ensures ∙ ap₂ newcomer books c.new.ensures.items in
+    let one : c.newcomer.result ≡ new_pass (table no_book c.args.shape.writers) [] = c.newcomer.ensures ∙ ap₂ new_pass books c.new.ensures.items in
     let passes : c.push.new.self.items ≡ (opening (layout c.args.shape)).passes = items ∙ ap₂ (λ (ps : List Pass) (p : Pass). ps ++ p ∷ []) none one in
     opening_held c.args.shape c.in_ok-words.words.items c.push.new.self.items c.lanes-lawful.ensures.lawful words passes
 
@@ -22,6 +22,6 @@ returns-clause-lawful c =
     let books : c.in_ok-books.books.items ≡ table no_book c.args.shape.writers = search (rules, c.in_ok-books.ensures, c.writers.ensures.writers) in
     let items : c.push.new.self.items ≡ c.in_ok-passes.passes.items ++ c.newcomer.result ∷ [] = search (rules, c.in_ok-push.ensures.items) in
     let none : c.in_ok-passes.passes.items ≡ [] = search (rules, c.in_ok-passes.ensures.items) in
-    let one : c.newcomer.result ≡ newcomer (table no_book c.args.shape.writers) [] = c.newcomer.ensures ∙ ap₂ newcomer books c.new.ensures.items in
+    let one : c.newcomer.result ≡ new_pass (table no_book c.args.shape.writers) [] = c.newcomer.ensures ∙ ap₂ new_pass books c.new.ensures.items in
     let passes : c.push.new.self.items ≡ (opening (layout c.args.shape)).passes = items ∙ ap₂ (λ (ps : List Pass) (p : Pass). ps ++ p ∷ []) none one in
     opening_held c.args.shape c.in_ok-words.words.items c.push.new.self.items c.lanes-lawful.ensures.lawful words passes

@@ -3,7 +3,7 @@ use Rattle.std.proofs.lemmas.Bool.{cases_eq}
 use Rattle.cf_shape.specs.Places.{place_of}
 use Rattle.cf_shape.specs.Places.Word.{root_child}
 use Rattle.cf_shape.specs.declared.lane.Lane.{Lane}
-use Rattle.cf_shape.specs.Lanes.{Shaped}
+use Rattle.cf_shape.specs.Lanes.{ShapeValue}
 use Rattle.cf_core.specs.Worlds.{IsRootAt}
 use Rattle.cf_core.proofs.Children.{place_root_at}
 use Rattle.cf_core.proofs.world.World.root_at.Goals as goal
@@ -13,7 +13,7 @@ returns-in-Some c =
     let at : c.place_root.result ≡ place_of c.args.self.now.shape (root_child c.loop-lane.lane 0) = rw c.shape-shape.ensures.shape at c.place_root.ensures in
     let low : c.in-Some.nibble < 16 = c.in-Some.ensures.0 in
     let e : c.place_root.result + c.in-Some.nibble ≡ c.args.place = c.in-Some.ensures.1 in
-    let lane : c.loop-lane.lane < length c.args.self.now.shape.lanes = omega (arith, c.loop-lane-test.true, ap (length {A = Lane}) (c.lanes.ensures.lanes ∙ ap (λ (s : Shaped). s.lanes) c.shape-shape.ensures.shape)) in
+    let lane : c.loop-lane.lane < length c.args.self.now.shape.lanes = omega (arith, c.loop-lane-test.true, ap (length {A = Lane}) (c.lanes.ensures.lanes ∙ ap (λ (s : ShapeValue). s.lanes) c.shape-shape.ensures.shape)) in
     (lane, low, omega (arith, at, place_root_at c.args.self.now c.loop-lane.lane c.in-Some.nibble, e))
 
 pub loop-lane-preserved : goal.loop-lane-preserved

@@ -1,10 +1,10 @@
 use Rattle.std.proofs.Common.{◌≡◌, true, sym, ◌∙◌, arith, rules, refl}
 use Rattle.std.proofs.lemmas.Option.{slice_get_within}
-use Rattle.cf_law.specs.Events.Event.{acts}
+use Rattle.cf_law.specs.Events.WorldEvent.{acts}
 use Rattle.cf_law.specs.Shapes.{layout}
 use Rattle.cf_shape.specs.Uses.{use_at}
 use Rattle.cf_core.specs.Worlds.{draft}
-use Rattle.cf_law.specs.Steps.{at_book, filled, IsNext, own_word}
+use Rattle.cf_law.specs.Steps.{pass_with_book, book_with_word, IsNext, own_word}
 use Rattle.cf_law.specs.Steps.Act.{store_cell}
 use Rattle.cf_core.proofs.Making.{made, made_lawful, pass_there}
 use Rattle.cf_core.proofs.Tickets.{cell_does, cell_only, aloft_is}
@@ -78,7 +78,7 @@ put-requires-clause-lawful c =
     let next : IsNext (layout c.args.self.now.shape) (draft c.in-Some-flying.ticket.now.row c.in-Some-flying.ticket.now.filled) c.args.i = rw (c.shape-shape.ensures.shape, c.row-row.ensures, c.filled.ensures) at ((c.is_next.ensures).0 c.if-not-is_next.false) in
     let own : c.in_ok-own_word.field-0 ≡ own_word (layout c.args.self.now.shape) c.in-Some-flying.book.now c.in-Some-flying.ticket.now.row (use_at c.args.self.now.shape c.args.i) = (let raw : c.in_ok-own_word.field-0 ≡ own_word (layout c.shape-shape.result.now) c.in-Some-flying.book.now c.row-row.result.now (use_at c.shape-shape.result.now c.args.i) = search (rules, c.in_ok-own_word.ensures) in rw (c.shape-shape.ensures.shape, c.row-row.ensures) at raw) in
     let value : c.args.value ≡ own_word (layout c.args.self.now.shape) c.in-Some-flying.book.now c.in-Some-flying.ticket.now.row (use_at c.args.self.now.shape c.args.i) = omega (arith, own, c.if-branch.false) in
-    let after : c.in_ok-after.after ≡ at_book c.in-Some-flying.place (filled c.args.i c.in-Some-flying.book.now c.in-Some-flying.ticket.now) c.in-Some.pass.now = search (rules, c.in_ok-after.ensures, c.in_ok-filled.ensures) in
+    let after : c.in_ok-after.after ≡ pass_with_book c.in-Some-flying.place (book_with_word c.args.i c.in-Some-flying.book.now c.in-Some-flying.ticket.now) c.in-Some.pass.now = search (rules, c.in_ok-after.ensures, c.in_ok-filled.ensures) in
     let does = cell_does c.args.self.now c.args.k c.args.offset c.args.i c.args.value c.ticket_place-at.result c.in-Some-flying.place c.in-Some.pass.now c.in_ok-after.after c.in-Some-flying.book.now c.in-Some-flying.ticket.now c.in-Some.ensures c.in-Some-flying.ensures.0 c.in-Some-flying.ensures.1 next value (search (rules, c.ticket_place-at.ensures.at, c.from.ensures)) after in
     made_lawful c.args.self.now c.args.k (acts (store_cell c.args.offset c.args.i c.args.value)) _ c.shape-shape.ensures.lawful does
 
@@ -88,6 +88,6 @@ returns c =
     let next : IsNext (layout c.args.self.now.shape) (draft c.in-Some-flying.ticket.now.row c.in-Some-flying.ticket.now.filled) c.args.i = rw (c.shape-shape.ensures.shape, c.row-row.ensures, c.filled.ensures) at ((c.is_next.ensures).0 c.if-not-is_next.false) in
     let own : c.in_ok-own_word.field-0 ≡ own_word (layout c.args.self.now.shape) c.in-Some-flying.book.now c.in-Some-flying.ticket.now.row (use_at c.args.self.now.shape c.args.i) = (let raw : c.in_ok-own_word.field-0 ≡ own_word (layout c.shape-shape.result.now) c.in-Some-flying.book.now c.row-row.result.now (use_at c.shape-shape.result.now c.args.i) = search (rules, c.in_ok-own_word.ensures) in rw (c.shape-shape.ensures.shape, c.row-row.ensures) at raw) in
     let value : c.args.value ≡ own_word (layout c.args.self.now.shape) c.in-Some-flying.book.now c.in-Some-flying.ticket.now.row (use_at c.args.self.now.shape c.args.i) = omega (arith, own, c.if-branch.false) in
-    let after : c.in_ok-after.after ≡ at_book c.in-Some-flying.place (filled c.args.i c.in-Some-flying.book.now c.in-Some-flying.ticket.now) c.in-Some.pass.now = search (rules, c.in_ok-after.ensures, c.in_ok-filled.ensures) in
+    let after : c.in_ok-after.after ≡ pass_with_book c.in-Some-flying.place (book_with_word c.args.i c.in-Some-flying.book.now c.in-Some-flying.ticket.now) c.in-Some.pass.now = search (rules, c.in_ok-after.ensures, c.in_ok-filled.ensures) in
     let does = cell_does c.args.self.now c.args.k c.args.offset c.args.i c.args.value c.ticket_place-at.result c.in-Some-flying.place c.in-Some.pass.now c.in_ok-after.after c.in-Some-flying.book.now c.in-Some-flying.ticket.now c.in-Some.ensures c.in-Some-flying.ensures.0 c.in-Some-flying.ensures.1 next value (search (rules, c.ticket_place-at.ensures.at, c.from.ensures)) after in
     made c.args.self.now c.put.new.self c.args.k (acts (store_cell c.args.offset c.args.i c.args.value)) _ _ c.put.ensures does

@@ -1,6 +1,6 @@
 use Rattle.std.proofs.Common.{◌≡◌, ◌+◌, ℕ, List, true, false, ap, sym, ◌∙◌, rules, refl}
 use Rattle.std.proofs.lemmas.Option.{slice_get_within}
-use Rattle.cf_law.specs.Events.Event.{acts}
+use Rattle.cf_law.specs.Events.WorldEvent.{acts}
 use Rattle.cf_law.specs.Shapes.{layout}
 use Rattle.cf_words.specs.Law.{IsWhole}
 use Rattle.cf_words.specs.Words.{has}
@@ -8,7 +8,7 @@ use Rattle.cf_core.specs.Worlds.{draft, LeadsTo}
 use Rattle.cf_words.specs.Words.{spot}
 use Rattle.cf_shape.specs.Places.{place_of}
 use Rattle.cf_shape.specs.Places.Word.{head}
-use Rattle.cf_law.specs.Steps.{at_book, headed}
+use Rattle.cf_law.specs.Steps.{pass_with_book, book_with_head}
 use Rattle.cf_law.specs.Steps.Act.{store_head}
 use Rattle.cf_core.proofs.Making.{made, made_lawful, pass_there}
 use Rattle.cf_core.proofs.Tickets.{aloft_is}
@@ -84,7 +84,7 @@ put-requires-clause-lawful c =
     let leads : LeadsTo c.args.self.now c.in-Some.pass.now c.in-Some-flying.ticket.now.row c.args.lane c.args.node c.args.d = (let raw : LeadsTo c.args.self.now c.in-Some.pass.now c.row-row.result.now c.args.lane c.args.node c.args.d = search (rules, c.in_ok-leads.ensures.some c.if-not-branch.false) in rw c.row-row.ensures at raw) in
     let fresh : has c.in-Some-flying.ticket.now.linked c.args.lane ≡ false = ap (λ (xs : List ℕ). has xs c.args.lane) (sym c.linked.ensures) ∙ (sym c.is_in.ensures ∙ c.if-is_in.false) in
     let at : c.place_head-place.result ≡ place_of c.args.self.now.shape (head c.args.node c.args.d c.in-Some-flying.book.now.writer) = rw (c.shape-shape.ensures.shape, c.writer.ensures) at c.place_head-place.ensures in
-    let after : c.in_ok-after.after ≡ at_book c.in-Some-flying.at (headed c.args.lane c.in-Some-flying.book.now c.in-Some-flying.ticket.now) c.in-Some.pass.now = search (rules, c.in_ok-after.ensures, c.in_ok-headed.ensures) in
+    let after : c.in_ok-after.after ≡ pass_with_book c.in-Some-flying.at (book_with_head c.args.lane c.in-Some-flying.book.now c.in-Some-flying.ticket.now) c.in-Some.pass.now = search (rules, c.in_ok-after.ensures, c.in_ok-headed.ensures) in
     let does = head_does c.args.self.now c.args.k c.place_head-place.result c.args.lane c.args.node c.args.d c.args.offset (c.from.result + 1) c.in-Some-flying.at c.in-Some.pass.now c.in_ok-after.after c.in-Some-flying.book.now c.in-Some-flying.ticket.now c.in-Some.ensures c.in-Some-flying.ensures.0 c.in-Some-flying.ensures.1 whole fresh leads at (ap (λ (n : ℕ). n + 1) c.from.ensures) after in
     made_lawful c.args.self.now c.args.k (acts (store_head c.args.lane c.args.node c.args.d c.args.offset)) _ c.shape-shape.ensures.lawful does
 
@@ -94,6 +94,6 @@ returns c =
     let leads : LeadsTo c.args.self.now c.in-Some.pass.now c.in-Some-flying.ticket.now.row c.args.lane c.args.node c.args.d = (let raw : LeadsTo c.args.self.now c.in-Some.pass.now c.row-row.result.now c.args.lane c.args.node c.args.d = search (rules, c.in_ok-leads.ensures.some c.if-not-branch.false) in rw c.row-row.ensures at raw) in
     let fresh : has c.in-Some-flying.ticket.now.linked c.args.lane ≡ false = ap (λ (xs : List ℕ). has xs c.args.lane) (sym c.linked.ensures) ∙ (sym c.is_in.ensures ∙ c.if-is_in.false) in
     let at : c.place_head-place.result ≡ place_of c.args.self.now.shape (head c.args.node c.args.d c.in-Some-flying.book.now.writer) = rw (c.shape-shape.ensures.shape, c.writer.ensures) at c.place_head-place.ensures in
-    let after : c.in_ok-after.after ≡ at_book c.in-Some-flying.at (headed c.args.lane c.in-Some-flying.book.now c.in-Some-flying.ticket.now) c.in-Some.pass.now = search (rules, c.in_ok-after.ensures, c.in_ok-headed.ensures) in
+    let after : c.in_ok-after.after ≡ pass_with_book c.in-Some-flying.at (book_with_head c.args.lane c.in-Some-flying.book.now c.in-Some-flying.ticket.now) c.in-Some.pass.now = search (rules, c.in_ok-after.ensures, c.in_ok-headed.ensures) in
     let does = head_does c.args.self.now c.args.k c.place_head-place.result c.args.lane c.args.node c.args.d c.args.offset (c.from.result + 1) c.in-Some-flying.at c.in-Some.pass.now c.in_ok-after.after c.in-Some-flying.book.now c.in-Some-flying.ticket.now c.in-Some.ensures c.in-Some-flying.ensures.0 c.in-Some-flying.ensures.1 whole fresh leads at (ap (λ (n : ℕ). n + 1) c.from.ensures) after in
     made c.args.self.now c.put.new.self c.args.k (acts (store_head c.args.lane c.args.node c.args.d c.args.offset)) _ _ c.put.ensures does

@@ -1,6 +1,6 @@
 use Rattle.std.proofs.Common.{◌≡◌, ◌∷◌, [], true, rules}
 use Rattle.cf_law.specs.Passes.{Book}
-use Rattle.cf_law.specs.Events.Event.{acts}
+use Rattle.cf_law.specs.Events.WorldEvent.{acts}
 use Rattle.cf_law.specs.Shapes.{layout}
 use Rattle.cf_law.specs.Steps.Act.{take_ticket}
 use Rattle.cf_pass.specs.Books.{MayTake, ticketed_at}

@@ -1,8 +1,8 @@
 use Rattle.std.proofs.Common.{◌≡◌, ◌∙◌, ◌+◌, ◌<◌, suc, List, ◌++◌, ◌∷◌, [], length, Some, slice_get, false, ap, sym, arith}
 use Rattle.std.proofs.lemmas.Option.{slice_get-get_or}
 use Rattle.cf_law.specs.Passes.{Book}
-use Rattle.cf_law.specs.Steps.{newcomer}
-use Rattle.cf_table.specs.Held.{Held}
+use Rattle.cf_law.specs.Steps.{new_pass}
+use Rattle.cf_table.specs.Values.{PassValue}
 use Rattle.cf_table.specs.Moves.{note_of}
 use Rattle.cf_table.proofs.Leaving.{left_with, book_at, first_is, noted_at, as_many, still_of, dealt_more, next_left}
 use Rattle.cf_table.proofs.log.MultiLog.deal_all.Goals as goal
@@ -34,7 +34,7 @@ deal_first-requires-clause-bounds c =
     let lt : i < length (m.view).books = (let t = c.loop-note-test.true in omega (arith, many)) in
     let f = first_is m c.loop-note.token i lt c.loop-note.invariant.token in
     let b = c.requires.noted.bounds i (book_at m i) (slice_get-get_or (m.view).books i _ lt) in
-    let nodes = ap (λ (h : Held). h.nodes) c.loop-note.invariant.token in
+    let nodes = ap (λ (h : PassValue). h.nodes) c.loop-note.invariant.token in
     let few = c.requires.noted.few in
     let writer = ap (λ (x : Book). x.writer) f.0 in
     let used = ap (λ (x : Book). length x.used) f.0 in
@@ -50,13 +50,13 @@ loop-note-preserved c =
     let f = first_is m c.loop-note.token i lt v.token in
     let e = c.push_reserved.ensures in
     let next : suc i ≡ i + 1 = omega arith in
-    let seen = ap (λ (h : Held). (h.view).seen) v.token in
+    let seen = ap (λ (h : PassValue). (h.view).seen) v.token in
     let items : c.push_reserved.new.self.items ≡ c.loop-note.passes.items ++ c.deal_first.result ∷ [] = e.items in
-    let view : (c.deal_first.result).view ≡ newcomer (book_at m i ∷ []) (m.view).seen = rw (sym f.0, sym seen) c.deal_first.ensures.view in
+    let view : (c.deal_first.result).view ≡ new_pass (book_at m i ∷ []) (m.view).seen = rw (sym f.0, sym seen) c.deal_first.ensures.view in
     let l = v.len in let n = e.len in let count = v.count in let room = v.room in let cap = e.capacity in record {
       token = next_left m c.loop-note.token c.deal_first.new.token i lt v.token c.deal_first.ensures.stays ∙ ap (left_with m) next;
-      count = ap (λ (xs : List Held). length xs) items ∙ (let k = Rattle.std.proofs.lemmas.List.length_push c.loop-note.passes.items c.deal_first.result in omega (arith, k, count));
+      count = ap (λ (xs : List PassValue). length xs) items ∙ (let k = Rattle.std.proofs.lemmas.List.length_push c.loop-note.passes.items c.deal_first.result in omega (arith, k, count));
       len = omega (arith, n, l);
       room = omega (arith, room, cap);
-      each = λ k h at. dealt_more c.args.self.now m i c.loop-note.passes.items c.deal_first.result lt count c.deal_first.ensures.of view v.each k h (ap (λ (xs : List Held). slice_get xs k) (sym items) ∙ at);
+      each = λ k h at. dealt_more c.args.self.now m i c.loop-note.passes.items c.deal_first.result lt count c.deal_first.ensures.of view v.each k h (ap (λ (xs : List PassValue). slice_get xs k) (sym items) ∙ at);
     }

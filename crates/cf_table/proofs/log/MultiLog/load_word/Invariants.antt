@@ -1,6 +1,6 @@
-use Rattle.cf_table.specs.Ways.{word_way}
+use Rattle.cf_table.specs.Effects.{word_effect}
 use Rattle.cf_table.proofs.Calls.{given}
 use Rattle.cf_table.proofs.log.MultiLog.load_word.Given as goal
 
 abbrev pub ghosts-load_as : goal.ghosts-load_as
-ghosts-load_as g a = record { given = given a.log.now.shape (word_way a.log.now.shape (g.P.Pass.held a.pass.now).view a._at.0 a._at.1) }
+ghosts-load_as g a = record { given = given a.log.now.shape (word_effect a.log.now.shape (g.P.Pass.held a.pass.now).view a._at.0 a._at.1) }

@@ -1,6 +1,6 @@
-use Rattle.cf_table.specs.Ways.{done_way}
+use Rattle.cf_table.specs.Effects.{done_effect}
 use Rattle.cf_table.proofs.Calls.{given}
 use Rattle.cf_table.proofs.log.MultiLog.look_done.Given as goal
 
 abbrev pub ghosts-load_as : goal.ghosts-load_as
-ghosts-load_as g a = record { given = given a.log.now.shape (done_way a.log.now.shape (g.P.Pass.held a.pass.now).view a._at.0) }
+ghosts-load_as g a = record { given = given a.log.now.shape (done_effect a.log.now.shape (g.P.Pass.held a.pass.now).view a._at.0) }

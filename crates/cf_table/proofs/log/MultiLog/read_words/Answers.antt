@@ -2,7 +2,7 @@ use Rattle.std.proofs.Common.{◌∙◌, ap, sym, arith, slice_get, length-set}
 use Rattle.std.proofs.lemmas.Grind.{same_number_lists}
 use Rattle.cf_row.specs.Words.{spelled}
 use Rattle.cf_row.proofs.Spelling.{spelled_long}
-use Rattle.cf_table.specs.Held.{Held}
+use Rattle.cf_table.specs.Values.{PassValue}
 use Rattle.cf_table.proofs.Reading.{word_is, looked_word, looked_then, read_more}
 use Rattle.cf_table.proofs.log.MultiLog.read_words.Goals as goal
 
@@ -13,7 +13,7 @@ loop-i-preserved g c =
     let v = c.loop-i.invariant in
     let i = c.loop-i.i in
     let m = c.loop-i.token in
-    let at = ap (λ (h : Held). slice_get (h.view).seen c.args.offset) v.looked ∙ r.1.1.0 in
+    let at = ap (λ (h : PassValue). slice_get (h.view).seen c.args.offset) v.looked ∙ r.1.1.0 in
     let low = c.loop-i-test.true in
     let long = v.long in
     let wide = r.1.0.1 in

@@ -1,5 +1,5 @@
 use Rattle.std.proofs.Common.{◌≡◌, ◌∙◌, ℕ, inl, inr, length, ap, arith}
-use Rattle.cf_shape.specs.Lanes.{Shaped}
+use Rattle.cf_shape.specs.Lanes.{ShapeValue}
 use Rattle.cf_shape.specs.Places.{slot_of}
 use Rattle.cf_shape.specs.Places.Word.{done}
 use Rattle.cf_law.specs.Passes.{Pass}
@@ -11,7 +11,7 @@ returns-then-look_token-ne1 c =
     let s = c.args.self.now.shape in
     let p = c.loop-token.token in
     let t = c.known-t.result in
-    let room : c.capacity-capacity.result ≡ s.capacity = c.capacity-capacity.ensures.capacity ∙ ap (λ (x : Shaped). x.capacity) c.shape.ensures.shape in
+    let room : c.capacity-capacity.result ≡ s.capacity = c.capacity-capacity.ensures.capacity ∙ ap (λ (x : ShapeValue). x.capacity) c.shape.ensures.shape in
     let at = c.known-t.ensures in
     let low = c.loop-token-test.true in
     let known = c.known.ensures in
@@ -23,7 +23,7 @@ advance_token-requires-clause-lawful c =
     let s = c.args.self.now.shape in
     let t = c.known-t.result in
     let is = c.look_token.ensures.made.told.is in
-    let room : c.capacity-capacity.result ≡ s.capacity = c.capacity-capacity.ensures.capacity ∙ ap (λ (x : Shaped). x.capacity) c.shape.ensures.shape in
+    let room : c.capacity-capacity.result ≡ s.capacity = c.capacity-capacity.ensures.capacity ∙ ap (λ (x : ShapeValue). x.capacity) c.shape.ensures.shape in
     let at = c.known-t.ensures in
     let low = c.loop-token-test.true in
     let known = c.known.ensures in
@@ -45,7 +45,7 @@ loop-token-preserved c =
 pub returns : goal.returns
 returns c =
     let s = c.args.self.now.shape in
-    let room : c.capacity-capacity.result ≡ s.capacity = c.capacity-capacity.ensures.capacity ∙ ap (λ (x : Shaped). x.capacity) c.shape.ensures.shape in
+    let room : c.capacity-capacity.result ≡ s.capacity = c.capacity-capacity.ensures.capacity ∙ ap (λ (x : ShapeValue). x.capacity) c.shape.ensures.shape in
     let known = c.known.ensures in
     let past = c.loop-token-test.false in
     settled_by s c.args.token.now c.loop-token.token c.look_token-2.new.token 0 c.look_token-2.result c.loop-token.invariant.moved c.look_token-2.ensures.made (inl (omega (arith, past, room, known)))

@@ -1,7 +1,7 @@
 use Rattle.std.proofs.Common.{◌≡◌, ◌∷◌, List, length, ap, subst, arith}
 use Rattle.std.proofs.lemmas.List.{nil_from_length}
 use Rattle.std.specs.Vec.Iter.{into_iter_items}
-use Rattle.cf_table.specs.Held.{Held}
+use Rattle.cf_table.specs.Values.{PassValue}
 use Rattle.cf_table.proofs.Homing.{AreHomeward, homeward_next, still_one, gathers_next, gathers_none}
 use Rattle.cf_table.proofs.log.MultiLog.take_all.Goals as goal
 
@@ -10,11 +10,11 @@ loop-pass-preserved c =
     let log = c.args.self.now in
     let v = c.loop-pass.invariant in
     let h = c.in-Some.pass in
-    let rest : List Held = into_iter_items c.next.new.self in
+    let rest : List PassValue = into_iter_items c.next.new.self in
     let split : into_iter_items c.loop-pass.pass-iterator ≡ h ∷ rest = c.in-Some.ensures.steps.0 in
     let one = c.take_in.ensures.one in
     let few = v.few in
-    let long = ap (λ (xs : List Held). length xs) split in record {
+    let long = ap (λ (xs : List PassValue). length xs) split in record {
       of = still_one log c.loop-pass.root c.take_in.new.root v.of c.take_in.ensures.folded.made.same;
       homeward = homeward_next log h rest (subst (AreHomeward log) split v.homeward);
       few = omega (arith, one, few, long);

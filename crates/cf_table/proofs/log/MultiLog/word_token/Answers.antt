@@ -1,8 +1,8 @@
 use Rattle.std.proofs.Common.{◌≡◌, ap, subst}
-use Rattle.cf_shape.specs.Lanes.{Shaped}
+use Rattle.cf_shape.specs.Lanes.{ShapeValue}
 use Rattle.cf_shape.specs.Places.{place, sizes_of}
 use Rattle.cf_shape.specs.Places.Slot.{cell}
-use Rattle.cf_table.specs.Held.{LogValue}
+use Rattle.cf_table.specs.Values.{LogValue}
 use Rattle.cf_table.proofs.Calls.{calls_word}
 use Rattle.cf_table.proofs.log.MultiLog.word_token.Goals as goal
 
@@ -12,4 +12,4 @@ word_as-requires-clause-lawful c =
     let p = c.args.token.now.view in
     let shape : c.self.inside.shape ≡ s = ap (λ (m : LogValue). m.shape) c.self.view_is in
     calls_word s p c.args.offset c.args.i c.place_ticket-word.result c.requires.place.0 c.requires.place.1 c.requires.seen
-    (subst (λ (x : Shaped). c.place_ticket-word.result ≡ place (sizes_of x) (cell c.args.offset c.args.i)) shape c.place_ticket-word.ensures)
+    (subst (λ (x : ShapeValue). c.place_ticket-word.result ≡ place (sizes_of x) (cell c.args.offset c.args.i)) shape c.place_ticket-word.ensures)

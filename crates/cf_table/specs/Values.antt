@@ -1,12 +1,12 @@
 -- What contracts see of a log and of a pass.
 use Rattle.std.specs.Prelude.{ℕ, ◌≡◌, Option, Some, None, [], ◌∷◌, get_or, length, Bool}
 use Rattle.atomic_table.specs.Seated.{TableId}
-use Rattle.cf_shape.specs.Lanes.{Shaped}
+use Rattle.cf_shape.specs.Lanes.{ShapeValue}
 use Rattle.cf_law.specs.Passes.{Book, Flight, Pass}
 use Rattle.cf_law.specs.Events.{no_book}
 
 -- the table, the pass's number in it, how many nodes each writer has, and what the pass holds and knows
-pub record Held : Type 0 where
+pub record PassValue : Type 0 where
   pub table : TableId
   pub id : ℕ
   pub nodes : ℕ
@@ -14,13 +14,13 @@ pub record Held : Type 0 where
 
 -- the shape and the table
 pub record LogValue : Type 0 where
-  pub shape : Shaped
+  pub shape : ShapeValue
   pub table : TableId
 
 -- the pass is one of the log's
-pub record IsOf (h : Held) (log : LogValue) : Type 0 where
-  pub table : h.table ≡ log.table
-  pub nodes : h.nodes ≡ log.shape.nodes
+pub record IsOf (pass : PassValue) (log : LogValue) : Type 0 where
+  pub table : pass.table ≡ log.table
+  pub nodes : pass.nodes ≡ log.shape.nodes
 
 -- the first book, which is a writer's pass's only one
 abbrev pub book_of : Pass → Book
@@ -38,9 +38,9 @@ abbrev pub flight_of : Pass → Flight
 flight_of p = flight_or (book_of p).flight
 
 -- the pass holds the one book of that writer, marked or not, with as many used nodes
-pub record Writes (writer : ℕ) (over : Bool) (used : ℕ) (p : Pass) : Type 0 where
+pub record Writes (writer : ℕ) (over : Bool) (used : ℕ) (pass : Pass) : Type 0 where
   pub book : Book
-  pub one : p.books ≡ book ∷ []
+  pub one : pass.books ≡ book ∷ []
   pub writer_is : book.writer ≡ writer
   pub over_is : book.over ≡ over
   pub used_is : length book.used ≡ used

@@ -9,7 +9,7 @@ use Rattle.cf_shape.specs.declared.lane.Key.TheVariants as keys
 use Rattle.cf_plain.specs.declared.ask.Ask.{Ask}
 
 -- the lanes stand in the order of their statements, whatever their kind
-pub record Stated : Type 0 where
+pub record DraftValue : Type 0 where
   pub packet : Bool
   pub schema_line : ℕ
   pub schema : Option (List Attr)
@@ -23,23 +23,23 @@ pub record Stated : Type 0 where
   pub ask_names : List (List ℕ)
 
 -- before the first line
-abbrev pub nothing_stated : Stated
+abbrev pub nothing_stated : DraftValue
 nothing_stated = record { packet = false; schema_line = 0; schema = None; width = None; lanes = []; triggers = []; asks = []; lives = []; lane_names = []; trigger_names = []; ask_names = [] }
 
 -- the attributes, once the schema is stated
-abbrev pub attrs_of : Stated → List Attr
+abbrev pub attrs_of : DraftValue → List Attr
 attrs_of stated = unwrap_or stated.schema []
 
 -- one lane more
-abbrev pub with_lane : Stated → List ℕ → Lane → Stated
+abbrev pub with_lane : DraftValue → List ℕ → Lane → DraftValue
 with_lane before name lane = record before { lanes = before.lanes ++ lane ∷ []; lane_names = before.lane_names ++ name ∷ [] }
 
 -- one trigger more
-abbrev pub with_trigger : Stated → List ℕ → Trigger → Stated
+abbrev pub with_trigger : DraftValue → List ℕ → Trigger → DraftValue
 with_trigger before name trigger = record before { triggers = before.triggers ++ trigger ∷ []; trigger_names = before.trigger_names ++ name ∷ [] }
 
 -- one ask more
-abbrev pub with_ask : Stated → List ℕ → Ask → Stated
+abbrev pub with_ask : DraftValue → List ℕ → Ask → DraftValue
 with_ask before name ask = record before { asks = before.asks ++ ask ∷ []; ask_names = before.ask_names ++ name ∷ [] }
 
 -- all rows, by the value of an attribute

@@ -6,13 +6,13 @@ use Rattle.cf_row.specs.declared.schema.Attr.{Attr}
 use Rattle.cf_row.specs.Schema.{IsSchema}
 use Rattle.cf_fold.specs.declared.trigger.Trigger.{Trigger}
 use Rattle.cf_shape.specs.declared.lane.Lane.{Lane}
-use Rattle.cf_shape.specs.Lanes.{Shaped, is_lawful_lane}
+use Rattle.cf_shape.specs.Lanes.{ShapeValue, is_lawful_lane}
 use Rattle.cf_plain.specs.declared.ask.Ask.{Ask}
 use Rattle.cf_plain.specs.Asks.{suits_of, suits_trigger}
-use Rattle.cf_setup.specs.Stated.{Stated, nothing_stated}
+use Rattle.cf_setup.specs.Drafts.{DraftValue, nothing_stated}
 
 -- lanes, triggers and asks go by their places, each with the name at the same place
-pub record Settled : Type 0 where
+pub record SetupValue : Type 0 where
   pub packet : Bool
   pub schema_line : ℕ
   pub schema : List Attr
@@ -26,7 +26,7 @@ pub record Settled : Type 0 where
   pub ask_names : List (List ℕ)
 
 -- what is stated, over these attributes; a bucket is a second wide where no width is stated
-abbrev pub settled : Stated → List Attr → Settled
+abbrev pub settled : DraftValue → List Attr → SetupValue
 settled stated attrs = record {
   packet = stated.packet;
   schema_line = stated.schema_line;
@@ -42,11 +42,11 @@ settled stated attrs = record {
 }
 
 -- the setup's shape with that many tickets, writers and nodes
-abbrev pub shaped : Settled → ℕ → ℕ → ℕ → Shaped
+abbrev pub shaped : SetupValue → ℕ → ℕ → ℕ → ShapeValue
 shaped setup capacity writers nodes = record { schema = setup.schema; lanes = setup.lanes; capacity = capacity; writers = writers; nodes = nodes; width = setup.width }
 
 -- its lanes are lawful over its schema, its triggers and asks suit its shape, and each has a name
-pub record IsSetup (setup : Settled) : Type 0 where
+pub record IsSetup (setup : SetupValue) : Type 0 where
   pub schema : IsSchema setup.schema
   pub width : (1 ≤ setup.width) × (setup.width ≤ 2 ^ 63)
   pub few_lanes : length setup.lanes ≤ 16
@@ -61,6 +61,6 @@ pub record IsSetup (setup : Settled) : Type 0 where
   pub ask_names : length setup.ask_names ≡ length setup.asks
 
 -- what is stated before the schema is nothing, and then it is a setup
-pub record IsDraft (stated : Stated) : Type 0 where
+pub record IsDraft (stated : DraftValue) : Type 0 where
   pub unstated : stated.schema ≡ None → stated ≡ nothing_stated
   pub lawful : (attrs : List Attr) → stated.schema ≡ Some attrs → IsSetup (settled stated attrs)
