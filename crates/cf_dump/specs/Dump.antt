@@ -22,13 +22,16 @@ dotted n =
 abbrev pub byte_text : ℕ → List ℕ
 byte_text byte = digit_glyph false (byte / 16) ∷ digit_glyph false (byte % 16) ∷ []
 
+-- the text of an attribute's value: `src` and `dst` dotted, other numbers decimal, byte strings `0x` and two digits for each byte
 abbrev pub value_text : Attr → Value → List ℕ
 value_text attr (Num n) = if is_address attr then dotted n else decimal n
 value_text attr (Raw len bytes) = codes "0x" ++ flat_map byte_text (take len bytes)
 
+-- stands where an attribute doesn't exist: it has no name, and is a number of one byte
 abbrev pub no_attr : Attr
 no_attr = record { name = []; kind = U8 }
 
+-- the attribute at that place of the schema, from 0
 abbrev pub attr_at : List Attr → ℕ → Attr
 attr_at attrs place = slice_index_or attrs place no_attr
 
@@ -36,6 +39,7 @@ attr_at attrs place = slice_index_or attrs place no_attr
 abbrev pub field_text : Attr → Value → List ℕ
 field_text attr value = codes " " ++ (attr.name ++ (codes "=" ++ value_text attr value))
 
+-- the text of the row's field at that place of the schema, from 0
 abbrev pub field_at : List Attr → RowValue → ℕ → List ℕ
 field_at attrs row place = field_text (attr_at attrs place) (value_at row place)
 

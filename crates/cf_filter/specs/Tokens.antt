@@ -9,13 +9,15 @@ use Rattle.cf_filter.specs.declared.bytes.Class.TheVariants.{Space, Letter, Name
 abbrev pub is_between : ℕ → ℕ → ℕ → Bool
 is_between low high b = nat_le low b && nat_le b high
 
--- a small letter, a capital, a digit
+-- the byte is a small letter a to z (ASCII)
 abbrev pub is_small : ℕ → Bool
 is_small b = is_between 97 122 b
 
+-- the byte is a capital A to Z (ASCII)
 abbrev pub is_capital : ℕ → Bool
 is_capital b = is_between 65 90 b
 
+-- the byte is a digit 0 to 9 (ASCII)
 abbrev pub is_digit : ℕ → Bool
 is_digit b = is_between 48 57 b
 
@@ -31,10 +33,11 @@ passes Hex b = (is_digit b || is_between 97 102 b) || is_between 65 70 b
 passes Text b = is_between 32 126 b
 passes (Except other) b = not (b == other)
 
--- the longest run of a class at the front, and what follows it
+-- the longest run of a class at the front
 abbrev pub run : Class → List ℕ → List ℕ
 run class text = take (prefix_len (passes class) text) text
 
+-- what follows the longest run of a class at the front
 abbrev pub past : Class → List ℕ → List ℕ
 past class text = drop (prefix_len (passes class) text) text
 

@@ -89,20 +89,23 @@ kind_of ipv4 Unread = if ipv4 then 1 else 0
 kind_of ipv4 (Tcp place) = 2
 kind_of ipv4 (Udp place) = 3
 
--- The value of a field that stands at a place.
+-- the value of a field of one byte, which stands at that place of the frame, from 0
 unfoldable pub byte_at : List ℕ → ℕ → Value
 byte_at frame place = Num (slice_index frame place)
 
+-- the value of a field of so many bytes, which stands at that place of the frame, from 0
 unfoldable pub number_at : ℕ → List ℕ → ℕ → Value
 number_at bytes frame place = Num (big_number bytes (drop place frame))
 
--- The same where it is read; else 0, or zero bytes.
+-- the value of a field of one byte where its header is read, else 0
 unfoldable pub byte_if : Bool → List ℕ → ℕ → Value
 byte_if read frame place = if read then byte_at frame place else Num 0
 
+-- the value of a field of so many bytes where its header is read, else 0
 unfoldable pub number_if : Bool → ℕ → List ℕ → ℕ → Value
 number_if read bytes frame place = if read then number_at bytes frame place else Num 0
 
+-- an address of 6 bytes (IEEE 802.3) where its header is read, else zero bytes; 10 zero bytes fill the 16 of a byte string
 unfoldable pub address_if : Bool → List ℕ → ℕ → Value
 address_if read frame place = Raw 6 ((if read then slice_range frame place (place + 6) else replicate 6 0) ++ replicate 10 0)
 
@@ -138,6 +141,7 @@ transport_values (Udp place) frame = number_at 2 frame place ∷ number_at 2 fra
 abbrev pub is_ipv4 : ℕ → List ℕ → Bool
 is_ipv4 link frame = has_ipv4 (etype_of link frame) (network_at link frame) frame
 
+-- the TCP or UDP header of a frame with that link, with its place in the frame, or none that is read
 abbrev pub transport_of : ℕ → List ℕ → Transport
 transport_of link frame = transport_in (is_ipv4 link frame) (network_at link frame) frame
 

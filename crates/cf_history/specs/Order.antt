@@ -48,11 +48,12 @@ pub record IsLogOf (rows : List RowValue) (writers : ℕ) (log : List Entry) : T
 abbrev pub order_of : List Entry → List ℕ
 order_of log = map (λ entry. entry.writer) log
 
--- the longest runs of one writer, as the writer and the length
+-- the runs of an order, with one more writer at its front: the first run is longer by 1, or a run of length 1 comes before it
 abbrev pub longer : ℕ → List (ℕ × ℕ) → List (ℕ × ℕ)
 longer writer [] = (writer, 1) ∷ []
 longer writer (run ∷ runs) = if writer == run.0 then (writer, run.1 + 1) ∷ runs else (writer, 1) ∷ run ∷ runs
 
+-- the longest runs of one writer in an order, the first run first, each as the writer and the length
 abbrev pub runs_of : List ℕ → List (ℕ × ℕ)
 runs_of [] = []
 runs_of (writer ∷ order) = longer writer (runs_of order)

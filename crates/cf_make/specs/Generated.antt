@@ -27,6 +27,7 @@ is_udp draw = draw / 2 ^ 8 % 4 == 0
 abbrev pub wire_length : ℕ → ℕ
 wire_length draw = 64 + draw / 2 ^ 20 % 1024
 
+-- the source port, from 40000 to 40255
 abbrev pub source_port : ℕ → ℕ
 source_port draw = 40000 + draw / 2 ^ 10 % 256
 
@@ -34,6 +35,7 @@ source_port draw = 40000 + draw / 2 ^ 10 % 256
 abbrev pub port_of_service : ℕ → ℕ
 port_of_service service = if service == 0 then 53 else if service == 1 then 80 else if service == 2 then 443 else 8080
 
+-- the destination port, one of the four services'
 abbrev pub destination_port : ℕ → ℕ
 destination_port draw = port_of_service (draw / 2 ^ 18 % 4)
 
@@ -68,6 +70,7 @@ network_header draw =
     ++ (0 ∷ 0 ∷ 0 ∷ 0 ∷ []) ++ (64 ∷ protocol draw ∷ 0 ∷ 0 ∷ [])
     ++ (10 ∷ 0 ∷ 0 ∷ draw % 16 ∷ []) ++ (10 ∷ 0 ∷ 1 ∷ draw / 16 % 16 ∷ [])
 
+-- the first 4 bytes of TCP and UDP (RFC 9293, RFC 768): source port, destination port
 unfoldable pub ports : ℕ → List ℕ
 ports draw = big_bytes 2 (source_port draw) ++ big_bytes 2 (destination_port draw)
 

@@ -65,6 +65,7 @@ abbrev pub in_order : Option Order → List ℕ → Head
 in_order None bytes = Flawed BadMagic
 in_order (Some order) bytes = sized order SectionHeader bytes
 
+-- what the bytes at the front show of a section header, whose type is known: Short while its magic isn't whole
 unfoldable pub section_head : List ℕ → Head
 section_head bytes = if nat_lt (length bytes) 12 then Short else in_order (order_at bytes) bytes
 

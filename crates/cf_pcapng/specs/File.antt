@@ -64,6 +64,7 @@ found_at s bytes (Stands order kind total) =
     if nat_lt (length bytes) total then Wants
     else block_found s (take total bytes) (content_of s.interfaces order kind (take total bytes))
 
+-- what the bytes at the front show in a state: no whole block yet, a fault, or a block with its frames and the state after it
 unfoldable pub step : State → List ℕ → Found State FrameValue NgFault
 step s bytes = found_at s bytes (head_of s.order bytes)
 

@@ -15,13 +15,16 @@ pub record InterfacesValue : Type 0 where
   pub anew : Bool
   pub came : List Interface
 
+-- the interfaces of the section at hand, numbered from 0
 abbrev pub interfaces_of : InterfacesValue → List Interface
 interfaces_of l = listed l.had l.anew l.came
 
+-- how far a file was read: the byte order of its section (None before the first), its interfaces, and the number of frames so far
 pub record PositionValue : Type 0 where
   pub order : Option Order
   pub listed : InterfacesValue
   pub count : ℕ
 
+-- the state of the format that a position stands for
 abbrev pub state_of : PositionValue → State
 state_of p = record { order = p.order; interfaces = interfaces_of p.listed; count = p.count }

@@ -31,6 +31,7 @@ pub record IsRunning (reader : PcapNgValue) (stream : List ℕ) : Type 0 where
   pub was : WasPassed reader.state.order reader.passed gone
   pub runs : Runs pcapng reader.state (gone ++ reader.held) stream
 
+-- what a reader at a stage says of its stream: no fault yet while it runs, and where it stopped, that fault
 abbrev pub IsAt : Stage → PcapNgValue → List ℕ → Type 0
 IsAt Running reader stream = IsRunning reader stream
 IsAt (Stopped fault) reader stream = IsFound pcapng stream fault
@@ -56,6 +57,7 @@ abbrev pub IsSoundAt : Stage → PcapNgValue → Type 0
 IsSoundAt Running reader = (reader.total < 2 ^ 32) × (reader.state.count + length reader.held ≤ reader.total) × (length reader.held < 2 ^ 20) × HasRoom reader.passed
 IsSoundAt (Stopped fault) reader = (fault ≡ Memory → ⊥) × (reader.held ≡ [])
 
+-- what holds of every reader, whatever its stage
 abbrev pub IsSound : PcapNgValue → Type 0
 IsSound reader = IsSoundAt reader.stage reader
 

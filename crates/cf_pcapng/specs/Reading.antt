@@ -30,12 +30,14 @@ abbrev pub block_next : ℕ → Result Content Flaw → Next
 block_next total (Ok content) = next.Block total content
 block_next total (Err flaw) = next.Flawed flaw
 
+-- what stands at the front, by its head, in a section with these interfaces: no whole block yet, a flaw or a block
 abbrev pub next_at : List Interface → List ℕ → Head → Next
 next_at interfaces bytes Short = next.Wants
 next_at interfaces bytes (Flawed flaw) = next.Flawed flaw
 next_at interfaces bytes (Stands order kind total) =
     if nat_lt (length bytes) total then next.Wants else block_next total (content_of interfaces order kind (take total bytes))
 
+-- what stands at the front in a state: no whole block yet, a flaw, or a block with its total length and what it states
 unfoldable pub next_of : State → List ℕ → Next
 next_of s bytes = next_at s.interfaces bytes (head_of s.order bytes)
 
@@ -115,6 +117,7 @@ pub record IsSoundOn (s : State) (size : ℕ) (t : State) (passed : Option Passe
   pub room : HasRoom passed
   pub few : length held < 2 ^ 20
 
+-- after `size` more bytes with no flaw (None) a reader has no more than it had and these; after a flaw nothing is said
 abbrev pub IsGoneOn : State → ℕ → State → Option Passed → List ℕ → Option Flaw → Type 0
 IsGoneOn s size t passed held None = IsSoundOn s size t passed held
 IsGoneOn s size t passed held (Some flaw) = Unit {0}

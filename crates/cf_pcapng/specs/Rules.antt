@@ -77,6 +77,7 @@ pub record BreaksRule3 (section : Option Order) (bytes : List ℕ) : Type 0 wher
   pub begins : BeginsAs section bytes order kind
   pub total : IsLawfulTotal kind (total_at order bytes) → ⊥
 
+-- rules 1 to 3: the head of the block at the front breaks one of them, in a section of this byte order (None: in no section)
 abbrev pub HeadBreaks : Option Order → List ℕ → Flaw → Type 0
 HeadBreaks section bytes BadMagic = BreaksRule1 section bytes ⊎ BreaksRule2 bytes
 HeadBreaks section bytes BadLength = BreaksRule3 section bytes
@@ -98,6 +99,7 @@ PacketBreaks room packet BadMagic = ⊥
 PacketBreaks room packet BadVersion = ⊥
 PacketBreaks room packet NoInterface = ⊥
 
+-- a packet that breaks none of rules 7 to 9, in a block with room for so many bytes
 pub record IsLawfulPacket (room : ℕ) (packet : Packet) : Type 0 where
   pub link_is : IsLink packet.link
   pub short : packet.caplen ≤ 262144
@@ -108,6 +110,7 @@ abbrev pub PacketOfBreaks : Option Interface → ℕ → (Interface → Packet) 
 PacketOfBreaks None room packet flaw = flaw ≡ NoInterface
 PacketOfBreaks (Some interface) room packet flaw = PacketBreaks room (packet interface) flaw
 
+-- the block states this packet of its interface, lawful in a block with room for so many bytes; with no interface (None) it states nothing
 abbrev pub PacketOfStates : Option Interface → ℕ → (Interface → Packet) → Content → Type 0
 PacketOfStates None room packet content = ⊥
 PacketOfStates (Some interface) room packet content = IsLawfulPacket room (packet interface) × (content ≡ Captures (packet interface))
@@ -141,6 +144,7 @@ pub record BreaksRule4 (section : Option Order) (bytes : List ℕ) : Type 0 wher
   pub block : HasBlock section bytes order kind total
   pub last : last_total order (take total bytes) ≡ total → ⊥
 
+-- rules 5 to 9: the block at the front is whole, its two total lengths agree, and what it states has this flaw
 pub record BreaksRules5To9 (section : Option Order) (interfaces : List Interface) (bytes : List ℕ) (flaw : Flaw) : Type 0 where
   pub order : Order
   pub kind : Kind

@@ -17,6 +17,7 @@ use Rattle.cf_records.specs.declared.fault.RecordFault.TheVariants.{NoHeader, Ba
 unfoldable pub AreRead : List ℕ → List (List (List ℕ)) → Type 0
 AreRead text records = AreRecords default_config st.StartRecord (strip_bom text) records
 
+-- the names of the attributes in order, as the first record of a file has to have them
 abbrev pub names_of : List Attr → List (List ℕ)
 names_of attrs = map (λ (attr : Attr). attr.name) attrs
 
@@ -73,6 +74,7 @@ pub record HasFaultyRecord (attrs : List Attr) (text : List ℕ) (fault : Record
   pub rows_are : AreRows attrs 0 before rows
   pub fault_is : HasRecordFault attrs fields (length before) fault
 
+-- a text below 2^24 bytes whose first record isn't the names of the attributes
 pub record HasOtherHeader (attrs : List Attr) (text : List ℕ) : Type 0 where
   pub small : length text < 2 ^ 24
   pub header : List (List ℕ)
@@ -80,6 +82,7 @@ pub record HasOtherHeader (attrs : List Attr) (text : List ℕ) : Type 0 where
   pub read : AreRead text (header ∷ records)
   pub other : header ≢ names_of attrs
 
+-- why a text is no file of records; a record and a column are told by their numbers, from 0, and a header is no numbered record
 abbrev pub HasRecordsFault : List Attr → List ℕ → RecordFault → Type 0
 HasRecordsFault attrs text NoHeader = (length text < 2 ^ 24) × AreRead text []
 HasRecordsFault attrs text BadHeader = HasOtherHeader attrs text

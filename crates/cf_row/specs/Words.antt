@@ -38,10 +38,12 @@ raw_words len bytes =
     then big_number (take 8 bytes) ∷ big_number (take (len - 8) (drop 8 bytes)) ∷ []
     else big_number (take len bytes) ∷ []
 
+-- the words that spell a value: the number itself, or one or two words of bytes
 abbrev pub value_words : Value → List ℕ
 value_words (Num n) = n ∷ []
 value_words (Raw len bytes) = raw_words len bytes
 
+-- the words that spell the values, in order
 unfoldable pub values_words : List Value → List ℕ
 values_words [] = []
 values_words (value ∷ values) = value_words value ++ values_words values
@@ -60,13 +62,14 @@ pub record IsEntry (attrs : List Attr) (entry : Entry) : Type 0 where
   pub num : entry.row.num < 2 ^ 32
   pub writer : entry.writer < 16
 
--- The reading: each value from the words that its kind takes.
+-- the k bytes of a string, from the one word at the front that spells them, or from two where k is above 8
 abbrev pub raw_read : ℕ → List ℕ → List ℕ
 raw_read k words =
     if nat_lt 8 k
     then big_bytes 8 (slice_index_or words 0 0) ++ big_bytes (k - 8) (slice_index_or words 1 0)
     else big_bytes k (slice_index_or words 0 0)
 
+-- the value of a kind that the words at the front spell; a byte string is filled to 16 bytes with 0
 abbrev pub value_read : Kind → List ℕ → Value
 value_read U8 words = Num (slice_index_or words 0 0)
 value_read U16 words = Num (slice_index_or words 0 0)
@@ -74,6 +77,7 @@ value_read U32 words = Num (slice_index_or words 0 0)
 value_read U64 words = Num (slice_index_or words 0 0)
 value_read (Bytes k) words = Raw k (raw_read k words ++ replicate (16 - k) 0)
 
+-- the values of these attributes, in order, that the words spell
 unfoldable pub values_read : List Attr → List ℕ → List Value
 values_read [] words = []
 values_read (attr ∷ attrs) words = value_read attr.kind words ∷ values_read attrs (drop (words_of_kind attr.kind) words)

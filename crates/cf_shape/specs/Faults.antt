@@ -14,6 +14,7 @@ use Rattle.cf_shape.specs.declared.shape.ShapeFault.{ShapeFault}
 use Rattle.cf_shape.specs.declared.shape.ShapeFault.TheVariants.{TooManyLanes, BadCapacity, BadWriters, BadNodes, BadWidth, BytesKey, WideMeasure, Memory}
 use Rattle.cf_shape.specs.Lanes.{ShapeValue, option_passes, is_lawful_key, is_lawful_measure}
 
+-- every kind passes: what is asked is only that the attribute exists
 abbrev pub any_kind : Kind → Bool
 any_kind kind = true
 
@@ -22,6 +23,7 @@ abbrev pub key_exists : List Attr → Key → Bool
 key_exists attrs (keys.Attr attr) = option_passes any_kind (slice_get attrs attr)
 key_exists attrs keys.Bucket = true
 
+-- the attribute that is measured, by its place in the schema, exists; None measures nothing
 abbrev pub measure_exists : List Attr → Option ℕ → Bool
 measure_exists attrs None = true
 measure_exists attrs (Some attr) = option_passes any_kind (slice_get attrs attr)
@@ -30,15 +32,19 @@ measure_exists attrs (Some attr) = option_passes any_kind (slice_get attrs attr)
 abbrev pub is_lane_of : List Attr → Lane → Bool
 is_lane_of attrs lane = is_of_schema attrs lane.select && key_exists attrs lane.key && measure_exists attrs lane.measure
 
+-- all lanes have expressions and attributes of the schema
 abbrev pub are_lanes_of : List Attr → List Lane → Bool
 are_lanes_of attrs lanes = list_all (is_lane_of attrs) lanes
 
+-- lanes that have expressions and attributes of the schema alone
 abbrev pub AreLanesOf : List Attr → List Lane → Type 0
 AreLanesOf attrs lanes = are_lanes_of attrs lanes ≡ true
 
+-- the number n is from low to high, both taken in
 abbrev pub Within : ℕ → ℕ → ℕ → Type 0
 Within low high n = (low ≤ n) × (n ≤ high)
 
+-- the number n is below low or above high
 abbrev pub Outside : ℕ → ℕ → ℕ → Type 0
 Outside low high n = (n < low) ⊎ (high < n)
 
@@ -62,12 +68,15 @@ HasNumberFault lanes capacity writers nodes width BytesKey = ⊥
 HasNumberFault lanes capacity writers nodes width WideMeasure = ⊥
 HasNumberFault lanes capacity writers nodes width Memory = ⊥
 
+-- no lane is filed by a byte string
 abbrev pub have_good_keys : List Attr → List Lane → Bool
 have_good_keys attrs lanes = list_all (λ lane. is_lawful_key attrs lane.key) lanes
 
+-- each lane measures numbers below 2^32, or nothing
 abbrev pub have_good_measures : List Attr → List Lane → Bool
 have_good_measures attrs lanes = list_all (λ lane. is_lawful_measure attrs lane.measure) lanes
 
+-- the shape's numbers of lanes, tickets, writers and nodes, and its width, are in range
 abbrev pub HasGoodNumbers : ShapeValue → Type 0
 HasGoodNumbers shape = AreGoodNumbers (length shape.lanes) shape.capacity shape.writers shape.nodes shape.width
 

@@ -27,6 +27,7 @@ pub record ShapeValue : Type 0 where
 abbrev pub no_lane : Lane
 no_lane = record { select = []; key = keys.Bucket; measure = None }
 
+-- the lane of that number, from 0
 abbrev pub lane_at : ShapeValue → ℕ → Lane
 lane_at shape lane = slice_index_or shape.lanes lane no_lane
 
@@ -38,18 +39,21 @@ selected_by shape lane row = holds_of (lane_at shape lane).select row
 abbrev pub bucket_of : ShapeValue → RowValue → ℕ
 bucket_of shape row = time_of shape.schema row / shape.width
 
+-- what a row is filed under: its number at the key's attribute, or its bucket
 abbrev pub key_by : ShapeValue → Key → RowValue → ℕ
 key_by shape (keys.Attr attr) row = number_at row attr
 key_by shape keys.Bucket row = bucket_of shape row
 
+-- what a row is filed under in the lane of that number
 abbrev pub key_of : ShapeValue → ℕ → RowValue → ℕ
 key_of shape lane row = key_by shape (lane_at shape lane).key row
 
--- 0 where the lane measures nothing
+-- the row's number at the attribute that is measured, by its place in the schema; 0 where nothing is measured (None)
 abbrev pub measure_by : Option ℕ → RowValue → ℕ
 measure_by None row = 0
 measure_by (Some attr) row = number_at row attr
 
+-- what the lane of that number measures of a row, 0 where it measures nothing
 abbrev pub measure_of : ShapeValue → ℕ → RowValue → ℕ
 measure_of shape lane row = measure_by (lane_at shape lane).measure row
 
@@ -58,6 +62,7 @@ abbrev pub option_passes : (Kind → Bool) → Option Attr → Bool
 option_passes passes None = false
 option_passes passes (Some attr) = passes attr.kind
 
+-- the kind is one of numbers
 abbrev pub is_number : Kind → Bool
 is_number (Bytes k) = false
 is_number U8 = true
@@ -73,17 +78,21 @@ is_narrow U16 = true
 is_narrow U32 = true
 is_narrow U64 = false
 
+-- the key is a number of the schema, by the place of its attribute, or the bucket
 abbrev pub is_lawful_key : List Attr → Key → Bool
 is_lawful_key attrs (keys.Attr attr) = option_passes is_number (slice_get attrs attr)
 is_lawful_key attrs keys.Bucket = true
 
+-- what is measured is an attribute of numbers below 2^32, by its place in the schema, or nothing (None)
 abbrev pub is_lawful_measure : List Attr → Option ℕ → Bool
 is_lawful_measure attrs None = true
 is_lawful_measure attrs (Some attr) = option_passes is_narrow (slice_get attrs attr)
 
+-- the lane's expression is of the schema, and its key and measure are lawful
 abbrev pub is_lawful_lane : List Attr → Lane → Bool
 is_lawful_lane attrs lane = is_of_schema attrs lane.select && is_lawful_key attrs lane.key && is_lawful_measure attrs lane.measure
 
+-- a lawful shape: at most 16 lanes, 1 to 65536 tickets, 1 to 15 writers of at most 65536 nodes each, buckets of 1 to 2^63 nanoseconds
 pub record IsShape (shape : ShapeValue) : Type 0 where
   pub schema : IsSchema shape.schema
   pub few : length shape.lanes ≤ 16

@@ -4,6 +4,7 @@ use Rattle.cf_row.specs.Words.{word_count}
 use Rattle.cf_shape.specs.Lanes.{ShapeValue, lane_at}
 use Rattle.cf_shape.specs.Uses.{ticket_words, cells_before, cell_count, cell_words}
 
+-- the sizes of a table: its tickets and the words of each, its lanes, its writers and the nodes of each
 pub record Sizes : Type 0 where
   pub tickets : ℕ
   pub ticket_words : ℕ
@@ -11,6 +12,7 @@ pub record Sizes : Type 0 where
   pub writers : ℕ
   pub nodes : ℕ
 
+-- the words of a node: its label, and for each of 16 nibbles a head for each writer
 abbrev pub node_words : Sizes → ℕ
 node_words g = 1 + 16 * g.writers
 
@@ -21,15 +23,18 @@ pub data Slot : Type 0 where
   root : ℕ → ℕ → Slot
   body : ℕ → ℕ → Slot
 
+-- the slot is one of a table of these sizes; tickets, lanes, nodes, and the words of each are numbered from 0
 abbrev pub IsReal : Sizes → Slot → Type 0
 IsReal g (tail k) = k < 2
 IsReal g (cell o i) = (o < g.tickets) × (i < g.ticket_words)
 IsReal g (root l d) = (l < g.lanes) × (d < 16)
 IsReal g (body n j) = (n < g.writers * g.nodes) × (j < node_words g)
 
+-- the place of the first root's first child, after the tails and the tickets
 abbrev pub roots_at : Sizes → ℕ
 roots_at g = 2 + g.tickets * g.ticket_words
 
+-- the place of the first word of node 0, after the 16 children of each lane's root
 abbrev pub nodes_at : Sizes → ℕ
 nodes_at g = roots_at g + g.lanes * 16
 
@@ -37,6 +42,7 @@ nodes_at g = roots_at g + g.lanes * 16
 abbrev pub word_total : Sizes → ℕ
 word_total g = nodes_at g + g.writers * g.nodes * node_words g
 
+-- the place of a slot's word in a table of these sizes, from 0
 unfoldable pub place : Sizes → Slot → ℕ
 place g (tail k) = k
 place g (cell o i) = 2 + (o * g.ticket_words + i)
@@ -47,6 +53,7 @@ place g (body n j) = nodes_at g + (n * node_words g + j)
 abbrev pub head_slot : Sizes → ℕ → ℕ → ℕ → Slot
 head_slot g n d w = body n (suc (d * g.writers + w))
 
+-- the sizes of the table of a log of this shape
 abbrev pub sizes_of : ShapeValue → Sizes
 sizes_of shape = record { tickets = shape.capacity; ticket_words = ticket_words shape; lanes = length shape.lanes; writers = shape.writers; nodes = shape.nodes }
 

@@ -11,10 +11,12 @@ pub data Use : Type 0 where
   plain : ℕ → Use
   version : ℕ → ℕ → Use
 
+-- something is measured: the attribute at some place, and not nothing (None)
 abbrev pub has_measure : Option ℕ → Bool
 has_measure None = false
 has_measure (Some attr) = true
 
+-- the lane of that number, from 0, measures something
 abbrev pub is_measured : ShapeValue → ℕ → Bool
 is_measured shape lane = has_measure (lane_at shape lane).measure
 
@@ -35,17 +37,21 @@ cells_before shape lane = cell_count (take lane shape.lanes)
 abbrev pub ticket_words : ShapeValue → ℕ
 ticket_words shape = word_count shape.schema + 1 + cell_count shape.lanes + 1
 
+-- a ticket of a log of this shape has n words
 abbrev pub TakesWords : ShapeValue → ℕ → Type 0
 TakesWords shape n = n ≡ ticket_words shape
 
+-- the uses of n words of attributes and tag, from word k on
 unfoldable pub plains : ℕ → ℕ → List Use
 plains k zero = []
 plains k (suc n) = plain k ∷ plains (suc k) n
 
+-- the uses of n words of the cell of the lane of that number, from word k of the cell on
 unfoldable pub versions : ℕ → ℕ → ℕ → List Use
 versions lane k zero = []
 versions lane k (suc n) = version lane k ∷ versions lane (suc k) n
 
+-- the uses of the words of these lanes' cells, in order, where the first lane has the number k
 unfoldable pub cells : ℕ → List Lane → List Use
 cells k [] = []
 cells k (lane ∷ lanes) = versions k 0 (cell_words lane) ++ cells (suc k) lanes
@@ -54,5 +60,6 @@ cells k (lane ∷ lanes) = versions k 0 (cell_words lane) ++ cells (suc k) lanes
 abbrev pub uses : ShapeValue → List Use
 uses shape = plains 0 (word_count shape.schema + 1) ++ cells 0 shape.lanes
 
+-- the use of word i of a ticket, from 0; for the done word, which has no use of its own, plain 0 stands
 abbrev pub use_at : ShapeValue → ℕ → Use
 use_at shape i = slice_index_or (uses shape) i (plain 0)

@@ -24,6 +24,7 @@ pub record Part (S I : Type 0) : Type 0 where
   pub items : List I
   pub after : S
 
+-- the items of all these units, in order
 abbrev pub items_of : {S I : Type 0} → List (Part S I) → List I
 items_of [] = []
 items_of (part ∷ parts) = part.items ++ items_of parts

@@ -13,10 +13,11 @@ use Rattle.cf_law.specs.Shapes.{layout, path_in}
 use Rattle.cf_law.specs.Steps.{Knows, met_of}
 use Rattle.cf_table.specs.Values.{PassValue}
 
--- what the first nibbles of a lane's key stand for, so many of them, and all of them
+-- what the first `level` nibbles of a key stand for, in the lane of that number
 abbrev pub spot_above : ShapeValue → ℕ → ℕ → ℕ → Spot
 spot_above shape lane key level = spot lane (nibbles level (key / 16 ^ (levels_of shape lane - level)))
 
+-- the leaf of a key in the lane of that number: what all nibbles of the key stand for
 abbrev pub leaf_of : ShapeValue → ℕ → ℕ → Spot
 leaf_of shape lane key = spot lane (nibbles (levels_of shape lane) key)
 
