@@ -20,11 +20,13 @@ use Rattle.cf_core.specs.declared.event.Act.{Act}
 use Rattle.cf_core.specs.declared.event.Act.TheVariants.{Ticket, Cell, Done, Advance, LoadTail, LookDone, LoadWord, Label, Link, Head, LoadChild, LoadHead, LoadCell, Split, Join}
 use Rattle.cf_law.specs.Shapes.{layout, path_in}
 
+-- a world as contracts see it: its shape, its words by their places and its passes by their numbers
 pub record WorldValue : Type 0 where
   pub shape : ShapeValue
   pub words : List ℕ
   pub passes : List Pass
 
+-- the world of the law, which has the words and passes alone
 abbrev pub world_of : WorldValue → World
 world_of held = record { words = held.words; passes = held.passes }
 
@@ -56,10 +58,11 @@ event_of (LoadCell offset lane i) = acts (load_cell offset lane i)
 event_of (Split writer) = splits writer
 event_of (Join other) = joins other
 
--- no live pass has that number
+-- there is no pass of number k, or it was joined away
 abbrev pub NoPass : WorldValue → ℕ → Type 0
 NoPass held k = (p : Pass) → IsLive (world_of held) k p → ⊥
 
+-- pass number k is p, and was not joined away
 abbrev pub IsLivePass : WorldValue → ℕ → Pass → Type 0
 IsLivePass held k p = IsLive (world_of held) k p
 
@@ -71,6 +74,7 @@ AreReadable held n = (o : ℕ) → o < n → AreSpelled held.shape.schema (plain
 abbrev pub IsRootAt : WorldValue → ℕ → ℕ → ℕ → Type 0
 IsRootAt held at l d = (l < length held.shape.lanes) × (d < 16) × (place (layout held.shape).sizes (root l d) ≡ at)
 
+-- at that place stands no child word of a root
 abbrev pub NoRootAt : WorldValue → ℕ → Type 0
 NoRootAt held at = (l d : ℕ) → IsRootAt held at l d → ⊥
 
@@ -78,16 +82,19 @@ NoRootAt held at = (l d : ℕ) → IsRootAt held at l d → ⊥
 abbrev pub IsChildOf : WorldValue → Spot × ℕ → ℕ → ℕ → Type 0
 IsChildOf held x at d = (d < 16) × (suc (length (x.0).path) < (layout held.shape).levels (x.0).lane) × (place (layout held.shape).sizes (body x.1 (suc d)) ≡ at)
 
+-- at that place stands child d of x, a node with its spot, which the pass knows
 abbrev pub IsBelow : WorldValue → Pass → ℕ → Spot × ℕ → ℕ → Type 0
 IsBelow held p at x d = (i : ℕ) × (slice_get p.known i ≡ Some x) × IsChildOf held x at d
 
+-- at that place stands no child word of a node that the pass knows
 abbrev pub NoneBelow : WorldValue → Pass → ℕ → Type 0
 NoneBelow held p at = (x : Spot × ℕ) (d : ℕ) → IsBelow held p at x d → ⊥
 
--- the child word of that lane and prefix stands at the place
+-- at that place stands the child word of the spot s, which the pass may load, label or link
 abbrev pub IsChildAt : WorldValue → Pass → ℕ → Spot → Type 0
 IsChildAt held p at s = (t : Slot) × IsChild (layout held.shape) p s t × (place (layout held.shape).sizes t ≡ at)
 
+-- at that place stands no child word that the pass may load, label or link
 abbrev pub NoChildAt : WorldValue → Pass → ℕ → Type 0
 NoChildAt held p at = (s : Spot) → IsChildAt held p at s → ⊥
 
@@ -95,11 +102,11 @@ NoChildAt held p at = (s : Spot) → IsChildAt held p at s → ⊥
 abbrev pub IsNode : WorldValue → Spot × ℕ → Type 0
 IsNode held x = (x.1 < held.shape.writers * held.shape.nodes) × ((x.0).lane < length held.shape.lanes)
 
--- the heads of the nodes of that lane and level
+-- a node for the spot s is of the last level of its lane: it has heads and no children
 abbrev pub IsLeaf : WorldValue → Spot → Type 0
 IsLeaf held s = suc (length s.path) ≡ (layout held.shape).levels s.lane
 
--- the lane has a cell of so many words
+-- the lane is one of the shape, and its cell has a word i
 abbrev pub HasCell : ShapeValue → ℕ → ℕ → Type 0
 HasCell shape lane i = (lane < length shape.lanes) × (i < cell_words (lane_at shape lane))
 
@@ -107,27 +114,31 @@ HasCell shape lane i = (lane < length shape.lanes) × (i < cell_words (lane_at s
 abbrev pub IsLabelOf : WorldValue → Pass → ℕ → Spot → Type 0
 IsLabelOf held p value s = (t : Slot) × IsChild (layout held.shape) p s t × (label_of (layout held.shape) s t ≡ value)
 
+-- the value is the label of no child word that the pass may load, label or link
 abbrev pub NoLabel : WorldValue → Pass → ℕ → Type 0
 NoLabel held p value = (s : Spot) → IsLabelOf held p value s → ⊥
 
--- word i of a ticket is of the entry, or of a cell
+-- word i of a ticket is word i of the entry
 abbrev pub IsPlainUse : ShapeValue → ℕ → Type 0
 IsPlainUse shape i = (i < word_count shape.schema + 1) × (use_at shape i ≡ plain i)
 
+-- word i of a ticket is word j of the cell of lane l
 abbrev pub IsCellUse : ShapeValue → ℕ → ℕ → ℕ → Type 0
 IsCellUse shape i l j = HasCell shape l j × (use_at shape i ≡ version l j)
 
--- a ticket of the row, filled so far
+-- a ticket of the row, whose words below `filled` are filled or passed over; its writer counts for nothing
 abbrev pub draft : RowValue → ℕ → Taken
 draft row filled = record { writer = 0; row = row; filled = filled; linked = []; is_done = false }
 
+-- word i of a ticket of the row is passed over: it is of the cell of a lane that does not select the row
 abbrev pub IsPassed : ShapeValue → RowValue → ℕ → Type 0
 IsPassed shape row i = Skips (layout shape) (draft row 0) (use_at shape i)
 
+-- the words of a ticket of the row from `from` up to but without `to` are all passed over
 abbrev pub ArePassed : ShapeValue → RowValue → ℕ → ℕ → Type 0
 ArePassed shape row from to = (i : ℕ) → from ≤ i → i < to → IsPassed shape row i
 
--- each lane that selects the row is one of these
+-- each lane that selects the row is one of the lanes in `linked`
 abbrev pub AllLinked : ShapeValue → RowValue → List ℕ → Type 0
 AllLinked shape row linked = (l : ℕ) (q : List ℕ) → path_in shape row l ≡ Some q → has linked l ≡ true
 

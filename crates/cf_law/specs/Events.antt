@@ -11,6 +11,8 @@ use Rattle.cf_law.specs.Lawful.{World, Lawful}
 use Rattle.cf_shape.specs.Lanes.{ShapeValue, IsShape}
 use Rattle.cf_law.specs.Shapes.{layout}
 
+-- what a pass may do: a step; a split, with the number of the writer whose book goes along, or None for no book; a join of another pass,
+-- by its number
 pub data WorldEvent : Type 0 where
   acts : Act → WorldEvent
   splits : Option ℕ → WorldEvent
@@ -21,29 +23,34 @@ unfoldable pub table : {A : Type 0} → (ℕ → A) → ℕ → List A
 table f zero = []
 table f (suc n) = table f n ++ f n ∷ []
 
+-- the word at the slot t, or 0 where the list of words ends before it
 abbrev pub word_at : Layout → List ℕ → Slot → ℕ
 word_at sh words t = get_or words (place sh.sizes t) 0
 
--- the words of an entry at the place o, and the entries of the first n places
+-- the words of the entry at offset o: those of its attributes and its tag
 abbrev pub plain_at : Layout → List ℕ → ℕ → List ℕ
 plain_at sh words o = table (λ i. word_at sh words (cell o i)) sh.plain_words
 
+-- the entries that the words of the first n offsets spell
 abbrev pub entries_spelled : Layout → List ℕ → ℕ → List Entry
 entries_spelled sh words n = table (λ o. sh.reads (plain_at sh words o)) n
 
--- the word t becomes v, and the pass k becomes p
+-- the word at slot t becomes v, and pass k becomes what g makes of the entries that are then below the read tail
 abbrev pub world_after : Layout → World → ℕ → Slot → ℕ → (List Entry → Pass) → World
 world_after sh x k t v g = record {
   words = set x.words (place sh.sizes t) v;
   passes = set x.passes k (g (entries_spelled sh (set x.words (place sh.sizes t) v) (word_at sh (set x.words (place sh.sizes t) v) (tail 1))));
 }
 
+-- pass number k is p, and was not joined away
 abbrev pub IsLive : World → ℕ → Pass → Type 0
 IsLive x k p = (slice_get x.passes k ≡ Some p) × (p.spent ≡ false)
 
+-- the empty book of writer w: no tickets, not marked, no used nodes, and no label
 abbrev pub no_book : ℕ → Book
 no_book w = record { writer = w; mine = []; flight = None; over = false; used = []; label = 0 }
 
+-- the world before all events: all words are 0, and one pass, number 0, holds the empty books of all writers
 abbrev pub opening : Layout → World
 opening sh = record { words = replicate (word_total sh.sizes) 0; passes = new_pass (table no_book sh.sizes.writers) [] ∷ [] }
 

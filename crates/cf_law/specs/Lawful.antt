@@ -9,7 +9,8 @@ use Rattle.cf_words.specs.Law.{NodesLaw, LeavesLaw, FlightLaw, IsWhole}
 use Rattle.cf_law.specs.Passes.{Own, Flight, Book, Cursor, Pass}
 use Rattle.cf_law.specs.Steps.{Holds}
 
--- One list of tickets in the order of their offsets, and what each writer has beside them: what the words stand for.
+-- what the words stand for: the write tail and the read tail, one list of tickets in the order of their offsets, and what each writer has
+-- beside them, by its number
 pub record Base : Type 0 where
   pub words : List ℕ
   pub tails : ℕ × ℕ
@@ -20,6 +21,7 @@ pub record Base : Type 0 where
 abbrev pub IsFilledIn : Layout → Ticket → ℕ → Type 0
 IsFilledIn layout t l = (k j : ℕ) → layout.use_of k ≡ version l j → suc k < layout.sizes.ticket_words → k < t.filled
 
+-- what is so of the words and of what they stand for, whatever the passes know
 pub record BaseLaw (layout : Layout) (base : Base) : Type 0 where
   pub size : length base.words ≡ word_total layout.sizes
   pub spells : Spells layout base.tails base.log base.stocks base.words
@@ -40,22 +42,23 @@ pub record BaseLaw (layout : Layout) (base : Base) : Type 0 where
   pub covered : base.tails.1 ≤ length base.log
   pub done : (o : ℕ) (t : Ticket) → o < base.tails.1 → slice_get base.log o ≡ Some t → t.is_done ≡ true
 
--- the first n entries
+-- the entries of the first n tickets of the log, or of all where there are fewer
 unfoldable pub front : ℕ → List Ticket → List Entry
 front zero log = []
 front (suc n) [] = []
 front (suc n) (t ∷ log) = entry t.writer t.row ∷ front n log
 
--- of the tickets from offset k on, those that writer w has finished, and the one that it has in flight
+-- of these tickets, which begin at offset k, those that writer w has finished
 unfoldable pub mine_in : ℕ → ℕ → List Ticket → List Own
 mine_in w k [] = []
 mine_in w k (t ∷ ts) = cond (t.writer == w) (cond t.is_done (record { offset = k; row = t.row } ∷ mine_in w (suc k) ts) (mine_in w (suc k) ts)) (mine_in w (suc k) ts)
 
+-- of these tickets, which begin at offset k, the first that writer w has not finished, or None
 unfoldable pub flight_in : ℕ → ℕ → List Ticket → Option Flight
 flight_in w k [] = None
 flight_in w k (t ∷ ts) = cond (t.writer == w) (cond t.is_done (flight_in w (suc k) ts) (Some record { offset = k; row = t.row; filled = t.filled; linked = t.linked })) (flight_in w (suc k) ts)
 
--- the book of writer w
+-- the book of writer w, as the tickets and its stock have it
 abbrev pub book_at : Base → ℕ → Book
 book_at m w = record {
   writer = w;
@@ -70,6 +73,7 @@ book_at m w = record {
 abbrev pub Known : Layout → List Stock → Spot × ℕ → Type 0
 Known layout bs x = node_at layout.sizes.nodes bs x.1 ≡ Some x.0
 
+-- a walk's link names no ticket, as 0, or as an offset plus 1 a ticket of the cursor's writer in its leaf, whose cell there is filled
 abbrev pub Leads : Layout → List Ticket → Cursor → ℕ → Type 0
 Leads layout log c zero = Unit {0}
 Leads layout log c (suc o) = (t : Ticket) × (slice_get log o ≡ Some t) × (t.writer ≡ c.writer) × (layout.path t.row c.spot.lane ≡ Some c.spot.path) × IsFilledIn layout t c.spot.lane
@@ -78,6 +82,7 @@ Leads layout log c (suc o) = (t : Ticket) × (slice_get log o ≡ Some t) × (t.
 abbrev pub HasWriter : List Ticket → ℕ × ℕ → Type 0
 HasWriter log x = (t : Ticket) × (slice_get log x.0 ≡ Some t) × (t.writer ≡ x.1)
 
+-- what is so of a walk of a pass that has seen the first `seen` entries of the log
 pub record CursorLaw (layout : Layout) (log : List Ticket) (seen : ℕ) (cursor : Cursor) : Type 0 where
   -- the link is 0, or names a ticket of that writer and leaf, whose cell there is filled
   pub leads : Leads layout log cursor cursor.link
@@ -86,10 +91,12 @@ pub record CursorLaw (layout : Layout) (log : List Ticket) (seen : ℕ) (cursor 
   -- what the walks went by are tickets of these writers
   pub met : (i : ℕ) (x : ℕ × ℕ) → slice_get cursor.met i ≡ Some x → HasWriter log x
 
+-- what is so of the walk of a pass that has seen the first `seen` entries; None is no walk, and asks nothing
 abbrev pub CursorIs : Layout → List Ticket → ℕ → Option Cursor → Type 0
 CursorIs layout log seen None = Unit {0}
 CursorIs layout log seen (Some c) = CursorLaw layout log seen c
 
+-- there is a ticket at offset o, and it is finished
 abbrev pub DoneAt : List Ticket → ℕ → Type 0
 DoneAt log o = (t : Ticket) × (slice_get log o ≡ Some t) × (t.is_done ≡ true)
 
@@ -105,6 +112,7 @@ pub record PassLaw (layout : Layout) (base : Base) (p : Pass) : Type 0 where
   -- a pass that was joined away holds no book
   pub ends : p.spent ≡ true → p.books ≡ []
 
+-- a world: the words of one table by their places, and the passes over it by their numbers, those joined away too
 pub record World : Type 0 where
   pub words : List ℕ
   pub passes : List Pass
@@ -125,6 +133,7 @@ pub record Stands (layout : Layout) (base : Base) (passes : List Pass) : Type 0 
   pub held : (w : ℕ) → w < layout.sizes.writers → (k : ℕ) × (i : ℕ) × HoldsAt passes k i w
   pub once : (j k h i w : ℕ) → HoldsAt passes j h w → HoldsAt passes k i w → (j ≡ k) × (h ≡ i)
 
+-- the law: these words stand for something lawful, and of that these passes know and hold what is so
 pub record Lawful (layout : Layout) (words : List ℕ) (passes : List Pass) : Type 0 where
   pub base : Base
   pub stands : Stands layout base passes

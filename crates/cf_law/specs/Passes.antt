@@ -4,7 +4,7 @@ use Rattle.cf_row.specs.Row.{RowValue}
 use Rattle.cf_row.specs.declared.row.Entry.{Entry}
 use Rattle.cf_words.specs.Words.{Spot}
 
--- a finished ticket
+-- a ticket that its writer has finished
 pub record Own : Type 0 where
   pub offset : ℕ
   pub row : RowValue
@@ -40,7 +40,9 @@ pub record Cursor : Type 0 where
   pub gone : List ℕ
   pub met : List (ℕ × ℕ)
 
--- `known` has the lanes and prefixes that it knows to have a node, each with its node
+-- what one caller holds and knows: its books; the entries seen, by offset, and those seen before its last join (`olds`); the tails of its
+-- asks and those that joined passes told; its last look; in `known` the lanes and prefixes that it knows to have a node, each with its node's
+-- number; its walk, if it has one; and whether it was joined away
 pub record Pass : Type 0 where
   pub books : List Book
   pub seen : List Entry

@@ -13,6 +13,7 @@ use Rattle.cf_law.specs.Readers.{IsIn}
 use Rattle.cf_law.specs.Shapes.{layout}
 use Rattle.cf_law.specs.Plainly.{SaysPlainly}
 
+-- what is so of the tickets' writers, of the books and of what the passes have seen and know, where the words stand for `base`
 pub record SaysOfPasses (sh : Layout) (base : Base) (passes : List Pass) : Type 0 where
   -- each ticket is one of the writers', and a finished one is filled
   pub writer : (o : ℕ) (t : Ticket) → slice_get base.log o ≡ Some t → t.writer < sh.sizes.writers
@@ -33,6 +34,7 @@ pub record SaysOfPasses (sh : Layout) (base : Base) (passes : List Pass) : Type 
   pub named : (k o : ℕ) (p : Pass) (c : Cursor) → slice_get passes k ≡ Some p → p.cursor ≡ Some c → c.link ≡ suc o → (t : Ticket) × (slice_get base.log o ≡ Some t) × IsFilledIn sh t c.spot.lane
   pub left : (k o : ℕ) (p : Pass) (c : Cursor) (e : Entry) → slice_get passes k ≡ Some p → p.cursor ≡ Some c → slice_get p.seen o ≡ Some e → IsIn sh c.writer c.spot e → (o < c.link) ⊎ (has c.gone o ≡ true)
 
+-- all clauses, those of the words and those of the passes, are so in every lawful world of a lawful shape
 abbrev pub LawfulSaysAllPlainly : Type 0
 LawfulSaysAllPlainly = (s : ShapeValue) (words : List ℕ) (passes : List Pass) → IsShape s → Lawful (layout s) words passes
     → (m : Base) × (m.words ≡ words) × SaysPlainly (layout s) m passes × SaysOfPasses (layout s) m passes

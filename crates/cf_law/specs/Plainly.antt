@@ -15,6 +15,7 @@ pub record IsChildWord (sh : Layout) (stocks : List Stock) (spot : Spot) (slot :
   pub real : IsReal sh.sizes slot
   pub inner : length spot.path < sh.levels spot.lane
 
+-- what is so of the words of a table, where they stand for `base` and these are the passes over it
 pub record SaysPlainly (sh : Layout) (base : Base) (passes : List Pass) : Type 0 where
   -- the tickets are at most the capacity; the write tail is their number and that of the marked books, and a mark exists only where all places are taken
   pub tickets : length base.log ≤ sh.sizes.tickets
@@ -51,5 +52,6 @@ pub record SaysPlainly (sh : Layout) (base : Base) (passes : List Pass) : Type 0
   pub cursor : (k o i : ℕ) (p : Pass) (c : Cursor) → slice_get passes k ≡ Some p → p.cursor ≡ Some c → c.link ≡ suc o → c.spot.lane < sh.sizes.lanes → i < sh.plain_words
       → (t : Ticket) × (slice_get base.log o ≡ Some t) × (t.writer ≡ c.writer) × (sh.path t.row c.spot.lane ≡ Some c.spot.path) × (word_at sh base.words (cell o i) ≡ get_or (sh.spelled t.row t.writer) i 0)
 
+-- the clauses of the words are so in every lawful world of a lawful shape
 abbrev pub LawfulSaysPlainly : Type 0
 LawfulSaysPlainly = (s : ShapeValue) (words : List ℕ) (passes : List Pass) → IsShape s → Lawful (layout s) words passes → (m : Base) × (m.words ≡ words) × SaysPlainly (layout s) m passes

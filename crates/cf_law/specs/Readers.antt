@@ -18,15 +18,16 @@ IsIn layout w s e = (e.writer ≡ w) × (layout.path e.row s.lane ≡ Some s.pat
 abbrev pub NoneThrough : Layout → Pass → Spot → Type 0
 NoneThrough layout p s = (o : ℕ) (e : Entry) (d : ℕ) (xs : List ℕ) → slice_get p.seen o ≡ Some e → layout.path e.row s.lane ≡ Some (d ∷ (xs ++ s.path)) → ⊥
 
--- no own node stands for it
+-- no used node of a held book stands for the spot
 abbrev pub NoneOwn : Pass → Spot → Type 0
 NoneOwn p s = (k j : ℕ) (b : Book) → Holds p k b → slice_get b.used j ≡ Some s → ⊥
 
--- of what was seen, the entries of a writer in a leaf before place o, the newest first
+-- the entry seen at offset o as a list of one, its offset and its row, where it is in the leaf s as writer w's, else none; None is no entry
 abbrev pub pick_at : Layout → ℕ → Spot → ℕ → Option Entry → List (ℕ × RowValue)
 pick_at layout w s o None = []
 pick_at layout w s o (Some e) = cond (e.writer == w) (cond (same_path (layout.path e.row s.lane) s.path) ((o, e.row) ∷ []) []) []
 
+-- of what was seen, the entries of writer w in the leaf s below the given offset, each with its offset, the newest first
 unfoldable pub picks : Layout → ℕ → Spot → List Entry → ℕ → List (ℕ × RowValue)
 picks layout w s seen zero = []
 picks layout w s seen (suc o) = pick_at layout w s o (slice_get seen o) ++ picks layout w s seen o
@@ -38,7 +39,7 @@ pub record WalkTells (layout : Layout) (seen : List Entry) (cursor : Cursor) : T
   -- no walk of another writer went by the named ticket
   pub apart : (o i w : ℕ) → cursor.link ≡ suc o → slice_get cursor.met i ≡ Some (o, w) → w ≡ cursor.writer
 
--- a word of an entry that was seen, and of its cell
+-- what was found, v, as word k of the place o tells of the entry that was seen there
 pub record EntryTells (layout : Layout) (seen : List Entry) (o k v : ℕ) : Type 0 where
   pub plains : (e : Entry) → slice_get seen o ≡ Some e → k < layout.plain_words → v ≡ get_or (layout.spelled e.row e.writer) k 0
   pub cells : (e : Entry) (l j : ℕ) (q : List ℕ) → slice_get seen o ≡ Some e → suc k < layout.sizes.ticket_words → layout.use_of k ≡ version l j → layout.path e.row l ≡ Some q
@@ -58,6 +59,7 @@ abbrev pub own_top_by : Layout → Book → Spot → Option Flight → ℕ
 own_top_by layout b s None = top (mine_chain layout s b.mine)
 own_top_by layout b s (Some f) = cond (cond (has f.linked s.lane) (same_path (layout.path f.row s.lane) s.path) false) (suc f.offset) (top (mine_chain layout s b.mine))
 
+-- the head of the book's writer in the leaf s, as the book has it: the offset of the newest ticket linked there plus 1, or 0
 abbrev pub own_top : Layout → Book → Spot → ℕ
 own_top layout b s = own_top_by layout b s b.flight
 
@@ -65,11 +67,11 @@ own_top layout b s = own_top_by layout b s b.flight
 abbrev pub IsFit : Layout → Entry → Type 0
 IsFit layout e = (layout.fits e.row ≡ true) × (e.writer < layout.sizes.writers)
 
--- What all books at home tell of the nodes: each proper prefix of an entry that was seen has one.
+-- a used node of a held book stands for the spot
 abbrev pub HasNode : Pass → Spot → Type 0
 HasNode p s = (k : ℕ) × (j : ℕ) × (b : Book) × Holds p k b × (slice_get b.used j ≡ Some s)
 
--- either no ticket is left, or the done word of the ticket after the last seen was found other than 1
+-- either no ticket is left, or the done word (word i) of the ticket after the last seen was found other than 1
 abbrev pub EndsThere : Layout → Pass → Slot → ℕ → ℕ → Type 0
 EndsThere layout p t i found = (layout.sizes.tickets ≤ length p.seen) ⊎ ((length p.seen < layout.sizes.tickets) × (t ≡ cell (length p.seen) i) × (found ≡ 1 → ⊥))
 

@@ -10,7 +10,7 @@ use Rattle.cf_shape.specs.Places.{sizes_of}
 use Rattle.cf_words.specs.Words.{entry, Layout}
 use Rattle.cf_law.specs.Nibbles.{nibbles}
 
--- the row's path in a lane, where the lane selects it
+-- the row's path in a lane, the last nibble first, or None where the lane does not select the row
 abbrev pub path_in : ShapeValue → RowValue → ℕ → Option (List ℕ)
 path_in shape row lane = cond (selected_by shape lane row) (Some (nibbles (levels_of shape lane) (key_of shape lane row))) None
 
@@ -18,6 +18,7 @@ path_in shape row lane = cond (selected_by shape lane row) (Some (nibbles (level
 abbrev pub row_fits : List Attr → RowValue → Bool
 row_fits attrs row = values_fit attrs row.values && nat_lt row.num (2 ^ 32)
 
+-- all that the law asks of a shape: its sizes, the paths and measures of rows, and which word of a ticket is for what
 abbrev pub layout : ShapeValue → Layout
 layout shape = record {
   sizes = sizes_of shape;

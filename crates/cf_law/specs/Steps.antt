@@ -11,7 +11,11 @@ use Rattle.cf_shape.specs.Uses.Use.{plain, version}
 use Rattle.cf_words.specs.Law.{Skips, IsWhole}
 use Rattle.cf_law.specs.Passes.{Own, Flight, Book, Look, Cursor, Pass}
 
--- what a pass does in one step
+-- what a pass does in one step. Tickets are named by their offsets, lanes, nodes, words and writers by their numbers, all from 0:
+-- take_ticket row; store_cell offset word value; finish_record offset; advance t, the read tail from t to t + 1; load_tail asked, which is
+-- true where the tail is kept as that of an ask; look_done offset; load_word offset word; label node value; link place node, with the
+-- place of the child word; store_head lane node nibble offset; load_child place, likewise; load_head node nibble writer; load_cell offset
+-- lane word, with the word counted in the cell
 pub data Act : Type 0 where
   take_ticket : RowValue → Act
   store_cell : ℕ → ℕ → ℕ → Act
@@ -38,6 +42,7 @@ abbrev pub met_of : Option Cursor → List (ℕ × ℕ)
 met_of None = []
 met_of (Some c) = c.met
 
+-- the look of a pass that has loaded nothing yet
 abbrev pub no_look : Look
 no_look = record { word = 0; value = 0; count = 0 }
 
@@ -52,32 +57,39 @@ without k [] = []
 without zero (x ∷ xs) = xs
 without (suc k) (x ∷ xs) = x ∷ without k xs
 
--- Books.
+-- writer w's ticket in flight f, as a ticket of the log
 abbrev pub ticket_of : ℕ → Flight → Ticket
 ticket_of w f = record { writer = w; row = f.row; filled = f.filled; linked = f.linked; is_done = false }
 
+-- the ticket in flight that was just taken at offset o for row r: no word is filled, and it is linked in no lane
 abbrev pub fresh_flight : ℕ → RowValue → Flight
 fresh_flight o r = record { offset = o; row = r; filled = 0; linked = [] }
 
+-- the book with f as its ticket in flight
 abbrev pub book_with_flight : Book → Flight → Book
 book_with_flight b f = record b { flight = Some f }
 
--- the write tail was n: a ticket, or the mark
+-- the book after the write tail was found at n: with a ticket in flight, or marked where n is past the last place
 abbrev pub book_with_ticket : Layout → RowValue → ℕ → Book → Book
 book_with_ticket layout r n b = cond (nat_lt n layout.sizes.tickets) (book_with_flight b (fresh_flight n r)) (record b { over = true })
 
+-- the book after word i of its ticket in flight f was stored
 abbrev pub book_with_word : ℕ → Book → Flight → Book
 book_with_word i b f = book_with_flight b (record f { filled = suc i })
 
+-- the book after its ticket in flight f was finished
 abbrev pub book_with_record : Book → Flight → Book
 book_with_record b f = record b { mine = b.mine ++ record { offset = f.offset; row = f.row } ∷ []; flight = None }
 
+-- the book after its ticket in flight f was linked in lane l
 abbrev pub book_with_head : ℕ → Book → Flight → Book
 book_with_head l b f = book_with_flight b (record f { linked = l ∷ f.linked })
 
+-- the book after v was stored as the label of its least unused node
 abbrev pub book_with_label : ℕ → Book → Book
 book_with_label v b = record b { label = v }
 
+-- the book after its least unused node was linked for the spot s; the next one has no label yet
 abbrev pub book_with_node : Spot → Book → Book
 book_with_node s b = record b { used = b.used ++ s ∷ []; label = 0 }
 
@@ -90,19 +102,21 @@ unfoldable pub mine_chain : Layout → Spot → List Own → List (ℕ × RowVal
 mine_chain layout s [] = []
 mine_chain layout s (x ∷ xs) = mine_chain layout s xs ++ cond (same_path (layout.path x.row s.lane) s.path) ((x.offset, x.row) ∷ []) []
 
+-- word j of the cell of lane l for row r, by the book's own finished tickets; 0 for None, where the lane does not select the row
 abbrev pub own_lane_word : Layout → Book → RowValue → ℕ → ℕ → Option (List ℕ) → ℕ
 own_lane_word layout b r l j None = 0
 own_lane_word layout b r l j (Some q) = version_word layout l j (mine_chain layout (spot l q) b.mine) r
 
--- a word of the ticket in flight
+-- what a word of the ticket in flight with row r has to be by its use: a word of the entry, or of the cell of a lane
 abbrev pub own_word : Layout → Book → RowValue → Use → ℕ
 own_word layout b r (plain i) = get_or (layout.spelled r b.writer) i 0
 own_word layout b r (version l j) = own_lane_word layout b r l j (layout.path r l)
 
--- Passes.
+-- the pass with b as its k-th book
 abbrev pub pass_with_book : ℕ → Book → Pass → Pass
 pass_with_book k b p = record p { books = set p.books k b }
 
+-- the pass after one more load: at this place that was found
 abbrev pub pass_with_look : ℕ → ℕ → Pass → Pass
 pass_with_look word found p = record p { look = record { word = word; value = found; count = p.look.count + 1 } }
 
@@ -110,33 +124,37 @@ pass_with_look word found p = record p { look = record { word = word; value = fo
 abbrev pub pass_that_sees : ℕ → List Entry → Pass → Pass
 pass_that_sees n es p = cond (nat_lt (length p.seen) n) (record p { seen = take n es; cursor = None }) p
 
+-- the pass after the read tail was found at n, with the entries es below it; where that was asked, n is kept as the tail of an ask
 abbrev pub pass_with_tail : Bool → ℕ → List Entry → Pass → Pass
 pass_with_tail asked n es p = pass_with_look 1 n (record (pass_that_sees n es p) { tails = cond asked (p.tails ++ n ∷ []) p.tails })
 
+-- the pass that from now on knows node n to stand for the spot s
 abbrev pub pass_with_node : Spot → ℕ → Pass → Pass
 pass_with_node s n p = record p { known = (s, n) ∷ p.known }
 
--- a link of the node, by what was found
+-- the pass after its k-th book b tried to link its node for the spot s: 0 was found, and the node is used, or that of another was
 abbrev pub pass_with_link : ℕ → Book → Spot → ℕ → Pass → ℕ → Pass
 pass_with_link k b s node p zero = pass_with_book k (book_with_node s b) (pass_with_node s node p)
 pass_with_link k b s node p (suc n) = pass_with_node s n p
 
--- a child word was loaded
+-- the pass after the child word of the spot s was loaded, at this place: 0 is no node, else the number of the node plus 1
 abbrev pub pass_with_child : ℕ → Spot → Pass → ℕ → Pass
 pass_with_child word s p zero = pass_with_look word 0 p
 pass_with_child word s p (suc n) = pass_with_look word (suc n) (pass_with_node s n p)
 
+-- the pass after the head of writer w in the leaf s was loaded, at this place, and n found: a walk begins there
 abbrev pub pass_with_head : ℕ → ℕ → Spot → Pass → ℕ → Pass
 pass_with_head word w s p n = pass_with_look word n (record p { cursor = Some record { writer = w; spot = s; link = n; gone = []; met = met_of p.cursor } })
 
+-- the pass after word i of the cell of lane l of ticket o was loaded, at this place, and n found: a walk that named it goes on
 abbrev pub pass_with_cell : ℕ → ℕ → ℕ → ℕ → Pass → ℕ → Pass
 pass_with_cell word o l i p n = pass_with_look word n (record p { cursor = cursor_after_cell o l i n p.cursor })
 
--- the pass holds this book
+-- b is the pass's k-th book
 abbrev pub Holds : Pass → ℕ → Book → Type 0
 Holds p k b = slice_get p.books k ≡ Some b
 
--- with this ticket in flight
+-- b is the pass's k-th book, and f is its ticket in flight
 abbrev pub HoldsInFlight : Pass → ℕ → Book → Flight → Type 0
 HoldsInFlight p k b f = (slice_get p.books k ≡ Some b) × (b.flight ≡ Some f)
 
@@ -171,6 +189,7 @@ IsOwn p o = (k : ℕ) × (b : Book) × Holds p k b × (((j : ℕ) × (x : Own) �
 abbrev pub IsNamed : Pass → ℕ → ℕ → Type 0
 IsNamed p o l = (c : Cursor) × (p.cursor ≡ Some c) × (c.link ≡ suc o) × (c.spot.lane ≡ l)
 
+-- the label of a node that is to stand for the spot s, whose child word is the slot t: 32 times its place, plus the level
 abbrev pub label_of : Layout → Spot → Slot → ℕ
 label_of layout s t = 32 * place layout.sizes t + length s.path
 
@@ -203,11 +222,11 @@ pub data Step (layout : Layout) (p : Pass) : Act → Slot → (ℕ → ℕ) → 
   loads_cell : (o l i k : ℕ) → o < layout.sizes.tickets → layout.use_of k ≡ version l i → suc k < layout.sizes.ticket_words → IsOwn p o ⊎ ((o < length p.seen) ⊎ IsNamed p o l)
       → Step layout p (load_cell o l i) (cell o k) (λ n. n) (λ n es. pass_with_cell (place layout.sizes (cell o k)) o l i p n)
 
--- Handing on.
--- a pass that has seen as much
+-- a new pass that holds these books and has seen these entries; it knows nothing else
 abbrev pub new_pass : List Book → List Entry → Pass
 new_pass books seen = record { books = books; seen = seen; olds = []; tails = []; told = []; look = no_look; known = []; cursor = None; spent = false }
 
+-- the pass that is left where one was joined away: it holds nothing and may do nothing
 abbrev pub spent_pass : Pass
 spent_pass = record (new_pass [] []) { spent = true }
 

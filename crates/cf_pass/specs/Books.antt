@@ -9,7 +9,7 @@ use Rattle.cf_law.specs.Steps.{book_with_flight, fresh_flight, HoldsInFlight, Ho
 abbrev pub MayTake : Pass → Type 0
 MayTake p = (b : Book) × (p.books ≡ b ∷ []) × (b.over ≡ false) × (b.flight ≡ None)
 
--- the write tail was n: a ticket, or the mark
+-- the book after the write tail was found at n: with a ticket in flight for the row, or marked where n is past the last place
 abbrev pub ticketed_at : ℕ → RowValue → ℕ → Book → Book
 ticketed_at capacity row n b = cond (nat_lt n capacity) (book_with_flight b (fresh_flight n row)) (record b { over = true })
 
@@ -33,13 +33,15 @@ gone_on_of c offset found = record { writer = c.writer; spot = c.spot; link = fo
 abbrev pub NoneKnown : Pass → ℕ → Type 0
 NoneKnown p n = (s : Spot) → Knows p s n → ⊥
 
--- the ticket is the book's own
+-- the book has finished the ticket at offset o
 abbrev pub HasFinished : Book → ℕ → Type 0
 HasFinished b o = (j : ℕ) × (x : Own) × (slice_get b.mine j ≡ Some x) × (x.offset ≡ o)
 
+-- the ticket at offset o is the book's one in flight
 abbrev pub HasOpen : Book → ℕ → Type 0
 HasOpen b o = (f : Flight) × (b.flight ≡ Some f) × (f.offset ≡ o)
 
+-- the ticket at offset o is the book's, finished or in flight
 abbrev pub Owns : Book → ℕ → Type 0
 Owns b o = HasFinished b o ⊎ HasOpen b o
 
@@ -47,12 +49,14 @@ Owns b o = HasFinished b o ⊎ HasOpen b o
 abbrev pub MayRead : Pass → ℕ → ℕ → Type 0
 MayRead p o l = IsOwn p o ⊎ ((o < length p.seen) ⊎ IsNamed p o l)
 
--- the book's least node that is not used
+-- the node is the book's least one that is not used; m is the number of nodes of each writer
 abbrev pub IsFreeIn : ℕ → Book → ℕ → Type 0
 IsFreeIn m b node = (length b.used < m) × (b.writer * m + length b.used ≡ node)
 
+-- b is the pass's j-th book, and the node is its least one that is not used; m is the number of nodes of each writer
 abbrev pub IsFree : ℕ → Pass → ℕ → ℕ → Book → Type 0
 IsFree m p node j b = Holds p j b × IsFreeIn m b node
 
+-- the node is the least unused one of no held book; m is the number of nodes of each writer
 abbrev pub NoneFree : ℕ → Pass → ℕ → Type 0
 NoneFree m p node = (j : ℕ) (b : Book) → IsFree m p node j b → ⊥

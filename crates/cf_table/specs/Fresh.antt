@@ -11,5 +11,6 @@ pub record IsFresh (log : LogValue) (pass : PassValue) : Type 0 where
   pub free : book.over ≡ false
   pub rests : book.flight ≡ None
 
+-- each of the passes may take its first ticket in the log
 abbrev pub AreFresh : LogValue → List PassValue → Type 0
 AreFresh log hs = (k : ℕ) (h : PassValue) → slice_get hs k ≡ Some h → IsFresh log h

@@ -68,6 +68,7 @@ pub record AreAll (log : LogValue) (passes : List PassValue) : Type 0 where
   pub count : length passes ≡ (log.shape).writers
   pub writers : (w : ℕ) → w < (log.shape).writers → (k : ℕ) × (h : PassValue) × (j : ℕ) × (b : Book) × (slice_get passes k ≡ Some h) × Holds h.view j b × (b.writer ≡ w)
 
+-- the books of all the passes, in the order of the passes
 unfoldable pub books_of : List PassValue → List Book
 books_of [] = []
 books_of (h ∷ hs) = (h.view).books ++ books_of hs
@@ -136,5 +137,6 @@ pub record SealValue : Type 0 where
   pub entries : List Entry
   pub told : List ℕ
 
+-- each of the entries is one of the schema
 abbrev pub AreEntries : List Attr → List Entry → Type 0
 AreEntries attrs entries = (o : ℕ) (e : Entry) → slice_get entries o ≡ Some e → IsEntry attrs e

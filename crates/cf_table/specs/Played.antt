@@ -33,6 +33,7 @@ pub record IsNew (log : LogValue) (w : ℕ) (pass : PassValue) : Type 0 where
   pub of : IsOf pass log
   pub view : pass.view ≡ new_pass (no_book w ∷ []) []
 
+-- the passes were just dealt, the k-th to writer k
 abbrev pub AreNew : LogValue → List PassValue → Type 0
 AreNew log hs = (k : ℕ) (h : PassValue) → slice_get hs k ≡ Some h → IsNew log k h
 
@@ -48,9 +49,10 @@ pub record IsHome (log : LogValue) (w : ℕ) (pass : PassValue) : Type 0 where
 abbrev pub book_in_flight : RowValue → List Spot → ℕ → List ℕ → Book
 book_in_flight row used filled linked = record (no_book 0) { flight = Some record { offset = 0; row = row; filled = filled; linked = linked }; used = used }
 
--- its pass, before the node is linked and after
+-- writer 0's pass with ticket 0 in flight for the row, before any of its words is stored and before the node is linked
 abbrev pub pass_with_first_ticket : RowValue → Pass
 pass_with_first_ticket row = new_pass (book_in_flight row [] 0 [] ∷ []) []
 
+-- writer 0's pass after node 0 was linked above the leaf, with so many words of ticket 0 filled, and the lanes in which it is linked
 abbrev pub pass_with_linked_node : RowValue → ℕ → List ℕ → Pass
 pass_with_linked_node row filled linked = record (new_pass (book_in_flight row (spot_above_leaf ∷ []) filled linked ∷ []) []) { known = (spot_above_leaf, 0) ∷ [] }

@@ -14,6 +14,7 @@ use Rattle.cf_law.specs.Shapes.{layout}
 use Rattle.cf_law.specs.Readers.{StepTells}
 use Rattle.cf_table.specs.Effects.{StepEffect, take_effect, tail_effect, advance_effect}
 
+-- what a step sees of its seat of the table: the pass, and the slots that the seat has taken, of which it never has any
 abbrev pub SeatView : Type 0
 SeatView = Me (Unit {0}) Pass
 
@@ -30,9 +31,11 @@ pub record StepGiven : Type 0 where
   pub shape : ShapeValue
   pub effect : StepEffect
 
+-- a shape with nothing in it, for where none was given
 abbrev pub no_shape : ShapeValue
 no_shape = record { schema = []; lanes = []; capacity = 0; writers = 0; nodes = 0; width = 0 }
 
+-- what a step is given where no call asked for one: the write tail stays, and the pass is spent
 abbrev pub nothing_given : StepGiven
 nothing_given = record { shape = no_shape; effect = record { slot = tail 0; change = λ n. n; after = λ n es. spent_pass } }
 
@@ -42,6 +45,7 @@ pub record TellsAll (given : StepGiven) (before : SeatView) (found : ℕ) (after
   pub bare : after.1 ≡ []
   pub lives : after.0.spent ≡ before.0.spent
 
+-- the step told what it tells of some word found, which is not named
 pub record TellsSome (given : StepGiven) (before after : SeatView) : Type 0 where
   pub found : ℕ
   pub all : TellsAll given before found after
@@ -52,10 +56,11 @@ pub record AsksLawfully (given : StepGiven) (pass : Pass) : Type 0 where
   pub lawful : Step (layout given.shape) pass act given.effect.slot given.effect.change given.effect.after
   pub real : IsReal (sizes_of given.shape) given.effect.slot
 
--- whatever is found, as much was seen, and the books are as they were
+-- whatever is found, the pass has seen as much afterwards as before
 abbrev pub KeepsSeen : StepEffect → Pass → Type 0
 KeepsSeen w p = (n : ℕ) (es : List Entry) → (w.after n es).seen ≡ p.seen
 
+-- whatever is found, the pass has the same books afterwards as before
 abbrev pub KeepsBooks : StepEffect → Pass → Type 0
 KeepsBooks w p = (n : ℕ) (es : List Entry) → (w.after n es).books ≡ p.books
 
@@ -72,14 +77,14 @@ abbrev pub value_after_exchange : ℕ → ℕ → ℕ
 value_after_exchange v zero = v
 value_after_exchange v (suc n) = suc n
 
--- the read tail was loaded
+-- what a load of the read tail is given; where `asked`, the tail is kept as that of an ask
 abbrev pub given_tail : ShapeValue → Pass → Bool → StepGiven
 given_tail shape p asked = record { shape = shape; effect = tail_effect p asked }
 
--- the read tail was moved from t
+-- what a move of the read tail from t to t + 1 is given
 abbrev pub given_advance : ShapeValue → Pass → ℕ → StepGiven
 given_advance shape p t = record { shape = shape; effect = advance_effect p t }
 
--- a ticket was taken for the row
+-- what the taking of a ticket for the row r is given
 abbrev pub given_take : ShapeValue → Pass → RowValue → StepGiven
 given_take shape p r = record { shape = shape; effect = take_effect shape p r }

@@ -26,14 +26,16 @@ pub record IsOf (pass : PassValue) (log : LogValue) : Type 0 where
 abbrev pub book_of : Pass → Book
 book_of p = get_or p.books 0 (no_book 0)
 
+-- a ticket in flight at offset 0 with an empty row, for where there is none
 abbrev pub no_flight : Flight
 no_flight = record { offset = 0; row = record { num = 0; values = [] }; filled = 0; linked = [] }
 
+-- the ticket in flight, or a made-up one at offset 0 where there is none
 abbrev pub flight_or : Option Flight → Flight
 flight_or None = no_flight
 flight_or (Some f) = f
 
--- its ticket in flight
+-- the ticket in flight of the pass's first book, or a made-up one at offset 0 where there is none
 abbrev pub flight_of : Pass → Flight
 flight_of p = flight_or (book_of p).flight
 

@@ -6,6 +6,7 @@ use Rattle.cf_shape.specs.Places.{Slot, place, IsReal}
 use Rattle.cf_words.specs.Words.{entry, Spot, spot, Layout, Ticket, Stock, stock_of, node_at, IsNamedBy, has}
 use Rattle.cf_shape.specs.Uses.Use.{plain, version}
 
+-- what is so of the used nodes of all writers: each stands below another used node or a root, and for a spot of its own
 pub record NodesLaw (layout : Layout) (stocks : List Stock) : Type 0 where
   pub writers : length stocks ≡ layout.sizes.writers
   pub room : (w : ℕ) → length (stock_of stocks w).used ≤ layout.sizes.nodes
@@ -15,10 +16,11 @@ pub record NodesLaw (layout : Layout) (stocks : List Stock) : Type 0 where
   -- the node above a used one is used
   pub parent : (n l d e : ℕ) (p : List ℕ) → node_at layout.sizes.nodes stocks n ≡ Some (spot l (d ∷ (e ∷ p))) → (k : ℕ) × (node_at layout.sizes.nodes stocks k ≡ Some (spot l (e ∷ p)))
 
--- a ticket linked in a lane has its leaf, and so by `parent` its whole path
+-- in lane l the ticket has its leaf: a used node stands for all its path but the last nibble, and so by `parent` for each shorter part
 abbrev pub HasLeaf : Layout → List Stock → Ticket → ℕ → Type 0
 HasLeaf layout bs t l = (d : ℕ) × (p : List ℕ) × (k : ℕ) × (layout.path t.row l ≡ Some (d ∷ p)) × (node_at layout.sizes.nodes bs k ≡ Some (spot l p))
 
+-- each ticket, by its offset in the log, has its leaf in every lane in which it is linked
 abbrev pub LeavesLaw : Layout → List Ticket → List Stock → Type 0
 LeavesLaw layout log bs = (o : ℕ) (t : Ticket) (l : ℕ) → slice_get log o ≡ Some t → has t.linked l ≡ true → HasLeaf layout bs t l
 
