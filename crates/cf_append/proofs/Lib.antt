@@ -6,3 +6,4 @@ pub mod Cells
 pub mod Whole
 pub mod Distinct
 pub mod Newest
+pub mod Answering

@@ -12,12 +12,12 @@ use Rattle.cf_law.specs.Steps.{Holds, pass_that_sees, pass_with_look}
 use Rattle.cf_law.specs.Shapes.{layout}
 use Rattle.cf_law.specs.Readers.{AtHome, EndsThere, IsBounded}
 use Rattle.cf_table.specs.Values.{PassValue, book_of}
-use Rattle.cf_table.specs.Moves.{Begins, HasAll}
+use Rattle.cf_table.specs.Moves.{Begins, HasAll, SeenFirst, AreFit, MarkedIsFull}
 use Rattle.cf_table.specs.Effects.{HasStepped, HasSteppedUnseen, tail_effect, done_effect, advance_effect}
 use Rattle.cf_table.proofs.Seen.{grown, sees_books, advance_seen}
 use Rattle.cf_table.proofs.Folds.{sees_told, tail_entries}
 use Rattle.cf_table.proofs.Settling.{Moved, moved_none, settled_by, begins_then, last_word}
-use Rattle.cf_append.specs.Appends.{GoesOn, IsUnfinished, Stops, Rests, SeenFirst}
+use Rattle.cf_append.specs.Appends.{GoesOn, IsUnfinished, Stops, Rests}
 
 pub goes_on : (m n : PassValue) → Moved m n → GoesOn m n
 goes_on m n moved = record { same = moved.same; longer = moved.longer; tails = moved.tails; told = moved.told }
@@ -109,6 +109,15 @@ home_alone shape p one bounds rest w lt =
 pub all_alone : (shape : ShapeValue) (m n : PassValue) (o found : ℕ) → HasStepped shape (done_effect shape m.view o) m found n → EndsThere (layout shape) m.view (slot_of shape (done o)) (last_word shape) found → shape.writers ≡ 1 → Rests n.view → HasAll n.view
 all_alone shape m n o found made ends one rest =
     (settled_by shape m m n o found (moved_none m) made ends).all (home_alone shape n.view one made.told.bounds rest)
+
+-- and where its book is marked all places are covered
+pub full_alone : (shape : ShapeValue) (m n : PassValue) (o found : ℕ) → HasStepped shape (done_effect shape m.view o) m found n → EndsThere (layout shape) m.view (slot_of shape (done o)) (last_word shape) found → shape.writers ≡ 1 → Rests n.view → MarkedIsFull shape n.view
+full_alone shape m n o found made ends one rest =
+    (settled_by shape m m n o found (moved_none m) made ends).full (home_alone shape n.view one made.told.bounds rest)
+
+-- a look tells that what was seen fits
+pub look_fit : (shape : ShapeValue) (m n : PassValue) (o found : ℕ) → HasStepped shape (done_effect shape m.view o) m found n → AreFit shape n.view
+look_fit shape m n o found made = subst (AreFit shape) (sym made.told.is) (λ k e at. made.told.tells.fit k e at)
 
 -- an advance covers the record
 pub advanced : (shape : ShapeValue) (m n : PassValue) (t : ℕ) → t ≤ length (m.view).seen → HasSteppedUnseen shape (advance_effect m.view t) m n → length (n.view).seen ≡ max (length (m.view).seen) (t + 1)

@@ -12,7 +12,8 @@ use Rattle.cf_law.proofs.Moves.{at_either}
 use Rattle.cf_table.specs.Values.{PassValue, book_of}
 use Rattle.cf_table.specs.Effects.{HasStepped, HasSteppedUnseen, child_effect, label_effect, link_effect}
 use Rattle.cf_table.proofs.Mays.{the_book}
-use Rattle.cf_append.specs.Appends.{Rests, SeenFirst}
+use Rattle.cf_table.specs.Moves.{SeenFirst}
+use Rattle.cf_append.specs.Appends.{Rests}
 use Rattle.cf_append.specs.Paths.{Strides, HasUsed, IsStuck, IsNodeOf, with_nodes}
 use Rattle.cf_append.proofs.Appending.{rests_by}
 

@@ -16,7 +16,8 @@ use Rattle.cf_law.specs.Steps.{Holds}
 use Rattle.cf_table.specs.Values.{PassValue, book_of}
 use Rattle.cf_table.specs.Effects.{HasStepped, HasSteppedUnseen, take_effect, finish_effect}
 use Rattle.cf_table.proofs.Mays.{the_book}
-use Rattle.cf_append.specs.Appends.{GoesOn, Stops, Rests, SeenFirst, HasMade, IsAppended, IsLate, with_own, flying, marked}
+use Rattle.cf_table.specs.Moves.{SeenFirst}
+use Rattle.cf_append.specs.Appends.{GoesOn, Stops, Rests, HasMade, IsAppended, IsLate, with_own, flying, marked}
 use Rattle.cf_append.specs.Paths.{Strides, HasLeaves, with_nodes, path_steps}
 use Rattle.cf_append.specs.Linking.{HasFilled, HasLinked, IsBookOf, lane_steps}
 use Rattle.cf_append.proofs.Appending.{began, rests_by}

@@ -1,5 +1,5 @@
 -- What appending and settling do to a writer's pass.
-use Rattle.std.specs.Prelude.{ℕ, ◌≡◌, ◌<◌, ◌≤◌, ◌⊎◌, List, [], ◌∷◌, ◌++◌, true, false, length, take, Some, None, slice_get}
+use Rattle.std.specs.Prelude.{ℕ, ◌≡◌, ◌<◌, ◌≤◌, ◌⊎◌, List, [], ◌∷◌, ◌++◌, true, false, length, Some, None, slice_get}
 use Rattle.std.specs.declared.result.Result.{Result}
 use Rattle.std.specs.declared.result.Result.TheVariants.{Ok, Err}
 use Rattle.cf_row.specs.Row.{RowValue}
@@ -8,7 +8,6 @@ use Rattle.cf_shape.specs.Places.{place_of}
 use Rattle.cf_shape.specs.Places.Word.{done}
 use Rattle.cf_law.specs.Passes.{Own, Book, Pass}
 use Rattle.cf_law.specs.Steps.{Holds}
-use Rattle.cf_law.specs.Readers.{mine_from}
 use Rattle.cf_table.specs.Values.{PassValue, book_of}
 use Rattle.cf_table.specs.Effects.{HasStepped, take_effect}
 use Rattle.cf_table.specs.Moves.{Begins}
@@ -46,10 +45,6 @@ IsSettledTo shape offset p q (Behind b) = (length q.seen ≤ offset) × (b ≤ o
 pub record Rests (pass : Pass) : Type 0 where
   pub one : pass.books ≡ book_of pass ∷ []
   pub free : (book_of pass).flight ≡ None
-
--- of the tickets that a book has finished, those that were seen are the first, and nothing else was seen of its writer
-abbrev pub SeenFirst : Pass → Type 0
-SeenFirst p = (k : ℕ) (b : Book) → Holds p k b → take (length (mine_from b.writer 0 p.seen)) b.mine ≡ mine_from b.writer 0 p.seen
 
 abbrev pub with_book : Book → PassValue → PassValue
 with_book b m = record m { view = record m.view { books = b ∷ [] } }

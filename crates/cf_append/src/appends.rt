@@ -3,8 +3,8 @@ ghost use Rattle.std.specs.Prelude.{◌≡◌, ◌⊎◌, ◌+◌, ◌-◌, ◌*
 ghost use Rattle.cf_row.specs.Row.{Fits};
 ghost use Rattle.cf_row.specs.Words.{word_count as word_count_of, spelled};
 ghost use Rattle.cf_table.specs.Values.{IsOf, book_of};
-ghost use Rattle.cf_table.specs.Moves.{HasAll};
-ghost use Rattle.cf_append.specs.Appends.{GoesOn, Stops, Rests, SeenFirst, IsAnswered, flying};
+ghost use Rattle.cf_table.specs.Moves.{HasAll, SeenFirst};
+ghost use Rattle.cf_append.specs.Appends.{GoesOn, Stops, Rests, IsAnswered, flying};
 ghost use Rattle.cf_append.specs.Linking.{lane_steps};
 
 use crate::links::{fill_cells, link_all};

@@ -7,7 +7,8 @@ ghost use Rattle.cf_words.specs.Words.{Spot};
 ghost use Rattle.cf_law.specs.Steps.{IsChild};
 ghost use Rattle.cf_law.specs.Shapes.{layout as layout_of};
 ghost use Rattle.cf_table.specs.Values.{IsOf};
-ghost use Rattle.cf_append.specs.Appends.{Rests, SeenFirst};
+ghost use Rattle.cf_table.specs.Moves.{SeenFirst};
+ghost use Rattle.cf_append.specs.Appends.{Rests};
 ghost use Rattle.cf_append.specs.Paths.{Strides, HasUsed, IsPrefix, IsAlong, IsOnPath, IsStuck, IsNodeOf, IsLeafIn, HasLeaves, spot_of, spot_before, path_steps};
 
 use cf_row::Row;

@@ -1,8 +1,8 @@
 // The read tail is moved up to the first record that isn't finished.
 ghost use Rattle.std.specs.Prelude.{◌≡◌, ◌⊎◌, ◌+◌, ◌-◌, ◌*◌, ◌<◌, ◌≤◌, length};
 ghost use Rattle.cf_table.specs.Values.{IsOf};
-ghost use Rattle.cf_table.specs.Moves.{HasAll};
-ghost use Rattle.cf_append.specs.Appends.{GoesOn, Stops, Rests, SeenFirst, IsSettledTo};
+ghost use Rattle.cf_table.specs.Moves.{HasAll, SeenFirst, AreFit, MarkedIsFull};
+ghost use Rattle.cf_append.specs.Appends.{GoesOn, Stops, Rests, IsSettledTo};
 
 use cf_table::{MultiLog, Pass, Steps, WriterPass};
 use std::sync::Wait;
@@ -24,7 +24,9 @@ pub(crate) fn move_tail<L: Ledger>(log: &MultiLog, pass: &mut WriterPass, steps:
     ensures books { pass.new.view.books ≡ pass.old.view.books }
     ensures stops { Stops log.now.shape pass.old.view pass.new.view }
     ensures begins { SeenFirst pass.new.view }
+    ensures fit { AreFit log.now.shape pass.new.view }
     ensures alone { log.now.shape.writers ≡ 1 → Rests pass.new.view → HasAll pass.new.view }
+    ensures full { log.now.shape.writers ≡ 1 → Rests pass.new.view → MarkedIsFull log.now.shape pass.new.view }
     ensures steps { steps.new ≤ steps.old + 2 * (length pass.new.view.seen - length pass.old.view.seen + 1) }
 {
     log.load_tail(pass, false, steps);
@@ -54,7 +56,9 @@ pub fn settle<L: Ledger>(
     ensures answer { IsSettledTo log.now.shape offset pass.old.view pass.new.view result }
     ensures stops { Stops log.now.shape pass.old.view pass.new.view }
     ensures begins { SeenFirst pass.new.view }
+    ensures fit { AreFit log.now.shape pass.new.view }
     ensures alone { log.now.shape.writers ≡ 1 → Rests pass.new.view → HasAll pass.new.view }
+    ensures full { log.now.shape.writers ≡ 1 → Rests pass.new.view → MarkedIsFull log.now.shape pass.new.view }
     ensures steps { steps.new ≤ steps.old + 2 * (length pass.new.view.seen - length pass.old.view.seen + 1) }
 {
     move_tail(log, pass, steps);

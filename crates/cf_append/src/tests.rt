@@ -1,8 +1,9 @@
-ghost use Rattle.std.specs.Prelude.{◌≡◌, ◌<◌};
+ghost use Rattle.std.specs.Prelude.{◌≡◌, ◌<◌, length};
 ghost use Rattle.cf_row.specs.Row.{Fits};
 ghost use Rattle.cf_table.specs.Values.{IsOf};
 ghost use Rattle.cf_table.specs.Fresh.{IsFresh, AreFresh};
 ghost use Rattle.cf_append.specs.Appends.{Rests};
+ghost use Rattle.cf_append.specs.Linking.{HasLinked};
 
 use super::*;
 use crate::appends::fill;
@@ -139,51 +140,139 @@ fn many_writers(rt: HostRuntime) -> Result<(), Fail> {
     appends::<Brand, _>(&rt, rt.alloc(), Blank::new(1), (1, 15, 2))
 }
 
-// while the first writer's record isn't finished the second's isn't covered
+// The writer's row gets the offset's place, is filled and linked, and isn't finished.
+fn begin<L: Ledger, R: Abort>(
+    rt: &R,
+    log: &MultiLog,
+    pass: &mut WriterPass,
+    row: &Row,
+    offset: u32,
+    steps: &mut Steps<L>,
+)
+    requires of { IsOf pass.old log.now }
+    requires fits { Fits log.now.shape.schema row.now }
+    requires rest { Rests pass.old.view }
+    ensures of { IsOf pass.new log.now }
+    ensures linked { HasLinked log.now.shape offset row.now (length log.now.shape.lanes) pass.new pass.new }
+{
+    assert!(rt; !pass.over());
+    assert!(rt; offset < log.shape().capacity());
+    let Some(leaves) = make_paths(log, pass, row, steps) else {
+        panic!(rt; "no node");
+    };
+    let _number = row.num();
+    let found = log.take_ticket(pass, row, steps);
+    assert!(rt; found == u64::from(offset));
+    fill(log, pass, offset, row, steps);
+    fill_cells(log, pass, offset, row, &leaves, steps);
+    link_all(log, pass, offset, row, &leaves, steps);
+}
+
+// An offset, and what a writer is told of it.
+#[derive(Clone, Copy, Drop)]
+struct Case {
+    offset: u32,
+    answer: Settled,
+}
+
+fn settle_each<L: Ledger, R: Abort>(
+    rt: &R,
+    log: &MultiLog,
+    pass: &mut WriterPass,
+    cases: &[Case],
+    steps: &mut Steps<L>,
+)
+    requires of { IsOf pass.old log.now }
+    requires rest { Rests pass.old.view }
+    ensures of { IsOf pass.new log.now }
+    ensures rest { Rests pass.new.view }
+{
+    for case in cases {
+        assert!(rt; case.offset < log.shape().capacity());
+        let answer = settle(log, pass, case.offset, steps);
+        assert_eq!(rt; answer, case.answer, "of {}", case.offset);
+    }
+}
+
+// What the third writer is told while records 1 and 3 aren't finished, then 3 alone, then none. The records between and behind
+// them are finished.
 fn behind<L: Ledger, R: Abort + Wait>(
     rt: &R,
     log: &MultiLog,
     row: &Row,
-    mut first: WriterPass,
-    mut second: WriterPass,
+    passes: (WriterPass, WriterPass, WriterPass),
     steps: &mut Steps<L>,
 )
     requires fits { Fits log.now.shape.schema row.now }
-    requires fresh { IsFresh log.now first × IsFresh log.now second }
+    requires fresh { IsFresh log.now passes.0 × (IsFresh log.now passes.1 × IsFresh log.now passes.2) }
 {
-    assert!(rt; log.shape().capacity() > 1);
-    let Some(leaves) = make_paths(log, &mut first, row, steps) else {
-        panic!(rt; "no node");
-    };
-    let _number = row.num();
-    let found = log.take_ticket(&mut first, row, steps);
-    assert!(rt; found == 0);
-    assert!(rt; matches!(append(log, &mut second, row, steps), Ok(1)));
-    assert!(rt; matches!(settle(log, &mut second, 1, steps), Settled::Behind(0)));
-    fill(log, &mut first, 0, row, steps);
-    fill_cells(log, &mut first, 0, row, &leaves, steps);
-    link_all(log, &mut first, 0, row, &leaves, steps);
-    log.finish_record(&mut first, 0, steps);
-    assert!(rt; matches!(settle(log, &mut first, 1, steps), Settled::Covered));
-    assert!(rt; matches!(append_wait(log, rt, &mut second, row, steps), Ok(2)));
-    assert!(rt; second.covered() == 3);
+    assert!(rt; log.shape().capacity() > 5);
+    let (mut first, mut second, mut third) = passes;
+    assert!(rt; matches!(append(log, &mut first, row, steps), Ok(0)));
+    begin(rt, log, &mut first, row, 1, steps);
+    assert!(rt; matches!(append(log, &mut third, row, steps), Ok(2)));
+    begin(rt, log, &mut second, row, 3, steps);
+    assert!(rt; matches!(append(log, &mut third, row, steps), Ok(4)));
+    let both = [
+        covered(0),
+        after(1, 1),
+        after(2, 1),
+        after(3, 1),
+        after(4, 1),
+        after(5, 1),
+    ];
+    settle_each(rt, log, &mut third, &both, steps);
+    log.finish_record(&mut first, 1, steps);
+    let one = [
+        covered(0),
+        covered(1),
+        covered(2),
+        after(3, 3),
+        after(4, 3),
+        after(5, 3),
+    ];
+    settle_each(rt, log, &mut third, &one, steps);
+    log.finish_record(&mut second, 3, steps);
+    let none = [covered(3), covered(4), after(5, 5)];
+    settle_each(rt, log, &mut third, &none, steps);
+    assert!(rt; matches!(append_wait(log, rt, &mut third, row, steps), Ok(5)));
+    assert!(rt; third.covered() == 6);
 }
 
-fn two_at_once<L: Ledger, R: Abort + Wait>(rt: &R, alloc: Global, blank: Blank) -> Result<(), Fail>
+const fn covered(offset: u32) -> Case {
+    Case {
+        offset,
+        answer: Settled::Covered,
+    }
+}
+
+const fn after(offset: u32, unfinished: u32) -> Case {
+    Case {
+        offset,
+        answer: Settled::Behind(unfinished),
+    }
+}
+
+fn three_at_once<L: Ledger, R: Abort + Wait>(
+    rt: &R,
+    alloc: Global,
+    blank: Blank,
+) -> Result<(), Fail>
     requires { (blank.name ≡ L.name) × (blank.parts ≡ L.parts) × (0 < L.parts) }
 {
     let mut steps = Steps::<L>::new(blank);
-    let (log, mut root) = MultiLog::open(alloc, shape(rt, alloc, 8, 2)?)?;
+    let (log, mut root) = MultiLog::open(alloc, shape(rt, alloc, 8, 3)?)?;
     let row = row(alloc, 7)?;
     assert!(rt; fits(log.shape().schema(), &row));
     let mut passes = log.deal(alloc, &mut root)?.into_iter();
     let first = passes.next().expect(rt, "a pass");
     let second = passes.next().expect(rt, "a pass");
-    behind(rt, &log, &row, first, second, &mut steps);
+    let third = passes.next().expect(rt, "a pass");
+    behind(rt, &log, &row, (first, second, third), &mut steps);
     Ok(())
 }
 
 #[test]
-fn one_unfinished(rt: HostRuntime) -> Result<(), Fail> {
-    two_at_once::<Brand, _>(&rt, rt.alloc(), Blank::new(1))
+fn two_unfinished(rt: HostRuntime) -> Result<(), Fail> {
+    three_at_once::<Brand, _>(&rt, rt.alloc(), Blank::new(1))
 }

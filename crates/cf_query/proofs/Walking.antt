@@ -10,9 +10,9 @@ use Rattle.cf_words.specs.Words.{Spot}
 use Rattle.cf_law.specs.Passes.{Cursor, Pass}
 use Rattle.cf_plain.specs.Asks.{is_attr, exists, is_bucketed, is_aggregate}
 use Rattle.cf_table.specs.Values.{PassValue}
-use Rattle.cf_table.specs.Moves.{Begins, OnlyLooked}
+use Rattle.cf_table.specs.Moves.{Begins, OnlyLooked, SeenFirst}
 use Rattle.cf_walk.specs.Walks.{OnlyWalked}
-use Rattle.cf_query.specs.Asking.{HasAsked, SeenFirst}
+use Rattle.cf_query.specs.Asking.{HasAsked}
 
 -- a question that suits has its lane
 pub lane_there : (shape : ShapeValue) (lane : ℕ) (b : Bool) → exists shape lane && b ≡ true → lane < length shape.lanes

@@ -1,17 +1,10 @@
 -- What an ask does to the pass that makes it, and what it reads.
-use Rattle.std.specs.Prelude.{ℕ, ◌≡◌, ◌≤◌, List, [], ◌∷◌, ◌++◌, length, take, Some, slice_get}
+use Rattle.std.specs.Prelude.{ℕ, ◌≡◌, ◌≤◌, List, [], ◌∷◌, ◌++◌, length, Some, slice_get}
 use Rattle.cf_row.specs.declared.row.Entry.{Entry}
 use Rattle.cf_row.specs.Words.{IsEntry, spelled}
 use Rattle.cf_shape.specs.Lanes.{ShapeValue}
-use Rattle.cf_law.specs.Passes.{Book, Pass}
-use Rattle.cf_law.specs.Steps.{Holds}
-use Rattle.cf_law.specs.Readers.{mine_from}
 use Rattle.cf_table.specs.Values.{PassValue}
-use Rattle.cf_table.specs.Moves.{Begins, HoldsAllBooks, AreFit}
-
--- of the tickets that a held book has finished, those that were seen are the first, and nothing else was seen of its writer
-abbrev pub SeenFirst : Pass → Type 0
-SeenFirst p = (k : ℕ) (b : Book) → Holds p k b → take (length (mine_from b.writer 0 p.seen)) b.mine ≡ mine_from b.writer 0 p.seen
+use Rattle.cf_table.specs.Moves.{Begins, HoldsAllBooks, AreFit, SeenFirst}
 
 -- The pass asked once: the read tail was loaded for an ask, and as many entries are seen then, with those seen before as their beginning. All else that it holds is as it was, and while all books are home no entry is new.
 pub record HasAsked (shape : ShapeValue) (before after : PassValue) : Type 0 where

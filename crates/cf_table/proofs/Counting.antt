@@ -12,7 +12,7 @@ use Rattle.cf_law.specs.Steps.{Holds, without, joined_pass}
 use Rattle.cf_law.specs.Shapes.{layout}
 use Rattle.cf_law.specs.Readers.{AtHome, mine_from}
 use Rattle.cf_table.specs.Values.{PassValue}
-use Rattle.cf_table.specs.Moves.{Begins, HasFolded, HoldsAllBooks, HasAll, tickets_in}
+use Rattle.cf_table.specs.Moves.{Begins, HasFolded, HoldsAllBooks, HasAll, SeenFirst, tickets_in}
 use Rattle.cf_table.proofs.Seen.{grown}
 use Rattle.cf_table.proofs.Folds.{all_of, home_stays}
 
@@ -163,10 +163,6 @@ begins_at [] ys o e b at = absurd (cc at)
 begins_at (x ∷ xs) [] o e b at = absurd (cc b)
 begins_at (x ∷ xs) (y ∷ ys) zero e b at = (let f : y ≡ x = cc b in ap (λ (z : Entry). Some z) f ∙ at)
 begins_at (x ∷ xs) (y ∷ ys) (suc o) e b at = begins_at xs ys o e (cc b) at
-
--- of each book's finished tickets those that were seen are the first
-abbrev pub SeenFirst : Pass → Type 0
-SeenFirst q = (k : ℕ) (b : Book) → Holds q k b → take (length (mine_from b.writer 0 q.seen)) b.mine ≡ mine_from b.writer 0 q.seen
 
 -- where all tickets of all books were seen, a pass with these books has seen no more
 no_more : (shape : ShapeValue) (p q : Pass) → HoldsAllBooks shape p → q.books ≡ p.books → AreBelow shape.writers p.seen → AreBelow shape.writers q.seen → SeenFirst q → length q.seen ≤ length p.seen

@@ -41,6 +41,10 @@ pub record AreNoted (notes : List Note) (books : List Book) (nodes : ℕ) : Type
 abbrev pub HasAll : Pass → Type 0
 HasAll p = (k : ℕ) (b : Book) → Holds p k b → b.mine ≡ mine_from b.writer 0 p.seen
 
+-- of the tickets that a held book has finished, those that were seen are the first, and nothing else was seen of its writer
+abbrev pub SeenFirst : Pass → Type 0
+SeenFirst p = (k : ℕ) (b : Book) → Holds p k b → take (length (mine_from b.writer 0 p.seen)) b.mine ≡ mine_from b.writer 0 p.seen
+
 -- all books are held, one for each writer and at rest, and all that they have finished was seen
 pub record HoldsAllBooks (shape : ShapeValue) (pass : Pass) : Type 0 where
   pub home : AtHome (layout shape) pass

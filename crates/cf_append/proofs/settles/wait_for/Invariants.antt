@@ -1,6 +1,6 @@
 use Rattle.std.proofs.Common.{◌≡◌, ◌⊎◌}
-use Rattle.cf_append.specs.Appends.{GoesOn, Stops, Rests, SeenFirst}
-use Rattle.cf_table.specs.Moves.{HasAll}
+use Rattle.cf_append.specs.Appends.{GoesOn, Stops, Rests}
+use Rattle.cf_table.specs.Moves.{HasAll, SeenFirst}
 use Rattle.cf_append.proofs.settles.wait_for.Given as goal
 
 abbrev pub invariant-loop : goal.invariant-loop
