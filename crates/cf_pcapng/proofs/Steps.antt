@@ -1,21 +1,24 @@
 -- What the bytes at the front show.
-use Rattle.std.proofs.Common.{◌≡◌, inl, inr, ℕ, ◌<◌, ◌≤◌, ◌+◌, List, [], ◌++◌, length, take, Result, Ok, Err, refl, sym, ap, subst, ◌∙◌, arith, length-append, length-take}
-use Rattle.std.proofs.lemmas.Bool.{cases_lt}
+use Rattle.std.proofs.Common.{◌≡◌, inl, inr, ℕ, ◌==◌, ◌<◌, ◌≤◌, ◌+◌, ◌*◌, List, [], ◌++◌, length, take, Result, Ok, Err, refl, sym, ap, subst, ◌∙◌, arith, length-append, length-take}
+use Rattle.std.proofs.lemmas.Bool.{cases_lt, cases_Bool}
 use Rattle.std.proofs.lemmas.List.{take-append-le}
 use Rattle.cf_pcap.specs.declared.form.Order.{Order}
 use Rattle.cf_pcap.specs.Capture.{FrameValue}
 use Rattle.cf_stream.specs.Format.{Found, Wants, Bad, Takes}
 use Rattle.cf_stream.specs.Stream.{IsStepper}
 use Rattle.cf_pcapng.specs.declared.fault.Flaw.{Flaw}
+use Rattle.cf_pcapng.specs.declared.fault.Flaw.TheVariants.{BadLength}
 use Rattle.cf_pcapng.specs.declared.fault.NgFault.{NgFault}
 use Rattle.cf_pcapng.specs.declared.head.Kind.{Kind}
+use Rattle.cf_pcapng.specs.declared.head.Kind.TheVariants.{SectionHeader, InterfaceDescription, EnhancedPacket, SimplePacket, Other}
 use Rattle.cf_pcapng.specs.declared.head.Head.{Head}
 use Rattle.cf_pcapng.specs.declared.head.Head.TheVariants.{Short, Flawed, Stands}
+use Rattle.cf_pcapng.specs.declared.interfaces.Interface.{Interface}
 use Rattle.cf_pcapng.specs.declared.content.Content.{Content}
 use Rattle.cf_pcapng.specs.declared.content.Content.TheVariants.{NewSection, NewInterface, Captures, Nothing}
-use Rattle.cf_pcapng.specs.Blocks.{least, head_of, content_of}
+use Rattle.cf_pcapng.specs.Blocks.{least, head_of, content_of, stated, last_total}
 use Rattle.cf_pcapng.specs.File.{State, fault_of, frames_of, after, block_found, found_at, step, pcapng}
-use Rattle.cf_pcapng.proofs.Heads.{below, not_below, head_short, head_stays, Standing, standing, at_least, least_12}
+use Rattle.cf_pcapng.proofs.Heads.{below, not_below, head_short, head_stays, Standing, standing, at_least, least_12, seen_size}
 
 abbrev pub Shown : Type 0
 Shown = Found State FrameValue NgFault
@@ -133,6 +136,70 @@ taken_least s bytes n items t taken =
     let size : least taken.kind ≤ n = at_least taken.kind n taken.stands.lawful in
     omega (arith, most, size)
 
+-- A block that gives a frame has 16 bytes at least.
+
+content_least : (interfaces : List Interface) (order : Order) (kind : Kind) (block : List ℕ) (k : ℕ) (content : Content) → stated interfaces order kind block ≡ Ok content → 16 * length (frames_of k content block) ≤ least kind
+content_least interfaces order SectionHeader block k content h = let few = frames_few k content block in omega (arith, few)
+content_least interfaces order InterfaceDescription block k content h = let few = frames_few k content block in omega (arith, few)
+content_least interfaces order EnhancedPacket block k content h = let few = frames_few k content block in omega (arith, few)
+content_least interfaces order SimplePacket block k content h = let few = frames_few k content block in omega (arith, few)
+content_least interfaces order Other block k content h = let is : content ≡ Nothing = cc h in rw is (omega arith)
+
+content_stated : (interfaces : List Interface) (order : Order) (kind : Kind) (block : List ℕ) (content : Content) → content_of interfaces order kind block ≡ Ok content → stated interfaces order kind block ≡ Ok content
+unfolding content_of
+content_stated interfaces order kind block content h = elim (cases_Bool (last_total order block == length block)) [
+  | inl same ↦ sym (rw same refl) ∙ h
+  | inr other ↦ absurd (no (sym (rw other refl) ∙ h))
+] where
+  no : ◌≡◌ {A = Result Content Flaw} (Err BadLength) (Ok content) → ⊥
+  no e = cc
+
+taken_few : (s : State) (bytes : List ℕ) (n : ℕ) (items : List FrameValue) (t : State) → Taken s bytes n items t → 16 * length items ≤ n
+taken_few s bytes n items t it =
+    let most : 16 * length (frames_of s.count it.content (take n bytes)) ≤ least it.kind =
+    content_least s.interfaces it.order it.kind (take n bytes) s.count it.content (content_stated s.interfaces it.order it.kind (take n bytes) it.content it.states) in
+    let size : least it.kind ≤ n = at_least it.kind n it.stands.lawful in
+    let same : length items ≡ length (frames_of s.count it.content (take n bytes)) = ap length it.items_are in
+    omega (arith, most, size, same)
+
+-- a block that bytes only begin is longer
+taken_total : (s : State) (bytes : List ℕ) (order : Order) (kind : Kind) (total n : ℕ) (items : List FrameValue) (t : State) → found_at s bytes (Stands order kind total) ≡ Takes n items t → total ≡ n
+taken_total s bytes order kind total n items t h = elim (cases_lt (length bytes) total) [
+  | inl short ↦ absurd (wants_not_takes n items t (sym (found_short s bytes order kind total short) ∙ h))
+  | inr whole ↦ by_content whole (content_of s.interfaces order kind (take total bytes)) (sym (found_whole s bytes order kind total whole) ∙ h)
+] where
+  by_content : total ≤ length bytes → (found : Result Content Flaw) → block_found s (take total bytes) found ≡ Takes n items t → total ≡ n
+  by_content whole (Err flaw) e = absurd (bad_not_takes (fault_of s.count flaw) n items t e)
+  by_content whole (Ok content) e =
+      sym (length_front total bytes whole) ∙ taken_size (length (take total bytes)) n (frames_of s.count content (take total bytes)) items (after s content) t e
+
+block_not_wants : (s : State) (block : List ℕ) (found : Result Content Flaw) → block_found s block found ≡ Wants → ⊥
+block_not_wants s block (Err flaw) h = wants_not_bad (fault_of s.count flaw) (sym h)
+block_not_wants s block (Ok content) h = wants_not_takes (length block) (frames_of s.count content block) (after s content) (sym h)
+
+late_at : (s : State) (bytes more : List ℕ) (n : ℕ) (items : List FrameValue) (t : State) (head : Head) → head_of s.order bytes ≡ head → step s bytes ≡ Wants → step s (bytes ++ more) ≡ Takes n items t → n ≤ length bytes → ⊥
+late_at s bytes more n items t Short is wants takes whole =
+    let some : 12 ≤ n = taken_least s (bytes ++ more) n items t (taken s (bytes ++ more) n items t takes) in
+    let short : length bytes < 12 = seen_size s.order bytes is in
+    omega (arith, some, whole, short)
+late_at s bytes more n items t (Flawed flaw) is wants takes whole = wants_not_bad (fault_of s.count flaw) (sym wants ∙ step_at s bytes (Flawed flaw) is)
+late_at s bytes more n items t (Stands order kind total) is wants takes whole = elim (cases_lt (length bytes) total) [
+  | inl short ↦
+      let same : head_of s.order (bytes ++ more) ≡ Stands order kind total = head_stays s.order bytes more (λ h. short_not_stands order kind total (sym h ∙ is)) ∙ is in
+      let one : total ≡ n = taken_total s (bytes ++ more) order kind total n items t (sym (step_at s (bytes ++ more) (Stands order kind total) same) ∙ takes) in
+      omega (arith, short, whole, one)
+  | inr long ↦ block_not_wants s (take total bytes) (content_of s.interfaces order kind (take total bytes))
+      (sym (found_whole s bytes order kind total long) ∙ (sym (step_at s bytes (Stands order kind total) is) ∙ wants))
+] where
+  short_not_stands : (order : Order) (kind : Kind) (total : ℕ) → Short ≡ Stands order kind total → ⊥
+  short_not_stands order kind total h = cc
+
+late : (s : State) (bytes more : List ℕ) (n : ℕ) (items : List FrameValue) (t : State) → step s bytes ≡ Wants → step s (bytes ++ more) ≡ Takes n items t → length bytes < n
+late s bytes more n items t wants takes = elim (cases_lt (length bytes) n) [
+  | inl short ↦ short
+  | inr whole ↦ absurd (late_at s bytes more n items t (head_of s.order bytes) refl wants takes whole)
+]
+
 step_nothing : (s : State) → step s [] ≡ Wants
 step_nothing s = step_at s [] Short (head_short s.order [] (omega arith))
 
@@ -144,12 +211,13 @@ stepper = record {
   bad_stays = bad_stays;
   takes_stays = takes_stays;
   size = λ s bytes n items t h. let it = taken s bytes n items t h in let some : 12 ≤ n = taken_least s bytes n items t it in (omega (arith, some), it.whole);
-  few = λ s bytes n items t h.
+  late = late;
+  one = λ s bytes n items t h.
       let it = taken s bytes n items t h in
-      let some : 12 ≤ n = taken_least s bytes n items t it in
       let one : length (frames_of s.count it.content (take n bytes)) ≤ 1 = frames_few s.count it.content (take n bytes) in
       let same : length items ≡ length (frames_of s.count it.content (take n bytes)) = ap length it.items_are in
-      omega (arith, some, one, same);
+      omega (arith, one, same);
+  few = λ s bytes n items t h. taken_few s bytes n items t (taken s bytes n items t h);
   counts = λ s bytes n items t h.
       let it = taken s bytes n items t h in
       let more : (after s it.content).count ≡ s.count + length (frames_of s.count it.content (take n bytes)) = counts s it.content (take n bytes) in

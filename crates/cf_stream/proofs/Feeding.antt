@@ -1,8 +1,8 @@
 -- What a call that takes one more piece gives and answers.
-use Rattle.std.proofs.Common.{◌≡◌, ◌⊎◌, inl, inr, ℕ, ◌<◌, ◌≤◌, ◌+◌, ◌^◌, true, false, List, [], ◌∷◌, ◌++◌, length, Ok, Err, sym, ap, subst, ◌∙◌, arith, append_assoc, append-nil, length-append}
+use Rattle.std.proofs.Common.{◌≡◌, ◌⊎◌, inl, inr, ℕ, ◌<◌, ◌≤◌, ◌+◌, ◌*◌, ◌^◌, true, false, List, [], ◌∷◌, ◌++◌, length, Ok, Err, sym, ap, subst, ◌∙◌, arith, append_assoc, append-nil, length-append}
 use Rattle.cf_stream.specs.Format.{Wants, Bad, Format, ReadsTo, Shows, seen, IsFound}
 use Rattle.cf_stream.specs.Stream.{IsStepper, early, AreGiven, Runs, IsFed, IsEnded}
-use Rattle.cf_stream.proofs.Units.{reads_nothing, reads_more, reads_on, reads_count, wants_none, bad_none}
+use Rattle.cf_stream.proofs.Units.{reads_nothing, reads_more, reads_on, reads_few, reads_count, wants_none, bad_none}
 use Rattle.cf_stream.proofs.Seen.{seen_short, seen_last, early_short, early_full}
 use Rattle.cf_stream.proofs.Cases.{none_shown, none_found, found_more, seen_shows, whole_of, cut_of}
 use Rattle.cf_stream.proofs.Given.{given_of, found_gives}
@@ -26,6 +26,7 @@ fed_short f is s rest stream piece given t end State runs size read wants keeps 
       before = runs.items;
       given_before = runs_given f s rest stream runs;
       given_now = given_of f (stream ++ piece) (stream ++ piece) (runs.items ++ given) t end (early_short (stream ++ piece) size) all (wants_none f t end wants);
+      few = reads_few f is s rest piece given t end runs.part read;
       answer_is = none_found f (stream ++ piece) (runs.items ++ given) t end size all wants;
       state = keeps (record { size = size; items = runs.items ++ given; read = all; part = wants });
     }
@@ -45,6 +46,7 @@ fed_fault {S} {I} {F} f is s rest stream piece late given t end fault State runs
       before = runs.items;
       given_before = runs_given f s rest stream runs;
       given_now = given_of f (stream ++ (piece ++ late)) (stream ++ piece) (runs.items ++ given) t end counts all (bad_none f t end fault bad);
+      few = (let h : 16 * length given ≤ length piece + 15 = reads_few f is s rest piece given t end runs.part read in let len = length-append piece late in omega (arith, h, len));
       answer_is = found;
       state = keeps found;
     }
@@ -65,6 +67,7 @@ fed_full {S} {I} {F} f is s rest stream piece byte late given t end more u left 
       before = runs.items;
       given_before = runs_given f s rest stream runs;
       given_now = given_of f (stream ++ (piece ++ (byte ∷ late))) (stream ++ piece) (runs.items ++ given) t end (ap early (sym same) ∙ early_full (stream ++ piece) (byte ∷ late) (omega (arith, size)) ∙ early_short (stream ++ piece) (omega (arith, size))) all (wants_none f t end wants);
+      few = (let h : 16 * length given ≤ length piece + 15 = reads_few f is s rest piece given t end runs.part read in let len = length-append piece (byte ∷ late) in omega (arith, h, len));
       answer_is = found;
       state = keeps found;
     }
@@ -77,6 +80,7 @@ fed_stopped f is stream piece fault State found keeps =
       before = gives.0;
       given_before = gives.1;
       given_now = subst (AreGiven f (stream ++ piece)) (sym (append-nil gives.0)) gives.2;
+      few = omega arith;
       answer_is = later;
       state = keeps later;
     }

@@ -1,5 +1,5 @@
 -- Units one after another.
-use Rattle.std.proofs.Common.{◌≡◌, ℕ, ◌<◌, ◌≤◌, ◌+◌, ◌-◌, zero, suc, List, [], ◌∷◌, ◌++◌, length, drop, refl, sym, ap, subst, ◌∙◌, arith, append_assoc, append-nil, length-append, length-drop}
+use Rattle.std.proofs.Common.{◌≡◌, ℕ, ◌<◌, ◌≤◌, ◌+◌, ◌-◌, ◌*◌, zero, suc, List, [], ◌∷◌, ◌++◌, length, drop, refl, sym, ap, subst, ◌∙◌, arith, append_assoc, append-nil, length-append, length-drop}
 use Rattle.std.proofs.lemmas.List.{drop-append-le}
 use Rattle.cf_stream.specs.Format.{Found, Wants, Bad, Takes, Format, Part, items_of, AreUnitsThen, ReadsTo}
 use Rattle.cf_stream.specs.Stream.{IsStepper}
@@ -24,16 +24,29 @@ pub items-append : {S I : Type 0} (parts more : List (Part S I)) → items_of (p
 items-append [] more = refl
 items-append (part ∷ parts) more = ap (λ xs. part.items ++ xs) (items-append parts more) ∙ sym (append_assoc part.items (items_of parts) (items_of more))
 
--- each item takes a byte at least
-pub sizes : {S I F : Type 0} (f : Format S I F) (is : IsStepper f) (s : S) (parts : List (Part S I)) (bytes : List ℕ) (t : S) (rest : List ℕ) → AreUnitsThen f s parts bytes t rest → length (items_of parts) + length rest ≤ length bytes
+-- each item takes 16 bytes at least
+pub sizes : {S I F : Type 0} (f : Format S I F) (is : IsStepper f) (s : S) (parts : List (Part S I)) (bytes : List ℕ) (t : S) (rest : List ℕ) → AreUnitsThen f s parts bytes t rest → 16 * length (items_of parts) + length rest ≤ length bytes
 sizes f is s [] bytes t rest h = let same : length bytes ≡ length rest = ap length h.1 in omega (arith, same)
 sizes f is s (part ∷ parts) bytes t rest h =
-    let more : length (items_of parts) + length rest ≤ length (drop part.size bytes) = sizes f is part.after parts (drop part.size bytes) t rest h.1 in
+    let more : 16 * length (items_of parts) + length rest ≤ length (drop part.size bytes) = sizes f is part.after parts (drop part.size bytes) t rest h.1 in
     let len : length (drop part.size bytes) ≡ length bytes - part.size = length-drop part.size bytes in
     let fits : part.size ≤ length bytes = (is.size s bytes part.size part.items part.after h.0).1 in
-    let few : length part.items ≤ part.size = is.few s bytes part.size part.items part.after h.0 in
+    let few : 16 * length part.items ≤ part.size = is.few s bytes part.size part.items part.after h.0 in
     let many : length (part.items ++ items_of parts) ≡ length part.items + length (items_of parts) = length-append part.items (items_of parts) in
     omega (arith, more, len, fits, few, many)
+
+-- where the bytes before a piece only begin a unit, the units that end in the piece are few
+ended_few : {S I F : Type 0} (f : Format S I F) (is : IsStepper f) (s : S) (parts : List (Part S I)) (rest piece : List ℕ) (t : S) (end : List ℕ) → f.step s rest ≡ Wants → AreUnitsThen f s parts (rest ++ piece) t end → 16 * length (items_of parts) ≤ length piece + 15
+ended_few f is s [] rest piece t end wants h = omega arith
+ended_few f is s (part ∷ parts) rest piece t end wants h =
+    let more : 16 * length (items_of parts) + length end ≤ length (drop part.size (rest ++ piece)) = sizes f is part.after parts (drop part.size (rest ++ piece)) t end h.1 in
+    let len : length (drop part.size (rest ++ piece)) ≡ length (rest ++ piece) - part.size = length-drop part.size (rest ++ piece) in
+    let both : length (rest ++ piece) ≡ length rest + length piece = length-append rest piece in
+    let fits : part.size ≤ length (rest ++ piece) = (is.size s (rest ++ piece) part.size part.items part.after h.0).1 in
+    let late : length rest < part.size = is.late s rest piece part.size part.items part.after wants h.0 in
+    let one : length part.items ≤ 1 = is.one s (rest ++ piece) part.size part.items part.after h.0 in
+    let many : length (part.items ++ items_of parts) ≡ length part.items + length (items_of parts) = length-append part.items (items_of parts) in
+    omega (arith, more, len, both, fits, late, one, many)
 
 pub counted : {S I F : Type 0} (f : Format S I F) (is : IsStepper f) (s : S) (parts : List (Part S I)) (bytes : List ℕ) (t : S) (rest : List ℕ) → AreUnitsThen f s parts bytes t rest → f.count t ≡ f.count s + length (items_of parts)
 counted f is s [] bytes t rest h = let same : f.count s ≡ f.count t = ap f.count h.0 in omega (arith, same)
@@ -105,9 +118,15 @@ reads_one f s bytes n items t h = record {
 
 pub reads_fit : {S I F : Type 0} (f : Format S I F) (is : IsStepper f) (s : S) (bytes : List ℕ) (items : List I) (t : S) (rest : List ℕ) → ReadsTo f s bytes items t rest → length items + length rest ≤ length bytes
 reads_fit f is s bytes items t rest h =
-    let most : length (items_of h.parts) + length rest ≤ length bytes = sizes f is s h.parts bytes t rest h.units in
+    let most : 16 * length (items_of h.parts) + length rest ≤ length bytes = sizes f is s h.parts bytes t rest h.units in
     let same : length items ≡ length (items_of h.parts) = ap length h.items_are in
     omega (arith, most, same)
+
+pub reads_few : {S I F : Type 0} (f : Format S I F) (is : IsStepper f) (s : S) (rest piece : List ℕ) (items : List I) (t : S) (end : List ℕ) → f.step s rest ≡ Wants → ReadsTo f s (rest ++ piece) items t end → 16 * length items ≤ length piece + 15
+reads_few f is s rest piece items t end wants h =
+    let few : 16 * length (items_of h.parts) ≤ length piece + 15 = ended_few f is s h.parts rest piece t end wants h.units in
+    let same : length items ≡ length (items_of h.parts) = ap length h.items_are in
+    omega (arith, few, same)
 
 pub reads_count : {S I F : Type 0} (f : Format S I F) (is : IsStepper f) (s : S) (bytes : List ℕ) (items : List I) (t : S) (rest : List ℕ) → ReadsTo f s bytes items t rest → f.count t ≡ f.count s + length items
 reads_count f is s bytes items t rest h = counted f is s h.parts bytes t rest h.units ∙ ap (λ (xs : List _). f.count s + length xs) (sym h.items_are)

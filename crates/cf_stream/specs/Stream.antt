@@ -1,16 +1,19 @@
 -- What a reader of a format gives and answers over a stream, however it is cut.
-use Rattle.std.specs.Prelude.{◌≡◌, ℕ, ◌+◌, ◌-◌, ◌^◌, ◌<◌, ◌≤◌, List, [], ◌++◌, length, take, Result, MatchResult}
+use Rattle.std.specs.Prelude.{◌≡◌, ℕ, ◌+◌, ◌-◌, ◌^◌, ◌<◌, ◌≤◌, List, [], ◌++◌, length, take, Result, MatchResult, ◌*◌}
 use Rattle.cf_stream.specs.Format.{Wants, Bad, Takes, Format, ReadsTo, IsWhole, IsFound, HasFault}
 
--- what makes a format one that can be read as a stream: no bytes show nothing, what the bytes at the front show stays when more bytes follow, a
--- unit has a byte for each item at least, and the items are counted
+-- What makes a format one that can be read as a stream: no bytes show nothing; what the bytes at the front show stays when more
+-- bytes follow, and a unit that they only begin is longer; a unit gives one item at most, and has 16 bytes then; and the items are
+-- counted.
 pub record IsStepper {S I F : Type 0} (f : Format S I F) : Type 0 where
   pub none : f.count f.start ≡ 0
   pub nothing : (s : S) → f.step s [] ≡ Wants
   pub bad_stays : (s : S) (bytes more : List ℕ) (fault : F) → f.step s bytes ≡ Bad fault → f.step s (bytes ++ more) ≡ Bad fault
   pub takes_stays : (s : S) (bytes more : List ℕ) (n : ℕ) (items : List I) (t : S) → f.step s bytes ≡ Takes n items t → f.step s (bytes ++ more) ≡ Takes n items t
   pub size : (s : S) (bytes : List ℕ) (n : ℕ) (items : List I) (t : S) → f.step s bytes ≡ Takes n items t → (0 < n) × (n ≤ length bytes)
-  pub few : (s : S) (bytes : List ℕ) (n : ℕ) (items : List I) (t : S) → f.step s bytes ≡ Takes n items t → length items ≤ n
+  pub late : (s : S) (bytes more : List ℕ) (n : ℕ) (items : List I) (t : S) → f.step s bytes ≡ Wants → f.step s (bytes ++ more) ≡ Takes n items t → length bytes < n
+  pub one : (s : S) (bytes : List ℕ) (n : ℕ) (items : List I) (t : S) → f.step s bytes ≡ Takes n items t → length items ≤ 1
+  pub few : (s : S) (bytes : List ℕ) (n : ℕ) (items : List I) (t : S) → f.step s bytes ≡ Takes n items t → 16 * length items ≤ n
   pub counts : (s : S) (bytes : List ℕ) (n : ℕ) (items : List I) (t : S) → f.step s bytes ≡ Takes n items t → f.count t ≡ f.count s + length items
 
 -- the bytes of a stream that come early enough for an item: the byte that makes it 2^32 bytes long comes with a fault
@@ -31,11 +34,13 @@ pub record Runs {S I F : Type 0} (f : Format S I F) (s : S) (rest stream : List 
   pub read : ReadsTo f f.start stream items s rest
   pub part : f.step s rest ≡ Wants
 
--- what a call that takes one more piece gives and answers; `State` tells the state of the reader after it
+-- What a call that takes one more piece gives and answers; `State` tells the state of the reader after it. Each item needs the last
+-- byte of its unit in this piece, and only the first of the units can have begun before it.
 pub record IsFed {S I F : Type 0} (f : Format S I F) (stream piece : List ℕ) (given : List I) (answer : Result (Unit {0}) F) (State : List ℕ → Type 0) : Type 0 where
   pub before : List I
   pub given_before : AreGiven f stream before
   pub given_now : AreGiven f (stream ++ piece) (before ++ given)
+  pub few : 16 * length given ≤ length piece + 15
   pub answer_is : MatchResult answer (λ _. (fault : F) → IsFound f (stream ++ piece) fault → ⊥) (IsFound f (stream ++ piece))
   pub state : State (stream ++ piece)
 
