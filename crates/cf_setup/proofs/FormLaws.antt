@@ -1,7 +1,8 @@
 -- What form a statement may have.
-use Rattle.std.proofs.Common.{◌≡◌, ℕ, List, Bool, true, false, not, cond, codes, Option, Some, None, refl, ap, ◌∙◌, subst}
+use Rattle.std.proofs.Common.{◌≡◌, ℕ, List, Bool, true, false, not, cond, codes, Option, Some, None, refl, sym, ap, ◌∙◌, subst, is_some}
 use Rattle.std.specs.Option.{option_map}
 use Rattle.std.specs.Str.{bytes_eq}
+use Rattle.std.proofs.lemmas.Bool.{false≢true}
 use Rattle.std.proofs.lemmas.Option.{option_and_then_some}
 use Rattle.cf_row.specs.declared.expr.Op.{Op}
 use Rattle.cf_row.specs.Expr.{is_within}
@@ -11,40 +12,15 @@ use Rattle.cf_setup.specs.declared.statement.Statement.TheVariants as statements
 use Rattle.cf_setup.specs.declared.statement.Question.{Question}
 use Rattle.cf_setup.specs.declared.statement.Question.TheVariants as questions
 use Rattle.cf_setup.specs.Lines.{is_blank, next_word, last_word, new_name}
-use Rattle.cf_setup.specs.Forms.{Form, part_named, sign_named, question_named, schema_words, three_words, question_form, form_at}
+use Rattle.cf_setup.specs.Forms.{Form, is_schema_form, part_named, sign_named, question_named, schema_words, three_words, question_form, form_at}
 use Rattle.cf_setup.specs.Forms.Form.{packet_schema, record_schema, bucket_width, new_index, new_filter, new_aggregate, new_trigger, ask_list, ask_find, ask_between, ask_measure, ask_fired, ask_live}
-use Rattle.cf_setup.specs.SetupText.{is_schema_statement}
-
-abbrev pub is_schema_form : Form → Bool
-is_schema_form packet_schema = true
-is_schema_form (record_schema list) = true
-is_schema_form (bucket_width number) = false
-is_schema_form (new_index name attr) = false
-is_schema_form (new_filter name expr) = false
-is_schema_form (new_aggregate name filter attr) = false
-is_schema_form (new_trigger name aggregate part op number) = false
-is_schema_form (ask_list name expr) = false
-is_schema_form (ask_find name index low high) = false
-is_schema_form (ask_between name filter low high) = false
-is_schema_form (ask_measure name aggregate low high) = false
-is_schema_form (ask_fired name trigger) = false
-is_schema_form (ask_live ask) = false
+use Rattle.cf_setup.specs.Drafts.{DraftValue}
+use Rattle.cf_setup.specs.SetupText.{is_schema_statement, is_later, is_in_place}
 
 -- a trigger's operator is one of the six
 abbrev pub has_sign : Form → Bool
-has_sign packet_schema = true
-has_sign (record_schema list) = true
-has_sign (bucket_width number) = true
-has_sign (new_index name attr) = true
-has_sign (new_filter name expr) = true
-has_sign (new_aggregate name filter attr) = true
 has_sign (new_trigger name aggregate part op number) = not (is_within op)
-has_sign (ask_list name expr) = true
-has_sign (ask_find name index low high) = true
-has_sign (ask_between name filter low high) = true
-has_sign (ask_measure name aggregate low high) = true
-has_sign (ask_fired name trigger) = true
-has_sign (ask_live ask) = true
+has_sign _ = true
 
 pub record Fits (statement : Statement) (form : Form) : Type 0 where
   pub kind : is_schema_form form ≡ is_schema_statement statement
@@ -111,3 +87,11 @@ form_fits statements.Ask text form h =
     option_and_then_some _ (question_named word.0) form l (λ question g m.
     question_fits question name.0 word.1 form m)))
 form_fits statements.Live text form h = let m = mapped ask_live (last_word text) form h in fits_as statements.Live form (ask_live m.0) m.1 refl refl
+
+-- after the schema's statement the schema is stated
+pub stated_before : (before : DraftValue) (statement : Statement) (text : List ℕ) (form : Form) → form_at statement text ≡ Some form → is_in_place before statement ≡ true → is_schema_form form ≡ false → is_some before.schema ≡ true
+stated_before before statement text form h place other = by (is_some before.schema) place
+  where
+    by : (b : Bool) → cond b (is_later before statement) (is_schema_statement statement) ≡ true → b ≡ true
+    by true k = refl
+    by false k = let fits = form_fits statement text form h in absurd (false≢true (sym other ∙ fits.kind ∙ k))

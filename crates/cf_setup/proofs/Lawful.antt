@@ -28,7 +28,7 @@ use Rattle.cf_setup.specs.Lines.{is_silent, word_at}
 use Rattle.cf_setup.specs.Drafts.{DraftValue, nothing_stated, attrs_of, with_lane, with_trigger, with_ask, index_over, filter_by, aggregate_by}
 use Rattle.cf_setup.specs.Setups.{settled, shaped, IsSetup, IsDraft}
 use Rattle.cf_setup.specs.Few.{IsFew}
-use Rattle.cf_setup.specs.Forms.{Form}
+use Rattle.cf_setup.specs.Forms.{Form, is_schema_form}
 use Rattle.cf_setup.specs.Forms.Form.{packet_schema, record_schema, bucket_width, new_index, new_filter, new_aggregate, new_trigger, ask_list, ask_find, ask_between, ask_measure, ask_fired, ask_live}
 use Rattle.cf_setup.specs.Named.{place_in, is_index, is_filter, is_aggregate, lane_named, trigger_named}
 use Rattle.cf_setup.specs.Rules.{rules, IsBroken}
@@ -37,7 +37,7 @@ use Rattle.cf_setup.specs.SetupText.{is_schema_statement, is_later, is_in_place,
 use Rattle.cf_setup.specs.SetupText.Breaks.{misplaced, ruled}
 use Rattle.cf_setup.specs.Reading.{line_read, said}
 use Rattle.cf_setup.proofs.LineReads.{line_only}
-use Rattle.cf_setup.proofs.FormLaws.{is_schema_form, has_sign, form_fits}
+use Rattle.cf_setup.proofs.FormLaws.{has_sign, form_fits}
 
 -- lists
 
@@ -253,7 +253,8 @@ module _ (before : DraftValue) (attrs : List Attr) (is : IsSetup (settled before
   index_there name found c w n h =
       let there = lane_there is_index name found c w n h in
       let lane : Lane = lane_at (shaped (settled before attrs) c w n) found.0 in
-      and_from (exists (shaped (settled before attrs) c w n) found.0) (is_attr lane.key) there.0 there.1
+      let both = and_parts (is_attr lane.key) (not (is_some lane.measure)) there.1 in
+      and_from (exists (shaped (settled before attrs) c w n) found.0) (is_attr lane.key) there.0 both.0
 
   trigger_suits : (name : List ℕ) (found : Trigger) (c w n : ℕ) → trigger_named before name ≡ Some found → suits_trigger (shaped (settled before attrs) c w n) found ≡ true
   trigger_suits name found c w n h =

@@ -1,5 +1,5 @@
 -- How statements are written.
-use Rattle.std.specs.Prelude.{ℕ, List, codes, Option, Some, None, if◌then◌else◌}
+use Rattle.std.specs.Prelude.{ℕ, ◌<◌, ◌^◌, Bool, true, false, List, length, All, codes, Option, Some, None, if◌then◌else◌}
 use Rattle.std.specs.Option.{option_map}
 use Rattle.std.specs.Str.{bytes_eq}
 use Rattle.cf_row.specs.declared.expr.Op.{Op}
@@ -12,6 +12,8 @@ use Rattle.cf_setup.specs.declared.statement.Statement.{Statement}
 use Rattle.cf_setup.specs.declared.statement.Statement.TheVariants as statements
 use Rattle.cf_setup.specs.declared.statement.Question.{Question}
 use Rattle.cf_setup.specs.declared.statement.Question.TheVariants as questions
+use Rattle.cf_setup.specs.declared.form.Form.{Form as Read}
+use Rattle.cf_setup.specs.declared.form.Form.TheVariants as reads
 use Rattle.cf_setup.specs.Lines.{is_blank, next_word, last_word, new_name}
 
 -- a statement in its form, with its words
@@ -150,3 +152,45 @@ form_at statements.Aggregate text = aggregate_form text
 form_at statements.Trigger text = trigger_form text
 form_at statements.Ask text = ask_form text
 form_at statements.Live text = live_form text
+
+-- a form, with the bytes of its words
+abbrev pub form_value : Read → Form
+form_value reads.PacketSchema = packet_schema
+form_value (reads.RecordSchema list) = record_schema list.now
+form_value (reads.Width number) = bucket_width number.now
+form_value (reads.Index name attr) = new_index name.now attr.now
+form_value (reads.Filter name expr) = new_filter name.now expr.now
+form_value (reads.Aggregate name filter attr) = new_aggregate name.now filter.now attr.now
+form_value (reads.Trigger name on) = new_trigger name.now on.aggregate.now on.part on.op on.number.now
+form_value (reads.List name expr) = ask_list name.now expr.now
+form_value (reads.Find name over) = ask_find name.now over.lane.now over.low.now over.high.now
+form_value (reads.Between name over) = ask_between name.now over.lane.now over.low.now over.high.now
+form_value (reads.Measure name over) = ask_measure name.now over.lane.now over.low.now over.high.now
+form_value (reads.Fired name trigger) = ask_fired name.now trigger.now
+form_value (reads.Live ask) = ask_live ask.now
+
+-- it states the schema
+abbrev pub is_schema_form : Form → Bool
+is_schema_form packet_schema = true
+is_schema_form (record_schema list) = true
+is_schema_form _ = false
+
+-- a new name has ASCII bytes alone
+abbrev pub IsAscii : List ℕ → Type 0
+IsAscii name = All (λ b. b < 128) name
+
+-- its new name is ASCII, and its expression has fewer than 2^32 bytes
+abbrev pub HasWords : Form → Type 0
+HasWords packet_schema = Unit {0}
+HasWords (record_schema list) = Unit {0}
+HasWords (bucket_width number) = Unit {0}
+HasWords (new_index name attr) = IsAscii name
+HasWords (new_filter name expr) = IsAscii name × (length expr < 2 ^ 32)
+HasWords (new_aggregate name filter attr) = IsAscii name
+HasWords (new_trigger name aggregate part op number) = IsAscii name
+HasWords (ask_list name expr) = IsAscii name × (length expr < 2 ^ 32)
+HasWords (ask_find name index low high) = IsAscii name
+HasWords (ask_between name filter low high) = IsAscii name
+HasWords (ask_measure name aggregate low high) = IsAscii name
+HasWords (ask_fired name trigger) = IsAscii name
+HasWords (ask_live ask) = Unit {0}

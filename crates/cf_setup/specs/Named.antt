@@ -27,9 +27,9 @@ is_among names name = list_any (λ other. bytes_eq other name) names
 abbrev pub is_taken : DraftValue → List ℕ → Bool
 is_taken before name = (is_among before.lane_names name || is_among before.trigger_names name) || is_among before.ask_names name
 
--- all rows by an attribute
+-- rows by an attribute, none measured
 abbrev pub is_index : Lane → Bool
-is_index lane = is_attr lane.key
+is_index lane = is_attr lane.key && not (is_some lane.measure)
 
 -- rows of an expression by their buckets
 abbrev pub is_filter : Lane → Bool

@@ -20,8 +20,13 @@ use Rattle.cf_filter.specs.Values.{◌>>=◌, value_at}
 use Rattle.cf_filter.specs.Reading.{attr_named}
 use Rattle.cf_filter.specs.Exprs.{expr_at}
 use Rattle.cf_setup.specs.declared.statement.Statement.{Statement}
+use Rattle.cf_setup.specs.declared.fault.Code.{Code}
+use Rattle.cf_setup.specs.declared.fault.Code.TheVariants as codes_of
+use Rattle.cf_setup.specs.declared.fault.LineFault.{LineFault}
+use Rattle.cf_setup.specs.declared.fault.LineFault.TheVariants.{Breaks, Memory as LineMemory}
 use Rattle.cf_setup.specs.declared.parse.SetupFault.{SetupFault}
 use Rattle.cf_setup.specs.declared.parse.SetupFault.TheVariants.{Bad, Memory}
+use Rattle.cf_setup.specs.Codes.{code_number}
 use Rattle.cf_setup.specs.Lines.{lines_of, is_silent, word_at}
 use Rattle.cf_setup.specs.Drafts.{DraftValue, nothing_stated, attrs_of, with_lane, with_trigger, with_ask, index_over, filter_by, aggregate_by}
 use Rattle.cf_setup.specs.Forms.{Form, statement_named, form_at}
@@ -204,20 +209,28 @@ Answers (Ok setup) read = read ≡ Ok setup
 Answers (Err (Bad line code)) read = read ≡ Err (line, code)
 Answers (Err Memory) read = Unit {0}
 
+-- what a line states, or its code; want of memory says nothing of it
+abbrev pub Takes : Result DraftValue LineFault → Result DraftValue ℕ → Type 0
+Takes (Ok new) read = read ≡ Ok new
+Takes (Err (Breaks code)) read = read ≡ Err (code_number code)
+Takes (Err LineMemory) read = Unit {0}
+
 -- the code of an offence
-abbrev pub code_of : Offence → ℕ
-code_of Syntax = 10
-code_of UnknownName = 11
-code_of BadOperator = 12
-code_of ValueRange = 13
-code_of TooLong = 14
+abbrev pub code_of : Offence → Code
+code_of Syntax = codes_of.Syntax
+code_of UnknownName = codes_of.UnknownName
+code_of BadOperator = codes_of.BadOperator
+code_of ValueRange = codes_of.ValueRange
+code_of TooLong = codes_of.TooLong
 
 -- an expression, or the code of its offence
-abbrev pub coded : Result (List (List Atom)) Stop → Result (List (List Atom)) ℕ
-coded (Ok expr) = Ok expr
-coded (Err stop) = Err (code_of stop.offence)
+abbrev pub ExprCoded : Result (List (List Atom)) Stop → Result (List (List Atom)) LineFault → Type 0
+ExprCoded read (Ok expr) = read ≡ Ok expr
+ExprCoded read (Err (Breaks code)) = (stop : Stop) × (read ≡ Err stop) × (code ≡ code_of stop.offence)
+ExprCoded read (Err LineMemory) = Unit {0}
 
 -- what an expression that is taken says of its rules
-abbrev pub ExprTaken : DraftValue → List ℕ → Result (List (List Atom)) ℕ → Type 0
+abbrev pub ExprTaken : DraftValue → List ℕ → Result (List (List Atom)) LineFault → Type 0
 ExprTaken before text (Ok expr) = (first_broken before (expr_rules text) ≡ None) × (expr_of before text ≡ Some expr)
-ExprTaken before text (Err code) = first_broken before (expr_rules text) ≡ Some code
+ExprTaken before text (Err (Breaks code)) = first_broken before (expr_rules text) ≡ Some (code_number code)
+ExprTaken before text (Err LineMemory) = Unit {0}

@@ -16,24 +16,13 @@ use Rattle.cf_setup.specs.Setups.{SetupValue, settled}
 -- it states the schema
 abbrev pub is_schema_statement : Statement → Bool
 is_schema_statement statements.Schema = true
-is_schema_statement statements.Width = false
-is_schema_statement statements.Index = false
-is_schema_statement statements.Filter = false
-is_schema_statement statements.Aggregate = false
-is_schema_statement statements.Trigger = false
-is_schema_statement statements.Ask = false
-is_schema_statement statements.Live = false
+is_schema_statement _ = false
 
 -- after the schema there is no other, and one width
 abbrev pub is_later : DraftValue → Statement → Bool
 is_later before statements.Schema = false
 is_later before statements.Width = not (is_some before.width)
-is_later before statements.Index = true
-is_later before statements.Filter = true
-is_later before statements.Aggregate = true
-is_later before statements.Trigger = true
-is_later before statements.Ask = true
-is_later before statements.Live = true
+is_later before _ = true
 
 -- the first statement is the schema's
 abbrev pub is_in_place : DraftValue → Statement → Bool

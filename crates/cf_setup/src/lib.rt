@@ -4,16 +4,31 @@
 //! rules they break are relations (`specs/SetupText.antt`), and `one_outcome` says that each text has just one outcome.
 #![tactic(auto)]
 
-mod codes;
+mod aggregate;
+mod ask;
+mod ask_between;
+mod ask_find;
+mod ask_fired;
+mod ask_list;
+mod ask_measure;
 mod draft;
+mod fault;
+mod filter;
+mod form;
+mod index;
 mod lines;
 mod list;
+mod live;
 mod parse;
+mod schema;
 mod setup;
 mod statement;
 mod take;
 #[cfg(test)]
 mod tests;
+mod trigger;
+mod values;
+mod width;
 
 pub use parse::{SetupFault, one_outcome, parse_setup};
 pub use setup::{Setup, shape_of};

@@ -1,5 +1,7 @@
 // From the bytes of a setup to the setup.
 ghost use Rattle.std.specs.Prelude.{◌≡◌, ℕ, List, ◌≤◌, ◌<◌, length, IfOk, Result};
+ghost use Rattle.cf_setup.specs.declared.parse.SetupFault.TheVariants.{Bad};
+ghost use Rattle.cf_setup.specs.Codes.{code_number};
 ghost use Rattle.cf_setup.specs.Lines.{lines_of};
 ghost use Rattle.cf_setup.specs.Drafts.{nothing_stated};
 ghost use Rattle.cf_setup.specs.Reading.{setup_at, setup_from, settled_or, Answers};
@@ -7,10 +9,11 @@ ghost use Rattle.cf_setup.specs.Setups.{SetupValue, IsSetup, IsDraft};
 ghost use Rattle.cf_setup.specs.SetupText.{SetupText};
 ghost use Rattle.cf_filter.specs.Grammar.{Only};
 
+use crate::Setup;
 use crate::draft::Draft;
+use crate::fault::{Code, LineFault};
 use crate::lines::first_line;
 use crate::take::take_said;
-use crate::{Setup, codes};
 use cf_filter::unspaced;
 use std::alloc::Global;
 use thiserror::Error;
@@ -28,6 +31,15 @@ pub enum SetupFault {
     /// Want of memory.
     #[error("out of memory")]
     Memory,
+}
+
+fn broken(line: u32, code: Code) -> SetupFault
+    ensures { result ≡ Bad line (code_number code) }
+{
+    SetupFault::Bad {
+        line,
+        code: code.number(),
+    }
 }
 
 impl Draft {
@@ -50,10 +62,7 @@ impl Draft {
             ask_names,
         } = self;
         let Some(schema) = schema else {
-            return Err(SetupFault::Bad {
-                line,
-                code: codes::BAD_STATEMENT,
-            });
+            return Err(broken(line, Code::BadStatement));
         };
         Ok(Setup {
             packet,
@@ -81,9 +90,9 @@ fn read_lines(alloc: Global, bytes: &[u8]) -> Result<Setup, SetupFault>
     while !rest.is_empty() {
         let (line, next) = first_line(rest);
         draft = match take_said(alloc, number, draft, unspaced(line)) {
-            Ok(Ok(stated)) => stated,
-            Ok(Err(code)) => return Err(SetupFault::Bad { line: number, code }),
-            Err(_) => return Err(SetupFault::Memory),
+            Ok(stated) => stated,
+            Err(LineFault::Breaks(code)) => return Err(broken(number, code)),
+            Err(LineFault::Memory) => return Err(SetupFault::Memory),
         };
         rest = next;
         number += 1;
@@ -95,10 +104,7 @@ fn read_setup(alloc: Global, bytes: &[u8]) -> Result<Setup, SetupFault>
     ensures { Answers result (setup_at bytes.now) }
 {
     if bytes.len() > 65_536 {
-        return Err(SetupFault::Bad {
-            line: 0,
-            code: codes::TOO_MANY,
-        });
+        return Err(broken(0, Code::TooMany));
     }
     read_lines(alloc, bytes)
 }

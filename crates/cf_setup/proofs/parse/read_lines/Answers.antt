@@ -1,6 +1,7 @@
 use Rattle.std.proofs.Common.{◌≡◌, length, Ok, Err, sym, ◌∙◌, ap, arith, subst}
 use Rattle.std.proofs.lemmas.Bool.{eqb-true}
 use Rattle.cf_filter.specs.Tokens.{unspaced}
+use Rattle.cf_setup.specs.Codes.{code_number}
 use Rattle.cf_setup.specs.Lines.{lines_of}
 use Rattle.cf_setup.specs.Drafts.{nothing_stated}
 use Rattle.cf_setup.specs.Reading.{setup_from, settled_or, said, Answers}
@@ -11,19 +12,19 @@ use Rattle.cf_setup.proofs.parse.read_lines.Goals as goal
 pub take_said-requires-clause-few : goal.take_said-requires-clause-few
 take_said-requires-clause-few c = draft_few c.loop-rest.draft c.loop-rest.invariant.draft
 
-pub returns-in-Ok-Err : goal.returns-in-Ok-Err
-returns-in-Ok-Err c =
+pub returns-in-Err-Breaks : goal.returns-in-Err-Breaks
+returns-in-Err-Breaks c =
     let line = c.first_line.result.0.now in
     let next = c.first_line.result.1.now in
-    let read : said c.loop-rest.number c.loop-rest.draft (unspaced line) ≡ Err c.in-Ok-Err.code = ap (said c.loop-rest.number c.loop-rest.draft) (sym c.unspaced.ensures) ∙ sym (rw c.in-Ok-Err.field-0-is at c.in-Ok-Err.ensures) in
-    sym c.loop-rest.invariant.read ∙ line_err c.loop-rest.number c.in-Ok-Err.code c.loop-rest.draft c.loop-rest.rest.now line next c.first_line.ensures.line read
+    let read : said c.loop-rest.number c.loop-rest.draft (unspaced line) ≡ Err (code_number c.in-Err-Breaks.code) = ap (said c.loop-rest.number c.loop-rest.draft) (sym c.unspaced.ensures) ∙ c.in-Err-Breaks.ensures in
+    sym c.loop-rest.invariant.read ∙ line_err c.loop-rest.number (code_number c.in-Err-Breaks.code) c.loop-rest.draft c.loop-rest.rest.now line next c.first_line.ensures.line read
 
 pub loop-rest-preserved : goal.loop-rest-preserved
 loop-rest-preserved c =
     let line = c.first_line.result.0.now in
     let next = c.first_line.result.1.now in
-    let new = c.in-Ok-Ok.stated in
-    let read : said c.loop-rest.number c.loop-rest.draft (unspaced line) ≡ Ok new = ap (said c.loop-rest.number c.loop-rest.draft) (sym c.unspaced.ensures) ∙ sym (rw c.in-Ok-Ok.field-0-is at c.in-Ok-Ok.ensures) in
+    let new = c.in-Ok.stated in
+    let read : said c.loop-rest.number c.loop-rest.draft (unspaced line) ≡ Ok new = ap (said c.loop-rest.number c.loop-rest.draft) (sym c.unspaced.ensures) ∙ c.in-Ok.ensures in
     record {
       read = sym (line_ok c.loop-rest.number c.loop-rest.draft new c.loop-rest.rest.now line next c.first_line.ensures.line read) ∙ c.loop-rest.invariant.read;
       draft = said_lawful c.loop-rest.number c.loop-rest.draft (unspaced line) new c.loop-rest.invariant.draft read;

@@ -1,0 +1,65 @@
+// `ask NAME`, and then a question.
+ghost use Rattle.std.specs.Prelude.{◌≡◌, ◌<◌, ◌^◌, length, All, IfSome};
+ghost use Rattle.std.specs.Option.{option_map};
+ghost use Rattle.cf_setup.specs.Forms.{ask_form as ask_form_of, question_form as question_form_of, three_words, form_value, HasWords};
+
+use crate::form::Form;
+use crate::lines::{last_word, new_name, next_word};
+use crate::statement::{Question, question_of};
+
+/// The words of a lane and of the two ends of a range.
+#[derive(Clone, Copy, Debug)]
+pub(crate) struct Range<'a> {
+    pub(crate) lane: &'a [u8],
+    pub(crate) low: &'a [u8],
+    pub(crate) high: &'a [u8],
+}
+
+// A lane and two ends, which nothing follows.
+fn range_of(text: &[u8]) -> Option<Range>
+    ensures { option_map (λ x. (x.lane.now, x.low.now, x.high.now)) result ≡ three_words text.now }
+{
+    let (lane, rest) = next_word(text)?;
+    let (low, rest) = next_word(rest)?;
+    let high = last_word(rest)?;
+    Some(Range { lane, low, high })
+}
+
+// What follows the kind of the question.
+fn question_form<'a>(question: Question, name: &'a [u8], text: &'a [u8]) -> Option<Form<'a>>
+    requires ascii { All (λ b. b < 128) name.now }
+    requires size { length text.now < 2 ^ 32 }
+    ensures form { option_map form_value result ≡ question_form_of question name.now text.now }
+    ensures words { IfSome result (λ form. HasWords (form_value form)) }
+{
+    match question {
+        Question::List => Some(Form::List { name, expr: text }),
+        Question::Find => Some(Form::Find {
+            name,
+            over: range_of(text)?,
+        }),
+        Question::Between => Some(Form::Between {
+            name,
+            over: range_of(text)?,
+        }),
+        Question::Measure => Some(Form::Measure {
+            name,
+            over: range_of(text)?,
+        }),
+        Question::Fired => Some(Form::Fired {
+            name,
+            trigger: last_word(text)?,
+        }),
+    }
+}
+
+pub(crate) fn ask_form<'a>(text: &'a [u8]) -> Option<Form<'a>>
+    requires { length text.now < 2 ^ 32 }
+    ensures form { option_map form_value result ≡ ask_form_of text.now }
+    ensures words { IfSome result (λ form. HasWords (form_value form)) }
+{
+    let (name, rest) = new_name(text)?;
+    let (word, rest) = next_word(rest)?;
+    let question = question_of(word)?;
+    question_form(question, name, rest)
+}

@@ -1,0 +1,84 @@
+// Statements in their forms.
+ghost use Rattle.std.specs.Prelude.{◌≡◌, ◌<◌, ◌^◌, length, IfSome};
+ghost use Rattle.std.specs.Option.{option_map};
+ghost use Rattle.cf_setup.specs.Forms.{form_at, form_value, HasWords};
+
+use crate::aggregate::aggregate_form;
+use crate::ask::{Range, ask_form};
+use crate::filter::filter_form;
+use crate::index::index_form;
+use crate::live::live_form;
+use crate::schema::schema_form;
+use crate::statement::Statement;
+use crate::trigger::{Condition, trigger_form};
+use crate::width::width_form;
+
+/// A statement in its form, with its words. What its rules are and what it adds stands in the file of each statement.
+#[derive(Clone, Copy, Debug)]
+pub(crate) enum Form<'a> {
+    PacketSchema,
+    RecordSchema {
+        list: &'a [u8],
+    },
+    Width {
+        number: &'a [u8],
+    },
+    Index {
+        name: &'a [u8],
+        attr: &'a [u8],
+    },
+    Filter {
+        name: &'a [u8],
+        expr: &'a [u8],
+    },
+    Aggregate {
+        name: &'a [u8],
+        filter: &'a [u8],
+        attr: &'a [u8],
+    },
+    Trigger {
+        name: &'a [u8],
+        on: Condition<'a>,
+    },
+    List {
+        name: &'a [u8],
+        expr: &'a [u8],
+    },
+    Find {
+        name: &'a [u8],
+        over: Range<'a>,
+    },
+    Between {
+        name: &'a [u8],
+        over: Range<'a>,
+    },
+    Measure {
+        name: &'a [u8],
+        over: Range<'a>,
+    },
+    Fired {
+        name: &'a [u8],
+        trigger: &'a [u8],
+    },
+    Live {
+        ask: &'a [u8],
+    },
+}
+
+/// The statement that follows its first word, if it is in its form.
+pub(crate) fn form_of<'a>(statement: Statement, text: &'a [u8]) -> Option<Form<'a>>
+    requires { length text.now < 2 ^ 32 }
+    ensures form { option_map form_value result ≡ form_at statement text.now }
+    ensures words { IfSome result (λ form. HasWords (form_value form)) }
+{
+    match statement {
+        Statement::Schema => schema_form(text),
+        Statement::Width => width_form(text),
+        Statement::Index => index_form(text),
+        Statement::Filter => filter_form(text),
+        Statement::Aggregate => aggregate_form(text),
+        Statement::Trigger => trigger_form(text),
+        Statement::Ask => ask_form(text),
+        Statement::Live => live_form(text),
+    }
+}
