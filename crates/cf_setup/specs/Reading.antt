@@ -215,6 +215,11 @@ Takes (Ok new) read = read ≡ Ok new
 Takes (Err (Breaks code)) read = read ≡ Err (code_number code)
 Takes (Err LineMemory) read = Unit {0}
 
+-- the fault of a setup whose first faulty line is that one
+abbrev pub fault_at : ℕ → LineFault → SetupFault
+fault_at line (Breaks code) = Bad line (code_number code)
+fault_at line LineMemory = Memory
+
 -- the code of an offence
 abbrev pub code_of : Offence → Code
 code_of Syntax = codes_of.Syntax

@@ -4,7 +4,7 @@ ghost use Rattle.cf_setup.specs.declared.parse.SetupFault.TheVariants.{Bad};
 ghost use Rattle.cf_setup.specs.Codes.{code_number};
 ghost use Rattle.cf_setup.specs.Lines.{lines_of};
 ghost use Rattle.cf_setup.specs.Drafts.{nothing_stated};
-ghost use Rattle.cf_setup.specs.Reading.{setup_at, setup_from, settled_or, Answers};
+ghost use Rattle.cf_setup.specs.Reading.{setup_at, setup_from, settled_or, fault_at, Answers};
 ghost use Rattle.cf_setup.specs.Setups.{SetupValue, IsSetup, IsDraft};
 ghost use Rattle.cf_setup.specs.SetupText.{SetupText};
 ghost use Rattle.cf_filter.specs.Grammar.{Only};
@@ -39,6 +39,18 @@ fn broken(line: u32, code: Code) -> SetupFault
     SetupFault::Bad {
         line,
         code: code.number(),
+    }
+}
+
+impl LineFault {
+    // The fault of the setup whose first faulty line is that one.
+    fn at(self, line: u32) -> SetupFault
+        ensures { result ≡ fault_at line self }
+    {
+        match self {
+            LineFault::Breaks(code) => broken(line, code),
+            LineFault::Memory => SetupFault::Memory,
+        }
     }
 }
 
@@ -91,8 +103,7 @@ fn read_lines(alloc: Global, bytes: &[u8]) -> Result<Setup, SetupFault>
         let (line, next) = first_line(rest);
         draft = match take_said(alloc, number, draft, unspaced(line)) {
             Ok(stated) => stated,
-            Err(LineFault::Breaks(code)) => return Err(broken(number, code)),
-            Err(LineFault::Memory) => return Err(SetupFault::Memory),
+            Err(fault) => return Err(fault.at(number)),
         };
         rest = next;
         number += 1;

@@ -1,23 +1,23 @@
-use Rattle.std.proofs.Common.{◌≡◌, length, Ok, Err, sym, ◌∙◌, ap, arith, subst}
+use Rattle.std.proofs.Common.{◌≡◌, ℕ, List, length, Ok, Err, sym, ◌∙◌, ap, arith, subst}
 use Rattle.std.proofs.lemmas.Bool.{eqb-true}
 use Rattle.cf_filter.specs.Tokens.{unspaced}
-use Rattle.cf_setup.specs.Codes.{code_number}
 use Rattle.cf_setup.specs.Lines.{lines_of}
 use Rattle.cf_setup.specs.Drafts.{nothing_stated}
-use Rattle.cf_setup.specs.Reading.{setup_from, settled_or, said, Answers}
+use Rattle.cf_setup.specs.Reading.{setup_from, settled_or, said, Takes, fault_at, Answers}
 use Rattle.cf_setup.proofs.Lawful.{said_lawful, draft_few}
-use Rattle.cf_setup.proofs.Whole.{line_ok, line_err, line_none, empty_is}
+use Rattle.cf_setup.proofs.Whole.{line_ok, line_stops, line_none, empty_is}
 use Rattle.cf_setup.proofs.parse.read_lines.Goals as goal
 
 pub take_said-requires-clause-few : goal.take_said-requires-clause-few
 take_said-requires-clause-few c = draft_few c.loop-rest.draft c.loop-rest.invariant.draft
 
-pub returns-in-Err-Breaks : goal.returns-in-Err-Breaks
-returns-in-Err-Breaks c =
+pub returns-in-Err : goal.returns-in-Err
+returns-in-Err c =
     let line = c.first_line.result.0.now in
     let next = c.first_line.result.1.now in
-    let read : said c.loop-rest.number c.loop-rest.draft (unspaced line) ≡ Err (code_number c.in-Err-Breaks.code) = ap (said c.loop-rest.number c.loop-rest.draft) (sym c.unspaced.ensures) ∙ c.in-Err-Breaks.ensures in
-    sym c.loop-rest.invariant.read ∙ line_err c.loop-rest.number (code_number c.in-Err-Breaks.code) c.loop-rest.draft c.loop-rest.rest.now line next c.first_line.ensures.line read
+    let fault = c.in-Err.fault in
+    let read : Takes (Err fault) (said c.loop-rest.number c.loop-rest.draft (unspaced line)) = subst (λ (text : List ℕ). Takes (Err fault) (said c.loop-rest.number c.loop-rest.draft text)) c.unspaced.ensures c.in-Err.ensures in
+    rw c.at.ensures (subst (Answers (Err (fault_at c.loop-rest.number fault))) c.loop-rest.invariant.read (line_stops c.loop-rest.number fault c.loop-rest.draft c.loop-rest.rest.now line next c.first_line.ensures.line read))
 
 pub loop-rest-preserved : goal.loop-rest-preserved
 loop-rest-preserved c =
