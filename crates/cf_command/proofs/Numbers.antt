@@ -1,46 +1,40 @@
 -- The number that a text writes out.
-use Rattle.std.proofs.Common.{◌≡◌, ℕ, ◌<◌, ◌≤◌, ◌^◌, List, Some, None, Result, Ok, decimal, sym, ap, ◌∙◌, arith}
+use Rattle.std.proofs.Common.{◌≡◌, ℕ, ◌<◌, ◌≤◌, ◌^◌, ◌&&◌, true, List, Some, None, Result, Ok, decimal, sym, ap, ◌∙◌, arith}
+use Rattle.std.specs.Prelude.{nat_le}
+use Rattle.std.specs.Str.{bytes_eq}
 use Rattle.std.specs.Str.Parse.{digits_value}
+use Rattle.std.proofs.lemmas.Bool.{and_parts, and_from, cond-true, cond-false, false_from_ne_true, leb-true, le-leb}
 use Rattle.std.proofs.lemmas.Fmt.{decimal_is_IsNumeral}
-use Rattle.cf_command.specs.Command.{Asked, Drawn, NoNumberText, NoCommand, AreNumbers, AreDrawn}
-use Rattle.cf_command.specs.Table.{RunSays, SynthSays, run_said, synth_said, dump_said}
-
-pub some_same : {A : Type 0} (a b : A) → Some a ≡ Some b → a ≡ b
-some_same a b h = cc
-
--- what no command of the table says is no command
-pub none_said : (words : List (List ℕ)) → run_said words ≡ None → synth_said words ≡ None → dump_said words ≡ None → NoCommand words
-none_said words no_run no_synth no_dump = record {
-  no_run = λ command is. let said = is.said_is in cc (no_run, said);
-  no_synth = λ command is. let said = is.said_is in cc (no_synth, said);
-  no_dump = λ capture is. cc (no_dump, is);
-}
-
-pub no_numbers : (words : List (List ℕ)) (said : RunSays) → run_said words ≡ Some said → synth_said words ≡ None → dump_said words ≡ None → ((command : Asked) → AreNumbers said command → ⊥) → NoCommand words
-no_numbers words said is no_synth no_dump none = record {
-  no_run = λ command other. let same : other.said ≡ said = some_same other.said said (sym other.said_is ∙ is) in none command (rw same at other.numbers);
-  no_synth = λ command found. let said = found.said_is in cc (no_synth, said);
-  no_dump = λ capture found. cc (no_dump, found);
-}
-
-pub none_drawn : (words : List (List ℕ)) (said : SynthSays) → synth_said words ≡ Some said → run_said words ≡ None → dump_said words ≡ None → ((command : Drawn) → AreDrawn said command → ⊥) → NoCommand words
-none_drawn words said is no_run no_dump none = record {
-  no_run = λ command found. let said = found.said_is in cc (no_run, said);
-  no_synth = λ command other. let same : other.said ≡ said = some_same other.said said (sym other.said_is ∙ is) in none command (rw same at other.numbers);
-  no_dump = λ capture found. cc (no_dump, found);
-}
-
--- a text writes out one number
-pub decimal_is_one : (m n : ℕ) → m < 2 ^ 64 → n < 2 ^ 64 → decimal m ≡ decimal n → m ≡ n
-decimal_is_one m n a b same = sym (decimal_is_IsNumeral m a).1 ∙ ap (digits_value 10) same ∙ (decimal_is_IsNumeral n b).1
-
-pub out_of_range : (low high number : ℕ) (text : List ℕ) → number < 2 ^ 64 → high < 2 ^ 64 → text ≡ decimal number → (low ≤ number → number ≤ high → ⊥) → NoNumberText low high text
-out_of_range low high number text small wide is out other found =
-    let below : other < 2 ^ 64 = let most = found.most in omega (arith, most, wide) in
-    let same : number ≡ other = decimal_is_one number other small below (sym is ∙ found.text_is) in
-    out (let least = found.least in omega (arith, same, least)) (let most = found.most in omega (arith, same, most))
+use Rattle.std.proofs.lemmas.Slice.Eq.{bytes_eq-Decides}
+use Rattle.cf_command.specs.Call.{number_in}
 
 -- what is parsed and written out again is the text
 pub written_same : {E : Type 0} (text written : List ℕ) (result : Result ℕ E) (number n : ℕ) → result ≡ Ok number → result ≡ Ok n → written ≡ decimal number → text ≡ decimal n → written ≡ text
 written_same {E} text written result number n found parsed shown is =
     let same : number ≡ n = cc (found, parsed) in shown ∙ ap decimal same ∙ sym is
+
+-- the number of a text is in its range
+pub number_found : (low high number : ℕ) (text : List ℕ) → number < 2 ^ 64 → text ≡ decimal number → low ≤ number → number ≤ high → Some number ≡ number_in low high text
+unfolding number_in
+number_found low high number text small is least most =
+    let value : digits_value 10 text ≡ number = ap (digits_value 10) is ∙ (decimal_is_IsNumeral number small).1 in
+    let shown : bytes_eq text (decimal (digits_value 10 text)) ≡ true = (bytes_eq-Decides text (decimal (digits_value 10 text))).1 (is ∙ ap decimal (sym value)) in
+    let within : (nat_le low (digits_value 10 text) && nat_le (digits_value 10 text) high) ≡ true =
+    and_from (nat_le low (digits_value 10 text)) (nat_le (digits_value 10 text) high) (le-leb low (digits_value 10 text) (omega (arith, least, value))) (le-leb (digits_value 10 text) high (omega (arith, most, value))) in
+    ap (λ (n : ℕ). Some n) (sym value) ∙ sym (cond-true _ (Some (digits_value 10 text)) None (and_from (bytes_eq text (decimal (digits_value 10 text))) _ shown within))
+
+-- where no number in the range is written out so, there is none
+pub no_number : (low high : ℕ) (text : List ℕ) → high < 2 ^ 64 → ((number : ℕ) → number < 2 ^ 64 → text ≡ decimal number → low ≤ number → number ≤ high → ⊥) → None ≡ number_in low high text
+unfolding number_in
+no_number low high text wide none =
+    let d = digits_value 10 text in
+    sym (cond-false _ (Some d) None (false_from_ne_true _ (λ all.
+    let parts = and_parts (bytes_eq text (decimal d)) (nat_le low d && nat_le d high) all in
+    let within = and_parts (nat_le low d) (nat_le d high) parts.1 in
+    let least : low ≤ d = leb-true low d within.0 in
+    let most : d ≤ high = leb-true d high within.1 in
+    none d (omega (arith, most, wide)) ((bytes_eq-Decides text (decimal d)).0 parts.0) least most)))
+
+-- a text writes out one number
+pub decimal_is_one : (m n : ℕ) → m < 2 ^ 64 → n < 2 ^ 64 → decimal m ≡ decimal n → m ≡ n
+decimal_is_one m n a b same = sym (decimal_is_IsNumeral m a).1 ∙ ap (digits_value 10) same ∙ (decimal_is_IsNumeral n b).1

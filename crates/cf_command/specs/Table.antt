@@ -1,5 +1,5 @@
 -- The table of commands, and what words say by it: what clap's own definition for simple commands takes and matches.
-use Rattle.std.specs.Prelude.{◌==◌, Bool, true, List, [], ◌∷◌, Option, Some, None, codes, option_and_then, if◌then◌else◌, length}
+use Rattle.std.specs.Prelude.{◌==◌, Bool, true, List, [], ◌∷◌, Option, Some, None, codes, option_map, option_and_then, if◌then◌else◌, length}
 use Rattle.std.specs.Str.{bytes_eq}
 use Rattle.cf_command.specs.declared.table.RunTexts.{RunTexts}
 use Rattle.cf_command.specs.declared.table.SynthTexts.{SynthTexts}
@@ -66,13 +66,6 @@ run_texts_of rows =
     option_and_then (λ s. option_and_then (λ w. option_and_then (λ n. option_and_then (λ m. option_and_then (λ l. option_and_then (λ c. Some (run_says s w n m l c))
     (first_of (codes "capture") rows)) (first_of (codes "live") rows)) (first_of (codes "nodes") rows)) (first_of (codes "capacity") rows)) (first_of (codes "writers") rows)) (first_of (codes "setup") rows)
 
-abbrev pub if_run : Text × List Row → Option RunSays
-if_run p = if bytes_eq p.0 (codes "run") then run_texts_of p.1 else None
-
--- what the words of a `run` command say
-unfoldable pub run_said : List Text → Option RunSays
-run_said words = option_and_then if_run (taken words)
-
 -- the texts of a `synth` command
 pub record SynthSays : Type 0 where
   pub setup : Text
@@ -94,32 +87,25 @@ synth_texts_of rows =
     option_and_then (λ s. option_and_then (λ x. option_and_then (λ k. option_and_then (λ w. option_and_then (λ n. option_and_then (λ m. Some (synth_says s x k w n m))
     (first_of (codes "nodes") rows)) (first_of (codes "capacity") rows)) (first_of (codes "writers") rows)) (first_of (codes "count") rows)) (first_of (codes "seed") rows)) (first_of (codes "setup") rows)
 
-abbrev pub if_synth : Text × List Row → Option SynthSays
-if_synth p = if bytes_eq p.0 (codes "synth") then synth_texts_of p.1 else None
+-- what a command line says: the texts of its command
+pub data SaidValue : Type 0 where
+  run_said : (said : RunSays) → SaidValue
+  synth_said : (said : SynthSays) → SaidValue
+  dump_said : (capture : Text) → SaidValue
 
--- what the words of a `synth` command say
-unfoldable pub synth_said : List Text → Option SynthSays
-synth_said words = option_and_then if_synth (taken words)
+-- what a command of that name says with these rows
+abbrev pub said_in : Text × List Row → Option SaidValue
+said_in p =
+    if bytes_eq p.0 (codes "run") then option_map run_said (run_texts_of p.1) else (
+    if bytes_eq p.0 (codes "synth") then option_map synth_said (synth_texts_of p.1) else (
+    if bytes_eq p.0 (codes "dump") then option_map dump_said (first_of (codes "capture") p.1) else None))
 
-abbrev pub if_dump : Text × List Row → Option Text
-if_dump p = if bytes_eq p.0 (codes "dump") then first_of (codes "capture") p.1 else None
+-- what words say, where clap takes them
+unfoldable pub said_of : List Text → Option SaidValue
+said_of words = option_and_then said_in (taken words)
 
--- the capture that the words of a `dump` command name
-unfoldable pub dump_said : List Text → Option Text
-dump_said words = option_and_then if_dump (taken words)
-
--- what was said, of each command
-abbrev pub run_part : Said → Option RunSays
-run_part (Run texts) = Some (says_of texts)
-run_part (Synth texts) = None
-run_part (Dump capture) = None
-
-abbrev pub synth_part : Said → Option SynthSays
-synth_part (Run texts) = None
-synth_part (Synth texts) = Some (synth_says_of texts)
-synth_part (Dump capture) = None
-
-abbrev pub dump_part : Said → Option Text
-dump_part (Run texts) = None
-dump_part (Synth texts) = None
-dump_part (Dump capture) = Some capture.now
+-- what was read
+abbrev pub said_by : Said → SaidValue
+said_by (Run texts) = run_said (says_of texts)
+said_by (Synth texts) = synth_said (synth_says_of texts)
+said_by (Dump capture) = dump_said capture.now

@@ -1,6 +1,6 @@
 // Numbers of the command line.
-ghost use Rattle.std.specs.Prelude.{◌≡◌, ℕ, ◌<◌, ◌^◌, IfOk, IsTrue, ◌↔◌, MatchOption, decimal};
-ghost use Rattle.cf_command.specs.Command.{IsNumberText, NoNumberText};
+ghost use Rattle.std.specs.Prelude.{◌≡◌, ℕ, ◌<◌, ◌≤◌, ◌^◌, IfOk, IfSome, IsTrue, ◌↔◌, MatchOption, decimal};
+ghost use Rattle.cf_command.specs.Call.{number_in};
 
 use crate::Memory;
 use std::alloc::Global;
@@ -11,8 +11,8 @@ fn is_same(written: &str, text: &str) -> bool
     written == text
 }
 
-/// The number below 2^64 that the text writes out in decimal digits, with no sign and no leading zero.
-pub(crate) fn number_of(alloc: Global, text: &str) -> Result<Option<u64>, Memory>
+// The number below 2^64 that the text writes out in decimal digits, with no sign and no leading zero.
+fn number_of(alloc: Global, text: &str) -> Result<Option<u64>, Memory>
     ensures { IfOk result (λ found. MatchOption found ((n : ℕ) → n < 2 ^ 64 → text.now ≡ decimal n → ⊥) (λ n. (text.now ≡ decimal n) × (n < 2 ^ 64))) }
 {
     let Ok(number) = text.parse::<u64>() else {
@@ -29,19 +29,20 @@ pub(crate) fn number_of(alloc: Global, text: &str) -> Result<Option<u64>, Memory
 pub(crate) fn number_between(
     alloc: Global,
     text: &str,
-    low: u32,
-    high: u32,
-) -> Result<Option<u32>, Memory>
-    ensures { IfOk result (λ found. MatchOption found (NoNumberText low high text.now) (IsNumberText low high text.now)) }
+    low: u64,
+    high: u64,
+) -> Result<Option<u64>, Memory>
+    ensures number { IfOk result (λ found. found ≡ number_in low high text.now) }
+    ensures within { IfOk result (λ found. IfSome found (λ number. (low ≤ number) × (number ≤ high))) }
 {
     let Some(number) = number_of(alloc, text)? else {
         return Ok(None);
     };
-    if number < u64::from(low) {
+    if number < low {
         return Ok(None);
     }
-    if number > u64::from(high) {
+    if number > high {
         return Ok(None);
     }
-    Ok(Some(number as u32))
+    Ok(Some(number))
 }

@@ -1,8 +1,9 @@
 // The table of commands, as clap is told of it.
-ghost use Rattle.std.specs.Prelude.{◌≡◌, IfOk, option_map, option_and_then, map, false, None, codes};
+ghost use Rattle.std.specs.Prelude.{◌≡◌, IfOk, option_map, option_and_then, map, false, codes};
 ghost use Rattle.clap.specs.Words.{app_of, rule_of, shape_of, subcommand_rows_of, with_rule, with_subcommand, first_of, found_of, rows_of};
 ghost use Rattle.clap.specs.declared.builder.command.Command.TheViews.{out-Command as fields_of};
-ghost use Rattle.cf_command.specs.Table.{bare_app, confluo_app, sized_app, needed, optional, place, run_app, synth_app, dump_app, taken, run_said, synth_said, dump_said, run_part, synth_part, dump_part, run_texts_of, says_of, synth_texts_of, synth_says_of};
+ghost use Rattle.cf_command.specs.Table.{bare_app, confluo_app, sized_app, needed, optional, place, run_app, synth_app, dump_app, taken, said_of, said_by, run_texts_of, says_of, synth_texts_of, synth_says_of};
+ghost use Rattle.cf_command.specs.Table.SaidValue.{run_said, synth_said, dump_said};
 
 use crate::Memory;
 use clap::error::ErrorKind;
@@ -194,38 +195,30 @@ pub(crate) enum Said<'a> {
 }
 
 fn run_said_by<'a>(matches: &ArgMatches<'a>) -> Option<Said<'a>>
-    ensures run { option_and_then run_part result ≡ run_texts_of (rows_of (found_of matches.now)) }
-    ensures synth { option_and_then synth_part result ≡ None }
-    ensures dump { option_and_then dump_part result ≡ None }
+    ensures { option_map said_by result ≡ option_map run_said (run_texts_of (rows_of (found_of matches.now))) }
 {
     Some(Said::Run(run_texts(matches)?))
 }
 
 fn synth_said_by<'a>(matches: &ArgMatches<'a>) -> Option<Said<'a>>
-    ensures run { option_and_then run_part result ≡ None }
-    ensures synth { option_and_then synth_part result ≡ synth_texts_of (rows_of (found_of matches.now)) }
-    ensures dump { option_and_then dump_part result ≡ None }
+    ensures { option_map said_by result ≡ option_map synth_said (synth_texts_of (rows_of (found_of matches.now))) }
 {
     Some(Said::Synth(synth_texts(matches)?))
 }
 
 fn dump_said_by<'a>(matches: &ArgMatches<'a>) -> Option<Said<'a>>
-    ensures run { option_and_then run_part result ≡ None }
-    ensures synth { option_and_then synth_part result ≡ None }
-    ensures dump { option_and_then dump_part result ≡ first_of (codes "capture") (rows_of (found_of matches.now)) }
+    ensures { option_map said_by result ≡ option_map dump_said (first_of (codes "capture") (rows_of (found_of matches.now))) }
 {
     Some(Said::Dump(text_of(matches, "capture")?))
 }
 
 /// What the words of a command say, or nothing where they are no command.
-#[tactic(auto, unfolding(crate::specs::Table::run_said, crate::specs::Table::synth_said, crate::specs::Table::dump_said))]
+#[tactic(auto, unfolding(crate::specs::Table::said_of))]
 pub(crate) fn read_words<'a>(
     alloc: Global,
     words: &'a [&'a str],
 ) -> Result<Option<Said<'a>>, Memory>
-    ensures run { IfOk result (λ o. option_and_then run_part o ≡ run_said (map (λ w. w.now) words.entry.now)) }
-    ensures synth { IfOk result (λ o. option_and_then synth_part o ≡ synth_said (map (λ w. w.now) words.entry.now)) }
-    ensures dump { IfOk result (λ o. option_and_then dump_part o ≡ dump_said (map (λ w. w.now) words.entry.now)) }
+    ensures { IfOk result (λ o. option_map said_by o ≡ said_of (map (λ w. w.now) words.entry.now)) }
 {
     let Some(matches) = parse(alloc, words)? else {
         return Ok(None);

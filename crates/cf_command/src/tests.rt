@@ -10,15 +10,15 @@ fn numbers_of(alloc: Global, text: &str) -> Result<Option<(u8, u32, u32, u32)>, 
     }
     match command_of(alloc, &words)? {
         Some(Command::Run(command)) => Ok(Some((
-            command.writers,
-            command.capacity,
-            command.nodes,
+            command.sizes.writers,
+            command.sizes.capacity,
+            command.sizes.nodes,
             command.rounds,
         ))),
         Some(Command::Synth(command)) => Ok(Some((
-            command.writers,
-            command.capacity,
-            command.nodes,
+            command.sizes.writers,
+            command.sizes.capacity,
+            command.sizes.nodes,
             command.count,
         ))),
         Some(Command::Dump(_)) => Ok(Some((0, 0, 0, 0))),
@@ -93,7 +93,7 @@ fn names_of<'a>(alloc: Global, words: &'a [&'a str]) -> Result<Option<(&'a str, 
     match command_of(alloc, words)? {
         Some(Command::Run(command)) => Ok(Some((command.setup, command.capture))),
         Some(Command::Synth(command)) => Ok(Some((command.setup, ""))),
-        Some(Command::Dump(name)) => Ok(Some(("", name))),
+        Some(Command::Dump(command)) => Ok(Some(("", command.capture))),
         None => Ok(None),
     }
 }

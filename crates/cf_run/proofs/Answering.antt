@@ -2,7 +2,7 @@
 use Rattle.std.proofs.Common.{◌≡◌, ◌⊎◌, ℕ, List, Option, Some, None, sym, inl, inr, IfSome, subst}
 use Rattle.std.specs.Io.KnownBytes.{Appends}
 use Rattle.cf_outside.specs.Files.{File}
-use Rattle.cf_command.proofs.Apart.{not_both, no_run_and_synth, no_synth_and_dump}
+use Rattle.cf_run.proofs.Calls.{not_both, no_run_and_synth, no_synth_and_dump, no_synth, no_dump}
 use Rattle.cf_table.specs.Moves.{SealValue}
 use Rattle.cf_run.specs.Due.{IsDue}
 use Rattle.cf_run.specs.Parts.{IsDrafted}
@@ -66,7 +66,7 @@ lawful_due files words lawful status text (inr (inr synth)) = let other = of_syn
 -- of a capture that is named, a dump
 dump_due : (files : List File) (words : List (List ℕ)) (work : IsDumpWork files words) (status : Status) (text : List ℕ) → IsDue files words status text → status ≡ Done
 dump_due files words work status text (inl run) = elim (of_run files words status text run) [
-  | inl none ↦ absurd (none.no_dump work.name work.name_is)
+  | inl none ↦ absurd (no_dump words none work.name work.name_is)
   | inr other ↦ absurd (not_both words other.0 work.name other.1 work.name_is)
 ]
 dump_due files words work status text (inr (inl dump)) = sym (dumped files words status text work dump)
@@ -75,7 +75,7 @@ dump_due files words work status text (inr (inr synth)) = let other = of_synth f
 -- of packets that fit, the answers on them
 synth_due : (files : List File) (words : List (List ℕ)) (lawful : IsLawfulSynth files words) (status : Status) (text : List ℕ) → IsDue files words status text → status ≡ Done
 synth_due files words lawful status text (inl run) = elim (of_run files words status text run) [
-  | inl none ↦ absurd (none.no_synth lawful.work.command lawful.work.command_is)
+  | inl none ↦ absurd (no_synth words none lawful.work.command lawful.work.command_is)
   | inr other ↦ absurd (no_run_and_synth words other.0 lawful.work.command other.1 lawful.work.command_is)
 ]
 synth_due files words lawful status text (inr (inl dump)) = let other = of_dump files words status text dump in absurd (no_synth_and_dump words lawful.work.command other.0 lawful.work.command_is other.1)

@@ -1,7 +1,8 @@
 -- What the command alone says of a status and of the seals.
 use Rattle.std.proofs.Common.{◌≡◌, ℕ, List, [], length, Result, Ok, Err, MatchResult, IfOk, inl, inr, sym, subst, ◌∙◌}
-use Rattle.cf_command.specs.Command.{Asked, Drawn, IsRun, IsSynth, IsDump, NoCommand}
-use Rattle.cf_command.proofs.Apart.{not_both, no_run_and_synth, no_synth_and_dump}
+use Rattle.cf_command.specs.Call.{RunCall, SynthCall}
+use Rattle.cf_run.specs.Calls.{IsRun, IsSynth, IsDump, NoCommand}
+use Rattle.cf_run.proofs.Calls.{not_both, no_run_and_synth, no_synth_and_dump, no_run, no_synth, no_dump}
 use Rattle.cf_table.specs.Moves.{SealValue}
 use Rattle.cf_run.specs.Answers.{Yields}
 use Rattle.cf_run.specs.ByCommand.{IsByCommand, IsSynthKind, IsDumpKind}
@@ -12,14 +13,14 @@ use Rattle.cf_run.specs.declared.status.Status.{Status}
 use Rattle.cf_run.specs.declared.status.Status.TheVariants.{Done, Words, ReadFault, WriteFault, Memory}
 
 module _ (words : List (List ℕ)) (status : Status) (seals : List SealValue) where
-  pub by_run : (command : Asked) → IsRun words command → (status ≡ Words → ⊥) → (status ≡ Done → length seals ≡ 1) → IsByCommand words status seals
+  pub by_run : (command : RunCall) → IsRun words command → (status ≡ Words → ⊥) → (status ≡ Done → length seals ≡ 1) → IsByCommand words status seals
   by_run command is said one = record {
     run = λ other it. (said, one);
     synth = λ other it. absurd (no_run_and_synth words command other is it);
     dump = λ other it. absurd (not_both words command other is it);
   }
 
-  pub by_synth : (command : Drawn) → IsSynth words command → IsSynthKind status → (status ≡ Done → length seals ≡ 1) → IsByCommand words status seals
+  pub by_synth : (command : SynthCall) → IsSynth words command → IsSynthKind status → (status ≡ Done → length seals ≡ 1) → IsByCommand words status seals
   by_synth command is kind one = record {
     run = λ other it. absurd (no_run_and_synth words other command it is);
     synth = λ other it. (kind, one);
@@ -35,9 +36,9 @@ module _ (words : List (List ℕ)) (status : Status) (seals : List SealValue) wh
 
   pub by_none : NoCommand words → IsByCommand words status seals
   by_none none = record {
-    run = λ other it. absurd (none.no_run other it);
-    synth = λ other it. absurd (none.no_synth other it);
-    dump = λ other it. absurd (none.no_dump other it);
+    run = λ other it. absurd (no_run words none other it);
+    synth = λ other it. absurd (no_synth words none other it);
+    dump = λ other it. absurd (no_dump words none other it);
   }
 
 -- what can come whatever the words are
@@ -58,12 +59,12 @@ by_yielding words status seals yields none = elim yields [
 ]
 
 -- of each command, from what its own part answers
-pub drafted_run : (words : List (List ℕ)) (command : Asked) (result : Result Draft Status) → IsRun words command → MatchResult result (λ draft. IsDrawn draft.status × (draft.status ≡ Words → ⊥)) IsFree →
+pub drafted_run : (words : List (List ℕ)) (command : RunCall) (result : Result Draft Status) → IsRun words command → MatchResult result (λ draft. IsDrawn draft.status × (draft.status ≡ Words → ⊥)) IsFree →
     IfOk result (λ draft. draft.status ≡ Done → length draft.seals.items ≡ 1) → IfOk result (λ draft. IsByCommand words draft.status draft.seals.items)
 drafted_run words command (Ok draft) is drawn one = by_run words draft.status draft.seals.items command is drawn.1 one
 drafted_run words command (Err stop) is drawn one = tt
 
-pub drafted_synth : (words : List (List ℕ)) (command : Drawn) (result : Result Draft Status) → IsSynth words command →
+pub drafted_synth : (words : List (List ℕ)) (command : SynthCall) (result : Result Draft Status) → IsSynth words command →
     IfOk result (λ draft. IsSynthKind draft.status × (draft.status ≡ Done → length draft.seals.items ≡ 1)) → IfOk result (λ draft. IsByCommand words draft.status draft.seals.items)
 drafted_synth words command (Ok draft) is kind = by_synth words draft.status draft.seals.items command is kind.0 kind.1
 drafted_synth words command (Err stop) is kind = tt

@@ -2,10 +2,9 @@
 use Rattle.std.proofs.Common.{◌≡◌, ◌⊎◌, ℕ, ◌<◌, ◌≤◌, true, List, length, Some, None, Ok, Err, refl, sym, ap, ap₂, ◌∙◌, subst, inl, inr, arith}
 use Rattle.std.proofs.lemmas.Bool.{false≢true}
 use Rattle.cf_outside.specs.Files.{File, file_named}
-use Rattle.cf_command.specs.Command.{Drawn, IsSynth}
-use Rattle.cf_command.specs.Table.{SynthSays}
-use Rattle.cf_command.proofs.Apart.{no_run_and_synth, no_synth_and_dump}
-use Rattle.cf_command.proofs.Numbers.{some_same, decimal_is_one}
+use Rattle.cf_command.specs.Call.{SynthCall}
+use Rattle.cf_run.specs.Calls.{IsSynth}
+use Rattle.cf_run.proofs.Calls.{no_run_and_synth, no_synth_and_dump, no_synth, one_synth}
 use Rattle.cf_row.specs.Row.{RowValue}
 use Rattle.cf_make.specs.Generated.{generated_frames}
 use Rattle.cf_shape.specs.Nodes.{distinct}
@@ -40,39 +39,22 @@ packets_no_cause bytes setup line code is packets (inr other) =
     false≢true (sym other.records ∙ ap (λ (s : SetupValue). s.packet) (setups_agree bytes other.setup setup other.setup_is is) ∙ packets)
 
 module _ (files : List File) (words : List (List ℕ)) where
-  one_drawn : (a b : Drawn) → (p : IsSynth words a) → (q : IsSynth words b) → p.said ≡ q.said
-  one_drawn a b p q = some_same p.said q.said (sym p.said_is ∙ q.said_is)
+  one_name : (a b : SynthCall) → IsSynth words a → IsSynth words b → a.setup ≡ b.setup
+  one_name a b p q = ap (λ (c : SynthCall). c.setup) (one_synth words a b p q)
 
-  one_name : (a b : Drawn) → IsSynth words a → IsSynth words b → a.setup ≡ b.setup
-  one_name a b p q = p.numbers.setup_is ∙ ap (λ (said : SynthSays). said.setup) (one_drawn a b p q) ∙ sym q.numbers.setup_is
+  one_count : (a b : SynthCall) → IsSynth words a → IsSynth words b → a.count ≡ b.count
+  one_count a b p q = ap (λ (c : SynthCall). c.count) (one_synth words a b p q)
 
-  one_count : (a b : Drawn) → IsSynth words a → IsSynth words b → a.count ≡ b.count
-  one_count a b p q =
-      let m : a.count ≤ 65536 = p.numbers.count_is.most in
-      let n : b.count ≤ 65536 = q.numbers.count_is.most in
-      decimal_is_one a.count b.count (omega (arith, m)) (omega (arith, n))
-      (sym p.numbers.count_is.text_is ∙ ap (λ (said : SynthSays). said.count) (one_drawn a b p q) ∙ q.numbers.count_is.text_is)
+  one_room : (a b : SynthCall) → IsSynth words a → IsSynth words b → a.sizes.capacity ≡ b.sizes.capacity
+  one_room a b p q = ap (λ (c : SynthCall). c.sizes.capacity) (one_synth words a b p q)
 
-  one_room : (a b : Drawn) → IsSynth words a → IsSynth words b → a.capacity ≡ b.capacity
-  one_room a b p q =
-      let m : a.capacity ≤ 65536 = p.numbers.sizes.capacity_is.most in
-      let n : b.capacity ≤ 65536 = q.numbers.sizes.capacity_is.most in
-      decimal_is_one a.capacity b.capacity (omega (arith, m)) (omega (arith, n))
-      (sym p.numbers.sizes.capacity_is.text_is ∙ ap (λ (said : SynthSays). said.capacity) (one_drawn a b p q) ∙ q.numbers.sizes.capacity_is.text_is)
+  one_nodes : (a b : SynthCall) → IsSynth words a → IsSynth words b → a.sizes.nodes ≡ b.sizes.nodes
+  one_nodes a b p q = ap (λ (c : SynthCall). c.sizes.nodes) (one_synth words a b p q)
 
-  one_nodes : (a b : Drawn) → IsSynth words a → IsSynth words b → a.nodes ≡ b.nodes
-  one_nodes a b p q =
-      let m : a.nodes ≤ 65536 = p.numbers.sizes.nodes_are.most in
-      let n : b.nodes ≤ 65536 = q.numbers.sizes.nodes_are.most in
-      decimal_is_one a.nodes b.nodes (omega (arith, m)) (omega (arith, n))
-      (sym p.numbers.sizes.nodes_are.text_is ∙ ap (λ (said : SynthSays). said.nodes) (one_drawn a b p q) ∙ q.numbers.sizes.nodes_are.text_is)
+  one_seed : (a b : SynthCall) → IsSynth words a → IsSynth words b → a.seed ≡ b.seed
+  one_seed a b p q = ap (λ (c : SynthCall). c.seed) (one_synth words a b p q)
 
-  one_seed : (a b : Drawn) → IsSynth words a → IsSynth words b → a.seed ≡ b.seed
-  one_seed a b p q =
-      decimal_is_one a.seed b.seed p.numbers.seed_small q.numbers.seed_small
-      (sym p.numbers.seed_is ∙ ap (λ (said : SynthSays). said.seed) (one_drawn a b p q) ∙ q.numbers.seed_is)
-
-  setup_there : (a b : Drawn) (x : List ℕ) → IsSynth words a → IsSynth words b → file_named files a.setup ≡ Some x → file_named files b.setup ≡ None → ⊥
+  setup_there : (a b : SynthCall) (x : List ℕ) → IsSynth words a → IsSynth words b → file_named files a.setup ≡ Some x → file_named files b.setup ≡ None → ⊥
   setup_there a b x p q found none = there files words a.setup b.setup x (one_name a b p q) found none
 
   work_refused : (line code : ℕ) → IsSynthWork files words → IsSynthSetupRefused files words line code → ⊥
@@ -86,17 +68,17 @@ module _ (files : List File) (words : List (List ℕ)) where
       cause_status p.bytes line code line' code' p.cause (subst (λ (x : List ℕ). SetupText x (Err (line', code')) ⊎ IsOtherSchema x line' code') (sym same) q.cause)
 
   -- what is full does not fit
-  full_few : (work : IsSynthWork files words) → length (drawn_rows work.command) ≤ work.command.capacity → IsSynthFull files words → ⊥
+  full_few : (work : IsSynthWork files words) → length (drawn_rows work.command) ≤ work.command.sizes.capacity → IsSynthFull files words → ⊥
   full_few work few full =
       let other = full.work in
       let count : work.command.count ≡ other.command.count = one_count work.command other.command work.command_is other.command_is in
-      let caps : work.command.capacity ≡ other.command.capacity = one_room work.command other.command work.command_is other.command_is in
-      let many : other.command.capacity < length (drawn_rows other.command) = full.many in
+      let caps : work.command.sizes.capacity ≡ other.command.sizes.capacity = one_room work.command other.command work.command_is other.command_is in
+      let many : other.command.sizes.capacity < length (drawn_rows other.command) = full.many in
       let mine : length (drawn_rows work.command) ≡ work.command.count = drawn_many work.command in
       let theirs : length (drawn_rows other.command) ≡ other.command.count = drawn_many other.command in
       omega (arith, few, count, caps, many, mine, theirs)
 
-  pub synthesized : (s : Status) (t : List ℕ) (work : IsSynthWork files words) → length (drawn_rows work.command) ≤ work.command.capacity → IsSynthDue files words s t → Agree Done s
+  pub synthesized : (s : Status) (t : List ℕ) (work : IsSynthWork files words) → length (drawn_rows work.command) ≤ work.command.sizes.capacity → IsSynthDue files words s t → Agree Done s
   synthesized Done t work few q = inl refl
   synthesized (Setup line code) t work few q = absurd (work_refused line code work q.0)
   synthesized Full t work few q = absurd (full_few work few q.0)
@@ -172,11 +154,11 @@ module _ (files : List File) (words : List (List ℕ)) where
           let bytes : l.work.bytes ≡ other.bytes = same_file files words l.work.command.setup other.command.setup l.work.bytes other.bytes (one_name l.work.command other.command l.work.command_is other.command_is) l.work.file other.file in
           let setup : l.work.setup ≡ other.setup = ok_same l.work.setup other.setup (one_text other.bytes (Ok l.work.setup) (Ok other.setup) (subst (λ (x : List ℕ). SetupText x (Ok l.work.setup)) bytes l.work.setup_is) other.setup_is) in
           let rows : drawn_rows l.work.command ≡ drawn_rows other.command = ap₂ (λ (seed count : ℕ). packet_rows (generated_frames seed count)) (one_seed l.work.command other.command l.work.command_is other.command_is) (one_count l.work.command other.command l.work.command_is other.command_is) in
-          let nodes : l.work.command.nodes ≡ other.command.nodes = one_nodes l.work.command other.command l.work.command_is other.command_is in
-          let needs : distinct (shaped l.work.setup l.work.command.capacity l.work.command.writers l.work.command.nodes) (drawn_rows l.work.command) ≡ distinct (shaped other.setup other.command.capacity other.command.writers other.command.nodes) (drawn_rows other.command) =
+          let nodes : l.work.command.sizes.nodes ≡ other.command.sizes.nodes = one_nodes l.work.command other.command l.work.command_is other.command_is in
+          let needs : distinct (shaped l.work.setup l.work.command.sizes.capacity l.work.command.sizes.writers l.work.command.sizes.nodes) (drawn_rows l.work.command) ≡ distinct (shaped other.setup other.command.sizes.capacity other.command.sizes.writers other.command.sizes.nodes) (drawn_rows other.command) =
           ap₂ (λ (s : SetupValue) (rs : List RowValue). distinct (shaped s 0 0 0) rs) setup rows in
-          let few : distinct (shaped l.work.setup l.work.command.capacity l.work.command.writers l.work.command.nodes) (drawn_rows l.work.command) ≤ l.work.command.nodes = l.few_nodes in
-          let many : other.command.nodes < distinct (shaped other.setup other.command.capacity other.command.writers other.command.nodes) (drawn_rows other.command) = o.many in
+          let few : distinct (shaped l.work.setup l.work.command.sizes.capacity l.work.command.sizes.writers l.work.command.sizes.nodes) (drawn_rows l.work.command) ≤ l.work.command.sizes.nodes = l.few_nodes in
+          let many : other.command.sizes.nodes < distinct (shaped other.setup other.command.sizes.capacity other.command.sizes.writers other.command.sizes.nodes) (drawn_rows other.command) = o.many in
           omega (arith, nodes, needs, few, many)
 
   one_synth_due : (s s' : Status) (t t' : List ℕ) → IsSynthDue files words s t → IsSynthDue files words s' t' → Agree s s'
@@ -191,7 +173,7 @@ module _ (files : List File) (words : List (List ℕ)) where
   one_synth_due Nodes s' t t' p q = from_nodes s' t' p.0 q
   one_synth_due Memory s' t t' p q = absurd p
 
-  pub of_synth : (s : Status) (t : List ℕ) → IsSynthDue files words s t → (command : Drawn) × IsSynth words command
+  pub of_synth : (s : Status) (t : List ℕ) → IsSynthDue files words s t → (command : SynthCall) × IsSynth words command
   of_synth Done t p = (p.work.command, p.work.command_is)
   of_synth (Setup line code) t p = (p.0.command, p.0.command_is)
   of_synth Full t p = (p.0.work.command, p.0.work.command_is)
@@ -205,7 +187,7 @@ module _ (files : List File) (words : List (List ℕ)) where
 
   run_or_synth : (s s' : Status) (t t' : List ℕ) → IsRunDue files words s t → IsSynthDue files words s' t' → ⊥
   run_or_synth s s' t t' p q = let synth = of_synth s' t' q in elim (of_run files words s t p) [
-    | inl none ↦ none.no_synth synth.0 synth.1
+    | inl none ↦ no_synth words none synth.0 synth.1
     | inr run ↦ no_run_and_synth words run.0 synth.0 run.1 synth.1
   ]
 

@@ -7,7 +7,7 @@ use Rattle.cf_pcap.specs.Capture.{FrameValue, IsCapture}
 use Rattle.cf_headers.specs.Packet.{packet_row_of}
 use Rattle.cf_make.specs.Generated.{generated_bytes, generated_frames}
 use Rattle.cf_make.proofs.Reading.{is_capture, frames_many}
-use Rattle.cf_command.specs.Command.{Drawn}
+use Rattle.cf_command.specs.Call.{SynthCall}
 use Rattle.cf_run.specs.Work.{packet_rows}
 use Rattle.cf_run.specs.Synth.{drawn_rows}
 use Rattle.cf_pcap.proofs.Verdict.{one_capture, either}
@@ -31,7 +31,7 @@ drawn_memory seed count bytes Full few made bad other = bad
 drawn_memory seed count bytes Nodes few made bad other = bad
 
 -- as many packets as were asked for
-pub drawn_many : (command : Drawn) → length (drawn_rows command) ≡ command.count
+pub drawn_many : (command : SynthCall) → length (drawn_rows command) ≡ command.count
 drawn_many command = length-map (generated_frames command.seed command.count) packet_row_of ∙ frames_many command.seed command.count
 
 -- what is read of a made capture are the rows of its packets

@@ -4,7 +4,7 @@ use Rattle.std.specs.declared.alloc.Global.{Global}
 use Rattle.cf_row.specs.Schema.{packet_attrs}
 use Rattle.cf_outside.specs.Files.{File}
 use Rattle.cf_row.specs.Row.{RowValue}
-use Rattle.cf_command.specs.Command.{IsDump}
+use Rattle.cf_run.specs.Calls.{IsDump}
 use Rattle.cf_dump.specs.Dump.{dump_text}
 use Rattle.cf_table.specs.Moves.{SealValue}
 use Rattle.cf_run.specs.Due.{refusal_line}

@@ -3,7 +3,8 @@ use Rattle.std.proofs.Common.{◌≡◌, ℕ, ◌≤◌, ◌<◌, ◌^◌, List,
 use Rattle.std.proofs.lemmas.List.{drop_all}
 use Rattle.cf_outside.specs.Files.{File, file_named}
 use Rattle.cf_row.specs.Row.{RowValue}
-use Rattle.cf_command.specs.Command.{Asked, Drawn, IsRun, IsSynth, IsDump}
+use Rattle.cf_command.specs.Call.{RunCall, SynthCall}
+use Rattle.cf_run.specs.Calls.{IsRun, IsSynth, IsDump}
 use Rattle.cf_setup.specs.Setups.{SetupValue}
 use Rattle.cf_setup.specs.SetupText.{SetupText}
 use Rattle.cf_run.specs.Devices.{IsTakenFrom, IsStopped}
@@ -19,7 +20,7 @@ pub whole_taken : (file : List ℕ) (limit : ℕ) (now : Option (List ℕ)) → 
 whole_taken file limit now short none = record { count = length file; most = short; left = none ∙ ap (λ xs. Some xs) (sym (drop_all (length file) file (omega arith))) }
 
 module _ (files : List File) (words : List (List ℕ)) where
-  pub setup_stopped : (command : Asked) → IsRun words command → (before now : Option (List ℕ)) → IsStopped files command.setup 65537 before now → MayBeLeft files words before now
+  pub setup_stopped : (command : RunCall) → IsRun words command → (before now : Option (List ℕ)) → IsStopped files command.setup 65537 before now → MayBeLeft files words before now
   setup_stopped command is before now stopped = elim stopped [
     | inl same ↦ inl same
     | inr taken ↦ inr (inl (record { command = command; command_is = is; bytes = taken.0; file = taken.1; taken = taken.2 }))
@@ -50,12 +51,12 @@ module _ (files : List File) (words : List (List ℕ)) where
   dump_left name is capture rows before now found rows_are none =
       inr (inr (inr (inl (record { name = name; name_is = is; capture = capture; file = found; taken = whole_taken capture (2 ^ 32) now (let short : length capture < 2 ^ 32 = (packets_end capture rows rows_are) in omega (arith, short)) none }))))
 
-  pub synth_stopped : (command : Drawn) → IsSynth words command → (before now : Option (List ℕ)) → IsStopped files command.setup 65537 before now → MayBeLeft files words before now
+  pub synth_stopped : (command : SynthCall) → IsSynth words command → (before now : Option (List ℕ)) → IsStopped files command.setup 65537 before now → MayBeLeft files words before now
   synth_stopped command is before now stopped = elim stopped [
     | inl same ↦ inl same
     | inr taken ↦ inr (inr (inr (inr (record { command = command; command_is = is; bytes = taken.0; file = taken.1; taken = taken.2 }))))
   ]
 
-  pub synth_left : (command : Drawn) → IsSynth words command → (bytes : List ℕ) (setup : SetupValue) (before now : Option (List ℕ)) → file_named files command.setup ≡ Some bytes → SetupText bytes (Ok setup) → now ≡ Some [] → MayBeLeft files words before now
+  pub synth_left : (command : SynthCall) → IsSynth words command → (bytes : List ℕ) (setup : SetupValue) (before now : Option (List ℕ)) → file_named files command.setup ≡ Some bytes → SetupText bytes (Ok setup) → now ≡ Some [] → MayBeLeft files words before now
   synth_left command is bytes setup before now found text none =
       inr (inr (inr (inr (record { command = command; command_is = is; bytes = bytes; file = found; taken = whole_taken bytes 65537 now (let short : length bytes ≤ 65536 = setup_short bytes setup text in omega (arith, short)) none }))))

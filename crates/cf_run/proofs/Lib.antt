@@ -1,6 +1,7 @@
 pub mod Taking
 pub mod Capturing
 pub mod Writing
+pub mod Calls
 pub mod Deciding
 pub mod Drawing
 pub mod DecidingSynth

@@ -3,7 +3,8 @@ use Rattle.std.proofs.Common.{◌≡◌, ◌⊎◌, ℕ, ◌<◌, ◌≤◌, ◌
 use Rattle.std.specs.declared.alloc.Global.{Global}
 use Rattle.cf_outside.specs.Files.{File, file_named}
 use Rattle.cf_row.specs.Row.{RowValue}
-use Rattle.cf_command.specs.Command.{Asked, IsRun}
+use Rattle.cf_command.specs.Call.{RunCall}
+use Rattle.cf_run.specs.Calls.{IsRun}
 use Rattle.cf_shape.specs.Nodes.{distinct}
 use Rattle.cf_setup.specs.Setups.{SetupValue, shaped}
 use Rattle.cf_table.specs.Moves.{SealValue}
@@ -39,7 +40,7 @@ prepared_draft files words before now draft status line seals same text sealed d
 pub prepared_stop : (files : List File) (words : List (List ℕ)) (before now : Option (List ℕ)) (stop status : Status) → (stop ≡ Memory) ⊎ ((stop ≡ status) × NoRefusal status) → (NoRefusal status → IsFree status) → MayBeLeft files words before now → IsPrepared files words before now (Err stop)
 prepared_stop files words before now stop status why free left = (elim why [ inl memory ↦ inl memory | inr same ↦ subst IsFree (sym same.0) (free same.1) ], left)
 
-module _ (files : List File) (words : List (List ℕ)) (command : Asked) (is : IsRun words command) (before : Option (List ℕ)) where
+module _ (files : List File) (words : List (List ℕ)) (command : RunCall) (is : IsRun words command) (before : Option (List ℕ)) where
   setup_may : (now : Option (List ℕ)) (status : Status) → IsSetupStop files command.setup before now status → MayBeLeft files words before now
   setup_may now NoFile stop = inl stop.1
   setup_may now (Setup line code) stop = inr (inl (record { command = command; command_is = is; bytes = stop.0; file = stop.1; taken = record { count = 65537; most = omega arith; left = stop.3 } }))
@@ -138,13 +139,13 @@ module _ (files : List File) (words : List (List ℕ)) (command : Asked) (is : I
       abbrev work : IsWork files words
       work = record { command = command; command_is = is; setup_bytes = bytes; setup_file = named; setup = setup; setup_is = text_is; capture = capture; capture_file = found; rows = rows; rows_are = rows_are }
 
-      full_in : (draft : Draft) → command.capacity < length rows → draft.status ≡ Full → draft.text.items ≡ full_line command.capacity → draft.seals.items ≡ [] → IsPrepared files words before now (Ok draft)
-      full_in draft many same text bare = prepared_draft files words before now draft Full (full_line command.capacity) [] same text bare (inl ((record { work = work; many = many }), refl)) end refl
+      full_in : (draft : Draft) → command.sizes.capacity < length rows → draft.status ≡ Full → draft.text.items ≡ full_line command.sizes.capacity → draft.seals.items ≡ [] → IsPrepared files words before now (Ok draft)
+      full_in draft many same text bare = prepared_draft files words before now draft Full (full_line command.sizes.capacity) [] same text bare (inl ((record { work = work; many = many }), refl)) end refl
 
-      short_in : (draft : Draft) → length rows ≤ command.capacity → command.nodes < distinct (shaped setup command.capacity command.writers command.nodes) rows → draft.status ≡ Nodes → draft.text.items ≡ nodes_line command.nodes → draft.seals.items ≡ [] → IsPrepared files words before now (Ok draft)
-      short_in draft few many same text bare = prepared_draft files words before now draft Nodes (nodes_line command.nodes) [] same text bare (inl ((record { work = work; few = few; many = many }), refl)) end refl
+      short_in : (draft : Draft) → length rows ≤ command.sizes.capacity → command.sizes.nodes < distinct (shaped setup command.sizes.capacity command.sizes.writers command.sizes.nodes) rows → draft.status ≡ Nodes → draft.text.items ≡ nodes_line command.sizes.nodes → draft.seals.items ≡ [] → IsPrepared files words before now (Ok draft)
+      short_in draft few many same text bare = prepared_draft files words before now draft Nodes (nodes_line command.sizes.nodes) [] same text bare (inl ((record { work = work; few = few; many = many }), refl)) end refl
 
-      reported_in : (draft : Draft) (text : List ℕ) (seal : SealValue) → length rows ≤ command.capacity → IsSealedReport setup command.capacity command.writers command.nodes command.rounds rows text seal → draft.status ≡ Done → draft.text.items ≡ text → draft.seals.items ≡ seal ∷ [] → IsPrepared files words before now (Ok draft)
+      reported_in : (draft : Draft) (text : List ℕ) (seal : SealValue) → length rows ≤ command.sizes.capacity → IsSealedReport setup command.sizes.capacity command.sizes.writers command.sizes.nodes command.rounds rows text seal → draft.status ≡ Done → draft.text.items ≡ text → draft.seals.items ≡ seal ∷ [] → IsPrepared files words before now (Ok draft)
       reported_in draft text seal few made same shown sealed =
           prepared_draft files words before now draft Done text (seal ∷ []) same shown sealed
           (inl (record { work = work; few = few; few_nodes = made.few_nodes; order = made.order; report = made.report })) end (ap (λ (one : SealValue). one ∷ []) made.seal_is)
@@ -152,7 +153,7 @@ module _ (files : List File) (words : List (List ℕ)) (command : Asked) (is : I
       unmade_in : (stop : Status) → stop ≡ Memory → IsPrepared files words before now (Err stop)
       unmade_in stop memory = (inl memory, capture_left files words has capture rows before now found rows_are end)
 
-module _ (words : List (List ℕ)) (command : Asked) (is : IsRun words command) where
+module _ (words : List (List ℕ)) (command : RunCall) (is : IsRun words command) where
   pub setup_prepared : (told : Option (List File)) (before now : Option (List ℕ)) (status : Status) (result : Result Draft Status) → IfSome told (λ files. LoadsSetup files command.setup before now (Err status)) → IsRefused status result → IfSome told (λ files. IsPrepared files words before now result)
   setup_prepared None before now status result stop refused = stop
   setup_prepared (Some files) before now status result stop refused = setup_prepared_in files words command is before now status result stop refused
@@ -165,8 +166,8 @@ module _ (words : List (List ℕ)) (command : Asked) (is : IsRun words command) 
         capture_prepared_in files words command is before loaded.0 setup mid loaded.1 loaded.2 loaded.3 now status result stop' refused
 
     module _ (rows : Vec RowValue Global) where
-      pub full_prepared : (told later : Option (List File)) (result : Result Draft Status) → later ≡ told → IfSome told (λ files. LoadsSetup files command.setup before mid (Ok setup)) → IfSome later (λ files. LoadsRowsOf setup files command.capture mid now (Ok rows)) → command.capacity < length rows.items
-          → MatchResult result (λ draft. (draft.status ≡ Full) × (draft.text.items ≡ full_line command.capacity) × (draft.seals.items ≡ [])) (λ stop. stop ≡ Memory) → IfSome told (λ files. IsPrepared files words before now result)
+      pub full_prepared : (told later : Option (List File)) (result : Result Draft Status) → later ≡ told → IfSome told (λ files. LoadsSetup files command.setup before mid (Ok setup)) → IfSome later (λ files. LoadsRowsOf setup files command.capture mid now (Ok rows)) → command.sizes.capacity < length rows.items
+          → MatchResult result (λ draft. (draft.status ≡ Full) × (draft.text.items ≡ full_line command.sizes.capacity) × (draft.seals.items ≡ [])) (λ stop. stop ≡ Memory) → IfSome told (λ files. IsPrepared files words before now result)
       full_prepared None later result same loaded captured many made = loaded
       full_prepared (Some files) later (Ok draft) same loaded captured many made =
           let captured' : IfSome (Some files) (λ fs. LoadsRowsOf setup fs command.capture mid now (Ok rows)) = rw same at captured in
@@ -175,9 +176,9 @@ module _ (words : List (List ℕ)) (command : Asked) (is : IsRun words command) 
           let captured' : IfSome (Some files) (λ fs. LoadsRowsOf setup fs command.capture mid now (Ok rows)) = rw same at captured in
           unmade_in files words command is before loaded.0 setup mid loaded.1 loaded.2 loaded.3 captured'.0 rows.items now captured'.1 captured'.2 captured'.3 stop made
 
-      pub short_prepared : (told later : Option (List File)) (result : Result Draft Status) → later ≡ told → IfSome told (λ files. LoadsSetup files command.setup before mid (Ok setup)) → IfSome later (λ files. LoadsRowsOf setup files command.capture mid now (Ok rows)) → length rows.items ≤ command.capacity
-          → command.nodes < distinct (shaped setup command.capacity command.writers command.nodes) rows.items
-          → MatchResult result (λ draft. (draft.status ≡ Nodes) × (draft.text.items ≡ nodes_line command.nodes) × (draft.seals.items ≡ [])) (λ stop. stop ≡ Memory) → IfSome told (λ files. IsPrepared files words before now result)
+      pub short_prepared : (told later : Option (List File)) (result : Result Draft Status) → later ≡ told → IfSome told (λ files. LoadsSetup files command.setup before mid (Ok setup)) → IfSome later (λ files. LoadsRowsOf setup files command.capture mid now (Ok rows)) → length rows.items ≤ command.sizes.capacity
+          → command.sizes.nodes < distinct (shaped setup command.sizes.capacity command.sizes.writers command.sizes.nodes) rows.items
+          → MatchResult result (λ draft. (draft.status ≡ Nodes) × (draft.text.items ≡ nodes_line command.sizes.nodes) × (draft.seals.items ≡ [])) (λ stop. stop ≡ Memory) → IfSome told (λ files. IsPrepared files words before now result)
       short_prepared None later result same loaded captured few many made = loaded
       short_prepared (Some files) later (Ok draft) same loaded captured few many made =
           let captured' : IfSome (Some files) (λ fs. LoadsRowsOf setup fs command.capture mid now (Ok rows)) = rw same at captured in
@@ -186,8 +187,8 @@ module _ (words : List (List ℕ)) (command : Asked) (is : IsRun words command) 
           let captured' : IfSome (Some files) (λ fs. LoadsRowsOf setup fs command.capture mid now (Ok rows)) = rw same at captured in
           unmade_in files words command is before loaded.0 setup mid loaded.1 loaded.2 loaded.3 captured'.0 rows.items now captured'.1 captured'.2 captured'.3 stop made
 
-      pub report_prepared : (told later : Option (List File)) (text : List ℕ) (seal : SealValue) (result : Result Draft Status) → later ≡ told → IfSome told (λ files. LoadsSetup files command.setup before mid (Ok setup)) → IfSome later (λ files. LoadsRowsOf setup files command.capture mid now (Ok rows)) → length rows.items ≤ command.capacity
-          → IsSealedReport setup command.capacity command.writers command.nodes command.rounds rows.items text seal
+      pub report_prepared : (told later : Option (List File)) (text : List ℕ) (seal : SealValue) (result : Result Draft Status) → later ≡ told → IfSome told (λ files. LoadsSetup files command.setup before mid (Ok setup)) → IfSome later (λ files. LoadsRowsOf setup files command.capture mid now (Ok rows)) → length rows.items ≤ command.sizes.capacity
+          → IsSealedReport setup command.sizes.capacity command.sizes.writers command.sizes.nodes command.rounds rows.items text seal
           → MatchResult result (λ draft. (draft.status ≡ Done) × (draft.text.items ≡ text) × (draft.seals.items ≡ seal ∷ [])) (λ stop. stop ≡ Memory) → IfSome told (λ files. IsPrepared files words before now result)
       report_prepared None later text seal result same loaded captured few report made = loaded
       report_prepared (Some files) later text seal (Ok draft) same loaded captured few report made =

@@ -3,7 +3,8 @@ use Rattle.std.proofs.Common.{◌≡◌, ℕ, ◌<◌, ◌≤◌, true, false, L
 use Rattle.std.proofs.lemmas.List.{drop_all}
 use Rattle.cf_row.specs.Row.{RowValue}
 use Rattle.cf_outside.specs.Files.{File, file_named}
-use Rattle.cf_command.specs.Command.{Drawn, IsSynth}
+use Rattle.cf_command.specs.Call.{SynthCall}
+use Rattle.cf_run.specs.Calls.{IsSynth}
 use Rattle.cf_report.specs.Meaning.{final_text}
 use Rattle.cf_shape.specs.Nodes.{distinct}
 use Rattle.cf_setup.specs.Setups.{SetupValue, shaped}
@@ -22,7 +23,7 @@ use Rattle.cf_run.specs.declared.draft.Draft.{Draft}
 use Rattle.cf_run.specs.declared.status.Status.{Status}
 use Rattle.cf_run.specs.declared.status.Status.TheVariants.{Done, Words, Setup, Capture, ReadFault, WriteFault, Full, Nodes, Memory, NoFile}
 
-module _ (files : List File) (words : List (List ℕ)) (command : Drawn) (is : IsSynth words command) (before : Option (List ℕ)) where
+module _ (files : List File) (words : List (List ℕ)) (command : SynthCall) (is : IsSynth words command) (before : Option (List ℕ)) where
   stop_may : (now : Option (List ℕ)) (status : Status) → IsSetupStop files command.setup before now status → MayBeLeft files words before now
   stop_may now NoFile stop = inl stop.1
   stop_may now (Setup line code) stop = inr (inr (inr (inr (record { command = command; command_is = is; bytes = stop.0; file = stop.1; taken = record { count = 65537; most = omega arith; left = stop.3 } }))))
@@ -88,17 +89,17 @@ module _ (files : List File) (words : List (List ℕ)) (command : Drawn) (is : I
 
     drawn_in : (result : Result Draft Status) → setup.packet ≡ true → MatchResult result (IsSynthDraft setup command) (λ stop. stop ≡ Memory) → IsPrepared files words before now result
     drawn_in (Ok draft) packets (inl done) =
-        prepared_draft files words before now draft Done (final_text (shaped setup command.capacity command.writers command.nodes) setup (drawn_rows command)) draft.seals.items done.status done.text refl
+        prepared_draft files words before now draft Done (final_text (shaped setup command.sizes.capacity command.sizes.writers command.sizes.nodes) setup (drawn_rows command)) draft.seals.items done.status done.text refl
         (inr (inr (record { work = work packets; few = done.few; few_nodes = done.few_nodes; text_is = refl }))) read done.seals
     drawn_in (Ok draft) packets (inr (inl full)) =
-        prepared_draft files words before now draft Full (full_line command.capacity) [] full.status full.text full.seals
+        prepared_draft files words before now draft Full (full_line command.sizes.capacity) [] full.status full.text full.seals
         (inr (inr ((record { work = work packets; many = full.many }), refl))) read refl
     drawn_in (Ok draft) packets (inr (inr short)) =
-        prepared_draft files words before now draft Nodes (nodes_line command.nodes) [] short.status short.text short.seals
+        prepared_draft files words before now draft Nodes (nodes_line command.sizes.nodes) [] short.status short.text short.seals
         (inr (inr ((record { work = work packets; few = short.few; many = short.many }), refl))) read refl
     drawn_in (Err stop) packets memory = (inl memory, read_may)
 
-module _ (words : List (List ℕ)) (command : Drawn) (is : IsSynth words command) (before now : Option (List ℕ)) where
+module _ (words : List (List ℕ)) (command : SynthCall) (is : IsSynth words command) (before now : Option (List ℕ)) where
   pub synth_refused : (told : Option (List File)) (status : Status) (result : Result Draft Status) → IfSome told (λ files. LoadsSetup files command.setup before now (Err status)) → IsRefused status result → IfSome told (λ files. IsPrepared files words before now result)
   synth_refused None status result stop refused = stop
   synth_refused (Some files) status result stop refused = refused_in files words command is before now status result stop refused
@@ -112,13 +113,13 @@ module _ (words : List (List ℕ)) (command : Drawn) (is : IsSynth words command
   synth_prepared (Some files) setup result loaded packets made = drawn_in files words command is before loaded.0 setup now loaded.1 loaded.2 loaded.3 result packets made
 
 -- the final part of the drawn rows' report, with its seal
-pub synth_sealed : (setup : SetupValue) (command : Drawn) (rows : List RowValue) (text : List ℕ) (seal : SealValue) (result : Result Draft Status) → rows ≡ drawn_rows command → length rows ≤ command.capacity → IsSealedFinal setup command.capacity command.writers command.nodes rows text seal
+pub synth_sealed : (setup : SetupValue) (command : SynthCall) (rows : List RowValue) (text : List ℕ) (seal : SealValue) (result : Result Draft Status) → rows ≡ drawn_rows command → length rows ≤ command.sizes.capacity → IsSealedFinal setup command.sizes.capacity command.sizes.writers command.sizes.nodes rows text seal
     → MatchResult result (λ draft. (draft.status ≡ Done) × (draft.text.items ≡ text) × (draft.seals.items ≡ seal ∷ [])) (λ stop. stop ≡ Memory) → MatchResult result (IsSynthDraft setup command) (λ stop. stop ≡ Memory)
 synth_sealed setup command rows text seal (Ok draft) is few final made =
-    let own : IsSealedFinal setup command.capacity command.writers command.nodes (drawn_rows command) text seal = subst (λ (rs : List RowValue). IsSealedFinal setup command.capacity command.writers command.nodes rs text seal) is final in
+    let own : IsSealedFinal setup command.sizes.capacity command.sizes.writers command.sizes.nodes (drawn_rows command) text seal = subst (λ (rs : List RowValue). IsSealedFinal setup command.sizes.capacity command.sizes.writers command.sizes.nodes rs text seal) is final in
     inl (record {
       status = made.0;
-      few = subst (λ (rs : List RowValue). length rs ≤ command.capacity) is few;
+      few = subst (λ (rs : List RowValue). length rs ≤ command.sizes.capacity) is few;
       few_nodes = own.few_nodes;
       text = made.1 ∙ own.text_is;
       seals = record { order = own.order; order_is = own.order_is; seals_are = made.2 ∙ ap (λ (one : SealValue). one ∷ []) own.seal_is };
@@ -126,13 +127,13 @@ synth_sealed setup command rows text seal (Ok draft) is few final made =
 synth_sealed setup command rows text seal (Err stop) is few final made = made
 
 -- more nodes are needed than a writer has
-pub synth_short : (setup : SetupValue) (command : Drawn) (rows : List RowValue) (result : Result Draft Status) → rows ≡ drawn_rows command → length rows ≤ command.capacity → command.nodes < distinct (shaped setup command.capacity command.writers command.nodes) rows
-    → MatchResult result (λ draft. (draft.status ≡ Nodes) × (draft.text.items ≡ nodes_line command.nodes) × (draft.seals.items ≡ [])) (λ stop. stop ≡ Memory) → MatchResult result (IsSynthDraft setup command) (λ stop. stop ≡ Memory)
+pub synth_short : (setup : SetupValue) (command : SynthCall) (rows : List RowValue) (result : Result Draft Status) → rows ≡ drawn_rows command → length rows ≤ command.sizes.capacity → command.sizes.nodes < distinct (shaped setup command.sizes.capacity command.sizes.writers command.sizes.nodes) rows
+    → MatchResult result (λ draft. (draft.status ≡ Nodes) × (draft.text.items ≡ nodes_line command.sizes.nodes) × (draft.seals.items ≡ [])) (λ stop. stop ≡ Memory) → MatchResult result (IsSynthDraft setup command) (λ stop. stop ≡ Memory)
 synth_short setup command rows (Ok draft) is few many made =
     inr (inr (record {
       status = made.0;
-      few = subst (λ (rs : List RowValue). length rs ≤ command.capacity) is few;
-      many = subst (λ (rs : List RowValue). command.nodes < distinct (shaped setup command.capacity command.writers command.nodes) rs) is many;
+      few = subst (λ (rs : List RowValue). length rs ≤ command.sizes.capacity) is few;
+      many = subst (λ (rs : List RowValue). command.sizes.nodes < distinct (shaped setup command.sizes.capacity command.sizes.writers command.sizes.nodes) rs) is many;
       text = made.1;
       seals = made.2;
     }))

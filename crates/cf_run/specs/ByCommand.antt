@@ -1,6 +1,7 @@
 -- What the command alone says of a status and of the seals, whatever the files are.
 use Rattle.std.specs.Prelude.{◌≡◌, ℕ, List, [], length}
-use Rattle.cf_command.specs.Command.{Asked, Drawn, IsRun, IsSynth, IsDump}
+use Rattle.cf_command.specs.Call.{RunCall, SynthCall}
+use Rattle.cf_run.specs.Calls.{IsRun, IsSynth, IsDump}
 use Rattle.cf_table.specs.Moves.{SealValue}
 use Rattle.cf_run.specs.declared.status.Status.{Status}
 use Rattle.cf_run.specs.declared.status.Status.TheVariants.{Done, Words, Setup, Capture, ReadFault, WriteFault, Full, Nodes, Memory, NoFile}
@@ -34,6 +35,6 @@ IsDumpKind Nodes = ⊥
 -- A run comes to any status but that of words that are no command, a synth to none of a capture, a dump to none of a setup or a log.
 -- A run or a synth that was done has one seal, and a dump has none.
 pub record IsByCommand (words : List (List ℕ)) (status : Status) (seals : List SealValue) : Type 0 where
-  pub run : (command : Asked) → IsRun words command → (status ≡ Words → ⊥) × (status ≡ Done → length seals ≡ 1)
-  pub synth : (command : Drawn) → IsSynth words command → IsSynthKind status × (status ≡ Done → length seals ≡ 1)
+  pub run : (command : RunCall) → IsRun words command → (status ≡ Words → ⊥) × (status ≡ Done → length seals ≡ 1)
+  pub synth : (command : SynthCall) → IsSynth words command → IsSynthKind status × (status ≡ Done → length seals ≡ 1)
   pub dump : (capture : List ℕ) → IsDump words capture → IsDumpKind status × (seals ≡ [])

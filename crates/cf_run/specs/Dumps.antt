@@ -4,7 +4,7 @@ use Rattle.cf_row.specs.Schema.{packet_attrs}
 use Rattle.cf_outside.specs.Files.{File, file_named}
 use Rattle.cf_row.specs.Row.{RowValue}
 use Rattle.cf_dump.specs.Dump.{dump_text}
-use Rattle.cf_command.specs.Command.{IsDump}
+use Rattle.cf_run.specs.Calls.{IsDump}
 use Rattle.cf_run.specs.Faults.{HasPacketFault}
 use Rattle.cf_run.specs.Work.{ArePackets}
 

@@ -2,7 +2,8 @@
 -- 2^32, or 2^24 of a file of records, which is opened only where the setup is lawful.
 use Rattle.std.specs.Prelude.{◌≡◌, ◌⊎◌, ℕ, ◌^◌, List, [], drop, Some, Option}
 use Rattle.cf_outside.specs.Files.{File, file_named}
-use Rattle.cf_command.specs.Command.{Asked, Drawn, IsRun, IsSynth, IsDump}
+use Rattle.cf_command.specs.Call.{RunCall, SynthCall}
+use Rattle.cf_run.specs.Calls.{IsRun, IsSynth, IsDump}
 use Rattle.cf_run.specs.Devices.{IsTakenFrom}
 use Rattle.cf_run.specs.Work.{limit_of}
 use Rattle.cf_run.specs.Dumps.{LacksDumped}
@@ -12,7 +13,7 @@ use Rattle.cf_run.specs.declared.status.Status.{Status}
 use Rattle.cf_run.specs.declared.status.Status.TheVariants.{Done, Words, Setup, Capture, ReadFault, WriteFault, Full, Nodes, Memory, NoFile}
 
 pub record IsLeftOfSetup (files : List File) (words : List (List ℕ)) (now : Option (List ℕ)) : Type 0 where
-  pub command : Asked
+  pub command : RunCall
   pub command_is : IsRun words command
   pub bytes : List ℕ
   pub file : file_named files command.setup ≡ Some bytes
@@ -34,7 +35,7 @@ pub record IsLeftOfDump (files : List File) (words : List (List ℕ)) (now : Opt
 
 -- a synth opens its setup alone
 pub record IsLeftOfSynth (files : List File) (words : List (List ℕ)) (now : Option (List ℕ)) : Type 0 where
-  pub command : Drawn
+  pub command : SynthCall
   pub command_is : IsSynth words command
   pub bytes : List ℕ
   pub file : file_named files command.setup ≡ Some bytes
@@ -46,7 +47,7 @@ MayBeLeft files words before now = (now ≡ before) ⊎ IsLeftOfSetup files word
 
 -- a refused setup was read up to its 65,537th byte
 pub record SetupIsRead (files : List File) (words : List (List ℕ)) (now : Option (List ℕ)) : Type 0 where
-  pub command : Asked
+  pub command : RunCall
   pub command_is : IsRun words command
   pub bytes : List ℕ
   pub file : file_named files command.setup ≡ Some bytes
@@ -69,7 +70,7 @@ pub record DumpIsRead (files : List File) (words : List (List ℕ)) (now : Optio
 
 -- a refused setup of a synth was read up to its 65,537th byte, and a lawful one, over another schema, to its end, which comes before
 pub record SynthSetupIsRead (files : List File) (words : List (List ℕ)) (now : Option (List ℕ)) : Type 0 where
-  pub command : Drawn
+  pub command : SynthCall
   pub command_is : IsSynth words command
   pub bytes : List ℕ
   pub file : file_named files command.setup ≡ Some bytes

@@ -1,4 +1,5 @@
 pub mod Formats
+pub mod Calls
 pub mod Work
 pub mod Faults
 pub mod Dumps

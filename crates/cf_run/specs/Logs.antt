@@ -12,15 +12,8 @@ use Rattle.cf_table.specs.Moves.{SealValue}
 use Rattle.cf_load.specs.Loading.{HasAnswered}
 use Rattle.cf_load.specs.Planned.{marks_on, tails_of}
 use Rattle.cf_load.specs.declared.plan.LivePlan.{LivePlan}
-use Rattle.cf_run.specs.declared.log.Sizes.{Sizes}
 use Rattle.cf_run.specs.declared.log.Unmade.{Unmade}
 use Rattle.cf_run.specs.declared.log.Unmade.TheVariants.{Nodes, Memory}
-
--- the sizes are in their ranges
-pub record AreSizes (sizes : Sizes) : Type 0 where
-  pub writers : (1 ≤ sizes.writers) × (sizes.writers ≤ 15)
-  pub capacity : (1 ≤ sizes.capacity) × (sizes.capacity ≤ 65536)
-  pub nodes : sizes.nodes ≤ 65536
 
 -- the plan has the setup's questions and triggers, and the live ones so often
 pub record IsPlanOf (setup : SetupValue) (rounds : ℕ) (plan : LivePlan) : Type 0 where

@@ -4,7 +4,7 @@ use Rattle.std.specs.declared.alloc.Global.{Global}
 use Rattle.cf_outside.specs.Causes.{Rose}
 use Rattle.cf_outside.specs.Files.{File, file_named}
 use Rattle.cf_row.specs.Row.{RowValue}
-use Rattle.cf_command.specs.Command.{Drawn}
+use Rattle.cf_command.specs.Call.{SynthCall}
 use Rattle.cf_report.specs.Meaning.{final_text}
 use Rattle.cf_shape.specs.Nodes.{distinct}
 use Rattle.cf_setup.specs.Setups.{SetupValue, shaped}
@@ -103,28 +103,28 @@ IsPrepared files words before now (Ok draft) = IsDrafted files words before now 
 IsPrepared files words before now (Err stop) = IsFree stop × MayBeLeft files words before now
 
 -- the answers on drawn packets that fit, with the seal of their log
-pub record IsSynthDone (setup : SetupValue) (command : Drawn) (draft : Draft) : Type 0 where
+pub record IsSynthDone (setup : SetupValue) (command : SynthCall) (draft : Draft) : Type 0 where
   pub status : draft.status ≡ Done
-  pub few : length (drawn_rows command) ≤ command.capacity
-  pub few_nodes : distinct (shaped setup command.capacity command.writers command.nodes) (drawn_rows command) ≤ command.writers * command.nodes
-  pub text : draft.text.items ≡ final_text (shaped setup command.capacity command.writers command.nodes) setup (drawn_rows command)
-  pub seals : IsSynthSeal (drawn_rows command) command.writers draft.seals.items
+  pub few : length (drawn_rows command) ≤ command.sizes.capacity
+  pub few_nodes : distinct (shaped setup command.sizes.capacity command.sizes.writers command.sizes.nodes) (drawn_rows command) ≤ command.sizes.writers * command.sizes.nodes
+  pub text : draft.text.items ≡ final_text (shaped setup command.sizes.capacity command.sizes.writers command.sizes.nodes) setup (drawn_rows command)
+  pub seals : IsSynthSeal (drawn_rows command) command.sizes.writers draft.seals.items
 
 -- more packets than fit
-pub record IsSynthOver (command : Drawn) (draft : Draft) : Type 0 where
+pub record IsSynthOver (command : SynthCall) (draft : Draft) : Type 0 where
   pub status : draft.status ≡ Full
-  pub many : command.capacity < length (drawn_rows command)
-  pub text : draft.text.items ≡ full_line command.capacity
+  pub many : command.sizes.capacity < length (drawn_rows command)
+  pub text : draft.text.items ≡ full_line command.sizes.capacity
   pub seals : draft.seals.items ≡ []
 
 -- packets whose paths need more different nodes than a writer has
-pub record IsSynthShort (setup : SetupValue) (command : Drawn) (draft : Draft) : Type 0 where
+pub record IsSynthShort (setup : SetupValue) (command : SynthCall) (draft : Draft) : Type 0 where
   pub status : draft.status ≡ Nodes
-  pub few : length (drawn_rows command) ≤ command.capacity
-  pub many : command.nodes < distinct (shaped setup command.capacity command.writers command.nodes) (drawn_rows command)
-  pub text : draft.text.items ≡ nodes_line command.nodes
+  pub few : length (drawn_rows command) ≤ command.sizes.capacity
+  pub many : command.sizes.nodes < distinct (shaped setup command.sizes.capacity command.sizes.writers command.sizes.nodes) (drawn_rows command)
+  pub text : draft.text.items ≡ nodes_line command.sizes.nodes
   pub seals : draft.seals.items ≡ []
 
 -- what drawn packets come to, by a setup over packets
-abbrev pub IsSynthDraft : SetupValue → Drawn → Draft → Type 0
+abbrev pub IsSynthDraft : SetupValue → SynthCall → Draft → Type 0
 IsSynthDraft setup command draft = IsSynthDone setup command draft ⊎ IsSynthOver command draft ⊎ IsSynthShort setup command draft

@@ -24,7 +24,7 @@ seal_of rows writers order told = record { entries = log_of rows writers order; 
 -- A report has one seal: its entries are the rows in the very order that the text prints, and its root was told of the tails of the
 -- very live answers that the text prints.
 abbrev pub IsReportSeal : (files : List File) (words : List (List ℕ)) (text : List ℕ) → IsReported files words text → List SealValue → Type 0
-IsReportSeal files words text reported seals = seals ≡ seal_of reported.work.rows reported.work.command.writers reported.order (tails_of reported.report.lives) ∷ []
+IsReportSeal files words text reported seals = seals ≡ seal_of reported.work.rows reported.work.command.sizes.writers reported.order (tails_of reported.report.lives) ∷ []
 
 -- The answers on drawn packets have one seal: its entries are the packets' rows in an order that the writers can have made, and
 -- nothing was asked live.
@@ -37,7 +37,7 @@ pub record IsSynthSeal (rows : List RowValue) (writers : ℕ) (seals : List Seal
 abbrev pub AreSealsOfDone : (files : List File) (words : List (List ℕ)) (text : List ℕ) → IsDue files words Done text → List SealValue → Type 0
 AreSealsOfDone files words text (inl reported) seals = IsReportSeal files words text reported seals
 AreSealsOfDone files words text (inr (inl dumped)) seals = seals ≡ []
-AreSealsOfDone files words text (inr (inr synthesized)) seals = IsSynthSeal (drawn_rows synthesized.work.command) synthesized.work.command.writers seals
+AreSealsOfDone files words text (inr (inr synthesized)) seals = IsSynthSeal (drawn_rows synthesized.work.command) synthesized.work.command.sizes.writers seals
 
 -- with any other status there is none
 abbrev pub AreSeals : (files : List File) (words : List (List ℕ)) (status : Status) (text : List ℕ) → IsDue files words status text → List SealValue → Type 0

@@ -3,7 +3,8 @@ use Rattle.std.specs.Prelude.{◌≡◌, ◌⊎◌, ℕ, ◌<◌, ◌≤◌, ◌
 use Rattle.cf_row.specs.Row.{RowValue}
 use Rattle.cf_outside.specs.Files.{File, file_named}
 use Rattle.cf_make.specs.Generated.{generated_frames}
-use Rattle.cf_command.specs.Command.{Drawn, IsSynth}
+use Rattle.cf_command.specs.Call.{SynthCall}
+use Rattle.cf_run.specs.Calls.{IsSynth}
 use Rattle.cf_shape.specs.Nodes.{distinct}
 use Rattle.cf_setup.specs.Setups.{SetupValue, shaped}
 use Rattle.cf_setup.specs.SetupText.{SetupText}
@@ -11,12 +12,12 @@ use Rattle.cf_report.specs.Meaning.{final_text}
 use Rattle.cf_run.specs.Work.{packet_rows}
 
 -- the rows of the drawn packets
-abbrev pub drawn_rows : Drawn → List RowValue
+abbrev pub drawn_rows : SynthCall → List RowValue
 drawn_rows command = packet_rows (generated_frames command.seed command.count)
 
 -- The words are `synth`, and the file of its setup's name is a setup over packets.
 pub record IsSynthWork (files : List File) (words : List (List ℕ)) : Type 0 where
-  pub command : Drawn
+  pub command : SynthCall
   pub command_is : IsSynth words command
   pub bytes : List ℕ
   pub file : file_named files command.setup ≡ Some bytes
@@ -28,20 +29,20 @@ pub record IsSynthWork (files : List File) (words : List (List ℕ)) : Type 0 wh
 -- are no more than the log's capacity, and their paths need no more different nodes than all writers have.
 pub record IsSynthesized (files : List File) (words : List (List ℕ)) (text : List ℕ) : Type 0 where
   pub work : IsSynthWork files words
-  pub few : length (drawn_rows work.command) ≤ work.command.capacity
-  pub few_nodes : distinct (shaped work.setup work.command.capacity work.command.writers work.command.nodes) (drawn_rows work.command) ≤ work.command.writers * work.command.nodes
-  pub text_is : text ≡ final_text (shaped work.setup work.command.capacity work.command.writers work.command.nodes) work.setup (drawn_rows work.command)
+  pub few : length (drawn_rows work.command) ≤ work.command.sizes.capacity
+  pub few_nodes : distinct (shaped work.setup work.command.sizes.capacity work.command.sizes.writers work.command.sizes.nodes) (drawn_rows work.command) ≤ work.command.sizes.writers * work.command.sizes.nodes
+  pub text_is : text ≡ final_text (shaped work.setup work.command.sizes.capacity work.command.sizes.writers work.command.sizes.nodes) work.setup (drawn_rows work.command)
 
 -- Words and a setup over packets that fit: there are no more packets than the capacity, and their paths need no more nodes than a
 -- writer has.
 pub record IsLawfulSynth (files : List File) (words : List (List ℕ)) : Type 0 where
   pub work : IsSynthWork files words
-  pub few : length (drawn_rows work.command) ≤ work.command.capacity
-  pub few_nodes : distinct (shaped work.setup work.command.capacity work.command.writers work.command.nodes) (drawn_rows work.command) ≤ work.command.nodes
+  pub few : length (drawn_rows work.command) ≤ work.command.sizes.capacity
+  pub few_nodes : distinct (shaped work.setup work.command.sizes.capacity work.command.sizes.writers work.command.sizes.nodes) (drawn_rows work.command) ≤ work.command.sizes.nodes
 
 -- no file has the setup's name
 pub record LacksSynthSetup (files : List File) (words : List (List ℕ)) : Type 0 where
-  pub command : Drawn
+  pub command : SynthCall
   pub command_is : IsSynth words command
   pub no_file : file_named files command.setup ≡ None
 
@@ -55,7 +56,7 @@ pub record IsOtherSchema (bytes : List ℕ) (line code : ℕ) : Type 0 where
 
 -- the setup's file has a fault, or it is over another schema
 pub record IsSynthSetupRefused (files : List File) (words : List (List ℕ)) (line code : ℕ) : Type 0 where
-  pub command : Drawn
+  pub command : SynthCall
   pub command_is : IsSynth words command
   pub bytes : List ℕ
   pub file : file_named files command.setup ≡ Some bytes
@@ -64,10 +65,10 @@ pub record IsSynthSetupRefused (files : List File) (words : List (List ℕ)) (li
 -- more packets are drawn than the log's capacity
 pub record IsSynthFull (files : List File) (words : List (List ℕ)) : Type 0 where
   pub work : IsSynthWork files words
-  pub many : work.command.capacity < length (drawn_rows work.command)
+  pub many : work.command.sizes.capacity < length (drawn_rows work.command)
 
 -- the packets' paths need more different nodes than a writer has
 pub record IsSynthOverNodes (files : List File) (words : List (List ℕ)) : Type 0 where
   pub work : IsSynthWork files words
-  pub few : length (drawn_rows work.command) ≤ work.command.capacity
-  pub many : work.command.nodes < distinct (shaped work.setup work.command.capacity work.command.writers work.command.nodes) (drawn_rows work.command)
+  pub few : length (drawn_rows work.command) ≤ work.command.sizes.capacity
+  pub many : work.command.sizes.nodes < distinct (shaped work.setup work.command.sizes.capacity work.command.sizes.writers work.command.sizes.nodes) (drawn_rows work.command)

@@ -8,7 +8,8 @@ use Rattle.cf_outside.specs.Files.{File, file_named}
 use Rattle.cf_pcap.specs.Capture.{FrameValue, IsCapture}
 use Rattle.cf_pcapng.specs.Rules.{IsFileOf}
 use Rattle.cf_run.specs.Formats.{begins_section}
-use Rattle.cf_command.specs.Command.{Asked, IsRun}
+use Rattle.cf_command.specs.Call.{RunCall}
+use Rattle.cf_run.specs.Calls.{IsRun}
 use Rattle.cf_shape.specs.Nodes.{distinct}
 use Rattle.cf_setup.specs.Setups.{SetupValue, shaped}
 use Rattle.cf_setup.specs.SetupText.{SetupText}
@@ -47,7 +48,7 @@ limit_of setup = limit_by setup.packet
 
 -- The words are a command, and the files of its names are a setup and a capture.
 pub record IsWork (files : List File) (words : List (List ℕ)) : Type 0 where
-  pub command : Asked
+  pub command : RunCall
   pub command_is : IsRun words command
   pub setup_bytes : List ℕ
   pub setup_file : file_named files command.setup ≡ Some setup_bytes
@@ -62,14 +63,14 @@ pub record IsWork (files : List File) (words : List (List ℕ)) : Type 0 where
 -- log's capacity, and their paths need no more different nodes than all writers have.
 pub record IsReported (files : List File) (words : List (List ℕ)) (text : List ℕ) : Type 0 where
   pub work : IsWork files words
-  pub few : length work.rows ≤ work.command.capacity
-  pub few_nodes : distinct (shaped work.setup work.command.capacity work.command.writers work.command.nodes) work.rows ≤ work.command.writers * work.command.nodes
+  pub few : length work.rows ≤ work.command.sizes.capacity
+  pub few_nodes : distinct (shaped work.setup work.command.sizes.capacity work.command.sizes.writers work.command.sizes.nodes) work.rows ≤ work.command.sizes.writers * work.command.sizes.nodes
   pub order : List ℕ
-  pub report : IsReport work.setup work.command.capacity work.command.writers work.command.nodes work.command.rounds work.rows order text
+  pub report : IsReport work.setup work.command.sizes.capacity work.command.sizes.writers work.command.sizes.nodes work.command.rounds work.rows order text
 
 -- Lawful words and files that fit: there are no more rows than the capacity, and their paths need no more nodes than a
 -- writer has.
 pub record IsLawful (files : List File) (words : List (List ℕ)) : Type 0 where
   pub work : IsWork files words
-  pub few : length work.rows ≤ work.command.capacity
-  pub few_nodes : distinct (shaped work.setup work.command.capacity work.command.writers work.command.nodes) work.rows ≤ work.command.nodes
+  pub few : length work.rows ≤ work.command.sizes.capacity
+  pub few_nodes : distinct (shaped work.setup work.command.sizes.capacity work.command.sizes.writers work.command.sizes.nodes) work.rows ≤ work.command.sizes.nodes

@@ -3,9 +3,11 @@ ghost use Rattle.std.specs.Prelude.{◌≡◌, ◌≤◌, All, length, IfOk, Mat
 ghost use Rattle.cf_row.specs.Row.{Fits};
 ghost use Rattle.cf_setup.specs.Setups.{IsSetup, shaped};
 ghost use Rattle.cf_load.specs.Planned.{IsPlan};
-ghost use Rattle.cf_run.specs.Logs.{AreSizes, IsPlanOf, IsLogClosed, IsUnmade};
+ghost use Rattle.cf_command.specs.Call.{AreSizes};
+ghost use Rattle.cf_run.specs.Logs.{IsPlanOf, IsLogClosed, IsUnmade};
 ghost use Rattle.cf_run.specs.Seals.{IsClosed, IsSealedReport, IsSealedFinal};
 
+use cf_command::LogSizes;
 use cf_load::{LivePlan, LoadFault, load};
 use cf_outside::Gate;
 use cf_plain::Ask;
@@ -16,14 +18,6 @@ use cf_shape::Shape;
 use cf_table::{Closed, MultiLog, Seal};
 use std::alloc::Global;
 use std::thread::Threads;
-
-/// The sizes of a log: how many writers it has, how many records it may hold, and how many nodes each writer has.
-#[derive(Clone, Copy, Debug)]
-pub(crate) struct Sizes {
-    pub(crate) writers: u8,
-    pub(crate) capacity: u32,
-    pub(crate) nodes: u32,
-}
 
 /// Why there is no log of some rows.
 #[derive(Clone, Copy, Debug)]
@@ -96,7 +90,7 @@ fn log_of<R: Threads + Sync, G: Gate>(
     alloc: Global,
     setup: &Setup,
     rows: &[Row],
-    sizes: Sizes,
+    sizes: LogSizes,
     rounds: u32,
     gate: &G,
 ) -> Result<(Closed, Loaded), Unmade>
@@ -121,7 +115,7 @@ pub(crate) fn report_of<R: Threads + Sync, G: Gate>(
     alloc: Global,
     setup: &Setup,
     rows: &[Row],
-    sizes: Sizes,
+    sizes: LogSizes,
     rounds: u32,
     gate: &G,
 ) -> Result<Report, Unmade>
@@ -147,7 +141,7 @@ pub(crate) fn final_of<R: Threads + Sync, G: Gate>(
     alloc: Global,
     setup: &Setup,
     rows: &[Row],
-    sizes: Sizes,
+    sizes: LogSizes,
     gate: &G,
 ) -> Result<Report, Unmade>
     requires lawful { IsSetup setup.now }

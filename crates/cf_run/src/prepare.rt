@@ -1,6 +1,7 @@
 // The work up to the text that is to be written.
 ghost use Rattle.std.specs.Prelude.{◌≡◌, [], IfOk, IfSome, MatchResult, length};
-ghost use Rattle.cf_command.specs.Command.{IsRun, IsDump, NoCommand, asked_by, texts};
+ghost use Rattle.cf_command.specs.Call.{AreSizes, run_by, texts};
+ghost use Rattle.cf_run.specs.Calls.{IsRun, IsDump, NoCommand};
 ghost use Rattle.cf_run.specs.ByCommand.{IsByCommand, IsDumpKind};
 ghost use Rattle.cf_run.specs.Due.{refusal_line};
 ghost use Rattle.cf_run.specs.Parts.{IsFree, HasStopCause, IsPrepared};
@@ -10,23 +11,12 @@ use crate::Status;
 use crate::draft::{Draft, full, refused, sealed, short};
 use crate::dumping::dump_of;
 use crate::load::{load_packets, load_rows, load_setup};
-use crate::log::{Sizes, Unmade, report_of};
+use crate::log::{Unmade, report_of};
 use crate::synth::prepare_synth;
-use cf_command::{Command, RunCommand, command_of};
+use cf_command::{Command, DumpCommand, RunCommand, command_of};
 use cf_outside::{Gate, Shelf};
 use std::alloc::Global;
 use std::thread::Threads;
-
-// The sizes of a command's log.
-fn sizes_of(command: &RunCommand) -> Sizes
-    ensures { result ≡ record { writers = command.now.writers; capacity = command.now.capacity; nodes = command.now.nodes } }
-{
-    Sizes {
-        writers: command.writers,
-        capacity: command.capacity,
-        nodes: command.nodes,
-    }
-}
 
 // What the files of a command call for, or why nothing is written.
 fn prepare_command<R: Threads + Sync, F: Shelf, G: Gate>(
@@ -37,7 +27,8 @@ fn prepare_command<R: Threads + Sync, F: Shelf, G: Gate>(
     shelf: &mut F,
     gate: &G,
 ) -> Result<Draft, Status>
-    requires { IsRun (texts words.now) (asked_by command.now) }
+    requires run { IsRun (texts words.now) (run_by command.now) }
+    requires sizes { AreSizes command.now.sizes }
     ensures files { F.files shelf.new ≡ F.files shelf.old }
     ensures prepared { IfSome (F.files shelf.old) (λ files. IsPrepared files (texts words.now) (F.rest shelf.old) (F.rest shelf.new) result) }
     ensures cause { HasStopCause (F.faults shelf.old) (F.faults shelf.new) result }
@@ -54,13 +45,13 @@ fn prepare_command<R: Threads + Sync, F: Shelf, G: Gate>(
         Ok(rows) => rows,
         Err(status) => return refused(alloc, status),
     };
-    if rows.len() > command.capacity as usize {
-        return full(alloc, command.capacity);
+    if rows.len() > command.sizes.capacity as usize {
+        return full(alloc, command.sizes.capacity);
     }
-    let sizes = sizes_of(command);
+    let sizes = command.sizes;
     match report_of(rt, alloc, &setup, &rows, sizes, command.rounds, gate) {
         Ok(report) => sealed(alloc, report),
-        Err(Unmade::Nodes) => short(alloc, command.nodes),
+        Err(Unmade::Nodes) => short(alloc, command.sizes.nodes),
         Err(Unmade::Memory) => Err(Status::Memory),
     }
 }
@@ -69,10 +60,10 @@ fn prepare_command<R: Threads + Sync, F: Shelf, G: Gate>(
 fn prepare_dump<F: Shelf>(
     alloc: Global,
     words: &[&str],
-    name: &str,
+    command: &DumpCommand,
     shelf: &mut F,
 ) -> Result<Draft, Status>
-    requires { IsDump (texts words.now) name.now }
+    requires { IsDump (texts words.now) command.now.capture.now }
     ensures files { F.files shelf.new ≡ F.files shelf.old }
     ensures prepared { IfSome (F.files shelf.old) (λ files. IsPrepared files (texts words.now) (F.rest shelf.old) (F.rest shelf.new) result) }
     ensures cause { HasStopCause (F.faults shelf.old) (F.faults shelf.new) result }
@@ -81,7 +72,7 @@ fn prepare_dump<F: Shelf>(
     ensures kind { IfOk result (λ draft. IsDumpKind draft.status × (draft.seals.items ≡ [])) }
 {
     let _ = words;
-    let rows = match load_packets(alloc, shelf, name) {
+    let rows = match load_packets(alloc, shelf, command.capture) {
         Ok(rows) => rows,
         Err(status) => return refused(alloc, status),
     };
@@ -116,7 +107,7 @@ pub(crate) fn prepare<R: Threads + Sync, F: Shelf, G: Gate>(
     match command_of(alloc, words) {
         Ok(Some(Command::Run(command))) => prepare_command(rt, alloc, words, &command, shelf, gate),
         Ok(Some(Command::Synth(command))) => prepare_synth(rt, alloc, words, &command, shelf, gate),
-        Ok(Some(Command::Dump(name))) => prepare_dump(alloc, words, name, shelf),
+        Ok(Some(Command::Dump(command))) => prepare_dump(alloc, words, &command, shelf),
         Ok(None) => refused(alloc, Status::Words),
         Err(_) => Err(Status::Memory),
     }

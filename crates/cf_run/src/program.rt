@@ -1,6 +1,7 @@
 // The program over the real devices.
 ghost use Rattle.std.specs.Prelude.{◌≡◌, ◌≤◌, ◌⊎◌, IfOk, MatchResult, map, string_bytes};
-ghost use Rattle.cf_command.specs.Command.{NoCommand, texts as texts_of};
+ghost use Rattle.cf_command.specs.Call.{texts as texts_of};
+ghost use Rattle.cf_run.specs.Calls.{NoCommand};
 ghost use Rattle.cf_run.specs.Answers.{number_of};
 
 use crate::{Status, run};

@@ -1,14 +1,16 @@
 // The answers on packets that are drawn.
 ghost use Rattle.std.specs.Prelude.{◌≡◌, [], true, IfOk, IfSome, MatchResult, length};
-ghost use Rattle.cf_command.specs.Command.{IsSynth, drawn_by, texts};
+ghost use Rattle.cf_command.specs.Call.{IsInRange, synth_by, texts};
+ghost use Rattle.cf_command.specs.declared.words.Command.TheVariants.{Synth};
+ghost use Rattle.cf_run.specs.Calls.{IsSynth};
 ghost use Rattle.cf_run.specs.ByCommand.{IsSynthKind};
 ghost use Rattle.cf_run.specs.Parts.{IsFree, HasStopCause, IsPrepared, IsSynthDraft};
-ghost use Rattle.cf_run.specs.Stops.{IsDrawn, IsLoaded, AreInRange};
+ghost use Rattle.cf_run.specs.Stops.{IsDrawn, IsLoaded};
 
 use crate::Status;
 use crate::draft::{Draft, full, refused, sealed, short};
 use crate::load::load_setup;
-use crate::log::{Sizes, Unmade, final_of};
+use crate::log::{Unmade, final_of};
 use crate::rows::drawn_packets;
 use cf_command::SynthCommand;
 use cf_outside::{Gate, Shelf};
@@ -26,23 +28,18 @@ fn synthesize<R: Threads + Sync, G: Gate>(
 ) -> Result<Draft, Status>
     requires lawful { IsLoaded setup.now }
     requires packets { setup.now.packet ≡ true }
-    requires sizes { AreInRange (drawn_by command.now) }
-    ensures { MatchResult result (IsSynthDraft setup.now (drawn_by command.now)) (λ stop. stop ≡ Status.Memory) }
+    requires range { IsInRange (Synth command.now) }
+    ensures { MatchResult result (IsSynthDraft setup.now (synth_by command.now)) (λ stop. stop ≡ Status.Memory) }
 {
     let Ok(rows) = drawn_packets(alloc, command.seed, command.count) else {
         return Err(Status::Memory);
     };
-    if rows.len() > command.capacity as usize {
-        return full(alloc, command.capacity);
+    if rows.len() > command.sizes.capacity as usize {
+        return full(alloc, command.sizes.capacity);
     }
-    let sizes = Sizes {
-        writers: command.writers,
-        capacity: command.capacity,
-        nodes: command.nodes,
-    };
-    match final_of(rt, alloc, setup, &rows, sizes, gate) {
+    match final_of(rt, alloc, setup, &rows, command.sizes, gate) {
         Ok(report) => sealed(alloc, report),
-        Err(Unmade::Nodes) => short(alloc, command.nodes),
+        Err(Unmade::Nodes) => short(alloc, command.sizes.nodes),
         Err(Unmade::Memory) => Err(Status::Memory),
     }
 }
@@ -56,7 +53,8 @@ pub(crate) fn prepare_synth<R: Threads + Sync, F: Shelf, G: Gate>(
     shelf: &mut F,
     gate: &G,
 ) -> Result<Draft, Status>
-    requires { IsSynth (texts words.now) (drawn_by command.now) }
+    requires synth { IsSynth (texts words.now) (synth_by command.now) }
+    requires range { IsInRange (Synth command.now) }
     ensures files { F.files shelf.new ≡ F.files shelf.old }
     ensures prepared { IfSome (F.files shelf.old) (λ files. IsPrepared files (texts words.now) (F.rest shelf.old) (F.rest shelf.new) result) }
     ensures cause { HasStopCause (F.faults shelf.old) (F.faults shelf.new) result }

@@ -1,5 +1,5 @@
 use Rattle.std.proofs.Common.{◌≡◌, take, map, string_bytes}
-use Rattle.cf_command.specs.Command.{texts as texts_of}
+use Rattle.cf_command.specs.Call.{texts as texts_of}
 use Rattle.cf_run.proofs.program.texts.Given as goal
 
 abbrev pub invariant-loop-word : goal.invariant-loop-word

@@ -1,0 +1,94 @@
+-- What the words of a command line call for.
+use Rattle.std.specs.Prelude.{ℕ, ◌≤◌, ◌-◌, ◌^◌, ◌&&◌, nat_le, List, Option, Some, None, option_and_then, map, decimal, if◌then◌else◌}
+use Rattle.std.specs.Borrow.{Bor}
+use Rattle.std.specs.Str.{bytes_eq}
+use Rattle.std.specs.Str.Parse.{digits_value}
+use Rattle.cf_command.specs.declared.words.LogSizes.{LogSizes}
+use Rattle.cf_command.specs.declared.words.RunCommand.{RunCommand}
+use Rattle.cf_command.specs.declared.words.SynthCommand.{SynthCommand}
+use Rattle.cf_command.specs.declared.words.DumpCommand.{DumpCommand}
+use Rattle.cf_command.specs.declared.words.Command.{Command}
+use Rattle.cf_command.specs.declared.words.Command.TheVariants.{Run, Synth, Dump}
+use Rattle.cf_command.specs.Table.{SaidValue, said_of}
+use Rattle.cf_command.specs.Table.SaidValue.{run_said, synth_said, dump_said}
+
+-- the texts behind a list of references
+abbrev pub texts : List (Bor (List ℕ)) → List (List ℕ)
+texts words = map (λ word. word.now) words
+
+-- the number from `low` to `high` that a text writes out in decimal digits, with no sign and no leading zero
+unfoldable pub number_in : ℕ → ℕ → List ℕ → Option ℕ
+number_in low high text = let number = digits_value 10 text in if bytes_eq text (decimal number) && (nat_le low number && nat_le number high) then Some number else None
+
+-- the sizes of a log that three texts write out: its writers, its capacity, and the nodes of each writer
+abbrev pub sizes_in : List ℕ → List ℕ → List ℕ → Option LogSizes
+sizes_in writers capacity nodes =
+    option_and_then (λ w. option_and_then (λ c. option_and_then (λ n. Some (record { writers = w; capacity = c; nodes = n }))
+    (number_in 0 65536 nodes)) (number_in 1 65536 capacity)) (number_in 1 15 writers)
+
+-- the sizes that a log may have
+pub record AreSizes (sizes : LogSizes) : Type 0 where
+  pub writers : (1 ≤ sizes.writers) × (sizes.writers ≤ 15)
+  pub capacity : (1 ≤ sizes.capacity) × (sizes.capacity ≤ 65536)
+  pub nodes : sizes.nodes ≤ 65536
+
+-- what `run` is called for: the report of a capture by a setup, both named, over a log of these sizes, each live question being
+-- asked so often beside a batch
+pub record RunCall : Type 0 where
+  pub setup : List ℕ
+  pub capture : List ℕ
+  pub sizes : LogSizes
+  pub rounds : ℕ
+
+-- what `synth` is called for: the answers of a setup, which is named, over so many packets that are drawn from a seed
+pub record SynthCall : Type 0 where
+  pub setup : List ℕ
+  pub seed : ℕ
+  pub count : ℕ
+  pub sizes : LogSizes
+
+-- what `dump` is called for: the rows of a capture, which is named
+pub record DumpCall : Type 0 where
+  pub capture : List ℕ
+
+-- what a command line is called for
+pub data Call : Type 0 where
+  run : (call : RunCall) → Call
+  synth : (call : SynthCall) → Call
+  dump : (call : DumpCall) → Call
+
+-- the call of what is said, where each number is in its range
+abbrev pub call_in : SaidValue → Option Call
+call_in (run_said texts) =
+    option_and_then (λ sizes. option_and_then (λ rounds. Some (run (record { setup = texts.setup; capture = texts.capture; sizes = sizes; rounds = rounds })))
+    (number_in 0 64 texts.live)) (sizes_in texts.writers texts.capacity texts.nodes)
+call_in (synth_said texts) =
+    option_and_then (λ seed. option_and_then (λ count. option_and_then (λ sizes. Some (synth (record { setup = texts.setup; seed = seed; count = count; sizes = sizes })))
+    (sizes_in texts.writers texts.capacity texts.nodes)) (number_in 0 65536 texts.count)) (number_in 0 (2 ^ 64 - 1) texts.seed)
+call_in (dump_said capture) = Some (dump (record { capture = capture }))
+
+-- What the words call for: a command with its options, as clap takes them, each number being in its range. Other words are no
+-- command.
+unfoldable pub call_of : List (List ℕ) → Option Call
+call_of words = option_and_then call_in (said_of words)
+
+-- the calls that commands were read as
+abbrev pub run_by : RunCommand → RunCall
+run_by command = record { setup = command.setup.now; capture = command.capture.now; sizes = command.sizes; rounds = command.rounds }
+
+abbrev pub synth_by : SynthCommand → SynthCall
+synth_by command = record { setup = command.setup.now; seed = command.seed; count = command.count; sizes = command.sizes }
+
+abbrev pub dump_by : DumpCommand → DumpCall
+dump_by command = record { capture = command.capture.now }
+
+abbrev pub call_by : Command → Call
+call_by (Run command) = run (run_by command)
+call_by (Synth command) = synth (synth_by command)
+call_by (Dump command) = dump (dump_by command)
+
+-- the sizes and the count of a command are in their ranges
+abbrev pub IsInRange : Command → Type 0
+IsInRange (Run command) = AreSizes command.sizes
+IsInRange (Synth command) = AreSizes command.sizes × (command.count ≤ 65536)
+IsInRange (Dump command) = Unit {0}
