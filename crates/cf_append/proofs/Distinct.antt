@@ -1,6 +1,7 @@
 -- A spot on a row's path is one of the distinct nodes that the row needs.
 use Rattle.std.proofs.Common.{◌≡◌, ℕ, ◌+◌, ◌-◌, ◌/◌, ◌^◌, ◌<◌, zero, suc, List, [], ◌∷◌, ◌++◌, length, length-append, drop, map, Bool, true, cond, Some, slice_get, refl, ap, sym, subst, ◌∙◌, arith}
 use Rattle.std.specs.List.{flat_map, range_with_len}
+use Rattle.cf_lemmas.proofs.Lists.{Has, has_flat, has_map, has_range}
 use Rattle.cf_row.specs.Row.{RowValue}
 use Rattle.cf_shape.specs.Lanes.{ShapeValue, IsShape, selected_by, key_of}
 use Rattle.cf_shape.specs.Nodes.{Node, levels_of, path_of, nodes_in, nodes_for}
@@ -12,34 +13,6 @@ use Rattle.cf_law.proofs.Shapes.{layout_law}
 use Rattle.cf_append.specs.Paths.{IsOnPath}
 use Rattle.cf_law.proofs.Paths.{path_some}
 use Rattle.cf_append.proofs.Cells.{some_path}
-
--- the list has the item somewhere
-abbrev pub Has : {A : Type 0} → List A → A → Type 0
-Has xs x = (k : ℕ) × (slice_get xs k ≡ Some x)
-
-has_left : {A : Type 0} (xs ys : List A) (k : ℕ) (x : A) → slice_get xs k ≡ Some x → slice_get (xs ++ ys) k ≡ Some x
-has_left [] ys k x h = absurd (cc h)
-has_left (y ∷ xs) ys zero x h = h
-has_left (y ∷ xs) ys (suc k) x h = has_left xs ys k x h
-
-has_right : {A : Type 0} (xs ys : List A) (x : A) → Has ys x → Has (xs ++ ys) x
-has_right [] ys x h = h
-has_right (y ∷ xs) ys x h = (let r = has_right xs ys x h in (suc r.0, r.1))
-
-has_flat : {X A : Type 0} (f : X → List A) (xs : List X) (i : ℕ) (x : X) (y : A) → slice_get xs i ≡ Some x → Has (f x) y → Has (flat_map f xs) y
-has_flat f [] i x y at h = absurd (cc at)
-has_flat {X = X} {A = A} f (z ∷ xs) zero x y at h = (let same : z ≡ x = cc at in let there : Has (f z) y = subst (λ (u : X). Has (f u) y) (sym same) h in (there.0, has_left (f z) (flat_map f xs) there.0 y there.1))
-has_flat f (z ∷ xs) (suc i) x y at h = has_right (f z) (flat_map f xs) y (has_flat f xs i x y at h)
-
-has_map : {X A : Type 0} (f : X → A) (xs : List X) (k : ℕ) (x : X) → slice_get xs k ≡ Some x → slice_get (map f xs) k ≡ Some (f x)
-has_map f [] k x h = absurd (cc h)
-has_map {A = A} f (y ∷ xs) zero x h = (let same : y ≡ x = cc h in ap (λ u. Some (f u)) same)
-has_map f (y ∷ xs) (suc k) x h = has_map f xs k x h
-
-has_range : (a n k : ℕ) → k < n → slice_get (range_with_len a n) k ≡ Some (a + k)
-has_range a zero k lt = absurd (omega (arith, lt))
-has_range a (suc n) zero lt = ap (λ (j : ℕ). Some j) (let e : a ≡ a + 0 = omega arith in e)
-has_range a (suc n) (suc k) lt = has_range (a + 1) n k (omega (arith, lt)) ∙ ap (λ (j : ℕ). Some j) (let e : a + 1 + k ≡ a + suc k = omega arith in e)
 
 drop_front : (xs ys : List ℕ) → drop (length xs) (xs ++ ys) ≡ ys
 drop_front [] ys = refl

@@ -4,13 +4,13 @@ use Rattle.std.proofs.Math.Seq.{take-length}
 use Rattle.std.specs.Bool.{nat_lt}
 use Rattle.std.proofs.lemmas.Bool.{cases_lt}
 use Rattle.std.proofs.lemmas.Bool.Decides.{nat_tests}
+use Rattle.cf_lemmas.proofs.Lists.{get_push_same}
 use Rattle.cf_row.specs.Row.{RowValue}
 use Rattle.cf_row.specs.Words.{word_count}
 use Rattle.cf_row.specs.declared.row.Entry.{Entry}
 use Rattle.cf_shape.specs.Lanes.{ShapeValue, IsShape}
 use Rattle.cf_shape.specs.Nodes.{levels_of}
 use Rattle.cf_shape.specs.Uses.{cell_count}
-use Rattle.cf_words.proofs.Nodes.{get_push_same}
 use Rattle.cf_law.specs.Passes.{Book, Own, Pass}
 use Rattle.cf_law.specs.Steps.{Holds}
 use Rattle.cf_table.specs.Values.{PassValue, book_of}

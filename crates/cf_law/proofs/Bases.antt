@@ -1,5 +1,6 @@
 -- What each kind of step makes of the words, tickets and nodes keeps their law.
 use Rattle.std.proofs.Common.{◌≡◌, ℕ, ◌+◌, ◌<◌, ◌≤◌, ◌⊎◌, suc, List, [], ◌∷◌, ◌++◌, length, set, get_or, Some, None, slice_get, true, false, inl, inr, refl, arith, ap, sym, ◌∙◌, subst, length-set, length-append}
+use Rattle.cf_lemmas.proofs.Lists.{get_push_other, get_push_same}
 use Rattle.cf_row.specs.Row.{RowValue}
 use Rattle.cf_shape.specs.Places.{head_slot}
 use Rattle.std.proofs.lemmas.Bool.{cases_eq, cases_lt}
@@ -9,7 +10,7 @@ use Rattle.cf_shape.specs.Places.Slot.{tail, cell, body}
 use Rattle.cf_words.specs.Words.{Spot, Layout, Ticket, Stock, stock_of, Spells, has, stocks_with_label, stocks_with_node, stocks_with_mark, marked, free_of, ticket_with_word, ticket_with_head, ticket_with_done, fresh_ticket, full_word}
 use Rattle.cf_words.specs.Law.{LayoutLaw, HasLeaf, CanLink, CanHead, CanFill, Skips, IsWhole}
 use Rattle.cf_law.specs.Lawful.{Base, BaseLaw, IsFilledIn}
-use Rattle.cf_words.proofs.Nodes.{get_push_same, get_push_other, over_node_at, relabel_marked, use_marked, over_marked, relabel_over, use_over}
+use Rattle.cf_words.proofs.Nodes.{over_node_at, relabel_marked, use_marked, over_marked, relabel_over, use_over}
 use Rattle.cf_words.proofs.Chains.{has_nothing, has_more, has_rest}
 use Rattle.cf_words.proofs.Links.{Grows, label_keeps, link_keeps, label_law, link_law, link_leaves, label_leaves, none_from_zero, over_keeps, over_law}
 use Rattle.cf_words.proofs.Heads.{get_set_same, get_set_other, head_keeps, fill_keeps, finish_keeps, ticket_keeps, read_tail_keeps}

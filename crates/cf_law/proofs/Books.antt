@@ -1,12 +1,12 @@
 -- The book of a writer, as the tickets change.
 use Rattle.std.proofs.Common.{◌≡◌, ℕ, ◌+◌, ◌<◌, ◌==◌, ◌≢◌, zero, suc, List, [], ◌∷◌, ◌++◌, length, set, Option, Some, None, slice_get, cond, Bool, true, false, inl, inr, refl, arith, ap, ap₂, sym, ◌∙◌, subst}
+use Rattle.cf_lemmas.proofs.Truths.{eq_false, eq_from, eq_true}
 use Rattle.cf_row.specs.Row.{RowValue}
 use Rattle.std.proofs.lemmas.Bool.{cases_Bool}
 use Rattle.cf_words.specs.Words.{Ticket, fresh_ticket}
 use Rattle.cf_law.specs.Passes.{Own, Flight}
 use Rattle.cf_law.specs.Steps.{ticket_of, fresh_flight}
 use Rattle.cf_law.specs.Lawful.{mine_in, flight_in}
-use Rattle.cf_words.proofs.Chains.{eq_true, eq_false, eq_from}
 
 abbrev pub flight_of : ℕ → Ticket → Flight
 flight_of o t = record { offset = o; row = t.row; filled = t.filled; linked = t.linked }

@@ -1,5 +1,7 @@
 -- What was seen, as the tickets change, and what the words spell.
 use Rattle.std.proofs.Common.{◌≡◌, ℕ, ◌<◌, ◌≤◌, zero, suc, List, [], ◌∷◌, ◌++◌, length, take, get_or, Option, Some, None, slice_get, cond, Bool, true, inl, inr, refl, arith, ap, ap₂, sym, ◌∙◌, subst, length-append}
+use Rattle.cf_lemmas.proofs.Lists.{get_push_other, get_push_same}
+use Rattle.cf_lemmas.proofs.Truths.{eq_false, lt_true}
 use Rattle.cf_row.specs.Row.{RowValue}
 use Rattle.cf_row.specs.declared.row.Entry.{Entry}
 use Rattle.std.specs.Bool.{nat_lt}
@@ -10,9 +12,6 @@ use Rattle.cf_words.specs.Words.{Layout, entry, Ticket, ticket_word, full_word, 
 use Rattle.cf_words.specs.Law.{LayoutLaw, Skips}
 use Rattle.cf_law.specs.Lawful.{Base, BaseLaw, front}
 use Rattle.cf_law.specs.Events.{table, word_at, plain_at, entries_spelled}
-use Rattle.cf_words.proofs.Chains.{eq_false}
-use Rattle.cf_words.proofs.Nodes.{get_push_same, get_push_other}
-use Rattle.cf_words.proofs.Heads.{lt_true}
 use Rattle.cf_law.proofs.Passes.{Evolves, no_gap}
 
 module _ {A : Type 0} where

@@ -1,5 +1,6 @@
 -- What a pass learns of its own finished tickets, and, with all books at home, of all tickets.
 use Rattle.std.proofs.Common.{◌≡◌, ℕ, ◌+◌, ◌<◌, ◌≤◌, ◌⊎◌, ◌==◌, zero, suc, List, [], ◌∷◌, length, Option, Some, None, slice_get, cond, Bool, true, inl, inr, refl, arith, ap, ap₂, sym, ◌∙◌}
+use Rattle.cf_lemmas.proofs.Truths.{eq_from, eq_true}
 use Rattle.cf_row.specs.declared.row.Entry.{Entry}
 use Rattle.std.specs.Bool.{nat_lt}
 use Rattle.std.proofs.lemmas.Bool.{cases_Bool, cases_lt}
@@ -11,7 +12,6 @@ use Rattle.cf_law.specs.Steps.{Holds}
 use Rattle.cf_law.specs.Lawful.{Base, BaseLaw, front, mine_in, flight_in, PassLaw}
 use Rattle.cf_law.specs.Events.{word_at}
 use Rattle.cf_law.specs.Readers.{mine_from, AtHome}
-use Rattle.cf_words.proofs.Chains.{eq_true, eq_from}
 use Rattle.cf_law.proofs.Books.{own_of, other_cons, done_cons, open_cons, none_flying}
 
 abbrev Found : ℕ → ℕ → List Ticket → Own → Type 0

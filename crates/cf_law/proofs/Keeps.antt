@@ -1,5 +1,6 @@
 -- Each kind of step keeps the law.
 use Rattle.std.proofs.Common.{◌≡◌, ◌≢◌, ℕ, ◌+◌, ◌<◌, ◌≤◌, suc, List, [], ◌∷◌, ◌++◌, length, set, Option, Some, None, slice_get, cond, Bool, true, false, inl, inr, refl, arith, ap, ap₂, sym, ◌∙◌, subst}
+use Rattle.cf_lemmas.proofs.Truths.{lt_false, lt_true}
 use Rattle.cf_row.specs.Row.{RowValue}
 use Rattle.cf_shape.specs.Places.{head_slot}
 use Rattle.std.specs.Bool.{nat_lt}
@@ -15,7 +16,7 @@ use Rattle.cf_law.specs.Steps.{Holds, HoldsInFlight, ticket_of, book_with_flight
 use Rattle.cf_law.specs.Lawful.{Base, BaseLaw, mine_in, flight_in, book_at, PassLaw, Stands}
 use Rattle.cf_law.specs.Events.{word_at}
 use Rattle.cf_words.proofs.Nodes.{book_same, book_other, over_node_at}
-use Rattle.cf_words.proofs.Heads.{lt_true, none_after}
+use Rattle.cf_words.proofs.Heads.{none_after}
 use Rattle.cf_law.proofs.Passes.{Becomes, Evolves}
 use Rattle.cf_law.proofs.Bases.{new_ticket, new_mark, touched, evolves_self, evolves_set, evolves_push, grows_self, ticket_base, over_base, fill_base, finish_base, head_base}
 use Rattle.cf_law.proofs.Books.{flight_of, own_of, flight_found, none_flying, set_other, push_other, set_open, set_done, push_own}
@@ -37,9 +38,6 @@ stock_label_same bs w l h = book_same bs w _ h
 pub stock_label_other : (bs : List Stock) (w l v : ℕ) → v ≢ w → stock_of (stocks_with_label w l bs) v ≡ stock_of bs v
 unfolding stocks_with_label
 stock_label_other bs w l v h = book_other bs w v _ h
-
-lt_false : (a b : ℕ) → (a < b → ⊥) → nat_lt a b ≡ false
-lt_false a b h = grind (arith, nat_tests)
 
 marked_some : (bs : List Stock) → 0 < marked bs → (w : ℕ) × ((stock_of bs w).over ≡ true)
 unfolding marked stock_of

@@ -1,5 +1,6 @@
 -- Loads, and growing knowledge, keep the law of a pass.
 use Rattle.std.proofs.Common.{◌≡◌, ℕ, ◌%◌, ◌^◌, ◌<◌, ◌≤◌, ◌⊎◌, ◌==◌, zero, suc, List, [], ◌∷◌, length, get_or, take, Option, Some, None, slice_get, cond, Bool, false, inl, inr, refl, arith, ap, sym, ◌∙◌, subst}
+use Rattle.cf_lemmas.proofs.Truths.{eq_from, eq_true}
 use Rattle.cf_row.specs.declared.row.Entry.{Entry}
 use Rattle.cf_shape.specs.Places.{head_slot}
 use Rattle.std.specs.Bool.{nat_lt}
@@ -14,7 +15,6 @@ use Rattle.cf_law.specs.Passes.{Cursor, Pass}
 use Rattle.cf_law.specs.Steps.{pass_with_look, pass_that_sees, pass_with_node, met_of, cursor_after_cell, Reaches}
 use Rattle.cf_law.specs.Lawful.{Base, BaseLaw, front, Known, CursorLaw, CursorIs, Leads, DoneAt, PassLaw}
 use Rattle.cf_law.specs.Events.{word_at, entries_spelled}
-use Rattle.cf_words.proofs.Chains.{eq_true, eq_from}
 use Rattle.cf_law.proofs.Passes.{WalkLaw, met_law, walk_begins, walk_goes, head_word, previous_word}
 use Rattle.cf_law.proofs.Fronts.{front_length, front_take, spelt_front}
 
@@ -91,11 +91,11 @@ pub sees_law : (sh : Layout) (m : Base) (p : Pass) (n : ℕ) (es : List Entry) �
 sees_law sh m p n es law le spelt_here old = go (nat_lt (length p.seen) n) (cases_lt (length p.seen) n)
   where
     go : (b : Bool) → ((length p.seen < n) ⊎ (n ≤ length p.seen)) → PassLaw sh m (cond (nat_lt (length p.seen) n) (record p { seen = take n es; cursor = None }) p)
-    go b (inr ge) = subst (λ (c : Bool). PassLaw sh m (cond c (record p { seen = take n es; cursor = None }) p)) (sym (Rattle.cf_law.proofs.Owned.lt_false (length p.seen) n (λ h. omega arith))) old
+    go b (inr ge) = subst (λ (c : Bool). PassLaw sh m (cond c (record p { seen = take n es; cursor = None }) p)) (sym (Rattle.cf_lemmas.proofs.Truths.lt_false (length p.seen) n (λ h. omega arith))) old
     go b (inl lt) =
         let seen : take n es ≡ front n m.log = ap (take n) spelt_here ∙ front_take m.log n m.tails.1 le in
         let len : length (take n es) ≡ n = ap (length {A = Entry}) seen ∙ front_length m.log n (omega (arith, law.covered)) in
-        subst (λ (c : Bool). PassLaw sh m (cond c (record p { seen = take n es; cursor = None }) p)) (sym (Rattle.cf_words.proofs.Heads.lt_true (length p.seen) n lt)) (record {
+        subst (λ (c : Bool). PassLaw sh m (cond c (record p { seen = take n es; cursor = None }) p)) (sym (Rattle.cf_lemmas.proofs.Truths.lt_true (length p.seen) n lt)) (record {
           within = omega (arith, len);
           seen = seen ∙ ap (λ (k : ℕ). front k m.log) (sym len);
           olds = λ k old_seen at. let h = old.olds k old_seen at in ((let q = h.0 in omega (arith, len)), h.1);

@@ -1,5 +1,6 @@
 -- Splits and joins keep the law, the opening has it, and so every list of events does.
 use Rattle.std.proofs.Common.{◌≡◌, ◌≢◌, ℕ, ◌+◌, ◌<◌, ◌≤◌, ◌⊎◌, ◌==◌, zero, suc, List, [], ◌∷◌, ◌++◌, length, set, get_or, take, Option, Some, None, slice_get, cond, Bool, true, false, inl, inr, refl, arith, ap, ap₂, sym, ◌∙◌, subst, length-set, length-append}
+use Rattle.cf_lemmas.proofs.Truths.{lt_false, lt_true}
 use Rattle.cf_row.specs.declared.row.Entry.{Entry}
 use Rattle.std.proofs.lemmas.Bool.{cases_eq, cases_lt}
 use Rattle.cf_words.specs.Words.{Layout}
@@ -7,8 +8,7 @@ use Rattle.cf_law.specs.Passes.{Book, Pass}
 use Rattle.cf_law.specs.Steps.{Holds, without, new_pass, joined_pass, spent_pass, Splits}
 use Rattle.cf_law.specs.Steps.Splits.{bare, hands}
 use Rattle.cf_law.specs.Lawful.{Base, front, book_at, PassLaw, HoldsAt, Stands, Lawful}
-use Rattle.cf_words.proofs.Heads.{get_set_same, get_set_other, lt_true}
-use Rattle.cf_law.proofs.Owned.{lt_false}
+use Rattle.cf_words.proofs.Heads.{get_set_same, get_set_other}
 use Rattle.cf_law.proofs.Bases.{get_from_set, get_from_push}
 use Rattle.cf_law.proofs.Fronts.{front_take}
 

@@ -1,5 +1,6 @@
 -- A writer's chains are made by what it has finished.
 use Rattle.std.proofs.Common.{◌≡◌, ℕ, ◌+◌, ◌<◌, ◌≤◌, ◌⊎◌, ◌==◌, zero, suc, cond, Bool, true, false, List, [], ◌∷◌, ◌++◌, Option, Some, None, slice_get, inl, inr, refl, arith, ap, ap₂, sym, ◌∙◌, subst, append_assoc}
+use Rattle.cf_lemmas.proofs.Truths.{eq_from, eq_true, lt_false, lt_true}
 use Rattle.cf_row.specs.Row.{RowValue}
 use Rattle.cf_shape.specs.Uses.{Use}
 use Rattle.std.proofs.lemmas.List.{append-nil}
@@ -11,12 +12,9 @@ use Rattle.cf_shape.specs.Uses.Use.{plain, version}
 use Rattle.cf_law.specs.Passes.{Own, Flight, Book}
 use Rattle.cf_law.specs.Steps.{ticket_of, mine_chain, own_word, own_lane_word}
 use Rattle.cf_law.specs.Lawful.{Base, BaseLaw, mine_in, book_at}
-use Rattle.cf_words.proofs.Chains.{links_true, links_intro, entry_linked, entry_unlinked, entry_none, same_bool, same_path_true, same_path_intro, eq_true, eq_from}
-use Rattle.cf_words.proofs.Heads.{lt_true, none_after}
+use Rattle.cf_words.proofs.Chains.{links_true, links_intro, entry_linked, entry_unlinked, entry_none, same_bool, same_path_true, same_path_intro}
+use Rattle.cf_words.proofs.Heads.{none_after}
 use Rattle.cf_law.proofs.Books.{own_of, other_cons, done_cons, open_cons}
-
-pub lt_false : (a b : ℕ) → (a < b → ⊥) → nat_lt a b ≡ false
-lt_false a b h = grind (arith, nat_tests)
 
 -- over all tickets, from offset k on
 pub walk : Layout → ℕ → Spot → ℕ → List Ticket → ℕ → List (ℕ × RowValue)

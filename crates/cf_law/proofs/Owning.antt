@@ -1,5 +1,6 @@
 -- What a writer's book says of its own words, and of what was seen of it.
 use Rattle.std.proofs.Common.{◌≡◌, ℕ, ◌+◌, ◌<◌, ◌≤◌, ◌==◌, zero, suc, cond, Bool, true, false, List, [], ◌∷◌, ◌++◌, length, take, Option, Some, None, slice_get, inl, inr, refl, arith, ap, ap₂, sym, ◌∙◌, subst}
+use Rattle.cf_lemmas.proofs.Truths.{eq_from, eq_true, lt_false}
 use Rattle.cf_row.specs.Row.{RowValue}
 use Rattle.cf_row.specs.declared.row.Entry.{Entry}
 use Rattle.std.proofs.lemmas.Bool.{cases_Bool, cases_eq}
@@ -14,11 +15,11 @@ use Rattle.cf_law.specs.Steps.{Holds, Knows, mine_chain, ticket_of}
 use Rattle.cf_law.specs.Lawful.{Base, BaseLaw, PassLaw, front, mine_in, flight_in, book_at}
 use Rattle.cf_law.specs.Events.{word_at}
 use Rattle.cf_law.specs.Readers.{mine_from, own_top, own_top_by}
-use Rattle.cf_words.proofs.Chains.{eq_true, eq_from, links_true, entry_linked, entry_unlinked, entry_none, chain_same, chain_from, chain_top}
+use Rattle.cf_words.proofs.Chains.{links_true, entry_linked, entry_unlinked, entry_none, chain_same, chain_from, chain_top}
 use Rattle.cf_words.proofs.Heads.{none_after}
 use Rattle.cf_law.proofs.Passes.{head_word}
 use Rattle.cf_law.proofs.Books.{own_of, other_cons, done_cons, open_cons, none_flying}
-use Rattle.cf_law.proofs.Owned.{walk, mine_walk, chain_walk, chain_mine, lt_false, Settled}
+use Rattle.cf_law.proofs.Owned.{walk, mine_walk, chain_walk, chain_mine, Settled}
 use Rattle.cf_law.proofs.Fronts.{word_filled}
 use Rattle.cf_law.proofs.Keeps.{aloft}
 

@@ -1,5 +1,6 @@
 -- What a pass knows stays true, and what its loads tell.
 use Rattle.std.proofs.Common.{◌≡◌, ℕ, ◌+◌, ◌*◌, ◌%◌, ◌^◌, ◌<◌, ◌≤◌, ◌⊎◌, zero, suc, List, [], ◌∷◌, length, get_or, Option, Some, None, slice_get, cond, Bool, true, false, inl, inr, refl, arith, ap, ap₂, sym, ◌∙◌, subst}
+use Rattle.cf_lemmas.proofs.Truths.{eq_false, lt_true}
 use Rattle.cf_row.specs.Row.{RowValue}
 use Rattle.cf_shape.specs.Places.{head_slot}
 use Rattle.std.proofs.lemmas.Bool.{cases_eq}
@@ -13,9 +14,8 @@ use Rattle.cf_law.specs.Passes.{Cursor}
 use Rattle.cf_law.specs.Steps.{met_of}
 use Rattle.cf_law.specs.Lawful.{Known, IsFilledIn, Leads, HasWriter, CursorLaw, CursorIs, DoneAt}
 use Rattle.cf_words.proofs.Nodes.{row_of, col_of}
-use Rattle.cf_words.proofs.Chains.{eq_false, has_first, has_rest, links_true, links_intro, chain_has, chain_is, IsEntry}
+use Rattle.cf_words.proofs.Chains.{has_first, has_rest, links_true, links_intro, chain_has, chain_is, IsEntry}
 use Rattle.cf_words.proofs.Links.{Grows, known_word}
-use Rattle.cf_words.proofs.Heads.{lt_true}
 
 pub no_gap : {A : Type 0} (xs : List A) (i : ℕ) → i < length xs → slice_get xs i ≡ None → ⊥
 no_gap [] i lt e = omega arith

@@ -1,5 +1,6 @@
 -- What the law says of loads, in the terms of what a pass has seen and holds.
 use Rattle.std.proofs.Common.{◌≡◌, ℕ, ◌+◌, ◌*◌, ◌/◌, ◌<◌, ◌≤◌, ◌⊎◌, ◌==◌, zero, suc, List, [], ◌∷◌, ◌++◌, length, set, get_or, take, ◌%◌, ◌^◌, Option, Some, None, slice_get, cond, Bool, true, false, inl, inr, refl, arith, ap, ap₂, sym, ◌∙◌, subst}
+use Rattle.cf_lemmas.proofs.Truths.{eq_from, eq_true, lt_false}
 use Rattle.cf_row.specs.Row.{RowValue}
 use Rattle.cf_row.specs.declared.row.Entry.{Entry}
 use Rattle.cf_shape.specs.Places.{head_slot}
@@ -20,12 +21,12 @@ use Rattle.cf_law.specs.Events.{word_at, entries_spelled}
 use Rattle.cf_law.specs.Readers.{NoneThrough, NoneOwn, pick_at, picks, WalkTells, EntryTells, IsFit, HasNode, IsBounded, AtHome, Tells, GoesOn, StepTells}
 use Rattle.cf_words.proofs.Nodes.{node_of, node_within}
 use Rattle.cf_shape.proofs.Slots.{place_within}
-use Rattle.cf_words.proofs.Chains.{eq_true, both, both_intro, eq_from, same_bool, links_true, links_intro, same_path_true, same_path_intro, entry_linked, entry_unlinked}
+use Rattle.cf_words.proofs.Chains.{both, both_intro, same_bool, links_true, links_intro, same_path_true, same_path_intro, entry_linked, entry_unlinked}
 use Rattle.cf_words.proofs.Links.{none_from_zero}
 use Rattle.cf_words.proofs.Heads.{get_set_same}
 use Rattle.cf_law.proofs.Passes.{no_gap, previous_word, top_within}
 use Rattle.cf_law.proofs.Fronts.{front_at, front_get, front_take, front_length, front_evolves, word_filled, word_spells}
-use Rattle.cf_law.proofs.Owned.{lt_false, own_word_is}
+use Rattle.cf_law.proofs.Owned.{own_word_is}
 use Rattle.cf_law.proofs.Homes.{mine_few}
 use Rattle.cf_law.proofs.Owning.{mine_before, own_head_is, own_cell, mine_seen}
 use Rattle.cf_law.proofs.Loads.{reached, tail_is, head_walk, cell_walk, spelt_is}

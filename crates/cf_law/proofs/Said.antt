@@ -2,6 +2,7 @@
 use Rattle.std.proofs.Common.{◌≡◌, ℕ, ◌+◌, ◌<◌, ◌≤◌, ◌⊎◌, ◌==◌, zero, suc, List, [], ◌∷◌, length, set, take, replicate, Option, Some, None, slice_get, cond, Bool, true, false, inl, inr, refl, arith, ap, sym, ◌∙◌, subst}
 use Rattle.std.specs.Bool.{nat_lt}
 use Rattle.std.proofs.lemmas.Option.{slice_get_within}
+use Rattle.cf_lemmas.proofs.Truths.{eq_false, eq_true, lt_false, lt_true}
 use Rattle.cf_row.specs.declared.row.Entry.{Entry}
 use Rattle.cf_shape.specs.Lanes.{ShapeValue}
 use Rattle.cf_shape.specs.Places.{place}
@@ -18,13 +19,10 @@ use Rattle.cf_law.specs.Readers.{Tells}
 use Rattle.cf_law.specs.Plainly.{SaysPlainly}
 use Rattle.cf_law.specs.PlainPasses.{SaysOfPasses, LawfulSaysAllPlainly}
 use Rattle.cf_law.specs.Laws.{Plays, EveryListKeepsTheLaw, OpeningIsEmpty, ReadTailCoversFinished, WriteTailIsBounded, SeenNeverChanges, WordsTell, StepsTell}
-use Rattle.cf_words.proofs.Chains.{eq_true, eq_false}
-use Rattle.cf_words.proofs.Heads.{lt_true}
 use Rattle.cf_words.proofs.Nodes.{node_within}
 use Rattle.std.proofs.lemmas.Nat.{mul-add-lt}
 use Rattle.cf_law.proofs.Bases.{evolves_self}
 use Rattle.cf_law.proofs.Shapes.{layout_law}
-use Rattle.cf_law.proofs.Owned.{lt_false}
 use Rattle.cf_law.proofs.Passes.{no_gap, head_word, known_holds, Evolves}
 use Rattle.cf_law.proofs.Loads.{tail_is}
 use Rattle.cf_law.proofs.Steps.{step_keeps}

@@ -1,5 +1,6 @@
 -- Every lawful step keeps the law.
 use Rattle.std.proofs.Common.{◌≡◌, ℕ, ◌+◌, ◌*◌, ◌%◌, ◌^◌, ◌<◌, ◌≤◌, ◌⊎◌, ◌==◌, zero, suc, List, [], ◌∷◌, ◌++◌, length, set, get_or, take, Option, Some, None, slice_get, cond, Bool, true, false, inl, inr, refl, arith, ap, ap₂, sym, ◌∙◌, subst}
+use Rattle.cf_lemmas.proofs.Truths.{eq_false, eq_true, lt_false}
 use Rattle.cf_row.specs.declared.row.Entry.{Entry}
 use Rattle.cf_shape.specs.Places.{head_slot}
 use Rattle.std.proofs.lemmas.Bool.{cases_eq}
@@ -14,9 +15,7 @@ use Rattle.cf_law.specs.Steps.{Act, Step, pass_with_look, pass_that_sees, pass_w
 use Rattle.cf_law.specs.Steps.Step.{takes, stores, finishes, advances, loads_tail, looks_done, loads_word, labels, links, heads, loads_child, loads_head, loads_cell}
 use Rattle.cf_law.specs.Lawful.{Base, BaseLaw, PassLaw, Stands}
 use Rattle.cf_law.specs.Events.{word_at, entries_spelled}
-use Rattle.cf_words.proofs.Chains.{eq_true, eq_false}
 use Rattle.cf_words.proofs.Nodes.{node_within}
-use Rattle.cf_law.proofs.Owned.{lt_false}
 use Rattle.cf_law.proofs.Bases.{moved, advance_base, evolves_self, grows_self}
 use Rattle.cf_law.proofs.Acting.{acted, knows_more}
 use Rattle.cf_law.proofs.Keeps.{Next, take_keeps, store_keeps, finish_keeps, head_keeps}

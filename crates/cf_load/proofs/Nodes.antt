@@ -5,13 +5,13 @@ use Rattle.std.proofs.lemmas.List.{length-map}
 use Rattle.std.proofs.lemmas.Nat.{pow-add}
 use Rattle.std.proofs.Math.Nat.{pow-suc, div-lt_iff_lt-mul}
 use Rattle.std.proofs.lemmas.Bool.{cases_Bool, and_from}
+use Rattle.cf_lemmas.proofs.Truths.{eq_from}
 use Rattle.cf_row.specs.Row.{RowValue, Fits}
 use Rattle.cf_row.specs.declared.row.Entry.{Entry}
 use Rattle.cf_row.proofs.Bytes.{both}
 use Rattle.cf_shape.specs.Lanes.{ShapeValue, IsShape, selected_by, key_of}
 use Rattle.cf_shape.specs.Nodes.{Node, levels_of, path_of, nodes_in, nodes_for, nodes_of, same_node, add_node, distinct}
 use Rattle.cf_words.specs.Words.{Spot, spot}
-use Rattle.cf_words.proofs.Chains.{eq_from}
 use Rattle.cf_law.specs.Nibbles.{nibbles}
 use Rattle.cf_law.specs.Passes.{Book, Pass}
 use Rattle.cf_law.specs.Shapes.{path_in}

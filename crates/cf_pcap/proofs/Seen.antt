@@ -3,6 +3,7 @@ use Rattle.std.proofs.Common.{◌≡◌, ◌⊎◌, inl, inr, ℕ, ◌≤◌, �
 use Rattle.std.proofs.lemmas.List.{take_all, take-append-le}
 use Rattle.std.proofs.lemmas.Bool.{cases_lt}
 use Rattle.std.proofs.Math.Seq.{take-append-add}
+use Rattle.cf_lemmas.proofs.Lists.{take_past}
 use Rattle.cf_pcap.specs.Capture.{seen}
 
 pub seen_short : (file : List ℕ) → length file ≤ 2 ^ 32 → seen file ≡ file
@@ -16,11 +17,6 @@ seen_full file more h = take-append-le (2 ^ 32) file more h
 pub length_seen : (file : List ℕ) → length (seen file) ≡ min (2 ^ 32) (length file)
 unfolding seen
 length_seen file = length-take (2 ^ 32) file
-
-take_past : (n : ℕ) (file more : List ℕ) → length file ≤ n → take n (file ++ more) ≡ file ++ take (n - length file) more
-take_past n file more h =
-    let same : length file + (n - length file) ≡ n = omega (arith, h) in
-    ap (λ m. take m (file ++ more)) (sym same) ∙ take-append-add file more (n - length file)
 
 -- of a piece that comes after a short file, no more than fits counts
 pub seen_cut : (file piece : List ℕ) → length file ≤ 2 ^ 32 → seen (file ++ piece) ≡ file ++ take (2 ^ 32 - length file) piece

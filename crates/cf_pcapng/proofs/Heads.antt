@@ -2,6 +2,7 @@
 use Rattle.std.proofs.Common.{◌≡◌, inl, inr, ℕ, ◌<◌, ◌≤◌, ◌%◌, ◌^◌, ◌&&◌, ◌==◌, cond, nat_lt, nat_le, Bool, true, false, List, ◌++◌, length, Option, Some, None, refl, sym, ap, ◌∙◌, arith, length-append}
 use Rattle.std.proofs.lemmas.Bool.{cases_lt}
 use Rattle.std.proofs.lemmas.Bool.Decides.{nat_tests}
+use Rattle.cf_lemmas.proofs.Truths.{both}
 use Rattle.cf_pcap.specs.declared.form.Order.{Order}
 use Rattle.cf_pcap.specs.declared.form.Order.TheVariants.{Little, Big}
 use Rattle.cf_pcap.specs.Capture.{number_in}
@@ -174,15 +175,10 @@ standing order bytes o kind total h = elim (cases_lt (length bytes) 4) [
   by_section true is long = section_standing order bytes o kind total (sym (head_section order bytes long is) ∙ h)
   by_section false is long = block_standing order bytes o kind total is (sym (head_block order bytes long is) ∙ h)
 
-pub both_true : (a b : Bool) → a && b ≡ true → (a ≡ true) × (b ≡ true)
-both_true true true h = (refl, refl)
-both_true true false h = absurd (let no : false ≡ true = h in cc)
-both_true false b h = absurd (let no : false ≡ true = h in cc)
-
 pub at_least : (kind : Kind) (n : ℕ) → is_total kind n ≡ true → least kind ≤ n
 at_least kind n h =
-    let front = both_true ((n % 4 == 0) && nat_le (least kind) n) (is_within kind n) h in
-    let mid = both_true (n % 4 == 0) (nat_le (least kind) n) front.0 in
+    let front = both ((n % 4 == 0) && nat_le (least kind) n) (is_within kind n) h in
+    let mid = both (n % 4 == 0) (nat_le (least kind) n) front.0 in
     let is : nat_le (least kind) n ≡ true = mid.1 in
     grind (arith, nat_tests)
 
@@ -194,7 +190,7 @@ least_12 SimplePacket = omega arith
 least_12 Other = omega arith
 
 pub at_most : (kind : Kind) (n : ℕ) → is_total kind n ≡ true → (kind ≡ Other → ⊥) → n ≤ 2 ^ 20
-at_most kind n h other = by_kind kind ((both_true ((n % 4 == 0) && nat_le (least kind) n) (is_within kind n) h).1) other where
+at_most kind n h other = by_kind kind ((both ((n % 4 == 0) && nat_le (least kind) n) (is_within kind n) h).1) other where
   within : (n : ℕ) → nat_le n (2 ^ 20) ≡ true → n ≤ 2 ^ 20
   within n h = grind (arith, nat_tests)
 

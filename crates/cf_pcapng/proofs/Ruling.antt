@@ -3,6 +3,7 @@ use Rattle.std.proofs.Common.{◌≡◌, ◌⊎◌, inl, inr, ℕ, ◌<◌, ◌�
 use Rattle.std.proofs.lemmas.Bool.{cases_lt, cases_eq}
 use Rattle.std.proofs.lemmas.Bool.Decides.{nat_tests}
 use Rattle.byteorder.specs.Endian.{little_number}
+use Rattle.cf_lemmas.proofs.Truths.{both}
 use Rattle.cf_pcap.specs.declared.form.Order.{Order}
 use Rattle.cf_pcap.specs.Capture.{FrameValue, number_in}
 use Rattle.cf_stream.specs.Format.{Wants, Bad, Takes}
@@ -19,7 +20,7 @@ use Rattle.cf_pcapng.specs.declared.content.Content.TheVariants.{NewSection, New
 use Rattle.cf_pcapng.specs.Blocks.{is_section, kind_of, order_at, least, is_within, is_total, total_at, sized, in_order, block_head, head_of, is_link, packet_of, enhanced_packet, enhanced_of, simple_packet, simple_of, stated, last_total, content_of, interface_at}
 use Rattle.cf_pcapng.specs.File.{State, fault_of, frames_of, after, block_found, step}
 use Rattle.cf_pcapng.specs.Rules.{IsSectionType, IsType, BeginsAs, IsLawfulTotal, HasHead, BreaksRule1, BreaksRule2, BreaksRule3, HeadBreaks, IsLink, PacketBreaks, IsLawfulPacket, PacketOfBreaks, PacketOfStates, BlockBreaks, BlockStates, HasBlock, HasFlaw, IsBlock, StepsByRules}
-use Rattle.cf_pcapng.proofs.Heads.{head_section, head_block, section_long, block_long, head_short, section_short, block_short, both_true, at_least, at_most}
+use Rattle.cf_pcapng.proofs.Heads.{head_section, head_block, section_long, block_long, head_short, section_short, block_short, at_least, at_most}
 use Rattle.cf_pcapng.proofs.Steps.{Shown, step_at, found_short, found_whole, length_front}
 
 err_same : (a b : Flaw) → ◌≡◌ {A = Result Content Flaw} (Err a) (Err b) → a ≡ b
@@ -190,8 +191,8 @@ total_true kind n h = all_true (n % 4 == 0) (nat_le (least kind) n) (is_within k
 
 total_lawful : (kind : Kind) (n : ℕ) → is_total kind n ≡ true → IsLawfulTotal kind n
 total_lawful kind n h =
-    let front = both_true ((n % 4 == 0) && nat_le (least kind) n) (is_within kind n) h in
-    let mid = both_true (n % 4 == 0) (nat_le (least kind) n) front.0 in
+    let front = both ((n % 4 == 0) && nat_le (least kind) n) (is_within kind n) h in
+    let mid = both (n % 4 == 0) (nat_le (least kind) n) front.0 in
     let fours : eqb (n % 4) 0 ≡ true = mid.0 in
     record { fours = eqb_eq (n % 4) 0 fours; enough = at_least kind n h; most = λ other. at_most kind n h other } where
       eqb_eq : (a b : ℕ) → eqb a b ≡ true → a ≡ b

@@ -1,4 +1,3 @@
-pub mod Ranges
 pub mod Tolds
 pub mod Lives
 pub mod FrontRun

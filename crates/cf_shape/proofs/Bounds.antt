@@ -2,6 +2,7 @@
 use Rattle.std.proofs.Common.{◌≡◌, ℕ, ◌+◌, ◌*◌, ◌^◌, ◌<◌, ◌≤◌, Bool, true, false, ◌&&◌, List, [], ◌∷◌, length, refl, arith}
 use Rattle.std.specs.List.{list_all}
 use Rattle.std.proofs.lemmas.Bool.{and_from}
+use Rattle.cf_lemmas.proofs.Truths.{both}
 use Rattle.cf_row.specs.declared.schema.Attr.{Attr}
 use Rattle.cf_row.specs.Expr.{is_of_schema}
 use Rattle.cf_shape.specs.declared.lane.Lane.{Lane}
@@ -31,10 +32,6 @@ total_small s is =
     let b = is.writers.1 in
     let few : 1 + 16 * s.writers ≤ 241 = omega (arith, b) in
     omega (arith, nodes_small s is, mul-le (s.writers * s.nodes) (1 + 16 * s.writers) 983040 241 (writers_nodes_small s is) few)
-
-both : (a b : Bool) → a && b ≡ true → (a ≡ true) × (b ≡ true)
-both true b h = (refl, h)
-both false b h = absurd (cc h)
 
 pub lanes_lawful : (attrs : List Attr) (lanes : List Lane) → AreLanesOf attrs lanes → have_good_keys attrs lanes ≡ true → have_good_measures attrs lanes ≡ true → list_all (is_lawful_lane attrs) lanes ≡ true
 lanes_lawful attrs [] of keys measures = refl

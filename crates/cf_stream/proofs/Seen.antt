@@ -3,6 +3,7 @@ use Rattle.std.proofs.Common.{◌≡◌, ◌⊎◌, inl, inr, ℕ, ◌<◌, ◌�
 use Rattle.std.proofs.lemmas.List.{take_all, take-append-le}
 use Rattle.std.proofs.lemmas.Bool.{cases_lt}
 use Rattle.std.proofs.Math.Seq.{take-append-add}
+use Rattle.cf_lemmas.proofs.Lists.{take_past}
 use Rattle.cf_stream.specs.Format.{seen}
 use Rattle.cf_stream.specs.Stream.{early}
 
@@ -25,12 +26,6 @@ early_full file more h = take-append-le (2 ^ 32 - 1) file more (omega (arith, h)
 pub length_early : (file : List ℕ) → length (early file) ≡ min (2 ^ 32 - 1) (length file)
 unfolding early
 length_early file = length-take (2 ^ 32 - 1) file
-
--- of what comes after a short file, no more than fits counts
-take_past : (n : ℕ) (file more : List ℕ) → length file ≤ n → take n (file ++ more) ≡ file ++ take (n - length file) more
-take_past n file more h =
-    let same : length file + (n - length file) ≡ n = omega (arith, h) in
-    ap (λ m. take m (file ++ more)) (sym same) ∙ take-append-add file more (n - length file)
 
 pub seen_cut : (file piece : List ℕ) → length file ≤ 2 ^ 32 → seen (file ++ piece) ≡ file ++ take (2 ^ 32 - length file) piece
 unfolding seen

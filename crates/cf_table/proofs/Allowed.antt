@@ -3,6 +3,7 @@ use Rattle.std.proofs.Common.{◌≡◌, ℕ, ◌+◌, ◌==◌, ◌<◌, ◌≤
 use mathlib.Core.Option.{some, some-injective, some-ne-none}
 use lib.ListN.{get_elem?}
 use prog.Atomic.{either}
+use Rattle.cf_lemmas.proofs.Truths.{eq_false}
 use Rattle.atomic_table.specs.Table.{State, Allows, Act, keeps, stepped}
 use Rattle.atomic_table.proofs.Lists.{set_else}
 use Rattle.std.proofs.lemmas.Bool.{cases_Bool}
@@ -11,7 +12,6 @@ use Rattle.cf_shape.specs.Lanes.{ShapeValue, IsShape}
 use Rattle.cf_shape.specs.Places.{Slot, Sizes, place, sizes_of, word_total, IsReal}
 use Rattle.cf_shape.specs.Places.Slot.{tail}
 use Rattle.cf_shape.proofs.Slots.{place_within}
-use Rattle.cf_words.proofs.Chains.{eq_false}
 use Rattle.cf_law.specs.Passes.{Pass}
 use Rattle.cf_law.specs.Steps.{Step, child_word, joined_pass, spent_pass, pass_with_link, pass_with_child, pass_that_sees, pass_with_tail}
 use Rattle.cf_law.specs.Steps.Step.{takes, stores, finishes, advances, loads_tail, looks_done, loads_word, labels, links, heads, loads_child, loads_head, loads_cell}

@@ -3,11 +3,11 @@ use Rattle.std.proofs.Common.{◌≡◌, ℕ, ◌==◌, ◌<◌, ◌≤◌, suc,
 use Rattle.std.proofs.Math.Seq.{drop-cons}
 use Rattle.std.proofs.Math.ListN.{drop_of_length-le}
 use Rattle.std.proofs.lemmas.Bool.{cases_Bool}
-use Rattle.cf_words.proofs.Chains.{eq_from, eq_true}
 use Rattle.std.proofs.lemmas.Option.{slice_get-get_or, slice_get-map}
 use Rattle.std.proofs.lemmas.List.{length-map, map-append}
+use Rattle.cf_lemmas.proofs.Lists.{get_push_other, get_push_same}
+use Rattle.cf_lemmas.proofs.Truths.{eq_from, eq_true}
 use Rattle.cf_table.proofs.Calls.{Holding}
-use Rattle.cf_words.proofs.Nodes.{get_push_same, get_push_other}
 use Rattle.cf_law.specs.Passes.{Book}
 use Rattle.cf_law.specs.Steps.{new_pass, without}
 use Rattle.cf_law.specs.Events.{no_book}

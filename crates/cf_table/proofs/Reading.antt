@@ -4,11 +4,11 @@ use Rattle.std.specs.Bool.{nat_lt}
 use Rattle.std.proofs.lemmas.Bool.{cases_Bool}
 use Rattle.std.proofs.lemmas.Bool.Decides.{nat_tests}
 use Rattle.std.proofs.lemmas.List.{get_or-set_same, get_or-set_other}
+use Rattle.cf_lemmas.proofs.Truths.{eq_from, eq_true}
 use Rattle.cf_row.specs.Row.{values_fit}
 use Rattle.cf_row.specs.Words.{IsEntry, word_count, spelled}
 use Rattle.cf_row.specs.declared.row.Entry.{Entry}
 use Rattle.cf_shape.specs.Lanes.{ShapeValue, IsShape}
-use Rattle.cf_words.proofs.Chains.{eq_from, eq_true}
 use Rattle.cf_row.proofs.Bytes.{both}
 use Rattle.cf_law.specs.Passes.{Pass}
 use Rattle.cf_law.specs.Shapes.{layout}

@@ -2,10 +2,11 @@
 use Rattle.std.proofs.Common.{◌≡◌, ◌∙◌, ℕ, zero, suc, ◌<◌, ◌≤◌, ◌==◌, inl, inr, List, [], ◌∷◌, ◌++◌, length, Bool, true, cond, Option, Some, None, slice_get, refl, ap, arith}
 use Rattle.std.proofs.lemmas.Bool.{cases_Bool, cases_lt}
 use Rattle.std.proofs.lemmas.Option.{slice_get_within}
+use Rattle.cf_lemmas.proofs.Truths.{eq_from, eq_true}
 use Rattle.cf_row.specs.Row.{RowValue}
 use Rattle.cf_row.specs.declared.row.Entry.{Entry}
 use Rattle.cf_words.specs.Words.{Spot, Layout, same_path}
-use Rattle.cf_words.proofs.Chains.{eq_from, eq_true, same_path_true, same_path_intro}
+use Rattle.cf_words.proofs.Chains.{same_path_true, same_path_intro}
 use Rattle.cf_law.specs.Readers.{IsIn, pick_at, picks}
 
 pub pick_none : (sh : Layout) (w : ℕ) (s : Spot) (o : ℕ) (e : Entry) → (IsIn sh w s e → ⊥) → pick_at sh w s o (Some e) ≡ []

@@ -1,13 +1,13 @@
 -- The way down a lane's tree.
 use Rattle.std.proofs.Common.{◌≡◌, ◌∙◌, ℕ, zero, suc, ◌+◌, ◌-◌, ◌*◌, ◌/◌, ◌%◌, ◌^◌, ◌<◌, ◌≤◌, List, [], ◌∷◌, ◌++◌, length, Bool, cond, Some, slice_get, refl, sym, ap, ap₂, subst, arith}
 use Rattle.std.proofs.Math.Nat.{pow-suc, pow-succ', div-div-eq-div-mul}
+use Rattle.cf_lemmas.proofs.Truths.{eq_false, eq_true}
 use Rattle.cf_row.specs.declared.row.Entry.{Entry}
 use Rattle.cf_shape.specs.Lanes.{ShapeValue, IsShape}
 use Rattle.cf_shape.specs.Nodes.{levels_of}
 use Rattle.cf_shape.specs.Places.{sizes_of, IsReal}
 use Rattle.cf_shape.specs.Places.Slot.{root, body}
 use Rattle.cf_words.specs.Words.{Spot, spot}
-use Rattle.cf_words.proofs.Chains.{eq_true, eq_false}
 use Rattle.cf_law.specs.Nibbles.{nibbles}
 use Rattle.cf_law.proofs.Nibbles.{nibbles_more, length-nibbles}
 use Rattle.cf_law.specs.Passes.{Pass}

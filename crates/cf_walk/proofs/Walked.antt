@@ -3,6 +3,7 @@ use Rattle.std.proofs.Common.{◌≡◌, ◌∙◌, ℕ, suc, ◌+◌, ◌-◌, 
 use Rattle.std.proofs.lemmas.Bool.{cases_lt}
 use Rattle.std.proofs.lemmas.List.{append_assoc, append-nil, length-append}
 use Rattle.std.proofs.lemmas.Option.{slice_get_past}
+use Rattle.cf_lemmas.proofs.Truths.{eq_true}
 use Rattle.cf_row.specs.Row.{RowValue}
 use Rattle.cf_row.specs.Words.{word_count}
 use Rattle.cf_row.specs.declared.row.Entry.{Entry}
@@ -12,7 +13,7 @@ use Rattle.cf_shape.specs.Uses.{cells_before, cell_words}
 use Rattle.cf_shape.specs.Uses.Use.{version}
 use Rattle.cf_shape.proofs.Used.{before_fits, version_at}
 use Rattle.cf_words.specs.Words.{Spot, spot, Layout, has}
-use Rattle.cf_words.proofs.Chains.{eq_true, has_more, has_nothing}
+use Rattle.cf_words.proofs.Chains.{has_more, has_nothing}
 use Rattle.cf_law.specs.Nibbles.{nibbles}
 use Rattle.cf_law.proofs.Nibbles.{nibbles_more, length-nibbles}
 use Rattle.cf_law.specs.Passes.{Look, Cursor, Pass}

@@ -1,5 +1,6 @@
 -- What a chain has.
 use Rattle.std.proofs.Common.{◌≡◌, ℕ, ◌<◌, ◌≤◌, ◌⊎◌, ◌==◌, zero, suc, List, [], ◌∷◌, ◌++◌, Option, Some, None, slice_get, cond, Bool, true, false, inl, inr, refl, arith, ap, ap₂, sym, ◌∙◌, subst}
+use Rattle.cf_lemmas.proofs.Truths.{eq_from, eq_true}
 use Rattle.cf_row.specs.Row.{RowValue}
 use Rattle.std.proofs.lemmas.Bool.{cases_Bool, cases_eq, cases_lt}
 use Rattle.std.proofs.lemmas.Bool.Decides.{nat_tests}
@@ -9,15 +10,6 @@ use Rattle.cf_words.specs.Words.{Spot, Layout, Ticket, has, same_path, links, en
 pub both : (a b : Bool) → cond a b false ≡ true → (a ≡ true) × (b ≡ true)
 both true b h = (refl, h)
 both false b h = absurd (cc)
-
-pub eq_from : (a b : ℕ) → (a == b) ≡ true → a ≡ b
-eq_from a b h = grind (arith, nat_tests)
-
-pub eq_true : (a b : ℕ) → a ≡ b → (a == b) ≡ true
-eq_true a b e = grind (arith, nat_tests)
-
-pub eq_false : (a b : ℕ) → (a ≡ b → ⊥) → (a == b) ≡ false
-eq_false a b h = grind (arith, nat_tests)
 
 pub same_path_true : (o : Option (List ℕ)) (p : List ℕ) → same_path o p ≡ true → o ≡ Some p
 unfolding same_path

@@ -1,5 +1,7 @@
 -- A head, a cell's word, a done word and a new ticket keep what the words mean.
 use Rattle.std.proofs.Common.{◌≡◌, ℕ, ◌+◌, ◌*◌, ◌/◌, ◌%◌, ◌<◌, ◌==◌, zero, suc, List, [], ◌∷◌, ◌++◌, length, set, Option, Some, None, slice_get, cond, Bool, true, false, inl, inr, refl, arith, ap, ap₂, sym, ◌∙◌, subst, length-set, length-append}
+use Rattle.cf_lemmas.proofs.Lists.{get_push_other, get_push_same}
+use Rattle.cf_lemmas.proofs.Truths.{eq_false, eq_true, lt_false, lt_true}
 use Rattle.cf_row.specs.Row.{RowValue}
 use Rattle.cf_shape.specs.Places.{head_slot}
 use Rattle.cf_shape.specs.Uses.{Use}
@@ -13,9 +15,9 @@ use Rattle.cf_shape.specs.Places.Slot.{tail, cell, root, body}
 use Rattle.cf_words.specs.Words.{Spot, spot, Layout, Ticket, Stock, node_at, NodeWord, BodyWord, is_inner, Word, Spells, links, entry_at, chain, top, tail_word, ticket_word, full_word, used_word, lane_word, version_word, done_word, ticket_with_word, ticket_with_head, ticket_with_done, fresh_ticket}
 use Rattle.cf_shape.specs.Uses.Use.{plain, version}
 use Rattle.cf_words.specs.Law.{LayoutLaw, NodesLaw, FlightLaw, CanHead, CanFill, Skips}
-use Rattle.cf_words.proofs.Nodes.{cond_zero, get_push_same, get_push_other, row_of, col_of, node_within}
+use Rattle.cf_words.proofs.Nodes.{cond_zero, row_of, col_of, node_within}
 use Rattle.cf_words.proofs.Stores.{store_keeps}
-use Rattle.cf_words.proofs.Chains.{eq_true, eq_false, links_of, same_bool, has_more, has_first, has_rest, links_true, links_intro, entry_none, entry_linked, entry_unlinked, entry_same, chain_same, chain_from, chain_top, fresh_unlinked}
+use Rattle.cf_words.proofs.Chains.{links_of, same_bool, has_more, has_first, has_rest, links_true, links_intro, entry_none, entry_linked, entry_unlinked, entry_same, chain_same, chain_from, chain_top, fresh_unlinked}
 
 pub get_set_same : {A : Type 0} (xs : List A) (i : ℕ) (x y : A) → slice_get xs i ≡ Some y → slice_get (set xs i x) i ≡ Some x
 get_set_same [] i x y h = absurd (cc)
@@ -28,12 +30,6 @@ get_set_other (z ∷ xs) zero zero x ne = absurd (ne refl)
 get_set_other (z ∷ xs) zero (suc k) x ne = refl
 get_set_other (z ∷ xs) (suc i) zero x ne = refl
 get_set_other (z ∷ xs) (suc i) (suc k) x ne = get_set_other xs i k x (λ e. ne (ap suc e))
-
-lt_false : (a b : ℕ) → (a < b → ⊥) → nat_lt a b ≡ false
-lt_false a b h = grind (arith, nat_tests)
-
-pub lt_true : (a b : ℕ) → a < b → nat_lt a b ≡ true
-lt_true a b h = grind (arith, nat_tests)
 
 head_word_keeps : (sh : Layout) (log log' : List Ticket) (bs : List Stock) (s : Spot) (j v : ℕ) (b : Bool)
     → (b ≡ false → top (chain sh log (j % sh.sizes.writers) (spot s.lane (j / sh.sizes.writers ∷ s.path)) (length log)) ≡ top (chain sh log' (j % sh.sizes.writers) (spot s.lane (j / sh.sizes.writers ∷ s.path)) (length log')))

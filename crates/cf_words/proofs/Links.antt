@@ -4,6 +4,7 @@ use Rattle.std.proofs.lemmas.Bool.{cases_eq, cases_lt, cases_Bool}
 use Rattle.std.proofs.lemmas.Nat.{mul-add-lt}
 use Rattle.std.proofs.lemmas.Bool.Decides.{nat_tests}
 use Rattle.std.specs.Bool.{nat_lt}
+use Rattle.cf_lemmas.proofs.Truths.{lt_true}
 use Rattle.cf_shape.specs.Places.{Sizes, Slot, place, IsReal, word_total}
 use Rattle.cf_shape.specs.Places.Slot.{tail, cell, root, body}
 use Rattle.cf_words.specs.Words.{Spot, spot, Layout, Ticket, Stock, stock_of, node_at, spare_label, stocks_with_label, stocks_with_node, stocks_with_mark, free_of, Names, IsNamedBy, NodeWord, BodyWord, is_inner, Word, Spells, links, entry_at, chain, top}
@@ -56,9 +57,6 @@ named_child : (m : ℕ) (bs : List Stock) (n i l : ℕ) (p : List ℕ) (t : Slot
     → node_at m bs n ≡ Some (spot l p) → 0 < length p → IsNamedBy m bs l (i ∷ p) t → body n (suc i) ≡ t
 named_child m bs n i l [] t unique at long h = absurd (omega arith)
 named_child m bs n i l (e ∷ p) t unique at long h = ap (λ (k : ℕ). body k (suc i)) (unique h.0 _ at h.1) ∙ sym h.3
-
-lt_true : (a b : ℕ) → a < b → nat_lt a b ≡ true
-lt_true a b h = grind (arith, nat_tests)
 
 pub is_inner_true : (sh : Layout) (s : Spot) → suc (length s.path) < sh.levels s.lane → is_inner sh s ≡ true
 is_inner_true sh s h = lt_true _ _ h

@@ -6,21 +6,13 @@ use Rattle.std.proofs.lemmas.Nat.{div-add-mod', div-mul-add, mul-add-lt}
 use Rattle.std.proofs.lemmas.Bool.{cases_eq, cases_lt}
 use Rattle.std.proofs.lemmas.Option.{slice_get_past, slice_get_within}
 use Rattle.std.proofs.lemmas.Bool.Decides.{nat_tests}
+use Rattle.cf_lemmas.proofs.Lists.{get_push_other, get_push_same}
+use Rattle.cf_lemmas.proofs.Truths.{eq_false, eq_true}
 use Rattle.cf_words.specs.Words.{Spot, Stock, stock_of, node_at, spare_label, stocks_with_label, stocks_with_node, free_of, stocks_with_mark, marked}
 
 pub cond_zero : (b : Bool) → ◌≡◌ {A = ℕ} (cond b 0 0) 0
 cond_zero true = refl
 cond_zero false = refl
-
-pub get_push_same : {A : Type 0} (xs : List A) (x : A) → slice_get (xs ++ x ∷ []) (length xs) ≡ Some x
-get_push_same [] x = refl
-get_push_same (y ∷ xs) x = get_push_same xs x
-
-pub get_push_other : {A : Type 0} (xs : List A) (x : A) (k : ℕ) → (k ≡ length xs → ⊥) → slice_get (xs ++ x ∷ []) k ≡ slice_get xs k
-get_push_other [] x zero ne = absurd (ne refl)
-get_push_other [] x (suc k) ne = refl
-get_push_other (y ∷ xs) x zero ne = refl
-get_push_other (y ∷ xs) x (suc k) ne = get_push_other xs x k (λ e. ne (ap suc e))
 
 pub book_same : (bs : List Stock) (w : ℕ) (b : Stock) → w < length bs → stock_of (set bs w b) w ≡ b
 unfolding stock_of
@@ -63,12 +55,6 @@ label_node_at m bs w v n h =
       | inl e ↦ ap (λ (q : ℕ). slice_get (stock_of (set bs w b) q).used (n % m)) e ∙ (ap (λ (c : Stock). slice_get c.used (n % m)) (book_same bs w b h) ∙ ap (λ (q : ℕ). slice_get (stock_of bs q).used (n % m)) (sym e))
       | inr ne ↦ ap (λ (c : Stock). slice_get c.used (n % m)) (book_other bs w (n / m) b ne)
     ]
-
-eq_true : (a b : ℕ) → a ≡ b → (a == b) ≡ true
-eq_true a b e = grind (arith, nat_tests)
-
-eq_false : (a b : ℕ) → (a ≡ b → ⊥) → (a == b) ≡ false
-eq_false a b e = grind (arith, nat_tests)
 
 pub label_spare_here : (m : ℕ) (bs : List Stock) (w v : ℕ) → w < length bs → length (stock_of bs w).used < m
     → spare_label m (stocks_with_label w v bs) (free_of m bs w) ≡ v

@@ -1,6 +1,6 @@
 use Rattle.std.proofs.Common.{string_bytes}
+use Rattle.cf_lemmas.proofs.Ranges.{step_range}
 use Rattle.cf_report.specs.Report.{alert_lines_at}
-use Rattle.cf_report.proofs.Ranges.{step_range}
 use Rattle.cf_report.proofs.lines.push_alerts.Goals as goal
 
 pub loop-place-preserved : goal.loop-place-preserved

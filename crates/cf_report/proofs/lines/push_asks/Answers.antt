@@ -1,11 +1,11 @@
 use Rattle.std.proofs.Common.{◌≡◌, ◌<◌, get_or, length, sym, ap, ap₂, ◌∙◌, string_bytes, ◌++◌}
+use Rattle.cf_lemmas.proofs.Ranges.{step_range}
 use Rattle.cf_history.specs.History.{AskReply}
 use Rattle.cf_plain.specs.Asks.{rows_in}
 use Rattle.cf_plain.specs.declared.ask.Ask.{Ask}
 use Rattle.cf_plain.specs.declared.answer.Body.{Body}
 use Rattle.cf_report.specs.Answered.{told_by, tolds_of}
 use Rattle.cf_report.specs.Report.{ask_name, ask_line, ask_line_at, nothing_told}
-use Rattle.cf_report.proofs.Ranges.{step_range}
 use Rattle.cf_report.proofs.Tolds.{told_at}
 use Rattle.cf_report.proofs.lines.push_asks.Goals as goal
 

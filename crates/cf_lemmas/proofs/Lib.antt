@@ -1,0 +1,4 @@
+pub mod Lists
+pub mod Truths
+pub mod Sums
+pub mod Ranges
