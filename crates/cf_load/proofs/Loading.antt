@@ -2,7 +2,7 @@
 use Rattle.std.proofs.Common.{◌≡◌, ◌<◌, ◌+◌, ◌-◌, ◌*◌, ℕ, List, ◌++◌, length, take, append_assoc, sym, ap, subst, ◌∙◌, arith}
 use Rattle.std.proofs.lemmas.List.{length-take, map-append}
 use Rattle.cf_row.specs.Row.{RowValue}
-use Rattle.cf_report.specs.declared.loaded.Live.{Live}
+use Rattle.cf_plain.specs.declared.loaded.Live.{Live}
 use Rattle.cf_table.specs.Values.{PassValue, LogValue}
 use Rattle.cf_table.proofs.Settling.{begins_then}
 use Rattle.cf_load.specs.declared.plan.LivePlan.{LivePlan}

@@ -11,8 +11,8 @@ use Rattle.cf_shape.specs.Lanes.{ShapeValue}
 use Rattle.cf_plain.specs.Asks.{eval}
 use Rattle.cf_plain.specs.declared.ask.Ask.{Ask}
 use Rattle.cf_plain.specs.declared.answer.Body.{Body}
-use Rattle.cf_report.specs.declared.loaded.Live.{Live}
-use Rattle.cf_report.specs.Answered.{no_ask, turn_of}
+use Rattle.cf_plain.specs.declared.loaded.Live.{Live}
+use Rattle.cf_plain.specs.Answered.{no_ask, turn_of}
 use Rattle.cf_table.specs.Moves.{Begins}
 use Rattle.cf_table.proofs.Settling.{begins_then}
 use Rattle.cf_load.proofs.Alls.{every, all_append, all_weaker, all_both, all_map, all_unmap, all_flat}

@@ -9,8 +9,8 @@ use Rattle.cf_history.specs.Tails.{AreTails}
 use Rattle.cf_shape.specs.Lanes.{ShapeValue}
 use Rattle.cf_plain.specs.Asks.{eval}
 use Rattle.cf_plain.specs.declared.ask.Ask.{Ask}
-use Rattle.cf_report.specs.declared.loaded.Live.{Live}
-use Rattle.cf_report.specs.Answered.{no_ask, turn_of}
+use Rattle.cf_plain.specs.declared.loaded.Live.{Live}
+use Rattle.cf_plain.specs.Answered.{no_ask, turn_of}
 use Rattle.cf_load.specs.declared.plan.LivePlan.{LivePlan}
 use Rattle.cf_load.specs.Needed.{HasNodes}
 use Rattle.cf_table.specs.Values.{PassValue, LogValue, IsOf}

@@ -5,7 +5,7 @@ use Rattle.cf_fold.specs.declared.trigger.Trigger.{Trigger}
 use Rattle.cf_shape.specs.Lanes.{ShapeValue}
 use Rattle.cf_plain.specs.Asks.{Suits, SuitsTrigger, rows_in, marks_over}
 use Rattle.cf_plain.specs.declared.answer.Fired.{Fired}
-use Rattle.cf_report.specs.declared.loaded.Live.{Live}
+use Rattle.cf_plain.specs.declared.loaded.Live.{Live}
 use Rattle.cf_table.specs.Values.{PassValue}
 use Rattle.cf_load.specs.declared.plan.LivePlan.{LivePlan}
 

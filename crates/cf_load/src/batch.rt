@@ -13,7 +13,7 @@ use crate::reader::ask_counted;
 use crate::writers::run_writers;
 use crate::{LivePlan, LoadFault};
 use cf_outside::Gate;
-use cf_report::Live;
+use cf_plain::Live;
 use cf_row::{Memory, Row};
 use cf_table::{MultiLog, ReaderPass, Root, WriterPass};
 use std::alloc::Global;

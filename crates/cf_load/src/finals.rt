@@ -1,7 +1,7 @@
 // The answers on the whole log.
 ghost use Rattle.std.specs.Prelude.{◌≡◌, ◌+◌, ◌<◌, ◌≤◌, All, map, length, IfOk};
 ghost use Rattle.cf_plain.specs.Asks.{Suits, SuitsTrigger, rows_in, marks_over};
-ghost use Rattle.cf_report.specs.Meaning.{answer_on};
+ghost use Rattle.cf_plain.specs.Answered.{answer_on};
 ghost use Rattle.cf_table.specs.Values.{IsOf};
 ghost use Rattle.cf_table.specs.Moves.{HoldsAllBooks};
 ghost use Rattle.cf_load.specs.Planned.{IsPlan, marks_on};
@@ -9,9 +9,8 @@ ghost use Rattle.cf_load.specs.Loads.{Keeps};
 
 use crate::LivePlan;
 use cf_fold::Trigger;
-use cf_plain::{Answer, Ask, Body, Marks};
+use cf_plain::{Answer, Ask, Body, Live, Loaded, Marks};
 use cf_query::ask;
-use cf_report::{Live, Loaded};
 use cf_row::Memory;
 use cf_table::{MultiLog, Root, Steps};
 use std::alloc::Global;

@@ -9,7 +9,7 @@ use crate::LivePlan;
 use crate::batch::load_batch;
 use crate::finals::answer_all;
 use cf_outside::Gate;
-use cf_report::{Live, Loaded};
+use cf_plain::{Live, Loaded};
 use cf_row::Row;
 use cf_table::{MultiLog, Root};
 use std::alloc::Global;

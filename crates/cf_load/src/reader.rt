@@ -6,8 +6,8 @@ ghost use Rattle.cf_load.specs.Planned.{IsPlan, HasRead};
 
 use crate::LivePlan;
 use cf_outside::Gate;
+use cf_plain::Live;
 use cf_query::ask;
-use cf_report::Live;
 use cf_row::Memory;
 use cf_table::{MultiLog, ReaderPass, Steps};
 use std::alloc::Global;

@@ -5,6 +5,7 @@ mod answer;
 mod ask;
 mod calls;
 mod history;
+mod loaded;
 mod plain;
 mod scan;
 #[cfg(test)]
@@ -14,4 +15,5 @@ pub use answer::{Answer, Body, Fired, Group, Marks, Places};
 pub use ask::{Ask, suits};
 pub use calls::{Call, Reply, run_calls};
 pub use history::{replies_are_histories, spelled_are_histories};
+pub use loaded::{Live, Loaded};
 pub use plain::Plain;

@@ -19,9 +19,10 @@ use Rattle.cf_plain.specs.declared.answer.Body.{Body}
 use Rattle.cf_plain.specs.declared.answer.Body.TheVariants as bodies
 use Rattle.cf_plain.specs.declared.answer.Fired.{Fired}
 use Rattle.cf_setup.specs.Setups.{SetupValue, IsSetup}
-use Rattle.cf_report.specs.declared.loaded.Live.{Live}
-use Rattle.cf_report.specs.Answered.{LoadedValue, ask_at, is_body_of, IsWithin, IsAnswering, turn_of}
-use Rattle.cf_report.specs.Meaning.{told_on, answer_on, IsMeant, AreMeant}
+use Rattle.cf_plain.specs.declared.loaded.Live.{Live}
+use Rattle.cf_plain.specs.Answered.{LoadedValue, turn_of, answer_on}
+use Rattle.cf_report.specs.Answered.{ask_at, is_body_of, IsWithin, IsAnswering}
+use Rattle.cf_report.specs.Meaning.{told_on, IsMeant, AreMeant}
 use Rattle.cf_report.proofs.Legal.{finals_meant}
 
 low_range : (n : ℕ) → All (λ place. place < n) (range_with_len 0 n)

@@ -11,9 +11,10 @@ use Rattle.cf_plain.specs.Asks.{rows_in, eval}
 use Rattle.cf_plain.specs.declared.ask.Ask.{Ask}
 use Rattle.cf_plain.specs.declared.answer.Body.{Body}
 use Rattle.cf_setup.specs.Setups.{SetupValue}
-use Rattle.cf_report.specs.declared.loaded.Live.{Live}
-use Rattle.cf_report.specs.Answered.{LoadedValue, told_live, tolds_of, turn_of}
-use Rattle.cf_report.specs.Meaning.{told_on, finals_on, passes_of, answer_on, IsMeant, AreMeant}
+use Rattle.cf_plain.specs.declared.loaded.Live.{Live}
+use Rattle.cf_plain.specs.Answered.{LoadedValue, turn_of, answer_on}
+use Rattle.cf_report.specs.Answered.{told_live, tolds_of}
+use Rattle.cf_report.specs.Meaning.{told_on, finals_on, passes_of, IsMeant, AreMeant}
 
 lives_told : (shape : ShapeValue) (setup : SetupValue) (log : List Entry) (lives : List Live) → AllByRecursion (IsWithinBatch (length log)) (map turn_of lives) → AllByRecursion (IsMeant shape setup log) lives → AllByRecursion (IsToldBy (eval shape) log) (map (told_live setup) lives)
 lives_told shape setup log [] within meant = tt

@@ -5,7 +5,7 @@ use Rattle.std.proofs.lemmas.List.{take_more, drop_more, get_or_default}
 use Rattle.std.proofs.lemmas.List.Elements.{filter-append}
 use Rattle.std.specs.List.{last_or}
 use Rattle.cf_row.specs.Row.{RowValue}
-use Rattle.cf_report.specs.declared.loaded.Live.{Live}
+use Rattle.cf_plain.specs.declared.loaded.Live.{Live}
 use Rattle.cf_setup.specs.Setups.{SetupValue}
 use Rattle.cf_report.specs.Report.{marks_of, marks_of_live, marks_before, live_line, new_line, live_lines}
 

@@ -15,10 +15,11 @@ use Rattle.cf_plain.specs.declared.answer.Body.{Body}
 use Rattle.cf_plain.specs.declared.answer.Fired.{Fired}
 use Rattle.cf_setup.specs.Setups.{SetupValue, shaped}
 use Rattle.cf_report.specs.declared.text.Form.TheVariants.{Whole, Final}
-use Rattle.cf_report.specs.declared.loaded.Live.{Live}
-use Rattle.cf_report.specs.Answered.{LoadedValue, tolds_of, turn_of}
+use Rattle.cf_plain.specs.declared.loaded.Live.{Live}
+use Rattle.cf_plain.specs.Answered.{LoadedValue, turn_of, answer_on}
+use Rattle.cf_report.specs.Answered.{tolds_of}
 use Rattle.cf_report.specs.Report.{final_part, report_text}
-use Rattle.cf_report.specs.Meaning.{answer_on, alerts_on, final_text, IsReport, IsMeant, AreMeant}
+use Rattle.cf_report.specs.Meaning.{alerts_on, final_text, IsReport, IsMeant, AreMeant}
 use Rattle.cf_report.specs.Text.{text_of}
 use Rattle.cf_report.proofs.Legal.{finals_meant, report_told, report_history}
 use Rattle.cf_report.proofs.Same.{one_final}

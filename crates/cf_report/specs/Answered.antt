@@ -1,24 +1,14 @@
--- The answers of a load, as contracts see them.
+-- Which answers of a load a report can tell.
 use Rattle.std.specs.Prelude.{◌≡◌, ℕ, ◌<◌, Bool, true, false, List, [], ◌∷◌, All, length, slice_index_or}
 use Rattle.cf_history.specs.History.{AskReply}
-use Rattle.cf_history.specs.Tails.{Turn}
+use Rattle.cf_plain.specs.Answered.{LoadedValue, no_ask}
 use Rattle.cf_plain.specs.declared.ask.Ask.{Ask}
 use Rattle.cf_plain.specs.declared.ask.Ask.TheVariants as asks
 use Rattle.cf_plain.specs.declared.answer.Answer.{Answer}
 use Rattle.cf_plain.specs.declared.answer.Body.{Body}
 use Rattle.cf_plain.specs.declared.answer.Body.TheVariants as bodies
-use Rattle.cf_plain.specs.declared.answer.Fired.{Fired}
 use Rattle.cf_setup.specs.Setups.{SetupValue}
-use Rattle.cf_report.specs.declared.loaded.Live.{Live}
-
--- the answers on the whole log, what each trigger found there, and the answers of the live questions in their turns
-pub record LoadedValue : Type 0 where
-  pub finals : List Answer
-  pub alerts : List (List Fired)
-  pub lives : List Live
-
-abbrev pub no_ask : Ask
-no_ask = asks.List []
+use Rattle.cf_plain.specs.declared.loaded.Live.{Live}
 
 abbrev pub ask_at : SetupValue → ℕ → Ask
 ask_at setup place = slice_index_or setup.asks place no_ask
@@ -36,10 +26,6 @@ tolds_of (ask ∷ rest) (answer ∷ answers) = told_by ask answer ∷ tolds_of r
 -- a live question with its answer
 abbrev pub told_live : SetupValue → Live → AskReply Ask Body
 told_live setup live = told_by (ask_at setup live.ask) live.answer
-
--- the reader's turn in which a live answer was given, and how much of the log it saw
-abbrev pub turn_of : Live → Turn × ℕ
-turn_of live = (record { batch = live.batch; round = live.round; ask = live.ask }, live.answer.tail)
 
 abbrev pub are_places : Body → Bool
 are_places (bodies.Places places) = true

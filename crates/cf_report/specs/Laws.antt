@@ -8,7 +8,8 @@ use Rattle.cf_plain.specs.Asks.{rows_in, eval}
 use Rattle.cf_setup.specs.Setups.{SetupValue, IsSetup, shaped}
 use Rattle.cf_shape.specs.Lanes.{ShapeValue}
 use Rattle.cf_report.specs.declared.text.Form.TheVariants.{Whole, Final}
-use Rattle.cf_report.specs.Answered.{LoadedValue, IsAnswering, tolds_of}
+use Rattle.cf_plain.specs.Answered.{LoadedValue}
+use Rattle.cf_report.specs.Answered.{IsAnswering, tolds_of}
 use Rattle.cf_report.specs.Meaning.{final_text, passes_of, IsReport, AreMeant}
 use Rattle.cf_report.specs.Text.{text_of}
 

@@ -9,12 +9,12 @@ use Rattle.cf_history.specs.Tails.{AreTails}
 use Rattle.cf_shape.specs.Lanes.{ShapeValue}
 use Rattle.cf_plain.specs.Asks.{rows_in, eval, eval_rows, marks_over}
 use Rattle.cf_plain.specs.declared.ask.Ask.{Ask}
-use Rattle.cf_plain.specs.declared.answer.Answer.{Answer}
 use Rattle.cf_plain.specs.declared.answer.Body.{Body}
 use Rattle.cf_plain.specs.declared.answer.Fired.{Fired}
 use Rattle.cf_setup.specs.Setups.{SetupValue, shaped}
-use Rattle.cf_report.specs.declared.loaded.Live.{Live}
-use Rattle.cf_report.specs.Answered.{LoadedValue, ask_at, told_live, turn_of}
+use Rattle.cf_plain.specs.declared.loaded.Live.{Live}
+use Rattle.cf_plain.specs.Answered.{LoadedValue, turn_of, answer_on}
+use Rattle.cf_report.specs.Answered.{ask_at, told_live}
 use Rattle.cf_report.specs.Report.{final_part, report_text}
 
 -- a question's answer on all of some rows
@@ -57,10 +57,6 @@ pub record IsReport (setup : SetupValue) (capacity writers nodes rounds : ℕ) (
   pub text_is : text ≡ report_text setup (log_of rows writers order) order finals alerts lives
   -- and what is printed of the final ones is what the questions and triggers mean on the rows as they were captured
   pub final_is : final_part setup (rows_in (log_of rows writers order)) finals alerts ≡ final_text (shaped setup capacity writers nodes) setup rows
-
--- a final answer, which saw all of some entries
-abbrev pub answer_on : ShapeValue → List Entry → Ask → Answer
-answer_on shape log ask = record { tail = length log; body = eval shape ask log }
 
 -- a live answer is its question's meaning on the entries that it saw
 abbrev pub IsMeant : ShapeValue → SetupValue → List Entry → Live → Type 0

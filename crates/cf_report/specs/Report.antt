@@ -16,8 +16,9 @@ use Rattle.cf_plain.specs.declared.answer.Body.TheVariants as bodies
 use Rattle.cf_plain.specs.declared.answer.Fired.{Fired}
 use Rattle.cf_watch.specs.New.{newly}
 use Rattle.cf_setup.specs.Setups.{SetupValue}
-use Rattle.cf_report.specs.declared.loaded.Live.{Live}
-use Rattle.cf_report.specs.Answered.{no_ask, told_live}
+use Rattle.cf_plain.specs.declared.loaded.Live.{Live}
+use Rattle.cf_plain.specs.Answered.{no_ask}
+use Rattle.cf_report.specs.Answered.{told_live}
 use Rattle.cf_report.specs.Bodies.{line, nums_at, word_of, shown, marks_text}
 
 abbrev pub ask_name : SetupValue → ℕ → List ℕ

@@ -6,7 +6,8 @@ use Rattle.cf_plain.specs.Asks.{rows_in}
 use Rattle.cf_setup.specs.Setups.{SetupValue}
 use Rattle.cf_report.specs.declared.text.Form.{Form}
 use Rattle.cf_report.specs.declared.text.Form.TheVariants.{Whole, Final}
-use Rattle.cf_report.specs.Answered.{LoadedValue, tolds_of}
+use Rattle.cf_plain.specs.Answered.{LoadedValue}
+use Rattle.cf_report.specs.Answered.{tolds_of}
 use Rattle.cf_report.specs.Report.{final_part, report_text}
 
 abbrev pub text_of : Form → SetupValue → List Entry → LoadedValue → List ℕ

@@ -2,8 +2,7 @@
 ghost use Rattle.std.specs.Prelude.{◌≡◌, ◌<◌, ◌↔◌, All, IsTrue, length, true};
 ghost use Rattle.cf_report.specs.Answered.{is_body_of, ask_at, tolds_of, IsWithin, IsAnswering};
 
-use crate::{Live, Loaded};
-use cf_plain::{Answer, Ask, Body};
+use cf_plain::{Answer, Ask, Body, Live, Loaded};
 use cf_setup::Setup;
 
 fn is_kind(ask: &Ask, body: &Body) -> bool

@@ -7,15 +7,14 @@ mod condition;
 mod laws;
 mod lines;
 mod live;
-mod loaded;
 mod order;
 #[cfg(test)]
 mod tests;
 mod text;
 
+pub use cf_plain::{Live, Loaded};
 pub use condition::is_answering;
 pub use laws::{
     final_part_has_no_sizes, final_part_is_one, meant_answers_make_reports, reports_are_histories,
 };
-pub use loaded::{Live, Loaded};
 pub use text::{Form, report};

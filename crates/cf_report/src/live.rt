@@ -5,10 +5,9 @@ ghost use Rattle.cf_report.specs.Answered.{IsWithin, ask_at};
 ghost use Rattle.cf_report.specs.Bodies.{word_of};
 ghost use Rattle.cf_report.specs.Report.{live_head, live_line, live_lines, new_line, marks_of, marks_before as marks_before_of};
 
-use crate::Live;
 use crate::body::{push_live, push_marks, word};
 use crate::lines::name_at;
-use cf_plain::{Body, Fired};
+use cf_plain::{Body, Fired, Live};
 use cf_row::{Entry, Memory};
 use cf_setup::Setup;
 use cf_watch::newly;

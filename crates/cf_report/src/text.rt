@@ -3,10 +3,10 @@ ghost use Rattle.std.specs.Prelude.{◌≡◌, IfOk, length};
 ghost use Rattle.cf_report.specs.Answered.{IsAnswering};
 ghost use Rattle.cf_report.specs.Text.{text_of};
 
-use crate::Loaded;
 use crate::lines::{push_alerts, push_asks};
 use crate::live::push_lives;
 use crate::order::push_order;
+use cf_plain::Loaded;
 use cf_row::{Entry, Memory};
 use cf_setup::Setup;
 use std::alloc::Global;

@@ -13,9 +13,10 @@ use Rattle.cf_shape.specs.Lanes.{ShapeValue}
 use Rattle.cf_plain.specs.Asks.{Suits, SuitsTrigger, suits_of, suits_trigger}
 use Rattle.cf_plain.specs.declared.ask.Ask.{Ask}
 use Rattle.cf_setup.specs.Setups.{SetupValue, IsSetup, shaped}
-use Rattle.cf_report.specs.declared.loaded.Live.{Live}
+use Rattle.cf_plain.specs.declared.loaded.Live.{Live}
 use Rattle.cf_report.specs.declared.text.Form.TheVariants as forms
-use Rattle.cf_report.specs.Answered.{LoadedValue, tolds_of, turn_of}
+use Rattle.cf_plain.specs.Answered.{LoadedValue, turn_of}
+use Rattle.cf_report.specs.Answered.{tolds_of}
 use Rattle.cf_report.specs.Meaning.{IsReport, AreMeant}
 use Rattle.cf_report.specs.Report.{report_text}
 use Rattle.cf_report.specs.Text.{text_of}

@@ -6,8 +6,7 @@ use Rattle.cf_history.specs.Order.{IsLogOf}
 use Rattle.cf_shape.specs.Lanes.{ShapeValue}
 use Rattle.cf_shape.specs.Nodes.{distinct}
 use Rattle.cf_setup.specs.Setups.{SetupValue}
-use Rattle.cf_report.specs.Answered.{LoadedValue}
-use Rattle.cf_report.specs.Meaning.{answer_on}
+use Rattle.cf_plain.specs.Answered.{LoadedValue, answer_on}
 use Rattle.cf_table.specs.Moves.{SealValue}
 use Rattle.cf_load.specs.Loading.{HasAnswered}
 use Rattle.cf_load.specs.Planned.{marks_on, tails_of}

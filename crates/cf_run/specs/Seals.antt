@@ -7,7 +7,7 @@ use Rattle.cf_outside.specs.Files.{File}
 use Rattle.cf_history.specs.Order.{IsOrder, IsLogOf, log_of}
 use Rattle.cf_shape.specs.Nodes.{distinct}
 use Rattle.cf_setup.specs.Setups.{SetupValue, shaped}
-use Rattle.cf_report.specs.Answered.{LoadedValue}
+use Rattle.cf_plain.specs.Answered.{LoadedValue}
 use Rattle.cf_report.specs.Meaning.{IsReport, AreMeant, final_text}
 use Rattle.cf_table.specs.Moves.{SealValue}
 use Rattle.cf_load.specs.Planned.{tails_of}

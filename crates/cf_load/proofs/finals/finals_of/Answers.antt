@@ -1,5 +1,5 @@
 use Rattle.std.proofs.Common.{◌≡◌, ap, ◌∙◌, rules}
-use Rattle.cf_report.specs.Meaning.{answer_on}
+use Rattle.cf_plain.specs.Answered.{answer_on}
 use Rattle.cf_load.proofs.Keeping.{keeps_then, keeps_asked, settled_kept, made_more}
 use Rattle.cf_load.proofs.finals.finals_of.Goals as goal
 

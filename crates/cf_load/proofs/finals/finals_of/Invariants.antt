@@ -1,5 +1,5 @@
 use Rattle.std.proofs.Common.{◌≡◌, map, take}
-use Rattle.cf_report.specs.Meaning.{answer_on}
+use Rattle.cf_plain.specs.Answered.{answer_on}
 use Rattle.cf_load.specs.Loads.{Keeps}
 use Rattle.cf_load.proofs.finals.finals_of.Given as goal
 

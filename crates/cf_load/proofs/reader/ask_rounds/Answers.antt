@@ -1,5 +1,5 @@
 use Rattle.std.proofs.Common.{subst, sym, List}
-use Rattle.cf_report.specs.declared.loaded.Live.{Live}
+use Rattle.cf_plain.specs.declared.loaded.Live.{Live}
 use Rattle.cf_load.specs.Loading.{AsksSome}
 use Rattle.cf_load.specs.Planned.{HasRead}
 use Rattle.cf_load.proofs.Tails.{asks_none}

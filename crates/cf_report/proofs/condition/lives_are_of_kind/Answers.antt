@@ -3,8 +3,9 @@ use Rattle.std.specs.List.{All}
 use Rattle.std.proofs.lemmas.List.{take_all, get_or_default}
 use Rattle.std.proofs.lemmas.List.Elements.{All-more}
 use Rattle.cf_plain.specs.declared.ask.Ask.{Ask}
-use Rattle.cf_report.specs.declared.loaded.Live.{Live}
-use Rattle.cf_report.specs.Answered.{ask_at, no_ask, is_body_of}
+use Rattle.cf_plain.specs.declared.loaded.Live.{Live}
+use Rattle.cf_plain.specs.Answered.{no_ask}
+use Rattle.cf_report.specs.Answered.{ask_at, is_body_of}
 use Rattle.cf_report.proofs.condition.lives_are_of_kind.Goals as goal
 
 pub loop-live-preserved : goal.loop-live-preserved

@@ -1,5 +1,5 @@
 // The answers that a load gives.
-use cf_plain::{Answer, Marks};
+use crate::{Answer, Marks};
 use std::marker::Model;
 
 /// The answer of a live question in a round of a batch. `ask` is the question's place in the setup.
@@ -21,7 +21,7 @@ pub struct Loaded {
 }
 
 impl Model for Loaded {
-    ghost use Rattle.cf_report.specs.Answered.{LoadedValue};
+    ghost use Rattle.cf_plain.specs.Answered.{LoadedValue};
 
     ghost Value = { LoadedValue };
 
