@@ -1,14 +1,16 @@
 -- The writers' passes come home after a batch: the log has the rows of the batch, each once.
-use Rattle.std.proofs.Common.{◌≡◌, ℕ, zero, suc, ◌+◌, ◌*◌, ◌<◌, ◌≤◌, Bool, true, List, [], ◌∷◌, ◌++◌, length, get_or, take, drop, map, ◌==◌, Some, slice_get, refl, sym, ap, ap₂, subst, ◌∙◌, inl, inr, arith, length-append, append_assoc}
+use Rattle.std.proofs.Common.{◌≡◌, ℕ, zero, suc, ◌+◌, ◌*◌, ◌<◌, ◌≤◌, Bool, true, List, [], ◌∷◌, ◌++◌, length, get_or, take, drop, map, ◌==◌, Some, slice_get, fold, refl, sym, ap, ap₂, subst, ◌∙◌, inl, inr, arith, length-append, append_assoc}
 use Rattle.std.proofs.lemmas.Bool.{cases_Bool}
-use Rattle.std.proofs.lemmas.List.{append-nil, append_cancel_left, length-take, length-take-le, length-drop, take-append-drop, take_all, drop_all}
-use Rattle.std.proofs.Math.Seq.{take-add}
+use Rattle.std.proofs.lemmas.List.{append-nil, append_cancel_left, take-append-drop, take_all, drop_all}
+use Rattle.std.proofs.lemmas.List.Concat.{flat_map-append}
+use Rattle.std.proofs.lemmas.List.Sums.{fold-append}
 use Rattle.std.proofs.lemmas.Option.{slice_get_within, slice_get-get_or}
-use Rattle.std.specs.List.{All, AllZip, AllByRecursion}
+use Rattle.std.specs.List.{All, AllZip, AllByRecursion, flat_map, list_any}
 use Rattle.cf_row.specs.Row.{RowValue}
 use Rattle.cf_row.specs.declared.row.Entry.{Entry}
 use Rattle.cf_history.specs.Order.{rows_of, written_by, IsLogOf}
 use Rattle.cf_shape.specs.Lanes.{ShapeValue, IsShape}
+use Rattle.cf_shape.specs.Nodes.{Node, nodes_for, nodes_of, same_node, add_node, distinct}
 use Rattle.cf_words.specs.Words.{Spot}
 use Rattle.cf_law.specs.Events.{table, no_book}
 use Rattle.cf_law.proofs.Fronts.{table_length, table_at}
@@ -365,34 +367,20 @@ still_loaded log rows m n has of books seen_is = record {
   };
 }
 
--- The next batch of some rows: where all have room, the first b batches were loaded and then this one.
-pub next_batch : (log : LogValue) (rows : List RowValue) (b : ℕ) (m r n : PassValue) (passes after : List PassValue) → IsShape log.shape → HasLoaded log (take (4096 * b) rows) m → 4096 * b ≤ length rows → length rows ≤ (log.shape).capacity → AreDealt log m passes r → AllZip (Wrote true log (4096 * b) (take 4096 (drop (4096 * b) rows))) passes after → HasGathered log.shape r after n → HasLoaded log (take (4096 * (b + 1)) rows) n
-next_batch log rows b m r n passes after shape has within room dealt wrote g =
-    let front : length (take (4096 * b) rows) ≡ 4096 * b = length-take-le (4096 * b) rows within in
-    let part : length (take 4096 (drop (4096 * b) rows)) ≤ 4096 = (let e = length-take 4096 (drop (4096 * b) rows) in omega (arith, e)) in
-    let both : take (4096 * b) rows ++ take 4096 (drop (4096 * b) rows) ≡ take (4096 * (b + 1)) rows = (let e : 4096 * b + 4096 ≡ 4096 * (b + 1) = omega arith in sym (take-add (4096 * b) 4096 rows) ∙ ap (λ i. take i rows) e) in
-    let few : length (take (4096 * b) rows) + length (take 4096 (drop (4096 * b) rows)) ≤ (log.shape).capacity = (let e = length-take 4096 (drop (4096 * b) rows) in let f = length-drop (4096 * b) rows in omega (arith, e, f, front, within, room)) in
-    subst (λ rs. HasLoaded log rs n) both
-    (batch_loaded log (take (4096 * b) rows) (take 4096 (drop (4096 * b) rows)) b m r n passes after shape has front part few dealt (subst (λ first. AllZip (Wrote true log first (take 4096 (drop (4096 * b) rows))) passes after) (sym front) wrote) g)
-
--- needed by some rows of all
-pub needed_take : (shape : ShapeValue) (n : ℕ) (rows : List RowValue) (s : Spot) → IsNeeded shape (take n rows) s → IsNeeded shape rows s
-needed_take shape n rows s needed = subst (λ (rs : List RowValue). IsNeeded shape rs s) (take-append-drop n rows) (needed_left shape (take n rows) (drop n rows) s needed)
-
--- A writer ran out of nodes in that batch: the rows need more different ones than it has, and each writer's entries are the first of
--- its rows.
-pub batch_out : (whole : Bool) (log : LogValue) (rows : List RowValue) (b w : ℕ) (m r n : PassValue) (passes after : List PassValue) → IsShape log.shape → HasLoaded log (take (4096 * b) rows) m → 4096 * b ≤ length rows → length rows ≤ (log.shape).capacity
-    → AreDealt log m passes r → AllZip (Wrote whole log (4096 * b) (take 4096 (drop (4096 * b) rows))) passes after → RanOut log (take 4096 (drop (4096 * b) rows)) w after → HasGathered log.shape r after n → LacksNodes log rows w n
-batch_out whole log rows b w m r n passes after shape has within room dealt wrote_part_ out g = record {
+-- A writer ran out of nodes in that batch: the rows before it and its own need more different ones than it has, and each writer's
+-- entries are the first of its rows.
+pub batch_out : (whole : Bool) (log : LogValue) (rows batch : List RowValue) (w : ℕ) (m r n : PassValue) (passes after : List PassValue) → IsShape log.shape → HasLoaded log rows m → length rows + length batch ≤ (log.shape).capacity
+    → AreDealt log m passes r → AllZip (Wrote whole log (length rows) batch) passes after → RanOut log batch w after → HasGathered log.shape r after n → LacksNodes log (rows ++ batch) w n
+batch_out whole log rows batch w m r n passes after shape has room dealt wrote out g = record {
   exists = subst (λ (v : ℕ). v < W) out.writer_is (g.bounds.writer book.0 (book_of out.pass.view) (ap (λ (bs : List Book). slice_get bs book.0) g.books ∙ book.1));
-  many = (too_many log.shape rows (book_of out.pass.view) shape (λ j s used. more s (used_by whole log front part m r n passes after has dealt wrote g out.place out.pass j s out.at used)) (record {
+  many = (too_many log.shape (rows ++ batch) (book_of out.pass.view) shape (λ j s used. used_by whole log rows batch m r n passes after has dealt wrote g out.place out.pass j s out.at used) (record {
     full = out.out.full;
     apart = out.out.apart;
     at = out.out.at;
-    needed = more out.out.at (needed_right log.shape front part out.out.at out.out.needed);
+    needed = needed_right log.shape rows batch out.out.at out.out.needed;
     other = out.out.other;
   }));
-  of = home_again whole log front part m r n passes after has dealt wrote g;
+  of = home_again whole log rows batch m r n passes after has dealt wrote g;
   settled = g.settled;
   fronts = fronts;
 }
@@ -400,44 +388,48 @@ batch_out whole log rows b w m r n passes after shape has within room dealt wrot
     W : ℕ
     W = (log.shape).writers
 
-    front : List RowValue
-    front = take (4096 * b) rows
-
-    part : List RowValue
-    part = take 4096 (drop (4096 * b) rows)
-
-    front_long : length front ≡ 4096 * b
-    front_long = length-take-le (4096 * b) rows within
-
-    wrote : AllZip (Wrote whole log (length front) part) passes after
-    wrote = subst (λ first. AllZip (Wrote whole log first part) passes after) (sym front_long) wrote_part_
-
-    both : front ++ part ≡ take (4096 * (b + 1)) rows
-    both = (let e : 4096 * b + 4096 ≡ 4096 * (b + 1) = omega arith in sym (take-add (4096 * b) 4096 rows) ∙ ap (λ i. take i rows) e)
-
-    few : length front + length part ≤ (log.shape).capacity
-    few = (let e = length-take 4096 (drop (4096 * b) rows) in let f = length-drop (4096 * b) rows in let long = front_long in omega (arith, e, f, long, within, room))
-
-    more : (s : Spot) → IsNeeded log.shape (front ++ part) s → IsNeeded log.shape rows s
-    more s needed = needed_take log.shape (4096 * (b + 1)) rows s (subst (λ (rs : List RowValue). IsNeeded log.shape rs s) both needed)
-
     book : (i : ℕ) × (slice_get (books_of after) i ≡ Some (book_of out.pass.view))
-    book = book_in after out.place out.pass (book_of out.pass.view) out.at (first_book out.pass.view ((zip_back (Wrote whole log (length front) part) passes after out.place out.pass wrote out.at).2).rest)
+    book = book_in after out.place out.pass (book_of out.pass.view) out.at (first_book out.pass.view ((zip_back (Wrote whole log (length rows) batch) passes after out.place out.pass wrote out.at).2).rest)
 
-    fronts : (v : ℕ) → v < W → (left : List RowValue) × (written_by v (n.view).seen ++ left ≡ rows_of W v 0 rows)
+    fronts : (v : ℕ) → v < W → (left : List RowValue) × (written_by v (n.view).seen ++ left ≡ rows_of W v 0 (rows ++ batch))
     fronts v lt =
-        let p = part_of whole log front part m r n passes after has dealt wrote g few v lt in
+        let p = part_of whole log rows batch m r n passes after has dealt wrote g room v lt in
         let new : List Entry = drop (length (m.view).seen) (n.view).seen in
-        let rest : List RowValue = drop (4096 * (b + 1)) rows in
-        let k : ℕ = length (front ++ part) in
-        let written : written_by v (n.view).seen ≡ rows_of W v 0 front ++ written_by v new =
-        ap (written_by v) (goes_on whole log front part m r n passes after has dealt wrote g) ∙ (written_append v (m.view).seen new ∙ ap (λ (rs : List RowValue). rs ++ written_by v new) (has.own v lt)) in
-        let here : written_by v (n.view).seen ++ p.left ≡ rows_of W v 0 (front ++ part) =
-        ap (λ (rs : List RowValue). rs ++ p.left) written ∙ (append_assoc (rows_of W v 0 front) (written_by v new) p.left ∙ (ap (λ (rs : List RowValue). rows_of W v 0 front ++ rs) p.split ∙ sym (rows_then W v front part))) in
-        let all : (front ++ part) ++ rest ≡ rows = ap (λ (rs : List RowValue). rs ++ rest) both ∙ take-append-drop (4096 * (b + 1)) rows in (
-          p.left ++ rows_of W v k rest,
-          sym (append_assoc (written_by v (n.view).seen) p.left (rows_of W v k rest)) ∙ (ap (λ (rs : List RowValue). rs ++ rows_of W v k rest) here ∙ (sym (rows_then W v (front ++ part) rest) ∙ ap (rows_of W v 0) all)),
+        let written : written_by v (n.view).seen ≡ rows_of W v 0 rows ++ written_by v new =
+        ap (written_by v) (goes_on whole log rows batch m r n passes after has dealt wrote g) ∙ (written_append v (m.view).seen new ∙ ap (λ (rs : List RowValue). rs ++ written_by v new) (has.own v lt)) in (
+          p.left,
+          ap (λ (rs : List RowValue). rs ++ p.left) written ∙ (append_assoc (rows_of W v 0 rows) (written_by v new) p.left ∙ (ap (λ (rs : List RowValue). rows_of W v 0 rows ++ rs) p.split ∙ sym (rows_then W v rows batch))),
         )
+
+-- a node more makes them no fewer
+no_fewer : (shape : ShapeValue) (nodes more : List Node) → length nodes ≤ length (fold add_node nodes more)
+no_fewer shape nodes [] = omega arith
+no_fewer shape nodes (x ∷ xs) = (let r = no_fewer shape (add_node nodes x) xs in let s = added nodes x in omega (arith, r, s))
+  where
+    added : (ns : List Node) (n : Node) → length ns ≤ length (add_node ns n)
+    added ns n = elim (cases_Bool (list_any (same_node n) ns)) [
+      | inl there ↦ rw there (omega arith)
+      | inr new ↦ rw new (omega arith)
+    ]
+
+-- more rows need no fewer nodes
+distinct_more : (shape : ShapeValue) (rows more : List RowValue) → distinct shape rows ≤ distinct shape (rows ++ more)
+distinct_more shape rows more =
+    let parts : nodes_of shape (rows ++ more) ≡ fold add_node (nodes_of shape rows) (flat_map (nodes_for shape) more) = ap (fold add_node []) (flat_map-append (nodes_for shape) rows more) ∙ fold-append add_node [] (flat_map (nodes_for shape) rows) (flat_map (nodes_for shape) more) in
+    rw parts (no_fewer shape (nodes_of shape rows) (flat_map (nodes_for shape) more))
+
+-- more rows want more nodes too
+pub lacks_more : (log : LogValue) (rows more : List RowValue) (w : ℕ) (n : PassValue) → LacksNodes log rows w n → LacksNodes log (rows ++ more) w n
+lacks_more log rows more w n lacks = record {
+  exists = lacks.exists;
+  many = (let d = distinct_more log.shape rows more in let many = lacks.many in omega (arith, many, d));
+  of = lacks.of;
+  settled = lacks.settled;
+  fronts = λ v lt. (let f = lacks.fronts v lt in let W = (log.shape).writers in (
+    f.0 ++ rows_of W v (length rows) more,
+    sym (append_assoc (written_by v (n.view).seen) f.0 (rows_of W v (length rows) more)) ∙ (ap (λ (rs : List RowValue). rs ++ rows_of W v (length rows) more) f.1 ∙ sym (rows_then W v rows more)),
+  ));
+}
 
 -- the reader came home too
 pub lacks_kept : (log : LogValue) (rows : List RowValue) (w : ℕ) (n o : PassValue) → LacksNodes log rows w n → IsOf o log → (o.view).books ≡ (n.view).books → (o.view).seen ≡ (n.view).seen → LacksNodes log rows w o

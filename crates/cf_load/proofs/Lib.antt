@@ -10,3 +10,4 @@ pub mod Beside
 pub mod Keeping
 pub mod Loading
 pub mod Enough
+pub mod Loaders

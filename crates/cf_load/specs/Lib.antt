@@ -3,3 +3,4 @@ pub mod Writing
 pub mod Loading
 pub mod Planned
 pub mod Loads
+pub mod Loaders

@@ -1,5 +1,5 @@
 -- What a load answers.
-use Rattle.std.specs.Prelude.{◌≡◌, ◌<◌, ◌≤◌, ◌*◌, ℕ, List, ◌++◌, length, map, Option, Some, None, Result, Ok, Err}
+use Rattle.std.specs.Prelude.{◌≡◌, ◌⊎◌, ◌<◌, ◌≤◌, ◌*◌, ℕ, List, ◌++◌, length, map, Option, Some, None, Result, Ok, Err}
 use Rattle.std.specs.declared.alloc.AllocError.{AllocError}
 use Rattle.cf_row.specs.Row.{RowValue}
 use Rattle.cf_shape.specs.Nodes.{distinct}
@@ -47,11 +47,17 @@ outcome_of (Some writer) answers = Err (NodesFull writer)
 outcome_of None (Ok more) = Ok more
 outcome_of None (Err fault) = Err Memory
 
--- what the log holds after a fault
-abbrev pub HasStopped : LogValue → List RowValue → PassValue → LoadFault → Type 0
-HasStopped log rows n Full = ⊥
-HasStopped log rows n (NodesFull writer) = LacksNodes log rows writer n
-HasStopped log rows n Memory = HoldsSome log rows n
+-- what the log holds after a fault in a batch: where memory is wanted, the rows before it alone or all rows of the batch too
+abbrev pub HasStopped : LogValue → List RowValue → List RowValue → PassValue → LoadFault → Type 0
+HasStopped log before rows n Full = ⊥
+HasStopped log before rows n (NodesFull writer) = LacksNodes log (before ++ rows) writer n
+HasStopped log before rows n Memory = HasLoaded log before n ⊎ HasLoaded log (before ++ rows) n
+
+-- what the log holds after a fault in some batch of those rows
+abbrev pub HasSome : LogValue → List RowValue → PassValue → LoadFault → Type 0
+HasSome log rows n Full = ⊥
+HasSome log rows n (NodesFull writer) = LacksNodes log rows writer n
+HasSome log rows n Memory = HoldsSome log rows n
 
 -- Full exactly where there are more rows than the capacity, and then nothing was done. After another fault the books are home, and
 -- some of the rows are in the log.

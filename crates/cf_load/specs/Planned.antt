@@ -15,6 +15,13 @@ pub record IsPlan (shape : ShapeValue) (plan : LivePlan) : Type 0 where
   pub triggers : All (SuitsTrigger shape) plan.triggers.items
   pub lives : All (λ place. place < length plan.asks.items) plan.lives.items
 
+-- the other plan asks the same
+pub record IsSamePlan (plan other : LivePlan) : Type 0 where
+  pub asks : other.asks.items ≡ plan.asks.items
+  pub triggers : other.triggers.items ≡ plan.triggers.items
+  pub lives : other.lives.items ≡ plan.lives.items
+  pub rounds : other.rounds ≡ plan.rounds
+
 -- the marks of a trigger on some entries
 abbrev pub marks_on : ShapeValue → List Entry → Trigger → List Fired
 marks_on shape entries trigger = marks_over shape trigger (rows_in entries)

@@ -1,8 +1,8 @@
 // A batch: the writers append its rows while the reader asks.
-ghost use Rattle.std.specs.Prelude.{◌≡◌, ◌+◌, ◌*◌, ◌<◌, ◌≤◌, ◌^◌, ◌++◌, All, take, length, is_none, IfSome, IfOk, IfErr};
+ghost use Rattle.std.specs.Prelude.{◌≡◌, ◌+◌, ◌*◌, ◌<◌, ◌≤◌, ◌^◌, ◌++◌, All, List, length, is_none, IfSome, IfOk, MatchResult};
 ghost use Rattle.std.specs.List.{AllZip};
 ghost use Rattle.std.specs.Thread.{IsSync};
-ghost use Rattle.cf_row.specs.Row.{Fits};
+ghost use Rattle.cf_row.specs.Row.{Fits, RowValue};
 ghost use Rattle.cf_table.specs.Values.{IsOf};
 ghost use Rattle.cf_load.specs.Loading.{AsksBatch, HasLoaded, AsksBeside};
 ghost use Rattle.cf_load.specs.Loads.{outcome_of, HasStopped};
@@ -20,9 +20,6 @@ use std::alloc::Global;
 use std::marker::Brand;
 use std::sync::ledger::Blank;
 use std::thread::{Threads, join_mut};
-
-/// The most rows of a batch.
-const BATCH: usize = 4096;
 
 // All rounds beside a batch.
 fn ask_beside<G: Gate>(
@@ -94,7 +91,7 @@ fn outcome(out: Option<u8>, answers: Result<Vec<Live>, Memory>) -> Result<Vec<Li
     }
 }
 
-// Loads the rows of a batch, where all before are loaded. Refused for memory, the log may have them or not.
+// Loads the rows of a batch, where all before are loaded. Refused for memory, the log has them all or none of them.
 pub(crate) fn load_batch<R: Threads + Sync, G: Gate>(
     rt: &R,
     alloc: Global,
@@ -105,24 +102,21 @@ pub(crate) fn load_batch<R: Threads + Sync, G: Gate>(
     gate: &G,
     batch: u32,
 ) -> Result<Vec<Live>, LoadFault>
-    requires loaded { HasLoaded log.now (take (4096 * batch) rows.now) root.old }
+    requires loaded { (before : List RowValue) × (length before ≡ 4096 * batch) × HasLoaded log.now before root.old }
     requires plan { IsPlan log.now.shape plan.now }
     requires fits { All (Fits log.now.shape.schema) rows.now }
-    requires few { length rows.now ≤ log.now.shape.capacity }
-    requires some { 4096 * batch < length rows.now }
+    requires few { length rows.now ≤ 4096 }
+    requires room { 4096 * batch + length rows.now ≤ log.now.shape.capacity }
     ensures same { root.new ≡ record root.old { view = root.new.view } }
-    ensures loaded { IfOk result (λ _. HasLoaded log.now (take (4096 * (batch + 1)) rows.now) root.new) }
+    ensures loaded { (before : List RowValue) → length before ≡ 4096 * batch → HasLoaded log.now before root.old → MatchResult result (λ _. HasLoaded log.now (before ++ rows.now) root.new) (HasStopped log.now before rows.now root.new) }
     ensures asked { IfOk result (λ more. AsksBeside log.now.shape plan.now batch root.old.view.seen root.new.view.seen more.items) }
     ensures told { IfOk result (λ more. root.new.view.told ≡ root.old.view.told ++ tails_of more.items) }
-    ensures stopped { IfErr result (HasStopped log.now rows.now root.new) }
 {
     let _few = log.shape().capacity();
     let Ok(mut passes) = log.deal(alloc, root) else {
         return Err(LoadFault::Memory);
     };
     let mut reader = log.fork(root);
-    let from = BATCH * batch as usize;
-    let to = rows.len().min(from + BATCH);
     let (out, answers) = run_beside(
         rt,
         alloc,
@@ -130,7 +124,7 @@ pub(crate) fn load_batch<R: Threads + Sync, G: Gate>(
         gate,
         plan,
         batch,
-        &rows[from..to],
+        rows,
         &mut reader,
         passes.as_mut_slice(),
     );

@@ -4,6 +4,7 @@
 
 mod batch;
 mod finals;
+mod loader;
 mod loads;
 mod plan;
 mod reader;
@@ -11,5 +12,6 @@ mod reader;
 mod tests;
 mod writers;
 
+pub use loader::Loader;
 pub use loads::{LoadFault, load};
 pub use plan::LivePlan;

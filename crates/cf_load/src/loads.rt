@@ -1,20 +1,23 @@
 // All batches, and then the answers on the whole log.
 ghost use Rattle.std.specs.Prelude.{◌≡◌, ◌≤◌, ◌++◌, [], All, length, IfOk, IfErr};
 ghost use Rattle.cf_row.specs.Row.{Fits};
-ghost use Rattle.cf_load.specs.Loading.{HasLoaded, HasAnswered};
+ghost use Rattle.cf_load.specs.Loading.{HasLoaded};
+ghost use Rattle.cf_load.specs.Loaders.{IsLoading};
 ghost use Rattle.cf_load.specs.Planned.{IsPlan, tails_of};
-ghost use Rattle.cf_load.specs.Loads.{HasStopped, Loads};
+ghost use Rattle.cf_load.specs.Loads.{HasSome, Loads};
+ghost use Rattle.cf_load.specs.declared.loads.LoadFault.TheVariants.{Memory as NoMemory};
 
-use crate::LivePlan;
-use crate::batch::load_batch;
-use crate::finals::answer_all;
+use crate::{LivePlan, Loader};
 use cf_outside::Gate;
-use cf_plain::{Live, Loaded};
-use cf_row::Row;
+use cf_plain::Loaded;
+use cf_row::{Memory, Row};
 use cf_table::{MultiLog, Root};
 use std::alloc::Global;
 use std::thread::Threads;
 use thiserror::Error;
+
+/// The most rows of a batch.
+const BATCH: usize = 4096;
 
 /// Why rows weren't loaded.
 #[derive(Clone, Copy, Debug, PartialEq, Eq, Error)]
@@ -30,36 +33,41 @@ pub enum LoadFault {
     Memory,
 }
 
-// Loads the rows batch by batch. After a fault the log has some of them.
+impl From<Memory> for LoadFault {
+    ghost from_gives = { λ _ e. e ≡ NoMemory };
+
+    fn from(_: Memory) -> Self {
+        LoadFault::Memory
+    }
+}
+
+// Loads the rows batch by batch, by a loader that has loaded none. After a fault the log has some of them.
 fn load_batches<R: Threads + Sync, G: Gate>(
     rt: &R,
     alloc: Global,
     log: &MultiLog,
     root: &mut Root,
     rows: &[Row],
-    plan: &LivePlan,
+    loader: &mut Loader,
     gate: &G,
-) -> Result<Vec<Live>, LoadFault>
-    requires loaded { HasLoaded log.now [] root.old }
-    requires plan { IsPlan log.now.shape plan.now }
+) -> Result<(), LoadFault>
+    requires loading { IsLoading log.now [] loader.old root.old }
+    requires none { loader.old.lives ≡ [] }
     requires fits { All (Fits log.now.shape.schema) rows.now }
     requires few { length rows.now ≤ log.now.shape.capacity }
     ensures same { root.new ≡ record root.old { view = root.new.view } }
-    ensures loaded { IfOk result (λ _. HasLoaded log.now rows.now root.new) }
-    ensures answered { IfOk result (λ lives. HasAnswered log.now.shape plan.now.asks.items plan.now.lives.items plan.now.rounds (length rows.now) root.new.view.seen lives.items) }
-    ensures told { IfOk result (λ lives. root.new.view.told ≡ root.old.view.told ++ tails_of lives.items) }
-    ensures stopped { IfErr result (HasStopped log.now rows.now root.new) }
+    ensures loading { IfOk result (λ _. IsLoading log.now rows.now loader.new root.new) }
+    ensures plan { IfOk result (λ _. loader.new.plan ≡ loader.old.plan) }
+    ensures told { IfOk result (λ _. root.new.view.told ≡ root.old.view.told ++ tails_of loader.new.lives) }
+    ensures stopped { IfErr result (HasSome log.now rows.now root.new) }
 {
-    let _few = log.shape().capacity();
-    let mut lives = Vec::new(alloc);
-    let batches = rows.len().div_ceil(4096);
-    for batch in 0..batches {
-        let mut more = load_batch(rt, alloc, log, root, rows, plan, gate, batch as u32)?;
-        if lives.append(&mut more).is_err() {
-            return Err(LoadFault::Memory);
-        }
+    let batches = rows.len().div_ceil(BATCH);
+    for number in 0..batches {
+        let from = BATCH * number;
+        let to = rows.len().min(from + BATCH);
+        loader.batch(rt, alloc, log, root, &rows[from..to], gate)?;
     }
-    Ok(lives)
+    Ok(())
 }
 
 /// Loads rows into an empty log, batch by batch of 4,096 rows, by as many writers as it has, each in a thread of its own
@@ -83,9 +91,7 @@ pub fn load<R: Threads + Sync, G: Gate>(
     if rows.len() > log.shape().capacity() as usize {
         return Err(LoadFault::Full);
     }
-    let lives = load_batches(rt, alloc, log, root, rows, plan, gate)?;
-    match answer_all(log, alloc, root, plan, lives) {
-        Ok(loaded) => Ok(loaded),
-        Err(_) => Err(LoadFault::Memory),
-    }
+    let mut loader = Loader::new(alloc, log, plan)?;
+    load_batches(rt, alloc, log, root, rows, &mut loader, gate)?;
+    Ok(loader.finish(alloc, log, root)?)
 }

@@ -1,11 +1,13 @@
 // What is asked of a log that is loaded.
-ghost use Rattle.std.specs.Prelude.{◌≡◌, ◌<◌, ◌↔◌, IsTrue, All};
+ghost use Rattle.std.specs.Prelude.{◌≡◌, ◌<◌, ◌↔◌, IsTrue, IfOk, All};
 ghost use Rattle.cf_plain.specs.Asks.{Suits, SuitsTrigger};
-ghost use Rattle.cf_load.specs.Planned.{IsPlan};
+ghost use Rattle.cf_load.specs.Planned.{IsPlan, IsSamePlan};
 
 use cf_fold::Trigger;
 use cf_plain::{Ask, suits};
+use cf_row::Memory;
 use cf_shape::Shape;
+use std::alloc::Global;
 
 /// What is asked of a log: every question and trigger once all is loaded, and the live ones beside each batch.
 #[derive(Debug, Drop)]
@@ -16,6 +18,16 @@ pub struct LivePlan {
     pub lives: Vec<u8>,
     /// How many rounds the reader makes beside each batch.
     pub rounds: u32,
+}
+
+fn copies(alloc: Global, asks: &[Ask]) -> Result<Vec<Ask>, Memory>
+    ensures { IfOk result (λ copied. copied.items ≡ asks.now) }
+{
+    let mut copied = Vec::with_capacity(alloc, asks.len())?;
+    for ask in asks {
+        copied.push(ask.copy(alloc)?)?;
+    }
+    Ok(copied)
 }
 
 fn suit_all(shape: &Shape, asks: &[Ask]) -> bool
@@ -47,5 +59,17 @@ impl LivePlan {
         suit_all(shape, &self.asks)
             && fire_all(shape, &self.triggers)
             && are_below(&self.lives, self.asks.len())
+    }
+
+    /// One more of the same.
+    pub(crate) fn copy(&self, alloc: Global) -> Result<LivePlan, Memory>
+        ensures { IfOk result (IsSamePlan self.now) }
+    {
+        Ok(LivePlan {
+            asks: copies(alloc, &self.asks)?,
+            triggers: self.triggers.to_vec(alloc)?,
+            lives: self.lives.to_vec(alloc)?,
+            rounds: self.rounds,
+        })
     }
 }

@@ -1,25 +1,47 @@
-use Rattle.std.proofs.Common.{rules, ◌≡◌, ◌+◌, ◌<◌, ◌*◌, ◌++◌, length, take, ap, sym, subst, ◌∙◌, arith}
+use Rattle.std.proofs.Common.{rules, arith, ◌≡◌, ◌<◌, ◌+◌, ◌-◌, ◌*◌, ◌++◌, List, Result, Err, IfErr, length, take, drop, refl, sym, ap, subst, ◌∙◌}
+use Rattle.cf_row.specs.Row.{RowValue}
 use Rattle.cf_table.specs.Values.{PassValue}
-use Rattle.cf_load.specs.Loading.{HasAnswered}
-use Rattle.cf_load.proofs.Loading.{answered_beside, told_more}
+use Rattle.cf_load.specs.declared.loads.LoadFault.{LoadFault}
+use Rattle.cf_load.specs.Loads.{HasSome}
+use Rattle.cf_load.specs.Loaders.{LoaderValue, IsLoading, IsBatched}
+use Rattle.cf_load.specs.Planned.{tails_of}
+use Rattle.cf_load.proofs.Loading.{told_more}
+use Rattle.cf_load.proofs.Loaders.{part_is, more_of, some_of}
+use Rattle.cf_load.proofs.loads.load_batches.Given.{Over}
 use Rattle.cf_load.proofs.loads.load_batches.Goals as goal
 
-pub loop-batch-preserved : goal.loop-batch-preserved
-loop-batch-preserved g c =
+pub returns-in_err-batch-clause-stopped : goal.returns-in_err-batch-clause-stopped
+returns-in_err-batch-clause-stopped g c =
     let log = c.args.log.now in
     let rows = c.args.rows.now in
-    let plan = c.args.plan.now in
-    let v = c.loop-batch.invariant in
-    let b = c.loop-batch.batch in
-    let n = c.load_batch.new.root in
-    let made = c.in_ok-more.ensures in
-    let more = c.in_ok-more.more.items in
-    let items : c.append.new.self.items ≡ c.loop-batch.lives.items ++ more = search rules in
-    let some : 4096 * b < length rows = (let lt = c.loop-batch-test.true in let many = c.div_ceil-batches.ensures in omega (arith, lt, many)) in
-    record {
-      same = c.load_batch.ensures.same ∙ ap (λ (h : PassValue). record h { view = n.view }) v.same;
-      loaded = made.loaded;
-      answered = subst (HasAnswered log.shape plan.asks.items plan.lives.items plan.rounds (length (take (4096 * (b + 1)) rows)) (n.view).seen) (sym items)
-          (answered_beside log rows plan b c.loop-batch.root n c.loop-batch.lives.items more v.loaded made.loaded some v.answered made.asked);
-      told = rw items (told_more (c.args.root.now.view).told (c.loop-batch.root.view).told (n.view).told c.loop-batch.lives.items more v.told made.told);
+    let b = c.loop-number.number in
+    let m = c.loop-number.root in
+    let n = c.batch.new.root in
+    let part : List RowValue = take (c.min-to.result - 4096 * b) (drop (4096 * b) rows) in
+    let lt = c.loop-number-test.true in
+    let many = c.div_ceil-batches.ensures in
+    let low : 4096 * b < length rows = omega (arith, lt, many) in
+    let both = more_of rows part b (part_is rows (4096 * b) c.min-to.result (omega (arith, low)) c.min-to.ensures) in
+    let same : c.from_residual.result ≡ Err c.in_err-batch.field-0.0 = search rules in
+    rw same (some_of log rows (take (4096 * b) rows) part m n (4096 * b) (4096 * (b + 1)) c.in_err-batch.field-0.0 refl both c.requires.few (c.in_err-batch.ensures.batched (take (4096 * b) rows) c.loop-number.invariant.loading))
+
+pub loop-number-preserved : goal.loop-number-preserved
+loop-number-preserved g c =
+    let log = c.args.log.now in
+    let rows = c.args.rows.now in
+    let b = c.loop-number.number in
+    let v = c.loop-number.invariant in
+    let n = c.batch.new.root in
+    let new = c.batch.new.self in
+    let part : List RowValue = take (c.min-to.result - 4096 * b) (drop (4096 * b) rows) in
+    let lt = c.loop-number-test.true in
+    let many = c.div_ceil-batches.ensures in
+    let low : 4096 * b < length rows = omega (arith, lt, many) in
+    let both = more_of rows part b (part_is rows (4096 * b) c.min-to.result (omega (arith, low)) c.min-to.ensures) in
+    let d : IsBatched log (take (4096 * b) rows) part c.loop-number.loader new c.loop-number.root n = c.in_ok-batch.ensures.batched (take (4096 * b) rows) v.loading in record {
+      same = d.same ∙ ap (λ (h : PassValue). record h { view = n.view }) v.same;
+      loading = subst (λ (rs : List RowValue). IsLoading log rs new n) both d.loading;
+      plan = ap (λ (l : LoaderValue). l.plan) d.loader ∙ v.plan;
+      told = told_more (c.args.root.now.view).told (c.loop-number.root.view).told (n.view).told (c.loop-number.loader).lives d.more v.told d.told
+          ∙ ap (λ (l : LoaderValue). (c.args.root.now.view).told ++ tails_of l.lives) (sym d.loader);
     }
