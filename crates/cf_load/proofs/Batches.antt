@@ -6,6 +6,7 @@ use Rattle.std.proofs.lemmas.List.Concat.{flat_map-append}
 use Rattle.std.proofs.lemmas.List.Sums.{fold-append}
 use Rattle.std.proofs.lemmas.Option.{slice_get_within, slice_get-get_or}
 use Rattle.std.specs.List.{All, AllZip, AllByRecursion, flat_map, list_any}
+use Rattle.cf_lemmas.proofs.Lists.{get_back, has_left, has_right}
 use Rattle.cf_row.specs.Row.{RowValue}
 use Rattle.cf_row.specs.declared.row.Entry.{Entry}
 use Rattle.cf_history.specs.Order.{rows_of, written_by, IsLogOf}
@@ -28,7 +29,7 @@ use Rattle.cf_load.specs.Loading.{HasLoaded}
 use Rattle.cf_load.specs.Loads.{LacksNodes}
 use Rattle.cf_load.proofs.Alls.{all_drop}
 use Rattle.cf_load.proofs.Written.{written_append, rows_then, WrotePart, all_written, log_more}
-use Rattle.cf_load.proofs.Pigeons.{has_left, has_right, in_either}
+use Rattle.cf_load.proofs.Pigeons.{in_either}
 use Rattle.cf_load.proofs.Nodes.{too_many}
 
 -- the rows of a book's tickets are what its writer wrote
@@ -51,11 +52,6 @@ only_book p rests j b at = one j (ap (λ (bs : List Book). slice_get bs j) (sym 
 -- a pass at rest holds its book
 pub first_book : (p : Pass) → Rests p → Holds p 0 (book_of p)
 first_book p rests = ap (λ (bs : List Book). slice_get bs 0) rests.one
-
--- an element of the second of two lists
-pub get_back : {A : Type 0} (xs ys : List A) (i : ℕ) (x : A) → slice_get ys i ≡ Some x → slice_get (xs ++ ys) (length xs + i) ≡ Some x
-get_back [] ys i x h = ap (slice_get ys) (let e : 0 + i ≡ i = omega arith in e) ∙ h
-get_back (y ∷ xs) ys i x h = ap (slice_get (y ∷ (xs ++ ys))) (let e : suc (length xs) + i ≡ suc (length xs + i) = omega arith in e) ∙ get_back xs ys i x h
 
 -- a pass's book is among those of all
 pub book_in : (passes : List PassValue) (k : ℕ) (h : PassValue) (b : Book) → slice_get passes k ≡ Some h → Holds h.view 0 b → (i : ℕ) × (slice_get (books_of passes) i ≡ Some b)

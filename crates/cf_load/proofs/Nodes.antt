@@ -5,6 +5,7 @@ use Rattle.std.proofs.lemmas.List.{length-map}
 use Rattle.std.proofs.lemmas.Nat.{pow-add}
 use Rattle.std.proofs.Math.Nat.{pow-suc, div-lt_iff_lt-mul}
 use Rattle.std.proofs.lemmas.Bool.{cases_Bool, and_from}
+use Rattle.cf_lemmas.proofs.Lists.{Has, has_flat, has_map}
 use Rattle.cf_lemmas.proofs.Truths.{eq_from}
 use Rattle.cf_row.specs.Row.{RowValue, Fits}
 use Rattle.cf_row.specs.declared.row.Entry.{Entry}
@@ -21,7 +22,7 @@ use Rattle.cf_law.proofs.Paths.{path_some}
 use Rattle.cf_walk.proofs.Turns.{nibbles_split}
 use Rattle.cf_walk.proofs.Keys.{key_small}
 use Rattle.cf_load.specs.Needed.{IsNeeded, IsOut, HasNodes}
-use Rattle.cf_load.proofs.Pigeons.{Has, AreApart, no_more, has_flat, from_flat, flat_most, has_map, from_map}
+use Rattle.cf_load.proofs.Pigeons.{AreApart, no_more, from_flat, flat_most, from_map}
 
 -- the spot of a node
 abbrev pub spot_at : Node → Spot

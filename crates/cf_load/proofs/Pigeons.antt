@@ -2,10 +2,7 @@
 use Rattle.std.proofs.Common.{◌≡◌, ◌⊎◌, ℕ, ◌*◌, ◌≤◌, zero, suc, inl, inr, List, [], ◌∷◌, ◌++◌, length, length-append, map, Some, slice_get, refl, ap, sym, subst, ◌∙◌, arith}
 use Rattle.std.specs.List.{flat_map}
 use Rattle.std.proofs.Math.Nat.{suc-mul}
-
--- the list has the item somewhere
-abbrev pub Has : {A : Type 0} → List A → A → Type 0
-Has xs x = (k : ℕ) × (slice_get xs k ≡ Some x)
+use Rattle.cf_lemmas.proofs.Lists.{Has}
 
 -- nothing stands at two places
 abbrev pub AreApart : {A : Type 0} → List A → Type 0
@@ -48,16 +45,6 @@ no_more (x ∷ xs) ys apart there =
         let z = apart (suc i) 0 y at (ap (λ u. Some u) (sym e)) in
         absurd (omega (arith, z))
 
--- what stands in one of two lists stands in both together, and back
-pub has_left : {A : Type 0} (xs ys : List A) (k : ℕ) (x : A) → slice_get xs k ≡ Some x → slice_get (xs ++ ys) k ≡ Some x
-has_left [] ys k x h = absurd (cc h)
-has_left (y ∷ xs) ys zero x h = h
-has_left (y ∷ xs) ys (suc k) x h = has_left xs ys k x h
-
-pub has_right : {A : Type 0} (xs ys : List A) (x : A) → Has ys x → Has (xs ++ ys) x
-has_right [] ys x h = h
-has_right (y ∷ xs) ys x h = (let r = has_right xs ys x h in (suc r.0, r.1))
-
 pub in_either : {A : Type 0} (xs ys : List A) (k : ℕ) (x : A) → slice_get (xs ++ ys) k ≡ Some x → Has xs x ⊎ Has ys x
 in_either [] ys k x h = inr (k, h)
 in_either (y ∷ xs) ys zero x h = inl (0, h)
@@ -65,12 +52,6 @@ in_either (y ∷ xs) ys (suc k) x h = elim (in_either xs ys k x h) [
   | inl l ↦ inl (suc l.0, l.1)
   | inr r ↦ inr r
 ]
-
--- what stands in a part
-pub has_flat : {X A : Type 0} (f : X → List A) (xs : List X) (i : ℕ) (x : X) (y : A) → slice_get xs i ≡ Some x → Has (f x) y → Has (flat_map f xs) y
-has_flat f [] i x y at h = absurd (cc at)
-has_flat f (z ∷ xs) zero x y at h = (let same : z ≡ x = cc at in let there : Has (f z) y = subst (λ u. Has (f u) y) (sym same) h in (there.0, has_left (f z) (flat_map f xs) there.0 y there.1))
-has_flat f (z ∷ xs) (suc i) x y at h = has_right (f z) (flat_map f xs) y (has_flat f xs i x y at h)
 
 pub from_flat : {X A : Type 0} (f : X → List A) (xs : List X) (k : ℕ) (y : A) → slice_get (flat_map f xs) k ≡ Some y → (i : ℕ) × (x : X) × (slice_get xs i ≡ Some x) × Has (f x) y
 from_flat f [] k y h = absurd (cc h)
@@ -87,12 +68,6 @@ flat_most f n (x ∷ xs) few = (let one = few 0 x refl in let rest = flat_most f
 pub same_flat : {X A : Type 0} (f g : X → List A) (xs : List X) → ((x : X) → f x ≡ g x) → flat_map f xs ≡ flat_map g xs
 same_flat f g [] same = refl
 same_flat f g (x ∷ xs) same = ap (λ ys. ys ++ flat_map f xs) (same x) ∙ ap (λ ys. g x ++ ys) (same_flat f g xs same)
-
--- what is made of an item, and back
-pub has_map : {X A : Type 0} (f : X → A) (xs : List X) (k : ℕ) (x : X) → slice_get xs k ≡ Some x → slice_get (map f xs) k ≡ Some (f x)
-has_map f [] k x h = absurd (cc h)
-has_map f (y ∷ xs) zero x h = (let same : y ≡ x = cc h in ap (λ u. Some (f u)) same)
-has_map f (y ∷ xs) (suc k) x h = has_map f xs k x h
 
 pub from_map : {X A : Type 0} (f : X → A) (xs : List X) (k : ℕ) (y : A) → slice_get (map f xs) k ≡ Some y → (x : X) × (slice_get xs k ≡ Some x) × (f x ≡ y)
 from_map f [] k y h = absurd (cc h)

@@ -7,6 +7,7 @@ use Rattle.std.specs.List.{AllZip}
 use Rattle.std.proofs.lemmas.Bool.{ne_eqb}
 use Rattle.std.proofs.lemmas.List.{map-append, drop_all}
 use Rattle.std.proofs.Math.Seq.{take-length}
+use Rattle.cf_lemmas.proofs.Lists.{has_left, has_right}
 use Rattle.cf_row.specs.Row.{RowValue}
 use Rattle.cf_shape.specs.Lanes.{ShapeValue}
 use Rattle.cf_law.specs.Passes.{Book, Own}
@@ -22,7 +23,7 @@ use Rattle.cf_append.specs.declared.appends.AppendFault.TheVariants.{Full, Nodes
 use Rattle.cf_history.specs.Order.{rows_of}
 use Rattle.cf_load.specs.Needed.{IsNeeded, IsOut}
 use Rattle.cf_load.specs.Writing.{rows_of_book, IsReady, RanOut, Wrote}
-use Rattle.cf_load.proofs.Pigeons.{has_left, has_right, in_either}
+use Rattle.cf_load.proofs.Pigeons.{in_either}
 
 -- the writer's rows of the part of a batch from row i on, which is number k
 abbrev pub left_of : LogValue → List RowValue → PassValue → ℕ → ℕ → List RowValue

@@ -3,26 +3,12 @@ use Rattle.std.proofs.Common.{◌≡◌, ◌⊎◌, ℕ, zero, suc, ◌+◌, ◌
 use Rattle.std.proofs.lemmas.Bool.{eq-eqb, ne_eqb, cases_eq, cases_lt}
 use Rattle.std.proofs.lemmas.List.{length-drop, take_all, take-append-le, drop_at, drop_all, drop-append-le, append-nil, nil_from_length}
 use Rattle.std.specs.List.{AllByRecursion}
+use Rattle.cf_lemmas.proofs.Sums.{more_at, more_elsewhere, more_there, total, total_more, total_most, total_none, total_same}
 use Rattle.cf_row.specs.Row.{RowValue}
 use Rattle.cf_row.specs.declared.row.Entry.{Entry}
 use Rattle.cf_history.specs.Order.{rows_of, written_by, IsLogOf}
 use Rattle.cf_history.proofs.Logs.{written_own, written_other}
 use Rattle.cf_load.proofs.Alls.{all_append}
-
--- the sum over the writers below n
-abbrev pub total : ℕ → (ℕ → ℕ) → ℕ
-total zero f = 0
-total (suc n) f = total n f + f n
-
--- the sums of equal numbers
-pub total_same : (n : ℕ) (f g : ℕ → ℕ) → ((w : ℕ) → w < n → f w ≡ g w) → total n f ≡ total n g
-total_same zero f g each = refl
-total_same (suc n) f g each = (let r = total_same n f g (λ w lt. each w (omega (arith, lt))) in let e = each n (omega arith) in omega (arith, r, e))
-
--- the sums of numbers that are no more
-pub total_most : (n : ℕ) (f g : ℕ → ℕ) → ((w : ℕ) → w < n → f w ≤ g w) → total n f ≤ total n g
-total_most zero f g each = omega arith
-total_most (suc n) f g each = (let r = total_most n f g (λ w lt. each w (omega (arith, lt))) in let e = each n (omega arith) in omega (arith, r, e))
 
 -- where no number is more than its fellow and the sums are as large, each is its fellow
 pub total_even : (n : ℕ) (f g : ℕ → ℕ) → ((w : ℕ) → w < n → f w ≤ g w) → total n g ≤ total n f → (w : ℕ) → w < n → f w ≡ g w
@@ -34,37 +20,6 @@ total_even (suc n) f g each all w lt =
       | inl low ↦ total_even n f g (λ v under. each v (omega (arith, under))) (omega (arith, most, last, all)) w low
       | inr high ↦ (let e : n ≡ w = omega (arith, high, lt) in subst (λ v. f v ≡ g v) e (omega (arith, most, last, all)))
     ]
-
--- the sum of nothing
-pub total_none : (n : ℕ) → total n (λ w. 0) ≡ 0
-total_none zero = refl
-total_none (suc n) = (let r = total_none n in omega (arith, r))
-
--- one more at one writer
-abbrev pub more_at : ℕ → (ℕ → ℕ) → ℕ → ℕ
-more_at x f w = cond (x == w) (suc (f w)) (f w)
-
--- at that writer
-pub more_there : (x w : ℕ) (f : ℕ → ℕ) → x ≡ w → more_at x f w ≡ suc (f w)
-more_there x w f e = ap (λ (b : Bool). cond b (suc (f w)) (f w)) (eq-eqb x w e)
-
--- at any other
-pub more_elsewhere : (x w : ℕ) (f : ℕ → ℕ) → (x ≡ w → ⊥) → more_at x f w ≡ f w
-more_elsewhere x w f ne = ap (λ (b : Bool). cond b (suc (f w)) (f w)) (ne_eqb x w ne)
-
--- then the sum is one more
-pub total_more : (n x : ℕ) (f : ℕ → ℕ) → x < n → total n (more_at x f) ≡ suc (total n f)
-total_more zero x f lt = absurd (omega (arith, lt))
-total_more (suc n) x f lt = elim (cases_lt x n) [
-  | inl low ↦
-      let r = total_more n x f low in
-      let e = more_elsewhere x n f (λ (g : x ≡ n). absurd (omega (arith, g, low))) in
-      omega (arith, r, e)
-  | inr high ↦
-      let e = more_there x n f (omega (arith, lt, high)) in
-      let r = total_same n (more_at x f) f (λ w low. more_elsewhere x w f (λ (g : x ≡ w). absurd (omega (arith, g, low, high)))) in
-      omega (arith, r, e)
-]
 
 -- one more entry counts for its writer
 pub one_entry : (w : ℕ) (e : Entry) (es : List Entry) → length (written_by w (e ∷ es)) ≡ more_at e.writer (λ v. length (written_by v es)) w
