@@ -96,29 +96,18 @@ fn room(len: usize, most: usize) -> Result<(), Code>
 
 // What names stand for. A name that stands for nothing of the kind is `NoSuchName`.
 impl Draft {
-    fn is_taken(&self, name: &[u8]) -> bool
-        ensures { result ≡ is_taken_of self.now name.now }
-    {
-        is_among(&self.lane_names, name)
-            || is_among(&self.trigger_names, name)
-            || is_among(&self.ask_names, name)
-    }
-
     /// No statement before has given the name.
     pub(crate) fn must_be_free(&self, name: &[u8]) -> Result<(), Code>
         ensures free { IfOk result (λ _. is_taken_of self.now name.now ≡ false) }
         ensures taken { IfErr result (λ code. (is_taken_of self.now name.now ≡ true) × (code ≡ NameTaken)) }
     {
-        if self.is_taken(name) {
+        let is_taken = is_among(&self.lane_names, name)
+            || is_among(&self.trigger_names, name)
+            || is_among(&self.ask_names, name);
+        if is_taken {
             return Err(Code::NameTaken);
         }
         Ok(())
-    }
-
-    fn attr_at(&self, name: &[u8]) -> Option<(u8, Kind)>
-        ensures { result ≡ attr_named (attrs_of self.now) name.now }
-    {
-        find_attr(self.schema.as_ref()?, name)
     }
 
     /// The place and the kind of the attribute of that name.
@@ -126,7 +115,10 @@ impl Draft {
         ensures found { IfOk result (λ found. attr_named (attrs_of self.now) name.now ≡ Some found) }
         ensures none { IfErr result (λ code. (attr_named (attrs_of self.now) name.now ≡ None) × (code ≡ NoSuchName)) }
     {
-        self.attr_at(name).ok_or(Code::NoSuchName)
+        match &self.schema {
+            Some(schema) => find_attr(schema, name).ok_or(Code::NoSuchName),
+            None => Err(Code::NoSuchName),
+        }
     }
 
     #[tactic(auto, using(std::proofs::lemmas::Option::slice_get_within))]
@@ -154,29 +146,13 @@ impl Draft {
         }
     }
 
-    fn trigger_at(&self, name: &[u8]) -> Option<Trigger>
-        ensures { result ≡ trigger_named self.now name.now }
-    {
-        let place = place_of(&self.trigger_names, name)?;
-        self.triggers.get(place).copied()
-    }
-
     /// The trigger of that name.
     pub(crate) fn trigger(&self, name: &[u8]) -> Result<Trigger, Code>
         ensures found { IfOk result (λ trigger. trigger_named self.now name.now ≡ Some trigger) }
         ensures none { IfErr result (λ code. (trigger_named self.now name.now ≡ None) × (code ≡ NoSuchName)) }
     {
-        self.trigger_at(name).ok_or(Code::NoSuchName)
-    }
-
-    fn ask_at(&self, name: &[u8]) -> Option<u8>
-        requires { length self.now.ask_names ≤ 32 }
-        ensures { result ≡ place_in self.now.ask_names name.now }
-    {
-        match place_of(&self.ask_names, name) {
-            Some(place) => Some(place as u8),
-            None => None,
-        }
+        let place = place_of(&self.trigger_names, name).ok_or(Code::NoSuchName)?;
+        self.triggers.get(place).copied().ok_or(Code::NoSuchName)
     }
 
     /// The place of the ask of that name.
@@ -185,7 +161,10 @@ impl Draft {
         ensures found { IfOk result (λ place. place_in self.now.ask_names name.now ≡ Some place) }
         ensures none { IfErr result (λ code. (place_in self.now.ask_names name.now ≡ None) × (code ≡ NoSuchName)) }
     {
-        self.ask_at(name).ok_or(Code::NoSuchName)
+        match place_of(&self.ask_names, name) {
+            Some(place) => Ok(place as u8),
+            None => Err(Code::NoSuchName),
+        }
     }
 
     fn is_live(&self, ask: u8) -> bool

@@ -2,7 +2,7 @@
 ghost use Rattle.std.specs.Prelude.{◌≡◌, IfOk, true, false, Some, None};
 ghost use Rattle.std.specs.Result.{IfErr};
 ghost use Rattle.cf_row.specs.declared.schema.Kind.TheVariants.{U64};
-ghost use Rattle.cf_shape.specs.Lanes.{is_number as is_number_of, is_narrow as is_narrow_of};
+ghost use Rattle.cf_shape.specs.Lanes.{is_number, is_narrow};
 ghost use Rattle.cf_filter.specs.Values.{value_at};
 ghost use Rattle.cf_setup.specs.declared.fault.Code.TheVariants.{BadNumber, BadAttribute};
 ghost use Rattle.cf_setup.specs.Reading.{number_of as number_in, width_of as width_in, key_in};
@@ -27,22 +27,6 @@ fn number_as(kind: Kind, text: &[u8]) -> Option<u64>
     }
 }
 
-fn width_at(text: &[u8]) -> Option<u64>
-    ensures { result ≡ width_in text.now }
-{
-    let width = number_as(Kind::U64, text)?;
-    if width < 1 || width > 1 << 63 {
-        return None;
-    }
-    Some(width)
-}
-
-fn key_at(kind: Option<Kind>, text: &[u8]) -> Option<u64>
-    ensures { result ≡ key_in kind text.now }
-{
-    number_as(kind?, text)
-}
-
 /// The number below 2^64 that the text is.
 pub(crate) fn number_of(text: &[u8]) -> Result<u64, Code>
     ensures found { IfOk result (λ n. number_in U64 text.now ≡ Some n) }
@@ -56,7 +40,11 @@ pub(crate) fn width_of(text: &[u8]) -> Result<u64, Code>
     ensures found { IfOk result (λ n. width_in text.now ≡ Some n) }
     ensures none { IfErr result (λ code. (width_in text.now ≡ None) × (code ≡ BadNumber)) }
 {
-    width_at(text).ok_or(Code::BadNumber)
+    let width = number_of(text)?;
+    if width < 1 || width > 1 << 63 {
+        return Err(Code::BadNumber);
+    }
+    Ok(width)
 }
 
 /// The value of that kind that the text is.
@@ -64,45 +52,30 @@ pub(crate) fn key_of(kind: Option<Kind>, text: &[u8]) -> Result<u64, Code>
     ensures found { IfOk result (λ n. key_in kind text.now ≡ Some n) }
     ensures none { IfErr result (λ code. (key_in kind text.now ≡ None) × (code ≡ BadNumber)) }
 {
-    key_at(kind, text).ok_or(Code::BadNumber)
-}
-
-fn is_number(kind: Kind) -> bool
-    ensures { result ≡ is_number_of kind }
-{
     match kind {
-        Kind::Bytes(_) => false,
-        _ => true,
-    }
-}
-
-fn is_narrow(kind: Kind) -> bool
-    ensures { result ≡ is_narrow_of kind }
-{
-    match kind {
-        Kind::U8 | Kind::U16 | Kind::U32 => true,
-        _ => false,
+        Some(kind) => number_as(kind, text).ok_or(Code::BadNumber),
+        None => Err(Code::BadNumber),
     }
 }
 
 /// The kind is one of numbers.
 pub(crate) fn must_be_number(kind: Kind) -> Result<(), Code>
-    ensures yes { IfOk result (λ _. is_number_of kind ≡ true) }
-    ensures no { IfErr result (λ code. (is_number_of kind ≡ false) × (code ≡ BadAttribute)) }
+    ensures yes { IfOk result (λ _. is_number kind ≡ true) }
+    ensures no { IfErr result (λ code. (is_number kind ≡ false) × (code ≡ BadAttribute)) }
 {
-    if !is_number(kind) {
-        return Err(Code::BadAttribute);
+    match kind {
+        Kind::Bytes(_) => Err(Code::BadAttribute),
+        _ => Ok(()),
     }
-    Ok(())
 }
 
 /// The kind is one of numbers of at most 32 bits.
 pub(crate) fn must_be_narrow(kind: Kind) -> Result<(), Code>
-    ensures yes { IfOk result (λ _. is_narrow_of kind ≡ true) }
-    ensures no { IfErr result (λ code. (is_narrow_of kind ≡ false) × (code ≡ BadAttribute)) }
+    ensures yes { IfOk result (λ _. is_narrow kind ≡ true) }
+    ensures no { IfErr result (λ code. (is_narrow kind ≡ false) × (code ≡ BadAttribute)) }
 {
-    if !is_narrow(kind) {
-        return Err(Code::BadAttribute);
+    match kind {
+        Kind::U8 | Kind::U16 | Kind::U32 => Ok(()),
+        _ => Err(Code::BadAttribute),
     }
-    Ok(())
 }
