@@ -1,2 +1,3 @@
 pub mod Snapshots
 pub mod Laws
+pub mod Hosts

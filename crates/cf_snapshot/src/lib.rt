@@ -1,16 +1,21 @@
 //! A snapshot over several hosts: a coordinator freezes the tails of all hosts, collects them and releases them.
 //!
 //! `Snap` is the coordinator and its hosts by themselves, moved by events; an event that isn't lawful changes nothing. The
-//! laws say, of every list of events, that a cut is of one moment.
+//! laws say, of every list of events, that a cut is of one moment. `Host` is a host that runs, with a log; each of its calls is an
+//! event.
 #![tactic(auto)]
 
 mod event;
+mod host;
+#[cfg(test)]
+mod host_tests;
 mod laws;
 mod snap;
 #[cfg(test)]
 mod tests;
 
 pub use event::SnapEvent;
+pub use host::Host;
 pub use laws::{
     cuts_are_of_one_moment, cuts_come_by_release, cuts_end_at_the_last_freeze,
     cuts_have_all_earlier,
