@@ -1,97 +1,58 @@
--- From a status and its text to what the program answers.
-use Rattle.std.proofs.Common.{◌≡◌, ◌⊎◌, ℕ, List, Option, Some, None, sym, inl, inr, IfSome, subst}
-use Rattle.std.specs.Io.KnownBytes.{Appends}
+-- From what is prepared to what the program answers.
+use Rattle.std.proofs.Common.{◌≡◌, ◌⊎◌, ℕ, Bool, true, false, List, [], length, Option, Some, None, refl, sym, ap, inl, inr, IfSome, subst}
+use Rattle.std.specs.Io.KnownBytes.{Keeps}
 use Rattle.cf_outside.specs.Files.{File}
-use Rattle.cf_run.proofs.Calls.{not_both, no_run_and_synth, no_synth_and_dump, no_synth, no_dump}
+use Rattle.cf_row.specs.Row.{RowValue}
+use Rattle.cf_row.specs.Schema.{packet_attrs}
+use Rattle.cf_command.specs.declared.words.LogSizes.{LogSizes}
+use Rattle.cf_command.specs.Call.{Call, RunCall, SynthCall, DumpCall}
+use Rattle.cf_command.specs.Call.Call.{run, synth, dump}
+use Rattle.cf_setup.specs.Setups.{SetupValue}
 use Rattle.cf_table.specs.Moves.{SealValue}
-use Rattle.cf_run.specs.Due.{IsDue}
-use Rattle.cf_run.specs.Parts.{IsDrafted}
-use Rattle.cf_run.specs.Seals.{AreSeals}
-use Rattle.cf_run.specs.Dumps.{IsDumpWork}
-use Rattle.cf_run.specs.Synth.{IsLawfulSynth}
-use Rattle.cf_run.specs.Devices.{WritesFront}
-use Rattle.cf_run.specs.Answers.{Answers, Yields, IsDecided}
-use Rattle.cf_run.specs.Work.{IsLawful}
-use Rattle.cf_run.proofs.Deciding.{from_lawful, dumped, of_run, of_dump}
-use Rattle.cf_run.proofs.DecidingSynth.{one_due, from_lawful as synth_lawful, of_synth}
+use Rattle.cf_run.specs.Answers.{Yields, IsDecided, IsByCall}
+use Rattle.cf_run.specs.Due.{Work, RunAfter, ComesTo, StopsAt, GivesLog, IsReportOf, AreAnswersOf, Gives, IsDue, IsLawful, drawn_work}
+use Rattle.cf_run.specs.Due.Work.{refused}
+use Rattle.cf_run.specs.Due.CallsBy.{halted, whole}
+use Rattle.cf_run.specs.Due.Exceeds.{full, short}
+use Rattle.cf_run.specs.Due.GivesLog.{refuses, tells}
+use Rattle.cf_run.specs.Files.{Grammar, setups, captures, IsFileRefused}
+use Rattle.cf_run.specs.Files.IsFileRefused.{missing, broken}
+use Rattle.cf_run.specs.Refusals.{status_of, line_of, stop_status}
+use Rattle.cf_run.specs.Parts.{draft_status, draft_seals}
+use Rattle.cf_run.specs.Work.{drawn_rows}
+use Rattle.cf_run.specs.declared.draft.Draft.{Draft}
+use Rattle.cf_run.specs.declared.draft.Draft.TheVariants as drafts
+use Rattle.cf_run.proofs.Deciding.{one_due, lawful_done}
+use Rattle.cf_run.specs.declared.refusal.Refusal.{Refusal}
+use Rattle.cf_run.specs.declared.refusal.Refusal.TheVariants as refusals
+use Rattle.cf_run.specs.declared.refusal.Stop.{Stop}
+use Rattle.cf_run.specs.declared.refusal.Stop.TheVariants as stops
 use Rattle.cf_run.specs.declared.status.Status.{Status}
 use Rattle.cf_run.specs.declared.status.Status.TheVariants.{Done, Words, Setup, Capture, ReadFault, WriteFault, Full, Nodes, Memory, NoFile}
 
-none_due : {A : Type 0} → ⊥ ⊎ ⊥ ⊎ ⊥ → A
-none_due (inl none) = absurd none
-none_due (inr (inl none)) = absurd none
-none_due (inr (inr none)) = absurd none
-
-answers_due : (files : List File) (words : List (List ℕ)) (status : Status) (text : List ℕ) (seals : List SealValue) (held now before after : Option (List ℕ)) → (due : IsDue files words status text) → AreSeals files words status text due seals → Appends held now text → Answers files words status seals held now before after
-answers_due files words Done text seals held now before after due are written = record { text = text; due = due; sealed = are; written = written }
-answers_due files words Words text seals held now before after due are written = record { text = text; due = due; written = written }
-answers_due files words (Setup line code) text seals held now before after due are written = record { text = text; due = due; written = written }
-answers_due files words (Capture at code) text seals held now before after due are written = record { text = text; due = due; written = written }
-answers_due files words NoFile text seals held now before after due are written = record { text = text; due = due; written = written }
-answers_due files words ReadFault text seals held now before after due are written = none_due due
-answers_due files words WriteFault text seals held now before after due are written = none_due due
-answers_due files words Full text seals held now before after due are written = record { text = text; due = due; written = written }
-answers_due files words Nodes text seals held now before after due are written = record { text = text; due = due; written = written }
-answers_due files words Memory text seals held now before after due are written = none_due due
-
-pub answers_if : (told : Option (List File)) (words : List (List ℕ)) (status : Status) (text : List ℕ) (seals : List SealValue) (before after held now : Option (List ℕ)) → IfSome told (λ files. IsDrafted files words before after status text seals) → Appends held now text → IfSome told (λ files. Answers files words status seals held now before after)
-answers_if None words status text seals before after held now prepared written = prepared
-answers_if (Some files) words status text seals before after held now prepared written = answers_due files words status text seals held now before after prepared.0 prepared.1 written
-
-pub answers_some : (told : Option (List File)) (words : List (List ℕ)) (status : Status) (text : List ℕ) (seals free : List SealValue) (before after held now : Option (List ℕ)) →
-    IfSome told (λ files. IsDrafted files words before after status text seals) → WritesFront held now text → IfSome told (λ files. Answers files words WriteFault free held now before after)
-answers_some None words status text seals free before after held now prepared written = prepared
-answers_some (Some files) words status text seals free before after held now prepared written = record {
-  status = status;
-  front = written.front;
-  rest = written.rest;
-  due = subst (λ (t : List ℕ). IsDue files words status t) written.text_is prepared.0;
-  written = written.written;
-  left = prepared.2;
-}
-
-pub decided_if : (told : Option (List File)) (words : List (List ℕ)) (status : Status) (text : List ℕ) → IfSome told (λ files. IsDue files words status text) → IfSome told (λ files. IsDecided files words status)
-decided_if None words status text due = due
-decided_if (Some files) words status text due = λ called t other. elim (one_due files words status called text t due other) [
+pub decided_if : (told : Option (List File)) (call : Option Call) (before now : Option (List ℕ)) (status : Status) (text : List ℕ) (seals : List SealValue) → IsDue told call before now status text seals → IfSome told (λ files. IsDecided files call status)
+decided_if None call before now status text seals due = tt
+decided_if (Some files) call before now status text seals due = λ before' now' other text' seals' also. elim (one_due files call before now status text seals due before' now' other text' seals' also) [
   | inl same ↦ inl same
   | inr between ↦ inr (inr between)
 ]
 
--- what is due of lawful words and files that fit is a report
-lawful_due : (files : List File) (words : List (List ℕ)) (lawful : IsLawful files words) (status : Status) (text : List ℕ) → IsDue files words status text → status ≡ Done
-lawful_due files words lawful status text (inl run) = sym (from_lawful files words status text lawful run)
-lawful_due files words lawful status text (inr (inl dump)) = let other = of_dump files words status text dump in absurd (not_both words lawful.work.command other.0 lawful.work.command_is other.1)
-lawful_due files words lawful status text (inr (inr synth)) = let other = of_synth files words status text synth in absurd (no_run_and_synth words lawful.work.command other.0 lawful.work.command_is other.1)
+pub complete_if : (told : Option (List File)) (call : Option Call) (before now : Option (List ℕ)) (status : Status) (text : List ℕ) (seals : List SealValue) → IsDue told call before now status text seals → IfSome told (λ files. IsLawful (Some files) call → (status ≡ Done) ⊎ Yields status)
+complete_if None call before now status text seals due = tt
+complete_if (Some files) call before now status text seals due = λ lawful. inl (lawful_done files call before now status text seals due lawful)
 
--- of a capture that is named, a dump
-dump_due : (files : List File) (words : List (List ℕ)) (work : IsDumpWork files words) (status : Status) (text : List ℕ) → IsDue files words status text → status ≡ Done
-dump_due files words work status text (inl run) = elim (of_run files words status text run) [
-  | inl none ↦ absurd (no_dump words none work.name work.name_is)
-  | inr other ↦ absurd (not_both words other.0 work.name other.1 work.name_is)
-]
-dump_due files words work status text (inr (inl dump)) = sym (dumped files words status text work dump)
-dump_due files words work status text (inr (inr synth)) = let other = of_synth files words status text synth in absurd (no_synth_and_dump words other.0 work.name other.1 work.name_is)
+-- nothing decides for want of memory and the devices
+pub decided_free : (told : Option (List File)) (call : Option Call) (status : Status) → Yields status → IfSome told (λ files. IsDecided files call status)
+decided_free None call status free = tt
+decided_free (Some files) call status free = λ before now other text seals due. inr (inl free)
 
--- of packets that fit, the answers on them
-synth_due : (files : List File) (words : List (List ℕ)) (lawful : IsLawfulSynth files words) (status : Status) (text : List ℕ) → IsDue files words status text → status ≡ Done
-synth_due files words lawful status text (inl run) = elim (of_run files words status text run) [
-  | inl none ↦ absurd (no_synth words none lawful.work.command lawful.work.command_is)
-  | inr other ↦ absurd (no_run_and_synth words other.0 lawful.work.command other.1 lawful.work.command_is)
-]
-synth_due files words lawful status text (inr (inl dump)) = let other = of_dump files words status text dump in absurd (no_synth_and_dump words lawful.work.command other.0 lawful.work.command_is other.1)
-synth_due files words lawful status text (inr (inr synth)) = sym (synth_lawful files words status text lawful synth)
+pub complete_free : (told : Option (List File)) (call : Option Call) (status : Status) → Yields status → IfSome told (λ files. IsLawful (Some files) call → (status ≡ Done) ⊎ Yields status)
+complete_free None call status free = tt
+complete_free (Some files) call status free = λ lawful. inr free
 
-pub complete_if : (told : Option (List File)) (words : List (List ℕ)) (status : Status) (text : List ℕ) → IfSome told (λ files. IsDue files words status text) → IfSome told (λ files. IsLawful files words → (status ≡ Done) ⊎ Yields status)
-complete_if None words status text due = due
-complete_if (Some files) words status text due = λ lawful. inl (lawful_due files words lawful status text due)
-
-pub dumps_if : (told : Option (List File)) (words : List (List ℕ)) (status : Status) (text : List ℕ) → IfSome told (λ files. IsDue files words status text) → IfSome told (λ files. IsDumpWork files words → (status ≡ Done) ⊎ Yields status)
-dumps_if None words status text due = due
-dumps_if (Some files) words status text due = λ work. inl (dump_due files words work status text due)
-
-pub synths_if : (told : Option (List File)) (words : List (List ℕ)) (status : Status) (text : List ℕ) → IfSome told (λ files. IsDue files words status text) → IfSome told (λ files. IsLawfulSynth files words → (status ≡ Done) ⊎ Yields status)
-synths_if None words status text due = due
-synths_if (Some files) words status text due = λ lawful. inl (synth_due files words lawful status text due)
+pub stop_yields : (status : Status) (stop : Stop) → status ≡ stop_status stop → Yields status
+stop_yields status stops.ReadFault is = inr (inl is)
+stop_yields status stops.Memory is = inl is
 
 -- over devices that never fail
 pub steady : (status : Status) → (status ≡ Done) ⊎ Yields status → (status ≡ ReadFault → ⊥) → (status ≡ WriteFault → ⊥) → (status ≡ Done) ⊎ (status ≡ Memory)
@@ -103,7 +64,138 @@ steady status said no_read no_write = elim said [
   ]
 ]
 
--- nothing decides for want of memory and the devices
-pub decided_free : (told : Option (List File)) (words : List (List ℕ)) (status : Status) → Yields status → IfSome told (λ files. IsDecided files words status)
-decided_free None words status free = tt
-decided_free (Some files) words status free = λ called text due. inr (inl free)
+-- Which statuses a call can come to.
+
+-- a refusal of a file, of a grammar that is told by these
+file_refusal : {A : Type 0} (g : Grammar A) (told : Option (List File)) (name : List ℕ) (before now : Option (List ℕ)) (P : Refusal → Type 0) → P refusals.NoFile → ((place code : ℕ) → P (g.refusal place code)) → (why : Refusal) → IsFileRefused g told name before now why → P why
+file_refusal {A} g told name before now P none broke why (missing file left is) = subst P (sym is) none
+file_refusal {A} g told name before now P none broke why (broken bytes place code file breaks left is) = subst P (sym is) (broke place code)
+
+-- of the seals and the status that work gives
+module _ (told : Option (List File)) (before now : Option (List ℕ)) (status : Status) (text : List ℕ) (seals : List SealValue) where
+  by_refusal : (P : Status → List SealValue → Type 0) (why : Refusal) → P (status_of why) [] → Gives (refused why) status text seals → P status seals
+  by_refusal P why holds gives = subst (λ (q : List SealValue). P status q) (sym gives.2) (subst (λ (s : Status). P s []) (sym gives.0) holds)
+
+  by_log : (P : Status → List SealValue → Type 0) (sizes : LogSizes) (setup : SetupValue) (rows : List RowValue) (Tells : List ℕ → List SealValue → Type 0) → P Full [] → P Nodes [] → ((q : List SealValue) → Tells text q → P Done q) → GivesLog sizes setup rows Tells status text seals → P status seals
+  by_log P sizes setup rows Tells over short_of done (refuses why (full many is) gives) = by_refusal P why (subst (λ (w : Refusal). P (status_of w) []) (sym is) over) gives
+  by_log P sizes setup rows Tells over short_of done (refuses why (short few many is) gives) = by_refusal P why (subst (λ (w : Refusal). P (status_of w) []) (sym is) short_of) gives
+  by_log P sizes setup rows Tells over short_of done (tells few nodes is told_of) = subst (λ (s : Status). P s seals) (sym is) (done seals told_of)
+
+  -- of a run
+  run_by_call : (call : RunCall) (s : Status) → (s ≡ Words → ⊥) → (s ≡ Done → ⊥) → IsByCall (Some (run call)) s []
+  run_by_call call s words done = (words, λ is. absurd (done is))
+
+  run_by_rows : (call : RunCall) (setup : SetupValue) (work : Work) → Gives work status text seals → RunAfter told call now setup work → IsByCall (Some (run call)) status seals
+  run_by_rows call setup work gives (halted why file is) =
+      by_refusal (IsByCall (Some (run call))) why
+      (file_refusal (captures setup.packet setup.schema) told call.capture (Some []) now (λ w. IsByCall (Some (run call)) (status_of w) []) (run_by_call call NoFile (λ e. cc e) (λ e. cc e)) (λ at code. run_by_call call (Capture at code) (λ e. cc e) (λ e. cc e)) why file)
+      (subst (λ (w : Work). Gives w status text seals) is gives)
+  run_by_rows call setup work gives (whole rows said next) =
+      by_log (IsByCall (Some (run call))) call.sizes setup rows (IsReportOf call setup rows) (run_by_call call Full (λ e. cc e) (λ e. cc e)) (run_by_call call Nodes (λ e. cc e) (λ e. cc e))
+      (λ q made. (λ e. cc e, λ e. ap (λ (ss : List SealValue). length ss) made.seals_are)) (subst (λ (w : Work). Gives w status text seals) next.0 gives)
+
+  run_by_work : (call : RunCall) (work : Work) → Gives work status text seals → ComesTo told (Some (run call)) before now work → IsByCall (Some (run call)) status seals
+  run_by_work call work gives (halted why file is) =
+      by_refusal (IsByCall (Some (run call))) why
+      (file_refusal setups told call.setup before now (λ w. IsByCall (Some (run call)) (status_of w) []) (run_by_call call NoFile (λ e. cc e) (λ e. cc e)) (λ line code. run_by_call call (Setup line code) (λ e. cc e) (λ e. cc e)) why file)
+      (subst (λ (w : Work). Gives w status text seals) is gives)
+  run_by_work call work gives (whole setup said next) = run_by_rows call setup work gives next
+
+  -- of a synth
+  synth_by_call : (call : SynthCall) (s : Status) → (s ≡ Words → ⊥) → ((at code : ℕ) → s ≡ Capture at code → ⊥) → (s ≡ Done → ⊥) → IsByCall (Some (synth call)) s []
+  synth_by_call call s words capture done = (words, capture, λ is. absurd (done is))
+
+  synth_by_setup : (call : SynthCall) (setup : SetupValue) (packet : Bool) → Gives (drawn_work call setup packet) status text seals → IsByCall (Some (synth call)) status seals
+  synth_by_setup call setup false gives =
+      by_refusal (IsByCall (Some (synth call))) (refusals.Setup setup.schema_line 4) (synth_by_call call (Setup setup.schema_line 4) (λ e. cc e) (λ at code e. cc e) (λ e. cc e)) gives
+  synth_by_setup call setup true gives =
+      by_log (IsByCall (Some (synth call))) call.sizes setup (drawn_rows call) (AreAnswersOf call setup) (synth_by_call call Full (λ e. cc e) (λ at code e. cc e) (λ e. cc e)) (synth_by_call call Nodes (λ e. cc e) (λ at code e. cc e) (λ e. cc e))
+      (λ q made. (λ e. cc e, λ at code e. cc e, λ e. ap (λ (ss : List SealValue). length ss) made.seals_are.seals_are)) gives
+
+  synth_by_work : (call : SynthCall) (work : Work) → Gives work status text seals → ComesTo told (Some (synth call)) before now work → IsByCall (Some (synth call)) status seals
+  synth_by_work call work gives (halted why file is) =
+      by_refusal (IsByCall (Some (synth call))) why
+      (file_refusal setups told call.setup before now (λ w. IsByCall (Some (synth call)) (status_of w) []) (synth_by_call call NoFile (λ e. cc e) (λ at code e. cc e) (λ e. cc e)) (λ line code. synth_by_call call (Setup line code) (λ e. cc e) (λ at other e. cc e) (λ e. cc e)) why file)
+      (subst (λ (w : Work). Gives w status text seals) is gives)
+  synth_by_work call work gives (whole setup said next) = synth_by_setup call setup setup.packet (subst (λ (w : Work). Gives w status text seals) next.0 gives)
+
+  -- of a dump
+  dump_by_work : (call : DumpCall) (work : Work) → Gives work status text seals → ComesTo told (Some (dump call)) before now work → IsByCall (Some (dump call)) status seals
+  dump_by_work call work gives (halted why file is) =
+      by_refusal (IsByCall (Some (dump call))) why
+      (file_refusal (captures true packet_attrs) told call.capture before now (λ w. IsByCall (Some (dump call)) (status_of w) []) (λ e. cc e, λ line code e. cc e, λ e. cc e, λ e. cc e, refl) (λ at code. (λ e. cc e, λ line other e. cc e, λ e. cc e, λ e. cc e, refl)) why file)
+      (subst (λ (w : Work). Gives w status text seals) is gives)
+  dump_by_work call work gives (whole rows said next) =
+      let made = subst (λ (w : Work). Gives w status text seals) next.0 gives in
+      (λ e. cc (e, made.0), λ line code e. cc (e, made.0), λ e. cc (e, made.0), λ e. cc (e, made.0), made.2)
+
+  pub by_due : (call : Option Call) → IsDue told call before now status text seals → IsByCall call status seals
+  by_due None due = inl (subst (λ (w : Work). Gives w status text seals) due.comes.0 due.gives).0
+  by_due (Some (run call)) due = run_by_work call due.work due.gives due.comes
+  by_due (Some (synth call)) due = synth_by_work call due.work due.gives due.comes
+  by_due (Some (dump call)) due = dump_by_work call due.work due.gives due.comes
+
+-- of the faults of devices, and of want of memory
+pub by_cut : (call : Option Call) (status : Status) (seals : List SealValue) → status ≡ WriteFault → seals ≡ [] → IsByCall call status seals
+by_cut None status seals is none = inr (inr is)
+by_cut (Some (run call)) status seals is none = (λ e. cc (e, is), λ e. cc (e, is))
+by_cut (Some (synth call)) status seals is none = (λ e. cc (e, is), λ at code e. cc (e, is), λ e. cc (e, is))
+by_cut (Some (dump call)) status seals is none = (λ e. cc (e, is), λ line code e. cc (e, is), λ e. cc (e, is), λ e. cc (e, is), none)
+
+by_memory : (call : Option Call) (status : Status) (seals : List SealValue) → status ≡ Memory → seals ≡ [] → IsByCall call status seals
+by_memory None status seals is none = inr (inl is)
+by_memory (Some (run call)) status seals is none = (λ e. cc (e, is), λ e. cc (e, is))
+by_memory (Some (synth call)) status seals is none = (λ e. cc (e, is), λ at code e. cc (e, is), λ e. cc (e, is))
+by_memory (Some (dump call)) status seals is none = (λ e. cc (e, is), λ line code e. cc (e, is), λ e. cc (e, is), λ e. cc (e, is), none)
+
+pub by_stop : (told : Option (List File)) (call : Option Call) (before now : Option (List ℕ)) (status : Status) (seals : List SealValue) (stop : Stop) → status ≡ stop_status stop → seals ≡ [] → StopsAt told call stop before now → IsByCall call status seals
+by_stop told call before now status seals stops.Memory is none left = by_memory call status seals is none
+by_stop told None before now status seals stops.ReadFault is none left = absurd (cc left.0)
+by_stop told (Some (run call)) before now status seals stops.ReadFault is none left = (λ e. cc (e, is), λ e. cc (e, is))
+by_stop told (Some (synth call)) before now status seals stops.ReadFault is none left = (λ e. cc (e, is), λ at code e. cc (e, is), λ e. cc (e, is))
+by_stop told (Some (dump call)) before now status seals stops.ReadFault is none left = (λ e. cc (e, is), λ line code e. cc (e, is), λ e. cc (e, is), λ e. cc (e, is), none)
+
+-- words that are no command
+pub words_text : (told : Option (List File)) (call : Option Call) (before now : Option (List ℕ)) (status : Status) (text : List ℕ) (seals : List SealValue) → IsDue told call before now status text seals → call ≡ None → text ≡ line_of refusals.Words
+words_text told None before now status text seals due none = (subst (λ (w : Work). Gives w status text seals) due.comes.0 due.gives).1
+words_text told (Some call) before now status text seals due none = absurd (cc none)
+
+pub words_call : (told : Option (List File)) (call : Option Call) (before now : Option (List ℕ)) (status : Status) (text : List ℕ) (seals : List SealValue) → IsDue told call before now status text seals → status ≡ Words → call ≡ None
+words_call told None before now status text seals due is = refl
+words_call told (Some (run call)) before now status text seals due is = absurd ((by_due told before now status text seals (Some (run call)) due).0 is)
+words_call told (Some (synth call)) before now status text seals due is = absurd ((by_due told before now status text seals (Some (synth call)) due).0 is)
+words_call told (Some (dump call)) before now status text seals due is = absurd ((by_due told before now status text seals (Some (dump call)) due).0 is)
+
+pub keeps_same : (held : Option (List ℕ)) → Keeps held held
+keeps_same None = tt
+keeps_same (Some bytes) = refl
+
+-- the same is due under other names
+pub due_as : (told : Option (List File)) (call : Option Call) (before now : Option (List ℕ)) (status other : Status) (text : List ℕ) (seals owed : List SealValue) → IsDue told call before now status text seals → other ≡ status → owed ≡ seals → IsDue told call before now other text owed
+due_as told call before now status other text seals owed due is also =
+    subst (λ (s : Status). IsDue told call before now s text owed) (sym is) (subst (λ (q : List SealValue). IsDue told call before now status text q) (sym also) due)
+
+-- a draft has none of the statuses that devices and want of memory give, and seals only where the work was done
+none_of : {A B C : Type 0} → (A → ⊥) → (B → ⊥) → (C → ⊥) → A ⊎ B ⊎ C → ⊥
+none_of {A} {B} {C} a b c (inl x) = a x
+none_of {A} {B} {C} a b c (inr (inl x)) = b x
+none_of {A} {B} {C} a b c (inr (inr x)) = c x
+
+refusal_yields : (why : Refusal) → Yields (status_of why) → ⊥
+refusal_yields refusals.Words yields = none_of (λ e. cc e) (λ e. cc e) (λ e. cc e) yields
+refusal_yields refusals.NoFile yields = none_of (λ e. cc e) (λ e. cc e) (λ e. cc e) yields
+refusal_yields (refusals.Setup line code) yields = none_of (λ e. cc e) (λ e. cc e) (λ e. cc e) yields
+refusal_yields (refusals.Capture at code) yields = none_of (λ e. cc e) (λ e. cc e) (λ e. cc e) yields
+refusal_yields (refusals.Full capacity) yields = none_of (λ e. cc e) (λ e. cc e) (λ e. cc e) yields
+refusal_yields (refusals.Nodes nodes) yields = none_of (λ e. cc e) (λ e. cc e) (λ e. cc e) yields
+
+draft_yields : (draft : Draft) → Yields (draft_status draft) → ⊥
+draft_yields (drafts.Done text seals) yields = none_of (λ e. cc e) (λ e. cc e) (λ e. cc e) yields
+draft_yields (drafts.Refused why text) yields = refusal_yields why yields
+
+pub never_yields : (draft : Draft) (status : Status) → status ≡ draft_status draft → Yields status → ⊥
+never_yields draft status is yields = draft_yields draft (subst Yields is yields)
+
+pub draft_unsealed : (draft : Draft) (status : Status) (seals : List SealValue) → status ≡ draft_status draft → seals ≡ draft_seals draft → (status ≡ Done → ⊥) → seals ≡ []
+draft_unsealed (drafts.Done text seals) status sealed is also undone = absurd (undone is)
+draft_unsealed (drafts.Refused why text) status sealed is also undone = also

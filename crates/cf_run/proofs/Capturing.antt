@@ -4,13 +4,13 @@ use Rattle.std.specs.declared.alloc.Global.{Global}
 use Rattle.std.proofs.lemmas.List.{take-append-le}
 use Rattle.cf_row.specs.Row.{RowValue}
 use Rattle.cf_row.specs.declared.schema.Attr.{Attr}
-use Rattle.cf_pcap.specs.Capture.{FrameValue, IsCapture, HasPcapFault}
+use Rattle.cf_pcap.specs.Capture.{FrameValue, HasPcapFault}
 use Rattle.cf_pcap.specs.declared.fault.PcapFault.{PcapFault}
 use Rattle.cf_pcap.specs.declared.fault.PcapFault.TheVariants as faults
 use Rattle.cf_pcap.proofs.Ending.{fault_of_front}
 use Rattle.cf_pcap.proofs.Verdict as pcap
 use Rattle.cf_pcapng.specs.File.{pcapng}
-use Rattle.cf_pcapng.specs.Rules.{IsFileOf, HasFaultOf}
+use Rattle.cf_pcapng.specs.Rules.{HasFaultOf}
 use Rattle.cf_pcapng.specs.declared.fault.NgFault.{NgFault}
 use Rattle.cf_pcapng.specs.declared.fault.NgFault.TheVariants as ng
 use Rattle.cf_pcapng.proofs.Filing.{file_by_rules, one_case_of}
@@ -21,8 +21,10 @@ use Rattle.cf_run.specs.Formats.{begins_section}
 use Rattle.cf_run.specs.Laws.{OneCase}
 use Rattle.cf_run.specs.Parts.{IsBad}
 use Rattle.cf_run.specs.Work.{packet_rows, AreFramesBy, ArePackets}
-use Rattle.cf_run.specs.declared.status.Status.{Status}
-use Rattle.cf_run.specs.declared.status.Status.TheVariants.{Capture, Memory}
+use Rattle.cf_run.specs.declared.refusal.Halt.{Halt}
+use Rattle.cf_run.specs.declared.refusal.Halt.TheVariants.{Refused, Stopped}
+use Rattle.cf_run.specs.declared.refusal.Refusal.TheVariants as refusals
+use Rattle.cf_run.specs.declared.refusal.Stop.TheVariants as stops
 
 -- Below 2^32 bytes.
 
@@ -57,31 +59,31 @@ packets_longer bytes rest at code whole has = subst (λ (b : Bool). HasFaultIn b
 
 -- A fault of the bytes refuses them, and want of memory is none.
 
-record_faulty : (bytes : List ℕ) (fault : PcapFault) (status : Status) → (fault ≡ faults.Memory → ⊥) → ((fault ≡ faults.Memory → ⊥) → status ≡ Capture (record_of fault) (code_of fault)) → ((fault ≡ faults.Memory → ⊥) → HasPcapFault bytes fault) → IsBad (HasRecordFault bytes) status
-record_faulty bytes fault status none other has = subst (λ (s : Status). IsBad (HasRecordFault bytes) s) (sym (other none)) (record { fault = fault; fault_is = has none; record_is = refl; code_is = refl })
+record_faulty : (bytes : List ℕ) (fault : PcapFault) (halt : Halt) → (fault ≡ faults.Memory → ⊥) → ((fault ≡ faults.Memory → ⊥) → halt ≡ Refused (refusals.Capture (record_of fault) (code_of fault))) → ((fault ≡ faults.Memory → ⊥) → HasPcapFault bytes fault) → IsBad (HasRecordFault bytes) halt
+record_faulty bytes fault halt none other has = subst (λ (h : Halt). IsBad (HasRecordFault bytes) h) (sym (other none)) (record_of fault, code_of fault, refl, record { fault = fault; fault_is = has none; record_is = refl; code_is = refl })
 
-pub bad_record : (bytes : List ℕ) (fault : PcapFault) (status : Status) → (fault ≡ faults.Memory → status ≡ Memory) → ((fault ≡ faults.Memory → ⊥) → status ≡ Capture (record_of fault) (code_of fault)) → ((fault ≡ faults.Memory → ⊥) → HasPcapFault bytes fault) → IsBad (HasRecordFault bytes) status
-bad_record bytes faults.Memory status memory other has = subst (λ (s : Status). IsBad (HasRecordFault bytes) s) (sym (memory refl)) tt
-bad_record bytes faults.BadMagic status memory other has = record_faulty bytes faults.BadMagic status (λ e. cc e) other has
-bad_record bytes faults.BadVersion status memory other has = record_faulty bytes faults.BadVersion status (λ e. cc e) other has
-bad_record bytes faults.BadLink status memory other has = record_faulty bytes faults.BadLink status (λ e. cc e) other has
-bad_record bytes (faults.FrameTooLong k) status memory other has = record_faulty bytes (faults.FrameTooLong k) status (λ e. cc e) other has
-bad_record bytes (faults.Cut k) status memory other has = record_faulty bytes (faults.Cut k) status (λ e. cc e) other has
-bad_record bytes faults.TooManyBytes status memory other has = record_faulty bytes faults.TooManyBytes status (λ e. cc e) other has
+pub bad_record : (bytes : List ℕ) (fault : PcapFault) (halt : Halt) → (fault ≡ faults.Memory → halt ≡ Stopped stops.Memory) → ((fault ≡ faults.Memory → ⊥) → halt ≡ Refused (refusals.Capture (record_of fault) (code_of fault))) → ((fault ≡ faults.Memory → ⊥) → HasPcapFault bytes fault) → IsBad (HasRecordFault bytes) halt
+bad_record bytes faults.Memory halt memory other has = subst (λ (h : Halt). IsBad (HasRecordFault bytes) h) (sym (memory refl)) tt
+bad_record bytes faults.BadMagic halt memory other has = record_faulty bytes faults.BadMagic halt (λ e. cc e) other has
+bad_record bytes faults.BadVersion halt memory other has = record_faulty bytes faults.BadVersion halt (λ e. cc e) other has
+bad_record bytes faults.BadLink halt memory other has = record_faulty bytes faults.BadLink halt (λ e. cc e) other has
+bad_record bytes (faults.FrameTooLong k) halt memory other has = record_faulty bytes (faults.FrameTooLong k) halt (λ e. cc e) other has
+bad_record bytes (faults.Cut k) halt memory other has = record_faulty bytes (faults.Cut k) halt (λ e. cc e) other has
+bad_record bytes faults.TooManyBytes halt memory other has = record_faulty bytes faults.TooManyBytes halt (λ e. cc e) other has
 
-block_faulty : (bytes : List ℕ) (fault : NgFault) (status : Status) → (fault ≡ ng.Memory → ⊥) → ((fault ≡ ng.Memory → ⊥) → status ≡ Capture (frame_of fault) (block_code_of fault)) → ((fault ≡ ng.Memory → ⊥) → HasFaultOf bytes fault) → IsBad (HasBlockFault bytes) status
-block_faulty bytes fault status none other has = subst (λ (s : Status). IsBad (HasBlockFault bytes) s) (sym (other none)) (record { fault = fault; fault_is = has none; record_is = refl; code_is = refl })
+block_faulty : (bytes : List ℕ) (fault : NgFault) (halt : Halt) → (fault ≡ ng.Memory → ⊥) → ((fault ≡ ng.Memory → ⊥) → halt ≡ Refused (refusals.Capture (frame_of fault) (block_code_of fault))) → ((fault ≡ ng.Memory → ⊥) → HasFaultOf bytes fault) → IsBad (HasBlockFault bytes) halt
+block_faulty bytes fault halt none other has = subst (λ (h : Halt). IsBad (HasBlockFault bytes) h) (sym (other none)) (frame_of fault, block_code_of fault, refl, record { fault = fault; fault_is = has none; record_is = refl; code_is = refl })
 
-pub bad_block : (bytes : List ℕ) (fault : NgFault) (status : Status) → (fault ≡ ng.Memory → status ≡ Memory) → ((fault ≡ ng.Memory → ⊥) → status ≡ Capture (frame_of fault) (block_code_of fault)) → ((fault ≡ ng.Memory → ⊥) → HasFaultOf bytes fault) → IsBad (HasBlockFault bytes) status
-bad_block bytes ng.Memory status memory other has = subst (λ (s : Status). IsBad (HasBlockFault bytes) s) (sym (memory refl)) tt
-bad_block bytes (ng.BadMagic k) status memory other has = block_faulty bytes (ng.BadMagic k) status (λ e. cc e) other has
-bad_block bytes (ng.BadVersion k) status memory other has = block_faulty bytes (ng.BadVersion k) status (λ e. cc e) other has
-bad_block bytes (ng.BadLink k) status memory other has = block_faulty bytes (ng.BadLink k) status (λ e. cc e) other has
-bad_block bytes (ng.FrameTooLong k) status memory other has = block_faulty bytes (ng.FrameTooLong k) status (λ e. cc e) other has
-bad_block bytes (ng.Cut k) status memory other has = block_faulty bytes (ng.Cut k) status (λ e. cc e) other has
-bad_block bytes ng.TooManyBytes status memory other has = block_faulty bytes ng.TooManyBytes status (λ e. cc e) other has
-bad_block bytes (ng.BadLength k) status memory other has = block_faulty bytes (ng.BadLength k) status (λ e. cc e) other has
-bad_block bytes (ng.NoInterface k) status memory other has = block_faulty bytes (ng.NoInterface k) status (λ e. cc e) other has
+pub bad_block : (bytes : List ℕ) (fault : NgFault) (halt : Halt) → (fault ≡ ng.Memory → halt ≡ Stopped stops.Memory) → ((fault ≡ ng.Memory → ⊥) → halt ≡ Refused (refusals.Capture (frame_of fault) (block_code_of fault))) → ((fault ≡ ng.Memory → ⊥) → HasFaultOf bytes fault) → IsBad (HasBlockFault bytes) halt
+bad_block bytes ng.Memory halt memory other has = subst (λ (h : Halt). IsBad (HasBlockFault bytes) h) (sym (memory refl)) tt
+bad_block bytes (ng.BadMagic k) halt memory other has = block_faulty bytes (ng.BadMagic k) halt (λ e. cc e) other has
+bad_block bytes (ng.BadVersion k) halt memory other has = block_faulty bytes (ng.BadVersion k) halt (λ e. cc e) other has
+bad_block bytes (ng.BadLink k) halt memory other has = block_faulty bytes (ng.BadLink k) halt (λ e. cc e) other has
+bad_block bytes (ng.FrameTooLong k) halt memory other has = block_faulty bytes (ng.FrameTooLong k) halt (λ e. cc e) other has
+bad_block bytes (ng.Cut k) halt memory other has = block_faulty bytes (ng.Cut k) halt (λ e. cc e) other has
+bad_block bytes ng.TooManyBytes halt memory other has = block_faulty bytes ng.TooManyBytes halt (λ e. cc e) other has
+bad_block bytes (ng.BadLength k) halt memory other has = block_faulty bytes (ng.BadLength k) halt (λ e. cc e) other has
+bad_block bytes (ng.NoInterface k) halt memory other has = block_faulty bytes (ng.NoInterface k) halt (λ e. cc e) other has
 
 -- One case.
 
@@ -137,5 +139,5 @@ one_packet_case attrs bytes = record {
 }
 
 -- what the reader of the format that bytes begin as answers
-pub frames_by : (bytes : List ℕ) (b : Bool) (result : Result (Vec FrameValue Global) Status) → begins_section bytes ≡ b → MatchResult result (λ frames. AreFramesBy b bytes frames.items × (length frames.items < 2 ^ 32)) (IsBad (HasFaultIn b bytes)) → MatchResult result (λ frames. AreFramesBy (begins_section bytes) bytes frames.items × (length frames.items < 2 ^ 32)) (IsBad (HasPacketFault bytes))
+pub frames_by : (bytes : List ℕ) (b : Bool) (result : Result (Vec FrameValue Global) Halt) → begins_section bytes ≡ b → MatchResult result (λ frames. AreFramesBy b bytes frames.items × (length frames.items < 2 ^ 32)) (IsBad (HasFaultIn b bytes)) → MatchResult result (λ frames. AreFramesBy (begins_section bytes) bytes frames.items × (length frames.items < 2 ^ 32)) (IsBad (HasPacketFault bytes))
 frames_by bytes b result is h = subst (λ (x : Bool). MatchResult result (λ frames. AreFramesBy x bytes frames.items × (length frames.items < 2 ^ 32)) (IsBad (HasFaultIn x bytes))) (sym is) h

@@ -1,58 +1,57 @@
--- From a file that is read to what loading its rows answers.
-use Rattle.std.proofs.Common.{◌≡◌, ◌⊎◌, ℕ, ◌+◌, ◌<◌, ◌≤◌, ◌^◌, Bool, true, false, List, [], ◌++◌, length, Option, Some, None, Result, Ok, Err, refl, ap, sym, ◌∙◌, inl, inr, IfSome, MatchResult, subst, arith, append-nil, length-append, Vec}
+-- From a file that is read to what it says.
+use Rattle.std.proofs.Common.{◌≡◌, ◌⊎◌, ℕ, ◌+◌, ◌<◌, ◌^◌, Bool, true, false, List, [], ◌++◌, length, Option, Some, Result, Ok, Err, refl, ap, sym, ◌∙◌, inl, inr, MatchResult, subst, arith, append-nil, length-append, Vec}
 use Rattle.std.specs.declared.alloc.Global.{Global}
 use Rattle.cf_row.specs.Row.{RowValue}
 use Rattle.cf_row.specs.declared.schema.Attr.{Attr}
 use Rattle.cf_outside.specs.Files.{File}
-use Rattle.cf_records.specs.Records.{HasRecordsFault, IsRecordFile}
+use Rattle.cf_records.specs.Records.{HasRecordsFault}
 use Rattle.cf_records.specs.declared.fault.RecordFault.{RecordFault}
 use Rattle.cf_records.specs.declared.fault.RecordFault.TheVariants as records
-use Rattle.cf_setup.specs.Setups.{SetupValue}
-use Rattle.cf_run.specs.Devices.{IsFileRead}
-use Rattle.cf_run.specs.Faults.{HasPacketFault, HasLineFault, HasFaultBy, HasCaptureFault, line_code_of, line_of}
-use Rattle.cf_run.specs.Parts.{Lawful, Faulty, IsRowsStop, LoadsRows, LoadsRowsOf, LoadsPackets, IsBad}
-use Rattle.cf_run.specs.Work.{ArePackets, AreRowsBy, AreRowsOf, limit_by, limit_of}
+use Rattle.cf_run.specs.Devices.{IsFileRead, ReadsFile}
+use Rattle.cf_run.specs.Faults.{HasLineFault, HasFaultBy, line_code_of, line_of}
+use Rattle.cf_run.specs.Files.{HasFile, HasLeft, Grammar, captures, IsReadAs, IsFileRefused, Halts}
+use Rattle.cf_run.specs.Files.IsFileRefused.{missing, broken}
+use Rattle.cf_run.specs.Parts.{IsBad}
+use Rattle.cf_run.specs.Refusals.{unread}
+use Rattle.cf_run.specs.Work.{AreRowsBy, limit_by}
 use Rattle.cf_run.proofs.Capturing.{packets_end, packets_longer}
 use Rattle.cf_run.proofs.Taking.{left_after, stopped_read}
-use Rattle.cf_run.specs.declared.status.Status.{Status}
-use Rattle.cf_run.specs.declared.status.Status.TheVariants.{Done, Words, Setup, Capture, ReadFault, WriteFault, Full, Nodes, Memory, NoFile}
+use Rattle.cf_run.specs.declared.devices.ReadError.{ReadError}
+use Rattle.cf_run.specs.declared.devices.ReadError.TheVariants as errors
+use Rattle.cf_run.specs.declared.refusal.Halt.{Halt}
+use Rattle.cf_run.specs.declared.refusal.Halt.TheVariants.{Refused, Stopped}
+use Rattle.cf_run.specs.declared.refusal.Refusal.{Refusal}
+use Rattle.cf_run.specs.declared.refusal.Refusal.TheVariants as refusals
+use Rattle.cf_run.specs.declared.refusal.Stop.TheVariants as stops
 
--- lawful files are below the limit, and the fault of what was read as far as the limit is that of the file
-abbrev Ends : ℕ → Lawful → Type 0
-Ends limit lawful = (bytes : List ℕ) (rows : List RowValue) → lawful bytes rows → length bytes < limit
+-- lawful files are below the limit
+abbrev pub Ends : {A : Type 0} → Grammar A → Type 0
+Ends {A} g = (bytes : List ℕ) (what : A) → g.Says bytes what → length bytes < g.limit
 
-abbrev Longer : ℕ → Faulty → Type 0
-Longer limit faulty = (bytes rest : List ℕ) (at code : ℕ) → (rest ≡ []) ⊎ (length bytes ≡ limit) → faulty bytes at code → faulty (bytes ++ rest) at code
+-- the fault of what was read as far as the limit is that of the file
+abbrev pub Longer : {A : Type 0} → Grammar A → Type 0
+Longer {A} g = (bytes rest : List ℕ) (place code : ℕ) → (rest ≡ []) ⊎ (length bytes ≡ g.limit) → g.Breaks bytes place code → g.Breaks (bytes ++ rest) place code
 
-module _ (limit : ℕ) (lawful : Lawful) (faulty : Faulty) (ends : Ends limit lawful) (longer : Longer limit faulty) where
-  rows_end : (files : List File) (name bytes : List ℕ) (now : Option (List ℕ)) (rows : List RowValue) → (read : IsFileRead files name limit now bytes) → lawful bytes rows → read.rest ≡ []
-  rows_end files name bytes now rows read is = elim read.whole [
-    | inl end ↦ end
-    | inr more ↦ let size : length bytes < limit = ends bytes rows is in absurd (omega (arith, size, more))
-  ]
+pub read_as : {A : Type 0} (g : Grammar A) → Ends g → (told : Option (List File)) (name bytes : List ℕ) (now : Option (List ℕ)) (what : A) → IsFileRead told name g.limit now bytes → g.Says bytes what → IsReadAs g told name now what
+read_as {A} g ends told name bytes now what read says =
+    let end : read.rest ≡ [] = elim read.whole [
+      | inl end ↦ end
+      | inr more ↦ let size : length bytes < g.limit = ends bytes what says in absurd (omega (arith, size, more))
+    ] in (
+      record { bytes = bytes; file = subst (λ (xs : List ℕ). HasFile told name (Some xs)) (ap (λ xs. bytes ++ xs) end ∙ append-nil bytes) read.file_is; says = says; few = read.most },
+      subst (λ (xs : List ℕ). HasLeft told now (Some xs)) end read.left,
+    )
 
-  rows_stop : (files : List File) (name bytes : List ℕ) (before now : Option (List ℕ)) (status : Status) → IsFileRead files name limit now bytes → IsBad (faulty bytes) status → IsRowsStop limit faulty files name before now status
-  rows_stop files name bytes before now (Capture at code) read bad =
-      (bytes ++ read.rest, read.file_is, longer bytes read.rest at code read.whole bad, left_after limit bytes read.rest now read.left read.most read.whole)
-  rows_stop files name bytes before now Memory read bad = stopped_read files name limit before now bytes read
-  rows_stop files name bytes before now NoFile read bad = absurd bad
-  rows_stop files name bytes before now Words read bad = absurd bad
-  rows_stop files name bytes before now (Setup line code) read bad = absurd bad
-  rows_stop files name bytes before now Done read bad = absurd bad
-  rows_stop files name bytes before now ReadFault read bad = absurd bad
-  rows_stop files name bytes before now WriteFault read bad = absurd bad
-  rows_stop files name bytes before now Full read bad = absurd bad
-  rows_stop files name bytes before now Nodes read bad = absurd bad
+pub read_broken : {A : Type 0} (g : Grammar A) → Longer g → (told : Option (List File)) (name bytes : List ℕ) (before now : Option (List ℕ)) (place code : ℕ) → IsFileRead told name g.limit now bytes → g.Breaks bytes place code → IsFileRefused g told name before now (g.refusal place code)
+read_broken {A} g longer told name bytes before now place code read breaks =
+    broken (bytes ++ read.rest) place code read.file_is (longer bytes read.rest place code read.whole breaks)
+    (subst (λ (xs : List ℕ). HasLeft told now (Some xs)) (left_after g.limit bytes read.rest read.most read.whole) read.left) refl
 
-  loads_rows : (files : List File) (name bytes : List ℕ) (before now : Option (List ℕ)) (result : Result (Vec RowValue Global) Status) → IsFileRead files name limit now bytes → MatchResult result (λ rows. lawful bytes rows.items) (IsBad (faulty bytes)) → LoadsRows limit lawful faulty files name before now result
-  loads_rows files name bytes before now (Ok rows) read is =
-      let end : read.rest ≡ [] = rows_end files name bytes now rows.items read is in
-      (bytes, read.file_is ∙ ap (λ rest. Some (bytes ++ rest)) end ∙ ap (λ xs. Some xs) (append-nil bytes), is, read.left ∙ ap (λ xs. Some xs) end)
-  loads_rows files name bytes before now (Err status) read bad = rows_stop files name bytes before now status read bad
-
-  loads_rows_if : (told : Option (List File)) (name bytes : List ℕ) (before now : Option (List ℕ)) (result : Result (Vec RowValue Global) Status) → IfSome told (λ files. IsFileRead files name limit now bytes) → MatchResult result (λ rows. lawful bytes rows.items) (IsBad (faulty bytes)) → IfSome told (λ files. LoadsRows limit lawful faulty files name before now result)
-  loads_rows_if None name bytes before now result read is = read
-  loads_rows_if (Some files) name bytes before now result read is = loads_rows files name bytes before now result read is
+-- a file that was not read
+pub unread_halts : {A : Type 0} (g : Grammar A) (told : Option (List File)) (name : List ℕ) (before now : Option (List ℕ)) (error : ReadError) → ReadsFile told name g.limit before now (Err error) → Halts g told name before now (unread error)
+unread_halts {A} g told name before now errors.Missing reads = missing reads.0 reads.1 refl
+unread_halts {A} g told name before now errors.Failed reads = reads
+unread_halts {A} g told name before now errors.Memory reads = reads
 
 full_line : (attrs : List Attr) (bytes rest : List ℕ) (fault : RecordFault) → length bytes ≡ 2 ^ 24 → HasRecordsFault attrs bytes fault → HasRecordsFault attrs (bytes ++ rest) fault
 full_line attrs bytes rest records.NoHeader full has = let small : length bytes < 2 ^ 24 = has.0 in absurd (omega (arith, small, full))
@@ -62,7 +61,7 @@ full_line attrs bytes rest (records.BadValue k column) full has = let small : le
 full_line attrs bytes rest records.TooManyBytes full has = let sum : length (bytes ++ rest) ≡ length bytes + length rest = length-append bytes rest in omega (arith, full, sum)
 full_line attrs bytes rest records.Memory full has = has
 
-lines_longer : (attrs : List Attr) → Longer (2 ^ 24) (HasLineFault attrs)
+lines_longer : (attrs : List Attr) (bytes rest : List ℕ) (at code : ℕ) → (rest ≡ []) ⊎ (length bytes ≡ 2 ^ 24) → HasLineFault attrs bytes at code → HasLineFault attrs (bytes ++ rest) at code
 lines_longer attrs bytes rest at code whole has = record {
   fault = has.fault;
   fault_is = elim whole [
@@ -73,34 +72,36 @@ lines_longer attrs bytes rest at code whole has = record {
   code_is = has.code_is;
 }
 
-pub ends_by : (packet : Bool) (attrs : List Attr) → Ends (limit_by packet) (AreRowsBy packet attrs)
-ends_by true attrs = packets_end
-ends_by false attrs = λ bytes rows file. file.small
+captures_end : (packet : Bool) (attrs : List Attr) → Ends (captures packet attrs)
+captures_end true attrs = packets_end
+captures_end false attrs = λ bytes rows file. file.small
 
-longer_by : (packet : Bool) (attrs : List Attr) → Longer (limit_by packet) (HasFaultBy packet attrs)
-longer_by true attrs = packets_longer
-longer_by false attrs = lines_longer attrs
+captures_longer : (packet : Bool) (attrs : List Attr) → Longer (captures packet attrs)
+captures_longer true attrs = packets_longer
+captures_longer false attrs = lines_longer attrs
 
-pub loads_rows_of : (setup : SetupValue) (told : Option (List File)) (name bytes : List ℕ) (before now : Option (List ℕ)) (result : Result (Vec RowValue Global) Status) → IfSome told (λ files. IsFileRead files name (limit_of setup) now bytes) → MatchResult result (λ rows. AreRowsOf setup bytes rows.items) (IsBad (HasCaptureFault setup bytes)) → IfSome told (λ files. LoadsRowsOf setup files name before now result)
-loads_rows_of setup told name bytes before now result read is = loads_rows_if (limit_of setup) (AreRowsOf setup) (HasCaptureFault setup) (ends_by setup.packet setup.schema) (longer_by setup.packet setup.schema) told name bytes before now result read is
-
-pub loads_packets : (told : Option (List File)) (name bytes : List ℕ) (before now : Option (List ℕ)) (result : Result (Vec RowValue Global) Status) → IfSome told (λ files. IsFileRead files name (2 ^ 32) now bytes) → MatchResult result (λ rows. ArePackets bytes rows.items) (IsBad (HasPacketFault bytes)) → IfSome told (λ files. LoadsPackets files name before now result)
-loads_packets told name bytes before now result read is = loads_rows_if (2 ^ 32) ArePackets HasPacketFault packets_end packets_longer told name bytes before now result read is
+-- the rows of a capture that was read, or why it has none
+pub rows_read : (packet : Bool) (attrs : List Attr) (told : Option (List File)) (name bytes : List ℕ) (before now : Option (List ℕ)) (result : Result (Vec RowValue Global) Halt) → IsFileRead told name (limit_by packet) now bytes
+    → MatchResult result (λ rows. AreRowsBy packet attrs bytes rows.items) (IsBad (HasFaultBy packet attrs bytes)) → MatchResult result (λ rows. IsReadAs (captures packet attrs) told name now rows.items) (Halts (captures packet attrs) told name before now)
+rows_read packet attrs told name bytes before now (Ok rows) read are = read_as (captures packet attrs) (captures_end packet attrs) told name bytes now rows.items read are
+rows_read packet attrs told name bytes before now (Err (Refused why)) read bad =
+    subst (λ (w : Refusal). IsFileRefused (captures packet attrs) told name before now w) (sym bad.2) (read_broken (captures packet attrs) (captures_longer packet attrs) told name bytes before now bad.0 bad.1 read bad.3)
+rows_read packet attrs told name bytes before now (Err (Stopped stop)) read bad = stopped_read told name (limit_by packet) before now bytes read
 
 -- a fault of the bytes refuses them, and want of memory is none
-line_faulty : (attrs : List Attr) (bytes : List ℕ) (fault : RecordFault) (status : Status) → (fault ≡ records.Memory → ⊥) → ((fault ≡ records.Memory → ⊥) → status ≡ Capture (line_of fault) (line_code_of fault)) → HasRecordsFault attrs bytes fault → IsBad (HasLineFault attrs bytes) status
-line_faulty attrs bytes fault status none other has = subst (λ (s : Status). IsBad (HasLineFault attrs bytes) s) (sym (other none)) (record { fault = fault; fault_is = has; record_is = refl; code_is = refl })
+line_faulty : (attrs : List Attr) (bytes : List ℕ) (fault : RecordFault) (halt : Halt) → (fault ≡ records.Memory → ⊥) → ((fault ≡ records.Memory → ⊥) → halt ≡ Refused (refusals.Capture (line_of fault) (line_code_of fault))) → HasRecordsFault attrs bytes fault → IsBad (HasLineFault attrs bytes) halt
+line_faulty attrs bytes fault halt none other has = subst (λ (h : Halt). IsBad (HasLineFault attrs bytes) h) (sym (other none)) (line_of fault, line_code_of fault, refl, record { fault = fault; fault_is = has; record_is = refl; code_is = refl })
 
-found_line : (attrs : List Attr) (bytes : List ℕ) (fault : RecordFault) (status : Status) → ((fault ≡ records.Memory → ⊥) → status ≡ Capture (line_of fault) (line_code_of fault)) → HasRecordsFault attrs bytes fault → IsBad (HasLineFault attrs bytes) status
-found_line attrs bytes records.Memory status other has = absurd has
-found_line attrs bytes records.NoHeader status other has = line_faulty attrs bytes records.NoHeader status (λ e. cc e) other has
-found_line attrs bytes records.BadHeader status other has = line_faulty attrs bytes records.BadHeader status (λ e. cc e) other has
-found_line attrs bytes (records.BadCount k) status other has = line_faulty attrs bytes (records.BadCount k) status (λ e. cc e) other has
-found_line attrs bytes (records.BadValue k column) status other has = line_faulty attrs bytes (records.BadValue k column) status (λ e. cc e) other has
-found_line attrs bytes records.TooManyBytes status other has = line_faulty attrs bytes records.TooManyBytes status (λ e. cc e) other has
+found_line : (attrs : List Attr) (bytes : List ℕ) (fault : RecordFault) (halt : Halt) → ((fault ≡ records.Memory → ⊥) → halt ≡ Refused (refusals.Capture (line_of fault) (line_code_of fault))) → HasRecordsFault attrs bytes fault → IsBad (HasLineFault attrs bytes) halt
+found_line attrs bytes records.Memory halt other has = absurd has
+found_line attrs bytes records.NoHeader halt other has = line_faulty attrs bytes records.NoHeader halt (λ e. cc e) other has
+found_line attrs bytes records.BadHeader halt other has = line_faulty attrs bytes records.BadHeader halt (λ e. cc e) other has
+found_line attrs bytes (records.BadCount k) halt other has = line_faulty attrs bytes (records.BadCount k) halt (λ e. cc e) other has
+found_line attrs bytes (records.BadValue k column) halt other has = line_faulty attrs bytes (records.BadValue k column) halt (λ e. cc e) other has
+found_line attrs bytes records.TooManyBytes halt other has = line_faulty attrs bytes records.TooManyBytes halt (λ e. cc e) other has
 
-pub bad_records : (attrs : List Attr) (bytes : List ℕ) (fault : RecordFault) (status : Status) → (fault ≡ records.Memory → status ≡ Memory) → ((fault ≡ records.Memory → ⊥) → status ≡ Capture (line_of fault) (line_code_of fault)) → (fault ≡ records.Memory) ⊎ HasRecordsFault attrs bytes fault → IsBad (HasLineFault attrs bytes) status
-bad_records attrs bytes fault status memory other has = elim has [
-  | inl want ↦ subst (λ (s : Status). IsBad (HasLineFault attrs bytes) s) (sym (memory want)) tt
-  | inr found ↦ found_line attrs bytes fault status other found
+pub bad_records : (attrs : List Attr) (bytes : List ℕ) (fault : RecordFault) (halt : Halt) → (fault ≡ records.Memory → halt ≡ Stopped stops.Memory) → ((fault ≡ records.Memory → ⊥) → halt ≡ Refused (refusals.Capture (line_of fault) (line_code_of fault))) → (fault ≡ records.Memory) ⊎ HasRecordsFault attrs bytes fault → IsBad (HasLineFault attrs bytes) halt
+bad_records attrs bytes fault halt memory other has = elim has [
+  | inl want ↦ subst (λ (h : Halt). IsBad (HasLineFault attrs bytes) h) (sym (memory want)) tt
+  | inr found ↦ found_line attrs bytes fault halt other found
 ]

@@ -6,7 +6,7 @@ use Rattle.cf_records.specs.Records.{RecordsText}
 use Rattle.cf_records.specs.declared.fault.RecordFault.{RecordFault}
 use Rattle.cf_records.proofs.OneOutcome.{one_records}
 use Rattle.cf_records.proofs.SomeOutcome.{some_records}
-use Rattle.cf_run.specs.Faults.{HasLineFault, HasFaultBy, line_code_of, line_of}
+use Rattle.cf_run.specs.Faults.{HasFaultBy, line_code_of, line_of}
 use Rattle.cf_run.specs.Laws.{OneCase}
 use Rattle.cf_run.specs.Work.{AreRowsBy}
 use Rattle.cf_run.proofs.Capturing.{one_packet_case}

@@ -1,16 +1,18 @@
 -- A setup that was read as far as the limit.
-use Rattle.std.proofs.Common.{◌≡◌, ◌⊎◌, ℕ, ◌+◌, ◌≤◌, ◌<◌, List, [], ◌++◌, length, Option, Some, None, Result, Ok, Err, IfSome, refl, sym, ap, ◌∙◌, subst, inl, inr, arith, append-nil, length-append}
+use Rattle.std.proofs.Common.{◌≡◌, ◌⊎◌, ℕ, ◌+◌, ◌≤◌, ◌<◌, List, [], ◌++◌, length, Option, Result, Ok, Err, refl, sym, ap, ◌∙◌, subst, inl, inr, arith, append-nil, length-append}
 use Rattle.cf_outside.specs.Files.{File}
+use Rattle.cf_setup.proofs.SetupReads.{setup_only}
+use Rattle.cf_setup.specs.declared.parse.SetupFault.{SetupFault}
 use Rattle.cf_setup.specs.declared.parse.SetupFault.TheVariants as setup_faults
 use Rattle.cf_setup.specs.Reading.{Answers}
 use Rattle.cf_setup.specs.Setups.{SetupValue}
 use Rattle.cf_setup.specs.SetupText.{SetupText}
 use Rattle.cf_setup.specs.SetupText.SetupText.{whole, faulty, empty, large}
 use Rattle.cf_run.specs.Devices.{IsFileRead}
-use Rattle.cf_run.specs.Parts.{LoadsSetup}
-use Rattle.cf_run.proofs.Deciding.{one_text}
-use Rattle.cf_run.proofs.Taking.{left_after, stopped_read}
-use Rattle.cf_run.specs.declared.status.Status.TheVariants.{Setup, Memory}
+use Rattle.cf_run.specs.Files.{setups, IsReadAs, Halts}
+use Rattle.cf_run.specs.Refusals.{unset}
+use Rattle.cf_run.proofs.Loading.{Ends, read_as, read_broken}
+use Rattle.cf_run.proofs.Taking.{stopped_read}
 
 ok_no_err : (setup : SetupValue) (fault : ℕ × ℕ) → ◌≡◌ {A = Result SetupValue (ℕ × ℕ)} (Ok setup) (Err fault) → ⊥
 ok_no_err setup fault h = cc
@@ -22,11 +24,12 @@ setup_short bytes setup (faulty front rest line before code few lines said bad i
 setup_short bytes setup (empty stated few said schema is) = few
 setup_short bytes setup (large many is) = absurd (ok_no_err setup (0, 9) is)
 
-setup_ends : (files : List File) (name bytes : List ℕ) (now : Option (List ℕ)) (setup : SetupValue) → (read : IsFileRead files name 65537 now bytes) → SetupText bytes (Ok setup) → read.rest ≡ []
-setup_ends files name bytes now setup read text = elim read.whole [
-  | inl end ↦ end
-  | inr more ↦ let short : length bytes ≤ 65536 = setup_short bytes setup text in absurd (omega (arith, short, more))
-]
+setups_end : Ends setups
+setups_end bytes setup text = let short : length bytes ≤ 65536 = setup_short bytes setup text in omega (arith, short)
+
+-- one text, one outcome
+pub one_text : (bytes : List ℕ) (a b : Result SetupValue (ℕ × ℕ)) → SetupText bytes a → SetupText bytes b → a ≡ b
+one_text bytes a b p q = (setup_only bytes).only a p ∙ sym ((setup_only bytes).only b q)
 
 -- a text that is read as far as the limit has the fault of the whole
 fault_longer : (bytes rest : List ℕ) (line code : ℕ) → (rest ≡ []) ⊎ (length bytes ≡ 65537) → SetupText bytes (Err (line, code)) → SetupText (bytes ++ rest) (Err (line, code))
@@ -46,17 +49,11 @@ text_of_ok bytes setup found = subst (λ (read : Result SetupValue (ℕ × ℕ))
 pub text_of_err : (bytes : List ℕ) (line code : ℕ) → (read : Result SetupValue (ℕ × ℕ)) × SetupText bytes read × Answers (Err (setup_faults.Bad line code)) read → SetupText bytes (Err (line, code))
 text_of_err bytes line code found = subst (λ (read : Result SetupValue (ℕ × ℕ)). SetupText bytes read) found.2 found.1
 
-pub loads_setup_ok : (told : Option (List File)) (name bytes : List ℕ) (before now : Option (List ℕ)) (setup : SetupValue) → IfSome told (λ files. IsFileRead files name 65537 now bytes) → SetupText bytes (Ok setup) → IfSome told (λ files. LoadsSetup files name before now (Ok setup))
-loads_setup_ok None name bytes before now setup read text = read
-loads_setup_ok (Some files) name bytes before now setup read text =
-    let end : read.rest ≡ [] = setup_ends files name bytes now setup read text in
-    (bytes, read.file_is ∙ ap (λ rest. Some (bytes ++ rest)) end ∙ ap (λ xs. Some xs) (append-nil bytes), text, read.left ∙ ap (λ xs. Some xs) end)
+-- a setup that was read
+pub setup_read : (told : Option (List File)) (name bytes : List ℕ) (now : Option (List ℕ)) (setup : SetupValue) → IsFileRead told name 65537 now bytes → SetupText bytes (Ok setup) → IsReadAs setups told name now setup
+setup_read told name bytes now setup read text = read_as setups setups_end told name bytes now setup read text
 
-pub loads_setup_fault : (told : Option (List File)) (name bytes : List ℕ) (before now : Option (List ℕ)) (line code : ℕ) → IfSome told (λ files. IsFileRead files name 65537 now bytes) → SetupText bytes (Err (line, code)) → IfSome told (λ files. LoadsSetup files name before now (Err (Setup line code)))
-loads_setup_fault None name bytes before now line code read text = read
-loads_setup_fault (Some files) name bytes before now line code read text =
-    (bytes ++ read.rest, read.file_is, fault_longer bytes read.rest line code read.whole text, left_after 65537 bytes read.rest now read.left read.most read.whole)
-
-pub loads_setup_memory : (told : Option (List File)) (name bytes : List ℕ) (before now : Option (List ℕ)) → IfSome told (λ files. IsFileRead files name 65537 now bytes) → IfSome told (λ files. LoadsSetup files name before now (Err Memory))
-loads_setup_memory None name bytes before now read = read
-loads_setup_memory (Some files) name bytes before now read = stopped_read files name 65537 before now bytes read
+-- what is no setup
+pub setup_halts : (told : Option (List File)) (name bytes : List ℕ) (before now : Option (List ℕ)) (fault : SetupFault) → IsFileRead told name 65537 now bytes → (read : Result SetupValue (ℕ × ℕ)) × SetupText bytes read × Answers (Err fault) read → Halts setups told name before now (unset fault)
+setup_halts told name bytes before now (setup_faults.Bad line code) read found = read_broken setups fault_longer told name bytes before now line code read (text_of_err bytes line code found)
+setup_halts told name bytes before now setup_faults.Memory read found = stopped_read told name 65537 before now bytes read

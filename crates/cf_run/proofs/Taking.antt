@@ -1,23 +1,31 @@
 -- What is left of a file after some of it was taken.
-use Rattle.std.proofs.Common.{◌≡◌, ◌⊎◌, ℕ, ◌≤◌, List, [], ◌++◌, length, drop, Option, Some, None, Result, Ok, Err, OnErr, IfOk, IfSome, Vec, refl, sym, ap, ◌∙◌, inl, inr, arith, append-nil, ◌+◌, take, min, length-append}
+use Rattle.std.proofs.Common.{◌≡◌, ◌⊎◌, ℕ, ◌≤◌, List, [], ◌++◌, length, drop, Option, Some, None, Result, Ok, Err, OnErr, IfOk, Vec, refl, sym, ap, ◌∙◌, inl, inr, subst, arith, append-nil, ◌+◌, take, min, length-append}
 use Rattle.std.proofs.lemmas.List.{drop_at, drop_all, length-take}
 use Rattle.std.proofs.KnownBytes.{Consumes-trans}
 use Rattle.std.specs.declared.alloc.Global.{Global}
 use Rattle.std.specs.Io.KnownBytes.{Consumes, IsAtEnd}
-use Rattle.cf_outside.specs.Files.{File, file_named, Opens}
-use Rattle.cf_run.specs.Devices.{TakesUpTo, TakesAtMost, IsStopped, IsFileRead, ReadsFile}
+use Rattle.cf_outside.specs.Files.{File, Opens}
+use Rattle.cf_outside.specs.declared.shelf.OpenFault.TheVariants as open_faults
+use Rattle.cf_run.specs.Files.{HasFile, HasLeft, IsStopped}
+use Rattle.cf_run.specs.Devices.{TakesUpTo, TakesAtMost, IsFileRead, ReadsFile}
 use Rattle.cf_run.specs.declared.devices.ReadError.{ReadError}
 use Rattle.cf_run.specs.declared.devices.ReadError.TheVariants as errors
 
+-- where it is told, what is left is as before
+pub left_same : (told : Option (List File)) (now : Option (List ℕ)) → HasLeft told now now
+left_same None now = tt
+left_same (Some files) now = refl
+
 -- up to the limit or to the end
-pub left_after : (limit : ℕ) (bytes rest : List ℕ) (now : Option (List ℕ)) → now ≡ Some rest → length bytes ≤ limit → (rest ≡ []) ⊎ (length bytes ≡ limit) → now ≡ Some (drop limit (bytes ++ rest))
-left_after limit bytes rest now is most whole = is ∙ ap (λ xs. Some xs) (elim whole [
+pub left_after : (limit : ℕ) (bytes rest : List ℕ) → length bytes ≤ limit → (rest ≡ []) ⊎ (length bytes ≡ limit) → rest ≡ drop limit (bytes ++ rest)
+left_after limit bytes rest most whole = elim whole [
   | inl end ↦ end ∙ sym (drop_all limit bytes most) ∙ ap (drop limit) (sym (ap (λ xs. bytes ++ xs) end ∙ append-nil bytes))
   | inr full ↦ sym (drop_at bytes rest limit full)
-])
+]
 
-pub stopped_read : (files : List File) (name : List ℕ) (limit : ℕ) (before now : Option (List ℕ)) (bytes : List ℕ) → IsFileRead files name limit now bytes → IsStopped files name limit before now
-stopped_read files name limit before now bytes read = inr (bytes ++ read.rest, read.file_is, record { count = length bytes; most = read.most; left = read.left ∙ ap (λ xs. Some xs) (sym (drop_at bytes read.rest (length bytes) refl)) })
+pub stopped_read : (told : Option (List File)) (name : List ℕ) (limit : ℕ) (before now : Option (List ℕ)) (bytes : List ℕ) → IsFileRead told name limit now bytes → IsStopped told name limit before now
+stopped_read told name limit before now bytes read =
+    inr (bytes ++ read.rest, read.file_is, record { count = length bytes; most = read.most; left = subst (λ (xs : List ℕ). HasLeft told now (Some xs)) (sym (drop_at bytes read.rest (length bytes) refl)) read.left })
 
 -- the bytes that were taken stand at the front of the file
 consumed : (file : List ℕ) (now : Option (List ℕ)) (bytes : List ℕ) → Consumes (Some file) now bytes → (rest : List ℕ) × (now ≡ Some rest) × (file ≡ bytes ++ rest)
@@ -28,35 +36,45 @@ ended : (now : Option (List ℕ)) (rest : List ℕ) → now ≡ Some rest → Is
 ended None rest is end = cc
 ended (Some xs) rest is end = let same : xs ≡ rest = cc in sym same ∙ end
 
-file_read : (files : List File) (name file : List ℕ) (limit : ℕ) (mid now : Option (List ℕ)) (bytes : List ℕ) → file_named files name ≡ Some file → mid ≡ Some file → TakesUpTo mid now limit bytes → IsFileRead files name limit now bytes
-file_read files name file limit mid now bytes named opened takes =
-    let took : Consumes (Some file) now bytes = rw opened at takes.taken in
-    let parts = consumed file now bytes took in
+file_read : (told : Option (List File)) (name : List ℕ) (limit : ℕ) (before mid now : Option (List ℕ)) (bytes : List ℕ) → Opens told name before mid (Ok tt) → TakesUpTo mid now limit bytes → IsFileRead told name limit now bytes
+file_read None name limit before mid now bytes opened takes = record { rest = []; file_is = tt; left = tt; most = takes.most; whole = inl refl }
+file_read (Some files) name limit before mid now bytes opened takes =
+    let took : Consumes (Some opened.0) now bytes = rw opened.2 at takes.taken in
+    let parts = consumed opened.0 now bytes took in
     record {
       rest = parts.0;
-      file_is = named ∙ ap (λ xs. Some xs) parts.2;
+      file_is = opened.1 ∙ ap (λ xs. Some xs) parts.2;
       left = parts.1;
       most = takes.most;
       whole = elim takes.whole [ inl end ↦ inl (ended now parts.0 parts.1 end) | inr full ↦ inr full ];
     }
 
-file_stopped : (files : List File) (name file : List ℕ) (limit : ℕ) (before mid now : Option (List ℕ)) → file_named files name ≡ Some file → mid ≡ Some file → TakesAtMost mid now limit → IsStopped files name limit before now
-file_stopped files name file limit before mid now named opened takes =
-    let took : Consumes (Some file) now takes.bytes = rw opened at takes.taken in
-    let parts = consumed file now takes.bytes took in
-    inr (file, named, record { count = length takes.bytes; most = takes.most; left = parts.1 ∙ ap (λ xs. Some xs) (sym (drop_at takes.bytes parts.0 (length takes.bytes) refl) ∙ ap (drop (length takes.bytes)) (sym parts.2)) })
-
-reads_file : (files : List File) (name file : List ℕ) (limit : ℕ) (before mid now : Option (List ℕ)) (result : Result (Vec ℕ Global) ReadError) → file_named files name ≡ Some file → mid ≡ Some file
-    → IfOk result (λ bytes. TakesUpTo mid now limit bytes.items) → OnErr result (TakesAtMost mid now limit) → (result ≡ Err errors.Missing → ⊥) → ReadsFile files name limit before now result
-reads_file files name file limit before mid now (Ok bytes) named opened taken stopped present = file_read files name file limit mid now bytes.items named opened taken
-reads_file files name file limit before mid now (Err errors.Missing) named opened taken stopped present = absurd (present refl)
-reads_file files name file limit before mid now (Err errors.Failed) named opened taken stopped present = file_stopped files name file limit before mid now named opened stopped
-reads_file files name file limit before mid now (Err errors.Memory) named opened taken stopped present = file_stopped files name file limit before mid now named opened stopped
+file_stopped : (told : Option (List File)) (name : List ℕ) (limit : ℕ) (before mid now : Option (List ℕ)) → Opens told name before mid (Ok tt) → TakesAtMost mid now limit → IsStopped told name limit before now
+file_stopped None name limit before mid now opened takes = inl tt
+file_stopped (Some files) name limit before mid now opened takes =
+    let took : Consumes (Some opened.0) now takes.bytes = rw opened.2 at takes.taken in
+    let parts = consumed opened.0 now takes.bytes took in
+    inr (opened.0, opened.1, record { count = length takes.bytes; most = takes.most; left = parts.1 ∙ ap (λ xs. Some xs) (sym (drop_at takes.bytes parts.0 (length takes.bytes) refl) ∙ ap (drop (length takes.bytes)) (sym parts.2)) })
 
 pub reads_opened : (told : Option (List File)) (name : List ℕ) (limit : ℕ) (before mid now : Option (List ℕ)) (result : Result (Vec ℕ Global) ReadError) → Opens told name before mid (Ok tt)
-    → IfOk result (λ bytes. TakesUpTo mid now limit bytes.items) → OnErr result (TakesAtMost mid now limit) → (result ≡ Err errors.Missing → ⊥) → IfSome told (λ files. ReadsFile files name limit before now result)
-reads_opened None name limit before mid now result opened taken stopped present = tt
-reads_opened (Some files) name limit before mid now result opened taken stopped present = reads_file files name opened.0 limit before mid now result opened.1 opened.2 taken stopped present
+    → IfOk result (λ bytes. TakesUpTo mid now limit bytes.items) → OnErr result (TakesAtMost mid now limit) → (result ≡ Err errors.Missing → ⊥) → ReadsFile told name limit before now result
+reads_opened told name limit before mid now (Ok bytes) opened taken stopped present = file_read told name limit before mid now bytes.items opened taken
+reads_opened told name limit before mid now (Err errors.Missing) opened taken stopped present = absurd (present refl)
+reads_opened told name limit before mid now (Err errors.Failed) opened taken stopped present = file_stopped told name limit before mid now opened stopped
+reads_opened told name limit before mid now (Err errors.Memory) opened taken stopped present = file_stopped told name limit before mid now opened stopped
+
+-- a file that is not opened
+pub unopened_missing : (told : Option (List File)) (name : List ℕ) (before now : Option (List ℕ)) → Opens told name before now (Err open_faults.Missing) → HasFile told name None × HasLeft told now before
+unopened_missing None name before now opens = (tt, tt)
+unopened_missing (Some files) name before now opens = opens
+
+pub unopened_failed : (told : Option (List File)) (name : List ℕ) (limit : ℕ) (before now : Option (List ℕ)) → Opens told name before now (Err open_faults.Failed) → IsStopped told name limit before now
+unopened_failed None name limit before now opens = inl tt
+unopened_failed (Some files) name limit before now opens = inl opens
+
+pub unopened_memory : (told : Option (List File)) (name : List ℕ) (limit : ℕ) (before now : Option (List ℕ)) → Opens told name before now (Err open_faults.Memory) → IsStopped told name limit before now
+unopened_memory None name limit before now opens = inl tt
+unopened_memory (Some files) name limit before now opens = inl opens
 
 -- a read more
 pub takes_more : (before mid now : Option (List ℕ)) (bytes buf : List ℕ) (n limit : ℕ) → Consumes before mid bytes → Consumes mid now (take n buf) → n + length bytes ≤ limit → TakesAtMost before now limit

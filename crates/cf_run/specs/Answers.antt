@@ -1,11 +1,14 @@
--- What the program's status says of what it wrote, and of the seals of its logs.
-use Rattle.std.specs.Prelude.{◌≡◌, ◌⊎◌, ℕ, List, ◌++◌, Option}
+-- What the program's status says of what it wrote, of the seals of its logs, and of what it left of the opened file.
+use Rattle.std.specs.Prelude.{◌≡◌, ◌⊎◌, ℕ, List, [], length, Some, None, Option}
 use Rattle.std.specs.Io.KnownBytes.{Appends, Keeps}
+use Rattle.cf_command.specs.Call.{Call}
+use Rattle.cf_command.specs.Call.Call.{run, synth, dump}
 use Rattle.cf_outside.specs.Files.{File}
 use Rattle.cf_table.specs.Moves.{SealValue}
-use Rattle.cf_run.specs.Due.{IsDue}
-use Rattle.cf_run.specs.Left.{Leaves}
-use Rattle.cf_run.specs.Seals.{AreSealsOfDone}
+use Rattle.cf_run.specs.Devices.{WritesFront}
+use Rattle.cf_run.specs.Due.{IsDue, StopsAt}
+use Rattle.cf_run.specs.Refusals.{stop_status}
+use Rattle.cf_run.specs.declared.refusal.Stop.{Stop}
 use Rattle.cf_run.specs.declared.status.Status.{Status}
 use Rattle.cf_run.specs.declared.status.Status.TheVariants.{Done, Words, Setup, Capture, ReadFault, WriteFault, Full, Nodes, Memory, NoFile}
 
@@ -26,48 +29,27 @@ number_of NoFile = 9
 abbrev pub Yields : Status → Type 0
 Yields status = (status ≡ Memory) ⊎ (status ≡ ReadFault) ⊎ (status ≡ WriteFault)
 
--- the text that was due is at the end of the sink
-pub record Wrote (files : List File) (words : List (List ℕ)) (status : Status) (held now : Option (List ℕ)) : Type 0 where
-  pub text : List ℕ
-  pub due : IsDue files words status text
-  pub written : Appends held now text
-
--- of work that was done: so are the seals those of the log that the text tells of
-pub record WroteSealed (files : List File) (words : List (List ℕ)) (seals : List SealValue) (held now : Option (List ℕ)) : Type 0 where
-  pub text : List ℕ
-  pub due : IsDue files words Done text
-  pub sealed : AreSealsOfDone files words text due seals
-  pub written : Appends held now text
-
--- a front of the text that was due is there, and of the opened files is left what is left with the status that was due: nothing is
--- written before all was read
-pub record WroteSome (files : List File) (words : List (List ℕ)) (held now before after : Option (List ℕ)) : Type 0 where
-  pub status : Status
-  pub front : List ℕ
-  pub rest : List ℕ
-  pub due : IsDue files words status (front ++ rest)
-  pub written : Appends held now front
-  pub left : Leaves files words status before after
-
--- By the status: what is written, from what the sink held to what it holds, and with `Done` the seals. The last two are what was left
--- of the opened file and what is.
-abbrev pub Answers : List File → List (List ℕ) → Status → List SealValue → Option (List ℕ) → Option (List ℕ) → Option (List ℕ) → Option (List ℕ) → Type 0
-Answers files words Done seals held now before after = WroteSealed files words seals held now
-Answers files words Words seals held now before after = Wrote files words Words held now
-Answers files words (Setup line code) seals held now before after = Wrote files words (Setup line code) held now
-Answers files words (Capture at code) seals held now before after = Wrote files words (Capture at code) held now
-Answers files words NoFile seals held now before after = Wrote files words NoFile held now
-Answers files words ReadFault seals held now before after = Keeps held now
-Answers files words Memory seals held now before after = Keeps held now
-Answers files words WriteFault seals held now before after = WroteSome files words held now before after
-Answers files words Full seals held now before after = Wrote files words Full held now
-Answers files words Nodes seals held now before after = Wrote files words Nodes held now
+-- What is written, from what the sink held to what it holds, with the seals, and from what was left of the opened file to what is. The
+-- text that is due is written whole. Or the sink failed after a front of it: nothing is written before all was read. Or the work was
+-- stopped before its end, and nothing is written.
+pub data Answers (told : Option (List File)) (call : Option Call) (status : Status) (seals : List SealValue) (held now before after : Option (List ℕ)) : Type 0 where
+  wrote : (text : List ℕ) → IsDue told call before after status text seals → Appends held now text → Answers told call status seals held now before after
+  cut : (due : Status) (text : List ℕ) (owed : List SealValue) → status ≡ WriteFault → seals ≡ [] → IsDue told call before after due text owed → WritesFront held now text → Answers told call status seals held now before after
+  stopped : (stop : Stop) → status ≡ stop_status stop → seals ≡ [] → StopsAt told call stop before after → Keeps held now → Answers told call status seals held now before after
 
 -- The threads decide between these two where the rows need more different nodes than one writer has, and no more than all: then both
 -- are called for.
 abbrev pub AreBetween : Status → Status → Type 0
 AreBetween one other = ((one ≡ Done) × (other ≡ Nodes)) ⊎ ((one ≡ Nodes) × (other ≡ Done))
 
--- whatever the words and files call for comes, unless memory ran out or a device failed
-abbrev pub IsDecided : List File → List (List ℕ) → Status → Type 0
-IsDecided files words status = (called : Status) (text : List ℕ) → IsDue files words called text → (status ≡ called) ⊎ Yields status ⊎ AreBetween status called
+-- whatever the call and the files call for comes, unless memory ran out or a device failed
+abbrev pub IsDecided : List File → Option Call → Status → Type 0
+IsDecided files call status = (before after : Option (List ℕ)) (due : Status) (text : List ℕ) (seals : List SealValue) → IsDue (Some files) call before after due text seals → (status ≡ due) ⊎ Yields status ⊎ AreBetween status due
+
+-- What the call alone says of a status and of the seals, whatever the files are. Only words that are no command come to that status. A
+-- synth opens no capture, and a dump has no setup and no log. A run or a synth that was done has one seal, and a dump has none.
+abbrev pub IsByCall : Option Call → Status → List SealValue → Type 0
+IsByCall None status seals = (status ≡ Words) ⊎ (status ≡ Memory) ⊎ (status ≡ WriteFault)
+IsByCall (Some (run call)) status seals = (status ≡ Words → ⊥) × (status ≡ Done → length seals ≡ 1)
+IsByCall (Some (synth call)) status seals = (status ≡ Words → ⊥) × ((at code : ℕ) → status ≡ Capture at code → ⊥) × (status ≡ Done → length seals ≡ 1)
+IsByCall (Some (dump call)) status seals = (status ≡ Words → ⊥) × ((line code : ℕ) → status ≡ Setup line code → ⊥) × (status ≡ Full → ⊥) × (status ≡ Nodes → ⊥) × (seals ≡ [])

@@ -1,9 +1,10 @@
 -- Files read and texts written over devices.
-use Rattle.std.specs.Prelude.{◌≡◌, ◌⊎◌, ℕ, ◌≤◌, List, [], ◌++◌, length, drop, Some, None, Option, Result, Ok, Err, Vec}
+use Rattle.std.specs.Prelude.{◌≡◌, ◌⊎◌, ℕ, ◌≤◌, List, [], ◌++◌, length, Some, None, Option, Result, Ok, Err, Vec}
 use Rattle.std.specs.Io.KnownBytes.{Appends, Consumes, IsAtEnd}
 use Rattle.std.specs.declared.alloc.Global.{Global}
 use Rattle.cf_outside.specs.Causes.{Rose}
-use Rattle.cf_outside.specs.Files.{File, file_named}
+use Rattle.cf_outside.specs.Files.{File}
+use Rattle.cf_run.specs.Files.{HasFile, HasLeft, IsStopped}
 use Rattle.cf_run.specs.declared.devices.ReadError.{ReadError}
 use Rattle.cf_run.specs.declared.devices.ReadError.TheVariants as errors
 
@@ -19,29 +20,20 @@ pub record TakesAtMost (before now : Option (List ℕ)) (limit : ℕ) : Type 0 w
   pub taken : Consumes before now bytes
   pub most : length bytes ≤ limit
 
--- at most that many bytes of a file were taken, and the others are left
-pub record IsTakenFrom (file : List ℕ) (limit : ℕ) (now : Option (List ℕ)) : Type 0 where
-  pub count : ℕ
-  pub most : count ≤ limit
-  pub left : now ≡ Some (drop count file)
-
--- what is left after a stop: as before, or some of the named file was taken
-abbrev pub IsStopped : List File → List ℕ → ℕ → Option (List ℕ) → Option (List ℕ) → Type 0
-IsStopped files name limit before now = (now ≡ before) ⊎ ((file : List ℕ) × (file_named files name ≡ Some file) × IsTakenFrom file limit now)
-
 -- the file of that name begins with these bytes: they are all of it, or that many
-pub record IsFileRead (files : List File) (name : List ℕ) (limit : ℕ) (now : Option (List ℕ)) (bytes : List ℕ) : Type 0 where
+pub record IsFileRead (told : Option (List File)) (name : List ℕ) (limit : ℕ) (now : Option (List ℕ)) (bytes : List ℕ) : Type 0 where
   pub rest : List ℕ
-  pub file_is : file_named files name ≡ Some (bytes ++ rest)
-  pub left : now ≡ Some rest
+  pub file_is : HasFile told name (Some (bytes ++ rest))
+  pub left : HasLeft told now (Some rest)
   pub most : length bytes ≤ limit
   pub whole : (rest ≡ []) ⊎ (length bytes ≡ limit)
 
-abbrev pub ReadsFile : List File → List ℕ → ℕ → Option (List ℕ) → Option (List ℕ) → Result (Vec ℕ Global) ReadError → Type 0
-ReadsFile files name limit before now (Ok bytes) = IsFileRead files name limit now bytes.items
-ReadsFile files name limit before now (Err errors.Missing) = (file_named files name ≡ None) × (now ≡ before)
-ReadsFile files name limit before now (Err errors.Failed) = IsStopped files name limit before now
-ReadsFile files name limit before now (Err errors.Memory) = IsStopped files name limit before now
+-- what reading the file of that name answers
+abbrev pub ReadsFile : Option (List File) → List ℕ → ℕ → Option (List ℕ) → Option (List ℕ) → Result (Vec ℕ Global) ReadError → Type 0
+ReadsFile told name limit before now (Ok bytes) = IsFileRead told name limit now bytes.items
+ReadsFile told name limit before now (Err errors.Missing) = HasFile told name None × HasLeft told now before
+ReadsFile told name limit before now (Err errors.Failed) = IsStopped told name limit before now
+ReadsFile told name limit before now (Err errors.Memory) = IsStopped told name limit before now
 
 -- the count of faults never falls, and rose where the call says that a device failed
 pub record HasReadCause {T : Type 0} (before now : ℕ) (result : Result T ReadError) : Type 0 where

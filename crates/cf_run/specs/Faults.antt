@@ -10,7 +10,6 @@ use Rattle.cf_row.specs.declared.schema.Attr.{Attr}
 use Rattle.cf_records.specs.Records.{HasRecordsFault}
 use Rattle.cf_records.specs.declared.fault.RecordFault.{RecordFault}
 use Rattle.cf_records.specs.declared.fault.RecordFault.TheVariants as records
-use Rattle.cf_setup.specs.Setups.{SetupValue}
 use Rattle.cf_run.specs.Formats.{begins_section}
 
 -- the code of a capture's fault, and the record that it names
@@ -105,6 +104,3 @@ pub record HasLineFault (attrs : List Attr) (bytes : List ℕ) (record_at code :
 abbrev pub HasFaultBy : Bool → List Attr → List ℕ → ℕ → ℕ → Type 0
 HasFaultBy true attrs bytes record_at code = HasPacketFault bytes record_at code
 HasFaultBy false attrs bytes record_at code = HasLineFault attrs bytes record_at code
-
-abbrev pub HasCaptureFault : SetupValue → List ℕ → ℕ → ℕ → Type 0
-HasCaptureFault setup bytes record_at code = HasFaultBy setup.packet setup.schema bytes record_at code

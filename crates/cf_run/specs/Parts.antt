@@ -1,130 +1,80 @@
 -- What the parts of the work answer.
-use Rattle.std.specs.Prelude.{◌≡◌, ◌⊎◌, ℕ, ◌<◌, ◌≤◌, ◌*◌, ◌^◌, List, [], drop, length, Some, None, Option, Result, Ok, Err, Vec}
-use Rattle.std.specs.declared.alloc.Global.{Global}
+use Rattle.std.specs.Prelude.{◌≡◌, ℕ, ◌≤◌, Bool, true, false, List, [], Option, Result, Ok, Err}
 use Rattle.cf_outside.specs.Causes.{Rose}
-use Rattle.cf_outside.specs.Files.{File, file_named}
-use Rattle.cf_row.specs.Row.{RowValue}
-use Rattle.cf_command.specs.Call.{SynthCall}
-use Rattle.cf_report.specs.Meaning.{final_text}
-use Rattle.cf_shape.specs.Nodes.{distinct}
-use Rattle.cf_setup.specs.Setups.{SetupValue, shaped}
-use Rattle.cf_run.specs.Devices.{IsStopped}
-use Rattle.cf_run.specs.Due.{IsDue, full_line, nodes_line}
-use Rattle.cf_run.specs.Seals.{AreSeals, IsSynthSeal}
-use Rattle.cf_run.specs.Synth.{drawn_rows}
+use Rattle.cf_outside.specs.Files.{File}
+use Rattle.cf_row.specs.Schema.{packet_attrs}
+use Rattle.cf_row.specs.declared.schema.Attr.{Attr}
+use Rattle.cf_command.specs.Call.{Call}
+use Rattle.cf_setup.specs.Setups.{SetupValue, IsSetup}
 use Rattle.cf_table.specs.Moves.{SealValue}
-use Rattle.cf_run.specs.Faults.{HasPacketFault, HasCaptureFault}
-use Rattle.cf_run.specs.Left.{MayBeLeft, Leaves}
-use Rattle.cf_setup.specs.SetupText.{SetupText}
-use Rattle.cf_run.specs.Work.{ArePackets, AreRowsOf, limit_of}
-use Rattle.cf_run.specs.declared.status.Status.{Status}
-use Rattle.cf_run.specs.declared.status.Status.TheVariants.{Done, Words, Setup, Capture, ReadFault, WriteFault, Full, Nodes, Memory, NoFile}
+use Rattle.cf_run.specs.Due.{IsDue, StopsAt}
+use Rattle.cf_run.specs.Refusals.{status_of, line_of}
 use Rattle.cf_run.specs.declared.draft.Draft.{Draft}
+use Rattle.cf_run.specs.declared.draft.Draft.TheVariants as drafts
+use Rattle.cf_run.specs.declared.draft.Product.{Product}
+use Rattle.cf_run.specs.declared.refusal.Halt.{Halt}
+use Rattle.cf_run.specs.declared.refusal.Halt.TheVariants.{Refused, Stopped}
+use Rattle.cf_run.specs.declared.refusal.Refusal.TheVariants.{Capture}
+use Rattle.cf_run.specs.declared.refusal.Stop.{Stop}
+use Rattle.cf_run.specs.declared.refusal.Stop.TheVariants.{ReadFault, Memory}
+use Rattle.cf_run.specs.declared.rows.Format.{Format}
+use Rattle.cf_run.specs.declared.rows.Format.TheVariants.{Packets, Records}
+use Rattle.cf_run.specs.declared.status.Status.{Status}
+use Rattle.cf_run.specs.declared.status.Status.TheVariants.{Done}
 
--- a stop for want of memory or by a device
-abbrev pub IsFree : Status → Type 0
-IsFree status = (status ≡ Memory) ⊎ (status ≡ ReadFault)
+-- a lawful setup; one over packets has their schema
+pub record IsLoaded (setup : SetupValue) : Type 0 where
+  pub lawful : IsSetup setup
+  pub schema : setup.packet ≡ true → setup.schema ≡ packet_attrs
 
--- the count of faults never falls, and rose where the call stopped by the device
-pub record HasStopCause {T : Type 0} (before now : ℕ) (result : Result T Status) : Type 0 where
+-- whether a format is that of packets
+abbrev pub is_packets : Format → Bool
+is_packets Packets = true
+is_packets (Records schema) = false
+
+-- the attributes of a format's rows
+abbrev pub attrs_in : Format → List Attr
+attrs_in Packets = packet_attrs
+attrs_in (Records schema) = schema.now
+
+-- why bytes are refused
+abbrev pub IsBad : (ℕ → ℕ → Type 0) → Halt → Type 0
+IsBad Breaks (Refused why) = (at : ℕ) × (code : ℕ) × (why ≡ Capture at code) × Breaks at code
+IsBad Breaks (Stopped ReadFault) = ⊥
+IsBad Breaks (Stopped Memory) = Unit {0}
+
+-- the count of faults never falls, and rose where the call was stopped by the device
+pub record HasHaltCause {T : Type 0} (before now : ℕ) (result : Result T Halt) : Type 0 where
+  pub later : before ≤ now
+  pub failed : result ≡ Err (Stopped ReadFault) → Rose before now
+
+-- the same of a call that ends with a stop alone
+pub record HasStopCause {T : Type 0} (before now : ℕ) (result : Result T Stop) : Type 0 where
   pub later : before ≤ now
   pub failed : result ≡ Err ReadFault → Rose before now
 
--- why loading a setup stops, and what it leaves of the opened file
-abbrev pub IsSetupStop : List File → List ℕ → Option (List ℕ) → Option (List ℕ) → Status → Type 0
-IsSetupStop files name before now NoFile = (file_named files name ≡ None) × (now ≡ before)
-IsSetupStop files name before now (Setup line code) = (bytes : List ℕ) × (file_named files name ≡ Some bytes) × SetupText bytes (Err (line, code)) × (now ≡ Some (drop 65537 bytes))
-IsSetupStop files name before now ReadFault = IsStopped files name 65537 before now
-IsSetupStop files name before now Memory = IsStopped files name 65537 before now
-IsSetupStop files name before now Done = ⊥
-IsSetupStop files name before now Words = ⊥
-IsSetupStop files name before now (Capture at code) = ⊥
-IsSetupStop files name before now WriteFault = ⊥
-IsSetupStop files name before now Full = ⊥
-IsSetupStop files name before now Nodes = ⊥
+-- a call's product is due, or the line of its refusal, or it was stopped
+abbrev pub Ends : Option (List File) → Option Call → Option (List ℕ) → Option (List ℕ) → Result Product Halt → Type 0
+Ends told call before now (Ok product) = IsDue told call before now Done product.text.items product.seals.items
+Ends told call before now (Err (Refused why)) = IsDue told call before now (status_of why) (line_of why) []
+Ends told call before now (Err (Stopped stop)) = StopsAt told call stop before now
 
--- a lawful setup is read to its end
-abbrev pub LoadsSetup : List File → List ℕ → Option (List ℕ) → Option (List ℕ) → Result SetupValue Status → Type 0
-LoadsSetup files name before now (Ok setup) = (bytes : List ℕ) × (file_named files name ≡ Some bytes) × SetupText bytes (Ok setup) × (now ≡ Some [])
-LoadsSetup files name before now (Err stop) = IsSetupStop files name before now stop
+-- the status that a draft ends with
+abbrev pub draft_status : Draft → Status
+draft_status (drafts.Done text seals) = Done
+draft_status (drafts.Refused why text) = status_of why
 
--- what makes bytes lawful, as these rows, and what makes them faulty, at a record and by a rule
-abbrev pub Lawful : Type 1
-Lawful = List ℕ → List RowValue → Type 0
+-- the text that it writes
+abbrev pub draft_text : Draft → List ℕ
+draft_text (drafts.Done text seals) = text.items
+draft_text (drafts.Refused why text) = text.items
 
-abbrev pub Faulty : Type 1
-Faulty = List ℕ → ℕ → ℕ → Type 0
+-- the seals of what it tells
+abbrev pub draft_seals : Draft → List SealValue
+draft_seals (drafts.Done text seals) = seals.items
+draft_seals (drafts.Refused why text) = []
 
--- why loading rows from a file stops, and what it leaves of the opened file, which is read as far as a limit
-abbrev pub IsRowsStop : ℕ → Faulty → List File → List ℕ → Option (List ℕ) → Option (List ℕ) → Status → Type 0
-IsRowsStop limit faulty files name before now NoFile = (file_named files name ≡ None) × (now ≡ before)
-IsRowsStop limit faulty files name before now (Capture at code) = (bytes : List ℕ) × (file_named files name ≡ Some bytes) × faulty bytes at code × (now ≡ Some (drop limit bytes))
-IsRowsStop limit faulty files name before now ReadFault = IsStopped files name limit before now
-IsRowsStop limit faulty files name before now Memory = IsStopped files name limit before now
-IsRowsStop limit faulty files name before now Done = ⊥
-IsRowsStop limit faulty files name before now Words = ⊥
-IsRowsStop limit faulty files name before now (Setup line code) = ⊥
-IsRowsStop limit faulty files name before now WriteFault = ⊥
-IsRowsStop limit faulty files name before now Full = ⊥
-IsRowsStop limit faulty files name before now Nodes = ⊥
-
--- a lawful file is read to its end
-abbrev pub LoadsRows : ℕ → Lawful → Faulty → List File → List ℕ → Option (List ℕ) → Option (List ℕ) → Result (Vec RowValue Global) Status → Type 0
-LoadsRows limit lawful faulty files name before now (Ok rows) = (bytes : List ℕ) × (file_named files name ≡ Some bytes) × lawful bytes rows.items × (now ≡ Some [])
-LoadsRows limit lawful faulty files name before now (Err stop) = IsRowsStop limit faulty files name before now stop
-
--- the rows of a setup's capture, and those of a capture of packets
-abbrev pub LoadsRowsOf : SetupValue → List File → List ℕ → Option (List ℕ) → Option (List ℕ) → Result (Vec RowValue Global) Status → Type 0
-LoadsRowsOf setup = LoadsRows (limit_of setup) (AreRowsOf setup) (HasCaptureFault setup)
-
-abbrev pub LoadsPackets : List File → List ℕ → Option (List ℕ) → Option (List ℕ) → Result (Vec RowValue Global) Status → Type 0
-LoadsPackets = LoadsRows (2 ^ 32) ArePackets HasPacketFault
-
--- why bytes are refused
-abbrev pub IsBad : (ℕ → ℕ → Type 0) → Status → Type 0
-IsBad faulty (Capture at code) = faulty at code
-IsBad faulty Memory = Unit {0}
-IsBad faulty NoFile = ⊥
-IsBad faulty Words = ⊥
-IsBad faulty (Setup line code) = ⊥
-IsBad faulty Done = ⊥
-IsBad faulty ReadFault = ⊥
-IsBad faulty WriteFault = ⊥
-IsBad faulty Full = ⊥
-IsBad faulty Nodes = ⊥
-
--- a status with its text is due, these are its seals, and the files are left as they are with it
-abbrev pub IsDrafted : List File → List (List ℕ) → Option (List ℕ) → Option (List ℕ) → Status → List ℕ → List SealValue → Type 0
-IsDrafted files words before now status text seals = (due : IsDue files words status text) × AreSeals files words status text due seals × Leaves files words status before now
-
--- a text is due, or the work stopped for want of memory or by the device
-abbrev pub IsPrepared : List File → List (List ℕ) → Option (List ℕ) → Option (List ℕ) → Result Draft Status → Type 0
-IsPrepared files words before now (Ok draft) = IsDrafted files words before now draft.status draft.text.items draft.seals.items
-IsPrepared files words before now (Err stop) = IsFree stop × MayBeLeft files words before now
-
--- the answers on drawn packets that fit, with the seal of their log
-pub record IsSynthDone (setup : SetupValue) (command : SynthCall) (draft : Draft) : Type 0 where
-  pub status : draft.status ≡ Done
-  pub few : length (drawn_rows command) ≤ command.sizes.capacity
-  pub few_nodes : distinct (shaped setup command.sizes.capacity command.sizes.writers command.sizes.nodes) (drawn_rows command) ≤ command.sizes.writers * command.sizes.nodes
-  pub text : draft.text.items ≡ final_text (shaped setup command.sizes.capacity command.sizes.writers command.sizes.nodes) setup (drawn_rows command)
-  pub seals : IsSynthSeal (drawn_rows command) command.sizes.writers draft.seals.items
-
--- more packets than fit
-pub record IsSynthOver (command : SynthCall) (draft : Draft) : Type 0 where
-  pub status : draft.status ≡ Full
-  pub many : command.sizes.capacity < length (drawn_rows command)
-  pub text : draft.text.items ≡ full_line command.sizes.capacity
-  pub seals : draft.seals.items ≡ []
-
--- packets whose paths need more different nodes than a writer has
-pub record IsSynthShort (setup : SetupValue) (command : SynthCall) (draft : Draft) : Type 0 where
-  pub status : draft.status ≡ Nodes
-  pub few : length (drawn_rows command) ≤ command.sizes.capacity
-  pub many : command.sizes.nodes < distinct (shaped setup command.sizes.capacity command.sizes.writers command.sizes.nodes) (drawn_rows command)
-  pub text : draft.text.items ≡ nodes_line command.sizes.nodes
-  pub seals : draft.seals.items ≡ []
-
--- what drawn packets come to, by a setup over packets
-abbrev pub IsSynthDraft : SetupValue → SynthCall → Draft → Type 0
-IsSynthDraft setup command draft = IsSynthDone setup command draft ⊎ IsSynthOver command draft ⊎ IsSynthShort setup command draft
+-- a draft is due, or the work was stopped
+abbrev pub IsPrepared : Option (List File) → Option Call → Option (List ℕ) → Option (List ℕ) → Result Draft Stop → Type 0
+IsPrepared told call before now (Ok draft) = IsDue told call before now (draft_status draft) (draft_text draft) (draft_seals draft)
+IsPrepared told call before now (Err stop) = StopsAt told call stop before now

@@ -1,9 +1,7 @@
 -- The seals of the logs that were loaded.
 use Rattle.std.specs.Prelude.{◌≡◌, ◌≤◌, ◌*◌, ℕ, List, [], ◌∷◌, length}
-use Rattle.std.proofs.Common.{inl, inr}
 use Rattle.cf_row.specs.Row.{RowValue}
 use Rattle.cf_row.specs.declared.row.Entry.{Entry}
-use Rattle.cf_outside.specs.Files.{File}
 use Rattle.cf_history.specs.Order.{IsOrder, IsLogOf, log_of}
 use Rattle.cf_shape.specs.Nodes.{distinct}
 use Rattle.cf_setup.specs.Setups.{SetupValue, shaped}
@@ -11,20 +9,10 @@ use Rattle.cf_plain.specs.Answered.{LoadedValue}
 use Rattle.cf_report.specs.Meaning.{IsReport, AreMeant, final_text}
 use Rattle.cf_table.specs.Moves.{SealValue}
 use Rattle.cf_load.specs.Planned.{tails_of}
-use Rattle.cf_run.specs.Due.{IsDue}
-use Rattle.cf_run.specs.Synth.{drawn_rows}
-use Rattle.cf_run.specs.Work.{IsReported}
-use Rattle.cf_run.specs.declared.status.Status.{Status}
-use Rattle.cf_run.specs.declared.status.Status.TheVariants.{Done, Words, Setup, Capture, ReadFault, WriteFault, Full, Nodes, Memory, NoFile}
 
 -- a seal of the rows in an order, whose root was told of these tails
 abbrev pub seal_of : List RowValue → ℕ → List ℕ → List ℕ → SealValue
 seal_of rows writers order told = record { entries = log_of rows writers order; told = told }
-
--- A report has one seal: its entries are the rows in the very order that the text prints, and its root was told of the tails of the
--- very live answers that the text prints.
-abbrev pub IsReportSeal : (files : List File) (words : List (List ℕ)) (text : List ℕ) → IsReported files words text → List SealValue → Type 0
-IsReportSeal files words text reported seals = seals ≡ seal_of reported.work.rows reported.work.command.sizes.writers reported.order (tails_of reported.report.lives) ∷ []
 
 -- The answers on drawn packets have one seal: its entries are the packets' rows in an order that the writers can have made, and
 -- nothing was asked live.
@@ -32,25 +20,6 @@ pub record IsSynthSeal (rows : List RowValue) (writers : ℕ) (seals : List Seal
   pub order : List ℕ
   pub order_is : IsOrder order (length rows) writers
   pub seals_are : seals ≡ seal_of rows writers order [] ∷ []
-
--- A dump has none.
-abbrev pub AreSealsOfDone : (files : List File) (words : List (List ℕ)) (text : List ℕ) → IsDue files words Done text → List SealValue → Type 0
-AreSealsOfDone files words text (inl reported) seals = IsReportSeal files words text reported seals
-AreSealsOfDone files words text (inr (inl dumped)) seals = seals ≡ []
-AreSealsOfDone files words text (inr (inr synthesized)) seals = IsSynthSeal (drawn_rows synthesized.work.command) synthesized.work.command.sizes.writers seals
-
--- with any other status there is none
-abbrev pub AreSeals : (files : List File) (words : List (List ℕ)) (status : Status) (text : List ℕ) → IsDue files words status text → List SealValue → Type 0
-AreSeals files words Done text due seals = AreSealsOfDone files words text due seals
-AreSeals files words Words text due seals = seals ≡ []
-AreSeals files words (Setup line code) text due seals = seals ≡ []
-AreSeals files words (Capture at code) text due seals = seals ≡ []
-AreSeals files words ReadFault text due seals = seals ≡ []
-AreSeals files words WriteFault text due seals = seals ≡ []
-AreSeals files words Full text due seals = seals ≡ []
-AreSeals files words Nodes text due seals = seals ≡ []
-AreSeals files words Memory text due seals = seals ≡ []
-AreSeals files words NoFile text due seals = seals ≡ []
 
 -- The entries of a closed log of the rows, its seal, and the answers of its load: each row stands in it once, each answer is its
 -- question's meaning on the entries that it saw, and the root was told of the tails of the live ones.

@@ -1,5 +1,5 @@
 // Reads files whole, and writes texts whole.
-ghost use Rattle.std.specs.Prelude.{◌≡◌, ◌≤◌, ◌^◌, IfOk, IfSome, OnOk, OnErr, take, length};
+ghost use Rattle.std.specs.Prelude.{◌≡◌, ◌≤◌, ◌^◌, IfOk, OnOk, OnErr, take, length};
 ghost use Rattle.std.specs.Io.KnownBytes.{Appends};
 ghost use Rattle.cf_outside.specs.Causes.{HasCause};
 ghost use Rattle.cf_run.specs.Devices.{TakesUpTo, TakesAtMost, ReadsFile, HasReadCause, WritesFront};
@@ -54,7 +54,7 @@ pub(crate) fn read_file<F: Shelf>(
     limit: usize,
 ) -> Result<Vec<u8>, ReadError>
     ensures files { F.files shelf.new ≡ F.files shelf.old }
-    ensures read { IfSome (F.files shelf.old) (λ files. ReadsFile files name.now limit (F.rest shelf.old) (F.rest shelf.new) result) }
+    ensures read { ReadsFile (F.files shelf.old) name.now limit (F.rest shelf.old) (F.rest shelf.new) result }
     ensures cause { HasReadCause (F.faults shelf.old) (F.faults shelf.new) result }
 {
     match shelf.open(name) {

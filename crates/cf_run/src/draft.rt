@@ -1,100 +1,81 @@
-// A status with the text and the seals that go with it.
-ghost use Rattle.std.specs.Prelude.{◌≡◌, ◌⊎◌, [], ◌∷◌, string_bytes, IfOk, MatchResult, MatchOption};
-ghost use Rattle.cf_run.specs.Due.{refusal_line, full_line, nodes_line};
-ghost use Rattle.cf_run.specs.Stops.{IsRefusal, NoRefusal};
+// What is to be written.
+ghost use Rattle.std.specs.Prelude.{◌≡◌, [], ◌∷◌, MatchResult};
+ghost use Rattle.cf_run.specs.Parts.{draft_status, draft_text, draft_seals};
+ghost use Rattle.cf_run.specs.Refusals.{line_of, status_of};
+ghost use Rattle.cf_run.specs.declared.refusal.Halt.TheVariants.{Stopped};
+ghost use Rattle.cf_run.specs.declared.refusal.Stop.TheVariants as stops;
 
 use crate::Status;
 use crate::log::Report;
-use cf_row::Memory;
+use crate::refusal::{Halt, Refusal, Stop};
 use cf_table::Seal;
 use std::alloc::Global;
 
-/// A status with the text and the seals that go with it.
+/// What a command's work comes to: its text, and the seal of the log that it tells of, where it has one.
 #[derive(Drop)]
-pub(crate) struct Draft {
-    pub(crate) status: Status,
+pub(crate) struct Product {
     pub(crate) text: Vec<u8>,
     pub(crate) seals: Vec<Seal>,
 }
 
-/// The status of a refusal with its line, or the status of a stop that writes nothing.
-pub(crate) fn refused(alloc: Global, status: Status) -> Result<Draft, Status>
+/// The product of a report: its text and its seal.
+pub(crate) fn sealed(alloc: Global, report: Report) -> Result<Product, Halt>
     ensures { MatchResult result
-        (λ draft. (draft.status ≡ status) × (draft.text.items ≡ refusal_line status) × IsRefusal status × (draft.seals.items ≡ []))
-        (λ stop. (stop ≡ Status.Memory) ⊎ ((stop ≡ status) × NoRefusal status)) }
-{
-    match line_of(alloc, status) {
-        Ok(Some(line)) => Ok(Draft {
-            status,
-            text: line.into_bytes(),
-            seals: Vec::new(alloc),
-        }),
-        Ok(None) => Err(status),
-        Err(_) => Err(Status::Memory),
-    }
-}
-
-fn line_of(alloc: Global, status: Status) -> Result<Option<String>, Memory>
-    ensures { IfOk result (λ line. MatchOption line (NoRefusal status) (λ text. (string_bytes text ≡ refusal_line status) × IsRefusal status)) }
-{
-    match status {
-        Status::Words => Ok(Some(String::from_str(alloc, "words: not a command\n")?)),
-        Status::NoFile => Ok(Some(String::from_str(alloc, "file: none of that name\n")?)),
-        Status::Setup { line, code } => Ok(Some(format!(in alloc;
-            "setup: line {line} code {code}\n"
-        )?)),
-        Status::Capture { at, code } => Ok(Some(format!(in alloc;
-            "capture: record {at} code {code}\n"
-        )?)),
-        _ => Ok(None),
-    }
-}
-
-/// The line of a log that is full.
-pub(crate) fn full(alloc: Global, capacity: u32) -> Result<Draft, Status>
-    ensures { MatchResult result
-        (λ draft. (draft.status ≡ Status.Full) × (draft.text.items ≡ full_line capacity) × (draft.seals.items ≡ []))
-        (λ stop. stop ≡ Status.Memory) }
-{
-    match format!(in alloc; "full: more than {capacity} records\n") {
-        Ok(line) => Ok(Draft {
-            status: Status::Full,
-            text: line.into_bytes(),
-            seals: Vec::new(alloc),
-        }),
-        Err(_) => Err(Status::Memory),
-    }
-}
-
-/// The line of a log that ran out of nodes.
-pub(crate) fn short(alloc: Global, nodes: u32) -> Result<Draft, Status>
-    ensures { MatchResult result
-        (λ draft. (draft.status ≡ Status.Nodes) × (draft.text.items ≡ nodes_line nodes) × (draft.seals.items ≡ []))
-        (λ stop. stop ≡ Status.Memory) }
-{
-    match format!(in alloc; "nodes: more than {nodes} nodes\n") {
-        Ok(line) => Ok(Draft {
-            status: Status::Nodes,
-            text: line.into_bytes(),
-            seals: Vec::new(alloc),
-        }),
-        Err(_) => Err(Status::Memory),
-    }
-}
-
-/// Work that was done, with the seal of its log.
-pub(crate) fn sealed(alloc: Global, report: Report) -> Result<Draft, Status>
-    ensures { MatchResult result
-        (λ draft. (draft.status ≡ Status.Done) × (draft.text.items ≡ report.text.items) × (draft.seals.items ≡ report.seal ∷ []))
-        (λ stop. stop ≡ Status.Memory) }
+        (λ product. (product.text.items ≡ report.text.items) × (product.seals.items ≡ report.seal ∷ []))
+        (λ halt. halt ≡ Stopped stops.Memory) }
 {
     let mut seals = Vec::new(alloc);
     match seals.push(report.seal) {
-        Ok(()) => Ok(Draft {
-            status: Status::Done,
+        Ok(()) => Ok(Product {
             text: report.text,
             seals,
         }),
-        Err(_) => Err(Status::Memory),
+        Err(_) => Err(Halt::Stopped(Stop::Memory)),
     }
+}
+
+/// What is to be written: a text with the seals of what it tells, or the line of a refusal.
+#[derive(Drop)]
+pub(crate) enum Draft {
+    Done { text: Vec<u8>, seals: Vec<Seal> },
+    Refused { refusal: Refusal, text: Vec<u8> },
+}
+
+impl Draft {
+    pub(crate) fn text(&self) -> &[u8]
+        ensures { result.now ≡ draft_text self.now }
+    {
+        match self {
+            Draft::Done { text, .. } => text,
+            Draft::Refused { text, .. } => text,
+        }
+    }
+
+    pub(crate) fn status(&self) -> Status
+        ensures { result ≡ draft_status self.now }
+    {
+        match self {
+            Draft::Done { .. } => Status::Done,
+            Draft::Refused { refusal, .. } => refusal.status(),
+        }
+    }
+
+    pub(crate) fn into_seals(self, alloc: Global) -> Vec<Seal>
+        ensures { result.items ≡ draft_seals self }
+    {
+        match self {
+            Draft::Done { seals, .. } => seals,
+            Draft::Refused { .. } => Vec::new(alloc),
+        }
+    }
+}
+
+/// The draft of a refusal.
+pub(crate) fn refused(alloc: Global, refusal: Refusal) -> Result<Draft, Stop>
+    ensures { MatchResult result
+        (λ draft. (draft_text draft ≡ line_of refusal) × (draft_status draft ≡ status_of refusal) × (draft_seals draft ≡ []))
+        (λ stop. stop ≡ stops.Memory) }
+{
+    let text = refusal.line(alloc)?.into_bytes();
+    Ok(Draft::Refused { refusal, text })
 }

@@ -8,8 +8,11 @@ ghost use Rattle.cf_run.specs.Faults.{HasRecordFault, HasBlockFault, HasPacketFa
 ghost use Rattle.cf_run.specs.Formats.{begins_section as section_begins};
 ghost use Rattle.cf_run.specs.Parts.{IsBad};
 ghost use Rattle.cf_run.specs.Work.{AreFramesBy};
+ghost use Rattle.cf_run.specs.declared.refusal.Halt.TheVariants.{Refused, Stopped};
+ghost use Rattle.cf_run.specs.declared.refusal.Refusal.TheVariants as refusals;
+ghost use Rattle.cf_run.specs.declared.refusal.Stop.TheVariants as stops;
 
-use crate::Status;
+use crate::refusal::{Halt, Refusal, Stop};
 use cf_pcap::{Frame, Pcap, PcapFault};
 use cf_pcapng::{NgFault, PcapNg};
 use std::alloc::Global;
@@ -41,27 +44,27 @@ fn record_of(fault: PcapFault) -> u32
     }
 }
 
-// The status of a fault in pcap.
-fn refused(fault: PcapFault) -> Status
-    ensures memory { fault ≡ faults.Memory → result ≡ Status.Memory }
-    ensures other { (fault ≡ faults.Memory → ⊥) → result ≡ Status.Capture (record_of_fault fault) (code_of_fault fault) }
+// What a fault comes to, in pcap.
+fn refused(fault: PcapFault) -> Halt
+    ensures memory { fault ≡ faults.Memory → result ≡ Stopped stops.Memory }
+    ensures other { (fault ≡ faults.Memory → ⊥) → result ≡ Refused (refusals.Capture (record_of_fault fault) (code_of_fault fault)) }
 {
     match fault {
-        PcapFault::Memory => Status::Memory,
-        _ => Status::Capture {
+        PcapFault::Memory => Halt::Stopped(Stop::Memory),
+        _ => Halt::Refused(Refusal::Capture {
             at: record_of(fault),
             code: code_of(fault),
-        },
+        }),
     }
 }
 
 /// The frames of a capture in pcap, which is fed whole.
-pub(crate) fn record_frames(alloc: Global, bytes: &[u8]) -> Result<Vec<Frame>, Status>
+pub(crate) fn record_frames(alloc: Global, bytes: &[u8]) -> Result<Vec<Frame>, Halt>
     ensures { MatchResult result (λ frames. IsCapture bytes.now frames.items × (length frames.items < 2 ^ 32)) (IsBad (HasRecordFault bytes.now)) }
 {
     let mut frames = Vec::new(alloc);
     let Ok(mut pcap) = Pcap::new(alloc) else {
-        return Err(Status::Memory);
+        return Err(Halt::Stopped(Stop::Memory));
     };
     match pcap.feed(bytes, &mut frames) {
         Ok(()) => {}
@@ -104,27 +107,27 @@ fn frame_of(fault: NgFault) -> u32
     }
 }
 
-// The status of a fault in pcapng.
-fn refused_block(fault: NgFault) -> Status
-    ensures memory { fault ≡ ng.Memory → result ≡ Status.Memory }
-    ensures other { (fault ≡ ng.Memory → ⊥) → result ≡ Status.Capture (frame_of_fault fault) (block_code_of_fault fault) }
+// What a fault comes to, in pcapng.
+fn refused_block(fault: NgFault) -> Halt
+    ensures memory { fault ≡ ng.Memory → result ≡ Stopped stops.Memory }
+    ensures other { (fault ≡ ng.Memory → ⊥) → result ≡ Refused (refusals.Capture (frame_of_fault fault) (block_code_of_fault fault)) }
 {
     match fault {
-        NgFault::Memory => Status::Memory,
-        _ => Status::Capture {
+        NgFault::Memory => Halt::Stopped(Stop::Memory),
+        _ => Halt::Refused(Refusal::Capture {
             at: frame_of(fault),
             code: block_code_of(fault),
-        },
+        }),
     }
 }
 
 // The frames of a capture in pcapng, which is fed whole.
-fn block_frames(alloc: Global, bytes: &[u8]) -> Result<Vec<Frame>, Status>
+fn block_frames(alloc: Global, bytes: &[u8]) -> Result<Vec<Frame>, Halt>
     ensures { MatchResult result (λ frames. IsFileOf bytes.now frames.items × (length frames.items < 2 ^ 32)) (IsBad (HasBlockFault bytes.now)) }
 {
     let mut frames = Vec::new(alloc);
     let Ok(mut pcapng) = PcapNg::new(alloc) else {
-        return Err(Status::Memory);
+        return Err(Halt::Stopped(Stop::Memory));
     };
     match pcapng.feed(bytes, &mut frames) {
         Ok(()) => {}
@@ -144,7 +147,7 @@ fn begins_section(bytes: &[u8]) -> bool
 }
 
 /// The frames of a capture, in pcapng where it begins with a section header, in pcap otherwise.
-pub(crate) fn frames_of(alloc: Global, bytes: &[u8]) -> Result<Vec<Frame>, Status>
+pub(crate) fn frames_of(alloc: Global, bytes: &[u8]) -> Result<Vec<Frame>, Halt>
     ensures { MatchResult result (λ frames. AreFramesBy (section_begins bytes.now) bytes.now frames.items × (length frames.items < 2 ^ 32)) (IsBad (HasPacketFault bytes.now)) }
 {
     if begins_section(bytes) {

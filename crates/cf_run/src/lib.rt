@@ -1,8 +1,8 @@
 //! The top call: from the words of a command to the bytes that are written.
 //!
 //! `run` reads the setup and the capture that its words name, and writes the report, or the line of a refusal. Its contract
-//! is the headline of the program: see `specs/Work.antt` for what a report tells, `specs/Due.antt` for what words and files
-//! call for, and `specs/Left.antt` for what is left of the files that were opened.
+//! is the headline of the program: see `specs/Due.antt` for what words and files call for, and what is left of the files that
+//! were opened, and `specs/Answers.antt` for what the status says of that.
 #![tactic(auto)]
 
 mod devices;
@@ -14,11 +14,11 @@ mod load;
 mod log;
 mod prepare;
 mod program;
+mod refusal;
 #[cfg(test)]
 mod row_tests;
 mod rows;
 mod status;
-mod synth;
 #[cfg(test)]
 mod tests;
 mod top;

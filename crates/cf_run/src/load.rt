@@ -1,18 +1,16 @@
 // The setup and the rows of the files that the words name.
-ghost use Rattle.std.specs.Prelude.{◌≡◌, ◌^◌, All, IfOk, IfErr, IfSome, MatchResult};
+ghost use Rattle.std.specs.Prelude.{◌≡◌, ◌^◌, All, IfOk, MatchResult};
 ghost use Rattle.cf_row.specs.Row.{Fits};
-ghost use Rattle.cf_row.specs.Schema.{packet_attrs};
-ghost use Rattle.cf_run.specs.Faults.{HasCaptureFault};
-ghost use Rattle.cf_run.specs.Parts.{HasStopCause, LoadsSetup, LoadsRowsOf, LoadsPackets, IsBad};
-ghost use Rattle.cf_run.specs.Stops.{IsSetupKind, IsCaptureKind, IsLoaded};
-ghost use Rattle.cf_run.specs.Work.{AreRowsOf, limit_of as limit_of_setup};
+ghost use Rattle.cf_run.specs.Files.{setups, captures, IsReadAs, Halts};
+ghost use Rattle.cf_run.specs.Parts.{HasHaltCause, IsLoaded, is_packets, attrs_in};
+ghost use Rattle.cf_run.specs.Work.{limit_by};
 
-use crate::Status;
-use crate::devices::{ReadError, read_file};
-use crate::rows::{packets_of, records_of};
+use crate::devices::read_file;
+use crate::refusal::Halt;
+use crate::rows::{Format, rows_in};
 use cf_outside::Shelf;
 use cf_row::Row;
-use cf_setup::{Setup, SetupFault, parse_setup};
+use cf_setup::{Setup, parse_setup};
 use std::alloc::Global;
 
 /// A setup of more bytes is no setup.
@@ -25,93 +23,37 @@ const CAPTURE_LIMIT: usize = 1 << 32;
 const RECORDS_LIMIT: usize = 1 << 24;
 
 /// The setup in the file of that name.
-pub(crate) fn load_setup<F: Shelf>(
-    alloc: Global,
-    shelf: &mut F,
-    name: &str,
-) -> Result<Setup, Status>
+pub(crate) fn load_setup<F: Shelf>(alloc: Global, shelf: &mut F, name: &str) -> Result<Setup, Halt>
     ensures files { F.files shelf.new ≡ F.files shelf.old }
-    ensures loaded { IfSome (F.files shelf.old) (λ files. LoadsSetup files name.now (F.rest shelf.old) (F.rest shelf.new) result) }
-    ensures cause { HasStopCause (F.faults shelf.old) (F.faults shelf.new) result }
-    ensures stop { IfErr result IsSetupKind }
+    ensures loaded { MatchResult result (IsReadAs setups (F.files shelf.old) name.now (F.rest shelf.new)) (Halts setups (F.files shelf.old) name.now (F.rest shelf.old) (F.rest shelf.new)) }
+    ensures cause { HasHaltCause (F.faults shelf.old) (F.faults shelf.new) result }
     ensures lawful { IfOk result IsLoaded }
 {
-    let bytes = match read_file(alloc, shelf, name, SETUP_LIMIT) {
-        Ok(bytes) => bytes,
-        Err(ReadError::Missing) => return Err(Status::NoFile),
-        Err(ReadError::Failed) => return Err(Status::ReadFault),
-        Err(ReadError::Memory) => return Err(Status::Memory),
-    };
-    match parse_setup(alloc, &bytes) {
-        Ok(setup) => Ok(setup),
-        Err(SetupFault::Bad { line, code }) => Err(Status::Setup { line, code }),
-        Err(SetupFault::Memory) => Err(Status::Memory),
-    }
+    let bytes = read_file(alloc, shelf, name, SETUP_LIMIT)?;
+    Ok(parse_setup(alloc, &bytes)?)
 }
 
-fn limit_of(setup: &Setup) -> usize
-    ensures { result ≡ limit_of_setup setup.now }
+fn limit_of(format: Format) -> usize
+    ensures { result ≡ limit_by (is_packets format.entry) }
 {
-    if setup.packet() {
-        CAPTURE_LIMIT
-    } else {
-        RECORDS_LIMIT
+    match format {
+        Format::Packets => CAPTURE_LIMIT,
+        Format::Records(_) => RECORDS_LIMIT,
     }
 }
 
-// The rows of the bytes of a setup's capture.
-fn rows_in(alloc: Global, setup: &Setup, bytes: &[u8]) -> Result<Vec<Row>, Status>
-    requires lawful { IsLoaded setup.now }
-    ensures rows { MatchResult result (λ rows. AreRowsOf setup.now bytes.now rows.items) (IsBad (HasCaptureFault setup.now bytes.now)) }
-    ensures fit { IfOk result (λ rows. All (Fits setup.now.schema) rows.items) }
-{
-    if setup.packet() {
-        packets_of(alloc, bytes)
-    } else {
-        records_of(alloc, setup.schema(), bytes)
-    }
-}
-
-/// The rows of the setup's capture in the file of that name.
+/// The rows of the capture in the file of that name.
 pub(crate) fn load_rows<F: Shelf>(
     alloc: Global,
     shelf: &mut F,
     name: &str,
-    setup: &Setup,
-) -> Result<Vec<Row>, Status>
-    requires lawful { IsLoaded setup.now }
+    format: Format,
+) -> Result<Vec<Row>, Halt>
     ensures files { F.files shelf.new ≡ F.files shelf.old }
-    ensures loaded { IfSome (F.files shelf.old) (λ files. LoadsRowsOf setup.now files name.now (F.rest shelf.old) (F.rest shelf.new) result) }
-    ensures cause { HasStopCause (F.faults shelf.old) (F.faults shelf.new) result }
-    ensures stop { IfErr result IsCaptureKind }
-    ensures fit { IfOk result (λ rows. All (Fits setup.now.schema) rows.items) }
+    ensures loaded { MatchResult result (λ rows. IsReadAs (captures (is_packets format.entry) (attrs_in format.entry)) (F.files shelf.old) name.now (F.rest shelf.new) rows.items) (Halts (captures (is_packets format.entry) (attrs_in format.entry)) (F.files shelf.old) name.now (F.rest shelf.old) (F.rest shelf.new)) }
+    ensures cause { HasHaltCause (F.faults shelf.old) (F.faults shelf.new) result }
+    ensures fit { IfOk result (λ rows. All (Fits (attrs_in format.entry)) rows.items) }
 {
-    let bytes = match read_file(alloc, shelf, name, limit_of(setup)) {
-        Ok(bytes) => bytes,
-        Err(ReadError::Missing) => return Err(Status::NoFile),
-        Err(ReadError::Failed) => return Err(Status::ReadFault),
-        Err(ReadError::Memory) => return Err(Status::Memory),
-    };
-    rows_in(alloc, setup, &bytes)
-}
-
-/// The rows of the captured packets in the file of that name.
-pub(crate) fn load_packets<F: Shelf>(
-    alloc: Global,
-    shelf: &mut F,
-    name: &str,
-) -> Result<Vec<Row>, Status>
-    ensures files { F.files shelf.new ≡ F.files shelf.old }
-    ensures loaded { IfSome (F.files shelf.old) (λ files. LoadsPackets files name.now (F.rest shelf.old) (F.rest shelf.new) result) }
-    ensures cause { HasStopCause (F.faults shelf.old) (F.faults shelf.new) result }
-    ensures stop { IfErr result IsCaptureKind }
-    ensures fit { IfOk result (λ rows. All (Fits packet_attrs) rows.items) }
-{
-    let bytes = match read_file(alloc, shelf, name, CAPTURE_LIMIT) {
-        Ok(bytes) => bytes,
-        Err(ReadError::Missing) => return Err(Status::NoFile),
-        Err(ReadError::Failed) => return Err(Status::ReadFault),
-        Err(ReadError::Memory) => return Err(Status::Memory),
-    };
-    packets_of(alloc, &bytes)
+    let bytes = read_file(alloc, shelf, name, limit_of(format))?;
+    rows_in(alloc, format, &bytes)
 }

@@ -1,7 +1,6 @@
 // The program over the real devices.
-ghost use Rattle.std.specs.Prelude.{◌≡◌, ◌≤◌, ◌⊎◌, IfOk, MatchResult, map, string_bytes};
-ghost use Rattle.cf_command.specs.Call.{texts as texts_of};
-ghost use Rattle.cf_run.specs.Calls.{NoCommand};
+ghost use Rattle.std.specs.Prelude.{◌≡◌, ◌≤◌, ◌⊎◌, None, IfOk, MatchResult, map, string_bytes};
+ghost use Rattle.cf_command.specs.Call.{call_of, texts as texts_of};
 ghost use Rattle.cf_run.specs.Answers.{number_of};
 
 use crate::{Status, run};
@@ -15,8 +14,8 @@ use std::{env, io};
 
 // Runs over the files of the system and standard output.
 fn run_words<R: Files + Print + Threads + Sync>(rt: &R, alloc: Global, words: &[&str]) -> Status
-    ensures words { result ≡ Status.Words → NoCommand (texts_of words.now) }
-    ensures no_words { NoCommand (texts_of words.now) → (result ≡ Status.Words) ⊎ (result ≡ Status.Memory) ⊎ (result ≡ Status.WriteFault) }
+    ensures words { result ≡ Status.Words → call_of (texts_of words.now) ≡ None }
+    ensures no_words { call_of (texts_of words.now) ≡ None → (result ≡ Status.Words) ⊎ (result ≡ Status.Memory) ⊎ (result ≡ Status.WriteFault) }
 {
     let mut shelf = FileShelf::new(rt);
     let mut sink = StdSink::new(io::writer(rt));

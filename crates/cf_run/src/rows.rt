@@ -5,18 +5,43 @@ ghost use Rattle.cf_row.specs.Schema.{packet_attrs};
 ghost use Rattle.cf_make.specs.Generated.{generated_frames};
 ghost use Rattle.cf_records.specs.Records.{IsRecordFile};
 ghost use Rattle.cf_records.specs.declared.fault.RecordFault.TheVariants as record_faults;
-ghost use Rattle.cf_run.specs.Faults.{HasPacketFault, HasLineFault, line_code_of as line_code_of_fault, line_of as line_of_fault};
-ghost use Rattle.cf_run.specs.Parts.{IsBad};
-ghost use Rattle.cf_run.specs.Work.{ArePackets, packet_rows};
+ghost use Rattle.cf_run.specs.Faults.{HasPacketFault, HasLineFault, HasFaultBy, line_code_of as line_code_of_fault, line_of as line_of_fault};
+ghost use Rattle.cf_run.specs.Parts.{IsBad, IsLoaded, is_packets, attrs_in};
+ghost use Rattle.cf_run.specs.Work.{ArePackets, AreRowsBy, packet_rows};
+ghost use Rattle.cf_run.specs.declared.refusal.Halt.TheVariants.{Refused, Stopped};
+ghost use Rattle.cf_run.specs.declared.refusal.Refusal.TheVariants as refusals;
+ghost use Rattle.cf_run.specs.declared.refusal.Stop.TheVariants as stops;
 
-use crate::Status;
 use crate::frames::{frames_of, record_frames};
+use crate::refusal::{Halt, Refusal, Stop};
 use cf_headers::packet_row;
 use cf_make::make_capture;
 use cf_pcap::Frame;
 use cf_records::{RecordFault, read_records};
 use cf_row::{Memory, Row, Schema};
+use cf_setup::Setup;
 use std::alloc::{AllocError, Global};
+
+/// The format of a capture.
+#[derive(Clone, Copy)]
+pub(crate) enum Format<'a> {
+    /// Packets, in pcap or pcapng.
+    Packets,
+    /// Records of that schema, in CSV.
+    Records(&'a Schema),
+}
+
+/// The format that a setup asks for.
+pub(crate) fn format_of<'a>(setup: &'a Setup) -> Format<'a>
+    requires { IsLoaded setup.now }
+    ensures { (is_packets result ≡ setup.now.packet) × (attrs_in result ≡ setup.now.schema) }
+{
+    if setup.packet() {
+        Format::Packets
+    } else {
+        Format::Records(setup.schema())
+    }
+}
 
 // A row for each frame.
 fn rows_of(alloc: Global, frames: &[Frame]) -> Result<Vec<Row>, Memory>
@@ -30,19 +55,13 @@ fn rows_of(alloc: Global, frames: &[Frame]) -> Result<Vec<Row>, Memory>
     Ok(rows)
 }
 
-/// The rows of the captured packets of a file.
-pub(crate) fn packets_of(alloc: Global, bytes: &[u8]) -> Result<Vec<Row>, Status>
+// The rows of the captured packets of a file.
+fn packets_of(alloc: Global, bytes: &[u8]) -> Result<Vec<Row>, Halt>
     ensures rows { MatchResult result (λ rows. ArePackets bytes.now rows.items) (IsBad (HasPacketFault bytes.now)) }
     ensures fit { IfOk result (λ rows. All (Fits packet_attrs) rows.items) }
 {
-    let frames = match frames_of(alloc, bytes) {
-        Ok(frames) => frames,
-        Err(status) => return Err(status),
-    };
-    match rows_of(alloc, &frames) {
-        Ok(rows) => Ok(rows),
-        Err(_) => Err(Status::Memory),
-    }
+    let frames = frames_of(alloc, bytes)?;
+    Ok(rows_of(alloc, &frames)?)
 }
 
 /// The rows of the packets that a seed draws.
@@ -54,7 +73,7 @@ pub(crate) fn drawn_packets(alloc: Global, seed: u64, count: u32) -> Result<Vec<
     let bytes = make_capture(alloc, seed, count)?;
     match record_frames(alloc, &bytes) {
         Ok(frames) => rows_of(alloc, &frames),
-        Err(Status::Memory) => Err(AllocError),
+        Err(Halt::Stopped(Stop::Memory)) => Err(AllocError),
         // What is made is a capture.
         Err(_) => unreachable!(),
     }
@@ -83,27 +102,38 @@ fn line_of(fault: RecordFault) -> u32
     }
 }
 
-// The status of a fault of a file of records.
-fn refused_records(fault: RecordFault) -> Status
-    ensures memory { fault ≡ record_faults.Memory → result ≡ Status.Memory }
-    ensures other { (fault ≡ record_faults.Memory → ⊥) → result ≡ Status.Capture (line_of_fault fault) (line_code_of_fault fault) }
+// What a fault of a file of records comes to.
+fn refused_records(fault: RecordFault) -> Halt
+    ensures memory { fault ≡ record_faults.Memory → result ≡ Stopped stops.Memory }
+    ensures other { (fault ≡ record_faults.Memory → ⊥) → result ≡ Refused (refusals.Capture (line_of_fault fault) (line_code_of_fault fault)) }
 {
     match fault {
-        RecordFault::Memory => Status::Memory,
-        _ => Status::Capture {
+        RecordFault::Memory => Halt::Stopped(Stop::Memory),
+        _ => Halt::Refused(Refusal::Capture {
             at: line_of(fault),
             code: line_code_of(fault),
-        },
+        }),
     }
 }
 
-/// The rows of a file of records.
-pub(crate) fn records_of(alloc: Global, schema: &Schema, bytes: &[u8]) -> Result<Vec<Row>, Status>
+// The rows of a file of records.
+fn records_of(alloc: Global, schema: &Schema, bytes: &[u8]) -> Result<Vec<Row>, Halt>
     ensures rows { MatchResult result (λ rows. IsRecordFile schema.now bytes.now rows.items) (IsBad (HasLineFault schema.now bytes.now)) }
     ensures fit { IfOk result (λ rows. All (Fits schema.now) rows.items) }
 {
     match read_records(alloc, schema, bytes) {
         Ok(rows) => Ok(rows),
         Err(fault) => Err(refused_records(fault)),
+    }
+}
+
+/// The rows of a capture in a format.
+pub(crate) fn rows_in(alloc: Global, format: Format, bytes: &[u8]) -> Result<Vec<Row>, Halt>
+    ensures rows { MatchResult result (λ rows. AreRowsBy (is_packets format.entry) (attrs_in format.entry) bytes.now rows.items) (IsBad (HasFaultBy (is_packets format.entry) (attrs_in format.entry) bytes.now)) }
+    ensures fit { IfOk result (λ rows. All (Fits (attrs_in format.entry)) rows.items) }
+{
+    match format {
+        Format::Packets => packets_of(alloc, bytes),
+        Format::Records(schema) => records_of(alloc, schema, bytes),
     }
 }

@@ -1,12 +1,23 @@
+use Rattle.std.proofs.lemmas.Result.{err_from_is_err_and}
+use Rattle.cf_run.specs.Files.{setups}
+use Rattle.cf_run.proofs.Loading.{unread_halts}
 use Rattle.cf_run.proofs.PacketSchema.{packet_setup_schema}
-use Rattle.cf_run.proofs.SetupSize.{loads_setup_ok, loads_setup_fault, text_of_ok, text_of_err}
+use Rattle.cf_run.proofs.SetupSize.{setup_read, setup_halts, text_of_ok}
 use Rattle.cf_run.proofs.load.load_setup.Goals as goal
 
-pub returns-in-Err-Bad-clause-loaded : goal.returns-in-Err-Bad-clause-loaded
-returns-in-Err-Bad-clause-loaded g c = loads_setup_fault _ _ c.in-Ok.bytes.items (g.F.Shelf.rest c.args.shelf.now) _ _ _ c.in-Ok.ensures.read (text_of_err c.in-Ok.bytes.items _ _ (rw (c.in-Err-Bad.field-0-is, c.deref.ensures.value) at c.in-Err-Bad.ensures.found))
+pub returns-in_err-bytes-clause-loaded : goal.returns-in_err-bytes-clause-loaded
+returns-in_err-bytes-clause-loaded g c =
+    let p = err_from_is_err_and c.from_residual.result c.from_residual.ensures.1 in
+    rw (p.1, p.2) (unread_halts setups (g.F.Shelf.files c.args.shelf.now) c.args.name.now (g.F.Shelf.rest c.args.shelf.now) (g.F.Shelf.rest c.read_file.new.shelf) _ c.in_err-bytes.ensures.read)
 
-pub returns-in-Ok-parse_setup-clause-loaded : goal.returns-in-Ok-parse_setup-clause-loaded
-returns-in-Ok-parse_setup-clause-loaded g c = loads_setup_ok _ _ c.in-Ok.bytes.items (g.F.Shelf.rest c.args.shelf.now) _ c.in-Ok-parse_setup.setup c.in-Ok.ensures.read (text_of_ok c.in-Ok.bytes.items c.in-Ok-parse_setup.setup (rw c.deref.ensures.value at c.in-Ok-parse_setup.ensures.found))
+pub returns-in_err-parse_setup-clause-loaded : goal.returns-in_err-parse_setup-clause-loaded
+returns-in_err-parse_setup-clause-loaded g c =
+    let p = err_from_is_err_and c.from_residual-in_err-parse_setup.result c.from_residual-in_err-parse_setup.ensures.1 in
+    rw (p.1, p.2) (setup_halts (g.F.Shelf.files c.args.shelf.now) c.args.name.now c.in_ok-bytes.bytes.items (g.F.Shelf.rest c.args.shelf.now) (g.F.Shelf.rest c.read_file.new.shelf) c.in_err-parse_setup.field-0.0 c.in_ok-bytes.ensures.read (rw c.deref.ensures.value at c.in_err-parse_setup.ensures.found))
 
-pub returns-in-Ok-parse_setup-clause-lawful : goal.returns-in-Ok-parse_setup-clause-lawful
-returns-in-Ok-parse_setup-clause-lawful g c = record { lawful = c.in-Ok-parse_setup.ensures.lawful; schema = λ packet. packet_setup_schema _ c.in-Ok-parse_setup.setup (text_of_ok _ c.in-Ok-parse_setup.setup c.in-Ok-parse_setup.ensures.found) packet }
+pub returns-clause-loaded : goal.returns-clause-loaded
+returns-clause-loaded g c =
+    setup_read (g.F.Shelf.files c.args.shelf.now) c.args.name.now c.in_ok-bytes.bytes.items (g.F.Shelf.rest c.read_file.new.shelf) c.in_ok-parse_setup.field-0 c.in_ok-bytes.ensures.read (text_of_ok c.in_ok-bytes.bytes.items c.in_ok-parse_setup.field-0 (rw c.deref.ensures.value at c.in_ok-parse_setup.ensures.found))
+
+pub returns-clause-lawful : goal.returns-clause-lawful
+returns-clause-lawful g c = record { lawful = c.in_ok-parse_setup.ensures.lawful; schema = λ packet. packet_setup_schema _ c.in_ok-parse_setup.field-0 (text_of_ok _ c.in_ok-parse_setup.field-0 c.in_ok-parse_setup.ensures.found) packet }

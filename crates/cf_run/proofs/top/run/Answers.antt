@@ -1,41 +1,79 @@
-use Rattle.std.proofs.Common.{inr}
-use Rattle.cf_run.proofs.Answering.{answers_if, answers_some, decided_if, decided_free, complete_if, dumps_if, synths_if}
-use Rattle.cf_run.proofs.ByCommands.{by_yielding}
-use Rattle.cf_run.proofs.Preparing.{due_if, left_if, leaves_some}
+use Rattle.std.proofs.Common.{inl, inr, ◌∙◌}
+use Rattle.cf_command.specs.Call.{call_of, texts}
+use Rattle.cf_run.specs.Answers.Answers.{wrote, cut, stopped}
+use Rattle.cf_run.specs.Parts.{draft_status, draft_text, draft_seals}
+use Rattle.cf_run.proofs.Answering.{decided_if, complete_if, decided_free, complete_free, stop_yields, by_due, by_cut, by_stop, words_text, words_call, keeps_same, due_as, never_yields, draft_unsealed}
 use Rattle.cf_run.proofs.top.run.Goals as goal
 
+pub returns-in-Err-clause-written : goal.returns-in-Err-clause-written
+returns-in-Err-clause-written g c = stopped c.in-Err.stop (c.unsealed.ensures.status ∙ c.status.ensures) c.unsealed.ensures.none c.in-Err.ensures.prepared (keeps_same (g.K.Sink.held c.args.sink.now))
+
+pub returns-in-Err-clause-by_command : goal.returns-in-Err-clause-by_command
+returns-in-Err-clause-by_command g c = by_stop (g.F.Shelf.files c.args.shelf.now) (call_of (texts c.args.words.now)) (g.F.Shelf.rest c.args.shelf.now) (g.F.Shelf.rest c.prepare.new.shelf) c.unsealed.result.status c.unsealed.result.seals.items c.in-Err.stop (c.unsealed.ensures.status ∙ c.status.ensures) c.unsealed.ensures.none c.in-Err.ensures.prepared
+
+pub returns-in-Err-clause-decided : goal.returns-in-Err-clause-decided
+returns-in-Err-clause-decided g c = decided_free _ _ _ (stop_yields _ c.in-Err.stop (c.unsealed.ensures.status ∙ c.status.ensures))
+
+pub returns-in-Err-clause-complete : goal.returns-in-Err-clause-complete
+returns-in-Err-clause-complete g c = complete_free _ _ _ (stop_yields _ c.in-Err.stop (c.unsealed.ensures.status ∙ c.status.ensures))
+
 pub returns-in-Ok-write_all-clause-written : goal.returns-in-Ok-write_all-clause-written
-returns-in-Ok-write_all-clause-written g c = answers_if _ _ c.in-Ok.draft.status c.in-Ok.draft.text.items c.in-Ok.draft.seals.items _ _ _ _ c.in-Ok.ensures.prepared (rw c.deref.ensures.value at c.in-Ok-write_all.ensures.ok)
+returns-in-Ok-write_all-clause-written g c =
+    wrote (draft_text c.in-Ok.draft)
+    (due_as (g.F.Shelf.files c.args.shelf.now) (call_of (texts c.args.words.now)) (g.F.Shelf.rest c.args.shelf.now) (g.F.Shelf.rest c.prepare.new.shelf) (draft_status c.in-Ok.draft) c.status-in-Ok-write_all.result (draft_text c.in-Ok.draft) (draft_seals c.in-Ok.draft) c.into_seals.result.items c.in-Ok.ensures.prepared c.status-in-Ok-write_all.ensures c.into_seals.ensures)
+    (rw c.text.ensures at c.in-Ok-write_all.ensures.ok)
+
+pub returns-in-Ok-write_all-clause-by_command : goal.returns-in-Ok-write_all-clause-by_command
+returns-in-Ok-write_all-clause-by_command g c =
+    by_due (g.F.Shelf.files c.args.shelf.now) (g.F.Shelf.rest c.args.shelf.now) (g.F.Shelf.rest c.prepare.new.shelf) c.status-in-Ok-write_all.result (draft_text c.in-Ok.draft) c.into_seals.result.items (call_of (texts c.args.words.now))
+    (due_as (g.F.Shelf.files c.args.shelf.now) (call_of (texts c.args.words.now)) (g.F.Shelf.rest c.args.shelf.now) (g.F.Shelf.rest c.prepare.new.shelf) (draft_status c.in-Ok.draft) c.status-in-Ok-write_all.result (draft_text c.in-Ok.draft) (draft_seals c.in-Ok.draft) c.into_seals.result.items c.in-Ok.ensures.prepared c.status-in-Ok-write_all.ensures c.into_seals.ensures)
 
 pub returns-in-Ok-write_all-clause-decided : goal.returns-in-Ok-write_all-clause-decided
-returns-in-Ok-write_all-clause-decided g c = decided_if _ _ _ _ (due_if _ _ c.in-Ok.draft.status c.in-Ok.draft.text.items c.in-Ok.draft.seals.items _ _ c.in-Ok.ensures.prepared)
+returns-in-Ok-write_all-clause-decided g c =
+    decided_if (g.F.Shelf.files c.args.shelf.now) (call_of (texts c.args.words.now)) (g.F.Shelf.rest c.args.shelf.now) (g.F.Shelf.rest c.prepare.new.shelf) c.status-in-Ok-write_all.result (draft_text c.in-Ok.draft) c.into_seals.result.items
+    (due_as (g.F.Shelf.files c.args.shelf.now) (call_of (texts c.args.words.now)) (g.F.Shelf.rest c.args.shelf.now) (g.F.Shelf.rest c.prepare.new.shelf) (draft_status c.in-Ok.draft) c.status-in-Ok-write_all.result (draft_text c.in-Ok.draft) (draft_seals c.in-Ok.draft) c.into_seals.result.items c.in-Ok.ensures.prepared c.status-in-Ok-write_all.ensures c.into_seals.ensures)
 
 pub returns-in-Ok-write_all-clause-complete : goal.returns-in-Ok-write_all-clause-complete
-returns-in-Ok-write_all-clause-complete g c = complete_if _ _ c.in-Ok.draft.status c.in-Ok.draft.text.items (due_if _ _ c.in-Ok.draft.status c.in-Ok.draft.text.items c.in-Ok.draft.seals.items _ _ c.in-Ok.ensures.prepared)
-
-pub returns-in-Ok-write_all-clause-dumps : goal.returns-in-Ok-write_all-clause-dumps
-returns-in-Ok-write_all-clause-dumps g c = dumps_if _ _ c.in-Ok.draft.status c.in-Ok.draft.text.items (due_if _ _ c.in-Ok.draft.status c.in-Ok.draft.text.items c.in-Ok.draft.seals.items _ _ c.in-Ok.ensures.prepared)
-
-pub returns-in-Ok-write_all-clause-synths : goal.returns-in-Ok-write_all-clause-synths
-returns-in-Ok-write_all-clause-synths g c = synths_if _ _ c.in-Ok.draft.status c.in-Ok.draft.text.items (due_if _ _ c.in-Ok.draft.status c.in-Ok.draft.text.items c.in-Ok.draft.seals.items _ _ c.in-Ok.ensures.prepared)
-
-pub returns-in-Ok-write_all-clause-left : goal.returns-in-Ok-write_all-clause-left
-returns-in-Ok-write_all-clause-left g c = left_if _ _ c.in-Ok.draft.status c.in-Ok.draft.text.items c.in-Ok.draft.seals.items _ _ c.in-Ok.ensures.prepared
+returns-in-Ok-write_all-clause-complete g c =
+    complete_if (g.F.Shelf.files c.args.shelf.now) (call_of (texts c.args.words.now)) (g.F.Shelf.rest c.args.shelf.now) (g.F.Shelf.rest c.prepare.new.shelf) c.status-in-Ok-write_all.result (draft_text c.in-Ok.draft) c.into_seals.result.items
+    (due_as (g.F.Shelf.files c.args.shelf.now) (call_of (texts c.args.words.now)) (g.F.Shelf.rest c.args.shelf.now) (g.F.Shelf.rest c.prepare.new.shelf) (draft_status c.in-Ok.draft) c.status-in-Ok-write_all.result (draft_text c.in-Ok.draft) (draft_seals c.in-Ok.draft) c.into_seals.result.items c.in-Ok.ensures.prepared c.status-in-Ok-write_all.ensures c.into_seals.ensures)
 
 pub returns-in-Ok-write_all-clause-words : goal.returns-in-Ok-write_all-clause-words
-returns-in-Ok-write_all-clause-words g c = λ is. let no = c.in-Ok.ensures.words is in (no.0, rw (c.deref.ensures.value, no.1) at c.in-Ok-write_all.ensures.ok)
+returns-in-Ok-write_all-clause-words g c = λ is.
+    let due = (due_as (g.F.Shelf.files c.args.shelf.now) (call_of (texts c.args.words.now)) (g.F.Shelf.rest c.args.shelf.now) (g.F.Shelf.rest c.prepare.new.shelf) (draft_status c.in-Ok.draft) c.status-in-Ok-write_all.result (draft_text c.in-Ok.draft) (draft_seals c.in-Ok.draft) c.into_seals.result.items c.in-Ok.ensures.prepared c.status-in-Ok-write_all.ensures c.into_seals.ensures) in
+    let none = words_call (g.F.Shelf.files c.args.shelf.now) (call_of (texts c.args.words.now)) (g.F.Shelf.rest c.args.shelf.now) (g.F.Shelf.rest c.prepare.new.shelf) c.status-in-Ok-write_all.result (draft_text c.in-Ok.draft) c.into_seals.result.items due is in
+    (none, rw (c.text.ensures, words_text (g.F.Shelf.files c.args.shelf.now) (call_of (texts c.args.words.now)) (g.F.Shelf.rest c.args.shelf.now) (g.F.Shelf.rest c.prepare.new.shelf) c.status-in-Ok-write_all.result (draft_text c.in-Ok.draft) c.into_seals.result.items due none) at c.in-Ok-write_all.ensures.ok)
+
+pub returns-in-Ok-write_all-clause-no_seals : goal.returns-in-Ok-write_all-clause-no_seals
+returns-in-Ok-write_all-clause-no_seals g c = draft_unsealed c.in-Ok.draft c.status-in-Ok-write_all.result c.into_seals.result.items c.status-in-Ok-write_all.ensures c.into_seals.ensures
+
+pub returns-in-Ok-write_all-clause-no_words_front : goal.returns-in-Ok-write_all-clause-no_words_front
+returns-in-Ok-write_all-clause-no_words_front g c = λ none is. absurd (never_yields c.in-Ok.draft c.status-in-Ok-write_all.result c.status-in-Ok-write_all.ensures (inr (inr is)))
+
+pub returns-in-Ok-write_all-clause-no_memory_no_write : goal.returns-in-Ok-write_all-clause-no_memory_no_write
+returns-in-Ok-write_all-clause-no_memory_no_write g c = λ is. absurd (never_yields c.in-Ok.draft c.status-in-Ok-write_all.result c.status-in-Ok-write_all.ensures (inl is))
+
+pub returns-in-Ok-write_all-clause-no_read_no_write : goal.returns-in-Ok-write_all-clause-no_read_no_write
+returns-in-Ok-write_all-clause-no_read_no_write g c = λ is. absurd (never_yields c.in-Ok.draft c.status-in-Ok-write_all.result c.status-in-Ok-write_all.ensures (inr (inl is)))
+
+pub returns-in-Ok-write_all-clause-read_fault : goal.returns-in-Ok-write_all-clause-read_fault
+returns-in-Ok-write_all-clause-read_fault g c = λ is. absurd (never_yields c.in-Ok.draft c.status-in-Ok-write_all.result c.status-in-Ok-write_all.ensures (inr (inl is)))
+
+pub returns-in-Ok-write_all-clause-write_fault : goal.returns-in-Ok-write_all-clause-write_fault
+returns-in-Ok-write_all-clause-write_fault g c = λ is. absurd (never_yields c.in-Ok.draft c.status-in-Ok-write_all.result c.status-in-Ok-write_all.ensures (inr (inr is)))
 
 pub returns-in-Err-write_all-clause-written : goal.returns-in-Err-write_all-clause-written
-returns-in-Err-write_all-clause-written g c = rw c.unsealed-in-Err-write_all.ensures.status (answers_some _ _ c.in-Ok.draft.status c.in-Ok.draft.text.items c.in-Ok.draft.seals.items c.unsealed-in-Err-write_all.result.seals.items _ _ _ _ c.in-Ok.ensures.prepared (rw c.deref.ensures.value at c.in-Err-write_all.ensures.err))
+returns-in-Err-write_all-clause-written g c =
+    cut (draft_status c.in-Ok.draft) (draft_text c.in-Ok.draft) (draft_seals c.in-Ok.draft) c.unsealed-in-Err-write_all.ensures.status c.unsealed-in-Err-write_all.ensures.none c.in-Ok.ensures.prepared (rw c.text.ensures at c.in-Err-write_all.ensures.err)
 
-pub returns-in-Err-write_all-clause-left : goal.returns-in-Err-write_all-clause-left
-returns-in-Err-write_all-clause-left g c = rw c.unsealed-in-Err-write_all.ensures.status (leaves_some _ _ c.in-Ok.draft.status c.in-Ok.draft.text.items c.in-Ok.draft.seals.items _ _ c.in-Ok.ensures.prepared)
+pub returns-in-Err-write_all-clause-by_command : goal.returns-in-Err-write_all-clause-by_command
+returns-in-Err-write_all-clause-by_command g c = by_cut (call_of (texts c.args.words.now)) _ _ c.unsealed-in-Err-write_all.ensures.status c.unsealed-in-Err-write_all.ensures.none
 
 pub returns-in-Err-write_all-clause-decided : goal.returns-in-Err-write_all-clause-decided
 returns-in-Err-write_all-clause-decided g c = decided_free _ _ _ (inr (inr c.unsealed-in-Err-write_all.ensures.status))
 
-pub returns-in-Err-write_all-clause-by_command : goal.returns-in-Err-write_all-clause-by_command
-returns-in-Err-write_all-clause-by_command g c = by_yielding _ _ _ (inr (inr c.unsealed-in-Err-write_all.ensures.status)) c.unsealed-in-Err-write_all.ensures.none
+pub returns-in-Err-write_all-clause-complete : goal.returns-in-Err-write_all-clause-complete
+returns-in-Err-write_all-clause-complete g c = complete_free _ _ _ (inr (inr c.unsealed-in-Err-write_all.ensures.status))
 
 pub returns-in-Err-write_all-clause-no_words_front : goal.returns-in-Err-write_all-clause-no_words_front
-returns-in-Err-write_all-clause-no_words_front g c = λ none is. let said = c.in-Ok.ensures.words (c.in-Ok.ensures.no_words none) in rw (c.deref.ensures.value, said.1) at c.in-Err-write_all.ensures.err
+returns-in-Err-write_all-clause-no_words_front g c = λ none is. rw (c.text.ensures, words_text (g.F.Shelf.files c.args.shelf.now) (call_of (texts c.args.words.now)) (g.F.Shelf.rest c.args.shelf.now) (g.F.Shelf.rest c.prepare.new.shelf) (draft_status c.in-Ok.draft) (draft_text c.in-Ok.draft) (draft_seals c.in-Ok.draft) c.in-Ok.ensures.prepared none) at c.in-Err-write_all.ensures.err

@@ -4,9 +4,3 @@ use Rattle.cf_run.proofs.top.run_steadily.Goals as goal
 
 pub returns-clause-complete : goal.returns-clause-complete
 returns-clause-complete g c = λ lawful. steady c.run.result.status (c.run.ensures.complete lawful) (search rules) (search rules)
-
-pub returns-clause-synths : goal.returns-clause-synths
-returns-clause-synths g c = λ lawful. steady c.run.result.status (c.run.ensures.synths lawful) (search rules) (search rules)
-
-pub returns-clause-dumps : goal.returns-clause-dumps
-returns-clause-dumps g c = λ work. steady c.run.result.status (c.run.ensures.dumps work) (search rules) (search rules)

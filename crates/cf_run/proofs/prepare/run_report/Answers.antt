@@ -1,0 +1,40 @@
+use Rattle.std.proofs.Common.{◌≡◌, Err, refl, arith, rules}
+use Rattle.std.proofs.lemmas.Result.{err_from_is_err_and}
+use Rattle.cf_command.specs.Call.{run_by}
+use Rattle.cf_run.specs.Due.Exceeds.{full, short}
+use Rattle.cf_run.specs.Work.{shape_for}
+use Rattle.cf_run.specs.declared.log.Unmade.TheVariants.{Nodes}
+use Rattle.cf_run.specs.declared.refusal.Refusal.TheVariants as refusals
+use Rattle.cf_run.proofs.Coming.{run_unset, run_unread, run_exceeds, run_sealed, run_stopped}
+use Rattle.cf_run.proofs.Logs.{short_of}
+use Rattle.cf_run.proofs.prepare.run_report.Goals as goal
+
+pub returns-in_err-setup-clause-ends : goal.returns-in_err-setup-clause-ends
+returns-in_err-setup-clause-ends g c =
+    let p = err_from_is_err_and c.from_residual.result c.from_residual.ensures.1 in
+    rw (p.1, p.2) (run_unset (g.F.Shelf.files c.args.shelf.now) (run_by c.args.command.now) (g.F.Shelf.rest c.args.shelf.now) (g.F.Shelf.rest c.load_setup.new.shelf) _ c.in_err-setup.ensures.loaded)
+
+pub returns-in_err-rows-clause-ends : goal.returns-in_err-rows-clause-ends
+returns-in_err-rows-clause-ends g c =
+    let p = err_from_is_err_and c.from_residual-in_err-rows.result c.from_residual-in_err-rows.ensures.1 in
+    rw (p.1, p.2) (run_unread (g.F.Shelf.files c.args.shelf.now) (run_by c.args.command.now) (g.F.Shelf.rest c.args.shelf.now) (g.F.Shelf.rest c.load_rows.new.shelf) c.in_ok-setup.setup (g.F.Shelf.rest c.load_setup.new.shelf) c.in_ok-setup.ensures.loaded _ (rw (c.in_ok-setup.ensures.files, c.format_of.ensures.0, c.format_of.ensures.1) at c.in_err-rows.ensures.loaded))
+
+pub returns-then-len-sizes-clause-ends : goal.returns-then-len-sizes-clause-ends
+returns-then-len-sizes-clause-ends g c =
+    run_exceeds (g.F.Shelf.files c.args.shelf.now) (run_by c.args.command.now) (g.F.Shelf.rest c.args.shelf.now) (g.F.Shelf.rest c.load_rows.new.shelf) c.in_ok-setup.setup (g.F.Shelf.rest c.load_setup.new.shelf) c.in_ok-setup.ensures.loaded c.in_ok-rows.rows.items (rw (c.in_ok-setup.ensures.files, c.format_of.ensures.0, c.format_of.ensures.1) at c.in_ok-rows.ensures.loaded)
+    (refusals.Full c.args.command.now.sizes.capacity) (full (omega (arith, c.if-len-sizes.true, c.len.ensures)) refl)
+
+pub returns-in-Ok-clause-ends : goal.returns-in-Ok-clause-ends
+returns-in-Ok-clause-ends g c =
+    run_sealed (g.F.Shelf.files c.args.shelf.now) (run_by c.args.command.now) (g.F.Shelf.rest c.args.shelf.now) (g.F.Shelf.rest c.load_rows.new.shelf) c.in_ok-setup.setup (g.F.Shelf.rest c.load_setup.new.shelf) c.in_ok-setup.ensures.loaded c.in_ok-rows.rows.items (rw (c.in_ok-setup.ensures.files, c.format_of.ensures.0, c.format_of.ensures.1) at c.in_ok-rows.ensures.loaded)
+    c.in-Ok.report.text.items c.in-Ok.report.seal (omega (arith, c.if-len-sizes.false, c.len.ensures)) (rw c.deref.ensures.value at c.in-Ok.ensures) c.sealed.result c.sealed.ensures
+
+pub returns-in-Err-Nodes-clause-ends : goal.returns-in-Err-Nodes-clause-ends
+returns-in-Err-Nodes-clause-ends g c =
+    let err : c.report_of.result ≡ Err Nodes = search rules in
+    run_exceeds (g.F.Shelf.files c.args.shelf.now) (run_by c.args.command.now) (g.F.Shelf.rest c.args.shelf.now) (g.F.Shelf.rest c.load_rows.new.shelf) c.in_ok-setup.setup (g.F.Shelf.rest c.load_setup.new.shelf) c.in_ok-setup.ensures.loaded c.in_ok-rows.rows.items (rw (c.in_ok-setup.ensures.files, c.format_of.ensures.0, c.format_of.ensures.1) at c.in_ok-rows.ensures.loaded)
+    (refusals.Nodes c.args.command.now.sizes.nodes) (short (omega (arith, c.if-len-sizes.false, c.len.ensures)) (short_of (shape_for c.in_ok-setup.setup c.args.command.now.sizes) c.in_ok-rows.rows.items c.report_of.result _ (rw c.deref.ensures.value at c.report_of.ensures) err) refl)
+
+pub returns-clause-ends : goal.returns-clause-ends
+returns-clause-ends g c =
+    run_stopped (g.F.Shelf.files c.args.shelf.now) (run_by c.args.command.now) (g.F.Shelf.rest c.args.shelf.now) (g.F.Shelf.rest c.load_rows.new.shelf) c.in_ok-setup.setup (g.F.Shelf.rest c.load_setup.new.shelf) c.in_ok-setup.ensures.loaded c.in_ok-rows.rows.items (rw (c.in_ok-setup.ensures.files, c.format_of.ensures.0, c.format_of.ensures.1) at c.in_ok-rows.ensures.loaded)
