@@ -1,13 +1,9 @@
-ghost use Rattle.std.specs.Prelude.{◌≡◌, ◌↔◌, IsTrue, true, slice_get};
-ghost use Rattle.cf_shape.specs.Faults.{is_lane_of, key_exists, measure_exists};
-
 use super::*;
 use cf_fold::{Part, Quad, Trigger};
 use cf_row::{
     Atom, Attr, Conjunction, Entry, Expr, Kind, Memory, Name, Op, Row, Schema, Value, fits,
-    is_of_schema,
 };
-use cf_shape::{Key, Lane, Shape};
+use cf_shape::{Key, Lane, Shape, belongs};
 use std::alloc::Global;
 use std::process::Abort;
 use std::test::Fail;
@@ -48,33 +44,6 @@ fn expr_of(alloc: Global, conjunctions: &[&[Atom]]) -> Result<Expr, Memory> {
     Ok(Expr::new(all))
 }
 
-fn has_key(attrs: &[Attr], key: Key) -> bool
-    ensures { result ≡ key_exists attrs.now key }
-{
-    match key {
-        Key::Attr(attr) => attrs.get(attr as usize).is_some(),
-        Key::Bucket => true,
-    }
-}
-
-fn has_measure(attrs: &[Attr], measure: Option<u8>) -> bool
-    ensures { result ≡ measure_exists attrs.now measure }
-{
-    match measure {
-        Some(attr) => attrs.get(attr as usize).is_some(),
-        None => true,
-    }
-}
-
-// Whether the lane is of the schema.
-fn belongs(schema: &Schema, lane: &Lane) -> bool
-    ensures { IsTrue result ↔ (is_lane_of schema.now lane.now ≡ true) }
-{
-    is_of_schema(schema, &lane.select)
-        && has_key(schema.attrs(), lane.key)
-        && has_measure(schema.attrs(), lane.measure)
-}
-
 // The numbers of a body, in order.
 fn numbers_of(alloc: Global, body: &Body) -> Result<Vec<u64>, Memory> {
     let mut numbers = Vec::new(alloc);
@@ -106,16 +75,15 @@ fn shape_of(
     measure: Option<u8>,
 ) -> Result<Option<Shape>, Fail> {
     let schema = Schema::new(attrs(alloc, kinds)?)?;
-    let lane = Lane {
+    let mut lanes = Vec::new(alloc);
+    lanes.push(Lane {
         select: expr_of(alloc, &[&[]])?,
         key,
         measure,
-    };
-    if !belongs(&schema, &lane) {
+    })?;
+    if !belongs(&schema, &lanes) {
         return Ok(None);
     }
-    let mut lanes = Vec::new(alloc);
-    lanes.push(lane)?;
     Ok(Some(Shape::new(schema, lanes, 8, 1, 32, 10)?))
 }
 
