@@ -7,4 +7,6 @@ mod devices;
 #[cfg(test)]
 mod files;
 #[cfg(test)]
+mod frames;
+#[cfg(test)]
 mod tried;
