@@ -1,5 +1,4 @@
 pub mod Asked
 pub mod Loaded
 pub mod Sealing
-pub mod Writers
 pub mod Walking

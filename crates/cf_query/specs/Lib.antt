@@ -1,4 +1,3 @@
 pub mod Asking
 pub mod Laws
-pub mod Writers
 pub mod Walking

@@ -6,11 +6,7 @@
 mod asks;
 mod bodies;
 mod history;
-#[cfg(test)]
-mod lane_tests;
 mod rows;
-#[cfg(test)]
-mod tests;
 
 pub use asks::{ask, groups, measure, tail};
 pub use history::seals_are_histories;
