@@ -23,7 +23,7 @@ use Rattle.cf_run.specs.declared.status.Status.{Status}
 use Rattle.cf_run.specs.declared.status.Status.TheVariants.{Done}
 
 -- a lawful setup; one over packets has their schema
-pub record IsLoaded (setup : SetupValue) : Type 0 where
+pub record IsSetupRead (setup : SetupValue) : Type 0 where
   pub lawful : IsSetup setup
   pub schema : setup.packet ≡ true → setup.schema ≡ packet_attrs
 

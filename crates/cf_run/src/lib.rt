@@ -8,9 +8,9 @@
 mod devices;
 mod draft;
 mod dumping;
+mod files;
 mod frames;
 mod laws;
-mod load;
 mod log;
 mod prepare;
 mod program;

@@ -6,7 +6,7 @@ ghost use Rattle.cf_run.specs.Parts.{HasHaltCause, HasStopCause, Ends, IsPrepare
 
 use crate::draft::{Draft, Product, refused, sealed};
 use crate::dumping::dump_of;
-use crate::load::{load_rows, load_setup};
+use crate::files::{read_rows, read_setup};
 use crate::log::{Unmade, final_of, report_of};
 use crate::refusal::{Halt, Refusal, Stop};
 use crate::rows::{Format, drawn_packets, format_of};
@@ -28,8 +28,8 @@ fn run_report<R: Threads + Sync, F: Shelf, G: Gate>(
     ensures ends { Ends (F.files shelf.old) (Some (run (run_by command.now))) (F.rest shelf.old) (F.rest shelf.new) result }
     ensures cause { HasHaltCause (F.faults shelf.old) (F.faults shelf.new) result }
 {
-    let setup = load_setup(alloc, shelf, command.setup)?;
-    let rows = load_rows(alloc, shelf, command.capture, format_of(&setup))?;
+    let setup = read_setup(alloc, shelf, command.setup)?;
+    let rows = read_rows(alloc, shelf, command.capture, format_of(&setup))?;
     let sizes = command.sizes;
     if rows.len() > sizes.capacity as usize {
         let capacity = sizes.capacity;
@@ -56,7 +56,7 @@ fn synth_answers<R: Threads + Sync, F: Shelf, G: Gate>(
     ensures ends { Ends (F.files shelf.old) (Some (synth (synth_by command.now))) (F.rest shelf.old) (F.rest shelf.new) result }
     ensures cause { HasHaltCause (F.faults shelf.old) (F.faults shelf.new) result }
 {
-    let setup = load_setup(alloc, shelf, command.setup)?;
+    let setup = read_setup(alloc, shelf, command.setup)?;
     if !setup.packet() {
         let line = setup.schema_line();
         return Err(Halt::Refused(Refusal::Setup { line, code: 4 }));
@@ -84,7 +84,7 @@ fn dump_listing<F: Shelf>(
     ensures ends { Ends (F.files shelf.old) (Some (dump (dump_by command.now))) (F.rest shelf.old) (F.rest shelf.new) result }
     ensures cause { HasHaltCause (F.faults shelf.old) (F.faults shelf.new) result }
 {
-    let rows = load_rows(alloc, shelf, command.capture, Format::Packets)?;
+    let rows = read_rows(alloc, shelf, command.capture, Format::Packets)?;
     let text = dump_of(alloc, &rows)?;
     let seals = Vec::new(alloc);
     Ok(Product { text, seals })

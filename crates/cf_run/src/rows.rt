@@ -6,7 +6,7 @@ ghost use Rattle.cf_make.specs.Generated.{generated_frames};
 ghost use Rattle.cf_records.specs.Records.{IsRecordFile};
 ghost use Rattle.cf_records.specs.declared.fault.RecordFault.TheVariants as record_faults;
 ghost use Rattle.cf_run.specs.Faults.{HasPacketFault, HasLineFault, HasFaultBy, line_code_of as line_code_of_fault, line_of as line_of_fault};
-ghost use Rattle.cf_run.specs.Parts.{IsBad, IsLoaded, is_packets, attrs_in};
+ghost use Rattle.cf_run.specs.Parts.{IsBad, IsSetupRead, is_packets, attrs_in};
 ghost use Rattle.cf_run.specs.Work.{ArePackets, AreRowsBy, packet_rows};
 ghost use Rattle.cf_run.specs.declared.refusal.Halt.TheVariants.{Refused, Stopped};
 ghost use Rattle.cf_run.specs.declared.refusal.Refusal.TheVariants as refusals;
@@ -33,7 +33,7 @@ pub(crate) enum Format<'a> {
 
 /// The format that a setup asks for.
 pub(crate) fn format_of<'a>(setup: &'a Setup) -> Format<'a>
-    requires { IsLoaded setup.now }
+    requires { IsSetupRead setup.now }
     ensures { (is_packets result ≡ setup.now.packet) × (attrs_in result ≡ setup.now.schema) }
 {
     if setup.packet() {

@@ -6,13 +6,13 @@ use Rattle.cf_run.proofs.prepare.dump_listing.Goals as goal
 pub returns-in_err-rows-clause-ends : goal.returns-in_err-rows-clause-ends
 returns-in_err-rows-clause-ends g c =
     let p = err_from_is_err_and c.from_residual.result c.from_residual.ensures.1 in
-    rw (p.1, p.2) (dump_unread (g.F.Shelf.files c.args.shelf.now) (dump_by c.args.command.now) (g.F.Shelf.rest c.args.shelf.now) (g.F.Shelf.rest c.load_rows.new.shelf) _ c.in_err-rows.ensures.loaded)
+    rw (p.1, p.2) (dump_unread (g.F.Shelf.files c.args.shelf.now) (dump_by c.args.command.now) (g.F.Shelf.rest c.args.shelf.now) (g.F.Shelf.rest c.read_rows.new.shelf) _ c.in_err-rows.ensures.read)
 
 pub returns-in_err-text-clause-ends : goal.returns-in_err-text-clause-ends
 returns-in_err-text-clause-ends g c =
     let p = err_from_is_err_and c.from_residual-in_err-text.result c.from_residual-in_err-text.ensures.1 in
-    rw (p.1, p.2) (dump_stopped (g.F.Shelf.files c.args.shelf.now) (dump_by c.args.command.now) (g.F.Shelf.rest c.args.shelf.now) (g.F.Shelf.rest c.load_rows.new.shelf) c.in_ok-rows.rows.items c.in_ok-rows.ensures.loaded)
+    rw (p.1, p.2) (dump_stopped (g.F.Shelf.files c.args.shelf.now) (dump_by c.args.command.now) (g.F.Shelf.rest c.args.shelf.now) (g.F.Shelf.rest c.read_rows.new.shelf) c.in_ok-rows.rows.items c.in_ok-rows.ensures.read)
 
 pub returns-clause-ends : goal.returns-clause-ends
 returns-clause-ends g c =
-    dump_gives (g.F.Shelf.files c.args.shelf.now) (dump_by c.args.command.now) (g.F.Shelf.rest c.args.shelf.now) (g.F.Shelf.rest c.load_rows.new.shelf) c.in_ok-rows.rows.items c.in_ok-rows.ensures.loaded c.in_ok-text.text.items _ (rw c.deref.ensures.value at c.in_ok-text.ensures) c.new-seals.ensures.items
+    dump_gives (g.F.Shelf.files c.args.shelf.now) (dump_by c.args.command.now) (g.F.Shelf.rest c.args.shelf.now) (g.F.Shelf.rest c.read_rows.new.shelf) c.in_ok-rows.rows.items c.in_ok-rows.ensures.read c.in_ok-text.text.items _ (rw c.deref.ensures.value at c.in_ok-text.ensures) c.new-seals.ensures.items

@@ -12,29 +12,29 @@ use Rattle.cf_run.proofs.prepare.run_report.Goals as goal
 pub returns-in_err-setup-clause-ends : goal.returns-in_err-setup-clause-ends
 returns-in_err-setup-clause-ends g c =
     let p = err_from_is_err_and c.from_residual.result c.from_residual.ensures.1 in
-    rw (p.1, p.2) (run_unset (g.F.Shelf.files c.args.shelf.now) (run_by c.args.command.now) (g.F.Shelf.rest c.args.shelf.now) (g.F.Shelf.rest c.load_setup.new.shelf) _ c.in_err-setup.ensures.loaded)
+    rw (p.1, p.2) (run_unset (g.F.Shelf.files c.args.shelf.now) (run_by c.args.command.now) (g.F.Shelf.rest c.args.shelf.now) (g.F.Shelf.rest c.read_setup.new.shelf) _ c.in_err-setup.ensures.read)
 
 pub returns-in_err-rows-clause-ends : goal.returns-in_err-rows-clause-ends
 returns-in_err-rows-clause-ends g c =
     let p = err_from_is_err_and c.from_residual-in_err-rows.result c.from_residual-in_err-rows.ensures.1 in
-    rw (p.1, p.2) (run_unread (g.F.Shelf.files c.args.shelf.now) (run_by c.args.command.now) (g.F.Shelf.rest c.args.shelf.now) (g.F.Shelf.rest c.load_rows.new.shelf) c.in_ok-setup.setup (g.F.Shelf.rest c.load_setup.new.shelf) c.in_ok-setup.ensures.loaded _ (rw (c.in_ok-setup.ensures.files, c.format_of.ensures.0, c.format_of.ensures.1) at c.in_err-rows.ensures.loaded))
+    rw (p.1, p.2) (run_unread (g.F.Shelf.files c.args.shelf.now) (run_by c.args.command.now) (g.F.Shelf.rest c.args.shelf.now) (g.F.Shelf.rest c.read_rows.new.shelf) c.in_ok-setup.setup (g.F.Shelf.rest c.read_setup.new.shelf) c.in_ok-setup.ensures.read _ (rw (c.in_ok-setup.ensures.files, c.format_of.ensures.0, c.format_of.ensures.1) at c.in_err-rows.ensures.read))
 
 pub returns-then-len-sizes-clause-ends : goal.returns-then-len-sizes-clause-ends
 returns-then-len-sizes-clause-ends g c =
-    run_exceeds (g.F.Shelf.files c.args.shelf.now) (run_by c.args.command.now) (g.F.Shelf.rest c.args.shelf.now) (g.F.Shelf.rest c.load_rows.new.shelf) c.in_ok-setup.setup (g.F.Shelf.rest c.load_setup.new.shelf) c.in_ok-setup.ensures.loaded c.in_ok-rows.rows.items (rw (c.in_ok-setup.ensures.files, c.format_of.ensures.0, c.format_of.ensures.1) at c.in_ok-rows.ensures.loaded)
+    run_exceeds (g.F.Shelf.files c.args.shelf.now) (run_by c.args.command.now) (g.F.Shelf.rest c.args.shelf.now) (g.F.Shelf.rest c.read_rows.new.shelf) c.in_ok-setup.setup (g.F.Shelf.rest c.read_setup.new.shelf) c.in_ok-setup.ensures.read c.in_ok-rows.rows.items (rw (c.in_ok-setup.ensures.files, c.format_of.ensures.0, c.format_of.ensures.1) at c.in_ok-rows.ensures.read)
     (refusals.Full c.args.command.now.sizes.capacity) (full (omega (arith, c.if-len-sizes.true, c.len.ensures)) refl)
 
 pub returns-in-Ok-clause-ends : goal.returns-in-Ok-clause-ends
 returns-in-Ok-clause-ends g c =
-    run_sealed (g.F.Shelf.files c.args.shelf.now) (run_by c.args.command.now) (g.F.Shelf.rest c.args.shelf.now) (g.F.Shelf.rest c.load_rows.new.shelf) c.in_ok-setup.setup (g.F.Shelf.rest c.load_setup.new.shelf) c.in_ok-setup.ensures.loaded c.in_ok-rows.rows.items (rw (c.in_ok-setup.ensures.files, c.format_of.ensures.0, c.format_of.ensures.1) at c.in_ok-rows.ensures.loaded)
+    run_sealed (g.F.Shelf.files c.args.shelf.now) (run_by c.args.command.now) (g.F.Shelf.rest c.args.shelf.now) (g.F.Shelf.rest c.read_rows.new.shelf) c.in_ok-setup.setup (g.F.Shelf.rest c.read_setup.new.shelf) c.in_ok-setup.ensures.read c.in_ok-rows.rows.items (rw (c.in_ok-setup.ensures.files, c.format_of.ensures.0, c.format_of.ensures.1) at c.in_ok-rows.ensures.read)
     c.in-Ok.report.text.items c.in-Ok.report.seal (omega (arith, c.if-len-sizes.false, c.len.ensures)) (rw c.deref.ensures.value at c.in-Ok.ensures) c.sealed.result c.sealed.ensures
 
 pub returns-in-Err-Nodes-clause-ends : goal.returns-in-Err-Nodes-clause-ends
 returns-in-Err-Nodes-clause-ends g c =
     let err : c.report_of.result ≡ Err Nodes = search rules in
-    run_exceeds (g.F.Shelf.files c.args.shelf.now) (run_by c.args.command.now) (g.F.Shelf.rest c.args.shelf.now) (g.F.Shelf.rest c.load_rows.new.shelf) c.in_ok-setup.setup (g.F.Shelf.rest c.load_setup.new.shelf) c.in_ok-setup.ensures.loaded c.in_ok-rows.rows.items (rw (c.in_ok-setup.ensures.files, c.format_of.ensures.0, c.format_of.ensures.1) at c.in_ok-rows.ensures.loaded)
+    run_exceeds (g.F.Shelf.files c.args.shelf.now) (run_by c.args.command.now) (g.F.Shelf.rest c.args.shelf.now) (g.F.Shelf.rest c.read_rows.new.shelf) c.in_ok-setup.setup (g.F.Shelf.rest c.read_setup.new.shelf) c.in_ok-setup.ensures.read c.in_ok-rows.rows.items (rw (c.in_ok-setup.ensures.files, c.format_of.ensures.0, c.format_of.ensures.1) at c.in_ok-rows.ensures.read)
     (refusals.Nodes c.args.command.now.sizes.nodes) (short (omega (arith, c.if-len-sizes.false, c.len.ensures)) (short_of (shape_for c.in_ok-setup.setup c.args.command.now.sizes) c.in_ok-rows.rows.items c.report_of.result _ (rw c.deref.ensures.value at c.report_of.ensures) err) refl)
 
 pub returns-clause-ends : goal.returns-clause-ends
 returns-clause-ends g c =
-    run_stopped (g.F.Shelf.files c.args.shelf.now) (run_by c.args.command.now) (g.F.Shelf.rest c.args.shelf.now) (g.F.Shelf.rest c.load_rows.new.shelf) c.in_ok-setup.setup (g.F.Shelf.rest c.load_setup.new.shelf) c.in_ok-setup.ensures.loaded c.in_ok-rows.rows.items (rw (c.in_ok-setup.ensures.files, c.format_of.ensures.0, c.format_of.ensures.1) at c.in_ok-rows.ensures.loaded)
+    run_stopped (g.F.Shelf.files c.args.shelf.now) (run_by c.args.command.now) (g.F.Shelf.rest c.args.shelf.now) (g.F.Shelf.rest c.read_rows.new.shelf) c.in_ok-setup.setup (g.F.Shelf.rest c.read_setup.new.shelf) c.in_ok-setup.ensures.read c.in_ok-rows.rows.items (rw (c.in_ok-setup.ensures.files, c.format_of.ensures.0, c.format_of.ensures.1) at c.in_ok-rows.ensures.read)

@@ -2,7 +2,7 @@
 ghost use Rattle.std.specs.Prelude.{◌≡◌, ◌^◌, All, IfOk, MatchResult};
 ghost use Rattle.cf_row.specs.Row.{Fits};
 ghost use Rattle.cf_run.specs.Files.{setups, captures, IsReadAs, Halts};
-ghost use Rattle.cf_run.specs.Parts.{HasHaltCause, IsLoaded, is_packets, attrs_in};
+ghost use Rattle.cf_run.specs.Parts.{HasHaltCause, IsSetupRead, is_packets, attrs_in};
 ghost use Rattle.cf_run.specs.Work.{limit_by};
 
 use crate::devices::read_file;
@@ -23,11 +23,11 @@ const CAPTURE_LIMIT: usize = 1 << 32;
 const RECORDS_LIMIT: usize = 1 << 24;
 
 /// The setup in the file of that name.
-pub(crate) fn load_setup<F: Shelf>(alloc: Global, shelf: &mut F, name: &str) -> Result<Setup, Halt>
+pub(crate) fn read_setup<F: Shelf>(alloc: Global, shelf: &mut F, name: &str) -> Result<Setup, Halt>
     ensures files { F.files shelf.new ≡ F.files shelf.old }
-    ensures loaded { MatchResult result (IsReadAs setups (F.files shelf.old) name.now (F.rest shelf.new)) (Halts setups (F.files shelf.old) name.now (F.rest shelf.old) (F.rest shelf.new)) }
+    ensures read { MatchResult result (IsReadAs setups (F.files shelf.old) name.now (F.rest shelf.new)) (Halts setups (F.files shelf.old) name.now (F.rest shelf.old) (F.rest shelf.new)) }
     ensures cause { HasHaltCause (F.faults shelf.old) (F.faults shelf.new) result }
-    ensures lawful { IfOk result IsLoaded }
+    ensures lawful { IfOk result IsSetupRead }
 {
     let bytes = read_file(alloc, shelf, name, SETUP_LIMIT)?;
     Ok(parse_setup(alloc, &bytes)?)
@@ -43,14 +43,14 @@ fn limit_of(format: Format) -> usize
 }
 
 /// The rows of the capture in the file of that name.
-pub(crate) fn load_rows<F: Shelf>(
+pub(crate) fn read_rows<F: Shelf>(
     alloc: Global,
     shelf: &mut F,
     name: &str,
     format: Format,
 ) -> Result<Vec<Row>, Halt>
     ensures files { F.files shelf.new ≡ F.files shelf.old }
-    ensures loaded { MatchResult result (λ rows. IsReadAs (captures (is_packets format.entry) (attrs_in format.entry)) (F.files shelf.old) name.now (F.rest shelf.new) rows.items) (Halts (captures (is_packets format.entry) (attrs_in format.entry)) (F.files shelf.old) name.now (F.rest shelf.old) (F.rest shelf.new)) }
+    ensures read { MatchResult result (λ rows. IsReadAs (captures (is_packets format.entry) (attrs_in format.entry)) (F.files shelf.old) name.now (F.rest shelf.new) rows.items) (Halts (captures (is_packets format.entry) (attrs_in format.entry)) (F.files shelf.old) name.now (F.rest shelf.old) (F.rest shelf.new)) }
     ensures cause { HasHaltCause (F.faults shelf.old) (F.faults shelf.new) result }
     ensures fit { IfOk result (λ rows. All (Fits (attrs_in format.entry)) rows.items) }
 {
