@@ -5,7 +5,7 @@ Run it from anywhere after `make run` has built the program:
 
     bench/wide.py [SECONDS]
 
-Each run has to end within SECONDS (60 where it is not said) with its status, and is timed once:
+Each run has to end within SECONDS (180 where it is not said) with its status, and is timed once:
 
 - 16 lanes, 16 triggers and 32 questions, all asked live 64 times beside each batch, by 15 writers;
 - a capture in which every packet has one key, by its index, its filter and its aggregate;
@@ -79,7 +79,7 @@ def nodes_for_all_keys():
 
 
 def main():
-    limit = float(sys.argv[1]) if len(sys.argv) > 1 else 60
+    limit = float(sys.argv[1]) if len(sys.argv) > 1 else 180
     with tempfile.TemporaryDirectory() as name:
         folder = pathlib.Path(name)
         capture(folder / "one", lambda num: 0x0A000001)

@@ -1,6 +1,8 @@
 ghost use Rattle.std.specs.Prelude.{◌≡◌, ◌+◌, ◌<◌, ◌^◌, ◌↔◌, [], All, length, IsTrue};
 ghost use Rattle.cf_row.specs.Row.{Fits};
 ghost use Rattle.cf_table.specs.Values.{IsOf};
+ghost use Rattle.cf_law.specs.Readers.{AtHome};
+ghost use Rattle.cf_law.specs.Shapes.{layout};
 ghost use Rattle.cf_table.specs.Moves.{AreAll};
 ghost use Rattle.cf_load.specs.Writing.{IsReady};
 
@@ -78,32 +80,69 @@ fn run_home<R: Threads + Sync>(
     requires ready { All (IsReady log.now) passes.items }
     requires fits { All (Fits log.now.shape.schema) rows.now }
     requires room { length rows.now < 2 ^ 32 }
+    ensures of { IsOf root.new log.now }
+    ensures home { AtHome (layout log.now.shape) root.new.view }
 {
     run_writers(rt, log, &FreeGate, 0, rows, passes.as_mut_slice());
     log.gather(root, passes);
     root.covered()
 }
 
-// Two writers append that many rows. Answers how many of them are covered.
+// So many writers append that many rows, and then the log is closed. Answers how many rows are covered.
 fn cover<R: Threads + Sync + Abort>(
     rt: &R,
     alloc: Global,
+    writers: u8,
     capacity: u32,
     count: u32,
 ) -> Result<u32, Fail> {
     let all = rows(alloc, count)?;
     let rows = all.as_slice();
-    let (log, mut root) = MultiLog::open(alloc, shape(rt, alloc, capacity, 2, 15)?)?;
+    let (log, mut root) = MultiLog::open(alloc, shape(rt, alloc, capacity, writers, 15)?)?;
     assert!(rt; rows.len() < 100);
     assert!(rt; all_fit(log.shape().schema(), rows));
     let passes = log.deal(alloc, &mut root)?;
-    Ok(run_home(rt, &log, &mut root, rows, passes))
+    let covered = run_home(rt, &log, &mut root, rows, passes);
+    let closed = log.close(alloc, root).ok().expect(rt, "memory");
+    assert_eq!(rt; closed.entries.len(), covered as usize);
+    Ok(covered)
 }
 
+// A log of some writers and places, how many rows are appended, and how many of them are covered.
+#[derive(Clone, Copy, Drop)]
+struct Crowd {
+    writers: u8,
+    capacity: u32,
+    count: u32,
+    covered: u32,
+}
+
+// Where there are more rows than places, writers find the log full, each at every row of its own, and it keeps what it has.
 #[test]
-fn two_threads(rt: HostRuntime) -> Result<(), Fail> {
-    for (capacity, covered) in [(10, 10), (4, 4)] {
-        assert_eq!(rt; cover(&rt, rt.alloc(), capacity, 10)?, covered);
+fn writers_in_threads(rt: HostRuntime) -> Result<(), Fail> {
+    let crowds = [
+        Crowd {
+            writers: 2,
+            capacity: 10,
+            count: 10,
+            covered: 10,
+        },
+        Crowd {
+            writers: 2,
+            capacity: 4,
+            count: 10,
+            covered: 4,
+        },
+        Crowd {
+            writers: 15,
+            capacity: 1,
+            count: 30,
+            covered: 1,
+        },
+    ];
+    for crowd in &crowds {
+        let covered = cover(&rt, rt.alloc(), crowd.writers, crowd.capacity, crowd.count)?;
+        assert_eq!(rt; covered, crowd.covered);
     }
     Ok(())
 }
