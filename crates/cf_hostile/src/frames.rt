@@ -1,5 +1,6 @@
 // Frames that end early, fragments, and total lengths that leave out the header.
 use crate::tried::{TWO_RECORDS, WORDS, expect};
+use std::process::Abort;
 use std::test::Fail;
 
 // A TCP segment from 10.0.0.12:40219 to 10.0.1.10:80.
@@ -13,12 +14,12 @@ const SEGMENT: [u8; 54] = [
 // The segment with others for the two bytes at a place, of which so many bytes were captured.
 #[derive(Clone, Copy, Drop)]
 struct Case {
-    captured: usize,
+    captured: u8,
     at: usize,
     others: [u8; 2],
 }
 
-const fn cut(captured: usize) -> Case {
+const fn cut(captured: u8) -> Case {
     Case {
         captured,
         at: 0,
@@ -26,7 +27,7 @@ const fn cut(captured: usize) -> Case {
     }
 }
 
-const fn changed(captured: usize, at: usize, others: [u8; 2]) -> Case {
+const fn changed(captured: u8, at: usize, others: [u8; 2]) -> Case {
     Case {
         captured,
         at,
@@ -57,6 +58,12 @@ ask total_20 list 1: 11
 order 0*15
 ";
 
+fn front<'a, R: Abort>(rt: &R, bytes: &'a [u8], count: u8) -> &'a [u8] {
+    let end = usize::from(count);
+    assert!(rt; end <= bytes.len());
+    &bytes[..end]
+}
+
 #[test]
 fn each_kind_of_frame_is_in_its_lists(rt: HostRuntime) -> Result<(), Fail> {
     let alloc = rt.alloc();
@@ -80,13 +87,13 @@ fn each_kind_of_frame_is_in_its_lists(rt: HostRuntime) -> Result<(), Fail> {
     let mut capture = TWO_RECORDS[..24].to_vec(alloc)?;
     for case in cases {
         let mut bytes = SEGMENT;
-        assert!(rt; case.at < 53 && case.captured <= bytes.len());
+        assert!(rt; case.at < 53);
         bytes[case.at] = case.others[0];
         bytes[case.at + 1] = case.others[1];
         capture.extend_from_slice(&[1, 0, 0, 0, 0, 0, 0, 0])?;
-        capture.extend_from_slice(&[case.captured as u8, 0, 0, 0])?;
+        capture.extend_from_slice(&[case.captured, 0, 0, 0])?;
         capture.extend_from_slice(&[60, 0, 0, 0])?;
-        capture.extend_from_slice(&bytes[..case.captured])?;
+        capture.extend_from_slice(front(&rt, &bytes, case.captured))?;
     }
     expect(&rt, alloc, &WORDS, (SETUP, &capture), (0, ANSWERS))?;
     Ok(())
