@@ -4,8 +4,8 @@ use Rattle.cf_table.specs.Moves.{AreAll}
 use Rattle.cf_asking.proofs.Writers.{both_ready, all_two}
 use Rattle.cf_asking.proofs.tests.at_once.Goals as goal
 
-pub beside-requires-clause-ready : goal.beside-requires-clause-ready
-beside-requires-clause-ready g c κs within =
+pub beside-first-requires-clause-ready : goal.beside-first-requires-clause-ready
+beside-first-requires-clause-ready g c κs within =
     both_ready c.in_ok-shape.shape c.in_ok-log.log c.in_ok-log.root c.two_of-first.result.0 c.two_of-first.result.1 c.in_ok-log.passes.items c.two_of-first.ensures.0 c.in_ok-log.ensures c.two_of-first.ensures.1
 
 pub gather-requires-clause-all : goal.gather-requires-clause-all
