@@ -16,7 +16,7 @@ use Rattle.cf_filter.specs.declared.fault.Offence.TheVariants.{Syntax, UnknownNa
 use Rattle.cf_filter.specs.declared.fault.Stop.{Stop}
 use Rattle.cf_filter.specs.declared.atom.Link.{Link}
 use Rattle.cf_filter.specs.declared.atom.Link.TheVariants.{End, And, Or}
-use Rattle.cf_filter.specs.declared.value.Form.{Form}
+use Rattle.cf_filter.specs.declared.value.Spelling.{Spelling}
 use Rattle.cf_filter.specs.Tokens.{IsRun, IsAfterSpaces}
 use Rattle.cf_filter.specs.Values.{HasForm, AreParts, is_run_of, number_at, pairs}
 use Rattle.cf_filter.specs.Ranges.{dots_len, net_from}
@@ -43,7 +43,7 @@ pub data ValueText (kind : Kind) (text : List ℕ) (value : Value) : Type 0 wher
 
 -- a text that is cut at the first two dots, or a dotted text and a number of bits
 pub data HasRangeForm (text : List ℕ) : Type 0 where
-  ends : (low high : List ℕ) (low_form high_form : Form) → text ≡ low ++ codes ".." ++ high → dots_len text ≡ length low → HasForm low low_form → HasForm high high_form → HasRangeForm text
+  ends : (low high : List ℕ) (low_form high_form : Spelling) → text ≡ low ++ codes ".." ++ high → dots_len text ≡ length low → HasForm low low_form → HasForm high high_form → HasRangeForm text
   net : (a b c d front bits : List ℕ) → text ≡ front ++ codes "/" ++ bits → AreParts front a b c d → is_run_of classes.Digit 1 20 bits ≡ true → HasRangeForm text
 
 -- the lawful ranges of a kind
@@ -62,7 +62,7 @@ Judged form lawful (Err TooLong) = ⊥
 
 -- written as a value may be, for whatever kind
 abbrev pub IsForm : List ℕ → Type 0
-IsForm text = (form : Form) × HasForm text form
+IsForm text = (form : Spelling) × HasForm text form
 
 -- a value of the kind
 abbrev pub ValueRead : Kind → List ℕ → Result Value Offence → Type 0

@@ -14,7 +14,7 @@ use cf_row::{Kind, Value};
 
 /// How a value is written.
 #[derive(Clone, Copy, Debug, PartialEq, Eq)]
-pub(crate) enum Form {
+pub(crate) enum Spelling {
     Decimal,
     Hex,
     Dotted,
@@ -118,17 +118,17 @@ pub(crate) fn is_dotted(text: &[u8]) -> bool
 }
 
 // How the text is written, if it is a value's.
-pub(crate) fn form_of(text: &[u8]) -> Option<Form>
+pub(crate) fn form_of(text: &[u8]) -> Option<Spelling>
     ensures { result ≡ form_at text.now }
 {
     if is_run_of(Class::Digit, 1, 20, text) {
-        return Some(Form::Decimal);
+        return Some(Spelling::Decimal);
     }
     if is_hex(text) {
-        return Some(Form::Hex);
+        return Some(Spelling::Hex);
     }
     if is_dotted(text) {
-        return Some(Form::Dotted);
+        return Some(Spelling::Dotted);
     }
     None
 }
@@ -209,11 +209,11 @@ fn bytes_of(digits: &[u8]) -> [u8; 16]
 }
 
 // The value of a text of this form, if it is lawful for the kind.
-pub(crate) fn lawful_value(kind: Kind, form: Form, text: &[u8]) -> Option<Value>
+pub(crate) fn lawful_value(kind: Kind, form: Spelling, text: &[u8]) -> Option<Value>
     ensures { result ≡ lawful kind form text.now }
 {
     match (kind, form) {
-        (Kind::Bytes(len), Form::Hex) => {
+        (Kind::Bytes(len), Spelling::Hex) => {
             let Some(digits) = strip(text, b"0x") else {
                 return None;
             };
@@ -226,8 +226,8 @@ pub(crate) fn lawful_value(kind: Kind, form: Form, text: &[u8]) -> Option<Value>
             })
         }
         (Kind::Bytes(_), _) => None,
-        (_, Form::Decimal) => number_value(kind, 10, text),
-        (_, Form::Hex) => {
+        (_, Spelling::Decimal) => number_value(kind, 10, text),
+        (_, Spelling::Hex) => {
             let Some(digits) = strip(text, b"0x") else {
                 return None;
             };
@@ -236,11 +236,11 @@ pub(crate) fn lawful_value(kind: Kind, form: Form, text: &[u8]) -> Option<Value>
             }
             number_value(kind, 16, digits)
         }
-        (Kind::U32, Form::Dotted) => match address_of(text) {
+        (Kind::U32, Spelling::Dotted) => match address_of(text) {
             Some(number) => Some(Value::Num(number)),
             None => None,
         },
-        (_, Form::Dotted) => None,
+        (_, Spelling::Dotted) => None,
     }
 }
 
