@@ -3,4 +3,5 @@ pub mod Scanned
 pub mod Rising
 pub mod Found
 pub mod Totals
+pub mod Amounts
 pub mod Replays

@@ -1,5 +1,5 @@
 -- What a question means on a list of rows.
-use Rattle.std.specs.Prelude.{◌≡◌, ℕ, ◌≤◌, ◌^◌, Bool, true, false, ◌&&◌, not, nat_lt, nat_le, List, [], length, map, filter, All, slice_index_or, is_some}
+use Rattle.std.specs.Prelude.{◌≡◌, ℕ, ◌≤◌, ◌^◌, Bool, true, false, ◌&&◌, not, nat_lt, nat_le, List, [], length, map, filter, All, slice_get, slice_index_or, is_some}
 use Rattle.std.specs.List.{range_with_len}
 use Rattle.cf_row.specs.declared.row.Entry.{Entry}
 use Rattle.cf_row.specs.Row.{RowValue, Fits}
@@ -7,10 +7,12 @@ use Rattle.cf_row.specs.Expr.{holds_of, is_of_schema, is_within}
 use Rattle.cf_fold.specs.Quads.{QuadValue, quad_of}
 use Rattle.cf_fold.specs.Triggers.{fires_of, part_of}
 use Rattle.cf_fold.specs.declared.trigger.Trigger.{Trigger}
-use Rattle.cf_shape.specs.Lanes.{ShapeValue, lane_at, selected_by, key_of, measure_of}
+use Rattle.cf_shape.specs.Lanes.{ShapeValue, lane_at, selected_by, key_of, measure_of, option_passes, is_narrow}
 use Rattle.cf_shape.specs.declared.lane.Key.{Key}
 use Rattle.cf_shape.specs.declared.lane.Key.TheVariants as keys
 use Rattle.cf_plain.specs.Groups.{groups}
+use Rattle.cf_plain.specs.Tops.{top_over}
+use Rattle.cf_plain.specs.Totals.{total}
 use Rattle.cf_plain.specs.declared.ask.Ask.{Ask}
 use Rattle.cf_plain.specs.declared.ask.Ask.TheVariants as asks
 use Rattle.cf_plain.specs.declared.answer.Fired.{Fired}
@@ -44,6 +46,8 @@ counts_for shape (asks.Find lane low high) row = is_keyed_between shape lane low
 counts_for shape (asks.Between lane low high) row = is_keyed_between shape lane low high row
 counts_for shape (asks.Measure lane low high) row = is_keyed_between shape lane low high row
 counts_for shape (asks.Fired trigger) row = selected_by shape trigger.agg row
+counts_for shape (asks.Top lane part n) row = selected_by shape lane row
+counts_for shape (asks.Total attr expr) row = holds_of expr row
 
 -- the quad of what the lane measures of the rows that pass
 abbrev pub total_over : ShapeValue → ℕ → (RowValue → Bool) → List RowValue → QuadValue
@@ -66,6 +70,8 @@ eval_rows shape (asks.Find lane low high) rows = bodies.Places (places (counts_f
 eval_rows shape (asks.Between lane low high) rows = bodies.Places (places (counts_for shape (asks.Between lane low high)) rows)
 eval_rows shape (asks.Measure lane low high) rows = bodies.Total (total_over shape lane (counts_for shape (asks.Measure lane low high)) rows)
 eval_rows shape (asks.Fired trigger) rows = bodies.Marks (marks_over shape trigger rows)
+eval_rows shape (asks.Top lane part n) rows = bodies.Tops (top_over shape lane part n rows)
+eval_rows shape (asks.Total attr expr) rows = bodies.Total (total attr expr rows)
 
 -- the same on the entries of a log
 abbrev pub eval : ShapeValue → Ask → List Entry → Body
@@ -90,6 +96,10 @@ is_bucketed shape lane = exists shape lane && not (is_attr (lane_at shape lane).
 abbrev pub is_aggregate : ShapeValue → ℕ → Bool
 is_aggregate shape lane = is_bucketed shape lane && is_some (lane_at shape lane).measure
 
+-- a lane whose key is an attribute and that also measures something
+abbrev pub is_tally : ShapeValue → ℕ → Bool
+is_tally shape lane = is_indexed shape lane && is_some (lane_at shape lane).measure
+
 abbrev pub suits_trigger : ShapeValue → Trigger → Bool
 suits_trigger shape trigger = is_aggregate shape trigger.agg && not (is_within trigger.op)
 
@@ -103,6 +113,8 @@ suits_of shape (asks.Find lane low high) = is_indexed shape lane
 suits_of shape (asks.Between lane low high) = is_bucketed shape lane
 suits_of shape (asks.Measure lane low high) = is_aggregate shape lane
 suits_of shape (asks.Fired trigger) = suits_trigger shape trigger
+suits_of shape (asks.Top lane part n) = (is_tally shape lane && nat_le 1 n) && nat_le n 1000
+suits_of shape (asks.Total attr expr) = is_of_schema shape.schema expr && option_passes is_narrow (slice_get shape.schema attr)
 
 abbrev pub Suits : ShapeValue → Ask → Type 0
 Suits shape ask = suits_of shape ask ≡ true

@@ -2,7 +2,7 @@
 use cf_fold::Quad;
 use std::marker::Model;
 
-/// A bucket in which a trigger fired, and the trigger's part of its quad.
+/// A bucket in which a trigger fired, or a key of a heavy group, and the part of its quad that was asked for.
 #[derive(Clone, Copy, Debug, PartialEq, Eq)]
 pub struct Fired {
     pub bucket: u64,
@@ -53,7 +53,8 @@ impl Places {
     }
 }
 
-/// Marks of a trigger. Those of an answer ascend by bucket.
+/// Marks of a trigger, or of heavy groups. Those of an answer to `Fired` ascend by bucket; those of an answer to `Top` stand
+/// with the heaviest first.
 #[derive(Debug, Drop)]
 pub struct Marks {
     items: Vec<Fired>,
@@ -94,9 +95,14 @@ impl Marks {
 /// What a question found.
 #[derive(Debug, Drop)]
 pub enum Body {
+    /// The places of rows, ascending.
     Places(Places),
+    /// The quad of what is measured or added up.
     Total(Quad),
+    /// The buckets in which a trigger fires, ascending.
     Marks(Marks),
+    /// The keys of the heaviest groups, the heaviest first.
+    Tops(Marks),
 }
 
 /// What a question found in the log's first `tail` entries.

@@ -1,9 +1,10 @@
 // Questions.
-ghost use Rattle.std.specs.Prelude.{◌≡◌, ◌↔◌, IsTrue, IfOk};
-ghost use Rattle.cf_plain.specs.Asks.{Suits, is_attr as is_attr_of, is_indexed as is_indexed_of, is_bucketed as is_bucketed_of, is_aggregate as is_aggregate_of, suits_trigger as suits_trigger_of};
+ghost use Rattle.std.specs.Prelude.{◌≡◌, ◌↔◌, IsTrue, IfOk, slice_get};
+ghost use Rattle.cf_plain.specs.Asks.{Suits, is_attr as is_attr_of, is_indexed as is_indexed_of, is_bucketed as is_bucketed_of, is_aggregate as is_aggregate_of, is_tally as is_tally_of, suits_trigger as suits_trigger_of};
+ghost use Rattle.cf_shape.specs.Lanes.{option_passes, is_narrow as is_narrow_of};
 
-use cf_fold::Trigger;
-use cf_row::{Expr, Memory, Op, is_of_schema};
+use cf_fold::{Part, Trigger};
+use cf_row::{Expr, Kind, Memory, Op, Schema, is_of_schema};
 use cf_shape::{Key, Shape};
 use std::alloc::Global;
 
@@ -20,6 +21,11 @@ pub enum Ask {
     Measure(u8, u64, u64),
     /// The buckets in which the trigger fires.
     Fired(Trigger),
+    /// The lane's heaviest keys by that part of what it measures of their rows, and at most so many of them. The greater part
+    /// goes first, and of equal ones the lower key.
+    Top(u8, Part, u32),
+    /// The quad of the attribute over the rows of which the expression holds.
+    Total(u8, Expr),
 }
 
 impl Ask {
@@ -33,6 +39,8 @@ impl Ask {
             Ask::Between(lane, low, high) => Ok(Ask::Between(*lane, *low, *high)),
             Ask::Measure(lane, low, high) => Ok(Ask::Measure(*lane, *low, *high)),
             Ask::Fired(trigger) => Ok(Ask::Fired(*trigger)),
+            Ask::Top(lane, part, count) => Ok(Ask::Top(*lane, *part, *count)),
+            Ask::Total(attr, expr) => Ok(Ask::Total(*attr, expr.copy(alloc)?)),
         }
     }
 }
@@ -76,6 +84,29 @@ fn is_aggregate(shape: &Shape, lane: u8) -> bool
     }
 }
 
+// Whether the lane exists, has an attribute's value as its key and measures something.
+fn is_tally(shape: &Shape, lane: u8) -> bool
+    ensures { result ≡ is_tally_of shape.now lane }
+{
+    match shape.lanes().get(lane as usize) {
+        Some(lane) => is_attr(lane.key) && lane.measure.is_some(),
+        None => false,
+    }
+}
+
+// Whether the attribute exists and its numbers are below 2^32.
+fn is_narrow(schema: &Schema, attr: u8) -> bool
+    ensures { result ≡ option_passes is_narrow_of (slice_get schema.now attr) }
+{
+    match schema.attrs().get(attr as usize) {
+        Some(attr) => match attr.kind {
+            Kind::U8 | Kind::U16 | Kind::U32 => true,
+            Kind::U64 | Kind::Bytes(_) => false,
+        },
+        None => false,
+    }
+}
+
 fn suits_trigger(shape: &Shape, trigger: &Trigger) -> bool
     ensures { result ≡ suits_trigger_of shape.now trigger.now }
 {
@@ -90,7 +121,8 @@ fn suits_trigger(shape: &Shape, trigger: &Trigger) -> bool
 
 /// Whether the question can be asked of a log of that shape. `List` wants an expression of the schema, `Find` a lane
 /// whose key is an attribute, `Between` one whose key is the bucket, `Measure` and `Fired` one that also measures
-/// something, and `Fired` an operator other than `Within`.
+/// something, and `Fired` an operator other than `Within`. `Top` wants a lane whose key is an attribute and that measures
+/// something, and a count from 1 to 1000; `Total` an attribute of numbers below 2^32 and an expression of the schema.
 pub fn suits(shape: &Shape, ask: &Ask) -> bool
     ensures { IsTrue result ↔ Suits shape.now ask.now }
 {
@@ -100,5 +132,9 @@ pub fn suits(shape: &Shape, ask: &Ask) -> bool
         Ask::Between(lane, _, _) => is_bucketed(shape, *lane),
         Ask::Measure(lane, _, _) => is_aggregate(shape, *lane),
         Ask::Fired(trigger) => suits_trigger(shape, trigger),
+        Ask::Top(lane, _, count) => is_tally(shape, *lane) && 1 <= *count && *count <= 1000,
+        Ask::Total(attr, expr) => {
+            is_of_schema(shape.schema(), expr) && is_narrow(shape.schema(), *attr)
+        }
     }
 }

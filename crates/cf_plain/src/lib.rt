@@ -4,16 +4,20 @@
 mod answer;
 mod ask;
 mod calls;
+mod heaviest;
 mod history;
 mod loaded;
 mod plain;
 mod scan;
 #[cfg(test)]
 mod tests;
+mod total;
 
 pub use answer::{Answer, Body, Fired, Group, Marks, Places};
 pub use ask::{Ask, suits};
 pub use calls::{Call, Reply, run_calls};
+pub use heaviest::top;
 pub use history::{replies_are_histories, spelled_are_histories};
 pub use loaded::{Live, Loaded};
 pub use plain::Plain;
+pub use total::{amount, total_of_expr};

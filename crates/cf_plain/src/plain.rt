@@ -3,8 +3,8 @@ ghost use Rattle.std.specs.Prelude.{◌≡◌, ℕ, ◌<◌, ◌≤◌, ◌^◌,
 ghost use Rattle.cf_row.specs.Row.{Fits};
 ghost use Rattle.cf_plain.specs.Asks.{Suits, eval};
 
-use crate::scan::{marks_of, places_of, total_of};
-use crate::{Answer, Ask, Body};
+use crate::scan::{marks_of, places_of, tops_of, total_of};
+use crate::{Answer, Ask, Body, total_of_expr};
 use cf_row::{Entry, Memory, Row};
 use cf_shape::Shape;
 use std::alloc::Global;
@@ -92,6 +92,14 @@ impl Plain {
             Ask::Between(_, _, _) => Ok(Body::Places(places_of(alloc, shape, ask, entries)?)),
             Ask::Measure(lane, _, _) => Ok(Body::Total(total_of(shape, ask, *lane, entries))),
             Ask::Fired(trigger) => Ok(Body::Marks(marks_of(alloc, shape, trigger, entries)?)),
+            Ask::Top(lane, part, count) => {
+                let tops = tops_of(alloc, shape, *lane, *part, *count, entries)?;
+                Ok(Body::Tops(tops))
+            }
+            Ask::Total(attr, expr) => {
+                let total = total_of_expr(shape.schema(), *attr, expr, entries);
+                Ok(Body::Total(total))
+            }
         }
     }
 }

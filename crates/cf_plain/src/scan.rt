@@ -6,10 +6,11 @@ ghost use Rattle.cf_row.specs.Row.{Fits};
 ghost use Rattle.cf_fold.specs.Quads.{quad_of};
 ghost use Rattle.cf_shape.specs.Lanes.{selected_by, key_of, measure_of};
 ghost use Rattle.cf_plain.specs.Asks.{Suits, SuitsTrigger, FitAll, rows_in, row_at, places, counts_for, is_between, total_over, marks_over, marks_in};
-ghost use Rattle.cf_plain.specs.Groups.{groups, quad_at};
+ghost use Rattle.cf_plain.specs.Groups.{groups, quad_at, as_group};
+ghost use Rattle.cf_plain.specs.Tops.{top_over};
 
-use crate::{Ask, Fired, Marks, Places};
-use cf_fold::{Quad, Trigger, fires};
+use crate::{Ask, Fired, Group, Marks, Places, top};
+use cf_fold::{Part, Quad, Trigger, fires};
 use cf_row::{Entry, Memory, Row, holds};
 use cf_shape::{Shape, key, measure, selects};
 use std::alloc::Global;
@@ -40,6 +41,8 @@ fn counts(shape: &Shape, ask: &Ask, row: &Row) -> bool
         Ask::Between(lane, low, high) => is_in(shape, *lane, *low, *high, row),
         Ask::Measure(lane, low, high) => is_in(shape, *lane, *low, *high, row),
         Ask::Fired(trigger) => selects(shape, trigger.agg, row),
+        Ask::Top(lane, _, _) => selects(shape, *lane, row),
+        Ask::Total(_, expr) => holds(shape.schema(), expr, row),
     }
 }
 
@@ -106,6 +109,39 @@ pub(crate) fn marks_of(
 {
     let grouped = grouped_by(alloc, shape, trigger.agg, entries)?;
     marked(alloc, trigger, &grouped)
+}
+
+// The marks of the lane's heaviest groups.
+pub(crate) fn tops_of(
+    alloc: Global,
+    shape: &Shape,
+    lane: u8,
+    part: Part,
+    most: u32,
+    entries: &[Entry],
+) -> Result<Marks, Memory>
+    requires exists { lane < length shape.now.lanes }
+    requires fit { FitAll shape.now entries.now }
+    requires few { length entries.now ≤ 2 ^ 20 }
+    ensures { IfOk result (λ found. found ≡ top_over shape.now lane part most (rows_in entries.now)) }
+{
+    let grouped = grouped_by(alloc, shape, lane, entries)?;
+    let groups = listed(alloc, &grouped)?;
+    Ok(Marks::new(top(alloc, part, most, &groups)?))
+}
+
+// The groups of a map, in the order of their keys.
+fn listed(alloc: Global, grouped: &BTreeMap<u64, Quad>) -> Result<Vec<Group>, Memory>
+    ensures { IfOk result (λ groups. groups.items ≡ map as_group grouped.now.entries) }
+{
+    let mut groups = Vec::new(alloc);
+    for (key, quad) in grouped {
+        groups.push(Group {
+            key: *key,
+            quad: *quad,
+        })?;
+    }
+    Ok(groups)
 }
 
 // The quad of each key that some selected row has.
