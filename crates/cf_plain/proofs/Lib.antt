@@ -4,4 +4,5 @@ pub mod Rising
 pub mod Found
 pub mod Totals
 pub mod Amounts
+pub mod Ranks
 pub mod Replays
