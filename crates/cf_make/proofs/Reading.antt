@@ -7,14 +7,14 @@ use Rattle.byteorder.specs.Endian.{little_bytes, little_number}
 use Rattle.byteorder.specs.Numbers.{little_number-reads_back}
 use Rattle.cf_pcap.specs.declared.form.Order.TheVariants.{Little}
 use Rattle.cf_pcap.specs.declared.form.Precision.TheVariants.{Micro}
-use Rattle.cf_pcap.specs.declared.form.Form.{Form}
+use Rattle.cf_pcap.specs.declared.form.FileHeader.{FileHeader}
 use Rattle.cf_pcap.specs.Capture.{FrameValue, layout_of, caplen_at, frame_at, HasRecord, AreRecordsThen, IsFileHeader, IsCapture}
 use Rattle.cf_pcap.proofs.Following.{caplen_first, record_first, frame_first}
 use Rattle.cf_pcap.proofs.Heading.{header_first}
 use Rattle.cf_make.specs.Generated.{draw_of, is_udp, captured_length, wire_length, file_header, record_header, link_header, network_header, ports, datagram_header, segment_header, transport_header, packet_of, record_of, record_at, frame_of, frame_from, generated_bytes, generated_frames}
 
 -- little-endian, times in microseconds, Ethernet
-abbrev the_form : Form
+abbrev the_form : FileHeader
 the_form = record { layout = record { order = Little; precision = Micro }; link = 1 }
 
 is_header : IsFileHeader the_form file_header

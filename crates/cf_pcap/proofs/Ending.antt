@@ -1,7 +1,7 @@
 -- What the end of a stream answers.
 use Rattle.std.proofs.Common.{◌≡◌, ◌⊎◌, inl, inr, ℕ, ◌<◌, ◌≤◌, ◌^◌, List, [], ◌++◌, length, Result, Ok, Err, MatchResult, refl, sym, ap, subst, ◌∙◌, arith, append-nil}
 use Rattle.std.proofs.lemmas.List.{nil_from_length}
-use Rattle.cf_pcap.specs.declared.form.Form.{Form}
+use Rattle.cf_pcap.specs.declared.form.FileHeader.{FileHeader}
 use Rattle.cf_pcap.specs.declared.fault.PcapFault.{PcapFault}
 use Rattle.cf_pcap.specs.declared.fault.PcapFault.TheVariants.{BadMagic, BadVersion, BadLink, FrameTooLong, Cut, TooManyBytes, Memory}
 use Rattle.cf_pcap.specs.declared.stage.Stage.{Stage}
@@ -25,10 +25,10 @@ found_is_fault stream Memory h = h
 pub ended_heading : (reader : PcapValue) (stream : List ℕ) → IsHeading reader stream → IsCut 0 stream
 ended_heading reader stream state = cut_in_header stream state.size state.first
 
-pub ended_whole : (form : Form) (reader : PcapValue) (stream : List ℕ) → IsReading form reader stream → length reader.held ≡ 0 → (frames : List FrameValue) × IsCapture stream frames × (reader.count ≡ length frames)
+pub ended_whole : (form : FileHeader) (reader : PcapValue) (stream : List ℕ) → IsReading form reader stream → length reader.held ≡ 0 → (frames : List FrameValue) × IsCapture stream frames × (reader.count ≡ length frames)
 ended_whole form reader stream state end = (state.frames, whole_capture stream form state.frames reader.held state.size state.read (nil_from_length reader.held end), state.count_is)
 
-pub ended_within : (form : Form) (reader : PcapValue) (stream : List ℕ) → IsReading form reader stream → 0 < length reader.held → IsCut reader.count stream
+pub ended_within : (form : FileHeader) (reader : PcapValue) (stream : List ℕ) → IsReading form reader stream → 0 < length reader.held → IsCut reader.count stream
 ended_within form reader stream state left = subst (λ (n : ℕ). IsCut n stream) (sym state.count_is) (cut_in_record stream form state.frames reader.held state.size state.read left state.part state.short)
 
 -- a fault of 2^32 bytes is that of each file that begins with them

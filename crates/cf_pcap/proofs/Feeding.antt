@@ -3,7 +3,7 @@ use Rattle.std.proofs.Common.{◌≡◌, inl, inr, ℕ, ◌<◌, ◌≤◌, ◌+
 use Rattle.std.proofs.lemmas.Bool.{cases_lt}
 use Rattle.std.proofs.lemmas.Bool.Decides.{nat_tests}
 use Rattle.std.proofs.lemmas.List.{take_all}
-use Rattle.cf_pcap.specs.declared.form.Form.{Form}
+use Rattle.cf_pcap.specs.declared.form.FileHeader.{FileHeader}
 use Rattle.cf_pcap.specs.declared.fault.PcapFault.{PcapFault}
 use Rattle.cf_pcap.specs.declared.fault.PcapFault.TheVariants.{BadMagic, BadVersion, BadLink, FrameTooLong, Cut, TooManyBytes, Memory}
 use Rattle.cf_pcap.specs.declared.stage.Stage.{Stage}
@@ -56,10 +56,10 @@ late_short total h = grind (arith, nat_tests)
 pub heading_short : (total : ℕ) → total < 2 ^ 32 → stage_at Heading total ≡ Heading
 heading_short total h = grind (arith, nat_tests)
 
-pub reading_short : (form : Form) (total : ℕ) → total < 2 ^ 32 → stage_at (Reading form) total ≡ Reading form
+pub reading_short : (form : FileHeader) (total : ℕ) → total < 2 ^ 32 → stage_at (Reading form) total ≡ Reading form
 reading_short form total h = grind (arith, nat_tests)
 
-pub reading_full : (form : Form) (total : ℕ) → total ≡ 2 ^ 32 → stage_at (Reading form) total ≡ Stopped TooManyBytes
+pub reading_full : (form : FileHeader) (total : ℕ) → total ≡ 2 ^ 32 → stage_at (Reading form) total ≡ Stopped TooManyBytes
 reading_full form total h = rw h
 
 -- a fault that was found stops the reader
@@ -67,7 +67,7 @@ stopped_outcome : (fault : PcapFault) (total count : ℕ) (held stream : List �
 stopped_outcome fault total count held stream h = (h, h)
 
 -- where a stream below 2^32 bytes was read
-short_outcome : (form : Form) (stream rest : List ℕ) (all : List FrameValue) (stage : Stage) (total count : ℕ) → length stream < 2 ^ 32 → total ≡ length stream → count ≡ length all → IsReadTo form stream all rest → (HasRecord form rest → ⊥) → IsRecordStage form count rest stage → Outcome (stage_at stage total) total count rest stream
+short_outcome : (form : FileHeader) (stream rest : List ℕ) (all : List FrameValue) (stage : Stage) (total count : ℕ) → length stream < 2 ^ 32 → total ≡ length stream → count ≡ length all → IsReadTo form stream all rest → (HasRecord form rest → ⊥) → IsRecordStage form count rest stage → Outcome (stage_at stage total) total count rest stream
 short_outcome form stream rest all Heading total count size total_is count_is read part at = absurd at
 short_outcome form stream rest all (Reading same) total count size total_is count_is read part at =
     let none : (fault : PcapFault) → Shows stream fault → ⊥ = none_read form stream rest all read (λ h. absurd (part h)) at.1 in
@@ -82,7 +82,7 @@ short_outcome form stream rest all (Stopped fault) total count size total_is cou
     stopped_outcome fault total count rest stream (subst (λ (f : PcapFault). IsFound stream f) (sym at.0) found)
 
 -- where its first 2^32 bytes were read
-full_outcome : (form : Form) (stream rest : List ℕ) (all : List FrameValue) (stage : Stage) (total count : ℕ) → 2 ^ 32 ≤ length stream → total ≡ 2 ^ 32 → count ≡ length all → IsReadTo form (seen stream) all rest → (HasRecord form rest → length rest ≡ 16 + caplen_at form rest) → IsRecordStage form count rest stage → Outcome (stage_at stage total) total count rest stream
+full_outcome : (form : FileHeader) (stream rest : List ℕ) (all : List FrameValue) (stage : Stage) (total count : ℕ) → 2 ^ 32 ≤ length stream → total ≡ 2 ^ 32 → count ≡ length all → IsReadTo form (seen stream) all rest → (HasRecord form rest → length rest ≡ 16 + caplen_at form rest) → IsRecordStage form count rest stage → Outcome (stage_at stage total) total count rest stream
 full_outcome form stream rest all Heading total count size total_is count_is read fills at = absurd at
 full_outcome form stream rest all (Reading same) total count size total_is count_is read fills at =
     let found : IsFound stream TooManyBytes = record { size = size; first = none_read form (seen stream) rest all read fills at.1 } in
@@ -119,7 +119,7 @@ record Settled (stream : List ℕ) (all : List FrameValue) (stage : Stage) (tota
   outcome : Outcome (stage_at stage total) total count rest stream
 
 -- where records were read
-settled : (form : Form) (stream piece rest : List ℕ) (all : List FrameValue) (stage : Stage) (total count : ℕ) → (taken : Taken stream piece) → total ≡ length taken.now → count ≡ length all → IsReadTo form taken.now all rest → late_of total ≤ length rest → (HasRecord form rest → length rest < 16 + caplen_at form rest + late_of total) → IsRecordStage form count rest stage → Settled (stream ++ piece) all stage total count rest
+settled : (form : FileHeader) (stream piece rest : List ℕ) (all : List FrameValue) (stage : Stage) (total count : ℕ) → (taken : Taken stream piece) → total ≡ length taken.now → count ≡ length all → IsReadTo form taken.now all rest → late_of total ≤ length rest → (HasRecord form rest → length rest < 16 + caplen_at form rest + late_of total) → IsRecordStage form count rest stage → Settled (stream ++ piece) all stage total count rest
 settled form stream piece rest all stage total count taken total_is count_is read early last at = elim (cases_lt (length taken.now) (2 ^ 32)) [
   | inl short ↦
       let none : late_of total ≡ 0 = late_short total (omega (arith, short, total_is)) in
@@ -182,7 +182,7 @@ total_taken stream piece total is = rw is (sym (length-append stream (take (2 ^ 
 taken_len : (most : ℕ) (piece : List ℕ) → length (take most piece) ≤ length piece
 taken_len most piece = let len : length (take most piece) ≡ min most (length piece) = length-take most piece in omega (arith, len)
 
-pub fed_reading : (form : Form) (stream piece held rest : List ℕ) (given : List FrameValue) (stage : Stage) (total count : ℕ) → IsReading form (record { stage = Reading form; total = total; count = count; held = held }) stream → AreRead form count (late_of (total + length (take (2 ^ 32 - total) piece))) (held ++ take (2 ^ 32 - total) piece) given rest stage → FedAfter stream total count piece given rest stage
+pub fed_reading : (form : FileHeader) (stream piece held rest : List ℕ) (given : List FrameValue) (stage : Stage) (total count : ℕ) → IsReading form (record { stage = Reading form; total = total; count = count; held = held }) stream → AreRead form count (late_of (total + length (take (2 ^ 32 - total) piece))) (held ++ take (2 ^ 32 - total) piece) given rest stage → FedAfter stream total count piece given rest stage
 fed_reading form stream piece held rest given stage total count state go =
     let size : length stream < 2 ^ 32 = state.size in
     let before : List FrameValue = state.frames in
@@ -207,7 +207,7 @@ fed_reading form stream piece held rest given stage total count state go =
     fed_by stream piece before given rest stage total count given_before (omega (arith, few, most)) (settled form stream piece rest (before ++ given) stage (total + length (take (2 ^ 32 - total) piece)) (count + length given) taken (total_taken stream piece total state.total_is ∙ sym (ap length taken.now_is)) (omega (arith, count_is, many)) all go.early go.last go.stage_is)
 
 -- where the file header has only begun, or has a fault
-begun_outcome : (stream bytes : List ℕ) (stage : Stage) (total count : ℕ) → (length bytes < 24 → bytes ≡ stream) → seen stream ≡ bytes → total ≡ length bytes → count ≡ 0 → IsHeaderStage bytes stage → ((form : Form) → stage ≡ Reading form → ⊥) → Settled stream [] stage total count bytes
+begun_outcome : (stream bytes : List ℕ) (stage : Stage) (total count : ℕ) → (length bytes < 24 → bytes ≡ stream) → seen stream ≡ bytes → total ≡ length bytes → count ≡ 0 → IsHeaderStage bytes stage → ((form : FileHeader) → stage ≡ Reading form → ⊥) → Settled stream [] stage total count bytes
 begun_outcome stream bytes Heading total count same seen_is total_is count_is at other =
     let short : length bytes < 24 = at.0 in
     let is : bytes ≡ stream = same short in

@@ -1,7 +1,7 @@
 -- The frames that a stream gives.
 use Rattle.std.proofs.Common.{◌≡◌, ◌⊎◌, inl, inr, ℕ, ◌<◌, ◌≤◌, ◌+◌, ◌-◌, ◌*◌, ◌^◌, List, [], ◌∷◌, ◌++◌, length, drop, refl, sym, ap, subst, ◌∙◌, arith, length-drop}
 use Rattle.std.proofs.lemmas.Bool.{cases_lt}
-use Rattle.cf_pcap.specs.declared.form.Form.{Form}
+use Rattle.cf_pcap.specs.declared.form.FileHeader.{FileHeader}
 use Rattle.cf_pcap.specs.declared.fault.PcapFault.{PcapFault}
 use Rattle.cf_pcap.specs.declared.fault.PcapFault.TheVariants.{BadMagic, BadVersion, BadLink, FrameTooLong, Cut, TooManyBytes, Memory}
 use Rattle.cf_pcap.specs.Capture.{FrameValue, IsFileHeader, HasRecord, HasLongRecord, caplen_at, AreRecordsThen, IsReadTo, seen}
@@ -15,14 +15,14 @@ use Rattle.cf_pcap.proofs.Verdict.{long_is_none, read_first, seen_shows}
 
 -- bytes with no file header give no frame
 abbrev pub AreHeld : List ℕ → List FrameValue → Type 0
-AreHeld bytes frames = HoldsFrames bytes frames ⊎ (((form : Form) → IsFileHeader form bytes → ⊥) × (frames ≡ []))
+AreHeld bytes frames = HoldsFrames bytes frames ⊎ (((form : FileHeader) → IsFileHeader form bytes → ⊥) × (frames ≡ []))
 
-pub holds_long : (form : Form) (bytes rest : List ℕ) (frames : List FrameValue) → IsReadTo form bytes frames rest → HasLongRecord form rest → HoldsFrames bytes frames
+pub holds_long : (form : FileHeader) (bytes rest : List ℕ) (frames : List FrameValue) → IsReadTo form bytes frames rest → HasLongRecord form rest → HoldsFrames bytes frames
 holds_long form bytes rest frames read long =
     let head : 16 ≤ length rest = long.head in
     record { form = form; rest = rest; read = read; early = λ _. omega (arith, head); last = λ h. absurd (long_is_none form rest long h) }
 
-reach_holds : (form : Form) (bytes : List ℕ) (late : ℕ) → IsFileHeader form bytes → (to : Reach form 0 late (drop 24 bytes)) → (2 ^ 32 ≤ length bytes → late ≡ 1) → (length bytes < 2 ^ 32 → late ≡ 0) → late ≤ 1 → HoldsFrames bytes to.frames
+reach_holds : (form : FileHeader) (bytes : List ℕ) (late : ℕ) → IsFileHeader form bytes → (to : Reach form 0 late (drop 24 bytes)) → (2 ^ 32 ≤ length bytes → late ≡ 1) → (length bytes < 2 ^ 32 → late ≡ 0) → late ≤ 1 → HoldsFrames bytes to.frames
 reach_holds form bytes late header to full short few = record {
   form = form;
   rest = to.rest;
@@ -73,10 +73,10 @@ found_gives file more TooManyBytes h =
 found_gives file more Memory h = absurd h
 
 -- the rest after the frames holds none, but for one that fills it and comes too late
-abbrev Ends : Form → Type 0 → List ℕ → Type 0
+abbrev Ends : FileHeader → Type 0 → List ℕ → Type 0
 Ends form full rest = (full → 0 < length rest) × (HasRecord form rest → full × (length rest ≡ 16 + caplen_at form rest))
 
-none_late : (form : Form) (full : Type 0) (k : ℕ) (b : List FrameValue) (bytes last : List ℕ) → Ends form full bytes → HasRecord form bytes → AreRecordsThen form k b (drop (16 + caplen_at form bytes) bytes) last → Ends form full last → ⊥
+none_late : (form : FileHeader) (full : Type 0) (k : ℕ) (b : List FrameValue) (bytes last : List ℕ) → Ends form full bytes → HasRecord form bytes → AreRecordsThen form k b (drop (16 + caplen_at form bytes) bytes) last → Ends form full last → ⊥
 none_late form full k b bytes last ends h g end =
     let fills = ends.1 h in
     let same : length bytes ≡ 16 + caplen_at form bytes = fills.1 in
@@ -85,7 +85,7 @@ none_late form full k b bytes last ends h g end =
     let len : length (drop (16 + caplen_at form bytes) bytes) ≡ length bytes - (16 + caplen_at form bytes) = length-drop (16 + caplen_at form bytes) bytes in
     omega (arith, same, some, most, len)
 
-one_held : (form : Form) (full : Type 0) (k : ℕ) (a b : List FrameValue) (bytes end last : List ℕ) → AreRecordsThen form k a bytes end → AreRecordsThen form k b bytes last → Ends form full end → Ends form full last → a ≡ b
+one_held : (form : FileHeader) (full : Type 0) (k : ℕ) (a b : List FrameValue) (bytes end last : List ℕ) → AreRecordsThen form k a bytes end → AreRecordsThen form k b bytes last → Ends form full end → Ends form full last → a ≡ b
 one_held form full k [] [] bytes end last h g p q = refl
 one_held form full k [] (y ∷ b) bytes end last h g p q = absurd (none_late form full (k + 1) b bytes last (subst (Ends form full) (sym h) p) g.0 g.2 q)
 one_held form full k (x ∷ a) [] bytes end last h g p q = absurd (none_late form full (k + 1) a bytes end (subst (Ends form full) (sym g) q) h.0 h.2 p)
@@ -95,8 +95,8 @@ one_held form full k (x ∷ a) (y ∷ b) bytes end last h g p q =
 one_holds : (bytes : List ℕ) (a b : List FrameValue) → HoldsFrames bytes a → HoldsFrames bytes b → a ≡ b
 one_holds bytes a b p q =
     let same : p.form ≡ q.form = one_form p.form q.form bytes p.read.header q.read.header in
-    let records : AreRecordsThen p.form 0 b (drop 24 bytes) q.rest = subst (λ (f : Form). AreRecordsThen f 0 b (drop 24 bytes) q.rest) (sym same) q.read.records in
-    let ends : Ends p.form (2 ^ 32 ≤ length bytes) q.rest = subst (λ (f : Form). Ends f (2 ^ 32 ≤ length bytes) q.rest) (sym same) (q.early, q.last) in
+    let records : AreRecordsThen p.form 0 b (drop 24 bytes) q.rest = subst (λ (f : FileHeader). AreRecordsThen f 0 b (drop 24 bytes) q.rest) (sym same) q.read.records in
+    let ends : Ends p.form (2 ^ 32 ≤ length bytes) q.rest = subst (λ (f : FileHeader). Ends f (2 ^ 32 ≤ length bytes) q.rest) (sym same) (q.early, q.last) in
     one_held p.form (2 ^ 32 ≤ length bytes) 0 a b (drop 24 bytes) p.rest q.rest p.read.records records (p.early, p.last) ends
 
 pub one_given : (bytes : List ℕ) (a b : List FrameValue) → AreHeld bytes a → AreHeld bytes b → a ≡ b

@@ -3,7 +3,7 @@ use Rattle.std.proofs.Common.{◌≡◌, ◌⊎◌, inl, inr, ℕ, ◌<◌, ◌�
 use Rattle.std.proofs.lemmas.Bool.{cases_lt, cases_eq, true≢false}
 use Rattle.cf_pcap.specs.declared.form.Order.TheVariants.{Little, Big}
 use Rattle.cf_pcap.specs.declared.form.Layout.{Layout}
-use Rattle.cf_pcap.specs.declared.form.Form.{Form}
+use Rattle.cf_pcap.specs.declared.form.FileHeader.{FileHeader}
 use Rattle.cf_pcap.specs.declared.fault.PcapFault.{PcapFault}
 use Rattle.cf_pcap.specs.declared.fault.PcapFault.TheVariants.{BadMagic, BadVersion, BadLink, FrameTooLong, Cut, TooManyBytes, Memory}
 use Rattle.cf_pcap.specs.Capture.{number_in, layout_of, link_at, is_link, IsVersion, IsFileHeader, HasLongFrame, Shows}
@@ -29,7 +29,7 @@ link_first layout xs ys h = ap (λ n. n % 2 ^ 16) (number_later layout.order 4 2
 longer : (n : ℕ) (xs ys : List ℕ) → n ≤ length xs → n ≤ length (xs ++ ys)
 longer n xs ys h = rw (length-append xs ys) (omega (arith, h))
 
-pub header_first : (form : Form) (xs ys : List ℕ) → IsFileHeader form xs → IsFileHeader form (xs ++ ys)
+pub header_first : (form : FileHeader) (xs ys : List ℕ) → IsFileHeader form xs → IsFileHeader form (xs ++ ys)
 header_first form xs ys h =
     let size : 24 ≤ length xs = h.size in record {
       size = longer 24 xs ys size;
@@ -48,11 +48,11 @@ some_none a h = cc
 one_layout : (a b : Layout) (bytes : List ℕ) → layout_of bytes ≡ Some a → layout_of bytes ≡ Some b → a ≡ b
 one_layout a b bytes p q = some_same a b (sym p ∙ q)
 
-same_form : (layout layout' : Layout) (link link' : ℕ) → layout ≡ layout' → link ≡ link' → ◌≡◌ {A = Form} (record { layout = layout; link = link }) (record { layout = layout'; link = link' })
+same_form : (layout layout' : Layout) (link link' : ℕ) → layout ≡ layout' → link ≡ link' → ◌≡◌ {A = FileHeader} (record { layout = layout; link = link }) (record { layout = layout'; link = link' })
 same_form layout layout' link link' p q = cc
 
 -- a file has one header at most
-pub one_form : (a b : Form) (bytes : List ℕ) → IsFileHeader a bytes → IsFileHeader b bytes → a ≡ b
+pub one_form : (a b : FileHeader) (bytes : List ℕ) → IsFileHeader a bytes → IsFileHeader b bytes → a ≡ b
 one_form a b bytes p q =
     let same : a.layout ≡ b.layout = one_layout a.layout b.layout bytes p.magic q.magic in
     same_form a.layout b.layout a.link b.link same (p.link ∙ ap (λ layout. link_at layout bytes) same ∙ sym q.link)
@@ -81,7 +81,7 @@ header_fault_first xs ys TooManyBytes h = absurd h
 header_fault_first xs ys Memory h = absurd h
 
 -- no header with a fault is a header
-pub no_header : (form : Form) (bytes : List ℕ) (fault : PcapFault) → HasHeaderFault bytes fault → IsFileHeader form bytes → ⊥
+pub no_header : (form : FileHeader) (bytes : List ℕ) (fault : PcapFault) → HasHeaderFault bytes fault → IsFileHeader form bytes → ⊥
 no_header form bytes BadMagic h header = some_none form.layout (sym header.magic ∙ h.magic)
 no_header form bytes BadVersion h header = h.version (subst (λ (l : Layout). IsVersion l bytes) (one_layout form.layout h.layout bytes header.magic h.magic) header.version)
 no_header form bytes BadLink h header = true≢false (sym header.lawful ∙ ap is_link (header.link ∙ ap (λ layout. link_at layout bytes) (one_layout form.layout h.layout bytes header.magic h.magic)) ∙ h.link)
@@ -139,7 +139,7 @@ shown bytes Memory h = absurd h
 
 -- how far a header goes
 pub data Header (bytes : List ℕ) : Type 0 where
-  Whole : (form : Form) → IsFileHeader form bytes → Header bytes
+  Whole : (form : FileHeader) → IsFileHeader form bytes → Header bytes
   False : (fault : PcapFault) → HasHeaderFault bytes fault → Header bytes
   Begun : length bytes < 24 → ((fault : PcapFault) → HasHeaderFault bytes fault → ⊥) → Header bytes
 

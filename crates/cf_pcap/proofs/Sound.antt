@@ -1,7 +1,7 @@
 -- What holds of every reader.
 use Rattle.std.proofs.Common.{◌≡◌, inl, inr, ℕ, ◌<◌, ◌≤◌, ◌+◌, ◌-◌, ◌*◌, ◌^◌, min, List, ◌++◌, length, take, drop, Result, Err, refl, sym, ap, subst, ◌∙◌, arith, length-append, length-drop, length-take}
 use Rattle.std.proofs.lemmas.Bool.{cases_lt}
-use Rattle.cf_pcap.specs.declared.form.Form.{Form}
+use Rattle.cf_pcap.specs.declared.form.FileHeader.{FileHeader}
 use Rattle.cf_pcap.specs.declared.fault.PcapFault.{PcapFault}
 use Rattle.cf_pcap.specs.declared.fault.PcapFault.TheVariants.{FrameTooLong, TooManyBytes, Memory}
 use Rattle.cf_pcap.specs.declared.stage.Stage.{Stage}
@@ -33,7 +33,7 @@ abbrev SoundKept : Stage → ℕ → ℕ → List ℕ → Type 0
 SoundKept stage total count held = Sound stage total count (kept_by stage held)
 
 -- what is neither a record nor too long is short
-pub short_rest : (form : Form) (rest : List ℕ) → (HasRecord form rest → ⊥) → (HasLongRecord form rest → ⊥) → length rest ≤ 262159
+pub short_rest : (form : FileHeader) (rest : List ℕ) → (HasRecord form rest → ⊥) → (HasLongRecord form rest → ⊥) → length rest ≤ 262159
 short_rest form rest part short = elim (cases_lt (length rest) 262160) [
   | inl few ↦ omega (arith, few)
   | inr many ↦ elim (cases_lt 262144 (caplen_at form rest)) [
@@ -48,7 +48,7 @@ too_long_is_none k h = cc
 too_many_is_none : TooManyBytes ≡ Memory → ⊥
 too_many_is_none h = cc
 
-sound_records : (form : Form) (stage : Stage) (n total count : ℕ) (rest : List ℕ) → IsRecordStage form n rest stage → (HasRecord form rest → length rest < 16 + caplen_at form rest + late_of total) → total ≤ 2 ^ 32 → 16 * count + length rest ≤ total → SoundKept (stage_at stage total) total count rest
+sound_records : (form : FileHeader) (stage : Stage) (n total count : ℕ) (rest : List ℕ) → IsRecordStage form n rest stage → (HasRecord form rest → length rest < 16 + caplen_at form rest + late_of total) → total ≤ 2 ^ 32 → 16 * count + length rest ≤ total → SoundKept (stage_at stage total) total count rest
 sound_records form Heading n total count rest at last most room = absurd at
 sound_records form (Reading same) n total count rest at last most room = elim (cases_lt total (2 ^ 32)) [
   | inl short ↦
@@ -59,7 +59,7 @@ sound_records form (Reading same) n total count rest at last most room = elim (c
 ]
 sound_records form (Stopped fault) n total count rest at last most room = ((λ memory. too_long_is_none n (sym at.0 ∙ memory)), refl)
 
-sound_header : (bytes : List ℕ) (stage : Stage) (total count : ℕ) → IsHeaderStage bytes stage → ((form : Form) → stage ≡ Reading form → ⊥) → total ≡ length bytes → count ≡ 0 → SoundKept (stage_at stage total) total count bytes
+sound_header : (bytes : List ℕ) (stage : Stage) (total count : ℕ) → IsHeaderStage bytes stage → ((form : FileHeader) → stage ≡ Reading form → ⊥) → total ≡ length bytes → count ≡ 0 → SoundKept (stage_at stage total) total count bytes
 sound_header bytes Heading total count at other total_is count_is =
     let short : length bytes < 24 = at.0 in
     subst (λ (s : Stage). SoundKept s total count bytes) (sym (heading_short total (omega (arith, short, total_is)))) (total_is, short, count_is)

@@ -2,7 +2,7 @@
 use Rattle.std.proofs.Common.{◌≡◌, ◌⊎◌, inl, inr, ℕ, ◌<◌, ◌≤◌, ◌+◌, ◌-◌, ◌*◌, ◌^◌, List, [], ◌++◌, length, drop, refl, sym, ap, subst, ◌∙◌, arith, length-append, length-drop}
 use Rattle.std.proofs.lemmas.Bool.{cases_lt, cases_eq}
 use Rattle.std.proofs.lemmas.List.{drop-append-le, nil_from_length}
-use Rattle.cf_pcap.specs.declared.form.Form.{Form}
+use Rattle.cf_pcap.specs.declared.form.FileHeader.{FileHeader}
 use Rattle.cf_pcap.specs.declared.fault.PcapFault.{PcapFault}
 use Rattle.cf_pcap.specs.declared.fault.PcapFault.TheVariants.{BadMagic, BadVersion, BadLink, FrameTooLong, Cut, TooManyBytes, Memory}
 use Rattle.cf_pcap.specs.Capture.{FrameValue, IsFileHeader, HasRecord, HasLongRecord, caplen_at, AreRecordsThen, IsReadTo, IsCapture, HasLongFrame, Shows, seen, HasTooManyBytes, IsCut, HasPcapFault}
@@ -14,20 +14,20 @@ use Rattle.cf_pcap.proofs.Heading.{header_first, one_form, header_fault_first, n
 use Rattle.cf_pcap.proofs.Seen.{seen_short, seen_full, seen_more}
 
 -- what is left after the last whole record is no record
-pub no_record_left : (form : Form) → HasRecord form [] → ⊥
+pub no_record_left : (form : FileHeader) → HasRecord form [] → ⊥
 no_record_left form h = let whole : 16 + caplen_at form [] ≤ length {A = ℕ} [] = h.whole in omega (arith, whole)
 
-pub no_long_left : (form : Form) → HasLongRecord form [] → ⊥
+pub no_long_left : (form : FileHeader) → HasLongRecord form [] → ⊥
 no_long_left form h = let head : 16 ≤ length {A = ℕ} [] = h.head in omega (arith, head)
 
-pub long_is_none : (form : Form) (bytes : List ℕ) → HasLongRecord form bytes → HasRecord form bytes → ⊥
+pub long_is_none : (form : FileHeader) (bytes : List ℕ) → HasLongRecord form bytes → HasRecord form bytes → ⊥
 long_is_none form bytes long h =
     let small : caplen_at form bytes ≤ 262144 = h.short in
     let large : 262144 < caplen_at form bytes = long.long in
     omega (arith, small, large)
 
 -- a reading goes on when more bytes come
-pub read_first : (form : Form) (bytes rest more : List ℕ) (frames : List FrameValue) → IsReadTo form bytes frames rest → IsReadTo form (bytes ++ more) frames (rest ++ more)
+pub read_first : (form : FileHeader) (bytes rest more : List ℕ) (frames : List FrameValue) → IsReadTo form bytes frames rest → IsReadTo form (bytes ++ more) frames (rest ++ more)
 read_first form bytes rest more frames read =
     let size : 24 ≤ length bytes = read.header.size in record {
       header = header_first form bytes more read.header;
@@ -35,11 +35,11 @@ read_first form bytes rest more frames read =
     }
 
 -- whichever form, there is one reading
-pub one_read : (f g : Form) (a b : List FrameValue) (bytes end last : List ℕ) → IsReadTo f bytes a end → IsReadTo g bytes b last → (HasRecord f end → ⊥) → (HasRecord g last → ⊥) → (f ≡ g) × (a ≡ b) × (end ≡ last)
+pub one_read : (f g : FileHeader) (a b : List FrameValue) (bytes end last : List ℕ) → IsReadTo f bytes a end → IsReadTo g bytes b last → (HasRecord f end → ⊥) → (HasRecord g last → ⊥) → (f ≡ g) × (a ≡ b) × (end ≡ last)
 one_read f g a b bytes end last p q none none' =
     let same : f ≡ g = one_form f g bytes p.header q.header in
-    let records : AreRecordsThen f 0 b (drop 24 bytes) last = subst (λ (h : Form). AreRecordsThen h 0 b (drop 24 bytes) last) (sym same) q.records in
-    let more = one_reading f 0 a b (drop 24 bytes) end last p.records records none (subst (λ (h : Form). HasRecord h last → ⊥) (sym same) none') in
+    let records : AreRecordsThen f 0 b (drop 24 bytes) last = subst (λ (h : FileHeader). AreRecordsThen h 0 b (drop 24 bytes) last) (sym same) q.records in
+    let more = one_reading f 0 a b (drop 24 bytes) end last p.records records none (subst (λ (h : FileHeader). HasRecord h last → ⊥) (sym same) none') in
     (same, more.0, more.1)
 
 -- a record that is too long stays so
@@ -107,14 +107,14 @@ none_begun bytes short none fault h = elim (shown bytes fault h) [
 ]
 
 -- bytes that were read show no fault, where no record begins after them but one that fills the rest
-pub none_read : (form : Form) (bytes rest : List ℕ) (frames : List FrameValue) → IsReadTo form bytes frames rest → (HasRecord form rest → length rest ≡ 16 + caplen_at form rest) → (HasLongRecord form rest → ⊥) → (fault : PcapFault) → Shows bytes fault → ⊥
+pub none_read : (form : FileHeader) (bytes rest : List ℕ) (frames : List FrameValue) → IsReadTo form bytes frames rest → (HasRecord form rest → length rest ≡ 16 + caplen_at form rest) → (HasLongRecord form rest → ⊥) → (fault : PcapFault) → Shows bytes fault → ⊥
 none_read form bytes rest frames read fills short fault h = elim (shown bytes fault h) [
   | inl header ↦ no_header form bytes fault header read.header
   | inr long ↦
       let it = long.2 in
       let same : form ≡ it.form = one_form form it.form bytes read.header it.read.header in
-      let records : AreRecordsThen form 0 it.frames (drop 24 bytes) it.rest = subst (λ (f : Form). AreRecordsThen f 0 it.frames (drop 24 bytes) it.rest) (sym same) it.read.records in
-      none_long form 0 frames it.frames (drop 24 bytes) rest it.rest read.records records fills short (subst (λ (f : Form). HasLongRecord f it.rest) (sym same) it.long)
+      let records : AreRecordsThen form 0 it.frames (drop 24 bytes) it.rest = subst (λ (f : FileHeader). AreRecordsThen f 0 it.frames (drop 24 bytes) it.rest) (sym same) it.read.records in
+      none_long form 0 frames it.frames (drop 24 bytes) rest it.rest read.records records fills short (subst (λ (f : FileHeader). HasLongRecord f it.rest) (sym same) it.long)
 ]
 
 -- a capture shows no fault
@@ -202,9 +202,9 @@ one_fault file a b p q = same_kind file a b (kind_of file a p) (kind_of file b q
 pub data Reading (bytes : List ℕ) : Type 0 where
   Showing : (fault : PcapFault) → Shows bytes fault → Reading bytes
   Heading : length bytes < 24 → ((fault : PcapFault) → HasHeaderFault bytes fault → ⊥) → Reading bytes
-  ReadTo : (form : Form) (frames : List FrameValue) (rest : List ℕ) → IsReadTo form bytes frames rest → (HasRecord form rest → ⊥) → (HasLongRecord form rest → ⊥) → Reading bytes
+  ReadTo : (form : FileHeader) (frames : List FrameValue) (rest : List ℕ) → IsReadTo form bytes frames rest → (HasRecord form rest → ⊥) → (HasLongRecord form rest → ⊥) → Reading bytes
 
-record_left : (form : Form) (bytes : List ℕ) → IsFileHeader form bytes → (to : Reach form 0 0 (drop 24 bytes)) → Reading bytes
+record_left : (form : FileHeader) (bytes : List ℕ) → IsFileHeader form bytes → (to : Reach form 0 0 (drop 24 bytes)) → Reading bytes
 record_left form bytes header to =
     let none : HasRecord form to.rest → ⊥ = λ h. let whole : 16 + caplen_at form to.rest ≤ length to.rest = h.whole in let last : length to.rest < 16 + caplen_at form to.rest + 0 = to.last h in omega (arith, whole, last) in
     let read : IsReadTo form bytes to.frames to.rest = record { header = header; records = to.records } in
@@ -224,7 +224,7 @@ by_header bytes (Begun short none) = Heading short none
 pub reading_of : (bytes : List ℕ) → Reading bytes
 reading_of bytes = by_header bytes (header_of bytes)
 
-pub none_shown : (bytes : List ℕ) (form : Form) (frames : List FrameValue) (rest : List ℕ) → IsReadTo form bytes frames rest → (HasRecord form rest → ⊥) → (HasLongRecord form rest → ⊥) → (fault : PcapFault) → Shows bytes fault → ⊥
+pub none_shown : (bytes : List ℕ) (form : FileHeader) (frames : List FrameValue) (rest : List ℕ) → IsReadTo form bytes frames rest → (HasRecord form rest → ⊥) → (HasLongRecord form rest → ⊥) → (fault : PcapFault) → Shows bytes fault → ⊥
 none_shown bytes form frames rest read part short = none_read form bytes rest frames read (λ h. absurd (part h)) short
 
 abbrev pub Case : List ℕ → Type 0
@@ -247,14 +247,14 @@ cut_in_header file short none = record {
   ends = inl (record { size = short; number_is = refl });
 }
 
-pub cut_in_record : (file : List ℕ) (form : Form) (frames : List FrameValue) (rest : List ℕ) → length file < 2 ^ 32 → IsReadTo form file frames rest → 0 < length rest → (HasRecord form rest → ⊥) → (HasLongRecord form rest → ⊥) → IsCut (length frames) file
+pub cut_in_record : (file : List ℕ) (form : FileHeader) (frames : List FrameValue) (rest : List ℕ) → length file < 2 ^ 32 → IsReadTo form file frames rest → 0 < length rest → (HasRecord form rest → ⊥) → (HasLongRecord form rest → ⊥) → IsCut (length frames) file
 cut_in_record file form frames rest size read left part short = record {
   size = size;
   first = λ fault h. none_shown file form frames rest read part short fault (subst (λ (xs : List ℕ). Shows xs fault) (seen_short file (omega (arith, size))) h);
   ends = inr (record { form = form; frames = frames; rest = rest; read = read; number_is = refl; left = left; part = part });
 }
 
-pub whole_capture : (file : List ℕ) (form : Form) (frames : List FrameValue) (rest : List ℕ) → length file < 2 ^ 32 → IsReadTo form file frames rest → rest ≡ [] → IsCapture file frames
+pub whole_capture : (file : List ℕ) (form : FileHeader) (frames : List FrameValue) (rest : List ℕ) → length file < 2 ^ 32 → IsReadTo form file frames rest → rest ≡ [] → IsCapture file frames
 whole_capture file form frames rest size read end = record { size = size; form = form; whole = subst (λ (xs : List ℕ). IsReadTo form file frames xs) end read }
 
 short_case : (file : List ℕ) → length file < 2 ^ 32 → Reading file → Case file

@@ -6,7 +6,7 @@ use Rattle.cf_pcap.specs.declared.form.Order.TheVariants.{Little, Big}
 use Rattle.cf_pcap.specs.declared.form.Precision.{Precision}
 use Rattle.cf_pcap.specs.declared.form.Precision.TheVariants.{Micro, Nano}
 use Rattle.cf_pcap.specs.declared.form.Layout.{Layout}
-use Rattle.cf_pcap.specs.declared.form.Form.{Form}
+use Rattle.cf_pcap.specs.declared.form.FileHeader.{FileHeader}
 use Rattle.cf_pcap.specs.declared.fault.PcapFault.{PcapFault}
 use Rattle.cf_pcap.specs.declared.fault.PcapFault.TheVariants.{BadMagic, BadVersion, BadLink, FrameTooLong, Cut, TooManyBytes, Memory}
 
@@ -53,7 +53,7 @@ abbrev pub is_link : ℕ → Bool
 is_link link = link == 1 || link == 113
 
 -- a file header of 24 bytes stands at the front, of a lawful link. The time zone, the accuracy and the snapshot length are ignored.
-pub record IsFileHeader (form : Form) (bytes : List ℕ) : Type 0 where
+pub record IsFileHeader (form : FileHeader) (bytes : List ℕ) : Type 0 where
   pub size : 24 ≤ length bytes
   pub magic : layout_of bytes ≡ Some form.layout
   pub version : IsVersion form.layout bytes
@@ -61,22 +61,22 @@ pub record IsFileHeader (form : Form) (bytes : List ℕ) : Type 0 where
   pub lawful : is_link form.link ≡ true
 
 -- the captured length that the record header at the front states
-abbrev pub caplen_at : Form → List ℕ → ℕ
+abbrev pub caplen_at : FileHeader → List ℕ → ℕ
 caplen_at form bytes = number_in form.layout.order 4 (drop 8 bytes)
 
 -- a lawful record stands whole at the front: a header of 16 bytes, and as many bytes as it states
-pub record HasRecord (form : Form) (bytes : List ℕ) : Type 0 where
+pub record HasRecord (form : FileHeader) (bytes : List ℕ) : Type 0 where
   pub short : caplen_at form bytes ≤ 262144
   pub whole : 16 + caplen_at form bytes ≤ length bytes
 
 -- a record header that states more bytes than a record may hold
-pub record HasLongRecord (form : Form) (bytes : List ℕ) : Type 0 where
+pub record HasLongRecord (form : FileHeader) (bytes : List ℕ) : Type 0 where
   pub head : 16 ≤ length bytes
   pub long : 262144 < caplen_at form bytes
 
 -- the frame of the record at the front, as number k: seconds and their fraction, the captured length, the length on the
 -- wire, the link of the file, the captured bytes
-abbrev pub frame_at : Form → ℕ → List ℕ → FrameValue
+abbrev pub frame_at : FileHeader → ℕ → List ℕ → FrameValue
 frame_at form k bytes = record {
   num = k;
   ts = number_in form.layout.order 4 bytes * 10 ^ 9 + number_in form.layout.order 4 (drop 4 bytes) * tick_of form.layout.precision;
@@ -87,21 +87,21 @@ frame_at form k bytes = record {
 }
 
 -- the bytes are the records of these frames end to end, numbered from k, and then the rest
-abbrev pub AreRecordsThen : Form → ℕ → List FrameValue → List ℕ → List ℕ → Type 0
+abbrev pub AreRecordsThen : FileHeader → ℕ → List FrameValue → List ℕ → List ℕ → Type 0
 AreRecordsThen form k [] bytes rest = bytes ≡ rest
 AreRecordsThen form k (frame ∷ frames) bytes rest =
     HasRecord form bytes × (frame ≡ frame_at form k bytes)
     × AreRecordsThen form (k + 1) frames (drop (16 + caplen_at form bytes) bytes) rest
 
 -- a file header, the records of these frames, and then the rest
-pub record IsReadTo (form : Form) (bytes : List ℕ) (frames : List FrameValue) (rest : List ℕ) : Type 0 where
+pub record IsReadTo (form : FileHeader) (bytes : List ℕ) (frames : List FrameValue) (rest : List ℕ) : Type 0 where
   pub header : IsFileHeader form bytes
   pub records : AreRecordsThen form 0 frames (drop 24 bytes) rest
 
 -- a file below 2^32 bytes is a capture of these frames: a file header and their records, and nothing else
 pub record IsCapture (file : List ℕ) (frames : List FrameValue) : Type 0 where
   pub size : length file < 2 ^ 32
-  pub form : Form
+  pub form : FileHeader
   pub whole : IsReadTo form file frames []
 
 -- Faults. The magic is found false after 4 bytes, the version after 8, the link after 24, and a captured length after
@@ -126,7 +126,7 @@ pub record HasBadLink (bytes : List ℕ) : Type 0 where
 
 -- after k whole records
 pub record HasLongFrame (k : ℕ) (bytes : List ℕ) : Type 0 where
-  pub form : Form
+  pub form : FileHeader
   pub frames : List FrameValue
   pub rest : List ℕ
   pub read : IsReadTo form bytes frames rest
@@ -159,7 +159,7 @@ pub record EndsInHeader (k : ℕ) (file : List ℕ) : Type 0 where
 
 -- after k whole records something is left, which is no whole record
 pub record EndsInRecord (k : ℕ) (file : List ℕ) : Type 0 where
-  pub form : Form
+  pub form : FileHeader
   pub frames : List FrameValue
   pub rest : List ℕ
   pub read : IsReadTo form file frames rest

@@ -1,6 +1,6 @@
 -- What the parts of a reader do.
 use Rattle.std.specs.Prelude.{◌≡◌, ◌⊎◌, ℕ, ◌+◌, ◌*◌, ◌<◌, ◌≤◌, ◌^◌, ◌==◌, if◌then◌else◌, List, [], length, drop, Result, Ok, Err}
-use Rattle.cf_pcap.specs.declared.form.Form.{Form}
+use Rattle.cf_pcap.specs.declared.form.FileHeader.{FileHeader}
 use Rattle.cf_pcap.specs.declared.fault.PcapFault.{PcapFault}
 use Rattle.cf_pcap.specs.declared.fault.PcapFault.TheVariants.{BadMagic, BadVersion, BadLink, FrameTooLong, Cut, TooManyBytes, Memory}
 use Rattle.cf_pcap.specs.declared.stage.Stage.{Stage}
@@ -24,13 +24,13 @@ IsHeaderStage bytes (Reading form) = IsFileHeader form bytes
 IsHeaderStage bytes (Stopped fault) = HasHeaderFault bytes fault
 
 -- where the records end: after so many frames stands the rest
-abbrev pub IsRecordStage : Form → ℕ → List ℕ → Stage → Type 0
+abbrev pub IsRecordStage : FileHeader → ℕ → List ℕ → Stage → Type 0
 IsRecordStage form count rest Heading = ⊥
 IsRecordStage form count rest (Reading same) = (same ≡ form) × (HasLongRecord form rest → ⊥)
 IsRecordStage form count rest (Stopped fault) = (fault ≡ FrameTooLong count) × HasLongRecord form rest
 
 -- the records of these frames were read, and no further one. `late` of the last bytes come too late for a frame.
-pub record AreRead (form : Form) (k late : ℕ) (bytes : List ℕ) (frames : List FrameValue) (rest : List ℕ) (stage : Stage) : Type 0 where
+pub record AreRead (form : FileHeader) (k late : ℕ) (bytes : List ℕ) (frames : List FrameValue) (rest : List ℕ) (stage : Stage) : Type 0 where
   pub records : AreRecordsThen form k frames bytes rest
   pub early : late ≤ length rest
   pub last : HasRecord form rest → length rest < 16 + caplen_at form rest + late
@@ -39,8 +39,8 @@ pub record AreRead (form : Form) (k late : ℕ) (bytes : List ℕ) (frames : Lis
 -- the first bytes of a stream were read
 abbrev pub IsBegun : ℕ → List ℕ → List FrameValue → List ℕ → Stage → Type 0
 IsBegun late bytes frames held stage =
-    ((form : Form) × IsFileHeader form bytes × AreRead form 0 late (drop 24 bytes) frames held stage)
-    ⊎ ((frames ≡ []) × (held ≡ bytes) × IsHeaderStage bytes stage × ((form : Form) → stage ≡ Reading form → ⊥))
+    ((form : FileHeader) × IsFileHeader form bytes × AreRead form 0 late (drop 24 bytes) frames held stage)
+    ⊎ ((frames ≡ []) × (held ≡ bytes) × IsHeaderStage bytes stage × ((form : FileHeader) → stage ≡ Reading form → ⊥))
 
 -- the bytes after those that a reader had were read
 abbrev pub IsGoneOn : Stage → ℕ → ℕ → List ℕ → List FrameValue → List ℕ → Stage → Type 0

@@ -1,6 +1,6 @@
 -- What a reader gives and answers over a stream, however it is cut.
 use Rattle.std.specs.Prelude.{◌≡◌, ◌⊎◌, ℕ, ◌+◌, ◌*◌, ◌^◌, ◌<◌, ◌≤◌, List, [], ◌++◌, length, Result, Err, MatchResult}
-use Rattle.cf_pcap.specs.declared.form.Form.{Form}
+use Rattle.cf_pcap.specs.declared.form.FileHeader.{FileHeader}
 use Rattle.cf_pcap.specs.declared.fault.PcapFault.{PcapFault}
 use Rattle.cf_pcap.specs.declared.fault.PcapFault.TheVariants.{BadMagic, BadVersion, BadLink, FrameTooLong, Cut, TooManyBytes, Memory}
 use Rattle.cf_pcap.specs.declared.stage.Stage.{Stage}
@@ -19,7 +19,7 @@ IsFound stream Memory = ⊥
 
 -- the bytes hold these frames whole and no further one; one that ends with byte 2^32 ends too late
 pub record HoldsFrames (bytes : List ℕ) (frames : List FrameValue) : Type 0 where
-  pub form : Form
+  pub form : FileHeader
   pub rest : List ℕ
   pub read : IsReadTo form bytes frames rest
   pub early : 2 ^ 32 ≤ length bytes → 0 < length rest
@@ -28,7 +28,7 @@ pub record HoldsFrames (bytes : List ℕ) (frames : List FrameValue) : Type 0 wh
 -- the frames whose last byte lies in the stream and before any fault
 abbrev pub AreGiven : List ℕ → List FrameValue → Type 0
 AreGiven stream frames =
-    HoldsFrames (seen stream) frames ⊎ (((form : Form) → IsFileHeader form (seen stream) → ⊥) × (frames ≡ []))
+    HoldsFrames (seen stream) frames ⊎ (((form : FileHeader) → IsFileHeader form (seen stream) → ⊥) × (frames ≡ []))
 
 -- a reader as contracts see it: how far it is, how many bytes and frames it has had, and the bytes of a record that has
 -- only begun
@@ -47,7 +47,7 @@ pub record IsHeading (reader : PcapValue) (stream : List ℕ) : Type 0 where
   pub held_is : reader.held ≡ stream
 
 -- some records were read, and the bytes after them are only the begin of one
-pub record IsReading (form : Form) (reader : PcapValue) (stream : List ℕ) : Type 0 where
+pub record IsReading (form : FileHeader) (reader : PcapValue) (stream : List ℕ) : Type 0 where
   pub size : length stream < 2 ^ 32
   pub frames : List FrameValue
   pub read : IsReadTo form stream frames reader.held

@@ -39,7 +39,7 @@ pub(crate) struct Layout {
 
 /// What the file header states.
 #[derive(Clone, Copy, Debug, PartialEq, Eq)]
-pub(crate) struct Form {
+pub(crate) struct FileHeader {
     pub layout: Layout,
     pub link: u16,
 }

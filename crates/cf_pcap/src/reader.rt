@@ -1,10 +1,11 @@
 // The reader of a capture, which comes in pieces.
-ghost use Rattle.std.specs.Prelude.{◌≡◌, ◌≢◌, ℕ, List, [], ◌++◌, ◌<◌, ◌≤◌, ◌^◌, ◌+◌, ◌-◌, length, take, min, IfOk, Ok, Err};
+ghost use Rattle.std.specs.Prelude.{◌≡◌, ◌≢◌, ℕ, List, [], ◌++◌, ◌<◌, ◌≤◌, ◌^◌, ◌+◌, ◌-◌, ◌*◌, length, take, drop, min, IfOk, OnErr, Ok, Err};
 ghost use Rattle.cf_pcap.specs.Capture.{FrameValue};
+ghost use Rattle.cf_pcap.specs.Reading.{IsGoneOn, Runs};
 ghost use Rattle.cf_pcap.specs.Stream.{IsStateOf, IsFed, IsEnded, AnswersFound};
 
 use crate::records::go_on;
-use crate::stage::{LIMIT, Stage, answer_of, kept, late_of, stage_at};
+use crate::stage::{LIMIT, Stage, answer_of, drop_front, keep, late_of, stage_at};
 use crate::{Frame, PcapFault};
 use std::alloc::{AllocError, Global};
 use std::marker::Model;
@@ -42,13 +43,67 @@ fn front(piece: &[u8], most: usize) -> &[u8]
     piece.split_at(most).0
 }
 
-// The bytes that are held and those that come.
-fn joined(alloc: Global, held: &[u8], more: &[u8]) -> Result<Vec<u8>, AllocError>
-    ensures { IfOk result (λ bytes. bytes.items ≡ held.now ++ more.now) }
+// What the bytes at hand gave: how many frames, and how many of the bytes are read.
+#[derive(Clone, Copy)]
+struct Given {
+    stage: Stage,
+    count: usize,
+    used: usize,
+}
+
+// Reads the bytes at hand, and adds their frames to `out`.
+fn give(
+    alloc: Global,
+    stage: Stage,
+    num: u32,
+    late: usize,
+    bytes: &[u8],
+    out: &mut Vec<Frame>,
+) -> Result<Given, AllocError>
+    requires runs { Runs stage late (length bytes.now) }
+    requires room { 16 * num + length bytes.now ≤ 2 ^ 32 }
+    ensures given { IfOk result (λ given. (frames : List FrameValue) × (out.new.items ≡ out.old.items ++ frames) × (given.count ≡ length frames) × IsGoneOn stage num late bytes.now frames (drop given.used bytes.now) given.stage) }
+    ensures used { IfOk result (λ given. given.used ≤ length bytes.now) }
+    ensures memory { OnErr result (out.new.items ≡ out.old.items) }
 {
-    let mut bytes = held.to_vec(alloc)?;
-    bytes.extend_from_slice(more)?;
-    Ok(bytes)
+    let mut read = go_on(alloc, stage, num, late, bytes)?;
+    let count = read.frames.len();
+    out.append(&mut read.frames)?;
+    Ok(Given {
+        stage: read.stage,
+        count,
+        used: read.used,
+    })
+}
+
+// Reads the bytes that are held and those that come, adds their frames to `out`, and holds what is left. Where memory is
+// wanting it does none of this.
+fn take_in(
+    alloc: Global,
+    stage: Stage,
+    num: u32,
+    late: usize,
+    held: &mut Vec<u8>,
+    more: &[u8],
+    out: &mut Vec<Frame>,
+) -> Result<Given, AllocError>
+    requires runs { Runs stage late (length held.old.items + length more.now) }
+    requires room { 16 * num + (length held.old.items + length more.now) ≤ 2 ^ 32 }
+    ensures given { IfOk result (λ given. (frames : List FrameValue) × (out.new.items ≡ out.old.items ++ frames) × (given.count ≡ length frames) × IsGoneOn stage num late (held.old.items ++ more.now) frames held.new.items given.stage) }
+    ensures memory { OnErr result ((out.new.items ≡ out.old.items) × (held.new.items ≡ held.old.items)) }
+{
+    let before = held.len();
+    held.extend_from_slice(more)?;
+    match give(alloc, stage, num, late, held, out) {
+        Ok(given) => {
+            drop_front(held, given.used);
+            Ok(given)
+        }
+        Err(wanting) => {
+            held.truncate(before);
+            Err(wanting)
+        }
+    }
 }
 
 impl Pcap {
@@ -80,14 +135,20 @@ impl Pcap {
         }
         let taken = front(piece, LIMIT - self.total);
         let total = self.total + taken.len();
-        let bytes = joined(self.alloc, &self.held, taken)?;
-        let mut read = go_on(self.alloc, self.stage, self.count, late_of(total), &bytes)?;
-        let count = self.count + read.frames.len() as u32;
-        out.append(&mut read.frames)?;
-        self.stage = stage_at(read.stage, total);
+        let late = late_of(total);
+        let given = take_in(
+            self.alloc,
+            self.stage,
+            self.count,
+            late,
+            &mut self.held,
+            taken,
+            out,
+        )?;
+        self.stage = stage_at(given.stage, total);
         self.total = total;
-        self.count = count;
-        self.held = kept(self.alloc, self.stage, read.held);
+        self.count += given.count as u32;
+        keep(self.alloc, self.stage, &mut self.held);
         answer_of(self.stage)
     }
 

@@ -1,9 +1,9 @@
 // How far a reader is.
-ghost use Rattle.std.specs.Prelude.{◌≡◌, ◌≤◌, ◌^◌, length};
+ghost use Rattle.std.specs.Prelude.{◌≡◌, ◌≤◌, ◌^◌, drop, length};
 ghost use Rattle.cf_pcap.specs.Reading.{IsHeaderStage, late_of as late_of_total, stage_at as stage_of, answer_of as answer_of_stage, kept_by};
 
 use crate::PcapFault;
-use crate::form::{Form, is_link, layout_of};
+use crate::form::{FileHeader, is_link, layout_of};
 use std::alloc::Global;
 
 /// The length of the file header.
@@ -18,7 +18,7 @@ pub(crate) enum Stage {
     /// The file header isn't whole yet.
     Heading,
     /// Records follow.
-    Reading(Form),
+    Reading(FileHeader),
     /// A fault was found.
     Stopped(PcapFault),
 }
@@ -47,7 +47,7 @@ pub(crate) fn header_stage(bytes: &[u8]) -> Stage
     if !is_link(link) {
         return Stage::Stopped(PcapFault::BadLink);
     }
-    Stage::Reading(Form { layout, link })
+    Stage::Reading(FileHeader { layout, link })
 }
 
 // How many of the last bytes of a stream that long come too late for a frame.
@@ -68,13 +68,25 @@ pub(crate) fn stage_at(stage: Stage, total: usize) -> Stage
     }
 }
 
-// The bytes that a reader keeps at this stage.
-pub(crate) fn kept(alloc: Global, stage: Stage, held: Vec<u8>) -> Vec<u8>
-    ensures { result.items ≡ kept_by stage held.items }
+// Lets so many bytes at the front go.
+pub(crate) fn drop_front(bytes: &mut Vec<u8>, count: usize)
+    requires { count ≤ length bytes.old.items }
+    ensures { bytes.new.items ≡ drop count bytes.old.items }
 {
-    match stage {
-        Stage::Stopped(_) => Vec::new(alloc),
-        _ => held,
+    if count == 0 {
+        return;
+    }
+    let left = bytes.len() - count;
+    bytes.copy_within(count.., 0);
+    bytes.truncate(left);
+}
+
+// Lets the bytes go that a reader does not keep at this stage.
+pub(crate) fn keep(alloc: Global, stage: Stage, held: &mut Vec<u8>)
+    ensures { held.new.items ≡ kept_by stage held.old.items }
+{
+    if let Stage::Stopped(_) = stage {
+        *held = Vec::new(alloc);
     }
 }
 

@@ -18,12 +18,12 @@ use Rattle.cf_setup.specs.Drafts.{DraftValue, attrs_of, with_lane, with_trigger,
 use Rattle.cf_setup.specs.Forms.{Form}
 use Rattle.cf_setup.specs.Forms.Form.{packet_schema, record_schema, bucket_width, new_index, new_filter, new_aggregate, new_trigger, ask_list, ask_find, ask_between, ask_measure, ask_fired, ask_live}
 use Rattle.cf_setup.specs.Named.{place_in, is_index, is_filter, is_aggregate, lane_named, trigger_named, index_kind}
-use Rattle.cf_setup.specs.Schemas.{schema_at}
+use Rattle.cf_lines.specs.Schemas.{schema_at}
 use Rattle.cf_setup.specs.Rules.{Rule, Broken, rules, expr_rules, IsBroken}
 use Rattle.cf_setup.specs.Rules.Rule.{schema_list, a_number, a_width, a_key}
 use Rattle.cf_setup.specs.Adds.{Adds, with_schema}
 use Rattle.cf_setup.specs.Reading.{number_of, width_of, key_in, key_of, expr_in, expr_of, added}
-use Rattle.cf_setup.proofs.SchemaLaws.{schema_only, schema_found}
+use Rattle.cf_lines.proofs.SchemaLaws.{schema_only, schema_found}
 use Rattle.cf_setup.proofs.RuleLaws.{number_only, number_found, width_only, width_found, expr_err, expr_ok, expr_is, broken_from}
 
 -- options

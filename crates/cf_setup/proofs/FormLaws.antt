@@ -11,7 +11,7 @@ use Rattle.cf_setup.specs.declared.statement.Statement.{Statement}
 use Rattle.cf_setup.specs.declared.statement.Statement.TheVariants as statements
 use Rattle.cf_setup.specs.declared.statement.Question.{Question}
 use Rattle.cf_setup.specs.declared.statement.Question.TheVariants as questions
-use Rattle.cf_setup.specs.Lines.{is_blank, next_word, last_word, new_name}
+use Rattle.cf_lines.specs.Lines.{is_blank, next_word, last_word, new_name}
 use Rattle.cf_setup.specs.Forms.{Form, is_schema_form, part_named, sign_named, question_named, schema_words, three_words, question_form, form_at}
 use Rattle.cf_setup.specs.Forms.Form.{packet_schema, record_schema, bucket_width, new_index, new_filter, new_aggregate, new_trigger, ask_list, ask_find, ask_between, ask_measure, ask_fired, ask_live}
 use Rattle.cf_setup.specs.Drafts.{DraftValue}

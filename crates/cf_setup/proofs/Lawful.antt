@@ -24,7 +24,7 @@ use Rattle.cf_filter.specs.Grammar.{ExprRead}
 use Rattle.cf_filter.proofs.Lawful.{named_stands, expr_fits}
 use Rattle.cf_setup.specs.declared.statement.Statement.{Statement}
 use Rattle.cf_setup.specs.declared.statement.Statement.TheVariants as statements
-use Rattle.cf_setup.specs.Lines.{is_silent, word_at}
+use Rattle.cf_lines.specs.Lines.{is_silent, word_at}
 use Rattle.cf_setup.specs.Drafts.{DraftValue, nothing_stated, attrs_of, with_lane, with_trigger, with_ask, index_over, filter_by, aggregate_by}
 use Rattle.cf_setup.specs.Setups.{settled, shaped, IsSetup, IsDraft}
 use Rattle.cf_setup.specs.Few.{IsFew}

@@ -6,7 +6,7 @@ use Rattle.cf_filter.specs.declared.bytes.Class.TheVariants as classes
 use Rattle.cf_filter.specs.Tokens.{passes}
 use Rattle.cf_filter.specs.Grammar.{Only}
 use Rattle.cf_setup.specs.declared.statement.Statement.{Statement}
-use Rattle.cf_setup.specs.Lines.{word_at}
+use Rattle.cf_lines.specs.Lines.{word_at}
 use Rattle.cf_setup.specs.Drafts.{DraftValue}
 use Rattle.cf_setup.specs.Forms.{Form, statement_named, form_at}
 use Rattle.cf_setup.specs.Rules.{rules, IsBroken}

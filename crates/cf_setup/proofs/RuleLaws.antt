@@ -22,11 +22,11 @@ use Rattle.cf_setup.specs.Drafts.{DraftValue, attrs_of}
 use Rattle.cf_setup.specs.Forms.{Form}
 use Rattle.cf_setup.specs.Forms.Form.{packet_schema, record_schema, bucket_width, new_index, new_filter, new_aggregate, new_trigger, ask_list, ask_find, ask_between, ask_measure, ask_fired, ask_live}
 use Rattle.cf_setup.specs.Named.{place_in, is_index, is_filter, is_aggregate, lane_named, trigger_named, index_kind}
-use Rattle.cf_setup.specs.Schemas.{schema_at}
+use Rattle.cf_lines.specs.Schemas.{schema_at}
 use Rattle.cf_setup.specs.Rules.{Rule, Broken, rules, expr_rules, IsBroken}
 use Rattle.cf_setup.specs.Rules.Rule.{schema_list, free_name, live_once, known_attr, known_index, known_filter, known_aggregate, known_trigger, known_ask, a_number, a_width, a_key, number_attr, narrow_attr, lane_room, trigger_room, ask_room, no_offence}
 use Rattle.cf_setup.specs.Reading.{number_in_value, number_of, width_of, key_in, key_of, is_live, fails, same_offence, offends, is_broken, first_broken}
-use Rattle.cf_setup.proofs.SchemaLaws.{schema_only, schema_found}
+use Rattle.cf_lines.proofs.SchemaLaws.{schema_only, schema_found}
 
 -- options
 

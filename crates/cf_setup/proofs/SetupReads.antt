@@ -4,7 +4,7 @@ use Rattle.std.proofs.lemmas.Bool.{ltb-true, ltb-false, lt-ltb, le-ltb}
 use Rattle.cf_row.specs.declared.schema.Attr.{Attr}
 use Rattle.cf_filter.specs.Tokens.{unspaced}
 use Rattle.cf_filter.specs.Grammar.{Only}
-use Rattle.cf_setup.specs.Lines.{is_silent, lines_of}
+use Rattle.cf_lines.specs.Lines.{is_silent, lines_of}
 use Rattle.cf_setup.specs.Drafts.{DraftValue, nothing_stated}
 use Rattle.cf_setup.specs.Setups.{SetupValue, settled}
 use Rattle.cf_setup.specs.SetupText.{LineSaid, AllSaid, SetupText}

@@ -4,7 +4,7 @@ use Rattle.cf_filter.specs.Tokens.{unspaced}
 use Rattle.cf_setup.specs.declared.fault.LineFault.{LineFault}
 use Rattle.cf_setup.specs.declared.fault.LineFault.TheVariants.{Breaks, Memory}
 use Rattle.cf_setup.specs.Codes.{code_number}
-use Rattle.cf_setup.specs.Lines.{lines_of, lines_after}
+use Rattle.cf_lines.specs.Lines.{lines_of, lines_after}
 use Rattle.cf_setup.specs.Drafts.{DraftValue}
 use Rattle.cf_setup.specs.Reading.{setup_from, settled_or, said, Takes, fault_at, Answers}
 

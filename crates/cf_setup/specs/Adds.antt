@@ -15,7 +15,7 @@ use Rattle.cf_setup.specs.Drafts.{DraftValue, attrs_of, with_lane, with_trigger,
 use Rattle.cf_setup.specs.Forms.{Form}
 use Rattle.cf_setup.specs.Forms.Form.{packet_schema, record_schema, bucket_width, new_index, new_filter, new_aggregate, new_trigger, ask_list, ask_find, ask_between, ask_measure, ask_fired, ask_live}
 use Rattle.cf_setup.specs.Named.{place_in, is_index, is_filter, is_aggregate, lane_named, trigger_named, index_kind}
-use Rattle.cf_setup.specs.Schemas.{ListText}
+use Rattle.cf_lines.specs.Schemas.{ListText}
 
 -- a schema at that line
 abbrev pub with_schema : ℕ → DraftValue → Bool → List Attr → DraftValue

@@ -14,7 +14,7 @@ use Rattle.cf_setup.specs.declared.statement.Question.{Question}
 use Rattle.cf_setup.specs.declared.statement.Question.TheVariants as questions
 use Rattle.cf_setup.specs.declared.form.Form.{Form as Read}
 use Rattle.cf_setup.specs.declared.form.Form.TheVariants as reads
-use Rattle.cf_setup.specs.Lines.{is_blank, next_word, last_word, new_name}
+use Rattle.cf_lines.specs.Lines.{is_blank, next_word, last_word, new_name}
 
 -- a statement in its form, with its words
 pub data Form : Type 0 where

@@ -1,9 +1,7 @@
 pub mod Codes
-pub mod Lines
 pub mod Drafts
 pub mod Forms
 pub mod Named
-pub mod Schemas
 pub mod Rules
 pub mod Adds
 pub mod Reading

@@ -27,12 +27,12 @@ use Rattle.cf_setup.specs.declared.fault.LineFault.TheVariants.{Breaks, Memory a
 use Rattle.cf_setup.specs.declared.parse.SetupFault.{SetupFault}
 use Rattle.cf_setup.specs.declared.parse.SetupFault.TheVariants.{Bad, Memory}
 use Rattle.cf_setup.specs.Codes.{code_number}
-use Rattle.cf_setup.specs.Lines.{lines_of, is_silent, word_at}
+use Rattle.cf_lines.specs.Lines.{lines_of, is_silent, word_at}
 use Rattle.cf_setup.specs.Drafts.{DraftValue, nothing_stated, attrs_of, with_lane, with_trigger, with_ask, index_over, filter_by, aggregate_by}
 use Rattle.cf_setup.specs.Forms.{Form, statement_named, form_at}
 use Rattle.cf_setup.specs.Forms.Form.{packet_schema, record_schema, bucket_width, new_index, new_filter, new_aggregate, new_trigger, ask_list, ask_find, ask_between, ask_measure, ask_fired, ask_live}
 use Rattle.cf_setup.specs.Named.{is_taken, place_in, is_index, is_filter, is_aggregate, lane_named, trigger_named, index_kind}
-use Rattle.cf_setup.specs.Schemas.{schema_at}
+use Rattle.cf_lines.specs.Schemas.{schema_at}
 use Rattle.cf_setup.specs.Rules.{Rule, rules, expr_rules}
 use Rattle.cf_setup.specs.Rules.Rule.{schema_list, free_name, live_once, known_attr, known_index, known_filter, known_aggregate, known_trigger, known_ask, a_number, a_width, a_key, number_attr, narrow_attr, lane_room, trigger_room, ask_room, no_offence}
 use Rattle.cf_setup.specs.Adds.{with_schema}

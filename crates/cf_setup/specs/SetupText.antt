@@ -6,7 +6,7 @@ use Rattle.cf_filter.specs.declared.bytes.Class.TheVariants as classes
 use Rattle.cf_filter.specs.Tokens.{passes, unspaced}
 use Rattle.cf_setup.specs.declared.statement.Statement.{Statement}
 use Rattle.cf_setup.specs.declared.statement.Statement.TheVariants as statements
-use Rattle.cf_setup.specs.Lines.{lines_of, is_silent, word_at}
+use Rattle.cf_lines.specs.Lines.{lines_of, is_silent, word_at}
 use Rattle.cf_setup.specs.Drafts.{DraftValue, nothing_stated}
 use Rattle.cf_setup.specs.Forms.{Form, statement_named, form_at}
 use Rattle.cf_setup.specs.Rules.{rules, IsBroken}

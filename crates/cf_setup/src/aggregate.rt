@@ -9,8 +9,8 @@ ghost use Rattle.cf_setup.specs.Reading.{ruled, Takes};
 use crate::draft::{Draft, Family};
 use crate::fault::LineFault;
 use crate::form::Form;
-use crate::lines::{last_word, new_name, next_word};
 use crate::values::must_be_narrow;
+use cf_lines::{last_word, new_name, next_word};
 use cf_shape::{Key, Lane};
 use std::alloc::Global;
 

@@ -4,8 +4,8 @@ ghost use Rattle.std.specs.Option.{option_map};
 ghost use Rattle.cf_setup.specs.Forms.{ask_form as ask_form_of, question_form as question_form_of, three_words, form_value, HasWords};
 
 use crate::form::Form;
-use crate::lines::{last_word, new_name, next_word};
 use crate::statement::{Question, question_of};
+use cf_lines::{last_word, new_name, next_word};
 
 /// The words of a lane and of the two ends of a range.
 #[derive(Clone, Copy, Debug)]

@@ -16,8 +16,6 @@ mod fault;
 mod filter;
 mod form;
 mod index;
-mod lines;
-mod list;
 mod live;
 mod parse;
 mod schema;

@@ -9,7 +9,7 @@ ghost use Rattle.cf_setup.specs.Reading.{ruled, Takes};
 use crate::draft::Draft;
 use crate::fault::LineFault;
 use crate::form::Form;
-use crate::lines::last_word;
+use cf_lines::last_word;
 
 pub(crate) fn live_form<'a>(text: &'a [u8]) -> Option<Form<'a>>
     ensures form { option_map form_value result ≡ live_form_of text.now }

@@ -2,7 +2,7 @@
 ghost use Rattle.std.specs.Prelude.{◌≡◌, ℕ, List, ◌≤◌, ◌<◌, length, IfOk, Result};
 ghost use Rattle.cf_setup.specs.declared.parse.SetupFault.TheVariants.{Bad};
 ghost use Rattle.cf_setup.specs.Codes.{code_number};
-ghost use Rattle.cf_setup.specs.Lines.{lines_of};
+ghost use Rattle.cf_lines.specs.Lines.{lines_of};
 ghost use Rattle.cf_setup.specs.Drafts.{nothing_stated};
 ghost use Rattle.cf_setup.specs.Reading.{setup_at, setup_from, settled_or, fault_at, Answers};
 ghost use Rattle.cf_setup.specs.Setups.{SetupValue, IsSetup, IsDraft};
@@ -12,9 +12,9 @@ ghost use Rattle.cf_filter.specs.Grammar.{Only};
 use crate::Setup;
 use crate::draft::Draft;
 use crate::fault::{Code, LineFault};
-use crate::lines::first_line;
 use crate::take::take_said;
 use cf_filter::unspaced;
+use cf_lines::first_line;
 use std::alloc::Global;
 use thiserror::Error;
 

@@ -8,8 +8,7 @@ ghost use Rattle.cf_setup.specs.Reading.{ruled, Takes};
 use crate::draft::Draft;
 use crate::fault::{Code, LineFault};
 use crate::form::Form;
-use crate::lines::{is_blank, last_word, next_word};
-use crate::list::schema_of;
+use cf_lines::{is_blank, last_word, next_word, schema_of};
 use cf_row::packet_schema;
 use std::alloc::Global;
 

@@ -16,13 +16,13 @@ use crate::fault::{Code, LineFault};
 use crate::filter::add_filter;
 use crate::form::{Form, form_of};
 use crate::index::add_index;
-use crate::lines::{are_all, is_silent, word_of};
 use crate::live::add_live;
 use crate::schema::{add_packet_schema, add_record_schema};
 use crate::statement::{Statement, statement_of};
 use crate::trigger::add_trigger;
 use crate::width::add_width;
 use cf_filter::Class;
+use cf_lines::{are_all, is_silent, word_of};
 use std::alloc::Global;
 
 // After the schema there is no other, and one width.

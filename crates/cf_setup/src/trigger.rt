@@ -10,10 +10,10 @@ ghost use Rattle.cf_setup.specs.Reading.{ruled, Takes};
 use crate::draft::{Draft, Family};
 use crate::fault::LineFault;
 use crate::form::Form;
-use crate::lines::{last_word, new_name, next_word};
 use crate::values::number_of;
 use cf_filter::named_op;
 use cf_fold::{Part, Trigger};
+use cf_lines::{last_word, new_name, next_word};
 use cf_row::Op;
 use std::alloc::Global;
 

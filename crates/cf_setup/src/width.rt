@@ -8,8 +8,8 @@ ghost use Rattle.cf_setup.specs.Reading.{ruled, Takes};
 use crate::draft::Draft;
 use crate::fault::LineFault;
 use crate::form::Form;
-use crate::lines::last_word;
 use crate::values::width_of;
+use cf_lines::last_word;
 
 pub(crate) fn width_form<'a>(text: &'a [u8]) -> Option<Form<'a>>
     ensures form { option_map form_value result ≡ width_form_of text.now }

@@ -1,7 +1,7 @@
 use Rattle.std.proofs.Common.{◌≡◌, ℕ, List, length, Ok, Err, sym, ◌∙◌, ap, arith, subst}
 use Rattle.std.proofs.lemmas.Bool.{eqb-true}
 use Rattle.cf_filter.specs.Tokens.{unspaced}
-use Rattle.cf_setup.specs.Lines.{lines_of}
+use Rattle.cf_lines.specs.Lines.{lines_of}
 use Rattle.cf_setup.specs.Drafts.{nothing_stated}
 use Rattle.cf_setup.specs.Reading.{setup_from, settled_or, said, Takes, fault_at, Answers}
 use Rattle.cf_setup.proofs.Lawful.{said_lawful, draft_few}

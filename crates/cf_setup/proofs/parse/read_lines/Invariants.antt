@@ -1,5 +1,5 @@
 use Rattle.std.proofs.Common.{◌≡◌, ◌+◌, ◌≤◌, length}
-use Rattle.cf_setup.specs.Lines.{lines_of}
+use Rattle.cf_lines.specs.Lines.{lines_of}
 use Rattle.cf_setup.specs.Drafts.{nothing_stated}
 use Rattle.cf_setup.specs.Reading.{setup_from}
 use Rattle.cf_setup.specs.Setups.{IsDraft}

@@ -1,6 +1,7 @@
-use Rattle.std.proofs.Common.{rules, arith, ◌≡◌, ◌<◌, ◌+◌, ◌^◌, [], ◌++◌, length, Err, sym, subst, ap, ◌∙◌, append-nil}
+use Rattle.std.proofs.Common.{rules, ◌≡◌, ◌<◌, ◌+◌, ◌^◌, [], length, Err, refl, sym, subst, ap, ◌∙◌, arith, append-nil}
 use Rattle.cf_pcap.specs.declared.stage.Stage.{Stage}
 use Rattle.cf_pcap.specs.declared.stage.Stage.TheVariants.{Stopped}
+use Rattle.cf_pcap.specs.declared.fault.PcapFault.TheVariants.{Memory}
 use Rattle.cf_pcap.specs.Stream.{PcapValue, IsAt, IsStateOf, IsFed, IsSound, AnswersFound}
 use Rattle.cf_pcap.proofs.Feeding.{fed_call, fed_stopped}
 use Rattle.cf_pcap.proofs.Ending.{answers_stopped, not_found}
@@ -27,63 +28,54 @@ returns-in-Stopped-clause-stopped c =
     let reader : PcapValue = record { stage = inside.stage; total = inside.total; count = inside.count; held = inside.held.items } in
     subst (λ (r : PcapValue). AnswersFound r (Err c.in-Stopped.fault)) c.self.view_is (answers_stopped c.in-Stopped.fault reader c.in-Stopped.is)
 
-pub returns-in_err-bytes-clause-stopped : goal.returns-in_err-bytes-clause-stopped
-returns-in_err-bytes-clause-stopped c =
+pub returns-in_err-given : goal.returns-in_err-given
+returns-in_err-given c =
     let inside = c.self.inside in
     let reader : PcapValue = record { stage = inside.stage; total = inside.total; count = inside.count; held = inside.held.items } in
-    λ stream fault state found. absurd (not_found reader c.args.self.now stream fault c.self.view_is c.in_default.not-Stopped state found)
+    let wanting : c.from_residual.result ≡ Err Memory = search rules in
+    let same = c.in_err-given.ensures.memory in record {
+      fed = λ some. absurd (some wanting);
+      stopped = λ stream fault state found. absurd (not_found reader c.args.self.now stream fault c.self.view_is c.in_default.not-Stopped state found);
+      memory = λ _. (ap (λ xs. record { stage = inside.stage; total = inside.total; count = inside.count; held = xs }) same.1 ∙ c.self.view_is, same.0);
+    }
 
-pub returns-in_err-read-clause-stopped : goal.returns-in_err-read-clause-stopped
-returns-in_err-read-clause-stopped c =
+pub overflow_cast-self : goal.overflow_cast-self
+overflow_cast-self c =
     let inside = c.self.inside in
     let reader : PcapValue = record { stage = inside.stage; total = inside.total; count = inside.count; held = inside.held.items } in
-    λ stream fault state found. absurd (not_found reader c.args.self.now stream fault c.self.view_is c.in_default.not-Stopped state found)
+    let given = c.in_ok-given.ensures.given in
+    let many : c.in_ok-given.given.count ≡ length given.0 = given.2 in
+    let fits : inside.count + length given.0 < 2 ^ 32 = count_fits reader c.args.piece.now c.front-taken.result.now _ _ _ _ _ c.front-taken.ensures refl given.3 c.self.invariant in
+    omega (arith, fits, many)
 
-pub returns-in_err-append-clause-stopped : goal.returns-in_err-append-clause-stopped
-returns-in_err-append-clause-stopped c =
+pub overflow_add-self : goal.overflow_add-self
+overflow_add-self c =
     let inside = c.self.inside in
     let reader : PcapValue = record { stage = inside.stage; total = inside.total; count = inside.count; held = inside.held.items } in
-    λ stream fault state found. absurd (not_found reader c.args.self.now stream fault c.self.view_is c.in_default.not-Stopped state found)
+    let given = c.in_ok-given.ensures.given in
+    let many : c.in_ok-given.given.count ≡ length given.0 = given.2 in
+    let fits : inside.count + length given.0 < 2 ^ 32 = count_fits reader c.args.piece.now c.front-taken.result.now _ _ _ _ _ c.front-taken.ensures refl given.3 c.self.invariant in
+    omega (arith, fits, many)
 
-pub overflow_cast-count : goal.overflow_cast-count
-overflow_cast-count c =
+pub invariant_of-self-2 : goal.invariant_of-self-2
+invariant_of-self-2 c =
     let inside = c.self.inside in
     let reader : PcapValue = record { stage = inside.stage; total = inside.total; count = inside.count; held = inside.held.items } in
-    let many : c.len.result ≡ length c.in_ok-read.read.frames.items = search rules in
-    let bytes : c.deref-2.result.now ≡ inside.held.items ++ c.front-taken.result.now = c.deref-2.ensures.value ∙ c.in_ok-bytes.ensures ∙ ap (λ xs. xs ++ c.front-taken.result.now) c.deref.ensures.value in
-    let fits : inside.count + length c.in_ok-read.read.frames.items < 2 ^ 32 = count_fits reader c.args.piece.now c.front-taken.result.now _ _ _ _ _ c.front-taken.ensures bytes c.in_ok-read.ensures c.self.invariant in
-    rw many (omega (arith, fits))
-
-pub overflow_add-count : goal.overflow_add-count
-overflow_add-count c =
-    let inside = c.self.inside in
-    let reader : PcapValue = record { stage = inside.stage; total = inside.total; count = inside.count; held = inside.held.items } in
-    let many : c.len.result ≡ length c.in_ok-read.read.frames.items = search rules in
-    let bytes : c.deref-2.result.now ≡ inside.held.items ++ c.front-taken.result.now = c.deref-2.ensures.value ∙ c.in_ok-bytes.ensures ∙ ap (λ xs. xs ++ c.front-taken.result.now) c.deref.ensures.value in
-    let fits : inside.count + length c.in_ok-read.read.frames.items < 2 ^ 32 = count_fits reader c.args.piece.now c.front-taken.result.now _ _ _ _ _ c.front-taken.ensures bytes c.in_ok-read.ensures c.self.invariant in
-    rw many (omega (arith, fits))
-
-pub invariant_of-self : goal.invariant_of-self
-invariant_of-self c =
-    let inside = c.self.inside in
-    let reader : PcapValue = record { stage = inside.stage; total = inside.total; count = inside.count; held = inside.held.items } in
-    let many : c.len.result ≡ length c.in_ok-read.read.frames.items = search rules in
-    let bytes : c.deref-2.result.now ≡ inside.held.items ++ c.front-taken.result.now = c.deref-2.ensures.value ∙ c.in_ok-bytes.ensures ∙ ap (λ xs. xs ++ c.front-taken.result.now) c.deref.ensures.value in
-    sound_call reader c.args.piece.now c.front-taken.result.now _ _ _ _ _ c.stage_at-self-inside.result _ c.len.result c.front-taken.ensures bytes c.late_of.ensures c.in_ok-read.ensures many c.stage_at-self-inside.ensures c.kept.ensures c.self.invariant
+    let given = c.in_ok-given.ensures.given in
+    sound_call reader c.args.piece.now c.front-taken.result.now _ _ _ _ _ c.stage_at-self-inside.result _ c.in_ok-given.given.count c.front-taken.ensures refl c.late_of-late.ensures given.3 given.2 c.stage_at-self-inside.ensures c.keep.ensures c.self.invariant
 
 pub returns : goal.returns
 returns c =
     let inside = c.self.inside in
     let reader : PcapValue = record { stage = inside.stage; total = inside.total; count = inside.count; held = inside.held.items } in
-    let many : c.len.result ≡ length c.in_ok-read.read.frames.items = search rules in
-    let bytes : c.deref-2.result.now ≡ inside.held.items ++ c.front-taken.result.now = c.deref-2.ensures.value ∙ c.in_ok-bytes.ensures ∙ ap (λ xs. xs ++ c.front-taken.result.now) c.deref.ensures.value in
-    let after : PcapValue = record { stage = c.stage_at-self-inside.result; total = inside.total + length c.front-taken.result.now; count = inside.count + c.len.result; held = c.kept.result.items } in
-    let sound : IsSound after = sound_call reader c.args.piece.now c.front-taken.result.now _ _ _ _ _ c.stage_at-self-inside.result _ c.len.result c.front-taken.ensures bytes c.late_of.ensures c.in_ok-read.ensures many c.stage_at-self-inside.ensures c.kept.ensures c.self.invariant in record {
+    let given = c.in_ok-given.ensures.given in
+    let after : PcapValue = record { stage = c.stage_at-self-inside.result; total = inside.total + length c.front-taken.result.now; count = inside.count + c.in_ok-given.given.count; held = c.keep.new.held.items } in
+    let sound : IsSound after = sound_call reader c.args.piece.now c.front-taken.result.now _ _ _ _ _ c.stage_at-self-inside.result _ c.in_ok-given.given.count c.front-taken.ensures refl c.late_of-late.ensures given.3 given.2 c.stage_at-self-inside.ensures c.keep.ensures c.self.invariant in record {
       fed = λ _. (
-        c.in_ok-read.read.frames.items,
-        c.in_ok-append.ensures.items,
+        given.0,
+        given.1,
         λ stream state.
-            fed_call reader c.args.piece.now c.front-taken.result.now _ _ _ _ _ c.stage_at-self-inside.result _ c.len.result c.answer_of.result c.front-taken.ensures bytes c.late_of.ensures c.in_ok-read.ensures many c.stage_at-self-inside.ensures c.answer_of.ensures c.kept.ensures stream
+            fed_call reader c.args.piece.now c.front-taken.result.now _ _ _ _ _ c.stage_at-self-inside.result _ c.in_ok-given.given.count c.answer_of.result c.front-taken.ensures refl c.late_of-late.ensures given.3 given.2 c.stage_at-self-inside.ensures c.answer_of.ensures c.keep.ensures stream
             (subst (λ (r : PcapValue). IsStateOf r stream) (sym c.self.view_is) state),
       );
       stopped = λ stream fault state found. absurd (not_found reader c.args.self.now stream fault c.self.view_is c.in_default.not-Stopped state found);

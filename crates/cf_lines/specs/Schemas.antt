@@ -10,7 +10,7 @@ use Rattle.cf_row.specs.Schema.{IsSchema, has_name_twice, is_time_stamp, has_goo
 use Rattle.cf_filter.specs.declared.bytes.Class.TheVariants as classes
 use Rattle.cf_filter.specs.Tokens.{run, past, strip_at, is_between}
 use Rattle.cf_filter.specs.Values.{◌>>=◌}
-use Rattle.cf_setup.specs.Lines.{is_name}
+use Rattle.cf_lines.specs.Lines.{is_name}
 
 -- 1 to 16 in decimal
 abbrev pub size_text : ℕ → List ℕ

@@ -4,7 +4,7 @@ ghost use Rattle.std.specs.List.{list_all};
 ghost use Rattle.std.specs.Option.{option_map, option_copied};
 ghost use Rattle.std.specs.Str.Lines.{strip_carriage_return};
 ghost use Rattle.cf_filter.specs.Tokens.{passes};
-ghost use Rattle.cf_setup.specs.Lines.{lines_of, is_silent as is_silent_of, word_at, is_blank as is_blank_of, next_word as next_word_of, last_word as last_word_of, is_name as is_name_of, new_name as new_name_of};
+ghost use Rattle.cf_lines.specs.Lines.{lines_of, is_silent as is_silent_of, word_at, is_blank as is_blank_of, next_word as next_word_of, last_word as last_word_of, is_name as is_name_of, new_name as new_name_of};
 
 use cf_filter::{Class, unspaced};
 
@@ -22,7 +22,7 @@ fn strip_return(line: &[u8]) -> &[u8]
 
 /// The first line, and what follows its end.
 #[tactic(auto, using(crate::proofs::LineLaws::last_line, crate::proofs::LineLaws::ended_line))]
-pub(crate) fn first_line(bytes: &[u8]) -> (&[u8], &[u8])
+pub fn first_line(bytes: &[u8]) -> (&[u8], &[u8])
     requires { 0 < length bytes.now }
     ensures line { lines_of bytes.now ≡ result.0.now ∷ lines_of result.1.now }
     ensures less { length result.1.now < length bytes.now }
@@ -36,7 +36,7 @@ pub(crate) fn first_line(bytes: &[u8]) -> (&[u8], &[u8])
 }
 
 /// Whether the line states nothing: it is empty, or begins with a hash.
-pub(crate) fn is_silent(line: &[u8]) -> bool
+pub fn is_silent(line: &[u8]) -> bool
     ensures { result ≡ is_silent_of line.now }
 {
     match line {
@@ -46,14 +46,14 @@ pub(crate) fn is_silent(line: &[u8]) -> bool
 }
 
 /// Whether all bytes are of the class.
-pub(crate) fn are_all(class: Class, text: &[u8]) -> bool
+pub fn are_all(class: Class, text: &[u8]) -> bool
     ensures { result ≡ list_all (passes class) text.now }
 {
     text.iter().all(|b| class.passes(*b))
 }
 
 /// The word at the front, empty at the end of the line, and what follows it.
-pub(crate) fn word_of(text: &[u8]) -> (&[u8], &[u8])
+pub fn word_of(text: &[u8]) -> (&[u8], &[u8])
     ensures word { (result.0.now, result.1.now) ≡ word_at text.now }
     ensures short { length result.1.now ≤ length text.now }
 {
@@ -61,14 +61,14 @@ pub(crate) fn word_of(text: &[u8]) -> (&[u8], &[u8])
 }
 
 /// Whether nothing but spaces is left.
-pub(crate) fn is_blank(text: &[u8]) -> bool
+pub fn is_blank(text: &[u8]) -> bool
     ensures { result ≡ is_blank_of text.now }
 {
     unspaced(text).is_empty()
 }
 
 /// The next word, if there is one, and what follows it.
-pub(crate) fn next_word(text: &[u8]) -> Option<(&[u8], &[u8])>
+pub fn next_word(text: &[u8]) -> Option<(&[u8], &[u8])>
     ensures word { option_map (λ x. (x.0.now, x.1.now)) result ≡ next_word_of text.now }
     ensures short { IfSome result (λ x. length x.1.now ≤ length text.now) }
 {
@@ -80,7 +80,7 @@ pub(crate) fn next_word(text: &[u8]) -> Option<(&[u8], &[u8])>
 }
 
 /// The next word, if nothing follows it.
-pub(crate) fn last_word(text: &[u8]) -> Option<&[u8]>
+pub fn last_word(text: &[u8]) -> Option<&[u8]>
     ensures { option_copied result ≡ last_word_of text.now }
 {
     let (word, rest) = next_word(text)?;
@@ -91,7 +91,7 @@ pub(crate) fn last_word(text: &[u8]) -> Option<&[u8]>
 }
 
 /// Whether the word is a letter a to z and then letters a to z, digits and `_`, of at most that many bytes.
-pub(crate) fn is_name(most: usize, word: &[u8]) -> bool
+pub fn is_name(most: usize, word: &[u8]) -> bool
     ensures name { result ≡ is_name_of most word.now }
     ensures ascii { result ≡ true → All (λ b. b < 128) word.now }
 {
@@ -102,7 +102,7 @@ pub(crate) fn is_name(most: usize, word: &[u8]) -> bool
 }
 
 /// A name for something new, and what follows it.
-pub(crate) fn new_name(text: &[u8]) -> Option<(&[u8], &[u8])>
+pub fn new_name(text: &[u8]) -> Option<(&[u8], &[u8])>
     ensures name { option_map (λ x. (x.0.now, x.1.now)) result ≡ new_name_of text.now }
     ensures ascii { IfSome result (λ x. All (λ b. b < 128) x.0.now) }
     ensures short { IfSome result (λ x. length x.1.now ≤ length text.now) }

@@ -9,7 +9,7 @@ use Rattle.cf_row.specs.declared.schema.SchemaFault.TheVariants.{TooMany, NameTw
 use Rattle.cf_row.specs.Schema.{IsSchema, HasFault}
 use Rattle.cf_filter.specs.declared.bytes.Class.TheVariants as classes
 use Rattle.cf_filter.specs.Tokens.{passes, run, past, is_between}
-use Rattle.cf_setup.specs.Schemas.{member_at, attrs_at, is_schema, schema_at}
+use Rattle.cf_lines.specs.Schemas.{member_at, attrs_at, is_schema, schema_at}
 
 -- the attributes so far and those of the members that are left
 abbrev pub read_on : List Attr → ℕ → List ℕ → Option (List Attr)

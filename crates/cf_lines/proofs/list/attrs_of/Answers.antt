@@ -2,9 +2,9 @@ use Rattle.std.proofs.Common.{◌≡◌, ◌-◌, ◌+◌, ◌==◌, suc, length
 use Rattle.cf_row.specs.declared.schema.Attr.{Attr}
 use Rattle.cf_filter.specs.declared.bytes.Class.TheVariants as classes
 use Rattle.cf_filter.specs.Tokens.{run, past}
-use Rattle.cf_setup.specs.Schemas.{member_at, attrs_at}
-use Rattle.cf_setup.proofs.Members.{read_on, read_bad, read_last, read_more, read_full}
-use Rattle.cf_setup.proofs.list.attrs_of.Goals as goal
+use Rattle.cf_lines.specs.Schemas.{member_at, attrs_at}
+use Rattle.cf_lines.proofs.Members.{read_on, read_bad, read_last, read_more, read_full}
+use Rattle.cf_lines.proofs.list.attrs_of.Goals as goal
 
 pub returns-in_default : goal.returns-in_default
 returns-in_default c =

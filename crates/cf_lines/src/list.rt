@@ -2,7 +2,7 @@
 ghost use Rattle.std.specs.Prelude.{◌≡◌, ℕ, List, ◌≤◌, ◌<◌, length, IfOk, IfSome, All};
 ghost use Rattle.std.specs.Option.{option_map};
 ghost use Rattle.cf_row.specs.Schema.{IsSchema};
-ghost use Rattle.cf_setup.specs.Schemas.{size_at, kind_named, member_at, attrs_at, is_schema, schema_at};
+ghost use Rattle.cf_lines.specs.Schemas.{size_at, kind_named, member_at, attrs_at, is_schema, schema_at};
 
 use crate::lines::is_name;
 use cf_filter::{Class, strip};
@@ -78,7 +78,7 @@ fn attrs_of(alloc: Global, list: &[u8]) -> Result<Option<Vec<Attr>>, Memory>
 
 /// The schema that the list states.
 #[tactic(auto, using(crate::proofs::Members::schema_some, crate::proofs::Members::schema_none))]
-pub(crate) fn schema_of(alloc: Global, list: &[u8]) -> Result<Option<Schema>, Memory>
+pub fn schema_of(alloc: Global, list: &[u8]) -> Result<Option<Schema>, Memory>
     ensures { IfOk result (λ read. read ≡ schema_at list.now) }
 {
     let Some(attrs) = attrs_of(alloc, list)? else {

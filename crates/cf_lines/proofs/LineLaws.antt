@@ -4,7 +4,7 @@ use Rattle.std.specs.List.{prefix_len}
 use Rattle.std.specs.Str.Lines.{strip_carriage_return}
 use Rattle.cf_filter.specs.declared.bytes.Class.TheVariants.{Except}
 use Rattle.cf_filter.specs.Tokens.{passes}
-use Rattle.cf_setup.specs.Lines.{lines_after, lines_of}
+use Rattle.cf_lines.specs.Lines.{lines_after, lines_of}
 
 one_more : (n : ℕ) → 1 + n ≡ suc n
 one_more n = omega arith

@@ -18,9 +18,9 @@ use Rattle.cf_filter.specs.Values.{is_run_of}
 use Rattle.cf_filter.proofs.Runs.{run_is, run_only, strip_found}
 use Rattle.cf_filter.proofs.ValueLaws.{run_all}
 use Rattle.cf_filter.proofs.Parts.{some_len, empty_is}
-use Rattle.cf_setup.specs.Lines.{is_name}
-use Rattle.cf_setup.specs.Schemas.{size_text, kind_text, member_text, is_spelled, ListText, size_at, kind_named, member_at, attrs_at, is_schema, schema_at}
-use Rattle.cf_setup.proofs.Members.{schema_is}
+use Rattle.cf_lines.specs.Lines.{is_name}
+use Rattle.cf_lines.specs.Schemas.{size_text, kind_text, member_text, is_spelled, ListText, size_at, kind_named, member_at, attrs_at, is_schema, schema_at}
+use Rattle.cf_lines.proofs.Members.{schema_is}
 
 -- sizes
 

@@ -1,0 +1,3 @@
+mod LineLaws
+pub mod Members
+pub mod SchemaLaws
