@@ -11,9 +11,10 @@ use Rattle.cf_setup.specs.declared.statement.Statement.{Statement}
 use Rattle.cf_setup.specs.declared.statement.Statement.TheVariants as statements
 use Rattle.cf_setup.specs.declared.statement.Question.{Question}
 use Rattle.cf_setup.specs.declared.statement.Question.TheVariants as questions
+use Rattle.cf_setup.specs.declared.ask_buckets.Buckets.TheVariants as buckets
 use Rattle.cf_lines.specs.Lines.{is_blank, next_word, last_word, new_name}
-use Rattle.cf_setup.specs.Forms.{Form, is_schema_form, part_named, sign_named, question_named, schema_words, three_words, question_form, form_at}
-use Rattle.cf_setup.specs.Forms.Form.{packet_schema, record_schema, bucket_width, new_index, new_filter, new_aggregate, new_trigger, ask_list, ask_find, ask_between, ask_measure, ask_fired, ask_live}
+use Rattle.cf_setup.specs.Forms.{Form, is_schema_form, part_named, sign_named, question_named, schema_words, three_words, ranking_words, question_form, form_at}
+use Rattle.cf_setup.specs.Forms.Form.{packet_schema, record_schema, bucket_width, new_index, new_filter, new_aggregate, new_tally, new_trigger, ask_list, ask_find, ask_buckets, ask_fired, ask_top, ask_total, ask_live}
 use Rattle.cf_setup.specs.Drafts.{DraftValue}
 use Rattle.cf_setup.specs.SetupText.{is_schema_statement, is_later, is_in_place}
 
@@ -55,9 +56,11 @@ schema_fits word rest form h = by (bytes_eq word (codes "packet")) (is_blank res
 question_fits : (question : Question) (name text : List ℕ) (form : Form) → question_form question name text ≡ Some form → Fits statements.Ask form
 question_fits questions.List name text form h = fits_as statements.Ask form (ask_list name text) (some_same h) refl refl
 question_fits questions.Find name text form h = let m = mapped (λ words. ask_find name words.0 words.1 words.2) (three_words text) form h in fits_as statements.Ask form (ask_find name m.0.0 m.0.1 m.0.2) m.1 refl refl
-question_fits questions.Between name text form h = let m = mapped (λ words. ask_between name words.0 words.1 words.2) (three_words text) form h in fits_as statements.Ask form (ask_between name m.0.0 m.0.1 m.0.2) m.1 refl refl
-question_fits questions.Measure name text form h = let m = mapped (λ words. ask_measure name words.0 words.1 words.2) (three_words text) form h in fits_as statements.Ask form (ask_measure name m.0.0 m.0.1 m.0.2) m.1 refl refl
+question_fits questions.Between name text form h = let m = mapped (λ words. ask_buckets buckets.Between name words.0 words.1 words.2) (three_words text) form h in fits_as statements.Ask form (ask_buckets buckets.Between name m.0.0 m.0.1 m.0.2) m.1 refl refl
+question_fits questions.Measure name text form h = let m = mapped (λ words. ask_buckets buckets.Measure name words.0 words.1 words.2) (three_words text) form h in fits_as statements.Ask form (ask_buckets buckets.Measure name m.0.0 m.0.1 m.0.2) m.1 refl refl
 question_fits questions.Fired name text form h = let m = mapped (ask_fired name) (last_word text) form h in fits_as statements.Ask form (ask_fired name m.0) m.1 refl refl
+question_fits questions.Top name text form h = let m = mapped (λ words. ask_top name words.0 words.1 words.2) (ranking_words text) form h in fits_as statements.Ask form (ask_top name m.0.0 m.0.1 m.0.2) m.1 refl refl
+question_fits questions.Total name text form h = let m = mapped (λ attr. ask_total name attr.0 attr.1) (next_word text) form h in fits_as statements.Ask form (ask_total name m.0.0 m.0.1) m.1 refl refl
 
 pub form_fits : (statement : Statement) (text : List ℕ) (form : Form) → form_at statement text ≡ Some form → Fits statement form
 form_fits statements.Schema text form h = option_and_then_some _ (next_word text) form h (λ word e k. schema_fits word.0 word.1 form k)
@@ -72,6 +75,11 @@ form_fits statements.Aggregate text form h =
     option_and_then_some _ (next_word name.1) form k (λ filter f l.
     option_and_then_some _ (last_word filter.1) form l (λ attr g m.
     fits_as statements.Aggregate form (new_aggregate name.0 filter.0 attr) (some_same m) refl refl)))
+form_fits statements.Tally text form h =
+    option_and_then_some _ (new_name text) form h (λ name e k.
+    option_and_then_some _ (next_word name.1) form k (λ attr f l.
+    option_and_then_some _ (next_word attr.1) form l (λ measure g m.
+    fits_as statements.Tally form (new_tally name.0 attr.0 measure.0 measure.1) (some_same m) refl refl)))
 form_fits statements.Trigger text form h =
     option_and_then_some _ (new_name text) form h (λ name e0 k0.
     option_and_then_some _ (next_word name.1) form k0 (λ aggregate e1 k1.

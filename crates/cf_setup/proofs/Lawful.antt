@@ -3,7 +3,7 @@ use Rattle.std.proofs.Common.{◌≡◌, ℕ, zero, suc, ◌+◌, ◌≤◌, ◌
 use Rattle.std.specs.List.{list_all}
 use Rattle.std.specs.Option.{unwrap_or}
 use Rattle.std.specs.Str.{bytes_eq}
-use Rattle.std.proofs.lemmas.Bool.{and_parts, and_from, false≢true, leb-true, leb-false, lt-ltb, ltb-true}
+use Rattle.std.proofs.lemmas.Bool.{and_parts, and_from, false≢true, leb-true, leb-false, le-leb, lt-ltb, ltb-true}
 use Rattle.std.proofs.lemmas.Option.{option_and_then_some, cond_some, slice_get_within, get_or_from_slice_get}
 use Rattle.std.proofs.lemmas.List.{get_or_append_left}
 use Rattle.std.proofs.lemmas.List.Folds.{list_all-append}
@@ -18,19 +18,21 @@ use Rattle.cf_shape.specs.declared.lane.Lane.{Lane}
 use Rattle.cf_shape.specs.Lanes.{ShapeValue, no_lane, lane_at, is_number, is_narrow, is_lawful_key, is_lawful_measure, is_lawful_lane, option_passes}
 use Rattle.cf_plain.specs.declared.ask.Ask.{Ask}
 use Rattle.cf_plain.specs.declared.ask.Ask.TheVariants as asks
-use Rattle.cf_plain.specs.Asks.{exists, is_attr, is_indexed, is_bucketed, is_aggregate as is_aggregate_at, suits_trigger, suits_of}
+use Rattle.cf_plain.specs.Asks.{exists, is_attr, is_indexed, is_bucketed, is_aggregate as is_aggregate_at, is_tally as is_tally_at, suits_trigger, suits_of}
 use Rattle.cf_filter.specs.Reading.{attr_named}
 use Rattle.cf_filter.specs.Grammar.{ExprRead}
 use Rattle.cf_filter.proofs.Lawful.{named_stands, expr_fits}
+use Rattle.cf_setup.specs.declared.ask_buckets.Buckets.{Buckets}
+use Rattle.cf_setup.specs.declared.ask_buckets.Buckets.TheVariants as buckets
 use Rattle.cf_setup.specs.declared.statement.Statement.{Statement}
 use Rattle.cf_setup.specs.declared.statement.Statement.TheVariants as statements
 use Rattle.cf_lines.specs.Lines.{is_silent, word_at}
-use Rattle.cf_setup.specs.Drafts.{DraftValue, nothing_stated, attrs_of, with_lane, with_trigger, with_ask, index_over, filter_by, aggregate_by}
+use Rattle.cf_setup.specs.Drafts.{DraftValue, nothing_stated, attrs_of, with_lane, with_trigger, with_ask, index_over, filter_by, aggregate_by, tally_by}
 use Rattle.cf_setup.specs.Setups.{settled, shaped, IsSetup, IsDraft}
 use Rattle.cf_setup.specs.Few.{IsFew}
 use Rattle.cf_setup.specs.Forms.{Form, is_schema_form}
-use Rattle.cf_setup.specs.Forms.Form.{packet_schema, record_schema, bucket_width, new_index, new_filter, new_aggregate, new_trigger, ask_list, ask_find, ask_between, ask_measure, ask_fired, ask_live}
-use Rattle.cf_setup.specs.Named.{place_in, is_index, is_filter, is_aggregate, lane_named, trigger_named}
+use Rattle.cf_setup.specs.Forms.Form.{packet_schema, record_schema, bucket_width, new_index, new_filter, new_aggregate, new_tally, new_trigger, ask_list, ask_find, ask_buckets, ask_fired, ask_top, ask_total, ask_live}
+use Rattle.cf_setup.specs.Named.{place_in, is_index, is_filter, is_aggregate, is_tally, is_of, family_of, asked_of, lane_named, trigger_named}
 use Rattle.cf_setup.specs.Rules.{rules, IsBroken}
 use Rattle.cf_setup.specs.Adds.{Adds, with_schema}
 use Rattle.cf_setup.specs.SetupText.{is_schema_statement, is_later, is_in_place, States, LineRead}
@@ -88,6 +90,12 @@ aggregate_more s lane k h =
     let there = and_parts (exists s k) (not (is_attr (lane_at s k).key)) both.0 in
     and_from (is_bucketed (grown s lane) k) (is_some (lane_at (grown s lane) k).measure) (bucketed_more s lane k both.0) (ap (λ l. is_some l.measure) (lane_kept s lane k there.0) ∙ both.1)
 
+tally_more : (s : ShapeValue) (lane : Lane) (k : ℕ) → is_tally_at s k ≡ true → is_tally_at (grown s lane) k ≡ true
+tally_more s lane k h =
+    let both = and_parts (is_indexed s k) (is_some (lane_at s k).measure) h in
+    let there = and_parts (exists s k) (is_attr (lane_at s k).key) both.0 in
+    and_from (is_indexed (grown s lane) k) (is_some (lane_at (grown s lane) k).measure) (indexed_more s lane k both.0) (ap (λ l. is_some l.measure) (lane_kept s lane k there.0) ∙ both.1)
+
 trigger_more : (s : ShapeValue) (lane : Lane) (trigger : Trigger) → suits_trigger s trigger ≡ true → suits_trigger (grown s lane) trigger ≡ true
 trigger_more s lane trigger h =
     let both = and_parts (is_aggregate_at s trigger.agg) (not (is_within trigger.op)) h in
@@ -99,6 +107,11 @@ ask_more s lane (asks.Find k low high) h = indexed_more s lane k h
 ask_more s lane (asks.Between k low high) h = bucketed_more s lane k h
 ask_more s lane (asks.Measure k low high) h = aggregate_more s lane k h
 ask_more s lane (asks.Fired trigger) h = trigger_more s lane trigger h
+ask_more s lane (asks.Top k part n) h =
+    let both = and_parts (is_tally_at s k && nat_le 1 n) (nat_le n 1000) h in
+    let first = and_parts (is_tally_at s k) (nat_le 1 n) both.0 in
+    and_from (is_tally_at (grown s lane) k && nat_le 1 n) (nat_le n 1000) (and_from (is_tally_at (grown s lane) k) (nat_le 1 n) (tally_more s lane k first.0) first.1) both.1
+ask_more s lane (asks.Total attr expr) h = h
 
 below : (a b : ℕ) → (b ≤ a → ⊥) → a < b
 below a b h = by (nat_le b a) refl
@@ -256,6 +269,17 @@ module _ (before : DraftValue) (attrs : List Attr) (is : IsSetup (settled before
       let both = and_parts (is_attr lane.key) (not (is_some lane.measure)) there.1 in
       and_from (exists (shaped (settled before attrs) c w n) found.0) (is_attr lane.key) there.0 both.0
 
+  buckets_suit : (what : Buckets) (name : List ℕ) (found : ℕ × Lane) (first last c w n : ℕ) → lane_named (is_of (family_of what)) before name ≡ Some found → suits_of (shaped (settled before attrs) c w n) (asked_of what found.0 first last) ≡ true
+  buckets_suit buckets.Between name found first last c w n h = filter_there name found c w n h
+  buckets_suit buckets.Measure name found first last c w n h = aggregate_there name found c w n h
+
+  tally_there : (name : List ℕ) (found : ℕ × Lane) (c w n : ℕ) → lane_named is_tally before name ≡ Some found → is_tally_at (shaped (settled before attrs) c w n) found.0 ≡ true
+  tally_there name found c w n h =
+      let there = lane_there is_tally name found c w n h in
+      let lane : Lane = lane_at (shaped (settled before attrs) c w n) found.0 in
+      let both = and_parts (is_attr lane.key) (is_some lane.measure) there.1 in
+      and_from (is_indexed (shaped (settled before attrs) c w n) found.0) (is_some lane.measure) (and_from (exists (shaped (settled before attrs) c w n) found.0) (is_attr lane.key) there.0 both.0) both.1
+
   trigger_suits : (name : List ℕ) (found : Trigger) (c w n : ℕ) → trigger_named before name ≡ Some found → suits_trigger (shaped (settled before attrs) c w n) found ≡ true
   trigger_suits name found c w n h =
       option_and_then_some _ (place_in before.trigger_names name) found h (λ place e k.
@@ -285,6 +309,13 @@ aggregate_lawful attrs lane name found lawful e h =
     let last = and_parts (is_of_schema attrs lane.select && is_lawful_key attrs lane.key) (is_lawful_measure attrs lane.measure) lawful in
     let first = and_parts (is_of_schema attrs lane.select) (is_lawful_key attrs lane.key) last.0 in
     and_from (is_of_schema attrs lane.select && true) (option_passes is_narrow (slice_get attrs found.0)) (and_from (is_of_schema attrs lane.select) true first.0 refl) (passes_at is_narrow attrs name found e h)
+
+tally_lawful : (attrs : List Attr) (attr measure text : List ℕ) (key measured : ℕ × Kind) (expr : List (List Atom))
+    → attr_named attrs attr ≡ Some key → attr_named attrs measure ≡ Some measured → is_number key.1 ≡ true → is_narrow measured.1 ≡ true → ExprRead attrs text (Ok expr) → is_lawful_lane attrs (tally_by expr key.0 measured.0) ≡ true
+tally_lawful attrs attr measure text key measured expr e f number narrow h =
+    and_from (is_of_schema attrs expr && option_passes is_number (slice_get attrs key.0)) (option_passes is_narrow (slice_get attrs measured.0))
+    (and_from (is_of_schema attrs expr) (option_passes is_number (slice_get attrs key.0)) (expr_fits attrs text expr h) (passes_at is_number attrs attr key e number))
+    (passes_at is_narrow attrs measure measured f narrow)
 
 -- schemas
 
@@ -345,6 +376,20 @@ later line before (new_aggregate name filter attr) new attrs e is k sign s h =
       lane_step before attrs is name (aggregate_by lane.1.select found.0) (λ full. s 9 (inr (inr (inr (inr (inl (refl, full)))))))
           (aggregate_lawful attrs lane.1 attr found (lane_lawful before attrs is is_filter filter lane h.2) known passes),
     )
+later line before (new_tally name attr measure expr) new attrs e is k sign s h =
+    let key = h.0 in
+    let measured = h.1 in
+    let same : attrs_of before ≡ attrs = ap (λ o. unwrap_or o []) e in
+    let key_known : attr_named attrs attr ≡ Some key = ap (λ a. attr_named a attr) (sym same) ∙ h.3 in
+    let measured_known : attr_named attrs measure ≡ Some measured = ap (λ a. attr_named a measure) (sym same) ∙ h.4 in
+    let read : ExprRead attrs expr (Ok h.2) = subst (λ (a : List Attr). ExprRead a expr (Ok h.2)) same h.5 in
+    let number = kind_passes is_number (attr_named (attrs_of before) attr) key (λ b. s 8 (inr (inr (inr (inl (refl, b)))))) h.3 in
+    let narrow = kind_passes is_narrow (attr_named (attrs_of before) measure) measured (λ b. s 8 (inr (inr (inr (inr (inl (refl, b))))))) h.4 in
+    subst (λ (x : DraftValue). (x.schema ≡ Some attrs) × IsSetup (settled x attrs)) (sym h.6) (
+      e,
+      lane_step before attrs is name (tally_by h.2 key.0 measured.0) (λ full. s 9 (inr (inr (inr (inr (inr (inl (refl, full))))))))
+          (tally_lawful attrs attr measure expr key measured h.2 key_known measured_known number narrow read),
+    )
 later line before (new_trigger name aggregate part op number) new attrs e is k sign s h =
     let lane = h.0 in
     let n = h.1 in
@@ -362,17 +407,32 @@ later line before (ask_find name index low high) new attrs e is k sign s h =
     let lane = h.0 in
     subst (λ (x : DraftValue). (x.schema ≡ Some attrs) × IsSetup (settled x attrs)) (sym h.7)
     (e, ask_step before attrs is name (asks.Find lane.0 h.2 h.3) (λ full. s 9 (inr (inr (inr (inr (inl (refl, full))))))) (λ c w n. index_there before attrs is index lane c w n h.4))
-later line before (ask_between name filter low high) new attrs e is k sign s h =
-    let lane = h.0 in
+later line before (ask_buckets what name lane low high) new attrs e is k sign s h =
+    let found = h.0 in
     subst (λ (x : DraftValue). (x.schema ≡ Some attrs) × IsSetup (settled x attrs)) (sym h.5)
-    (e, ask_step before attrs is name (asks.Between lane.0 h.1 h.2) (λ full. s 9 (inr (inr (inr (inr (inl (refl, full))))))) (λ c w n. filter_there before attrs is filter lane c w n h.3))
-later line before (ask_measure name aggregate low high) new attrs e is k sign s h =
-    let lane = h.0 in
-    subst (λ (x : DraftValue). (x.schema ≡ Some attrs) × IsSetup (settled x attrs)) (sym h.5)
-    (e, ask_step before attrs is name (asks.Measure lane.0 h.1 h.2) (λ full. s 9 (inr (inr (inr (inr (inl (refl, full))))))) (λ c w n. aggregate_there before attrs is aggregate lane c w n h.3))
+    (e, ask_step before attrs is name (asked_of what found.0 h.1 h.2) (λ full. s 9 (inr (inr (inr (inr (inl (refl, full))))))) (λ c w n. buckets_suit before attrs is what lane found h.1 h.2 c w n h.3))
 later line before (ask_fired name trigger) new attrs e is k sign s h =
     subst (λ (x : DraftValue). (x.schema ≡ Some attrs) × IsSetup (settled x attrs)) (sym h.2)
     (e, ask_step before attrs is name (asks.Fired h.0) (λ full. s 9 (inr (inr (inl (refl, full))))) (λ c w n. trigger_suits before attrs is trigger h.0 c w n h.1))
+later line before (ask_top name tally part count) new attrs e is k sign s h =
+    let lane = h.0 in
+    let n = h.1 in
+    subst (λ (x : DraftValue). (x.schema ≡ Some attrs) × IsSetup (settled x attrs)) (sym h.6) (
+      e,
+      ask_step before attrs is name (asks.Top lane.0 part n) (λ full. s 9 (inr (inr (inr (inl (refl, full))))))
+          (λ c w m. and_from (is_tally_at (shaped (settled before attrs) c w m) lane.0 && nat_le 1 n) (nat_le n 1000) (and_from (is_tally_at (shaped (settled before attrs) c w m) lane.0) (nat_le 1 n) (tally_there before attrs is tally lane c w m h.2) (le-leb 1 n h.4)) (le-leb n 1000 h.5)),
+    )
+later line before (ask_total name attr expr) new attrs e is k sign s h =
+    let found = h.0 in
+    let same : attrs_of before ≡ attrs = ap (λ o. unwrap_or o []) e in
+    let known : attr_named attrs attr ≡ Some found = ap (λ a. attr_named a attr) (sym same) ∙ h.2 in
+    let read : ExprRead attrs expr (Ok h.1) = subst (λ (a : List Attr). ExprRead a expr (Ok h.1)) same h.3 in
+    let narrow = kind_passes is_narrow (attr_named (attrs_of before) attr) found (λ b. s 8 (inr (inr (inl (refl, b))))) h.2 in
+    subst (λ (x : DraftValue). (x.schema ≡ Some attrs) × IsSetup (settled x attrs)) (sym h.4) (
+      e,
+      ask_step before attrs is name (asks.Total found.0 h.1) (λ full. s 9 (inr (inr (inr (inl (refl, full))))))
+          (λ c w n. and_from (is_of_schema attrs h.1) (option_passes is_narrow (slice_get attrs found.0)) (expr_fits attrs expr h.1 read) (passes_at is_narrow attrs attr found known narrow)),
+    )
 later line before (ask_live ask) new attrs e is k sign s h =
     subst (λ (x : DraftValue). (x.schema ≡ Some attrs) × IsSetup (settled x attrs)) (sym h.2) (e, live_step before attrs is ask h.0 h.1)
 
@@ -385,12 +445,14 @@ started line (bucket_width number) new k h = absurd (false≢true k)
 started line (new_index name attr) new k h = absurd (false≢true k)
 started line (new_filter name expr) new k h = absurd (false≢true k)
 started line (new_aggregate name filter attr) new k h = absurd (false≢true k)
+started line (new_tally name attr measure expr) new k h = absurd (false≢true k)
 started line (new_trigger name aggregate part op number) new k h = absurd (false≢true k)
 started line (ask_list name expr) new k h = absurd (false≢true k)
 started line (ask_find name index low high) new k h = absurd (false≢true k)
-started line (ask_between name filter low high) new k h = absurd (false≢true k)
-started line (ask_measure name aggregate low high) new k h = absurd (false≢true k)
+started line (ask_buckets what name lane low high) new k h = absurd (false≢true k)
 started line (ask_fired name trigger) new k h = absurd (false≢true k)
+started line (ask_top name tally part count) new k h = absurd (false≢true k)
+started line (ask_total name attr expr) new k h = absurd (false≢true k)
 started line (ask_live ask) new k h = absurd (false≢true k)
 
 draft_after : (new : DraftValue) (attrs : List Attr) → new.schema ≡ Some attrs → IsSetup (settled new attrs) → IsDraft new
@@ -408,6 +470,7 @@ not_later before statements.Width h = refl
 not_later before statements.Index h = refl
 not_later before statements.Filter h = refl
 not_later before statements.Aggregate h = refl
+not_later before statements.Tally h = refl
 not_later before statements.Trigger h = refl
 not_later before statements.Ask h = refl
 not_later before statements.Live h = refl

@@ -1,5 +1,5 @@
 -- Rules are tested just as they are said.
-use Rattle.std.proofs.Common.{◌≡◌, ℕ, ◌≤◌, ◌^◌, List, [], ◌∷◌, length, Bool, true, false, ◌&&◌, not, cond, nat_le, Option, Some, None, Result, Ok, Err, refl, sym, ap, ◌∙◌, inl, inr, arith, subst, is_none}
+use Rattle.std.proofs.Common.{◌≡◌, ℕ, ◌≤◌, List, [], ◌∷◌, length, Bool, true, false, ◌&&◌, not, cond, nat_le, Option, Some, None, Result, Ok, Err, refl, sym, ap, ◌∙◌, inl, inr, arith, subst, is_none}
 use Rattle.std.specs.Option.{option_and_then}
 use Rattle.std.proofs.lemmas.Bool.{false≢true, leb-true, le-leb, and_parts}
 use Rattle.cf_row.specs.declared.schema.Attr.{Attr}
@@ -20,12 +20,12 @@ use Rattle.cf_filter.proofs.ValueLaws.{value_only, value_found}
 use Rattle.cf_filter.proofs.ExprLaws.{expr_only}
 use Rattle.cf_setup.specs.Drafts.{DraftValue, attrs_of}
 use Rattle.cf_setup.specs.Forms.{Form}
-use Rattle.cf_setup.specs.Forms.Form.{packet_schema, record_schema, bucket_width, new_index, new_filter, new_aggregate, new_trigger, ask_list, ask_find, ask_between, ask_measure, ask_fired, ask_live}
-use Rattle.cf_setup.specs.Named.{place_in, is_index, is_filter, is_aggregate, lane_named, trigger_named, index_kind}
+use Rattle.cf_setup.specs.Forms.Form.{packet_schema, record_schema, bucket_width, new_index, new_filter, new_aggregate, new_tally, new_trigger, ask_list, ask_find, ask_buckets, ask_fired, ask_top, ask_total, ask_live}
+use Rattle.cf_setup.specs.Named.{place_in, is_of, lane_named, trigger_named, index_kind}
 use Rattle.cf_lines.specs.Schemas.{schema_at}
 use Rattle.cf_setup.specs.Rules.{Rule, Broken, rules, expr_rules, IsBroken}
-use Rattle.cf_setup.specs.Rules.Rule.{schema_list, free_name, live_once, known_attr, known_index, known_filter, known_aggregate, known_trigger, known_ask, a_number, a_width, a_key, number_attr, narrow_attr, lane_room, trigger_room, ask_room, no_offence}
-use Rattle.cf_setup.specs.Reading.{number_in_value, number_of, width_of, key_in, key_of, is_live, fails, same_offence, offends, is_broken, first_broken}
+use Rattle.cf_setup.specs.Rules.Rule.{schema_list, free_name, live_once, known_attr, known_lane, known_trigger, known_ask, a_number, a_number_from, a_key, number_attr, narrow_attr, lane_room, trigger_room, ask_room, no_offence}
+use Rattle.cf_setup.specs.Reading.{number_in_value, number_of, number_from, key_in, key_of, is_live, fails, same_offence, offends, is_broken, first_broken}
 use Rattle.cf_lines.proofs.SchemaLaws.{schema_only, schema_found}
 
 -- options
@@ -47,27 +47,27 @@ number_found kind text n h = by (value_at kind text) refl h
     by (Some (Raw len bytes)) e k = cc
     by (Some (Num m)) e k = let same : m ≡ n = cc in subst (λ (x : ℕ). ValueText kind text (Num x)) same (value_found kind text (Num m) e)
 
-pub record IsWidth (text : List ℕ) (n : ℕ) : Type 0 where
+pub record IsFrom (low high : ℕ) (text : List ℕ) (n : ℕ) : Type 0 where
   pub value : ValueText U64 text (Num n)
-  pub low : 1 ≤ n
-  pub high : n ≤ 2 ^ 63
+  pub least : low ≤ n
+  pub most : n ≤ high
 
-pub width_only : (text : List ℕ) (n : ℕ) → ValueText U64 text (Num n) → 1 ≤ n → n ≤ 2 ^ 63 → width_of text ≡ Some n
-width_only text n h low high = rw (number_only U64 text n h, le-leb 1 n low, le-leb n (2 ^ 63) high) refl
+pub from_only : (low high : ℕ) (text : List ℕ) (n : ℕ) → ValueText U64 text (Num n) → low ≤ n → n ≤ high → number_from low high text ≡ Some n
+from_only low high text n h least most = rw (number_only U64 text n h, le-leb low n least, le-leb n high most) refl
 
-pub width_found : (text : List ℕ) (n : ℕ) → width_of text ≡ Some n → IsWidth text n
-width_found text n h = by (number_of U64 text) refl h
+pub from_found : (low high : ℕ) (text : List ℕ) (n : ℕ) → number_from low high text ≡ Some n → IsFrom low high text n
+from_found low high text n h = by (number_of U64 text) refl h
   where
-    in_range : (m : ℕ) → number_of U64 text ≡ Some m → (b : Bool) → (nat_le 1 m && nat_le m (2 ^ 63)) ≡ b → cond b (Some m) None ≡ Some n → IsWidth text n
+    in_range : (m : ℕ) → number_of U64 text ≡ Some m → (b : Bool) → (nat_le low m && nat_le m high) ≡ b → cond b (Some m) None ≡ Some n → IsFrom low high text n
     in_range m e false b k = cc
     in_range m e true b k =
         let same : m ≡ n = cc in
-        let both = and_parts (nat_le 1 m) (nat_le m (2 ^ 63)) b in
-        subst (IsWidth text) same (record { value = number_found U64 text m e; low = leb-true 1 m both.0; high = leb-true m (2 ^ 63) both.1 })
+        let both = and_parts (nat_le low m) (nat_le m high) b in
+        subst (IsFrom low high text) same (record { value = number_found U64 text m e; least = leb-true low m both.0; most = leb-true m high both.1 })
 
-    by : (o : Option ℕ) → number_of U64 text ≡ o → option_and_then (λ m. cond (nat_le 1 m && nat_le m (2 ^ 63)) (Some m) None) o ≡ Some n → IsWidth text n
+    by : (o : Option ℕ) → number_of U64 text ≡ o → option_and_then (λ m. cond (nat_le low m && nat_le m high) (Some m) None) o ≡ Some n → IsFrom low high text n
     by None e k = cc
-    by (Some m) e k = in_range m e (nat_le 1 m && nat_le m (2 ^ 63)) refl k
+    by (Some m) e k = in_range m e (nat_le low m && nat_le m high) refl k
 
 -- expressions
 
@@ -138,13 +138,11 @@ broken_from before (live_once ask) h = by (place_in before.ask_names ask) refl h
     by None e k = absurd (false≢true k)
     by (Some place) e k = (place, e, k)
 broken_from before (known_attr name) h = none_is (attr_named (attrs_of before) name) h
-broken_from before (known_index name) h = none_is (lane_named is_index before name) h
-broken_from before (known_filter name) h = none_is (lane_named is_filter before name) h
-broken_from before (known_aggregate name) h = none_is (lane_named is_aggregate before name) h
+broken_from before (known_lane family name) h = none_is (lane_named (is_of family) before name) h
 broken_from before (known_trigger name) h = none_is (trigger_named before name) h
 broken_from before (known_ask name) h = none_is (place_in before.ask_names name) h
 broken_from before (a_number text) h = λ n v. let none = none_is (number_of U64 text) h in let some = number_only U64 text n v in cc
-broken_from before (a_width text) h = λ n v low high. let none = none_is (width_of text) h in let some = width_only text n v low high in cc
+broken_from before (a_number_from low high text) h = λ n v least most. let none = none_is (number_from low high text) h in let some = from_only low high text n v least most in cc
 broken_from before (a_key index text) h = λ kind e n v. let none = none_is (key_of before index text) h in let some : key_of before index text ≡ Some n = ap (λ o. key_in o text) e ∙ number_only kind text n v in cc
 broken_from before (number_attr name) h = fails_from is_number (attr_named (attrs_of before) name) h
 broken_from before (narrow_attr name) h = fails_from is_narrow (attr_named (attrs_of before) name) h
@@ -168,9 +166,7 @@ broken_to before (schema_list list) h = by (schema_at list) refl
 broken_to before (free_name name) h = h
 broken_to before (live_once ask) h = ap (is_live before) h.1 ∙ h.2
 broken_to before (known_attr name) h = ap is_none h
-broken_to before (known_index name) h = ap is_none h
-broken_to before (known_filter name) h = ap is_none h
-broken_to before (known_aggregate name) h = ap is_none h
+broken_to before (known_lane family name) h = ap is_none h
 broken_to before (known_trigger name) h = ap is_none h
 broken_to before (known_ask name) h = ap is_none h
 broken_to before (a_number text) h = by (number_of U64 text) refl
@@ -178,11 +174,11 @@ broken_to before (a_number text) h = by (number_of U64 text) refl
     by : (o : Option ℕ) → number_of U64 text ≡ o → is_none o ≡ true
     by None e = refl
     by (Some n) e = absurd (h n (number_found U64 text n e))
-broken_to before (a_width text) h = by (width_of text) refl
+broken_to before (a_number_from low high text) h = by (number_from low high text) refl
   where
-    by : (o : Option ℕ) → width_of text ≡ o → is_none o ≡ true
+    by : (o : Option ℕ) → number_from low high text ≡ o → is_none o ≡ true
     by None e = refl
-    by (Some n) e = let w = width_found text n e in absurd (h n w.value w.low w.high)
+    by (Some n) e = let found = from_found low high text n e in absurd (h n found.value found.least found.most)
 broken_to before (a_key index text) h = by (index_kind before index) refl
   where
     by_number : (kind : Kind) → index_kind before index ≡ Some kind → (o : Option ℕ) → number_of kind text ≡ o → is_none o ≡ true
@@ -248,10 +244,12 @@ ascends (bucket_width number) = (omega arith, tt)
 ascends (new_index name attr) = (omega arith, (omega arith, (omega arith, (omega arith, tt))))
 ascends (new_filter name expr) = (omega arith, (omega arith, expr_ascends expr))
 ascends (new_aggregate name filter attr) = (omega arith, (omega arith, (omega arith, (omega arith, (omega arith, tt)))))
+ascends (new_tally name attr measure expr) = (omega arith, (omega arith, (omega arith, (omega arith, (omega arith, (omega arith, expr_ascends expr))))))
 ascends (new_trigger name aggregate part op number) = (omega arith, (omega arith, (omega arith, (omega arith, tt))))
 ascends (ask_list name expr) = (omega arith, (omega arith, expr_ascends expr))
 ascends (ask_find name index low high) = (omega arith, (omega arith, (omega arith, (omega arith, (omega arith, tt)))))
-ascends (ask_between name filter low high) = (omega arith, (omega arith, (omega arith, (omega arith, (omega arith, tt)))))
-ascends (ask_measure name aggregate low high) = (omega arith, (omega arith, (omega arith, (omega arith, (omega arith, tt)))))
+ascends (ask_buckets what name lane low high) = (omega arith, (omega arith, (omega arith, (omega arith, (omega arith, tt)))))
 ascends (ask_fired name trigger) = (omega arith, (omega arith, (omega arith, tt)))
+ascends (ask_top name tally part count) = (omega arith, (omega arith, (omega arith, (omega arith, tt))))
+ascends (ask_total name attr expr) = (omega arith, (omega arith, (omega arith, (omega arith, expr_ascends expr))))
 ascends (ask_live ask) = (omega arith, (omega arith, tt))

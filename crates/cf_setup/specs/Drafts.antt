@@ -53,3 +53,7 @@ filter_by expr = record { select = expr; key = keys.Bucket; measure = None }
 -- the same, with an attribute that is measured
 abbrev pub aggregate_by : List (List Atom) → ℕ → Lane
 aggregate_by expr attr = record { select = expr; key = keys.Bucket; measure = Some attr }
+
+-- the rows of an expression, by the value of an attribute, with another that is measured
+abbrev pub tally_by : List (List Atom) → ℕ → ℕ → Lane
+tally_by expr attr measure = record { select = expr; key = keys.Attr attr; measure = Some measure }

@@ -12,6 +12,8 @@ use Rattle.cf_setup.specs.declared.statement.Statement.{Statement}
 use Rattle.cf_setup.specs.declared.statement.Statement.TheVariants as statements
 use Rattle.cf_setup.specs.declared.statement.Question.{Question}
 use Rattle.cf_setup.specs.declared.statement.Question.TheVariants as questions
+use Rattle.cf_setup.specs.declared.ask_buckets.Buckets.{Buckets}
+use Rattle.cf_setup.specs.declared.ask_buckets.Buckets.TheVariants as buckets
 use Rattle.cf_setup.specs.declared.form.Form.{Form as Read}
 use Rattle.cf_setup.specs.declared.form.Form.TheVariants as reads
 use Rattle.cf_lines.specs.Lines.{is_blank, next_word, last_word, new_name}
@@ -24,12 +26,14 @@ pub data Form : Type 0 where
   new_index : (name attr : List ℕ) → Form
   new_filter : (name expr : List ℕ) → Form
   new_aggregate : (name filter attr : List ℕ) → Form
+  new_tally : (name attr measure expr : List ℕ) → Form
   new_trigger : (name aggregate : List ℕ) (part : Part) (op : Op) (number : List ℕ) → Form
   ask_list : (name expr : List ℕ) → Form
   ask_find : (name index low high : List ℕ) → Form
-  ask_between : (name filter low high : List ℕ) → Form
-  ask_measure : (name aggregate low high : List ℕ) → Form
+  ask_buckets : (what : Buckets) (name lane low high : List ℕ) → Form
   ask_fired : (name trigger : List ℕ) → Form
+  ask_top : (name tally : List ℕ) (part : Part) (count : List ℕ) → Form
+  ask_total : (name attr expr : List ℕ) → Form
   ask_live : (ask : List ℕ) → Form
 
 -- the statement that the first word begins
@@ -40,9 +44,10 @@ statement_named word =
     if bytes_eq word (codes "index") then Some statements.Index else (
     if bytes_eq word (codes "filter") then Some statements.Filter else (
     if bytes_eq word (codes "aggregate") then Some statements.Aggregate else (
+    if bytes_eq word (codes "tally") then Some statements.Tally else (
     if bytes_eq word (codes "trigger") then Some statements.Trigger else (
     if bytes_eq word (codes "ask") then Some statements.Ask else (
-    if bytes_eq word (codes "live") then Some statements.Live else None)))))))
+    if bytes_eq word (codes "live") then Some statements.Live else None))))))))
 
 -- the kind of question that a word says
 abbrev pub question_named : List ℕ → Option Question
@@ -51,7 +56,9 @@ question_named word =
     if bytes_eq word (codes "find") then Some questions.Find else (
     if bytes_eq word (codes "between") then Some questions.Between else (
     if bytes_eq word (codes "measure") then Some questions.Measure else (
-    if bytes_eq word (codes "fired") then Some questions.Fired else None))))
+    if bytes_eq word (codes "fired") then Some questions.Fired else (
+    if bytes_eq word (codes "top") then Some questions.Top else (
+    if bytes_eq word (codes "total") then Some questions.Total else None))))))
 
 -- the part of a quad that a word says
 abbrev pub part_named : List ℕ → Option Part
@@ -102,6 +109,14 @@ aggregate_form text = do
   attr ← last_word filter.1
   Some (new_aggregate name.0 filter.0 attr)
 
+-- tally NAME ATTRIBUTE MEASURE EXPRESSION
+abbrev pub tally_form : List ℕ → Option Form
+tally_form text = do
+  name ← new_name text
+  attr ← next_word name.1
+  measure ← next_word attr.1
+  Some (new_tally name.0 attr.0 measure.0 measure.1)
+
 -- trigger NAME AGGREGATE PART OPERATOR NUMBER
 abbrev pub trigger_form : List ℕ → Option Form
 trigger_form text = do
@@ -122,13 +137,25 @@ three_words text = do
   third ← last_word second.1
   Some (first.0, second.0, third)
 
--- list EXPRESSION; find INDEX LOW HIGH; between FILTER LOW HIGH; measure AGGREGATE LOW HIGH; fired TRIGGER
+-- a tally, the part of its quads by which keys are ranked, and how many keys
+abbrev pub ranking_words : List ℕ → Option (List ℕ × Part × List ℕ)
+ranking_words text = do
+  tally ← next_word text
+  part ← next_word tally.1
+  part_is ← part_named part.0
+  count ← last_word part.1
+  Some (tally.0, part_is, count)
+
+-- list EXPRESSION; find INDEX LOW HIGH; between FILTER LOW HIGH; measure AGGREGATE LOW HIGH; fired TRIGGER;
+-- top TALLY PART COUNT; total ATTRIBUTE EXPRESSION
 abbrev pub question_form : Question → List ℕ → List ℕ → Option Form
 question_form questions.List name text = Some (ask_list name text)
 question_form questions.Find name text = option_map (λ words. ask_find name words.0 words.1 words.2) (three_words text)
-question_form questions.Between name text = option_map (λ words. ask_between name words.0 words.1 words.2) (three_words text)
-question_form questions.Measure name text = option_map (λ words. ask_measure name words.0 words.1 words.2) (three_words text)
+question_form questions.Between name text = option_map (λ words. ask_buckets buckets.Between name words.0 words.1 words.2) (three_words text)
+question_form questions.Measure name text = option_map (λ words. ask_buckets buckets.Measure name words.0 words.1 words.2) (three_words text)
 question_form questions.Fired name text = option_map (ask_fired name) (last_word text)
+question_form questions.Top name text = option_map (λ words. ask_top name words.0 words.1 words.2) (ranking_words text)
+question_form questions.Total name text = option_map (λ attr. ask_total name attr.0 attr.1) (next_word text)
 
 -- ask NAME, and then a question
 abbrev pub ask_form : List ℕ → Option Form
@@ -149,6 +176,7 @@ form_at statements.Width text = width_form text
 form_at statements.Index text = index_form text
 form_at statements.Filter text = filter_form text
 form_at statements.Aggregate text = aggregate_form text
+form_at statements.Tally text = tally_form text
 form_at statements.Trigger text = trigger_form text
 form_at statements.Ask text = ask_form text
 form_at statements.Live text = live_form text
@@ -161,12 +189,14 @@ form_value (reads.Width number) = bucket_width number.now
 form_value (reads.Index name attr) = new_index name.now attr.now
 form_value (reads.Filter name expr) = new_filter name.now expr.now
 form_value (reads.Aggregate name filter attr) = new_aggregate name.now filter.now attr.now
+form_value (reads.Tally name by) = new_tally name.now by.attr.now by.measure.now by.expr.now
 form_value (reads.Trigger name on) = new_trigger name.now on.aggregate.now on.part on.op on.number.now
 form_value (reads.List name expr) = ask_list name.now expr.now
 form_value (reads.Find name over) = ask_find name.now over.lane.now over.low.now over.high.now
-form_value (reads.Between name over) = ask_between name.now over.lane.now over.low.now over.high.now
-form_value (reads.Measure name over) = ask_measure name.now over.lane.now over.low.now over.high.now
+form_value (reads.Buckets name what over) = ask_buckets what name.now over.lane.now over.low.now over.high.now
 form_value (reads.Fired name trigger) = ask_fired name.now trigger.now
+form_value (reads.Top name by) = ask_top name.now by.tally.now by.part by.count.now
+form_value (reads.Total name attr expr) = ask_total name.now attr.now expr.now
 form_value (reads.Live ask) = ask_live ask.now
 
 -- it states the schema
@@ -187,10 +217,12 @@ HasWords (bucket_width number) = Unit {0}
 HasWords (new_index name attr) = IsAscii name
 HasWords (new_filter name expr) = IsAscii name × (length expr < 2 ^ 32)
 HasWords (new_aggregate name filter attr) = IsAscii name
+HasWords (new_tally name attr measure expr) = IsAscii name × (length expr < 2 ^ 32)
 HasWords (new_trigger name aggregate part op number) = IsAscii name
 HasWords (ask_list name expr) = IsAscii name × (length expr < 2 ^ 32)
 HasWords (ask_find name index low high) = IsAscii name
-HasWords (ask_between name filter low high) = IsAscii name
-HasWords (ask_measure name aggregate low high) = IsAscii name
+HasWords (ask_buckets what name lane low high) = IsAscii name
 HasWords (ask_fired name trigger) = IsAscii name
+HasWords (ask_top name tally part count) = IsAscii name
+HasWords (ask_total name attr expr) = IsAscii name × (length expr < 2 ^ 32)
 HasWords (ask_live ask) = Unit {0}

@@ -11,6 +11,10 @@ use Rattle.cf_shape.specs.declared.lane.Key.{Key}
 use Rattle.cf_shape.specs.declared.lane.Key.TheVariants as keys
 use Rattle.cf_plain.specs.Asks.{is_attr}
 use Rattle.cf_filter.specs.Values.{◌>>=◌}
+use Rattle.cf_plain.specs.declared.ask.Ask.{Ask}
+use Rattle.cf_plain.specs.declared.ask.Ask.TheVariants as asks
+use Rattle.cf_setup.specs.declared.ask_buckets.Buckets.{Buckets}
+use Rattle.cf_setup.specs.declared.ask_buckets.Buckets.TheVariants as buckets
 use Rattle.cf_setup.specs.declared.draft.Family.{Family}
 use Rattle.cf_setup.specs.declared.draft.Family.TheVariants as families
 use Rattle.cf_setup.specs.Drafts.{DraftValue, attrs_of}
@@ -39,11 +43,26 @@ is_filter lane = not (is_attr lane.key) && not (is_some lane.measure)
 abbrev pub is_aggregate : Lane → Bool
 is_aggregate lane = not (is_attr lane.key) && is_some lane.measure
 
+-- rows by an attribute, with another that is measured
+abbrev pub is_tally : Lane → Bool
+is_tally lane = is_attr lane.key && is_some lane.measure
+
 -- the lane is of the family
 abbrev pub is_of : Family → Lane → Bool
 is_of families.Index lane = is_index lane
 is_of families.Filter lane = is_filter lane
 is_of families.Aggregate lane = is_aggregate lane
+is_of families.Tally lane = is_tally lane
+
+-- the family of the lane whose buckets are asked about
+abbrev pub family_of : Buckets → Family
+family_of buckets.Between = families.Filter
+family_of buckets.Measure = families.Aggregate
+
+-- the question about the lane's buckets between two
+abbrev pub asked_of : Buckets → ℕ → ℕ → ℕ → Ask
+asked_of buckets.Between lane first last = asks.Between lane first last
+asked_of buckets.Measure lane first last = asks.Measure lane first last
 
 -- the number of the lane of that name and the lane, if it passes
 abbrev pub lane_named : (Lane → Bool) → DraftValue → List ℕ → Option (ℕ × Lane)

@@ -28,13 +28,13 @@ use Rattle.cf_setup.specs.declared.parse.SetupFault.{SetupFault}
 use Rattle.cf_setup.specs.declared.parse.SetupFault.TheVariants.{Bad, Memory}
 use Rattle.cf_setup.specs.Codes.{code_number}
 use Rattle.cf_lines.specs.Lines.{lines_of, is_silent, word_at}
-use Rattle.cf_setup.specs.Drafts.{DraftValue, nothing_stated, attrs_of, with_lane, with_trigger, with_ask, index_over, filter_by, aggregate_by}
+use Rattle.cf_setup.specs.Drafts.{DraftValue, nothing_stated, attrs_of, with_lane, with_trigger, with_ask, index_over, filter_by, aggregate_by, tally_by}
 use Rattle.cf_setup.specs.Forms.{Form, statement_named, form_at}
-use Rattle.cf_setup.specs.Forms.Form.{packet_schema, record_schema, bucket_width, new_index, new_filter, new_aggregate, new_trigger, ask_list, ask_find, ask_between, ask_measure, ask_fired, ask_live}
-use Rattle.cf_setup.specs.Named.{is_taken, place_in, is_index, is_filter, is_aggregate, lane_named, trigger_named, index_kind}
+use Rattle.cf_setup.specs.Forms.Form.{packet_schema, record_schema, bucket_width, new_index, new_filter, new_aggregate, new_tally, new_trigger, ask_list, ask_find, ask_buckets, ask_fired, ask_top, ask_total, ask_live}
+use Rattle.cf_setup.specs.Named.{is_taken, place_in, is_index, is_filter, is_aggregate, is_tally, is_of, family_of, asked_of, lane_named, trigger_named, index_kind}
 use Rattle.cf_lines.specs.Schemas.{schema_at}
 use Rattle.cf_setup.specs.Rules.{Rule, rules, expr_rules}
-use Rattle.cf_setup.specs.Rules.Rule.{schema_list, free_name, live_once, known_attr, known_index, known_filter, known_aggregate, known_trigger, known_ask, a_number, a_width, a_key, number_attr, narrow_attr, lane_room, trigger_room, ask_room, no_offence}
+use Rattle.cf_setup.specs.Rules.Rule.{schema_list, free_name, live_once, known_attr, known_lane, known_trigger, known_ask, a_number, a_number_from, a_key, number_attr, narrow_attr, lane_room, trigger_room, ask_room, no_offence}
 use Rattle.cf_setup.specs.Adds.{with_schema}
 use Rattle.cf_setup.specs.SetupText.{is_in_place}
 use Rattle.cf_setup.specs.Setups.{SetupValue, settled}
@@ -48,11 +48,11 @@ number_in_value (Raw len bytes) = None
 abbrev pub number_of : Kind → List ℕ → Option ℕ
 number_of kind text = option_and_then number_in_value (value_at kind text)
 
--- a number from 1 to 2^63
-abbrev pub width_of : List ℕ → Option ℕ
-width_of text = do
+-- a number from the one to the other
+abbrev pub number_from : ℕ → ℕ → List ℕ → Option ℕ
+number_from low high text = do
   n ← number_of U64 text
-  if nat_le 1 n && nat_le n (2 ^ 63) then Some n else None
+  if nat_le low n && nat_le n high then Some n else None
 
 -- the value of that kind, if there is one
 abbrev pub key_in : Option Kind → List ℕ → Option ℕ
@@ -93,13 +93,11 @@ is_broken before (schema_list list) = is_none (schema_at list)
 is_broken before (free_name name) = is_taken before name
 is_broken before (live_once ask) = is_live before (place_in before.ask_names ask)
 is_broken before (known_attr name) = is_none (attr_named (attrs_of before) name)
-is_broken before (known_index name) = is_none (lane_named is_index before name)
-is_broken before (known_filter name) = is_none (lane_named is_filter before name)
-is_broken before (known_aggregate name) = is_none (lane_named is_aggregate before name)
+is_broken before (known_lane family name) = is_none (lane_named (is_of family) before name)
 is_broken before (known_trigger name) = is_none (trigger_named before name)
 is_broken before (known_ask name) = is_none (place_in before.ask_names name)
 is_broken before (a_number text) = is_none (number_of U64 text)
-is_broken before (a_width text) = is_none (width_of text)
+is_broken before (a_number_from low high text) = is_none (number_from low high text)
 is_broken before (a_key index text) = is_none (key_of before index text)
 is_broken before (number_attr name) = fails is_number (attr_named (attrs_of before) name)
 is_broken before (narrow_attr name) = fails is_narrow (attr_named (attrs_of before) name)
@@ -126,13 +124,18 @@ expr_of before text = expr_in (expr_at (attrs_of before) text)
 abbrev pub added : ℕ → DraftValue → Form → Option DraftValue
 added line before packet_schema = Some (with_schema line before true packet_attrs)
 added line before (record_schema list) = option_map (with_schema line before false) (schema_at list)
-added line before (bucket_width number) = option_map (λ n. record before { width = Some n }) (width_of number)
+added line before (bucket_width number) = option_map (λ n. record before { width = Some n }) (number_from 1 (2 ^ 63) number)
 added line before (new_index name attr) = option_map (λ found. with_lane before name (index_over found.0)) (attr_named (attrs_of before) attr)
 added line before (new_filter name expr) = option_map (λ read. with_lane before name (filter_by read)) (expr_of before expr)
 added line before (new_aggregate name filter attr) = do
   lane ← lane_named is_filter before filter
   found ← attr_named (attrs_of before) attr
   Some (with_lane before name (aggregate_by lane.1.select found.0))
+added line before (new_tally name attr measure expr) = do
+  key ← attr_named (attrs_of before) attr
+  measured ← attr_named (attrs_of before) measure
+  read ← expr_of before expr
+  Some (with_lane before name (tally_by read key.0 measured.0))
 added line before (new_trigger name aggregate part op number) = do
   lane ← lane_named is_aggregate before aggregate
   n ← number_of U64 number
@@ -143,17 +146,20 @@ added line before (ask_find name index low high) = do
   first ← key_of before index low
   last ← key_of before index high
   Some (with_ask before name (asks.Find lane.0 first last))
-added line before (ask_between name filter low high) = do
-  lane ← lane_named is_filter before filter
+added line before (ask_buckets what name lane low high) = do
+  found ← lane_named (is_of (family_of what)) before lane
   first ← number_of U64 low
   last ← number_of U64 high
-  Some (with_ask before name (asks.Between lane.0 first last))
-added line before (ask_measure name aggregate low high) = do
-  lane ← lane_named is_aggregate before aggregate
-  first ← number_of U64 low
-  last ← number_of U64 high
-  Some (with_ask before name (asks.Measure lane.0 first last))
+  Some (with_ask before name (asked_of what found.0 first last))
 added line before (ask_fired name trigger) = option_map (λ found. with_ask before name (asks.Fired found)) (trigger_named before trigger)
+added line before (ask_top name tally part count) = do
+  lane ← lane_named is_tally before tally
+  n ← number_from 1 1000 count
+  Some (with_ask before name (asks.Top lane.0 part n))
+added line before (ask_total name attr expr) = do
+  found ← attr_named (attrs_of before) attr
+  read ← expr_of before expr
+  Some (with_ask before name (asks.Total found.0 read))
 added line before (ask_live ask) = option_map (λ place. record before { lives = before.lives ++ place ∷ [] }) (place_in before.ask_names ask)
 
 -- where no test fails, something is stated

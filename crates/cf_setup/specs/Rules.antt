@@ -11,10 +11,12 @@ use Rattle.cf_filter.specs.declared.fault.Offence.TheVariants.{Syntax, UnknownNa
 use Rattle.cf_filter.specs.declared.fault.Stop.{Stop}
 use Rattle.cf_filter.specs.Reading.{attr_named}
 use Rattle.cf_filter.specs.Grammar.{ValueText, ExprRead}
+use Rattle.cf_setup.specs.declared.draft.Family.{Family}
+use Rattle.cf_setup.specs.declared.draft.Family.TheVariants as families
 use Rattle.cf_setup.specs.Drafts.{DraftValue, attrs_of}
 use Rattle.cf_setup.specs.Forms.{Form}
-use Rattle.cf_setup.specs.Forms.Form.{packet_schema, record_schema, bucket_width, new_index, new_filter, new_aggregate, new_trigger, ask_list, ask_find, ask_between, ask_measure, ask_fired, ask_live}
-use Rattle.cf_setup.specs.Named.{is_taken, place_in, is_index, is_filter, is_aggregate, lane_named, trigger_named, index_kind}
+use Rattle.cf_setup.specs.Forms.Form.{packet_schema, record_schema, bucket_width, new_index, new_filter, new_aggregate, new_tally, new_trigger, ask_list, ask_find, ask_buckets, ask_fired, ask_top, ask_total, ask_live}
+use Rattle.cf_setup.specs.Named.{is_taken, place_in, is_of, family_of, lane_named, trigger_named, index_kind}
 use Rattle.cf_lines.specs.Schemas.{ListText}
 
 -- what a statement is held to
@@ -23,13 +25,11 @@ pub data Rule : Type 0 where
   free_name : (name : List ℕ) → Rule
   live_once : (ask : List ℕ) → Rule
   known_attr : (name : List ℕ) → Rule
-  known_index : (name : List ℕ) → Rule
-  known_filter : (name : List ℕ) → Rule
-  known_aggregate : (name : List ℕ) → Rule
+  known_lane : (family : Family) (name : List ℕ) → Rule
   known_trigger : (name : List ℕ) → Rule
   known_ask : (name : List ℕ) → Rule
   a_number : (text : List ℕ) → Rule
-  a_width : (text : List ℕ) → Rule
+  a_number_from : (low high : ℕ) (text : List ℕ) → Rule
   a_key : (index text : List ℕ) → Rule
   number_attr : (name : List ℕ) → Rule
   narrow_attr : (name : List ℕ) → Rule
@@ -44,13 +44,11 @@ Broken before (schema_list list) = (attrs : List Attr) → ListText list attrs �
 Broken before (free_name name) = is_taken before name ≡ true
 Broken before (live_once ask) = (place : ℕ) × (place_in before.ask_names ask ≡ Some place) × (list_any (λ live. live == place) before.lives ≡ true)
 Broken before (known_attr name) = attr_named (attrs_of before) name ≡ None
-Broken before (known_index name) = lane_named is_index before name ≡ None
-Broken before (known_filter name) = lane_named is_filter before name ≡ None
-Broken before (known_aggregate name) = lane_named is_aggregate before name ≡ None
+Broken before (known_lane family name) = lane_named (is_of family) before name ≡ None
 Broken before (known_trigger name) = trigger_named before name ≡ None
 Broken before (known_ask name) = place_in before.ask_names name ≡ None
 Broken before (a_number text) = (n : ℕ) → ValueText U64 text (Num n) → ⊥
-Broken before (a_width text) = (n : ℕ) → ValueText U64 text (Num n) → 1 ≤ n → n ≤ 2 ^ 63 → ⊥
+Broken before (a_number_from low high text) = (n : ℕ) → ValueText U64 text (Num n) → low ≤ n → n ≤ high → ⊥
 Broken before (a_key index text) = (kind : Kind) → index_kind before index ≡ Some kind → (n : ℕ) → ValueText kind text (Num n) → ⊥
 Broken before (number_attr name) = (found : ℕ × Kind) × (attr_named (attrs_of before) name ≡ Some found) × (is_number found.1 ≡ false)
 Broken before (narrow_attr name) = (found : ℕ × Kind) × (attr_named (attrs_of before) name ≡ Some found) × (is_narrow found.1 ≡ false)
@@ -73,16 +71,18 @@ expr_rules text =
 abbrev pub rules : Form → List (ℕ × Rule)
 rules packet_schema = []
 rules (record_schema list) = (4, schema_list list) ∷ []
-rules (bucket_width number) = (7, a_width number) ∷ []
+rules (bucket_width number) = (7, a_number_from 1 (2 ^ 63) number) ∷ []
 rules (new_index name attr) = (5, free_name name) ∷ (6, known_attr attr) ∷ (8, number_attr attr) ∷ (9, lane_room) ∷ []
 rules (new_filter name expr) = (5, free_name name) ∷ (9, lane_room) ∷ expr_rules expr
-rules (new_aggregate name filter attr) = (5, free_name name) ∷ (6, known_filter filter) ∷ (6, known_attr attr) ∷ (8, narrow_attr attr) ∷ (9, lane_room) ∷ []
-rules (new_trigger name aggregate part op number) = (5, free_name name) ∷ (6, known_aggregate aggregate) ∷ (7, a_number number) ∷ (9, trigger_room) ∷ []
+rules (new_aggregate name filter attr) = (5, free_name name) ∷ (6, known_lane families.Filter filter) ∷ (6, known_attr attr) ∷ (8, narrow_attr attr) ∷ (9, lane_room) ∷ []
+rules (new_tally name attr measure expr) = (5, free_name name) ∷ (6, known_attr attr) ∷ (6, known_attr measure) ∷ (8, number_attr attr) ∷ (8, narrow_attr measure) ∷ (9, lane_room) ∷ expr_rules expr
+rules (new_trigger name aggregate part op number) = (5, free_name name) ∷ (6, known_lane families.Aggregate aggregate) ∷ (7, a_number number) ∷ (9, trigger_room) ∷ []
 rules (ask_list name expr) = (5, free_name name) ∷ (9, ask_room) ∷ expr_rules expr
-rules (ask_find name index low high) = (5, free_name name) ∷ (6, known_index index) ∷ (7, a_key index low) ∷ (7, a_key index high) ∷ (9, ask_room) ∷ []
-rules (ask_between name filter low high) = (5, free_name name) ∷ (6, known_filter filter) ∷ (7, a_number low) ∷ (7, a_number high) ∷ (9, ask_room) ∷ []
-rules (ask_measure name aggregate low high) = (5, free_name name) ∷ (6, known_aggregate aggregate) ∷ (7, a_number low) ∷ (7, a_number high) ∷ (9, ask_room) ∷ []
+rules (ask_find name index low high) = (5, free_name name) ∷ (6, known_lane families.Index index) ∷ (7, a_key index low) ∷ (7, a_key index high) ∷ (9, ask_room) ∷ []
+rules (ask_buckets what name lane low high) = (5, free_name name) ∷ (6, known_lane (family_of what) lane) ∷ (7, a_number low) ∷ (7, a_number high) ∷ (9, ask_room) ∷ []
 rules (ask_fired name trigger) = (5, free_name name) ∷ (6, known_trigger trigger) ∷ (9, ask_room) ∷ []
+rules (ask_top name tally part count) = (5, free_name name) ∷ (6, known_lane families.Tally tally) ∷ (7, a_number_from 1 1000 count) ∷ (9, ask_room) ∷ []
+rules (ask_total name attr expr) = (5, free_name name) ∷ (6, known_attr attr) ∷ (8, narrow_attr attr) ∷ (9, ask_room) ∷ expr_rules expr
 rules (ask_live ask) = (5, live_once ask) ∷ (6, known_ask ask) ∷ []
 
 -- some rule with this code is broken

@@ -1,10 +1,13 @@
 // `ask NAME`, and then a question.
 ghost use Rattle.std.specs.Prelude.{◌≡◌, ◌<◌, ◌^◌, length, All, IfSome};
 ghost use Rattle.std.specs.Option.{option_map};
-ghost use Rattle.cf_setup.specs.Forms.{ask_form as ask_form_of, question_form as question_form_of, three_words, form_value, HasWords};
+ghost use Rattle.cf_setup.specs.Forms.{ask_form as ask_form_of, question_form as question_form_of, ranking_words, three_words, form_value, HasWords};
 
+use crate::ask_buckets::Buckets;
 use crate::form::Form;
 use crate::statement::{Question, question_of};
+use crate::trigger::part_of;
+use cf_fold::Part;
 use cf_lines::{last_word, new_name, next_word};
 
 /// The words of a lane and of the two ends of a range.
@@ -15,6 +18,14 @@ pub(crate) struct Range<'a> {
     pub(crate) high: &'a [u8],
 }
 
+/// The words of a tally and of how many of its keys are asked for, and the part that ranks them.
+#[derive(Clone, Copy, Debug)]
+pub(crate) struct Ranking<'a> {
+    pub(crate) tally: &'a [u8],
+    pub(crate) part: Part,
+    pub(crate) count: &'a [u8],
+}
+
 // A lane and two ends, which nothing follows.
 fn range_of(text: &[u8]) -> Option<Range>
     ensures { option_map (λ x. (x.lane.now, x.low.now, x.high.now)) result ≡ three_words text.now }
@@ -23,6 +34,17 @@ fn range_of(text: &[u8]) -> Option<Range>
     let (low, rest) = next_word(rest)?;
     let high = last_word(rest)?;
     Some(Range { lane, low, high })
+}
+
+// A tally, a part and a count, which nothing follows.
+fn ranking_of(text: &[u8]) -> Option<Ranking>
+    ensures { option_map (λ x. (x.tally.now, x.part, x.count.now)) result ≡ ranking_words text.now }
+{
+    let (tally, rest) = next_word(text)?;
+    let (part, rest) = next_word(rest)?;
+    let part = part_of(part)?;
+    let count = last_word(rest)?;
+    Some(Ranking { tally, part, count })
 }
 
 // What follows the kind of the question.
@@ -38,18 +60,28 @@ fn question_form<'a>(question: Question, name: &'a [u8], text: &'a [u8]) -> Opti
             name,
             over: range_of(text)?,
         }),
-        Question::Between => Some(Form::Between {
+        Question::Between => Some(Form::Buckets {
             name,
+            what: Buckets::Between,
             over: range_of(text)?,
         }),
-        Question::Measure => Some(Form::Measure {
+        Question::Measure => Some(Form::Buckets {
             name,
+            what: Buckets::Measure,
             over: range_of(text)?,
         }),
         Question::Fired => Some(Form::Fired {
             name,
             trigger: last_word(text)?,
         }),
+        Question::Top => Some(Form::Top {
+            name,
+            by: ranking_of(text)?,
+        }),
+        Question::Total => {
+            let (attr, expr) = next_word(text)?;
+            Some(Form::Total { name, attr, expr })
+        }
     }
 }
 

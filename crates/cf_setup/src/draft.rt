@@ -48,6 +48,7 @@ pub(crate) enum Family {
     Index,
     Filter,
     Aggregate,
+    Tally,
 }
 
 impl Family {
@@ -62,6 +63,7 @@ impl Family {
             Family::Index => is_indexed && lane.measure.is_none(),
             Family::Filter => !is_indexed && lane.measure.is_none(),
             Family::Aggregate => !is_indexed && lane.measure.is_some(),
+            Family::Tally => is_indexed && lane.measure.is_some(),
         }
     }
 }

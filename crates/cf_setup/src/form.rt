@@ -4,12 +4,14 @@ ghost use Rattle.std.specs.Option.{option_map};
 ghost use Rattle.cf_setup.specs.Forms.{form_at, form_value, HasWords};
 
 use crate::aggregate::aggregate_form;
-use crate::ask::{Range, ask_form};
+use crate::ask::{Range, Ranking, ask_form};
+use crate::ask_buckets::Buckets;
 use crate::filter::filter_form;
 use crate::index::index_form;
 use crate::live::live_form;
 use crate::schema::schema_form;
 use crate::statement::Statement;
+use crate::tally::{Grouping, tally_form};
 use crate::trigger::{Condition, trigger_form};
 use crate::width::width_form;
 
@@ -36,6 +38,10 @@ pub(crate) enum Form<'a> {
         filter: &'a [u8],
         attr: &'a [u8],
     },
+    Tally {
+        name: &'a [u8],
+        by: Grouping<'a>,
+    },
     Trigger {
         name: &'a [u8],
         on: Condition<'a>,
@@ -48,17 +54,23 @@ pub(crate) enum Form<'a> {
         name: &'a [u8],
         over: Range<'a>,
     },
-    Between {
+    Buckets {
         name: &'a [u8],
-        over: Range<'a>,
-    },
-    Measure {
-        name: &'a [u8],
+        what: Buckets,
         over: Range<'a>,
     },
     Fired {
         name: &'a [u8],
         trigger: &'a [u8],
+    },
+    Top {
+        name: &'a [u8],
+        by: Ranking<'a>,
+    },
+    Total {
+        name: &'a [u8],
+        attr: &'a [u8],
+        expr: &'a [u8],
     },
     Live {
         ask: &'a [u8],
@@ -77,6 +89,7 @@ pub(crate) fn form_of<'a>(statement: Statement, text: &'a [u8]) -> Option<Form<'
         Statement::Index => index_form(text),
         Statement::Filter => filter_form(text),
         Statement::Aggregate => aggregate_form(text),
+        Statement::Tally => tally_form(text),
         Statement::Trigger => trigger_form(text),
         Statement::Ask => ask_form(text),
         Statement::Live => live_form(text),

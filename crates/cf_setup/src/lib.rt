@@ -6,11 +6,12 @@
 
 mod aggregate;
 mod ask;
-mod ask_between;
+mod ask_buckets;
 mod ask_find;
 mod ask_fired;
 mod ask_list;
-mod ask_measure;
+mod ask_top;
+mod ask_total;
 mod draft;
 mod fault;
 mod filter;
@@ -22,6 +23,7 @@ mod schema;
 mod setup;
 mod statement;
 mod take;
+mod tally;
 #[cfg(test)]
 mod tests;
 mod trigger;

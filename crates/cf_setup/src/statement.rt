@@ -10,6 +10,7 @@ pub(crate) enum Statement {
     Index,
     Filter,
     Aggregate,
+    Tally,
     Trigger,
     Ask,
     Live,
@@ -23,6 +24,8 @@ pub(crate) enum Question {
     Between,
     Measure,
     Fired,
+    Top,
+    Total,
 }
 
 /// The statement that the word begins.
@@ -43,6 +46,9 @@ pub(crate) fn statement_of(word: &[u8]) -> Option<Statement>
     }
     if word == b"aggregate".as_slice() {
         return Some(Statement::Aggregate);
+    }
+    if word == b"tally".as_slice() {
+        return Some(Statement::Tally);
     }
     if word == b"trigger".as_slice() {
         return Some(Statement::Trigger);
@@ -74,6 +80,12 @@ pub(crate) fn question_of(word: &[u8]) -> Option<Question>
     }
     if word == b"fired".as_slice() {
         return Some(Question::Fired);
+    }
+    if word == b"top".as_slice() {
+        return Some(Question::Top);
+    }
+    if word == b"total".as_slice() {
+        return Some(Question::Total);
     }
     None
 }

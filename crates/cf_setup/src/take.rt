@@ -6,11 +6,12 @@ ghost use Rattle.cf_setup.specs.SetupText.{is_in_place as is_in_place_of, is_lat
 ghost use Rattle.cf_setup.specs.Reading.{form_read, line_read, ruled, said, Takes};
 
 use crate::aggregate::add_aggregate;
-use crate::ask_between::add_between;
+use crate::ask_buckets::add_buckets;
 use crate::ask_find::add_find;
 use crate::ask_fired::add_fired;
 use crate::ask_list::add_list;
-use crate::ask_measure::add_measure;
+use crate::ask_top::add_top;
+use crate::ask_total::add_total;
 use crate::draft::Draft;
 use crate::fault::{Code, LineFault};
 use crate::filter::add_filter;
@@ -19,6 +20,7 @@ use crate::index::add_index;
 use crate::live::add_live;
 use crate::schema::{add_packet_schema, add_record_schema};
 use crate::statement::{Statement, statement_of};
+use crate::tally::add_tally;
 use crate::trigger::add_trigger;
 use crate::width::add_width;
 use cf_filter::Class;
@@ -64,12 +66,14 @@ fn add(alloc: Global, line: u32, draft: Draft, form: Form) -> Result<Draft, Line
         Form::Aggregate { name, filter, attr } => {
             add_aggregate(alloc, line, draft, name, filter, attr)
         }
+        Form::Tally { name, by } => add_tally(alloc, line, draft, name, by),
         Form::Trigger { name, on } => add_trigger(alloc, line, draft, name, on),
         Form::List { name, expr } => add_list(alloc, line, draft, name, expr),
         Form::Find { name, over } => add_find(alloc, line, draft, name, over),
-        Form::Between { name, over } => add_between(alloc, line, draft, name, over),
-        Form::Measure { name, over } => add_measure(alloc, line, draft, name, over),
+        Form::Buckets { name, what, over } => add_buckets(alloc, line, draft, name, what, over),
         Form::Fired { name, trigger } => add_fired(alloc, line, draft, name, trigger),
+        Form::Top { name, by } => add_top(alloc, line, draft, name, by),
+        Form::Total { name, attr, expr } => add_total(alloc, line, draft, name, attr, expr),
         Form::Live { ask } => add_live(line, draft, ask),
     }
 }

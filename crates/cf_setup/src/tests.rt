@@ -47,6 +47,32 @@ fn each_line_has_its_least_code(rt: HostRuntime) -> Result<(), Fail> {
         ("width 0x00000000000000001", (2, 7)),
         ("index i dmac", (2, 8)),
         ("filter f *\naggregate a f ts", (3, 8)),
+        ("tally t src len *", (0, 0)),
+        ("tally t ts len *", (0, 0)),
+        ("tally t src", (2, 3)),
+        ("tally t src nosuch *", (2, 6)),
+        ("tally t dmac len *", (2, 8)),
+        ("tally t src ts *", (2, 8)),
+        ("tally t src dmac *", (2, 8)),
+        ("tally t src len", (2, 10)),
+        ("tally t src len *\nask q find t 1 2", (3, 6)),
+        ("tally t src len *\naggregate a t len", (3, 6)),
+        ("tally t src len *\ntrigger g t sum > 3", (3, 6)),
+        ("tally t src len *\nask h top t mean 3", (3, 3)),
+        ("tally t src len *\nask t top t sum 3", (3, 5)),
+        ("index i src\nask h top i sum 2", (3, 6)),
+        ("filter f *\naggregate a f len\nask h top a sum 2", (4, 6)),
+        ("tally t src len *\nask h top t sum 0", (3, 7)),
+        ("tally t src len *\nask h top t sum 1", (0, 0)),
+        ("tally t src len *\nask h top t sum 1000", (0, 0)),
+        ("tally t src len *\nask h top t sum 1001", (3, 7)),
+        ("ask t total len len<=70", (0, 0)),
+        ("ask t total", (2, 3)),
+        ("ask t total nosuch *", (2, 6)),
+        ("ask t total ts *", (2, 8)),
+        ("ask t total dmac *", (2, 8)),
+        ("ask t total len", (2, 10)),
+        ("ask t total len len==4294967296", (2, 13)),
         ("filter f", (2, 10)),
         ("ask q list len>", (2, 10)),
         ("ask q list nope==1", (2, 11)),
@@ -112,10 +138,13 @@ fn there_is_room_for_16_lanes_16_triggers_and_32_asks(rt: HostRuntime) -> Result
         (14, "index ", " src\n", (0, 0)),
         (15, "index ", " src\n", (18, 9)),
         (15, "filter ", " len>\n", (4, 10)),
+        (14, "tally ", " src len *\n", (0, 0)),
+        (15, "tally ", " src len *\n", (18, 9)),
         (16, "trigger ", " a sum > 5\n", (0, 0)),
         (17, "trigger ", " a sum > 5\n", (20, 9)),
         (32, "ask ", " measure a 1 2\n", (0, 0)),
         (33, "ask ", " list *\n", (36, 9)),
+        (33, "ask ", " total len *\n", (36, 9)),
     ] {
         let text = lines(alloc, count, first, last)?;
         assert_eq!(rt; outcome(alloc, text.as_str()), want, "{first}");
@@ -159,19 +188,24 @@ width 1000
 index n len
 filter f caplen<2 || len==60
 aggregate a f len
+tally y src len *
 trigger t a sum > 70
 ask q find n 60 99
 ask b between f 2 2
 ask m measure a 1 3
 ask g fired t
 ask l list *
+ask h top y sum 2
+ask o total len len<=70
 live g
-live q",
+live q
+live h
+live o",
     )?;
     Ok(setup)
 }
 
-// The lane and the numbers of the question.
+// The lane or the attribute of the question, and its numbers.
 fn numbers(ask: &Ask) -> (u8, u64, u64) {
     match ask {
         Ask::List(_) => (9, 0, 0),
@@ -179,6 +213,8 @@ fn numbers(ask: &Ask) -> (u8, u64, u64) {
         Ask::Between(lane, low, high) => (*lane, *low, *high),
         Ask::Measure(lane, low, high) => (*lane, *low, *high),
         Ask::Fired(trigger) => (trigger.agg, trigger.number, 0),
+        Ask::Top(lane, part, count) => (*lane, *part as u64, *count as u64),
+        Ask::Total(attr, _) => (*attr, 0, 0),
     }
 }
 
@@ -191,6 +227,8 @@ fn a_setup_states_asks_by_their_names(rt: HostRuntime) -> Result<(), Fail> {
         ("m", (2, 1, 3)),
         ("g", (2, 70, 0)),
         ("l", (9, 0, 0)),
+        ("h", (3, 1, 2)),
+        ("o", (2, 0, 0)),
     ];
     for ((name, want), (ask_name, ask)) in wanted
         .iter()
@@ -199,7 +237,7 @@ fn a_setup_states_asks_by_their_names(rt: HostRuntime) -> Result<(), Fail> {
         assert_eq!(rt; ask_name.as_str(), *name);
         assert_eq!(rt; numbers(ask), *want, "{name}");
     }
-    assert_eq!(rt; setup.lives(), [3, 0].as_slice());
+    assert_eq!(rt; setup.lives(), [3, 0, 5, 6].as_slice());
     Ok(())
 }
 
@@ -210,7 +248,7 @@ fn a_setup_has_a_shape(rt: HostRuntime) -> Result<(), Fail> {
     assert!(rt; setup.packet());
     assert_eq!(rt; setup.schema_line(), 2);
     let shape = shape_of(alloc, &setup, 8, 1, 0)?;
-    assert_eq!(rt; shape.lanes().len(), 3);
+    assert_eq!(rt; shape.lanes().len(), 4);
     assert_eq!(rt; shape.width(), 1000);
     for ask in setup.asks() {
         assert!(rt; suits(&shape, ask));

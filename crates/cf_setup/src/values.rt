@@ -1,11 +1,11 @@
 // The numbers that words are, and the kinds of attributes that statements ask for.
-ghost use Rattle.std.specs.Prelude.{◌≡◌, IfOk, true, false, Some, None};
+ghost use Rattle.std.specs.Prelude.{◌≡◌, ◌≤◌, IfOk, true, false, Some, None};
 ghost use Rattle.std.specs.Result.{IfErr};
 ghost use Rattle.cf_row.specs.declared.schema.Kind.TheVariants.{U64};
 ghost use Rattle.cf_shape.specs.Lanes.{is_number, is_narrow};
 ghost use Rattle.cf_filter.specs.Values.{value_at};
 ghost use Rattle.cf_setup.specs.declared.fault.Code.TheVariants.{BadNumber, BadAttribute};
-ghost use Rattle.cf_setup.specs.Reading.{number_of as number_in, width_of as width_in, key_in};
+ghost use Rattle.cf_setup.specs.Reading.{number_of as number_in, number_from as number_from_in, key_in};
 
 use crate::fault::Code;
 use cf_filter::read_value;
@@ -35,16 +35,25 @@ pub(crate) fn number_of(text: &[u8]) -> Result<u64, Code>
     number_as(Kind::U64, text).ok_or(Code::BadNumber)
 }
 
-/// The number from 1 to 2^63 that the text is.
-pub(crate) fn width_of(text: &[u8]) -> Result<u64, Code>
-    ensures found { IfOk result (λ n. width_in text.now ≡ Some n) }
-    ensures none { IfErr result (λ code. (width_in text.now ≡ None) × (code ≡ BadNumber)) }
+/// The number from the one to the other that the text is.
+pub(crate) fn number_from(low: u64, high: u64, text: &[u8]) -> Result<u64, Code>
+    ensures found { IfOk result (λ n. number_from_in low high text.now ≡ Some n) }
+    ensures most { IfOk result (λ n. n ≤ high) }
+    ensures none { IfErr result (λ code. (number_from_in low high text.now ≡ None) × (code ≡ BadNumber)) }
 {
-    let width = number_of(text)?;
-    if width < 1 || width > 1 << 63 {
+    let number = number_of(text)?;
+    if number < low || number > high {
         return Err(Code::BadNumber);
     }
-    Ok(width)
+    Ok(number)
+}
+
+/// The number of keys that the text is.
+pub(crate) fn count_of(text: &[u8]) -> Result<u32, Code>
+    ensures found { IfOk result (λ n. number_from_in 1 1000 text.now ≡ Some n) }
+    ensures none { IfErr result (λ code. (number_from_in 1 1000 text.now ≡ None) × (code ≡ BadNumber)) }
+{
+    Ok(number_from(1, 1000, text)? as u32)
 }
 
 /// The value of that kind that the text is.

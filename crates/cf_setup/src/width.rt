@@ -8,7 +8,7 @@ ghost use Rattle.cf_setup.specs.Reading.{ruled, Takes};
 use crate::draft::Draft;
 use crate::fault::LineFault;
 use crate::form::Form;
-use crate::values::width_of;
+use crate::values::number_from;
 use cf_lines::last_word;
 
 pub(crate) fn width_form<'a>(text: &'a [u8]) -> Option<Form<'a>>
@@ -25,7 +25,7 @@ pub(crate) fn width_form<'a>(text: &'a [u8]) -> Option<Form<'a>>
 pub(crate) fn add_width(_line: u32, draft: Draft, number: &[u8]) -> Result<Draft, LineFault>
     ensures { Takes result (ruled _line draft (bucket_width number.now)) }
 {
-    let width = width_of(number)?;
+    let width = number_from(1, 1 << 63, number)?;
     let mut draft = draft;
     draft.width = Some(width);
     Ok(draft)

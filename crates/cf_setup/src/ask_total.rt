@@ -1,0 +1,34 @@
+// `ask NAME total ATTRIBUTE EXPRESSION`.
+ghost use Rattle.std.specs.Prelude.{◌≡◌, ◌<◌, ◌^◌, length, is_some, true, All};
+ghost use Rattle.cf_setup.specs.Forms.Form.{ask_total};
+ghost use Rattle.cf_setup.specs.Reading.{ruled, Takes};
+
+use crate::draft::Draft;
+use crate::fault::LineFault;
+use crate::filter::expr_of;
+use crate::values::must_be_narrow;
+use cf_plain::Ask;
+use std::alloc::Global;
+
+/// The measure of an attribute of at most 32 bits over the rows that pass the expression.
+#[tactic(auto, unfolding(crate::specs::Reading::ruled))]
+pub(crate) fn add_total(
+    alloc: Global,
+    _line: u32,
+    draft: Draft,
+    name: &[u8],
+    attr: &[u8],
+    expr: &[u8],
+) -> Result<Draft, LineFault>
+    requires size { length expr.now < 2 ^ 32 }
+    requires stated { is_some draft.schema ≡ true }
+    requires ascii { All (λ b. b < 128) name.now }
+    ensures { Takes result (ruled _line draft (ask_total name.now attr.now expr.now)) }
+{
+    draft.must_be_free(name)?;
+    let (attr, kind) = draft.attr(attr)?;
+    must_be_narrow(kind)?;
+    draft.ask_room()?;
+    let expr = expr_of(alloc, &draft, expr)?;
+    Ok(draft.with_ask(alloc, name, Ask::Total(attr, expr))?)
+}
