@@ -56,6 +56,7 @@ fn marks_of<L: Ledger>(
         Body::Marks(marks) => Ok(marks),
         Body::Places(_) => unreachable!(),
         Body::Total(_) => unreachable!(),
+        Body::Tops(_) => unreachable!(),
     }
 }
 

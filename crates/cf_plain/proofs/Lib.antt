@@ -5,4 +5,5 @@ pub mod Found
 pub mod Totals
 pub mod Amounts
 pub mod Ranks
+pub mod TopLaws
 pub mod Replays

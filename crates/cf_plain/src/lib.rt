@@ -16,7 +16,7 @@ mod total;
 pub use answer::{Answer, Body, Fired, Group, Marks, Places};
 pub use ask::{Ask, suits};
 pub use calls::{Call, Reply, run_calls};
-pub use heaviest::top;
+pub use heaviest::{top, tops_are_heaviest};
 pub use history::{replies_are_histories, spelled_are_histories};
 pub use loaded::{Live, Loaded};
 pub use plain::Plain;

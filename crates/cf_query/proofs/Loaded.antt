@@ -1,5 +1,5 @@
 -- The words of an entry that was seen are loaded.
-use Rattle.std.proofs.Common.{◌≡◌, ◌∙◌, ◌+◌, ◌-◌, ◌<◌, ◌^◌, ℕ, zero, suc, min, Bool, true, false, cond, List, [], ◌∷◌, ◌++◌, length, filter, get_or, Some, slice_get, ap, ap₂, sym, arith, append-nil}
+use Rattle.std.proofs.Common.{◌≡◌, ◌∙◌, ◌+◌, ◌-◌, ◌<◌, ◌^◌, ℕ, zero, suc, min, Bool, true, false, cond, List, [], ◌∷◌, ◌++◌, length, filter, take, get_or, Some, slice_get, ap, ap₂, sym, subst, arith, append-nil}
 use Rattle.std.specs.List.{range_with_len}
 use Rattle.std.specs.Bool.{nat_lt}
 use Rattle.std.proofs.lemmas.Bool.Decides.{nat_tests}
@@ -7,7 +7,10 @@ use Rattle.std.proofs.lemmas.Option.{slice_get-get_or}
 use Rattle.cf_row.specs.Row.{Fits, RowValue, values_fit}
 use Rattle.cf_row.specs.Expr.{holds_of}
 use Rattle.cf_row.specs.declared.expr.Atom.{Atom}
+use Rattle.cf_row.specs.declared.schema.Attr.{Attr}
+use Rattle.cf_row.specs.Times.{number_at}
 use Rattle.cf_row.specs.Words.{IsEntry, word_count, spelled}
+use Rattle.cf_fold.specs.Quads.{QuadValue, quad_of}
 use Rattle.cf_row.specs.declared.row.Entry.{Entry}
 use Rattle.cf_row.proofs.Bytes.{both}
 use Rattle.cf_shape.specs.Lanes.{ShapeValue, IsShape}
@@ -16,9 +19,11 @@ use Rattle.cf_law.specs.Shapes.{layout}
 use Rattle.cf_law.specs.Readers.{IsFit}
 use Rattle.cf_plain.specs.Asks.{rows_in, row_at}
 use Rattle.cf_plain.proofs.Scanned.{place_more}
+use Rattle.cf_plain.specs.Totals.{total}
+use Rattle.cf_plain.proofs.Amounts.{amounts_in, amounts_more}
 use Rattle.cf_table.specs.Values.{PassValue}
 use Rattle.cf_table.specs.Effects.{HasStepped, word_effect}
-use Rattle.cf_table.specs.Moves.{OnlyLooked}
+use Rattle.cf_table.specs.Moves.{OnlyLooked, AreFit}
 use Rattle.cf_table.proofs.Reading.{word_is, looked_word}
 
 abbrev pub no_entry : Entry
@@ -29,6 +34,10 @@ entry_at p o = get_or p.seen o no_entry
 
 pub entry_fits : (shape : ShapeValue) (e : Entry) → IsFit (layout shape) e → Fits shape.schema e.row
 entry_fits shape e fit = (both (values_fit shape.schema (e.row).values) (nat_lt (e.row).num (2 ^ 32)) fit.0).0
+
+-- an entry that was seen fits, also where words were looked at since
+pub held_fits : (shape : ShapeValue) (attrs : List Attr) (m n : PassValue) (o : ℕ) (e : Entry) → AreFit shape m.view → OnlyLooked m n → attrs ≡ shape.schema → slice_get (n.view).seen o ≡ Some e → Fits attrs e.row
+held_fits shape attrs m n o e fit looked schema at = subst (λ (kinds : List Attr). Fits kinds e.row) (sym schema) (entry_fits shape e (fit o e (sym (ap (λ (h : PassValue). slice_get (h.view).seen o) looked) ∙ at)))
 
 entry_by : (shape : ShapeValue) (e : Entry) → IsShape shape → IsFit (layout shape) e → IsEntry shape.schema e
 entry_by shape e is fit =
@@ -80,3 +89,26 @@ scanned_one expr seen o e b found after at holds passes is push = push ∙ (ap (
 pub scanned_none : (expr : List (List Atom)) (seen : List Entry) (o : ℕ) (e : Entry) (b : Bool) (found : List ℕ) → slice_get seen o ≡ Some e → b ≡ holds_of expr e.row → b ≡ false → found ≡ filter (holds_at expr seen) (range_with_len 0 o)
     → found ≡ filter (holds_at expr seen) (range_with_len 0 (o + 1))
 scanned_none expr seen o e b found at holds fails is = sym (append-nil found) ∙ (ap (λ (t : Bool). found ++ cond t (o ∷ []) []) (sym fails) ∙ scanned_more expr seen o e b found at holds is)
+
+-- an entry that is there, by its place
+at_place : (seen : List Entry) (o : ℕ) (e : Entry) → slice_get seen o ≡ Some e → (o < length seen) × (get_or seen o e ≡ e)
+at_place [] zero e at = absurd (cc at)
+at_place [] (suc o) e at = absurd (cc at)
+at_place (x ∷ xs) zero e at = (omega arith, cc at)
+at_place (x ∷ xs) (suc o) e at = let rest = at_place xs o e at in (omega (arith, rest.0), rest.1)
+
+-- What is added up of the entries of which an expression holds, and of one entry more.
+module _ (attr : ℕ) (expr : List (List Atom)) (seen : List Entry) (o : ℕ) (e : Entry) (at : slice_get seen o ≡ Some e) where
+  amounts_with : amounts_in attr expr (take (o + 1) seen) ≡ amounts_in attr expr (take o seen) ++ cond (holds_of expr e.row) (number_at e.row attr ∷ []) []
+  amounts_with =
+      let here = at_place seen o e at in
+      amounts_more attr expr seen o e here.0 ∙ ap (λ (x : Entry). amounts_in attr expr (take o seen) ++ cond (holds_of expr x.row) (number_at x.row attr ∷ []) []) here.1
+
+  pub summed_one : (b : Bool) (before after : QuadValue) → b ≡ holds_of expr e.row → b ≡ true → before ≡ total attr expr (rows_in (take o seen)) → ((xs : List ℕ) → before ≡ quad_of xs → after ≡ quad_of (xs ++ number_at e.row attr ∷ [])) → after ≡ total attr expr (rows_in (take (o + 1) seen))
+  summed_one b before after holds passes is added =
+      added (amounts_in attr expr (take o seen)) is
+      ∙ ap quad_of (ap (λ (t : Bool). amounts_in attr expr (take o seen) ++ cond t (number_at e.row attr ∷ []) []) (sym passes ∙ holds) ∙ sym amounts_with)
+
+  pub summed_none : (b : Bool) (before : QuadValue) → b ≡ holds_of expr e.row → b ≡ false → before ≡ total attr expr (rows_in (take o seen)) → before ≡ total attr expr (rows_in (take (o + 1) seen))
+  summed_none b before holds fails is =
+      is ∙ ap quad_of (sym (append-nil (amounts_in attr expr (take o seen))) ∙ ap (λ (t : Bool). amounts_in attr expr (take o seen) ++ cond t (number_at e.row attr ∷ []) []) (sym fails ∙ holds) ∙ sym amounts_with)

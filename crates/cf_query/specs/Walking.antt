@@ -14,19 +14,24 @@ AsksOne (asks.Find lane low high) = low ≡ high
 AsksOne (asks.Between lane low high) = low ≡ high
 AsksOne (asks.Measure lane low high) = ⊥
 AsksOne (asks.Fired trigger) = ⊥
+AsksOne (asks.Top lane part n) = ⊥
+AsksOne (asks.Total attr expr) = ⊥
 
--- the lane that a question walks
+-- the lane that a question walks; those that go over all entries walk none
 abbrev pub lane_of : Ask → ℕ
 lane_of (asks.List expr) = 0
 lane_of (asks.Find lane low high) = lane
 lane_of (asks.Between lane low high) = lane
 lane_of (asks.Measure lane low high) = lane
 lane_of (asks.Fired trigger) = trigger.agg
+lane_of (asks.Top lane part n) = lane
+lane_of (asks.Total attr expr) = 0
 
 abbrev pub places_in : Body → List ℕ
 places_in (bodies.Places places) = places
 places_in (bodies.Total total) = []
 places_in (bodies.Marks marks) = []
+places_in (bodies.Tops marks) = []
 
 -- One step for the read tail, one for each level and writer, one for each place found, and one for each place at or past the tail.
 abbrev pub steps_of_one : ShapeValue → ℕ → Body → ℕ → ℕ

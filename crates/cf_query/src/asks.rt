@@ -27,7 +27,8 @@ pub fn tail<P: Pass, L: Ledger>(log: &MultiLog, pass: &mut P, steps: &mut Steps<
 }
 
 /// The question's meaning on the entries that are covered then, and how many they are. The read tail is loaded once, and
-/// the pass notes it. All but `List` walk the lane's tree and chains, so that a question for one key reads few words.
+/// the pass notes it. `List` and `Total` go over all entries; all others walk the lane's tree and chains, so that a question for
+/// one key reads few words.
 pub fn ask<P: Pass, L: Ledger>(
     log: &MultiLog,
     alloc: Global,

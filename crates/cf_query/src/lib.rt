@@ -1,6 +1,7 @@
 //! Questions are asked of a shared log by any pass, while writers append.
 //!
-//! A list goes over the words of all entries below its read tail. All other questions walk the tree and chains of their lane.
+//! A list and a total go over the words of all entries below their read tail. All other questions walk the tree and chains of
+//! their lane.
 #![tactic(auto)]
 
 mod asks;

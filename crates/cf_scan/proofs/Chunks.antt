@@ -9,8 +9,9 @@ use Rattle.cf_row.specs.declared.row.Entry.{Entry}
 use Rattle.cf_row.specs.declared.expr.Atom.{Atom}
 use Rattle.cf_fold.specs.Quads.{QuadValue, quad_of}
 use Rattle.cf_plain.specs.Asks.{rows_in}
-use Rattle.cf_scan.specs.Scans.{total}
-use Rattle.cf_scan.proofs.Amounts.{amounts_in, amounts_concat, amounts_few, lists_count}
+use Rattle.cf_plain.specs.Totals.{total}
+use Rattle.cf_plain.proofs.Amounts.{amounts_in, amounts_few}
+use Rattle.cf_scan.proofs.Amounts.{amounts_concat, lists_count}
 
 -- what holds of each element holds of each element of each chunk
 pub all_parts : {X : Type 0} (P : X → Type 0) (lists : List (List X)) → All P (flat_map (λ (xs : List X). xs) lists) → (k : ℕ) (d : List X) → k < length lists → All P (get_or lists k d)

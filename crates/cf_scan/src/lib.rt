@@ -8,5 +8,5 @@ mod tests;
 mod total;
 
 pub use found::scan;
-pub use laws::scans_are_lists;
+pub use laws::{scans_are_lists, scans_are_totals};
 pub use total::scan_total;

@@ -1,48 +1,21 @@
 // The quad of an attribute over the entries of which an expression holds.
 ghost use Rattle.std.specs.Prelude.{◌≡◌, ℕ, ◌<◌, ◌≤◌, ◌^◌, List, length, map, flat_map, sum_by, IfOk};
-ghost use Rattle.cf_row.specs.Row.{Fits};
 ghost use Rattle.cf_row.specs.Expr.{IsOfSchema};
-ghost use Rattle.cf_row.specs.Times.{number_at};
 ghost use Rattle.cf_fold.specs.Quads.{quad_of};
 ghost use Rattle.cf_plain.specs.Asks.{rows_in};
 ghost use Rattle.rayon.specs.Lists.{chunks_of};
-ghost use Rattle.cf_scan.specs.Scans.{FitAll, IsNarrow, total};
+ghost use Rattle.cf_plain.specs.Totals.{IsNarrow, total};
+ghost use Rattle.cf_scan.specs.Scans.{FitAll};
 
 use cf_fold::Quad;
-use cf_row::{Entry, Expr, Memory, Row, Schema, holds};
+use cf_plain::total_of_expr;
+use cf_row::{Entry, Expr, Memory, Schema};
 use rayon::prelude::*;
 use std::alloc::Global;
 use std::thread::Threads;
 
 // How many entries are added up one after the other.
 const CHUNK: usize = 4096;
-
-// The row's number at the attribute.
-fn amount(schema: &Schema, attr: u8, row: &Row) -> u32
-    requires narrow { IsNarrow schema.now attr }
-    requires fits { Fits schema.now row.now }
-    ensures { result ≡ number_at row.now attr }
-{
-    let _lawful = schema.attrs();
-    row.number(attr) as u32
-}
-
-// The quad of a few entries, one after the other.
-fn total_of(schema: &Schema, attr: u8, expr: &Expr, entries: &[Entry]) -> Quad
-    requires narrow { IsNarrow schema.now attr }
-    requires suits { IsOfSchema schema.now expr.now }
-    requires fit { FitAll schema.now entries.now }
-    requires few { length entries.now ≤ 2 ^ 20 }
-    ensures { result ≡ total attr expr.now (rows_in entries.now) }
-{
-    let mut total = Quad::EMPTY;
-    for entry in entries {
-        if holds(schema, expr, &entry.row) {
-            total = total.add(amount(schema, attr, &entry.row));
-        }
-    }
-    total
-}
 
 // The quad of all numbers of some lists, of which these are the quads.
 fn merged(parts: &[Quad]) -> Quad
@@ -79,7 +52,7 @@ fn chunk_totals(
             |chunk: &[Entry]| -> Quad
                 requires { IsNarrow schema.now attr × IsOfSchema schema.now expr.now × FitAll schema.now chunk.now × (length chunk.now ≤ 2 ^ 20) }
                 ensures { result ≡ total attr expr.entry.now (rows_in chunk.now) }
-            { total_of(schema, attr, expr, chunk) },
+            { total_of_expr(schema, attr, expr, chunk) },
         )
         .collect(rt, alloc)
 }

@@ -1,23 +1,15 @@
-use Rattle.std.proofs.Common.{◌≡◌, ◌∙◌, ℕ, List, Some, Vec, Global, slice_get, length, ap, sym, subst}
+use Rattle.std.proofs.Common.{◌≡◌, ◌∙◌, ℕ, List, Some, Vec, Global, slice_get, length, ap, sym}
 use Rattle.std.proofs.lemmas.List.{length-map}
-use Rattle.cf_row.specs.Row.{Fits}
 use Rattle.cf_row.specs.declared.row.Entry.{Entry}
-use Rattle.cf_row.specs.declared.schema.Attr.{Attr}
 use Rattle.cf_shape.specs.Lanes.{ShapeValue}
 use Rattle.cf_table.specs.Values.{PassValue}
 use Rattle.cf_table.proofs.Reading.{looked_then}
-use Rattle.cf_query.proofs.Loaded.{entry_fits, scanned_one, scanned_none}
+use Rattle.cf_query.proofs.Loaded.{held_fits, scanned_one, scanned_none}
 use Rattle.cf_query.proofs.bodies.scan.Goals as goal
 use Rattle.cf_query.proofs.bodies.scan.Goals.{then-holds+in_ok-push, else-holds}
 
 pub holds-requires-clause-fits : goal.holds-requires-clause-fits
-holds-requires-clause-fits g c =
-    let s = c.args.log.now.shape in
-    let e = c.in_ok-entry.entry in
-    let o = c.loop-offset.offset in
-    let at = sym (ap (λ (h : PassValue). slice_get (h.view).seen o) c.loop-offset.invariant.looked) ∙ c.in_ok-entry.ensures.entry in
-    let schema = c.schema-schema.ensures ∙ ap (λ (x : ShapeValue). x.schema) c.shape.ensures.shape in
-    subst (λ (attrs : List Attr). Fits attrs e.row) (sym schema) (entry_fits s e (c.requires.fit o e at))
+holds-requires-clause-fits g c = held_fits c.args.log.now.shape c.schema-schema.result.now (g.P.Pass.held c.args.pass.now) (g.P.Pass.held c.loop-offset.pass) c.loop-offset.offset c.in_ok-entry.entry c.requires.fit c.loop-offset.invariant.looked (c.schema-schema.ensures ∙ ap (λ (x : ShapeValue). x.schema) c.shape.ensures.shape) c.in_ok-entry.ensures.entry
 
 pub loop-offset-preserved : goal.loop-offset-preserved
 loop-offset-preserved g c =

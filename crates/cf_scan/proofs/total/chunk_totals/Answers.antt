@@ -5,7 +5,8 @@ use Rattle.rayon.proofs.ToStd.{chunks_of-All, chunks_of-concat, slice-map}
 use Rattle.cf_row.specs.declared.row.Entry.{Entry}
 use Rattle.cf_row.specs.Row.{Fits}
 use Rattle.cf_plain.specs.Asks.{rows_in}
-use Rattle.cf_scan.specs.Scans.{FitAll, total}
+use Rattle.cf_plain.specs.Totals.{total}
+use Rattle.cf_scan.specs.Scans.{FitAll}
 use Rattle.cf_scan.proofs.Chunks.{all_parts}
 use Rattle.cf_scan.proofs.total.chunk_totals.Goals as goal
 
