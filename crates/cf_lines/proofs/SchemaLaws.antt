@@ -1,5 +1,5 @@
 -- Lists of attributes are read just as they are written.
-use Rattle.std.proofs.Common.{◌≡◌, ◌⊎◌, ℕ, zero, suc, ◌+◌, ◌-◌, ◌≤◌, List, [], ◌∷◌, ◌++◌, length, map, drop, Bool, true, false, ◌&&◌, ◌||◌, not, cond, nat_le, nat_lt, ◌==◌, Option, Some, None, refl, sym, ap, ◌∙◌, arith, subst, codes, inl, inr, append-nil}
+use Rattle.std.proofs.Common.{◌≡◌, ◌⊎◌, ℕ, zero, suc, ◌+◌, ◌-◌, ◌≤◌, List, [], ◌∷◌, ◌++◌, length, map, drop, Bool, true, false, ◌&&◌, ◌||◌, not, cond, nat_le, nat_lt, ◌==◌, Option, Some, None, IfSome, refl, sym, ap, ◌∙◌, arith, subst, codes, inl, inr, append-nil}
 use Rattle.std.specs.List.{list_all, list_any, join_with_byte, prefix_len}
 use Rattle.std.specs.Option.{option_map, option_and_then}
 use Rattle.std.specs.Str.{bytes_eq}
@@ -290,3 +290,10 @@ schema_found list attrs h = option_and_then_some _ (attrs_at 24 list) attrs h (�
     let chosen = cond_some (is_schema found) found attrs k in
     let l = attrs_found 24 list found e in
     subst (ListText list) chosen.1 (record { written = l.written; spelled = l.spelled; schema = schema_parts found chosen.0 }))
+
+pub states_found : (list : List ℕ) → IfSome (schema_at list) (ListText list)
+states_found list = by (schema_at list) refl
+  where
+    by : (o : Option (List Attr)) → schema_at list ≡ o → IfSome o (ListText list)
+    by None e = tt
+    by (Some attrs) e = schema_found list attrs e

@@ -1,8 +1,9 @@
 // The list of a schema's attributes.
-ghost use Rattle.std.specs.Prelude.{◌≡◌, ℕ, List, ◌≤◌, ◌<◌, length, IfOk, IfSome, All};
+ghost use Rattle.std.specs.Prelude.{◌≡◌, ℕ, List, ◌≤◌, ◌<◌, length, Some, IfOk, IfSome, All};
 ghost use Rattle.std.specs.Option.{option_map};
+ghost use Rattle.cf_row.specs.declared.schema.Attr.{Attr};
 ghost use Rattle.cf_row.specs.Schema.{IsSchema};
-ghost use Rattle.cf_lines.specs.Schemas.{size_at, kind_named, member_at, attrs_at, is_schema, schema_at};
+ghost use Rattle.cf_lines.specs.Schemas.{size_at, kind_named, member_at, attrs_at, is_schema, schema_at, ListText};
 
 use crate::lines::is_name;
 use cf_filter::{Class, strip};
@@ -76,9 +77,9 @@ fn attrs_of(alloc: Global, list: &[u8]) -> Result<Option<Vec<Attr>>, Memory>
     Ok(None)
 }
 
-/// The schema that the list states.
+// The schema that is read of the list.
 #[tactic(auto, using(crate::proofs::Members::schema_some, crate::proofs::Members::schema_none))]
-pub fn schema_of(alloc: Global, list: &[u8]) -> Result<Option<Schema>, Memory>
+fn read_schema(alloc: Global, list: &[u8]) -> Result<Option<Schema>, Memory>
     ensures { IfOk result (λ read. read ≡ schema_at list.now) }
 {
     let Some(attrs) = attrs_of(alloc, list)? else {
@@ -88,4 +89,15 @@ pub fn schema_of(alloc: Global, list: &[u8]) -> Result<Option<Schema>, Memory>
         Ok(schema) => Ok(Some(schema)),
         Err(_) => Ok(None),
     }
+}
+
+/// The schema that the list states, if it states one.
+pub fn schema_of(alloc: Global, list: &[u8]) -> Result<Option<Schema>, Memory>
+    ensures read { IfOk result (λ read. read ≡ schema_at list.now) }
+    // The list is written as the list of the schema that it states.
+    ensures found { IfOk result (λ read. IfSome read (ListText list.now)) }
+    // A list that is written as one states that schema.
+    ensures only { (attrs : List Attr) → ListText list.now attrs → IfOk result (λ read. read ≡ Some attrs) }
+{
+    read_schema(alloc, list)
 }
