@@ -232,6 +232,109 @@ fn sources_of_one_network(rt: HostRuntime) -> Result<(), Fail> {
     Ok(())
 }
 
+// The log of four packets of three sources, by source; None is for a fault of this fixture.
+fn four_packets(alloc: Global) -> Result<Option<Plain>, Fail> {
+    let kinds = [("ts", Kind::U64), ("src", Kind::U32), ("len", Kind::U32)];
+    let Some(shape) = shape_of(alloc, &kinds, Key::Attr(1), Some(2))? else {
+        return Ok(None);
+    };
+    let mut plain = Plain::new(alloc, shape.copy(alloc)?);
+    let packets: [&[u64]; 4] = [
+        &[0, 0x0a00_0001, 100],
+        &[0, 0x0a00_0002, 70],
+        &[0, 0x0a00_0001, 20],
+        &[0, 0x0a00_0003, 70],
+    ];
+    if !append_all(alloc, &mut plain, &packets)? {
+        return Ok(None);
+    }
+    Ok(Some(plain))
+}
+
+#[test]
+fn the_heaviest_sources(rt: HostRuntime) -> Result<(), Fail> {
+    let alloc = rt.alloc();
+    let plain = four_packets(alloc)?.expect(&rt, "lawful");
+    for (part, count, found) in [
+        (
+            Part::Sum,
+            2,
+            Some([4, 167_772_161, 120, 167_772_162, 70].as_slice()),
+        ),
+        (Part::Sum, 1, Some(&[4, 167_772_161, 120])),
+        (
+            Part::Count,
+            1000,
+            Some(&[4, 167_772_161, 2, 167_772_162, 1, 167_772_163, 1]),
+        ),
+        (
+            Part::Least,
+            3,
+            Some(&[4, 167_772_162, 70, 167_772_163, 70, 167_772_161, 20]),
+        ),
+        (Part::Sum, 0, None),
+        (Part::Sum, 1001, None),
+    ] {
+        check(&rt, alloc, &plain, &Ask::Top(0, part, count), found)?;
+    }
+    check(&rt, alloc, &plain, &Ask::Top(1, Part::Sum, 2), None)?;
+    Ok(())
+}
+
+#[test]
+fn totals_of_the_packets_of_which_an_expression_holds(rt: HostRuntime) -> Result<(), Fail> {
+    let alloc = rt.alloc();
+    let plain = four_packets(alloc)?.expect(&rt, "lawful");
+    for (attr, op, number, found) in [
+        (2, Op::Le, 70, Some([4, 3, 160, 20, 70].as_slice())),
+        (2, Op::Gt, 100, Some(&[4, 0, 0, 0, 0])),
+        (
+            1,
+            Op::Lt,
+            70,
+            Some(&[4, 1, 167_772_161, 167_772_161, 167_772_161]),
+        ),
+        (0, Op::Le, 70, None),
+        (3, Op::Le, 70, None),
+    ] {
+        let expr = expr_of(alloc, &[&[atom(2, op, number)]])?;
+        check(&rt, alloc, &plain, &Ask::Total(attr, expr), found)?;
+    }
+    Ok(())
+}
+
+#[test]
+fn equal_groups_are_ranked_by_their_keys(rt: HostRuntime) -> Result<(), Fail> {
+    let alloc = rt.alloc();
+    let light = Quad::EMPTY.add(3);
+    let heavy = light.add(4);
+    let groups = [
+        Group {
+            key: 9,
+            quad: light,
+        },
+        Group {
+            key: 4,
+            quad: light,
+        },
+        Group {
+            key: 7,
+            quad: heavy,
+        },
+        Group {
+            key: 2,
+            quad: light,
+        },
+    ];
+    let marks = top(alloc, Part::Count, 3, &groups)?;
+    let keys = marks.iter().map(|mark| mark.bucket);
+    assert_eq!(rt;
+        Vec::from_iter(alloc, keys)?.as_slice(),
+        [7, 2, 4].as_slice()
+    );
+    Ok(())
+}
+
 // The replies to two appends and a question; None where one of them isn't lawful.
 fn replies_of(
     alloc: Global,

@@ -118,13 +118,30 @@ fn one_entry(rt: HostRuntime) -> Result<(), Fail> {
     Ok(())
 }
 
+// So many entries, whose lengths go round from 0 to 99.
+fn entries_of(alloc: Global, count: u32) -> Result<Vec<Entry>, Memory> {
+    let mut entries = Vec::new(alloc);
+    for num in 0..count {
+        entries.push(entry(alloc, num, 1, u64::from(num) % 100)?)?;
+    }
+    Ok(entries)
+}
+
+#[test]
+fn one_entry_less_than_a_chunk(rt: HostRuntime) -> Result<(), Fail> {
+    let alloc = rt.alloc();
+    let entries = entries_of(alloc, 4095)?;
+    let (places, total) = scans(&rt, alloc, 2, &entries)?;
+    assert_eq!(rt; places.len(), 41 * 71);
+    assert_eq!(rt; places.last().copied(), Some(4070));
+    assert_eq!(rt; total, Quad::new(41 * 71, 41 * 2485, 0, 70));
+    Ok(())
+}
+
 #[test]
 fn more_entries_than_two_chunks(rt: HostRuntime) -> Result<(), Fail> {
     let alloc = rt.alloc();
-    let mut entries = Vec::new(alloc);
-    for num in 0..9000 {
-        entries.push(entry(alloc, num, 1, u64::from(num) % 100)?)?;
-    }
+    let entries = entries_of(alloc, 9000)?;
     let (places, total) = scans(&rt, alloc, 2, &entries)?;
     assert_eq!(rt; places.len(), 90 * 71);
     assert_eq!(rt; places.last().copied(), Some(8970));
