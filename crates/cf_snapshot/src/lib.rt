@@ -18,6 +18,6 @@ pub use event::SnapEvent;
 pub use host::Host;
 pub use laws::{
     cuts_are_of_one_moment, cuts_come_by_release, cuts_end_at_the_last_freeze,
-    cuts_have_all_earlier,
+    cuts_have_all_earlier, plans_have_cuts,
 };
 pub use snap::{Snap, snap_step};
