@@ -1,14 +1,13 @@
 -- The cut of hosts that cover their rows in turns.
-use Rattle.std.proofs.Common.{◌≡◌, ◌≢◌, ℕ, zero, suc, ◌+◌, ◌-◌, ◌*◌, ◌/◌, ◌%◌, ◌^◌, ◌<◌, ◌≤◌, Bool, true, false, not, nat_lt, min, List, [], ◌∷◌, ◌++◌, length, map, replicate, fold, get_or, Some, ◌⊎◌, inl, inr, refl, sym, ap, subst, ◌∙◌, arith, rules}
+use Rattle.std.proofs.Common.{◌≡◌, ◌≢◌, ℕ, zero, suc, ◌+◌, ◌-◌, ◌*◌, ◌/◌, ◌%◌, ◌^◌, ◌<◌, ◌≤◌, Bool, true, false, not, nat_lt, List, ◌∷◌, ◌++◌, length, map, replicate, fold, get_or, Some, inl, inr, refl, sym, ap, subst, ◌∙◌, arith}
 use Rattle.std.specs.List.{All, list_all, flat_map, range_with_len}
 use Rattle.std.proofs.Math.Nat.{min-le_left, min-le_right, le-min, div-add-mod, mod-lt, div-eq_of_lt}
 use Rattle.std.proofs.lemmas.Nat.{div-mul-add}
-use Rattle.std.proofs.lemmas.Bool.{both_ways, cases_Bool, cases_eq, cases_lt, cases_order, lt-ltb, ltb-true}
-use Rattle.std.proofs.lemmas.List.{get_or-set_same, get_or-set_other, get_or-replicate, ext_get_or, get_or_default}
+use Rattle.std.proofs.lemmas.Bool.{cases_Bool, cases_eq, cases_lt, cases_order, lt-ltb, ltb-true}
+use Rattle.std.proofs.lemmas.List.{get_or-set_same, get_or-set_other, get_or-replicate, ext_get_or, get_or_default, get_or_past}
 use Rattle.std.proofs.lemmas.List.Sums.{fold-append, list_all-from_AllPass}
 use Rattle.std.proofs.lemmas.List.FromFn.{get_or-map-range_with_len, length-map-range_with_len}
-use Rattle.std.proofs.lemmas.Grind.{flat_map-append}
-use Rattle.cf_snapshot.specs.Snapshots.{SnapValue, is_host, tail_of, is_frozen, is_under_way, is_lawful, changed, after, at_start, state_after, cut_of}
+use Rattle.cf_snapshot.specs.Snapshots.{SnapValue, is_host, tail_of, is_frozen, is_lawful, after, at_start, state_after, cut_of}
 use Rattle.cf_snapshot.specs.Plans.{rows_at, covered_after, turn_of_host, turns_round, turns_of_host, freeze_host, freezing, releasing, events_of, in_cut, cut_by, PlansHaveCuts}
 use Rattle.cf_snapshot.specs.declared.event.SnapEvent.{SnapEvent}
 use Rattle.cf_snapshot.specs.declared.event.SnapEvent.TheVariants.{Cover, Begin, Freeze, Reply, Release, Thaw}
@@ -357,3 +356,16 @@ module _ (turn : ℕ) (counts : List ℕ) (turns : ℕ) (some : 0 < length count
 
 pub plans_have_cuts : PlansHaveCuts
 plans_have_cuts turn counts turns some low = has_cut turn counts turns some low (state_after (length counts) (events_of turn counts turns)) (whole turn counts turns some low)
+
+-- a cut has no more of a host than the host has
+pub cut_within : (turn : ℕ) (counts : List ℕ) (turns host : ℕ) → get_or (cut_by turn counts turns) host 0 ≤ rows_at counts host
+cut_within turn counts turns host = elim (cases_lt host (length counts)) [
+  | inl there ↦
+      let is = get_or-map-range_with_len (in_cut turn counts turns) 0 (length counts) host host 0 there (omega arith) in
+      let low = min-le_left (rows_at counts host) (turn * (turns_of_host (length counts) turns host + host)) in
+      omega (arith, is, low)
+  | inr past ↦
+      let long = length-map-range_with_len (in_cut turn counts turns) 0 (length counts) in
+      let none = get_or_past (cut_by turn counts turns) host 0 (omega (arith, long, past)) in
+      omega (arith, none)
+]

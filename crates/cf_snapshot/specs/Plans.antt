@@ -1,5 +1,5 @@
 -- Hosts that cover their rows in turns, and are frozen one after another: the events, and the cut.
-use Rattle.std.specs.Prelude.{◌≡◌, ℕ, ◌+◌, ◌-◌, ◌*◌, ◌/◌, ◌%◌, ◌^◌, ◌<◌, ◌≤◌, min, List, [], ◌∷◌, ◌++◌, length, map, replicate, slice_index_or}
+use Rattle.std.specs.Prelude.{ℕ, ◌+◌, ◌-◌, ◌*◌, ◌/◌, ◌%◌, ◌^◌, ◌<◌, ◌≤◌, min, List, ◌∷◌, ◌++◌, length, map, replicate, slice_index_or}
 use Rattle.std.specs.List.{flat_map, range_with_len, All}
 use Rattle.cf_snapshot.specs.Laws.{HasCut}
 use Rattle.cf_snapshot.specs.declared.event.SnapEvent.{SnapEvent}
