@@ -1,8 +1,7 @@
 -- A log of one writer, whose pass has seen all that it has finished.
-use Rattle.std.proofs.Common.{◌≡◌, ◌∙◌, ℕ, ◌+◌, ◌^◌, ◌==◌, ◌<◌, ◌≤◌, zero, suc, inl, inr, List, [], ◌∷◌, ◌++◌, append-nil, length, take, get_or, Bool, true, false, cond, Some, None, slice_get, Result, Ok, Err, IfOk, IfErr, refl, sym, ap, ap₂, subst, arith}
+use Rattle.std.proofs.Common.{◌≡◌, ◌∙◌, ℕ, ◌+◌, ◌^◌, ◌<◌, ◌≤◌, zero, suc, inl, inr, List, [], ◌∷◌, ◌++◌, append-nil, length, get_or, Bool, true, false, cond, Some, None, slice_get, Result, Ok, Err, IfOk, IfErr, refl, sym, ap, ap₂, subst, arith}
 use Rattle.std.specs.declared.alloc.AllocError.{AllocError}
 use Rattle.std.specs.Result.{result_unwrap_or}
-use Rattle.std.proofs.lemmas.Option.{slice_get_within}
 use Rattle.cf_row.specs.Row.{RowValue}
 use Rattle.cf_row.specs.declared.row.Entry.{Entry}
 use Rattle.cf_shape.specs.Lanes.{ShapeValue}
@@ -14,12 +13,11 @@ use Rattle.cf_law.specs.Steps.{Holds}
 use Rattle.cf_law.specs.Events.{table, no_book}
 use Rattle.cf_law.specs.Readers.{mine_from}
 use Rattle.cf_law.proofs.Fronts.{table_length, table_at}
-use Rattle.cf_table.specs.Values.{PassValue, LogValue, IsOf, book_of}
+use Rattle.cf_table.specs.Values.{PassValue, LogValue, book_of}
 use Rattle.cf_table.specs.Rule.{root_pass}
 use Rattle.cf_table.specs.Moves.{Begins, AreDealt, AreFit, HasAll, MarkedIsFull, HoldsAllBooks}
 use Rattle.cf_table.proofs.Counting.{AreBelow}
 use Rattle.cf_table.proofs.Folds.{all_of}
-use Rattle.cf_table.proofs.Mays.{the_book}
 use Rattle.cf_table.proofs.Settling.{begins_then}
 use Rattle.cf_append.specs.Appends.{GoesOn, Rests, IsAnswered}
 use Rattle.cf_append.specs.declared.appends.AppendFault.{AppendFault}

@@ -4,3 +4,4 @@ pub mod Histories
 pub mod Cuts
 pub mod Hosting
 pub mod Standing
+pub mod Planning

@@ -1,5 +1,5 @@
 -- The calls of a host are events of each snapshot that has it.
-use Rattle.std.proofs.Common.{◌≡◌, ◌∙◌, ℕ, ◌+◌, ◌^◌, ◌<◌, ◌≤◌, Bool, true, false, not, length, set, Result, Ok, Err, IfOk, refl, sym, ap, arith}
+use Rattle.std.proofs.Common.{◌≡◌, ◌∙◌, ℕ, ◌+◌, ◌^◌, ◌<◌, ◌≤◌, true, false, length, Result, Ok, Err, IfOk, refl, sym, ap, arith}
 use Rattle.std.specs.Bool.{nat_lt}
 use Rattle.std.proofs.lemmas.Bool.{ltb-true, lt-ltb}
 use Rattle.std.proofs.lemmas.List.{length-set, get_or-set_same}
@@ -7,7 +7,7 @@ use Rattle.cf_row.specs.Row.{RowValue}
 use Rattle.cf_append.specs.declared.appends.AppendFault.{AppendFault}
 use Rattle.cf_snapshot.specs.Snapshots.{SnapValue, IsSnapshot, is_host, tail_of, is_frozen, is_under_way, is_lawful}
 use Rattle.cf_snapshot.specs.declared.event.SnapEvent.TheVariants.{Cover, Freeze, Thaw}
-use Rattle.cf_snapshot.specs.Hosts.{HostValue, HasCovered, StandsFor, IsEvent}
+use Rattle.cf_snapshot.specs.Hosts.{HostValue, HasCovered, IsEvent}
 use Rattle.cf_snapshot.proofs.Hosting.{covered_more}
 use Rattle.cf_snapshot.proofs.Lawful.{taken}
 

@@ -1,3 +1,4 @@
 pub mod Snapshots
 pub mod Laws
 pub mod Hosts
+pub mod Plans

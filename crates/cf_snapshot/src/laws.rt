@@ -1,5 +1,6 @@
 // The theorems.
 ghost use Rattle.cf_snapshot.specs.Laws.{CutsAreOfOneMoment, CutsComeByRelease, CutsEndAtTheLastFreeze, CutsHaveAllEarlier};
+ghost use Rattle.cf_snapshot.specs.Plans.{PlansHaveCuts};
 
 /// A cut is the list of all hosts' tails right after the last lawful `Freeze`, and all hosts are frozen there.
 pub fn cuts_are_of_one_moment()
@@ -19,4 +20,10 @@ pub fn cuts_end_at_the_last_freeze()
 /// If a record's `Cover` comes before that of a record in the cut, it is in the cut too.
 pub fn cuts_have_all_earlier()
     ensures { CutsHaveAllEarlier }
+{}
+
+/// Hosts that cover their rows in turns, and are frozen one after another, have one cut: each host's rows of the turns up to
+/// its freezing.
+pub fn plans_have_cuts()
+    ensures { PlansHaveCuts }
 {}

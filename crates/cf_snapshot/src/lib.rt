@@ -10,6 +10,9 @@ mod host;
 #[cfg(test)]
 mod host_tests;
 mod laws;
+mod plan;
+#[cfg(test)]
+mod plan_tests;
 mod snap;
 #[cfg(test)]
 mod tests;
@@ -18,6 +21,7 @@ pub use event::SnapEvent;
 pub use host::Host;
 pub use laws::{
     cuts_are_of_one_moment, cuts_come_by_release, cuts_end_at_the_last_freeze,
-    cuts_have_all_earlier,
+    cuts_have_all_earlier, plans_have_cuts,
 };
+pub use plan::cut_of_turns;
 pub use snap::{Snap, snap_step};
