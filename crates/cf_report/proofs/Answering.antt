@@ -37,6 +37,8 @@ body_within shape (asks.Find lane low high) rows = low_places (counts_for shape 
 body_within shape (asks.Between lane low high) rows = low_places (counts_for shape (asks.Between lane low high)) rows
 body_within shape (asks.Measure lane low high) rows = tt
 body_within shape (asks.Fired trigger) rows = tt
+body_within shape (asks.Top lane part count) rows = tt
+body_within shape (asks.Total attr expr) rows = tt
 
 body_kind : (shape : ShapeValue) (ask : Ask) (rows : List RowValue) → is_body_of ask (eval_rows shape ask rows) ≡ true
 body_kind shape (asks.List expr) rows = refl
@@ -44,11 +46,14 @@ body_kind shape (asks.Find lane low high) rows = refl
 body_kind shape (asks.Between lane low high) rows = refl
 body_kind shape (asks.Measure lane low high) rows = refl
 body_kind shape (asks.Fired trigger) rows = refl
+body_kind shape (asks.Top lane part count) rows = refl
+body_kind shape (asks.Total attr expr) rows = refl
 
 within_more : (m n : ℕ) (body : Body) → m ≤ n → IsWithin m body → IsWithin n body
 within_more m n (bodies.Places places) le within = λ k d lt. let low = within k d lt in omega (arith, low, le)
 within_more m n (bodies.Total quad) le within = tt
 within_more m n (bodies.Marks marks) le within = tt
+within_more m n (bodies.Tops tops) le within = tt
 
 within_log : (shape : ShapeValue) (ask : Ask) (log : List Entry) (n : ℕ) → length log ≤ n → IsWithin n (eval shape ask log)
 within_log shape ask log n le = let same : length (rows_in log) ≡ length log = length-map log (λ (entry : Entry). entry.row) in within_more (length (rows_in log)) n (eval shape ask log) (omega (arith, same, le)) (body_within shape ask (rows_in log))

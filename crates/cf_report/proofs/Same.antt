@@ -4,9 +4,11 @@ use Rattle.std.specs.List.{range_with_len, flat_map}
 use Rattle.std.proofs.lemmas.Bool.{cases_Bool}
 use Rattle.cf_row.specs.declared.row.Entry.{Entry}
 use Rattle.cf_row.specs.Row.{RowValue}
+use Rattle.cf_row.specs.Expr.{holds_of}
+use Rattle.cf_row.specs.Times.{number_at}
 use Rattle.cf_fold.specs.Sort.{sort}
 use Rattle.cf_fold.specs.declared.trigger.Trigger.{Trigger}
-use Rattle.cf_fold.proofs.Sorted.{AsOften, sort_is_one}
+use Rattle.cf_fold.proofs.Sorted.{AsOften, sort_is_one, quad_is_one}
 use Rattle.cf_history.specs.Order.{IsOrder, log_of}
 use Rattle.cf_history.proofs.Logs.{same_rows}
 use Rattle.cf_history.proofs.Orders.{log_of_order}
@@ -15,6 +17,8 @@ use Rattle.cf_plain.specs.Asks.{rows_in, row_at, places, counts_for, marks_in, m
 use Rattle.cf_plain.specs.declared.ask.Ask.{Ask}
 use Rattle.cf_plain.specs.declared.ask.Ask.TheVariants as asks
 use Rattle.cf_plain.specs.declared.answer.Fired.{Fired}
+use Rattle.cf_plain.specs.Tops.{top}
+use Rattle.cf_plain.specs.Totals.{amounts}
 use Rattle.cf_plain.proofs.Totals.{SameRows, often, map_agree, same_total, same_groups, same_length}
 use Rattle.cf_setup.specs.Setups.{SetupValue}
 use Rattle.cf_report.specs.Bodies.{line, nums_at, word_of, shown, numbers_text, quad_text, marks_text}
@@ -49,6 +53,8 @@ module _ (shape : ShapeValue) (rows others : List RowValue) (same : SameRows row
   same_body (asks.Between lane low high) = ap numbers_text (same_places (counts_for shape (asks.Between lane low high)) rows others same)
   same_body (asks.Measure lane low high) = ap quad_text (same_total shape rows others same lane (counts_for shape (asks.Measure lane low high)))
   same_body (asks.Fired trigger) = ap (λ gs. marks_text (marks_in trigger gs)) (same_groups shape rows others same trigger.agg)
+  same_body (asks.Top lane part count) = ap (λ gs. marks_text (top part count gs)) (same_groups shape rows others same lane)
+  same_body (asks.Total attr expr) = ap quad_text (quad_is_one (amounts attr expr rows) (amounts attr expr others) (often (λ row. number_at row attr) (holds_of expr) rows others same))
 
   same_line : (name : List ℕ) (list : List Ask) (place : ℕ) → ask_line name rows (get_or (map (told_on shape rows) list) place nothing_told) ≡ ask_line name others (get_or (map (told_on shape others) list) place nothing_told)
   same_line name [] place = refl

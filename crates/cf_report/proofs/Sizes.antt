@@ -11,6 +11,7 @@ use Rattle.cf_shape.specs.Lanes.{ShapeValue, lane_at, key_by, key_of, selected_b
 use Rattle.cf_shape.specs.declared.lane.Key.{Key}
 use Rattle.cf_shape.specs.declared.lane.Key.TheVariants as keys
 use Rattle.cf_plain.specs.Groups.{keys_in, has_key, group_of, groups, ascending}
+use Rattle.cf_plain.specs.Tops.{top}
 use Rattle.cf_plain.specs.Asks.{row_at, rows_in, counts_for, is_between, marks_in, marks_over, eval_rows}
 use Rattle.cf_plain.specs.declared.ask.Ask.{Ask}
 use Rattle.cf_plain.specs.declared.ask.Ask.TheVariants as asks
@@ -46,6 +47,8 @@ module _ (setup : SetupValue) (c w n c' w' n' : ℕ) where
   counts_same (asks.Between lane low high) row = keyed_same lane low high row
   counts_same (asks.Measure lane low high) row = keyed_same lane low high row
   counts_same (asks.Fired trigger) row = refl
+  counts_same (asks.Top lane part count) row = refl
+  counts_same (asks.Total attr expr) row = refl
 
   places_same : (ask : Ask) (rows : List RowValue) → filter (λ place. counts_for one ask (row_at rows place)) (range_with_len 0 (length rows)) ≡ filter (λ place. counts_for other ask (row_at rows place)) (range_with_len 0 (length rows))
   places_same ask rows = filter_agree (λ place. counts_for one ask (row_at rows place)) (λ place. counts_for other ask (row_at rows place)) (λ place. counts_same ask (row_at rows place)) (range_with_len 0 (length rows))
@@ -73,6 +76,8 @@ module _ (setup : SetupValue) (c w n c' w' n' : ℕ) where
       ap (λ (picked : List RowValue). bodies.Total (quad_of (map (measure_of one lane) picked)))
       (filter_agree (counts_for one (asks.Measure lane low high)) (counts_for other (asks.Measure lane low high)) (counts_same (asks.Measure lane low high)) rows)
   body_same (asks.Fired trigger) rows = ap bodies.Marks (marks_same trigger rows)
+  body_same (asks.Top lane part count) rows = ap (λ gs. bodies.Tops (top part count gs)) (groups_same lane rows)
+  body_same (asks.Total attr expr) rows = refl
 
   told_same : (rows : List RowValue) (ask : Ask) → told_on one rows ask ≡ told_on other rows ask
   told_same rows ask = ap (λ (body : Body). record { ask = ask; tail = length rows; body = body }) (body_same ask rows)

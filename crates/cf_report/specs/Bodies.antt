@@ -10,6 +10,7 @@ use Rattle.cf_plain.specs.declared.answer.Body.{Body}
 use Rattle.cf_plain.specs.declared.answer.Body.TheVariants as bodies
 use Rattle.cf_plain.specs.declared.answer.Fired.{Fired}
 
+-- a text and the end of its line
 abbrev pub line : List ℕ → List ℕ
 line text = text ++ 10 ∷ []
 
@@ -17,6 +18,7 @@ line text = text ++ 10 ∷ []
 abbrev pub nums_at : List RowValue → List ℕ → List ℕ
 nums_at rows places = map (λ place. (row_at rows place).num) places
 
+-- a space and the number
 abbrev pub number_text : ℕ → List ℕ
 number_text n = codes " " ++ decimal n
 
@@ -33,7 +35,7 @@ abbrev pub quad_text : QuadValue → List ℕ
 quad_text quad =
     codes " count " ++ decimal quad.count ++ codes " sum " ++ decimal quad.sum ++ codes " least " ++ bound_text quad.count quad.least ++ codes " greatest " ++ bound_text quad.count quad.greatest
 
--- ` BUCKET=VALUE`
+-- ` BUCKET=VALUE`, or ` KEY=VALUE` of a key among the first
 abbrev pub mark_text : Fired → List ℕ
 mark_text mark = codes " " ++ decimal mark.bucket ++ codes "=" ++ decimal mark.value
 
@@ -48,9 +50,12 @@ word_of (asks.Find lane low high) = codes "find"
 word_of (asks.Between lane low high) = codes "between"
 word_of (asks.Measure lane low high) = codes "measure"
 word_of (asks.Fired trigger) = codes "fired"
+word_of (asks.Top lane part count) = codes "top"
+word_of (asks.Total attr expr) = codes "total"
 
 -- what is shown of a body, where places are shown as these numbers
 abbrev pub shown : (List ℕ → List ℕ) → Body → List ℕ
 shown nums (bodies.Places places) = numbers_text (nums places)
 shown nums (bodies.Total quad) = quad_text quad
 shown nums (bodies.Marks marks) = marks_text marks
+shown nums (bodies.Tops tops) = marks_text tops

@@ -21,12 +21,15 @@ use Rattle.cf_plain.specs.Answered.{no_ask}
 use Rattle.cf_report.specs.Answered.{told_live}
 use Rattle.cf_report.specs.Bodies.{line, nums_at, word_of, shown, marks_text}
 
+-- the name of the question at a place
 abbrev pub ask_name : SetupValue → ℕ → List ℕ
 ask_name setup place = slice_index_or setup.ask_names place []
 
+-- the name of the trigger at a place
 abbrev pub trigger_name : SetupValue → ℕ → List ℕ
 trigger_name setup place = slice_index_or setup.trigger_names place []
 
+-- stands in for an answer where there is none; no lawful report reads it
 abbrev pub nothing_told : AskReply Ask Body
 nothing_told = record { ask = no_ask; tail = 0; body = bodies.Places [] }
 
@@ -53,11 +56,14 @@ final_part setup rows finals alerts =
     ++ flat_map (ask_line_at setup rows finals) (range_with_len 0 (length setup.asks))
     ++ flat_map (alert_lines_at setup alerts) (range_with_len 0 (length setup.triggers))
 
+-- the marks of a body; a body of another kind has none
 abbrev pub marks_of : Body → List Fired
 marks_of (bodies.Places places) = []
 marks_of (bodies.Total quad) = []
 marks_of (bodies.Marks marks) = marks
+marks_of (bodies.Tops tops) = []
 
+-- the marks of a live answer, or none where there is no such answer
 abbrev pub marks_of_live : Option Live → List Fired
 marks_of_live None = []
 marks_of_live (Some live) = marks_of live.answer.body
@@ -79,6 +85,7 @@ abbrev pub new_line : SetupValue → List Live → Live → Body → List ℕ
 new_line setup earlier live (bodies.Places places) = []
 new_line setup earlier live (bodies.Total quad) = []
 new_line setup earlier live (bodies.Marks marks) = line (live_head setup (codes "new") live ++ marks_text (newly (marks_before earlier live.ask) marks))
+new_line setup earlier live (bodies.Tops tops) = []
 
 -- the lines of live answers, where these came earlier
 abbrev pub live_lines : SetupValue → List RowValue → List Live → List Live → List ℕ

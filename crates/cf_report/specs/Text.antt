@@ -10,6 +10,7 @@ use Rattle.cf_plain.specs.Answered.{LoadedValue}
 use Rattle.cf_report.specs.Answered.{tolds_of}
 use Rattle.cf_report.specs.Report.{final_part, report_text}
 
+-- the text of that form: the whole report with the order of the log, or its final part alone
 abbrev pub text_of : Form → SetupValue → List Entry → LoadedValue → List ℕ
 text_of Whole setup log answered = report_text setup log (order_of log) (tolds_of setup.asks answered.finals) answered.alerts answered.lives
 text_of Final setup log answered = final_part setup (rows_in log) (tolds_of setup.asks answered.finals) answered.alerts

@@ -81,6 +81,8 @@ pub(crate) fn word(ask: &Ask) -> &str
         Ask::Between(_, _, _) => "between",
         Ask::Measure(_, _, _) => "measure",
         Ask::Fired(_) => "fired",
+        Ask::Top(_, _, _) => "top",
+        Ask::Total(_, _) => "total",
     }
 }
 
@@ -131,6 +133,7 @@ pub(crate) fn push_final(
         ),
         Body::Total(quad) => push_quad(text, *quad),
         Body::Marks(marks) => push_marks(text, marks.as_slice()),
+        Body::Tops(tops) => push_marks(text, tops.as_slice()),
     }
 }
 
@@ -148,5 +151,6 @@ pub(crate) fn push_live(
         Body::Places(places) => push_numbers(text, &nums_of(alloc, entries, places.as_slice())?),
         Body::Total(quad) => push_quad(text, *quad),
         Body::Marks(marks) => push_marks(text, marks.as_slice()),
+        Body::Tops(tops) => push_marks(text, tops.as_slice()),
     }
 }

@@ -14,6 +14,8 @@ fn is_kind(ask: &Ask, body: &Body) -> bool
         Ask::Between(_, _, _) => matches!(body, Body::Places(_)),
         Ask::Measure(_, _, _) => matches!(body, Body::Total(_)),
         Ask::Fired(_) => matches!(body, Body::Marks(_)),
+        Ask::Top(_, _, _) => matches!(body, Body::Tops(_)),
+        Ask::Total(_, _) => matches!(body, Body::Total(_)),
     }
 }
 
@@ -27,6 +29,7 @@ fn is_within(count: usize, body: &Body) -> bool
             .all(|place| (*place as usize) < count),
         Body::Total(_) => true,
         Body::Marks(_) => true,
+        Body::Tops(_) => true,
     }
 }
 

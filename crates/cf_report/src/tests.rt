@@ -6,12 +6,13 @@ use cf_setup::parse_setup;
 use std::alloc::Global;
 use std::test::Fail;
 
-// What a question found: places, numbers that were measured, or buckets with their values.
+// What a question found: places, numbers that were measured, buckets with their values, or the first keys with theirs.
 #[derive(Drop)]
 enum Found<'a> {
     At(&'a [u32]),
     Of(&'a [u32]),
     In(&'a [(u64, u64)]),
+    First(&'a [(u64, u64)]),
 }
 
 fn quad_of(values: &[u32]) -> Quad {
@@ -40,6 +41,7 @@ fn answer_of(alloc: Global, tail: u32, found: &Found) -> Result<Answer, Memory> 
         Found::At(places) => Body::Places(Places::new(places.to_vec(alloc)?)),
         Found::Of(values) => Body::Total(quad_of(values)),
         Found::In(marks) => Body::Marks(marks_of(alloc, marks)?),
+        Found::First(keys) => Body::Tops(marks_of(alloc, keys)?),
     };
     Ok(Answer { tail, body })
 }
@@ -110,7 +112,7 @@ fn text_of(alloc: Global, case: &Case, form: Form) -> Result<Option<Vec<u8>>, Me
 }
 
 const FEW: &str =
-    "schema packet\nindex n len\nfilter f caplen<2 || len==60\naggregate a f len\ntrigger t a sum > 70\nask q find n 60 99\nask b between f 2 2\nask m measure a 1 2\nask g fired t\n";
+    "schema packet\nindex n len\nfilter f caplen<2 || len==60\naggregate a f len\ntrigger t a sum > 70\nask q find n 60 99\nask b between f 2 2\nask m measure a 1 2\nask g fired t\ntally s src len *\nask h top s sum 2\nask w total len len<=70\n";
 
 #[test]
 fn each_kind_of_body_is_printed(rt: HostRuntime) -> Result<(), Fail> {
@@ -123,6 +125,8 @@ fn each_kind_of_body_is_printed(rt: HostRuntime) -> Result<(), Fail> {
             Found::At(&[1]),
             Found::Of(&[60, 100]),
             Found::In(&[(2, 100)]),
+            Found::First(&[(167772161, 120), (167772162, 70)]),
+            Found::Of(&[70, 20, 70]),
         ],
         alerts: &[&[(2, 100)]],
         lives: &[],
@@ -130,11 +134,11 @@ fn each_kind_of_body_is_printed(rt: HostRuntime) -> Result<(), Fail> {
     for (form, text) in [
         (
             Form::Whole,
-            "records 2\nask q find 1: 0\nask b between 1: 1\nask m measure count 2 sum 160 least 60 greatest 100\nask g fired 1: 2=100\nalert t 2 100\norder 0*2\n",
+            "records 2\nask q find 1: 0\nask b between 1: 1\nask m measure count 2 sum 160 least 60 greatest 100\nask g fired 1: 2=100\nask h top 2: 167772161=120 167772162=70\nask w total count 3 sum 160 least 20 greatest 70\nalert t 2 100\norder 0*2\n",
         ),
         (
             Form::Final,
-            "records 2\nask q find 1: 0\nask b between 1: 1\nask m measure count 2 sum 160 least 60 greatest 100\nask g fired 1: 2=100\nalert t 2 100\n",
+            "records 2\nask q find 1: 0\nask b between 1: 1\nask m measure count 2 sum 160 least 60 greatest 100\nask g fired 1: 2=100\nask h top 2: 167772161=120 167772162=70\nask w total count 3 sum 160 least 20 greatest 70\nalert t 2 100\n",
         ),
     ] {
         assert_eq!(rt;
@@ -156,12 +160,14 @@ fn of_no_number_the_least_and_greatest_are_a_dash(rt: HostRuntime) -> Result<(),
             Found::At(&[]),
             Found::Of(&[]),
             Found::In(&[]),
+            Found::First(&[]),
+            Found::Of(&[]),
         ],
         alerts: &[&[]],
         lives: &[],
     };
     let text =
-        "records 0\nask q find 0:\nask b between 0:\nask m measure count 0 sum 0 least - greatest -\nask g fired 0:\norder\n";
+        "records 0\nask q find 0:\nask b between 0:\nask m measure count 0 sum 0 least - greatest -\nask g fired 0:\nask h top 0:\nask w total count 0 sum 0 least - greatest -\norder\n";
     assert_eq!(rt;
         text_of(alloc, &case, Form::Whole)?.as_deref(),
         Some(text.as_bytes())
@@ -173,18 +179,20 @@ fn of_no_number_the_least_and_greatest_are_a_dash(rt: HostRuntime) -> Result<(),
 fn live_answers_are_printed_with_what_is_new(rt: HostRuntime) -> Result<(), Fail> {
     let alloc = rt.alloc();
     let case = Case {
-        setup: "schema packet\nfilter f len>=0\naggregate a f len\ntrigger t a sum > 70\ntrigger u a count > 1\nask all list len>=0\nask g fired t\nask h fired u\nlive g\nlive all\nlive h\n",
+        setup: "schema packet\nfilter f len>=0\naggregate a f len\ntrigger t a sum > 70\ntrigger u a count > 1\nask all list len>=0\nask g fired t\nask h fired u\ntally s src len *\nask k top s count 1\nlive g\nlive all\nlive h\nlive k\n",
         log: &[(1, 1), (0, 0), (0, 2), (1, 3)],
         finals: &[
             Found::At(&[0, 1, 2, 3]),
             Found::In(&[(1, 90), (2, 100)]),
             Found::In(&[]),
+            Found::First(&[(7, 3)]),
         ],
         alerts: &[&[(1, 90), (2, 100)], &[]],
         lives: &[
             (0, 1, 1, Found::In(&[(1, 71)])),
             (0, 0, 2, Found::At(&[0, 1])),
             (0, 2, 2, Found::In(&[(1, 2)])),
+            (0, 3, 3, Found::First(&[(7, 2)])),
             (1, 1, 3, Found::In(&[(1, 90), (2, 100)])),
             (1, 0, 4, Found::At(&[0, 1, 2, 3])),
             (1, 2, 4, Found::In(&[(1, 2)])),
@@ -192,9 +200,9 @@ fn live_answers_are_printed_with_what_is_new(rt: HostRuntime) -> Result<(), Fail
         ],
     };
     let finals =
-        "records 4\nask all list 4: 0 1 2 3\nask g fired 2: 1=90 2=100\nask h fired 0:\nalert t 1 90\nalert t 2 100\n";
+        "records 4\nask all list 4: 0 1 2 3\nask g fired 2: 1=90 2=100\nask h fired 0:\nask k top 1: 7=3\nalert t 1 90\nalert t 2 100\n";
     let lives =
-        "live g @1 fired 1: 1=71\nnew g @1 fired 1: 1=71\nlive all @2 list 2: 1 0\nlive h @2 fired 1: 1=2\nnew h @2 fired 1: 1=2\nlive g @3 fired 2: 1=90 2=100\nnew g @3 fired 1: 2=100\nlive all @4 list 4: 1 0 2 3\nlive h @4 fired 1: 1=2\nnew h @4 fired 0:\nlive g @4 fired 2: 1=90 2=100\nnew g @4 fired 0:\norder 1*1 0*2 1*1\n";
+        "live g @1 fired 1: 1=71\nnew g @1 fired 1: 1=71\nlive all @2 list 2: 1 0\nlive h @2 fired 1: 1=2\nnew h @2 fired 1: 1=2\nlive k @3 top 1: 7=2\nlive g @3 fired 2: 1=90 2=100\nnew g @3 fired 1: 2=100\nlive all @4 list 4: 1 0 2 3\nlive h @4 fired 1: 1=2\nnew h @4 fired 0:\nlive g @4 fired 2: 1=90 2=100\nnew g @4 fired 0:\norder 1*1 0*2 1*1\n";
     let whole = format!(in alloc; "{finals}{lives}")?;
     for (form, text) in [(Form::Whole, whole.as_str()), (Form::Final, finals)] {
         assert_eq!(rt;
@@ -219,6 +227,7 @@ fn answers_that_are_not_the_setups_are_told(rt: HostRuntime) -> Result<(), Fail>
         (&[], &[], false),
         (&[Found::At(&[0, 2])], &[], false),
         (&[Found::In(&[])], &[], false),
+        (&[Found::First(&[])], &[], false),
         (&[Found::At(&[])], &[(0, 1, 1, Found::At(&[0]))], false),
         (&[Found::At(&[])], &[(0, 0, 1, Found::Of(&[1]))], false),
         (&[Found::At(&[])], &[(0, 0, 1, Found::At(&[2]))], false),
