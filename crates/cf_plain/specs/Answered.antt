@@ -16,6 +16,7 @@ pub record LoadedValue : Type 0 where
   pub alerts : List (List Fired)
   pub lives : List Live
 
+-- stands in for a question where there is none
 abbrev pub no_ask : Ask
 no_ask = asks.List []
 

@@ -19,12 +19,15 @@ use Rattle.cf_plain.specs.declared.answer.Fired.{Fired}
 use Rattle.cf_plain.specs.declared.answer.Body.{Body}
 use Rattle.cf_plain.specs.declared.answer.Body.TheVariants as bodies
 
+-- the rows of some entries
 abbrev pub rows_in : List Entry → List RowValue
 rows_in entries = map (λ entry. entry.row) entries
 
+-- stands in for a row where there is none
 abbrev pub no_row : RowValue
 no_row = record { num = 0; values = [] }
 
+-- the row at a place
 abbrev pub row_at : List RowValue → ℕ → RowValue
 row_at rows place = slice_index_or rows place no_row
 
@@ -36,6 +39,7 @@ places passes rows = filter (λ place. passes (row_at rows place)) (range_with_l
 abbrev pub is_between : ℕ → ℕ → ℕ → Bool
 is_between low high n = nat_le low n && nat_le n high
 
+-- the lane selects the row, and files it by a key in the range
 abbrev pub is_keyed_between : ShapeValue → ℕ → ℕ → ℕ → RowValue → Bool
 is_keyed_between shape lane low high row = selected_by shape lane row && is_between low high (key_of shape lane row)
 
@@ -53,6 +57,7 @@ counts_for shape (asks.Total attr expr) row = holds_of expr row
 abbrev pub total_over : ShapeValue → ℕ → (RowValue → Bool) → List RowValue → QuadValue
 total_over shape lane passes rows = quad_of (map (measure_of shape lane) (filter passes rows))
 
+-- the bucket of a group, with the part of its quad that a trigger looks at
 abbrev pub mark_of : Trigger → ℕ × QuadValue → Fired
 mark_of trigger group = record { bucket = group.0; value = part_of trigger.part group.1 }
 
@@ -60,6 +65,7 @@ mark_of trigger group = record { bucket = group.0; value = part_of trigger.part 
 abbrev pub marks_in : Trigger → List (ℕ × QuadValue) → List Fired
 marks_in trigger groups = map (mark_of trigger) (filter (λ group. fires_of trigger group.1) groups)
 
+-- the marks of a trigger on some rows
 abbrev pub marks_over : ShapeValue → Trigger → List RowValue → List Fired
 marks_over shape trigger rows = marks_in trigger (groups shape trigger.agg rows)
 
@@ -77,10 +83,12 @@ eval_rows shape (asks.Total attr expr) rows = bodies.Total (total attr expr rows
 abbrev pub eval : ShapeValue → Ask → List Entry → Body
 eval shape ask entries = eval_rows shape ask (rows_in entries)
 
+-- the key is an attribute's value
 abbrev pub is_attr : Key → Bool
 is_attr (keys.Attr attr) = true
 is_attr keys.Bucket = false
 
+-- there is such a lane
 abbrev pub exists : ShapeValue → ℕ → Bool
 exists shape lane = nat_lt lane (length shape.lanes)
 
@@ -100,9 +108,11 @@ is_aggregate shape lane = is_bucketed shape lane && is_some (lane_at shape lane)
 abbrev pub is_tally : ShapeValue → ℕ → Bool
 is_tally shape lane = is_indexed shape lane && is_some (lane_at shape lane).measure
 
+-- the trigger's lane is an aggregate, and its operator compares with one number
 abbrev pub suits_trigger : ShapeValue → Trigger → Bool
 suits_trigger shape trigger = is_aggregate shape trigger.agg && not (is_within trigger.op)
 
+-- the same as a fact
 abbrev pub SuitsTrigger : ShapeValue → Trigger → Type 0
 SuitsTrigger shape trigger = suits_trigger shape trigger ≡ true
 
@@ -116,9 +126,11 @@ suits_of shape (asks.Fired trigger) = suits_trigger shape trigger
 suits_of shape (asks.Top lane part n) = (is_tally shape lane && nat_le 1 n) && nat_le n 1000
 suits_of shape (asks.Total attr expr) = is_of_schema shape.schema expr && option_passes is_narrow (slice_get shape.schema attr)
 
+-- the same as a fact
 abbrev pub Suits : ShapeValue → Ask → Type 0
 Suits shape ask = suits_of shape ask ≡ true
 
+-- each row fits the schema
 abbrev pub FitAll : ShapeValue → List Entry → Type 0
 FitAll shape entries = All (λ entry. Fits shape.schema entry.row) entries
 
@@ -127,6 +139,7 @@ pub record PlainValue : Type 0 where
   pub shape : ShapeValue
   pub entries : List Entry
 
+-- its rows fit, and there are at most 2^20
 pub record IsPlainList (held : PlainValue) : Type 0 where
   pub fit : FitAll held.shape held.entries
   pub few : length held.entries ≤ 2 ^ 20

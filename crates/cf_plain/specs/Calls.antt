@@ -18,6 +18,7 @@ abbrev pub IsLawful : ShapeValue → Call → Type 0
 IsLawful shape (calls.Append entry) = Fits shape.schema entry.row
 IsLawful shape (calls.Ask ask) = Suits shape ask
 
+-- how many entries a call appends
 abbrev pub appends_by : Call → ℕ
 appends_by (calls.Append entry) = 1
 appends_by (calls.Ask ask) = 0
