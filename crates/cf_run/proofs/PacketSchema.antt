@@ -5,7 +5,7 @@ use Rattle.std.proofs.lemmas.Bool.{false≢true}
 use Rattle.cf_row.specs.Schema.{packet_attrs}
 use Rattle.cf_setup.specs.Drafts.{DraftValue, nothing_stated}
 use Rattle.cf_setup.specs.Forms.{Form}
-use Rattle.cf_setup.specs.Forms.Form.{packet_schema, record_schema, bucket_width, new_index, new_filter, new_aggregate, new_trigger, ask_list, ask_find, ask_between, ask_measure, ask_fired, ask_live}
+use Rattle.cf_setup.specs.Forms.Form.{packet_schema, record_schema, bucket_width, new_index, new_filter, new_aggregate, new_tally, new_trigger, ask_list, ask_find, ask_buckets, ask_fired, ask_top, ask_total, ask_live}
 use Rattle.cf_setup.specs.Adds.{Adds}
 use Rattle.cf_setup.specs.Setups.{SetupValue, settled}
 use Rattle.cf_setup.specs.SetupText.{SetupText, LineSaid, AllSaid}
@@ -23,12 +23,14 @@ adds_keep line before new (bucket_width number) adds kept = subst KeepsPackets (
 adds_keep line before new (new_index name attr) adds kept = subst KeepsPackets (sym adds.2) kept
 adds_keep line before new (new_filter name expr) adds kept = subst KeepsPackets (sym adds.2) kept
 adds_keep line before new (new_aggregate name filter attr) adds kept = subst KeepsPackets (sym adds.4) kept
+adds_keep line before new (new_tally name attr measure expr) adds kept = subst KeepsPackets (sym adds.6) kept
 adds_keep line before new (new_trigger name aggregate part op number) adds kept = subst KeepsPackets (sym adds.4) kept
 adds_keep line before new (ask_list name expr) adds kept = subst KeepsPackets (sym adds.2) kept
 adds_keep line before new (ask_find name index low high) adds kept = subst KeepsPackets (sym adds.7) kept
-adds_keep line before new (ask_between name filter low high) adds kept = subst KeepsPackets (sym adds.5) kept
-adds_keep line before new (ask_measure name aggregate low high) adds kept = subst KeepsPackets (sym adds.5) kept
+adds_keep line before new (ask_buckets what name lane low high) adds kept = subst KeepsPackets (sym adds.5) kept
 adds_keep line before new (ask_fired name trigger) adds kept = subst KeepsPackets (sym adds.2) kept
+adds_keep line before new (ask_top name tally part count) adds kept = subst KeepsPackets (sym adds.6) kept
+adds_keep line before new (ask_total name attr expr) adds kept = subst KeepsPackets (sym adds.4) kept
 adds_keep line before new (ask_live ask) adds kept = subst KeepsPackets (sym adds.2) kept
 
 stated_same : (a b : DraftValue) → ◌≡◌ {A = Result DraftValue ℕ} (Ok a) (Ok b) → a ≡ b
