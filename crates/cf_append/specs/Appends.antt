@@ -46,6 +46,7 @@ pub record Rests (pass : Pass) : Type 0 where
   pub one : pass.books ≡ book_of pass ∷ []
   pub free : (book_of pass).flight ≡ None
 
+-- with that book alone
 abbrev pub with_book : Book → PassValue → PassValue
 with_book b m = record m { view = record m.view { books = b ∷ [] } }
 
@@ -57,6 +58,7 @@ flying o row n m = with_book (record (book_of m.view) { flight = Some record { o
 abbrev pub with_own : ℕ → RowValue → Book → Book
 with_own o row b = record b { mine = b.mine ++ record { offset = o; row = row } ∷ []; flight = None }
 
+-- the book marked: a ticket of it lay past the last place
 abbrev pub marked : Book → Book
 marked b = record b { over = true }
 

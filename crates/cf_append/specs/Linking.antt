@@ -40,10 +40,11 @@ pub record IsCell (shape : ShapeValue) (lane : ℕ) (c : List (ℕ × RowValue))
   pub sum_is : sum ≡ version_word (layout shape) lane 1 c row
   pub ends_is : ends ≡ version_word (layout shape) lane 2 c row
 
--- the path of a key in a lane, and the writer's chain in the key's leaf
+-- the path of a key in a lane: its nibbles, the last one first
 abbrev pub key_path : ShapeValue → ℕ → ℕ → List ℕ
 key_path shape lane key = key % 16 ∷ nibbles (levels_of shape lane - 1) (key / 16)
 
+-- a writer's finished records that the lane files in that leaf, newest first
 abbrev pub leaf_chain : ShapeValue → ℕ → ℕ → Book → List (ℕ × RowValue)
 leaf_chain shape lane key b = mine_chain (layout shape) (spot lane (key_path shape lane key)) b.mine
 

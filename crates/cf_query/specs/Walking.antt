@@ -27,6 +27,7 @@ lane_of (asks.Fired trigger) = trigger.agg
 lane_of (asks.Top lane part n) = lane
 lane_of (asks.Total attr expr) = 0
 
+-- the places of a body; another kind of body has none
 abbrev pub places_in : Body → List ℕ
 places_in (bodies.Places places) = places
 places_in (bodies.Total total) = []

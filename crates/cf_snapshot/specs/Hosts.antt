@@ -23,6 +23,7 @@ pub record HostValue : Type 0 where
   pub used : List Spot
   pub is_frozen : Bool
 
+-- a host that has covered nothing
 abbrev pub empty_host : ShapeValue → HostValue
 empty_host shape = record { shape = shape; entries = []; used = []; is_frozen = false }
 

@@ -19,6 +19,7 @@ pub record IsLastFreeze (hosts : ℕ) (events : List SnapEvent) (i : ℕ) : Type
   pub freezes : Happens hosts events i (Freeze host)
   pub last : (j h : ℕ) → i < j → Happens hosts events j (Freeze h) → ⊥
 
+-- every host is frozen
 abbrev pub AllFrozen : SnapValue → Type 0
 AllFrozen s = (h : ℕ) → h < length s.tails → is_frozen s h ≡ true
 

@@ -46,6 +46,7 @@ events_of turn counts turns = turns_round turn counts turns ++ (freezing turn co
 abbrev pub in_cut : ℕ → List ℕ → ℕ → ℕ → ℕ
 in_cut turn counts turns host = covered_after turn counts host (turns_of_host (length counts) turns host + host)
 
+-- the same of all hosts
 abbrev pub cut_by : ℕ → List ℕ → ℕ → List ℕ
 cut_by turn counts turns = map (in_cut turn counts turns) (range_with_len 0 (length counts))
 

@@ -16,6 +16,7 @@ pub record SnapValue : Type 0 where
   pub has_begun : Bool
   pub is_released : Bool
 
+-- so many hosts before anything has happened
 abbrev pub at_start : ℕ → SnapValue
 at_start hosts = record {
   tails = replicate hosts 0;
@@ -26,15 +27,19 @@ at_start hosts = record {
   is_released = false;
 }
 
+-- there is a host of that number
 abbrev pub is_host : SnapValue → ℕ → Bool
 is_host s h = nat_lt h (length s.tails)
 
+-- how many records the host has covered
 abbrev pub tail_of : SnapValue → ℕ → ℕ
 tail_of s h = slice_index_or s.tails h 0
 
+-- the host is frozen
 abbrev pub is_frozen : SnapValue → ℕ → Bool
 is_frozen s h = slice_index_or s.frozen h false
 
+-- the coordinator has the tail of each host
 abbrev pub have_all_replied : SnapValue → Bool
 have_all_replied s = list_all (λ replied. replied) s.replied
 
