@@ -14,10 +14,10 @@ use Rattle.cf_pcap.proofs.Heading.{header_first}
 use Rattle.cf_make.specs.Generated.{draw_of, is_udp, captured_length, wire_length, file_header, record_header, link_header, network_header, ports, datagram_header, segment_header, transport_header, packet_of, record_of, record_at, frame_of, frame_from, generated_bytes, generated_frames}
 
 -- little-endian, times in microseconds, Ethernet
-abbrev the_form : FileHeader
-the_form = record { layout = record { order = Little; precision = Micro }; link = 1 }
+abbrev the_header : FileHeader
+the_header = record { layout = record { order = Little; precision = Micro }; link = 1 }
 
-is_header : IsFileHeader the_form file_header
+is_header : IsFileHeader the_header file_header
 unfolding file_header layout_of
 is_header = record { size = omega arith; magic = refl; version = record { major = refl; minor = refl }; link = refl; lawful = refl }
 
@@ -90,7 +90,7 @@ unfolding record_header
 fraction_read k draw rest =
     little_number-reads_back 4 (k % 1000 * 1000) (little_bytes 4 (captured_length draw) ++ (little_bytes 4 (wire_length draw) ++ rest)) (omega arith)
 
-caplen_read : (k draw : ℕ) (rest : List ℕ) → caplen_at the_form (record_header k draw ++ rest) ≡ captured_length draw
+caplen_read : (k draw : ℕ) (rest : List ℕ) → caplen_at the_header (record_header k draw ++ rest) ≡ captured_length draw
 unfolding record_header
 caplen_read k draw rest =
     let small = captured_few draw in
@@ -118,11 +118,11 @@ packet_read k draw =
 time_sum : (k : ℕ) → (1 + k / 1000) * 10 ^ 9 + k % 1000 * 1000 * 1000 ≡ 10 ^ 9 + k * 10 ^ 6
 time_sum k = omega arith
 
-record_caplen : (k draw : ℕ) → caplen_at the_form (record_of k draw) ≡ captured_length draw
+record_caplen : (k draw : ℕ) → caplen_at the_header (record_of k draw) ≡ captured_length draw
 unfolding record_of
 record_caplen k draw = caplen_read k draw (packet_of k draw)
 
-frame_read : (k draw : ℕ) → k < 2 ^ 32 → frame_at the_form k (record_of k draw) ≡ frame_of k draw
+frame_read : (k draw : ℕ) → k < 2 ^ 32 → frame_at the_header k (record_of k draw) ≡ frame_of k draw
 unfolding record_of frame_of
 frame_read k draw small =
     let packet = packet_of k draw in
@@ -135,7 +135,7 @@ frame_read k draw small =
     (length_read k draw packet)
     (ap (λ n. slice_range bytes 16 (16 + n)) (caplen_read k draw packet) ∙ packet_read k draw)
 
-has_record : (k draw : ℕ) → HasRecord the_form (record_of k draw)
+has_record : (k draw : ℕ) → HasRecord the_header (record_of k draw)
 has_record k draw =
     let caplen = record_caplen k draw in
     let small = captured_few draw in
@@ -145,10 +145,10 @@ has_record k draw =
     }
 
 -- what comes after the record
-after_record : (k draw : ℕ) (rest : List ℕ) → drop (16 + caplen_at the_form (record_of k draw ++ rest)) (record_of k draw ++ rest) ≡ rest
+after_record : (k draw : ℕ) (rest : List ℕ) → drop (16 + caplen_at the_header (record_of k draw ++ rest)) (record_of k draw ++ rest) ≡ rest
 after_record k draw rest =
     let head : 16 ≤ length (record_of k draw) = omega (arith, record_length k draw) in
-    ap (λ n. drop (16 + n) (record_of k draw ++ rest)) (caplen_first the_form (record_of k draw) rest head ∙ record_caplen k draw)
+    ap (λ n. drop (16 + n) (record_of k draw ++ rest)) (caplen_first the_header (record_of k draw) rest head ∙ record_caplen k draw)
     ∙ ap (λ n. drop n (record_of k draw ++ rest)) (sym (record_length k draw))
     ∙ drop-append_seam (record_of k draw) rest
 
@@ -159,16 +159,16 @@ records seed k n = flat_map (record_at seed) (range_with_len k n)
 abbrev frames : ℕ → ℕ → ℕ → List FrameValue
 frames seed k n = map (frame_from seed) (range_with_len k n)
 
-are_records : (seed k n : ℕ) → k + n ≤ 65536 → AreRecordsThen the_form k (frames seed k n) (records seed k n) []
+are_records : (seed k n : ℕ) → k + n ≤ 65536 → AreRecordsThen the_header k (frames seed k n) (records seed k n) []
 unfolding record_at frame_from
 are_records seed k zero most = refl
 are_records seed k (suc n) most =
     let rest = records seed (k + 1) n in
     let draw = draw_of seed k in
-    let whole : 16 + caplen_at the_form (record_of k draw) ≤ length (record_of k draw) = (has_record k draw).whole in (
-      record_first the_form (record_of k draw) rest (has_record k draw),
-      sym (frame_first the_form k (record_of k draw) rest whole ∙ frame_read k draw (omega (arith, most))),
-      subst (λ (xs : List ℕ). AreRecordsThen the_form (k + 1) (frames seed (k + 1) n) xs []) (sym (after_record k draw rest)) (are_records seed (k + 1) n (omega (arith, most))),
+    let whole : 16 + caplen_at the_header (record_of k draw) ≤ length (record_of k draw) = (has_record k draw).whole in (
+      record_first the_header (record_of k draw) rest (has_record k draw),
+      sym (frame_first the_header k (record_of k draw) rest whole ∙ frame_read k draw (omega (arith, most))),
+      subst (λ (xs : List ℕ). AreRecordsThen the_header (k + 1) (frames seed (k + 1) n) xs []) (sym (after_record k draw rest)) (are_records seed (k + 1) n (omega (arith, most))),
     )
 
 -- 16 bytes and 54 more at most
@@ -188,10 +188,10 @@ is_capture seed count most =
     let next : drop 24 (file_header ++ records seed 0 count) ≡ records seed 0 count =
     ap (λ n. drop n (file_header ++ records seed 0 count)) (sym file_header_length) ∙ drop-append_seam file_header (records seed 0 count) in record {
       size = omega (arith, most, size, file_header_length, length-append file_header (records seed 0 count));
-      form = the_form;
+      header = the_header;
       whole = record {
-        header = header_first the_form file_header (records seed 0 count) is_header;
-        records = subst (λ (xs : List ℕ). AreRecordsThen the_form 0 (frames seed 0 count) xs []) (sym next) (are_records seed 0 count (omega (arith, most)));
+        begin = header_first the_header file_header (records seed 0 count) is_header;
+        records = subst (λ (xs : List ℕ). AreRecordsThen the_header 0 (frames seed 0 count) xs []) (sym next) (are_records seed 0 count (omega (arith, most)));
       };
     }
 

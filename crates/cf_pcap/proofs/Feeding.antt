@@ -1,296 +1,265 @@
--- What a call that takes one more piece gives and answers.
-use Rattle.std.proofs.Common.{◌≡◌, inl, inr, ℕ, ◌<◌, ◌≤◌, ◌+◌, ◌-◌, ◌*◌, ◌^◌, min, List, [], ◌++◌, length, take, drop, Err, Result, MatchResult, refl, sym, ap, subst, ◌∙◌, arith, append-nil, length-append, length-take, length-drop}
+-- What a call that takes one more piece gives and answers, and what the end of a stream answers.
+use Rattle.std.proofs.Common.{◌≡◌, ◌⊎◌, inl, inr, ℕ, ◌<◌, ◌≤◌, ◌+◌, ◌-◌, ◌*◌, ◌^◌, min, true, false, List, [], ◌∷◌, ◌++◌, length, take, drop, Some, None, Result, Ok, Err, is_some, refl, sym, ap, subst, ◌∙◌, arith, append_assoc, append-nil, length-append, length-take, length-drop}
 use Rattle.std.proofs.lemmas.Bool.{cases_lt}
 use Rattle.std.proofs.lemmas.Bool.Decides.{nat_tests}
-use Rattle.std.proofs.lemmas.List.{take_all}
+use Rattle.std.proofs.lemmas.List.{take_all, drop_all, take-append-drop, drop-append-le}
+use Rattle.cf_lemmas.proofs.Lists.{take_past}
+use Rattle.cf_stream.specs.Format.{Wants, Bad, Takes, ReadsTo}
+use Rattle.cf_stream.specs.Stream.{Runs}
+use Rattle.cf_stream.proofs.Cases.{one_fault}
+use Rattle.cf_stream.proofs.Units.{reads_nothing, reads_one, reads_count, sizes}
+use Rattle.cf_stream.proofs.Feeding as streams
 use Rattle.cf_pcap.specs.declared.form.FileHeader.{FileHeader}
 use Rattle.cf_pcap.specs.declared.fault.PcapFault.{PcapFault}
-use Rattle.cf_pcap.specs.declared.fault.PcapFault.TheVariants.{BadMagic, BadVersion, BadLink, FrameTooLong, Cut, TooManyBytes, Memory}
+use Rattle.cf_pcap.specs.declared.fault.PcapFault.TheVariants.{FrameTooLong, Cut, TooManyBytes, Memory}
 use Rattle.cf_pcap.specs.declared.stage.Stage.{Stage}
-use Rattle.cf_pcap.specs.declared.stage.Stage.TheVariants.{Heading, Reading, Stopped}
-use Rattle.cf_pcap.specs.Capture.{FrameValue, HasRecord, caplen_at, AreRecordsThen, IsReadTo, HasLongFrame, Shows, seen}
-use Rattle.cf_pcap.specs.Stream.{IsFound, AreGiven, PcapValue, IsHeading, IsReading, IsStateOf, IsFed}
-use Rattle.cf_pcap.specs.Reading.{HasHeaderFault, IsHeaderStage, IsRecordStage, AreRead, IsBegun, IsGoneOn, late_of, stage_at, answer_of, kept_by}
-use Rattle.cf_pcap.proofs.Following.{then_more, sizes, few_ended}
-use Rattle.cf_pcap.proofs.Heading.{no_header, shown_by_header}
-use Rattle.cf_pcap.proofs.Seen.{seen_short, seen_cut, length_seen}
-use Rattle.cf_pcap.proofs.Verdict.{read_first, none_read, none_begun, found_first}
-use Rattle.cf_pcap.proofs.Given.{found_gives}
+use Rattle.cf_pcap.specs.declared.stage.Stage.TheVariants.{Running, Stopped}
+use Rattle.cf_pcap.specs.Capture.{FrameValue, HasRecord, HasLongRecord, caplen_at}
+use Rattle.cf_pcap.specs.File.{State, step, pcap}
+use Rattle.cf_pcap.specs.Reading.{AreRead, IsFaultAt, late_of, IsStageAfter, kept_at, AreTaken}
+use Rattle.cf_pcap.specs.Stream.{IsFound, PcapValue, IsRunning, IsAt, IsStateOf, IsFed, AnswersFound, IsEnded, answer_at, IsSoundAt, IsSound}
+use Rattle.cf_pcap.proofs.Steps.{Shown, bad_same, broken, InHeader, TooLong, part_of, OfHeader, OfRecord, stepper}
 
--- a short stream shows what it has found
-pub none_found : (stream : List ℕ) → length stream < 2 ^ 32 → ((fault : PcapFault) → Shows stream fault → ⊥) → (fault : PcapFault) → IsFound stream fault → ⊥
-none_found stream size none fault found = by_case fault found where
-  by_shown : (fault : PcapFault) → Shows (seen stream) fault → ⊥
-  by_shown fault h = none fault (subst (λ (xs : List ℕ). Shows xs fault) (seen_short stream (omega (arith, size))) h)
-
-  by_case : (fault : PcapFault) → IsFound stream fault → ⊥
-  by_case BadMagic h = by_shown BadMagic h
-  by_case BadVersion h = by_shown BadVersion h
-  by_case BadLink h = by_shown BadLink h
-  by_case (FrameTooLong k) h = by_shown (FrameTooLong k) h
-  by_case (Cut k) h = h
-  by_case TooManyBytes h = let large : 2 ^ 32 ≤ length stream = h.size in omega (arith, size, large)
-  by_case Memory h = h
-
-found_shown : (stream : List ℕ) (fault : PcapFault) → Shows (seen stream) fault → IsFound stream fault
-found_shown stream BadMagic h = h
-found_shown stream BadVersion h = h
-found_shown stream BadLink h = h
-found_shown stream (FrameTooLong k) h = h
-found_shown stream (Cut k) h = h
-found_shown stream TooManyBytes h = absurd h
-found_shown stream Memory h = h
-
--- the state and the answer at a stage
-abbrev Outcome : Stage → ℕ → ℕ → List ℕ → List ℕ → Type 0
-Outcome stage total count held stream =
-    IsStateOf (record { stage = stage; total = total; count = count; held = held }) stream
-    × MatchResult (answer_of stage) (λ _. (fault : PcapFault) → IsFound stream fault → ⊥) (IsFound stream)
-
-late_full : (total : ℕ) → total ≡ 2 ^ 32 → late_of total ≡ 1
-late_full total h = rw h
+-- the reader after a call
+abbrev pub Later : Stage → ℕ → State → List ℕ → PcapValue
+Later stage total t held = record { stage = stage; total = total; state = t; held = held }
 
 pub late_short : (total : ℕ) → total < 2 ^ 32 → late_of total ≡ 0
 late_short total h = grind (arith, nat_tests)
 
-pub heading_short : (total : ℕ) → total < 2 ^ 32 → stage_at Heading total ≡ Heading
-heading_short total h = grind (arith, nat_tests)
+pub late_full : (total : ℕ) → total ≡ 2 ^ 32 → late_of total ≡ 1
+late_full total h = rw h refl
 
-pub reading_short : (form : FileHeader) (total : ℕ) → total < 2 ^ 32 → stage_at (Reading form) total ≡ Reading form
-reading_short form total h = grind (arith, nat_tests)
+wants_of : (t : State) (rest : List ℕ) (found : Shown) → step t rest ≡ found → ((n : ℕ) (more : List FrameValue) (u : State) → step t rest ≡ Takes n more u → ⊥) → ((fault : PcapFault) → step t rest ≡ Bad fault → ⊥) → step t rest ≡ Wants
+wants_of t rest Wants h takes bad = h
+wants_of t rest (Bad fault) h takes bad = absurd (bad fault h)
+wants_of t rest (Takes n more u) h takes bad = absurd (takes n more u h)
 
-pub reading_full : (form : FileHeader) (total : ℕ) → total ≡ 2 ^ 32 → stage_at (Reading form) total ≡ Stopped TooManyBytes
-reading_full form total h = rw h
+-- Below 2^32 bytes.
 
--- a fault that was found stops the reader
-stopped_outcome : (fault : PcapFault) (total count : ℕ) (held stream : List ℕ) → IsFound stream fault → Outcome (Stopped fault) total count held stream
-stopped_outcome fault total count held stream h = (h, h)
+fed_running : (before : PcapValue) (stream piece : List ℕ) (given : List FrameValue) (t : State) (rest held : List ℕ) → IsRunning before stream → before.total + length piece < 2 ^ 32 → AreRead before.state (before.held ++ piece) given t rest → IsFaultAt t rest None → held ≡ rest → IsFed stream piece given (Ok tt) (Later Running (before.total + length piece) t held)
+fed_running before stream piece given t rest held run small read none same =
+    let len : length (stream ++ piece) ≡ length stream + length piece = length-append stream piece in
+    let total : before.total ≡ length stream = run.total_is in
+    let wants : step t rest ≡ Wants = wants_of t rest (step t rest) refl read.none none in
+    let later : PcapValue = Later Running (before.total + length piece) t held in
+    streams.fed_short pcap stepper before.state before.held stream piece given t rest (IsStateOf later) run.runs (omega (arith, len, total, small)) read.read wants
+    (λ runs. record { total_is = omega (arith, len, total); runs = subst (λ (xs : List ℕ). Runs pcap t xs (stream ++ piece)) (sym same) runs })
 
--- where a stream below 2^32 bytes was read
-short_outcome : (form : FileHeader) (stream rest : List ℕ) (all : List FrameValue) (stage : Stage) (total count : ℕ) → length stream < 2 ^ 32 → total ≡ length stream → count ≡ length all → IsReadTo form stream all rest → (HasRecord form rest → ⊥) → IsRecordStage form count rest stage → Outcome (stage_at stage total) total count rest stream
-short_outcome form stream rest all Heading total count size total_is count_is read part at = absurd at
-short_outcome form stream rest all (Reading same) total count size total_is count_is read part at =
-    let none : (fault : PcapFault) → Shows stream fault → ⊥ = none_read form stream rest all read (λ h. absurd (part h)) at.1 in
-    let state : IsReading form (record { stage = Reading form; total = total; count = count; held = rest }) stream =
-    record { size = size; frames = all; read = read; part = part; short = at.1; total_is = total_is; count_is = count_is } in
-    let outcome : Outcome (Reading form) total count rest stream = (state, none_found stream size none) in
-    let at_short : stage_at (Reading same) total ≡ Reading same = reading_short same total (omega (arith, size, total_is)) in
-    subst (λ (s : Stage). Outcome s total count rest stream) (sym (at_short ∙ ap (λ f. Reading f) at.0)) outcome
-short_outcome form stream rest all (Stopped fault) total count size total_is count_is read part at =
-    let long : HasLongFrame count stream = record { form = form; frames = all; rest = rest; read = read; number_is = count_is; long = at.1 } in
-    let found : IsFound stream (FrameTooLong count) = subst (λ (xs : List ℕ). HasLongFrame count xs) (sym (seen_short stream (omega (arith, size)))) long in
-    stopped_outcome fault total count rest stream (subst (λ (f : PcapFault). IsFound stream f) (sym at.0) found)
+fed_flaw : (before : PcapValue) (stream piece : List ℕ) (given : List FrameValue) (t : State) (rest held : List ℕ) (fault : PcapFault) (total : ℕ) → IsRunning before stream → before.total + length piece < 2 ^ 32 → AreRead before.state (before.held ++ piece) given t rest → IsFaultAt t rest (Some fault) → IsFed stream piece given (Err fault) (Later (Stopped fault) total t held)
+fed_flaw before stream piece given t rest held fault total run small read bad =
+    let len : length (stream ++ piece) ≡ length stream + length piece = length-append stream piece in
+    let had : before.total ≡ length stream = run.total_is in
+    let later : PcapValue = Later (Stopped fault) total t held in
+    let fed : IsFed stream (piece ++ []) given (Err fault) later = streams.fed_fault pcap stepper before.state before.held stream piece [] given t rest fault (IsStateOf later) run.runs (omega (arith, len, had, small)) (inl refl) read.read bad (λ found. found) in
+    subst (λ (xs : List ℕ). IsFed stream xs given (Err fault) later) (append-nil piece) fed
 
--- where its first 2^32 bytes were read
-full_outcome : (form : FileHeader) (stream rest : List ℕ) (all : List FrameValue) (stage : Stage) (total count : ℕ) → 2 ^ 32 ≤ length stream → total ≡ 2 ^ 32 → count ≡ length all → IsReadTo form (seen stream) all rest → (HasRecord form rest → length rest ≡ 16 + caplen_at form rest) → IsRecordStage form count rest stage → Outcome (stage_at stage total) total count rest stream
-full_outcome form stream rest all Heading total count size total_is count_is read fills at = absurd at
-full_outcome form stream rest all (Reading same) total count size total_is count_is read fills at =
-    let found : IsFound stream TooManyBytes = record { size = size; first = none_read form (seen stream) rest all read fills at.1 } in
-    subst (λ (s : Stage). Outcome s total count rest stream) (sym (reading_full same total total_is)) (stopped_outcome TooManyBytes total count rest stream found)
-full_outcome form stream rest all (Stopped fault) total count size total_is count_is read fills at =
-    let found : IsFound stream (FrameTooLong count) = record { form = form; frames = all; rest = rest; read = read; number_is = count_is; long = at.1 } in
-    stopped_outcome fault total count rest stream (subst (λ (f : PcapFault). IsFound stream f) (sym at.0) found)
+fed_below : (before : PcapValue) (stream piece : List ℕ) (late : ℕ) (given : List FrameValue) (t : State) (rest held : List ℕ) (stage : Stage) → IsRunning before stream → before.total + length piece < 2 ^ 32 → late ≡ 0 → AreRead before.state (before.held ++ piece) given t rest → IsStageAfter t late rest stage → held ≡ kept_at stage rest → IsFed stream piece given (answer_at stage) (Later stage (before.total + length piece) t held)
+fed_below before stream piece late given t rest held Running run small none read at kept = fed_running before stream piece given t rest held run small read at.1 kept
+fed_below before stream piece late given t rest held (Stopped fault) run small none read (inl bad) kept = fed_flaw before stream piece given t rest held fault (before.total + length piece) run small read bad
+fed_below before stream piece late given t rest held (Stopped fault) run small none read (inr many) kept = let some : 0 < late = many.0 in absurd (omega (arith, none, some))
 
--- what counts of a stream with one more piece, and how much that is
-record Taken (stream piece : List ℕ) : Type 0 where
-  now : List ℕ
-  now_is : now ≡ stream ++ take (2 ^ 32 - length stream) piece
-  seen_is : seen (stream ++ piece) ≡ now
-  most : length now ≤ 2 ^ 32
-  whole : length now < 2 ^ 32 → now ≡ stream ++ piece
-  full : length now ≡ 2 ^ 32 → 2 ^ 32 ≤ length (stream ++ piece)
+-- With the byte that makes the stream 2^32 bytes long.
 
-taken_of : (stream piece : List ℕ) → length stream < 2 ^ 32 → Taken stream piece
-taken_of stream piece size =
-    let taken : List ℕ = take (2 ^ 32 - length stream) piece in
-    let len : length (stream ++ taken) ≡ length stream + length taken = length-append stream taken in
-    let all : length (stream ++ piece) ≡ length stream + length piece = length-append stream piece in
-    let most : length taken ≡ min (2 ^ 32 - length stream) (length piece) = length-take (2 ^ 32 - length stream) piece in record {
-      now = stream ++ taken;
-      now_is = refl;
-      seen_is = seen_cut stream piece (omega (arith, size));
-      most = omega (arith, size, len, most);
-      whole = λ short. ap (λ xs. stream ++ xs) (take_all (2 ^ 32 - length stream) piece (omega (arith, size, len, most, short)));
-      full = λ same. omega (arith, size, len, most, same, all);
-    }
+record Limit (before : PcapValue) (stream early : List ℕ) (given : List FrameValue) (t : State) (rest : List ℕ) : Type 0 where
+  run : IsRunning before stream
+  full : length (stream ++ early) + 1 ≡ 2 ^ 32
+  read : AreRead before.state (before.held ++ early) given t rest
 
-record Settled (stream : List ℕ) (all : List FrameValue) (stage : Stage) (total count : ℕ) (rest : List ℕ) : Type 0 where
-  given : AreGiven stream all
-  outcome : Outcome (stage_at stage total) total count rest stream
+fed_full : (before : PcapValue) (stream early : List ℕ) (byte : ℕ) (later : List ℕ) (given : List FrameValue) (t : State) (rest held : List ℕ) (fault : PcapFault) (total : ℕ) → Limit before stream early given t rest → step t rest ≡ Wants → (more : List FrameValue) (u : State) (left : List ℕ) → ReadsTo pcap t (rest ++ (byte ∷ [])) more u left → (step u left ≡ Bad fault) ⊎ ((step u left ≡ Wants) × (fault ≡ TooManyBytes)) → IsFed stream (early ++ (byte ∷ later)) given (Err fault) (Later (Stopped fault) total t held)
+fed_full before stream early byte later given t rest held fault total limit wants more u left read shown =
+    streams.fed_full pcap stepper before.state before.held stream early byte later given t rest more u left fault (IsStateOf (Later (Stopped fault) total t held)) limit.run.runs limit.full limit.read.read wants read shown (λ found. found)
 
--- where records were read
-settled : (form : FileHeader) (stream piece rest : List ℕ) (all : List FrameValue) (stage : Stage) (total count : ℕ) → (taken : Taken stream piece) → total ≡ length taken.now → count ≡ length all → IsReadTo form taken.now all rest → late_of total ≤ length rest → (HasRecord form rest → length rest < 16 + caplen_at form rest + late_of total) → IsRecordStage form count rest stage → Settled (stream ++ piece) all stage total count rest
-settled form stream piece rest all stage total count taken total_is count_is read early last at = elim (cases_lt (length taken.now) (2 ^ 32)) [
-  | inl short ↦
-      let none : late_of total ≡ 0 = late_short total (omega (arith, short, total_is)) in
-      let same : taken.now ≡ stream ++ piece = taken.whole short in
-      let size : length (stream ++ piece) < 2 ^ 32 = subst (λ (xs : List ℕ). length xs < 2 ^ 32) same short in
-      let part : HasRecord form rest → ⊥ = λ h. let whole : 16 + caplen_at form rest ≤ length rest = h.whole in let over : length rest < 16 + caplen_at form rest + late_of total = last h in omega (arith, whole, over, none) in
-      let now : IsReadTo form (stream ++ piece) all rest = subst (λ (xs : List ℕ). IsReadTo form xs all rest) same read in record {
-        given = inl (record {
-          form = form;
-          rest = rest;
-          read = subst (λ (xs : List ℕ). IsReadTo form xs all rest) (sym taken.seen_is) read;
-          early = λ large. absurd (let large' : 2 ^ 32 ≤ length taken.now = subst (λ (xs : List ℕ). 2 ^ 32 ≤ length xs) taken.seen_is large in omega (arith, short, large'));
-          last = λ h. absurd (part h);
-        });
-        outcome = short_outcome form (stream ++ piece) rest all stage total count size (total_is ∙ ap length same) count_is now part at;
-      }
-  | inr large ↦
-      let most : length taken.now ≤ 2 ^ 32 = taken.most in
-      let full : length taken.now ≡ 2 ^ 32 = omega (arith, large, most) in
-      let one : late_of total ≡ 1 = late_full total (total_is ∙ full) in
-      let fills : HasRecord form rest → length rest ≡ 16 + caplen_at form rest = λ h. let whole : 16 + caplen_at form rest ≤ length rest = h.whole in let over : length rest < 16 + caplen_at form rest + late_of total = last h in omega (arith, whole, over, one) in
-      let now : IsReadTo form (seen (stream ++ piece)) all rest = subst (λ (xs : List ℕ). IsReadTo form xs all rest) (sym taken.seen_is) read in record {
-        given = inl (record {
-          form = form;
-          rest = rest;
-          read = now;
-          early = λ _. omega (arith, early, one);
-          last = λ h. (subst (λ (xs : List ℕ). 2 ^ 32 ≤ length xs) (sym taken.seen_is) large, fills h);
-        });
-        outcome = full_outcome form (stream ++ piece) rest all stage total count (taken.full full) (total_is ∙ full) count_is now fills at;
-      }
+too_many : (t : State) (bytes : List ℕ) (fault : PcapFault) → IsStageAfter t 1 bytes (Stopped fault) → IsFaultAt t bytes None → fault ≡ TooManyBytes
+too_many t bytes fault (inl bad) none = absurd (none fault bad)
+too_many t bytes fault (inr many) none = many.1
+
+the_fault : (t : State) (bytes : List ℕ) (fault other : PcapFault) → IsStageAfter t 1 bytes (Stopped fault) → step t bytes ≡ Bad other → other ≡ fault
+the_fault t bytes fault other (inl bad) h = bad_same other fault (sym h ∙ bad)
+the_fault t bytes fault other (inr many) h = absurd (many.2 other h)
+
+wants_not_bad : (t : State) (bytes : List ℕ) → step t bytes ≡ Wants → IsFaultAt t bytes None
+wants_not_bad t bytes h fault bad = no fault (sym h ∙ bad) where
+  no : (fault : PcapFault) → ◌≡◌ {A = Shown} Wants (Bad fault) → ⊥
+  no fault e = cc
+
+takes_not_bad : (t : State) (bytes : List ℕ) (n : ℕ) (items : List FrameValue) (u : State) → step t bytes ≡ Takes n items u → IsFaultAt t bytes None
+takes_not_bad t bytes n items u h fault bad = no fault (sym h ∙ bad) where
+  no : (fault : PcapFault) → ◌≡◌ {A = Shown} (Takes n items u) (Bad fault) → ⊥
+  no fault e = cc
+
+fed_limit : (before : PcapValue) (stream early : List ℕ) (byte : ℕ) (later : List ℕ) (given : List FrameValue) (t : State) (rest held : List ℕ) (fault : PcapFault) (total : ℕ) → Limit before stream early given t rest → IsStageAfter t 1 (rest ++ (byte ∷ [])) (Stopped fault) → (first last : Shown) → step t rest ≡ first → step t (rest ++ (byte ∷ [])) ≡ last → IsFed stream (early ++ (byte ∷ later)) given (Err fault) (Later (Stopped fault) total t held)
+fed_limit before stream early byte later given t rest held fault total limit at (Takes n more u) last h g = absurd (limit.read.none n more u h)
+fed_limit before stream early byte later given t rest held fault total limit at (Bad other) last h g =
+    let same : other ≡ fault = the_fault t (rest ++ (byte ∷ [])) fault other at (stepper.bad_stays t rest (byte ∷ []) other h) in
+    let full : length (stream ++ early) + 1 ≡ 2 ^ 32 = limit.full in
+    streams.fed_fault pcap stepper before.state before.held stream early (byte ∷ later) given t rest fault (IsStateOf (Later (Stopped fault) total t held)) limit.run.runs (omega (arith, full)) (inr (omega (arith, full))) limit.read.read (h ∙ ap (λ (f : PcapFault). Bad f) same) (λ found. found)
+fed_limit before stream early byte later given t rest held fault total limit at Wants (Bad other) h g =
+    let same : other ≡ fault = the_fault t (rest ++ (byte ∷ [])) fault other at g in
+    fed_full before stream early byte later given t rest held fault total limit h [] t (rest ++ (byte ∷ [])) (reads_nothing pcap t (rest ++ (byte ∷ []))) (inl (g ∙ ap (λ (f : PcapFault). Bad f) same))
+fed_limit before stream early byte later given t rest held fault total limit at Wants Wants h g =
+    fed_full before stream early byte later given t rest held fault total limit h [] t (rest ++ (byte ∷ [])) (reads_nothing pcap t (rest ++ (byte ∷ []))) (inr (g, too_many t (rest ++ (byte ∷ [])) fault at (wants_not_bad t (rest ++ (byte ∷ [])) g)))
+fed_limit before stream early byte later given t rest held fault total limit at Wants (Takes n items u) h g =
+    let late : length rest < n = stepper.late t rest (byte ∷ []) n items u h g in
+    let len : length (rest ++ (byte ∷ [])) ≡ length rest + 1 = length-append rest (byte ∷ []) in
+    let none : drop n (rest ++ (byte ∷ [])) ≡ [] = drop_all n (rest ++ (byte ∷ [])) (omega (arith, late, len)) in
+    fed_full before stream early byte later given t rest held fault total limit h items u (drop n (rest ++ (byte ∷ []))) (reads_one pcap t (rest ++ (byte ∷ [])) n items u g)
+    (inr (ap (λ xs. step u xs) none ∙ stepper.nothing u, too_many t (rest ++ (byte ∷ [])) fault at (takes_not_bad t (rest ++ (byte ∷ [])) n items u g)))
+
+-- the last byte that counts stands apart
+fed_last : (before : PcapValue) (stream early : List ℕ) (byte : ℕ) (later : List ℕ) (given : List FrameValue) (t : State) (held : List ℕ) (fault : PcapFault) (total : ℕ) → IsRunning before stream → length (stream ++ early) + 1 ≡ 2 ^ 32 → AreTaken before.state 1 ((before.held ++ early) ++ (byte ∷ [])) given t (Stopped fault) held → IsFed stream (early ++ (byte ∷ later)) given (Err fault) (Later (Stopped fault) total t held)
+fed_last before stream early byte later given t held fault total run full now =
+    let more : List ℕ = before.held ++ early in
+    let len : length (more ++ (byte ∷ [])) - 1 ≡ length more = let all : length (more ++ (byte ∷ [])) ≡ length more + 1 = length-append more (byte ∷ []) in omega (arith, all) in
+    let none : length more - length more ≡ 0 = omega arith in
+    let first : take (length (more ++ (byte ∷ [])) - 1) (more ++ (byte ∷ [])) ≡ more = ap (λ k. take k (more ++ (byte ∷ []))) len ∙ take_past (length more) more (byte ∷ []) (omega arith) ∙ ap (λ k. more ++ take k (byte ∷ [])) none ∙ append-nil more in
+    let back : drop (length (more ++ (byte ∷ [])) - 1) (more ++ (byte ∷ [])) ≡ byte ∷ [] = ap (λ k. drop k (more ++ (byte ∷ []))) len ∙ drop-append-le (length more) more (byte ∷ []) (omega arith) ∙ ap (λ xs. xs ++ (byte ∷ [])) (drop_all (length more) more (omega arith)) in
+    let read : AreRead before.state more given t now.rest = subst (λ (xs : List ℕ). AreRead before.state xs given t now.rest) first now.read in
+    let stage_is : IsStageAfter t 1 (now.rest ++ (byte ∷ [])) (Stopped fault) = subst (λ (xs : List ℕ). IsStageAfter t 1 (now.rest ++ xs) (Stopped fault)) back now.stage_is in
+    let limit : Limit before stream early given t now.rest = record { run = run; full = full; read = read } in
+    fed_limit before stream early byte later given t now.rest held fault total limit stage_is (step t now.rest) (step t (now.rest ++ (byte ∷ []))) refl refl
+
+fed_at_limit : (before : PcapValue) (stream piece early late : List ℕ) (given : List FrameValue) (t : State) (rest held : List ℕ) (stage : Stage) → IsRunning before stream → before.total < 2 ^ 32 → 2 ^ 32 ≤ before.total + length piece → early ≡ take (2 ^ 32 - 1 - before.total) piece → late ≡ drop (2 ^ 32 - 1 - before.total) piece
+    → AreTaken before.state 1 (before.held ++ take (2 ^ 32 - before.total) piece) given t stage held → IsFed stream piece given (answer_at stage) (Later stage (before.total + length (take (2 ^ 32 - before.total) piece)) t held)
+fed_at_limit before stream piece early [] given t rest held stage run small large early_is late_is taken =
+    let len : 0 ≡ length piece - (2 ^ 32 - 1 - before.total) = ap length late_is ∙ length-drop (2 ^ 32 - 1 - before.total) piece in
+    absurd (omega (arith, small, large, len))
+fed_at_limit before stream piece early (byte ∷ later) given t rest held Running run small large early_is late_is taken = absurd (let none : 1 ≡ 0 = taken.stage_is.0 in omega (arith, none))
+fed_at_limit before stream piece early (byte ∷ later) given t rest held (Stopped fault) run small large early_is late_is taken =
+    let n : ℕ = 2 ^ 32 - 1 - before.total in
+    let whole : early ++ (byte ∷ later) ≡ piece = ap (λ xs. xs ++ (byte ∷ later)) early_is ∙ ap (λ xs. take n piece ++ xs) late_is ∙ take-append-drop n piece in
+    let size : length early ≡ min n (length piece) = ap length early_is ∙ length-take n piece in
+    let at : length early ≡ n = omega (arith, size, small, large) in
+    let one : 2 ^ 32 - before.total - length early ≡ 1 = omega (arith, at, small) in
+    let front : take (2 ^ 32 - before.total) piece ≡ early ++ (byte ∷ []) = ap (λ xs. take (2 ^ 32 - before.total) xs) (sym whole) ∙ take_past (2 ^ 32 - before.total) early (byte ∷ later) (omega (arith, at)) ∙ ap (λ k. early ++ take k (byte ∷ later)) one in
+    let bytes : before.held ++ take (2 ^ 32 - before.total) piece ≡ (before.held ++ early) ++ (byte ∷ []) = ap (λ xs. before.held ++ xs) front ∙ sym (append_assoc before.held early (byte ∷ [])) in
+    let now : AreTaken before.state 1 ((before.held ++ early) ++ (byte ∷ [])) given t (Stopped fault) held = subst (λ (xs : List ℕ). AreTaken before.state 1 xs given t (Stopped fault) held) bytes taken in
+    let had : before.total ≡ length stream = run.total_is in
+    let sum : length (stream ++ early) ≡ length stream + length early = length-append stream early in
+    let total : ℕ = before.total + length (take (2 ^ 32 - before.total) piece) in
+    subst (λ (xs : List ℕ). IsFed stream xs given (Err fault) (Later (Stopped fault) total t held)) whole (fed_last before stream early byte later given t held fault total run (omega (arith, had, sum, at, small)) now)
+
+-- whichever of these
+pub fed_call : (before : PcapValue) (stream piece taken : List ℕ) (late : ℕ) (given : List FrameValue) (t : State) (held : List ℕ) (stage : Stage) → IsRunning before stream → before.total < 2 ^ 32 → taken ≡ take (2 ^ 32 - before.total) piece → late ≡ late_of (before.total + length taken) → AreTaken before.state late (before.held ++ taken) given t stage held → IsFed stream piece given (answer_at stage) (Later stage (before.total + length taken) t held)
+fed_call before stream piece taken late given t held stage run small taken_is late_is are =
+    let size : length taken ≡ min (2 ^ 32 - before.total) (length piece) = ap length taken_is ∙ length-take (2 ^ 32 - before.total) piece in
+    elim (cases_lt (before.total + length taken) (2 ^ 32)) [
+      | inl short ↦
+          let none : late ≡ 0 = late_is ∙ late_short (before.total + length taken) short in
+          let same : taken ≡ piece = taken_is ∙ take_all (2 ^ 32 - before.total) piece (omega (arith, size, short, small)) in
+          let bytes : List ℕ = before.held ++ taken in
+          let all : take (length bytes - late) bytes ≡ bytes = take_all (length bytes - late) bytes (omega (arith, none)) in
+          let left : are.rest ++ drop (length bytes - late) bytes ≡ are.rest = ap (λ xs. are.rest ++ xs) (drop_all (length bytes - late) bytes (omega (arith, none))) ∙ append-nil are.rest in
+          let read : AreRead before.state bytes given t are.rest = subst (λ (xs : List ℕ). AreRead before.state xs given t are.rest) all are.read in
+          let fed : IsFed stream taken given (answer_at stage) (Later stage (before.total + length taken) t held) = fed_below before stream taken late given t are.rest held stage run short none read (subst (λ (xs : List ℕ). IsStageAfter t late xs stage) left are.stage_is) are.held_is in
+          subst (λ (xs : List ℕ). IsFed stream xs given (answer_at stage) (Later stage (before.total + length taken) t held)) same fed
+      | inr large ↦
+          let one : late ≡ 1 = late_is ∙ late_full (before.total + length taken) (omega (arith, size, large, small)) in
+          let now : AreTaken before.state 1 (before.held ++ take (2 ^ 32 - before.total) piece) given t stage held = subst (λ (xs : List ℕ). AreTaken before.state 1 (before.held ++ xs) given t stage held) taken_is (subst (λ (n : ℕ). AreTaken before.state n (before.held ++ taken) given t stage held) one are) in
+          subst (λ (xs : List ℕ). IsFed stream piece given (answer_at stage) (Later stage (before.total + length xs) t held)) (sym taken_is)
+          (fed_at_limit before stream piece (take (2 ^ 32 - 1 - before.total) piece) (drop (2 ^ 32 - 1 - before.total) piece) given t [] held stage run small (omega (arith, size, large)) refl refl now)
+    ]
+
+-- What holds of the reader after a call.
+
+-- what is neither a record nor too long is short
+short_rest : (header : FileHeader) (rest : List ℕ) → (HasRecord header rest → ⊥) → (HasLongRecord header rest → ⊥) → length rest ≤ 262159
+short_rest header rest part short = elim (cases_lt (length rest) 262160) [
+  | inl few ↦ omega (arith, few)
+  | inr many ↦ elim (cases_lt 262144 (caplen_at header rest)) [
+    | inl long ↦ absurd (short (record { head = omega (arith, many); long = long }))
+    | inr small ↦ absurd (part (record { short = small; whole = omega (arith, small, many) }))
+  ]
 ]
 
--- a stream of fewer bytes than a header's gives no frame
-none_given : (stream : List ℕ) → length stream < 24 → AreGiven stream []
-none_given stream short = inr ((λ form header. let size : 24 ≤ length (seen stream) = header.size in let len : length (seen stream) ≡ min (2 ^ 32) (length stream) = length_seen stream in omega (arith, short, size, len)), refl)
-
-abbrev total_after : ℕ → List ℕ → ℕ
-total_after total piece = total + length (take (2 ^ 32 - total) piece)
-
--- the reader after a call that takes a piece
-abbrev pub reader_after : ℕ → ℕ → List ℕ → List FrameValue → List ℕ → Stage → PcapValue
-reader_after total count piece given held stage =
-    record { stage = stage_at stage (total + length (take (2 ^ 32 - total) piece)); total = total + length (take (2 ^ 32 - total) piece); count = count + length given; held = held }
-
-abbrev pub FedAfter : List ℕ → ℕ → ℕ → List ℕ → List FrameValue → List ℕ → Stage → Type 0
-FedAfter stream total count piece given held stage =
-    IsFed stream piece given (answer_of (stage_at stage (total + length (take (2 ^ 32 - total) piece)))) (reader_after total count piece given held stage)
-
-fed_by : (stream piece : List ℕ) (before given : List FrameValue) (held : List ℕ) (stage : Stage) (total count : ℕ) → AreGiven stream before → 16 * length given ≤ length piece + 15
-    → Settled (stream ++ piece) (before ++ given) stage (total + length (take (2 ^ 32 - total) piece)) (count + length given) held → FedAfter stream total count piece given held stage
-fed_by stream piece before given held stage total count given_before few now =
-    record { before = before; given_before = given_before; given_now = now.given; few = few; answer_is = now.outcome.1; state = now.outcome.0 }
-
--- how many bytes were taken then
-total_taken : (stream piece : List ℕ) (total : ℕ) → total ≡ length stream → total + length (take (2 ^ 32 - total) piece) ≡ length (stream ++ take (2 ^ 32 - length stream) piece)
-total_taken stream piece total is = rw is (sym (length-append stream (take (2 ^ 32 - length stream) piece)))
-
--- no more of a piece is taken than there is
-taken_len : (most : ℕ) (piece : List ℕ) → length (take most piece) ≤ length piece
-taken_len most piece = let len : length (take most piece) ≡ min most (length piece) = length-take most piece in omega (arith, len)
-
-pub fed_reading : (form : FileHeader) (stream piece held rest : List ℕ) (given : List FrameValue) (stage : Stage) (total count : ℕ) → IsReading form (record { stage = Reading form; total = total; count = count; held = held }) stream → AreRead form count (late_of (total + length (take (2 ^ 32 - total) piece))) (held ++ take (2 ^ 32 - total) piece) given rest stage → FedAfter stream total count piece given rest stage
-fed_reading form stream piece held rest given stage total count state go =
-    let size : length stream < 2 ^ 32 = state.size in
-    let before : List FrameValue = state.frames in
-    let taken = taken_of stream piece size in
-    let more : List ℕ = take (2 ^ 32 - total) piece in
-    let now : taken.now ≡ stream ++ more = taken.now_is ∙ ap (λ n. stream ++ take (2 ^ 32 - n) piece) (sym state.total_is) in
-    let read : IsReadTo form (stream ++ more) before (held ++ more) = read_first form stream held more before state.read in
-    let count_is : count ≡ length before = state.count_is in
-    let many : length (before ++ given) ≡ length before + length given = length-append before given in
-    let records : AreRecordsThen form 0 (before ++ given) (drop 24 (stream ++ more)) rest =
-    then_more form 0 before given (drop 24 (stream ++ more)) (held ++ more) rest read.records (subst (λ (n : ℕ). AreRecordsThen form n given (held ++ more) rest) (omega (arith, count_is)) go.records) in
-    let all : IsReadTo form taken.now (before ++ given) rest = subst (λ (xs : List ℕ). IsReadTo form xs (before ++ given) rest) (sym now) (record { header = read.header; records = records }) in
-    let given_before : AreGiven stream before = inl (record {
-      form = form;
-      rest = held;
-      read = subst (λ (xs : List ℕ). IsReadTo form xs before held) (sym (seen_short stream (omega (arith, size)))) state.read;
-      early = λ large. absurd (let len : length (seen stream) ≡ min (2 ^ 32) (length stream) = length_seen stream in omega (arith, size, large, len));
-      last = λ h. absurd (state.part h);
-    }) in
-    let few : 16 * length given ≤ length more + 15 = few_ended form count given held more rest go.records state.part in
-    let most : length more ≤ length piece = taken_len (2 ^ 32 - total) piece in
-    fed_by stream piece before given rest stage total count given_before (omega (arith, few, most)) (settled form stream piece rest (before ++ given) stage (total + length (take (2 ^ 32 - total) piece)) (count + length given) taken (total_taken stream piece total state.total_is ∙ sym (ap length taken.now_is)) (omega (arith, count_is, many)) all go.early go.last go.stage_is)
-
--- where the file header has only begun, or has a fault
-begun_outcome : (stream bytes : List ℕ) (stage : Stage) (total count : ℕ) → (length bytes < 24 → bytes ≡ stream) → seen stream ≡ bytes → total ≡ length bytes → count ≡ 0 → IsHeaderStage bytes stage → ((form : FileHeader) → stage ≡ Reading form → ⊥) → Settled stream [] stage total count bytes
-begun_outcome stream bytes Heading total count same seen_is total_is count_is at other =
-    let short : length bytes < 24 = at.0 in
-    let is : bytes ≡ stream = same short in
-    let size : length stream < 24 = subst (λ (xs : List ℕ). length xs < 24) is short in
-    let none : (fault : PcapFault) → Shows stream fault → ⊥ = subst (λ (xs : List ℕ). (fault : PcapFault) → Shows xs fault → ⊥) is (none_begun bytes short at.1) in
-    let state : IsHeading (record { stage = Heading; total = total; count = count; held = bytes }) stream = record { size = size; first = none; total_is = total_is ∙ ap length is; count_is = count_is; held_is = is } in
-    let outcome : Outcome Heading total count bytes stream = (state, none_found stream (omega (arith, size)) none) in record {
-      given = none_given stream size;
-      outcome = subst (λ (s : Stage). Outcome s total count bytes stream) (sym (heading_short total (omega (arith, short, total_is)))) outcome;
-    }
-begun_outcome stream bytes (Reading form) total count same seen_is total_is count_is at other = absurd (other form refl)
-begun_outcome stream bytes (Stopped fault) total count same seen_is total_is count_is at other =
-    let h : HasHeaderFault (seen stream) fault = subst (λ (xs : List ℕ). HasHeaderFault xs fault) (sym seen_is) at in record {
-      given = inr ((λ form header. no_header form (seen stream) fault h header), refl);
-      outcome = stopped_outcome fault total count bytes stream (found_shown stream fault (shown_by_header (seen stream) fault h));
-    }
-
--- the first bytes of a stream end no more frames than there is room for after the file header
-few_begun : (late : ℕ) (bytes : List ℕ) (given : List FrameValue) (rest : List ℕ) (stage : Stage) (room : ℕ) → IsBegun late bytes given rest stage → length bytes ≤ room + 24 → 16 * length given ≤ room + 15
-few_begun late bytes given rest stage room begun fits = elim begun [
-  | inl it ↦
-      let most : 16 * length given + length rest ≤ length (drop 24 bytes) = sizes it.0 0 given (drop 24 bytes) rest it.2.records in
-      let len : length (drop 24 bytes) ≡ length bytes - 24 = length-drop 24 bytes in
-      omega (arith, most, len, fits)
-  | inr it ↦ let nothing : length given ≡ 0 = ap length it.0 in omega (arith, nothing)
+few_held : (t : State) (rest : List ℕ) → step t rest ≡ Wants → length rest ≤ 262159
+few_held t rest wants = elim (part_of t rest wants) [
+  | OfHeader none short nothing ↦ omega (arith, short)
+  | OfRecord header some never long ↦ short_rest header rest never long
 ]
 
-pub fed_heading : (stream piece held rest : List ℕ) (given : List FrameValue) (stage : Stage) (total count : ℕ) → IsHeading (record { stage = Heading; total = total; count = count; held = held }) stream → IsBegun (late_of (total + length (take (2 ^ 32 - total) piece))) (held ++ take (2 ^ 32 - total) piece) given rest stage → FedAfter stream total count piece given rest stage
-fed_heading stream piece held rest given stage total count state go =
-    let size : length stream < 24 = state.size in
-    let taken = taken_of stream piece (omega (arith, size)) in
-    let now : held ++ take (2 ^ 32 - total) piece ≡ taken.now = ap (λ xs. xs ++ take (2 ^ 32 - total) piece) state.held_is ∙ ap (λ n. stream ++ take (2 ^ 32 - n) piece) state.total_is ∙ sym taken.now_is in
-    let total_is : total + length (take (2 ^ 32 - total) piece) ≡ length taken.now = total_taken stream piece total state.total_is ∙ sym (ap length taken.now_is) in
-    let none : count ≡ 0 = state.count_is in
-    let begun : IsBegun (late_of (total + length (take (2 ^ 32 - total) piece))) taken.now given rest stage = subst (λ (xs : List ℕ). IsBegun (late_of (total + length (take (2 ^ 32 - total) piece))) xs given rest stage) now go in
-    let len : length (held ++ take (2 ^ 32 - total) piece) ≡ length held + length (take (2 ^ 32 - total) piece) = length-append held (take (2 ^ 32 - total) piece) in
-    let held_len : length held ≡ length stream = ap length state.held_is in
-    let most : length (take (2 ^ 32 - total) piece) ≤ length piece = taken_len (2 ^ 32 - total) piece in
-    let few : 16 * length given ≤ length piece + 15 = few_begun (late_of (total + length (take (2 ^ 32 - total) piece))) (held ++ take (2 ^ 32 - total) piece) given rest stage (length piece) go (omega (arith, len, held_len, most, size)) in
-    fed_by stream piece [] given rest stage total count (none_given stream size) few (elim begun [
-      | inl it ↦
-          let many : 0 + length given ≡ count + length given = omega (arith, none) in
-          settled it.0 stream piece rest given stage (total + length (take (2 ^ 32 - total) piece)) (count + length given) taken total_is (omega (arith, none)) (record { header = it.1; records = it.2.records }) it.2.early it.2.last (subst (λ (n : ℕ). IsRecordStage it.0 n rest stage) many it.2.stage_is)
-      | inr it ↦
-          let nothing : length given ≡ 0 = ap length it.0 in
-          let same : length taken.now < 24 → taken.now ≡ stream ++ piece = λ short. taken.whole (omega (arith, short)) in
-          let at : Settled (stream ++ piece) [] stage (total + length (take (2 ^ 32 - total) piece)) (count + length given) taken.now = begun_outcome (stream ++ piece) taken.now stage (total + length (take (2 ^ 32 - total) piece)) (count + length given) same taken.seen_is total_is (omega (arith, none, nothing)) it.2 it.3 in
-          subst (λ (xs : List ℕ). Settled (stream ++ piece) given stage (total + length (take (2 ^ 32 - total) piece)) (count + length given) xs) (sym it.1) (subst (λ (fs : List FrameValue). Settled (stream ++ piece) fs stage (total + length (take (2 ^ 32 - total) piece)) (count + length given) taken.now) (sym it.0) at)
-    ])
+not_memory : (t : State) (rest : List ℕ) → step t rest ≡ Bad Memory → ⊥
+not_memory t rest h = elim (broken t rest Memory h) [
+  | InHeader none it ↦ it
+  | TooLong header some it is ↦ no t.count is
+] where
+  no : (k : ℕ) → Memory ≡ FrameTooLong k → ⊥
+  no k e = cc
 
--- a reader that runs and takes one more piece
-pub fed : (stream piece held rest : List ℕ) (given : List FrameValue) (at stage : Stage) (total count : ℕ) → IsStateOf (record { stage = at; total = total; count = count; held = held }) stream → IsGoneOn at count (late_of (total + length (take (2 ^ 32 - total) piece))) (held ++ take (2 ^ 32 - total) piece) given rest stage → FedAfter stream total count piece given rest stage
-fed stream piece held rest given Heading stage total count state go = fed_heading stream piece held rest given stage total count state go
-fed stream piece held rest given (Reading form) stage total count state go = fed_reading form stream piece held rest given stage total count state go
-fed stream piece held rest given (Stopped fault) stage total count state go = absurd go
+stage_fault : (t : State) (late : ℕ) (rest : List ℕ) (fault : PcapFault) → IsStageAfter t late rest (Stopped fault) → fault ≡ Memory → ⊥
+stage_fault t late rest fault (inl bad) is = not_memory t rest (bad ∙ ap (λ (f : PcapFault). Bad f) is)
+stage_fault t late rest fault (inr many) is = let no : TooManyBytes ≡ Memory = sym many.1 ∙ is in cc
 
--- a reader that a fault has stopped answers it, and takes nothing
-pub fed_stopped : (fault : PcapFault) (stream piece held : List ℕ) (total count : ℕ) → IsStateOf (record { stage = Stopped fault; total = total; count = count; held = held }) stream → IsFed stream piece [] (Err fault) (record { stage = Stopped fault; total = total; count = count; held = held })
-fed_stopped fault stream piece held total count found =
-    let gives = found_gives stream piece fault found in
-    let later : IsFound (stream ++ piece) fault = found_first stream piece fault found in record {
-      before = gives.0;
-      given_before = gives.1;
-      given_now = subst (AreGiven (stream ++ piece)) (sym (append-nil gives.0)) gives.2;
-      few = omega arith;
-      answer_is = later;
-      state = later;
-    }
+sound_at : (before : PcapValue) (taken : List ℕ) (late : ℕ) (given : List FrameValue) (t : State) (held : List ℕ) (stage : Stage) → before.total + length taken ≤ 2 ^ 32 → 16 * before.state.count + length before.held ≤ before.total → late ≡ late_of (before.total + length taken) → AreTaken before.state late (before.held ++ taken) given t stage held → IsSound (Later stage (before.total + length taken) t held)
+sound_at before taken late given t held (Stopped fault) most had late_is are = (stage_fault t late (are.rest ++ drop (length (before.held ++ taken) - late) (before.held ++ taken)) fault are.stage_is, are.held_is)
+sound_at before taken late given t held Running most had late_is are =
+    let bytes : List ℕ = before.held ++ taken in
+    let none : late ≡ 0 = are.stage_is.0 in
+    let small : before.total + length taken < 2 ^ 32 = elim (cases_lt (before.total + length taken) (2 ^ 32)) [
+      | inl short ↦ short
+      | inr large ↦ absurd (let one : late ≡ 1 = late_is ∙ late_full (before.total + length taken) (omega (arith, most, large)) in omega (arith, none, one))
+    ] in
+    let all : take (length bytes - late) bytes ≡ bytes = take_all (length bytes - late) bytes (omega (arith, none)) in
+    let left : are.rest ++ drop (length bytes - late) bytes ≡ are.rest = ap (λ xs. are.rest ++ xs) (drop_all (length bytes - late) bytes (omega (arith, none))) ∙ append-nil are.rest in
+    let read : AreRead before.state bytes given t are.rest = subst (λ (xs : List ℕ). AreRead before.state xs given t are.rest) all are.read in
+    let bad : IsFaultAt t are.rest None = subst (λ (xs : List ℕ). IsFaultAt t xs None) left are.stage_is.1 in
+    let wants : step t are.rest ≡ Wants = wants_of t are.rest (step t are.rest) refl read.none bad in
+    let fits = sizes pcap stepper before.state read.read.parts bytes t are.rest read.read.units in
+    let items = ap length read.read.items_are in
+    let count : t.count ≡ before.state.count + length given = reads_count pcap stepper before.state bytes given t are.rest read.read in
+    let len : length bytes ≡ length before.held + length taken = length-append before.held taken in
+    let few : length are.rest ≤ 262159 = few_held t are.rest wants in
+    let same : length held ≡ length are.rest = ap length are.held_is in
+    (small, omega (arith, fits, items, count, len, had, same), omega (arith, few, same))
 
--- a reader that a fault has stopped may let its bytes go
-fed_kept : (stream piece rest : List ℕ) (given : List FrameValue) (answer : Result (Unit {0}) PcapFault) (now : Stage) (total count : ℕ) → IsFed stream piece given answer (record { stage = now; total = total; count = count; held = rest }) → IsFed stream piece given answer (record { stage = now; total = total; count = count; held = kept_by now rest })
-fed_kept stream piece rest given answer Heading total count fed = fed
-fed_kept stream piece rest given answer (Reading form) total count fed = fed
-fed_kept stream piece rest given answer (Stopped fault) total count fed =
-    record { before = fed.before; given_before = fed.given_before; given_now = fed.given_now; few = fed.few; answer_is = fed.answer_is; state = fed.state }
+pub sound_call : (before : PcapValue) (piece taken : List ℕ) (late : ℕ) (given : List FrameValue) (t : State) (held : List ℕ) (stage : Stage) → IsSoundAt Running before → taken ≡ take (2 ^ 32 - before.total) piece → late ≡ late_of (before.total + length taken) → AreTaken before.state late (before.held ++ taken) given t stage held → IsSound (Later stage (before.total + length taken) t held)
+sound_call before piece taken late given t held stage sound taken_is late_is are =
+    let small : before.total < 2 ^ 32 = sound.0 in
+    let size : length taken ≡ min (2 ^ 32 - before.total) (length piece) = ap length taken_is ∙ length-take (2 ^ 32 - before.total) piece in
+    sound_at before taken late given t held stage (omega (arith, small, size)) sound.1 late_is are
 
--- the same, with a name for each part of a call
-pub fed_call : (self : PcapValue) (piece taken bytes rest kept : List ℕ) (given : List FrameValue) (stage now : Stage) (late many : ℕ) (answer : Result (Unit {0}) PcapFault) → taken ≡ take (2 ^ 32 - self.total) piece → bytes ≡ self.held ++ taken → late ≡ late_of (self.total + length taken) → IsGoneOn self.stage self.count late bytes given rest stage → many ≡ length given → now ≡ stage_at stage (self.total + length taken) → answer ≡ answer_of now → kept ≡ kept_by now rest → (stream : List ℕ) → IsStateOf self stream → IsFed stream piece given answer (record { stage = now; total = self.total + length taken; count = self.count + many; held = kept })
-fed_call self piece taken bytes rest kept given stage now late many answer taken_is bytes_is late_is go many_is now_is answer_is kept_is stream state =
-    let gone : IsGoneOn self.stage self.count (late_of (self.total + length (take (2 ^ 32 - self.total) piece))) (self.held ++ take (2 ^ 32 - self.total) piece) given rest stage =
-    subst (λ (xs : List ℕ). IsGoneOn self.stage self.count (late_of (self.total + length xs)) (self.held ++ xs) given rest stage) taken_is
-    (subst (λ (n : ℕ). IsGoneOn self.stage self.count n (self.held ++ taken) given rest stage) late_is
-    (subst (λ (xs : List ℕ). IsGoneOn self.stage self.count late xs given rest stage) bytes_is go)) in
-    let done : IsFed stream piece given answer (record { stage = now; total = self.total + length taken; count = self.count + many; held = rest }) =
-    rw (answer_is, now_is, many_is, taken_is) (fed stream piece self.held rest given self.stage stage self.total self.count state gone) in
-    rw kept_is (fed_kept stream piece rest given answer now (self.total + length taken) (self.count + many) done)
+-- The other calls.
+
+pub running_of : (stage : Stage) → ((fault : PcapFault) → stage ≡ Stopped fault → ⊥) → stage ≡ Running
+running_of Running h = refl
+running_of (Stopped fault) h = absurd (h fault refl)
+
+-- a reader that has found a fault answers it
+pub answers_stopped : (fault : PcapFault) (reader : PcapValue) → reader.stage ≡ Stopped fault → AnswersFound reader (Err fault)
+answers_stopped fault reader is = λ stream other state found.
+    ap (λ (f : PcapFault). Err f) (one_fault pcap stream fault other (inl (subst (λ (s : Stage). IsAt s reader stream) is state)) (inl found))
+
+-- one that runs has found none
+pub not_found : (reader : PcapValue) (stream : List ℕ) (fault : PcapFault) → reader.stage ≡ Running → IsStateOf reader stream → IsFound stream fault → ⊥
+not_found reader stream fault is state found =
+    let run : IsRunning reader stream = subst (λ (s : Stage). IsAt s reader stream) is state in
+    streams.runs_none pcap reader.state reader.held stream fault run.runs found
+
+-- one that a fault has stopped takes nothing
+pub fed_stopped : (fault : PcapFault) (reader : PcapValue) (stream piece : List ℕ) → reader.stage ≡ Stopped fault → IsStateOf reader stream → IsFed stream piece [] (Err fault) reader
+fed_stopped fault reader stream piece is state =
+    let found : IsFound stream fault = subst (λ (s : Stage). IsAt s reader stream) is state in
+    streams.fed_stopped pcap stepper stream piece fault (IsStateOf reader) found (λ later. subst (λ (s : Stage). IsAt s reader (stream ++ piece)) (sym is) later)
+
+-- the reader after a call answers no want of memory
+pub no_memory : (reader : PcapValue) → IsSound reader → answer_at reader.stage ≡ Err Memory → ⊥
+no_memory reader sound memory = at_stage reader.stage reader sound memory where
+  err_same : (a b : PcapFault) → ◌≡◌ {A = Result (Unit {0}) PcapFault} (Err a) (Err b) → a ≡ b
+  err_same a b h = cc
+
+  at_stage : (stage : Stage) (reader : PcapValue) → IsSoundAt stage reader → answer_at stage ≡ Err Memory → ⊥
+  at_stage Running reader sound h = cc
+  at_stage (Stopped fault) reader sound h = sound.0 (err_same fault Memory h)
+
+pub new_runs : (held : List ℕ) → held ≡ [] → IsRunning (Later Running 0 pcap.start held) []
+new_runs held none = record { total_is = refl; runs = subst (λ (xs : List ℕ). Runs pcap pcap.start xs []) (sym none) (streams.runs_new pcap stepper) }
+
+pub ended_within : (reader : PcapValue) (stream : List ℕ) (count : ℕ) → reader.stage ≡ Running → (0 < length reader.held) ⊎ (is_some reader.state.header ≡ false) → count ≡ reader.state.count → IsStateOf reader stream → IsEnded stream (Err (Cut count))
+ended_within reader stream count is left count_is state =
+    let run : IsRunning reader stream = subst (λ (s : Stage). IsAt s reader stream) is state in
+    streams.ended_cut pcap reader.state reader.held stream (Cut count) run.runs left (ap (λ n. Cut n) count_is)
+
+pub ended_whole : (reader : PcapValue) (stream : List ℕ) (count : ℕ) → reader.stage ≡ Running → reader.held ≡ [] → is_some reader.state.header ≡ true → count ≡ reader.state.count → IsStateOf reader stream → IsEnded stream (Ok count)
+ended_whole reader stream count is empty some count_is state =
+    let run : IsRunning reader stream = subst (λ (s : Stage). IsAt s reader stream) is state in
+    streams.ended_whole pcap stepper reader.state reader.held stream count run.runs empty some count_is

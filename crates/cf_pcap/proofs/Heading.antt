@@ -1,14 +1,26 @@
 -- The file header.
-use Rattle.std.proofs.Common.{◌≡◌, ◌⊎◌, inl, inr, ℕ, ◌<◌, ◌≤◌, ◌%◌, ◌^◌, Bool, true, false, List, ◌++◌, length, drop, Option, Some, None, refl, sym, ap, subst, ◌∙◌, arith, length-append}
+use Rattle.std.proofs.Common.{◌≡◌, ◌⊎◌, inl, inr, ℕ, ◌==◌, ◌<◌, ◌≤◌, ◌%◌, ◌^◌, nat_lt, Bool, true, false, List, ◌++◌, length, drop, Option, Some, None, refl, sym, ap, subst, ◌∙◌, arith, length-append}
 use Rattle.std.proofs.lemmas.Bool.{cases_lt, cases_eq, true≢false}
+use Rattle.std.proofs.lemmas.Bool.Decides.{nat_tests}
 use Rattle.cf_pcap.specs.declared.form.Order.TheVariants.{Little, Big}
 use Rattle.cf_pcap.specs.declared.form.Layout.{Layout}
 use Rattle.cf_pcap.specs.declared.form.FileHeader.{FileHeader}
 use Rattle.cf_pcap.specs.declared.fault.PcapFault.{PcapFault}
 use Rattle.cf_pcap.specs.declared.fault.PcapFault.TheVariants.{BadMagic, BadVersion, BadLink, FrameTooLong, Cut, TooManyBytes, Memory}
-use Rattle.cf_pcap.specs.Capture.{number_in, layout_of, link_at, is_link, IsVersion, IsFileHeader, HasLongFrame, Shows}
-use Rattle.cf_pcap.specs.Reading.{HasHeaderFault}
+use Rattle.cf_pcap.specs.Capture.{number_in, layout_of, link_at, is_link, IsVersion, IsFileHeader, HasBadMagic, HasBadVersion, HasBadLink, HasLongFrame, Shows}
+use Rattle.cf_pcap.specs.declared.head.Head.TheVariants.{Short, Faulty, Stands}
+use Rattle.cf_pcap.specs.File.{is_version, by_link, by_layout, head_of}
 use Rattle.cf_pcap.proofs.Following.{number_first, number_later}
+
+-- a fault of the file header
+abbrev pub HasHeaderFault : List ℕ → PcapFault → Type 0
+HasHeaderFault bytes BadMagic = HasBadMagic bytes
+HasHeaderFault bytes BadVersion = HasBadVersion bytes
+HasHeaderFault bytes BadLink = HasBadLink bytes
+HasHeaderFault bytes (FrameTooLong k) = ⊥
+HasHeaderFault bytes (Cut k) = ⊥
+HasHeaderFault bytes TooManyBytes = ⊥
+HasHeaderFault bytes Memory = ⊥
 
 -- what comes later doesn't change the magic, the version or the link
 pub layout_first : (xs ys : List ℕ) → 4 ≤ length xs → layout_of (xs ++ ys) ≡ layout_of xs
@@ -29,13 +41,13 @@ link_first layout xs ys h = ap (λ n. n % 2 ^ 16) (number_later layout.order 4 2
 longer : (n : ℕ) (xs ys : List ℕ) → n ≤ length xs → n ≤ length (xs ++ ys)
 longer n xs ys h = rw (length-append xs ys) (omega (arith, h))
 
-pub header_first : (form : FileHeader) (xs ys : List ℕ) → IsFileHeader form xs → IsFileHeader form (xs ++ ys)
-header_first form xs ys h =
+pub header_first : (header : FileHeader) (xs ys : List ℕ) → IsFileHeader header xs → IsFileHeader header (xs ++ ys)
+header_first header xs ys h =
     let size : 24 ≤ length xs = h.size in record {
       size = longer 24 xs ys size;
       magic = layout_first xs ys (omega (arith, size)) ∙ h.magic;
-      version = version_first form.layout xs ys (omega (arith, size)) h.version;
-      link = h.link ∙ sym (link_first form.layout xs ys size);
+      version = version_first header.layout xs ys (omega (arith, size)) h.version;
+      link = h.link ∙ sym (link_first header.layout xs ys size);
       lawful = h.lawful;
     }
 
@@ -48,14 +60,14 @@ some_none a h = cc
 one_layout : (a b : Layout) (bytes : List ℕ) → layout_of bytes ≡ Some a → layout_of bytes ≡ Some b → a ≡ b
 one_layout a b bytes p q = some_same a b (sym p ∙ q)
 
-same_form : (layout layout' : Layout) (link link' : ℕ) → layout ≡ layout' → link ≡ link' → ◌≡◌ {A = FileHeader} (record { layout = layout; link = link }) (record { layout = layout'; link = link' })
-same_form layout layout' link link' p q = cc
+same_header : (layout layout' : Layout) (link link' : ℕ) → layout ≡ layout' → link ≡ link' → ◌≡◌ {A = FileHeader} (record { layout = layout; link = link }) (record { layout = layout'; link = link' })
+same_header layout layout' link link' p q = cc
 
 -- a file has one header at most
-pub one_form : (a b : FileHeader) (bytes : List ℕ) → IsFileHeader a bytes → IsFileHeader b bytes → a ≡ b
-one_form a b bytes p q =
+pub one_header : (a b : FileHeader) (bytes : List ℕ) → IsFileHeader a bytes → IsFileHeader b bytes → a ≡ b
+one_header a b bytes p q =
     let same : a.layout ≡ b.layout = one_layout a.layout b.layout bytes p.magic q.magic in
-    same_form a.layout b.layout a.link b.link same (p.link ∙ ap (λ layout. link_at layout bytes) same ∙ sym q.link)
+    same_header a.layout b.layout a.link b.link same (p.link ∙ ap (λ layout. link_at layout bytes) same ∙ sym q.link)
 
 -- a fault of the header stays
 pub header_fault_first : (xs ys : List ℕ) (fault : PcapFault) → HasHeaderFault xs fault → HasHeaderFault (xs ++ ys) fault
@@ -81,14 +93,14 @@ header_fault_first xs ys TooManyBytes h = absurd h
 header_fault_first xs ys Memory h = absurd h
 
 -- no header with a fault is a header
-pub no_header : (form : FileHeader) (bytes : List ℕ) (fault : PcapFault) → HasHeaderFault bytes fault → IsFileHeader form bytes → ⊥
-no_header form bytes BadMagic h header = some_none form.layout (sym header.magic ∙ h.magic)
-no_header form bytes BadVersion h header = h.version (subst (λ (l : Layout). IsVersion l bytes) (one_layout form.layout h.layout bytes header.magic h.magic) header.version)
-no_header form bytes BadLink h header = true≢false (sym header.lawful ∙ ap is_link (header.link ∙ ap (λ layout. link_at layout bytes) (one_layout form.layout h.layout bytes header.magic h.magic)) ∙ h.link)
-no_header form bytes (FrameTooLong k) h header = h
-no_header form bytes (Cut k) h header = h
-no_header form bytes TooManyBytes h header = h
-no_header form bytes Memory h header = h
+pub no_header : (header : FileHeader) (bytes : List ℕ) (fault : PcapFault) → HasHeaderFault bytes fault → IsFileHeader header bytes → ⊥
+no_header header bytes BadMagic h is = some_none header.layout (sym is.magic ∙ h.magic)
+no_header header bytes BadVersion h is = h.version (subst (λ (l : Layout). IsVersion l bytes) (one_layout header.layout h.layout bytes is.magic h.magic) is.version)
+no_header header bytes BadLink h is = true≢false (sym is.lawful ∙ ap is_link (is.link ∙ ap (λ layout. link_at layout bytes) (one_layout header.layout h.layout bytes is.magic h.magic)) ∙ h.link)
+no_header header bytes (FrameTooLong k) h is = h
+no_header header bytes (Cut k) h is = h
+no_header header bytes TooManyBytes h is = h
+no_header header bytes Memory h is = h
 
 -- a header has one fault at most
 pub one_header_fault : (bytes : List ℕ) (a b : PcapFault) → HasHeaderFault bytes a → HasHeaderFault bytes b → a ≡ b
@@ -139,13 +151,31 @@ shown bytes Memory h = absurd h
 
 -- how far a header goes
 pub data Header (bytes : List ℕ) : Type 0 where
-  Whole : (form : FileHeader) → IsFileHeader form bytes → Header bytes
-  False : (fault : PcapFault) → HasHeaderFault bytes fault → Header bytes
-  Begun : length bytes < 24 → ((fault : PcapFault) → HasHeaderFault bytes fault → ⊥) → Header bytes
+  Whole : (header : FileHeader) → head_of bytes ≡ Stands header → IsFileHeader header bytes → Header bytes
+  False : (fault : PcapFault) → head_of bytes ≡ Faulty fault → HasHeaderFault bytes fault → Header bytes
+  Begun : head_of bytes ≡ Short → length bytes < 24 → ((fault : PcapFault) → HasHeaderFault bytes fault → ⊥) → Header bytes
+
+pub below : (n m : ℕ) → n < m → nat_lt n m ≡ true
+below n m h = grind (arith, nat_tests)
+
+pub not_below : (n m : ℕ) → m ≤ n → nat_lt n m ≡ false
+not_below n m h = grind (arith, nat_tests)
+
+not_same : (n m : ℕ) → (n ≡ m → ⊥) → (n == m) ≡ false
+not_same n m h = grind (arith, nat_tests)
+
+-- what is shown of a header, by its length and its magic
+pub head_few : (bytes : List ℕ) → length bytes < 4 → head_of bytes ≡ Short
+unfolding head_of
+head_few bytes h = rw (below (length bytes) 4 h) refl
+
+head_by : (bytes : List ℕ) (layout : Option Layout) → 4 ≤ length bytes → layout_of bytes ≡ layout → head_of bytes ≡ by_layout layout bytes
+unfolding head_of
+head_by bytes layout h magic = rw (not_below (length bytes) 4 h) (ap (λ (l : Option Layout). by_layout l bytes) magic)
 
 -- while fewer bytes than a header's are there
-begun : (bytes : List ℕ) → length bytes < 24 → (4 ≤ length bytes → layout_of bytes ≡ None → ⊥) → (8 ≤ length bytes → (layout : Layout) → layout_of bytes ≡ Some layout → IsVersion layout bytes) → Header bytes
-begun bytes short magic version = Begun short (λ fault h. none fault h) where
+begun : (bytes : List ℕ) → head_of bytes ≡ Short → length bytes < 24 → (4 ≤ length bytes → layout_of bytes ≡ None → ⊥) → (8 ≤ length bytes → (layout : Layout) → layout_of bytes ≡ Some layout → IsVersion layout bytes) → Header bytes
+begun bytes is short magic version = Begun is short (λ fault h. none fault h) where
   none : (fault : PcapFault) → HasHeaderFault bytes fault → ⊥
   none BadMagic h = magic h.size h.magic
   none BadVersion h = h.version (version h.size h.layout h.magic)
@@ -155,41 +185,42 @@ begun bytes short magic version = Begun short (λ fault h. none fault h) where
   none TooManyBytes h = h
   none Memory h = h
 
-is_version : (layout : Layout) (bytes : List ℕ) → IsVersion layout bytes ⊎ (IsVersion layout bytes → ⊥)
-is_version layout bytes = elim (cases_eq (number_in layout.order 2 (drop 4 bytes)) 2) [
+version_case : (layout : Layout) (bytes : List ℕ) → (IsVersion layout bytes × (is_version layout bytes ≡ true)) ⊎ ((IsVersion layout bytes → ⊥) × (is_version layout bytes ≡ false))
+version_case layout bytes = elim (cases_eq (number_in layout.order 2 (drop 4 bytes)) 2) [
   | inl major ↦ elim (cases_eq (number_in layout.order 2 (drop 6 bytes)) 4) [
-    | inl minor ↦ inl (record { major = major; minor = minor })
-    | inr minor ↦ inr (λ v. minor v.minor)
+    | inl minor ↦ inl (record { major = major; minor = minor }, rw (major, minor) refl)
+    | inr minor ↦ inr ((λ v. minor v.minor), rw (major, not_same (number_in layout.order 2 (drop 6 bytes)) 4 minor) refl)
   ]
-  | inr major ↦ inr (λ v. major v.major)
+  | inr major ↦ inr ((λ v. major v.major), rw (not_same (number_in layout.order 2 (drop 4 bytes)) 2 major) refl)
 ]
 
-by_link : (layout : Layout) (bytes : List ℕ) (lawful : Bool) → 24 ≤ length bytes → layout_of bytes ≡ Some layout → IsVersion layout bytes → is_link (link_at layout bytes) ≡ lawful → Header bytes
-by_link layout bytes true size magic version link =
-    Whole (record { layout = layout; link = link_at layout bytes }) (record { size = size; magic = magic; version = version; link = refl; lawful = link })
-by_link layout bytes false size magic version link = False BadLink (record { size = size; layout = layout; magic = magic; version = version; link = link })
+by_lawful : (layout : Layout) (bytes : List ℕ) (lawful : Bool) → head_of bytes ≡ by_link layout bytes → 24 ≤ length bytes → layout_of bytes ≡ Some layout → IsVersion layout bytes → is_link (link_at layout bytes) ≡ lawful → Header bytes
+by_lawful layout bytes true is size magic version link =
+    Whole (record { layout = layout; link = link_at layout bytes }) (is ∙ rw (not_below (length bytes) 24 size, link) refl) (record { size = size; magic = magic; version = version; link = refl; lawful = link })
+by_lawful layout bytes false is size magic version link =
+    False BadLink (is ∙ rw (not_below (length bytes) 24 size, link) refl) (record { size = size; layout = layout; magic = magic; version = version; link = link })
 
-with_version : (layout : Layout) (bytes : List ℕ) → 8 ≤ length bytes → layout_of bytes ≡ Some layout → IsVersion layout bytes → Header bytes
-with_version layout bytes size magic version = elim (cases_lt (length bytes) 24) [
-  | inl short ↦ begun bytes short (λ _ none. some_none layout (sym magic ∙ none)) (λ _ other is. subst (λ (l : Layout). IsVersion l bytes) (one_layout layout other bytes magic is) version)
-  | inr whole ↦ by_link layout bytes (is_link (link_at layout bytes)) whole magic version refl
+with_version : (layout : Layout) (bytes : List ℕ) → head_of bytes ≡ by_link layout bytes → 8 ≤ length bytes → layout_of bytes ≡ Some layout → IsVersion layout bytes → Header bytes
+with_version layout bytes is size magic version = elim (cases_lt (length bytes) 24) [
+  | inl short ↦ begun bytes (is ∙ rw (below (length bytes) 24 short) refl) short (λ _ none. some_none layout (sym magic ∙ none)) (λ _ other same. subst (λ (l : Layout). IsVersion l bytes) (one_layout layout other bytes magic same) version)
+  | inr whole ↦ by_lawful layout bytes (is_link (link_at layout bytes)) is whole magic version refl
 ]
 
 with_magic : (layout : Layout) (bytes : List ℕ) → 4 ≤ length bytes → layout_of bytes ≡ Some layout → Header bytes
 with_magic layout bytes size magic = elim (cases_lt (length bytes) 8) [
-  | inl short ↦ begun bytes (omega (arith, short)) (λ _ none. some_none layout (sym magic ∙ none)) (λ large other is. absurd (omega (arith, short, large)))
-  | inr large ↦ elim (is_version layout bytes) [
-    | inl version ↦ with_version layout bytes large magic version
-    | inr version ↦ False BadVersion (record { size = large; layout = layout; magic = magic; version = version })
+  | inl short ↦ begun bytes (head_by bytes (Some layout) size magic ∙ rw (below (length bytes) 8 short) refl) (omega (arith, short)) (λ _ none. some_none layout (sym magic ∙ none)) (λ large other is. absurd (omega (arith, short, large)))
+  | inr large ↦ elim (version_case layout bytes) [
+    | inl version ↦ with_version layout bytes (head_by bytes (Some layout) size magic ∙ rw (not_below (length bytes) 8 large, version.1) refl) large magic version.0
+    | inr version ↦ False BadVersion (head_by bytes (Some layout) size magic ∙ rw (not_below (length bytes) 8 large, version.1) refl) (record { size = large; layout = layout; magic = magic; version = version.0 })
   ]
 ]
 
 by_magic : (bytes : List ℕ) (found : Option Layout) → 4 ≤ length bytes → layout_of bytes ≡ found → Header bytes
-by_magic bytes None size magic = False BadMagic (record { size = size; magic = magic })
+by_magic bytes None size magic = False BadMagic (head_by bytes None size magic) (record { size = size; magic = magic })
 by_magic bytes (Some layout) size magic = with_magic layout bytes size magic
 
 pub header_of : (bytes : List ℕ) → Header bytes
 header_of bytes = elim (cases_lt (length bytes) 4) [
-  | inl short ↦ begun bytes (omega (arith, short)) (λ large. absurd (omega (arith, short, large))) (λ large. absurd (omega (arith, short, large)))
+  | inl short ↦ begun bytes (head_few bytes short) (omega (arith, short)) (λ large. absurd (omega (arith, short, large))) (λ large. absurd (omega (arith, short, large)))
   | inr size ↦ by_magic bytes (layout_of bytes) size refl
 ]

@@ -1,5 +1,6 @@
 -- Captures in the libpcap file format 2.4 (pcap savefile, pcap-savefile(5)), as whole files.
-use Rattle.std.specs.Prelude.{◌≡◌, ◌⊎◌, ℕ, ◌+◌, ◌*◌, ◌^◌, ◌%◌, ◌<◌, ◌≤◌, ◌==◌, Bool, true, false, ◌||◌, if◌then◌else◌, List, [], ◌∷◌, length, take, drop, slice_range, Option, Some, None}
+use Rattle.std.specs.Prelude.{◌≡◌, ◌⊎◌, ℕ, ◌+◌, ◌*◌, ◌^◌, ◌%◌, ◌<◌, ◌≤◌, ◌==◌, Bool, true, false, ◌||◌, if◌then◌else◌, List, [], ◌∷◌, length, drop, slice_range, Option, Some, None}
+use Rattle.cf_stream.specs.Format.{seen}
 use Rattle.byteorder.specs.Endian.{little_number, big_number}
 use Rattle.cf_pcap.specs.declared.form.Order.{Order}
 use Rattle.cf_pcap.specs.declared.form.Order.TheVariants.{Little, Big}
@@ -53,56 +54,56 @@ abbrev pub is_link : ℕ → Bool
 is_link link = link == 1 || link == 113
 
 -- a file header of 24 bytes stands at the front, of a lawful link. The time zone, the accuracy and the snapshot length are ignored.
-pub record IsFileHeader (form : FileHeader) (bytes : List ℕ) : Type 0 where
+pub record IsFileHeader (header : FileHeader) (bytes : List ℕ) : Type 0 where
   pub size : 24 ≤ length bytes
-  pub magic : layout_of bytes ≡ Some form.layout
-  pub version : IsVersion form.layout bytes
-  pub link : form.link ≡ link_at form.layout bytes
-  pub lawful : is_link form.link ≡ true
+  pub magic : layout_of bytes ≡ Some header.layout
+  pub version : IsVersion header.layout bytes
+  pub link : header.link ≡ link_at header.layout bytes
+  pub lawful : is_link header.link ≡ true
 
 -- the captured length that the record header at the front states
 abbrev pub caplen_at : FileHeader → List ℕ → ℕ
-caplen_at form bytes = number_in form.layout.order 4 (drop 8 bytes)
+caplen_at header bytes = number_in header.layout.order 4 (drop 8 bytes)
 
 -- a lawful record stands whole at the front: a header of 16 bytes, and as many bytes as it states
-pub record HasRecord (form : FileHeader) (bytes : List ℕ) : Type 0 where
-  pub short : caplen_at form bytes ≤ 262144
-  pub whole : 16 + caplen_at form bytes ≤ length bytes
+pub record HasRecord (header : FileHeader) (bytes : List ℕ) : Type 0 where
+  pub short : caplen_at header bytes ≤ 262144
+  pub whole : 16 + caplen_at header bytes ≤ length bytes
 
 -- a record header that states more bytes than a record may hold
-pub record HasLongRecord (form : FileHeader) (bytes : List ℕ) : Type 0 where
+pub record HasLongRecord (header : FileHeader) (bytes : List ℕ) : Type 0 where
   pub head : 16 ≤ length bytes
-  pub long : 262144 < caplen_at form bytes
+  pub long : 262144 < caplen_at header bytes
 
 -- the frame of the record at the front, as number k: seconds and their fraction, the captured length, the length on the
 -- wire, the link of the file, the captured bytes
 abbrev pub frame_at : FileHeader → ℕ → List ℕ → FrameValue
-frame_at form k bytes = record {
+frame_at header k bytes = record {
   num = k;
-  ts = number_in form.layout.order 4 bytes * 10 ^ 9 + number_in form.layout.order 4 (drop 4 bytes) * tick_of form.layout.precision;
-  caplen = caplen_at form bytes;
-  len = number_in form.layout.order 4 (drop 12 bytes);
-  link = form.link;
-  bytes = slice_range bytes 16 (16 + caplen_at form bytes);
+  ts = number_in header.layout.order 4 bytes * 10 ^ 9 + number_in header.layout.order 4 (drop 4 bytes) * tick_of header.layout.precision;
+  caplen = caplen_at header bytes;
+  len = number_in header.layout.order 4 (drop 12 bytes);
+  link = header.link;
+  bytes = slice_range bytes 16 (16 + caplen_at header bytes);
 }
 
 -- the bytes are the records of these frames end to end, numbered from k, and then the rest
 abbrev pub AreRecordsThen : FileHeader → ℕ → List FrameValue → List ℕ → List ℕ → Type 0
-AreRecordsThen form k [] bytes rest = bytes ≡ rest
-AreRecordsThen form k (frame ∷ frames) bytes rest =
-    HasRecord form bytes × (frame ≡ frame_at form k bytes)
-    × AreRecordsThen form (k + 1) frames (drop (16 + caplen_at form bytes) bytes) rest
+AreRecordsThen header k [] bytes rest = bytes ≡ rest
+AreRecordsThen header k (frame ∷ frames) bytes rest =
+    HasRecord header bytes × (frame ≡ frame_at header k bytes)
+    × AreRecordsThen header (k + 1) frames (drop (16 + caplen_at header bytes) bytes) rest
 
 -- a file header, the records of these frames, and then the rest
-pub record IsReadTo (form : FileHeader) (bytes : List ℕ) (frames : List FrameValue) (rest : List ℕ) : Type 0 where
-  pub header : IsFileHeader form bytes
-  pub records : AreRecordsThen form 0 frames (drop 24 bytes) rest
+pub record IsReadTo (header : FileHeader) (bytes : List ℕ) (frames : List FrameValue) (rest : List ℕ) : Type 0 where
+  pub begin : IsFileHeader header bytes
+  pub records : AreRecordsThen header 0 frames (drop 24 bytes) rest
 
 -- a file below 2^32 bytes is a capture of these frames: a file header and their records, and nothing else
 pub record IsCapture (file : List ℕ) (frames : List FrameValue) : Type 0 where
   pub size : length file < 2 ^ 32
-  pub form : FileHeader
-  pub whole : IsReadTo form file frames []
+  pub header : FileHeader
+  pub whole : IsReadTo header file frames []
 
 -- Faults. The magic is found false after 4 bytes, the version after 8, the link after 24, and a captured length after
 -- the 16 bytes of its record header.
@@ -126,12 +127,12 @@ pub record HasBadLink (bytes : List ℕ) : Type 0 where
 
 -- after k whole records
 pub record HasLongFrame (k : ℕ) (bytes : List ℕ) : Type 0 where
-  pub form : FileHeader
+  pub header : FileHeader
   pub frames : List FrameValue
   pub rest : List ℕ
-  pub read : IsReadTo form bytes frames rest
+  pub read : IsReadTo header bytes frames rest
   pub number_is : k ≡ length frames
-  pub long : HasLongRecord form rest
+  pub long : HasLongRecord header rest
 
 -- a fault that these bytes show, whatever comes after them
 abbrev pub Shows : List ℕ → PcapFault → Type 0
@@ -142,10 +143,6 @@ Shows bytes (FrameTooLong k) = HasLongFrame k bytes
 Shows bytes (Cut k) = ⊥
 Shows bytes TooManyBytes = ⊥
 Shows bytes Memory = ⊥
-
--- what counts of a file: its first 2^32 bytes
-unfoldable pub seen : List ℕ → List ℕ
-seen file = take (2 ^ 32) file
 
 -- 2^32 bytes or more, and the first 2^32 show no fault
 pub record HasTooManyBytes (file : List ℕ) : Type 0 where
@@ -159,13 +156,13 @@ pub record EndsInHeader (k : ℕ) (file : List ℕ) : Type 0 where
 
 -- after k whole records something is left, which is no whole record
 pub record EndsInRecord (k : ℕ) (file : List ℕ) : Type 0 where
-  pub form : FileHeader
+  pub header : FileHeader
   pub frames : List FrameValue
   pub rest : List ℕ
-  pub read : IsReadTo form file frames rest
+  pub read : IsReadTo header file frames rest
   pub number_is : k ≡ length frames
   pub left : 0 < length rest
-  pub part : HasRecord form rest → ⊥
+  pub part : HasRecord header rest → ⊥
 
 -- a file below 2^32 bytes that shows no fault ends too early
 pub record IsCut (k : ℕ) (file : List ℕ) : Type 0 where

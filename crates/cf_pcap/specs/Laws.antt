@@ -1,8 +1,10 @@
 -- Each file has one meaning.
 use Rattle.std.specs.Prelude.{◌≡◌, ◌⊎◌, ℕ, List}
+use Rattle.cf_stream.specs.Format.{IsWhole, HasFault}
+use Rattle.cf_stream.specs.Stream.{OneGift as OneGiftOf}
 use Rattle.cf_pcap.specs.declared.fault.PcapFault.{PcapFault}
 use Rattle.cf_pcap.specs.Capture.{FrameValue, IsCapture, HasPcapFault}
-use Rattle.cf_pcap.specs.Stream.{AreGiven}
+use Rattle.cf_pcap.specs.File.{pcap}
 
 -- a file is a capture or has a fault, never both, and of one list of frames or by one fault alone
 pub record OneCase (file : List ℕ) : Type 0 where
@@ -12,6 +14,12 @@ pub record OneCase (file : List ℕ) : Type 0 where
   pub one_fault : (a b : PcapFault) → HasPcapFault file a → HasPcapFault file b → a ≡ b
 
 -- a stream gives one list of frames
-pub record OneGift (stream : List ℕ) : Type 0 where
-  pub some : (frames : List FrameValue) × AreGiven stream frames
-  pub one : (a b : List FrameValue) → AreGiven stream a → AreGiven stream b → a ≡ b
+abbrev pub OneGift : List ℕ → Type 0
+OneGift stream = OneGiftOf pcap stream
+
+-- by its units a file is whole, or has a fault, just where it is a capture, or has that fault
+pub record JudgedAlike (file : List ℕ) : Type 0 where
+  pub capture : (frames : List FrameValue) → IsWhole pcap file frames → IsCapture file frames
+  pub is_capture : (frames : List FrameValue) → IsCapture file frames → IsWhole pcap file frames
+  pub fault : (fault : PcapFault) → HasFault pcap file fault → HasPcapFault file fault
+  pub is_fault : (fault : PcapFault) → HasPcapFault file fault → HasFault pcap file fault

@@ -4,15 +4,20 @@
 mod fault;
 mod form;
 mod frame;
+mod head;
 mod laws;
 mod reader;
 mod records;
 mod stage;
+mod taking;
 
 pub use fault::PcapFault;
 pub use form::Order;
 pub use frame::Frame;
-pub use laws::{a_found_fault_stays, each_file_is_in_one_case, each_stream_gives_one_list};
+pub use laws::{
+    a_found_fault_stays, each_file_is_in_one_case, each_stream_gives_one_list,
+    files_are_judged_alike,
+};
 pub use reader::Pcap;
 
 #[cfg(test)]

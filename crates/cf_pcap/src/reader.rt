@@ -1,11 +1,11 @@
 // The reader of a capture, which comes in pieces.
-ghost use Rattle.std.specs.Prelude.{◌≡◌, ◌≢◌, ℕ, List, [], ◌++◌, ◌<◌, ◌≤◌, ◌^◌, ◌+◌, ◌-◌, ◌*◌, length, take, drop, min, IfOk, OnErr, Ok, Err};
+ghost use Rattle.std.specs.Prelude.{◌≡◌, ◌≢◌, ℕ, List, [], ◌++◌, ◌<◌, ◌≤◌, ◌^◌, ◌+◌, ◌-◌, ◌*◌, length, take, min, IfOk, OnErr, Err};
 ghost use Rattle.cf_pcap.specs.Capture.{FrameValue};
-ghost use Rattle.cf_pcap.specs.Reading.{IsGoneOn, Runs};
 ghost use Rattle.cf_pcap.specs.Stream.{IsStateOf, IsFed, IsEnded, AnswersFound};
 
-use crate::records::go_on;
-use crate::stage::{LIMIT, Stage, answer_of, drop_front, keep, late_of, stage_at};
+use crate::form::FileHeader;
+use crate::stage::{Stage, answer_of};
+use crate::taking::{LIMIT, late_of, take_in};
 use crate::{Frame, PcapFault};
 use std::alloc::{AllocError, Global};
 use std::marker::Model;
@@ -18,7 +18,9 @@ pub struct Pcap {
     stage: Stage,
     // How many bytes were taken, while the reader runs.
     total: usize,
-    // How many frames were given, while the reader runs.
+    // What the file header states, once that was read.
+    header: Option<FileHeader>,
+    // How many frames were given.
     count: u32,
     held: Vec<u8>,
 }
@@ -28,9 +30,9 @@ impl Model for Pcap {
 
     ghost Value = { PcapValue };
 
-    ghost view = { λ p. record { stage = p.stage; total = p.total; count = p.count; held = p.held.items } };
+    ghost view = { λ p. record { stage = p.stage; total = p.total; state = record { header = p.header; count = p.count }; held = p.held.items } };
 
-    ghost invariant = { λ p. IsSound (record { stage = p.stage; total = p.total; count = p.count; held = p.held.items }) };
+    ghost invariant = { λ p. IsSound (record { stage = p.stage; total = p.total; state = record { header = p.header; count = p.count }; held = p.held.items }) };
 }
 
 // The first bytes of a piece, that many at most.
@@ -43,69 +45,6 @@ fn front(piece: &[u8], most: usize) -> &[u8]
     piece.split_at(most).0
 }
 
-// What the bytes at hand gave: how many frames, and how many of the bytes are read.
-#[derive(Clone, Copy)]
-struct Given {
-    stage: Stage,
-    count: usize,
-    used: usize,
-}
-
-// Reads the bytes at hand, and adds their frames to `out`.
-fn give(
-    alloc: Global,
-    stage: Stage,
-    num: u32,
-    late: usize,
-    bytes: &[u8],
-    out: &mut Vec<Frame>,
-) -> Result<Given, AllocError>
-    requires runs { Runs stage late (length bytes.now) }
-    requires room { 16 * num + length bytes.now ≤ 2 ^ 32 }
-    ensures given { IfOk result (λ given. (frames : List FrameValue) × (out.new.items ≡ out.old.items ++ frames) × (given.count ≡ length frames) × IsGoneOn stage num late bytes.now frames (drop given.used bytes.now) given.stage) }
-    ensures used { IfOk result (λ given. given.used ≤ length bytes.now) }
-    ensures memory { OnErr result (out.new.items ≡ out.old.items) }
-{
-    let mut read = go_on(alloc, stage, num, late, bytes)?;
-    let count = read.frames.len();
-    out.append(&mut read.frames)?;
-    Ok(Given {
-        stage: read.stage,
-        count,
-        used: read.used,
-    })
-}
-
-// Reads the bytes that are held and those that come, adds their frames to `out`, and holds what is left. Where memory is
-// wanting it does none of this.
-fn take_in(
-    alloc: Global,
-    stage: Stage,
-    num: u32,
-    late: usize,
-    held: &mut Vec<u8>,
-    more: &[u8],
-    out: &mut Vec<Frame>,
-) -> Result<Given, AllocError>
-    requires runs { Runs stage late (length held.old.items + length more.now) }
-    requires room { 16 * num + (length held.old.items + length more.now) ≤ 2 ^ 32 }
-    ensures given { IfOk result (λ given. (frames : List FrameValue) × (out.new.items ≡ out.old.items ++ frames) × (given.count ≡ length frames) × IsGoneOn stage num late (held.old.items ++ more.now) frames held.new.items given.stage) }
-    ensures memory { OnErr result ((out.new.items ≡ out.old.items) × (held.new.items ≡ held.old.items)) }
-{
-    let before = held.len();
-    held.extend_from_slice(more)?;
-    match give(alloc, stage, num, late, held, out) {
-        Ok(given) => {
-            drop_front(held, given.used);
-            Ok(given)
-        }
-        Err(wanting) => {
-            held.truncate(before);
-            Err(wanting)
-        }
-    }
-}
-
 impl Pcap {
     /// A reader that was fed nothing yet.
     pub fn new(alloc: Global) -> Result<Self, AllocError>
@@ -113,8 +52,9 @@ impl Pcap {
     {
         Ok(Pcap {
             alloc,
-            stage: Stage::Heading,
+            stage: Stage::Running,
             total: 0,
+            header: None,
             count: 0,
             held: Vec::new(alloc),
         })
@@ -134,21 +74,20 @@ impl Pcap {
             return Err(fault);
         }
         let taken = front(piece, LIMIT - self.total);
-        let total = self.total + taken.len();
-        let late = late_of(total);
+        let late = late_of(self.total + taken.len());
         let given = take_in(
             self.alloc,
-            self.stage,
+            self.header,
             self.count,
             late,
             &mut self.held,
             taken,
             out,
         )?;
-        self.stage = stage_at(given.stage, total);
-        self.total = total;
-        self.count += given.count as u32;
-        keep(self.alloc, self.stage, &mut self.held);
+        self.stage = given.stage;
+        self.total += taken.len();
+        self.header = given.header;
+        self.count = given.count;
         answer_of(self.stage)
     }
 
@@ -166,10 +105,9 @@ impl Pcap {
         ensures no_memory { result ≢ Err PcapFault.Memory }
     {
         match self.stage {
-            Stage::Heading => Err(PcapFault::Cut(0)),
-            Stage::Reading(_) if self.held.is_empty() => Ok(self.count),
-            Stage::Reading(_) => Err(PcapFault::Cut(self.count)),
             Stage::Stopped(fault) => Err(fault),
+            Stage::Running if self.header.is_some() && self.held.is_empty() => Ok(self.count),
+            Stage::Running => Err(PcapFault::Cut(self.count)),
         }
     }
 }

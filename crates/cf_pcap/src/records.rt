@@ -1,10 +1,10 @@
-// The records of a capture.
-ghost use Rattle.std.specs.Prelude.{◌≡◌, ℕ, List, ◌<◌, ◌≤◌, ◌+◌, ◌*◌, ◌^◌, drop, length, IfOk, true, false};
+// The file header and the records of a capture.
+ghost use Rattle.std.specs.Prelude.{◌≡◌, ℕ, List, ◌<◌, ◌≤◌, ◌+◌, ◌*◌, ◌^◌, Some, None, drop, length, IfOk, true, false};
 ghost use Rattle.cf_pcap.specs.Capture.{FrameValue, HasRecord, HasLongRecord, frame_at, caplen_at};
-ghost use Rattle.cf_pcap.specs.Reading.{AreRead, IsBegun, IsGoneOn, Runs};
+ghost use Rattle.cf_pcap.specs.Reading.{state_of, AreRead, IsFaultAt};
 
 use crate::form::FileHeader;
-use crate::stage::{HEADER, Stage, header_stage};
+use crate::head::{HEADER, Head, head_of};
 use crate::{Frame, PcapFault};
 use std::alloc::{AllocError, Global};
 
@@ -14,10 +14,10 @@ pub(crate) const HEAD: usize = 16;
 /// The most bytes that a record may hold of its frame.
 const LONGEST: u32 = 262_144;
 
-/// What was read of some bytes: the frames, and how many of the bytes are read. What is left has no whole record.
+/// What was read of some bytes: what the file header states, the frames, and how many of the bytes these take.
 #[derive(Drop)]
 pub(crate) struct Read {
-    pub stage: Stage,
+    pub header: Option<FileHeader>,
     pub frames: Vec<Frame>,
     pub used: usize,
 }
@@ -30,18 +30,16 @@ fn caplen_of(header: FileHeader, bytes: &[u8]) -> u32
     header.layout.order.read_u32(&bytes[8..])
 }
 
-// Whether a lawful record stands whole at the front, and ends before the bytes that come too late.
-fn has_record(header: FileHeader, late: usize, bytes: &[u8]) -> bool
-    requires { late ≤ length bytes.now }
+// Whether a lawful record stands whole at the front.
+fn has_record(header: FileHeader, bytes: &[u8]) -> bool
     ensures yes { result ≡ true → HasRecord header bytes.now }
-    ensures early { result ≡ true → 16 + caplen_at header bytes.now + late ≤ length bytes.now }
-    ensures no { result ≡ false → HasRecord header bytes.now → length bytes.now < 16 + caplen_at header bytes.now + late }
+    ensures no { result ≡ false → HasRecord header bytes.now → ⊥ }
 {
     if bytes.len() < HEAD {
         return false;
     }
     let caplen = caplen_of(header, bytes);
-    caplen <= LONGEST && HEAD + caplen as usize <= bytes.len() - late
+    caplen <= LONGEST && HEAD + caplen as usize <= bytes.len()
 }
 
 // Whether a record header at the front states too many bytes.
@@ -79,75 +77,79 @@ fn first_frame(
     })
 }
 
-// The frames of the records at the front, from this number on. So many of the last bytes come too late for one.
+// Reads the records at the front, from this number on.
 fn read_records(
     alloc: Global,
     header: FileHeader,
     num: u32,
-    late: usize,
     bytes: &[u8],
 ) -> Result<Read, AllocError>
-    requires late { late ≤ length bytes.now }
-    requires room { 16 * num + length bytes.now ≤ 2 ^ 32 }
-    ensures read { IfOk result (λ read. AreRead header num late bytes.now read.frames.items (drop read.used bytes.now) read.stage) }
-    ensures used { IfOk result (λ read. read.used ≤ length bytes.now) }
+    requires { 16 * num + length bytes.now ≤ 2 ^ 32 }
+    ensures read { IfOk result (λ read. AreRead (state_of (Some header) num) bytes.now read.frames.items (state_of read.header (num + length read.frames.items)) (drop read.used bytes.now)) }
+    ensures used { IfOk result (λ read. (16 * length read.frames.items ≤ read.used) × (read.used ≤ length bytes.now)) }
 {
     let mut frames = Vec::new(alloc);
     let mut rest = bytes;
-    while has_record(header, late, rest) {
+    while has_record(header, rest) {
         let frame = first_frame(alloc, header, num + frames.len() as u32, rest)?;
         let end = frame.record_len();
         frames.push(frame)?;
         rest = rest.split_at(end).1;
     }
-    let stage = if is_too_long(header, rest) {
-        Stage::Stopped(PcapFault::FrameTooLong(num + frames.len() as u32))
-    } else {
-        Stage::Reading(header)
-    };
     Ok(Read {
-        stage,
+        header: Some(header),
         frames,
         used: bytes.len() - rest.len(),
     })
 }
 
-// Reads the first bytes of a stream.
-fn read_first(alloc: Global, late: usize, bytes: &[u8]) -> Result<Read, AllocError>
-    requires late { 25 * late ≤ length bytes.now }
-    requires room { length bytes.now ≤ 2 ^ 32 }
-    ensures read { IfOk result (λ read. IsBegun late bytes.now read.frames.items (drop read.used bytes.now) read.stage) }
-    ensures used { IfOk result (λ read. read.used ≤ length bytes.now) }
+// Reads the first bytes of a file.
+fn read_first(alloc: Global, num: u32, bytes: &[u8]) -> Result<Read, AllocError>
+    requires { 16 * num + length bytes.now ≤ 2 ^ 32 }
+    ensures read { IfOk result (λ read. AreRead (state_of None num) bytes.now read.frames.items (state_of read.header (num + length read.frames.items)) (drop read.used bytes.now)) }
+    ensures used { IfOk result (λ read. (16 * length read.frames.items ≤ read.used) × (read.used ≤ length bytes.now)) }
 {
-    match header_stage(bytes) {
-        Stage::Reading(header) => {
-            let mut read = read_records(alloc, header, 0, late, bytes.split_at(HEADER).1)?;
+    match head_of(bytes) {
+        Head::Stands(header) => {
+            let mut read = read_records(alloc, header, num, bytes.split_at(HEADER).1)?;
             read.used += HEADER;
             Ok(read)
         }
-        stage => Ok(Read {
-            stage,
+        _ => Ok(Read {
+            header: None,
             frames: Vec::new(alloc),
             used: 0,
         }),
     }
 }
 
-// Reads the bytes after those that the reader had, which hold a record's begin.
+// Reads the bytes that come after so many frames, of a file whose header states this, if it was read.
 pub(crate) fn go_on(
     alloc: Global,
-    stage: Stage,
+    header: Option<FileHeader>,
     num: u32,
-    late: usize,
     bytes: &[u8],
 ) -> Result<Read, AllocError>
-    requires runs { Runs stage late (length bytes.now) }
-    requires room { 16 * num + length bytes.now ≤ 2 ^ 32 }
-    ensures read { IfOk result (λ read. IsGoneOn stage num late bytes.now read.frames.items (drop read.used bytes.now) read.stage) }
-    ensures used { IfOk result (λ read. read.used ≤ length bytes.now) }
+    requires { 16 * num + length bytes.now ≤ 2 ^ 32 }
+    ensures read { IfOk result (λ read. AreRead (state_of header num) bytes.now read.frames.items (state_of read.header (num + length read.frames.items)) (drop read.used bytes.now)) }
+    ensures used { IfOk result (λ read. (16 * length read.frames.items ≤ read.used) × (read.used ≤ length bytes.now)) }
 {
-    match stage {
-        Stage::Reading(header) => read_records(alloc, header, num, late, bytes),
-        _ => read_first(alloc, late, bytes),
+    match header {
+        Some(header) => read_records(alloc, header, num, bytes),
+        None => read_first(alloc, num, bytes),
+    }
+}
+
+// The fault that the bytes at the front show.
+pub(crate) fn fault_at(header: Option<FileHeader>, num: u32, bytes: &[u8]) -> Option<PcapFault>
+    ensures { IsFaultAt (state_of header num) bytes.now result }
+{
+    match header {
+        Some(header) if is_too_long(header, bytes) => Some(PcapFault::FrameTooLong(num)),
+        Some(_) => None,
+        None => match head_of(bytes) {
+            Head::Faulty(fault) => Some(fault),
+            _ => None,
+        },
     }
 }

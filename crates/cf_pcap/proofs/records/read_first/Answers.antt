@@ -1,14 +1,27 @@
-use Rattle.std.proofs.Common.{◌≡◌, inl, ℕ, List, ◌+◌, drop, ap, subst, ◌∙◌, arith}
+use Rattle.std.proofs.Common.{◌≡◌, ℕ, List, ◌+◌, Some, length, drop, sym, ap, subst, ◌∙◌, arith}
 use Rattle.std.proofs.lemmas.List.{drop-drop}
-use Rattle.cf_pcap.specs.Reading.{AreRead}
+use Rattle.cf_pcap.specs.Reading.{state_of, AreRead}
+use Rattle.cf_pcap.proofs.Heading.{header_of}
+use Rattle.cf_pcap.proofs.Units.{after_head, header_at, nothing_read}
 use Rattle.cf_pcap.proofs.records.read_first.Goals as goal
 
-pub returns-in_ok-read-in-Reading-clause-read : goal.returns-in_ok-read-in-Reading-clause-read
-returns-in_ok-read-in-Reading-clause-read c =
-    let header = c.in-Reading.header in
-    let read = c.in_ok-read-in-Reading.read in
+pub split_at-requires : goal.split_at-requires
+split_at-requires c = (header_at c.in-Stands.header c.args.bytes.now (header_of c.args.bytes.now) (sym c.in-Stands.ensures)).size
+
+pub returns-in_ok-read-in-Stands-clause-read : goal.returns-in_ok-read-in-Stands-clause-read
+returns-in_ok-read-in-Stands-clause-read c =
+    let header = c.in-Stands.header in
+    let read = c.in_ok-read-in-Stands.read in
     let bytes = c.args.bytes.now in
+    let t = state_of read.header (c.args.num + length read.frames.items) in
     let sum : 24 + read.used ≡ read.used + 24 = omega arith in
     let left : drop read.used (drop 24 bytes) ≡ drop (read.used + 24) bytes = drop-drop read.used 24 bytes ∙ ap (λ n. drop n bytes) sum in
-    let back : AreRead header 0 c.args.late (drop 24 bytes) read.frames.items (drop read.used (drop 24 bytes)) read.stage = subst (λ (xs : List ℕ). AreRead header 0 c.args.late xs read.frames.items (drop read.used xs) read.stage) c.split_at.ensures.back c.in_ok-read-in-Reading.ensures.read in
-    inl (header, c.in-Reading.ensures, subst (λ (xs : List ℕ). AreRead header 0 c.args.late (drop 24 bytes) read.frames.items xs read.stage) left back)
+    let back : AreRead (state_of (Some header) c.args.num) (drop 24 bytes) read.frames.items t (drop read.used (drop 24 bytes)) = subst (λ (xs : List ℕ). AreRead (state_of (Some header) c.args.num) xs read.frames.items t (drop read.used xs)) c.split_at.ensures.back c.in_ok-read-in-Stands.ensures.read in
+    after_head header c.args.num bytes read.frames.items t (drop (read.used + 24) bytes) (sym c.in-Stands.ensures) (subst (λ (xs : List ℕ). AreRead (state_of (Some header) c.args.num) (drop 24 bytes) read.frames.items t xs) left back)
+
+pub returns-in_default : goal.returns-in_default
+returns-in_default c =
+    let many : length c.new.result.items ≡ 0 = ap length c.new.ensures.items in record {
+      read = nothing_read c.args.num c.args.bytes.now c.new.result.items c.new.ensures.items (λ header is. c.in_default.not-Stands header (c.head_of.ensures ∙ is));
+      used = (omega (arith, many), omega arith);
+    }

@@ -1,11 +1,12 @@
-use Rattle.std.proofs.Common.{◌≡◌, length, drop, ◌≤◌, ◌+◌, ◌-◌, ◌*◌}
-use Rattle.cf_pcap.specs.Capture.{AreRecordsThen}
+use Rattle.std.proofs.Common.{◌≡◌, length, drop, ◌≤◌, ◌+◌, ◌-◌, ◌*◌, Some}
+use Rattle.cf_stream.specs.Format.{ReadsTo}
+use Rattle.cf_pcap.specs.File.{pcap}
+use Rattle.cf_pcap.specs.Reading.{state_of}
 use Rattle.cf_pcap.proofs.records.read_records.Given as goal
 
 abbrev pub invariant-loop-alloc : goal.invariant-loop-alloc
 invariant-loop-alloc l = record {
-  records : AreRecordsThen l.header l.num l.frames.items l.bytes l.rest;
-  early : l.late ≤ length l.rest;
+  read : ReadsTo pcap (state_of (Some l.header) l.num) l.bytes l.frames.items (state_of (Some l.header) (l.num + length l.frames.items)) l.rest;
   few : 16 * length l.frames.items + length l.rest ≤ length l.bytes;
   back : l.rest ≡ drop (length l.bytes - length l.rest) l.bytes;
 }

@@ -1,0 +1,70 @@
+-- Captures as units end to end: a file header, and then records. `IsCapture` says without units what a capture is.
+use Rattle.std.specs.Prelude.{ℕ, ◌+◌, ◌==◌, ◌&&◌, nat_lt, if◌then◌else◌, Bool, is_some, List, [], ◌∷◌, length, drop, Option, Some, None}
+use Rattle.cf_stream.specs.Format.{Found, Wants, Bad, Takes, Format}
+use Rattle.cf_pcap.specs.declared.form.Layout.{Layout}
+use Rattle.cf_pcap.specs.declared.form.FileHeader.{FileHeader}
+use Rattle.cf_pcap.specs.declared.fault.PcapFault.{PcapFault}
+use Rattle.cf_pcap.specs.declared.fault.PcapFault.TheVariants.{BadMagic, BadVersion, BadLink, FrameTooLong, Cut, TooManyBytes}
+use Rattle.cf_pcap.specs.declared.head.Head.{Head}
+use Rattle.cf_pcap.specs.declared.head.Head.TheVariants.{Short, Faulty, Stands}
+use Rattle.cf_pcap.specs.Capture.{FrameValue, number_in, layout_of, link_at, is_link, caplen_at, frame_at}
+
+-- how far a file was read: what its header states, once that was read, and the number of frames
+pub record State : Type 0 where
+  pub header : Option FileHeader
+  pub count : ℕ
+
+-- the version is 2.4
+abbrev pub is_version : Layout → List ℕ → Bool
+is_version layout bytes = (number_in layout.order 2 (drop 4 bytes) == 2) && (number_in layout.order 2 (drop 6 bytes) == 4)
+
+-- what a file header shows whose version is right: its link after 24 bytes
+abbrev pub by_link : Layout → List ℕ → Head
+by_link layout bytes =
+    if nat_lt (length bytes) 24 then Short
+    else (if is_link (link_at layout bytes) then Stands (record { layout = layout; link = link_at layout bytes }) else Faulty BadLink)
+
+-- what one shows by its magic: its version after 8 bytes
+abbrev pub by_layout : Option Layout → List ℕ → Head
+by_layout None bytes = Faulty BadMagic
+by_layout (Some layout) bytes =
+    if nat_lt (length bytes) 8 then Short
+    else (if is_version layout bytes then by_link layout bytes else Faulty BadVersion)
+
+-- what the first bytes of a file show of its header: the magic after 4 bytes
+unfoldable pub head_of : List ℕ → Head
+head_of bytes = if nat_lt (length bytes) 4 then Short else by_layout (layout_of bytes) bytes
+
+-- a file header gives no frame
+abbrev pub head_found : ℕ → Head → Found State FrameValue PcapFault
+head_found k Short = Wants
+head_found k (Faulty fault) = Bad fault
+head_found k (Stands header) = Takes 24 [] (record { header = Some header; count = k })
+
+-- a record gives one, as number k: its captured length is known after 16 bytes
+abbrev pub record_found : FileHeader → ℕ → List ℕ → Found State FrameValue PcapFault
+record_found header k bytes =
+    if nat_lt (length bytes) 16 then Wants
+    else (if nat_lt 262144 (caplen_at header bytes) then Bad (FrameTooLong k)
+    else (if nat_lt (length bytes) (16 + caplen_at header bytes) then Wants
+    else Takes (16 + caplen_at header bytes) (frame_at header k bytes ∷ []) (record { header = Some header; count = k + 1 })))
+
+-- a file begins with its header
+abbrev pub found_at : Option FileHeader → ℕ → List ℕ → Found State FrameValue PcapFault
+found_at None k bytes = head_found k (head_of bytes)
+found_at (Some header) k bytes = record_found header k bytes
+
+-- what the bytes at the front show in a state: no whole header or record yet, a fault, or one of these
+unfoldable pub step : State → List ℕ → Found State FrameValue PcapFault
+step s bytes = found_at s.header s.count bytes
+
+-- pcap: a file header, and then records end to end
+abbrev pub pcap : Format State FrameValue PcapFault
+pcap = record {
+  start = record { header = None; count = 0 };
+  step = step;
+  count = λ s. s.count;
+  may_end = λ s. is_some s.header;
+  cut = λ s. Cut s.count;
+  too_many = TooManyBytes;
+}

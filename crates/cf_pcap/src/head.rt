@@ -1,0 +1,62 @@
+// The file header.
+ghost use Rattle.std.specs.Prelude.{◌≡◌, ◌≤◌, length};
+ghost use Rattle.cf_pcap.specs.File.{is_version as is_version_at, by_link as head_by_link, head_of as head_at};
+
+use crate::PcapFault;
+use crate::form::{FileHeader, Layout, is_link, layout_of};
+
+/// The length of the file header.
+pub(crate) const HEADER: usize = 24;
+
+/// What the first bytes of a file show of its header.
+#[derive(Clone, Copy, Debug, PartialEq, Eq)]
+pub(crate) enum Head {
+    /// Too few bytes.
+    Short,
+    /// No file header begins so.
+    Faulty(PcapFault),
+    /// The header is whole.
+    Stands(FileHeader),
+}
+
+// Whether the version is 2.4.
+fn is_version(layout: Layout, bytes: &[u8]) -> bool
+    requires { 8 ≤ length bytes.now }
+    ensures { result ≡ is_version_at layout bytes.now }
+{
+    layout.order.read_u16(&bytes[4..]) == 2 && layout.order.read_u16(&bytes[6..]) == 4
+}
+
+// What a header of this layout shows by its link.
+fn by_link(layout: Layout, bytes: &[u8]) -> Head
+    ensures { result ≡ head_by_link layout bytes.now }
+{
+    if bytes.len() < HEADER {
+        return Head::Short;
+    }
+    let link = (layout.order.read_u32(&bytes[20..]) % 65536) as u16;
+    if !is_link(link) {
+        return Head::Faulty(PcapFault::BadLink);
+    }
+    Head::Stands(FileHeader { layout, link })
+}
+
+// What the first bytes of a file show of its header.
+#[tactic(auto, unfolding(crate::specs::File::head_of))]
+pub(crate) fn head_of(bytes: &[u8]) -> Head
+    ensures { result ≡ head_at bytes.now }
+{
+    if bytes.len() < 4 {
+        return Head::Short;
+    }
+    let Some(layout) = layout_of(bytes) else {
+        return Head::Faulty(PcapFault::BadMagic);
+    };
+    if bytes.len() < 8 {
+        return Head::Short;
+    }
+    if !is_version(layout, bytes) {
+        return Head::Faulty(PcapFault::BadVersion);
+    }
+    by_link(layout, bytes)
+}
