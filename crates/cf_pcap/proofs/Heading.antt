@@ -2,6 +2,7 @@
 use Rattle.std.proofs.Common.{◌≡◌, ◌⊎◌, inl, inr, ℕ, ◌==◌, ◌<◌, ◌≤◌, ◌%◌, ◌^◌, nat_lt, Bool, true, false, List, ◌++◌, length, drop, Option, Some, None, refl, sym, ap, subst, ◌∙◌, arith, length-append}
 use Rattle.std.proofs.lemmas.Bool.{cases_lt, cases_eq, true≢false}
 use Rattle.std.proofs.lemmas.Bool.Decides.{nat_tests}
+use Rattle.cf_lemmas.proofs.Truths.{lt_true, lt_false}
 use Rattle.cf_pcap.specs.declared.form.Order.TheVariants.{Little, Big}
 use Rattle.cf_pcap.specs.declared.form.Layout.{Layout}
 use Rattle.cf_pcap.specs.declared.form.FileHeader.{FileHeader}
@@ -155,11 +156,8 @@ pub data Header (bytes : List ℕ) : Type 0 where
   False : (fault : PcapFault) → head_of bytes ≡ Faulty fault → HasHeaderFault bytes fault → Header bytes
   Begun : head_of bytes ≡ Short → length bytes < 24 → ((fault : PcapFault) → HasHeaderFault bytes fault → ⊥) → Header bytes
 
-pub below : (n m : ℕ) → n < m → nat_lt n m ≡ true
-below n m h = grind (arith, nat_tests)
-
 pub not_below : (n m : ℕ) → m ≤ n → nat_lt n m ≡ false
-not_below n m h = grind (arith, nat_tests)
+not_below n m h = lt_false n m (λ less. omega (arith, less, h))
 
 not_same : (n m : ℕ) → (n ≡ m → ⊥) → (n == m) ≡ false
 not_same n m h = grind (arith, nat_tests)
@@ -167,7 +165,7 @@ not_same n m h = grind (arith, nat_tests)
 -- what is shown of a header, by its length and its magic
 pub head_few : (bytes : List ℕ) → length bytes < 4 → head_of bytes ≡ Short
 unfolding head_of
-head_few bytes h = rw (below (length bytes) 4 h) refl
+head_few bytes h = rw (lt_true (length bytes) 4 h) refl
 
 head_by : (bytes : List ℕ) (layout : Option Layout) → 4 ≤ length bytes → layout_of bytes ≡ layout → head_of bytes ≡ by_layout layout bytes
 unfolding head_of
@@ -202,13 +200,13 @@ by_lawful layout bytes false is size magic version link =
 
 with_version : (layout : Layout) (bytes : List ℕ) → head_of bytes ≡ by_link layout bytes → 8 ≤ length bytes → layout_of bytes ≡ Some layout → IsVersion layout bytes → Header bytes
 with_version layout bytes is size magic version = elim (cases_lt (length bytes) 24) [
-  | inl short ↦ begun bytes (is ∙ rw (below (length bytes) 24 short) refl) short (λ _ none. some_none layout (sym magic ∙ none)) (λ _ other same. subst (λ (l : Layout). IsVersion l bytes) (one_layout layout other bytes magic same) version)
+  | inl short ↦ begun bytes (is ∙ rw (lt_true (length bytes) 24 short) refl) short (λ _ none. some_none layout (sym magic ∙ none)) (λ _ other same. subst (λ (l : Layout). IsVersion l bytes) (one_layout layout other bytes magic same) version)
   | inr whole ↦ by_lawful layout bytes (is_link (link_at layout bytes)) is whole magic version refl
 ]
 
 with_magic : (layout : Layout) (bytes : List ℕ) → 4 ≤ length bytes → layout_of bytes ≡ Some layout → Header bytes
 with_magic layout bytes size magic = elim (cases_lt (length bytes) 8) [
-  | inl short ↦ begun bytes (head_by bytes (Some layout) size magic ∙ rw (below (length bytes) 8 short) refl) (omega (arith, short)) (λ _ none. some_none layout (sym magic ∙ none)) (λ large other is. absurd (omega (arith, short, large)))
+  | inl short ↦ begun bytes (head_by bytes (Some layout) size magic ∙ rw (lt_true (length bytes) 8 short) refl) (omega (arith, short)) (λ _ none. some_none layout (sym magic ∙ none)) (λ large other is. absurd (omega (arith, short, large)))
   | inr large ↦ elim (version_case layout bytes) [
     | inl version ↦ with_version layout bytes (head_by bytes (Some layout) size magic ∙ rw (not_below (length bytes) 8 large, version.1) refl) large magic version.0
     | inr version ↦ False BadVersion (head_by bytes (Some layout) size magic ∙ rw (not_below (length bytes) 8 large, version.1) refl) (record { size = large; layout = layout; magic = magic; version = version.0 })

@@ -1,6 +1,7 @@
 -- What the bytes at the front show.
 use Rattle.std.proofs.Common.{◌≡◌, inl, inr, ℕ, ◌<◌, ◌≤◌, ◌+◌, ◌*◌, List, [], ◌∷◌, ◌++◌, length, Option, Some, None, refl, sym, ap, subst, ◌∙◌, arith}
 use Rattle.std.proofs.lemmas.Bool.{cases_lt}
+use Rattle.cf_lemmas.proofs.Truths.{lt_true}
 use Rattle.cf_stream.specs.Format.{Found, Wants, Bad, Takes}
 use Rattle.cf_stream.specs.Stream.{IsStepper}
 use Rattle.cf_pcap.specs.declared.form.FileHeader.{FileHeader}
@@ -12,7 +13,7 @@ use Rattle.cf_pcap.specs.Capture.{FrameValue, caplen_at, frame_at, IsFileHeader,
 use Rattle.cf_pcap.specs.File.{State, head_of, head_found, found_at, step, pcap}
 use Rattle.cf_pcap.specs.Reading.{state_of}
 use Rattle.cf_pcap.proofs.Following.{caplen_first, record_first, long_first, frame_first}
-use Rattle.cf_pcap.proofs.Heading.{HasHeaderFault, header_first, header_fault_first, one_header, no_header, one_header_fault, below, not_below, head_few, Header, Whole, False, Begun, header_of}
+use Rattle.cf_pcap.proofs.Heading.{HasHeaderFault, header_first, header_fault_first, one_header, no_header, one_header_fault, not_below, head_few, Header, Whole, False, Begun, header_of}
 
 abbrev pub Shown : Type 0
 Shown = Found State FrameValue PcapFault
@@ -77,7 +78,7 @@ found_record header k bytes h =
     rw (not_below (length bytes) 16 (omega (arith, whole)), not_below 262144 (caplen_at header bytes) short, not_below (length bytes) (16 + caplen_at header bytes) whole) refl
 
 pub found_long : (header : FileHeader) (k : ℕ) (bytes : List ℕ) → HasLongRecord header bytes → found_at (Some header) k bytes ≡ Bad (FrameTooLong k)
-found_long header k bytes h = rw (not_below (length bytes) 16 h.head, below 262144 (caplen_at header bytes) h.long) refl
+found_long header k bytes h = rw (not_below (length bytes) 16 h.head, lt_true 262144 (caplen_at header bytes) h.long) refl
 
 -- what stands where a record may
 pub data Record (header : FileHeader) (bytes : List ℕ) : Type 0 where
@@ -87,11 +88,11 @@ pub data Record (header : FileHeader) (bytes : List ℕ) : Type 0 where
 
 pub record_of : (header : FileHeader) (bytes : List ℕ) → Record header bytes
 record_of header bytes = elim (cases_lt (length bytes) 16) [
-  | inl few ↦ IsPart (λ h. let whole : 16 + caplen_at header bytes ≤ length bytes = h.whole in omega (arith, few, whole)) (λ h. let head : 16 ≤ length bytes = h.head in omega (arith, few, head)) (λ k. rw (below (length bytes) 16 few) refl)
+  | inl few ↦ IsPart (λ h. let whole : 16 + caplen_at header bytes ≤ length bytes = h.whole in omega (arith, few, whole)) (λ h. let head : 16 ≤ length bytes = h.head in omega (arith, few, head)) (λ k. rw (lt_true (length bytes) 16 few) refl)
   | inr head ↦ elim (cases_lt 262144 (caplen_at header bytes)) [
     | inl long ↦ IsLong (record { head = head; long = long })
     | inr small ↦ elim (cases_lt (length bytes) (16 + caplen_at header bytes)) [
-      | inl part ↦ IsPart (λ h. let whole : 16 + caplen_at header bytes ≤ length bytes = h.whole in omega (arith, part, whole)) (λ h. let long : 262144 < caplen_at header bytes = h.long in omega (arith, small, long)) (λ k. rw (not_below (length bytes) 16 head, not_below 262144 (caplen_at header bytes) small, below (length bytes) (16 + caplen_at header bytes) part) refl)
+      | inl part ↦ IsPart (λ h. let whole : 16 + caplen_at header bytes ≤ length bytes = h.whole in omega (arith, part, whole)) (λ h. let long : 262144 < caplen_at header bytes = h.long in omega (arith, small, long)) (λ k. rw (not_below (length bytes) 16 head, not_below 262144 (caplen_at header bytes) small, lt_true (length bytes) (16 + caplen_at header bytes) part) refl)
       | inr whole ↦ IsRecord (record { short = small; whole = whole })
     ]
   ]
