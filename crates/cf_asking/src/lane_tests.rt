@@ -370,6 +370,8 @@ fn questions(alloc: Global) -> Result<Vec<Ask>, Memory> {
     questions.push(Ask::Find(1, 3, 3))?;
     questions.push(Ask::Between(0, 1, 2))?;
     questions.push(Ask::Measure(0, 0, 1))?;
+    questions.push(Ask::Top(2, Part::Sum, 3))?;
+    questions.push(Ask::Total(2, expr_of(alloc, &[&[atom(1, Op::Lt, 3)]])?))?;
     Ok(questions)
 }
 
@@ -407,7 +409,11 @@ fn drawn<L: Ledger, R: Abort>(rt: &R, alloc: Global, blank: Blank) -> Result<(),
 {
     let mut steps = Steps::<L>::new(blank);
     let kinds = [("ts", Kind::U64), ("k", Kind::U8), ("len", Kind::U16)];
-    let lanes = [(Key::Bucket, Some(2)), (Key::Attr(1), None)];
+    let lanes = [
+        (Key::Bucket, Some(2)),
+        (Key::Attr(1), None),
+        (Key::Attr(1), Some(2)),
+    ];
     let shape = shape_of(rt, alloc, &kinds, &lanes, 16, 2)?;
     let plain = Plain::new(alloc, shape.copy(alloc)?);
     let (log, mut root, passes) = dealt(alloc, shape)?;

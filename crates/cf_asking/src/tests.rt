@@ -124,7 +124,7 @@ pub(crate) fn numbers_of(alloc: Global, body: &Body) -> Result<Vec<u64>, Memory>
             let four = [quad.count(), quad.sum(), quad.least(), quad.greatest()];
             numbers.extend_from_slice(&four)?;
         }
-        Body::Marks(marks) => {
+        Body::Marks(marks) | Body::Tops(marks) => {
             for mark in marks.as_slice() {
                 numbers.push(mark.bucket)?;
                 numbers.push(mark.value)?;

@@ -7,12 +7,12 @@ ghost use Rattle.cf_table.specs.Moves.{AreAll};
 ghost use Rattle.cf_load.specs.Writing.{IsReady};
 
 use crate::writers::run_writers;
-use crate::{LivePlan, LoadFault, load};
+use crate::{LivePlan, LoadFault, Loader, load};
 use cf_outside::FreeGate;
 use cf_plain::{Answer, Ask, Body, Loaded};
 use cf_row::{Attr, Conjunction, Expr, Kind, Memory, Name, Row, Schema, Value, fits};
 use cf_shape::{Key, Lane, Shape, belongs};
-use cf_table::{MultiLog, Pass, Root, WriterPass};
+use cf_table::{Closed, MultiLog, Pass, Root, WriterPass};
 use std::alloc::Global;
 use std::process::Abort;
 use std::test::*;
@@ -226,6 +226,62 @@ fn the_log_or_the_nodes_are_too_few(rt: HostRuntime) -> Result<(), Fail> {
     for (writers, nodes) in [(2, 7), (14, 1), (15, 0)] {
         let loaded = load_all(&rt, rt.alloc(), 4, writers, nodes, 4)?;
         assert!(rt; matches!(loaded, Err(LoadFault::NodesFull(_))));
+    }
+    Ok(())
+}
+
+// Loads the rows by one writer, all at once, and closes the log.
+fn load_at_once<R: Threads + Sync + Abort>(
+    rt: &R,
+    alloc: Global,
+    rows: &[Row],
+) -> Result<(Closed, Loaded), Fail> {
+    let plan = plan(alloc)?;
+    let (log, mut root) = MultiLog::open(alloc, shape(rt, alloc, 5000, 1, 15)?)?;
+    assert!(rt; all_fit(log.shape().schema(), rows));
+    assert!(rt; plan.suits(log.shape()));
+    let loaded = load(rt, alloc, &log, &mut root, rows, &plan, &FreeGate).expect(rt, "loaded");
+    let closed = log.close(alloc, root).ok().expect(rt, "memory");
+    Ok((closed, loaded))
+}
+
+// Loads the rows by a loader in two batches, the first of which has 4,096.
+fn load_in_two<R: Threads + Sync + Abort>(
+    rt: &R,
+    alloc: Global,
+    rows: &[Row],
+) -> Result<(Closed, Loaded), Fail> {
+    let plan = plan(alloc)?;
+    let (log, mut root) = MultiLog::open(alloc, shape(rt, alloc, 5000, 1, 15)?)?;
+    assert!(rt; all_fit(log.shape().schema(), rows));
+    assert!(rt; plan.suits(log.shape()));
+    assert!(rt; 4096 < rows.len() && rows.len() <= 5000);
+    let (first, rest) = rows.split_at(4096);
+    let mut loader = Loader::new(alloc, &log, &plan)?;
+    let answer = loader.batch(rt, alloc, &log, &mut root, first, &FreeGate);
+    answer.expect(rt, "the first batch");
+    let answer = loader.batch(rt, alloc, &log, &mut root, rest, &FreeGate);
+    answer.expect(rt, "the second batch");
+    let loaded = loader.finish(alloc, &log, &mut root)?;
+    let closed = log.close(alloc, root).ok().expect(rt, "memory");
+    Ok((closed, loaded))
+}
+
+#[test]
+fn two_batches_load_what_all_rows_at_once_do(rt: HostRuntime) -> Result<(), Fail> {
+    let alloc = rt.alloc();
+    let rows = rows(alloc, 4100)?;
+    let (whole, told) = load_at_once(&rt, alloc, &rows)?;
+    let (parts, told_too) = load_in_two(&rt, alloc, &rows)?;
+    assert_eq!(rt; whole.entries.len(), 4100);
+    assert_eq!(rt; parts.entries.len(), 4100);
+    for (entry, other) in whole.entries.iter().zip(parts.entries.iter()) {
+        assert_eq!(rt; entry.row.num(), other.row.num());
+    }
+    assert_eq!(rt; told.lives().len(), told_too.lives().len());
+    for (answer, other) in told.finals().iter().zip(told_too.finals().iter()) {
+        assert_eq!(rt; seen_by(answer), (4100, 4100));
+        assert_eq!(rt; seen_by(answer), seen_by(other));
     }
     Ok(())
 }
