@@ -8,7 +8,7 @@ use Rattle.std.proofs.lemmas.List.{get_or-set_same, get_or-set_other, get_or-rep
 use Rattle.std.proofs.lemmas.List.Sums.{fold-append, list_all-from_AllPass}
 use Rattle.std.proofs.lemmas.List.FromFn.{get_or-map-range_with_len, length-map-range_with_len}
 use Rattle.cf_snapshot.specs.Snapshots.{SnapValue, is_host, tail_of, is_frozen, is_lawful, after, at_start, state_after, cut_of}
-use Rattle.cf_snapshot.specs.Plans.{rows_at, covered_after, turn_of_host, turns_round, turns_of_host, freeze_host, freezing, releasing, events_of, in_cut, cut_by, PlansHaveCuts}
+use Rattle.cf_snapshot.specs.Plans.{rows_at, covered_after, turn_of_host, turns_round, turns_of_host, freeze_host, freezing, releasing, cover_left, events_of, in_cut, cut_by, PlansHaveCuts}
 use Rattle.cf_snapshot.specs.declared.event.SnapEvent.{SnapEvent}
 use Rattle.cf_snapshot.specs.declared.event.SnapEvent.TheVariants.{Cover, Begin, Freeze, Reply, Release, Thaw}
 use Rattle.cf_snapshot.proofs.Lawful.{taken, passed_over}
@@ -337,6 +337,16 @@ module _ (turn : ℕ) (counts : List ℕ) (turns : ℕ) (some : 0 < length count
     | inr unlawful ↦ subst Released (sym (passed_over s (Thaw n) unlawful)) r
   ]
 
+  one_stays : (g : ℕ) (s : SnapValue) → Released s → Released (after s (Cover g))
+  one_stays g s r = elim (cases_Bool (is_lawful s (Cover g))) [
+    | inl lawful ↦ subst Released (sym (taken s (Cover g) lawful)) (record { released = r.released; replies = r.replies })
+    | inr unlawful ↦ subst Released (sym (passed_over s (Cover g) unlawful)) r
+  ]
+
+  covers_stay : (g count : ℕ) (s : SnapValue) → Released s → Released (fold after s (replicate count (Cover g)))
+  covers_stay g zero s r = r
+  covers_stay g (suc count) s r = covers_stay g count (after s (Cover g)) (one_stays g s r)
+
   has_cut : (s : SnapValue) → Released s → cut_of s ≡ Some (cut_by turn counts turns)
   has_cut s r = rw (r.released, r.replies) refl
 
@@ -349,10 +359,14 @@ module _ (turn : ℕ) (counts : List ℕ) (turns : ℕ) (some : 0 < length count
       let freed = fold_map (λ n. Released) Thaw 0 hosts hosts (omega arith) (λ k t from to r. thaws k t r) (after third Release) (releases third replied) in
       let end : List SnapEvent = Release ∷ map Thaw (range_with_len 0 hosts) in
       let replies : List SnapEvent = map Reply (range_with_len 0 hosts) in
-      let round = fold-append after (at_start hosts) (turns_round turn counts turns) (freezing turn counts turns ++ releasing hosts) in
-      let frozen = fold-append after first (freezing turn counts turns) (releasing hosts) in
-      let replied_then = fold-append after second replies end in
-      subst Released (sym (round ∙ frozen ∙ replied_then)) freed
+      let rest : List SnapEvent = flat_map (cover_left turn counts turns) (range_with_len 0 hosts) in
+      let fourth : SnapValue = fold after (after third Release) (map Thaw (range_with_len 0 hosts)) in
+      let all = fold_flat (λ n. Released) (cover_left turn counts turns) 0 hosts hosts (omega arith) (λ k t from to r. covers_stay k (rows_at counts k - in_cut turn counts turns k) t r) fourth freed in
+      let round = fold-append after (at_start hosts) (turns_round turn counts turns) (freezing turn counts turns ++ (releasing hosts ++ rest)) in
+      let frozen = fold-append after first (freezing turn counts turns) (releasing hosts ++ rest) in
+      let free = fold-append after second (releasing hosts) rest in
+      let replied_then : fold after second (releasing hosts) ≡ fourth = fold-append after second replies end in
+      subst Released (sym (round ∙ frozen ∙ free ∙ ap (λ (s : SnapValue). fold after s rest) replied_then)) all
 
 pub plans_have_cuts : PlansHaveCuts
 plans_have_cuts turn counts turns some low = has_cut turn counts turns some low (state_after (length counts) (events_of turn counts turns)) (whole turn counts turns some low)

@@ -38,13 +38,17 @@ freezing turn counts turns = Begin ∷ flat_map (freeze_host turn counts turns) 
 abbrev pub releasing : ℕ → List SnapEvent
 releasing hosts = map Reply (range_with_len 0 hosts) ++ (Release ∷ map Thaw (range_with_len 0 hosts))
 
--- so many turns, the freezing, and the release
-abbrev pub events_of : ℕ → List ℕ → ℕ → List SnapEvent
-events_of turn counts turns = turns_round turn counts turns ++ (freezing turn counts turns ++ releasing (length counts))
-
 -- how many rows of a host are in the cut: it had a turn more for each host below it
 abbrev pub in_cut : ℕ → List ℕ → ℕ → ℕ → ℕ
 in_cut turn counts turns host = covered_after turn counts host (turns_of_host (length counts) turns host + host)
+
+-- at last each host covers the rows that it has left
+abbrev pub cover_left : ℕ → List ℕ → ℕ → ℕ → List SnapEvent
+cover_left turn counts turns host = replicate (rows_at counts host - in_cut turn counts turns host) (Cover host)
+
+-- so many turns, the freezing, the release, and all that is left
+abbrev pub events_of : ℕ → List ℕ → ℕ → List SnapEvent
+events_of turn counts turns = turns_round turn counts turns ++ (freezing turn counts turns ++ (releasing (length counts) ++ flat_map (cover_left turn counts turns) (range_with_len 0 (length counts))))
 
 -- the same of all hosts
 abbrev pub cut_by : ℕ → List ℕ → ℕ → List ℕ
