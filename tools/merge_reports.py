@@ -46,8 +46,8 @@ def together(quads):
 
 def tops_of(path):
     """The part and the count of each `top` question of a setup."""
-    lines = (line.split() for line in pathlib.Path(path).read_text().splitlines())
-    return {words[1]: (words[4], int(words[5], 0)) for words in lines if words[:1] == ["ask"] and words[2:3] == ["top"]}
+    lines = (line.split() for line in pathlib.Path(path).read_text(errors="replace").splitlines())
+    return {it[1]: (it[4], int(it[5], 16 if it[5].startswith("0x") else 10)) for it in lines if it[:1] == ["ask"] and it[2:3] == ["top"]}
 
 
 def top_of_all(name, paths, answers, tops):

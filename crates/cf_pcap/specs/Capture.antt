@@ -108,16 +108,19 @@ pub record IsCapture (file : List ℕ) (frames : List FrameValue) : Type 0 where
 -- Faults. The magic is found false after 4 bytes, the version after 8, the link after 24, and a captured length after
 -- the 16 bytes of its record header.
 
+-- the magic is none of the four
 pub record HasBadMagic (bytes : List ℕ) : Type 0 where
   pub size : 4 ≤ length bytes
   pub magic : layout_of bytes ≡ None
 
+-- the version is none that is read
 pub record HasBadVersion (bytes : List ℕ) : Type 0 where
   pub size : 8 ≤ length bytes
   pub layout : Layout
   pub magic : layout_of bytes ≡ Some layout
   pub version : IsVersion layout bytes → ⊥
 
+-- the link is neither of the two that are read
 pub record HasBadLink (bytes : List ℕ) : Type 0 where
   pub size : 24 ≤ length bytes
   pub layout : Layout

@@ -1,7 +1,7 @@
 // A captured frame.
 ghost use Rattle.std.specs.Prelude.{◌≡◌, ◌+◌};
 
-use crate::records::HEAD;
+use crate::records::RECORD_HEADER;
 use std::marker::Model;
 
 /// A frame as it was captured.
@@ -33,6 +33,6 @@ impl Frame {
     pub(crate) fn record_len(&self) -> usize
         ensures { result ≡ 16 + self.now.caplen }
     {
-        HEAD + self.caplen as usize
+        RECORD_HEADER + self.caplen as usize
     }
 }

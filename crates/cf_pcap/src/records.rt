@@ -9,7 +9,7 @@ use crate::{Frame, PcapFault};
 use std::alloc::{AllocError, Global};
 
 /// The length of a record's header.
-pub(crate) const HEAD: usize = 16;
+pub(crate) const RECORD_HEADER: usize = 16;
 
 /// The most bytes that a record may hold of its frame.
 const LONGEST: u32 = 262_144;
@@ -35,11 +35,11 @@ fn has_record(header: FileHeader, bytes: &[u8]) -> bool
     ensures yes { result ≡ true → HasRecord header bytes.now }
     ensures no { result ≡ false → HasRecord header bytes.now → ⊥ }
 {
-    if bytes.len() < HEAD {
+    if bytes.len() < RECORD_HEADER {
         return false;
     }
     let caplen = caplen_of(header, bytes);
-    caplen <= LONGEST && HEAD + caplen as usize <= bytes.len()
+    caplen <= LONGEST && RECORD_HEADER + caplen as usize <= bytes.len()
 }
 
 // Whether a record header at the front states too many bytes.
@@ -47,7 +47,7 @@ fn is_too_long(header: FileHeader, bytes: &[u8]) -> bool
     ensures yes { result ≡ true → HasLongRecord header bytes.now }
     ensures no { result ≡ false → HasLongRecord header bytes.now → ⊥ }
 {
-    bytes.len() >= HEAD && caplen_of(header, bytes) > LONGEST
+    bytes.len() >= RECORD_HEADER && caplen_of(header, bytes) > LONGEST
 }
 
 // The frame of the record at the front.
@@ -65,8 +65,8 @@ fn first_frame(
     let fraction = order.read_u32(&bytes[4..]);
     let caplen = order.read_u32(&bytes[8..]);
     let len = order.read_u32(&bytes[12..]);
-    let end = HEAD + caplen as usize;
-    let captured = bytes[HEAD..end].to_vec(alloc)?;
+    let end = RECORD_HEADER + caplen as usize;
+    let captured = bytes[RECORD_HEADER..end].to_vec(alloc)?;
     Ok(Frame {
         num,
         ts: seconds as u64 * 1_000_000_000 + fraction as u64 * header.layout.precision.tick(),
