@@ -1,4 +1,4 @@
-use Rattle.std.proofs.Common.{◌≡◌, ◌∙◌, List, length, ap}
+use Rattle.std.proofs.Common.{◌∙◌, List, length, ap}
 use Rattle.cf_row.specs.declared.row.Entry.{Entry}
 use Rattle.cf_plain.specs.Asks.{eval}
 use Rattle.cf_query.proofs.Walking.{asked_walked, walked_seen, refused_too}

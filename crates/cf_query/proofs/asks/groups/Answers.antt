@@ -1,4 +1,4 @@
-use Rattle.std.proofs.Common.{◌≡◌, ◌∙◌, List, length, map, ap}
+use Rattle.std.proofs.Common.{◌∙◌, List, length, map, ap}
 use Rattle.cf_row.specs.declared.row.Entry.{Entry}
 use Rattle.cf_plain.specs.Asks.{rows_in}
 use Rattle.cf_plain.specs.Groups.{groups, as_group}

@@ -1,6 +1,4 @@
-use Rattle.std.proofs.Common.{◌≡◌, ◌∙◌, ℕ, List, Some, Vec, Global, slice_get, length, ap, sym}
-use Rattle.std.proofs.lemmas.List.{length-map}
-use Rattle.cf_row.specs.declared.row.Entry.{Entry}
+use Rattle.std.proofs.Common.{◌≡◌, ◌∙◌, ℕ, Some, Vec, Global, slice_get, ap, sym}
 use Rattle.cf_shape.specs.Lanes.{ShapeValue}
 use Rattle.cf_table.specs.Values.{PassValue}
 use Rattle.cf_table.proofs.Reading.{looked_then}
