@@ -37,7 +37,7 @@ packets_end bytes rows are = frames_end (begins_section bytes) bytes are.frames 
 
 -- The fault of the first 2^32 bytes is that of the file.
 
-begins_same : (bytes rest : List ℕ) → 4 ≤ length bytes → begins_section (bytes ++ rest) ≡ begins_section bytes
+pub begins_same : (bytes rest : List ℕ) → 4 ≤ length bytes → begins_section (bytes ++ rest) ≡ begins_section bytes
 unfolding begins_section
 begins_same bytes rest size = rw (take-append-le 4 bytes rest size) refl
 
@@ -137,7 +137,3 @@ one_packet_case attrs bytes = record {
   one_list = packets_same bytes;
   one_fault = packet_faults_same bytes;
 }
-
--- what the reader of the format that bytes begin as answers
-pub frames_by : (bytes : List ℕ) (b : Bool) (result : Result (Vec FrameValue Global) Halt) → begins_section bytes ≡ b → MatchResult result (λ frames. AreFramesBy b bytes frames.items × (length frames.items < 2 ^ 32)) (IsBad (HasFaultIn b bytes)) → MatchResult result (λ frames. AreFramesBy (begins_section bytes) bytes frames.items × (length frames.items < 2 ^ 32)) (IsBad (HasPacketFault bytes))
-frames_by bytes b result is h = subst (λ (x : Bool). MatchResult result (λ frames. AreFramesBy x bytes frames.items × (length frames.items < 2 ^ 32)) (IsBad (HasFaultIn x bytes))) (sym is) h

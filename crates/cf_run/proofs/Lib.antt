@@ -1,5 +1,7 @@
 pub mod Taking
 pub mod Capturing
+pub mod Streams
+pub mod Piecewise
 pub mod Writing
 pub mod Drawing
 pub mod Loading

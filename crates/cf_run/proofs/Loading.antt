@@ -2,20 +2,22 @@
 use Rattle.std.proofs.Common.{◌≡◌, ◌⊎◌, ℕ, ◌+◌, ◌<◌, ◌^◌, Bool, true, false, List, [], ◌++◌, length, Option, Some, Result, Ok, Err, refl, ap, sym, ◌∙◌, inl, inr, MatchResult, subst, arith, append-nil, length-append, Vec}
 use Rattle.std.specs.declared.alloc.Global.{Global}
 use Rattle.cf_row.specs.Row.{RowValue}
+use Rattle.cf_row.specs.Schema.{packet_attrs}
 use Rattle.cf_row.specs.declared.schema.Attr.{Attr}
-use Rattle.cf_outside.specs.Files.{File}
+use Rattle.cf_outside.specs.Files.{File, Opens}
 use Rattle.cf_records.specs.Records.{HasRecordsFault}
 use Rattle.cf_records.specs.declared.fault.RecordFault.{RecordFault}
 use Rattle.cf_records.specs.declared.fault.RecordFault.TheVariants as records
 use Rattle.cf_run.specs.Devices.{IsFileRead, ReadsFile}
-use Rattle.cf_run.specs.Faults.{HasLineFault, HasFaultBy, line_code_of, line_of}
+use Rattle.cf_run.specs.Faults.{HasLineFault, HasPacketFault, HasFaultBy, line_code_of, line_of}
 use Rattle.cf_run.specs.Files.{HasFile, HasLeft, Grammar, captures, IsReadAs, IsFileRefused, Halts}
 use Rattle.cf_run.specs.Files.IsFileRefused.{missing, broken}
 use Rattle.cf_run.specs.Parts.{IsBad}
+use Rattle.cf_run.specs.Reading.{TakesRows, ReadsRows}
 use Rattle.cf_run.specs.Refusals.{unread}
-use Rattle.cf_run.specs.Work.{AreRowsBy, limit_by}
+use Rattle.cf_run.specs.Work.{ArePackets, AreRowsBy, limit_by}
 use Rattle.cf_run.proofs.Capturing.{packets_end, packets_longer}
-use Rattle.cf_run.proofs.Taking.{left_after, stopped_read}
+use Rattle.cf_run.proofs.Taking.{left_after, stopped_read, file_read, file_stopped}
 use Rattle.cf_run.specs.declared.devices.ReadError.{ReadError}
 use Rattle.cf_run.specs.declared.devices.ReadError.TheVariants as errors
 use Rattle.cf_run.specs.declared.refusal.Halt.{Halt}
@@ -80,13 +82,21 @@ captures_longer : (packet : Bool) (attrs : List Attr) → Longer (captures packe
 captures_longer true attrs = packets_longer
 captures_longer false attrs = lines_longer attrs
 
--- the rows of a capture that was read, or why it has none
-pub rows_read : (packet : Bool) (attrs : List Attr) (told : Option (List File)) (name bytes : List ℕ) (before now : Option (List ℕ)) (result : Result (Vec RowValue Global) Halt) → IsFileRead told name (limit_by packet) now bytes
-    → MatchResult result (λ rows. AreRowsBy packet attrs bytes rows.items) (IsBad (HasFaultBy packet attrs bytes)) → MatchResult result (λ rows. IsReadAs (captures packet attrs) told name now rows.items) (Halts (captures packet attrs) told name before now)
-rows_read packet attrs told name bytes before now (Ok rows) read are = read_as (captures packet attrs) (captures_end packet attrs) told name bytes now rows.items read are
-rows_read packet attrs told name bytes before now (Err (Refused why)) read bad =
+-- the rows of a capture that was read
+pub rows_said : (packet : Bool) (attrs : List Attr) (told : Option (List File)) (name bytes : List ℕ) (now : Option (List ℕ)) (rows : List RowValue) → IsFileRead told name (limit_by packet) now bytes → AreRowsBy packet attrs bytes rows → IsReadAs (captures packet attrs) told name now rows
+rows_said packet attrs told name bytes now rows read are = read_as (captures packet attrs) (captures_end packet attrs) told name bytes now rows read are
+
+-- why it has none
+pub rows_unsaid : (packet : Bool) (attrs : List Attr) (told : Option (List File)) (name bytes : List ℕ) (before now : Option (List ℕ)) (halt : Halt) → IsFileRead told name (limit_by packet) now bytes → IsBad (HasFaultBy packet attrs bytes) halt → Halts (captures packet attrs) told name before now halt
+rows_unsaid packet attrs told name bytes before now (Refused why) read bad =
     subst (λ (w : Refusal). IsFileRefused (captures packet attrs) told name before now w) (sym bad.2) (read_broken (captures packet attrs) (captures_longer packet attrs) told name bytes before now bad.0 bad.1 read bad.3)
-rows_read packet attrs told name bytes before now (Err (Stopped stop)) read bad = stopped_read told name (limit_by packet) before now bytes read
+rows_unsaid packet attrs told name bytes before now (Stopped stop) read bad = stopped_read told name (limit_by packet) before now bytes read
+
+-- of the packets of an opened file
+pub packets_read : (Took : List RowValue → Type 0) (told : Option (List File)) (name : List ℕ) (before mid now : Option (List ℕ)) (result : Result (Unit {0}) Halt) → Opens told name before mid (Ok tt) → TakesRows (2 ^ 32) ArePackets HasPacketFault Took mid now result → ReadsRows true packet_attrs Took told name before now result
+packets_read Took told name before mid now (Ok done) opened takes = (takes.1, rows_said true packet_attrs told name takes.0 now takes.1 (file_read told name (2 ^ 32) before mid now takes.0 opened takes.2) takes.3, takes.4)
+packets_read Took told name before mid now (Err (Refused why)) opened takes = rows_unsaid true packet_attrs told name takes.0 before now (Refused why) (file_read told name (2 ^ 32) before mid now takes.0 opened takes.1) takes.2
+packets_read Took told name before mid now (Err (Stopped stop)) opened takes = file_stopped told name (2 ^ 32) before mid now opened takes
 
 -- a fault of the bytes refuses them, and want of memory is none
 line_faulty : (attrs : List Attr) (bytes : List ℕ) (fault : RecordFault) (halt : Halt) → (fault ≡ records.Memory → ⊥) → ((fault ≡ records.Memory → ⊥) → halt ≡ Refused (refusals.Capture (line_of fault) (line_code_of fault))) → HasRecordsFault attrs bytes fault → IsBad (HasLineFault attrs bytes) halt

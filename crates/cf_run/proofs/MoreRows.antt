@@ -1,5 +1,5 @@
 -- One more row of a list of frames.
-use Rattle.std.proofs.Common.{◌≡◌, ℕ, zero, suc, ◌<◌, ◌+◌, List, [], ◌∷◌, ◌++◌, length, map, take, get_or, sym, ap, ap₂, ◌∙◌, arith, All, subst, refl, length-append}
+use Rattle.std.proofs.Common.{◌≡◌, ℕ, zero, suc, ◌<◌, ◌+◌, List, [], ◌∷◌, ◌++◌, length, map, take, get_or, sym, ap, ap₂, ◌∙◌, arith, All, subst, refl, length-append, append_assoc}
 use Rattle.std.proofs.lemmas.List.{map-append}
 use Rattle.std.proofs.lemmas.List.Elements.{All-append}
 use Rattle.cf_row.specs.Row.{RowValue, Fits}
@@ -24,6 +24,12 @@ more {A} {B} f xs i x y ys zs lt is row before now =
 
 pub more_rows : (frames : List FrameValue) (i : ℕ) (frame : FrameValue) (row : RowValue) (rows now : List RowValue) → i < length frames → frame ≡ get_or frames i frame → row ≡ packet_row_of frame → rows ≡ packet_rows (take i frames) → now ≡ rows ++ (row ∷ []) → now ≡ packet_rows (take (i + 1) frames)
 more_rows frames i frame row rows now lt is row_is before grown = more packet_row_of frames i frame row rows now lt is row_is before grown
+
+-- after other rows
+pub handed_more : (frames : List FrameValue) (i : ℕ) (frame : FrameValue) (row : RowValue) (rows : List RowValue) → i < length frames → frame ≡ get_or frames i frame → row ≡ packet_row_of frame → (rows ++ packet_rows (take i frames)) ++ row ∷ [] ≡ rows ++ packet_rows (take (i + 1) frames)
+handed_more frames i frame row rows lt is row_is =
+    append_assoc rows (packet_rows (take i frames)) (row ∷ [])
+    ∙ ap (λ (rs : List RowValue). rows ++ rs) (more_rows frames i frame row (packet_rows (take i frames)) (packet_rows (take i frames) ++ row ∷ []) lt is row_is refl refl)
 
 rows_grown : (frames : List FrameValue) (i : ℕ) (frame : FrameValue) → i < length frames → frame ≡ get_or frames i frame → packet_rows (take (i + 1) frames) ≡ packet_rows (take i frames) ++ (packet_row_of frame ∷ [])
 rows_grown frames i frame lt is = ap (λ (q : List FrameValue). map packet_row_of q) (take_more frames i frame lt is) ∙ map-append packet_row_of (take i frames) (frame ∷ [])

@@ -36,7 +36,7 @@ ended : (now : Option (List ℕ)) (rest : List ℕ) → now ≡ Some rest → Is
 ended None rest is end = cc
 ended (Some xs) rest is end = let same : xs ≡ rest = cc in sym same ∙ end
 
-file_read : (told : Option (List File)) (name : List ℕ) (limit : ℕ) (before mid now : Option (List ℕ)) (bytes : List ℕ) → Opens told name before mid (Ok tt) → TakesUpTo mid now limit bytes → IsFileRead told name limit now bytes
+pub file_read : (told : Option (List File)) (name : List ℕ) (limit : ℕ) (before mid now : Option (List ℕ)) (bytes : List ℕ) → Opens told name before mid (Ok tt) → TakesUpTo mid now limit bytes → IsFileRead told name limit now bytes
 file_read None name limit before mid now bytes opened takes = record { rest = []; file_is = tt; left = tt; most = takes.most; whole = inl refl }
 file_read (Some files) name limit before mid now bytes opened takes =
     let took : Consumes (Some opened.0) now bytes = rw opened.2 at takes.taken in
@@ -49,7 +49,7 @@ file_read (Some files) name limit before mid now bytes opened takes =
       whole = elim takes.whole [ inl end ↦ inl (ended now parts.0 parts.1 end) | inr full ↦ inr full ];
     }
 
-file_stopped : (told : Option (List File)) (name : List ℕ) (limit : ℕ) (before mid now : Option (List ℕ)) → Opens told name before mid (Ok tt) → TakesAtMost mid now limit → IsStopped told name limit before now
+pub file_stopped : (told : Option (List File)) (name : List ℕ) (limit : ℕ) (before mid now : Option (List ℕ)) → Opens told name before mid (Ok tt) → TakesAtMost mid now limit → IsStopped told name limit before now
 file_stopped None name limit before mid now opened takes = inl tt
 file_stopped (Some files) name limit before mid now opened takes =
     let took : Consumes (Some opened.0) now takes.bytes = rw opened.2 at takes.taken in

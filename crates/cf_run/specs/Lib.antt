@@ -10,3 +10,5 @@ pub mod Due
 pub mod Devices
 pub mod Answers
 pub mod Parts
+pub mod Reading
+pub mod Kept

@@ -1,23 +1,22 @@
 // The setup and the rows of the files that the words name.
-ghost use Rattle.std.specs.Prelude.{◌≡◌, ◌^◌, All, IfOk, MatchResult};
-ghost use Rattle.cf_row.specs.Row.{Fits};
-ghost use Rattle.cf_run.specs.Files.{setups, captures, IsReadAs, Halts};
+ghost use Rattle.std.specs.Prelude.{◌≡◌, [], IfOk, MatchResult};
+ghost use Rattle.cf_row.specs.Schema.{packet_attrs};
+ghost use Rattle.cf_run.specs.Files.{setups, IsReadAs, Halts};
 ghost use Rattle.cf_run.specs.Parts.{HasHaltCause, IsSetupRead, is_packets, attrs_in};
-ghost use Rattle.cf_run.specs.Work.{limit_by};
+ghost use Rattle.cf_run.specs.Reading.{ReadsRows};
 
 use crate::devices::read_file;
-use crate::refusal::Halt;
-use crate::rows::{Format, rows_in};
-use cf_outside::Shelf;
-use cf_row::Row;
+use crate::pieces::take_packets;
+use crate::refusal::{Halt, Refusal, Stop};
+use crate::rows::{Format, records_of, take_rows};
+use crate::taker::Taker;
+use cf_outside::{OpenFault, Shelf};
+use cf_row::Schema;
 use cf_setup::{Setup, parse_setup};
 use std::alloc::Global;
 
 /// A setup of more bytes is no setup.
 const SETUP_LIMIT: usize = 65537;
-
-/// A capture is shorter.
-const CAPTURE_LIMIT: usize = 1 << 32;
 
 /// A file of records is shorter.
 const RECORDS_LIMIT: usize = 1 << 24;
@@ -33,27 +32,62 @@ pub(crate) fn read_setup<F: Shelf>(alloc: Global, shelf: &mut F, name: &str) -> 
     Ok(parse_setup(alloc, &bytes)?)
 }
 
-fn limit_of(format: Format) -> usize
-    ensures { result ≡ limit_by (is_packets format.entry) }
+// Hands on the rows of the packets of the capture of that name, as they come.
+fn read_packets<F: Shelf, T: Taker>(
+    alloc: Global,
+    shelf: &mut F,
+    name: &str,
+    taker: &mut T,
+) -> Result<(), Halt>
+    requires attrs { T.attrs taker.old ≡ packet_attrs }
+    requires begins { T.took taker.old taker.old [] }
+    ensures files { F.files shelf.new ≡ F.files shelf.old }
+    ensures read { ReadsRows true packet_attrs (T.took taker.old taker.new) (F.files shelf.old) name.now (F.rest shelf.old) (F.rest shelf.new) result }
+    ensures cause { HasHaltCause (F.faults shelf.old) (F.faults shelf.new) result }
 {
-    match format {
-        Format::Packets => CAPTURE_LIMIT,
-        Format::Records(_) => RECORDS_LIMIT,
+    match shelf.open(name) {
+        Ok(()) => take_packets(alloc, shelf, taker),
+        Err(OpenFault::Missing) => Err(Halt::Refused(Refusal::NoFile)),
+        Err(OpenFault::Failed) => Err(Halt::Stopped(Stop::ReadFault)),
+        Err(OpenFault::Memory) => Err(Halt::Stopped(Stop::Memory)),
     }
 }
 
-/// The rows of the capture in the file of that name.
-pub(crate) fn read_rows<F: Shelf>(
+// Hands on the rows of the file of records of that name, which is read whole.
+fn read_lines<F: Shelf, T: Taker>(
+    alloc: Global,
+    shelf: &mut F,
+    name: &str,
+    schema: &Schema,
+    taker: &mut T,
+) -> Result<(), Halt>
+    requires attrs { T.attrs taker.old ≡ schema.now }
+    requires begins { T.took taker.old taker.old [] }
+    ensures files { F.files shelf.new ≡ F.files shelf.old }
+    ensures read { ReadsRows false schema.now (T.took taker.old taker.new) (F.files shelf.old) name.now (F.rest shelf.old) (F.rest shelf.new) result }
+    ensures cause { HasHaltCause (F.faults shelf.old) (F.faults shelf.new) result }
+{
+    let bytes = read_file(alloc, shelf, name, RECORDS_LIMIT)?;
+    let rows = records_of(alloc, schema, &bytes)?;
+    Ok(take_rows(rows, taker)?)
+}
+
+/// Hands on the rows of the capture of that name.
+pub(crate) fn read_rows<F: Shelf, T: Taker>(
     alloc: Global,
     shelf: &mut F,
     name: &str,
     format: Format,
-) -> Result<Vec<Row>, Halt>
+    taker: &mut T,
+) -> Result<(), Halt>
+    requires attrs { T.attrs taker.old ≡ attrs_in format.entry }
+    requires begins { T.took taker.old taker.old [] }
     ensures files { F.files shelf.new ≡ F.files shelf.old }
-    ensures read { MatchResult result (λ rows. IsReadAs (captures (is_packets format.entry) (attrs_in format.entry)) (F.files shelf.old) name.now (F.rest shelf.new) rows.items) (Halts (captures (is_packets format.entry) (attrs_in format.entry)) (F.files shelf.old) name.now (F.rest shelf.old) (F.rest shelf.new)) }
+    ensures read { ReadsRows (is_packets format.entry) (attrs_in format.entry) (T.took taker.old taker.new) (F.files shelf.old) name.now (F.rest shelf.old) (F.rest shelf.new) result }
     ensures cause { HasHaltCause (F.faults shelf.old) (F.faults shelf.new) result }
-    ensures fit { IfOk result (λ rows. All (Fits (attrs_in format.entry)) rows.items) }
 {
-    let bytes = read_file(alloc, shelf, name, limit_of(format))?;
-    rows_in(alloc, format, &bytes)
+    match format {
+        Format::Packets => read_packets(alloc, shelf, name, taker),
+        Format::Records(schema) => read_lines(alloc, shelf, name, schema, taker),
+    }
 }

@@ -8,17 +8,22 @@
 mod devices;
 mod draft;
 mod dumping;
+mod faults;
 mod files;
-mod frames;
 mod laws;
 mod log;
+#[cfg(test)]
+mod piece_tests;
+mod pieces;
 mod prepare;
 mod program;
+mod reader;
 mod refusal;
 #[cfg(test)]
 mod row_tests;
 mod rows;
 mod status;
+mod taker;
 #[cfg(test)]
 mod tests;
 mod top;

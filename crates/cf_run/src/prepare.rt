@@ -10,8 +10,10 @@ use crate::files::{read_rows, read_setup};
 use crate::log::{Unmade, final_of, report_of};
 use crate::refusal::{Halt, Refusal, Stop};
 use crate::rows::{Format, drawn_packets, format_of};
+use crate::taker::Collector;
 use cf_command::{Command, DumpCommand, RunCommand, SynthCommand, command_of};
 use cf_outside::{Gate, Shelf};
+use cf_row::packet_schema;
 use std::alloc::Global;
 use std::thread::Threads;
 
@@ -29,7 +31,9 @@ fn run_report<R: Threads + Sync, F: Shelf, G: Gate>(
     ensures cause { HasHaltCause (F.faults shelf.old) (F.faults shelf.new) result }
 {
     let setup = read_setup(alloc, shelf, command.setup)?;
-    let rows = read_rows(alloc, shelf, command.capture, format_of(&setup))?;
+    let mut taken = Collector::new(alloc, setup.schema());
+    read_rows(alloc, shelf, command.capture, format_of(&setup), &mut taken)?;
+    let Collector { rows, .. } = taken;
     let sizes = command.sizes;
     if rows.len() > sizes.capacity as usize {
         let capacity = sizes.capacity;
@@ -84,8 +88,10 @@ fn dump_listing<F: Shelf>(
     ensures ends { Ends (F.files shelf.old) (Some (dump (dump_by command.now))) (F.rest shelf.old) (F.rest shelf.new) result }
     ensures cause { HasHaltCause (F.faults shelf.old) (F.faults shelf.new) result }
 {
-    let rows = read_rows(alloc, shelf, command.capture, Format::Packets)?;
-    let text = dump_of(alloc, &rows)?;
+    let schema = packet_schema(alloc)?;
+    let mut taken = Collector::new(alloc, &schema);
+    read_rows(alloc, shelf, command.capture, Format::Packets, &mut taken)?;
+    let text = dump_of(alloc, &schema, &taken.rows)?;
     let seals = Vec::new(alloc);
     Ok(Product { text, seals })
 }

@@ -6,6 +6,7 @@ ghost use Rattle.cf_run.specs.declared.refusal.Stop.TheVariants as stops;
 
 use crate::Status;
 use crate::devices::ReadError;
+use cf_outside::Failed;
 use cf_row::Memory;
 use cf_setup::SetupFault;
 use std::alloc::{AllocError, Global};
@@ -126,5 +127,13 @@ impl From<SetupFault> for Halt {
             SetupFault::Bad { line, code } => Halt::Refused(Refusal::Setup { line, code }),
             SetupFault::Memory => Halt::Stopped(Stop::Memory),
         }
+    }
+}
+
+impl From<Failed> for Halt {
+    ghost from_gives = { λ _ halt. halt ≡ Stopped stops.ReadFault };
+
+    fn from(_error: Failed) -> Halt {
+        Halt::Stopped(Stop::ReadFault)
     }
 }

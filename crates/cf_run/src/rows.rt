@@ -1,19 +1,20 @@
 // The rows of the bytes of a capture.
-ghost use Rattle.std.specs.Prelude.{◌≡◌, ◌≤◌, All, IfOk, MatchResult};
-ghost use Rattle.cf_row.specs.Row.{Fits};
+ghost use Rattle.std.specs.Prelude.{◌≡◌, ◌≤◌, ◌++◌, List, All, IfOk, MatchResult};
+ghost use Rattle.cf_row.specs.Row.{Fits, RowValue};
 ghost use Rattle.cf_row.specs.Schema.{packet_attrs};
 ghost use Rattle.cf_make.specs.Generated.{generated_frames};
 ghost use Rattle.cf_records.specs.Records.{IsRecordFile};
 ghost use Rattle.cf_records.specs.declared.fault.RecordFault.TheVariants as record_faults;
-ghost use Rattle.cf_run.specs.Faults.{HasPacketFault, HasLineFault, HasFaultBy, line_code_of as line_code_of_fault, line_of as line_of_fault};
+ghost use Rattle.cf_run.specs.Faults.{HasLineFault, line_code_of as line_code_of_fault, line_of as line_of_fault};
 ghost use Rattle.cf_run.specs.Parts.{IsBad, IsSetupRead, is_packets, attrs_in};
-ghost use Rattle.cf_run.specs.Work.{ArePackets, AreRowsBy, packet_rows};
+ghost use Rattle.cf_run.specs.Work.{packet_rows};
 ghost use Rattle.cf_run.specs.declared.refusal.Halt.TheVariants.{Refused, Stopped};
 ghost use Rattle.cf_run.specs.declared.refusal.Refusal.TheVariants as refusals;
 ghost use Rattle.cf_run.specs.declared.refusal.Stop.TheVariants as stops;
 
-use crate::frames::{frames_of, record_frames};
+use crate::reader::Reader;
 use crate::refusal::{Halt, Refusal, Stop};
+use crate::taker::Taker;
 use cf_headers::packet_row;
 use cf_make::make_capture;
 use cf_pcap::Frame;
@@ -55,15 +56,6 @@ fn rows_of(alloc: Global, frames: &[Frame]) -> Result<Vec<Row>, Memory>
     Ok(rows)
 }
 
-// The rows of the captured packets of a file.
-fn packets_of(alloc: Global, bytes: &[u8]) -> Result<Vec<Row>, Halt>
-    ensures rows { MatchResult result (λ rows. ArePackets bytes.now rows.items) (IsBad (HasPacketFault bytes.now)) }
-    ensures fit { IfOk result (λ rows. All (Fits packet_attrs) rows.items) }
-{
-    let frames = frames_of(alloc, bytes)?;
-    Ok(rows_of(alloc, &frames)?)
-}
-
 /// The rows of the packets that a seed draws.
 pub(crate) fn drawn_packets(alloc: Global, seed: u64, count: u32) -> Result<Vec<Row>, Memory>
     requires { count ≤ 65536 }
@@ -71,8 +63,11 @@ pub(crate) fn drawn_packets(alloc: Global, seed: u64, count: u32) -> Result<Vec<
     ensures fit { IfOk result (λ rows. All (Fits packet_attrs) rows.items) }
 {
     let bytes = make_capture(alloc, seed, count)?;
-    match record_frames(alloc, &bytes) {
-        Ok(frames) => rows_of(alloc, &frames),
+    let mut frames = Vec::new(alloc);
+    let mut reader = Reader::of_records(alloc)?;
+    reader.feed(&bytes, &mut frames)?;
+    match reader.finish() {
+        Ok(()) => rows_of(alloc, &frames),
         Err(Halt::Stopped(Stop::Memory)) => Err(AllocError),
         // What is made is a capture.
         Err(_) => unreachable!(),
@@ -116,8 +111,8 @@ fn refused_records(fault: RecordFault) -> Halt
     }
 }
 
-// The rows of a file of records.
-fn records_of(alloc: Global, schema: &Schema, bytes: &[u8]) -> Result<Vec<Row>, Halt>
+/// The rows of a file of records.
+pub(crate) fn records_of(alloc: Global, schema: &Schema, bytes: &[u8]) -> Result<Vec<Row>, Halt>
     ensures rows { MatchResult result (λ rows. IsRecordFile schema.now bytes.now rows.items) (IsBad (HasLineFault schema.now bytes.now)) }
     ensures fit { IfOk result (λ rows. All (Fits schema.now) rows.items) }
 {
@@ -127,13 +122,14 @@ fn records_of(alloc: Global, schema: &Schema, bytes: &[u8]) -> Result<Vec<Row>, 
     }
 }
 
-/// The rows of a capture in a format.
-pub(crate) fn rows_in(alloc: Global, format: Format, bytes: &[u8]) -> Result<Vec<Row>, Halt>
-    ensures rows { MatchResult result (λ rows. AreRowsBy (is_packets format.entry) (attrs_in format.entry) bytes.now rows.items) (IsBad (HasFaultBy (is_packets format.entry) (attrs_in format.entry) bytes.now)) }
-    ensures fit { IfOk result (λ rows. All (Fits (attrs_in format.entry)) rows.items) }
+/// Hands on the rows of a file of records.
+pub(crate) fn take_rows<T: Taker>(rows: Vec<Row>, taker: &mut T) -> Result<(), Memory>
+    requires fit { All (Fits (T.attrs taker.old)) rows.items }
+    requires taking { (begin : T) × (before : List RowValue) × T.took begin taker.old before }
+    ensures took { IfOk result (λ _. (begin : T) (before : List RowValue) → T.took begin taker.old before → T.took begin taker.new (before ++ rows.items)) }
 {
-    match format {
-        Format::Packets => packets_of(alloc, bytes),
-        Format::Records(schema) => records_of(alloc, schema, bytes),
+    for row in rows {
+        taker.take(row)?;
     }
+    Ok(())
 }

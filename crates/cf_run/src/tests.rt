@@ -32,7 +32,7 @@ pub(crate) fn two_frames(alloc: Global) -> Result<Vec<u8>, Memory> {
 const REPORT: &[u8] = b"records 2\nask big list 1: 1\norder 0*2\n";
 
 // The header and so many records without bytes, of which 200 were on the wire.
-fn records(alloc: Global, count: usize) -> Result<Vec<u8>, Memory> {
+pub(crate) fn records(alloc: Global, count: usize) -> Result<Vec<u8>, Memory> {
     let mut capture = HEADER.to_vec(alloc)?;
     for _ in 0..count {
         capture.extend_from_slice(&[0; 12])?;

@@ -1,0 +1,105 @@
+// The reader of a capture of packets, which comes in pieces.
+ghost use Rattle.std.specs.Prelude.{◌≡◌, ℕ, false, List, [], ◌++◌, IfOk, MatchResult};
+ghost use Rattle.cf_pcap.specs.Capture.{FrameValue};
+ghost use Rattle.cf_run.specs.Faults.{HasFaultIn};
+ghost use Rattle.cf_run.specs.Formats.{begins_section as section_begins};
+ghost use Rattle.cf_run.specs.Parts.{IsBad};
+ghost use Rattle.cf_run.specs.Reading.{IsReaderAt, reads_blocks};
+ghost use Rattle.cf_run.specs.Work.{AreFramesBy};
+
+use crate::faults::{refused_block, refused_record};
+use crate::refusal::Halt;
+use cf_pcap::{Frame, Pcap, PcapFault};
+use cf_pcapng::{NgFault, PcapNg};
+use cf_row::Memory;
+use std::alloc::{AllocError, Global};
+
+/// The type of a section header, with which a capture in pcapng begins.
+const SECTION: [u8; 4] = [0x0a, 0x0d, 0x0d, 0x0a];
+
+/// A reader of a capture in pcap, of records, or in pcapng, of blocks.
+#[derive(Drop)]
+pub(crate) enum Reader {
+    Records(Pcap),
+    Blocks(PcapNg),
+}
+
+#[tactic(auto, unfolding(crate::specs::Formats::begins_section))]
+fn begins_section(bytes: &[u8]) -> bool
+    ensures { result ≡ section_begins bytes.now }
+{
+    bytes.starts_with(&SECTION)
+}
+
+// The frames that a piece gives a reader of records, whose fault is told at the end.
+fn feed_records(pcap: &mut Pcap, piece: &[u8], out: &mut Vec<Frame>) -> Result<(), Memory>
+    ensures { IfOk result (λ _. (given : List FrameValue) × (out.new.items ≡ out.old.items ++ given)
+        × ((stream : List ℕ) (frames : List FrameValue) → IsReaderAt (Reader.Records pcap.old) stream frames → IsReaderAt (Reader.Records pcap.new) (stream ++ piece.now) (frames ++ given))) }
+{
+    match pcap.feed(piece, out) {
+        Err(PcapFault::Memory) => Err(AllocError),
+        _ => Ok(()),
+    }
+}
+
+// The frames that a piece gives a reader of blocks, whose fault is told at the end.
+fn feed_blocks(pcapng: &mut PcapNg, piece: &[u8], out: &mut Vec<Frame>) -> Result<(), Memory>
+    ensures { IfOk result (λ _. (given : List FrameValue) × (out.new.items ≡ out.old.items ++ given)
+        × ((stream : List ℕ) (frames : List FrameValue) → IsReaderAt (Reader.Blocks pcapng.old) stream frames → IsReaderAt (Reader.Blocks pcapng.new) (stream ++ piece.now) (frames ++ given))) }
+{
+    match pcapng.feed(piece, out) {
+        Err(NgFault::Memory) => Err(AllocError),
+        _ => Ok(()),
+    }
+}
+
+impl Reader {
+    /// A reader of captures in pcap.
+    pub(crate) fn of_records(alloc: Global) -> Result<Reader, Memory>
+        ensures blocks { IfOk result (λ reader. reads_blocks reader ≡ false) }
+        ensures begins { IfOk result (λ reader. IsReaderAt reader [] []) }
+    {
+        Ok(Reader::Records(Pcap::new(alloc)?))
+    }
+
+    /// A reader of a capture that begins with that piece, in pcapng where this begins with a section header, in pcap otherwise.
+    pub(crate) fn of(alloc: Global, piece: &[u8]) -> Result<Reader, Memory>
+        ensures blocks { IfOk result (λ reader. reads_blocks reader ≡ section_begins piece.now) }
+        ensures begins { IfOk result (λ reader. IsReaderAt reader [] []) }
+    {
+        if begins_section(piece) {
+            Ok(Reader::Blocks(PcapNg::new(alloc)?))
+        } else {
+            Reader::of_records(alloc)
+        }
+    }
+
+    /// Takes the next piece, and adds the frames that end in it and before any fault. A fault is told at the end.
+    pub(crate) fn feed(&mut self, piece: &[u8], out: &mut Vec<Frame>) -> Result<(), Memory>
+        ensures blocks { reads_blocks self.new ≡ reads_blocks self.old }
+        ensures fed { IfOk result (λ _. (given : List FrameValue) × (out.new.items ≡ out.old.items ++ given)
+            × ((stream : List ℕ) (frames : List FrameValue) → IsReaderAt self.old stream frames → IsReaderAt self.new (stream ++ piece.now) (frames ++ given))) }
+    {
+        match self {
+            Reader::Records(pcap) => feed_records(pcap, piece, out),
+            Reader::Blocks(pcapng) => feed_blocks(pcapng, piece, out),
+        }
+    }
+
+    /// What the end of the stream says: the frames are those of a capture, or it has a fault.
+    pub(crate) fn finish(self) -> Result<(), Halt>
+        ensures { (stream : List ℕ) (frames : List FrameValue) → IsReaderAt self stream frames
+            → MatchResult result (λ _. AreFramesBy (reads_blocks self) stream frames) (IsBad (HasFaultIn (reads_blocks self) stream)) }
+    {
+        match self {
+            Reader::Records(pcap) => match pcap.finish() {
+                Ok(_) => Ok(()),
+                Err(fault) => Err(refused_record(fault)),
+            },
+            Reader::Blocks(pcapng) => match pcapng.finish() {
+                Ok(_) => Ok(()),
+                Err(fault) => Err(refused_block(fault)),
+            },
+        }
+    }
+}
