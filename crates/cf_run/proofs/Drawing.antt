@@ -1,5 +1,5 @@
 -- The rows of drawn packets.
-use Rattle.std.proofs.Common.{◌≡◌, ℕ, ◌≤◌, List, Result, Vec, IfOk, ◌∙◌, subst, sym, refl}
+use Rattle.std.proofs.Common.{◌≡◌, ℕ, ◌≤◌, false, List, [], ◌++◌, Result, Vec, IfOk, ◌∙◌, subst, sym, refl}
 use Rattle.std.specs.declared.alloc.Global.{Global}
 use Rattle.cf_row.specs.Row.{RowValue}
 use Rattle.cf_pcap.specs.Capture.{FrameValue, IsCapture}
@@ -9,6 +9,8 @@ use Rattle.cf_run.specs.Work.{packet_rows}
 use Rattle.cf_pcap.proofs.Verdict.{one_capture, either}
 use Rattle.cf_run.specs.Faults.{HasRecordFault}
 use Rattle.cf_run.specs.Parts.{IsBad}
+use Rattle.cf_run.specs.Reading.{IsReaderAt, reads_blocks}
+use Rattle.cf_run.specs.declared.reader.Reader.{Reader}
 use Rattle.cf_run.specs.declared.refusal.Halt.{Halt}
 use Rattle.cf_run.specs.declared.refusal.Halt.TheVariants.{Refused, Stopped}
 use Rattle.cf_run.specs.declared.refusal.Stop.TheVariants as stops
@@ -25,3 +27,7 @@ pub drawn_are : {E : Type 0} (seed count : ℕ) (bytes : List ℕ) (frames now :
 drawn_are seed count bytes frames now result few made is same rows =
     let drawn : frames ≡ generated_frames seed count = one_capture (generated_bytes seed count) frames (generated_frames seed count) (subst (λ (x : List ℕ). IsCapture x frames) made is) (is_capture seed count few) in
     subst (λ (x : List FrameValue). IfOk result (λ all. all.items ≡ packet_rows x)) (same ∙ drawn) rows
+
+-- the reader that was fed them at once
+pub drawn_frames : (bytes : List ℕ) (given : List FrameValue) (old new : Reader) → reads_blocks old ≡ false → reads_blocks new ≡ reads_blocks old → IsReaderAt old [] [] → ((stream : List ℕ) (frames : List FrameValue) → IsReaderAt old stream frames → IsReaderAt new (stream ++ bytes) (frames ++ given)) → IsReaderAt new bytes given × (reads_blocks new ≡ false)
+drawn_frames bytes given old new records same begins fed = (fed [] [] begins, same ∙ records)

@@ -10,6 +10,7 @@ pub mod PacketSchema
 pub mod OneCase
 pub mod Logs
 pub mod MoreRows
+pub mod Keeping
 pub mod Deciding
 pub mod Coming
 pub mod Answering

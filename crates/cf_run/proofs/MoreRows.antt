@@ -1,10 +1,11 @@
 -- One more row of a list of frames.
-use Rattle.std.proofs.Common.{◌≡◌, ℕ, zero, suc, ◌<◌, ◌+◌, List, [], ◌∷◌, ◌++◌, length, map, take, get_or, sym, ap, ap₂, ◌∙◌, arith, All, subst, refl, length-append, append_assoc}
-use Rattle.std.proofs.lemmas.List.{map-append}
+use Rattle.std.proofs.Common.{◌≡◌, ℕ, zero, suc, ◌<◌, ◌+◌, List, [], ◌∷◌, ◌++◌, length, map, take, get_or, sym, ap, ap₂, ◌∙◌, arith, All, subst, refl, length-append}
+use Rattle.std.proofs.lemmas.List.{map-append, append_assoc, get_or-append-add}
 use Rattle.std.proofs.lemmas.List.Elements.{All-append}
 use Rattle.cf_row.specs.Row.{RowValue, Fits}
 use Rattle.cf_row.specs.Schema.{packet_attrs}
 use Rattle.cf_row.specs.declared.row.Entry.{Entry}
+use Rattle.cf_row.specs.declared.schema.Attr.{Attr}
 use Rattle.cf_history.proofs.OneWriter.{alone}
 use Rattle.cf_pcap.specs.Capture.{FrameValue}
 use Rattle.cf_headers.specs.Packet.{packet_row_of}
@@ -41,12 +42,24 @@ more_entries frames i frame row entries now lt is row_is before grown =
     ∙ sym (map-append (λ (r : RowValue). record { writer = 0; row = r }) (packet_rows (take i frames)) (packet_row_of frame ∷ []))
     ∙ ap (λ (rows : List RowValue). alone rows) (sym (rows_grown frames i frame lt is))
 
-one_fits : (row : RowValue) → Fits packet_attrs row → All (Fits packet_attrs) (row ∷ [])
-one_fits row fits zero other lt = fits
-one_fits row fits (suc k) other lt = absurd (omega (arith, lt))
+one_fits : (attrs : List Attr) (row : RowValue) → Fits attrs row → All (Fits attrs) (row ∷ [])
+one_fits attrs row fits zero other lt = fits
+one_fits attrs row fits (suc k) other lt = absurd (omega (arith, lt))
+
+-- one more fits
+pub fits_more : (attrs : List Attr) (rows : List RowValue) (row : RowValue) → All (Fits attrs) rows → Fits attrs row → All (Fits attrs) (rows ++ row ∷ [])
+fits_more attrs rows row fit fits = All-append (Fits attrs) rows (row ∷ []) fit (one_fits attrs row fits)
 
 pub all_fit : (rows now : List RowValue) (row : RowValue) → All (Fits packet_attrs) rows → Fits packet_attrs row → now ≡ rows ++ (row ∷ []) → All (Fits packet_attrs) now
-all_fit rows now row fit fits grown = subst (λ (rs : List RowValue). All (Fits packet_attrs) rs) (sym grown) (All-append (Fits packet_attrs) rows (row ∷ []) fit (one_fits row fits))
+all_fit rows now row fit fits grown = subst (λ (rs : List RowValue). All (Fits packet_attrs) rs) (sym grown) (fits_more packet_attrs rows row fit fits)
+
+-- one of them fits
+pub fits_within : (attrs : List Attr) (rows before after : List RowValue) (row : RowValue) → All (Fits attrs) rows → rows ≡ before ++ row ∷ after → Fits attrs row
+fits_within attrs rows before after row fit is =
+    let all : All (Fits attrs) (before ++ row ∷ after) = subst (λ (rs : List RowValue). All (Fits attrs) rs) is fit in
+    let size : length (before ++ row ∷ after) ≡ length before + length (row ∷ after) = length-append before (row ∷ after) in
+    let more : length (row ∷ after) ≡ suc (length after) = refl in
+    subst (λ (r : RowValue). Fits attrs r) (get_or-append-add before (row ∷ after) 0 row) (all (length before + 0) row (omega (arith, size, more)))
 
 pub one_longer : (entries now : List Entry) (row : Entry) (n : ℕ) → length entries ≡ n → now ≡ entries ++ (row ∷ []) → length now ≡ n + 1
 one_longer entries now row n before grown =

@@ -1,5 +1,5 @@
 // The setup and the rows of the files that the words name.
-ghost use Rattle.std.specs.Prelude.{◌≡◌, [], IfOk, MatchResult};
+ghost use Rattle.std.specs.Prelude.{◌≡◌, true, false, [], IfOk, MatchResult};
 ghost use Rattle.cf_row.specs.Schema.{packet_attrs};
 ghost use Rattle.cf_run.specs.Files.{setups, IsReadAs, Halts};
 ghost use Rattle.cf_run.specs.Parts.{HasHaltCause, IsSetupRead, is_packets, attrs_in};
@@ -80,7 +80,7 @@ pub(crate) fn read_rows<F: Shelf, T: Taker>(
     format: Format,
     taker: &mut T,
 ) -> Result<(), Halt>
-    requires attrs { T.attrs taker.old ≡ attrs_in format.entry }
+    requires attrs { T.attrs taker.old ≡ attrs_in format }
     requires begins { T.took taker.old taker.old [] }
     ensures files { F.files shelf.new ≡ F.files shelf.old }
     ensures read { ReadsRows (is_packets format.entry) (attrs_in format.entry) (T.took taker.old taker.new) (F.files shelf.old) name.now (F.rest shelf.old) (F.rest shelf.new) result }

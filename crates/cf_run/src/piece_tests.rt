@@ -35,7 +35,8 @@ fn a_record_across_two_pieces_is_read(rt: HostRuntime) -> Result<(), Fail> {
     let alloc = rt.alloc();
     let words = ["run", "--setup", "s", "--writers", "1", "c"];
     let capture = records(alloc, 4097)?;
-    let text = b"records 4097\nask m measure count 4097 sum 819400 least 200 greatest 200\norder 0*4097\n".as_slice();
+    let text =
+        b"records 4097\nask m measure count 4097 sum 819400 least 200 greatest 200\norder 0*4097\n".as_slice();
     for most in [1, 7, 65535, 65536, 65537] {
         expect_by(&rt, alloc, &words, most, (MEASURES, &capture), (0, text))?;
     }
@@ -56,13 +57,7 @@ fn the_capture_is_read_to_its_end(rt: HostRuntime) -> Result<(), Fail> {
             3,
             b"capture: record 4096 code 5\n",
         ),
-        (
-            4096,
-            ["--nodes", "6"],
-            0,
-            7,
-            b"nodes: more than 6 nodes\n",
-        ),
+        (4096, ["--nodes", "6"], 0, 7, b"nodes: more than 6 nodes\n"),
     ];
     for (count, sizes, cut, number, text) in table {
         let words = [
@@ -79,7 +74,14 @@ fn the_capture_is_read_to_its_end(rt: HostRuntime) -> Result<(), Fail> {
         for _ in 0..cut {
             capture.push(0)?;
         }
-        expect_by(&rt, alloc, &words, 1000, (MEASURES, &capture), (number, text))?;
+        expect_by(
+            &rt,
+            alloc,
+            &words,
+            1000,
+            (MEASURES, &capture),
+            (number, text),
+        )?;
     }
     Ok(())
 }

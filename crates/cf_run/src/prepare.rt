@@ -33,13 +33,12 @@ fn run_report<R: Threads + Sync, F: Shelf, G: Gate>(
     let setup = read_setup(alloc, shelf, command.setup)?;
     let mut taken = Collector::new(alloc, setup.schema());
     read_rows(alloc, shelf, command.capture, format_of(&setup), &mut taken)?;
-    let Collector { rows, .. } = taken;
     let sizes = command.sizes;
-    if rows.len() > sizes.capacity as usize {
+    if taken.rows.len() > sizes.capacity as usize {
         let capacity = sizes.capacity;
         return Err(Halt::Refused(Refusal::Full { capacity }));
     }
-    match report_of(rt, alloc, &setup, &rows, sizes, command.rounds, gate) {
+    match report_of(rt, alloc, &setup, &taken.rows, sizes, command.rounds, gate) {
         Ok(report) => sealed(alloc, report),
         Err(Unmade::Nodes) => Err(Halt::Refused(Refusal::Nodes { nodes: sizes.nodes })),
         Err(Unmade::Memory) => Err(Halt::Stopped(Stop::Memory)),
