@@ -1,19 +1,19 @@
 -- A reader of one of the two formats, over a stream.
-use Rattle.std.proofs.Common.{◌≡◌, ◌≢◌, ℕ, ◌≤◌, List, [], ◌++◌, length, Result, Ok, Err, MatchResult, refl, sym, ap, subst, arith, inl, inr}
-use Rattle.cf_pcap.specs.declared.form.Form.{Form}
+use Rattle.std.proofs.Common.{◌≡◌, ℕ, List, [], ◌++◌, Result, Ok, subst, arith}
 use Rattle.cf_pcap.specs.declared.fault.PcapFault.{PcapFault}
-use Rattle.cf_pcap.specs.Capture.{FrameValue, IsCapture, IsFileHeader, seen}
-use Rattle.cf_pcap.specs.Stream as pcap
-use Rattle.cf_pcap.proofs.Ending.{capture_gives}
-use Rattle.cf_pcap.proofs.Given as records
-use Rattle.cf_pcap.proofs.Seen.{seen_short}
+use Rattle.cf_pcap.specs.Capture.{FrameValue, IsCapture}
+use Rattle.cf_pcap.specs.File.{pcap}
+use Rattle.cf_pcap.specs.Stream as records
+use Rattle.cf_pcap.proofs.Judging.{judged_alike}
+use Rattle.cf_pcap.proofs.Steps as records_steps
 use Rattle.cf_pcapng.specs.declared.fault.NgFault.{NgFault}
-use Rattle.cf_pcapng.specs.File.{pcapng, IsNg}
-use Rattle.cf_pcapng.specs.Reader as ng
+use Rattle.cf_pcapng.specs.File.{pcapng}
+use Rattle.cf_pcapng.specs.Reader as blocks
 use Rattle.cf_pcapng.specs.Rules.{IsFileOf}
 use Rattle.cf_pcapng.proofs.Filing.{file_by_rules}
-use Rattle.cf_pcapng.proofs.Steps.{stepper}
-use Rattle.cf_stream.specs.Stream as streams
+use Rattle.cf_pcapng.proofs.Steps as blocks_steps
+use Rattle.cf_stream.specs.Format.{Format, IsWhole}
+use Rattle.cf_stream.specs.Stream.{IsStepper, AreGiven}
 use Rattle.cf_stream.proofs.Ending.{whole_gives}
 use Rattle.cf_stream.proofs.Given.{given_of, one_given}
 use Rattle.cf_stream.proofs.Seen.{early_short}
@@ -21,46 +21,44 @@ use Rattle.cf_stream.proofs.Units.{reads_nothing, wants_none}
 use Rattle.cf_run.specs.Reading.{IsReaderAt}
 use Rattle.cf_run.specs.declared.reader.Reader.TheVariants.{Records, Blocks}
 
+-- of a stream of no bytes no item is given
+nothing_given : {S I F : Type 0} (f : Format S I F) → IsStepper f → AreGiven f [] []
+nothing_given f is = given_of f [] [] [] f.start [] (early_short [] (omega arith)) (reads_nothing f f.start []) (wants_none f f.start [] (is.nothing f.start))
+
+-- the items of a whole file are those that were given
+whole_given : {S I F : Type 0} (f : Format S I F) → IsStepper f → (stream : List ℕ) (items given : List I) → IsWhole f stream items → AreGiven f stream given → IsWhole f stream given
+whole_given {S} {I} f is stream items given whole are = subst (λ (xs : List I). IsWhole f stream xs) (one_given f stream items given (whole_gives f is stream items whole) are) whole
+
 -- A new reader has given no frame.
 
-no_header : (form : Form) → IsFileHeader form (seen []) → ⊥
-no_header form header =
-    let size : 24 ≤ length (seen []) = header.size in
-    let none : length (seen []) ≡ 0 = ap length (seen_short [] (omega arith)) in
-    absurd (omega (arith, size, none))
+pub records_begin : (reader : records.PcapValue) → records.IsStateOf reader [] → IsReaderAt (Records reader) [] []
+records_begin reader state = (state, nothing_given pcap records_steps.stepper)
 
-pub records_begin : (reader : pcap.PcapValue) → pcap.IsStateOf reader [] → IsReaderAt (Records reader) [] []
-records_begin reader state = (state, inr (no_header, refl))
-
-pub blocks_begin : (reader : ng.PcapNgValue) → ng.IsStateOf reader [] → IsReaderAt (Blocks reader) [] []
-blocks_begin reader state = (state, given_of pcapng [] [] [] pcapng.start [] (early_short [] (omega arith)) (reads_nothing pcapng pcapng.start []) (wants_none pcapng pcapng.start [] (stepper.nothing pcapng.start)))
+pub blocks_begin : (reader : blocks.PcapNgValue) → blocks.IsStateOf reader [] → IsReaderAt (Blocks reader) [] []
+blocks_begin reader state = (state, nothing_given pcapng blocks_steps.stepper)
 
 -- It gives those of one more piece.
 
-pub records_fed : (old new : pcap.PcapValue) (piece : List ℕ) (given : List FrameValue) (answer : Result (Unit {0}) PcapFault) → ((stream : List ℕ) → pcap.IsStateOf old stream → pcap.IsFed stream piece given answer new)
+pub records_fed : (old new : records.PcapValue) (piece : List ℕ) (given : List FrameValue) (answer : Result (Unit {0}) PcapFault) → ((stream : List ℕ) → records.IsStateOf old stream → records.IsFed stream piece given answer new)
     → (stream : List ℕ) (frames : List FrameValue) → IsReaderAt (Records old) stream frames → IsReaderAt (Records new) (stream ++ piece) (frames ++ given)
 records_fed old new piece given answer feeds stream frames at =
     let fed = feeds stream at.0 in
-    let same : fed.before ≡ frames = (records.one_gift stream).one fed.before frames fed.given_before at.1 in
-    (fed.state, subst (λ (fs : List FrameValue). pcap.AreGiven (stream ++ piece) (fs ++ given)) same fed.given_now)
+    let same : fed.before ≡ frames = one_given pcap stream fed.before frames fed.given_before at.1 in
+    (fed.state, subst (λ (fs : List FrameValue). AreGiven pcap (stream ++ piece) (fs ++ given)) same fed.given_now)
 
-pub blocks_fed : (old new : ng.PcapNgValue) (piece : List ℕ) (given : List FrameValue) (answer : Result (Unit {0}) NgFault) → ((stream : List ℕ) → ng.IsStateOf old stream → ng.IsFed stream piece given answer new)
+pub blocks_fed : (old new : blocks.PcapNgValue) (piece : List ℕ) (given : List FrameValue) (answer : Result (Unit {0}) NgFault) → ((stream : List ℕ) → blocks.IsStateOf old stream → blocks.IsFed stream piece given answer new)
     → (stream : List ℕ) (frames : List FrameValue) → IsReaderAt (Blocks old) stream frames → IsReaderAt (Blocks new) (stream ++ piece) (frames ++ given)
 blocks_fed old new piece given answer feeds stream frames at =
     let fed = feeds stream at.0 in
     let same : fed.before ≡ frames = one_given pcapng stream fed.before frames fed.given_before at.1 in
-    (fed.state, subst (λ (fs : List FrameValue). streams.AreGiven pcapng (stream ++ piece) (fs ++ given)) same fed.given_now)
+    (fed.state, subst (λ (fs : List FrameValue). AreGiven pcapng (stream ++ piece) (fs ++ given)) same fed.given_now)
 
 -- At the end they are those of the capture.
 
-pub records_end : (reader : pcap.PcapValue) (count : ℕ) (stream : List ℕ) (frames : List FrameValue) → IsReaderAt (Records reader) stream frames → ((s : List ℕ) → pcap.IsStateOf reader s → pcap.IsEnded s (Ok count)) → IsCapture stream frames
+pub records_end : (reader : records.PcapValue) (count : ℕ) (stream : List ℕ) (frames : List FrameValue) → IsReaderAt (Records reader) stream frames → ((s : List ℕ) → records.IsStateOf reader s → records.IsEnded s (Ok count)) → IsCapture stream frames
 records_end reader count stream frames at ended =
-    let found = ended stream at.0 in
-    let same : found.0 ≡ frames = (records.one_gift stream).one found.0 frames (capture_gives stream found.0 found.1) at.1 in
-    subst (λ (fs : List FrameValue). IsCapture stream fs) same found.1
+    let found = ended stream at.0 in (judged_alike stream).capture frames (whole_given pcap records_steps.stepper stream found.0 frames found.1 at.1)
 
-pub blocks_end : (reader : ng.PcapNgValue) (count : ℕ) (stream : List ℕ) (frames : List FrameValue) → IsReaderAt (Blocks reader) stream frames → ((s : List ℕ) → ng.IsStateOf reader s → ng.IsEnded s (Ok count)) → IsFileOf stream frames
+pub blocks_end : (reader : blocks.PcapNgValue) (count : ℕ) (stream : List ℕ) (frames : List FrameValue) → IsReaderAt (Blocks reader) stream frames → ((s : List ℕ) → blocks.IsStateOf reader s → blocks.IsEnded s (Ok count)) → IsFileOf stream frames
 blocks_end reader count stream frames at ended =
-    let found = ended stream at.0 in
-    let same : found.0 ≡ frames = one_given pcapng stream found.0 frames (whole_gives pcapng stepper stream found.0 found.1) at.1 in
-    (file_by_rules stream).capture frames (subst (λ (fs : List FrameValue). IsNg stream fs) same found.1)
+    let found = ended stream at.0 in (file_by_rules stream).capture frames (whole_given pcapng blocks_steps.stepper stream found.0 frames found.1 at.1)

@@ -1,4 +1,5 @@
 use Rattle.std.proofs.Common.{◌≡◌, rules}
+use Rattle.cf_pcap.proofs.Judging.{judged_alike}
 use Rattle.cf_pcapng.proofs.Filing.{file_by_rules}
 use Rattle.cf_run.specs.declared.reader.Reader.TheVariants.{Records, Blocks}
 use Rattle.cf_run.proofs.Capturing.{bad_record, bad_block}
@@ -13,7 +14,7 @@ returns-in-Ok c =
 pub returns-in-Err : goal.returns-in-Err
 returns-in-Err c =
     let is : c.args.self ≡ Records c.in-Records.pcap = search rules in
-    rw is (λ stream frames at. bad_record stream c.in-Err.fault c.refused_record.result c.refused_record.ensures.memory c.refused_record.ensures.other (λ none. c.in-Err.ensures.ended stream at.0))
+    rw is (λ stream frames at. bad_record stream c.in-Err.fault c.refused_record.result c.refused_record.ensures.memory c.refused_record.ensures.other (λ none. (judged_alike stream).fault c.in-Err.fault (c.in-Err.ensures.ended stream at.0)))
 
 pub returns-in-Ok-finish : goal.returns-in-Ok-finish
 returns-in-Ok-finish c =
