@@ -1,6 +1,8 @@
 // Captures of several pieces and several batches.
-use crate::tests::{SETUP, records, shelf_of};
-use crate::{Status, run};
+ghost use Rattle.std.specs.Prelude.{◌<◌};
+
+use crate::run;
+use crate::tests::{records, shelf_of};
 use cf_outside::{FreeGate, MemSink};
 use std::alloc::Global;
 use std::process::Abort;
