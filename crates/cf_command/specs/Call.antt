@@ -108,6 +108,7 @@ dump_by command = record { capture = command.capture.now }
 abbrev pub snapshot_by : SnapshotCommand → SnapshotCall
 snapshot_by command = record { setup = command.setup.now; captures = map (λ name. name.now) command.captures.items; turns = command.turns; turn = command.turn; sizes = command.sizes }
 
+-- the call of a command that was read
 abbrev pub call_by : Command → Call
 call_by (Run command) = run (run_by command)
 call_by (Synth command) = synth (synth_by command)

@@ -33,24 +33,31 @@ roomed_app app = with_rule (with_rule app (optional (codes "capacity") (codes "6
 abbrev pub sized_app : App → App
 sized_app app = roomed_app (with_rule app (optional (codes "writers") (codes "4")))
 
+-- `run`: a setup, the sizes of the log, how often live questions are asked, and a capture
 abbrev pub run_app : App
 run_app = with_rule (with_rule (sized_app (with_rule (new_app (codes "run")) (needed (codes "setup")))) (optional (codes "live") (codes "0"))) (place (codes "capture"))
 
+-- `synth`: a setup, a seed and a count, and the sizes of the log
 abbrev pub synth_app : App
 synth_app = sized_app (with_rule (with_rule (with_rule (new_app (codes "synth")) (needed (codes "setup"))) (needed (codes "seed"))) (needed (codes "count")))
 
+-- `dump`: a capture
 abbrev pub dump_app : App
 dump_app = with_rule (new_app (codes "dump")) (place (codes "capture"))
 
+-- `snapshot`: a setup, the turns before the freezing, the rows of a turn, the capacity and nodes of each log, and captures
 abbrev pub snapshot_app : App
 snapshot_app = with_rule (roomed_app (with_rule (with_rule (with_rule (new_app (codes "snapshot")) (needed (codes "setup"))) (needed (codes "after"))) (optional (codes "turn") (codes "1")))) (places (codes "captures"))
 
+-- the program, whose words begin with a command of their own
 abbrev pub bare_app : App
 bare_app = let a = new_app (codes "confluo") in record a { top = record a.top { no_binary_name = true; subcommand_required = true } }
 
+-- the program with its commands
 unfoldable pub confluo_app : App
 confluo_app = with_subcommand (with_subcommand (with_subcommand (with_subcommand bare_app run_app.top) synth_app.top) dump_app.top) snapshot_app.top
 
+-- the list is empty
 abbrev pub none_of : {X : Type 0} → List X → Bool
 none_of xs = length xs == 0
 
@@ -67,9 +74,11 @@ pub record RunSays : Type 0 where
   pub live : Text
   pub capture : Text
 
+-- these texts as a record, in the order in which they are looked up
 abbrev pub run_says : Text → Text → Text → Text → Text → Text → RunSays
 run_says s w n m l c = record { setup = s; writers = w; capacity = n; nodes = m; live = l; capture = c }
 
+-- what was read of a `run` command
 abbrev pub says_of : RunTexts → RunSays
 says_of r = run_says r.setup.now r.writers.now r.capacity.now r.nodes.now r.live.now r.capture.now
 
@@ -88,9 +97,11 @@ pub record SynthSays : Type 0 where
   pub capacity : Text
   pub nodes : Text
 
+-- these texts as a record, in the order in which they are looked up
 abbrev pub synth_says : Text → Text → Text → Text → Text → Text → SynthSays
 synth_says s x k w n m = record { setup = s; seed = x; count = k; writers = w; capacity = n; nodes = m }
 
+-- what was read of a `synth` command
 abbrev pub synth_says_of : SynthTexts → SynthSays
 synth_says_of r = synth_says r.setup.now r.seed.now r.count.now r.writers.now r.capacity.now r.nodes.now
 
@@ -109,9 +120,11 @@ pub record SnapshotSays : Type 0 where
   pub nodes : Text
   pub captures : List Text
 
+-- these texts as a record, in the order in which they are looked up
 abbrev pub snapshot_says : Text → Text → Text → Text → Text → List Text → SnapshotSays
 snapshot_says s a t n m cs = record { setup = s; after = a; turn = t; capacity = n; nodes = m; captures = cs }
 
+-- what was read of a `snapshot` command
 abbrev pub snapshot_says_of : SnapshotTexts → SnapshotSays
 snapshot_says_of r = snapshot_says r.setup.now r.after.now r.turn.now r.capacity.now r.nodes.now (map (λ s. s.now) r.captures.items)
 
