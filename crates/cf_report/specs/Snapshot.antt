@@ -32,6 +32,10 @@ host_text shape setup host rows = host_part setup host rows (finals_on shape set
 abbrev pub rows_of_cut : List ℕ → List (List RowValue) → ℕ → List RowValue
 rows_of_cut cut hosts host = take (slice_index_or cut host 0) (slice_index_or hosts host [])
 
+-- the part of a host at a cut
+abbrev pub host_text_at : ShapeValue → SetupValue → List ℕ → List (List RowValue) → ℕ → List ℕ
+host_text_at shape setup cut hosts host = host_text shape setup host (rows_of_cut cut hosts host)
+
 -- The text of a cut of hosts that have these rows: the sum of the cut, and then each host, the first being host 0.
 abbrev pub snapshot_text : ShapeValue → SetupValue → List ℕ → List (List RowValue) → List ℕ
-snapshot_text shape setup cut hosts = cut_line (sum cut) ++ flat_map (λ host. host_text shape setup host (rows_of_cut cut hosts host)) (range_with_len 0 (length hosts))
+snapshot_text shape setup cut hosts = cut_line (sum cut) ++ flat_map (host_text_at shape setup cut hosts) (range_with_len 0 (length hosts))

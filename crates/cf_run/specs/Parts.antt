@@ -1,5 +1,5 @@
 -- What the parts of the work answer.
-use Rattle.std.specs.Prelude.{◌≡◌, ℕ, ◌≤◌, Bool, true, false, List, [], map, Option, Result, Ok, Err, Vec}
+use Rattle.std.specs.Prelude.{◌≡◌, ℕ, ◌≤◌, Bool, true, false, List, [], length, map, slice_index_or, Option, Result, Ok, Err, Vec}
 use Rattle.std.specs.declared.alloc.Global.{Global}
 use Rattle.cf_outside.specs.Causes.{Rose}
 use Rattle.cf_outside.specs.Files.{File}
@@ -42,6 +42,10 @@ attrs_in (Records schema) = schema.now
 -- the rows of each host, without where they lie in memory
 abbrev pub rows_each : List (Vec RowValue Global) → List (List RowValue)
 rows_each hosts = map (λ rows. rows.items) hosts
+
+-- a cut has no more rows of a host than it has
+abbrev pub AreWithin : List ℕ → List (List RowValue) → Type 0
+AreWithin cut hosts = (host : ℕ) → slice_index_or cut host 0 ≤ length (slice_index_or hosts host [])
 
 -- why bytes are refused
 abbrev pub IsBad : (ℕ → ℕ → Type 0) → Halt → Type 0

@@ -7,7 +7,7 @@ ghost use Rattle.cf_run.specs.Parts.{HasHaltCause, is_packets, attrs_in, rows_ea
 ghost use Rattle.cf_run.specs.Several.{AreReadAs, AreHalted};
 
 use crate::files::read_rows;
-use crate::refusal::Halt;
+use crate::refusal::{Halt, Stop};
 use crate::rows::Format;
 use cf_outside::Shelf;
 use cf_row::Row;
@@ -24,12 +24,15 @@ pub(crate) fn read_hosts<F: Shelf>(
     ensures files { F.files shelf.new ≡ F.files shelf.old }
     ensures read { MatchResult result (λ hosts. AreReadAs (captures (is_packets format.entry) (attrs_in format.entry)) (F.files shelf.old) (texts names.now) (F.rest shelf.new) (rows_each hosts.items)) (AreHalted (captures (is_packets format.entry) (attrs_in format.entry)) (F.files shelf.old) (texts names.now) (Some []) (F.rest shelf.new)) }
     ensures cause { HasHaltCause (F.faults shelf.old) (F.faults shelf.new) result }
-    ensures fit { IfOk result (λ hosts. All (λ rows. All (Fits (attrs_in format.entry)) rows.items) hosts.items) }
+    ensures fit { IfOk result (λ hosts. All (All (Fits (attrs_in format.entry))) (rows_each hosts.items)) }
     ensures count { IfOk result (λ hosts. length hosts.items ≡ length names.now) }
 {
     let mut hosts = Vec::new(alloc);
     for name in names {
-        hosts.push(read_rows(alloc, shelf, name, format)?)?;
+        let rows = read_rows(alloc, shelf, name, format)?;
+        if hosts.push(rows).is_err() {
+            return Err(Halt::Stopped(Stop::Memory));
+        }
     }
     Ok(hosts)
 }

@@ -3,13 +3,13 @@
 ghost use Rattle.std.specs.Prelude.{◌≡◌, ◌<◌, ◌≤◌, ◌*◌, ◌++◌, All, Any, false, length, map, sum, take, IfOk, IsTrue, OnOk, MatchResult, string_bytes, slice_index_or};
 ghost use Rattle.std.specs.List.{flat_map, range_with_len};
 ghost use Rattle.cf_command.specs.Call.{AreSizes, IsSnapshotInRange, snapshot_by};
-ghost use Rattle.cf_report.specs.Snapshot.{host_text, rows_of_cut};
+ghost use Rattle.cf_report.specs.Snapshot.{host_text, host_text_at};
 ghost use Rattle.cf_row.specs.Row.{Fits};
 ghost use Rattle.cf_setup.specs.Setups.{IsSetup};
 ghost use Rattle.cf_shape.specs.Nodes.{distinct};
-ghost use Rattle.cf_run.specs.Due.{IsSnapshotOf};
+ghost use Rattle.cf_run.specs.Due.{HasRoom, IsSnapshotOf};
 ghost use Rattle.cf_run.specs.Logs.{IsUnmade};
-ghost use Rattle.cf_run.specs.Parts.{rows_each};
+ghost use Rattle.cf_run.specs.Parts.{rows_each, AreWithin};
 ghost use Rattle.cf_run.specs.Work.{shape_for};
 ghost use Rattle.cf_run.specs.declared.log.Unmade.TheVariants.{Nodes};
 
@@ -133,4 +133,60 @@ fn push_answers<R: Threads + Sync, G: Gate>(
         Ok(()) => Ok(()),
         Err(_) => Err(Unmade::Memory),
     }
+}
+
+// Writes the part of each host, with its answers on those of its rows that are in the cut.
+fn push_hosts<R: Threads + Sync, G: Gate>(
+    rt: &R,
+    alloc: Global,
+    text: &mut String,
+    setup: &Setup,
+    hosts: &[Vec<Row>],
+    cut: &[u32],
+    sizes: LogSizes,
+    gate: &G,
+) -> Result<(), Memory>
+    requires lawful { IsSetup setup.now }
+    requires fit { All (All (Fits setup.now.schema)) (rows_each hosts.now) }
+    requires room { All (HasRoom sizes setup.now) (rows_each hosts.now) }
+    requires sizes { AreSizes sizes }
+    requires one { sizes.writers ≡ 1 }
+    requires size { length cut.now ≡ length hosts.now }
+    requires within { AreWithin cut.now (rows_each hosts.now) }
+    ensures { OnOk result (string_bytes text.new ≡ string_bytes text.old ++ flat_map (host_text_at (shape_for setup.now sizes) setup.now cut.now (rows_each hosts.now)) (range_with_len 0 (length hosts.now))) }
+{
+    for host in 0..hosts.len() {
+        let rows = &hosts[host][..cut[host] as usize];
+        match push_answers(rt, alloc, text, setup, host, rows, sizes, gate) {
+            Ok(()) => {}
+            Err(Unmade::Memory) => return Err(AllocError),
+            // There are nodes for all its rows.
+            Err(Unmade::Nodes) => unreachable!(),
+        }
+    }
+    Ok(())
+}
+
+/// The answers of hosts that have these rows, at the cut of the command.
+pub(crate) fn cut_text<R: Threads + Sync, G: Gate>(
+    rt: &R,
+    alloc: Global,
+    command: &SnapshotCommand,
+    setup: &Setup,
+    hosts: &[Vec<Row>],
+    gate: &G,
+) -> Result<Vec<u8>, Memory>
+    requires lawful { IsSetup setup.now }
+    requires fit { All (All (Fits setup.now.schema)) (rows_each hosts.now) }
+    requires room { All (HasRoom command.now.sizes setup.now) (rows_each hosts.now) }
+    requires command { IsSnapshotInRange command.now }
+    requires size { length hosts.now ≡ length command.now.captures.items }
+    ensures { IfOk result (λ text. IsSnapshotOf (snapshot_by command.now) setup.now (rows_each hosts.now) text.items) }
+{
+    let counts = counts_of(alloc, hosts)?;
+    let cut = cut_of_turns(alloc, &counts, command.turns, command.turn)?;
+    let mut text = String::new(alloc);
+    push_cut(&mut text, total_of(&cut))?;
+    push_hosts(rt, alloc, &mut text, setup, hosts, &cut, command.sizes, gate)?;
+    Ok(text.into_bytes())
 }
