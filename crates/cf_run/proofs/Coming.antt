@@ -44,7 +44,7 @@ ends_halted {A} g told call name start before now comes stopped (Refused why) ha
 ends_halted {A} g told call name start before now comes stopped (Stopped stop) halts = stopped stop halts
 
 -- after a file was read to its end
-halts_after : {A : Type 0} (g : Grammar A) (told : Option (List File)) (name : List ℕ) (mid now : Option (List ℕ)) → HasLeft told mid (Some []) → (halt : Halt) → Halts g told name mid now halt → Halts g told name (Some []) now halt
+pub halts_after : {A : Type 0} (g : Grammar A) (told : Option (List File)) (name : List ℕ) (mid now : Option (List ℕ)) → HasLeft told mid (Some []) → (halt : Halt) → Halts g told name mid now halt → Halts g told name (Some []) now halt
 halts_after {A} g (Some files) name mid now end halt halts = subst (λ (m : Option (List ℕ)). Halts g (Some files) name m now halt) end halts
 halts_after {A} g None name mid now end (Refused why) (missing none left is) = missing none tt is
 halts_after {A} g None name mid now end (Refused why) (broken bytes place code file breaks left is) = broken bytes place code file breaks left is

@@ -1,9 +1,14 @@
 -- The rows of hosts, one more host at a time.
 use Rattle.std.proofs.Common.{◌≡◌, ◌⊎◌, ℕ, zero, suc, ◌<◌, ◌≤◌, ◌+◌, ◌*◌, List, [], ◌∷◌, ◌++◌, length, map, take, drop, fold, sum, replicate, get_or, All, Any, Vec, refl, sym, ap, ap₂, subst, ◌∙◌, inl, inr, arith}
-use Rattle.std.specs.List.{AllByRecursion, flat_map, list_any}
+use Rattle.std.specs.List.{AllByRecursion, flat_map, list_any, range_with_len}
 use Rattle.std.specs.declared.alloc.Global.{Global}
 use Rattle.std.proofs.lemmas.Bool.{cases_Bool}
-use Rattle.std.proofs.lemmas.List.{get_or-map, length-map}
+use Rattle.std.proofs.lemmas.List.{get_or-map, length-map, map-append}
+use Rattle.std.proofs.lemmas.List.Concat.{flat_map-append}
+use Rattle.std.proofs.lemmas.List.Elements.{All-append, All-cons, All-nil, All-map, All-from_get_or}
+use Rattle.std.proofs.lemmas.List.FromFn.{length-range_with_len}
+use Rattle.std.proofs.lemmas.List.{take-append-drop}
+use Rattle.std.proofs.lemmas.List.Sums.{fold-append}
 use Rattle.cf_row.specs.Row.{RowValue}
 use Rattle.cf_row.specs.declared.row.Entry.{Entry}
 use Rattle.cf_history.specs.History.{AskReply}
@@ -20,7 +25,14 @@ use Rattle.cf_report.specs.Snapshot.{host_part, host_text}
 use Rattle.cf_report.proofs.Legal.{finals_meant}
 use Rattle.cf_setup.specs.Setups.{SetupValue}
 use Rattle.cf_shape.specs.Lanes.{ShapeValue}
+use Rattle.cf_shape.specs.Nodes.{Node, same_node, add_node, nodes_for, nodes_of, distinct}
+use Rattle.cf_command.specs.declared.words.LogSizes.{LogSizes}
+use Rattle.cf_snapshot.specs.Plans.{cut_by, in_cut}
+use Rattle.cf_run.specs.Due.{HasRoom}
+use Rattle.cf_run.specs.Logs.{IsUnmade}
 use Rattle.cf_run.specs.Parts.{rows_each}
+use Rattle.cf_run.specs.declared.log.Unmade.{Unmade}
+use Rattle.cf_run.specs.declared.log.Unmade.TheVariants.{Nodes}
 
 -- the rows of the host at a place
 pub at_host : (hosts : List (Vec RowValue Global)) (i : ℕ) (rows : Vec RowValue Global) (d : List RowValue) → i < length hosts → rows ≡ get_or hosts i rows → get_or (rows_each hosts) i d ≡ rows.items
@@ -80,3 +92,49 @@ pub host_told : (shape : ShapeValue) (setup : SetupValue) (rounds host : ℕ) (r
 host_told shape setup rounds host rows entries answered same meant =
     ap (λ (ts : List (AskReply Ask Body)). host_part setup host (rows_in entries) ts) (finals_meant setup shape rounds entries answered meant)
     ∙ ap (λ (rs : List RowValue). host_part setup host rs (finals_on shape setup rs)) same
+
+-- one more host
+pub more_hosts : (hosts now : List (Vec RowValue Global)) (rows : Vec RowValue Global) → now ≡ hosts ++ rows ∷ [] → rows_each now ≡ rows_each hosts ++ rows.items ∷ []
+more_hosts hosts now rows grown = ap rows_each grown ∙ map-append (λ (v : Vec RowValue Global). v.items) hosts (rows ∷ [])
+
+pub all_more : (P : List RowValue → Type 0) (hosts now : List (Vec RowValue Global)) (rows : Vec RowValue Global) → now ≡ hosts ++ rows ∷ [] → All P (rows_each hosts) → P rows.items → All P (rows_each now)
+all_more P hosts now rows grown all has = subst (All P) (sym (more_hosts hosts now rows grown)) (All-append P (rows_each hosts) (rows.items ∷ []) all (All-cons P rows.items [] has (All-nil P)))
+
+-- The nodes of a host's first rows.
+
+-- a node more makes them no fewer
+no_fewer : (nodes more : List Node) → length nodes ≤ length (fold add_node nodes more)
+no_fewer nodes [] = omega arith
+no_fewer nodes (x ∷ xs) = (let r = no_fewer (add_node nodes x) xs in let s = added nodes x in omega (arith, r, s))
+  where
+    added : (ns : List Node) (n : Node) → length ns ≤ length (add_node ns n)
+    added ns n = elim (cases_Bool (list_any (same_node n) ns)) [
+      | inl there ↦ rw there (omega arith)
+      | inr new ↦ rw new (omega arith)
+    ]
+
+-- the first of some rows need no more nodes than all
+distinct_front : (shape : ShapeValue) (rows : List RowValue) (n : ℕ) → distinct shape (take n rows) ≤ distinct shape rows
+distinct_front shape rows n =
+    let front : List RowValue = take n rows in
+    let back : List RowValue = drop n rows in
+    let parts : nodes_of shape (front ++ back) ≡ fold add_node (nodes_of shape front) (flat_map (nodes_for shape) back) = ap (fold add_node []) (flat_map-append (nodes_for shape) front back) ∙ fold-append add_node [] (flat_map (nodes_for shape) front) (flat_map (nodes_for shape) back) in
+    subst (λ (rs : List RowValue). distinct shape front ≤ distinct shape rs) (take-append-drop n rows) (rw parts (no_fewer (nodes_of shape front) (flat_map (nodes_for shape) back)))
+
+-- where there are nodes for all rows, there are for the first
+pub never_short : (shape : ShapeValue) (rows front : List RowValue) (n : ℕ) (why : Unmade) → why ≡ Nodes → front ≡ take n rows → distinct shape rows ≤ shape.nodes → IsUnmade shape front why → ⊥
+never_short shape rows front n why is of few bad =
+    let lacks : shape.nodes < distinct shape (take n rows) = subst (λ (w : Unmade). IsUnmade shape (take n rows) w) is (subst (λ (f : List RowValue). IsUnmade shape f why) of bad) in
+    let less = distinct_front shape rows n in
+    omega (arith, few, lacks, less)
+
+-- The numbers of a cut.
+
+pub counts_few : (sizes : LogSizes) (setup : SetupValue) (hosts : List (List RowValue)) (most : ℕ) → sizes.capacity ≤ most → All (HasRoom sizes setup) hosts → All (λ n. n ≤ most) (map (λ rows. length rows) hosts)
+counts_few sizes setup hosts most cap room = All-map (λ n. n ≤ most) (λ (rows : List RowValue). length rows) hosts (λ k d lt. let few = (room k d lt).0 in omega (arith, few, cap))
+
+pub cut_length : (turn : ℕ) (counts : List ℕ) (turns : ℕ) (cut : List ℕ) → cut ≡ cut_by turn counts turns → length cut ≡ length counts
+cut_length turn counts turns cut is = ap (λ (ns : List ℕ). length ns) is ∙ length-map (range_with_len 0 (length counts)) (in_cut turn counts turns) ∙ length-range_with_len 0 (length counts)
+
+pub cut_few : (most : ℕ) (counts cut : List ℕ) → length cut ≡ length counts → All (λ n. n ≤ most) counts → ((host : ℕ) → get_or cut host 0 ≤ get_or counts host 0) → All (λ n. n ≤ most) cut
+cut_few most counts cut same few within = All-from_get_or (λ n. n ≤ most) cut 0 (λ k lt. let low = within k in let high = few k 0 (omega (arith, lt, same)) in omega (arith, low, high))

@@ -1,6 +1,8 @@
 -- Several files that are read one after another.
-use Rattle.std.proofs.Common.{◌≡◌, ◌⊎◌, ℕ, ◌++◌, List, [], ◌∷◌, length, drop, map, Option, Some, None, refl, sym, ap, ap₂, subst, inl, inr, ◌∙◌, arith}
+use Rattle.std.proofs.Common.{◌≡◌, ◌⊎◌, ℕ, ◌++◌, zero, suc, ◌+◌, ◌<◌, List, [], ◌∷◌, length, take, drop, map, get_or, Option, Some, None, refl, sym, ap, ap₂, subst, inl, inr, ◌∙◌, arith}
 use Rattle.std.proofs.lemmas.List.{drop_all}
+use Rattle.std.specs.Borrow.{Bor}
+use Rattle.cf_command.specs.Call.{texts}
 use Rattle.cf_outside.specs.Files.{File}
 use Rattle.cf_run.specs.Files.{HasLeft, IsStopped, Grammar, IsFileAs, IsFileRefused, IsReadAs, Halts}
 use Rattle.cf_run.specs.Files.IsFileRefused.{missing, broken}
@@ -60,3 +62,16 @@ pub files_refusal : {A : Type 0} (g : Grammar A) (told : Option (List File)) (na
 files_refusal {A} g told [] before now P each why refused = absurd refused
 files_refusal {A} g told (n ∷ names) before now P each why (inl one) = each n before why one
 files_refusal {A} g told (n ∷ names) before now P each why (inr later) = files_refusal g told names (Some []) now P each why later.2
+
+-- the names before one, that one, and those after it
+pub names_split : (names : List (Bor (List ℕ))) (i : ℕ) (d : Bor (List ℕ)) → i < length names → texts names ≡ texts (take i names) ++ (get_or names i d).now ∷ texts (drop (suc i) names)
+names_split [] i d lt = absurd (omega (arith, lt))
+names_split (n ∷ names) zero d lt = refl
+names_split (n ∷ names) (suc i) d lt = ap (λ (ts : List (List ℕ)). n.now ∷ ts) (names_split names i d (omega (arith, lt)))
+
+pub names_more : (names : List (Bor (List ℕ))) (i : ℕ) (d : Bor (List ℕ)) → i < length names → texts (take (i + 1) names) ≡ texts (take i names) ++ (get_or names i d).now ∷ []
+names_more [] i d lt = absurd (omega (arith, lt))
+names_more (n ∷ names) zero d lt = refl
+names_more (n ∷ names) (suc i) d lt =
+    let e : suc i + 1 ≡ suc (i + 1) = omega arith in
+    rw e (ap (λ (ts : List (List ℕ)). n.now ∷ ts) (names_more names i d (omega (arith, lt))))

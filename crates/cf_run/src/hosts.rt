@@ -30,8 +30,9 @@ pub(crate) fn read_hosts<F: Shelf>(
     let mut hosts = Vec::new(alloc);
     for name in names {
         let rows = read_rows(alloc, shelf, name, format)?;
-        if hosts.push(rows).is_err() {
-            return Err(Halt::Stopped(Stop::Memory));
+        match hosts.push(rows) {
+            Ok(()) => {}
+            Err(_) => return Err(Halt::Stopped(Stop::Memory)),
         }
     }
     Ok(hosts)
