@@ -31,6 +31,7 @@ use Rattle.cf_snapshot.specs.Plans.{cut_by, in_cut}
 use Rattle.cf_run.specs.Due.{HasRoom}
 use Rattle.cf_run.specs.Logs.{IsUnmade}
 use Rattle.cf_run.specs.Parts.{rows_each}
+use Rattle.cf_run.specs.Work.{shape_for}
 use Rattle.cf_run.specs.declared.log.Unmade.{Unmade}
 use Rattle.cf_run.specs.declared.log.Unmade.TheVariants.{Nodes}
 
@@ -132,6 +133,11 @@ never_short shape rows front n why is of few bad =
 
 pub counts_few : (sizes : LogSizes) (setup : SetupValue) (hosts : List (List RowValue)) (most : ℕ) → sizes.capacity ≤ most → All (HasRoom sizes setup) hosts → All (λ n. n ≤ most) (map (λ rows. length rows) hosts)
 counts_few sizes setup hosts most cap room = All-map (λ n. n ≤ most) (λ (rows : List RowValue). length rows) hosts (λ k d lt. let few = (room k d lt).0 in omega (arith, few, cap))
+
+pub room_of : (sizes : LogSizes) (setup : SetupValue) (hosts : List (List RowValue)) → sizes.writers ≡ 1 → All (λ rows. length rows ≤ sizes.capacity) hosts → All (λ rows. distinct (shape_for setup sizes) rows ≤ sizes.writers * sizes.nodes) hosts → All (HasRoom sizes setup) hosts
+room_of sizes setup hosts one few nodes k d lt =
+    let n : distinct (shape_for setup sizes) (get_or hosts k d) ≤ 1 * sizes.nodes = subst (λ (w : ℕ). distinct (shape_for setup sizes) (get_or hosts k d) ≤ w * sizes.nodes) one (nodes k d lt) in
+    (few k d lt, omega (arith, n))
 
 pub cut_length : (turn : ℕ) (counts : List ℕ) (turns : ℕ) (cut : List ℕ) → cut ≡ cut_by turn counts turns → length cut ≡ length counts
 cut_length turn counts turns cut is = ap (λ (ns : List ℕ). length ns) is ∙ length-map (range_with_len 0 (length counts)) (in_cut turn counts turns) ∙ length-range_with_len 0 (length counts)
