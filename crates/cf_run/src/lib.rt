@@ -24,6 +24,8 @@ mod refusal;
 mod row_tests;
 mod rows;
 mod snapshot;
+#[cfg(test)]
+mod snapshot_tests;
 mod status;
 mod taker;
 #[cfg(test)]
