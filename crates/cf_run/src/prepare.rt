@@ -13,7 +13,9 @@ use crate::refusal::{Halt, Refusal, Stop};
 use crate::rows::{Format, drawn_packets, format_of};
 use crate::snapshot::{cut_text, is_some_full, load_hosts};
 use crate::taker::Collector;
-use cf_command::{Command, DumpCommand, LogSizes, RunCommand, SnapshotCommand, SynthCommand, command_of};
+use cf_command::{
+    Command, DumpCommand, LogSizes, RunCommand, SnapshotCommand, SynthCommand, command_of,
+};
 use cf_outside::{Gate, Shelf};
 use cf_row::packet_schema;
 use std::alloc::Global;
@@ -111,8 +113,18 @@ fn snapshot_answers<R: Threads + Sync, F: Shelf, G: Gate>(
     ensures cause { HasHaltCause (F.faults shelf.old) (F.faults shelf.new) result }
 {
     let setup = read_setup(alloc, shelf, command.setup)?;
-    let hosts = read_hosts(alloc, shelf, &command.captures, format_of(&setup))?;
-    let LogSizes { capacity, nodes, .. } = command.sizes;
+    let hosts = read_hosts(
+        alloc,
+        shelf,
+        &command.captures,
+        setup.schema(),
+        format_of(&setup),
+    )?;
+    let LogSizes {
+        capacity,
+        nodes,
+        ..
+    } = command.sizes;
     if is_some_full(&hosts, capacity) {
         return Err(Halt::Refused(Refusal::Full { capacity }));
     }

@@ -187,6 +187,15 @@ pub(crate) fn cut_text<R: Threads + Sync, G: Gate>(
     let cut = cut_of_turns(alloc, &counts, command.turns, command.turn)?;
     let mut text = String::new(alloc);
     push_cut(&mut text, total_of(&cut))?;
-    push_hosts(rt, alloc, &mut text, setup, hosts, &cut, command.sizes, gate)?;
+    push_hosts(
+        rt,
+        alloc,
+        &mut text,
+        setup,
+        hosts,
+        &cut,
+        command.sizes,
+        gate,
+    )?;
     Ok(text.into_bytes())
 }

@@ -40,9 +40,18 @@ fn hosts_are_told_of_at_one_cut(rt: HostRuntime) -> Result<(), Fail> {
         (&["--setup", "s", "--after", "1", "c", "c"], one),
         (&["--setup", "s", "--after", "4", "c", "c"], two),
         (&["--setup", "s", "--after", "4", "c", "b"], two),
-        (&["--setup", "s", "--after", "2", "--turn", "2", "b", "c"], two),
-        (&["--setup", "n", "--after", "0", "--nodes", "8", "c", "c"], none),
-        (&["--setup", "s", "--after", "9", "e"], b"cut 0\nhost 0 @0\nask big list 0:\n"),
+        (
+            &["--setup", "s", "--after", "2", "--turn", "2", "b", "c"],
+            two,
+        ),
+        (
+            &["--setup", "n", "--after", "0", "--nodes", "8", "c", "c"],
+            none,
+        ),
+        (
+            &["--setup", "s", "--after", "9", "e"],
+            b"cut 0\nhost 0 @0\nask big list 0:\n",
+        ),
     ];
     for (options, text) in table {
         let mut words = ["snapshot"].to_vec(alloc)?;
@@ -60,15 +69,46 @@ fn the_first_cause_refuses_a_snapshot(rt: HostRuntime) -> Result<(), Fail> {
     let fault = b"capture: record 0 code 1\n".as_slice();
     let missing = b"file: none of that name\n".as_slice();
     let table: [(&[&str], u8, &[u8]); 8] = [
-        (&["--setup", "s", "--after", "0"], 1, b"words: not a command\n"),
+        (
+            &["--setup", "s", "--after", "0"],
+            1,
+            b"words: not a command\n",
+        ),
         (&["--setup", "s", "--after", "0", "c", "c", "x"], 9, missing),
         (&["--setup", "x", "--after", "0", "f"], 9, missing),
         (&["--setup", "s", "--after", "0", "f", "x"], 3, fault),
-        (&["--setup", "s", "--after", "0", "--capacity", "1", "c", "c"], 6, full),
-        (&["--setup", "s", "--after", "0", "--capacity", "1", "c", "f"], 3, fault),
+        (
+            &["--setup", "s", "--after", "0", "--capacity", "1", "c", "c"],
+            6,
+            full,
+        ),
+        (
+            &["--setup", "s", "--after", "0", "--capacity", "1", "c", "f"],
+            3,
+            fault,
+        ),
         // A host's nodes are wanted for all its rows, and not for those in the cut alone.
-        (&["--setup", "n", "--after", "0", "--nodes", "7", "e", "c"], 7, nodes),
-        (&["--setup", "n", "--after", "0", "--nodes", "7", "--capacity", "1", "c", "c"], 6, full),
+        (
+            &["--setup", "n", "--after", "0", "--nodes", "7", "e", "c"],
+            7,
+            nodes,
+        ),
+        (
+            &[
+                "--setup",
+                "n",
+                "--after",
+                "0",
+                "--nodes",
+                "7",
+                "--capacity",
+                "1",
+                "c",
+                "c",
+            ],
+            6,
+            full,
+        ),
     ];
     for (options, number, text) in table {
         let mut words = ["snapshot"].to_vec(alloc)?;

@@ -23,10 +23,10 @@ returns-in_err-rows-clause-read g c =
     let i = c.loop-name.name-index in
     let names = c.args.names.now in
     let name = (get_or names i no_name).now in
-    let now = g.F.Shelf.rest c.read_rows.new.shelf in
+    let now = g.F.Shelf.rest c.rows_at.new.shelf in
     let halts = halts_after grammar told name (g.F.Shelf.rest c.loop-name.shelf) now c.loop-name.invariant.read.1 c.in_err-rows.field-0.0 (rw c.loop-name.invariant.files at c.in_err-rows.ensures.read) in
     rw (p.1, p.2) (subst (λ (ns : List (List ℕ)). AreHalted grammar told ns (Some []) now c.in_err-rows.field-0.0) (sym (names_split names i no_name c.loop-name-test.true))
-        (halted_after grammar told (texts (take i names)) (rows_each c.loop-name.hosts.items) name (texts (drop (suc i) names)) now c.in_err-rows.field-0.0 c.loop-name.invariant.read.0 halts))
+    (halted_after grammar told (texts (take i names)) (rows_each c.loop-name.hosts.items) name (texts (drop (suc i) names)) now c.in_err-rows.field-0.0 c.loop-name.invariant.read.0 halts))
 
 pub returns-in-Err-clause-read : goal.returns-in-Err-clause-read
 returns-in-Err-clause-read g c =
@@ -35,7 +35,7 @@ returns-in-Err-clause-read g c =
     let i = c.loop-name.name-index in
     let names = c.args.names.now in
     let name = (get_or names i no_name).now in
-    let now = g.F.Shelf.rest c.read_rows.new.shelf in
+    let now = g.F.Shelf.rest c.rows_at.new.shelf in
     let read = rw c.loop-name.invariant.files at c.in_ok-rows.ensures.read in
     subst (λ (ns : List (List ℕ)). AreStopped grammar told ns (Some []) now) (sym (names_split names i no_name c.loop-name-test.true))
     (stopped_between grammar told (texts (take i names)) (rows_each c.loop-name.hosts.items) (name ∷ texts (drop (suc i) names)) now c.loop-name.invariant.read.0 read.1)

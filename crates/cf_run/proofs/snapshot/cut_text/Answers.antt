@@ -30,6 +30,6 @@ pub total_of-requires-clause-hosts : goal.total_of-requires-clause-hosts
 total_of-requires-clause-hosts g c =
     let counts = c.deref.ensures.value ∙ c.in_ok-counts.ensures in
     let size = ap (λ (ns : List ℕ). length ns) c.deref-2.ensures.value
-        ∙ cut_length c.args.command.now.turn c.deref.result.now c.args.command.now.turns c.in_ok-cut.cut.items c.in_ok-cut.ensures.value
-        ∙ ap (λ (ns : List ℕ). length ns) counts ∙ length-map (rows_each c.args.hosts.now) (λ (rows : List RowValue). length rows) ∙ as_many c.args.hosts.now ∙ c.requires.size in
+    ∙ cut_length c.args.command.now.turn c.deref.result.now c.args.command.now.turns c.in_ok-cut.cut.items c.in_ok-cut.ensures.value
+    ∙ ap (λ (ns : List ℕ). length ns) counts ∙ length-map (rows_each c.args.hosts.now) (λ (rows : List RowValue). length rows) ∙ as_many c.args.hosts.now ∙ c.requires.size in
     omega (arith, size, c.requires.command.hosts.1)
