@@ -1,5 +1,5 @@
 -- What the words of a command line call for.
-use Rattle.std.specs.Prelude.{ℕ, ◌≤◌, ◌-◌, ◌^◌, ◌&&◌, nat_le, List, Option, Some, None, option_and_then, map, decimal, if◌then◌else◌}
+use Rattle.std.specs.Prelude.{◌≡◌, ℕ, ◌≤◌, ◌-◌, ◌^◌, ◌&&◌, nat_le, List, length, Option, Some, None, option_and_then, map, decimal, if◌then◌else◌}
 use Rattle.std.specs.Borrow.{Bor}
 use Rattle.std.specs.Str.{bytes_eq}
 use Rattle.std.specs.Str.Parse.{digits_value}
@@ -7,10 +7,11 @@ use Rattle.cf_command.specs.declared.words.LogSizes.{LogSizes}
 use Rattle.cf_command.specs.declared.words.RunCommand.{RunCommand}
 use Rattle.cf_command.specs.declared.words.SynthCommand.{SynthCommand}
 use Rattle.cf_command.specs.declared.words.DumpCommand.{DumpCommand}
+use Rattle.cf_command.specs.declared.words.SnapshotCommand.{SnapshotCommand}
 use Rattle.cf_command.specs.declared.words.Command.{Command}
-use Rattle.cf_command.specs.declared.words.Command.TheVariants.{Run, Synth, Dump}
+use Rattle.cf_command.specs.declared.words.Command.TheVariants.{Run, Synth, Dump, Snapshot}
 use Rattle.cf_command.specs.Table.{SaidValue, said_of}
-use Rattle.cf_command.specs.Table.SaidValue.{run_said, synth_said, dump_said}
+use Rattle.cf_command.specs.Table.SaidValue.{run_said, synth_said, dump_said, snapshot_said}
 
 -- the texts behind a list of references
 abbrev pub texts : List (Bor (List ℕ)) → List (List ℕ)
@@ -20,11 +21,15 @@ texts words = map (λ word. word.now) words
 unfoldable pub number_in : ℕ → ℕ → List ℕ → Option ℕ
 number_in low high text = let number = digits_value 10 text in if bytes_eq text (decimal number) && (nat_le low number && nat_le number high) then Some number else None
 
--- the sizes of a log that three texts write out: its writers, its capacity, and the nodes of each writer
+-- the sizes of a log of so many writers, whose capacity and the nodes of each writer two texts write out
+abbrev pub sizes_with : ℕ → List ℕ → List ℕ → Option LogSizes
+sizes_with writers capacity nodes =
+    option_and_then (λ c. option_and_then (λ n. Some (record { writers = writers; capacity = c; nodes = n }))
+    (number_in 0 65536 nodes)) (number_in 1 65536 capacity)
+
+-- the same where a text writes out the number of writers too
 abbrev pub sizes_in : List ℕ → List ℕ → List ℕ → Option LogSizes
-sizes_in writers capacity nodes =
-    option_and_then (λ w. option_and_then (λ c. option_and_then (λ n. Some (record { writers = w; capacity = c; nodes = n }))
-    (number_in 0 65536 nodes)) (number_in 1 65536 capacity)) (number_in 1 15 writers)
+sizes_in writers capacity nodes = option_and_then (λ w. sizes_with w capacity nodes) (number_in 1 15 writers)
 
 -- the sizes that a log may have
 pub record AreSizes (sizes : LogSizes) : Type 0 where
@@ -51,11 +56,26 @@ pub record SynthCall : Type 0 where
 pub record DumpCall : Type 0 where
   pub capture : List ℕ
 
+-- what `snapshot` is called for: the answers of a setup at one cut of several hosts, each of which has the rows of a capture, all
+-- named: so many turns of so many rows are taken before the freezing, over logs of one writer of these sizes
+pub record SnapshotCall : Type 0 where
+  pub setup : List ℕ
+  pub captures : List (List ℕ)
+  pub turns : ℕ
+  pub turn : ℕ
+  pub sizes : LogSizes
+
 -- what a command line is called for
 pub data Call : Type 0 where
   run : (call : RunCall) → Call
   synth : (call : SynthCall) → Call
   dump : (call : DumpCall) → Call
+  snapshot : (call : SnapshotCall) → Call
+
+-- a snapshot of 1 to 16 captures
+abbrev pub snapshot_over : List ℕ → ℕ → ℕ → LogSizes → List (List ℕ) → Option Call
+snapshot_over setup turns turn sizes captures =
+    if nat_le 1 (length captures) && nat_le (length captures) 16 then Some (snapshot (record { setup = setup; captures = captures; turns = turns; turn = turn; sizes = sizes })) else None
 
 -- the call of what is said, where each number is in its range
 abbrev pub call_in : SaidValue → Option Call
@@ -66,6 +86,9 @@ call_in (synth_said texts) =
     option_and_then (λ seed. option_and_then (λ count. option_and_then (λ sizes. Some (synth (record { setup = texts.setup; seed = seed; count = count; sizes = sizes })))
     (sizes_in texts.writers texts.capacity texts.nodes)) (number_in 0 65536 texts.count)) (number_in 0 (2 ^ 64 - 1) texts.seed)
 call_in (dump_said capture) = Some (dump (record { capture = capture }))
+call_in (snapshot_said texts) =
+    option_and_then (λ turns. option_and_then (λ turn. option_and_then (λ sizes. snapshot_over texts.setup turns turn sizes texts.captures)
+    (sizes_with 1 texts.capacity texts.nodes)) (number_in 1 4096 texts.turn)) (number_in 0 (2 ^ 32 - 1) texts.after)
 
 -- What the words call for: a command with its options, as clap takes them, each number being in its range. Other words are no
 -- command.
@@ -82,13 +105,26 @@ synth_by command = record { setup = command.setup.now; seed = command.seed; coun
 abbrev pub dump_by : DumpCommand → DumpCall
 dump_by command = record { capture = command.capture.now }
 
+abbrev pub snapshot_by : SnapshotCommand → SnapshotCall
+snapshot_by command = record { setup = command.setup.now; captures = map (λ name. name.now) command.captures.items; turns = command.turns; turn = command.turn; sizes = command.sizes }
+
+-- the call of a command that was read
 abbrev pub call_by : Command → Call
 call_by (Run command) = run (run_by command)
 call_by (Synth command) = synth (synth_by command)
 call_by (Dump command) = dump (dump_by command)
+call_by (Snapshot command) = snapshot (snapshot_by command)
 
--- the sizes and the count of a command are in their ranges
+-- a snapshot has 1 to 16 hosts, each with one writer
+pub record IsSnapshotInRange (command : SnapshotCommand) : Type 0 where
+  pub sizes : AreSizes command.sizes
+  pub one : command.sizes.writers ≡ 1
+  pub hosts : (1 ≤ length command.captures.items) × (length command.captures.items ≤ 16)
+  pub turn : (1 ≤ command.turn) × (command.turn ≤ 4096)
+
+-- the sizes and the counts of a command are in their ranges
 abbrev pub IsInRange : Command → Type 0
 IsInRange (Run command) = AreSizes command.sizes
 IsInRange (Synth command) = AreSizes command.sizes × (command.count ≤ 65536)
 IsInRange (Dump command) = Unit {0}
+IsInRange (Snapshot command) = IsSnapshotInRange command

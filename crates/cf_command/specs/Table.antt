@@ -1,11 +1,13 @@
 -- The table of commands, and what words say by it: what clap's own definition for simple commands takes and matches.
-use Rattle.std.specs.Prelude.{◌==◌, Bool, true, List, [], ◌∷◌, Option, Some, None, codes, option_map, option_and_then, if◌then◌else◌, length}
+use Rattle.std.specs.Prelude.{◌==◌, Bool, true, List, [], ◌∷◌, Option, Some, None, map, codes, option_map, option_and_then, if◌then◌else◌, length}
 use Rattle.std.specs.Str.{bytes_eq}
 use Rattle.cf_command.specs.declared.table.RunTexts.{RunTexts}
 use Rattle.cf_command.specs.declared.table.SynthTexts.{SynthTexts}
+use Rattle.cf_command.specs.declared.table.SnapshotTexts.{SnapshotTexts}
 use Rattle.cf_command.specs.declared.table.Said.{Said}
-use Rattle.cf_command.specs.declared.table.Said.TheVariants.{Run, Synth, Dump}
-use Rattle.clap.specs.Words.{App, Rule, Row, Text, new_app, new_rule, with_rule, with_subcommand, subcommand_of, fault_of, first_of}
+use Rattle.cf_command.specs.declared.table.Said.TheVariants.{Run, Synth, Dump, Snapshot}
+use Rattle.clap.specs.Words.{App, Rule, Row, Text, new_app, new_rule, with_rule, with_subcommand, subcommand_of, fault_of, first_of, all_of}
+use Rattle.clap.specs.declared.builder.action.ArgAction.TheVariants.{Append}
 
 -- an option that has to be given
 abbrev pub needed : Text → Rule
@@ -19,25 +21,43 @@ optional id value = record (new_rule id) { long = Some id; defaults = value ∷ 
 abbrev pub place : Text → Rule
 place id = record (new_rule id) { required = true }
 
+-- words of their own, one or more
+abbrev pub places : Text → Rule
+places id = record (new_rule id) { required = true; action = Some Append }
+
+-- with the options of a log's capacity and nodes
+abbrev pub roomed_app : App → App
+roomed_app app = with_rule (with_rule app (optional (codes "capacity") (codes "65536"))) (optional (codes "nodes") (codes "1024"))
+
 -- with the options of a log's sizes
 abbrev pub sized_app : App → App
-sized_app app = with_rule (with_rule (with_rule app (optional (codes "writers") (codes "4"))) (optional (codes "capacity") (codes "65536"))) (optional (codes "nodes") (codes "1024"))
+sized_app app = roomed_app (with_rule app (optional (codes "writers") (codes "4")))
 
+-- `run`: a setup, the sizes of the log, how often live questions are asked, and a capture
 abbrev pub run_app : App
 run_app = with_rule (with_rule (sized_app (with_rule (new_app (codes "run")) (needed (codes "setup")))) (optional (codes "live") (codes "0"))) (place (codes "capture"))
 
+-- `synth`: a setup, a seed and a count, and the sizes of the log
 abbrev pub synth_app : App
 synth_app = sized_app (with_rule (with_rule (with_rule (new_app (codes "synth")) (needed (codes "setup"))) (needed (codes "seed"))) (needed (codes "count")))
 
+-- `dump`: a capture
 abbrev pub dump_app : App
 dump_app = with_rule (new_app (codes "dump")) (place (codes "capture"))
 
+-- `snapshot`: a setup, the turns before the freezing, the rows of a turn, the capacity and nodes of each log, and captures
+abbrev pub snapshot_app : App
+snapshot_app = with_rule (roomed_app (with_rule (with_rule (with_rule (new_app (codes "snapshot")) (needed (codes "setup"))) (needed (codes "after"))) (optional (codes "turn") (codes "1")))) (places (codes "captures"))
+
+-- the program, whose words begin with a command of their own
 abbrev pub bare_app : App
 bare_app = let a = new_app (codes "confluo") in record a { top = record a.top { no_binary_name = true; subcommand_required = true } }
 
+-- the program with its commands
 unfoldable pub confluo_app : App
-confluo_app = with_subcommand (with_subcommand (with_subcommand bare_app run_app.top) synth_app.top) dump_app.top
+confluo_app = with_subcommand (with_subcommand (with_subcommand (with_subcommand bare_app run_app.top) synth_app.top) dump_app.top) snapshot_app.top
 
+-- the list is empty
 abbrev pub none_of : {X : Type 0} → List X → Bool
 none_of xs = length xs == 0
 
@@ -54,9 +74,11 @@ pub record RunSays : Type 0 where
   pub live : Text
   pub capture : Text
 
+-- these texts as a record, in the order in which they are looked up
 abbrev pub run_says : Text → Text → Text → Text → Text → Text → RunSays
 run_says s w n m l c = record { setup = s; writers = w; capacity = n; nodes = m; live = l; capture = c }
 
+-- what was read of a `run` command
 abbrev pub says_of : RunTexts → RunSays
 says_of r = run_says r.setup.now r.writers.now r.capacity.now r.nodes.now r.live.now r.capture.now
 
@@ -75,9 +97,11 @@ pub record SynthSays : Type 0 where
   pub capacity : Text
   pub nodes : Text
 
+-- these texts as a record, in the order in which they are looked up
 abbrev pub synth_says : Text → Text → Text → Text → Text → Text → SynthSays
 synth_says s x k w n m = record { setup = s; seed = x; count = k; writers = w; capacity = n; nodes = m }
 
+-- what was read of a `synth` command
 abbrev pub synth_says_of : SynthTexts → SynthSays
 synth_says_of r = synth_says r.setup.now r.seed.now r.count.now r.writers.now r.capacity.now r.nodes.now
 
@@ -87,18 +111,43 @@ synth_texts_of rows =
     option_and_then (λ s. option_and_then (λ x. option_and_then (λ k. option_and_then (λ w. option_and_then (λ n. option_and_then (λ m. Some (synth_says s x k w n m))
     (first_of (codes "nodes") rows)) (first_of (codes "capacity") rows)) (first_of (codes "writers") rows)) (first_of (codes "count") rows)) (first_of (codes "seed") rows)) (first_of (codes "setup") rows)
 
+-- the texts of a `snapshot` command
+pub record SnapshotSays : Type 0 where
+  pub setup : Text
+  pub after : Text
+  pub turn : Text
+  pub capacity : Text
+  pub nodes : Text
+  pub captures : List Text
+
+-- these texts as a record, in the order in which they are looked up
+abbrev pub snapshot_says : Text → Text → Text → Text → Text → List Text → SnapshotSays
+snapshot_says s a t n m cs = record { setup = s; after = a; turn = t; capacity = n; nodes = m; captures = cs }
+
+-- what was read of a `snapshot` command
+abbrev pub snapshot_says_of : SnapshotTexts → SnapshotSays
+snapshot_says_of r = snapshot_says r.setup.now r.after.now r.turn.now r.capacity.now r.nodes.now (map (λ s. s.now) r.captures.items)
+
+-- what the rows of a `snapshot` command say
+unfoldable pub snapshot_texts_of : List Row → Option SnapshotSays
+snapshot_texts_of rows =
+    option_and_then (λ s. option_and_then (λ a. option_and_then (λ t. option_and_then (λ n. option_and_then (λ m. option_and_then (λ cs. Some (snapshot_says s a t n m cs))
+    (all_of (codes "captures") rows)) (first_of (codes "nodes") rows)) (first_of (codes "capacity") rows)) (first_of (codes "turn") rows)) (first_of (codes "after") rows)) (first_of (codes "setup") rows)
+
 -- what a command line says: the texts of its command
 pub data SaidValue : Type 0 where
   run_said : (said : RunSays) → SaidValue
   synth_said : (said : SynthSays) → SaidValue
   dump_said : (capture : Text) → SaidValue
+  snapshot_said : (said : SnapshotSays) → SaidValue
 
 -- what a command of that name says with these rows
 abbrev pub said_in : Text × List Row → Option SaidValue
 said_in p =
     if bytes_eq p.0 (codes "run") then option_map run_said (run_texts_of p.1) else (
     if bytes_eq p.0 (codes "synth") then option_map synth_said (synth_texts_of p.1) else (
-    if bytes_eq p.0 (codes "dump") then option_map dump_said (first_of (codes "capture") p.1) else None))
+    if bytes_eq p.0 (codes "dump") then option_map dump_said (first_of (codes "capture") p.1) else (
+    if bytes_eq p.0 (codes "snapshot") then option_map snapshot_said (snapshot_texts_of p.1) else None)))
 
 -- what words say, where clap takes them
 unfoldable pub said_of : List Text → Option SaidValue
@@ -109,3 +158,4 @@ abbrev pub said_by : Said → SaidValue
 said_by (Run texts) = run_said (says_of texts)
 said_by (Synth texts) = synth_said (synth_says_of texts)
 said_by (Dump capture) = dump_said capture.now
+said_by (Snapshot texts) = snapshot_said (snapshot_says_of texts)

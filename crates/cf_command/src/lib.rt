@@ -8,7 +8,9 @@ mod tests;
 mod words;
 
 use std::alloc::AllocError;
-pub use words::{Command, DumpCommand, LogSizes, RunCommand, SynthCommand, command_of};
+pub use words::{
+    Command, DumpCommand, LogSizes, RunCommand, SnapshotCommand, SynthCommand, command_of,
+};
 
 /// Want of memory, the one refusal of reading words.
 pub type Memory = AllocError;

@@ -1,13 +1,13 @@
 // The table of commands, as clap is told of it.
 ghost use Rattle.std.specs.Prelude.{◌≡◌, IfOk, option_map, option_and_then, map, false, codes};
-ghost use Rattle.clap.specs.Words.{app_of, rule_of, shape_of, subcommand_rows_of, with_rule, with_subcommand, first_of, found_of, rows_of};
+ghost use Rattle.clap.specs.Words.{app_of, rule_of, shape_of, subcommand_rows_of, with_rule, with_subcommand, first_of, all_of, found_of, rows_of};
 ghost use Rattle.clap.specs.declared.builder.command.Command.TheViews.{out-Command as fields_of};
-ghost use Rattle.cf_command.specs.Table.{bare_app, confluo_app, sized_app, needed, optional, place, run_app, synth_app, dump_app, taken, said_of, said_by, run_texts_of, says_of, synth_texts_of, synth_says_of};
-ghost use Rattle.cf_command.specs.Table.SaidValue.{run_said, synth_said, dump_said};
+ghost use Rattle.cf_command.specs.Table.{bare_app, confluo_app, roomed_app, sized_app, needed, optional, place, places, run_app, synth_app, dump_app, snapshot_app, taken, said_of, said_by, run_texts_of, says_of, synth_texts_of, synth_says_of, snapshot_texts_of, snapshot_says_of};
+ghost use Rattle.cf_command.specs.Table.SaidValue.{run_said, synth_said, dump_said, snapshot_said};
 
 use crate::Memory;
 use clap::error::ErrorKind;
-use clap::{Arg, ArgMatches, Command};
+use clap::{Arg, ArgAction, ArgMatches, Command};
 use std::alloc::{AllocError, Global};
 
 fn needed_option<'a>(alloc: Global, id: &'a str) -> Arg<'a>
@@ -31,12 +31,29 @@ fn own_word<'a>(alloc: Global, id: &'a str) -> Arg<'a>
     Arg::new(alloc, id).required(true)
 }
 
+fn own_words<'a>(alloc: Global, id: &'a str) -> Arg<'a>
+    ensures rule { rule_of result ≡ places id.entry.now }
+    ensures local { result.global ≡ false }
+{
+    Arg::new(alloc, id).required(true).action(ArgAction::Append)
+}
+
 fn and<'a>(command: Command<'a>, arg: Arg<'a>) -> Result<Command<'a>, Memory>
     requires { (arg.global ≡ false) × ((fields_of command).has_globals ≡ false) }
     ensures rules { IfOk result (λ c. app_of c ≡ with_rule (app_of command.entry) (rule_of arg.entry)) }
     ensures local { IfOk result (λ c. (fields_of c).has_globals ≡ false) }
 {
     command.arg(arg)
+}
+
+// With the options of a log's capacity and nodes.
+fn roomed<'a>(alloc: Global, command: Command<'a>) -> Result<Command<'a>, Memory>
+    requires local { (fields_of command).has_globals ≡ false }
+    ensures rules { IfOk result (λ c. app_of c ≡ roomed_app (app_of command.entry)) }
+    ensures local { IfOk result (λ c. (fields_of c).has_globals ≡ false) }
+{
+    let command = and(command, optional_option(alloc, "capacity", "65536"))?;
+    and(command, optional_option(alloc, "nodes", "1024"))
 }
 
 // With the options of a log's sizes.
@@ -46,8 +63,7 @@ fn sized<'a>(alloc: Global, command: Command<'a>) -> Result<Command<'a>, Memory>
     ensures local { IfOk result (λ c. (fields_of c).has_globals ≡ false) }
 {
     let command = and(command, optional_option(alloc, "writers", "4"))?;
-    let command = and(command, optional_option(alloc, "capacity", "65536"))?;
-    and(command, optional_option(alloc, "nodes", "1024"))
+    roomed(alloc, command)
 }
 
 fn run_command<'a>(alloc: Global) -> Result<Command<'a>, Memory>
@@ -79,6 +95,18 @@ fn dump_command<'a>(alloc: Global) -> Result<Command<'a>, Memory>
     and(Command::new(alloc, "dump"), own_word(alloc, "capture"))
 }
 
+fn snapshot_command<'a>(alloc: Global) -> Result<Command<'a>, Memory>
+    ensures rules { IfOk result (λ c. app_of c ≡ snapshot_app) }
+    ensures local { IfOk result (λ c. (fields_of c).has_globals ≡ false) }
+{
+    let command = Command::new(alloc, "snapshot");
+    let command = and(command, needed_option(alloc, "setup"))?;
+    let command = and(command, needed_option(alloc, "after"))?;
+    let command = and(command, optional_option(alloc, "turn", "1"))?;
+    let command = roomed(alloc, command)?;
+    and(command, own_words(alloc, "captures"))
+}
+
 fn under<'a>(command: Command<'a>, sub: Command<'a>) -> Result<Command<'a>, Memory>
     requires { (fields_of sub).has_globals ≡ false }
     ensures { IfOk result (λ c. app_of c ≡ with_subcommand (app_of command.entry) (shape_of sub.entry)) }
@@ -100,7 +128,8 @@ fn confluo_command<'a>(alloc: Global) -> Result<Command<'a>, Memory>
 {
     let command = under(bare_command(alloc), run_command(alloc)?)?;
     let command = under(command, synth_command(alloc)?)?;
-    under(command, dump_command(alloc)?)
+    let command = under(command, dump_command(alloc)?)?;
+    under(command, snapshot_command(alloc)?)
 }
 
 // The command that the words name, with its values, or nothing where clap refuses them.
@@ -185,6 +214,66 @@ fn synth_texts<'a>(matches: &ArgMatches<'a>) -> Option<SynthTexts<'a>>
     })
 }
 
+/// The texts of a `snapshot` command.
+#[derive(Drop)]
+pub(crate) struct SnapshotTexts<'a> {
+    pub(crate) setup: &'a str,
+    pub(crate) after: &'a str,
+    pub(crate) turn: &'a str,
+    pub(crate) capacity: &'a str,
+    pub(crate) nodes: &'a str,
+    pub(crate) captures: Vec<&'a str>,
+}
+
+// The same references.
+fn copied<'a>(alloc: Global, texts: &[&'a str]) -> Result<Vec<&'a str>, Memory>
+    ensures { IfOk result (λ copied. map (λ s. s.now) copied.items ≡ map (λ s. s.now) texts.now) }
+{
+    let mut copied = Vec::new(alloc);
+    for text in texts {
+        copied.push(*text)?;
+    }
+    Ok(copied)
+}
+
+fn texts_of<'a>(
+    alloc: Global,
+    matches: &ArgMatches<'a>,
+    id: &str,
+) -> Result<Option<Vec<&'a str>>, Memory>
+    ensures { IfOk result (λ found. option_map (λ v. map (λ s. s.now) v.items) found ≡ all_of id.now (rows_of (found_of matches.now))) }
+{
+    match matches.get_strs(id) {
+        Some(texts) => Ok(Some(copied(alloc, texts)?)),
+        None => Ok(None),
+    }
+}
+
+// With the captures that were found.
+#[tactic(auto, unfolding(crate::specs::Table::snapshot_texts_of))]
+fn snapshot_texts<'a>(
+    matches: &ArgMatches<'a>,
+    captures: Option<Vec<&'a str>>,
+) -> Option<SnapshotTexts<'a>>
+    requires { option_map (λ v. map (λ s. s.now) v.items) captures ≡ all_of (codes "captures") (rows_of (found_of matches.now)) }
+    ensures { option_map snapshot_says_of result ≡ snapshot_texts_of (rows_of (found_of matches.now)) }
+{
+    let setup = text_of(matches, "setup")?;
+    let after = text_of(matches, "after")?;
+    let turn = text_of(matches, "turn")?;
+    let capacity = text_of(matches, "capacity")?;
+    let nodes = text_of(matches, "nodes")?;
+    let captures = captures?;
+    Some(SnapshotTexts {
+        setup,
+        after,
+        turn,
+        capacity,
+        nodes,
+        captures,
+    })
+}
+
 /// What the words of a command say.
 #[derive(Drop)]
 pub(crate) enum Said<'a> {
@@ -192,6 +281,7 @@ pub(crate) enum Said<'a> {
     Synth(SynthTexts<'a>),
     /// The name of the capture.
     Dump(&'a str),
+    Snapshot(SnapshotTexts<'a>),
 }
 
 fn run_said_by<'a>(matches: &ArgMatches<'a>) -> Option<Said<'a>>
@@ -210,6 +300,13 @@ fn dump_said_by<'a>(matches: &ArgMatches<'a>) -> Option<Said<'a>>
     ensures { option_map said_by result ≡ option_map dump_said (first_of (codes "capture") (rows_of (found_of matches.now))) }
 {
     Some(Said::Dump(text_of(matches, "capture")?))
+}
+
+fn snapshot_said_by<'a>(alloc: Global, matches: &ArgMatches<'a>) -> Result<Option<Said<'a>>, Memory>
+    ensures { IfOk result (λ found. option_map said_by found ≡ option_map snapshot_said (snapshot_texts_of (rows_of (found_of matches.now)))) }
+{
+    let captures = texts_of(alloc, matches, "captures")?;
+    Ok(snapshot_texts(matches, captures).map(Said::Snapshot))
 }
 
 /// What the words of a command say, or nothing where they are no command.
@@ -231,6 +328,8 @@ pub(crate) fn read_words<'a>(
                 Ok(synth_said_by(inner))
             } else if name == "dump" {
                 Ok(dump_said_by(inner))
+            } else if name == "snapshot" {
+                snapshot_said_by(alloc, inner)
             } else {
                 Ok(None)
             }

@@ -2,7 +2,7 @@ use super::*;
 use std::alloc::Global;
 use std::test::Fail;
 
-// The writers, capacity, nodes and live rounds of a `run` whose words have spaces between them; the count in place of the rounds of a `synth`; zeros of a `dump`.
+// The writers, capacity, nodes and live rounds of a `run` whose words have spaces between them; the count in place of the rounds of a `synth`; zeros of a `dump`; how many captures a `snapshot` has in place of the writers, and its turns in place of the rounds.
 fn numbers_of(alloc: Global, text: &str) -> Result<Option<(u8, u32, u32, u32)>, Memory> {
     let mut words = Vec::new(alloc);
     for word in text.split(' ') {
@@ -22,6 +22,12 @@ fn numbers_of(alloc: Global, text: &str) -> Result<Option<(u8, u32, u32, u32)>, 
             command.count,
         ))),
         Some(Command::Dump(_)) => Ok(Some((0, 0, 0, 0))),
+        Some(Command::Snapshot(command)) => Ok(Some((
+            command.captures.len() as u8,
+            command.sizes.capacity,
+            command.sizes.nodes,
+            command.turns,
+        ))),
         None => Ok(None),
     }
 }
@@ -54,6 +60,26 @@ fn words_are_read_by_the_table(rt: HostRuntime) -> Result<(), Fail> {
         ("dump c d", None),
         ("dump --setup s c", None),
         ("dump --help", None),
+        ("snapshot --setup s --after 0 c", Some((1, 65536, 1024, 0))),
+        (
+            "snapshot a b --turn 4096 --setup s c --after 4294967295 --capacity 1 --nodes 0",
+            Some((3, 1, 0, 4294967295)),
+        ),
+        (
+            "snapshot --setup s --after 1 a b c d e f g h i j k l m n o p",
+            Some((16, 65536, 1024, 1)),
+        ),
+        (
+            "snapshot --setup s --after 1 a b c d e f g h i j k l m n o p q",
+            None,
+        ),
+        ("snapshot --setup s --after 1", None),
+        ("snapshot --setup s c", None),
+        ("snapshot --after 1 c", None),
+        ("snapshot --setup s --after 4294967296 c", None),
+        ("snapshot --setup s --after 1 --turn 0 c", None),
+        ("snapshot --setup s --after 1 --turn 4097 c", None),
+        ("snapshot --setup s --after 1 --writers 1 c", None),
         ("", None),
         ("run --setup s --setup t c", None),
     ] {
@@ -94,6 +120,12 @@ fn names_of<'a>(alloc: Global, words: &'a [&'a str]) -> Result<Option<(&'a str, 
         Some(Command::Run(command)) => Ok(Some((command.setup, command.capture))),
         Some(Command::Synth(command)) => Ok(Some((command.setup, ""))),
         Some(Command::Dump(command)) => Ok(Some(("", command.capture))),
+        Some(Command::Snapshot(command)) => {
+            Ok(Some((
+                command.setup,
+                command.captures.last().copied().unwrap_or(""),
+            )))
+        }
         None => Ok(None),
     }
 }
@@ -101,7 +133,7 @@ fn names_of<'a>(alloc: Global, words: &'a [&'a str]) -> Result<Option<(&'a str, 
 #[test]
 fn names_of_files_are_those_of_the_words(rt: HostRuntime) -> Result<(), Fail> {
     let alloc = rt.alloc();
-    let table: [(&[&str], (&str, &str)); 4] = [
+    let table: [(&[&str], (&str, &str)); 5] = [
         (&["run", "c.pcap", "--setup", "s"], ("s", "c.pcap")),
         (&["run", "--setup=c", "s"], ("c", "s")),
         (
@@ -109,6 +141,10 @@ fn names_of_files_are_those_of_the_words(rt: HostRuntime) -> Result<(), Fail> {
             ("s", ""),
         ),
         (&["dump", "run"], ("", "run")),
+        (
+            &["snapshot", "b", "a", "--setup", "s", "--after", "1"],
+            ("s", "a"),
+        ),
     ];
     for (words, names) in table {
         assert_eq!(rt; names_of(alloc, words)?, Some(names));

@@ -1,12 +1,12 @@
 // What the words ask for.
-ghost use Rattle.std.specs.Prelude.{◌≡◌, IfOk, IfSome, option_map};
-ghost use Rattle.cf_command.specs.Call.{call_of, call_in, call_by, sizes_in, texts, AreSizes, IsInRange};
-ghost use Rattle.cf_command.specs.Table.{says_of, synth_says_of};
-ghost use Rattle.cf_command.specs.Table.SaidValue.{run_said, synth_said};
+ghost use Rattle.std.specs.Prelude.{◌≡◌, ◌≤◌, IfOk, IfSome, option_map};
+ghost use Rattle.cf_command.specs.Call.{call_of, call_in, call_by, sizes_in, sizes_with, texts, AreSizes, IsInRange};
+ghost use Rattle.cf_command.specs.Table.{says_of, synth_says_of, snapshot_says_of};
+ghost use Rattle.cf_command.specs.Table.SaidValue.{run_said, synth_said, snapshot_said};
 
 use crate::Memory;
 use crate::number::number_between;
-use crate::table::{RunTexts, Said, SynthTexts, read_words};
+use crate::table::{RunTexts, Said, SnapshotTexts, SynthTexts, read_words};
 use std::alloc::Global;
 
 /// The sizes of a log: how many writers load it, how many records it holds at most, and how many nodes each writer has.
@@ -43,8 +43,19 @@ pub struct DumpCommand<'a> {
     pub capture: &'a str,
 }
 
+/// The command `snapshot`: the names of the setup and of a capture for each host, how many turns are taken before the freezing
+/// and how many rows a host covers in one, and the sizes of each host's log.
+#[derive(Debug, Drop)]
+pub struct SnapshotCommand<'a> {
+    pub setup: &'a str,
+    pub captures: Vec<&'a str>,
+    pub turns: u32,
+    pub turn: u32,
+    pub sizes: LogSizes,
+}
+
 /// What the words of a command line ask for.
-#[derive(Clone, Copy, Debug)]
+#[derive(Debug, Drop)]
 pub enum Command<'a> {
     /// The report of a capture by a setup.
     Run(RunCommand<'a>),
@@ -52,6 +63,33 @@ pub enum Command<'a> {
     Synth(SynthCommand<'a>),
     /// The rows of a capture.
     Dump(DumpCommand<'a>),
+    /// The answers of a setup at one cut of several hosts.
+    Snapshot(SnapshotCommand<'a>),
+}
+
+// The sizes of a log of so many writers, where the texts write out the others, each in its range.
+fn sizes_of_writers(
+    alloc: Global,
+    writers: u8,
+    capacity: &str,
+    nodes: &str,
+) -> Result<Option<LogSizes>, Memory>
+    requires { (1 ≤ writers) × (writers ≤ 15) }
+    ensures sizes { IfOk result (λ found. found ≡ sizes_with writers capacity.now nodes.now) }
+    ensures within { IfOk result (λ found. IfSome found AreSizes) }
+    ensures writers { IfOk result (λ found. IfSome found (λ sizes. sizes.writers ≡ writers)) }
+{
+    let Some(capacity) = number_between(alloc, capacity, 1, 65536)? else {
+        return Ok(None);
+    };
+    let Some(nodes) = number_between(alloc, nodes, 0, 65536)? else {
+        return Ok(None);
+    };
+    Ok(Some(LogSizes {
+        writers,
+        capacity: capacity as u32,
+        nodes: nodes as u32,
+    }))
 }
 
 // The sizes that the texts write out, where each is in its range.
@@ -67,17 +105,7 @@ fn sizes_of(
     let Some(writers) = number_between(alloc, writers, 1, 15)? else {
         return Ok(None);
     };
-    let Some(capacity) = number_between(alloc, capacity, 1, 65536)? else {
-        return Ok(None);
-    };
-    let Some(nodes) = number_between(alloc, nodes, 0, 65536)? else {
-        return Ok(None);
-    };
-    Ok(Some(LogSizes {
-        writers: writers as u8,
-        capacity: capacity as u32,
-        nodes: nodes as u32,
-    }))
+    sizes_of_writers(alloc, writers as u8, capacity, nodes)
 }
 
 // The command of these texts, where each number is in its range.
@@ -121,6 +149,32 @@ fn synth_from<'a>(alloc: Global, said: &SynthTexts<'a>) -> Result<Option<Command
     })))
 }
 
+// The command of these texts, where each number is in its range, and there are 1 to 16 captures.
+fn snapshot_from<'a>(alloc: Global, said: SnapshotTexts<'a>) -> Result<Option<Command<'a>>, Memory>
+    ensures call { IfOk result (λ found. option_map call_by found ≡ call_in (snapshot_said (snapshot_says_of said.entry))) }
+    ensures within { IfOk result (λ found. IfSome found IsInRange) }
+{
+    let Some(turns) = number_between(alloc, said.after, 0, u64::from(u32::MAX))? else {
+        return Ok(None);
+    };
+    let Some(turn) = number_between(alloc, said.turn, 1, 4096)? else {
+        return Ok(None);
+    };
+    let Some(sizes) = sizes_of_writers(alloc, 1, said.capacity, said.nodes)? else {
+        return Ok(None);
+    };
+    if !(1..=16).contains(&said.captures.len()) {
+        return Ok(None);
+    }
+    Ok(Some(Command::Snapshot(SnapshotCommand {
+        setup: said.setup,
+        captures: said.captures,
+        turns: turns as u32,
+        turn: turn as u32,
+        sizes,
+    })))
+}
+
 /// The command that the words are, or nothing where they are none. Each of its numbers is in its range.
 #[tactic(auto, unfolding(crate::specs::Call::call_of))]
 pub fn command_of<'a>(alloc: Global, words: &'a [&'a str]) -> Result<Option<Command<'a>>, Memory>
@@ -134,5 +188,6 @@ pub fn command_of<'a>(alloc: Global, words: &'a [&'a str]) -> Result<Option<Comm
         Said::Run(texts) => run_from(alloc, &texts),
         Said::Synth(texts) => synth_from(alloc, &texts),
         Said::Dump(capture) => Ok(Some(Command::Dump(DumpCommand { capture }))),
+        Said::Snapshot(texts) => snapshot_from(alloc, texts),
     }
 }

@@ -4,4 +4,5 @@ pub mod Report
 pub mod Text
 pub mod Runs
 pub mod Meaning
+pub mod Snapshot
 pub mod Laws

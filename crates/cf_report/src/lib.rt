@@ -1,5 +1,5 @@
 //! The text of a report: what questions and triggers found on a log, what live questions found while it was written, and the
-//! order in which its writers wrote.
+//! order in which its writers wrote. And the text of a snapshot over several hosts.
 #![tactic(auto)]
 
 mod body;
@@ -8,6 +8,7 @@ mod laws;
 mod lines;
 mod live;
 mod order;
+mod snapshot;
 #[cfg(test)]
 mod tests;
 mod text;
@@ -17,4 +18,5 @@ pub use condition::is_answering;
 pub use laws::{
     final_part_has_no_sizes, final_part_is_one, meant_answers_make_reports, reports_are_histories,
 };
+pub use snapshot::{push_cut, push_host};
 pub use text::{Form, report};

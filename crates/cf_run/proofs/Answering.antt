@@ -5,14 +5,17 @@ use Rattle.cf_outside.specs.Files.{File}
 use Rattle.cf_row.specs.Row.{RowValue}
 use Rattle.cf_row.specs.Schema.{packet_attrs}
 use Rattle.cf_command.specs.declared.words.LogSizes.{LogSizes}
-use Rattle.cf_command.specs.Call.{Call, RunCall, SynthCall, DumpCall}
-use Rattle.cf_command.specs.Call.Call.{run, synth, dump}
+use Rattle.cf_command.specs.Call.{Call, RunCall, SynthCall, DumpCall, SnapshotCall}
+use Rattle.cf_command.specs.Call.Call.{run, synth, dump, snapshot}
 use Rattle.cf_setup.specs.Setups.{SetupValue}
 use Rattle.cf_table.specs.Moves.{SealValue}
 use Rattle.cf_run.specs.Answers.{Yields, IsDecided, IsByCall}
-use Rattle.cf_run.specs.Due.{Work, RunAfter, ComesTo, StopsAt, GivesLog, IsReportOf, AreAnswersOf, Gives, IsDue, IsLawful, drawn_work}
+use Rattle.cf_run.specs.Due.{Work, RunAfter, SnapshotAfter, ComesTo, StopsAt, GivesLog, GivesCut, IsReportOf, AreAnswersOf, Gives, IsDue, IsLawful, drawn_work}
 use Rattle.cf_run.specs.Due.Work.{refused}
 use Rattle.cf_run.specs.Due.CallsBy.{halted, whole}
+use Rattle.cf_run.specs.Due.CallsByAll.{one_halted, all_whole}
+use Rattle.cf_run.specs.Due.HostsExceed.{some_full, some_short}
+use Rattle.cf_run.specs.Due.GivesCut.{refuses_hosts, tells_hosts}
 use Rattle.cf_run.specs.Due.Exceeds.{full, short}
 use Rattle.cf_run.specs.Due.GivesLog.{refuses, tells}
 use Rattle.cf_run.specs.Files.{Grammar, setups, captures, IsFileRefused}
@@ -23,6 +26,7 @@ use Rattle.cf_run.specs.Work.{drawn_rows}
 use Rattle.cf_run.specs.declared.draft.Draft.{Draft}
 use Rattle.cf_run.specs.declared.draft.Draft.TheVariants as drafts
 use Rattle.cf_run.proofs.Deciding.{one_due, lawful_done}
+use Rattle.cf_run.proofs.Several.{files_refusal}
 use Rattle.cf_run.specs.declared.refusal.Refusal.{Refusal}
 use Rattle.cf_run.specs.declared.refusal.Refusal.TheVariants as refusals
 use Rattle.cf_run.specs.declared.refusal.Stop.{Stop}
@@ -129,11 +133,33 @@ module _ (told : Option (List File)) (before now : Option (List ℕ)) (status : 
       let made = subst (λ (w : Work). Gives w status text seals) next.0 gives in
       (λ e. cc (e, made.0), λ line code e. cc (e, made.0), λ e. cc (e, made.0), λ e. cc (e, made.0), made.2)
 
+  -- of a snapshot
+  snapshot_by_cut : (call : SnapshotCall) (setup : SetupValue) (hosts : List (List RowValue)) → GivesCut call setup hosts status text seals → IsByCall (Some (snapshot call)) status seals
+  snapshot_by_cut call setup hosts (refuses_hosts why (some_full many is) gives) = by_refusal (IsByCall (Some (snapshot call))) why (subst (λ (w : Refusal). IsByCall (Some (snapshot call)) (status_of w) []) (sym is) (λ e. cc e, refl)) gives
+  snapshot_by_cut call setup hosts (refuses_hosts why (some_short few many is) gives) = by_refusal (IsByCall (Some (snapshot call))) why (subst (λ (w : Refusal). IsByCall (Some (snapshot call)) (status_of w) []) (sym is) (λ e. cc e, refl)) gives
+  snapshot_by_cut call setup hosts (tells_hosts room is told_of none) = (λ e. cc (e, is), none)
+
+  snapshot_by_hosts : (call : SnapshotCall) (setup : SetupValue) (work : Work) → Gives work status text seals → SnapshotAfter told call now setup work → IsByCall (Some (snapshot call)) status seals
+  snapshot_by_hosts call setup work gives (one_halted why files is) =
+      by_refusal (IsByCall (Some (snapshot call))) why
+      (files_refusal (captures setup.packet setup.schema) told call.captures (Some []) now (λ w. IsByCall (Some (snapshot call)) (status_of w) []) (λ name start w file.
+      file_refusal (captures setup.packet setup.schema) told name start now (λ v. IsByCall (Some (snapshot call)) (status_of v) []) (λ e. cc e, refl) (λ at code. (λ e. cc e, refl)) w file) why files)
+      (subst (λ (w : Work). Gives w status text seals) is gives)
+  snapshot_by_hosts call setup work gives (all_whole hosts said next) = snapshot_by_cut call setup hosts (subst (λ (w : Work). Gives w status text seals) next.0 gives)
+
+  snapshot_by_work : (call : SnapshotCall) (work : Work) → Gives work status text seals → ComesTo told (Some (snapshot call)) before now work → IsByCall (Some (snapshot call)) status seals
+  snapshot_by_work call work gives (halted why file is) =
+      by_refusal (IsByCall (Some (snapshot call))) why
+      (file_refusal setups told call.setup before now (λ w. IsByCall (Some (snapshot call)) (status_of w) []) (λ e. cc e, refl) (λ line code. (λ e. cc e, refl)) why file)
+      (subst (λ (w : Work). Gives w status text seals) is gives)
+  snapshot_by_work call work gives (whole setup said next) = snapshot_by_hosts call setup work gives next
+
   pub by_due : (call : Option Call) → IsDue told call before now status text seals → IsByCall call status seals
   by_due None due = inl (subst (λ (w : Work). Gives w status text seals) due.comes.0 due.gives).0
   by_due (Some (run call)) due = run_by_work call due.work due.gives due.comes
   by_due (Some (synth call)) due = synth_by_work call due.work due.gives due.comes
   by_due (Some (dump call)) due = dump_by_work call due.work due.gives due.comes
+  by_due (Some (snapshot call)) due = snapshot_by_work call due.work due.gives due.comes
 
 -- of the faults of devices, and of want of memory
 pub by_cut : (call : Option Call) (status : Status) (seals : List SealValue) → status ≡ WriteFault → seals ≡ [] → IsByCall call status seals
@@ -141,12 +167,14 @@ by_cut None status seals is none = inr (inr is)
 by_cut (Some (run call)) status seals is none = (λ e. cc (e, is), λ e. cc (e, is))
 by_cut (Some (synth call)) status seals is none = (λ e. cc (e, is), λ at code e. cc (e, is), λ e. cc (e, is))
 by_cut (Some (dump call)) status seals is none = (λ e. cc (e, is), λ line code e. cc (e, is), λ e. cc (e, is), λ e. cc (e, is), none)
+by_cut (Some (snapshot call)) status seals is none = (λ e. cc (e, is), none)
 
 by_memory : (call : Option Call) (status : Status) (seals : List SealValue) → status ≡ Memory → seals ≡ [] → IsByCall call status seals
 by_memory None status seals is none = inr (inl is)
 by_memory (Some (run call)) status seals is none = (λ e. cc (e, is), λ e. cc (e, is))
 by_memory (Some (synth call)) status seals is none = (λ e. cc (e, is), λ at code e. cc (e, is), λ e. cc (e, is))
 by_memory (Some (dump call)) status seals is none = (λ e. cc (e, is), λ line code e. cc (e, is), λ e. cc (e, is), λ e. cc (e, is), none)
+by_memory (Some (snapshot call)) status seals is none = (λ e. cc (e, is), none)
 
 pub by_stop : (told : Option (List File)) (call : Option Call) (before now : Option (List ℕ)) (status : Status) (seals : List SealValue) (stop : Stop) → status ≡ stop_status stop → seals ≡ [] → StopsAt told call stop before now → IsByCall call status seals
 by_stop told call before now status seals stops.Memory is none left = by_memory call status seals is none
@@ -154,6 +182,7 @@ by_stop told None before now status seals stops.ReadFault is none left = absurd 
 by_stop told (Some (run call)) before now status seals stops.ReadFault is none left = (λ e. cc (e, is), λ e. cc (e, is))
 by_stop told (Some (synth call)) before now status seals stops.ReadFault is none left = (λ e. cc (e, is), λ at code e. cc (e, is), λ e. cc (e, is))
 by_stop told (Some (dump call)) before now status seals stops.ReadFault is none left = (λ e. cc (e, is), λ line code e. cc (e, is), λ e. cc (e, is), λ e. cc (e, is), none)
+by_stop told (Some (snapshot call)) before now status seals stops.ReadFault is none left = (λ e. cc (e, is), none)
 
 -- words that are no command
 pub words_text : (told : Option (List File)) (call : Option Call) (before now : Option (List ℕ)) (status : Status) (text : List ℕ) (seals : List SealValue) → IsDue told call before now status text seals → call ≡ None → text ≡ line_of refusals.Words
@@ -165,6 +194,7 @@ words_call told None before now status text seals due is = refl
 words_call told (Some (run call)) before now status text seals due is = absurd ((by_due told before now status text seals (Some (run call)) due).0 is)
 words_call told (Some (synth call)) before now status text seals due is = absurd ((by_due told before now status text seals (Some (synth call)) due).0 is)
 words_call told (Some (dump call)) before now status text seals due is = absurd ((by_due told before now status text seals (Some (dump call)) due).0 is)
+words_call told (Some (snapshot call)) before now status text seals due is = absurd ((by_due told before now status text seals (Some (snapshot call)) due).0 is)
 
 pub keeps_same : (held : Option (List ℕ)) → Keeps held held
 keeps_same None = tt

@@ -1,26 +1,30 @@
 -- From the parts of the work to what is due, and what is left of the opened file.
-use Rattle.std.proofs.Common.{◌≡◌, ℕ, ◌<◌, ◌≤◌, Bool, true, false, List, [], ◌∷◌, length, drop, Option, Some, None, Result, Ok, Err, MatchResult, refl, sym, ap, subst, inl, inr, arith}
+use Rattle.std.proofs.Common.{◌≡◌, ℕ, ◌<◌, ◌≤◌, Bool, true, false, List, [], ◌∷◌, length, drop, Option, Some, None, Result, Ok, Err, MatchResult, All, refl, sym, ap, subst, inl, inr, arith}
 use Rattle.std.proofs.lemmas.List.{drop_all}
 use Rattle.cf_outside.specs.Files.{File}
 use Rattle.cf_row.specs.Row.{RowValue}
 use Rattle.cf_row.specs.Schema.{packet_attrs}
-use Rattle.cf_command.specs.Call.{Call, RunCall, SynthCall, DumpCall}
-use Rattle.cf_command.specs.Call.Call.{run, synth, dump}
+use Rattle.cf_command.specs.Call.{Call, RunCall, SynthCall, DumpCall, SnapshotCall}
+use Rattle.cf_command.specs.Call.Call.{run, synth, dump, snapshot}
 use Rattle.cf_dump.specs.Dump.{dump_text}
 use Rattle.cf_setup.specs.Setups.{SetupValue}
 use Rattle.cf_table.specs.Moves.{SealValue}
-use Rattle.cf_run.specs.Due.{Work, CallsBy, CallsFor, RunAfter, SynthAfter, ComesTo, Exceeds, GivesLog, IsReportOf, AreAnswersOf, IsDue, StopsAt, drawn_work}
-use Rattle.cf_run.specs.Due.Work.{report, answers, listing, refused}
+use Rattle.cf_run.specs.Due.{Work, CallsBy, CallsByAll, CallsFor, RunAfter, SynthAfter, SnapshotAfter, ComesTo, Exceeds, GivesLog, HostsExceed, HasRoom, IsSnapshotOf, GivesCut, IsReportOf, AreAnswersOf, IsDue, StopsAt, drawn_work}
+use Rattle.cf_run.specs.Due.Work.{report, answers, listing, at_cut, refused}
 use Rattle.cf_run.specs.Due.CallsBy.{halted, whole}
+use Rattle.cf_run.specs.Due.CallsByAll.{one_halted, all_whole}
+use Rattle.cf_run.specs.Due.GivesCut.{refuses_hosts, tells_hosts}
 use Rattle.cf_run.specs.Due.GivesLog.{refuses, tells}
 use Rattle.cf_run.specs.Files.{HasLeft, IsStopped, Grammar, setups, captures, IsFileAs, IsFileRefused, IsReadAs, Halts}
 use Rattle.cf_run.specs.Files.IsFileRefused.{missing, broken}
 use Rattle.cf_run.specs.Parts.{Ends, IsPrepared, draft_status, draft_text, draft_seals}
 use Rattle.cf_run.specs.Refusals.{status_of, line_of}
 use Rattle.cf_run.specs.Seals.{IsSealedReport, IsSealedFinal}
+use Rattle.cf_run.specs.Several.{AreReadAs, AreHalted, AreStopped}
 use Rattle.cf_run.specs.Work.{drawn_rows, shape_for}
 use Rattle.cf_shape.specs.Nodes.{distinct}
 use Rattle.cf_run.specs.Due.Exceeds.{full, short}
+use Rattle.cf_run.proofs.Several.{all_taken, refused_stopped}
 use Rattle.cf_run.proofs.Taking.{left_same}
 use Rattle.cf_run.specs.declared.draft.Draft.{Draft}
 use Rattle.cf_run.specs.declared.draft.Product.{Product}
@@ -40,7 +44,7 @@ ends_halted {A} g told call name start before now comes stopped (Refused why) ha
 ends_halted {A} g told call name start before now comes stopped (Stopped stop) halts = stopped stop halts
 
 -- after a file was read to its end
-halts_after : {A : Type 0} (g : Grammar A) (told : Option (List File)) (name : List ℕ) (mid now : Option (List ℕ)) → HasLeft told mid (Some []) → (halt : Halt) → Halts g told name mid now halt → Halts g told name (Some []) now halt
+pub halts_after : {A : Type 0} (g : Grammar A) (told : Option (List File)) (name : List ℕ) (mid now : Option (List ℕ)) → HasLeft told mid (Some []) → (halt : Halt) → Halts g told name mid now halt → Halts g told name (Some []) now halt
 halts_after {A} g (Some files) name mid now end halt halts = subst (λ (m : Option (List ℕ)). Halts g (Some files) name m now halt) end halts
 halts_after {A} g None name mid now end (Refused why) (missing none left is) = missing none tt is
 halts_after {A} g None name mid now end (Refused why) (broken bytes place code file breaks left is) = broken bytes place code file breaks left is
@@ -130,12 +134,35 @@ module _ (told : Option (List File)) (call : DumpCall) (before now : Option (Lis
     pub dump_stopped : StopsAt told (Some (dump call)) stops.Memory before now
     dump_stopped = whole_taken (captures true packet_attrs) told call.capture before now rows read
 
+module _ (told : Option (List File)) (call : SnapshotCall) (before now : Option (List ℕ)) where
+  pub snapshot_unset : (halt : Halt) → Halts setups told call.setup before now halt → Ends told (Some (snapshot call)) before now (Err halt)
+  snapshot_unset halt halts = ends_halted setups told (Some (snapshot call)) call.setup before before now (λ why file. halted why file refl) (λ stop left. inl left) halt halts
+
+  module _ (setup : SetupValue) (mid : Option (List ℕ)) (set : IsReadAs setups told call.setup mid setup) where
+    pub snapshot_unread : (halt : Halt) → AreHalted (captures setup.packet setup.schema) told call.captures (Some []) now halt → Ends told (Some (snapshot call)) before now (Err halt)
+    snapshot_unread (Refused why) halts = record { work = refused why; comes = whole setup set.0 (one_halted why halts refl); gives = (refl, refl, refl) }
+    snapshot_unread (Stopped stop) halts = inr (setup, set.0, halts)
+
+    module _ (hosts : List (List RowValue)) (read : AreReadAs (captures setup.packet setup.schema) told call.captures now hosts) where
+      snapshot_gives : (status : Status) (text : List ℕ) (seals : List SealValue) → GivesCut call setup hosts status text seals → IsDue told (Some (snapshot call)) before now status text seals
+      snapshot_gives status text seals gives = record { work = at_cut call setup hosts; comes = whole setup set.0 (all_whole hosts read.0 (refl, read.1)); gives = gives }
+
+      pub snapshot_exceeds : (why : Refusal) → HostsExceed call.sizes setup hosts why → Ends told (Some (snapshot call)) before now (Err (Refused why))
+      snapshot_exceeds why over = snapshot_gives (status_of why) (line_of why) [] (refuses_hosts why over (refl, refl, refl))
+
+      pub snapshot_stopped : StopsAt told (Some (snapshot call)) stops.Memory before now
+      snapshot_stopped = inr (setup, set.0, all_taken (captures setup.packet setup.schema) told call.captures now hosts read)
+
+      pub snapshot_told : (text : List ℕ) (seals : List SealValue) → All (HasRoom call.sizes setup) hosts → IsSnapshotOf call setup hosts text → seals ≡ [] → IsDue told (Some (snapshot call)) before now Done text seals
+      snapshot_told text seals room is none = snapshot_gives Done text seals (tells_hosts room refl is none)
+
 -- before any file was opened
 pub stops_unopened : (told : Option (List File)) (call : Option Call) (before : Option (List ℕ)) → StopsAt told call stops.Memory before before
 stops_unopened told None before = (refl, left_same told before)
 stops_unopened told (Some (run call)) before = inl (inl (left_same told before))
 stops_unopened told (Some (synth call)) before = inl (left_same told before)
 stops_unopened told (Some (dump call)) before = inl (left_same told before)
+stops_unopened told (Some (snapshot call)) before = inl (inl (left_same told before))
 
 pub words_due : (told : Option (List File)) (before : Option (List ℕ)) → Ends told None before before (Err (Refused refusals.Words))
 words_due told before = record { work = refused refusals.Words; comes = (refl, left_same told before); gives = (refl, refl, refl) }
@@ -147,6 +174,10 @@ called_left {A} g told name before now Next work X stop go (halted why (missing 
 called_left {A} g told name before now Next work X stop go (halted why (broken bytes place code file breaks left why_is) is) = stop (inr (bytes, file, record { count = g.limit; most = omega arith; left = left }))
 called_left {A} g told name before now Next work X stop go (whole what said next) = go what said next
 
+all_called_left : {A : Type 0} (g : Grammar A) (told : Option (List File)) (names : List (List ℕ)) (now : Option (List ℕ)) (called : List A → Work) (work : Work) → CallsByAll g told names (Some []) now (λ whats. CallsFor told now (called whats)) work → AreStopped g told names (Some []) now
+all_called_left {A} g told names now called work (one_halted why refused_files is) = refused_stopped g told names (Some []) now why refused_files
+all_called_left {A} g told names now called work (all_whole whats said next) = all_taken g told names now whats (said, next.1)
+
 pub comes_stopped : (told : Option (List File)) (call : Option Call) (before now : Option (List ℕ)) (work : Work) → ComesTo told call before now work → StopsAt told call stops.Memory before now
 comes_stopped told None before now work comes = (refl, comes.1)
 comes_stopped told (Some (run call)) before now work comes =
@@ -157,6 +188,8 @@ comes_stopped told (Some (synth call)) before now work comes =
     called_left setups told call.setup before now (SynthAfter told call now) work (StopsAt told (Some (synth call)) stops.Memory before now) (λ stop. stop) (λ setup said next. whole_taken setups told call.setup before now setup (said, next.1)) comes
 comes_stopped told (Some (dump call)) before now work comes =
     called_left (captures true packet_attrs) told call.capture before now (λ rows. CallsFor told now (listing rows)) work (StopsAt told (Some (dump call)) stops.Memory before now) (λ stop. stop) (λ rows said next. whole_taken (captures true packet_attrs) told call.capture before now rows (said, next.1)) comes
+comes_stopped told (Some (snapshot call)) before now work comes =
+    called_left setups told call.setup before now (SnapshotAfter told call now) work (StopsAt told (Some (snapshot call)) stops.Memory before now) (λ stop. inl stop) (λ setup said next. inr (setup, said, all_called_left (captures setup.packet setup.schema) told call.captures now (λ hosts. at_cut call setup hosts) work next)) comes
 
 pub refused_prepared : (told : Option (List File)) (call : Option Call) (before now : Option (List ℕ)) (why : Refusal) (result : Result Draft Stop) → Ends told call before now (Err (Refused why))
     → MatchResult result (λ draft. (draft_text draft ≡ line_of why) × (draft_status draft ≡ status_of why) × (draft_seals draft ≡ [])) (λ stop. stop ≡ stops.Memory) → IsPrepared told call before now result

@@ -11,6 +11,8 @@ pub mod OneCase
 pub mod Logs
 pub mod MoreRows
 pub mod Keeping
+pub mod OneHost
+pub mod Several
 pub mod Deciding
 pub mod Coming
 pub mod Answering

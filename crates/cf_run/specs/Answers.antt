@@ -2,7 +2,7 @@
 use Rattle.std.specs.Prelude.{◌≡◌, ◌⊎◌, ℕ, List, [], length, Some, None, Option}
 use Rattle.std.specs.Io.KnownBytes.{Appends, Keeps}
 use Rattle.cf_command.specs.Call.{Call}
-use Rattle.cf_command.specs.Call.Call.{run, synth, dump}
+use Rattle.cf_command.specs.Call.Call.{run, synth, dump, snapshot}
 use Rattle.cf_outside.specs.Files.{File}
 use Rattle.cf_table.specs.Moves.{SealValue}
 use Rattle.cf_run.specs.Devices.{WritesFront}
@@ -47,9 +47,11 @@ abbrev pub IsDecided : List File → Option Call → Status → Type 0
 IsDecided files call status = (before after : Option (List ℕ)) (due : Status) (text : List ℕ) (seals : List SealValue) → IsDue (Some files) call before after due text seals → (status ≡ due) ⊎ Yields status ⊎ AreBetween status due
 
 -- What the call alone says of a status and of the seals, whatever the files are. Only words that are no command come to that status. A
--- synth opens no capture, and a dump has no setup and no log. A run or a synth that was done has one seal, and a dump has none.
+-- synth opens no capture, and a dump has no setup and no log. A run or a synth that was done has one seal, and a dump and a snapshot have
+-- none.
 abbrev pub IsByCall : Option Call → Status → List SealValue → Type 0
 IsByCall None status seals = (status ≡ Words) ⊎ (status ≡ Memory) ⊎ (status ≡ WriteFault)
 IsByCall (Some (run call)) status seals = (status ≡ Words → ⊥) × (status ≡ Done → length seals ≡ 1)
 IsByCall (Some (synth call)) status seals = (status ≡ Words → ⊥) × ((at code : ℕ) → status ≡ Capture at code → ⊥) × (status ≡ Done → length seals ≡ 1)
 IsByCall (Some (dump call)) status seals = (status ≡ Words → ⊥) × ((line code : ℕ) → status ≡ Setup line code → ⊥) × (status ≡ Full → ⊥) × (status ≡ Nodes → ⊥) × (seals ≡ [])
+IsByCall (Some (snapshot call)) status seals = (status ≡ Words → ⊥) × (seals ≡ [])

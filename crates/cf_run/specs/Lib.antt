@@ -4,6 +4,7 @@ pub mod Faults
 pub mod Laws
 pub mod Refusals
 pub mod Files
+pub mod Several
 pub mod Logs
 pub mod Seals
 pub mod Due

@@ -1,7 +1,9 @@
 -- What the parts of the work answer.
-use Rattle.std.specs.Prelude.{◌≡◌, ℕ, ◌≤◌, Bool, true, false, List, [], Option, Result, Ok, Err}
+use Rattle.std.specs.Prelude.{◌≡◌, ℕ, ◌≤◌, Bool, true, false, List, [], length, map, slice_index_or, Option, Result, Ok, Err, Vec}
+use Rattle.std.specs.declared.alloc.Global.{Global}
 use Rattle.cf_outside.specs.Causes.{Rose}
 use Rattle.cf_outside.specs.Files.{File}
+use Rattle.cf_row.specs.Row.{RowValue}
 use Rattle.cf_row.specs.Schema.{packet_attrs}
 use Rattle.cf_row.specs.declared.schema.Attr.{Attr}
 use Rattle.cf_command.specs.Call.{Call}
@@ -36,6 +38,14 @@ is_packets (Records schema) = false
 abbrev pub attrs_in : Format → List Attr
 attrs_in Packets = packet_attrs
 attrs_in (Records schema) = schema.now
+
+-- the rows of each host, without where they lie in memory
+abbrev pub rows_each : List (Vec RowValue Global) → List (List RowValue)
+rows_each hosts = map (λ rows. rows.items) hosts
+
+-- a cut has no more rows of a host than it has
+abbrev pub AreWithin : List ℕ → List (List RowValue) → Type 0
+AreWithin cut hosts = (host : ℕ) → slice_index_or cut host 0 ≤ length (slice_index_or hosts host [])
 
 -- why bytes are refused
 abbrev pub IsBad : (ℕ → ℕ → Type 0) → Halt → Type 0

@@ -10,6 +10,7 @@ mod draft;
 mod dumping;
 mod faults;
 mod files;
+mod hosts;
 mod laws;
 mod log;
 #[cfg(test)]
@@ -22,6 +23,9 @@ mod refusal;
 #[cfg(test)]
 mod row_tests;
 mod rows;
+mod snapshot;
+#[cfg(test)]
+mod snapshot_tests;
 mod status;
 mod taker;
 #[cfg(test)]

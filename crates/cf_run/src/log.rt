@@ -56,8 +56,8 @@ fn plan_of(alloc: Global, setup: &Setup, rounds: u32) -> Result<LivePlan, Memory
     })
 }
 
-// Loads the rows into a log of the shape, and closes it.
-fn load_rows<R: Threads + Sync, G: Gate>(
+/// Loads the rows into a log of the shape, and closes it.
+pub(crate) fn load_rows<R: Threads + Sync, G: Gate>(
     rt: &R,
     alloc: Global,
     shape: Shape,
@@ -84,8 +84,8 @@ fn load_rows<R: Threads + Sync, G: Gate>(
     }
 }
 
-// The closed log of the rows, and the answers to all that the setup asks.
-fn log_of<R: Threads + Sync, G: Gate>(
+/// The closed log of the rows, and the answers to all that the setup asks.
+pub(crate) fn log_of<R: Threads + Sync, G: Gate>(
     rt: &R,
     alloc: Global,
     setup: &Setup,

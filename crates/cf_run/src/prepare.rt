@@ -1,17 +1,21 @@
 // The work up to the text that is to be written.
 ghost use Rattle.std.specs.Prelude.{◌≡◌, ◌≤◌, Some, None};
-ghost use Rattle.cf_command.specs.Call.{AreSizes, call_of, run_by, synth_by, dump_by, texts};
-ghost use Rattle.cf_command.specs.Call.Call.{run, synth, dump};
+ghost use Rattle.cf_command.specs.Call.{AreSizes, IsSnapshotInRange, call_of, run_by, synth_by, dump_by, snapshot_by, texts};
+ghost use Rattle.cf_command.specs.Call.Call.{run, synth, dump, snapshot};
 ghost use Rattle.cf_run.specs.Parts.{HasHaltCause, HasStopCause, Ends, IsPrepared};
 
 use crate::draft::{Draft, Product, refused, sealed};
 use crate::dumping::dump_of;
 use crate::files::{read_rows, read_setup};
+use crate::hosts::read_hosts;
 use crate::log::{Unmade, final_of, report_of};
 use crate::refusal::{Halt, Refusal, Stop};
 use crate::rows::{Format, drawn_packets, format_of};
+use crate::snapshot::{cut_text, is_some_full, load_hosts};
 use crate::taker::Collector;
-use cf_command::{Command, DumpCommand, RunCommand, SynthCommand, command_of};
+use cf_command::{
+    Command, DumpCommand, LogSizes, RunCommand, SnapshotCommand, SynthCommand, command_of,
+};
 use cf_outside::{Gate, Shelf};
 use cf_row::packet_schema;
 use std::alloc::Global;
@@ -95,6 +99,45 @@ fn dump_listing<F: Shelf>(
     Ok(Product { text, seals })
 }
 
+// The answers at a cut that a snapshot is called for.
+fn snapshot_answers<R: Threads + Sync, F: Shelf, G: Gate>(
+    rt: &R,
+    alloc: Global,
+    command: &SnapshotCommand,
+    shelf: &mut F,
+    gate: &G,
+) -> Result<Product, Halt>
+    requires { IsSnapshotInRange command.now }
+    ensures files { F.files shelf.new ≡ F.files shelf.old }
+    ensures ends { Ends (F.files shelf.old) (Some (snapshot (snapshot_by command.now))) (F.rest shelf.old) (F.rest shelf.new) result }
+    ensures cause { HasHaltCause (F.faults shelf.old) (F.faults shelf.new) result }
+{
+    let setup = read_setup(alloc, shelf, command.setup)?;
+    let hosts = read_hosts(
+        alloc,
+        shelf,
+        &command.captures,
+        setup.schema(),
+        format_of(&setup),
+    )?;
+    let LogSizes {
+        capacity,
+        nodes,
+        ..
+    } = command.sizes;
+    if is_some_full(&hosts, capacity) {
+        return Err(Halt::Refused(Refusal::Full { capacity }));
+    }
+    match load_hosts(rt, alloc, &setup, &hosts, command.sizes, gate) {
+        Ok(()) => {}
+        Err(Unmade::Nodes) => return Err(Halt::Refused(Refusal::Nodes { nodes })),
+        Err(Unmade::Memory) => return Err(Halt::Stopped(Stop::Memory)),
+    }
+    let text = cut_text(rt, alloc, command, &setup, &hosts, gate)?;
+    let seals = Vec::new(alloc);
+    Ok(Product { text, seals })
+}
+
 // What the words and files call for.
 fn product_of<R: Threads + Sync, F: Shelf, G: Gate>(
     rt: &R,
@@ -112,6 +155,7 @@ fn product_of<R: Threads + Sync, F: Shelf, G: Gate>(
         Some(Command::Run(command)) => run_report(rt, alloc, &command, shelf, gate),
         Some(Command::Synth(command)) => synth_answers(rt, alloc, &command, shelf, gate),
         Some(Command::Dump(command)) => dump_listing(alloc, &command, shelf),
+        Some(Command::Snapshot(command)) => snapshot_answers(rt, alloc, &command, shelf, gate),
         None => Err(Halt::Refused(Refusal::Words)),
     }
 }

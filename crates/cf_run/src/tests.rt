@@ -277,7 +277,7 @@ fn a_capture_is_dumped_by_the_fields_of_its_headers(rt: HostRuntime) -> Result<(
 }
 
 // A section header, an interface, an enhanced and a simple packet: blocks of pcapng.
-const BLOCKS: [u8; 104] = [
+pub(crate) const BLOCKS: [u8; 104] = [
     0x0a, 0x0d, 0x0d, 0x0a, 0x1c, 0, 0, 0, 0x4d, 0x3c, 0x2b, 0x1a, 1, 0, 0, 0, 0xff, 0xff, 0xff,
     0xff, 0xff, 0xff, 0xff, 0xff, 0x1c, 0, 0, 0, 1, 0, 0, 0, 0x14, 0, 0, 0, 1, 0, 0, 0, 0, 0, 0, 0,
     0x14, 0, 0, 0, 6, 0, 0, 0, 0x24, 0, 0, 0, 0, 0, 0, 0, 0, 0, 0, 0, 0x60, 0xe3, 0x16, 0, 2, 0, 0,

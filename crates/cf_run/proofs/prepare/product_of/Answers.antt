@@ -1,6 +1,6 @@
 use Rattle.std.proofs.Common.{◌≡◌, Option, Some, None, Err, subst, rules}
-use Rattle.cf_command.specs.Call.{Call, call_of, run_by, synth_by, dump_by, texts}
-use Rattle.cf_command.specs.Call.Call.{run, synth, dump}
+use Rattle.cf_command.specs.Call.{Call, call_of, run_by, synth_by, dump_by, snapshot_by, texts}
+use Rattle.cf_command.specs.Call.Call.{run, synth, dump, snapshot}
 use Rattle.cf_run.specs.Parts.{Ends}
 use Rattle.cf_run.specs.declared.refusal.Halt.TheVariants.{Refused}
 use Rattle.cf_run.specs.declared.refusal.Refusal.TheVariants as refusals
@@ -21,6 +21,11 @@ pub returns-in-Some-Dump-clause-ends : goal.returns-in-Some-Dump-clause-ends
 returns-in-Some-Dump-clause-ends g c =
     let is : Some (dump (dump_by c.in-Some-Dump.command)) ≡ call_of (texts c.args.words.now) = search rules in
     subst (λ (call : Option Call). Ends (g.F.Shelf.files c.args.shelf.now) call (g.F.Shelf.rest c.args.shelf.now) (g.F.Shelf.rest c.dump_listing.new.shelf) c.dump_listing.result) is c.dump_listing.ensures.ends
+
+pub returns-in-Some-Snapshot-clause-ends : goal.returns-in-Some-Snapshot-clause-ends
+returns-in-Some-Snapshot-clause-ends g c =
+    let is : Some (snapshot (snapshot_by c.in-Some-Snapshot.command)) ≡ call_of (texts c.args.words.now) = search rules in
+    subst (λ (call : Option Call). Ends (g.F.Shelf.files c.args.shelf.now) call (g.F.Shelf.rest c.args.shelf.now) (g.F.Shelf.rest c.snapshot_answers.new.shelf) c.snapshot_answers.result) is c.snapshot_answers.ensures.ends
 
 pub returns-in-None-clause-ends : goal.returns-in-None-clause-ends
 returns-in-None-clause-ends g c =

@@ -1,0 +1,146 @@
+-- The rows of hosts, one more host at a time.
+use Rattle.std.proofs.Common.{◌≡◌, ◌⊎◌, ℕ, zero, suc, ◌<◌, ◌≤◌, ◌+◌, ◌*◌, List, [], ◌∷◌, ◌++◌, length, map, take, drop, fold, sum, replicate, get_or, All, Any, Vec, refl, sym, ap, ap₂, subst, ◌∙◌, inl, inr, arith}
+use Rattle.std.specs.List.{AllByRecursion, flat_map, list_any, range_with_len}
+use Rattle.std.specs.declared.alloc.Global.{Global}
+use Rattle.std.proofs.lemmas.Bool.{cases_Bool}
+use Rattle.std.proofs.lemmas.List.{get_or-map, length-map, map-append}
+use Rattle.std.proofs.lemmas.List.Concat.{flat_map-append}
+use Rattle.std.proofs.lemmas.List.Elements.{All-append, All-cons, All-nil, All-map, All-from_get_or}
+use Rattle.std.proofs.lemmas.List.FromFn.{length-range_with_len}
+use Rattle.std.proofs.lemmas.List.{take-append-drop}
+use Rattle.std.proofs.lemmas.List.Sums.{fold-append}
+use Rattle.cf_row.specs.Row.{RowValue}
+use Rattle.cf_row.specs.declared.row.Entry.{Entry}
+use Rattle.cf_history.specs.History.{AskReply}
+use Rattle.cf_history.specs.Order.{IsLogOf, log_of, order_of}
+use Rattle.cf_history.proofs.OneWriter.{alone, log_of_one}
+use Rattle.cf_history.proofs.Orders.{order_of_log}
+use Rattle.cf_plain.specs.Answered.{LoadedValue}
+use Rattle.cf_plain.specs.Asks.{rows_in}
+use Rattle.cf_plain.specs.declared.ask.Ask.{Ask}
+use Rattle.cf_plain.specs.declared.answer.Body.{Body}
+use Rattle.cf_report.specs.Answered.{tolds_of}
+use Rattle.cf_report.specs.Meaning.{AreMeant, finals_on}
+use Rattle.cf_report.specs.Snapshot.{host_part, host_text}
+use Rattle.cf_report.proofs.Legal.{finals_meant}
+use Rattle.cf_setup.specs.Setups.{SetupValue}
+use Rattle.cf_shape.specs.Lanes.{ShapeValue}
+use Rattle.cf_shape.specs.Nodes.{Node, same_node, add_node, nodes_for, nodes_of, distinct}
+use Rattle.cf_command.specs.declared.words.LogSizes.{LogSizes}
+use Rattle.cf_snapshot.specs.Plans.{cut_by, in_cut}
+use Rattle.cf_run.specs.Due.{HasRoom}
+use Rattle.cf_run.specs.Logs.{IsUnmade}
+use Rattle.cf_run.specs.Parts.{rows_each}
+use Rattle.cf_run.specs.Work.{shape_for}
+use Rattle.cf_run.specs.declared.log.Unmade.{Unmade}
+use Rattle.cf_run.specs.declared.log.Unmade.TheVariants.{Nodes}
+
+-- the rows of the host at a place
+pub at_host : (hosts : List (Vec RowValue Global)) (i : ℕ) (rows : Vec RowValue Global) (d : List RowValue) → i < length hosts → rows ≡ get_or hosts i rows → get_or (rows_each hosts) i d ≡ rows.items
+at_host hosts i rows d lt is = get_or-map (λ (v : Vec RowValue Global). v.items) hosts i rows d lt ∙ ap (λ (v : Vec RowValue Global). v.items) (sym is)
+
+pub as_many : (hosts : List (Vec RowValue Global)) → length (rows_each hosts) ≡ length hosts
+as_many hosts = length-map hosts (λ (v : Vec RowValue Global). v.items)
+
+-- what holds of the rows of the first hosts
+abbrev pub AreBelow : (List RowValue → Type 0) → List (List RowValue) → ℕ → Type 0
+AreBelow P hosts i = (k : ℕ) (d : List RowValue) → k < i → P (get_or hosts k d)
+
+less_or_same : (k i : ℕ) → k < i + 1 → (k < i) ⊎ (k ≡ i)
+less_or_same zero zero lt = inr refl
+less_or_same zero (suc i) lt = inl (omega arith)
+less_or_same (suc k) zero lt = absurd (omega (arith, lt))
+less_or_same (suc k) (suc i) lt = elim (less_or_same k i (omega (arith, lt))) [ inl less ↦ inl (omega (arith, less)) | inr same ↦ inr (ap suc same) ]
+
+pub none_below : (P : List RowValue → Type 0) (hosts : List (List RowValue)) → AreBelow P hosts 0
+none_below P hosts k d lt = absurd (omega (arith, lt))
+
+pub one_below : (P : List RowValue → Type 0) (hosts : List (Vec RowValue Global)) (i : ℕ) (rows : Vec RowValue Global) → i < length hosts → rows ≡ get_or hosts i rows → P rows.items → AreBelow P (rows_each hosts) i → AreBelow P (rows_each hosts) (i + 1)
+one_below P hosts i rows lt is has below k d low = elim (less_or_same k i low) [
+  | inl less ↦ below k d less
+  | inr same ↦ subst (λ (j : ℕ). P (get_or (rows_each hosts) j d)) (sym same) (subst P (sym (at_host hosts i rows d lt is)) has)
+]
+
+pub all_below : (P : List RowValue → Type 0) (hosts : List (Vec RowValue Global)) (i : ℕ) → length hosts ≤ i → AreBelow P (rows_each hosts) i → All P (rows_each hosts)
+all_below P hosts i end below k d lt = below k d (omega (arith, lt, end, as_many hosts))
+
+pub one_of_all : (P : List RowValue → Type 0) (hosts : List (Vec RowValue Global)) (i : ℕ) (rows : Vec RowValue Global) → i < length hosts → rows ≡ get_or hosts i rows → All P (rows_each hosts) → P rows.items
+one_of_all P hosts i rows lt is all = subst P (at_host hosts i rows rows.items lt is) (all i rows.items (omega (arith, lt, as_many hosts)))
+
+pub any_host : (P : List RowValue → Type 0) (hosts : List (Vec RowValue Global)) (i : ℕ) (rows : Vec RowValue Global) → i < length hosts → rows ≡ get_or hosts i rows → P rows.items → Any P (rows_each hosts)
+any_host P hosts i rows lt is has = (i, rows.items, omega (arith, lt, as_many hosts), at_host hosts i rows rows.items lt is, has)
+
+-- A log of one writer.
+
+zeros : (order : List ℕ) → AllByRecursion (λ w. w < 1) order → order ≡ replicate (length order) 0
+zeros [] low = refl
+zeros (w ∷ order) low = let none : w ≡ 0 = omega (arith, low.0) in ap₂ (λ (x : ℕ) (xs : List ℕ). x ∷ xs) none (zeros order low.1)
+
+rows_alone : (rows : List RowValue) → rows_in (alone rows) ≡ rows
+rows_alone [] = refl
+rows_alone (row ∷ rows) = ap (λ (rs : List RowValue). row ∷ rs) (rows_alone rows)
+
+-- it has the rows in their order
+pub one_log : (rows : List RowValue) (writers : ℕ) (log : List Entry) → writers ≡ 1 → IsLogOf rows writers log → rows_in log ≡ rows
+one_log rows writers log one is =
+    let of : IsLogOf rows 1 log = subst (λ (w : ℕ). IsLogOf rows w log) one is in
+    let orders = order_of_log rows 1 log (omega arith) of in
+    let order : order_of log ≡ replicate (length rows) 0 = zeros (order_of log) orders.0.exist ∙ ap (λ (n : ℕ). replicate n 0) orders.0.size in
+    ap rows_in (orders.1 ∙ ap (λ (os : List ℕ). log_of rows 1 os) order ∙ log_of_one rows) ∙ rows_alone rows
+
+-- the part of a host is that of its rows
+pub host_told : (shape : ShapeValue) (setup : SetupValue) (rounds host : ℕ) (rows : List RowValue) (entries : List Entry) (answered : LoadedValue) → rows_in entries ≡ rows → AreMeant setup shape rounds entries answered → host_part setup host (rows_in entries) (tolds_of setup.asks answered.finals) ≡ host_text shape setup host rows
+host_told shape setup rounds host rows entries answered same meant =
+    ap (λ (ts : List (AskReply Ask Body)). host_part setup host (rows_in entries) ts) (finals_meant setup shape rounds entries answered meant)
+    ∙ ap (λ (rs : List RowValue). host_part setup host rs (finals_on shape setup rs)) same
+
+-- one more host
+pub more_hosts : (hosts now : List (Vec RowValue Global)) (rows : Vec RowValue Global) → now ≡ hosts ++ rows ∷ [] → rows_each now ≡ rows_each hosts ++ rows.items ∷ []
+more_hosts hosts now rows grown = ap rows_each grown ∙ map-append (λ (v : Vec RowValue Global). v.items) hosts (rows ∷ [])
+
+pub all_more : (P : List RowValue → Type 0) (hosts now : List (Vec RowValue Global)) (rows : Vec RowValue Global) → now ≡ hosts ++ rows ∷ [] → All P (rows_each hosts) → P rows.items → All P (rows_each now)
+all_more P hosts now rows grown all has = subst (All P) (sym (more_hosts hosts now rows grown)) (All-append P (rows_each hosts) (rows.items ∷ []) all (All-cons P rows.items [] has (All-nil P)))
+
+-- The nodes of a host's first rows.
+
+-- a node more makes them no fewer
+no_fewer : (nodes more : List Node) → length nodes ≤ length (fold add_node nodes more)
+no_fewer nodes [] = omega arith
+no_fewer nodes (x ∷ xs) = (let r = no_fewer (add_node nodes x) xs in let s = added nodes x in omega (arith, r, s))
+  where
+    added : (ns : List Node) (n : Node) → length ns ≤ length (add_node ns n)
+    added ns n = elim (cases_Bool (list_any (same_node n) ns)) [
+      | inl there ↦ rw there (omega arith)
+      | inr new ↦ rw new (omega arith)
+    ]
+
+-- the first of some rows need no more nodes than all
+distinct_front : (shape : ShapeValue) (rows : List RowValue) (n : ℕ) → distinct shape (take n rows) ≤ distinct shape rows
+distinct_front shape rows n =
+    let front : List RowValue = take n rows in
+    let back : List RowValue = drop n rows in
+    let parts : nodes_of shape (front ++ back) ≡ fold add_node (nodes_of shape front) (flat_map (nodes_for shape) back) = ap (fold add_node []) (flat_map-append (nodes_for shape) front back) ∙ fold-append add_node [] (flat_map (nodes_for shape) front) (flat_map (nodes_for shape) back) in
+    subst (λ (rs : List RowValue). distinct shape front ≤ distinct shape rs) (take-append-drop n rows) (rw parts (no_fewer (nodes_of shape front) (flat_map (nodes_for shape) back)))
+
+-- where there are nodes for all rows, there are for the first
+pub never_short : (shape : ShapeValue) (rows front : List RowValue) (n : ℕ) (why : Unmade) → why ≡ Nodes → front ≡ take n rows → distinct shape rows ≤ shape.nodes → IsUnmade shape front why → ⊥
+never_short shape rows front n why is of few bad =
+    let lacks : shape.nodes < distinct shape (take n rows) = subst (λ (w : Unmade). IsUnmade shape (take n rows) w) is (subst (λ (f : List RowValue). IsUnmade shape f why) of bad) in
+    let less = distinct_front shape rows n in
+    omega (arith, few, lacks, less)
+
+-- The numbers of a cut.
+
+pub counts_few : (sizes : LogSizes) (setup : SetupValue) (hosts : List (List RowValue)) (most : ℕ) → sizes.capacity ≤ most → All (HasRoom sizes setup) hosts → All (λ n. n ≤ most) (map (λ rows. length rows) hosts)
+counts_few sizes setup hosts most cap room = All-map (λ n. n ≤ most) (λ (rows : List RowValue). length rows) hosts (λ k d lt. let few = (room k d lt).0 in omega (arith, few, cap))
+
+pub room_of : (sizes : LogSizes) (setup : SetupValue) (hosts : List (List RowValue)) → sizes.writers ≡ 1 → All (λ rows. length rows ≤ sizes.capacity) hosts → All (λ rows. distinct (shape_for setup sizes) rows ≤ sizes.writers * sizes.nodes) hosts → All (HasRoom sizes setup) hosts
+room_of sizes setup hosts one few nodes k d lt =
+    let n : distinct (shape_for setup sizes) (get_or hosts k d) ≤ 1 * sizes.nodes = subst (λ (w : ℕ). distinct (shape_for setup sizes) (get_or hosts k d) ≤ w * sizes.nodes) one (nodes k d lt) in
+    (few k d lt, omega (arith, n))
+
+pub cut_length : (turn : ℕ) (counts : List ℕ) (turns : ℕ) (cut : List ℕ) → cut ≡ cut_by turn counts turns → length cut ≡ length counts
+cut_length turn counts turns cut is = ap (λ (ns : List ℕ). length ns) is ∙ length-map (range_with_len 0 (length counts)) (in_cut turn counts turns) ∙ length-range_with_len 0 (length counts)
+
+pub cut_few : (most : ℕ) (counts cut : List ℕ) → length cut ≡ length counts → All (λ n. n ≤ most) counts → ((host : ℕ) → get_or cut host 0 ≤ get_or counts host 0) → All (λ n. n ≤ most) cut
+cut_few most counts cut same few within = All-from_get_or (λ n. n ≤ most) cut 0 (λ k lt. let low = within k in let high = few k 0 (omega (arith, lt, same)) in omega (arith, low, high))

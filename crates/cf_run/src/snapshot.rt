@@ -1,0 +1,201 @@
+// The answers of several hosts at a cut. They share nothing, so each is loaded by itself: all its rows, which shows whether its log
+// has the nodes for them, and those that are in the cut, of which the questions are asked.
+ghost use Rattle.std.specs.Prelude.{◌≡◌, ◌<◌, ◌≤◌, ◌*◌, ◌++◌, All, Any, false, length, map, sum, take, IfOk, IsTrue, OnOk, MatchResult, string_bytes, slice_index_or};
+ghost use Rattle.std.specs.List.{flat_map, range_with_len};
+ghost use Rattle.cf_command.specs.Call.{AreSizes, IsSnapshotInRange, snapshot_by};
+ghost use Rattle.cf_report.specs.Snapshot.{host_text, host_text_at};
+ghost use Rattle.cf_row.specs.Row.{Fits};
+ghost use Rattle.cf_setup.specs.Setups.{IsSetup};
+ghost use Rattle.cf_shape.specs.Nodes.{distinct};
+ghost use Rattle.cf_run.specs.Due.{HasRoom, IsSnapshotOf};
+ghost use Rattle.cf_run.specs.Logs.{IsUnmade};
+ghost use Rattle.cf_run.specs.Parts.{rows_each, AreWithin};
+ghost use Rattle.cf_run.specs.Work.{shape_for};
+ghost use Rattle.cf_run.specs.declared.log.Unmade.TheVariants.{Nodes};
+
+use crate::log::{Unmade, load_rows, log_of};
+use cf_command::{LogSizes, SnapshotCommand};
+use cf_load::LivePlan;
+use cf_outside::Gate;
+use cf_report::{push_cut, push_host};
+use cf_row::{Memory, Row};
+use cf_setup::{Setup, shape_of};
+use cf_snapshot::cut_of_turns;
+use std::alloc::{AllocError, Global};
+use std::thread::Threads;
+
+/// Whether some host has more rows than that.
+pub(crate) fn is_some_full(hosts: &[Vec<Row>], capacity: u32) -> bool
+    ensures some { IsTrue result → Any (λ rows. capacity < length rows) (rows_each hosts.now) }
+    ensures none { result ≡ false → All (λ rows. length rows ≤ capacity) (rows_each hosts.now) }
+{
+    for rows in hosts {
+        if rows.len() > capacity as usize {
+            return true;
+        }
+    }
+    false
+}
+
+// Loads rows into a log of which nothing is asked.
+fn load_silently<R: Threads + Sync, G: Gate>(
+    rt: &R,
+    alloc: Global,
+    setup: &Setup,
+    rows: &[Row],
+    sizes: LogSizes,
+    gate: &G,
+) -> Result<(), Unmade>
+    requires fit { All (Fits setup.now.schema) rows.now }
+    requires few { length rows.now ≤ sizes.capacity }
+    requires sizes { AreSizes sizes }
+    ensures { MatchResult result (λ _. distinct (shape_for setup.now sizes) rows.now ≤ sizes.writers * sizes.nodes) (IsUnmade (shape_for setup.now sizes) rows.now) }
+{
+    let Ok(shape) = shape_of(alloc, setup, sizes.capacity, sizes.writers, sizes.nodes) else {
+        return Err(Unmade::Memory);
+    };
+    let plan = LivePlan {
+        asks: Vec::new(alloc),
+        triggers: Vec::new(alloc),
+        lives: Vec::new(alloc),
+        rounds: 0,
+    };
+    load_rows(rt, alloc, shape, rows, &plan, gate)?;
+    Ok(())
+}
+
+/// Loads all rows of each host into a log of its own. This tells whether each log has the nodes for them.
+pub(crate) fn load_hosts<R: Threads + Sync, G: Gate>(
+    rt: &R,
+    alloc: Global,
+    setup: &Setup,
+    hosts: &[Vec<Row>],
+    sizes: LogSizes,
+    gate: &G,
+) -> Result<(), Unmade>
+    requires fit { All (All (Fits setup.now.schema)) (rows_each hosts.now) }
+    requires few { All (λ rows. length rows ≤ sizes.capacity) (rows_each hosts.now) }
+    requires sizes { AreSizes sizes }
+    ensures { MatchResult result (λ _. All (λ rows. distinct (shape_for setup.now sizes) rows ≤ sizes.writers * sizes.nodes) (rows_each hosts.now)) (λ why. why ≡ Nodes → Any (λ rows. sizes.nodes < distinct (shape_for setup.now sizes) rows) (rows_each hosts.now)) }
+{
+    for rows in hosts {
+        load_silently(rt, alloc, setup, rows, sizes, gate)?;
+    }
+    Ok(())
+}
+
+// How many rows each host has.
+fn counts_of(alloc: Global, hosts: &[Vec<Row>]) -> Result<Vec<u32>, Memory>
+    requires { All (λ rows. length rows ≤ 65536) (rows_each hosts.now) }
+    ensures { IfOk result (λ counts. counts.items ≡ map (λ rows. length rows) (rows_each hosts.now)) }
+{
+    let mut counts = Vec::new(alloc);
+    for rows in hosts {
+        counts.push(rows.len() as u32)?;
+    }
+    Ok(counts)
+}
+
+// How many rows are in a cut.
+fn total_of(cut: &[u32]) -> u32
+    requires few { All (λ count. count ≤ 65536) cut.now }
+    requires hosts { length cut.now ≤ 16 }
+    ensures { result ≡ sum cut.now }
+{
+    let mut total = 0;
+    for count in cut {
+        total += count;
+    }
+    total
+}
+
+// Writes the part of a host, with its answers on these rows, which are loaded into a log of one writer.
+fn push_answers<R: Threads + Sync, G: Gate>(
+    rt: &R,
+    alloc: Global,
+    text: &mut String,
+    setup: &Setup,
+    host: usize,
+    rows: &[Row],
+    sizes: LogSizes,
+    gate: &G,
+) -> Result<(), Unmade>
+    requires lawful { IsSetup setup.now }
+    requires fit { All (Fits setup.now.schema) rows.now }
+    requires few { length rows.now ≤ sizes.capacity }
+    requires sizes { AreSizes sizes }
+    requires one { sizes.writers ≡ 1 }
+    ensures told { OnOk result (string_bytes text.new ≡ string_bytes text.old ++ host_text (shape_for setup.now sizes) setup.now host rows.now) }
+    ensures unmade { MatchResult result (λ _. Unit {0}) (IsUnmade (shape_for setup.now sizes) rows.now) }
+{
+    let (closed, answers) = log_of(rt, alloc, setup, rows, sizes, 0, gate)?;
+    match push_host(alloc, text, setup, host, &closed.entries, answers.finals()) {
+        Ok(()) => Ok(()),
+        Err(_) => Err(Unmade::Memory),
+    }
+}
+
+// Writes the part of each host, with its answers on those of its rows that are in the cut.
+fn push_hosts<R: Threads + Sync, G: Gate>(
+    rt: &R,
+    alloc: Global,
+    text: &mut String,
+    setup: &Setup,
+    hosts: &[Vec<Row>],
+    cut: &[u32],
+    sizes: LogSizes,
+    gate: &G,
+) -> Result<(), Memory>
+    requires lawful { IsSetup setup.now }
+    requires fit { All (All (Fits setup.now.schema)) (rows_each hosts.now) }
+    requires room { All (HasRoom sizes setup.now) (rows_each hosts.now) }
+    requires sizes { AreSizes sizes }
+    requires one { sizes.writers ≡ 1 }
+    requires size { length cut.now ≡ length hosts.now }
+    requires within { AreWithin cut.now (rows_each hosts.now) }
+    ensures { OnOk result (string_bytes text.new ≡ string_bytes text.old ++ flat_map (host_text_at (shape_for setup.now sizes) setup.now cut.now (rows_each hosts.now)) (range_with_len 0 (length hosts.now))) }
+{
+    for host in 0..hosts.len() {
+        let rows = &hosts[host][..cut[host] as usize];
+        match push_answers(rt, alloc, text, setup, host, rows, sizes, gate) {
+            Ok(()) => {}
+            Err(Unmade::Memory) => return Err(AllocError),
+            // There are nodes for all its rows.
+            Err(Unmade::Nodes) => unreachable!(),
+        }
+    }
+    Ok(())
+}
+
+/// The answers of hosts that have these rows, at the cut of the command.
+pub(crate) fn cut_text<R: Threads + Sync, G: Gate>(
+    rt: &R,
+    alloc: Global,
+    command: &SnapshotCommand,
+    setup: &Setup,
+    hosts: &[Vec<Row>],
+    gate: &G,
+) -> Result<Vec<u8>, Memory>
+    requires lawful { IsSetup setup.now }
+    requires fit { All (All (Fits setup.now.schema)) (rows_each hosts.now) }
+    requires room { All (HasRoom command.now.sizes setup.now) (rows_each hosts.now) }
+    requires command { IsSnapshotInRange command.now }
+    requires size { length hosts.now ≡ length command.now.captures.items }
+    ensures { IfOk result (λ text. IsSnapshotOf (snapshot_by command.now) setup.now (rows_each hosts.now) text.items) }
+{
+    let counts = counts_of(alloc, hosts)?;
+    let cut = cut_of_turns(alloc, &counts, command.turns, command.turn)?;
+    let mut text = String::new(alloc);
+    push_cut(&mut text, total_of(&cut))?;
+    push_hosts(
+        rt,
+        alloc,
+        &mut text,
+        setup,
+        hosts,
+        &cut,
+        command.sizes,
+        gate,
+    )?;
+    Ok(text.into_bytes())
+}
