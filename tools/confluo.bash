@@ -4,18 +4,19 @@ _confluo() {
     local word=${COMP_WORDS[COMP_CWORD]} before=${COMP_WORDS[COMP_CWORD-1]} options
     COMPREPLY=()
     if [ "$COMP_CWORD" -eq 1 ]; then
-        mapfile -t COMPREPLY < <(compgen -W "run synth dump" -- "$word")
+        mapfile -t COMPREPLY < <(compgen -W "run synth dump snapshot" -- "$word")
         return
     fi
     case ${COMP_WORDS[1]} in
         run) options="--setup --writers --capacity --nodes --live" ;;
         synth) options="--setup --seed --count --writers --capacity --nodes" ;;
+        snapshot) options="--setup --after --turn --capacity --nodes" ;;
         *) options="" ;;
     esac
     case $before in
         --writers) mapfile -t COMPREPLY < <(compgen -W "1 2 4 8 15" -- "$word"); return ;;
         --nodes) mapfile -t COMPREPLY < <(compgen -W "1024 8192 65536" -- "$word"); return ;;
-        --capacity | --live | --seed | --count) return ;;
+        --capacity | --live | --seed | --count | --after | --turn) return ;;
     esac
     if [ "$before" != --setup ] && [ "${word:0:1}" = - ]; then
         mapfile -t COMPREPLY < <(compgen -W "$options" -- "$word")
