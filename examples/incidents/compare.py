@@ -5,7 +5,8 @@
 
 Makes each capture anew and compares its bytes with the stored file, sees that docs/INCIDENTS.md shows the stored report, and
 runs `PROGRAM run` over each setup, with one, four and fifteen writers. The part of the report up to the last `alert` has to be
-the stored one; what follows depends on threads. Ends with 1 where something differs.
+the stored one; what follows depends on threads. What `PROGRAM snapshot` prints has to be the stored text as it is. Ends with 1
+where something differs.
 """
 
 import pathlib
@@ -18,7 +19,9 @@ import make_captures
 
 HERE = pathlib.Path(__file__).resolve().parent
 PAGE = HERE.parent.parent / "docs" / "INCIDENTS.md"
-CAPTURE_OF = {name: name for name in make_captures.CAPTURES} | {"port_scan_stranger": "port_scan"}
+SNAPSHOTS = {"lost": ("240", ["lost_before", "lost_behind"])}
+SHARED = {it for _, captures in SNAPSHOTS.values() for it in captures}
+CAPTURE_OF = {name: name for name in make_captures.CAPTURES if name not in SHARED} | {"port_scan_stranger": "port_scan"}
 
 
 def final_part(report):
@@ -26,11 +29,21 @@ def final_part(report):
     return "".join(it for it in report.splitlines(True) if not it.startswith(("live ", "new ", "order")))
 
 
-def report_of(program, name, writers):
+def printed(words):
     """What the program prints, or what it says of a refusal."""
-    words = [program, "run", "--setup", str(HERE / f"{name}.setup"), "--writers", str(writers), str(HERE / f"{CAPTURE_OF[name]}.pcap")]
     ran = subprocess.run(words, stdout=subprocess.PIPE, text=True)
     return ran.stdout if ran.returncode == 0 else f"status {ran.returncode}: {ran.stdout}"
+
+
+def report_of(program, name, writers):
+    """The report of a capture."""
+    return printed([program, "run", "--setup", str(HERE / f"{name}.setup"), "--writers", str(writers), str(HERE / f"{CAPTURE_OF[name]}.pcap")])
+
+
+def snapshot_of(program, name):
+    """The text of a snapshot."""
+    after, captures = SNAPSHOTS[name]
+    return printed([program, "snapshot", "--setup", str(HERE / f"{name}.setup"), "--after", after] + [str(HERE / f"{it}.pcap") for it in captures])
 
 
 def shown(text):
@@ -46,9 +59,13 @@ def main():
         wanted = (HERE / f"{name}.report").read_text()
         wrong += [] if shown(wanted) in PAGE.read_text() else [f"{name} in docs/INCIDENTS.md"]
         wrong += [f"{name} by {writers} writers" for writers in (1, 4, 15) if final_part(report_of(sys.argv[1], name, writers)) != wanted]
+    for name in SNAPSHOTS:
+        wanted = (HERE / f"{name}.report").read_text()
+        wrong += [] if shown(wanted) in PAGE.read_text() else [f"{name} in docs/INCIDENTS.md"]
+        wrong += [name] if snapshot_of(sys.argv[1], name) != wanted else []
     for it in wrong:
         print(f"differs: {it}")
-    print(f"{len(CAPTURE_OF)} incidents, {len(wrong)} differences")
+    print(f"{len(CAPTURE_OF) + len(SNAPSHOTS)} reports, {len(wrong)} differences")
     sys.exit(1 if wrong else 0)
 
 

@@ -221,6 +221,19 @@ def broken_uploads():
     return capture.bytes()
 
 
+def lost(behind):
+    """Ten seconds at the router before a provider's line, or at the one behind it. Most of the long packets to one server get lost between."""
+    capture = Capture(1700658000)
+    for k in range(120):
+        is_long = k % 8 == 3
+        if behind and is_long and k % 24 != 3:
+            continue
+        receiver = f"198.51.100.{(80, 80, 85, 90)[k % 4]}"
+        at = k * 80_000 + (4_000 if behind else 0)
+        capture.segment(at, f"192.0.2.{20 + k % 5}", 59000 + k % 5, receiver, 443, PSH | ACK, 1460 if is_long else 300 + k, seq=1 + 2000 * k, ack=1)
+    return capture.bytes()
+
+
 CAPTURES = {
     "syn_flood": syn_flood,
     "port_scan": port_scan,
@@ -229,6 +242,8 @@ CAPTURES = {
     "stray_vlan": stray_vlan,
     "full_link": full_link,
     "broken_uploads": broken_uploads,
+    "lost_before": lambda: lost(False),
+    "lost_behind": lambda: lost(True),
 }
 
 
