@@ -30,6 +30,7 @@ SETUPS = [
     b"schema packet\nwidth 1000\nindex s src\nindex p dport\nfilter f len>100 && proto==6\naggregate a f len\n"
     b"trigger t a sum > 1000\nask x find s 10.0.0.0 10.255.255.255\nask y between f 0 99999999\nask z measure a 0 5000000\n"
     b"ask w fired t\nlive x\nlive w\n",
+    b"schema packet\ntally s src len *\ntally p dport ttl proto==6\nask h top s sum 3\nask g top p count 1000\nask w total len len>60\nlive h\nlive w\n",
     b"schema packet\nwidth 9223372036854775808\nfilter f *\naggregate a f ttl\nask m measure a 0 1\nlive m\n",
 ]
 RECORD_SETUPS = [
@@ -183,6 +184,9 @@ def case_of(draw):
     if draw.random() < 0.02:
         return ["synth", "--setup", "s", "--seed", str(draw.choice([0, 1, 2**64 - 1])), "--count", str(draw.randrange(200)),
                 "--writers", str(draw.randrange(1, 16))], setup, capture, None
+    if draw.random() < 0.1:
+        return ["snapshot", "--setup", "s", "--after", str(draw.choice([0, 1, 5, 2**32 - 1])), "--turn", str(draw.choice([1, 3, 4096, 4097])),
+                "--capacity", str(draw.choice([4, 65536])), "--nodes", str(draw.choice([8, 1024]))] + ["c"] * draw.choice([1, 2, 16, 17]), setup, capture, None
     words = ["run", "--setup", "s", "--writers", str(draw.choice([0, 1, 2, 4, 15, 16])), "--live", str(draw.choice([0, 1, 3])),
              "--capacity", str(draw.choice([1, 4, 65536])), "--nodes", str(draw.choice([0, 1, 8, 1024])), draw.choice(["c", "c", "c", "c", "x"])]
     return words, setup, capture, None
@@ -205,7 +209,7 @@ def fault_of(seed):
     if ended.stderr:
         return f"seed {seed}: wrote to standard error: {words}", status
     if status == 0:
-        if not re.match(rb"records \d+\n", text) or not text.endswith(b"\n"):
+        if not re.match(rb"(records|cut) \d+\n", text) or not text.endswith(b"\n"):
             return f"seed {seed}: no report: {words}", status
     elif not re.fullmatch(TEXTS[status], text):
         return f"seed {seed}: status {status} with {text[:80]!r}: {words}", status

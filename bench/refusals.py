@@ -6,8 +6,8 @@ Run it from anywhere after `make run` has built the program (it needs a C compil
     bench/refusals.py [CASE ..]
 
 It runs the program with a small library before the C library's, which refuses the allocation of one number and no other. For a
-`run` with lanes, live questions and two writers, a `synth`, a `dump` of a capture in either format and a run over a record
-file it refuses allocation 1, 2, 3 .. until a run makes fewer. Each run has to end with status 8 and nothing written, or with
+`run` with lanes, live questions and two writers, a `synth`, a `snapshot` over two hosts, a `dump` of a capture in either format and
+a run over a record file it refuses allocation 1, 2, 3 .. until a run makes fewer. Each run has to end with status 8 and nothing written, or with
 what it writes when nothing is refused: a thread that could not be started, whose caller did its work. The numbers of both are
 printed. CONFLUO may name another build of the program. It is no part of the gate.
 """
@@ -47,7 +47,7 @@ void *aligned_alloc(size_t a, size_t n) { static void *(*real)(size_t, size_t); 
 """
 SETUP = (
     "schema packet\nindex s src\nindex p dport\nfilter f len>60\naggregate a f len\ntrigger t a sum > 100\n"
-    "ask x find s 10.0.0.0 10.255.255.255\nask y between f 0 9\nask z measure a 0 9\nask w fired t\nask l list dport==53\nlive x\nlive w\nlive l\n"
+    "ask x find s 10.0.0.0 10.255.255.255\nask y between f 0 9\nask z measure a 0 9\nask w fired t\nask l list dport==53\ntally u src len *\nask h top u sum 2\nask o total len len>60\nlive x\nlive w\nlive l\n"
 )
 RECORD_SETUP = "schema records ts:u64,src:u32,len:u32\nindex s src\nask a find s 10.0.0.0 10.0.0.255\nask b list len>100 || src==10.0.0.2\nlive a\n"
 RECORDS = "ts,src,len\n0,10.0.0.1,100\n0,10.0.0.2,70\n0,10.0.0.1,20\n0,10.0.0.3,170\n"
@@ -77,6 +77,7 @@ def pcapng():
 CASES = {
     "run with lanes, live questions, two writers": ["run", "--setup", "setup", "--writers", "2", "--capacity", "64", "--nodes", "64", "--live", "1", "pcap"],
     "synth of 20 packets, two writers": ["synth", "--setup", "setup", "--seed", "1", "--count", "20", "--writers", "2", "--capacity", "64", "--nodes", "256"],
+    "snapshot over two hosts": ["snapshot", "--setup", "setup", "--after", "5", "--turn", "2", "--capacity", "64", "--nodes", "256", "pcap", "pcapng"],
     "dump of a classic capture": ["dump", "pcap"],
     "dump of a pcapng capture": ["dump", "pcapng"],
     "run over a record file": ["run", "--setup", "records.setup", "--writers", "2", "--capacity", "64", "--nodes", "64", "--live", "1", "records"],
@@ -94,7 +95,7 @@ def one(folder, words, at, library):
 def final_part(text):
     """What doesn't depend on how threads run: the lines from `records` to the last alert."""
     lines = text.decode().split("\n")
-    return [line for line in lines if line.startswith(("records", "ask", "alert"))]
+    return [line for line in lines if line.startswith(("records", "ask", "alert", "cut", "host"))]
 
 
 def check(folder, name, words, library):
