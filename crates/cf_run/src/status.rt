@@ -13,19 +13,19 @@ pub enum Status {
     Words,
     /// The setup has a fault, first in that line, by the rule of that code.
     Setup { line: u32, code: u8 },
-    /// The capture has a fault, at that record, of that code.
+    /// The capture, of several the first faulty one, has a fault, at that record, of that code.
     Capture { at: u32, code: u8 },
     /// The shelf failed.
     ReadFault,
     /// The sink failed; what was due may be written in part.
     WriteFault,
-    /// There are more records than the log may hold.
+    /// There are more records than a log may hold.
     Full,
     /// The paths of the records need more different nodes than a writer has.
     Nodes,
     /// Want of memory. Nothing was written.
     Memory,
-    /// No file has the name of the setup or of the capture.
+    /// No file has the name of the setup or of a capture.
     NoFile,
 }
 

@@ -27,8 +27,8 @@ fn unsealed(alloc: Global, status: Status) -> Outcome
     }
 }
 
-/// Does the work that the words ask for: reads the setup and the capture from the shelf, or draws packets, and writes the
-/// report, the final part of it, or a dump, or the line of a refusal, to the sink.
+/// Does the work that the words ask for: reads the setup and the captures from the shelf, or draws packets, and writes the
+/// report, the final part of it, a dump, or the answers of several hosts at a cut, or the line of a refusal, to the sink.
 pub fn run<R: Threads + Sync, F: Shelf, K: Sink, G: Gate>(
     rt: &R,
     alloc: Global,
@@ -42,7 +42,7 @@ pub fn run<R: Threads + Sync, F: Shelf, K: Sink, G: Gate>(
     // such files.
     ensures written { Answers (F.files shelf.old) (call_of (texts words.now)) result.status result.seals.items (K.held sink.old) (K.held sink.new) (F.rest shelf.old) (F.rest shelf.new) }
 
-    // Which statuses a run, a synth and a dump can come to, and how many seals they have, whatever the shelf tells.
+    // Which statuses a run, a synth, a dump and a snapshot can come to, and how many seals they have, whatever the shelf tells.
     ensures by_command { IsByCall (call_of (texts words.now)) result.status result.seals.items }
 
     // Only work that was done has seals.
