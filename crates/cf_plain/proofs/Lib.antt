@@ -7,3 +7,5 @@ pub mod Amounts
 pub mod Ranks
 pub mod TopLaws
 pub mod Replays
+pub mod Joined
+pub mod Merging

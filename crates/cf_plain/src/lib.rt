@@ -9,6 +9,7 @@ mod history;
 mod loaded;
 mod plain;
 mod scan;
+mod segments;
 #[cfg(test)]
 mod tests;
 mod total;
@@ -20,4 +21,5 @@ pub use heaviest::{top, tops_are_heaviest};
 pub use history::{replies_are_histories, spelled_are_histories};
 pub use loaded::{Live, Loaded};
 pub use plain::Plain;
+pub use segments::{findings_tell_answers, marks_of_groups, merge_groups, push_places};
 pub use total::{amount, total_of_expr};

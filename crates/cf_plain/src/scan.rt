@@ -131,7 +131,7 @@ pub(crate) fn tops_of(
 }
 
 // The groups of a map, in the order of their keys.
-fn listed(alloc: Global, grouped: &BTreeMap<u64, Quad>) -> Result<Vec<Group>, Memory>
+pub(crate) fn listed(alloc: Global, grouped: &BTreeMap<u64, Quad>) -> Result<Vec<Group>, Memory>
     ensures { IfOk result (λ groups. groups.items ≡ map as_group grouped.now.entries) }
 {
     let mut groups = Vec::new(alloc);

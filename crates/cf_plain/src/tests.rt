@@ -335,6 +335,64 @@ fn equal_groups_are_ranked_by_their_keys(rt: HostRuntime) -> Result<(), Fail> {
     Ok(())
 }
 
+#[test]
+fn groups_of_two_logs_are_merged(rt: HostRuntime) -> Result<(), Fail> {
+    let alloc = rt.alloc();
+    let light = Quad::EMPTY.add(3);
+    let heavy = light.add(4);
+    let groups = [
+        Group {
+            key: 4,
+            quad: light,
+        },
+        Group {
+            key: 9,
+            quad: heavy,
+        },
+        Group {
+            key: 2,
+            quad: light,
+        },
+        Group {
+            key: 9,
+            quad: light,
+        },
+    ];
+    let merged = merge_groups(alloc, &groups)?;
+    let keys = merged.iter().map(|group| group.key);
+    assert_eq!(rt;
+        Vec::from_iter(alloc, keys)?.as_slice(),
+        [2, 4, 9].as_slice()
+    );
+    let sums = merged.iter().map(|group| group.quad.sum());
+    assert_eq!(rt;
+        Vec::from_iter(alloc, sums)?.as_slice(),
+        [3, 3, 10].as_slice()
+    );
+    let above = Trigger {
+        agg: 0,
+        part: Part::Sum,
+        op: Op::Gt,
+        number: 3,
+    };
+    let marks = marks_of_groups(alloc, &above, &merged)?;
+    let fired = Fired {
+        bucket: 9,
+        value: 10,
+    };
+    assert_eq!(rt; marks.as_slice(), [fired].as_slice());
+    Ok(())
+}
+
+#[test]
+fn places_of_a_second_log_are_counted_on(rt: HostRuntime) -> Result<(), Fail> {
+    let alloc = rt.alloc();
+    let mut places = Vec::from_array(alloc, [0, 2])?;
+    push_places(&mut places, 3, &[0, 1])?;
+    assert_eq!(rt; places.as_slice(), [0, 2, 3, 4].as_slice());
+    Ok(())
+}
+
 // The replies to two appends and a question; None where one of them isn't lawful.
 fn replies_of(
     alloc: Global,
