@@ -12,7 +12,7 @@ use Rattle.cf_shape.specs.Lanes.{ShapeValue, IsShape}
 use Rattle.cf_row.proofs.Bytes.{both}
 use Rattle.cf_law.specs.Passes.{Pass}
 use Rattle.cf_law.specs.Shapes.{layout}
-use Rattle.cf_law.specs.Readers.{IsFit}
+use Rattle.cf_law.specs.Readers.{IsFit, AtHome}
 use Rattle.cf_table.specs.Values.{PassValue}
 use Rattle.cf_table.specs.Effects.{HasStepped, word_effect, done_effect}
 use Rattle.cf_table.specs.Moves.{OnlyLooked, AreEntries}
@@ -64,3 +64,7 @@ entry_by shape e is fit =
 pub entries_by : (shape : ShapeValue) (m n : PassValue) (o found : ℕ) → IsShape shape → HasStepped shape (done_effect shape m.view o) m found n → AreEntries shape.schema (n.view).seen
 entries_by shape m n o found is made k e at =
     entry_by shape e is (made.told.tells.fit k e (ap (λ (q : Pass). slice_get q.seen k) (sym made.told.is) ∙ at))
+
+-- a pass that only looked holds its books still
+pub looked_home : (shape : ShapeValue) (m n : PassValue) → OnlyLooked m n → AtHome (layout shape) m.view → AtHome (layout shape) n.view
+looked_home shape m n looked home w lt = let h = home w lt in (h.0, h.1, ap (λ (p : PassValue). slice_get (p.view).books h.0) looked ∙ h.2, h.3, h.4)

@@ -19,7 +19,7 @@ use std::alloc::Global;
 use std::marker::{Brand, Model};
 use std::snapshot::Snapshot;
 
-/// What a closed log was. It has no bytes, and only `MultiLog::close` makes one.
+/// What a closed log was. It has no bytes, and only `MultiLog::seal` makes one.
 #[derive(Drop)]
 pub struct Seal {
     root: Snapshot<Root>,
@@ -104,6 +104,16 @@ impl MultiLog {
         Ok(entries)
     }
 
+    /// The log's entries, which are those that the root has seen, in the order of their offsets. Only the root's last look is
+    /// another then, also after want of memory.
+    pub fn entries(&self, alloc: Global, root: &mut Root) -> Result<Vec<Entry>, Memory>
+        requires of { IsOf root.old self.now }
+        ensures entries { IfOk result (λ entries. entries.items ≡ root.old.view.seen) }
+        ensures looked { OnlyLooked root.old root.new }
+    {
+        self.read_all(alloc, &mut root.token)
+    }
+
     fn read_all(&self, alloc: Global, token: &mut Token) -> Result<Vec<Entry>, Memory>
         requires of { IsOf token.old self.now }
         ensures entries { IfOk result (λ entries. entries.items ≡ token.old.view.seen) }
@@ -114,6 +124,17 @@ impl MultiLog {
         self.read_seen(alloc, token)
     }
 
+    /// The seal of the log, whose books are at home: its entries are those that the root has seen. It takes no memory.
+    pub fn seal(self, root: Root) -> Seal
+        requires of { IsOf root self }
+        requires home { AtHome (layout self.shape) root.view }
+        ensures { result ≡ record { entries = root.view.seen; told = root.view.told } }
+    {
+        Seal {
+            root: Snapshot::of(&root),
+        }
+    }
+
     /// The log's entries, which are those that the root has seen, and a seal of them. After want of memory the log and the
     /// root come back, and only the root's last look is another.
     pub fn close(self, alloc: Global, mut root: Root) -> Result<Closed, (MultiLog, Root)>
@@ -121,12 +142,10 @@ impl MultiLog {
         requires home { AtHome (layout self.shape) root.view }
         ensures { MatchResult result (λ closed. (closed.entries.items ≡ root.view.seen) × (closed.seal ≡ record { entries = root.view.seen; told = root.view.told })) (λ back. (back.0 ≡ self) × OnlyLooked root back.1) }
     {
-        match self.read_all(alloc, &mut root.token) {
+        match self.entries(alloc, &mut root) {
             Ok(entries) => Ok(Closed {
                 entries,
-                seal: Seal {
-                    root: Snapshot::of(&root),
-                },
+                seal: self.seal(root),
             }),
             Err(_) => Err((self, root)),
         }
