@@ -1,12 +1,12 @@
 -- What a question finds in rows that stand in several lists.
-use Rattle.std.proofs.Common.{◌≡◌, ℕ, zero, suc, ◌+◌, ◌<◌, ◌≤◌, Bool, true, false, cond, ◌&&◌, ◌||◌, ◌==◌, List, [], ◌∷◌, ◌++◌, length, map, filter, fold, flat_map, refl, sym, ap, ap₂, ◌∙◌, inl, inr, arith, append-nil, length-append, add-zero}
+use Rattle.std.proofs.Common.{◌≡◌, ℕ, zero, suc, ◌+◌, ◌<◌, ◌≤◌, ◌^◌, Bool, true, false, cond, ◌&&◌, ◌||◌, ◌==◌, List, [], ◌∷◌, ◌++◌, length, map, filter, fold, flat_map, All, refl, sym, ap, ap₂, ◌∙◌, inl, inr, arith, append-nil, length-append, add-zero}
 use Rattle.std.specs.List.{AllByRecursion, list_any, range_with_len, sum_by}
 use Rattle.std.proofs.lemmas.Bool.{eq-eqb, ne_eqb, cases_eq, cases_Bool}
 use Rattle.std.proofs.lemmas.List.{append_assoc, map-append, get_or-append-add, get_or_append_left, length-map}
 use Rattle.std.proofs.lemmas.List.Concat.{flat_map-cons}
-use Rattle.std.proofs.lemmas.List.Elements.{filter-append}
+use Rattle.std.proofs.lemmas.List.Elements.{filter-append, All-from_recursion}
 use Rattle.std.proofs.lemmas.List.Folds.{list_any-append}
-use Rattle.std.proofs.lemmas.List.Sums.{fold-append, sum_by-cons}
+use Rattle.std.proofs.lemmas.List.Sums.{fold-append, sum_by-cons, sum_by-append, length-filter, count_by-le-length}
 use Rattle.cf_row.specs.Row.{RowValue}
 use Rattle.cf_row.specs.declared.expr.Atom.{Atom}
 use Rattle.cf_row.specs.Expr.{holds_of}
@@ -17,8 +17,8 @@ use Rattle.cf_shape.specs.Lanes.{ShapeValue, selected_by, key_of, measure_of}
 use Rattle.cf_plain.specs.Asks.{row_at, no_row, places, counts_for, total_over, eval_rows}
 use Rattle.cf_plain.specs.Groups.{ascending, keys_in, has_key, group_of, groups}
 use Rattle.cf_plain.specs.Totals.{total}
-use Rattle.cf_plain.specs.Segments.{group_under, merged, numbers_in, finding_in, joined, body_of}
-use Rattle.cf_plain.specs.Segments.Finding.{Places, Total, Groups}
+use Rattle.cf_plain.specs.Segments.{group_under, merged, numbers_in, finding_in, joined, body_of, CanJoin}
+use Rattle.cf_plain.specs.declared.finding.Finding.TheVariants.{Places, Total, Groups}
 use Rattle.cf_plain.specs.declared.ask.Ask.{Ask}
 use Rattle.cf_plain.specs.declared.ask.Ask.TheVariants as asks
 use Rattle.cf_plain.proofs.Grouped.{Rise, pairs, rise_ascending, any_ascending, none_of_key}
@@ -283,3 +283,35 @@ module _ (shape : ShapeValue) (lane : ℕ) where
       let ks = keys_in shape lane rows in
       let rise = rise_ascending (map (key_of shape lane) (filter (selected_by shape lane) rows)) in
       omega (arith, numbers_of rows ks, no_more_than_rows ks rise rows)
+
+below : (p : ℕ → Bool) (m most a n : ℕ) → m + (a + n) ≤ most → AllByRecursion (λ place. m + place < most) (filter p (range_with_len a n))
+below p m most a zero le = tt
+below p m most a (suc n) le = elim (p a) as (λ b. AllByRecursion (λ place. m + place < most) (cond b (a ∷ filter p (range_with_len (a + 1) n)) (filter p (range_with_len (a + 1) n)))) [
+  | true ↦ (omega (arith, le), below p m most (a + 1) n (omega (arith, le)))
+  | false ↦ below p m most (a + 1) n (omega (arith, le))
+]
+
+-- the places in rows behind others can be counted on
+places_can : (passes : RowValue → Bool) (xs ys : List RowValue) → length xs + length ys ≤ 2 ^ 20 → All (λ place. length xs + place < 2 ^ 32) (places passes ys)
+places_can passes xs ys few =
+    All-from_recursion (λ place. length xs + place < 2 ^ 32) (places passes ys) (below (λ place. passes (row_at ys place)) (length xs) (2 ^ 32) 0 (length ys) (omega (arith, few)))
+
+taken_few : (f : RowValue → ℕ) (p : RowValue → Bool) (rows : List RowValue) → length (map f (filter p rows)) ≤ length rows
+taken_few f p rows = omega (arith, length-map (filter p rows) f, length-filter p rows, count_by-le-length p rows)
+
+totals_can : (f : RowValue → ℕ) (p : RowValue → Bool) (xs ys : List RowValue) → length xs + length ys ≤ 2 ^ 20 → length (map f (filter p xs)) + length (map f (filter p ys)) ≤ 2 ^ 20
+totals_can f p xs ys few = omega (arith, few, taken_few f p xs, taken_few f p ys)
+
+groups_can : (shape : ShapeValue) (lane : ℕ) (xs ys : List RowValue) → length xs + length ys ≤ 2 ^ 20 → numbers_in (groups shape lane xs ++ groups shape lane ys) ≤ 2 ^ 20
+groups_can shape lane xs ys few =
+    omega (arith, few, sum_by-append (λ (g : Pair). g.1.count) (groups shape lane xs) (groups shape lane ys), groups_are_few shape lane xs, groups_are_few shape lane ys)
+
+-- findings in so few rows can be joined
+pub findings_can_join : (shape : ShapeValue) (ask : Ask) (xs ys : List RowValue) → length xs + length ys ≤ 2 ^ 20 → CanJoin (length xs) (finding_in shape ask xs) (finding_in shape ask ys)
+findings_can_join shape (asks.List expr) xs ys few = places_can (counts_for shape (asks.List expr)) xs ys few
+findings_can_join shape (asks.Find lane low high) xs ys few = places_can (counts_for shape (asks.Find lane low high)) xs ys few
+findings_can_join shape (asks.Between lane low high) xs ys few = places_can (counts_for shape (asks.Between lane low high)) xs ys few
+findings_can_join shape (asks.Measure lane low high) xs ys few = totals_can (measure_of shape lane) (counts_for shape (asks.Measure lane low high)) xs ys few
+findings_can_join shape (asks.Fired trigger) xs ys few = groups_can shape trigger.agg xs ys few
+findings_can_join shape (asks.Top lane part n) xs ys few = groups_can shape lane xs ys few
+findings_can_join shape (asks.Total attr expr) xs ys few = totals_can (λ row. number_at row attr) (holds_of expr) xs ys few

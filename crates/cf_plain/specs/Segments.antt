@@ -1,5 +1,5 @@
 -- What a question finds in rows that stand in several lists, end to end.
-use Rattle.std.specs.Prelude.{◌≡◌, ℕ, ◌+◌, ◌≤◌, ◌==◌, List, [], ◌++◌, length, map, flat_map, filter, fold}
+use Rattle.std.specs.Prelude.{◌≡◌, ℕ, ◌+◌, ◌<◌, ◌≤◌, ◌^◌, ◌==◌, List, [], ◌++◌, length, map, flat_map, filter, fold, All}
 use Rattle.std.specs.List.{sum_by}
 use Rattle.cf_row.specs.Row.{RowValue}
 use Rattle.cf_fold.specs.Quads.{QuadValue, quad_of, both}
@@ -10,6 +10,8 @@ use Rattle.cf_plain.specs.Tops.{top}
 use Rattle.cf_plain.specs.Totals.{total}
 use Rattle.cf_plain.specs.declared.ask.Ask.{Ask}
 use Rattle.cf_plain.specs.declared.ask.Ask.TheVariants as asks
+use Rattle.cf_plain.specs.declared.finding.Finding.{Finding}
+use Rattle.cf_plain.specs.declared.finding.Finding.TheVariants as findings
 use Rattle.cf_plain.specs.declared.answer.Body.{Body}
 use Rattle.cf_plain.specs.declared.answer.Body.TheVariants as bodies
 
@@ -29,30 +31,31 @@ merged gs = map (group_under gs) (ascending (map (λ g. g.0) gs))
 abbrev pub numbers_in : List (ℕ × QuadValue) → ℕ
 numbers_in gs = sum_by (λ g. g.1.count) gs
 
--- What a question finds in some rows, so that what it finds in rows behind them can be put to it: places, a quad, or the
--- groups of its lane.
-pub data Finding : Type 0 where
-  Places : (found : List ℕ) → Finding
-  Total : (quad : QuadValue) → Finding
-  Groups : (found : List (ℕ × QuadValue)) → Finding
-
 -- what a question finds in some rows
 abbrev pub finding_in : ShapeValue → Ask → List RowValue → Finding
-finding_in shape (asks.List expr) rows = Places (places (counts_for shape (asks.List expr)) rows)
-finding_in shape (asks.Find lane low high) rows = Places (places (counts_for shape (asks.Find lane low high)) rows)
-finding_in shape (asks.Between lane low high) rows = Places (places (counts_for shape (asks.Between lane low high)) rows)
-finding_in shape (asks.Measure lane low high) rows = Total (total_over shape lane (counts_for shape (asks.Measure lane low high)) rows)
-finding_in shape (asks.Fired trigger) rows = Groups (groups shape trigger.agg rows)
-finding_in shape (asks.Top lane part n) rows = Groups (groups shape lane rows)
-finding_in shape (asks.Total attr expr) rows = Total (total attr expr rows)
+finding_in shape (asks.List expr) rows = findings.Places (places (counts_for shape (asks.List expr)) rows)
+finding_in shape (asks.Find lane low high) rows = findings.Places (places (counts_for shape (asks.Find lane low high)) rows)
+finding_in shape (asks.Between lane low high) rows = findings.Places (places (counts_for shape (asks.Between lane low high)) rows)
+finding_in shape (asks.Measure lane low high) rows = findings.Total (total_over shape lane (counts_for shape (asks.Measure lane low high)) rows)
+finding_in shape (asks.Fired trigger) rows = findings.Groups (groups shape trigger.agg rows)
+finding_in shape (asks.Top lane part n) rows = findings.Groups (groups shape lane rows)
+finding_in shape (asks.Total attr expr) rows = findings.Total (total attr expr rows)
 
 -- What is found in n rows, and what is found in those behind them: places go on behind the n rows, quads and groups are merged.
 -- Two findings of different kinds are of no question, and the first one stays.
 abbrev pub joined : ℕ → Finding → Finding → Finding
-joined n (Places xs) (Places ys) = Places (xs ++ map (λ place. n + place) ys)
-joined n (Total p) (Total q) = Total (both p q)
-joined n (Groups gs) (Groups hs) = Groups (merged (gs ++ hs))
+joined n (findings.Places xs) (findings.Places ys) = findings.Places (xs ++ map (λ place. n + place) ys)
+joined n (findings.Total p) (findings.Total q) = findings.Total (both p q)
+joined n (findings.Groups gs) (findings.Groups hs) = findings.Groups (merged (gs ++ hs))
 joined n finding other = finding
+
+-- What is found can be joined in the numbers of the program: each place that is counted on is below 2^32, and the quads are of
+-- at most 2^20 numbers together.
+abbrev pub CanJoin : ℕ → Finding → Finding → Type 0
+CanJoin n (findings.Places xs) (findings.Places ys) = All (λ place. n + place < 2 ^ 32) ys
+CanJoin n (findings.Total p) (findings.Total q) = p.count + q.count ≤ 2 ^ 20
+CanJoin n (findings.Groups gs) (findings.Groups hs) = numbers_in (gs ++ hs) ≤ 2 ^ 20
+CanJoin n finding other = Unit {0}
 
 -- the marks or the heaviest of some groups, as the question wants
 abbrev pub body_of_groups : Ask → List (ℕ × QuadValue) → Body
@@ -62,9 +65,9 @@ body_of_groups ask gs = bodies.Marks []
 
 -- the answer to a question that found that
 abbrev pub body_of : Ask → Finding → Body
-body_of ask (Places found) = bodies.Places found
-body_of ask (Total quad) = bodies.Total quad
-body_of ask (Groups found) = body_of_groups ask found
+body_of ask (findings.Places found) = bodies.Places found
+body_of ask (findings.Total quad) = bodies.Total quad
+body_of ask (findings.Groups found) = body_of_groups ask found
 
 -- What a question finds tells its answer.
 abbrev pub FindingsTell : Type 0
@@ -73,6 +76,10 @@ FindingsTell = (shape : ShapeValue) (ask : Ask) (rows : List RowValue) → body_
 -- What it finds in rows and in those behind them, joined, is what it finds in all of them.
 abbrev pub FindingsJoin : Type 0
 FindingsJoin = (shape : ShapeValue) (ask : Ask) (xs ys : List RowValue) → joined (length xs) (finding_in shape ask xs) (finding_in shape ask ys) ≡ finding_in shape ask (xs ++ ys)
+
+-- What it finds in rows and in those behind them, at most 2^20 in all, can be joined.
+abbrev pub FindingsCanJoin : Type 0
+FindingsCanJoin = (shape : ShapeValue) (ask : Ask) (xs ys : List RowValue) → length xs + length ys ≤ 2 ^ 20 → CanJoin (length xs) (finding_in shape ask xs) (finding_in shape ask ys)
 
 -- The groups of several lists of rows, merged, are those of all the rows.
 abbrev pub GroupsMerge : Type 0

@@ -92,6 +92,46 @@ impl Marks {
     }
 }
 
+/// The groups of a lane's rows. Those that a question finds ascend by key.
+#[derive(Debug, Drop)]
+pub struct Groups {
+    items: Vec<Group>,
+}
+
+impl Model for Groups {
+    ghost use Rattle.std.specs.Prelude.{List, ℕ, map};
+    ghost use Rattle.cf_fold.specs.Quads.{QuadValue};
+    ghost use Rattle.cf_plain.specs.Groups.{pair_of};
+
+    ghost Value = { List (ℕ × QuadValue) };
+
+    ghost view = { λ g. map pair_of g.items.items };
+}
+
+impl Groups {
+    ghost use Rattle.std.specs.Prelude.{◌≡◌, map};
+    ghost use Rattle.cf_plain.specs.Groups.{pair_of};
+
+    /// These groups.
+    pub fn new(items: Vec<Group>) -> Groups
+        ensures { result ≡ map pair_of items.items }
+    {
+        Groups { items }
+    }
+
+    pub fn as_slice(&self) -> &[Group]
+        ensures { map pair_of result.now ≡ self.now }
+    {
+        self.items.as_slice()
+    }
+
+    pub fn into_vec(self) -> Vec<Group>
+        ensures { map pair_of result.items ≡ self }
+    {
+        self.items
+    }
+}
+
 /// What a question found.
 #[derive(Debug, Drop)]
 pub enum Body {

@@ -4,6 +4,7 @@
 mod answer;
 mod ask;
 mod calls;
+mod finding;
 mod heaviest;
 mod history;
 mod loaded;
@@ -14,9 +15,10 @@ mod segments;
 mod tests;
 mod total;
 
-pub use answer::{Answer, Body, Fired, Group, Marks, Places};
+pub use answer::{Answer, Body, Fired, Group, Groups, Marks, Places};
 pub use ask::{Ask, suits};
 pub use calls::{Call, Reply, run_calls};
+pub use finding::Finding;
 pub use heaviest::{top, tops_are_heaviest};
 pub use history::{replies_are_histories, spelled_are_histories};
 pub use loaded::{Live, Loaded};

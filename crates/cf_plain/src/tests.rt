@@ -1,3 +1,8 @@
+ghost use Rattle.std.specs.Prelude.{◌≡◌, ◌∷◌, [], IfOk};
+ghost use Rattle.cf_fold.specs.Quads.{quad_of};
+ghost use Rattle.cf_plain.specs.Segments.{CanJoin};
+ghost use Rattle.cf_plain.specs.declared.finding.Finding.TheVariants as findings;
+
 use super::*;
 use cf_fold::{Part, Quad, Trigger};
 use cf_row::{
@@ -335,61 +340,62 @@ fn equal_groups_are_ranked_by_their_keys(rt: HostRuntime) -> Result<(), Fail> {
     Ok(())
 }
 
-#[test]
-fn groups_of_two_logs_are_merged(rt: HostRuntime) -> Result<(), Fail> {
-    let alloc = rt.alloc();
+// The numbers of the question's answer on two logs, of which the first has three rows.
+fn joined_numbers(
+    alloc: Global,
+    ask: &Ask,
+    finding: &Finding,
+    other: Finding,
+) -> Result<Vec<u64>, Memory>
+    requires can { CanJoin 3 finding.now other }
+{
+    let joined = finding.copy(alloc)?.join(alloc, 3, other)?;
+    numbers_of(alloc, &joined.body(alloc, ask)?)
+}
+
+// Two groups, of which the second has two rows.
+fn two_groups(alloc: Global, first: u64, second: u64) -> Result<Finding, Memory>
+    ensures { IfOk result (λ found. found ≡ findings.Groups ((first, quad_of (3 ∷ [])) ∷ (second, quad_of (3 ∷ 4 ∷ [])) ∷ [])) }
+{
     let light = Quad::EMPTY.add(3);
     let heavy = light.add(4);
     let groups = [
         Group {
-            key: 4,
+            key: first,
             quad: light,
         },
         Group {
-            key: 9,
+            key: second,
             quad: heavy,
         },
-        Group {
-            key: 2,
-            quad: light,
-        },
-        Group {
-            key: 9,
-            quad: light,
-        },
     ];
-    let merged = merge_groups(alloc, &groups)?;
-    let keys = merged.iter().map(|group| group.key);
-    assert_eq!(rt;
-        Vec::from_iter(alloc, keys)?.as_slice(),
-        [2, 4, 9].as_slice()
-    );
-    let sums = merged.iter().map(|group| group.quad.sum());
-    assert_eq!(rt;
-        Vec::from_iter(alloc, sums)?.as_slice(),
-        [3, 3, 10].as_slice()
-    );
-    let above = Trigger {
-        agg: 0,
-        part: Part::Sum,
-        op: Op::Gt,
-        number: 3,
-    };
-    let marks = marks_of_groups(alloc, &above, &merged)?;
-    let fired = Fired {
-        bucket: 9,
-        value: 10,
-    };
-    assert_eq!(rt; marks.as_slice(), [fired].as_slice());
+    Ok(Finding::Groups(Groups::new(Vec::from_array(alloc, groups)?)))
+}
+
+#[test]
+fn findings_of_two_logs_are_joined(rt: HostRuntime) -> Result<(), Fail> {
+    let alloc = rt.alloc();
+    let places = Finding::Places(Places::new(Vec::from_array(alloc, [0, 2])?));
+    let more = Finding::Places(Places::new(Vec::from_array(alloc, [0, 1])?));
+    let found = joined_numbers(alloc, &Ask::Find(0, 0, 9), &places, more)?;
+    assert_eq!(rt; found.as_slice(), [0, 2, 3, 4].as_slice());
+    let total = Finding::Total(Quad::EMPTY.add(3));
+    let more = Finding::Total(Quad::EMPTY.add(4));
+    let found = joined_numbers(alloc, &Ask::Measure(0, 0, 9), &total, more)?;
+    assert_eq!(rt; found.as_slice(), [2, 7, 3, 4].as_slice());
     Ok(())
 }
 
 #[test]
-fn places_of_a_second_log_are_counted_on(rt: HostRuntime) -> Result<(), Fail> {
+fn groups_of_two_logs_are_merged(rt: HostRuntime) -> Result<(), Fail> {
     let alloc = rt.alloc();
-    let mut places = Vec::from_array(alloc, [0, 2])?;
-    push_places(&mut places, 3, &[0, 1])?;
-    assert_eq!(rt; places.as_slice(), [0, 2, 3, 4].as_slice());
+    let fired = trigger(Part::Sum, Op::Gt, 7);
+    let top = Ask::Top(0, Part::Sum, 2);
+    let groups = two_groups(alloc, 4, 9)?;
+    let found = joined_numbers(alloc, &fired, &groups, two_groups(alloc, 2, 9)?)?;
+    assert_eq!(rt; found.as_slice(), [9, 14].as_slice());
+    let found = joined_numbers(alloc, &top, &groups, two_groups(alloc, 2, 9)?)?;
+    assert_eq!(rt; found.as_slice(), [9, 14, 2, 3].as_slice());
     Ok(())
 }
 

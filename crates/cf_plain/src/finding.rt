@@ -1,0 +1,114 @@
+// What a question finds in rows that stand in several logs, end to end.
+ghost use Rattle.std.specs.Prelude.{◌≡◌, ◌+◌, ◌<◌, ◌≤◌, ◌^◌, ◌++◌, All, map, IfOk};
+ghost use Rattle.cf_plain.specs.Groups.{pair_of};
+ghost use Rattle.cf_plain.specs.Segments.{body_of, body_of_groups as body_of_groups_as, joined, merged, numbers_in, CanJoin};
+
+use crate::{
+    Ask, Body, Group, Groups, Marks, Places, marks_of_groups, merge_groups, push_places, top,
+};
+use cf_fold::Quad;
+use cf_row::Memory;
+use std::alloc::Global;
+
+/// What a question finds in some rows. What it finds in rows behind them can be joined to it, which no answer allows: the
+/// heaviest keys of all rows need not be among those of a part.
+#[derive(Debug, Drop)]
+pub enum Finding {
+    /// The places of rows, ascending.
+    Places(Places),
+    /// The quad of what is measured or added up.
+    Total(Quad),
+    /// The groups of the question's lane, ascending by key.
+    Groups(Groups),
+}
+
+impl Finding {
+    /// An equal finding.
+    pub fn copy(&self, alloc: Global) -> Result<Finding, Memory>
+        ensures { IfOk result (λ finding. finding ≡ self.now) }
+    {
+        match self {
+            Finding::Places(places) => {
+                let places = places.as_slice().to_vec(alloc)?;
+                Ok(Finding::Places(Places::new(places)))
+            }
+            Finding::Total(quad) => Ok(Finding::Total(*quad)),
+            Finding::Groups(groups) => {
+                let groups = groups.as_slice().to_vec(alloc)?;
+                Ok(Finding::Groups(Groups::new(groups)))
+            }
+        }
+    }
+
+    /// What the question finds in `base` rows, in which it found this, and in those behind them, in which it found `other`: places
+    /// are counted on by `base`, quads are merged, and so are the groups of one key. Of findings of different kinds this one
+    /// stays.
+    pub fn join(self, alloc: Global, base: u32, other: Finding) -> Result<Finding, Memory>
+        requires can { CanJoin base self other }
+        ensures { IfOk result (λ finding. finding ≡ joined base self other) }
+    {
+        match self {
+            Finding::Places(places) => match other {
+                Finding::Places(more) => Ok(Finding::Places(places_then(places, base, &more)?)),
+                _ => Ok(Finding::Places(places)),
+            },
+            Finding::Total(quad) => match other {
+                Finding::Total(more) => Ok(Finding::Total(quad.merge(more))),
+                _ => Ok(Finding::Total(quad)),
+            },
+            Finding::Groups(groups) => match other {
+                Finding::Groups(more) => Ok(Finding::Groups(merge_both(alloc, groups, &more)?)),
+                _ => Ok(Finding::Groups(groups)),
+            },
+        }
+    }
+
+    /// The answer to the question that found this: places and a quad as they are, and of groups the marks of the question's
+    /// trigger or the heaviest.
+    pub fn body(self, alloc: Global, ask: &Ask) -> Result<Body, Memory>
+        ensures { IfOk result (λ body. body ≡ body_of ask.now self) }
+    {
+        match self {
+            Finding::Places(places) => Ok(Body::Places(places)),
+            Finding::Total(quad) => Ok(Body::Total(quad)),
+            Finding::Groups(groups) => body_of_groups(alloc, ask, groups.as_slice()),
+        }
+    }
+}
+
+// The places, and then the others, each counted on from that base.
+fn places_then(places: Places, base: u32, more: &Places) -> Result<Places, Memory>
+    requires low { All (λ place. base + place < 2 ^ 32) more.now }
+    ensures { IfOk result (λ both. both ≡ places ++ map (λ place. base + place) more.now) }
+{
+    let mut all = places.into_vec();
+    push_places(&mut all, base, more.as_slice())?;
+    Ok(Places::new(all))
+}
+
+// The groups of both, with those of one key merged.
+fn merge_both(alloc: Global, groups: Groups, more: &Groups) -> Result<Groups, Memory>
+    requires few { numbers_in (groups ++ more.now) ≤ 2 ^ 20 }
+    ensures { IfOk result (λ both. both ≡ merged (groups ++ more.now)) }
+{
+    let mut all = groups.into_vec();
+    all.extend_from_slice(more.as_slice())?;
+    Ok(Groups::new(merge_groups(alloc, &all)?))
+}
+
+// The marks or the heaviest of the groups, as the question wants.
+fn body_of_groups(alloc: Global, ask: &Ask, groups: &[Group]) -> Result<Body, Memory>
+    ensures { IfOk result (λ body. body ≡ body_of_groups_as ask.now (map pair_of groups.now)) }
+{
+    match ask {
+        Ask::Fired(trigger) => {
+            let marks = marks_of_groups(alloc, trigger, groups)?;
+            Ok(Body::Marks(Marks::new(marks)))
+        }
+        Ask::Top(_, part, most) => {
+            let marks = top(alloc, *part, *most, groups)?;
+            Ok(Body::Tops(Marks::new(marks)))
+        }
+        _ => Ok(Body::Marks(Marks::new(Vec::new(alloc)))),
+    }
+}
