@@ -1,21 +1,27 @@
 #!/usr/bin/env python3
-"""Records loaded and live questions answered a second, on 65,536 generated packets.
+"""How fast confluo loads and answers, beside other readers of captures, on generated packets.
 
 Run it from anywhere after `make run` has built the program:
 
-    bench/speed.py [ROUNDS]
+    bench/speed.py [--rounds N] [--long] [--table FILE] [--plot FILE.svg]
 
-It writes the generated capture to a temporary file, the same bytes that `confluo synth --seed 1` draws, and times whole
-commands: `confluo run` with one, two and four writers and setups of no, one, four and sixteen lanes, and `tshark -r` and
-`tcpdump -r` on the same file where they are installed. Then it times live questions beside two writers, each by the time of a
-run that asks it 1,024 times less that of the same run without: one key of an index against a scan for it, the aggregate of a
-bucket against a scan of its records, and a trigger's marks. Each command runs ROUNDS times (5 where it is not said), and the
-shortest time counts. CONFLUO may name another build of the program. It is no part of the gate.
+It writes the generated capture to a temporary file, the same bytes that `confluo synth --seed 1` draws, and times whole commands:
+
+ - `confluo run` and `confluo synth` by one, two and four writers, with setups of no, one, four and sixteen lanes;
+ - a usual setup (one index, one aggregate, one trigger, four questions) by `confluo run`, and `tcpdump` and `tshark` on the same file
+   where they are installed, with and without a filter that a fifth of the packets pass, and the file read once by this script;
+ - live questions beside two writers, each by the time of a run that asks it 1,024 times less that of the same run without.
+
+Each command runs N times (5 where it is not said), and the shortest time counts, as other work on the machine only lengthens a
+run. The peak of memory is that of one run. The captures have 65,536 packets, and with --long 1,048,576 too, over 16 segments.
+--table writes the tables in Markdown, --plot draws the second one, which needs matplotlib. CONFLUO may name another build of the
+program. It is no part of the gate.
 """
 
+import argparse
+import dataclasses
 import os
 import pathlib
-import resource
 import shutil
 import struct
 import subprocess
@@ -23,15 +29,33 @@ import sys
 import tempfile
 import time
 
-COUNT = 65536
+SHORT, LONG = 2**16, 2**20
 ATTRIBUTES = ["src", "dst", "sport", "dport", "proto", "ttl", "tos", "flags", "kind", "etype", "win", "iplen", "len", "seq", "ack", "caplen"]
 PLAIN = "schema packet\nask all list len>1080\n"
+USUAL = """schema packet
+index source src
+filter every *
+aggregate bytes every len
+trigger busy bytes sum > 570000
+ask host find source 10.0.0.7 10.0.0.7
+ask load measure bytes 0 1000000
+ask when fired busy
+ask big list len>1080
+"""
 QUESTIONS = {
     "one key of an index": "index s seq\nask q find s 12345 12345\n",
     "a scan for that key": "index s seq\nask q list seq==12345\n",
     "a bucket's aggregate": "filter f *\naggregate a f len\nask q measure a 40 40\n",
     "a scan of a bucket": "filter f *\naggregate a f len\nask q list ts in 40000000000..40000000010\n",
     "a trigger's marks": "filter f *\naggregate a f len\ntrigger t a sum > 4294967295\nask q fired t\n",
+    "the ten heaviest keys": "tally a src len *\nask q top a sum 10\n",
+}
+# What a fifth of the packets pass: lengths run evenly from 64 to 1,087.
+READERS = {
+    "tcpdump -n -r": ["tcpdump", "-n", "-r"],
+    "tcpdump -n -r, a fifth of the packets": ["tcpdump", "-n", "greater", "883", "-r"],
+    "tshark -n -r": ["tshark", "-n", "-r"],
+    "tshark -n -r -Y, a fifth of the packets": ["tshark", "-n", "-Y", "frame.len >= 883", "-r"],
 }
 ROUNDS_A_BATCH = 64
 BATCH = 4096
@@ -78,66 +102,160 @@ def lanes(count):
     return PLAIN + "".join(f"index i{k} {name}\n" for k, name in enumerate(ATTRIBUTES[:count]))
 
 
-def shortest(command, rounds):
-    """The shortest of some times of a command, and of its times on processors, in seconds."""
-    walls, works = [], []
+@dataclasses.dataclass
+class Cost:
+    """What the shortest of some runs took: seconds by the clock and on processors, and the peak of memory in bytes."""
+
+    seconds: float
+    work: float
+    memory: int
+
+
+def measured(command, rounds):
+    """The cost of a command, whose output is thrown away."""
+    costs = []
     for _ in range(rounds):
-        before = resource.getrusage(resource.RUSAGE_CHILDREN)
         start = time.perf_counter()
-        subprocess.run(command, check=True, stdout=subprocess.DEVNULL, stderr=subprocess.DEVNULL)
-        walls.append(time.perf_counter() - start)
-        after = resource.getrusage(resource.RUSAGE_CHILDREN)
-        works.append(after.ru_utime + after.ru_stime - before.ru_utime - before.ru_stime)
-    return min(walls), min(works)
+        process = subprocess.Popen(command, stdout=subprocess.DEVNULL, stderr=subprocess.DEVNULL)
+        _, status, usage = os.wait4(process.pid, 0)
+        seconds = time.perf_counter() - start
+        if status != 0:
+            sys.exit(f"{' '.join(command)}: ended with {os.waitstatus_to_exitcode(status)}")
+        costs.append(Cost(seconds, usage.ru_utime + usage.ru_stime, usage.ru_maxrss * 1024))
+    return Cost(min(it.seconds for it in costs), min(it.work for it in costs), min(it.memory for it in costs))
 
 
-def run_words(program, setup, file, writers, rounds=0):
-    """The words of a run whose index paths have all the nodes that they may need."""
-    return [program, "run", "--setup", setup, "--writers", str(writers), "--nodes", "65536", "--live", str(rounds), file]
+class Sitting:
+    """One sitting: the program, its files, and how often each command runs."""
+
+    def __init__(self, program, folder, rounds):
+        self.program, self.rounds = program, rounds
+        self.setup = str(pathlib.Path(folder) / "setup")
+        self.folder = pathlib.Path(folder)
+
+    def file(self, count):
+        """The capture of so many packets, made where it isn't there yet."""
+        path = self.folder / f"{count}.pcap"
+        if not path.exists():
+            path.write_bytes(capture(1, count))
+        return str(path)
+
+    def words(self, command, text, count, writers, live=0):
+        """The words of a command over so many packets, whose paths have all the nodes that they may need."""
+        pathlib.Path(self.setup).write_text(text)
+        words = [self.program, command, "--setup", self.setup, "--writers", str(writers), "--nodes", "65536"]
+        if count > SHORT:
+            words += ["--segments", str(count // SHORT)]
+        if command == "synth":
+            return words + ["--seed", "1", "--count", str(count)]
+        return words + ["--live", str(live), self.file(count)]
+
+    def cost(self, command, text, count, writers, live=0):
+        return measured(self.words(command, text, count, writers, live), self.rounds)
 
 
-def time_loads(program, setup, file, rounds):
-    """Records loaded a second, by the number of lanes and of writers."""
-    for count in (0, 1, 4, 16):
-        pathlib.Path(setup).write_text(lanes(count))
-        for writers in (1, 2, 4):
-            seconds, work = shortest(run_words(program, setup, file, writers), rounds)
-            print(f"{count:2} lanes, {writers} writers {COUNT / seconds:12.0f} records a second {work * 1e6 / COUNT:8.2f} microseconds of work a record")
+def table(title, heads, rows):
+    """A table in Markdown."""
+    lines = [f"**{title}**", "", "| " + " | ".join(heads) + " |", "|" + "---|" * len(heads)]
+    lines += ["| " + " | ".join(row) + " |" for row in rows]
+    return "\n".join(lines) + "\n"
 
 
-def time_tools(file, rounds):
-    """The same for other readers of captures, where they are installed."""
-    for tool in ("tshark", "tcpdump"):
-        if shutil.which(tool):
-            seconds, _ = shortest([tool, "-n", "-r", file], rounds)
-            print(f"{tool + ' -n -r':20} {COUNT / seconds:12.0f} records a second")
+def time_loads(sitting, counts):
+    """Records loaded a second, by the number of lanes and of writers, and the peak of memory a record."""
+    rows = []
+    for count in counts:
+        for command in ("run", "synth"):
+            for lane_count in (0, 1, 4, 16):
+                costs = [sitting.cost(command, lanes(lane_count), count, writers) for writers in (1, 2, 4)]
+                speeds = [f"{count / it.seconds / 1000:,.0f}" for it in costs]
+                rows.append([f"{count:,}", command, str(lane_count), *speeds, f"{costs[0].memory / count:,.0f}"])
+                print(*rows[-1], flush=True)
+    heads = ["records", "command", "lanes", "1 writer", "2 writers", "4 writers", "peak bytes a record, 1 writer"]
+    return table("Thousand records a second", heads, rows)
 
 
-def time_questions(program, setup, file, rounds):
-    """Live questions answered a second beside two writers, by the wall clock and by the work of processors."""
-    asked = ROUNDS_A_BATCH * COUNT // BATCH
+def read_once(file):
+    """The seconds that it takes to read the file once by pieces of 65,536 bytes."""
+    start = time.perf_counter()
+    with open(file, "rb", buffering=0) as opened:
+        while opened.read(65536):
+            pass
+    return time.perf_counter() - start
+
+
+def time_readers(sitting, count):
+    """The seconds of one reading of the capture, by each reader that is installed."""
+    file = sitting.file(count)
+    times = {"reading the file once": min(read_once(file) for _ in range(sitting.rounds))}
+    for writers in (1, 2, 4):
+        times[f"confluo run, {writers} writer{'s' * (writers > 1)}"] = sitting.cost("run", USUAL, count, writers).seconds
+    for name, words in READERS.items():
+        if shutil.which(words[0]):
+            times[name] = measured([*words, file], sitting.rounds).seconds
+    return times
+
+
+def reader_table(times, count):
+    base = times["confluo run, 1 writer"]
+    rows = [[name, f"{seconds:.3f}", f"{count / seconds / 1000:,.0f}", f"{seconds / base:.2f}"] for name, seconds in times.items()]
+    for row in rows:
+        print(*row, flush=True)
+    return table(f"{count:,} packets, a usual setup", ["reader", "seconds", "thousand packets a second", "times the time of one writer"], rows)
+
+
+def time_questions(sitting):
+    """Live questions answered beside two writers, by the wall clock and by the work of processors."""
+    asked = ROUNDS_A_BATCH * SHORT // BATCH
+    rows = []
     for name, question in QUESTIONS.items():
-        pathlib.Path(setup).write_text("schema packet\n" + question + "live q\n")
-        wall, work = shortest(run_words(program, setup, file, 2, ROUNDS_A_BATCH), rounds)
-        quiet_wall, quiet_work = shortest(run_words(program, setup, file, 2), rounds)
-        if wall - quiet_wall < NOISE:
-            print(f"{name:22} {asked / NOISE:12.0f} answers a second or more: they take no longer than runs differ")
-            continue
-        each_wall, each_work = (wall - quiet_wall) / asked, (work - quiet_work) / asked
-        print(f"{name:22} {1 / each_wall:12.0f} answers a second {each_work * 1e6:10.1f} microseconds of work each")
+        text = "schema packet\n" + question + "live q\n"
+        busy, quiet = sitting.cost("run", text, SHORT, 2, ROUNDS_A_BATCH), sitting.cost("run", text, SHORT, 2)
+        seconds, work = busy.seconds - quiet.seconds, busy.work - quiet.work
+        speed = f"{asked / seconds:,.0f}" if seconds > NOISE else f"{asked / NOISE:,.0f} or more"
+        rows.append([name, speed, f"{max(work, 0) * 1e6 / asked:,.1f}"])
+        print(*rows[-1], flush=True)
+    return table("Live questions beside two writers", ["question", "answers a second", "microseconds of work each"], rows)
+
+
+def plot(times, count, out):
+    """Bars of the readers' speeds, on a scale of powers of ten."""
+    import matplotlib
+
+    matplotlib.use("svg")
+    matplotlib.rcParams["svg.hashsalt"] = "confluo"
+    import matplotlib.pyplot as pyplot
+
+    names = list(times)[::-1]
+    figure, axes = pyplot.subplots(figsize=(9, 0.45 * len(names) + 1.2))
+    colours = ["tab:blue" if name.startswith("confluo") else "tab:grey" for name in names]
+    axes.barh(names, [count / times[name] for name in names], color=colours)
+    axes.set_xscale("log")
+    axes.set_xlabel(f"packets a second, of {count:,}")
+    figure.tight_layout()
+    figure.savefig(out, metadata={"Date": None})
 
 
 def main():
-    rounds = int(sys.argv[1]) if len(sys.argv) > 1 else 5
+    parser = argparse.ArgumentParser()
+    parser.add_argument("--rounds", type=int, default=5)
+    parser.add_argument("--long", action="store_true")
+    parser.add_argument("--table")
+    parser.add_argument("--plot")
+    given = parser.parse_args()
     built = pathlib.Path(__file__).parent.parent / "crates/confluo/out/confluo"
     program = os.environ.get("CONFLUO", str(built))
+    counts = [SHORT, LONG] if given.long else [SHORT]
     with tempfile.TemporaryDirectory() as folder:
-        setup = str(pathlib.Path(folder) / "setup")
-        file = str(pathlib.Path(folder) / "capture.pcap")
-        pathlib.Path(file).write_bytes(capture(1, COUNT))
-        time_loads(program, setup, file, rounds)
-        time_tools(file, rounds)
-        time_questions(program, setup, file, rounds)
+        sitting = Sitting(program, folder, given.rounds)
+        readings = {count: time_readers(sitting, count) for count in counts}
+        tables = [reader_table(times, count) for count, times in readings.items()]
+        tables += [time_loads(sitting, counts), time_questions(sitting)]
+        if given.plot:
+            plot(readings[counts[-1]], counts[-1], given.plot)
+    if given.table:
+        text = f"{os.cpu_count()} processors; each time is the shortest of {given.rounds} runs.\n\n" + "\n".join(tables)
+        pathlib.Path(given.table).write_text(text)
 
 
 if __name__ == "__main__":

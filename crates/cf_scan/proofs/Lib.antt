@@ -1,2 +1,4 @@
 pub mod Amounts
 pub mod Chunks
+pub mod Splitting
+pub mod Numbered
