@@ -159,7 +159,7 @@ records seed k n = flat_map (record_at seed) (range_with_len k n)
 abbrev frames : ℕ → ℕ → ℕ → List FrameValue
 frames seed k n = map (frame_from seed) (range_with_len k n)
 
-are_records : (seed k n : ℕ) → k + n ≤ 65536 → AreRecordsThen the_header k (frames seed k n) (records seed k n) []
+are_records : (seed k n : ℕ) → k + n ≤ 2 ^ 20 → AreRecordsThen the_header k (frames seed k n) (records seed k n) []
 unfolding record_at frame_from
 are_records seed k zero most = refl
 are_records seed k (suc n) most =
@@ -181,9 +181,9 @@ records_size seed k (suc n) =
     let small = captured_few (draw_of seed k) in
     omega (arith, rest, whole, small, length-append (record_of k (draw_of seed k)) (records seed (k + 1) n))
 
-pub is_capture : (seed count : ℕ) → count ≤ 65536 → IsCapture (generated_bytes seed count) (generated_frames seed count)
+pub made_is_capture : (seed count : ℕ) → count ≤ 2 ^ 20 → IsCapture (generated_bytes seed count) (generated_frames seed count)
 unfolding generated_bytes generated_frames
-is_capture seed count most =
+made_is_capture seed count most =
     let size = records_size seed 0 count in
     let next : drop 24 (file_header ++ records seed 0 count) ≡ records seed 0 count =
     ap (λ n. drop n (file_header ++ records seed 0 count)) (sym file_header_length) ∙ drop-append_seam file_header (records seed 0 count) in record {
@@ -194,6 +194,10 @@ is_capture seed count most =
         records = subst (λ (xs : List ℕ). AreRecordsThen the_header 0 (frames seed 0 count) xs []) (sym next) (are_records seed 0 count (omega (arith, most)));
       };
     }
+
+-- the same of fewer packets
+pub is_capture : (seed count : ℕ) → count ≤ 65536 → IsCapture (generated_bytes seed count) (generated_frames seed count)
+is_capture seed count few = made_is_capture seed count (omega (arith, few))
 
 pub frames_many : (seed count : ℕ) → length (generated_frames seed count) ≡ count
 unfolding generated_frames

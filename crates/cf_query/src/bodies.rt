@@ -20,7 +20,7 @@ use std::alloc::Global;
 use std::sync::ledger::Ledger;
 
 // The places of the entries of which the expression holds. They are read one after the other, and none is kept.
-fn scan<P: Pass, L: Ledger>(
+pub(crate) fn scan<P: Pass, L: Ledger>(
     log: &MultiLog,
     alloc: Global,
     pass: &mut P,
@@ -46,7 +46,7 @@ fn scan<P: Pass, L: Ledger>(
 
 // The quad of the attribute over the entries of which the expression holds. They are read one after the other, and none is
 // kept.
-fn total_of<P: Pass, L: Ledger>(
+pub(crate) fn total_of<P: Pass, L: Ledger>(
     log: &MultiLog,
     alloc: Global,
     pass: &mut P,

@@ -6,9 +6,11 @@
 
 mod asks;
 mod bodies;
+mod findings;
 mod history;
 mod rows;
 
 pub use asks::{ask, groups, measure, tail};
+pub use findings::finding;
 pub use history::seals_are_histories;
 pub use rows::row;

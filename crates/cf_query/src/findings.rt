@@ -1,0 +1,98 @@
+// What questions find, so that it can be joined with what they find in another log.
+ghost use Rattle.std.specs.Prelude.{◌≡◌, ◌<◌, ◌≤◌, length, true, IfOk, IfErr};
+ghost use Rattle.cf_shape.specs.Uses.{is_measured};
+ghost use Rattle.cf_table.specs.Values.{IsOf};
+ghost use Rattle.cf_table.specs.Moves.{AreFit};
+ghost use Rattle.cf_plain.specs.Asks.{Suits, rows_in};
+ghost use Rattle.cf_plain.specs.Groups.{groups};
+ghost use Rattle.cf_plain.specs.Segments.{finding_in};
+ghost use Rattle.cf_plain.specs.declared.finding.Finding.TheVariants as findings;
+ghost use Rattle.cf_walk.specs.Walks.{OnlyWalked};
+ghost use Rattle.cf_query.specs.Asking.{HasAsked};
+
+use crate::asks::tail;
+use crate::bodies::{scan, total_of};
+use cf_plain::{Ask, Finding, Groups};
+use cf_row::Memory;
+use cf_table::{MultiLog, Pass, Steps};
+use cf_walk::{find, measure_range};
+use std::alloc::Global;
+use std::sync::ledger::Ledger;
+
+// The groups of the lane, by its tree and chains.
+fn groups_of<P: Pass, L: Ledger>(
+    log: &MultiLog,
+    alloc: Global,
+    pass: &mut P,
+    lane: u8,
+    steps: &mut Steps<L>,
+) -> Result<Finding, Memory>
+    requires of { IsOf (P.held pass.old) log.now }
+    requires lane { lane < length log.now.shape.lanes }
+    requires measured { is_measured log.now.shape lane ≡ true }
+    requires few { length (P.held pass.old).view.seen ≤ log.now.shape.capacity }
+    requires fit { AreFit log.now.shape (P.held pass.old).view }
+    ensures found { IfOk result (λ found. found ≡ findings.Groups (groups log.now.shape lane (rows_in (P.held pass.old).view.seen))) }
+    ensures walked { OnlyWalked (P.held pass.old) (P.held pass.new) }
+{
+    let groups = cf_walk::groups(log, alloc, pass, lane, steps)?;
+    Ok(Finding::Groups(Groups::new(groups)))
+}
+
+// What the question finds. All but `List` and `Total` walk the lane's tree and chains.
+fn finding_of<P: Pass, L: Ledger>(
+    log: &MultiLog,
+    alloc: Global,
+    pass: &mut P,
+    ask: &Ask,
+    steps: &mut Steps<L>,
+) -> Result<Finding, Memory>
+    requires of { IsOf (P.held pass.old) log.now }
+    requires suits { Suits log.now.shape ask.now }
+    requires few { length (P.held pass.old).view.seen ≤ log.now.shape.capacity }
+    requires fit { AreFit log.now.shape (P.held pass.old).view }
+    ensures found { IfOk result (λ found. found ≡ finding_in log.now.shape ask.now (rows_in (P.held pass.old).view.seen)) }
+    ensures walked { OnlyWalked (P.held pass.old) (P.held pass.new) }
+{
+    match ask {
+        Ask::List(expr) => Ok(Finding::Places(scan(log, alloc, pass, expr, steps)?)),
+        Ask::Find(lane, low, high) => {
+            let places = find(log, alloc, pass, *lane, (*low, *high), steps)?;
+            Ok(Finding::Places(places))
+        }
+        Ask::Between(lane, low, high) => {
+            let places = find(log, alloc, pass, *lane, (*low, *high), steps)?;
+            Ok(Finding::Places(places))
+        }
+        Ask::Measure(lane, low, high) => {
+            let quad = measure_range(log, pass, *lane, (*low, *high), steps);
+            Ok(Finding::Total(quad))
+        }
+        Ask::Fired(trigger) => groups_of(log, alloc, pass, trigger.agg, steps),
+        Ask::Top(lane, _, _) => groups_of(log, alloc, pass, *lane, steps),
+        Ask::Total(attr, expr) => {
+            let total = total_of(log, alloc, pass, *attr, expr, steps)?;
+            Ok(Finding::Total(total))
+        }
+    }
+}
+
+/// What the question finds in the entries that are covered then, and how many they are: in place of marks the groups of its
+/// lane, so that what it finds in another log can be joined to it. The read tail is loaded once, and the pass notes it. `List`
+/// and `Total` go over all entries; all others walk the lane's tree and chains.
+pub fn finding<P: Pass, L: Ledger>(
+    log: &MultiLog,
+    alloc: Global,
+    pass: &mut P,
+    ask: &Ask,
+    steps: &mut Steps<L>,
+) -> Result<(u32, Finding), Memory>
+    requires of { IsOf (P.held pass.old) log.now }
+    requires suits { Suits log.now.shape ask.now }
+    ensures ok { IfOk result (λ found. HasAsked log.now.shape (P.held pass.old) (P.held pass.new) × (found.0 ≡ length (P.held pass.new).view.seen) × (found.1 ≡ finding_in log.now.shape ask.now (rows_in (P.held pass.new).view.seen))) }
+    ensures memory { IfErr result (λ _. HasAsked log.now.shape (P.held pass.old) (P.held pass.new)) }
+{
+    let tail = tail(log, pass, steps);
+    let finding = finding_of(log, alloc, pass, ask, steps)?;
+    Ok((tail, finding))
+}
