@@ -1,6 +1,7 @@
 ghost use Rattle.std.specs.Prelude.{◌≡◌, ◌≤◌, ◌+◌, ◌<◌, IfOk, OnOk};
 ghost use Rattle.cf_row.specs.Row.{Fits};
 ghost use Rattle.cf_table.specs.Values.{IsOf};
+ghost use Rattle.cf_plain.specs.Asks.{Suits};
 ghost use Rattle.cf_asking.specs.Writers.{IsWriters, AreReady};
 
 use crate::tests::{
@@ -10,7 +11,7 @@ use crate::tests::{
 use cf_append::append;
 use cf_fold::Part;
 use cf_plain::{Ask, Body, Plain, suits};
-use cf_query::{ask, groups, measure};
+use cf_query::{ask, finding, groups, measure};
 use cf_row::{Kind, Memory, Op, Row, fits};
 use cf_shape::{Key, Shape, levels};
 use cf_table::{MultiLog, Pass, ReaderPass, Steps, WriterPass};
@@ -304,6 +305,29 @@ fn agree_in_groups<P: Pass, L: Ledger, R: Abort>(
     Ok(())
 }
 
+// What the question finds tells that answer.
+fn check_finding<P: Pass, L: Ledger, R: Abort>(
+    rt: &R,
+    alloc: Global,
+    log: &MultiLog,
+    pass: &mut P,
+    question: &Ask,
+    wanted: &[u64],
+    steps: &mut Steps<L>,
+) -> Result<(), Memory>
+    requires of { IsOf (P.held pass.old) log.now }
+    requires suits { Suits log.now.shape question.now }
+    ensures { OnOk result (IsOf (P.held pass.new) log.now) }
+{
+    let (tail, found) = finding(log, alloc, pass, question, steps)?;
+    let body = found.body(alloc, question)?;
+    let mut numbers = Vec::new(alloc);
+    numbers.push(u64::from(tail))?;
+    numbers.extend_from_slice(&numbers_of(alloc, &body)?)?;
+    assert_eq!(rt; numbers.as_slice(), wanted);
+    Ok(())
+}
+
 // Asks the log, and a list of one thread that has the same entries.
 fn agree<P: Pass, L: Ledger, R: Abort>(
     rt: &R,
@@ -325,6 +349,7 @@ fn agree<P: Pass, L: Ledger, R: Abort>(
         wanted.push(u64::from(answer.tail))?;
         wanted.extend_from_slice(&numbers_of(alloc, &answer.body)?)?;
         check(rt, log, alloc, pass, question, &wanted, steps)?;
+        check_finding(rt, alloc, log, pass, question, &wanted, steps)?;
     }
     Ok(())
 }
