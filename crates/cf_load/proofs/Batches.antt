@@ -9,7 +9,7 @@ use Rattle.std.specs.List.{All, AllZip, AllByRecursion, flat_map, list_any}
 use Rattle.cf_lemmas.proofs.Lists.{get_back, has_left, has_right}
 use Rattle.cf_row.specs.Row.{RowValue}
 use Rattle.cf_row.specs.declared.row.Entry.{Entry}
-use Rattle.cf_history.specs.Order.{rows_of, written_by, IsLogOf}
+use Rattle.cf_history.specs.Order.{rows_of, written_by}
 use Rattle.cf_shape.specs.Lanes.{ShapeValue, IsShape}
 use Rattle.cf_shape.specs.Nodes.{Node, nodes_for, nodes_of, same_node, add_node, distinct}
 use Rattle.cf_words.specs.Words.{Spot}
@@ -25,10 +25,10 @@ use Rattle.cf_table.proofs.Homing.{still_one, get_front, opened as opened_settle
 use Rattle.cf_append.specs.Appends.{Rests}
 use Rattle.cf_load.specs.Needed.{IsNeeded, HasNodes}
 use Rattle.cf_load.specs.Writing.{rows_of_book, IsReady, RanOut, Wrote}
-use Rattle.cf_load.specs.Loading.{HasLoaded}
+use Rattle.cf_load.specs.Loading.{IsLogFrom, HasLoaded}
 use Rattle.cf_load.specs.Loads.{LacksNodes}
 use Rattle.cf_load.proofs.Alls.{all_drop}
-use Rattle.cf_load.proofs.Written.{written_append, rows_then, WrotePart, all_written, log_more}
+use Rattle.cf_load.proofs.Written.{written_append, rows_append, WrotePart, all_written, log_more}
 use Rattle.cf_load.proofs.Pigeons.{in_either}
 use Rattle.cf_load.proofs.Nodes.{too_many}
 
@@ -92,8 +92,8 @@ fit_exist writers [] each = tt
 fit_exist writers (e ∷ es) each = (each 0 e refl, fit_exist writers es (λ o x at. each (suc o) x at))
 
 -- a pass that was dealt is ready to write
-pub ready_one : (log : LogValue) (rows : List RowValue) (m r : PassValue) (passes : List PassValue) → HasLoaded log rows m → AreDealt log m passes r → (k : ℕ) (h : PassValue) → slice_get passes k ≡ Some h → IsReady log h
-ready_one log rows m r passes has dealt k h at =
+pub ready_one : (log : LogValue) (first : ℕ) (rows : List RowValue) (m r : PassValue) (passes : List PassValue) → HasLoaded log first rows m → AreDealt log m passes r → (k : ℕ) (h : PassValue) → slice_get passes k ≡ Some h → IsReady log h
+ready_one log first rows m r passes has dealt k h at =
     let d = dealt.each k h at in
     let book : book_of h.view ≡ d.book = ap (λ (p : Pass). book_of p) d.view in record {
       of = d.of;
@@ -104,8 +104,8 @@ ready_one log rows m r passes has dealt k h at =
     }
 
 -- all passes that were dealt are ready to write
-pub ready_passes : (log : LogValue) (rows : List RowValue) (m r : PassValue) (passes : List PassValue) → HasLoaded log rows m → AreDealt log m passes r → All (IsReady log) passes
-ready_passes log rows m r passes has dealt k d lt = ready_one log rows m r passes has dealt k (get_or passes k d) (slice_get-get_or passes k d lt)
+pub ready_passes : (log : LogValue) (first : ℕ) (rows : List RowValue) (m r : PassValue) (passes : List PassValue) → HasLoaded log first rows m → AreDealt log m passes r → All (IsReady log) passes
+ready_passes log first rows m r passes has dealt k d lt = ready_one log first rows m r passes has dealt k (get_or passes k d) (slice_get-get_or passes k d lt)
 
 -- passes that wrote may come home
 pub homeward : (whole : Bool) (log : LogValue) (first : ℕ) (batch : List RowValue) (passes after : List PassValue) → All (IsReady log) passes → AreAll log passes → AllZip (Wrote whole log first batch) passes after → AreAll log after
@@ -161,11 +161,11 @@ pub nothing : (X : Type 0) (j : ℕ) → take 4096 (drop {A = X} j []) ≡ []
 nothing X j = ap (take 4096) (drop_all {X = X} j [] (omega arith)) ∙ take_all 4096 [] (omega arith)
 
 -- a log just opened has no rows yet
-pub opened : (log : LogValue) (m : PassValue) → IsOf m log → m.view ≡ root_pass log.shape → HasLoaded log [] m
-opened log m of is = record {
+pub opened : (log : LogValue) (first : ℕ) (m : PassValue) → IsOf m log → m.view ≡ root_pass log.shape → HasLoaded log first [] m
+opened log first m of is = record {
   of = of;
   settled = subst (HoldsAllBooks log.shape) (sym is) (opened_settled log.shape);
-  is = subst (λ (p : Pass). IsLogOf [] (log.shape).writers p.seen) (sym is) none;
+  is = subst (λ (p : Pass). IsLogFrom first [] (log.shape).writers p.seen) (sym is) none;
   own = λ w lt. ap (λ (p : Pass). written_by w p.seen) is;
   nodes = subst (λ (p : Pass). HasNodes log.shape [] p) (sym is) (record {
     needed = λ k j b s held used. absurd (let e = new_book k b held in let f : slice_get {X = Spot} [] j ≡ Some s = ap (λ (c : Book). slice_get c.used j) e ∙ used in cc f);
@@ -179,11 +179,11 @@ opened log m of is = record {
         let lt : k < (log.shape).writers = omega (arith, slice_get_within (table no_book (log.shape).writers) k b at, table_length no_book (log.shape).writers) in
         let f : Some (no_book k) ≡ Some b = sym (table_at no_book (log.shape).writers k lt) ∙ at in cc f
 
-    none : IsLogOf [] (log.shape).writers []
+    none : IsLogFrom first [] (log.shape).writers []
     none = record {
       size = refl;
       exist = tt;
-      own = λ b w lt. ap (written_by w) (nothing Entry (4096 * b)) ∙ ap (rows_of (log.shape).writers w (4096 * b)) (sym (nothing RowValue (4096 * b)));
+      own = λ b w lt. ap (written_by w) (nothing Entry (4096 * b)) ∙ ap (rows_of (log.shape).writers w (first + 4096 * b)) (sym (nothing RowValue (4096 * b)));
     }
 
 -- rows that are needed are so among more
@@ -203,7 +203,7 @@ book_from (x ∷ xs) rest k b at = elim (in_either (x.view).books (books_of xs) 
 ]
 
 -- The passes that wrote came home.
-module _ (whole : Bool) (log : LogValue) (rows batch : List RowValue) (m r n : PassValue) (passes after : List PassValue) (has : HasLoaded log rows m) (dealt : AreDealt log m passes r) (wrote : AllZip (Wrote whole log (length rows) batch) passes after) (g : HasGathered log.shape r after n) where
+module _ (whole : Bool) (log : LogValue) (first : ℕ) (rows batch : List RowValue) (m r n : PassValue) (passes after : List PassValue) (has : HasLoaded log first rows m) (dealt : AreDealt log m passes r) (wrote : AllZip (Wrote whole log (first + length rows) batch) passes after) (g : HasGathered log.shape r after n) where
   -- what was seen before, what came, and how many writers there are
   abbrev pub seen : List Entry
   seen = (m.view).seen
@@ -226,10 +226,10 @@ module _ (whole : Bool) (log : LogValue) (rows batch : List RowValue) (m r n : P
   new_exist = all_drop (λ e. e.writer < W) (length seen) (n.view).seen (fit_exist W (n.view).seen (λ o e at. (g.fit o e at).1))
 
   -- what a pass wrote whose writer had this book
-  pub wrote_part : (w k : ℕ) (h a : PassValue) (b : Book) → Holds m.view k b → b.writer ≡ w → slice_get passes k ≡ Some h → slice_get after k ≡ Some a → Wrote whole log (length rows) batch h a → length rows + length batch ≤ (log.shape).capacity → WrotePart whole W (length rows) batch new w
+  pub wrote_part : (w k : ℕ) (h a : PassValue) (b : Book) → Holds m.view k b → b.writer ≡ w → slice_get passes k ≡ Some h → slice_get after k ≡ Some a → Wrote whole log (first + length rows) batch h a → length rows + length batch ≤ (log.shape).capacity → WrotePart whole W (first + length rows) batch new w
   wrote_part w k h a b held own at there wr room = record {
     left = wr.left;
-    split = ap (λ rs. rs ++ wr.left) wrote_done ∙ (wr.split ∙ ap (λ v. rows_of W v (length rows) batch) writer);
+    split = ap (λ rs. rs ++ wr.left) wrote_done ∙ (wr.split ∙ ap (λ v. rows_of W v (first + length rows) batch) writer);
     all = λ is. elim (wr.all is) [
       | inl none ↦ inl none
       | inr marked ↦ inr (omega (arith, full marked, ap length goes_on, length-append seen new, has.is.size, room))
@@ -264,7 +264,7 @@ module _ (whole : Bool) (log : LogValue) (rows batch : List RowValue) (m r n : P
       wrote_done = append_cancel_left (written_by w seen) _ _ (sym now ∙ (wr.rows ∙ ap (λ rs. rs ++ wr.done) before))
 
   -- what each writer wrote
-  pub part_of : length rows + length batch ≤ (log.shape).capacity → (w : ℕ) → w < W → WrotePart whole W (length rows) batch new w
+  pub part_of : length rows + length batch ≤ (log.shape).capacity → (w : ℕ) → w < W → WrotePart whole W (first + length rows) batch new w
   part_of room w lt =
       let home = has.settled.home w lt in
       let k : ℕ = home.0 in
@@ -272,7 +272,7 @@ module _ (whole : Bool) (log : LogValue) (rows batch : List RowValue) (m r n : P
       let low : k < length passes = omega (arith, slice_get_within (m.view).books k b home.2, dealt.count) in
       let h : PassValue = get_or passes k m in
       let at : slice_get passes k ≡ Some h = slice_get-get_or passes k m low in
-      let z = zip_at (Wrote whole log (length rows) batch) passes after k h wrote at in
+      let z = zip_at (Wrote whole log (first + length rows) batch) passes after k h wrote at in
       wrote_part w k h z.0 b home.2 home.3 at z.1 z.2 room
 
   -- the root is still the log's
@@ -285,12 +285,12 @@ module _ (whole : Bool) (log : LogValue) (rows batch : List RowValue) (m r n : P
   pub book_home : (k : ℕ) (b : Book) → Holds n.view k b → (i : ℕ) × (a : PassValue) × (slice_get after i ≡ Some a) × (b ≡ book_of a.view)
   book_home k b held =
       let there : slice_get (books_of after) k ≡ Some b = ap (λ (bs : List Book). slice_get bs k) (sym g.books) ∙ held in
-      book_from after (λ i a at. ((zip_back (Wrote whole log (length rows) batch) passes after i a wrote at).2).rest) k b there
+      book_from after (λ i a at. ((zip_back (Wrote whole log (first + length rows) batch) passes after i a wrote at).2).rest) k b there
 
   -- what its used nodes are for
   pub used_by : (i : ℕ) (a : PassValue) (j : ℕ) (s : Spot) → slice_get after i ≡ Some a → slice_get (book_of a.view).used j ≡ Some s → IsNeeded log.shape (rows ++ batch) s
   used_by i a j s at used =
-      let z = zip_back (Wrote whole log (length rows) batch) passes after i a wrote at in
+      let z = zip_back (Wrote whole log (first + length rows) batch) passes after i a wrote at in
       let d = dealt.each i z.0 z.1 in
       let same : book_of (z.0).view ≡ d.book = ap (λ (p : Pass). book_of p) d.view in
       elim ((z.2).used j s used) [
@@ -308,20 +308,20 @@ module _ (whole : Bool) (log : LogValue) (rows batch : List RowValue) (m r n : P
 
 -- Passes were dealt, each wrote of its rows of the batch what it could, and all came home: where there is room for all rows, all
 -- are in the log.
-pub batch_loaded : (log : LogValue) (rows batch : List RowValue) (b : ℕ) (m r n : PassValue) (passes after : List PassValue) → IsShape log.shape → HasLoaded log rows m → length rows ≡ 4096 * b → length batch ≤ 4096 → length rows + length batch ≤ (log.shape).capacity → AreDealt log m passes r → AllZip (Wrote true log (length rows) batch) passes after → HasGathered log.shape r after n → HasLoaded log (rows ++ batch) n
-batch_loaded log rows batch b m r n passes after shape has long few room dealt wrote g =
+pub batch_loaded : (log : LogValue) (first : ℕ) (rows batch : List RowValue) (b : ℕ) (m r n : PassValue) (passes after : List PassValue) → IsShape log.shape → HasLoaded log first rows m → length rows ≡ 4096 * b → length batch ≤ 4096 → length rows + length batch ≤ (log.shape).capacity → AreDealt log m passes r → AllZip (Wrote true log (first + length rows) batch) passes after → HasGathered log.shape r after n → HasLoaded log first (rows ++ batch) n
+batch_loaded log first rows batch b m r n passes after shape has long few room dealt wrote g =
     let W = (log.shape).writers in
     let some : 0 < W = shape.writers.0 in
     let more : List Entry = drop (length (m.view).seen) (n.view).seen in
-    let exist = new_exist true log rows batch m r n passes after has dealt wrote g in
-    let own : (w : ℕ) → w < W → written_by w more ≡ rows_of W w (length rows) batch = all_written W (length rows) batch more some exist (part_of true log rows batch m r n passes after has dealt wrote g room) in
-    let is : IsLogOf (rows ++ batch) W ((m.view).seen ++ more) = log_more rows batch W b (m.view).seen more some has.is long few exist (λ w lt. own w lt ∙ ap (λ k. rows_of W w k batch) long) in record {
-      of = home_again true log rows batch m r n passes after has dealt wrote g;
+    let exist = new_exist true log first rows batch m r n passes after has dealt wrote g in
+    let own : (w : ℕ) → w < W → written_by w more ≡ rows_of W w (first + length rows) batch = all_written W (first + length rows) batch more some exist (part_of true log first rows batch m r n passes after has dealt wrote g room) in
+    let is : IsLogFrom first (rows ++ batch) W ((m.view).seen ++ more) = log_more first rows batch W b (m.view).seen more some has.is long few exist (λ w lt. own w lt ∙ ap (λ k. rows_of W w (first + k) batch) long) in record {
+      of = home_again true log first rows batch m r n passes after has dealt wrote g;
       settled = g.settled;
-      is = subst (IsLogOf (rows ++ batch) W) (sym (goes_on true log rows batch m r n passes after has dealt wrote g)) is;
-      own = λ w lt. ap (written_by w) (goes_on true log rows batch m r n passes after has dealt wrote g)
-          ∙ (written_append w (m.view).seen more ∙ (ap₂ (λ (a c : List RowValue). a ++ c) (has.own w lt) (own w lt) ∙ sym (rows_then W w rows batch)));
-      nodes = nodes_home true log rows batch m r n passes after has dealt wrote g;
+      is = subst (IsLogFrom first (rows ++ batch) W) (sym (goes_on true log first rows batch m r n passes after has dealt wrote g)) is;
+      own = λ w lt. ap (written_by w) (goes_on true log first rows batch m r n passes after has dealt wrote g)
+          ∙ (written_append w (m.view).seen more ∙ (ap₂ (λ (a c : List RowValue). a ++ c) (has.own w lt) (own w lt) ∙ sym (rows_append W w first rows batch)));
+      nodes = nodes_home true log first rows batch m r n passes after has dealt wrote g;
     }
 
 -- a root whose books were dealt is the log's, holds none, and has seen as much
@@ -350,11 +350,11 @@ settled_still shape m n settled books seen_is = record {
 }
 
 -- and still holds what was loaded
-pub still_loaded : (log : LogValue) (rows : List RowValue) (m n : PassValue) → HasLoaded log rows m → IsOf n log → (n.view).books ≡ (m.view).books → (n.view).seen ≡ (m.view).seen → HasLoaded log rows n
-still_loaded log rows m n has of books seen_is = record {
+pub still_loaded : (log : LogValue) (first : ℕ) (rows : List RowValue) (m n : PassValue) → HasLoaded log first rows m → IsOf n log → (n.view).books ≡ (m.view).books → (n.view).seen ≡ (m.view).seen → HasLoaded log first rows n
+still_loaded log first rows m n has of books seen_is = record {
   of = of;
   settled = settled_still log.shape m n has.settled books seen_is;
-  is = subst (IsLogOf rows (log.shape).writers) (sym seen_is) has.is;
+  is = subst (IsLogFrom first rows (log.shape).writers) (sym seen_is) has.is;
   own = λ w lt. ap (written_by w) seen_is ∙ has.own w lt;
   nodes = record {
     needed = λ k j b s at used. has.nodes.needed k j b s (ap (λ (bs : List Book). slice_get bs k) (sym books) ∙ at) used;
@@ -365,18 +365,18 @@ still_loaded log rows m n has of books seen_is = record {
 
 -- A writer ran out of nodes in that batch: the rows before it and its own need more different ones than it has, and each writer's
 -- entries are the first of its rows.
-pub batch_out : (whole : Bool) (log : LogValue) (rows batch : List RowValue) (w : ℕ) (m r n : PassValue) (passes after : List PassValue) → IsShape log.shape → HasLoaded log rows m → length rows + length batch ≤ (log.shape).capacity
-    → AreDealt log m passes r → AllZip (Wrote whole log (length rows) batch) passes after → RanOut log batch w after → HasGathered log.shape r after n → LacksNodes log (rows ++ batch) w n
-batch_out whole log rows batch w m r n passes after shape has room dealt wrote out g = record {
+pub batch_out : (whole : Bool) (log : LogValue) (first : ℕ) (rows batch : List RowValue) (w : ℕ) (m r n : PassValue) (passes after : List PassValue) → IsShape log.shape → HasLoaded log first rows m → length rows + length batch ≤ (log.shape).capacity
+    → AreDealt log m passes r → AllZip (Wrote whole log (first + length rows) batch) passes after → RanOut log batch w after → HasGathered log.shape r after n → LacksNodes log first (rows ++ batch) w n
+batch_out whole log first rows batch w m r n passes after shape has room dealt wrote out g = record {
   exists = subst (λ (v : ℕ). v < W) out.writer_is (g.bounds.writer book.0 (book_of out.pass.view) (ap (λ (bs : List Book). slice_get bs book.0) g.books ∙ book.1));
-  many = (too_many log.shape (rows ++ batch) (book_of out.pass.view) shape (λ j s used. used_by whole log rows batch m r n passes after has dealt wrote g out.place out.pass j s out.at used) (record {
+  many = (too_many log.shape (rows ++ batch) (book_of out.pass.view) shape (λ j s used. used_by whole log first rows batch m r n passes after has dealt wrote g out.place out.pass j s out.at used) (record {
     full = out.out.full;
     apart = out.out.apart;
     at = out.out.at;
     needed = needed_right log.shape rows batch out.out.at out.out.needed;
     other = out.out.other;
   }));
-  of = home_again whole log rows batch m r n passes after has dealt wrote g;
+  of = home_again whole log first rows batch m r n passes after has dealt wrote g;
   settled = g.settled;
   fronts = fronts;
 }
@@ -385,16 +385,16 @@ batch_out whole log rows batch w m r n passes after shape has room dealt wrote o
     W = (log.shape).writers
 
     book : (i : ℕ) × (slice_get (books_of after) i ≡ Some (book_of out.pass.view))
-    book = book_in after out.place out.pass (book_of out.pass.view) out.at (first_book out.pass.view ((zip_back (Wrote whole log (length rows) batch) passes after out.place out.pass wrote out.at).2).rest)
+    book = book_in after out.place out.pass (book_of out.pass.view) out.at (first_book out.pass.view ((zip_back (Wrote whole log (first + length rows) batch) passes after out.place out.pass wrote out.at).2).rest)
 
-    fronts : (v : ℕ) → v < W → (left : List RowValue) × (written_by v (n.view).seen ++ left ≡ rows_of W v 0 (rows ++ batch))
+    fronts : (v : ℕ) → v < W → (left : List RowValue) × (written_by v (n.view).seen ++ left ≡ rows_of W v first (rows ++ batch))
     fronts v lt =
-        let p = part_of whole log rows batch m r n passes after has dealt wrote g room v lt in
+        let p = part_of whole log first rows batch m r n passes after has dealt wrote g room v lt in
         let new : List Entry = drop (length (m.view).seen) (n.view).seen in
-        let written : written_by v (n.view).seen ≡ rows_of W v 0 rows ++ written_by v new =
-        ap (written_by v) (goes_on whole log rows batch m r n passes after has dealt wrote g) ∙ (written_append v (m.view).seen new ∙ ap (λ (rs : List RowValue). rs ++ written_by v new) (has.own v lt)) in (
+        let written : written_by v (n.view).seen ≡ rows_of W v first rows ++ written_by v new =
+        ap (written_by v) (goes_on whole log first rows batch m r n passes after has dealt wrote g) ∙ (written_append v (m.view).seen new ∙ ap (λ (rs : List RowValue). rs ++ written_by v new) (has.own v lt)) in (
           p.left,
-          ap (λ (rs : List RowValue). rs ++ p.left) written ∙ (append_assoc (rows_of W v 0 rows) (written_by v new) p.left ∙ (ap (λ (rs : List RowValue). rows_of W v 0 rows ++ rs) p.split ∙ sym (rows_then W v rows batch))),
+          ap (λ (rs : List RowValue). rs ++ p.left) written ∙ (append_assoc (rows_of W v first rows) (written_by v new) p.left ∙ (ap (λ (rs : List RowValue). rows_of W v first rows ++ rs) p.split ∙ sym (rows_append W v first rows batch))),
         )
 
 -- a node more makes them no fewer
@@ -415,21 +415,21 @@ distinct_more shape rows more =
     rw parts (no_fewer shape (nodes_of shape rows) (flat_map (nodes_for shape) more))
 
 -- more rows want more nodes too
-pub lacks_more : (log : LogValue) (rows more : List RowValue) (w : ℕ) (n : PassValue) → LacksNodes log rows w n → LacksNodes log (rows ++ more) w n
-lacks_more log rows more w n lacks = record {
+pub lacks_more : (log : LogValue) (first : ℕ) (rows more : List RowValue) (w : ℕ) (n : PassValue) → LacksNodes log first rows w n → LacksNodes log first (rows ++ more) w n
+lacks_more log first rows more w n lacks = record {
   exists = lacks.exists;
   many = (let d = distinct_more log.shape rows more in let many = lacks.many in omega (arith, many, d));
   of = lacks.of;
   settled = lacks.settled;
   fronts = λ v lt. (let f = lacks.fronts v lt in let W = (log.shape).writers in (
-    f.0 ++ rows_of W v (length rows) more,
-    sym (append_assoc (written_by v (n.view).seen) f.0 (rows_of W v (length rows) more)) ∙ (ap (λ (rs : List RowValue). rs ++ rows_of W v (length rows) more) f.1 ∙ sym (rows_then W v rows more)),
+    f.0 ++ rows_of W v (first + length rows) more,
+    sym (append_assoc (written_by v (n.view).seen) f.0 (rows_of W v (first + length rows) more)) ∙ (ap (λ (rs : List RowValue). rs ++ rows_of W v (first + length rows) more) f.1 ∙ sym (rows_append W v first rows more)),
   ));
 }
 
 -- the reader came home too
-pub lacks_kept : (log : LogValue) (rows : List RowValue) (w : ℕ) (n o : PassValue) → LacksNodes log rows w n → IsOf o log → (o.view).books ≡ (n.view).books → (o.view).seen ≡ (n.view).seen → LacksNodes log rows w o
-lacks_kept log rows w n o lacks of books seen_is = record {
+pub lacks_kept : (log : LogValue) (first : ℕ) (rows : List RowValue) (w : ℕ) (n o : PassValue) → LacksNodes log first rows w n → IsOf o log → (o.view).books ≡ (n.view).books → (o.view).seen ≡ (n.view).seen → LacksNodes log first rows w o
+lacks_kept log first rows w n o lacks of books seen_is = record {
   exists = lacks.exists;
   many = lacks.many;
   of = of;

@@ -33,14 +33,14 @@ outcome_by None (Ok x) P H loaded memory nodes = loaded refl
 outcome_by None (Err e) P H loaded memory nodes = memory refl
 
 -- the root, when the reader has come home too
-pub batch_home : (log : LogValue) (rows batch : List RowValue) (b : ℕ) (m r n o : PassValue) (q : Pass) (passes after : List PassValue) → IsShape log.shape → HasLoaded log rows m → length rows ≡ 4096 * b → length batch ≤ 4096 → length rows + length batch ≤ (log.shape).capacity
-    → AreDealt log m passes r → AllZip (Wrote true log (length rows) batch) passes after → HasGathered log.shape r after n → HasFolded log.shape n q o → (o.view).books ≡ (n.view).books → (HoldsAllBooks log.shape n.view → (o.view).seen ≡ (n.view).seen)
-    → HasLoaded log (rows ++ batch) o
-batch_home log rows batch b m r n o q passes after shape has long few room dealt wrote gathered folded books stays =
-    let loaded = batch_loaded log rows batch b m r n passes after shape has long few room dealt wrote gathered in
+pub batch_home : (log : LogValue) (first : ℕ) (rows batch : List RowValue) (b : ℕ) (m r n o : PassValue) (q : Pass) (passes after : List PassValue) → IsShape log.shape → HasLoaded log first rows m → length rows ≡ 4096 * b → length batch ≤ 4096 → length rows + length batch ≤ (log.shape).capacity
+    → AreDealt log m passes r → AllZip (Wrote true log (first + length rows) batch) passes after → HasGathered log.shape r after n → HasFolded log.shape n q o → (o.view).books ≡ (n.view).books → (HoldsAllBooks log.shape n.view → (o.view).seen ≡ (n.view).seen)
+    → HasLoaded log first (rows ++ batch) o
+batch_home log first rows batch b m r n o q passes after shape has long few room dealt wrote gathered folded books stays =
+    let loaded = batch_loaded log first rows batch b m r n passes after shape has long few room dealt wrote gathered in
     let same = folded.made.same in
     let of : IsOf o log = record { table = ap (λ (h : PassValue). h.table) same ∙ loaded.of.table; nodes = ap (λ (h : PassValue). h.nodes) same ∙ loaded.of.nodes } in
-    still_loaded log (rows ++ batch) n o loaded of books (stays loaded.settled)
+    still_loaded log first (rows ++ batch) n o loaded of books (stays loaded.settled)
 
 -- what the root was told by then
 pub batch_told : (whole : Bool) (log : LogValue) (first : ℕ) (batch : List RowValue) (m r n o : PassValue) (q : Pass) (passes after : List PassValue) → AreDealt log m passes r → AllZip (Wrote whole log first batch) passes after → HasGathered log.shape r after n → HasFolded log.shape n q o → q.told ≡ []
@@ -49,8 +49,8 @@ batch_told whole log first batch m r n o q passes after dealt wrote gathered fol
     folded.told ∙ ap (λ ts. ts ++ q.tails) (ap (λ ts. (n.view).told ++ ts) none ∙ (append-nil (n.view).told ∙ told_same whole log first batch m r n passes after dealt wrote gathered))
 
 -- after a writer ran out of nodes
-pub out_home : (log : LogValue) (rows : List RowValue) (w : ℕ) (n o : PassValue) (q : Pass) → LacksNodes log rows w n → HasFolded log.shape n q o → (o.view).books ≡ (n.view).books → (HoldsAllBooks log.shape n.view → (o.view).seen ≡ (n.view).seen) → LacksNodes log rows w o
-out_home log rows w n o q lacks folded books stays =
+pub out_home : (log : LogValue) (first : ℕ) (rows : List RowValue) (w : ℕ) (n o : PassValue) (q : Pass) → LacksNodes log first rows w n → HasFolded log.shape n q o → (o.view).books ≡ (n.view).books → (HoldsAllBooks log.shape n.view → (o.view).seen ≡ (n.view).seen) → LacksNodes log first rows w o
+out_home log first rows w n o q lacks folded books stays =
     let same = folded.made.same in
     let of : IsOf o log = record { table = ap (λ (h : PassValue). h.table) same ∙ lacks.of.table; nodes = ap (λ (h : PassValue). h.nodes) same ∙ lacks.of.nodes } in
-    lacks_kept log rows w n o lacks of books (stays lacks.settled)
+    lacks_kept log first rows w n o lacks of books (stays lacks.settled)

@@ -42,13 +42,13 @@ written_from w (e ∷ es) row h = elim (cases_eq e.writer w) [
     first rest (zero, at) = (0, e, refl, cc at)
     first rest (suc k, at) = later (rest (k, at))
 
-pub loaded_few : (log : LogValue) (rows : List RowValue) (n : PassValue) → IsShape log.shape → All (Fits (log.shape).schema) rows → HasLoaded log rows n
+pub loaded_few : (log : LogValue) (first : ℕ) (rows : List RowValue) (n : PassValue) → IsShape log.shape → All (Fits (log.shape).schema) rows → HasLoaded log first rows n
     → distinct log.shape rows ≤ (log.shape).writers * (log.shape).nodes
-loaded_few log rows n shape fits has =
+loaded_few log first rows n shape fits has =
     let W = (log.shape).writers in
     let some : 0 < W = shape.writers.0 in
     (few_enough log.shape rows n.view shape (λ i row at. row_fits i row at) has.nodes
-    (λ i row at. (let h = of_rows W ((0 + i) % W) 0 rows i row at refl in written_from ((0 + i) % W) (n.view).seen row (subst (λ (rs : List RowValue). Has rs row) (sym (has.own ((0 + i) % W) (omega (arith, some)))) h)))
+    (λ i row at. (let h = of_rows W ((first + i) % W) first rows i row at refl in written_from ((first + i) % W) (n.view).seen row (subst (λ (rs : List RowValue). Has rs row) (sym (has.own ((first + i) % W) (omega (arith, some)))) h)))
     has.settled.count)
   where
     row_fits : (i : ℕ) (row : RowValue) → slice_get rows i ≡ Some row → Fits (log.shape).schema row

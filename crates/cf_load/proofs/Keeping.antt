@@ -41,7 +41,7 @@ pub made_more : {X Y : Type 0} (f : X → Y) (xs : List X) (ys zs : List Y) (i :
 made_more f xs ys zs i d y is lt one more = more ∙ (ap₂ (λ made a. made ++ a ∷ []) is one ∙ (sym (map_push f (take i xs) (get_or xs i d)) ∙ ap (map f) (sym (take_more xs i d lt))))
 
 -- what was loaded is still there
-pub still_holds : (log : LogValue) (rows : List RowValue) (m n : PassValue) → HasLoaded log rows m → Keeps m n → HasLoaded log rows n
-still_holds log rows m n has keeps =
+pub still_holds : (log : LogValue) (first : ℕ) (rows : List RowValue) (m n : PassValue) → HasLoaded log first rows m → Keeps m n → HasLoaded log first rows n
+still_holds log first rows m n has keeps =
     let of : IsOf n log = record { table = ap (λ (h : PassValue). h.table) keeps.same ∙ has.of.table; nodes = ap (λ (h : PassValue). h.nodes) keeps.same ∙ has.of.nodes } in
-    still_loaded log rows m n has of keeps.books keeps.seen
+    still_loaded log first rows m n has of keeps.books keeps.seen

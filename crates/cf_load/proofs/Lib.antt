@@ -11,3 +11,6 @@ pub mod Keeping
 pub mod Loading
 pub mod Enough
 pub mod Loaders
+pub mod Blocks
+pub mod Chains
+pub mod Changing

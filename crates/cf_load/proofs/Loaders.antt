@@ -1,20 +1,18 @@
 -- A loader goes on, batch by batch, and then answers.
-use Rattle.std.proofs.Common.{◌≡◌, ◌⊎◌, ◌<◌, ◌≤◌, ◌+◌, ◌-◌, ◌*◌, ◌%◌, ◌/◌, ℕ, false, List, [], ◌++◌, length, length-append, map, take, drop, min, append-nil, refl, sym, ap, subst, ◌∙◌, arith, inl, inr, Result, Ok, Err, IfOk, MatchResult}
+use Rattle.std.proofs.Common.{◌≡◌, ◌<◌, ◌≤◌, ◌+◌, ◌-◌, ◌*◌, ℕ, List, [], ◌++◌, length, length-append, map, take, drop, min, sym, ap, subst, ◌∙◌, arith, inl, inr, Result, Ok, Err, IfOk, MatchResult}
 use Rattle.std.proofs.lemmas.Bool.{cases_lt}
 use Rattle.std.proofs.lemmas.List.{length-drop, length-take, take_all, take-append-drop}
 use Rattle.std.proofs.lemmas.List.Elements.{All-nil, All-append}
-use Rattle.std.proofs.Math.Seq.{take-add, take-length}
+use Rattle.std.proofs.Math.Seq.{take-add}
 use Rattle.std.specs.List.{All}
 use Rattle.std.specs.declared.alloc.AllocError.{AllocError}
 use Rattle.cf_row.specs.Row.{RowValue, Fits}
-use Rattle.cf_fold.specs.declared.trigger.Trigger.{Trigger}
 use Rattle.cf_shape.specs.Lanes.{ShapeValue, IsShape}
 use Rattle.cf_plain.specs.Answered.{LoadedValue, answer_on}
 use Rattle.cf_plain.specs.Asks.{Suits, SuitsTrigger}
 use Rattle.cf_plain.specs.declared.ask.Ask.{Ask}
 use Rattle.cf_plain.specs.declared.loaded.Live.{Live}
 use Rattle.cf_table.specs.Values.{PassValue, LogValue}
-use Rattle.cf_table.specs.Moves.{Begins}
 use Rattle.cf_table.proofs.Settling.{begins_then}
 use Rattle.cf_load.specs.declared.plan.LivePlan.{LivePlan}
 use Rattle.cf_load.specs.declared.loads.LoadFault.{LoadFault}
@@ -38,7 +36,7 @@ same_suits shape plan other same suits = record {
 }
 
 -- before the first batch
-pub starts : (log : LogValue) (plan : LivePlan) (loader : LoaderValue) (root : PassValue) → IsPlan log.shape plan → IsFresh plan loader → HasLoaded log [] root → IsLoading log [] loader root
+pub starts : (log : LogValue) (plan : LivePlan) (loader : LoaderValue) (root : PassValue) → IsPlan log.shape plan → IsFresh plan loader → HasLoaded log 0 [] root → IsLoading log [] loader root
 starts log plan loader root suits fresh has = record {
   plan = same_suits log.shape plan loader.plan fresh.plan_is suits;
   going = fresh.going;
@@ -50,7 +48,7 @@ starts log plan loader root suits fresh has = record {
 }
 
 -- a batch is loaded, and its answers come after those before
-pub goes_on : (log : LogValue) (before rows : List RowValue) (old new : LoaderValue) (b : ℕ) (m n : PassValue) (more : List Live) → IsLoading log before old m → HasLoaded log (before ++ rows) n → length before ≡ 4096 * b → 0 < length rows → length rows ≤ 4096
+pub goes_on : (log : LogValue) (before rows : List RowValue) (old new : LoaderValue) (b : ℕ) (m n : PassValue) (more : List Live) → IsLoading log before old m → HasLoaded log 0 (before ++ rows) n → length before ≡ 4096 * b → 0 < length rows → length rows ≤ 4096
     → length before + length rows ≤ (log.shape).capacity → All (Fits (log.shape).schema) rows → AsksBeside log.shape old.plan b (m.view).seen (n.view).seen more
     → n ≡ record m { view = n.view } → (n.view).told ≡ (m.view).told ++ tails_of more → new ≡ record old { count = old.count + length rows; lives = old.lives ++ more }
     → IsBatched log before rows old new m n
@@ -77,20 +75,20 @@ pub finishes : (log : LogValue) (rows : List RowValue) (loader : LoaderValue) (m
     → IsFinished log rows loader m n answered
 finishes log rows loader m n answered shape is keeps finals alerts lives = record {
   keeps = keeps;
-  loaded = still_holds log rows m n is.loaded keeps;
+  loaded = still_holds log 0 rows m n is.loaded keeps;
   finals = rw keeps.seen finals;
   alerts = rw keeps.seen alerts;
   lives_are = lives;
   lives = rw (lives, keeps.seen) is.answered;
-  few_nodes = loaded_few log rows m shape is.fit is.loaded;
+  few_nodes = loaded_few log 0 rows m shape is.fit is.loaded;
 }
 
 -- and what is left where memory is wanted
 pub finishes_if : (log : LogValue) (rows : List RowValue) (loader : LoaderValue) (m n : PassValue) (result : Result LoadedValue AllocError) → IsShape log.shape → IsLoading log rows loader m → Keeps m n
     → IfOk result (λ (answered : LoadedValue). answered.finals ≡ map (answer_on log.shape (m.view).seen) loader.plan.asks.items) → IfOk result (λ (answered : LoadedValue). answered.alerts ≡ map (marks_on log.shape (m.view).seen) loader.plan.triggers.items)
-    → IfOk result (λ (answered : LoadedValue). answered.lives ≡ loader.lives) → MatchResult result (IsFinished log rows loader m n) (λ x. Keeps m n × HasLoaded log rows n)
+    → IfOk result (λ (answered : LoadedValue). answered.lives ≡ loader.lives) → MatchResult result (IsFinished log rows loader m n) (λ x. Keeps m n × HasLoaded log 0 rows n)
 finishes_if log rows loader m n (Ok answered) shape is keeps finals alerts lives = finishes log rows loader m n answered shape is keeps finals alerts lives
-finishes_if log rows loader m n (Err e) shape is keeps finals alerts lives = (keeps, still_holds log rows m n is.loaded keeps)
+finishes_if log rows loader m n (Err e) shape is keeps finals alerts lives = (keeps, still_holds log 0 rows m n is.loaded keeps)
 
 -- the part of a list from some place on, to its end or as many as a batch has
 pub part_is : {X : Type 0} (xs : List X) (from to : ℕ) → from ≤ length xs → to ≡ min (length xs) (from + 4096) → take (to - from) (drop from xs) ≡ take 4096 (drop from xs)
@@ -111,11 +109,11 @@ more_of rows part b is =
 pub some_of : (log : LogValue) (rows before part : List RowValue) (m n : PassValue) (i j : ℕ) (fault : LoadFault) → before ≡ take i rows → before ++ part ≡ take j rows → length rows ≤ (log.shape).capacity → IsRefused log before part m n fault → HasSome log rows n fault
 some_of log rows before part m n i j Full front both few left = absurd (let l = length-append before part in let k = ap length both in let t = length-take j rows in omega (arith, left.0, l, k, t, few))
 some_of log rows before part m n i j (NodesFull w) front both few left =
-    let more = lacks_more log (before ++ part) (drop j rows) w n left.2 in
-    subst (λ (rs : List RowValue). LacksNodes log rs w n) (ap (λ (rs : List RowValue). rs ++ drop j rows) both ∙ take-append-drop j rows) more
+    let more = lacks_more log 0 (before ++ part) (drop j rows) w n left.2 in
+    subst (λ (rs : List RowValue). LacksNodes log 0 rs w n) (ap (λ (rs : List RowValue). rs ++ drop j rows) both ∙ take-append-drop j rows) more
 some_of log rows before part m n i j Memory front both few left = elim left.2 [
-  | inl none ↦ (i, subst (λ (rs : List RowValue). HasLoaded log rs n) front none)
-  | inr all ↦ (j, subst (λ (rs : List RowValue). HasLoaded log rs n) both all)
+  | inl none ↦ (i, subst (λ (rs : List RowValue). HasLoaded log 0 rs n) front none)
+  | inr all ↦ (j, subst (λ (rs : List RowValue). HasLoaded log 0 rs n) both all)
 ]
 
 -- what a refused batch leaves of the root

@@ -11,7 +11,7 @@ use Rattle.cf_load.specs.Planned.{tails_of}
 use Rattle.cf_load.proofs.Tails.{answered_more}
 
 -- the live answers beside it come after those before
-pub answered_beside : (log : LogValue) (rows batch : List RowValue) (plan : LivePlan) (b : ℕ) (m n : PassValue) (answers more : List Live) → HasLoaded log rows m → HasLoaded log (rows ++ batch) n → length rows ≡ 4096 * b → 0 < length batch → length batch ≤ 4096
+pub answered_beside : (log : LogValue) (rows batch : List RowValue) (plan : LivePlan) (b : ℕ) (m n : PassValue) (answers more : List Live) → HasLoaded log 0 rows m → HasLoaded log 0 (rows ++ batch) n → length rows ≡ 4096 * b → 0 < length batch → length batch ≤ 4096
     → HasAnswered log.shape plan.asks.items plan.lives.items plan.rounds (length rows) (m.view).seen answers → AsksBeside log.shape plan b (m.view).seen (n.view).seen more
     → HasAnswered log.shape plan.asks.items plan.lives.items plan.rounds (length (rows ++ batch)) (n.view).seen (answers ++ more)
 answered_beside log rows batch plan b m n answers more before after long some few has beside =

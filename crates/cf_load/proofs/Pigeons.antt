@@ -1,5 +1,5 @@
 -- Lists in which nothing stands twice.
-use Rattle.std.proofs.Common.{◌≡◌, ◌⊎◌, ℕ, ◌*◌, ◌≤◌, zero, suc, inl, inr, List, [], ◌∷◌, ◌++◌, length, length-append, map, Some, slice_get, refl, ap, sym, subst, ◌∙◌, arith}
+use Rattle.std.proofs.Common.{◌≡◌, ◌⊎◌, ℕ, ◌*◌, ◌≤◌, zero, suc, inl, inr, List, [], ◌∷◌, ◌++◌, length, length-append, map, Some, slice_get, refl, ap, sym, ◌∙◌, arith}
 use Rattle.std.specs.List.{flat_map}
 use Rattle.std.proofs.Math.Nat.{suc-mul}
 use Rattle.cf_lemmas.proofs.Lists.{Has}

@@ -1,13 +1,14 @@
 -- What the writers wrote of a batch, and the log with it: lemmas on lists alone.
-use Rattle.std.proofs.Common.{◌≡◌, ◌⊎◌, ℕ, zero, suc, ◌+◌, ◌*◌, ◌%◌, ◌<◌, ◌≤◌, Bool, true, cond, List, [], ◌∷◌, ◌++◌, length, take, drop, ◌==◌, refl, sym, ap, ap₂, subst, ◌∙◌, inl, inr, arith, length-append}
+use Rattle.std.proofs.Common.{◌≡◌, ◌⊎◌, ℕ, zero, suc, ◌+◌, ◌*◌, ◌%◌, ◌<◌, ◌≤◌, Bool, true, List, [], ◌∷◌, ◌++◌, length, take, drop, refl, sym, ap, ap₂, subst, ◌∙◌, inl, inr, arith, length-append}
 use Rattle.std.proofs.lemmas.Bool.{eq-eqb, ne_eqb, cases_eq, cases_lt}
 use Rattle.std.proofs.lemmas.List.{length-drop, take_all, take-append-le, drop_at, drop_all, drop-append-le, append-nil, nil_from_length}
 use Rattle.std.specs.List.{AllByRecursion}
 use Rattle.cf_lemmas.proofs.Sums.{more_at, more_elsewhere, more_there, total, total_more, total_most, total_none, total_same}
 use Rattle.cf_row.specs.Row.{RowValue}
 use Rattle.cf_row.specs.declared.row.Entry.{Entry}
-use Rattle.cf_history.specs.Order.{rows_of, written_by, IsLogOf}
+use Rattle.cf_history.specs.Order.{rows_of, written_by}
 use Rattle.cf_history.proofs.Logs.{written_own, written_other}
+use Rattle.cf_load.specs.Loading.{IsLogFrom}
 use Rattle.cf_load.proofs.Alls.{all_append}
 
 -- where no number is more than its fellow and the sums are as large, each is its fellow
@@ -68,10 +69,6 @@ rows_append writers w k (row ∷ rows) more =
       | inr other ↦ rw (ne_eqb (k % writers) w other) rest
     ]
 
--- from the first row on
-pub rows_then : (writers w : ℕ) (rows more : List RowValue) → rows_of writers w 0 (rows ++ more) ≡ rows_of writers w 0 rows ++ rows_of writers w (length rows) more
-rows_then writers w rows more = rows_append writers w 0 rows more ∙ ap (λ (n : ℕ). rows_of writers w 0 rows ++ rows_of writers w n more) (let e : 0 + length rows ≡ length rows = omega arith in e)
-
 -- A writer wrote the first of its rows of a batch. Where some are left of a whole one, as many entries came as the batch has rows.
 pub record WrotePart (whole : Bool) (writers first : ℕ) (batch : List RowValue) (new : List Entry) (w : ℕ) : Type 0 where
   pub left : List RowValue
@@ -116,12 +113,12 @@ part_there m j xs ys long few = ap (take m) (drop_at xs ys j long) ∙ take_all 
 pub part_after : {X : Type 0} (m j : ℕ) (xs : List X) → length xs ≤ j → take m (drop j xs) ≡ []
 part_after m j xs past = ap (take m) (drop_all j xs past) ∙ take_all m [] (omega arith)
 
-module _ (rows batch : List RowValue) (writers b m : ℕ) (log new : List Entry) (apart : (c d : ℕ) → c < d → m * c + m ≤ m * d) where
+module _ (first : ℕ) (rows batch : List RowValue) (writers b m : ℕ) (log new : List Entry) (apart : (c d : ℕ) → c < d → m * c + m ≤ m * d) where
   -- batch by batch what each writer wrote are its rows
   pub own_more : length rows ≡ m * b → length log ≡ m * b → length batch ≤ m → length new ≡ length batch
-      → ((c w : ℕ) → w < writers → written_by w (take m (drop (m * c) log)) ≡ rows_of writers w (m * c) (take m (drop (m * c) rows)))
-      → ((w : ℕ) → w < writers → written_by w new ≡ rows_of writers w (m * b) batch)
-      → (c w : ℕ) → w < writers → written_by w (take m (drop (m * c) (log ++ new))) ≡ rows_of writers w (m * c) (take m (drop (m * c) (rows ++ batch)))
+      → ((c w : ℕ) → w < writers → written_by w (take m (drop (m * c) log)) ≡ rows_of writers w (first + m * c) (take m (drop (m * c) rows)))
+      → ((w : ℕ) → w < writers → written_by w new ≡ rows_of writers w (first + m * b) batch)
+      → (c w : ℕ) → w < writers → written_by w (take m (drop (m * c) (log ++ new))) ≡ rows_of writers w (first + m * c) (take m (drop (m * c) (rows ++ batch)))
   own_more rows_long log_long few many own more c w lt = elim (cases_lt c b) [
     | inl before ↦
         let far = apart c b before in
@@ -136,16 +133,16 @@ module _ (rows batch : List RowValue) (writers b m : ℕ) (log new : List Entry)
       | inr until ↦
           let same : c ≡ b = omega (arith, since, until) in
           let at : m * b ≡ m * c = ap (λ d. m * d) (sym same) in
-          rw (part_there m (m * c) log new (log_long ∙ at) (omega (arith, many, few)), part_there m (m * c) rows batch (rows_long ∙ at) few) (more w lt ∙ ap (λ k. rows_of writers w k batch) at)
+          rw (part_there m (m * c) log new (log_long ∙ at) (omega (arith, many, few)), part_there m (m * c) rows batch (rows_long ∙ at) few) (more w lt ∙ ap (λ k. rows_of writers w (first + k) batch) at)
     ]
   ]
 
 -- a log of some whole batches and then each writer's rows of one more are a log of all these rows
-pub log_more : (rows batch : List RowValue) (writers b : ℕ) (log new : List Entry) → 0 < writers → IsLogOf rows writers log → length rows ≡ 4096 * b → length batch ≤ 4096 → AllByRecursion (λ e. e.writer < writers) new
-    → ((w : ℕ) → w < writers → written_by w new ≡ rows_of writers w (4096 * b) batch) → IsLogOf (rows ++ batch) writers (log ++ new)
-log_more rows batch writers b log new some is long few exist more =
-    let many : length new ≡ length batch = as_many writers (4096 * b) batch new some exist more in record {
+pub log_more : (first : ℕ) (rows batch : List RowValue) (writers b : ℕ) (log new : List Entry) → 0 < writers → IsLogFrom first rows writers log → length rows ≡ 4096 * b → length batch ≤ 4096 → AllByRecursion (λ e. e.writer < writers) new
+    → ((w : ℕ) → w < writers → written_by w new ≡ rows_of writers w (first + 4096 * b) batch) → IsLogFrom first (rows ++ batch) writers (log ++ new)
+log_more first rows batch writers b log new some is long few exist more =
+    let many : length new ≡ length batch = as_many writers (first + 4096 * b) batch new some exist more in record {
       size = length-append log new ∙ (ap₂ (λ i j. i + j) is.size many ∙ sym (length-append rows batch));
       exist = all_append (λ e. e.writer < writers) log new is.exist exist;
-      own = own_more rows batch writers b 4096 log new (λ c d lt. omega (arith, lt)) long (is.size ∙ long) few many is.own more;
+      own = own_more first rows batch writers b 4096 log new (λ c d lt. omega (arith, lt)) long (is.size ∙ long) few many is.own more;
     }

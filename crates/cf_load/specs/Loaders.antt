@@ -35,7 +35,7 @@ pub record IsLoading (log : LogValue) (rows : List RowValue) (loader : LoaderVal
   pub count : loader.count ≡ length rows
   pub few : length rows ≤ (log.shape).capacity
   pub fit : All (Fits (log.shape).schema) rows
-  pub loaded : HasLoaded log rows root
+  pub loaded : HasLoaded log 0 rows root
   pub answered : HasAnswered log.shape loader.plan.asks.items loader.plan.lives.items loader.plan.rounds (length rows) (root.view).seen loader.lives
 
 -- A batch is loaded after the rows before it. The loader has the answers that came beside it, and the root was told of them.
@@ -52,13 +52,13 @@ pub record IsBatched (log : LogValue) (before rows : List RowValue) (old new : L
 -- the log has all rows of the batch, or none.
 abbrev pub IsRefused : LogValue → List RowValue → List RowValue → PassValue → PassValue → LoadFault → Type 0
 IsRefused log before rows m n Full = ((log.shape).capacity < length before + length rows) × (n ≡ m)
-IsRefused log before rows m n (NodesFull writer) = (length before + length rows ≤ (log.shape).capacity) × (n ≡ record m { view = n.view }) × LacksNodes log (before ++ rows) writer n
-IsRefused log before rows m n Memory = (length before + length rows ≤ (log.shape).capacity) × (n ≡ record m { view = n.view }) × (HasLoaded log before n ⊎ HasLoaded log (before ++ rows) n)
+IsRefused log before rows m n (NodesFull writer) = (length before + length rows ≤ (log.shape).capacity) × (n ≡ record m { view = n.view }) × LacksNodes log 0 (before ++ rows) writer n
+IsRefused log before rows m n Memory = (length before + length rows ≤ (log.shape).capacity) × (n ≡ record m { view = n.view }) × (HasLoaded log 0 before n ⊎ HasLoaded log 0 (before ++ rows) n)
 
 -- The answers at the end: the final ones and the marks on the whole log, which stays as it is, and the live ones that came before.
 pub record IsFinished (log : LogValue) (rows : List RowValue) (loader : LoaderValue) (before after : PassValue) (answered : LoadedValue) : Type 0 where
   pub keeps : Keeps before after
-  pub loaded : HasLoaded log rows after
+  pub loaded : HasLoaded log 0 rows after
   pub finals : answered.finals ≡ map (answer_on log.shape (after.view).seen) loader.plan.asks.items
   pub alerts : answered.alerts ≡ map (marks_on log.shape (after.view).seen) loader.plan.triggers.items
   pub lives_are : answered.lives ≡ loader.lives

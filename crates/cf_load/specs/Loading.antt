@@ -1,10 +1,10 @@
 -- What a log holds while it is loaded batch by batch, and what a reader beside the writers has answered.
-use Rattle.std.specs.Prelude.{◌≡◌, ◌<◌, ◌≤◌, ℕ, List, ◌++◌, length, map, take, slice_index_or}
+use Rattle.std.specs.Prelude.{◌≡◌, ◌<◌, ◌≤◌, ◌+◌, ◌*◌, ℕ, List, ◌++◌, length, map, take, slice_index_or}
 use Rattle.std.specs.List.{flat_map, range_with_len, AllByRecursion}
 use Rattle.cf_row.specs.Row.{RowValue}
 use Rattle.cf_row.specs.declared.row.Entry.{Entry}
 use Rattle.cf_history.specs.History.{NeverFall}
-use Rattle.cf_history.specs.Order.{rows_of, written_by, IsLogOf}
+use Rattle.cf_history.specs.Order.{batch, rows_of, written_by}
 use Rattle.cf_history.specs.Tails.{AreTails}
 use Rattle.cf_shape.specs.Lanes.{ShapeValue}
 use Rattle.cf_plain.specs.Asks.{eval}
@@ -16,12 +16,20 @@ use Rattle.cf_load.specs.Needed.{HasNodes}
 use Rattle.cf_table.specs.Values.{PassValue, LogValue, IsOf}
 use Rattle.cf_table.specs.Moves.{Begins, HoldsAllBooks}
 
--- The root holds all books at rest, and what it has seen is a log of those rows, each of them once, with the nodes that they need.
-pub record HasLoaded (log : LogValue) (rows : List RowValue) (before : PassValue) : Type 0 where
+-- A log of rows of which the first is row number `first`, so that each row stands in it once: in each batch each writer's entries
+-- are its rows of that batch, in order.
+pub record IsLogFrom (first : ℕ) (rows : List RowValue) (writers : ℕ) (log : List Entry) : Type 0 where
+  pub size : length log ≡ length rows
+  pub exist : AllByRecursion (λ entry. entry.writer < writers) log
+  pub own : (b writer : ℕ) → writer < writers → written_by writer (batch b log) ≡ rows_of writers writer (first + 4096 * b) (batch b rows)
+
+-- The root holds all books at rest, and what it has seen is a log of those rows, of which the first is row number `first`, each of
+-- them once, with the nodes that they need.
+pub record HasLoaded (log : LogValue) (first : ℕ) (rows : List RowValue) (before : PassValue) : Type 0 where
   pub of : IsOf before log
   pub settled : HoldsAllBooks log.shape before.view
-  pub is : IsLogOf rows (log.shape).writers (before.view).seen
-  pub own : (w : ℕ) → w < (log.shape).writers → written_by w (before.view).seen ≡ rows_of (log.shape).writers w 0 rows
+  pub is : IsLogFrom first rows (log.shape).writers (before.view).seen
+  pub own : (w : ℕ) → w < (log.shape).writers → written_by w (before.view).seen ≡ rows_of (log.shape).writers w first rows
   pub nodes : HasNodes log.shape rows before.view
 
 -- What the reader did beside a batch: a live answer for each round and each live question, in this order, each the question's
@@ -51,7 +59,7 @@ pub record HasAnswered (shape : ShapeValue) (asks : List Ask) (lives : List ℕ)
 
 -- the root holds all books at rest, and what it has seen is a log of the first of these rows
 abbrev pub HoldsSome : LogValue → List RowValue → PassValue → Type 0
-HoldsSome log rows m = (count : ℕ) × HasLoaded log (take count rows) m
+HoldsSome log rows m = (count : ℕ) × HasLoaded log 0 (take count rows) m
 
 -- The reader asked beside a batch. What it had seen then begins what was seen after it.
 pub record AsksBeside (shape : ShapeValue) (plan : LivePlan) (batch : ℕ) (before after : List Entry) (more : List Live) : Type 0 where

@@ -25,21 +25,21 @@ pub record Keeps (before after : PassValue) : Type 0 where
 pub record IsLoaded (log : LogValue) (rows : List RowValue) (plan : LivePlan) (before after : PassValue) (answered : LoadedValue) : Type 0 where
   pub few : length rows ≤ (log.shape).capacity
   pub same : after ≡ record before { view = after.view }
-  pub loaded : HasLoaded log rows after
+  pub loaded : HasLoaded log 0 rows after
   pub finals : answered.finals ≡ map (answer_on log.shape (after.view).seen) plan.asks.items
   pub alerts : answered.alerts ≡ map (marks_on log.shape (after.view).seen) plan.triggers.items
   pub lives : HasAnswered log.shape plan.asks.items plan.lives.items plan.rounds (length rows) (after.view).seen answered.lives
   pub told : (after.view).told ≡ (before.view).told ++ tails_of answered.lives
   pub few_nodes : distinct log.shape rows ≤ (log.shape).writers * (log.shape).nodes
 
--- The rows need more different nodes than that writer has, which ran out of them. The root holds all books at rest, and each
--- writer's entries are the first of its rows.
-pub record LacksNodes (log : LogValue) (rows : List RowValue) (writer : ℕ) (after : PassValue) : Type 0 where
+-- The rows, of which the first is row number `first`, need more different nodes than that writer has, which ran out of them. The
+-- root holds all books at rest, and each writer's entries are the first of its rows.
+pub record LacksNodes (log : LogValue) (first : ℕ) (rows : List RowValue) (writer : ℕ) (after : PassValue) : Type 0 where
   pub exists : writer < (log.shape).writers
   pub many : (log.shape).nodes < distinct log.shape rows
   pub of : IsOf after log
   pub settled : HoldsAllBooks log.shape after.view
-  pub fronts : (w : ℕ) → w < (log.shape).writers → (left : List RowValue) × (written_by w (after.view).seen ++ left ≡ rows_of (log.shape).writers w 0 rows)
+  pub fronts : (w : ℕ) → w < (log.shape).writers → (left : List RowValue) × (written_by w (after.view).seen ++ left ≡ rows_of (log.shape).writers w first rows)
 
 -- a writer that ran out of nodes goes before want of memory
 abbrev pub outcome_of : {T : Type 0} → Option ℕ → Result T AllocError → Result T LoadFault
@@ -50,13 +50,13 @@ outcome_of None (Err fault) = Err Memory
 -- what the log holds after a fault in a batch: where memory is wanted, the rows before it alone or all rows of the batch too
 abbrev pub HasStopped : LogValue → List RowValue → List RowValue → PassValue → LoadFault → Type 0
 HasStopped log before rows n Full = ⊥
-HasStopped log before rows n (NodesFull writer) = LacksNodes log (before ++ rows) writer n
-HasStopped log before rows n Memory = HasLoaded log before n ⊎ HasLoaded log (before ++ rows) n
+HasStopped log before rows n (NodesFull writer) = LacksNodes log 0 (before ++ rows) writer n
+HasStopped log before rows n Memory = HasLoaded log 0 before n ⊎ HasLoaded log 0 (before ++ rows) n
 
 -- what the log holds after a fault in some batch of those rows
 abbrev pub HasSome : LogValue → List RowValue → PassValue → LoadFault → Type 0
 HasSome log rows n Full = ⊥
-HasSome log rows n (NodesFull writer) = LacksNodes log rows writer n
+HasSome log rows n (NodesFull writer) = LacksNodes log 0 rows writer n
 HasSome log rows n Memory = HoldsSome log rows n
 
 -- Full exactly where there are more rows than the capacity, and then nothing was done. After another fault the books are home, and
@@ -64,5 +64,5 @@ HasSome log rows n Memory = HoldsSome log rows n
 abbrev pub Loads : LogValue → List RowValue → LivePlan → PassValue → PassValue → Result LoadedValue LoadFault → Type 0
 Loads log rows plan m n (Ok answered) = IsLoaded log rows plan m n answered
 Loads log rows plan m n (Err Full) = ((log.shape).capacity < length rows) × (n ≡ m)
-Loads log rows plan m n (Err (NodesFull writer)) = (length rows ≤ (log.shape).capacity) × (n ≡ record m { view = n.view }) × LacksNodes log rows writer n
+Loads log rows plan m n (Err (NodesFull writer)) = (length rows ≤ (log.shape).capacity) × (n ≡ record m { view = n.view }) × LacksNodes log 0 rows writer n
 Loads log rows plan m n (Err Memory) = (length rows ≤ (log.shape).capacity) × (n ≡ record m { view = n.view }) × HoldsSome log rows n

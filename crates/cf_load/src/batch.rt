@@ -102,13 +102,13 @@ pub(crate) fn load_batch<R: Threads + Sync, G: Gate>(
     gate: &G,
     batch: u32,
 ) -> Result<Vec<Live>, LoadFault>
-    requires loaded { (before : List RowValue) × (length before ≡ 4096 * batch) × HasLoaded log.now before root.old }
+    requires loaded { (before : List RowValue) × (length before ≡ 4096 * batch) × HasLoaded log.now 0 before root.old }
     requires plan { IsPlan log.now.shape plan.now }
     requires fits { All (Fits log.now.shape.schema) rows.now }
     requires few { length rows.now ≤ 4096 }
     requires room { 4096 * batch + length rows.now ≤ log.now.shape.capacity }
     ensures same { root.new ≡ record root.old { view = root.new.view } }
-    ensures loaded { (before : List RowValue) → length before ≡ 4096 * batch → HasLoaded log.now before root.old → MatchResult result (λ _. HasLoaded log.now (before ++ rows.now) root.new) (HasStopped log.now before rows.now root.new) }
+    ensures loaded { (before : List RowValue) → length before ≡ 4096 * batch → HasLoaded log.now 0 before root.old → MatchResult result (λ _. HasLoaded log.now 0 (before ++ rows.now) root.new) (HasStopped log.now before rows.now root.new) }
     ensures asked { IfOk result (λ more. AsksBeside log.now.shape plan.now batch root.old.view.seen root.new.view.seen more.items) }
     ensures told { IfOk result (λ more. root.new.view.told ≡ root.old.view.told ++ tails_of more.items) }
 {

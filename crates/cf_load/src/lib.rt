@@ -8,6 +8,7 @@ mod loader;
 mod loads;
 mod plan;
 mod reader;
+mod segments;
 #[cfg(test)]
 mod tests;
 mod writers;
@@ -15,3 +16,4 @@ mod writers;
 pub use loader::Loader;
 pub use loads::{LoadFault, load};
 pub use plan::LivePlan;
+pub use segments::{Closing, Segments, TurnFault};

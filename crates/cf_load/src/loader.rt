@@ -42,7 +42,7 @@ impl Loader {
     pub fn new(alloc: Global, _log: &MultiLog, plan: &LivePlan) -> Result<Loader, Memory>
         requires plan { IsPlan _log.now.shape plan.now }
         ensures fresh { IfOk result (IsFresh plan.now) }
-        ensures loading { IfOk result (λ loader. (root : PassValue) → HasLoaded _log.now [] root → IsLoading _log.now [] loader root) }
+        ensures loading { IfOk result (λ loader. (root : PassValue) → HasLoaded _log.now 0 [] root → IsLoading _log.now [] loader root) }
     {
         Ok(Loader {
             plan: plan.copy(alloc)?,
@@ -119,7 +119,7 @@ impl Loader {
     pub fn finish(self, alloc: Global, log: &MultiLog, root: &mut Root) -> Result<Loaded, Memory>
         requires loading { (rows : List RowValue) × IsLoading log.now rows self root.old }
         ensures { (rows : List RowValue) → IsLoading log.now rows self root.old
-            → MatchResult result (IsFinished log.now rows self root.old root.new) (λ _. Keeps root.old root.new × HasLoaded log.now rows root.new) }
+            → MatchResult result (IsFinished log.now rows self root.old root.new) (λ _. Keeps root.old root.new × HasLoaded log.now 0 rows root.new) }
     {
         let _lawful = log.shape();
         let Loader { plan, lives, .. } = self;

@@ -83,7 +83,7 @@ pub fn load<R: Threads + Sync, G: Gate>(
     plan: &LivePlan,
     gate: &G,
 ) -> Result<Loaded, LoadFault>
-    requires loaded { HasLoaded log.now [] root.old }
+    requires loaded { HasLoaded log.now 0 [] root.old }
     requires plan { IsPlan log.now.shape plan.now }
     requires fits { All (Fits log.now.shape.schema) rows.now }
     ensures { Loads log.now rows.now plan.now root.old root.new result }

@@ -4,10 +4,11 @@ ghost use Rattle.cf_table.specs.Values.{IsOf};
 ghost use Rattle.cf_law.specs.Readers.{AtHome};
 ghost use Rattle.cf_law.specs.Shapes.{layout};
 ghost use Rattle.cf_table.specs.Moves.{AreAll};
+ghost use Rattle.cf_load.specs.Segments.{AllowsSegments};
 ghost use Rattle.cf_load.specs.Writing.{IsReady};
 
 use crate::writers::run_writers;
-use crate::{LivePlan, LoadFault, Loader, load};
+use crate::{LivePlan, LoadFault, Loader, Segments, TurnFault, load};
 use cf_outside::FreeGate;
 use cf_plain::{Answer, Ask, Body, Loaded};
 use cf_row::{Attr, Conjunction, Expr, Kind, Memory, Name, Row, Schema, Value, fits};
@@ -282,6 +283,43 @@ fn two_batches_load_what_all_rows_at_once_do(rt: HostRuntime) -> Result<(), Fail
     for (answer, other) in told.finals().iter().zip(told_too.finals().iter()) {
         assert_eq!(rt; seen_by(answer), (4100, 4100));
         assert_eq!(rt; seen_by(answer), seen_by(other));
+    }
+    Ok(())
+}
+
+// Whether a log of the shape may go on through so many segments.
+fn allows(shape: &Shape, most: u32) -> bool
+    ensures { IsTrue result → AllowsSegments shape.now most }
+{
+    let capacity = u64::from(shape.capacity());
+    let is_whole = most == 1 || capacity % 4096 == 0;
+    1 <= most && most <= 256 && u64::from(most) * capacity <= 1 << 20 && is_whole
+}
+
+// The first of so many segments.
+fn open_segments<R: Abort>(
+    rt: &R,
+    alloc: Global,
+    capacity: u32,
+    most: u32,
+) -> Result<Segments, Fail> {
+    let shape = shape(rt, alloc, capacity, 1, 15)?;
+    assert!(rt; allows(&shape, most));
+    Ok(Segments::open(alloc, shape, most)?)
+}
+
+#[test]
+fn segments_turn_until_they_are_spent(rt: HostRuntime) -> Result<(), Fail> {
+    let alloc = rt.alloc();
+    for (capacity, most) in [(1, 1), (4096, 1), (4096, 2), (4096, 256)] {
+        let mut segments = open_segments(&rt, alloc, capacity, most)?;
+        for _ in 1..most {
+            assert!(rt; segments.turn(alloc).is_ok());
+        }
+        assert_eq!(rt; segments.turn(alloc), Err(TurnFault::Spent));
+        let closing = segments.close(alloc).ok().expect(&rt, "memory");
+        assert_eq!(rt; closing.entries.len(), 0);
+        assert_eq!(rt; closing.seals.len(), most as usize);
     }
     Ok(())
 }

@@ -1,13 +1,10 @@
-use Rattle.std.proofs.Common.{rules, arith, ◌≡◌, ◌<◌, ◌+◌, ◌-◌, ◌*◌, ◌++◌, List, Result, Err, IfErr, length, take, drop, refl, sym, ap, subst, ◌∙◌}
+use Rattle.std.proofs.Common.{rules, arith, ◌≡◌, ◌<◌, ◌+◌, ◌-◌, ◌*◌, ◌++◌, List, Err, length, take, drop, refl, sym, ap, subst, ◌∙◌}
 use Rattle.cf_row.specs.Row.{RowValue}
 use Rattle.cf_table.specs.Values.{PassValue}
-use Rattle.cf_load.specs.declared.loads.LoadFault.{LoadFault}
-use Rattle.cf_load.specs.Loads.{HasSome}
 use Rattle.cf_load.specs.Loaders.{LoaderValue, IsLoading, IsBatched}
 use Rattle.cf_load.specs.Planned.{tails_of}
 use Rattle.cf_load.proofs.Loading.{told_more}
 use Rattle.cf_load.proofs.Loaders.{part_is, more_of, some_of}
-use Rattle.cf_load.proofs.loads.load_batches.Given.{Over}
 use Rattle.cf_load.proofs.loads.load_batches.Goals as goal
 
 pub returns-in_err-batch-clause-stopped : goal.returns-in_err-batch-clause-stopped

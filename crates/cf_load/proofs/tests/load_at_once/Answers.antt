@@ -8,7 +8,7 @@ load-requires-clause-loaded g c κs within =
     let log = c.in_ok-log.log in
     let root = c.in_ok-log.root in
     let of : IsOf root log = search rules in
-    opened log root of (ap (λ (h : PassValue). h.view) c.in_ok-log.ensures.root)
+    opened log 0 root of (ap (λ (h : PassValue). h.view) c.in_ok-log.ensures.root)
 
 pub load-requires-clause-fits : goal.load-requires-clause-fits
 load-requires-clause-fits g c κs within =

@@ -11,7 +11,7 @@ batch-answer-requires-clause-loading g c κs within =
     let log = c.in_ok-log.log in
     let root = c.in_ok-log.root in
     let of : IsOf root log = search rules in
-    ([], c.in_ok-loader.ensures.loading root (opened log root of (ap (λ (h : PassValue). h.view) c.in_ok-log.ensures.root)))
+    ([], c.in_ok-loader.ensures.loading root (opened log 0 root of (ap (λ (h : PassValue). h.view) c.in_ok-log.ensures.root)))
 
 pub batch-answer-requires-clause-fits : goal.batch-answer-requires-clause-fits
 batch-answer-requires-clause-fits g c κs within =
@@ -25,7 +25,7 @@ batch-answer-requires-2-clause-loading g c κs within =
     let root = c.in_ok-log.root in
     let first = c.split_at.result.0.now in
     let of : IsOf root log = search rules in
-    let begun = c.in_ok-loader.ensures.loading root (opened log root of (ap (λ (h : PassValue). h.view) c.in_ok-log.ensures.root)) in
+    let begun = c.in_ok-loader.ensures.loading root (opened log 0 root of (ap (λ (h : PassValue). h.view) c.in_ok-log.ensures.root)) in
     let made : IsBatched log [] first c.in_ok-loader.loader c.batch-answer.new.self root c.batch-answer.new.root = rw c.expect.ensures at (c.batch-answer.ensures.batched [] begun) in
     (first, made.loading)
 
@@ -35,7 +35,7 @@ batch-answer-requires-2-clause-whole g c κs within =
     let root = c.in_ok-log.root in
     let first = c.split_at.result.0.now in
     let of : IsOf root log = search rules in
-    let begun = c.in_ok-loader.ensures.loading root (opened log root of (ap (λ (h : PassValue). h.view) c.in_ok-log.ensures.root)) in
+    let begun = c.in_ok-loader.ensures.loading root (opened log 0 root of (ap (λ (h : PassValue). h.view) c.in_ok-log.ensures.root)) in
     let made : IsBatched log [] first c.in_ok-loader.loader c.batch-answer.new.self root c.batch-answer.new.root = rw c.expect.ensures at (c.batch-answer.ensures.batched [] begun) in
     let count = ap (λ (l : LoaderValue). l.count) made.loader in
     let fresh = c.in_ok-loader.ensures.fresh.count in
@@ -54,7 +54,7 @@ finish-requires g c =
     let root = c.in_ok-log.root in
     let first = c.split_at.result.0.now in
     let of : IsOf root log = search rules in
-    let begun = c.in_ok-loader.ensures.loading root (opened log root of (ap (λ (h : PassValue). h.view) c.in_ok-log.ensures.root)) in
+    let begun = c.in_ok-loader.ensures.loading root (opened log 0 root of (ap (λ (h : PassValue). h.view) c.in_ok-log.ensures.root)) in
     let made : IsBatched log [] first c.in_ok-loader.loader c.batch-answer.new.self root c.batch-answer.new.root = rw c.expect.ensures at (c.batch-answer.ensures.batched [] begun) in
     let rest = c.split_at.result.1.now in
     let more : IsBatched log first rest c.batch-answer.new.self c.batch-answer-2.new.self c.batch-answer.new.root c.batch-answer-2.new.root = rw c.expect-2.ensures at (c.batch-answer-2.ensures.batched first made.loading) in
@@ -66,7 +66,7 @@ close-requires-clause-of g c =
     let root = c.in_ok-log.root in
     let first = c.split_at.result.0.now in
     let of : IsOf root log = search rules in
-    let begun = c.in_ok-loader.ensures.loading root (opened log root of (ap (λ (h : PassValue). h.view) c.in_ok-log.ensures.root)) in
+    let begun = c.in_ok-loader.ensures.loading root (opened log 0 root of (ap (λ (h : PassValue). h.view) c.in_ok-log.ensures.root)) in
     let made : IsBatched log [] first c.in_ok-loader.loader c.batch-answer.new.self root c.batch-answer.new.root = rw c.expect.ensures at (c.batch-answer.ensures.batched [] begun) in
     let rest = c.split_at.result.1.now in
     let more : IsBatched log first rest c.batch-answer.new.self c.batch-answer-2.new.self c.batch-answer.new.root c.batch-answer-2.new.root = rw c.expect-2.ensures at (c.batch-answer-2.ensures.batched first made.loading) in
@@ -79,7 +79,7 @@ close-requires-clause-home g c =
     let root = c.in_ok-log.root in
     let first = c.split_at.result.0.now in
     let of : IsOf root log = search rules in
-    let begun = c.in_ok-loader.ensures.loading root (opened log root of (ap (λ (h : PassValue). h.view) c.in_ok-log.ensures.root)) in
+    let begun = c.in_ok-loader.ensures.loading root (opened log 0 root of (ap (λ (h : PassValue). h.view) c.in_ok-log.ensures.root)) in
     let made : IsBatched log [] first c.in_ok-loader.loader c.batch-answer.new.self root c.batch-answer.new.root = rw c.expect.ensures at (c.batch-answer.ensures.batched [] begun) in
     let rest = c.split_at.result.1.now in
     let more : IsBatched log first rest c.batch-answer.new.self c.batch-answer-2.new.self c.batch-answer.new.root c.batch-answer-2.new.root = rw c.expect-2.ensures at (c.batch-answer-2.ensures.batched first made.loading) in

@@ -1,0 +1,216 @@
+// A log goes on through several segments.
+ghost use Rattle.std.specs.Prelude.{◌≡◌, ◌+◌, ◌≤◌, ◌↔◌, ◌++◌, [], All, length, map, vec_capacity, IfOk, MatchResult, OnErr, OnOk};
+ghost use Rattle.std.specs.List.{AllZip, flat_map};
+ghost use Rattle.cf_shape.specs.Lanes.{ShapeValue, IsShape};
+ghost use Rattle.cf_table.specs.Values.{IsOf};
+ghost use Rattle.cf_load.specs.Segments.{AllowsSegments, IsSegment, IsOpened, HoldsRows, HasTurned, HasLooked, HaveLooked, all_of, entries_of, seen_of, sealed, told_of};
+ghost use Rattle.cf_load.specs.declared.segments.TurnFault.TheVariants.{Memory as NoMemory, Spent};
+
+use cf_row::{Entry, Memory};
+use cf_shape::Shape;
+use cf_table::{MultiLog, Root, Seal};
+use std::alloc::Global;
+use std::marker::Model;
+use std::mem;
+use thiserror::Error;
+
+/// A log and the pass that holds its books.
+#[derive(Drop)]
+pub(crate) struct Segment {
+    pub(crate) log: MultiLog,
+    pub(crate) root: Root,
+}
+
+impl Segment {
+    // A segment with no row.
+    fn open(alloc: Global, shape: Shape) -> Result<Segment, Memory>
+        ensures { IfOk result (IsOpened shape) }
+    {
+        let (log, root) = MultiLog::open(alloc, shape)?;
+        Ok(Segment { log, root })
+    }
+
+    // All entries.
+    fn entries(&mut self, alloc: Global) -> Result<Vec<Entry>, Memory>
+        requires of { IsOf self.old.root self.old.log }
+        ensures entries { IfOk result (λ entries. entries.items ≡ seen_of self.old) }
+        ensures looked { HasLooked self.old self.new }
+    {
+        self.log.entries(alloc, &mut self.root)
+    }
+
+    // Nothing more is done with it.
+    fn seal(self) -> Seal
+        requires { (shape : ShapeValue) × IsSegment shape self }
+        ensures { result ≡ sealed self }
+    {
+        self.log.seal(self.root)
+    }
+}
+
+/// Why a segment wasn't closed.
+#[derive(Clone, Copy, Debug, PartialEq, Eq, Error)]
+pub enum TurnFault {
+    /// As many segments were opened as there may be.
+    #[error("there are as many segments as there may be")]
+    Spent,
+    /// Want of memory.
+    #[error("out of memory")]
+    Memory,
+}
+
+impl From<Memory> for TurnFault {
+    ghost from_gives = { λ _ e. e ≡ NoMemory };
+
+    fn from(_: Memory) -> Self {
+        TurnFault::Memory
+    }
+}
+
+/// The entries of all segments, end to end, and a seal of each.
+#[derive(Drop)]
+pub struct Closing {
+    pub entries: Vec<Entry>,
+    pub seals: Vec<Seal>,
+}
+
+/// A log in segments of one shape: rows go to the current one, and those before it are closed. With N the shape's capacity,
+/// segment k has room for the rows from number k * N on. All books are home between calls.
+#[derive(Drop)]
+pub struct Segments {
+    most: u32,
+    closed: Vec<Segment>,
+    current: Segment,
+}
+
+impl Model for Segments {
+    ghost use Rattle.std.specs.Prelude.{◌≤◌, vec_capacity};
+    ghost use Rattle.cf_load.specs.Segments.{SegmentsValue, IsSegments, segments_of};
+
+    ghost Value = { SegmentsValue };
+
+    ghost view = { λ s. segments_of s.most s.closed.items s.current };
+
+    ghost invariant = { λ s. IsSegments (segments_of s.most s.closed.items s.current) × (s.most ≤ vec_capacity s.closed) };
+}
+
+// Puts the entries of the segments behind others.
+fn push_entries(
+    alloc: Global,
+    segments: &mut [Segment],
+    entries: &mut Vec<Entry>,
+) -> Result<(), Memory>
+    requires of { All (λ segment. IsOf segment.root segment.log) segments.old }
+    ensures entries { OnOk result (entries.new.items ≡ entries.old.items ++ flat_map seen_of segments.old) }
+    ensures looked { AllZip HasLooked segments.old segments.new }
+{
+    for segment in segments.iter_mut() {
+        let mut more = segment.entries(alloc)?;
+        entries.append(&mut more)?;
+    }
+    Ok(())
+}
+
+// The entries of all these segments, end to end.
+fn read_all(
+    alloc: Global,
+    closed: &mut [Segment],
+    current: &mut Segment,
+) -> Result<Vec<Entry>, Memory>
+    requires closed { All (λ segment. IsOf segment.root segment.log) closed.old }
+    requires current { IsOf current.old.root current.old.log }
+    ensures entries { IfOk result (λ entries. entries.items ≡ flat_map seen_of closed.old ++ seen_of current.old) }
+    ensures closed { AllZip HasLooked closed.old closed.new }
+    ensures current { HasLooked current.old current.new }
+{
+    let mut entries = Vec::new(alloc);
+    push_entries(alloc, closed, &mut entries)?;
+    let mut more = current.entries(alloc)?;
+    entries.append(&mut more)?;
+    Ok(entries)
+}
+
+// Puts the segments' seals behind others.
+fn push_seals(segments: Vec<Segment>, seals: &mut Vec<Seal>)
+    requires each { (shape : ShapeValue) × All (IsSegment shape) segments.items }
+    requires room { length seals.old.items + length segments.items ≤ vec_capacity seals.old }
+    ensures seals { seals.new.items ≡ seals.old.items ++ map sealed segments.items }
+    ensures room { vec_capacity seals.new ≡ vec_capacity seals.old }
+{
+    for segment in segments {
+        seals.push_reserved(segment.seal());
+    }
+}
+
+impl Segments {
+    /// Opens the first of at most so many segments of the shape.
+    pub fn open(alloc: Global, shape: Shape, most: u32) -> Result<Segments, Memory>
+        requires { AllowsSegments shape most }
+        ensures shape { IfOk result (λ segments. segments.shape ≡ shape) }
+        ensures most { IfOk result (λ segments. segments.most ≡ most) }
+        ensures one { IfOk result (λ segments. segments.closed ≡ []) }
+        ensures told { IfOk result (λ segments. told_of segments ≡ []) }
+        ensures holds { IfOk result (λ segments. HoldsRows segments []) }
+    {
+        let closed = Vec::with_capacity(alloc, most as usize)?;
+        let current = Segment::open(alloc, shape)?;
+        Ok(Segments {
+            most,
+            closed,
+            current,
+        })
+    }
+
+    /// The shape of each segment.
+    pub fn shape(&self) -> &Shape
+        ensures shape { result.now ≡ self.now.shape }
+        ensures lawful { IsShape self.now.shape }
+    {
+        self.current.log.shape()
+    }
+
+    /// Closes the current segment, and opens one behind it. Refused, all is as it was.
+    pub fn turn(&mut self, alloc: Global) -> Result<(), TurnFault>
+        ensures spent { (result ≡ Err Spent) ↔ (length self.old.closed + 1 ≡ self.old.most) }
+        ensures stays { OnErr result (self.new ≡ self.old) }
+        ensures turned { OnOk result (HasTurned self.old self.new) }
+    {
+        if self.closed.len() + 1 == self.most as usize {
+            return Err(TurnFault::Spent);
+        }
+        let shape = self.current.log.shape().copy(alloc)?;
+        let next = Segment::open(alloc, shape)?;
+        let last = mem::replace(&mut self.current, next);
+        self.closed.push_reserved(last);
+        Ok(())
+    }
+
+    // All entries, and room for as many seals as there are segments.
+    fn read(&mut self, alloc: Global) -> Result<(Vec<Entry>, Vec<Seal>), Memory>
+        ensures entries { IfOk result (λ read. read.0.items ≡ entries_of self.old) }
+        ensures room { IfOk result (λ read. (read.1.items ≡ []) × (length self.old.closed + 1 ≤ vec_capacity read.1)) }
+        ensures looked { HaveLooked self.old self.new }
+    {
+        let seals = Vec::with_capacity(alloc, self.closed.len() + 1)?;
+        let entries = read_all(alloc, self.closed.as_mut_slice(), &mut self.current)?;
+        Ok((entries, seals))
+    }
+
+    /// The entries of all segments, end to end, and a seal of each. After want of memory the segments come back, and only their
+    /// roots' last looks are others.
+    pub fn close(mut self, alloc: Global) -> Result<Closing, Segments>
+        ensures { MatchResult result (λ closing. (closing.entries.items ≡ entries_of self) × (closing.seals.items ≡ map sealed (all_of self))) (HaveLooked self) }
+    {
+        let Ok((entries, mut seals)) = self.read(alloc) else {
+            return Err(self);
+        };
+        let Segments {
+            closed,
+            current,
+            ..
+        } = self;
+        push_seals(closed, &mut seals);
+        seals.push_reserved(current.seal());
+        Ok(Closing { entries, seals })
+    }
+}
