@@ -52,7 +52,7 @@ halts_after {A} g None name mid now end (Stopped stop) (inl same) = inl tt
 halts_after {A} g None name mid now end (Stopped stop) (inr taken) = inr taken
 
 -- a file that was read to its end is taken whole
-whole_taken : {A : Type 0} (g : Grammar A) (told : Option (List File)) (name : List ℕ) (start now : Option (List ℕ)) (what : A) → IsReadAs g told name now what → IsStopped told name g.limit start now
+pub whole_taken : {A : Type 0} (g : Grammar A) (told : Option (List File)) (name : List ℕ) (start now : Option (List ℕ)) (what : A) → IsReadAs g told name now what → IsStopped told name g.limit start now
 whole_taken {A} g told name start now what read =
     let all : drop (length read.0.bytes) read.0.bytes ≡ [] = drop_all (length read.0.bytes) read.0.bytes (omega arith) in
     inr (read.0.bytes, read.0.file, record { count = length read.0.bytes; most = read.0.few; left = subst (λ (xs : List ℕ). HasLeft told now (Some xs)) (sym all) read.1 })
@@ -67,6 +67,10 @@ ends_sealed told call before now text seal due stopped (Err halt) made = subst (
 module _ (told : Option (List File)) (call : RunCall) (before now : Option (List ℕ)) where
   pub run_unset : (halt : Halt) → Halts setups told call.setup before now halt → Ends told (Some (run call)) before now (Err halt)
   run_unset halt halts = ends_halted setups told (Some (run call)) call.setup before before now (λ why file. halted why file refl) (λ stop left. inl left) halt halts
+
+  -- before the capture was opened
+  pub run_unopened : (setup : SetupValue) → IsReadAs setups told call.setup now setup → StopsAt told (Some (run call)) stops.Memory before now
+  run_unopened setup set = inl (whole_taken setups told call.setup before now setup set)
 
   module _ (setup : SetupValue) (mid : Option (List ℕ)) (set : IsReadAs setups told call.setup mid setup) where
     pub run_unread : (halt : Halt) → Halts (captures setup.packet setup.schema) told call.capture mid now halt → Ends told (Some (run call)) before now (Err halt)

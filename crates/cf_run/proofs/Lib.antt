@@ -8,9 +8,10 @@ pub mod Loading
 pub mod SetupSize
 pub mod PacketSchema
 pub mod OneCase
+pub mod Completed
 pub mod Logs
 pub mod MoreRows
-pub mod Keeping
+pub mod Filled
 pub mod OneHost
 pub mod Several
 pub mod Deciding

@@ -5,7 +5,7 @@ use Rattle.cf_row.specs.Row.{RowValue}
 use Rattle.cf_row.specs.Schema.{packet_attrs}
 use Rattle.cf_row.specs.declared.schema.Attr.{Attr}
 use Rattle.cf_outside.specs.Files.{File, Opens}
-use Rattle.cf_records.specs.Records.{HasRecordsFault}
+use Rattle.cf_records.specs.Records.{HasRecordsFault, IsRecordFile}
 use Rattle.cf_records.specs.declared.fault.RecordFault.{RecordFault}
 use Rattle.cf_records.specs.declared.fault.RecordFault.TheVariants as records
 use Rattle.cf_run.specs.Devices.{IsFileRead, ReadsFile}
@@ -92,11 +92,25 @@ rows_unsaid packet attrs told name bytes before now (Refused why) read bad =
     subst (λ (w : Refusal). IsFileRefused (captures packet attrs) told name before now w) (sym bad.2) (read_broken (captures packet attrs) (captures_longer packet attrs) told name bytes before now bad.0 bad.1 read bad.3)
 rows_unsaid packet attrs told name bytes before now (Stopped stop) read bad = stopped_read told name (limit_by packet) before now bytes read
 
+-- of a file of records
+pub lines_read : (attrs : List Attr) (told : Option (List File)) (name bytes : List ℕ) (before now : Option (List ℕ)) (result : Result (Vec RowValue Global) Halt) → IsFileRead told name (2 ^ 24) now bytes → MatchResult result (λ rows. IsRecordFile attrs bytes rows.items) (IsBad (HasLineFault attrs bytes))
+    → MatchResult result (λ rows. IsReadAs (captures false attrs) told name now rows.items) (Halts (captures false attrs) told name before now)
+lines_read attrs told name bytes before now (Ok rows) read says = rows_said false attrs told name bytes now rows.items read says
+lines_read attrs told name bytes before now (Err halt) read bad = rows_unsaid false attrs told name bytes before now halt read bad
+
 -- of the packets of an opened file
-pub packets_read : (Took : List RowValue → Type 0) (told : Option (List File)) (name : List ℕ) (before mid now : Option (List ℕ)) (result : Result (Unit {0}) Halt) → Opens told name before mid (Ok tt) → TakesRows (2 ^ 32) ArePackets HasPacketFault Took mid now result → ReadsRows true packet_attrs Took told name before now result
+pub packets_read : (Took : List RowValue → Type 0) (told : Option (List File)) (name : List ℕ) (before mid now : Option (List ℕ)) (result : Result (Unit {0}) Halt) → Opens told name before mid (Ok tt) → TakesRows (2 ^ 32) ArePackets HasPacketFault (λ _. Took) mid now result → ReadsRows true packet_attrs Took told name before now result
 packets_read Took told name before mid now (Ok done) opened takes = (takes.1, rows_said true packet_attrs told name takes.0 now takes.1 (file_read told name (2 ^ 32) before mid now takes.0 opened takes.2) takes.3, takes.4)
 packets_read Took told name before mid now (Err (Refused why)) opened takes = rows_unsaid true packet_attrs told name takes.0 before now (Refused why) (file_read told name (2 ^ 32) before mid now takes.0 opened takes.1) takes.2
 packets_read Took told name before mid now (Err (Stopped stop)) opened takes = file_stopped told name (2 ^ 32) before mid now opened takes
+
+-- all of which are kept
+pub packets_kept : (told : Option (List File)) (name : List ℕ) (before mid now : Option (List ℕ)) (result : Result (Vec RowValue Global) Halt) → Opens told name before mid (Ok tt) → TakesRows (2 ^ 32) ArePackets HasPacketFault (λ kept rows. kept.items ≡ rows) mid now result
+    → MatchResult result (λ kept. IsReadAs (captures true packet_attrs) told name now kept.items) (Halts (captures true packet_attrs) told name before now)
+packets_kept told name before mid now (Ok kept) opened takes =
+    subst (λ (rows : List RowValue). IsReadAs (captures true packet_attrs) told name now rows) (sym takes.4) (rows_said true packet_attrs told name takes.0 now takes.1 (file_read told name (2 ^ 32) before mid now takes.0 opened takes.2) takes.3)
+packets_kept told name before mid now (Err (Refused why)) opened takes = rows_unsaid true packet_attrs told name takes.0 before now (Refused why) (file_read told name (2 ^ 32) before mid now takes.0 opened takes.1) takes.2
+packets_kept told name before mid now (Err (Stopped stop)) opened takes = file_stopped told name (2 ^ 32) before mid now opened takes
 
 -- a fault of the bytes refuses them, and want of memory is none
 line_faulty : (attrs : List Attr) (bytes : List ℕ) (fault : RecordFault) (halt : Halt) → (fault ≡ records.Memory → ⊥) → ((fault ≡ records.Memory → ⊥) → halt ≡ Refused (refusals.Capture (line_of fault) (line_code_of fault))) → HasRecordsFault attrs bytes fault → IsBad (HasLineFault attrs bytes) halt

@@ -1,8 +1,9 @@
 -- From a log that is loaded and closed to what is told of it.
-use Rattle.std.proofs.Common.{◌≡◌, ℕ, ◌<◌, List, [], ◌∷◌, length, map, All, Result, Ok, Err, MatchResult, refl, sym, ap, subst, ◌∙◌}
+use Rattle.std.proofs.Common.{◌≡◌, ℕ, ◌<◌, List, [], ◌∷◌, length, map, get_or, All, Result, Ok, Err, MatchResult, refl, sym, ap, subst, ◌∙◌}
 use Rattle.std.specs.List.{flat_map, range_with_len}
+use Rattle.std.proofs.lemmas.List.{length-map}
+use Rattle.std.proofs.lemmas.List.Elements.{All-map}
 use Rattle.std.proofs.lemmas.List.Sums.{AllPass-from_list_all}
-use borrow.Author.Tests.{ltb-true}
 use Rattle.cf_row.specs.Row.{RowValue}
 use Rattle.cf_row.specs.declared.row.Entry.{Entry}
 use Rattle.cf_fold.specs.declared.trigger.Trigger.{Trigger}
@@ -15,7 +16,9 @@ use Rattle.cf_plain.specs.declared.ask.Ask.{Ask}
 use Rattle.cf_setup.specs.Setups.{SetupValue, IsSetup, shaped}
 use Rattle.cf_plain.specs.declared.loaded.Live.{Live}
 use Rattle.cf_report.specs.declared.text.Form.TheVariants as forms
-use Rattle.cf_plain.specs.Answered.{LoadedValue, turn_of}
+use Rattle.cf_plain.specs.Answered.{LoadedValue, no_ask, turn_of}
+use Rattle.cf_scan.specs.Split.{logged_places}
+use Rattle.cf_scan.proofs.Splitting.{logged_exist}
 use Rattle.cf_report.specs.Answered.{tolds_of}
 use Rattle.cf_report.specs.Meaning.{IsReport, AreMeant}
 use Rattle.cf_report.specs.Report.{report_text}
@@ -23,8 +26,6 @@ use Rattle.cf_report.specs.Text.{text_of}
 use Rattle.cf_report.proofs.Legal.{finals_meant, report_told, report_history}
 use Rattle.cf_report.proofs.Reported.{final_is}
 use Rattle.cf_table.specs.Moves.{SealValue}
-use Rattle.cf_table.specs.declared.closes.Closed.{Closed}
-use Rattle.cf_load.specs.Loading.{HasAnswered}
 use Rattle.cf_load.specs.Planned.{IsPlan, tails_of}
 use Rattle.cf_load.specs.declared.plan.LivePlan.{LivePlan}
 use Rattle.cf_run.specs.Logs.{IsPlanOf, IsLogClosed, IsUnmade}
@@ -34,36 +35,30 @@ use Rattle.cf_run.specs.declared.log.Unmade.TheVariants.{Nodes, Memory}
 use Rattle.cf_run.specs.Seals.{IsClosed, IsSealedReport, IsSealedFinal, seal_of}
 
 -- what a setup asks can be asked of a log of its shape
-pub plan_suits : (setup : SetupValue) (capacity writers nodes rounds : ℕ) (plan : LivePlan) → IsSetup setup → IsPlanOf setup rounds plan → IsPlan (shaped setup capacity writers nodes) plan
-plan_suits setup capacity writers nodes rounds plan lawful of = record {
-  asks = subst (λ (qs : List Ask). All (Suits (shaped setup capacity writers nodes)) qs) (sym of.asks) (AllPass-from_list_all (suits_of (shaped setup capacity writers nodes)) setup.asks (lawful.asks capacity writers nodes));
-  triggers = subst (λ (ts : List Trigger). All (SuitsTrigger (shaped setup capacity writers nodes)) ts) (sym of.triggers) (AllPass-from_list_all (suits_trigger (shaped setup capacity writers nodes)) setup.triggers (lawful.triggers capacity writers nodes));
-  lives = subst (λ (qs : List Ask). All (λ place. place < length qs) plan.lives.items) (sym of.asks) (subst (λ (ls : List ℕ). All (λ place. place < length setup.asks) ls) (sym of.lives)
-      (λ k d lt. ltb-true _ _ (AllPass-from_list_all _ setup.lives lawful.lives k d lt)));
-}
+pub asks_suit : (setup : SetupValue) (capacity writers nodes : ℕ) → IsSetup setup → All (Suits (shaped setup capacity writers nodes)) setup.asks
+asks_suit setup capacity writers nodes lawful = AllPass-from_list_all (suits_of (shaped setup capacity writers nodes)) setup.asks (lawful.asks capacity writers nodes)
 
--- by the setup's plan, each answer is meant
-pub closed_of : (setup : SetupValue) (capacity writers nodes rounds : ℕ) (plan : LivePlan) (rows : List RowValue) (entries : List Entry) (seal : SealValue) (answered : LoadedValue) → IsPlanOf setup rounds plan → IsLogClosed (shaped setup capacity writers nodes) plan rows entries seal answered → IsClosed setup capacity writers nodes rounds rows entries seal answered
-closed_of setup capacity writers nodes rounds plan rows entries seal answered of closed =
-    let lives : HasAnswered (shaped setup capacity writers nodes) setup.asks setup.lives rounds (length rows) entries answered.lives = rw (of.asks, of.lives, of.rounds_are) at closed.lives in
+pub plan_suits : (setup : SetupValue) (capacity writers nodes rounds : ℕ) (plan : LivePlan) → IsSetup setup → IsPlanOf setup rounds plan → IsPlan (shaped setup capacity writers nodes) plan
+plan_suits setup capacity writers nodes rounds plan lawful of =
+    let places = logged_places setup.asks setup.lives in
+    let suits = Suits (shaped setup capacity writers nodes) in
+    let exist = logged_exist setup.asks setup.lives in
+    let many : length plan.asks.items ≡ length places = ap (λ (qs : List Ask). length qs) of.asks ∙ length-map places (λ place. get_or setup.asks place no_ask) in
     record {
-      is = closed.is;
-      meant = record {
-        finals = rw of.asks at closed.finals;
-        alerts = rw of.triggers at closed.alerts;
-        tails = subst (λ (n : ℕ). AreTails n rounds setup.lives (map turn_of answered.lives)) (sym closed.is.size) lives.tails;
-        lives = lives.bodies;
-      };
-      seal_is = closed.seal_is;
-      few_nodes = closed.few_nodes;
+      asks = subst (λ (qs : List Ask). All suits qs) (sym of.asks) (All-map suits (λ place. get_or setup.asks place no_ask) places (λ k d lt. asks_suit setup capacity writers nodes lawful (get_or places k d) no_ask (exist k d lt)));
+      triggers = subst (λ (ts : List Trigger). All (SuitsTrigger (shaped setup capacity writers nodes)) ts) (sym of.triggers) (AllPass-from_list_all (suits_trigger (shaped setup capacity writers nodes)) setup.triggers (lawful.triggers capacity writers nodes));
+      lives = subst (λ (n : ℕ). All (λ place. place < n) plan.lives.items) (sym many) of.within;
     }
 
-pub closed_if : (setup : SetupValue) (capacity writers nodes rounds : ℕ) (plan : LivePlan) (rows : List RowValue) (shape : ShapeValue) (result : Result (Closed × LoadedValue) Unmade) → IsPlanOf setup rounds plan → shape ≡ shaped setup capacity writers nodes
-    → MatchResult result (λ made. IsLogClosed shape plan rows made.0.entries.items made.0.seal made.1) (IsUnmade shape rows)
-    → MatchResult result (λ made. IsClosed setup capacity writers nodes rounds rows made.0.entries.items made.0.seal made.1) (IsUnmade (shaped setup capacity writers nodes) rows)
-closed_if setup capacity writers nodes rounds plan rows shape (Ok made) of is closed =
-    closed_of setup capacity writers nodes rounds plan rows made.0.entries.items made.0.seal made.1 of (subst (λ (s : ShapeValue). IsLogClosed s plan rows made.0.entries.items made.0.seal made.1) is closed)
-closed_if setup capacity writers nodes rounds plan rows shape (Err why) of is closed = subst (λ (s : ShapeValue). IsUnmade s rows why) is closed
+-- with all answers that are meant, a log of the setup's plan is closed
+pub closed_of : (setup : SetupValue) (capacity writers nodes rounds : ℕ) (plan : LivePlan) (rows : List RowValue) (entries : List Entry) (seal : SealValue) (answered all : LoadedValue) → IsLogClosed (shaped setup capacity writers nodes) plan rows entries seal answered
+    → AreMeant setup (shaped setup capacity writers nodes) rounds entries all → tails_of all.lives ≡ tails_of answered.lives → IsClosed setup capacity writers nodes rounds rows entries seal all
+closed_of setup capacity writers nodes rounds plan rows entries seal answered all closed meant tails = record {
+  is = closed.is;
+  meant = meant;
+  seal_is = closed.seal_is ∙ ap (λ (ts : List ℕ). record { entries = entries; told = ts }) (sym tails);
+  few_nodes = closed.few_nodes;
+}
 
 -- why there is no log
 pub short_of : {T : Type 0} (shape : ShapeValue) (rows : List RowValue) (r : Result T Unmade) (P : T → Type 0) → MatchResult r P (IsUnmade shape rows) → r ≡ Err Nodes → shape.nodes < distinct shape rows

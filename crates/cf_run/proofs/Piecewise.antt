@@ -1,10 +1,10 @@
 -- A capture is read piece by piece.
-use Rattle.std.proofs.Common.{◌≡◌, ◌⊎◌, inl, inr, ℕ, ◌+◌, ◌-◌, ◌*◌, ◌<◌, ◌≤◌, ◌^◌, min, take, drop, Bool, List, [], ◌++◌, length, Option, Result, Ok, Err, MatchResult, refl, sym, ap, subst, ◌∙◌, arith, length-append}
+use Rattle.std.proofs.Common.{◌≡◌, inl, inr, ℕ, ◌+◌, ◌-◌, ◌*◌, ◌<◌, ◌≤◌, ◌^◌, min, take, drop, Bool, List, [], ◌++◌, length, Option, Result, Ok, Err, MatchResult, refl, sym, ap, ap₂, subst, ◌∙◌, arith, length-append}
 use Rattle.std.proofs.KnownBytes.{Consumes-trans}
 use Rattle.std.proofs.Math.Seq.{take-append-add}
 use Rattle.std.proofs.lemmas.List.{map-append, length-drop, length-take, take-append-le}
 use borrow.Rule.Slice.PartMut.{mid_of, post_of, put_mid, same_len_mid}
-use Rattle.std.specs.Io.KnownBytes.{Consumes, IsAtEnd}
+use Rattle.std.specs.Io.KnownBytes.{Consumes}
 use Rattle.cf_headers.specs.Packet.{packet_row_of}
 use Rattle.cf_pcap.specs.Capture.{FrameValue}
 use Rattle.cf_row.specs.Row.{RowValue}
@@ -12,56 +12,41 @@ use Rattle.cf_run.specs.Devices.{TakesUpTo, TakesAtMost}
 use Rattle.cf_run.specs.Faults.{HasFaultIn, HasPacketFault}
 use Rattle.cf_run.specs.Formats.{begins_section}
 use Rattle.cf_run.specs.Parts.{IsBad}
-use Rattle.cf_run.specs.Reading.{IsReaderAt, TakesRows, reads_blocks}
+use Rattle.cf_run.specs.Reading.{IsReaderAt, IsReadOn, TakesRows, reads_blocks}
 use Rattle.cf_run.specs.Work.{AreFramesBy, ArePackets, packet_rows}
+use Rattle.cf_run.specs.declared.pieces.Pieces.{Pieces}
 use Rattle.cf_run.specs.declared.reader.Reader.{Reader}
 use Rattle.cf_run.specs.declared.refusal.Halt.{Halt}
 use Rattle.cf_run.specs.declared.refusal.Halt.TheVariants.{Refused, Stopped}
+use Rattle.cf_run.specs.declared.refusal.Stop.TheVariants as stops
 use Rattle.cf_run.proofs.Capturing.{begins_same}
 
 -- a piece brings a reader from the one state to the other, and gives these frames
 abbrev pub Feeds : Reader → Reader → List ℕ → List FrameValue → Type 0
 Feeds old new piece given = (stream : List ℕ) (frames : List FrameValue) → IsReaderAt old stream frames → IsReaderAt new (stream ++ piece) (frames ++ given)
 
--- the rows of these frames are taken after those before
-abbrev pub Hands : (List RowValue → Type 0) → (List RowValue → Type 0) → List FrameValue → Type 0
-Hands Old New given = (rows : List RowValue) → Old rows → New (rows ++ packet_rows given)
-
--- So many pieces were read of the opened file, the last of so many bytes, and the rows of the frames that end in them were taken.
-pub record IsReadOn (Took : List RowValue → Type 0) (reader : Reader) (before now : Option (List ℕ)) (count pieces : ℕ) : Type 0 where
-  pub stream : List ℕ
-  pub frames : List FrameValue
-  pub taken : Consumes before now stream
-  pub at : IsReaderAt reader stream frames
-  pub took : Took (packet_rows frames)
-  pub blocks : reads_blocks reader ≡ begins_section stream
-  pub long : length stream + 65536 ≡ 65536 * pieces + count
-  pub some : 1 ≤ pieces
-  pub short : count ≤ 65536
-  pub few : pieces ≤ 65536
-  pub whole : IsAtEnd now ⊎ (count ≡ 65536)
-
-pub begun : (Old New : List RowValue → Type 0) (old new : Reader) (before now : Option (List ℕ)) (piece : List ℕ) (count : ℕ) (given : List FrameValue) → IsReaderAt old [] [] → reads_blocks old ≡ begins_section piece → reads_blocks new ≡ reads_blocks old
-    → TakesUpTo before now 65536 piece → length piece ≡ count → Feeds old new piece given → Old [] → Hands Old New given → IsReadOn New new before now count 1
-begun Old New old new before now piece count given at begins same takes size feeds none hands = record {
+pub begun : (old : Reader) (new : Pieces) (before now : Option (List ℕ)) (piece : List ℕ) (rows : List RowValue) (given : List FrameValue) → IsReaderAt old [] [] → reads_blocks old ≡ begins_section piece → reads_blocks new.reader ≡ reads_blocks old
+    → length new.buf.items ≡ 65536 → new.number ≡ 1 → TakesUpTo before now 65536 piece → length piece ≡ new.count → Feeds old new.reader piece given → rows ≡ packet_rows given → IsReadOn new before now rows
+begun old new before now piece rows given at begins same buf one takes size feeds are = record {
   stream = piece;
   frames = given;
   taken = takes.taken;
   at = feeds [] [] at;
-  took = hands [] none;
+  rows_are = are;
   blocks = same ∙ begins;
-  long = omega (arith, size);
-  some = omega arith;
+  size = buf;
+  long = omega (arith, size, one);
+  some = omega (arith, one);
   short = (let most : length piece ≤ 65536 = takes.most in omega (arith, size, most));
-  few = omega arith;
+  few = omega (arith, one);
   whole = elim takes.whole [ inl end ↦ inl end | inr full ↦ inr (sym size ∙ full) ];
 }
 
-pub gone_on : (Old New : List RowValue → Type 0) (old new : Reader) (before mid now : Option (List ℕ)) (piece : List ℕ) (count more pieces : ℕ) (given : List FrameValue) → IsReadOn Old old before mid count pieces → count ≡ 65536 → pieces < 65536 → reads_blocks new ≡ reads_blocks old
-    → TakesUpTo mid now 65536 piece → length piece ≡ more → Feeds old new piece given → Hands Old New given → IsReadOn New new before now more (pieces + 1)
-gone_on Old New old new before mid now piece count more pieces given on full left same takes size feeds hands =
-    let long : length on.stream + 65536 ≡ 65536 * pieces + count = on.long in
-    let some : 1 ≤ pieces = on.some in
+pub gone_on : (old new : Pieces) (before mid now : Option (List ℕ)) (piece : List ℕ) (rows more : List RowValue) (given : List FrameValue) → IsReadOn old before mid rows → old.count ≡ 65536 → old.number < 65536 → reads_blocks new.reader ≡ reads_blocks old.reader
+    → length new.buf.items ≡ 65536 → new.number ≡ old.number + 1 → TakesUpTo mid now 65536 piece → length piece ≡ new.count → Feeds old.reader new.reader piece given → more ≡ packet_rows given → IsReadOn new before now (rows ++ more)
+gone_on old new before mid now piece rows more given on full left same buf next takes size feeds are =
+    let long : length on.stream + 65536 ≡ 65536 * old.number + old.count = on.long in
+    let some : 1 ≤ old.number = on.some in
     let most : length piece ≤ 65536 = takes.most in
     let sum : length (on.stream ++ piece) ≡ length on.stream + length piece = length-append on.stream piece in
     record {
@@ -69,62 +54,87 @@ gone_on Old New old new before mid now piece count more pieces given on full lef
       frames = on.frames ++ given;
       taken = Consumes-trans before mid now on.stream piece on.taken takes.taken;
       at = feeds on.stream on.frames on.at;
-      took = subst (λ (rows : List RowValue). New rows) (sym (map-append packet_row_of on.frames given)) (hands (packet_rows on.frames) on.took);
+      rows_are = ap₂ (λ (a b : List RowValue). a ++ b) on.rows_are are ∙ sym (map-append packet_row_of on.frames given);
       blocks = same ∙ on.blocks ∙ sym (begins_same on.stream piece (omega (arith, long, some, full)));
-      long = omega (arith, long, sum, size, full);
-      some = omega arith;
+      size = buf;
+      long = omega (arith, long, sum, size, full, next);
+      some = omega (arith, next);
       short = omega (arith, size, most);
-      few = omega (arith, left);
+      few = omega (arith, left, next);
       whole = elim takes.whole [ inl end ↦ inl end | inr whole ↦ inr (sym size ∙ whole) ];
     }
 
-stream_small : (Took : List RowValue → Type 0) (reader : Reader) (before now : Option (List ℕ)) (count pieces : ℕ) → (on : IsReadOn Took reader before now count pieces) → length on.stream ≤ 2 ^ 32
-stream_small Took reader before now count pieces on =
-    let long : length on.stream + 65536 ≡ 65536 * pieces + count = on.long in
-    let short : count ≤ 65536 = on.short in
-    let few : pieces ≤ 65536 = on.few in
+stream_small : (pieces : Pieces) (before now : Option (List ℕ)) (rows : List RowValue) → (on : IsReadOn pieces before now rows) → length on.stream ≤ 2 ^ 32
+stream_small pieces before now rows on =
+    let long : length on.stream + 65536 ≡ 65536 * pieces.number + pieces.count = on.long in
+    let short : pieces.count ≤ 65536 = on.short in
+    let few : pieces.number ≤ 65536 = on.few in
     omega (arith, long, short, few)
 
-pub stopped_on : (Took : List RowValue → Type 0) (reader : Reader) (before now : Option (List ℕ)) (count pieces : ℕ) → IsReadOn Took reader before now count pieces → TakesAtMost before now (2 ^ 32)
-stopped_on Took reader before now count pieces on = record { bytes = on.stream; taken = on.taken; most = stream_small Took reader before now count pieces on }
+pub stopped_on : (pieces : Pieces) (before now : Option (List ℕ)) (rows : List RowValue) → IsReadOn pieces before now rows → TakesAtMost before now (2 ^ 32)
+stopped_on pieces before now rows on = record { bytes = on.stream; taken = on.taken; most = stream_small pieces before now rows on }
 
-pub stopped_more : (Took : List RowValue → Type 0) (reader : Reader) (before mid now : Option (List ℕ)) (count pieces : ℕ) → IsReadOn Took reader before mid count pieces → pieces < 65536 → TakesAtMost mid now 65536 → TakesAtMost before now (2 ^ 32)
-stopped_more Took reader before mid now count pieces on left takes =
-    let long : length on.stream + 65536 ≡ 65536 * pieces + count = on.long in
-    let short : count ≤ 65536 = on.short in
+stopped_more : (pieces : Pieces) (before mid now : Option (List ℕ)) (rows : List RowValue) → IsReadOn pieces before mid rows → pieces.number < 65536 → TakesAtMost mid now 65536 → TakesAtMost before now (2 ^ 32)
+stopped_more pieces before mid now rows on left takes =
+    let long : length on.stream + 65536 ≡ 65536 * pieces.number + pieces.count = on.long in
+    let short : pieces.count ≤ 65536 = on.short in
     let most : length takes.bytes ≤ 65536 = takes.most in
     let sum : length (on.stream ++ takes.bytes) ≡ length on.stream + length takes.bytes = length-append on.stream takes.bytes in
     record { bytes = on.stream ++ takes.bytes; taken = Consumes-trans before mid now on.stream takes.bytes on.taken takes.taken; most = omega (arith, long, short, most, sum, left) }
 
-taken_whole : (Took : List RowValue → Type 0) (reader : Reader) (before now : Option (List ℕ)) (count pieces : ℕ) → (on : IsReadOn Took reader before now count pieces) → (count ≡ 65536 → 65536 ≤ pieces) → TakesUpTo before now (2 ^ 32) on.stream
-taken_whole Took reader before now count pieces on last =
-    let long : length on.stream + 65536 ≡ 65536 * pieces + count = on.long in
-    let few : pieces ≤ 65536 = on.few in
+taken_whole : (pieces : Pieces) (before now : Option (List ℕ)) (rows : List RowValue) → (on : IsReadOn pieces before now rows) → (pieces.count ≡ 65536 → 65536 ≤ pieces.number) → TakesUpTo before now (2 ^ 32) on.stream
+taken_whole pieces before now rows on last =
+    let long : length on.stream + 65536 ≡ 65536 * pieces.number + pieces.count = on.long in
+    let few : pieces.number ≤ 65536 = on.few in
     record {
       taken = on.taken;
-      most = stream_small Took reader before now count pieces on;
+      most = stream_small pieces before now rows on;
       whole = elim on.whole [
         | inl end ↦ inl end
-        | inr full ↦ let all : 65536 ≤ pieces = last full in inr (omega (arith, long, few, full, all))
+        | inr full ↦ let all : 65536 ≤ pieces.number = last full in inr (omega (arith, long, few, full, all))
       ];
     }
 
-pub ended_on : (Took : List RowValue → Type 0) (reader : Reader) (before now : Option (List ℕ)) (count pieces : ℕ) (result : Result (Unit {0}) Halt) → IsReadOn Took reader before now count pieces → (count ≡ 65536 → 65536 ≤ pieces)
-    → ((stream : List ℕ) (frames : List FrameValue) → IsReaderAt reader stream frames → MatchResult result (λ _. AreFramesBy (reads_blocks reader) stream frames) (IsBad (HasFaultIn (reads_blocks reader) stream)))
-    → TakesRows (2 ^ 32) ArePackets HasPacketFault Took before now result
-ended_on Took reader before now count pieces (Ok done) on last ends = (
+-- what the reader says at the end of a stream
+abbrev pub Finishes : Reader → Result (Unit {0}) Halt → Type 0
+Finishes reader result = (stream : List ℕ) (frames : List FrameValue) → IsReaderAt reader stream frames → MatchResult result (λ _. AreFramesBy (reads_blocks reader) stream frames) (IsBad (HasFaultIn (reads_blocks reader) stream))
+
+pub ended_on : (pieces : Pieces) (before now : Option (List ℕ)) (rows : List RowValue) (result : Result (Unit {0}) Halt) → IsReadOn pieces before now rows → (pieces.count ≡ 65536 → 65536 ≤ pieces.number) → Finishes pieces.reader result
+    → TakesRows (2 ^ 32) ArePackets HasPacketFault (λ _ these. these ≡ rows) before now result
+ended_on pieces before now rows (Ok done) on last ends = (
   on.stream,
-  packet_rows on.frames,
-  taken_whole Took reader before now count pieces on last,
-  record { frames = on.frames; frames_are = subst (λ (b : Bool). AreFramesBy b on.stream on.frames) on.blocks (ends on.stream on.frames on.at); rows_are = refl },
-  on.took,
+  rows,
+  taken_whole pieces before now rows on last,
+  record { frames = on.frames; frames_are = subst (λ (b : Bool). AreFramesBy b on.stream on.frames) on.blocks (ends on.stream on.frames on.at); rows_are = on.rows_are },
+  refl,
 )
-ended_on Took reader before now count pieces (Err (Refused why)) on last ends = (
+ended_on pieces before now rows (Err (Refused why)) on last ends = (
   on.stream,
-  taken_whole Took reader before now count pieces on last,
+  taken_whole pieces before now rows on last,
   subst (λ (b : Bool). IsBad (HasFaultIn b on.stream) (Refused why)) on.blocks (ends on.stream on.frames on.at),
 )
-ended_on Took reader before now count pieces (Err (Stopped stop)) on last ends = stopped_on Took reader before now count pieces on
+ended_on pieces before now rows (Err (Stopped stop)) on last ends = stopped_on pieces before now rows on
+
+-- the reader is no device
+pub end_unfailed : (pieces : Pieces) (before now : Option (List ℕ)) (rows : List RowValue) (result : Result (Unit {0}) Halt) → IsReadOn pieces before now rows → Finishes pieces.reader result → result ≡ Err (Stopped stops.ReadFault) → ⊥
+end_unfailed pieces before now rows result on ends is =
+    let bad = ends on.stream on.frames on.at in
+    subst (λ (r : Result (Unit {0}) Halt). MatchResult r (λ _. AreFramesBy (reads_blocks pieces.reader) on.stream on.frames) (IsBad (HasFaultIn (reads_blocks pieces.reader) on.stream))) is bad
+
+-- the rows that came are taken
+pub taken_so : {A : Type 0} (Took : A → List RowValue → Type 0) (before now : Option (List ℕ)) (rows : List RowValue) (taken : A) → TakesRows (2 ^ 32) ArePackets HasPacketFault (λ _ these. these ≡ rows) before now (Ok (tt {0})) → Took taken rows → TakesRows (2 ^ 32) ArePackets HasPacketFault Took before now (Ok taken)
+taken_so {A} Took before now rows taken takes took = (takes.0, takes.1, takes.2, takes.3, subst (λ (these : List RowValue). Took taken these) (sym takes.4) took)
+
+-- or are not
+pub untaken_so : {A : Type 0} (Took : A → List RowValue → Type 0) (before now : Option (List ℕ)) (rows : List RowValue) (halt : Halt) → TakesRows (2 ^ 32) ArePackets HasPacketFault (λ (_ : Unit {0}) these. these ≡ rows) before now (Err halt) → TakesRows (2 ^ 32) ArePackets HasPacketFault Took before now (Err halt)
+untaken_so {A} Took before now rows (Refused why) takes = takes
+untaken_so {A} Took before now rows (Stopped stop) takes = takes
+
+-- or the end says that they do not
+pub finished_so : (Took : List RowValue → Type 0) (before now : Option (List ℕ)) (rows : List RowValue) (result : Result (Unit {0}) Halt) → TakesRows (2 ^ 32) ArePackets HasPacketFault (λ (_ : Unit {0}) these. these ≡ rows) before now result → Took rows → TakesRows (2 ^ 32) ArePackets HasPacketFault (λ (_ : Unit {0}) these. Took these) before now result
+finished_so Took before now rows (Ok done) takes took = (takes.0, takes.1, takes.2, takes.3, subst (λ (these : List RowValue). Took these) (sym takes.4) took)
+finished_so Took before now rows (Err (Refused why)) takes took = takes
+finished_so Took before now rows (Err (Stopped stop)) takes took = takes
 
 -- A buffer is filled.
 
@@ -158,15 +168,17 @@ stopped_few before now n size takes = let most : length takes.bytes ≤ n = take
 pub stopped_first : (before now : Option (List ℕ)) (n : ℕ) (bytes : List ℕ) → n ≡ 65536 → TakesUpTo before now n bytes → TakesAtMost before now (2 ^ 32)
 stopped_first before now n bytes size takes = let most : length bytes ≤ n = takes.most in record { bytes = bytes; taken = takes.taken; most = omega (arith, size, most) }
 
-pub stopped_next : (Took : List RowValue → Type 0) (reader : Reader) (before mid now : Option (List ℕ)) (count pieces n : ℕ) (bytes : List ℕ) → IsReadOn Took reader before mid count pieces → pieces < 65536 → n ≡ 65536 → TakesUpTo mid now n bytes → TakesAtMost before now (2 ^ 32)
-stopped_next Took reader before mid now count pieces n bytes on left size takes =
-    let most : length bytes ≤ n = takes.most in
-    stopped_more Took reader before mid now count pieces on left (record { bytes = bytes; taken = takes.taken; most = omega (arith, size, most) })
+pub stopped_next : (pieces : Pieces) (before mid now : Option (List ℕ)) (rows : List RowValue) (bytes : List ℕ) → IsReadOn pieces before mid rows → pieces.number < 65536 → TakesUpTo mid now (length pieces.buf.items) bytes → TakesAtMost before now (2 ^ 32)
+stopped_next pieces before mid now rows bytes on left takes =
+    let most : length bytes ≤ length pieces.buf.items = takes.most in
+    let size : length pieces.buf.items ≡ 65536 = on.size in
+    stopped_more pieces before mid now rows on left (record { bytes = bytes; taken = takes.taken; most = omega (arith, size, most) })
 
-pub stopped_then : (Took : List RowValue → Type 0) (reader : Reader) (before mid now : Option (List ℕ)) (count pieces n : ℕ) → IsReadOn Took reader before mid count pieces → pieces < 65536 → n ≡ 65536 → TakesAtMost mid now n → TakesAtMost before now (2 ^ 32)
-stopped_then Took reader before mid now count pieces n on left size takes =
-    let most : length takes.bytes ≤ n = takes.most in
-    stopped_more Took reader before mid now count pieces on left (record { bytes = takes.bytes; taken = takes.taken; most = omega (arith, size, most) })
+pub stopped_then : (pieces : Pieces) (before mid now : Option (List ℕ)) (rows : List RowValue) → IsReadOn pieces before mid rows → pieces.number < 65536 → TakesAtMost mid now (length pieces.buf.items) → TakesAtMost before now (2 ^ 32)
+stopped_then pieces before mid now rows on left takes =
+    let most : length takes.bytes ≤ length pieces.buf.items = takes.most in
+    let size : length pieces.buf.items ≡ 65536 = on.size in
+    stopped_more pieces before mid now rows on left (record { bytes = takes.bytes; taken = takes.taken; most = omega (arith, size, most) })
 
 pub piece_long : (count n : ℕ) (buf : List ℕ) → length buf ≡ n → count ≤ n → length (take count buf) ≡ count
 piece_long count n buf size within = length-take count buf ∙ omega (arith, size, within)

@@ -1,16 +1,14 @@
 -- Several files that are read one after another.
-use Rattle.std.proofs.Common.{◌≡◌, ◌⊎◌, ℕ, ◌++◌, zero, suc, ◌+◌, ◌<◌, List, [], ◌∷◌, length, take, drop, map, get_or, Option, Some, None, refl, sym, ap, ap₂, subst, inl, inr, ◌∙◌, arith}
-use Rattle.std.proofs.lemmas.List.{drop_all}
+use Rattle.std.proofs.Common.{◌≡◌, ℕ, ◌++◌, zero, suc, ◌+◌, ◌<◌, List, [], ◌∷◌, length, take, drop, get_or, Option, Some, refl, ap, inl, inr, arith}
 use Rattle.std.specs.Borrow.{Bor}
 use Rattle.cf_command.specs.Call.{texts}
 use Rattle.cf_outside.specs.Files.{File}
-use Rattle.cf_run.specs.Files.{HasLeft, IsStopped, Grammar, IsFileAs, IsFileRefused, IsReadAs, Halts}
+use Rattle.cf_run.specs.Files.{HasLeft, Grammar, IsFileAs, IsFileRefused, Halts}
 use Rattle.cf_run.specs.Files.IsFileRefused.{missing, broken}
 use Rattle.cf_run.specs.Several.{AreFilesAs, AreFilesRefused, AreStopped, AreReadAs, AreHalted}
 use Rattle.cf_run.specs.declared.refusal.Halt.{Halt}
 use Rattle.cf_run.specs.declared.refusal.Halt.TheVariants.{Refused, Stopped}
 use Rattle.cf_run.specs.declared.refusal.Refusal.{Refusal}
-use Rattle.cf_run.specs.declared.refusal.Stop.{Stop}
 
 -- one more file says something
 pub one_more : {A : Type 0} (g : Grammar A) (told : Option (List File)) (names : List (List ℕ)) (whats : List A) (name : List ℕ) (what : A) → AreFilesAs g told names whats → IsFileAs g told name what → AreFilesAs g told (names ++ name ∷ []) (whats ++ what ∷ [])

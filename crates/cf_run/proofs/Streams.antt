@@ -19,7 +19,7 @@ use Rattle.cf_stream.proofs.Given.{given_of, one_given}
 use Rattle.cf_stream.proofs.Seen.{early_short}
 use Rattle.cf_stream.proofs.Units.{reads_nothing, wants_none}
 use Rattle.cf_run.specs.Reading.{IsReaderAt}
-use Rattle.cf_run.specs.declared.reader.Reader.TheVariants.{Records, Blocks}
+use Rattle.cf_run.specs.declared.reader.Reader.TheVariants.{Pcap, PcapNg}
 
 -- of a stream of no bytes no item is given
 nothing_given : {S I F : Type 0} (f : Format S I F) → IsStepper f → AreGiven f [] []
@@ -31,23 +31,23 @@ whole_given {S} {I} f is stream items given whole are = subst (λ (xs : List I).
 
 -- A new reader has given no frame.
 
-pub records_begin : (reader : records.PcapValue) → records.IsStateOf reader [] → IsReaderAt (Records reader) [] []
+pub records_begin : (reader : records.PcapValue) → records.IsStateOf reader [] → IsReaderAt (Pcap reader) [] []
 records_begin reader state = (state, nothing_given pcap records_steps.stepper)
 
-pub blocks_begin : (reader : blocks.PcapNgValue) → blocks.IsStateOf reader [] → IsReaderAt (Blocks reader) [] []
+pub blocks_begin : (reader : blocks.PcapNgValue) → blocks.IsStateOf reader [] → IsReaderAt (PcapNg reader) [] []
 blocks_begin reader state = (state, nothing_given pcapng blocks_steps.stepper)
 
 -- It gives those of one more piece.
 
 pub records_fed : (old new : records.PcapValue) (piece : List ℕ) (given : List FrameValue) (answer : Result (Unit {0}) PcapFault) → ((stream : List ℕ) → records.IsStateOf old stream → records.IsFed stream piece given answer new)
-    → (stream : List ℕ) (frames : List FrameValue) → IsReaderAt (Records old) stream frames → IsReaderAt (Records new) (stream ++ piece) (frames ++ given)
+    → (stream : List ℕ) (frames : List FrameValue) → IsReaderAt (Pcap old) stream frames → IsReaderAt (Pcap new) (stream ++ piece) (frames ++ given)
 records_fed old new piece given answer feeds stream frames at =
     let fed = feeds stream at.0 in
     let same : fed.before ≡ frames = one_given pcap stream fed.before frames fed.given_before at.1 in
     (fed.state, subst (λ (fs : List FrameValue). AreGiven pcap (stream ++ piece) (fs ++ given)) same fed.given_now)
 
 pub blocks_fed : (old new : blocks.PcapNgValue) (piece : List ℕ) (given : List FrameValue) (answer : Result (Unit {0}) NgFault) → ((stream : List ℕ) → blocks.IsStateOf old stream → blocks.IsFed stream piece given answer new)
-    → (stream : List ℕ) (frames : List FrameValue) → IsReaderAt (Blocks old) stream frames → IsReaderAt (Blocks new) (stream ++ piece) (frames ++ given)
+    → (stream : List ℕ) (frames : List FrameValue) → IsReaderAt (PcapNg old) stream frames → IsReaderAt (PcapNg new) (stream ++ piece) (frames ++ given)
 blocks_fed old new piece given answer feeds stream frames at =
     let fed = feeds stream at.0 in
     let same : fed.before ≡ frames = one_given pcapng stream fed.before frames fed.given_before at.1 in
@@ -55,10 +55,10 @@ blocks_fed old new piece given answer feeds stream frames at =
 
 -- At the end they are those of the capture.
 
-pub records_end : (reader : records.PcapValue) (count : ℕ) (stream : List ℕ) (frames : List FrameValue) → IsReaderAt (Records reader) stream frames → ((s : List ℕ) → records.IsStateOf reader s → records.IsEnded s (Ok count)) → IsCapture stream frames
+pub records_end : (reader : records.PcapValue) (count : ℕ) (stream : List ℕ) (frames : List FrameValue) → IsReaderAt (Pcap reader) stream frames → ((s : List ℕ) → records.IsStateOf reader s → records.IsEnded s (Ok count)) → IsCapture stream frames
 records_end reader count stream frames at ended =
     let found = ended stream at.0 in (judged_alike stream).capture frames (whole_given pcap records_steps.stepper stream found.0 frames found.1 at.1)
 
-pub blocks_end : (reader : blocks.PcapNgValue) (count : ℕ) (stream : List ℕ) (frames : List FrameValue) → IsReaderAt (Blocks reader) stream frames → ((s : List ℕ) → blocks.IsStateOf reader s → blocks.IsEnded s (Ok count)) → IsFileOf stream frames
+pub blocks_end : (reader : blocks.PcapNgValue) (count : ℕ) (stream : List ℕ) (frames : List FrameValue) → IsReaderAt (PcapNg reader) stream frames → ((s : List ℕ) → blocks.IsStateOf reader s → blocks.IsEnded s (Ok count)) → IsFileOf stream frames
 blocks_end reader count stream frames at ended =
     let found = ended stream at.0 in (file_by_rules stream).capture frames (whole_given pcapng blocks_steps.stepper stream found.0 frames found.1 at.1)

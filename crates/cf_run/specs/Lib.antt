@@ -6,10 +6,10 @@ pub mod Refusals
 pub mod Files
 pub mod Several
 pub mod Logs
+pub mod Filling
 pub mod Seals
 pub mod Due
 pub mod Devices
 pub mod Answers
 pub mod Parts
 pub mod Reading
-pub mod Kept

@@ -1,5 +1,5 @@
 -- How the log of some rows is loaded.
-use Rattle.std.specs.Prelude.{◌≡◌, ◌<◌, ◌≤◌, ◌*◌, ℕ, List, length, map}
+use Rattle.std.specs.Prelude.{◌≡◌, ◌<◌, ◌≤◌, ◌*◌, ℕ, List, length, map, All}
 use Rattle.cf_row.specs.Row.{RowValue}
 use Rattle.cf_row.specs.declared.row.Entry.{Entry}
 use Rattle.cf_history.specs.Order.{IsLogOf}
@@ -8,18 +8,28 @@ use Rattle.cf_shape.specs.Nodes.{distinct}
 use Rattle.cf_setup.specs.Setups.{SetupValue}
 use Rattle.cf_plain.specs.Answered.{LoadedValue, answer_on}
 use Rattle.cf_table.specs.Moves.{SealValue}
+use Rattle.cf_scan.specs.Split.{asks_at, numbers_at, logged_places}
 use Rattle.cf_load.specs.Loading.{HasAnswered}
 use Rattle.cf_load.specs.Planned.{marks_on, tails_of}
 use Rattle.cf_load.specs.declared.plan.LivePlan.{LivePlan}
 use Rattle.cf_run.specs.declared.log.Unmade.{Unmade}
 use Rattle.cf_run.specs.declared.log.Unmade.TheVariants.{Nodes, Memory}
 
--- the plan has the setup's questions and triggers, and the live ones so often
+-- The plan has those of the setup's questions that go by the log, and its triggers. Each live question is the setup's, by its place
+-- in the plan, and is asked so often.
 pub record IsPlanOf (setup : SetupValue) (rounds : ℕ) (plan : LivePlan) : Type 0 where
-  pub asks : plan.asks.items ≡ setup.asks
+  pub asks : plan.asks.items ≡ asks_at setup.asks (logged_places setup.asks setup.lives)
   pub triggers : plan.triggers.items ≡ setup.triggers
-  pub lives : plan.lives.items ≡ setup.lives
+  pub lives : numbers_at (logged_places setup.asks setup.lives) plan.lives.items ≡ setup.lives
+  pub within : All (λ place. place < length (logged_places setup.asks setup.lives)) plan.lives.items
   pub rounds_are : plan.rounds ≡ rounds
+
+-- The answers to a plan on these entries: the final ones and the marks are those of all of them, and each live answer, in its turn,
+-- that of the entries that it saw.
+pub record AreAnswers (shape : ShapeValue) (plan : LivePlan) (entries : List Entry) (answered : LoadedValue) : Type 0 where
+  pub finals : answered.finals ≡ map (answer_on shape entries) plan.asks.items
+  pub alerts : answered.alerts ≡ map (marks_on shape entries) plan.triggers.items
+  pub lives : HasAnswered shape plan.asks.items plan.lives.items plan.rounds (length entries) entries answered.lives
 
 -- The entries of a closed log of the shape and its seal, and the answers to a plan: each row stands in it once, the final answers
 -- and the marks are those of the whole log, and each live answer, in its turn, that of the entries that it saw.

@@ -36,7 +36,7 @@ fn record_of(fault: PcapFault) -> u32
 }
 
 /// What a fault comes to, in pcap.
-pub(crate) fn refused_record(fault: PcapFault) -> Halt
+pub(crate) fn refused_pcap(fault: PcapFault) -> Halt
     ensures memory { fault ≡ faults.Memory → result ≡ Stopped stops.Memory }
     ensures other { (fault ≡ faults.Memory → ⊥) → result ≡ Refused (refusals.Capture (record_of_fault fault) (code_of_fault fault)) }
 {
@@ -81,7 +81,7 @@ fn frame_of(fault: NgFault) -> u32
 }
 
 /// What a fault comes to, in pcapng.
-pub(crate) fn refused_block(fault: NgFault) -> Halt
+pub(crate) fn refused_pcapng(fault: NgFault) -> Halt
     ensures memory { fault ≡ ng.Memory → result ≡ Stopped stops.Memory }
     ensures other { (fault ≡ ng.Memory → ⊥) → result ≡ Refused (refusals.Capture (frame_of_fault fault) (block_code_of_fault fault)) }
 {

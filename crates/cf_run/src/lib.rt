@@ -5,11 +5,13 @@
 //! were opened, and `specs/Answers.antt` for what the status says of that.
 #![tactic(auto)]
 
+mod asked;
 mod devices;
 mod draft;
 mod dumping;
 mod faults;
 mod files;
+mod filling;
 mod hosts;
 mod laws;
 mod log;
@@ -27,7 +29,6 @@ mod snapshot;
 #[cfg(test)]
 mod snapshot_tests;
 mod status;
-mod taker;
 #[cfg(test)]
 mod tests;
 mod top;

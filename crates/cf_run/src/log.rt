@@ -1,16 +1,19 @@
 // The log of some rows, and what is told of it.
-ghost use Rattle.std.specs.Prelude.{◌≡◌, ◌≤◌, All, length, IfOk, MatchResult};
-ghost use Rattle.cf_row.specs.Row.{Fits};
+ghost use Rattle.std.specs.Prelude.{◌≡◌, ◌≤◌, ℕ, All, List, [], length, IfOk, MatchResult};
+ghost use Rattle.cf_row.specs.Row.{Fits, RowValue};
 ghost use Rattle.cf_setup.specs.Setups.{IsSetup, shaped};
 ghost use Rattle.cf_load.specs.Planned.{IsPlan};
 ghost use Rattle.cf_command.specs.Call.{AreSizes};
+ghost use Rattle.cf_command.specs.declared.words.LogSizes.{LogSizes};
+ghost use Rattle.cf_run.specs.Filling.{IsFilledFor};
 ghost use Rattle.cf_run.specs.Logs.{IsPlanOf, IsLogClosed, IsUnmade};
 ghost use Rattle.cf_run.specs.Seals.{IsClosed, IsSealedReport, IsSealedFinal};
 
+use crate::asked::{complete, plan_of};
+use crate::filling::Filling;
 use cf_command::LogSizes;
 use cf_load::{LivePlan, LoadFault, load};
 use cf_outside::Gate;
-use cf_plain::Ask;
 use cf_report::{Form, Loaded, report};
 use cf_row::{Memory, Row};
 use cf_setup::{Setup, shape_of};
@@ -32,28 +35,6 @@ pub(crate) enum Unmade {
 pub(crate) struct Report {
     pub(crate) text: Vec<u8>,
     pub(crate) seal: Seal,
-}
-
-fn copies(alloc: Global, asks: &[Ask]) -> Result<Vec<Ask>, Memory>
-    ensures { IfOk result (λ copied. copied.items ≡ asks.now) }
-{
-    let mut copied = Vec::with_capacity(alloc, asks.len())?;
-    for ask in asks {
-        copied.push(ask.copy(alloc)?)?;
-    }
-    Ok(copied)
-}
-
-// What a setup asks of its log.
-fn plan_of(alloc: Global, setup: &Setup, rounds: u32) -> Result<LivePlan, Memory>
-    ensures { IfOk result (IsPlanOf setup.now rounds) }
-{
-    Ok(LivePlan {
-        asks: copies(alloc, setup.asks())?,
-        triggers: setup.triggers().to_vec(alloc)?,
-        lives: setup.lives().to_vec(alloc)?,
-        rounds,
-    })
 }
 
 /// Loads the rows into a log of the shape, and closes it.
@@ -106,26 +87,48 @@ pub(crate) fn log_of<R: Threads + Sync, G: Gate>(
     let Ok(plan) = plan_of(alloc, setup, rounds) else {
         return Err(Unmade::Memory);
     };
-    load_rows(rt, alloc, shape, rows, &plan, gate)
+    let (closed, answers) = load_rows(rt, alloc, shape, rows, &plan, gate)?;
+    match complete(rt, alloc, setup, &closed.entries, answers) {
+        Ok(answers) => Ok((closed, answers)),
+        Err(_) => Err(Unmade::Memory),
+    }
 }
 
-/// The report of a setup over some rows, with the live answers and the order of the writers.
+/// An empty log of a setup's shape, of which is asked what the setup asks.
+pub(crate) fn opened<'a, R: Threads + Sync, G: Gate>(
+    rt: &'a R,
+    alloc: Global,
+    setup: &Setup,
+    sizes: LogSizes,
+    rounds: u32,
+    gate: &'a G,
+) -> Result<Filling<'a, R, G>, Memory>
+    requires lawful { IsSetup setup.now }
+    requires sizes { AreSizes sizes }
+    ensures { IfOk result (λ filling. IsFilledFor setup.now sizes rounds filling.log filling.root filling.loader filling.waiting.items filling.count []) }
+{
+    let shape = shape_of(alloc, setup, sizes.capacity, sizes.writers, sizes.nodes)?;
+    let plan = plan_of(alloc, setup, rounds)?;
+    Filling::new(rt, alloc, shape, &plan, gate)
+}
+
+/// The report of a setup over the rows that filled a log, with the live answers and the order of the writers.
 pub(crate) fn report_of<R: Threads + Sync, G: Gate>(
     rt: &R,
     alloc: Global,
     setup: &Setup,
-    rows: &[Row],
-    sizes: LogSizes,
-    rounds: u32,
-    gate: &G,
+    filling: Filling<'_, R, G>,
 ) -> Result<Report, Unmade>
     requires lawful { IsSetup setup.now }
-    requires fit { All (Fits setup.now.schema) rows.now }
-    requires few { length rows.now ≤ sizes.capacity }
-    requires sizes { AreSizes sizes }
-    ensures { MatchResult result (λ made. IsSealedReport setup.now sizes.capacity sizes.writers sizes.nodes rounds rows.now made.text.items made.seal) (IsUnmade (shaped setup.now sizes.capacity sizes.writers sizes.nodes) rows.now) }
+    requires filled { (sizes : LogSizes) × (rounds : ℕ) × (rows : List RowValue) × AreSizes sizes × IsFilledFor setup.now sizes rounds filling.log filling.root filling.loader filling.waiting.items filling.count rows }
+    requires few { filling.count ≤ filling.log.shape.capacity }
+    ensures { (sizes : LogSizes) (rounds : ℕ) (rows : List RowValue) → AreSizes sizes → IsFilledFor setup.now sizes rounds filling.entry.log filling.entry.root filling.entry.loader filling.entry.waiting.items filling.entry.count rows
+        → MatchResult result (λ made. IsSealedReport setup.now sizes.capacity sizes.writers sizes.nodes rounds rows made.text.items made.seal) (IsUnmade (shaped setup.now sizes.capacity sizes.writers sizes.nodes) rows) }
 {
-    let (closed, answers) = log_of(rt, alloc, setup, rows, sizes, rounds, gate)?;
+    let (closed, answers) = filling.finish()?;
+    let Ok(answers) = complete(rt, alloc, setup, &closed.entries, answers) else {
+        return Err(Unmade::Memory);
+    };
     let Ok(text) = report(alloc, setup, &closed.entries, &answers, Form::Whole) else {
         return Err(Unmade::Memory);
     };

@@ -1,23 +1,26 @@
-// A capture of packets is read in pieces, and its rows are handed on as they come.
-ghost use Rattle.std.specs.Prelude.{◌≡◌, ◌≤◌, ◌^◌, ℕ, List, [], ◌++◌, length, take, IfOk, OnErr};
+// A capture of packets is read in pieces, and its rows come piece by piece.
+ghost use Rattle.std.specs.Prelude.{◌≡◌, ◌≤◌, ◌<◌, ◌^◌, ◌+◌, ℕ, List, Option, [], ◌++◌, length, take, false, All, IfOk, OnErr, IsTrue, Err};
 ghost use Rattle.cf_outside.specs.Causes.{HasCause};
 ghost use Rattle.cf_pcap.specs.Capture.{FrameValue};
-ghost use Rattle.cf_row.specs.Row.{RowValue};
+ghost use Rattle.cf_row.specs.Row.{Fits, RowValue};
 ghost use Rattle.cf_row.specs.Schema.{packet_attrs};
 ghost use Rattle.cf_run.specs.Devices.{TakesUpTo, TakesAtMost};
 ghost use Rattle.cf_run.specs.Faults.{HasPacketFault};
-ghost use Rattle.cf_run.specs.Parts.{HasHaltCause};
-ghost use Rattle.cf_run.specs.Reading.{IsReaderAt, TakesRows, reads_blocks};
+ghost use Rattle.cf_run.specs.Filling.{IsFilled};
+ghost use Rattle.cf_run.specs.Parts.{HasHaltCause, HasStopCause};
+ghost use Rattle.cf_run.specs.Reading.{IsReaderAt, IsReadOn, TakesRows, reads_blocks};
 ghost use Rattle.cf_run.specs.Work.{ArePackets, packet_rows};
+ghost use Rattle.cf_run.specs.declared.refusal.Halt.TheVariants.{Stopped};
+ghost use Rattle.cf_run.specs.declared.refusal.Stop.TheVariants as stops;
 
+use crate::filling::Filling;
 use crate::reader::Reader;
-use crate::refusal::Halt;
-use crate::taker::Taker;
-use cf_headers::packet_row;
-use cf_outside::{Failed, Shelf};
-use cf_pcap::Frame;
-use cf_row::Memory;
+use crate::refusal::{Halt, Stop};
+use crate::rows::rows_of;
+use cf_outside::{Failed, Gate, Shelf};
+use cf_row::{Memory, Row};
 use std::alloc::Global;
+use std::thread::Threads;
 
 /// The bytes of a piece.
 const PIECE: usize = 65536;
@@ -45,77 +48,136 @@ fn read_piece<F: Shelf>(shelf: &mut F, buf: &mut [u8]) -> Result<usize, Failed>
     Ok(filled)
 }
 
-// Hands on a row for each frame.
-fn take_frames<T: Taker>(alloc: Global, frames: &[Frame], taker: &mut T) -> Result<(), Memory>
-    requires attrs { T.attrs taker.old ≡ packet_attrs }
-    requires taking { (begin : T) × (rows : List RowValue) × T.took begin taker.old rows }
-    ensures attrs { T.attrs taker.new ≡ T.attrs taker.old }
-    ensures took { IfOk result (λ _. (begin : T) (rows : List RowValue) → T.took begin taker.old rows → T.took begin taker.new (rows ++ packet_rows frames.now)) }
-{
-    for frame in frames {
-        taker.take(packet_row(alloc, frame)?)?;
-    }
-    Ok(())
-}
-
-// Feeds a piece, and hands on the rows of the frames that end in it.
-fn take_piece<T: Taker>(
-    alloc: Global,
-    reader: &mut Reader,
-    piece: &[u8],
-    taker: &mut T,
-) -> Result<(), Memory>
-    requires attrs { T.attrs taker.old ≡ packet_attrs }
-    requires taking { (begin : T) × (rows : List RowValue) × T.took begin taker.old rows }
-    ensures attrs { T.attrs taker.new ≡ T.attrs taker.old }
+// Feeds a piece, and gives the rows of the frames that end in it.
+fn feed_rows(alloc: Global, reader: &mut Reader, piece: &[u8]) -> Result<Vec<Row>, Memory>
     ensures blocks { reads_blocks reader.new ≡ reads_blocks reader.old }
-    ensures fed { IfOk result (λ _. (given : List FrameValue)
-        × ((stream : List ℕ) (frames : List FrameValue) → IsReaderAt reader.old stream frames → IsReaderAt reader.new (stream ++ piece.now) (frames ++ given))
-        × ((begin : T) (rows : List RowValue) → T.took begin taker.old rows → T.took begin taker.new (rows ++ packet_rows given))) }
+    ensures fed { IfOk result (λ rows. (given : List FrameValue) × (rows.items ≡ packet_rows given)
+        × ((stream : List ℕ) (frames : List FrameValue) → IsReaderAt reader.old stream frames → IsReaderAt reader.new (stream ++ piece.now) (frames ++ given))) }
+    ensures fit { IfOk result (λ rows. All (Fits packet_attrs) rows.items) }
 {
     let mut frames = Vec::new(alloc);
     reader.feed(piece, &mut frames)?;
-    take_frames(alloc, &frames, taker)
+    rows_of(alloc, &frames)
 }
 
-// Reads the opened capture piece by piece to its end, or until 2^32 bytes were taken, and hands on the rows of its packets.
-fn take_pieces<F: Shelf, T: Taker>(
+/// The opened capture of packets, which is read piece by piece.
+#[derive(Drop)]
+pub(crate) struct Pieces {
+    reader: Reader,
+    buf: Vec<u8>,
+    // The bytes of the last piece. It fills the buffer, unless the file ended before.
+    count: usize,
+    // How many pieces were read.
+    number: usize,
+}
+
+// Reads the first piece into the buffer, and gives its rows.
+fn first_piece<F: Shelf>(
     alloc: Global,
     shelf: &mut F,
-    buf: &mut [u8],
-    taker: &mut T,
-) -> Result<(), Halt>
-    requires size { length buf.old ≡ 65536 }
-    requires attrs { T.attrs taker.old ≡ packet_attrs }
-    requires begins { T.took taker.old taker.old [] }
+    mut buf: Vec<u8>,
+) -> Result<(Pieces, Vec<Row>), Stop>
+    requires { length buf.items ≡ 65536 }
     ensures files { F.files shelf.new ≡ F.files shelf.old }
-    ensures taken { TakesRows (2 ^ 32) ArePackets HasPacketFault (T.took taker.old taker.new) (F.rest shelf.old) (F.rest shelf.new) result }
-    ensures cause { HasHaltCause (F.faults shelf.old) (F.faults shelf.new) result }
+    ensures read { IfOk result (λ begun. IsReadOn begun.0 (F.rest shelf.old) (F.rest shelf.new) begun.1.items) }
+    ensures fit { IfOk result (λ begun. All (Fits packet_attrs) begun.1.items) }
+    ensures stopped { OnErr result (TakesAtMost (F.rest shelf.old) (F.rest shelf.new) (2 ^ 32)) }
+    ensures cause { HasStopCause (F.faults shelf.old) (F.faults shelf.new) result }
 {
-    let mut count = read_piece(shelf, buf)?;
+    let count = read_piece(shelf, &mut buf)?;
     let mut reader = Reader::of(alloc, &buf[..count])?;
-    take_piece(alloc, &mut reader, &buf[..count], taker)?;
-    let mut pieces = 1;
-    while count == PIECE && pieces < PIECES {
-        count = read_piece(shelf, buf)?;
-        take_piece(alloc, &mut reader, &buf[..count], taker)?;
-        pieces += 1;
-    }
-    reader.finish()
+    let rows = feed_rows(alloc, &mut reader, &buf[..count])?;
+    let pieces = Pieces {
+        reader,
+        buf,
+        count,
+        number: 1,
+    };
+    Ok((pieces, rows))
 }
 
-/// Reads the opened capture to its end, or until 2^32 bytes were taken, and hands on the rows of its packets as they come.
-pub(crate) fn take_packets<F: Shelf, T: Taker>(
-    alloc: Global,
-    shelf: &mut F,
-    taker: &mut T,
-) -> Result<(), Halt>
-    requires attrs { T.attrs taker.old ≡ packet_attrs }
-    requires begins { T.took taker.old taker.old [] }
+impl Pieces {
+    /// Reads the first piece, and gives its rows.
+    pub(crate) fn begin<F: Shelf>(alloc: Global, shelf: &mut F) -> Result<(Pieces, Vec<Row>), Stop>
+        ensures files { F.files shelf.new ≡ F.files shelf.old }
+        ensures read { IfOk result (λ begun. IsReadOn begun.0 (F.rest shelf.old) (F.rest shelf.new) begun.1.items) }
+        ensures fit { IfOk result (λ begun. All (Fits packet_attrs) begun.1.items) }
+        ensures stopped { OnErr result (TakesAtMost (F.rest shelf.old) (F.rest shelf.new) (2 ^ 32)) }
+        ensures cause { HasStopCause (F.faults shelf.old) (F.faults shelf.new) result }
+    {
+        let buf = vec![in alloc; 0u8; PIECE]?;
+        first_piece(alloc, shelf, buf)
+    }
+
+    /// Whether there may be more pieces.
+    pub(crate) fn has_more(&self) -> bool
+        ensures more { IsTrue result → (self.now.count ≡ 65536) × (self.now.number < 65536) }
+        ensures last { result ≡ false → self.now.count ≡ 65536 → 65536 ≤ self.now.number }
+    {
+        self.count == PIECE && self.number < PIECES
+    }
+
+    /// Reads the next piece, and gives its rows.
+    pub(crate) fn next<F: Shelf>(&mut self, alloc: Global, shelf: &mut F) -> Result<Vec<Row>, Stop>
+        requires more { (self.old.count ≡ 65536) × (self.old.number < 65536) }
+        ensures files { F.files shelf.new ≡ F.files shelf.old }
+        ensures number { IfOk result (λ _. self.new.number ≡ self.old.number + 1) }
+        ensures read { IfOk result (λ given. (before : Option (List ℕ)) (rows : List RowValue) → IsReadOn self.old before (F.rest shelf.old) rows → IsReadOn self.new before (F.rest shelf.new) (rows ++ given.items)) }
+        ensures fit { IfOk result (λ given. All (Fits packet_attrs) given.items) }
+        ensures stopped { OnErr result ((before : Option (List ℕ)) (rows : List RowValue) → IsReadOn self.old before (F.rest shelf.old) rows → TakesAtMost before (F.rest shelf.new) (2 ^ 32)) }
+        ensures cause { HasStopCause (F.faults shelf.old) (F.faults shelf.new) result }
+    {
+        let count = read_piece(shelf, &mut self.buf)?;
+        let rows = feed_rows(alloc, &mut self.reader, &self.buf[..count])?;
+        self.count = count;
+        self.number += 1;
+        Ok(rows)
+    }
+
+    /// What the end says: the rows that came are those of the capture, or it has a fault.
+    pub(crate) fn finish(self) -> Result<(), Halt>
+        requires last { self.count ≡ 65536 → 65536 ≤ self.number }
+        ensures taken { (before now : Option (List ℕ)) (rows : List RowValue) → IsReadOn self before now rows → TakesRows (2 ^ 32) ArePackets HasPacketFault (λ _ these. these ≡ rows) before now result }
+        ensures unfailed { (before now : Option (List ℕ)) (rows : List RowValue) → IsReadOn self before now rows → result ≡ Err (Stopped stops.ReadFault) → ⊥ }
+    {
+        let Pieces { reader, .. } = self;
+        reader.finish()
+    }
+}
+
+/// The rows of the opened capture, which is read to its end, or until 2^32 bytes were taken.
+pub(crate) fn collect_packets<F: Shelf>(alloc: Global, shelf: &mut F) -> Result<Vec<Row>, Halt>
     ensures files { F.files shelf.new ≡ F.files shelf.old }
-    ensures taken { TakesRows (2 ^ 32) ArePackets HasPacketFault (T.took taker.old taker.new) (F.rest shelf.old) (F.rest shelf.new) result }
+    ensures taken { TakesRows (2 ^ 32) ArePackets HasPacketFault (λ kept rows. kept.items ≡ rows) (F.rest shelf.old) (F.rest shelf.new) result }
+    ensures fit { IfOk result (λ kept. All (Fits packet_attrs) kept.items) }
     ensures cause { HasHaltCause (F.faults shelf.old) (F.faults shelf.new) result }
 {
-    let mut buf = vec![in alloc; 0u8; PIECE]?;
-    take_pieces(alloc, shelf, &mut buf, taker)
+    let (mut pieces, mut rows) = Pieces::begin(alloc, shelf)?;
+    while pieces.has_more() {
+        let mut given = pieces.next(alloc, shelf)?;
+        rows.append(&mut given)?;
+    }
+    pieces.finish()?;
+    Ok(rows)
+}
+
+/// Fills the log with the rows of the opened capture as they come. It is read to its end, or until 2^32 bytes were taken.
+pub(crate) fn fill_packets<R: Threads + Sync, F: Shelf, G: Gate>(
+    alloc: Global,
+    shelf: &mut F,
+    filling: &mut Filling<'_, R, G>,
+) -> Result<(), Halt>
+    requires attrs { filling.old.log.shape.schema ≡ packet_attrs }
+    requires none { IsFilled filling.old.log filling.old.log filling.old.loader.plan filling.old.root filling.old.loader filling.old.waiting.items filling.old.count [] }
+    ensures files { F.files shelf.new ≡ F.files shelf.old }
+    ensures taken { TakesRows (2 ^ 32) ArePackets HasPacketFault (λ _. IsFilled filling.old.log filling.new.log filling.old.loader.plan filling.new.root filling.new.loader filling.new.waiting.items filling.new.count) (F.rest shelf.old) (F.rest shelf.new) result }
+    ensures cause { HasHaltCause (F.faults shelf.old) (F.faults shelf.new) result }
+{
+    let (mut pieces, rows) = Pieces::begin(alloc, shelf)?;
+    filling.take_rows(rows)?;
+    while pieces.has_more() {
+        let rows = pieces.next(alloc, shelf)?;
+        filling.take_rows(rows)?;
+    }
+    pieces.finish()
 }

@@ -6,13 +6,12 @@ ghost use Rattle.cf_run.specs.Parts.{HasHaltCause, HasStopCause, Ends, IsPrepare
 
 use crate::draft::{Draft, Product, refused, sealed};
 use crate::dumping::dump_of;
-use crate::files::{read_rows, read_setup};
+use crate::files::{collect_rows, fill_rows, read_setup};
 use crate::hosts::read_hosts;
-use crate::log::{Unmade, final_of, report_of};
+use crate::log::{Unmade, final_of, opened, report_of};
 use crate::refusal::{Halt, Refusal, Stop};
 use crate::rows::{Format, drawn_packets, format_of};
 use crate::snapshot::{cut_text, is_some_full, load_hosts};
-use crate::taker::Collector;
 use cf_command::{
     Command, DumpCommand, LogSizes, RunCommand, SnapshotCommand, SynthCommand, command_of,
 };
@@ -35,14 +34,20 @@ fn run_report<R: Threads + Sync, F: Shelf, G: Gate>(
     ensures cause { HasHaltCause (F.faults shelf.old) (F.faults shelf.new) result }
 {
     let setup = read_setup(alloc, shelf, command.setup)?;
-    let mut taken = Collector::new(alloc, setup.schema());
-    read_rows(alloc, shelf, command.capture, format_of(&setup), &mut taken)?;
     let sizes = command.sizes;
-    if taken.rows.len() > sizes.capacity as usize {
+    let mut filling = opened(rt, alloc, &setup, sizes, command.rounds, gate)?;
+    fill_rows(
+        alloc,
+        shelf,
+        command.capture,
+        format_of(&setup),
+        &mut filling,
+    )?;
+    if filling.is_full() {
         let capacity = sizes.capacity;
         return Err(Halt::Refused(Refusal::Full { capacity }));
     }
-    match report_of(rt, alloc, &setup, &taken.rows, sizes, command.rounds, gate) {
+    match report_of(rt, alloc, &setup, filling) {
         Ok(report) => sealed(alloc, report),
         Err(Unmade::Nodes) => Err(Halt::Refused(Refusal::Nodes { nodes: sizes.nodes })),
         Err(Unmade::Memory) => Err(Halt::Stopped(Stop::Memory)),
@@ -92,9 +97,8 @@ fn dump_listing<F: Shelf>(
     ensures cause { HasHaltCause (F.faults shelf.old) (F.faults shelf.new) result }
 {
     let schema = packet_schema(alloc)?;
-    let mut taken = Collector::new(alloc, &schema);
-    read_rows(alloc, shelf, command.capture, Format::Packets, &mut taken)?;
-    let text = dump_of(alloc, &schema, &taken.rows)?;
+    let rows = collect_rows(alloc, shelf, command.capture, Format::Packets)?;
+    let text = dump_of(alloc, &schema, &rows)?;
     let seals = Vec::new(alloc);
     Ok(Product { text, seals })
 }
@@ -113,13 +117,7 @@ fn snapshot_answers<R: Threads + Sync, F: Shelf, G: Gate>(
     ensures cause { HasHaltCause (F.faults shelf.old) (F.faults shelf.new) result }
 {
     let setup = read_setup(alloc, shelf, command.setup)?;
-    let hosts = read_hosts(
-        alloc,
-        shelf,
-        &command.captures,
-        setup.schema(),
-        format_of(&setup),
-    )?;
+    let hosts = read_hosts(alloc, shelf, &command.captures, format_of(&setup))?;
     let LogSizes {
         capacity,
         nodes,

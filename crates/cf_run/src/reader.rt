@@ -7,7 +7,7 @@ ghost use Rattle.cf_run.specs.Parts.{IsBad};
 ghost use Rattle.cf_run.specs.Reading.{IsReaderAt, reads_blocks};
 ghost use Rattle.cf_run.specs.Work.{AreFramesBy};
 
-use crate::faults::{refused_block, refused_record};
+use crate::faults::{refused_pcap, refused_pcapng};
 use crate::refusal::Halt;
 use cf_pcap::{Frame, Pcap, PcapFault};
 use cf_pcapng::{NgFault, PcapNg};
@@ -20,8 +20,8 @@ const SECTION: [u8; 4] = [0x0a, 0x0d, 0x0d, 0x0a];
 /// A reader of a capture in pcap, of records, or in pcapng, of blocks.
 #[derive(Drop)]
 pub(crate) enum Reader {
-    Records(Pcap),
-    Blocks(PcapNg),
+    Pcap(Pcap),
+    PcapNg(PcapNg),
 }
 
 #[tactic(auto, unfolding(crate::specs::Formats::begins_section))]
@@ -32,9 +32,9 @@ fn begins_section(bytes: &[u8]) -> bool
 }
 
 // The frames that a piece gives a reader of records, whose fault is told at the end.
-fn feed_records(pcap: &mut Pcap, piece: &[u8], out: &mut Vec<Frame>) -> Result<(), Memory>
+fn feed_pcap(pcap: &mut Pcap, piece: &[u8], out: &mut Vec<Frame>) -> Result<(), Memory>
     ensures { IfOk result (λ _. (given : List FrameValue) × (out.new.items ≡ out.old.items ++ given)
-        × ((stream : List ℕ) (frames : List FrameValue) → IsReaderAt (Reader.Records pcap.old) stream frames → IsReaderAt (Reader.Records pcap.new) (stream ++ piece.now) (frames ++ given))) }
+        × ((stream : List ℕ) (frames : List FrameValue) → IsReaderAt (Reader.Pcap pcap.old) stream frames → IsReaderAt (Reader.Pcap pcap.new) (stream ++ piece.now) (frames ++ given))) }
 {
     match pcap.feed(piece, out) {
         Err(PcapFault::Memory) => Err(AllocError),
@@ -43,9 +43,9 @@ fn feed_records(pcap: &mut Pcap, piece: &[u8], out: &mut Vec<Frame>) -> Result<(
 }
 
 // The frames that a piece gives a reader of blocks, whose fault is told at the end.
-fn feed_blocks(pcapng: &mut PcapNg, piece: &[u8], out: &mut Vec<Frame>) -> Result<(), Memory>
+fn feed_pcapng(pcapng: &mut PcapNg, piece: &[u8], out: &mut Vec<Frame>) -> Result<(), Memory>
     ensures { IfOk result (λ _. (given : List FrameValue) × (out.new.items ≡ out.old.items ++ given)
-        × ((stream : List ℕ) (frames : List FrameValue) → IsReaderAt (Reader.Blocks pcapng.old) stream frames → IsReaderAt (Reader.Blocks pcapng.new) (stream ++ piece.now) (frames ++ given))) }
+        × ((stream : List ℕ) (frames : List FrameValue) → IsReaderAt (Reader.PcapNg pcapng.old) stream frames → IsReaderAt (Reader.PcapNg pcapng.new) (stream ++ piece.now) (frames ++ given))) }
 {
     match pcapng.feed(piece, out) {
         Err(NgFault::Memory) => Err(AllocError),
@@ -55,11 +55,11 @@ fn feed_blocks(pcapng: &mut PcapNg, piece: &[u8], out: &mut Vec<Frame>) -> Resul
 
 impl Reader {
     /// A reader of captures in pcap.
-    pub(crate) fn of_records(alloc: Global) -> Result<Reader, Memory>
+    pub(crate) fn of_pcap(alloc: Global) -> Result<Reader, Memory>
         ensures blocks { IfOk result (λ reader. reads_blocks reader ≡ false) }
         ensures begins { IfOk result (λ reader. IsReaderAt reader [] []) }
     {
-        Ok(Reader::Records(Pcap::new(alloc)?))
+        Ok(Reader::Pcap(Pcap::new(alloc)?))
     }
 
     /// A reader of a capture that begins with that piece, in pcapng where this begins with a section header, in pcap otherwise.
@@ -68,9 +68,9 @@ impl Reader {
         ensures begins { IfOk result (λ reader. IsReaderAt reader [] []) }
     {
         if begins_section(piece) {
-            Ok(Reader::Blocks(PcapNg::new(alloc)?))
+            Ok(Reader::PcapNg(PcapNg::new(alloc)?))
         } else {
-            Reader::of_records(alloc)
+            Reader::of_pcap(alloc)
         }
     }
 
@@ -81,8 +81,8 @@ impl Reader {
             × ((stream : List ℕ) (frames : List FrameValue) → IsReaderAt self.old stream frames → IsReaderAt self.new (stream ++ piece.now) (frames ++ given))) }
     {
         match self {
-            Reader::Records(pcap) => feed_records(pcap, piece, out),
-            Reader::Blocks(pcapng) => feed_blocks(pcapng, piece, out),
+            Reader::Pcap(pcap) => feed_pcap(pcap, piece, out),
+            Reader::PcapNg(pcapng) => feed_pcapng(pcapng, piece, out),
         }
     }
 
@@ -92,13 +92,13 @@ impl Reader {
             → MatchResult result (λ _. AreFramesBy (reads_blocks self) stream frames) (IsBad (HasFaultIn (reads_blocks self) stream)) }
     {
         match self {
-            Reader::Records(pcap) => match pcap.finish() {
+            Reader::Pcap(pcap) => match pcap.finish() {
                 Ok(_) => Ok(()),
-                Err(fault) => Err(refused_record(fault)),
+                Err(fault) => Err(refused_pcap(fault)),
             },
-            Reader::Blocks(pcapng) => match pcapng.finish() {
+            Reader::PcapNg(pcapng) => match pcapng.finish() {
                 Ok(_) => Ok(()),
-                Err(fault) => Err(refused_block(fault)),
+                Err(fault) => Err(refused_pcapng(fault)),
             },
         }
     }

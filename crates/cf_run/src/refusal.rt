@@ -92,6 +92,14 @@ impl From<AllocError> for Stop {
     }
 }
 
+impl From<Failed> for Stop {
+    ghost from_gives = { λ _ stop. stop ≡ stops.ReadFault };
+
+    fn from(_error: Failed) -> Stop {
+        Stop::ReadFault
+    }
+}
+
 /// Why a part of the work has no result.
 #[derive(Clone, Copy, Debug)]
 pub(crate) enum Halt {
@@ -104,6 +112,14 @@ impl From<AllocError> for Halt {
 
     fn from(_error: AllocError) -> Halt {
         Halt::Stopped(Stop::Memory)
+    }
+}
+
+impl From<Stop> for Halt {
+    ghost from_gives = { λ stop halt. halt ≡ Stopped stop };
+
+    fn from(stop: Stop) -> Halt {
+        Halt::Stopped(stop)
     }
 }
 
@@ -127,13 +143,5 @@ impl From<SetupFault> for Halt {
             SetupFault::Bad { line, code } => Halt::Refused(Refusal::Setup { line, code }),
             SetupFault::Memory => Halt::Stopped(Stop::Memory),
         }
-    }
-}
-
-impl From<Failed> for Halt {
-    ghost from_gives = { λ _ halt. halt ≡ Stopped stops.ReadFault };
-
-    fn from(_error: Failed) -> Halt {
-        Halt::Stopped(Stop::ReadFault)
     }
 }

@@ -1,6 +1,6 @@
 // The rows of the bytes of a capture.
-ghost use Rattle.std.specs.Prelude.{◌≡◌, ◌≤◌, ◌++◌, List, All, IfOk, MatchResult};
-ghost use Rattle.cf_row.specs.Row.{Fits, RowValue};
+ghost use Rattle.std.specs.Prelude.{◌≡◌, ◌≤◌, All, IfOk, MatchResult};
+ghost use Rattle.cf_row.specs.Row.{Fits};
 ghost use Rattle.cf_row.specs.Schema.{packet_attrs};
 ghost use Rattle.cf_make.specs.Generated.{generated_frames};
 ghost use Rattle.cf_records.specs.Records.{IsRecordFile};
@@ -14,7 +14,6 @@ ghost use Rattle.cf_run.specs.declared.refusal.Stop.TheVariants as stops;
 
 use crate::reader::Reader;
 use crate::refusal::{Halt, Refusal, Stop};
-use crate::taker::Taker;
 use cf_headers::packet_row;
 use cf_make::make_capture;
 use cf_pcap::Frame;
@@ -44,8 +43,8 @@ pub(crate) fn format_of<'a>(setup: &'a Setup) -> Format<'a>
     }
 }
 
-// A row for each frame.
-fn rows_of(alloc: Global, frames: &[Frame]) -> Result<Vec<Row>, Memory>
+/// A row for each frame.
+pub(crate) fn rows_of(alloc: Global, frames: &[Frame]) -> Result<Vec<Row>, Memory>
     ensures rows { IfOk result (λ rows. rows.items ≡ packet_rows frames.now) }
     ensures fit { IfOk result (λ rows. All (Fits packet_attrs) rows.items) }
 {
@@ -64,7 +63,7 @@ pub(crate) fn drawn_packets(alloc: Global, seed: u64, count: u32) -> Result<Vec<
 {
     let bytes = make_capture(alloc, seed, count)?;
     let mut frames = Vec::new(alloc);
-    let mut reader = Reader::of_records(alloc)?;
+    let mut reader = Reader::of_pcap(alloc)?;
     reader.feed(&bytes, &mut frames)?;
     match reader.finish() {
         Ok(()) => rows_of(alloc, &frames),
@@ -120,16 +119,4 @@ pub(crate) fn records_of(alloc: Global, schema: &Schema, bytes: &[u8]) -> Result
         Ok(rows) => Ok(rows),
         Err(fault) => Err(refused_records(fault)),
     }
-}
-
-/// Hands on the rows of a file of records.
-pub(crate) fn take_rows<T: Taker>(rows: Vec<Row>, taker: &mut T) -> Result<(), Memory>
-    requires fit { All (Fits (T.attrs taker.old)) rows.items }
-    requires taking { (begin : T) × (before : List RowValue) × T.took begin taker.old before }
-    ensures took { IfOk result (λ _. (begin : T) (before : List RowValue) → T.took begin taker.old before → T.took begin taker.new (before ++ rows.items)) }
-{
-    for row in rows {
-        taker.take(row)?;
-    }
-    Ok(())
 }

@@ -1,8 +1,7 @@
-use Rattle.std.proofs.Common.{◌^◌, [], false}
+use Rattle.std.proofs.Common.{false}
 use Rattle.std.proofs.lemmas.Result.{err_from_is_err_and}
 use Rattle.cf_run.specs.Files.{captures}
-use Rattle.cf_run.proofs.Loading.{unread_halts, rows_said, rows_unsaid}
-use Rattle.cf_run.proofs.Taking.{stopped_read}
+use Rattle.cf_run.proofs.Loading.{unread_halts, lines_read}
 use Rattle.cf_run.proofs.files.read_lines.Goals as goal
 
 pub returns-in_err-bytes-clause-read : goal.returns-in_err-bytes-clause-read
@@ -10,19 +9,6 @@ returns-in_err-bytes-clause-read g c =
     let p = err_from_is_err_and c.from_residual.result c.from_residual.ensures.1 in
     rw (p.1, p.2) (unread_halts (captures false c.args.schema.now) (g.F.Shelf.files c.args.shelf.now) c.args.name.now (g.F.Shelf.rest c.args.shelf.now) (g.F.Shelf.rest c.read_file.new.shelf) _ c.in_err-bytes.ensures.read)
 
-pub returns-in_err-rows-clause-read : goal.returns-in_err-rows-clause-read
-returns-in_err-rows-clause-read g c =
-    let p = err_from_is_err_and c.from_residual-in_err-rows.result c.from_residual-in_err-rows.ensures.1 in
-    rw (p.1, p.2) (rows_unsaid false c.args.schema.now (g.F.Shelf.files c.args.shelf.now) c.args.name.now c.in_ok-bytes.bytes.items (g.F.Shelf.rest c.args.shelf.now) (g.F.Shelf.rest c.read_file.new.shelf) _ c.in_ok-bytes.ensures.read (rw c.deref.ensures.value at c.in_err-rows.ensures.rows))
-
-pub returns-in_err-take_rows-clause-read : goal.returns-in_err-take_rows-clause-read
-returns-in_err-take_rows-clause-read g c =
-    let p = err_from_is_err_and c.from_residual-in_err-take_rows.result c.from_residual-in_err-take_rows.ensures.1 in
-    rw (p.1, p.2) (stopped_read (g.F.Shelf.files c.args.shelf.now) c.args.name.now (2 ^ 24) (g.F.Shelf.rest c.args.shelf.now) (g.F.Shelf.rest c.read_file.new.shelf) c.in_ok-bytes.bytes.items c.in_ok-bytes.ensures.read)
-
 pub returns-clause-read : goal.returns-clause-read
-returns-clause-read g c = (
-  c.in_ok-rows.rows.items,
-  rows_said false c.args.schema.now (g.F.Shelf.files c.args.shelf.now) c.args.name.now c.in_ok-bytes.bytes.items (g.F.Shelf.rest c.read_file.new.shelf) c.in_ok-rows.rows.items c.in_ok-bytes.ensures.read (rw c.deref.ensures.value at c.in_ok-rows.ensures.rows),
-  c.in_ok-take_rows.ensures.took c.args.taker.now [] c.requires.begins,
-)
+returns-clause-read g c =
+    lines_read c.args.schema.now (g.F.Shelf.files c.args.shelf.now) c.args.name.now c.in_ok-bytes.bytes.items (g.F.Shelf.rest c.args.shelf.now) (g.F.Shelf.rest c.read_file.new.shelf) c.records_of.result c.in_ok-bytes.ensures.read (rw c.deref.ensures.value at c.records_of.ensures.rows)

@@ -1,7 +1,6 @@
-use Rattle.std.proofs.Common.{◌≡◌, ◌++◌, ◌≤◌, ℕ, List, [], ◌∷◌, Some, All, take, drop, suc, get_or, length, length-append, ap, sym, subst, ◌∙◌, arith}
+use Rattle.std.proofs.Common.{◌++◌, ℕ, List, [], ◌∷◌, Some, All, take, drop, suc, get_or, length, length-append, ap, sym, subst, ◌∙◌, arith}
 use Rattle.std.proofs.lemmas.Result.{err_from_is_err_and}
 use Rattle.std.specs.Borrow.{Bor}
-use Rattle.std.specs.declared.alloc.Global.{Global}
 use Rattle.cf_command.specs.Call.{texts}
 use Rattle.cf_row.specs.Row.{RowValue, Fits}
 use Rattle.cf_run.specs.Files.{captures}
@@ -23,7 +22,7 @@ returns-in_err-rows-clause-read g c =
     let i = c.loop-name.name-index in
     let names = c.args.names.now in
     let name = (get_or names i no_name).now in
-    let now = g.F.Shelf.rest c.rows_at.new.shelf in
+    let now = g.F.Shelf.rest c.collect_rows.new.shelf in
     let halts = halts_after grammar told name (g.F.Shelf.rest c.loop-name.shelf) now c.loop-name.invariant.read.1 c.in_err-rows.field-0.0 (rw c.loop-name.invariant.files at c.in_err-rows.ensures.read) in
     rw (p.1, p.2) (subst (λ (ns : List (List ℕ)). AreHalted grammar told ns (Some []) now c.in_err-rows.field-0.0) (sym (names_split names i no_name c.loop-name-test.true))
     (halted_after grammar told (texts (take i names)) (rows_each c.loop-name.hosts.items) name (texts (drop (suc i) names)) now c.in_err-rows.field-0.0 c.loop-name.invariant.read.0 halts))
@@ -35,7 +34,7 @@ returns-in-Err-clause-read g c =
     let i = c.loop-name.name-index in
     let names = c.args.names.now in
     let name = (get_or names i no_name).now in
-    let now = g.F.Shelf.rest c.rows_at.new.shelf in
+    let now = g.F.Shelf.rest c.collect_rows.new.shelf in
     let read = rw c.loop-name.invariant.files at c.in_ok-rows.ensures.read in
     subst (λ (ns : List (List ℕ)). AreStopped grammar told ns (Some []) now) (sym (names_split names i no_name c.loop-name-test.true))
     (stopped_between grammar told (texts (take i names)) (rows_each c.loop-name.hosts.items) (name ∷ texts (drop (suc i) names)) now c.loop-name.invariant.read.0 read.1)

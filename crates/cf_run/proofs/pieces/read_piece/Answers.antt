@@ -1,4 +1,4 @@
-use Rattle.std.proofs.Common.{arith, rules, ◌∙◌, ◌≤◌, ◌≡◌, length}
+use Rattle.std.proofs.Common.{arith, ◌∙◌, ◌≤◌, length}
 use Rattle.cf_run.proofs.Piecewise.{filled_size, filled_within, filled_taken}
 use Rattle.cf_run.proofs.pieces.read_piece.Goals as goal
 

@@ -1,12 +1,8 @@
-use Rattle.std.proofs.Common.{◌≡◌, ◌<◌, ◌≤◌, ◌*◌, List, [], Err, All, length, map, subst, refl, arith, rules}
+use Rattle.std.proofs.Common.{refl}
 use Rattle.std.proofs.lemmas.Result.{err_from_is_err_and}
 use Rattle.cf_command.specs.Call.{snapshot_by}
-use Rattle.cf_row.specs.Row.{RowValue}
-use Rattle.cf_shape.specs.Nodes.{distinct}
-use Rattle.cf_run.specs.Due.{HasRoom}
 use Rattle.cf_run.specs.Due.HostsExceed.{some_full, some_short}
 use Rattle.cf_run.specs.Parts.{rows_each}
-use Rattle.cf_run.specs.Work.{shape_for}
 use Rattle.cf_run.specs.declared.refusal.Refusal.TheVariants as refusals
 use Rattle.cf_run.proofs.Coming.{snapshot_unset, snapshot_unread, snapshot_exceeds, snapshot_stopped, snapshot_told}
 use Rattle.cf_run.proofs.OneHost.{room_of}

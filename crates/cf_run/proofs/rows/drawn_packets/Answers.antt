@@ -1,4 +1,4 @@
-use Rattle.std.proofs.Common.{◌≡◌, ◌++◌, ◌∙◌, [], Bool, List, ap, sym, subst, rules}
+use Rattle.std.proofs.Common.{◌≡◌, ◌++◌, ◌∙◌, Bool, List, ap, subst, rules}
 use Rattle.cf_pcap.specs.Capture.{FrameValue}
 use Rattle.cf_run.specs.Faults.{HasFaultIn}
 use Rattle.cf_run.specs.Parts.{IsBad}

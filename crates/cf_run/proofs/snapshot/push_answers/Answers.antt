@@ -1,4 +1,4 @@
-use Rattle.std.proofs.Common.{◌≡◌, ◌++◌, List, ℕ, string_bytes, ap, ◌∙◌}
+use Rattle.std.proofs.Common.{◌++◌, List, ℕ, string_bytes, ap, ◌∙◌}
 use Rattle.cf_report.proofs.Answering.{are_answering}
 use Rattle.cf_run.specs.Work.{shape_for}
 use Rattle.cf_run.proofs.OneHost.{one_log, host_told}

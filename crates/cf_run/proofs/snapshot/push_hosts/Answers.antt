@@ -1,4 +1,4 @@
-use Rattle.std.proofs.Common.{◌≡◌, ◌++◌, List, [], take, slice_index_or, string_bytes, ap, sym, ◌∙◌}
+use Rattle.std.proofs.Common.{◌++◌, List, [], take, slice_index_or, string_bytes, ap, sym, ◌∙◌}
 use Rattle.cf_lemmas.proofs.Ranges.{step_range}
 use Rattle.cf_report.specs.Snapshot.{host_text, host_text_at}
 use Rattle.cf_row.specs.Row.{RowValue}
