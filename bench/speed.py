@@ -3,7 +3,7 @@
 
 Run it from anywhere after `make run` has built the program:
 
-    bench/speed.py [--rounds N] [--long] [--table FILE] [--plot FILE.svg]
+    bench/speed.py [--rounds N] [--table FILE] [--plot FILE.svg]
 
 It writes the generated capture to a temporary file, the same bytes that `confluo synth --seed 1` draws, and times whole commands:
 
@@ -13,8 +13,8 @@ It writes the generated capture to a temporary file, the same bytes that `conflu
  - live questions beside two writers, each by the time of a run that asks it 1,024 times less that of the same run without.
 
 Each command runs N times (5 where it is not said), and the shortest time counts, as other work on the machine only lengthens a
-run. The peak of memory is that of one run. The captures have 65,536 packets, and with --long 1,048,576 too, over 16 segments.
---table writes the tables in Markdown, --plot draws the second one, which needs matplotlib. CONFLUO may name another build of the
+run. The peak of memory is the least of the runs'. The capture has 65,536 packets. --table writes the tables in Markdown, --plot
+draws the first of them, which needs matplotlib (`apt-get install python3-matplotlib`). CONFLUO may name another build of the
 program. It is no part of the gate.
 """
 
@@ -29,7 +29,7 @@ import sys
 import tempfile
 import time
 
-SHORT, LONG = 2**16, 2**20
+COUNT = 2**16
 ATTRIBUTES = ["src", "dst", "sport", "dport", "proto", "ttl", "tos", "flags", "kind", "etype", "win", "iplen", "len", "seq", "ack", "caplen"]
 PLAIN = "schema packet\nask all list len>1080\n"
 USUAL = """schema packet
@@ -144,8 +144,6 @@ class Sitting:
         """The words of a command over so many packets, whose paths have all the nodes that they may need."""
         pathlib.Path(self.setup).write_text(text)
         words = [self.program, command, "--setup", self.setup, "--writers", str(writers), "--nodes", "65536"]
-        if count > SHORT:
-            words += ["--segments", str(count // SHORT)]
         if command == "synth":
             return words + ["--seed", "1", "--count", str(count)]
         return words + ["--live", str(live), self.file(count)]
@@ -161,18 +159,17 @@ def table(title, heads, rows):
     return "\n".join(lines) + "\n"
 
 
-def time_loads(sitting, counts):
+def time_loads(sitting):
     """Records loaded a second, by the number of lanes and of writers, and the peak of memory a record."""
     rows = []
-    for count in counts:
-        for command in ("run", "synth"):
-            for lane_count in (0, 1, 4, 16):
-                costs = [sitting.cost(command, lanes(lane_count), count, writers) for writers in (1, 2, 4)]
-                speeds = [f"{count / it.seconds / 1000:,.0f}" for it in costs]
-                rows.append([f"{count:,}", command, str(lane_count), *speeds, f"{costs[0].memory / count:,.0f}"])
-                print(*rows[-1], flush=True)
-    heads = ["records", "command", "lanes", "1 writer", "2 writers", "4 writers", "peak bytes a record, 1 writer"]
-    return table("Thousand records a second", heads, rows)
+    for command in ("run", "synth"):
+        for lane_count in (0, 1, 4, 16):
+            costs = [sitting.cost(command, lanes(lane_count), COUNT, writers) for writers in (1, 2, 4)]
+            speeds = [f"{COUNT / it.seconds / 1000:,.0f}" for it in costs]
+            rows.append([command, str(lane_count), *speeds, f"{costs[0].memory / COUNT:,.0f}"])
+            print(*rows[-1], flush=True)
+    heads = ["command", "lanes", "1 writer", "2 writers", "4 writers", "peak bytes a record, 1 writer"]
+    return table(f"{COUNT:,} packets, in thousands a second", heads, rows)
 
 
 def read_once(file):
@@ -206,11 +203,11 @@ def reader_table(times, count):
 
 def time_questions(sitting):
     """Live questions answered beside two writers, by the wall clock and by the work of processors."""
-    asked = ROUNDS_A_BATCH * SHORT // BATCH
+    asked = ROUNDS_A_BATCH * COUNT // BATCH
     rows = []
     for name, question in QUESTIONS.items():
         text = "schema packet\n" + question + "live q\n"
-        busy, quiet = sitting.cost("run", text, SHORT, 2, ROUNDS_A_BATCH), sitting.cost("run", text, SHORT, 2)
+        busy, quiet = sitting.cost("run", text, COUNT, 2, ROUNDS_A_BATCH), sitting.cost("run", text, COUNT, 2)
         seconds, work = busy.seconds - quiet.seconds, busy.work - quiet.work
         speed = f"{asked / seconds:,.0f}" if seconds > NOISE else f"{asked / NOISE:,.0f} or more"
         rows.append([name, speed, f"{max(work, 0) * 1e6 / asked:,.1f}"])
@@ -239,23 +236,20 @@ def plot(times, count, out):
 def main():
     parser = argparse.ArgumentParser()
     parser.add_argument("--rounds", type=int, default=5)
-    parser.add_argument("--long", action="store_true")
     parser.add_argument("--table")
     parser.add_argument("--plot")
     given = parser.parse_args()
     built = pathlib.Path(__file__).parent.parent / "crates/confluo/out/confluo"
     program = os.environ.get("CONFLUO", str(built))
-    counts = [SHORT, LONG] if given.long else [SHORT]
     with tempfile.TemporaryDirectory() as folder:
         sitting = Sitting(program, folder, given.rounds)
-        readings = {count: time_readers(sitting, count) for count in counts}
-        tables = [reader_table(times, count) for count, times in readings.items()]
-        tables += [time_loads(sitting, counts), time_questions(sitting)]
-        if given.plot:
-            plot(readings[counts[-1]], counts[-1], given.plot)
+        times = time_readers(sitting, COUNT)
+        tables = [reader_table(times, COUNT), time_loads(sitting), time_questions(sitting)]
     if given.table:
         text = f"{os.cpu_count()} processors; each time is the shortest of {given.rounds} runs.\n\n" + "\n".join(tables)
         pathlib.Path(given.table).write_text(text)
+    if given.plot:
+        plot(times, COUNT, given.plot)
 
 
 if __name__ == "__main__":
