@@ -1,5 +1,5 @@
 -- What the words of a command line call for.
-use Rattle.std.specs.Prelude.{◌≡◌, ℕ, ◌≤◌, ◌-◌, ◌^◌, ◌&&◌, nat_le, List, length, Option, Some, None, option_and_then, map, decimal, if◌then◌else◌}
+use Rattle.std.specs.Prelude.{◌≡◌, ℕ, ◌≤◌, ◌<◌, ◌-◌, ◌*◌, ◌%◌, ◌^◌, ◌&&◌, ◌||◌, nat_le, nat_eq, List, length, Option, Some, None, option_and_then, map, decimal, if◌then◌else◌}
 use Rattle.std.specs.Borrow.{Bor}
 use Rattle.std.specs.Str.{bytes_eq}
 use Rattle.std.specs.Str.Parse.{digits_value}
@@ -21,21 +21,32 @@ texts words = map (λ word. word.now) words
 unfoldable pub number_in : ℕ → ℕ → List ℕ → Option ℕ
 number_in low high text = let number = digits_value 10 text in if bytes_eq text (decimal number) && (nat_le low number && nat_le number high) then Some number else None
 
--- the sizes of a log of so many writers, whose capacity and the nodes of each writer two texts write out
+-- the sizes of a log of so many writers and one segment, whose capacity and the nodes of each writer two texts write out
 abbrev pub sizes_with : ℕ → List ℕ → List ℕ → Option LogSizes
 sizes_with writers capacity nodes =
-    option_and_then (λ c. option_and_then (λ n. Some (record { writers = writers; capacity = c; nodes = n }))
+    option_and_then (λ c. option_and_then (λ n. Some (record { writers = writers; capacity = c; nodes = n; segments = 1 }))
     (number_in 0 65536 nodes)) (number_in 1 65536 capacity)
 
--- the same where a text writes out the number of writers too
-abbrev pub sizes_in : List ℕ → List ℕ → List ℕ → Option LogSizes
-sizes_in writers capacity nodes = option_and_then (λ w. sizes_with w capacity nodes) (number_in 1 15 writers)
+-- the same sizes with so many segments: all together hold 2^20 records at most, and where there are several, each ends where a batch of
+-- 4,096 records does
+abbrev pub divided : LogSizes → ℕ → Option LogSizes
+divided sizes segments =
+    if nat_le (sizes.capacity * segments) (2 ^ 20) && (nat_le segments 1 || nat_eq (sizes.capacity % 4096) 0) then Some (record sizes { segments = segments }) else None
 
--- the sizes that a log may have
+-- the same where texts write out the numbers of writers and of segments too
+abbrev pub sizes_in : List ℕ → List ℕ → List ℕ → List ℕ → Option LogSizes
+sizes_in writers capacity nodes segments =
+    option_and_then (λ w. option_and_then (λ sizes. option_and_then (divided sizes)
+    (number_in 1 256 segments)) (sizes_with w capacity nodes)) (number_in 1 15 writers)
+
+-- the sizes that a log may have: where it has several segments, each ends where a batch of 4,096 records does
 pub record AreSizes (sizes : LogSizes) : Type 0 where
   pub writers : (1 ≤ sizes.writers) × (sizes.writers ≤ 15)
   pub capacity : (1 ≤ sizes.capacity) × (sizes.capacity ≤ 65536)
   pub nodes : sizes.nodes ≤ 65536
+  pub segments : (1 ≤ sizes.segments) × (sizes.segments ≤ 256)
+  pub most : sizes.capacity * sizes.segments ≤ 2 ^ 20
+  pub whole : 1 < sizes.segments → sizes.capacity % 4096 ≡ 0
 
 -- what `run` is called for: the report of a capture by a setup, both named, over a log of these sizes, each live question being
 -- asked so often beside a batch
@@ -57,7 +68,7 @@ pub record DumpCall : Type 0 where
   pub capture : List ℕ
 
 -- what `snapshot` is called for: the answers of a setup at one cut of several hosts, each of which has the rows of a capture, all
--- named: so many turns of so many rows are taken before the freezing, over logs of one writer of these sizes
+-- named: so many turns of so many rows are taken before the freezing, over logs of one writer and one segment of these sizes
 pub record SnapshotCall : Type 0 where
   pub setup : List ℕ
   pub captures : List (List ℕ)
@@ -81,10 +92,10 @@ snapshot_over setup turns turn sizes captures =
 abbrev pub call_in : SaidValue → Option Call
 call_in (run_said texts) =
     option_and_then (λ sizes. option_and_then (λ rounds. Some (run (record { setup = texts.setup; capture = texts.capture; sizes = sizes; rounds = rounds })))
-    (number_in 0 64 texts.live)) (sizes_in texts.writers texts.capacity texts.nodes)
+    (number_in 0 64 texts.live)) (sizes_in texts.writers texts.capacity texts.nodes texts.segments)
 call_in (synth_said texts) =
     option_and_then (λ seed. option_and_then (λ count. option_and_then (λ sizes. Some (synth (record { setup = texts.setup; seed = seed; count = count; sizes = sizes })))
-    (sizes_in texts.writers texts.capacity texts.nodes)) (number_in 0 65536 texts.count)) (number_in 0 (2 ^ 64 - 1) texts.seed)
+    (sizes_in texts.writers texts.capacity texts.nodes texts.segments)) (number_in 0 (2 ^ 20) texts.count)) (number_in 0 (2 ^ 64 - 1) texts.seed)
 call_in (dump_said capture) = Some (dump (record { capture = capture }))
 call_in (snapshot_said texts) =
     option_and_then (λ turns. option_and_then (λ turn. option_and_then (λ sizes. snapshot_over texts.setup turns turn sizes texts.captures)
@@ -94,6 +105,14 @@ call_in (snapshot_said texts) =
 -- command.
 unfoldable pub call_of : List (List ℕ) → Option Call
 call_of words = option_and_then call_in (said_of words)
+
+-- a log that a call has is of sizes that a log may have
+abbrev pub HasSizes : Option Call → Type 0
+HasSizes None = Unit {0}
+HasSizes (Some (run call)) = AreSizes call.sizes
+HasSizes (Some (synth call)) = AreSizes call.sizes
+HasSizes (Some (dump call)) = Unit {0}
+HasSizes (Some (snapshot call)) = AreSizes call.sizes
 
 -- the calls that commands were read as
 abbrev pub run_by : RunCommand → RunCall
@@ -115,16 +134,17 @@ call_by (Synth command) = synth (synth_by command)
 call_by (Dump command) = dump (dump_by command)
 call_by (Snapshot command) = snapshot (snapshot_by command)
 
--- a snapshot has 1 to 16 hosts, each with one writer
+-- a snapshot has 1 to 16 hosts, each with one writer and one segment
 pub record IsSnapshotInRange (command : SnapshotCommand) : Type 0 where
   pub sizes : AreSizes command.sizes
   pub one : command.sizes.writers ≡ 1
+  pub undivided : command.sizes.segments ≡ 1
   pub hosts : (1 ≤ length command.captures.items) × (length command.captures.items ≤ 16)
   pub turn : (1 ≤ command.turn) × (command.turn ≤ 4096)
 
 -- the sizes and the counts of a command are in their ranges
 abbrev pub IsInRange : Command → Type 0
 IsInRange (Run command) = AreSizes command.sizes
-IsInRange (Synth command) = AreSizes command.sizes × (command.count ≤ 65536)
+IsInRange (Synth command) = AreSizes command.sizes × (command.count ≤ 2 ^ 20)
 IsInRange (Dump command) = Unit {0}
 IsInRange (Snapshot command) = IsSnapshotInRange command

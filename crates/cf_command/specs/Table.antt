@@ -31,7 +31,7 @@ roomed_app app = with_rule (with_rule app (optional (codes "capacity") (codes "6
 
 -- with the options of a log's sizes
 abbrev pub sized_app : App → App
-sized_app app = roomed_app (with_rule app (optional (codes "writers") (codes "4")))
+sized_app app = with_rule (roomed_app (with_rule app (optional (codes "writers") (codes "4")))) (optional (codes "segments") (codes "1"))
 
 -- `run`: a setup, the sizes of the log, how often live questions are asked, and a capture
 abbrev pub run_app : App
@@ -71,22 +71,23 @@ pub record RunSays : Type 0 where
   pub writers : Text
   pub capacity : Text
   pub nodes : Text
+  pub segments : Text
   pub live : Text
   pub capture : Text
 
 -- these texts as a record, in the order in which they are looked up
-abbrev pub run_says : Text → Text → Text → Text → Text → Text → RunSays
-run_says s w n m l c = record { setup = s; writers = w; capacity = n; nodes = m; live = l; capture = c }
+abbrev pub run_says : Text → Text → Text → Text → Text → Text → Text → RunSays
+run_says s w n m k l c = record { setup = s; writers = w; capacity = n; nodes = m; segments = k; live = l; capture = c }
 
 -- what was read of a `run` command
 abbrev pub says_of : RunTexts → RunSays
-says_of r = run_says r.setup.now r.writers.now r.capacity.now r.nodes.now r.live.now r.capture.now
+says_of r = run_says r.setup.now r.writers.now r.capacity.now r.nodes.now r.segments.now r.live.now r.capture.now
 
 -- what the rows of a `run` command say
 unfoldable pub run_texts_of : List Row → Option RunSays
 run_texts_of rows =
-    option_and_then (λ s. option_and_then (λ w. option_and_then (λ n. option_and_then (λ m. option_and_then (λ l. option_and_then (λ c. Some (run_says s w n m l c))
-    (first_of (codes "capture") rows)) (first_of (codes "live") rows)) (first_of (codes "nodes") rows)) (first_of (codes "capacity") rows)) (first_of (codes "writers") rows)) (first_of (codes "setup") rows)
+    option_and_then (λ s. option_and_then (λ w. option_and_then (λ n. option_and_then (λ m. option_and_then (λ k. option_and_then (λ l. option_and_then (λ c. Some (run_says s w n m k l c))
+    (first_of (codes "capture") rows)) (first_of (codes "live") rows)) (first_of (codes "segments") rows)) (first_of (codes "nodes") rows)) (first_of (codes "capacity") rows)) (first_of (codes "writers") rows)) (first_of (codes "setup") rows)
 
 -- the texts of a `synth` command
 pub record SynthSays : Type 0 where
@@ -96,20 +97,21 @@ pub record SynthSays : Type 0 where
   pub writers : Text
   pub capacity : Text
   pub nodes : Text
+  pub segments : Text
 
 -- these texts as a record, in the order in which they are looked up
-abbrev pub synth_says : Text → Text → Text → Text → Text → Text → SynthSays
-synth_says s x k w n m = record { setup = s; seed = x; count = k; writers = w; capacity = n; nodes = m }
+abbrev pub synth_says : Text → Text → Text → Text → Text → Text → Text → SynthSays
+synth_says s x c w n m k = record { setup = s; seed = x; count = c; writers = w; capacity = n; nodes = m; segments = k }
 
 -- what was read of a `synth` command
 abbrev pub synth_says_of : SynthTexts → SynthSays
-synth_says_of r = synth_says r.setup.now r.seed.now r.count.now r.writers.now r.capacity.now r.nodes.now
+synth_says_of r = synth_says r.setup.now r.seed.now r.count.now r.writers.now r.capacity.now r.nodes.now r.segments.now
 
 -- what the rows of a `synth` command say
 unfoldable pub synth_texts_of : List Row → Option SynthSays
 synth_texts_of rows =
-    option_and_then (λ s. option_and_then (λ x. option_and_then (λ k. option_and_then (λ w. option_and_then (λ n. option_and_then (λ m. Some (synth_says s x k w n m))
-    (first_of (codes "nodes") rows)) (first_of (codes "capacity") rows)) (first_of (codes "writers") rows)) (first_of (codes "count") rows)) (first_of (codes "seed") rows)) (first_of (codes "setup") rows)
+    option_and_then (λ s. option_and_then (λ x. option_and_then (λ c. option_and_then (λ w. option_and_then (λ n. option_and_then (λ m. option_and_then (λ k. Some (synth_says s x c w n m k))
+    (first_of (codes "segments") rows)) (first_of (codes "nodes") rows)) (first_of (codes "capacity") rows)) (first_of (codes "writers") rows)) (first_of (codes "count") rows)) (first_of (codes "seed") rows)) (first_of (codes "setup") rows)
 
 -- the texts of a `snapshot` command
 pub record SnapshotSays : Type 0 where

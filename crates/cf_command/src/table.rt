@@ -63,7 +63,8 @@ fn sized<'a>(alloc: Global, command: Command<'a>) -> Result<Command<'a>, Memory>
     ensures local { IfOk result (λ c. (fields_of c).has_globals ≡ false) }
 {
     let command = and(command, optional_option(alloc, "writers", "4"))?;
-    roomed(alloc, command)
+    let command = roomed(alloc, command)?;
+    and(command, optional_option(alloc, "segments", "1"))
 }
 
 fn run_command<'a>(alloc: Global) -> Result<Command<'a>, Memory>
@@ -153,6 +154,7 @@ pub(crate) struct RunTexts<'a> {
     pub(crate) writers: &'a str,
     pub(crate) capacity: &'a str,
     pub(crate) nodes: &'a str,
+    pub(crate) segments: &'a str,
     pub(crate) live: &'a str,
     pub(crate) capture: &'a str,
 }
@@ -171,6 +173,7 @@ fn run_texts<'a>(matches: &ArgMatches<'a>) -> Option<RunTexts<'a>>
     let writers = text_of(matches, "writers")?;
     let capacity = text_of(matches, "capacity")?;
     let nodes = text_of(matches, "nodes")?;
+    let segments = text_of(matches, "segments")?;
     let live = text_of(matches, "live")?;
     let capture = text_of(matches, "capture")?;
     Some(RunTexts {
@@ -178,6 +181,7 @@ fn run_texts<'a>(matches: &ArgMatches<'a>) -> Option<RunTexts<'a>>
         writers,
         capacity,
         nodes,
+        segments,
         live,
         capture,
     })
@@ -192,6 +196,7 @@ pub(crate) struct SynthTexts<'a> {
     pub(crate) writers: &'a str,
     pub(crate) capacity: &'a str,
     pub(crate) nodes: &'a str,
+    pub(crate) segments: &'a str,
 }
 
 #[tactic(auto, unfolding(crate::specs::Table::synth_texts_of))]
@@ -204,6 +209,7 @@ fn synth_texts<'a>(matches: &ArgMatches<'a>) -> Option<SynthTexts<'a>>
     let writers = text_of(matches, "writers")?;
     let capacity = text_of(matches, "capacity")?;
     let nodes = text_of(matches, "nodes")?;
+    let segments = text_of(matches, "segments")?;
     Some(SynthTexts {
         setup,
         seed,
@@ -211,6 +217,7 @@ fn synth_texts<'a>(matches: &ArgMatches<'a>) -> Option<SynthTexts<'a>>
         writers,
         capacity,
         nodes,
+        segments,
     })
 }
 

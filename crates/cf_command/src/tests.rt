@@ -52,7 +52,11 @@ fn words_are_read_by_the_table(rt: HostRuntime) -> Result<(), Fail> {
             "synth --setup s --seed 18446744073709551616 --count 1",
             None,
         ),
-        ("synth --setup s --seed 1 --count 65537", None),
+        (
+            "synth --setup s --seed 1 --count 1048576 --segments 16",
+            Some((4, 65536, 1024, 1048576)),
+        ),
+        ("synth --setup s --seed 1 --count 1048577", None),
         ("synth --setup s --seed 1 --count 1 c", None),
         ("synth --setup s --count 1", None),
         ("dump c", Some((0, 0, 0, 0))),
@@ -110,6 +114,44 @@ fn other_options_and_numbers_are_refused(rt: HostRuntime) -> Result<(), Fail> {
         let words = ["run", "--setup", "s", "c", word];
         let command = command_of(alloc, &words)?;
         assert!(rt; command.is_none(), "{word}");
+    }
+    Ok(())
+}
+
+// How many segments the log of a command has at most, whose words have spaces between them.
+fn segments_of(alloc: Global, text: &str) -> Result<Option<u32>, Memory> {
+    let mut words = Vec::new(alloc);
+    for word in text.split(' ') {
+        words.push(word)?;
+    }
+    Ok(match command_of(alloc, &words)? {
+        Some(Command::Run(command)) => Some(command.sizes.segments),
+        Some(Command::Synth(command)) => Some(command.sizes.segments),
+        Some(Command::Snapshot(command)) => Some(command.sizes.segments),
+        Some(Command::Dump(_)) => None,
+        None => None,
+    })
+}
+
+#[test]
+fn segments_end_where_batches_do(rt: HostRuntime) -> Result<(), Fail> {
+    let alloc = rt.alloc();
+    for (text, answer) in [
+        ("run --setup s c", Some(1)),
+        ("run --setup s c --segments 16", Some(16)),
+        ("run --setup s c --segments 17", None),
+        ("run --setup s c --segments 0", None),
+        ("run --setup s c --capacity 4096 --segments 256", Some(256)),
+        ("run --setup s c --capacity 4096 --segments 257", None),
+        ("run --setup s c --capacity 8192 --segments 129", None),
+        ("run --setup s c --capacity 4097 --segments 1", Some(1)),
+        ("run --setup s c --capacity 4097 --segments 2", None),
+        ("run --setup s c --capacity 2048 --segments 2", None),
+        ("synth --setup s --seed 1 --count 1 --segments 2", Some(2)),
+        ("snapshot --setup s --after 1 c", Some(1)),
+        ("snapshot --setup s --after 1 --segments 1 c", None),
+    ] {
+        assert_eq!(rt; segments_of(alloc, text)?, answer, "of {text}");
     }
     Ok(())
 }

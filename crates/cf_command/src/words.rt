@@ -1,6 +1,6 @@
 // What the words ask for.
-ghost use Rattle.std.specs.Prelude.{◌≡◌, ◌≤◌, IfOk, IfSome, option_map};
-ghost use Rattle.cf_command.specs.Call.{call_of, call_in, call_by, sizes_in, sizes_with, texts, AreSizes, IsInRange};
+ghost use Rattle.std.specs.Prelude.{◌≡◌, ◌≤◌, ◌*◌, IfOk, IfSome, option_map};
+ghost use Rattle.cf_command.specs.Call.{call_of, call_in, call_by, sizes_in, sizes_with, divided, texts, AreSizes, IsInRange};
 ghost use Rattle.cf_command.specs.Table.{says_of, synth_says_of, snapshot_says_of};
 ghost use Rattle.cf_command.specs.Table.SaidValue.{run_said, synth_said, snapshot_said};
 
@@ -9,12 +9,30 @@ use crate::number::number_between;
 use crate::table::{RunTexts, Said, SnapshotTexts, SynthTexts, read_words};
 use std::alloc::Global;
 
-/// The sizes of a log: how many writers load it, how many records it holds at most, and how many nodes each writer has.
+// The records that the segments of a log hold together at most.
+const MOST_RECORDS: u32 = 1 << 20;
+
+// Where a log has several segments, each ends where a batch of so many records does.
+const BATCH: u32 = 4096;
+
+/// The sizes of a log: how many writers load it, how many records each of its segments holds at most, how many nodes each
+/// writer has in a segment, and how many segments it has at most.
 #[derive(Clone, Copy, Debug, PartialEq, Eq)]
 pub struct LogSizes {
     pub writers: u8,
     pub capacity: u32,
     pub nodes: u32,
+    pub segments: u32,
+}
+
+impl LogSizes {
+    /// How many records the log holds at most.
+    pub fn most(self) -> u32
+        requires { AreSizes self }
+        ensures { result ≡ self.capacity * self.segments }
+    {
+        self.capacity * self.segments
+    }
 }
 
 /// The command `run`: the names of the setup and of the capture, and the numbers of its options.
@@ -67,7 +85,7 @@ pub enum Command<'a> {
     Snapshot(SnapshotCommand<'a>),
 }
 
-// The sizes of a log of so many writers, where the texts write out the others, each in its range.
+// The sizes of a log of so many writers and one segment, where the texts write out the others, each in its range.
 fn sizes_of_writers(
     alloc: Global,
     writers: u8,
@@ -77,7 +95,7 @@ fn sizes_of_writers(
     requires { (1 ≤ writers) × (writers ≤ 15) }
     ensures sizes { IfOk result (λ found. found ≡ sizes_with writers capacity.now nodes.now) }
     ensures within { IfOk result (λ found. IfSome found AreSizes) }
-    ensures writers { IfOk result (λ found. IfSome found (λ sizes. sizes.writers ≡ writers)) }
+    ensures kept { IfOk result (λ found. IfSome found (λ sizes. (sizes.writers ≡ writers) × (sizes.segments ≡ 1))) }
 {
     let Some(capacity) = number_between(alloc, capacity, 1, 65536)? else {
         return Ok(None);
@@ -89,7 +107,24 @@ fn sizes_of_writers(
         writers,
         capacity: capacity as u32,
         nodes: nodes as u32,
+        segments: 1,
     }))
+}
+
+// The same sizes with so many segments, where all together hold no more records than a log may, and several end where batches do.
+fn divided(sizes: LogSizes, segments: u32) -> Option<LogSizes>
+    requires sizes { AreSizes sizes }
+    requires segments { (1 ≤ segments) × (segments ≤ 256) }
+    ensures sizes { result ≡ divided sizes segments }
+    ensures within { IfSome result AreSizes }
+{
+    if sizes.capacity * segments > MOST_RECORDS {
+        return None;
+    }
+    if segments > 1 && sizes.capacity % BATCH != 0 {
+        return None;
+    }
+    Some(LogSizes { segments, ..sizes })
 }
 
 // The sizes that the texts write out, where each is in its range.
@@ -98,14 +133,21 @@ fn sizes_of(
     writers: &str,
     capacity: &str,
     nodes: &str,
+    segments: &str,
 ) -> Result<Option<LogSizes>, Memory>
-    ensures sizes { IfOk result (λ found. found ≡ sizes_in writers.now capacity.now nodes.now) }
+    ensures sizes { IfOk result (λ found. found ≡ sizes_in writers.now capacity.now nodes.now segments.now) }
     ensures within { IfOk result (λ found. IfSome found AreSizes) }
 {
     let Some(writers) = number_between(alloc, writers, 1, 15)? else {
         return Ok(None);
     };
-    sizes_of_writers(alloc, writers as u8, capacity, nodes)
+    let Some(sizes) = sizes_of_writers(alloc, writers as u8, capacity, nodes)? else {
+        return Ok(None);
+    };
+    let Some(segments) = number_between(alloc, segments, 1, 256)? else {
+        return Ok(None);
+    };
+    Ok(divided(sizes, segments as u32))
 }
 
 // The command of these texts, where each number is in its range.
@@ -113,7 +155,14 @@ fn run_from<'a>(alloc: Global, said: &RunTexts<'a>) -> Result<Option<Command<'a>
     ensures call { IfOk result (λ found. option_map call_by found ≡ call_in (run_said (says_of said.now))) }
     ensures within { IfOk result (λ found. IfSome found IsInRange) }
 {
-    let Some(sizes) = sizes_of(alloc, said.writers, said.capacity, said.nodes)? else {
+    let Some(sizes) = sizes_of(
+        alloc,
+        said.writers,
+        said.capacity,
+        said.nodes,
+        said.segments,
+    )?
+    else {
         return Ok(None);
     };
     let Some(rounds) = number_between(alloc, said.live, 0, 64)? else {
@@ -135,10 +184,17 @@ fn synth_from<'a>(alloc: Global, said: &SynthTexts<'a>) -> Result<Option<Command
     let Some(seed) = number_between(alloc, said.seed, 0, u64::MAX)? else {
         return Ok(None);
     };
-    let Some(count) = number_between(alloc, said.count, 0, 65536)? else {
+    let Some(count) = number_between(alloc, said.count, 0, u64::from(MOST_RECORDS))? else {
         return Ok(None);
     };
-    let Some(sizes) = sizes_of(alloc, said.writers, said.capacity, said.nodes)? else {
+    let Some(sizes) = sizes_of(
+        alloc,
+        said.writers,
+        said.capacity,
+        said.nodes,
+        said.segments,
+    )?
+    else {
         return Ok(None);
     };
     Ok(Some(Command::Synth(SynthCommand {

@@ -25,8 +25,7 @@ use Rattle.cf_table.proofs.Homing.{still_one, get_front, opened as opened_settle
 use Rattle.cf_append.specs.Appends.{Rests}
 use Rattle.cf_load.specs.Needed.{IsNeeded, HasNodes}
 use Rattle.cf_load.specs.Writing.{rows_of_book, IsReady, RanOut, Wrote}
-use Rattle.cf_load.specs.Loading.{IsLogFrom, HasLoaded}
-use Rattle.cf_load.specs.Loads.{LacksNodes}
+use Rattle.cf_load.specs.Loading.{IsLogFrom, HasLoaded, IsShort}
 use Rattle.cf_load.proofs.Alls.{all_drop}
 use Rattle.cf_load.proofs.Written.{written_append, rows_append, WrotePart, all_written, log_more}
 use Rattle.cf_load.proofs.Pigeons.{in_either}
@@ -366,7 +365,7 @@ still_loaded log first rows m n has of books seen_is = record {
 -- A writer ran out of nodes in that batch: the rows before it and its own need more different ones than it has, and each writer's
 -- entries are the first of its rows.
 pub batch_out : (whole : Bool) (log : LogValue) (first : ℕ) (rows batch : List RowValue) (w : ℕ) (m r n : PassValue) (passes after : List PassValue) → IsShape log.shape → HasLoaded log first rows m → length rows + length batch ≤ (log.shape).capacity
-    → AreDealt log m passes r → AllZip (Wrote whole log (first + length rows) batch) passes after → RanOut log batch w after → HasGathered log.shape r after n → LacksNodes log first (rows ++ batch) w n
+    → AreDealt log m passes r → AllZip (Wrote whole log (first + length rows) batch) passes after → RanOut log batch w after → HasGathered log.shape r after n → IsShort log first (rows ++ batch) w n
 batch_out whole log first rows batch w m r n passes after shape has room dealt wrote out g = record {
   exists = subst (λ (v : ℕ). v < W) out.writer_is (g.bounds.writer book.0 (book_of out.pass.view) (ap (λ (bs : List Book). slice_get bs book.0) g.books ∙ book.1));
   many = (too_many log.shape (rows ++ batch) (book_of out.pass.view) shape (λ j s used. used_by whole log first rows batch m r n passes after has dealt wrote g out.place out.pass j s out.at used) (record {
@@ -409,27 +408,14 @@ no_fewer shape nodes (x ∷ xs) = (let r = no_fewer shape (add_node nodes x) xs 
     ]
 
 -- more rows need no fewer nodes
-distinct_more : (shape : ShapeValue) (rows more : List RowValue) → distinct shape rows ≤ distinct shape (rows ++ more)
+pub distinct_more : (shape : ShapeValue) (rows more : List RowValue) → distinct shape rows ≤ distinct shape (rows ++ more)
 distinct_more shape rows more =
     let parts : nodes_of shape (rows ++ more) ≡ fold add_node (nodes_of shape rows) (flat_map (nodes_for shape) more) = ap (fold add_node []) (flat_map-append (nodes_for shape) rows more) ∙ fold-append add_node [] (flat_map (nodes_for shape) rows) (flat_map (nodes_for shape) more) in
     rw parts (no_fewer shape (nodes_of shape rows) (flat_map (nodes_for shape) more))
 
--- more rows want more nodes too
-pub lacks_more : (log : LogValue) (first : ℕ) (rows more : List RowValue) (w : ℕ) (n : PassValue) → LacksNodes log first rows w n → LacksNodes log first (rows ++ more) w n
-lacks_more log first rows more w n lacks = record {
-  exists = lacks.exists;
-  many = (let d = distinct_more log.shape rows more in let many = lacks.many in omega (arith, many, d));
-  of = lacks.of;
-  settled = lacks.settled;
-  fronts = λ v lt. (let f = lacks.fronts v lt in let W = (log.shape).writers in (
-    f.0 ++ rows_of W v (first + length rows) more,
-    sym (append_assoc (written_by v (n.view).seen) f.0 (rows_of W v (first + length rows) more)) ∙ (ap (λ (rs : List RowValue). rs ++ rows_of W v (first + length rows) more) f.1 ∙ sym (rows_append W v first rows more)),
-  ));
-}
-
 -- the reader came home too
-pub lacks_kept : (log : LogValue) (first : ℕ) (rows : List RowValue) (w : ℕ) (n o : PassValue) → LacksNodes log first rows w n → IsOf o log → (o.view).books ≡ (n.view).books → (o.view).seen ≡ (n.view).seen → LacksNodes log first rows w o
-lacks_kept log first rows w n o lacks of books seen_is = record {
+pub short_kept : (log : LogValue) (first : ℕ) (rows : List RowValue) (w : ℕ) (n o : PassValue) → IsShort log first rows w n → IsOf o log → (o.view).books ≡ (n.view).books → (o.view).seen ≡ (n.view).seen → IsShort log first rows w o
+short_kept log first rows w n o lacks of books seen_is = record {
   exists = lacks.exists;
   many = lacks.many;
   of = of;

@@ -8,12 +8,12 @@ use Rattle.cf_law.specs.Passes.{Pass}
 use Rattle.cf_table.specs.Values.{PassValue, LogValue, IsOf}
 use Rattle.cf_table.specs.Moves.{AreDealt, HasFolded, HasGathered, HoldsAllBooks}
 use Rattle.std.specs.declared.alloc.AllocError.{AllocError}
-use Rattle.cf_load.specs.Loading.{HasLoaded}
-use Rattle.cf_load.specs.Loads.{outcome_of, LacksNodes}
+use Rattle.cf_load.specs.Loading.{HasLoaded, IsShort}
+use Rattle.cf_load.specs.Loads.{outcome_of}
 use Rattle.cf_load.specs.declared.loads.LoadFault.{LoadFault}
 use Rattle.cf_load.specs.declared.loads.LoadFault.TheVariants.{NodesFull, Memory}
 use Rattle.cf_load.specs.Writing.{Wrote}
-use Rattle.cf_load.proofs.Batches.{batch_loaded, still_loaded, told_same, lacks_kept}
+use Rattle.cf_load.proofs.Batches.{batch_loaded, still_loaded, told_same, short_kept}
 
 -- what was lent out of a vector and written is all of it
 pub written_back : {X : Type 0} (new items : List X) (len : ℕ) → length new ≡ length items → len ≡ length items → take len (new ++ drop (length new) items) ≡ new
@@ -49,8 +49,8 @@ batch_told whole log first batch m r n o q passes after dealt wrote gathered fol
     folded.told ∙ ap (λ ts. ts ++ q.tails) (ap (λ ts. (n.view).told ++ ts) none ∙ (append-nil (n.view).told ∙ told_same whole log first batch m r n passes after dealt wrote gathered))
 
 -- after a writer ran out of nodes
-pub out_home : (log : LogValue) (first : ℕ) (rows : List RowValue) (w : ℕ) (n o : PassValue) (q : Pass) → LacksNodes log first rows w n → HasFolded log.shape n q o → (o.view).books ≡ (n.view).books → (HoldsAllBooks log.shape n.view → (o.view).seen ≡ (n.view).seen) → LacksNodes log first rows w o
+pub out_home : (log : LogValue) (first : ℕ) (rows : List RowValue) (w : ℕ) (n o : PassValue) (q : Pass) → IsShort log first rows w n → HasFolded log.shape n q o → (o.view).books ≡ (n.view).books → (HoldsAllBooks log.shape n.view → (o.view).seen ≡ (n.view).seen) → IsShort log first rows w o
 out_home log first rows w n o q lacks folded books stays =
     let same = folded.made.same in
     let of : IsOf o log = record { table = ap (λ (h : PassValue). h.table) same ∙ lacks.of.table; nodes = ap (λ (h : PassValue). h.nodes) same ∙ lacks.of.nodes } in
-    lacks_kept log first rows w n o lacks of books (stays lacks.settled)
+    short_kept log first rows w n o lacks of books (stays lacks.settled)

@@ -1,5 +1,5 @@
 -- The segments of a log, end to end.
-use Rattle.std.proofs.Common.{◌≡◌, ◌<◌, ◌≤◌, ◌+◌, ◌-◌, ◌*◌, ◌/◌, ◌%◌, ℕ, zero, suc, List, [], ◌∷◌, ◌++◌, length, get_or, map, take, drop, Some, slice_get, refl, sym, ap, ap₂, subst, ◌∙◌, arith, inl, inr, length-append, append_assoc, append-nil, mul-zero, mul-suc}
+use Rattle.std.proofs.Common.{◌≡◌, ◌<◌, ◌≤◌, ◌+◌, ◌-◌, ◌*◌, ◌/◌, ◌%◌, ℕ, zero, suc, List, [], ◌∷◌, ◌++◌, length, get_or, map, take, drop, Some, slice_get, refl, sym, ap, ap₂, subst, ◌∙◌, arith, inl, inr, length-append, append_assoc, append-nil, mul-zero, mul-suc, mul-le-mul_left, mul_assoc, mul_comm, ◌^◌}
 use Rattle.std.proofs.Math.Seq.{drop-drop}
 use Rattle.std.proofs.lemmas.Bool.{cases_eq, cases_lt}
 use Rattle.std.proofs.lemmas.List.{length-take, map-append, take-append-drop, drop_at}
@@ -16,7 +16,7 @@ use Rattle.cf_table.specs.Values.{PassValue, LogValue, IsOf}
 use Rattle.cf_table.specs.Moves.{SealValue}
 use Rattle.cf_load.specs.Blocks.{block}
 use Rattle.cf_load.specs.Loading.{IsLogFrom, HasLoaded}
-use Rattle.cf_load.specs.Segments.{SegmentsValue, segments_of, all_of, seen_of, entries_of, told_from, told_of, AllowsSegments, IsSegment, IsOpened, IsSegments, HoldsRows, HasTurned, HasLooked, HaveLooked, sealed}
+use Rattle.cf_load.specs.Segments.{SegmentsValue, segments_of, all_of, seen_of, entries_of, base_of, told_from, told_of, AllowsSegments, IsSegment, IsOpened, IsSegments, HoldsRows, HasTurned, HasLooked, HaveLooked, sealed}
 use Rattle.cf_load.specs.declared.segments.Segment.{Segment}
 use Rattle.cf_load.proofs.Alls.{all_append}
 use Rattle.cf_load.proofs.Batches.{opened, settled_still, zip_back, zip_long}
@@ -330,3 +330,30 @@ all_sealed s t looked =
     each [] (h ∷ hs) all = absurd all
     each (g ∷ gs) [] all = absurd all
     each (g ∷ gs) (h ∷ hs) all = ap₂ (λ (x : SealValue) (xs : List SealValue). x ∷ xs) (looked_sealed g h all.0) (each gs hs all.1)
+
+-- there is room for 2^20 rows at most
+pub room_few : (s : SegmentsValue) → IsSegments s → base_of s + (s.shape).capacity ≤ 2 ^ 20
+room_few s is =
+    let n = (s.shape).capacity in
+    let few = is.few in
+    let far : n * suc (length s.closed) ≤ n * s.most = mul-le-mul_left n (let e : suc (length s.closed) ≤ s.most = omega (arith, few) in e) in
+    let step = mul-suc n (length s.closed) in
+    let turn = mul_comm n s.most in
+    let rows = is.sizes.rows in
+    omega (arith, far, step, turn, rows)
+
+-- the current segment begins with a batch of its own
+pub base_whole : (s : SegmentsValue) → IsSegments s → base_of s % 4096 ≡ 0
+base_whole s is = elim (cases_lt 0 (length s.closed)) [
+  | inl some ↦
+      let n = (s.shape).capacity in
+      let few = is.few in
+      let whole : n % 4096 ≡ 0 = is.sizes.whole (omega (arith, some, few)) in
+      let size : n ≡ 4096 * (n / 4096) = omega (arith, whole) in
+      let all : n * length s.closed ≡ 4096 * (n / 4096 * length s.closed) = ap (λ (k : ℕ). k * length s.closed) size ∙ mul_assoc 4096 (n / 4096) (length s.closed) in
+      omega (arith, all)
+  | inr none ↦
+      let zero_long : length s.closed ≡ 0 = omega (arith, none) in
+      let all : base_of s ≡ 0 = ap (λ (k : ℕ). (s.shape).capacity * k) zero_long ∙ mul-zero (s.shape).capacity in
+      omega (arith, all)
+]

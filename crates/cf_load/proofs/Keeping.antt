@@ -9,7 +9,7 @@ use Rattle.cf_table.specs.Values.{PassValue, LogValue, IsOf}
 use Rattle.cf_table.specs.Moves.{HoldsAllBooks}
 use Rattle.cf_query.specs.Asking.{HasAsked}
 use Rattle.cf_load.specs.Loading.{HasLoaded}
-use Rattle.cf_load.specs.Loads.{Keeps}
+use Rattle.cf_load.specs.Segments.{Keeps}
 use Rattle.cf_load.proofs.Batches.{still_loaded}
 
 pub keeps_none : (m : PassValue) → Keeps m m

@@ -14,3 +14,6 @@ pub mod Loaders
 pub mod Blocks
 pub mod Chains
 pub mod Changing
+pub mod Findings
+pub mod Kept
+pub mod Filled

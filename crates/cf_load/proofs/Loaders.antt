@@ -1,31 +1,40 @@
 -- A loader goes on, batch by batch, and then answers.
-use Rattle.std.proofs.Common.{◌≡◌, ◌<◌, ◌≤◌, ◌+◌, ◌-◌, ◌*◌, ℕ, List, [], ◌++◌, length, length-append, map, take, drop, min, sym, ap, subst, ◌∙◌, arith, inl, inr, Result, Ok, Err, IfOk, MatchResult}
+use Rattle.std.proofs.Common.{◌≡◌, ◌<◌, ◌≤◌, ◌+◌, ◌-◌, ◌*◌, ◌%◌, ℕ, suc, List, [], ◌∷◌, ◌++◌, get_or, length, length-append, append_assoc, map, take, drop, min, append-nil, Some, slice_get, sym, ap, ap₂, subst, ◌∙◌, arith, inl, inr, Result, Ok, Err, IfOk, MatchResult, mul-suc, mul-le-mul_left, one-mul}
 use Rattle.std.proofs.lemmas.Bool.{cases_lt}
-use Rattle.std.proofs.lemmas.List.{length-drop, length-take, take_all, take-append-drop}
-use Rattle.std.proofs.lemmas.List.Elements.{All-nil, All-append}
-use Rattle.std.proofs.Math.Seq.{take-add}
+use Rattle.std.proofs.lemmas.List.{length-drop, length-take, take_all, take-append-le, drop-append-le, take-append-drop}
+use Rattle.std.proofs.lemmas.Option.{slice_get-get_or}
+use Rattle.std.proofs.lemmas.List.Elements.{All-nil, All-append, All-take, All-drop}
+use Rattle.std.proofs.Math.Seq.{take-add, take-append-add}
 use Rattle.std.specs.List.{All}
 use Rattle.std.specs.declared.alloc.AllocError.{AllocError}
 use Rattle.cf_row.specs.Row.{RowValue, Fits}
+use Rattle.cf_row.specs.declared.row.Entry.{Entry}
+use Rattle.cf_fold.specs.declared.trigger.Trigger.{Trigger}
+use Rattle.cf_history.specs.Order.{rows_of, written_by}
 use Rattle.cf_shape.specs.Lanes.{ShapeValue, IsShape}
+use Rattle.cf_shape.specs.Nodes.{distinct}
 use Rattle.cf_plain.specs.Answered.{LoadedValue, answer_on}
 use Rattle.cf_plain.specs.Asks.{Suits, SuitsTrigger}
 use Rattle.cf_plain.specs.declared.ask.Ask.{Ask}
 use Rattle.cf_plain.specs.declared.loaded.Live.{Live}
-use Rattle.cf_table.specs.Values.{PassValue, LogValue}
 use Rattle.cf_table.proofs.Settling.{begins_then}
 use Rattle.cf_load.specs.declared.plan.LivePlan.{LivePlan}
 use Rattle.cf_load.specs.declared.loads.LoadFault.{LoadFault}
 use Rattle.cf_load.specs.declared.loads.LoadFault.TheVariants.{Full, NodesFull, Memory}
-use Rattle.cf_load.specs.Loading.{HasLoaded, HasAnswered, AsksBeside}
-use Rattle.cf_load.specs.Loads.{Keeps, LacksNodes, HasSome, IsLoaded}
+use Rattle.cf_load.specs.declared.segments.Segment.{Segment}
+use Rattle.cf_load.specs.Blocks.{block}
+use Rattle.cf_load.specs.Loading.{HasAnswered, AsksBeside}
+use Rattle.cf_load.specs.Loads.{LacksNodes, HasSome, HaveStopped, IsLoaded, room_of}
 use Rattle.cf_load.specs.Loaders.{LoaderValue, IsFresh, IsLoading, IsBatched, IsRefused, IsFinished}
 use Rattle.cf_load.specs.Planned.{IsPlan, IsSamePlan, marks_on, tails_of}
-use Rattle.cf_load.proofs.Batches.{lacks_more}
+use Rattle.cf_load.specs.Segments.{SegmentsValue, all_of, base_of, entries_of, told_of, IsSegments, HoldsRows, GoesOn, KeepsAll}
+use Rattle.cf_load.proofs.Batches.{distinct_more}
+use Rattle.cf_load.proofs.Chains.{base_whole, rows_are_log}
 use Rattle.cf_load.proofs.Enough.{loaded_few}
-use Rattle.cf_load.proofs.Keeping.{still_holds}
+use Rattle.cf_load.proofs.Kept.{kept_entries, kept_goes, kept_holds, kept_told, goes_none, goes_then}
 use Rattle.cf_load.proofs.Loading.{answered_beside}
 use Rattle.cf_load.proofs.Tails.{answered_none}
+use Rattle.cf_load.proofs.Written.{part_after, rows_append}
 
 -- a plan that asks the same suits the same shapes
 same_suits : (shape : ShapeValue) (plan other : LivePlan) → IsSamePlan plan other → IsPlan shape plan → IsPlan shape other
@@ -35,60 +44,126 @@ same_suits shape plan other same suits = record {
   lives = subst (λ (asks : List Ask). All (λ place. place < length asks) other.lives.items) (sym same.asks) (subst (All (λ place. place < length plan.asks.items)) (sym same.lives) suits.lives);
 }
 
+-- segments that go on have room for as many rows
+pub same_room : (s t : SegmentsValue) → GoesOn s t → room_of t ≡ room_of s
+same_room s t same = ap₂ (λ (n : ℕ) (h : ShapeValue). n * h.capacity) same.most same.shape
+
+-- segments that hold rows have as many entries
+pub entries_long : (s : SegmentsValue) (rows : List RowValue) → HoldsRows s rows → length (entries_of s) ≡ length rows
+entries_long s rows holds = (rows_are_log s rows holds).0.size
+
 -- before the first batch
-pub starts : (log : LogValue) (plan : LivePlan) (loader : LoaderValue) (root : PassValue) → IsPlan log.shape plan → IsFresh plan loader → HasLoaded log 0 [] root → IsLoading log [] loader root
-starts log plan loader root suits fresh has = record {
-  plan = same_suits log.shape plan loader.plan fresh.plan_is suits;
+pub starts : (s : SegmentsValue) (plan : LivePlan) (loader : LoaderValue) → IsPlan s.shape plan → IsFresh plan loader → HoldsRows s [] → IsLoading s [] loader
+starts s plan loader suits fresh has = record {
+  plan = same_suits s.shape plan loader.plan fresh.plan_is suits;
   going = fresh.going;
   count = fresh.count;
   few = omega arith;
-  fit = All-nil (Fits (log.shape).schema);
+  fit = All-nil (Fits (s.shape).schema);
   loaded = has;
-  answered = subst (HasAnswered log.shape loader.plan.asks.items loader.plan.lives.items loader.plan.rounds 0 (root.view).seen) (sym fresh.lives) (answered_none log.shape loader.plan.asks.items loader.plan.lives.items loader.plan.rounds (root.view).seen);
+  answered = subst (HasAnswered s.shape loader.plan.asks.items loader.plan.lives.items loader.plan.rounds 0 (entries_of s)) (sym fresh.lives) (answered_none s.shape loader.plan.asks.items loader.plan.lives.items loader.plan.rounds (entries_of s));
 }
 
 -- a batch is loaded, and its answers come after those before
-pub goes_on : (log : LogValue) (before rows : List RowValue) (old new : LoaderValue) (b : ℕ) (m n : PassValue) (more : List Live) → IsLoading log before old m → HasLoaded log 0 (before ++ rows) n → length before ≡ 4096 * b → 0 < length rows → length rows ≤ 4096
-    → length before + length rows ≤ (log.shape).capacity → All (Fits (log.shape).schema) rows → AsksBeside log.shape old.plan b (m.view).seen (n.view).seen more
-    → n ≡ record m { view = n.view } → (n.view).told ≡ (m.view).told ++ tails_of more → new ≡ record old { count = old.count + length rows; lives = old.lives ++ more }
-    → IsBatched log before rows old new m n
-goes_on log before rows old new b m n more is has long some few room fits beside same told now = record {
+pub goes_on : (before rows : List RowValue) (old new : LoaderValue) (b : ℕ) (s t : SegmentsValue) (more : List Live) → IsLoading s before old → HoldsRows t (before ++ rows) → GoesOn s t → length before ≡ 4096 * b → 0 < length rows → length rows ≤ 4096
+    → length before + length rows ≤ room_of s → All (Fits (s.shape).schema) rows → AsksBeside s.shape old.plan b (entries_of s) (entries_of t) more
+    → told_of t ≡ told_of s ++ tails_of more → new ≡ record old { count = old.count + length rows; lives = old.lives ++ more }
+    → IsBatched before rows old new s t
+goes_on before rows old new b s t more is has same long some few room fits beside told now = record {
   same = same;
   more = more;
   loader = now;
   told = told;
-  longer = begins_then (m.view).seen beside.read (n.view).seen beside.asks.longer beside.begins;
-  loading = subst (λ (loader : LoaderValue). IsLoading log (before ++ rows) loader n) (sym now) (record {
-    plan = is.plan;
+  longer = begins_then (entries_of s) beside.read (entries_of t) beside.asks.longer beside.begins;
+  loading = subst (λ (loader : LoaderValue). IsLoading t (before ++ rows) loader) (sym now) (record {
+    plan = subst (λ (h : ShapeValue). IsPlan h old.plan) (sym same.shape) is.plan;
     going = is.going;
     count = ap (λ (k : ℕ). k + length rows) is.count ∙ sym (length-append before rows);
-    few = (let l = length-append before rows in omega (arith, l, room));
-    fit = All-append (Fits (log.shape).schema) before rows is.fit fits;
+    few = (let l = length-append before rows in let most = same_room s t same in omega (arith, l, room, most));
+    fit = subst (λ (h : ShapeValue). All (Fits h.schema) (before ++ rows)) (sym same.shape) (All-append (Fits (s.shape).schema) before rows is.fit fits);
     loaded = has;
-    answered = answered_beside log before rows old.plan b m n old.lives more is.loaded has long some few is.answered beside;
+    answered = subst (λ (h : ShapeValue). HasAnswered h old.plan.asks.items old.plan.lives.items old.plan.rounds (length (before ++ rows)) (entries_of t) (old.lives ++ more)) (sym same.shape)
+        (answered_beside s.shape before rows old.plan b (entries_of s) (entries_of t) old.lives more (entries_long s before is.loaded) (entries_long t (before ++ rows) has) long some few is.answered beside);
   });
 }
 
--- what the loader's answers say of the log
-pub finishes : (log : LogValue) (rows : List RowValue) (loader : LoaderValue) (m n : PassValue) (answered : LoadedValue) → IsShape log.shape → IsLoading log rows loader m → Keeps m n
-    → answered.finals ≡ map (answer_on log.shape (m.view).seen) loader.plan.asks.items → answered.alerts ≡ map (marks_on log.shape (m.view).seen) loader.plan.triggers.items → answered.lives ≡ loader.lives
-    → IsFinished log rows loader m n answered
-finishes log rows loader m n answered shape is keeps finals alerts lives = record {
-  keeps = keeps;
-  loaded = still_holds log 0 rows m n is.loaded keeps;
-  finals = rw keeps.seen finals;
-  alerts = rw keeps.seen alerts;
-  lives_are = lives;
-  lives = rw (lives, keeps.seen) is.answered;
-  few_nodes = loaded_few log 0 rows m shape is.fit is.loaded;
-}
+-- a block of rows that go on begins with the same
+block_more : (n k : ℕ) (xs ys : List RowValue) → (rest : List RowValue) × (block n k (xs ++ ys) ≡ block n k xs ++ rest)
+block_more n k xs ys = elim (cases_lt (length xs) (n * k)) [
+  | inl past ↦ (block n k (xs ++ ys), ap (λ (rs : List RowValue). rs ++ block n k (xs ++ ys)) (sym (part_after n (n * k) xs (omega (arith, past)))))
+  | inr there ↦
+      let at : drop (n * k) (xs ++ ys) ≡ drop (n * k) xs ++ ys = drop-append-le (n * k) xs ys (omega (arith, there)) in
+      elim (cases_lt (length (drop (n * k) xs)) n) [
+        | inl short ↦
+            let l : ℕ = length (drop (n * k) xs) in
+            let sum : n ≡ l + (n - l) = omega (arith, short) in (
+              take (n - l) ys,
+              ap (take n) at ∙ (ap (λ (i : ℕ). take i (drop (n * k) xs ++ ys)) sum ∙ (take-append-add (drop (n * k) xs) ys (n - l) ∙ ap (λ (rs : List RowValue). rs ++ take (n - l) ys) (sym (take_all n (drop (n * k) xs) (omega (arith, short)))))),
+            )
+        | inr long ↦ ([], ap (take n) at ∙ (take-append-le n (drop (n * k) xs) ys (omega (arith, long)) ∙ sym (append-nil (block n k xs))))
+      ]
+]
+
+-- more rows want more nodes too
+pub lacks_more : (s : SegmentsValue) (rows more : List RowValue) (w : ℕ) → LacksNodes s rows w → LacksNodes s (rows ++ more) w
+lacks_more s rows more w lacks =
+    let n = (s.shape).capacity in
+    let b = block_more n lacks.place rows more in
+    let d = distinct_more s.shape (block n lacks.place rows) b.0 in
+    let many = lacks.many in record {
+      are = lacks.are;
+      exists = lacks.exists;
+      place = lacks.place;
+      many = subst (λ (rs : List RowValue). (s.shape).nodes < distinct s.shape rs) (sym b.1) (omega (arith, many, d));
+      fronts = λ v lt. (let f = lacks.fronts v lt in let W = (s.shape).writers in (
+        f.0 ++ rows_of W v (0 + length rows) more,
+        sym (append_assoc (written_by v (entries_of s)) f.0 (rows_of W v (0 + length rows) more)) ∙ (ap (λ (rs : List RowValue). rs ++ rows_of W v (0 + length rows) more) f.1 ∙ sym (rows_append W v 0 rows more)),
+      ));
+    }
+
+-- each block of the rows that segments hold needs no more nodes than all writers of a segment have
+pub blocks_few : (s : SegmentsValue) (rows : List RowValue) → IsShape s.shape → All (Fits (s.shape).schema) rows → HoldsRows s rows → (k : ℕ) → distinct s.shape (block (s.shape).capacity k rows) ≤ (s.shape).writers * (s.shape).nodes
+blocks_few s rows lawful fits holds k =
+    let n = (s.shape).capacity in
+    elim (cases_lt k (length (all_of s))) [
+      | inl there ↦
+          let g : Segment = get_or (all_of s) k s.current in
+          let at : slice_get (all_of s) k ≡ Some g = slice_get-get_or (all_of s) k s.current there in
+          let same : (g.log).shape ≡ s.shape = (holds.are.each k g at).shape_is in
+          let fit : All (Fits (s.shape).schema) (block n k rows) = All-take (Fits (s.shape).schema) n (drop (n * k) rows) (All-drop (Fits (s.shape).schema) (n * k) rows fits) in
+          subst (λ (h : ShapeValue). distinct h (block n k rows) ≤ h.writers * h.nodes) same
+          (loaded_few g.log (n * k) (block n k rows) g.root (subst IsShape (sym same) lawful) (subst (λ (h : ShapeValue). All (Fits h.schema) (block n k rows)) (sym same) fit) (holds.each k g at))
+      | inr past ↦
+          let more = length-append s.closed (s.current ∷ []) in
+          let far : n * suc (length s.closed) ≤ n * k = mul-le-mul_left n (let e : suc (length s.closed) ≤ k = omega (arith, past, more) in e) in
+          let step = mul-suc n (length s.closed) in
+          let room = holds.room in
+          subst (λ (rs : List RowValue). distinct s.shape rs ≤ (s.shape).writers * (s.shape).nodes) (sym (part_after n (n * k) rows (omega (arith, far, step, room)))) (omega arith)
+    ]
+
+-- what the loader's answers say of all entries
+pub finishes : (rows : List RowValue) (loader : LoaderValue) (s t : SegmentsValue) (answered : LoadedValue) → IsShape s.shape → IsLoading s rows loader → KeepsAll s t
+    → answered.finals ≡ map (answer_on s.shape (entries_of s)) loader.plan.asks.items → answered.alerts ≡ map (marks_on s.shape (entries_of s)) loader.plan.triggers.items → answered.lives ≡ loader.lives
+    → IsFinished rows loader s t answered
+finishes rows loader s t answered shape is keeps finals alerts lives =
+    let same : entries_of t ≡ entries_of s = kept_entries s t keeps in record {
+      keeps = keeps;
+      loaded = kept_holds s t keeps rows is.loaded;
+      told = kept_told s t keeps;
+      finals = finals ∙ ap (λ (es : List Entry). map (answer_on s.shape es) loader.plan.asks.items) (sym same);
+      alerts = alerts ∙ ap (λ (es : List Entry). map (marks_on s.shape es) loader.plan.triggers.items) (sym same);
+      lives_are = lives;
+      lives = subst (λ (es : List Entry). HasAnswered s.shape loader.plan.asks.items loader.plan.lives.items loader.plan.rounds (length rows) es answered.lives) (sym same)
+          (subst (HasAnswered s.shape loader.plan.asks.items loader.plan.lives.items loader.plan.rounds (length rows) (entries_of s)) (sym lives) is.answered);
+      few_nodes = blocks_few s rows shape is.fit is.loaded;
+    }
 
 -- and what is left where memory is wanted
-pub finishes_if : (log : LogValue) (rows : List RowValue) (loader : LoaderValue) (m n : PassValue) (result : Result LoadedValue AllocError) → IsShape log.shape → IsLoading log rows loader m → Keeps m n
-    → IfOk result (λ (answered : LoadedValue). answered.finals ≡ map (answer_on log.shape (m.view).seen) loader.plan.asks.items) → IfOk result (λ (answered : LoadedValue). answered.alerts ≡ map (marks_on log.shape (m.view).seen) loader.plan.triggers.items)
-    → IfOk result (λ (answered : LoadedValue). answered.lives ≡ loader.lives) → MatchResult result (IsFinished log rows loader m n) (λ x. Keeps m n × HasLoaded log 0 rows n)
-finishes_if log rows loader m n (Ok answered) shape is keeps finals alerts lives = finishes log rows loader m n answered shape is keeps finals alerts lives
-finishes_if log rows loader m n (Err e) shape is keeps finals alerts lives = (keeps, still_holds log 0 rows m n is.loaded keeps)
+pub finishes_if : (rows : List RowValue) (loader : LoaderValue) (s t : SegmentsValue) (result : Result LoadedValue AllocError) → IsShape s.shape → IsLoading s rows loader → KeepsAll s t
+    → IfOk result (λ (answered : LoadedValue). answered.finals ≡ map (answer_on s.shape (entries_of s)) loader.plan.asks.items) → IfOk result (λ (answered : LoadedValue). answered.alerts ≡ map (marks_on s.shape (entries_of s)) loader.plan.triggers.items)
+    → IfOk result (λ (answered : LoadedValue). answered.lives ≡ loader.lives) → MatchResult result (IsFinished rows loader s t) (λ x. KeepsAll s t × HoldsRows t rows)
+finishes_if rows loader s t (Ok answered) shape is keeps finals alerts lives = finishes rows loader s t answered shape is keeps finals alerts lives
+finishes_if rows loader s t (Err e) shape is keeps finals alerts lives = (keeps, kept_holds s t keeps rows is.loaded)
 
 -- the part of a list from some place on, to its end or as many as a batch has
 pub part_is : {X : Type 0} (xs : List X) (from to : ℕ) → from ≤ length xs → to ≡ min (length xs) (from + 4096) → take (to - from) (drop from xs) ≡ take 4096 (drop from xs)
@@ -106,34 +181,52 @@ more_of rows part b is =
     ap (λ (rs : List RowValue). take (4096 * b) rows ++ rs) is ∙ (sym (take-add (4096 * b) 4096 rows) ∙ ap (λ i. take i rows) e)
 
 -- a fault in one of the batches of some rows
-pub some_of : (log : LogValue) (rows before part : List RowValue) (m n : PassValue) (i j : ℕ) (fault : LoadFault) → before ≡ take i rows → before ++ part ≡ take j rows → length rows ≤ (log.shape).capacity → IsRefused log before part m n fault → HasSome log rows n fault
-some_of log rows before part m n i j Full front both few left = absurd (let l = length-append before part in let k = ap length both in let t = length-take j rows in omega (arith, left.0, l, k, t, few))
-some_of log rows before part m n i j (NodesFull w) front both few left =
-    let more = lacks_more log 0 (before ++ part) (drop j rows) w n left.2 in
-    subst (λ (rs : List RowValue). LacksNodes log 0 rs w n) (ap (λ (rs : List RowValue). rs ++ drop j rows) both ∙ take-append-drop j rows) more
-some_of log rows before part m n i j Memory front both few left = elim left.2 [
-  | inl none ↦ (i, subst (λ (rs : List RowValue). HasLoaded log 0 rs n) front none)
-  | inr all ↦ (j, subst (λ (rs : List RowValue). HasLoaded log 0 rs n) both all)
+pub some_of : (rows before part : List RowValue) (s t : SegmentsValue) (i j : ℕ) (fault : LoadFault) → before ≡ take i rows → before ++ part ≡ take j rows → length rows ≤ room_of s → IsRefused before part s t fault → HasSome rows t fault
+some_of rows before part s t i j Full front both few left = absurd (let l = length-append before part in let k = ap length both in let u = length-take j rows in omega (arith, left.0, l, k, u, few))
+some_of rows before part s t i j (NodesFull w) front both few left =
+    let more = lacks_more t (before ++ part) (drop j rows) w left.2 in
+    subst (λ (rs : List RowValue). LacksNodes t rs w) (ap (λ (rs : List RowValue). rs ++ drop j rows) both ∙ take-append-drop j rows) more
+some_of rows before part s t i j Memory front both few left = elim left.2 [
+  | inl none ↦ (i, subst (HoldsRows t) front none)
+  | inr all ↦ (j, subst (HoldsRows t) both all)
 ]
 
--- what a refused batch leaves of the root
-pub refused_same : (log : LogValue) (before part : List RowValue) (m n : PassValue) (fault : LoadFault) → IsRefused log before part m n fault → n ≡ record m { view = n.view }
-refused_same log before part m n Full left = left.1 ∙ ap (λ (h : PassValue). record m { view = h.view }) (sym left.1)
-refused_same log before part m n (NodesFull w) left = left.1
-refused_same log before part m n Memory left = left.1
+-- what a refused batch leaves of the segments
+pub refused_goes : (before part : List RowValue) (s t : SegmentsValue) (fault : LoadFault) → IsRefused before part s t fault → GoesOn s t
+refused_goes before part s t Full left = subst (GoesOn s) (sym left.1) (goes_none s)
+refused_goes before part s t (NodesFull w) left = left.1
+refused_goes before part s t Memory left = left.1
 
 -- all batches of a load, and then the answers
-pub loads : (log : LogValue) (rows : List RowValue) (plan : LivePlan) (loader : LoaderValue) (m n o : PassValue) (answered : LoadedValue) → IsSamePlan plan loader.plan → IsLoading log rows loader n → n ≡ record m { view = n.view } → (n.view).told ≡ (m.view).told ++ tails_of loader.lives
-    → IsFinished log rows loader n o answered → IsLoaded log rows plan m o answered
-loads log rows plan loader m n o answered same is kept told made = record {
-  few = is.few;
-  same = made.keeps.same ∙ ap (λ (h : PassValue). record h { view = o.view }) kept;
+pub loads : (rows : List RowValue) (plan : LivePlan) (loader : LoaderValue) (s t u : SegmentsValue) (answered : LoadedValue) → IsSamePlan plan loader.plan → IsLoading t rows loader → GoesOn s t → told_of t ≡ told_of s ++ tails_of loader.lives
+    → IsFinished rows loader t u answered → IsLoaded rows plan s u answered
+loads rows plan loader s t u answered same is goes told made = record {
+  few = (let few = is.few in let most = same_room s t goes in omega (arith, few, most));
+  same = goes_then s t u goes (kept_goes t u made.keeps);
   loaded = made.loaded;
-  finals = made.finals ∙ ap (map (answer_on log.shape (o.view).seen)) same.asks;
-  alerts = made.alerts ∙ ap (map (marks_on log.shape (o.view).seen)) same.triggers;
-  lives = subst (λ (k : ℕ). HasAnswered log.shape plan.asks.items plan.lives.items k (length rows) (o.view).seen answered.lives) same.rounds
-      (subst (λ (ls : List ℕ). HasAnswered log.shape plan.asks.items ls loader.plan.rounds (length rows) (o.view).seen answered.lives) same.lives
-      (subst (λ (asks : List Ask). HasAnswered log.shape asks loader.plan.lives.items loader.plan.rounds (length rows) (o.view).seen answered.lives) same.asks made.lives));
-  told = made.keeps.told ∙ (told ∙ ap (λ (ls : List Live). (m.view).told ++ tails_of ls) (sym made.lives_are));
-  few_nodes = made.few_nodes;
+  finals = made.finals ∙ ap₂ (λ (h : ShapeValue) (asks : List Ask). map (answer_on h (entries_of u)) asks) goes.shape same.asks;
+  alerts = made.alerts ∙ ap₂ (λ (h : ShapeValue) (triggers : List Trigger). map (marks_on h (entries_of u)) triggers) goes.shape same.triggers;
+  lives = subst (λ (h : ShapeValue). HasAnswered h plan.asks.items plan.lives.items plan.rounds (length rows) (entries_of u) answered.lives) goes.shape
+      (subst (λ (k : ℕ). HasAnswered t.shape plan.asks.items plan.lives.items k (length rows) (entries_of u) answered.lives) same.rounds
+      (subst (λ (ls : List ℕ). HasAnswered t.shape plan.asks.items ls loader.plan.rounds (length rows) (entries_of u) answered.lives) same.lives
+      (subst (λ (asks : List Ask). HasAnswered t.shape asks loader.plan.lives.items loader.plan.rounds (length rows) (entries_of u) answered.lives) same.asks made.lives)));
+  told = made.told ∙ (told ∙ ap (λ (ls : List Live). told_of s ++ tails_of ls) (sym made.lives_are));
+  few_nodes = subst (λ (h : ShapeValue). (k : ℕ) → distinct h (block h.capacity k rows) ≤ h.writers * h.nodes) goes.shape made.few_nodes;
 }
+
+-- a batch has room in the current segment, where one of its rows has
+pub batch_room : (s : SegmentsValue) (count k : ℕ) → IsSegments s → count % 4096 ≡ 0 → k ≤ 4096 → count < base_of s + (s.shape).capacity → count + k ≤ room_of s → count + k ≤ base_of s + (s.shape).capacity
+batch_room s count k is begins few some room = elim (cases_lt 1 s.most) [
+  | inl many ↦ (let whole = is.sizes.whole many in let base = base_whole s is in omega (arith, begins, few, some, whole, base))
+  | inr one ↦
+      let low = is.sizes.some in
+      let most : s.most ≡ 1 = omega (arith, one, low) in
+      let all : room_of s ≡ (s.shape).capacity = ap (λ (n : ℕ). n * (s.shape).capacity) most ∙ one-mul (s.shape).capacity in
+      omega (arith, room, all)
+]
+
+-- what a batch leaves that was refused beside its rows
+pub refused : (before rows : List RowValue) (s t : SegmentsValue) (fault : LoadFault) → length before + length rows ≤ room_of s → GoesOn s t → HaveStopped before rows t fault → IsRefused before rows s t fault
+refused before rows s t Full room goes stopped = absurd stopped
+refused before rows s t (NodesFull w) room goes stopped = (room, goes, stopped)
+refused before rows s t Memory room goes stopped = (room, goes, stopped)

@@ -4,5 +4,6 @@ pub mod Writing
 pub mod Loading
 pub mod Segments
 pub mod Planned
+pub mod Priors
 pub mod Loads
 pub mod Loaders

@@ -1,5 +1,5 @@
 -- What a log holds while it is loaded batch by batch, and what a reader beside the writers has answered.
-use Rattle.std.specs.Prelude.{◌≡◌, ◌<◌, ◌≤◌, ◌+◌, ◌*◌, ℕ, List, ◌++◌, length, map, take, slice_index_or}
+use Rattle.std.specs.Prelude.{◌≡◌, ◌⊎◌, ◌<◌, ◌≤◌, ◌+◌, ◌*◌, ℕ, List, ◌++◌, length, map, take, slice_index_or}
 use Rattle.std.specs.List.{flat_map, range_with_len, AllByRecursion}
 use Rattle.cf_row.specs.Row.{RowValue}
 use Rattle.cf_row.specs.declared.row.Entry.{Entry}
@@ -7,11 +7,14 @@ use Rattle.cf_history.specs.History.{NeverFall}
 use Rattle.cf_history.specs.Order.{batch, rows_of, written_by}
 use Rattle.cf_history.specs.Tails.{AreTails}
 use Rattle.cf_shape.specs.Lanes.{ShapeValue}
+use Rattle.cf_shape.specs.Nodes.{distinct}
 use Rattle.cf_plain.specs.Asks.{eval}
 use Rattle.cf_plain.specs.declared.ask.Ask.{Ask}
 use Rattle.cf_plain.specs.declared.loaded.Live.{Live}
 use Rattle.cf_plain.specs.Answered.{no_ask, turn_of}
 use Rattle.cf_load.specs.declared.plan.LivePlan.{LivePlan}
+use Rattle.cf_load.specs.declared.loads.LoadFault.{LoadFault}
+use Rattle.cf_load.specs.declared.loads.LoadFault.TheVariants.{Full, NodesFull, Memory}
 use Rattle.cf_load.specs.Needed.{HasNodes}
 use Rattle.cf_table.specs.Values.{PassValue, LogValue, IsOf}
 use Rattle.cf_table.specs.Moves.{Begins, HoldsAllBooks}
@@ -31,6 +34,21 @@ pub record HasLoaded (log : LogValue) (first : ℕ) (rows : List RowValue) (befo
   pub is : IsLogFrom first rows (log.shape).writers (before.view).seen
   pub own : (w : ℕ) → w < (log.shape).writers → written_by w (before.view).seen ≡ rows_of (log.shape).writers w first rows
   pub nodes : HasNodes log.shape rows before.view
+
+-- The rows, of which the first is row number `first`, need more different nodes than that writer has, which ran out of them. The
+-- root holds all books at rest, and each writer's entries are the first of its rows.
+pub record IsShort (log : LogValue) (first : ℕ) (rows : List RowValue) (writer : ℕ) (after : PassValue) : Type 0 where
+  pub exists : writer < (log.shape).writers
+  pub many : (log.shape).nodes < distinct log.shape rows
+  pub of : IsOf after log
+  pub settled : HoldsAllBooks log.shape after.view
+  pub fronts : (w : ℕ) → w < (log.shape).writers → (left : List RowValue) × (written_by w (after.view).seen ++ left ≡ rows_of (log.shape).writers w first rows)
+
+-- what the log holds after a fault in a batch: where memory is wanted, the rows before it alone or all rows of the batch too
+abbrev pub HasStopped : LogValue → ℕ → List RowValue → List RowValue → PassValue → LoadFault → Type 0
+HasStopped log first before rows n Full = ⊥
+HasStopped log first before rows n (NodesFull writer) = IsShort log first (before ++ rows) writer n
+HasStopped log first before rows n Memory = HasLoaded log first before n ⊎ HasLoaded log first (before ++ rows) n
 
 -- What the reader did beside a batch: a live answer for each round and each live question, in this order, each the question's
 -- meaning on as many entries as it saw. The lengths never fall.
@@ -56,10 +74,6 @@ pub record AsksSome (shape : ShapeValue) (asks : List Ask) (lives : List ℕ) (r
 pub record HasAnswered (shape : ShapeValue) (asks : List Ask) (lives : List ℕ) (rounds n : ℕ) (seen : List Entry) (answers : List Live) : Type 0 where
   pub tails : AreTails n rounds lives (map turn_of answers)
   pub bodies : AllByRecursion (λ live. live.answer.body ≡ eval shape (slice_index_or asks live.ask no_ask) (take live.answer.tail seen)) answers
-
--- the root holds all books at rest, and what it has seen is a log of the first of these rows
-abbrev pub HoldsSome : LogValue → List RowValue → PassValue → Type 0
-HoldsSome log rows m = (count : ℕ) × HasLoaded log 0 (take count rows) m
 
 -- The reader asked beside a batch. What it had seen then begins what was seen after it.
 pub record AsksBeside (shape : ShapeValue) (plan : LivePlan) (batch : ℕ) (before after : List Entry) (more : List Live) : Type 0 where

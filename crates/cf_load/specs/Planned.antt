@@ -1,10 +1,13 @@
 -- What is asked of a log that is loaded, and what the reader's pass is after it asked.
-use Rattle.std.specs.Prelude.{◌≡◌, ◌<◌, ℕ, List, ◌++◌, length, map, All}
+use Rattle.std.specs.Prelude.{◌≡◌, ◌<◌, ◌+◌, ℕ, List, ◌++◌, length, map, slice_index_or, All}
 use Rattle.cf_row.specs.declared.row.Entry.{Entry}
 use Rattle.cf_fold.specs.declared.trigger.Trigger.{Trigger}
 use Rattle.cf_shape.specs.Lanes.{ShapeValue}
 use Rattle.cf_plain.specs.Asks.{Suits, SuitsTrigger, rows_in, marks_over}
+use Rattle.cf_plain.specs.Answered.{no_ask}
+use Rattle.cf_plain.specs.Segments.{finding_in}
 use Rattle.cf_plain.specs.declared.answer.Fired.{Fired}
+use Rattle.cf_plain.specs.declared.finding.Finding.{Finding}
 use Rattle.cf_plain.specs.declared.loaded.Live.{Live}
 use Rattle.cf_table.specs.Values.{PassValue}
 use Rattle.cf_load.specs.declared.plan.LivePlan.{LivePlan}
@@ -30,9 +33,14 @@ marks_on shape entries trigger = marks_over shape trigger (rows_in entries)
 abbrev pub tails_of : List Live → List ℕ
 tails_of lives = map (λ (live : Live). live.answer.tail) lives
 
--- the pass that asked is as it was but for what it has seen, and notes the tails of its answers
-pub record HasRead (before after : PassValue) (more : List Live) : Type 0 where
+-- what each live question of the plan finds in some entries
+abbrev pub findings_on : ShapeValue → LivePlan → List Entry → List Finding
+findings_on shape plan entries = map (λ place. finding_in shape (slice_index_or plan.asks.items place no_ask) (rows_in entries)) plan.lives.items
+
+-- The pass that asked is as it was but for what it has seen, and notes how much of its own log each answer saw. Before that log's
+-- first entry there are as many as the base.
+pub record HasRead (base : ℕ) (before after : PassValue) (more : List Live) : Type 0 where
   pub same : after ≡ record before { view = after.view }
   pub books : (after.view).books ≡ (before.view).books
   pub told : (after.view).told ≡ (before.view).told
-  pub tails : (after.view).tails ≡ (before.view).tails ++ tails_of more
+  pub tails : map (λ tail. base + tail) (after.view).tails ≡ map (λ tail. base + tail) (before.view).tails ++ tails_of more

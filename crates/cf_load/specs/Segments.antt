@@ -4,7 +4,7 @@ use Rattle.std.specs.List.{flat_map, AllZip}
 use Rattle.cf_row.specs.Row.{RowValue}
 use Rattle.cf_row.specs.declared.row.Entry.{Entry}
 use Rattle.cf_shape.specs.Lanes.{ShapeValue}
-use Rattle.cf_table.specs.Values.{IsOf}
+use Rattle.cf_table.specs.Values.{PassValue, IsOf}
 use Rattle.cf_table.specs.Rule.{root_pass}
 use Rattle.cf_table.specs.Moves.{HoldsAllBooks, OnlyLooked, SealValue}
 use Rattle.cf_load.specs.Blocks.{block}
@@ -103,3 +103,38 @@ pub record HaveLooked (before after : SegmentsValue) : Type 0 where
 -- what is left of a segment that is sealed
 abbrev pub sealed : Segment → SealValue
 sealed segment = record { entries = seen_of segment; told = (segment.root.view).told }
+
+-- it is the same log, and its root the same pass, whatever the root holds and knows
+pub record IsSameSegment (before after : Segment) : Type 0 where
+  pub log : after.log ≡ before.log
+  pub root : after.root ≡ record before.root { view = after.root.view }
+
+-- the second list's first segments are those of the first list
+abbrev pub AreFirst : List Segment → List Segment → Type 0
+AreFirst [] others = Unit {0}
+AreFirst (segment ∷ segments) [] = ⊥
+AreFirst (segment ∷ segments) (other ∷ others) = IsSameSegment segment other × AreFirst segments others
+
+-- They are the same segments, and others may have come behind them.
+pub record GoesOn (before after : SegmentsValue) : Type 0 where
+  pub shape : after.shape ≡ before.shape
+  pub most : after.most ≡ before.most
+  pub first : AreFirst (all_of before) (all_of after)
+
+-- what the pass has seen, was told and holds stays
+pub record Keeps (before after : PassValue) : Type 0 where
+  pub same : after ≡ record before { view = after.view }
+  pub seen : (after.view).seen ≡ (before.view).seen
+  pub books : (after.view).books ≡ (before.view).books
+  pub told : (after.view).told ≡ (before.view).told
+
+-- the segment's log stays, and so does what its root has seen, was told and holds
+pub record KeepsSegment (before after : Segment) : Type 0 where
+  pub log : after.log ≡ before.log
+  pub root : Keeps before.root after.root
+
+-- all segments stay, with what their roots have seen, were told and hold
+pub record KeepsAll (before after : SegmentsValue) : Type 0 where
+  pub same : after ≡ record before { closed = after.closed; current = after.current }
+  pub closed : AllZip KeepsSegment before.closed after.closed
+  pub current : KeepsSegment before.current after.current

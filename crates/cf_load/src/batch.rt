@@ -1,14 +1,16 @@
 // A batch: the writers append its rows while the reader asks.
-ghost use Rattle.std.specs.Prelude.{◌≡◌, ◌+◌, ◌*◌, ◌<◌, ◌≤◌, ◌^◌, ◌++◌, All, List, length, is_none, IfSome, IfOk, MatchResult};
+ghost use Rattle.std.specs.Prelude.{◌≡◌, ◌+◌, ◌*◌, ◌%◌, ◌<◌, ◌≤◌, ◌^◌, ◌++◌, All, List, length, map, is_none, IfSome, IfOk, MatchResult};
 ghost use Rattle.std.specs.List.{AllZip};
 ghost use Rattle.std.specs.Thread.{IsSync};
 ghost use Rattle.cf_row.specs.Row.{Fits, RowValue};
 ghost use Rattle.cf_table.specs.Values.{IsOf};
-ghost use Rattle.cf_load.specs.Loading.{AsksBatch, HasLoaded, AsksBeside};
-ghost use Rattle.cf_load.specs.Loads.{outcome_of, HasStopped};
+ghost use Rattle.cf_load.specs.Loading.{AsksBatch, HasLoaded, HasStopped, AsksBeside};
+ghost use Rattle.cf_load.specs.Loads.{outcome_of};
 ghost use Rattle.cf_load.specs.Planned.{IsPlan, HasRead, tails_of};
+ghost use Rattle.cf_load.specs.Priors.{IsPrior, entries_before};
 ghost use Rattle.cf_load.specs.Writing.{IsReady, RanOut, Wrote};
 
+use crate::prior::Prior;
 use crate::reader::ask_counted;
 use crate::writers::run_writers;
 use crate::{LivePlan, LoadFault};
@@ -27,16 +29,18 @@ fn ask_beside<G: Gate>(
     alloc: Global,
     gate: &G,
     plan: &LivePlan,
+    prior: &Prior,
     batch: u32,
     reader: &mut ReaderPass,
 ) -> Result<Vec<Live>, Memory>
     requires of { IsOf reader.old log.now }
     requires plan { IsPlan log.now.shape plan.now }
+    requires prior { IsPrior log.now.shape plan.now prior.now }
     ensures of { IsOf reader.new log.now }
-    ensures asks { IfOk result (λ more. AsksBatch log.now.shape plan.now.asks.items plan.now.lives.items plan.now.rounds batch reader.old.view.seen reader.new.view.seen more.items) }
-    ensures read { IfOk result (λ more. HasRead reader.old reader.new more.items) }
+    ensures asks { IfOk result (λ more. AsksBatch log.now.shape plan.now.asks.items plan.now.lives.items plan.now.rounds batch (entries_before prior.now ++ reader.old.view.seen) (entries_before prior.now ++ reader.new.view.seen) more.items) }
+    ensures read { IfOk result (λ more. HasRead prior.now.base reader.old reader.new more.items) }
 {
-    ask_counted::<_, Brand>(log, alloc, gate, plan, batch, reader, Blank::new(1))
+    ask_counted::<_, Brand>(log, alloc, gate, plan, prior, batch, reader, Blank::new(1))
 }
 
 // The writers append the rows of a batch in threads of their own, while the reader asks in this one. Answers a writer that ran out
@@ -47,6 +51,7 @@ fn run_beside<R: Threads + Sync, G: Gate>(
     log: &MultiLog,
     gate: &G,
     plan: &LivePlan,
+    prior: &Prior,
     batch: u32,
     rows: &[Row],
     reader: &mut ReaderPass,
@@ -54,14 +59,15 @@ fn run_beside<R: Threads + Sync, G: Gate>(
 ) -> (Option<u8>, Result<Vec<Live>, Memory>)
     requires of { IsOf reader.old log.now }
     requires plan { IsPlan log.now.shape plan.now }
+    requires prior { IsPrior log.now.shape plan.now prior.now }
     requires ready { All (IsReady log.now) passes.old }
     requires fits { All (Fits log.now.shape.schema) rows.now }
     requires room { 4096 * batch + length rows.now < 2 ^ 32 }
     ensures wrote { AllZip (Wrote (is_none result.0) log.now (4096 * batch) rows.now) passes.old passes.new }
     ensures out { IfSome result.0 (λ writer. RanOut log.now rows.now writer passes.new) }
     ensures of { IsOf reader.new log.now }
-    ensures asks { IfOk result.1 (λ more. AsksBatch log.now.shape plan.now.asks.items plan.now.lives.items plan.now.rounds batch reader.old.view.seen reader.new.view.seen more.items) }
-    ensures read { IfOk result.1 (λ more. HasRead reader.old reader.new more.items) }
+    ensures asks { IfOk result.1 (λ more. AsksBatch log.now.shape plan.now.asks.items plan.now.lives.items plan.now.rounds batch (entries_before prior.now ++ reader.old.view.seen) (entries_before prior.now ++ reader.new.view.seen) more.items) }
+    ensures read { IfOk result.1 (λ more. HasRead prior.now.base reader.old reader.new more.items) }
 {
     join_mut(
         rt,
@@ -71,11 +77,11 @@ fn run_beside<R: Threads + Sync, G: Gate>(
             ensures out { IfSome result (λ writer. RanOut log.entry.now rows.entry.now writer passes.exit.now) }
         { run_writers(rt, log, gate, 4096 * u64::from(batch), rows, passes) },
         &mut || -> Result<Vec<Live>, Memory>
-            requires { IsSync G.row × IsOf reader.now log.now × IsPlan log.now.shape plan.now }
+            requires { IsSync G.row × IsOf reader.now log.now × IsPlan log.now.shape plan.now × IsPrior log.now.shape plan.now prior.now }
             ensures of { IsOf reader.exit.now log.entry.now }
-            ensures asks { IfOk result (λ more. AsksBatch log.entry.now.shape plan.entry.now.asks.items plan.entry.now.lives.items plan.entry.now.rounds batch reader.entry.now.view.seen reader.exit.now.view.seen more.items) }
-            ensures read { IfOk result (λ more. HasRead reader.entry.now reader.exit.now more.items) }
-        { ask_beside(log, alloc, gate, plan, batch, reader) },
+            ensures asks { IfOk result (λ more. AsksBatch log.entry.now.shape plan.entry.now.asks.items plan.entry.now.lives.items plan.entry.now.rounds batch (entries_before prior.entry.now ++ reader.entry.now.view.seen) (entries_before prior.entry.now ++ reader.exit.now.view.seen) more.items) }
+            ensures read { IfOk result (λ more. HasRead prior.entry.now.base reader.entry.now reader.exit.now more.items) }
+        { ask_beside(log, alloc, gate, plan, prior, batch, reader) },
     )
 }
 
@@ -91,7 +97,8 @@ fn outcome(out: Option<u8>, answers: Result<Vec<Live>, Memory>) -> Result<Vec<Li
     }
 }
 
-// Loads the rows of a batch, where all before are loaded. Refused for memory, the log has them all or none of them.
+// Loads the rows of a batch into a log behind the entries that `prior` speaks of, where all rows before are loaded. Refused for
+// memory, the log has them all or none of them.
 pub(crate) fn load_batch<R: Threads + Sync, G: Gate>(
     rt: &R,
     alloc: Global,
@@ -99,18 +106,21 @@ pub(crate) fn load_batch<R: Threads + Sync, G: Gate>(
     root: &mut Root,
     rows: &[Row],
     plan: &LivePlan,
+    prior: &Prior,
     gate: &G,
     batch: u32,
 ) -> Result<Vec<Live>, LoadFault>
-    requires loaded { (before : List RowValue) × (length before ≡ 4096 * batch) × HasLoaded log.now 0 before root.old }
+    requires loaded { (before : List RowValue) × (prior.now.base + length before ≡ 4096 * batch) × HasLoaded log.now prior.now.base before root.old }
+    requires whole { prior.now.base % 4096 ≡ 0 }
     requires plan { IsPlan log.now.shape plan.now }
+    requires prior { IsPrior log.now.shape plan.now prior.now }
     requires fits { All (Fits log.now.shape.schema) rows.now }
     requires few { length rows.now ≤ 4096 }
-    requires room { 4096 * batch + length rows.now ≤ log.now.shape.capacity }
+    requires room { 4096 * batch + length rows.now ≤ prior.now.base + log.now.shape.capacity }
     ensures same { root.new ≡ record root.old { view = root.new.view } }
-    ensures loaded { (before : List RowValue) → length before ≡ 4096 * batch → HasLoaded log.now 0 before root.old → MatchResult result (λ _. HasLoaded log.now 0 (before ++ rows.now) root.new) (HasStopped log.now before rows.now root.new) }
-    ensures asked { IfOk result (λ more. AsksBeside log.now.shape plan.now batch root.old.view.seen root.new.view.seen more.items) }
-    ensures told { IfOk result (λ more. root.new.view.told ≡ root.old.view.told ++ tails_of more.items) }
+    ensures loaded { (before : List RowValue) → prior.now.base + length before ≡ 4096 * batch → HasLoaded log.now prior.now.base before root.old → MatchResult result (λ _. HasLoaded log.now prior.now.base (before ++ rows.now) root.new) (HasStopped log.now prior.now.base before rows.now root.new) }
+    ensures asked { IfOk result (λ more. AsksBeside log.now.shape plan.now batch (entries_before prior.now ++ root.old.view.seen) (entries_before prior.now ++ root.new.view.seen) more.items) }
+    ensures told { IfOk result (λ more. map (λ tail. prior.now.base + tail) root.new.view.told ≡ map (λ tail. prior.now.base + tail) root.old.view.told ++ tails_of more.items) }
 {
     let _few = log.shape().capacity();
     let Ok(mut passes) = log.deal(alloc, root) else {
@@ -123,6 +133,7 @@ pub(crate) fn load_batch<R: Threads + Sync, G: Gate>(
         log,
         gate,
         plan,
+        prior,
         batch,
         rows,
         &mut reader,

@@ -1,12 +1,14 @@
-//! A log is loaded: its rows go into the shared log by as many writers as it has, each in a thread of its own, while a
-//! reader asks the live questions.
+//! A log is loaded, segment by segment: its rows go into the current segment by as many writers as it has, each in a thread of
+//! its own, while a reader asks the live questions of all entries so far.
 #![tactic(auto)]
 
 mod batch;
+mod filling;
 mod finals;
 mod loader;
 mod loads;
 mod plan;
+mod prior;
 mod reader;
 mod segments;
 #[cfg(test)]

@@ -3,7 +3,8 @@ ghost use Rattle.std.specs.Prelude.{◌≡◌, ◌+◌, ◌≤◌, ◌↔◌, �
 ghost use Rattle.std.specs.List.{AllZip, flat_map};
 ghost use Rattle.cf_shape.specs.Lanes.{ShapeValue, IsShape};
 ghost use Rattle.cf_table.specs.Values.{IsOf};
-ghost use Rattle.cf_load.specs.Segments.{AllowsSegments, IsSegment, IsOpened, HoldsRows, HasTurned, HasLooked, HaveLooked, all_of, entries_of, seen_of, sealed, told_of};
+ghost use Rattle.cf_load.specs.Loads.{room_of};
+ghost use Rattle.cf_load.specs.Segments.{AllowsSegments, IsSegment, IsOpened, HoldsRows, HasTurned, HasLooked, HaveLooked, all_of, base_of, entries_of, seen_of, sealed, told_of};
 ghost use Rattle.cf_load.specs.declared.segments.TurnFault.TheVariants.{Memory as NoMemory, Spent};
 
 use cf_row::{Entry, Memory};
@@ -78,9 +79,9 @@ pub struct Closing {
 /// segment k has room for the rows from number k * N on. All books are home between calls.
 #[derive(Drop)]
 pub struct Segments {
-    most: u32,
-    closed: Vec<Segment>,
-    current: Segment,
+    pub(crate) most: u32,
+    pub(crate) closed: Vec<Segment>,
+    pub(crate) current: Segment,
 }
 
 impl Model for Segments {
@@ -167,6 +168,20 @@ impl Segments {
         ensures lawful { IsShape self.now.shape }
     {
         self.current.log.shape()
+    }
+
+    /// How many rows all segments have room for.
+    pub fn room(&self) -> u32
+        ensures { result ≡ room_of self.now }
+    {
+        self.most * self.current.log.shape().capacity()
+    }
+
+    // How many rows the closed segments have room for.
+    pub(crate) fn base(&self) -> u32
+        ensures { result ≡ base_of self.now }
+    {
+        self.current.log.shape().capacity() * self.closed.len() as u32
     }
 
     /// Closes the current segment, and opens one behind it. Refused, all is as it was.

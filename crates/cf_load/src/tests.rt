@@ -1,19 +1,20 @@
-ghost use Rattle.std.specs.Prelude.{◌≡◌, ◌+◌, ◌<◌, ◌^◌, ◌↔◌, [], All, length, IsTrue};
+ghost use Rattle.std.specs.Prelude.{◌≡◌, ◌+◌, ◌<◌, ◌^◌, ◌↔◌, [], All, length, IfOk, IsTrue};
 ghost use Rattle.cf_row.specs.Row.{Fits};
 ghost use Rattle.cf_table.specs.Values.{IsOf};
 ghost use Rattle.cf_law.specs.Readers.{AtHome};
 ghost use Rattle.cf_law.specs.Shapes.{layout};
 ghost use Rattle.cf_table.specs.Moves.{AreAll};
-ghost use Rattle.cf_load.specs.Segments.{AllowsSegments};
+ghost use Rattle.cf_load.specs.Segments.{AllowsSegments, HoldsRows};
 ghost use Rattle.cf_load.specs.Writing.{IsReady};
 
 use crate::writers::run_writers;
-use crate::{LivePlan, LoadFault, Loader, Segments, TurnFault, load};
+use crate::{Closing, LivePlan, LoadFault, Loader, Segments, TurnFault, load};
+use cf_fold::{Part, Trigger};
 use cf_outside::FreeGate;
-use cf_plain::{Answer, Ask, Body, Loaded};
-use cf_row::{Attr, Conjunction, Expr, Kind, Memory, Name, Row, Schema, Value, fits};
+use cf_plain::{Answer, Ask, Body, Fired, Loaded};
+use cf_row::{Attr, Conjunction, Expr, Kind, Memory, Name, Op, Row, Schema, Value, fits};
 use cf_shape::{Key, Lane, Shape, belongs};
-use cf_table::{Closed, MultiLog, Pass, Root, WriterPass};
+use cf_table::{MultiLog, Pass, Root, WriterPass};
 use std::alloc::Global;
 use std::process::Abort;
 use std::test::*;
@@ -26,7 +27,7 @@ fn every(alloc: Global) -> Result<Expr, Memory> {
     Ok(Expr::new(conjunctions))
 }
 
-// A shape over the schema `ts:u64` with an index of `ts`. A row's path has 15 nodes.
+// A shape over the schema `ts:u64,len:u32` with an index of `ts` and an aggregate of `len`. A row's paths have 30 nodes.
 fn shape(
     rt: &impl Abort,
     alloc: Global,
@@ -39,12 +40,21 @@ fn shape(
         name: Name::new(alloc, "ts")?,
         kind: Kind::U64,
     })?;
+    attrs.push(Attr {
+        name: Name::new(alloc, "len")?,
+        kind: Kind::U32,
+    })?;
     let schema = Schema::new(attrs).expect(rt, "a schema");
     let mut lanes = Vec::new(alloc);
     lanes.push(Lane {
         select: every(alloc)?,
         key: Key::Attr(0),
         measure: None,
+    })?;
+    lanes.push(Lane {
+        select: every(alloc)?,
+        key: Key::Bucket,
+        measure: Some(1),
     })?;
     assert!(rt; belongs(&schema, &lanes));
     let shape = Shape::new(schema, lanes, capacity, writers, nodes, 10).expect(rt, "a shape");
@@ -56,6 +66,7 @@ fn rows(alloc: Global, count: u32) -> Result<Vec<Row>, Memory> {
     for num in 0..count {
         let mut values = Vec::new(alloc);
         values.push(Value::Num(7))?;
+        values.push(Value::Num(1))?;
         rows.push(Row::new(num, values))?;
     }
     Ok(rows)
@@ -99,7 +110,7 @@ fn cover<R: Threads + Sync + Abort>(
 ) -> Result<u32, Fail> {
     let all = rows(alloc, count)?;
     let rows = all.as_slice();
-    let (log, mut root) = MultiLog::open(alloc, shape(rt, alloc, capacity, writers, 15)?)?;
+    let (log, mut root) = MultiLog::open(alloc, shape(rt, alloc, capacity, writers, 30)?)?;
     assert!(rt; rows.len() < 100);
     assert!(rt; all_fit(log.shape().schema(), rows));
     let passes = log.deal(alloc, &mut root)?;
@@ -148,7 +159,7 @@ fn writers_in_threads(rt: HostRuntime) -> Result<(), Fail> {
     Ok(())
 }
 
-// all rows, by a scan and by their key, each asked live once a round
+// all rows, by a scan and by their key, each asked live once a round, and a trigger that no 4,096 rows fire
 fn plan(alloc: Global) -> Result<LivePlan, Memory> {
     let mut asks = Vec::new(alloc);
     asks.push(Ask::List(every(alloc)?))?;
@@ -156,9 +167,16 @@ fn plan(alloc: Global) -> Result<LivePlan, Memory> {
     let mut lives = Vec::new(alloc);
     lives.push(0)?;
     lives.push(1)?;
+    let mut triggers = Vec::new(alloc);
+    triggers.push(Trigger {
+        agg: 1,
+        part: Part::Count,
+        op: Op::Gt,
+        number: 4096,
+    })?;
     Ok(LivePlan {
         asks,
-        triggers: Vec::new(alloc),
+        triggers,
         lives,
         rounds: 1,
     })
@@ -172,9 +190,11 @@ fn seen_by(answer: &Answer) -> (usize, u32) {
     }
 }
 
-// Each answer has as many places as it saw entries, the live ones in the order of their batches, and the final ones saw all.
+// Each answer has as many places as it saw entries, the live ones in the order of their batches, and the final ones saw all. The
+// trigger fires on all rows together.
 fn check<R: Abort>(rt: &R, loaded: &Loaded, count: u32) {
-    assert!(rt; loaded.finals().len() == 2 && loaded.lives().len() == 6);
+    let batches = count.div_ceil(4096) as usize;
+    assert!(rt; loaded.finals().len() == 2 && loaded.lives().len() == 2 * batches);
     for answer in loaded.finals() {
         assert_eq!(rt; seen_by(answer), (count as usize, count));
     }
@@ -182,109 +202,17 @@ fn check<R: Abort>(rt: &R, loaded: &Loaded, count: u32) {
     for live in loaded.lives() {
         let (places, tail) = seen_by(&live.answer);
         assert!(rt; places == tail as usize && last <= tail && tail <= count);
+        assert!(rt; live.batch <= tail / 4096);
         last = tail;
     }
-}
-
-// So many writers load that many rows, in three batches, beside a reader.
-fn load_all<R: Threads + Sync + Abort>(
-    rt: &R,
-    alloc: Global,
-    capacity: u32,
-    writers: u8,
-    nodes: u32,
-    count: u32,
-) -> Result<Result<Loaded, LoadFault>, Fail> {
-    let all = rows(alloc, count)?;
-    let rows = all.as_slice();
-    let plan = plan(alloc)?;
-    let (log, mut root) = MultiLog::open(alloc, shape(rt, alloc, capacity, writers, nodes)?)?;
-    assert!(rt; all_fit(log.shape().schema(), rows));
-    assert!(rt; plan.suits(log.shape()));
-    Ok(load(rt, alloc, &log, &mut root, rows, &plan, &FreeGate))
-}
-
-#[test]
-fn all_rows_have_one_path(rt: HostRuntime) -> Result<(), Fail> {
-    for writers in [1, 2, 4, 15] {
-        let loaded = load_all(&rt, rt.alloc(), 10_000, writers, 15, 10_000)?;
-        check(&rt, &loaded.expect(&rt, "loaded"), 10_000);
+    let fired = Fired {
+        bucket: 0,
+        value: u64::from(count),
+    };
+    for marks in loaded.alerts() {
+        assert_eq!(rt; marks.as_slice().len(), usize::from(count > 4096));
+        assert!(rt; marks.as_slice().iter().all(|mark| *mark == fired));
     }
-    Ok(())
-}
-
-#[test]
-fn the_log_or_the_nodes_are_too_few(rt: HostRuntime) -> Result<(), Fail> {
-    for (capacity, writers, nodes, wanted) in [
-        (3, 2, 15, Some(LoadFault::Full)),
-        (4, 1, 14, Some(LoadFault::NodesFull(0))),
-        (3, 1, 14, Some(LoadFault::Full)),
-        (4, 1, 15, None),
-    ] {
-        let loaded = load_all(&rt, rt.alloc(), capacity, writers, nodes, 4)?;
-        assert_eq!(rt; loaded.err(), wanted);
-    }
-    for (writers, nodes) in [(2, 7), (14, 1), (15, 0)] {
-        let loaded = load_all(&rt, rt.alloc(), 4, writers, nodes, 4)?;
-        assert!(rt; matches!(loaded, Err(LoadFault::NodesFull(_))));
-    }
-    Ok(())
-}
-
-// Loads the rows by one writer, all at once, and closes the log.
-fn load_at_once<R: Threads + Sync + Abort>(
-    rt: &R,
-    alloc: Global,
-    rows: &[Row],
-) -> Result<(Closed, Loaded), Fail> {
-    let plan = plan(alloc)?;
-    let (log, mut root) = MultiLog::open(alloc, shape(rt, alloc, 5000, 1, 15)?)?;
-    assert!(rt; all_fit(log.shape().schema(), rows));
-    assert!(rt; plan.suits(log.shape()));
-    let loaded = load(rt, alloc, &log, &mut root, rows, &plan, &FreeGate).expect(rt, "loaded");
-    let closed = log.close(alloc, root).ok().expect(rt, "memory");
-    Ok((closed, loaded))
-}
-
-// Loads the rows by a loader in two batches, the first of which has 4,096.
-fn load_in_two<R: Threads + Sync + Abort>(
-    rt: &R,
-    alloc: Global,
-    rows: &[Row],
-) -> Result<(Closed, Loaded), Fail> {
-    let plan = plan(alloc)?;
-    let (log, mut root) = MultiLog::open(alloc, shape(rt, alloc, 5000, 1, 15)?)?;
-    assert!(rt; all_fit(log.shape().schema(), rows));
-    assert!(rt; plan.suits(log.shape()));
-    assert!(rt; 4096 < rows.len() && rows.len() <= 5000);
-    let (first, rest) = rows.split_at(4096);
-    let mut loader = Loader::new(alloc, &log, &plan)?;
-    let answer = loader.batch(rt, alloc, &log, &mut root, first, &FreeGate);
-    answer.expect(rt, "the first batch");
-    let answer = loader.batch(rt, alloc, &log, &mut root, rest, &FreeGate);
-    answer.expect(rt, "the second batch");
-    let loaded = loader.finish(alloc, &log, &mut root)?;
-    let closed = log.close(alloc, root).ok().expect(rt, "memory");
-    Ok((closed, loaded))
-}
-
-#[test]
-fn two_batches_load_what_all_rows_at_once_do(rt: HostRuntime) -> Result<(), Fail> {
-    let alloc = rt.alloc();
-    let rows = rows(alloc, 4100)?;
-    let (whole, told) = load_at_once(&rt, alloc, &rows)?;
-    let (parts, told_too) = load_in_two(&rt, alloc, &rows)?;
-    assert_eq!(rt; whole.entries.len(), 4100);
-    assert_eq!(rt; parts.entries.len(), 4100);
-    for (entry, other) in whole.entries.iter().zip(parts.entries.iter()) {
-        assert_eq!(rt; entry.row.num(), other.row.num());
-    }
-    assert_eq!(rt; told.lives().len(), told_too.lives().len());
-    for (answer, other) in told.finals().iter().zip(told_too.finals().iter()) {
-        assert_eq!(rt; seen_by(answer), (4100, 4100));
-        assert_eq!(rt; seen_by(answer), seen_by(other));
-    }
-    Ok(())
 }
 
 // Whether a log of the shape may go on through so many segments.
@@ -296,23 +224,35 @@ fn allows(shape: &Shape, most: u32) -> bool
     1 <= most && most <= 256 && u64::from(most) * capacity <= 1 << 20 && is_whole
 }
 
-// The first of so many segments.
-fn open_segments<R: Abort>(
-    rt: &R,
-    alloc: Global,
-    capacity: u32,
+// How many segments there may be, the places and nodes of each, and the writers.
+#[derive(Clone, Copy, Drop)]
+struct Sizes {
     most: u32,
-) -> Result<Segments, Fail> {
-    let shape = shape(rt, alloc, capacity, 1, 15)?;
-    assert!(rt; allows(&shape, most));
-    Ok(Segments::open(alloc, shape, most)?)
+    capacity: u32,
+    writers: u8,
+    nodes: u32,
+}
+
+// The first of so many segments.
+fn open_segments<R: Abort>(rt: &R, alloc: Global, sizes: Sizes) -> Result<Segments, Fail>
+    ensures { IfOk result (λ segments. HoldsRows segments []) }
+{
+    let shape = shape(rt, alloc, sizes.capacity, sizes.writers, sizes.nodes)?;
+    assert!(rt; allows(&shape, sizes.most));
+    Ok(Segments::open(alloc, shape, sizes.most)?)
 }
 
 #[test]
 fn segments_turn_until_they_are_spent(rt: HostRuntime) -> Result<(), Fail> {
     let alloc = rt.alloc();
     for (capacity, most) in [(1, 1), (4096, 1), (4096, 2), (4096, 256)] {
-        let mut segments = open_segments(&rt, alloc, capacity, most)?;
+        let sizes = Sizes {
+            most,
+            capacity,
+            writers: 1,
+            nodes: 30,
+        };
+        let mut segments = open_segments(&rt, alloc, sizes)?;
         for _ in 1..most {
             assert!(rt; segments.turn(alloc).is_ok());
         }
@@ -320,6 +260,141 @@ fn segments_turn_until_they_are_spent(rt: HostRuntime) -> Result<(), Fail> {
         let closing = segments.close(alloc).ok().expect(&rt, "memory");
         assert_eq!(rt; closing.entries.len(), 0);
         assert_eq!(rt; closing.seals.len(), most as usize);
+    }
+    Ok(())
+}
+
+// So many rows are loaded, beside a reader.
+fn load_all<R: Threads + Sync + Abort>(
+    rt: &R,
+    alloc: Global,
+    sizes: Sizes,
+    count: u32,
+) -> Result<Result<(Closing, Loaded), LoadFault>, Fail> {
+    let all = rows(alloc, count)?;
+    let rows = all.as_slice();
+    let plan = plan(alloc)?;
+    let mut segments = open_segments(rt, alloc, sizes)?;
+    assert!(rt; all_fit(segments.shape().schema(), rows));
+    assert!(rt; plan.suits(segments.shape()));
+    match load(rt, alloc, &mut segments, rows, &plan, &FreeGate) {
+        Ok(loaded) => {
+            let closing = segments.close(alloc).ok().expect(rt, "memory");
+            Ok(Ok((closing, loaded)))
+        }
+        Err(fault) => Ok(Err(fault)),
+    }
+}
+
+#[test]
+fn all_rows_have_one_path(rt: HostRuntime) -> Result<(), Fail> {
+    for writers in [1, 2, 4, 15] {
+        let sizes = Sizes {
+            most: 1,
+            capacity: 5000,
+            writers,
+            nodes: 30,
+        };
+        let loaded = load_all(&rt, rt.alloc(), sizes, 5000)?;
+        check(&rt, &loaded.expect(&rt, "loaded").1, 5000);
+    }
+    Ok(())
+}
+
+// Rows go on in the next segment, as one log: questions are asked of all entries so far, and a trigger that no segment fires
+// does so over two.
+#[test]
+fn segments_are_filled_one_after_the_other(rt: HostRuntime) -> Result<(), Fail> {
+    for (count, seals) in [(4096, 1), (4097, 2), (8192, 2), (8193, 3)] {
+        let sizes = Sizes {
+            most: 3,
+            capacity: 4096,
+            writers: 1,
+            nodes: 30,
+        };
+        let loaded = load_all(&rt, rt.alloc(), sizes, count)?;
+        let (closing, answers) = loaded.expect(&rt, "loaded");
+        check(&rt, &answers, count);
+        assert_eq!(rt; closing.seals.len(), seals);
+        assert_eq!(rt; closing.entries.len(), count as usize);
+        for (entry, number) in closing.entries.iter().zip(0..count) {
+            assert_eq!(rt; entry.row.num(), number);
+        }
+    }
+    Ok(())
+}
+
+#[test]
+fn there_is_no_room_or_the_nodes_are_too_few(rt: HostRuntime) -> Result<(), Fail> {
+    for (most, capacity, writers, nodes, count, wanted) in [
+        (1, 3, 2, 30, 4, Some(LoadFault::Full)),
+        (1, 4, 1, 29, 4, Some(LoadFault::NodesFull(0))),
+        (1, 3, 1, 29, 4, Some(LoadFault::Full)),
+        (1, 4, 1, 30, 4, None),
+        (2, 4096, 1, 30, 8193, Some(LoadFault::Full)),
+    ] {
+        let sizes = Sizes {
+            most,
+            capacity,
+            writers,
+            nodes,
+        };
+        let loaded = load_all(&rt, rt.alloc(), sizes, count)?;
+        assert_eq!(rt; loaded.err(), wanted);
+    }
+    for (writers, nodes) in [(2, 14), (14, 2), (15, 0)] {
+        let sizes = Sizes {
+            most: 1,
+            capacity: 4,
+            writers,
+            nodes,
+        };
+        let loaded = load_all(&rt, rt.alloc(), sizes, 4)?;
+        assert!(rt; matches!(loaded, Err(LoadFault::NodesFull(_))));
+    }
+    Ok(())
+}
+
+// Loads the rows by a loader in two batches, the first of which has 4,096.
+fn load_in_two<R: Threads + Sync + Abort>(
+    rt: &R,
+    alloc: Global,
+    sizes: Sizes,
+    rows: &[Row],
+) -> Result<(Closing, Loaded), Fail> {
+    let plan = plan(alloc)?;
+    let mut segments = open_segments(rt, alloc, sizes)?;
+    assert!(rt; all_fit(segments.shape().schema(), rows));
+    assert!(rt; plan.suits(segments.shape()));
+    assert!(rt; 4096 < rows.len() && rows.len() <= 5000);
+    let (first, rest) = rows.split_at(4096);
+    let mut loader = Loader::new(alloc, &segments, &plan)?;
+    let answer = loader.batch(rt, alloc, &mut segments, first, &FreeGate);
+    answer.expect(rt, "the first batch");
+    let answer = loader.batch(rt, alloc, &mut segments, rest, &FreeGate);
+    answer.expect(rt, "the second batch");
+    let loaded = loader.finish(alloc, &mut segments)?;
+    let closing = segments.close(alloc).ok().expect(rt, "memory");
+    Ok((closing, loaded))
+}
+
+#[test]
+fn two_batches_load_what_all_rows_at_once_do(rt: HostRuntime) -> Result<(), Fail> {
+    let alloc = rt.alloc();
+    let rows = rows(alloc, 4100)?;
+    for (most, capacity) in [(1, 5000), (2, 4096)] {
+        let sizes = Sizes {
+            most,
+            capacity,
+            writers: 1,
+            nodes: 30,
+        };
+        let (parts, told) = load_in_two(&rt, alloc, sizes, &rows)?;
+        assert_eq!(rt; parts.entries.len(), 4100);
+        for (entry, row) in parts.entries.iter().zip(rows.iter()) {
+            assert_eq!(rt; entry.row.num(), row.num());
+        }
+        check(&rt, &told, 4100);
     }
     Ok(())
 }

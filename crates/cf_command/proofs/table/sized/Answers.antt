@@ -5,6 +5,8 @@ use Rattle.cf_command.specs.Table.{roomed_app}
 use Rattle.cf_command.proofs.table.sized.Goals as goal
 
 pub returns-clause-rules : goal.returns-clause-rules
-returns-clause-rules c = IfOk-weaker c.roomed.result _ _ (λ m e. e
+returns-clause-rules c = IfOk-weaker c.and-2.result _ _ (λ m e. e
+    ∙ ap₂ with_rule (c.in_ok-command-2.ensures.rules
     ∙ ap roomed_app (c.in_ok-command.ensures.rules
-    ∙ ap (with_rule (app_of c.args.command)) c.optional_option.ensures.rule)) c.roomed.ensures.rules
+    ∙ ap (with_rule (app_of c.args.command)) c.optional_option.ensures.rule))
+    c.optional_option-2.ensures.rule) c.and-2.ensures.rules

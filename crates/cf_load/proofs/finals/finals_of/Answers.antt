@@ -1,35 +1,29 @@
-use Rattle.std.proofs.Common.{◌≡◌, ap, ◌∙◌, rules}
+use Rattle.std.proofs.Common.{◌≡◌, ap, ◌∙◌, List}
+use Rattle.cf_row.specs.declared.row.Entry.{Entry}
+use Rattle.cf_shape.specs.Lanes.{ShapeValue}
 use Rattle.cf_plain.specs.Answered.{answer_on}
-use Rattle.cf_load.proofs.Keeping.{keeps_then, keeps_asked, settled_kept, made_more}
+use Rattle.cf_load.specs.Segments.{SegmentsValue, entries_of}
+use Rattle.cf_load.proofs.Keeping.{made_more}
+use Rattle.cf_load.proofs.Kept.{all_none, all_then, kept_entries, kept_shape}
 use Rattle.cf_load.proofs.finals.finals_of.Goals as goal
 
+pub loop-question-init : goal.loop-question-init
+loop-question-init g c = record { keeps = all_none c.args.segments.now; answers = c.new-finals.ensures.items }
+
 pub returns-in_err-ask-clause-keeps : goal.returns-in_err-ask-clause-keeps
-returns-in_err-ask-clause-keeps g c =
-    let s = c.args.log.now.shape in
-    let m = c.args.root.now in
-    let k = c.loop-question.invariant.keeps in
-    keeps_then m c.loop-question.root c.ask.new.pass k (keeps_asked s c.loop-question.root c.ask.new.pass c.in_err-ask.ensures.memory (settled_kept s m c.loop-question.root k c.requires.settled))
+returns-in_err-ask-clause-keeps g c = all_then c.args.segments.now c.loop-question.segments c.ask.new.self c.loop-question.invariant.keeps c.in_err-ask.ensures.kept
 
 pub returns-in_err-push-clause-keeps : goal.returns-in_err-push-clause-keeps
-returns-in_err-push-clause-keeps g c =
-    let s = c.args.log.now.shape in
-    let m = c.args.root.now in
-    let k = c.loop-question.invariant.keeps in
-    keeps_then m c.loop-question.root c.ask.new.pass k (keeps_asked s c.loop-question.root c.ask.new.pass c.in_ok-ask.ensures.ok.0 (settled_kept s m c.loop-question.root k c.requires.settled))
+returns-in_err-push-clause-keeps g c = all_then c.args.segments.now c.loop-question.segments c.ask.new.self c.loop-question.invariant.keeps c.in_ok-ask.ensures.kept
 
 pub loop-question-preserved : goal.loop-question-preserved
 loop-question-preserved g c =
-    let s = c.args.log.now.shape in
-    let whole = c.args.log.now.shape in
-    let m = c.args.root.now in
-    let k = c.loop-question.invariant.keeps in
-    let made = c.in_ok-ask.ensures.ok in
-    let now = keeps_then m c.loop-question.root c.ask.new.pass k (keeps_asked s c.loop-question.root c.ask.new.pass made.0 (settled_kept s m c.loop-question.root k c.requires.settled)) in
-    let i = c.loop-question.question-index in
+    let s : SegmentsValue = c.args.segments.now in
+    let t : SegmentsValue = c.loop-question.segments in
+    let keeps = c.loop-question.invariant.keeps in
     let question = c.question-item.result in
-    let answer = c.in_ok-ask.field-0 in
-    let one : answer ≡ answer_on whole (m.view).seen question = search rules in
-    record {
-      keeps = now;
-      answers = made_more (answer_on whole (m.view).seen) c.args.asks.now c.loop-question.finals.items c.push.new.self.items i question answer c.loop-question.invariant.answers c.loop-question-test.true (one ∙ ap (answer_on whole (m.view).seen) c.question-item.is) c.in_ok-push.ensures.items;
+    let one : c.in_ok-ask.field-0 ≡ answer_on s.shape (entries_of s) question =
+    c.in_ok-ask.ensures.answer ∙ (ap (λ (h : ShapeValue). answer_on h (entries_of t) question) (kept_shape s t keeps) ∙ ap (λ (es : List Entry). answer_on s.shape es question) (kept_entries s t keeps)) in record {
+      keeps = all_then s t c.ask.new.self keeps c.in_ok-ask.ensures.kept;
+      answers = made_more (answer_on s.shape (entries_of s)) c.args.asks.now c.loop-question.finals.items c.push.new.self.items c.loop-question.question-index question c.in_ok-ask.field-0 c.loop-question.invariant.answers c.loop-question-test.true (one ∙ ap (answer_on s.shape (entries_of s)) c.question-item.is) c.in_ok-push.ensures.items;
     }

@@ -1,38 +1,67 @@
-use Rattle.std.proofs.Common.{refl, ◌≡◌, ◌<◌, ◌+◌, ◌++◌, ◌∷◌, [], List, length, get_or, ap, sym, subst, ◌∙◌, rules}
-use Rattle.cf_plain.specs.Asks.{eval}
+use Rattle.std.proofs.Common.{refl, ◌≡◌, ◌<◌, ◌+◌, ◌++◌, ◌∷◌, [], ℕ, List, length, length-append, get_or, ap, sym, subst, ◌∙◌, rules}
+use Rattle.std.proofs.lemmas.List.{get_or-map}
+use Rattle.cf_row.specs.declared.row.Entry.{Entry}
+use Rattle.cf_plain.specs.Asks.{eval, rows_in}
+use Rattle.cf_plain.specs.Segments.{finding_in}
+use Rattle.cf_plain.specs.declared.answer.Answer.{Answer}
 use Rattle.cf_plain.specs.declared.ask.Ask.{Ask}
+use Rattle.cf_plain.specs.declared.finding.Finding.{Finding}
 use Rattle.cf_plain.specs.declared.loaded.Live.{Live}
-use Rattle.cf_plain.specs.Answered.{no_ask}
+use Rattle.cf_plain.specs.Answered.{answer_on, no_ask}
 use Rattle.cf_load.specs.Loading.{AsksSome}
-use Rattle.cf_load.specs.Planned.{IsPlan, HasRead}
+use Rattle.cf_load.specs.Planned.{HasRead}
+use Rattle.cf_load.specs.Priors.{HasFound, entries_before}
+use Rattle.cf_load.proofs.Findings.{begins_behind}
 use Rattle.cf_load.proofs.Tails.{asks_more, asks_round}
-use Rattle.cf_load.proofs.Reading.{get_there, ask_found, read_more}
+use Rattle.cf_load.proofs.Reading.{get_there, read_more}
 use Rattle.cf_load.proofs.reader.ask_round.Goals as goal
 
-pub loop-place-preserved : goal.loop-place-preserved
-loop-place-preserved g c =
+pub loop-turn-preserved : goal.loop-turn-preserved
+loop-turn-preserved g c =
     let log = c.args.log.now in
     let plan = c.args.plan.now in
-    let i = c.loop-place.place-index in
-    let made = c.in_ok-answer.ensures.ok in
-    let n = c.ask.new.pass in
-    let live : Live = record { batch = c.args.at.0; round = c.args.at.1; ask = get_or plan.lives.items i 0; answer = c.in_ok-answer.answer } in
-    let items : c.push.new.self.items ≡ c.loop-place.answers.items ++ live ∷ [] = search rules in
+    let prior = c.args.prior.now in
+    let before : List Entry = entries_before prior in
+    let start = c.args.start.now.value in
+    let i = c.loop-turn.turn in
+    let m = c.loop-turn.reader in
+    let n = c.answer_behind.new.pass in
+    let seen : List Entry = (n.view).seen in
+    let question : Ask = c.index-question.result.now in
+    let live : Live = record { batch = c.args.at.0; round = c.args.at.1; ask = c.index-place.result.now; answer = c.in_ok-answer.answer } in
+    let items : c.push.new.self.items ≡ c.loop-turn.answers.items ++ live ∷ [] = search rules in
     let there : i < length plan.lives.items = search rules in
-    let planned : IsPlan log.shape plan = search rules in
-    let found : c.index.result.now ≡ get_or plan.asks.items live.ask no_ask = ask_found plan.asks.items c.deref-place-items.result.now plan.lives.items i c.index.result.now planned.lives c.deref-place-items.ensures.value there c.index.ensures in
+    let place : live.ask ≡ get_or plan.lives.items i live.ask = c.index-place.ensures in
+    let low : live.ask < length plan.asks.items = subst (λ (k : ℕ). k < length plan.asks.items) (sym (place ∙ get_there plan.lives.items i live.ask 0 there)) (c.requires.plan.lives i 0 there) in
+    let asked : question ≡ get_or plan.asks.items live.ask no_ask = c.index-question.ensures ∙ get_there plan.asks.items live.ask question no_ask low in
+    let found : c.index.result.now ≡ finding_in log.shape (get_or plan.asks.items live.ask no_ask) (rows_in before) =
+    c.index.ensures
+    ∙ (ap (λ (fs : List Finding). get_or fs i c.index.result.now) c.requires.prior.found
+    ∙ (get_or-map (λ (k : ℕ). finding_in log.shape (get_or plan.asks.items k no_ask) (rows_in before)) plan.lives.items i live.ask c.index.result.now there
+    ∙ ap (λ (k : ℕ). finding_in log.shape (get_or plan.asks.items k no_ask) (rows_in before)) (sym place))) in
+    let has : HasFound log.shape question before prior.base c.in_ok-copy.field-0 = record {
+      count_is = c.requires.prior.base_is;
+      finding_is = c.in_ok-copy.ensures ∙ (found ∙ ap (λ (a : Ask). finding_in log.shape a (rows_in before)) (sym asked));
+    } in
+    let made = c.in_ok-answer.ensures.asked in
+    let answer : c.in_ok-answer.answer ≡ answer_on log.shape (before ++ seen) question = c.in_ok-answer.ensures.answer before has in
+    let tail : live.answer.tail ≡ length (before ++ seen) = ap (λ (a : Answer). a.tail) answer in
+    let body : live.answer.body ≡ eval log.shape (get_or plan.asks.items live.ask no_ask) (before ++ seen) = ap (λ (a : Answer). a.body) answer ∙ ap (λ (a : Ask). eval log.shape a (before ++ seen)) asked in
     record {
       of = search rules;
-      asks = subst (λ (xs : List Live). AsksSome log.shape plan.asks.items plan.lives.items c.args.at.1 (i + 1) c.args.at.0 (c.args.start.now.value.view).seen (n.view).seen xs) (sym items)
-          (asks_more log.shape plan.asks.items plan.lives.items c.args.at.1 i c.args.at.0 (c.args.start.now.value.view).seen (c.loop-place.reader.view).seen (n.view).seen c.loop-place.answers.items live c.loop-place.invariant.asks there made.0.longer refl refl (get_there plan.lives.items i 0 live.ask there) made.1 (made.2 ∙ ap (λ (a : Ask). eval log.shape a (n.view).seen) found));
-      read = subst (HasRead c.args.start.now.value n) (sym items) (read_more log.shape c.args.start.now.value c.loop-place.reader n c.loop-place.answers.items live c.loop-place.invariant.read made.0 made.1);
+      asks = subst (λ (xs : List Live). AsksSome log.shape plan.asks.items plan.lives.items c.args.at.1 (i + 1) c.args.at.0 (before ++ (start.view).seen) (before ++ seen) xs) (sym items)
+          (asks_more log.shape plan.asks.items plan.lives.items c.args.at.1 i c.args.at.0 (before ++ (start.view).seen) (before ++ (m.view).seen) (before ++ seen) c.loop-turn.answers.items live c.loop-turn.invariant.asks there (begins_behind before (m.view).seen seen made.longer) refl refl place tail body);
+      read = subst (HasRead prior.base start n) (sym items)
+          (read_more log.shape prior.base start m n c.loop-turn.answers.items live c.loop-turn.invariant.read made (tail ∙ (length-append before seen ∙ ap (λ (k : ℕ). k + length seen) (sym c.requires.prior.base_is))));
     }
 
 pub returns-clause-asks : goal.returns-clause-asks
 returns-clause-asks g c =
     let log = c.args.log.now in
     let plan = c.args.plan.now in
-    let i = c.loop-place.place-index in
+    let before : List Entry = entries_before c.args.prior.now in
+    let start = c.args.start.now.value in
+    let i = c.loop-turn.turn in
     let whole : i ≡ length plan.lives.items = search rules in
-    asks_round log.shape plan.asks.items plan.lives.items c.args.at.1 c.args.at.0 (c.args.start.now.value.view).seen (c.loop-place.reader.view).seen c.loop-place.answers.items
-    (subst (λ k. AsksSome log.shape plan.asks.items plan.lives.items c.args.at.1 k c.args.at.0 (c.args.start.now.value.view).seen (c.loop-place.reader.view).seen c.loop-place.answers.items) whole c.loop-place.invariant.asks)
+    asks_round log.shape plan.asks.items plan.lives.items c.args.at.1 c.args.at.0 (before ++ (start.view).seen) (before ++ (c.loop-turn.reader.view).seen) c.loop-turn.answers.items
+    (subst (λ k. AsksSome log.shape plan.asks.items plan.lives.items c.args.at.1 k c.args.at.0 (before ++ (start.view).seen) (before ++ (c.loop-turn.reader.view).seen) c.loop-turn.answers.items) whole c.loop-turn.invariant.asks)

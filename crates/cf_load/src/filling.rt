@@ -1,0 +1,143 @@
+// Segments are filled, batch by batch, and asked.
+ghost use Rattle.std.specs.Prelude.{◌≡◌, ◌+◌, ◌*◌, ◌<◌, ◌≤◌, ◌++◌, All, List, length, IfOk, IfErr, MatchResult};
+ghost use Rattle.std.specs.List.{flat_map};
+ghost use Rattle.cf_row.specs.Row.{Fits, RowValue};
+ghost use Rattle.cf_plain.specs.Asks.{Suits};
+ghost use Rattle.cf_plain.specs.Answered.{answer_on};
+ghost use Rattle.cf_load.specs.Loading.{AsksBeside};
+ghost use Rattle.cf_load.specs.Loads.{HaveStopped, room_of};
+ghost use Rattle.cf_load.specs.Planned.{IsPlan, tails_of};
+ghost use Rattle.cf_load.specs.Priors.{IsPrior, entries_before};
+ghost use Rattle.cf_load.specs.Segments.{GoesOn, HoldsRows, KeepsAll, base_of, entries_of, seen_of, told_of};
+ghost use Rattle.cf_load.specs.declared.loads.LoadFault.TheVariants.{Memory as NoMemory};
+
+use crate::batch::load_batch;
+use crate::prior::{Prior, answer_behind, findings_in, found_in};
+use crate::{LivePlan, LoadFault, Segments, TurnFault};
+use cf_outside::Gate;
+use cf_plain::{Answer, Ask, Live};
+use cf_row::{Memory, Row};
+use cf_table::Steps;
+use std::alloc::Global;
+use std::marker::Brand;
+use std::snapshot::Snapshot;
+use std::sync::ledger::{Blank, Ledger};
+use std::thread::Threads;
+
+impl Segments {
+    // The question's answer on all entries.
+    pub(crate) fn ask<L: Ledger>(
+        &mut self,
+        alloc: Global,
+        ask: &Ask,
+        steps: &mut Steps<L>,
+    ) -> Result<Answer, Memory>
+        requires suits { Suits self.old.shape ask.now }
+        ensures kept { KeepsAll self.old self.new }
+        ensures answer { IfOk result (λ answer. answer ≡ answer_on self.old.shape (entries_of self.old) ask.now) }
+    {
+        let shape = self.current.log.shape();
+        let before = found_in(alloc, shape, self.closed.as_mut_slice(), ask, steps)?;
+        answer_behind(
+            &self.current.log,
+            alloc,
+            &mut self.current.root,
+            ask,
+            before,
+            steps,
+        )
+    }
+
+    // What the live questions find in the closed segments, which are full.
+    fn prior_counted<L: Ledger>(
+        &mut self,
+        alloc: Global,
+        plan: &LivePlan,
+        blank: Blank,
+    ) -> Result<Prior, Memory>
+        requires plan { IsPlan self.old.shape plan.now }
+        requires full { (rows : List RowValue) × HoldsRows self.old rows }
+        requires blank { (blank.name ≡ L.name) × (blank.parts ≡ L.parts) × (0 < L.parts) }
+        ensures kept { KeepsAll self.old self.new }
+        ensures prior { IfOk result (λ prior. IsPrior self.old.shape plan.now prior × (prior.base ≡ base_of self.old) × (entries_before prior ≡ flat_map seen_of self.old.closed)) }
+    {
+        let mut steps = Steps::<L>::new(blank);
+        let base = self.base();
+        let shape = self.current.log.shape();
+        let findings = findings_in(alloc, shape, self.closed.as_mut_slice(), plan, &mut steps)?;
+        Ok(Prior {
+            base,
+            findings,
+            closed: Snapshot::of(&self.closed),
+        })
+    }
+
+    // As `prior_counted`. Nobody reads how many steps it made.
+    fn prior(&mut self, alloc: Global, plan: &LivePlan) -> Result<Prior, Memory>
+        requires plan { IsPlan self.old.shape plan.now }
+        requires full { (rows : List RowValue) × HoldsRows self.old rows }
+        ensures kept { KeepsAll self.old self.new }
+        ensures prior { IfOk result (λ prior. IsPrior self.old.shape plan.now prior × (prior.base ≡ base_of self.old) × (entries_before prior ≡ flat_map seen_of self.old.closed)) }
+    {
+        self.prior_counted::<Brand>(alloc, plan, Blank::new(1))
+    }
+
+    // Closes the current segment where the rows so far fill it, and there is to be one more.
+    pub(crate) fn make_room(&mut self, alloc: Global, count: u32) -> Result<(), LoadFault>
+        requires holds { (rows : List RowValue) × (length rows ≡ count) × HoldsRows self.old rows }
+        requires room { count < room_of self.old }
+        ensures same { GoesOn self.old self.new }
+        ensures entries { entries_of self.new ≡ entries_of self.old }
+        ensures told { told_of self.new ≡ told_of self.old }
+        ensures holds { (rows : List RowValue) → length rows ≡ count → HoldsRows self.old rows → HoldsRows self.new rows }
+        ensures room { IfOk result (λ _. count < base_of self.new + self.new.shape.capacity) }
+        ensures fault { IfErr result (λ fault. fault ≡ NoMemory) }
+    {
+        if count < self.base() + self.shape().capacity() {
+            return Ok(());
+        }
+        match self.turn(alloc) {
+            Ok(()) => Ok(()),
+            Err(TurnFault::Memory) => Err(LoadFault::Memory),
+            Err(TurnFault::Spent) => unreachable!(),
+        }
+    }
+
+    // Loads the rows of a batch into the current segment, which has room for them. Refused for memory, the segments have them all
+    // or none of them.
+    pub(crate) fn load<R: Threads + Sync, G: Gate>(
+        &mut self,
+        rt: &R,
+        alloc: Global,
+        rows: &[Row],
+        plan: &LivePlan,
+        gate: &G,
+        batch: u32,
+    ) -> Result<Vec<Live>, LoadFault>
+        requires loaded { (before : List RowValue) × (length before ≡ 4096 * batch) × HoldsRows self.old before }
+        requires plan { IsPlan self.old.shape plan.now }
+        requires fits { All (Fits self.old.shape.schema) rows.now }
+        requires few { length rows.now ≤ 4096 }
+        requires room { 4096 * batch + length rows.now ≤ base_of self.old + self.old.shape.capacity }
+        ensures same { GoesOn self.old self.new }
+        ensures loaded { (before : List RowValue) → length before ≡ 4096 * batch → HoldsRows self.old before → MatchResult result (λ _. HoldsRows self.new (before ++ rows.now)) (HaveStopped before rows.now self.new) }
+        ensures asked { IfOk result (λ more. AsksBeside self.old.shape plan.now batch (entries_of self.old) (entries_of self.new) more.items) }
+        ensures told { IfOk result (λ more. told_of self.new ≡ told_of self.old ++ tails_of more.items) }
+    {
+        let Ok(prior) = self.prior(alloc, plan) else {
+            return Err(LoadFault::Memory);
+        };
+        let current = &mut self.current;
+        load_batch(
+            rt,
+            alloc,
+            &current.log,
+            &mut current.root,
+            rows,
+            plan,
+            &prior,
+            gate,
+            batch,
+        )
+    }
+}
