@@ -20,7 +20,7 @@ fn kind_words(kind: Kind) -> usize
     }
 }
 
-fn count_words(attrs: &[Attr]) -> usize
+pub(crate) fn count_words(attrs: &[Attr]) -> usize
     requires { length attrs.now ≤ 24 }
     ensures count { result ≡ word_count_of attrs.now }
     ensures few { result ≤ 48 }
@@ -37,7 +37,7 @@ pub fn word_count(schema: &Schema) -> usize
     ensures count { result ≡ word_count_of schema.now }
     ensures few { result ≤ 48 }
 {
-    count_words(schema.attrs())
+    usize::from(schema.words())
 }
 
 // Bytes as a number, the first the highest.

@@ -1,5 +1,5 @@
 -- The words of a lawful shape are few, so no sum of places overflows.
-use Rattle.std.proofs.Common.{◌≡◌, ℕ, ◌+◌, ◌*◌, ◌^◌, ◌<◌, ◌≤◌, Bool, true, false, ◌&&◌, List, [], ◌∷◌, length, refl, arith}
+use Rattle.std.proofs.Common.{◌≡◌, ◌+◌, ◌*◌, ◌≤◌, true, ◌&&◌, List, [], ◌∷◌, refl, arith}
 use Rattle.std.specs.List.{list_all}
 use Rattle.std.proofs.lemmas.Bool.{and_from}
 use Rattle.cf_lemmas.proofs.Truths.{both}
@@ -8,10 +8,9 @@ use Rattle.cf_row.specs.Expr.{is_of_schema}
 use Rattle.cf_shape.specs.declared.lane.Lane.{Lane}
 use Rattle.cf_shape.specs.Faults.{AreLanesOf, is_lane_of, key_exists, measure_exists, have_good_keys, have_good_measures}
 use Rattle.std.proofs.lemmas.Nat.{mul-le}
-use Rattle.cf_row.specs.Words.{word_count}
 use Rattle.cf_row.proofs.Counts as rows
 use Rattle.cf_shape.specs.Lanes.{ShapeValue, IsShape, is_lawful_lane, is_lawful_key, is_lawful_measure}
-use Rattle.cf_shape.specs.Uses.{cell_count, ticket_words}
+use Rattle.cf_shape.specs.Uses.{ticket_words}
 use Rattle.cf_shape.specs.Places.{sizes_of, roots_at, nodes_at, word_total}
 use Rattle.cf_shape.proofs.Counts.{count_low}
 

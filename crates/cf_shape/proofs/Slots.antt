@@ -1,11 +1,11 @@
 -- Different slots have different places, and so have different
-use Rattle.std.proofs.Common.{◌≡◌, ℕ, ◌+◌, ◌*◌, ◌/◌, ◌%◌, ◌<◌, ◌≤◌, ◌==◌, zero, suc, cond, Bool, true, false, length, refl, arith, ap, ap₂, sym, ◌∙◌, ne_eqb, eq-eqb}
+use Rattle.std.proofs.Common.{◌≡◌, ℕ, ◌+◌, ◌*◌, ◌/◌, ◌%◌, ◌<◌, ◌==◌, zero, suc, cond, Bool, refl, arith, ap, ap₂, sym, ◌∙◌, ne_eqb, eq-eqb}
 use Rattle.std.proofs.lemmas.Nat.{same_from_place, mul-add-lt, div-mul-add, mod-mul-add}
 use Rattle.cf_row.specs.Words.{word_count}
-use Rattle.cf_shape.specs.Lanes.{ShapeValue, lane_at}
-use Rattle.cf_shape.specs.Uses.{Use, use_at, cell_words, cell_count, cells_before, ticket_words}
+use Rattle.cf_shape.specs.Lanes.{ShapeValue}
+use Rattle.cf_shape.specs.Uses.{Use, use_at, cell_count, cells_before, ticket_words}
 use Rattle.cf_shape.specs.Uses.Use.{plain as plain_use, version as version_use}
-use Rattle.cf_shape.specs.Places.{Sizes, Slot, place, IsReal, node_words, word_total, sizes_of, Word, Exists, slot_of, place_of}
+use Rattle.cf_shape.specs.Places.{Sizes, Slot, place, IsReal, node_words, word_total, sizes_of, Word, Exists, slot_of}
 use Rattle.cf_shape.specs.Places.Slot.{tail, cell, root, body}
 use Rattle.cf_shape.specs.Places.Word.{write_tail, read_tail, word, version, done, root_child, label, child, head}
 use Rattle.cf_shape.specs.Laws.{PlacesDiffer}

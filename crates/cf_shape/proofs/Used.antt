@@ -1,6 +1,6 @@
 -- The uses of a ticket's words: each lane has its cell words, and no use stands twice.
 use Rattle.std.proofs.Common.{◌≡◌, ℕ, ◌+◌, ◌*◌, ◌<◌, ◌≤◌, zero, suc, List, [], ◌∷◌, ◌++◌, length, take, get_or, inl, inr, refl, arith, ap, sym, ◌∙◌, length-append}
-use Rattle.std.proofs.lemmas.List.{get_or_append_left, get_or-append-add, get_or_past}
+use Rattle.std.proofs.lemmas.List.{get_or-append-add}
 use Rattle.std.proofs.lemmas.Bool.{cases_lt}
 use Rattle.cf_row.specs.Words.{word_count}
 use Rattle.cf_shape.specs.declared.lane.Lane.{Lane}

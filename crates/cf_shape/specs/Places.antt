@@ -1,5 +1,5 @@
 -- The places of the words of a log's table: a slot says what a word is, and `place` says where it stands.
-use Rattle.std.specs.Prelude.{ℕ, ◌+◌, ◌*◌, ◌<◌, ◌≡◌, Bool, true, false, zero, suc, length}
+use Rattle.std.specs.Prelude.{ℕ, ◌+◌, ◌*◌, ◌<◌, ◌≡◌, Bool, true, false, suc, length}
 use Rattle.cf_row.specs.Words.{word_count}
 use Rattle.cf_shape.specs.Lanes.{ShapeValue, lane_at}
 use Rattle.cf_shape.specs.Uses.{ticket_words, cells_before, cell_count, cell_words}
@@ -56,6 +56,10 @@ head_slot g n d w = body n (suc (d * g.writers + w))
 -- the sizes of the table of a log of this shape
 abbrev pub sizes_of : ShapeValue → Sizes
 sizes_of shape = record { tickets = shape.capacity; ticket_words = ticket_words shape; lanes = length shape.lanes; writers = shape.writers; nodes = shape.nodes }
+
+-- the table of a log of this shape has its first root at one place, and node 0 at the other
+abbrev pub StandsAt : ShapeValue → ℕ → ℕ → Type 0
+StandsAt shape roots nodes = (roots ≡ roots_at (sizes_of shape)) × (nodes ≡ nodes_at (sizes_of shape))
 
 -- The words by name. A node has children, or heads at the last level.
 pub data Word : Type 0 where

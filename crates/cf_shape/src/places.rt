@@ -17,7 +17,7 @@ fn roots_at(shape: &Shape) -> u64
     ensures small { result < 2 ^ 32 }
     ensures lawful { IsShape shape.now }
 {
-    2 + u64::from(shape.capacity()) * shape.ticket_words()
+    shape.roots()
 }
 
 // The first word of the nodes.
@@ -26,7 +26,7 @@ fn nodes_at(shape: &Shape) -> u64
     ensures small { result < 2 ^ 32 }
     ensures lawful { IsShape shape.now }
 {
-    roots_at(shape) + shape.lanes().len() as u64 * 16
+    shape.nodes_from()
 }
 
 /// The number of words of the table.

@@ -5,6 +5,7 @@ ghost use Rattle.cf_row.specs.Schema.{IsSchema};
 ghost use Rattle.cf_row.specs.Words.{word_count as word_count_of};
 ghost use Rattle.cf_shape.specs.Lanes.{ShapeValue, IsShape, lane_at};
 ghost use Rattle.cf_shape.specs.Uses.{ticket_words as ticket_words_of};
+ghost use Rattle.cf_shape.specs.Places.{sizes_of, roots_at, nodes_at};
 ghost use Rattle.cf_shape.specs.Faults.{AreLanesOf, HasFault, AreGoodNumbers, HasNumberFault, have_good_keys, have_good_measures};
 
 use crate::Lane;
@@ -27,6 +28,9 @@ pub struct Shape {
     width: u64,
     // the words of a ticket
     ticket_words: u64,
+    // the places of the first words of the roots and of the nodes
+    roots: u64,
+    nodes_from: u64,
 }
 
 impl Model for Shape {
@@ -37,8 +41,9 @@ impl Model for Shape {
     ghost view = { λ s. record { schema = s.schema; lanes = s.lanes.items; capacity = s.capacity; writers = s.writers; nodes = s.nodes; width = s.width } };
 
     ghost use Rattle.cf_shape.specs.Uses.{TakesWords};
+    ghost use Rattle.cf_shape.specs.Places.{StandsAt};
 
-    ghost invariant = { λ s. IsShape (record { schema = s.schema; lanes = s.lanes.items; capacity = s.capacity; writers = s.writers; nodes = s.nodes; width = s.width }) × TakesWords (record { schema = s.schema; lanes = s.lanes.items; capacity = s.capacity; writers = s.writers; nodes = s.nodes; width = s.width }) s.ticket_words };
+    ghost invariant = { λ s. IsShape (record { schema = s.schema; lanes = s.lanes.items; capacity = s.capacity; writers = s.writers; nodes = s.nodes; width = s.width }) × TakesWords (record { schema = s.schema; lanes = s.lanes.items; capacity = s.capacity; writers = s.writers; nodes = s.nodes; width = s.width }) s.ticket_words × StandsAt (record { schema = s.schema; lanes = s.lanes.items; capacity = s.capacity; writers = s.writers; nodes = s.nodes; width = s.width }) s.roots s.nodes_from };
 }
 
 /// Why a shape was refused.
@@ -151,6 +156,8 @@ impl Shape {
         ensures { result ≡ record { schema = schema; lanes = lanes.items; capacity = capacity; writers = writers; nodes = nodes; width = width } }
     {
         let ticket_words = word_count(&schema) as u64 + 1 + cell_count(&lanes) + 1;
+        let roots = 2 + u64::from(capacity) * ticket_words;
+        let nodes_from = roots + lanes.len() as u64 * 16;
         Shape {
             schema,
             lanes,
@@ -159,6 +166,8 @@ impl Shape {
             nodes,
             width,
             ticket_words,
+            roots,
+            nodes_from,
         }
     }
 
@@ -244,6 +253,22 @@ impl Shape {
         ensures lawful { IsShape self.now }
     {
         self.ticket_words
+    }
+
+    // The first word of the roots.
+    pub(crate) fn roots(&self) -> u64
+        ensures at { result ≡ roots_at (sizes_of self.now) }
+        ensures lawful { IsShape self.now }
+    {
+        self.roots
+    }
+
+    // The first word of the nodes.
+    pub(crate) fn nodes_from(&self) -> u64
+        ensures at { result ≡ nodes_at (sizes_of self.now) }
+        ensures lawful { IsShape self.now }
+    {
+        self.nodes_from
     }
 
     pub(crate) fn lane(&self, lane: u8) -> &Lane
