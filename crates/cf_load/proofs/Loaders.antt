@@ -65,12 +65,13 @@ starts s plan loader suits fresh has = record {
 }
 
 -- a batch is loaded, and its answers come after those before
-pub goes_on : (before rows : List RowValue) (old new : LoaderValue) (b : ℕ) (s t : SegmentsValue) (more : List Live) → IsLoading s before old → HoldsRows t (before ++ rows) → GoesOn s t → length before ≡ 4096 * b → 0 < length rows → length rows ≤ 4096
+pub goes_on : (before rows : List RowValue) (old new : LoaderValue) (b : ℕ) (s t : SegmentsValue) (more : List Live) → IsLoading s before old → HoldsRows t (before ++ rows) → GoesOn s t → base_of t ≤ length before → length before ≡ 4096 * b → 0 < length rows → length rows ≤ 4096
     → length before + length rows ≤ room_of s → All (Fits (s.shape).schema) rows → AsksBeside s.shape old.plan b (entries_of s) (entries_of t) more
     → told_of t ≡ told_of s ++ tails_of more → new ≡ record old { count = old.count + length rows; lives = old.lives ++ more }
     → IsBatched before rows old new s t
-goes_on before rows old new b s t more is has same long some few room fits beside told now = record {
+goes_on before rows old new b s t more is has same within long some few room fits beside told now = record {
   same = same;
+  within = within;
   more = more;
   loader = now;
   told = told;

@@ -12,7 +12,7 @@ use Rattle.cf_load.specs.Blocks.{block}
 use Rattle.cf_load.specs.Loading.{HasAnswered}
 use Rattle.cf_load.specs.Loads.{LacksNodes, room_of}
 use Rattle.cf_load.specs.Planned.{IsPlan, IsSamePlan, marks_on, tails_of}
-use Rattle.cf_load.specs.Segments.{SegmentsValue, HoldsRows, GoesOn, KeepsAll, entries_of, told_of}
+use Rattle.cf_load.specs.Segments.{SegmentsValue, HoldsRows, GoesOn, KeepsAll, base_of, entries_of, told_of}
 
 -- what it asks, how many rows it has loaded, the live answers so far, and whether a batch was refused
 pub record LoaderValue : Type 0 where
@@ -39,9 +39,11 @@ pub record IsLoading (s : SegmentsValue) (rows : List RowValue) (loader : Loader
   pub loaded : HoldsRows s rows
   pub answered : HasAnswered s.shape loader.plan.asks.items loader.plan.lives.items loader.plan.rounds (length rows) (entries_of s) loader.lives
 
--- A batch is loaded after the rows before it. The loader has the answers that came beside it, and a root was told of them.
+-- A batch is loaded after the rows before it, and the current segment has all its rows. The loader has the answers that came beside
+-- it, and a root was told of them.
 pub record IsBatched (before rows : List RowValue) (old new : LoaderValue) (s t : SegmentsValue) : Type 0 where
   pub same : GoesOn s t
+  pub within : base_of t ≤ length before
   pub more : List Live
   pub loader : new ≡ record old { count = old.count + length rows; lives = old.lives ++ more }
   pub told : told_of t ≡ told_of s ++ tails_of more

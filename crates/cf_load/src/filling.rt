@@ -120,6 +120,7 @@ impl Segments {
         requires few { length rows.now ≤ 4096 }
         requires room { 4096 * batch + length rows.now ≤ base_of self.old + self.old.shape.capacity }
         ensures same { GoesOn self.old self.new }
+        ensures base { base_of self.new ≡ base_of self.old }
         ensures loaded { (before : List RowValue) → length before ≡ 4096 * batch → HoldsRows self.old before → MatchResult result (λ _. HoldsRows self.new (before ++ rows.now)) (HaveStopped before rows.now self.new) }
         ensures asked { IfOk result (λ more. AsksBeside self.old.shape plan.now batch (entries_of self.old) (entries_of self.new) more.items) }
         ensures told { IfOk result (λ more. told_of self.new ≡ told_of self.old ++ tails_of more.items) }

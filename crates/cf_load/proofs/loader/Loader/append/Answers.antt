@@ -88,4 +88,4 @@ returns-clause-batched g c before is =
     let items : c.append.new.self.items ≡ inside.lives.items ++ more = search rules in
     let now : new ≡ record old { count = old.count + length rows; lives = old.lives ++ more } = ap (λ (ls : List Live). record old { count = old.count + length rows; lives = ls }) items in
     subst (λ (l : LoaderValue). IsBatched before rows l new s t) c.self.view_is
-    (goes_on before rows old new b s t more begun (made.loaded before long holds) (goes_then s u t first.same made.same) long c.requires.some c.requires.few room c.requires.fits beside told now)
+    (goes_on before rows old new b s t more begun (made.loaded before long holds) (goes_then s u t first.same made.same) (let base = made.base in let full = holds.full in omega (arith, base, full)) long c.requires.some c.requires.few room c.requires.fits beside told now)

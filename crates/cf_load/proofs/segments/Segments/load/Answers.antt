@@ -17,6 +17,9 @@ use Rattle.cf_load.proofs.segments.Segments.load.Goals as goal
 pub returns-in_default-clause-same : goal.returns-in_default-clause-same
 returns-in_default-clause-same g c = kept_goes c.args.self.now c.prior.new.self c.prior.ensures.kept
 
+pub returns-in_default-clause-base : goal.returns-in_default-clause-base
+returns-in_default-clause-base g c = kept_base c.args.self.now c.prior.new.self c.prior.ensures.kept
+
 pub returns-in_default-clause-loaded : goal.returns-in_default-clause-loaded
 returns-in_default-clause-loaded g c before long holds = inl (kept_holds c.args.self.now c.prior.new.self c.prior.ensures.kept before holds)
 
@@ -73,6 +76,9 @@ pub returns-clause-same : goal.returns-clause-same
 returns-clause-same g c =
     let s : SegmentsValue = before_batch g c in
     goes_then c.args.self.now s (filled s c.load_batch.new.root) (kept_goes c.args.self.now s (kept g c)) (filled_goes s c.load_batch.new.root c.load_batch.ensures.same)
+
+pub returns-clause-base : goal.returns-clause-base
+returns-clause-base g c = kept_base c.args.self.now (before_batch g c) (kept g c)
 
 pub returns-clause-loaded : goal.returns-clause-loaded
 returns-clause-loaded g c rows long holds =
