@@ -1,6 +1,7 @@
--- What the program's status says of what it wrote, of the seals of its logs, and of what it left of the opened file.
-use Rattle.std.specs.Prelude.{◌≡◌, ◌⊎◌, ℕ, List, [], length, Some, None, Option}
+-- What the program's status says of what it wrote, of the seals of its log's segments, and of what it left of the opened file.
+use Rattle.std.specs.Prelude.{◌≡◌, ◌⊎◌, ◌≤◌, ℕ, List, [], length, Some, None, Option}
 use Rattle.std.specs.Io.KnownBytes.{Appends, Keeps}
+use Rattle.cf_command.specs.declared.words.LogSizes.{LogSizes}
 use Rattle.cf_command.specs.Call.{Call}
 use Rattle.cf_command.specs.Call.Call.{run, synth, dump, snapshot}
 use Rattle.cf_outside.specs.Files.{File}
@@ -37,8 +38,8 @@ pub data Answers (told : Option (List File)) (call : Option Call) (status : Stat
   cut : (due : Status) (text : List ℕ) (owed : List SealValue) → status ≡ WriteFault → seals ≡ [] → IsDue told call before after due text owed → WritesFront held now text → Answers told call status seals held now before after
   stopped : (stop : Stop) → status ≡ stop_status stop → seals ≡ [] → StopsAt told call stop before after → Keeps held now → Answers told call status seals held now before after
 
--- The threads decide between these two where the rows need more different nodes than one writer has, and no more than all: then both
--- are called for.
+-- The threads decide between these two where the rows of some segment need more different nodes than one writer has in it, and those of
+-- none more than all: then both are called for.
 abbrev pub AreBetween : Status → Status → Type 0
 AreBetween one other = ((one ≡ Done) × (other ≡ Nodes)) ⊎ ((one ≡ Nodes) × (other ≡ Done))
 
@@ -46,12 +47,16 @@ AreBetween one other = ((one ≡ Done) × (other ≡ Nodes)) ⊎ ((one ≡ Nodes
 abbrev pub IsDecided : List File → Option Call → Status → Type 0
 IsDecided files call status = (before after : Option (List ℕ)) (due : Status) (text : List ℕ) (seals : List SealValue) → IsDue (Some files) call before after due text seals → (status ≡ due) ⊎ Yields status ⊎ AreBetween status due
 
+-- a seal for each segment that was opened: one at least, and no more than the log may have
+abbrev pub HasSeals : LogSizes → List SealValue → Type 0
+HasSeals sizes seals = (1 ≤ length seals) × (length seals ≤ sizes.segments)
+
 -- What the call alone says of a status and of the seals, whatever the files are. Only words that are no command come to that status. A
--- synth opens no capture, and a dump has no setup and no log. A run or a synth that was done has one seal, and a dump and a snapshot have
--- none.
+-- synth opens no capture, and a dump has no setup and no log. A run or a synth that was done has a seal for each segment of its log, and a
+-- dump and a snapshot have none.
 abbrev pub IsByCall : Option Call → Status → List SealValue → Type 0
 IsByCall None status seals = (status ≡ Words) ⊎ (status ≡ Memory) ⊎ (status ≡ WriteFault)
-IsByCall (Some (run call)) status seals = (status ≡ Words → ⊥) × (status ≡ Done → length seals ≡ 1)
-IsByCall (Some (synth call)) status seals = (status ≡ Words → ⊥) × ((at code : ℕ) → status ≡ Capture at code → ⊥) × (status ≡ Done → length seals ≡ 1)
+IsByCall (Some (run call)) status seals = (status ≡ Words → ⊥) × (status ≡ Done → HasSeals call.sizes seals)
+IsByCall (Some (synth call)) status seals = (status ≡ Words → ⊥) × ((at code : ℕ) → status ≡ Capture at code → ⊥) × (status ≡ Done → HasSeals call.sizes seals)
 IsByCall (Some (dump call)) status seals = (status ≡ Words → ⊥) × ((line code : ℕ) → status ≡ Setup line code → ⊥) × (status ≡ Full → ⊥) × (status ≡ Nodes → ⊥) × (seals ≡ [])
 IsByCall (Some (snapshot call)) status seals = (status ≡ Words → ⊥) × (seals ≡ [])

@@ -5,9 +5,10 @@ pub mod Laws
 pub mod Refusals
 pub mod Files
 pub mod Several
+pub mod Needs
+pub mod Seals
 pub mod Logs
 pub mod Filling
-pub mod Seals
 pub mod Due
 pub mod Devices
 pub mod Answers

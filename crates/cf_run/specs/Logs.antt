@@ -1,5 +1,5 @@
 -- How the log of some rows is loaded.
-use Rattle.std.specs.Prelude.{◌≡◌, ◌<◌, ◌≤◌, ◌*◌, ℕ, List, length, map, All}
+use Rattle.std.specs.Prelude.{◌≡◌, ◌<◌, ◌*◌, ℕ, List, length, map, All}
 use Rattle.cf_row.specs.Row.{RowValue}
 use Rattle.cf_row.specs.declared.row.Entry.{Entry}
 use Rattle.cf_history.specs.Order.{IsLogOf}
@@ -12,6 +12,8 @@ use Rattle.cf_scan.specs.Split.{asks_at, numbers_at, logged_places}
 use Rattle.cf_load.specs.Loading.{HasAnswered}
 use Rattle.cf_load.specs.Planned.{marks_on, tails_of}
 use Rattle.cf_load.specs.declared.plan.LivePlan.{LivePlan}
+use Rattle.cf_run.specs.Needs.{NeedsAtMost, NeedsMore}
+use Rattle.cf_run.specs.Seals.{AreSeals}
 use Rattle.cf_run.specs.declared.log.Unmade.{Unmade}
 use Rattle.cf_run.specs.declared.log.Unmade.TheVariants.{Nodes, Memory}
 
@@ -31,17 +33,22 @@ pub record AreAnswers (shape : ShapeValue) (plan : LivePlan) (entries : List Ent
   pub alerts : answered.alerts ≡ map (marks_on shape entries) plan.triggers.items
   pub lives : HasAnswered shape plan.asks.items plan.lives.items plan.rounds (length entries) entries answered.lives
 
--- The entries of a closed log of the shape and its seal, and the answers to a plan: each row stands in it once, the final answers
--- and the marks are those of the whole log, and each live answer, in its turn, that of the entries that it saw.
-pub record IsLogClosed (shape : ShapeValue) (plan : LivePlan) (rows : List RowValue) (entries : List Entry) (seal : SealValue) (answered : LoadedValue) : Type 0 where
+-- The entries of a closed log, whose segments have the shape, the seals of its segments, and the answers to a plan: each row stands in it
+-- once, the final answers and the marks are those of the whole log, and each live answer, in its turn, that of the entries that it saw.
+pub record IsLogClosed (shape : ShapeValue) (plan : LivePlan) (rows : List RowValue) (entries : List Entry) (seals : List SealValue) (answered : LoadedValue) : Type 0 where
   pub is : IsLogOf rows shape.writers entries
   pub finals : answered.finals ≡ map (answer_on shape entries) plan.asks.items
   pub alerts : answered.alerts ≡ map (marks_on shape entries) plan.triggers.items
   pub lives : HasAnswered shape plan.asks.items plan.lives.items plan.rounds (length rows) entries answered.lives
-  pub seal_is : seal ≡ record { entries = entries; told = tails_of answered.lives }
-  pub few_nodes : distinct shape rows ≤ shape.writers * shape.nodes
+  pub seals_are : AreSeals shape.capacity entries (tails_of answered.lives) seals
+  pub few_nodes : NeedsAtMost shape (shape.writers * shape.nodes) rows
 
--- why a log of rows wasn't made: their paths need more different nodes than a writer has, or memory ran out
+-- why a log of rows wasn't made: the paths of those in some segment need more different nodes than a writer has in it, or memory ran out
 abbrev pub IsUnmade : ShapeValue → List RowValue → Unmade → Type 0
-IsUnmade shape rows Nodes = shape.nodes < distinct shape rows
+IsUnmade shape rows Nodes = NeedsMore shape shape.nodes rows
 IsUnmade shape rows Memory = Unit {0}
+
+-- the same of a log of one segment
+abbrev pub IsUnmadeAlone : ShapeValue → List RowValue → Unmade → Type 0
+IsUnmadeAlone shape rows Nodes = shape.nodes < distinct shape rows
+IsUnmadeAlone shape rows Memory = Unit {0}

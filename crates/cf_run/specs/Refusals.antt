@@ -19,7 +19,7 @@ status_of Words = statuses.Words
 status_of NoFile = statuses.NoFile
 status_of (Setup line code) = statuses.Setup line code
 status_of (Capture at code) = statuses.Capture at code
-status_of (Full capacity) = statuses.Full
+status_of (Full most) = statuses.Full
 status_of (Nodes nodes) = statuses.Nodes
 
 -- its line
@@ -28,7 +28,7 @@ line_of Words = codes "words: not a command" ++ 10 ∷ []
 line_of NoFile = codes "file: none of that name" ++ 10 ∷ []
 line_of (Setup line code) = codes "setup: line " ++ (decimal line ++ (codes " code " ++ (decimal code ++ 10 ∷ [])))
 line_of (Capture at code) = codes "capture: record " ++ (decimal at ++ (codes " code " ++ (decimal code ++ 10 ∷ [])))
-line_of (Full capacity) = codes "full: more than " ++ (decimal capacity ++ (codes " records" ++ 10 ∷ []))
+line_of (Full most) = codes "full: more than " ++ (decimal most ++ (codes " records" ++ 10 ∷ []))
 line_of (Nodes nodes) = codes "nodes: more than " ++ (decimal nodes ++ (codes " nodes" ++ 10 ∷ []))
 
 -- the status of a stop

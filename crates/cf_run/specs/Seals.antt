@@ -1,45 +1,53 @@
--- The seals of the logs that were loaded.
-use Rattle.std.specs.Prelude.{◌≡◌, ◌≤◌, ◌*◌, ℕ, List, [], ◌∷◌, length}
+-- The seals of the segments of the logs that were loaded.
+use Rattle.std.specs.Prelude.{◌≡◌, ◌+◌, ◌-◌, ◌*◌, ◌/◌, ℕ, max, List, [], ◌∷◌, ◌++◌, length, map, slice_get, Some}
 use Rattle.cf_row.specs.Row.{RowValue}
 use Rattle.cf_row.specs.declared.row.Entry.{Entry}
 use Rattle.cf_history.specs.Order.{IsOrder, IsLogOf, log_of}
-use Rattle.cf_shape.specs.Nodes.{distinct}
 use Rattle.cf_setup.specs.Setups.{SetupValue, shaped}
 use Rattle.cf_plain.specs.Answered.{LoadedValue}
 use Rattle.cf_report.specs.Meaning.{IsReport, AreMeant, final_text}
 use Rattle.cf_table.specs.Moves.{SealValue}
+use Rattle.cf_load.specs.Blocks.{block}
 use Rattle.cf_load.specs.Planned.{tails_of}
+use Rattle.cf_run.specs.Needs.{NeedsAtMost}
 
--- a seal of the rows in an order, whose root was told of these tails
-abbrev pub seal_of : List RowValue → ℕ → List ℕ → List ℕ → SealValue
-seal_of rows writers order told = record { entries = log_of rows writers order; told = told }
+-- the tails that the roots of segments were told of, end to end: each counts the records of all segments, of which the first of these
+-- begins after so many, and each holds n
+abbrev pub told_in : ℕ → ℕ → List SealValue → List ℕ
+told_in n before [] = []
+told_in n before (seal ∷ seals) = map (λ tail. before + tail) seal.told ++ told_in n (before + n) seals
 
--- The answers on drawn packets have one seal: its entries are the packets' rows in an order that the writers can have made, and
+-- The seals of the segments of a log with these entries, in order. Each segment but the last holds n of them, and one is opened for the
+-- first record that those before don't hold. Their roots were told of these tails.
+pub record AreSeals (n : ℕ) (entries : List Entry) (told : List ℕ) (seals : List SealValue) : Type 0 where
+  pub count : length seals ≡ max 1 ((length entries + n - 1) / n)
+  pub each : (k : ℕ) (seal : SealValue) → slice_get seals k ≡ Some seal → seal.entries ≡ block n k entries
+  pub told_are : told_in n 0 seals ≡ told
+
+-- The seals of the answers on drawn packets: their entries are the packets' rows in an order that the writers can have made, and
 -- nothing was asked live.
-pub record IsSynthSeal (rows : List RowValue) (writers : ℕ) (seals : List SealValue) : Type 0 where
+pub record AreSynthSeals (rows : List RowValue) (capacity writers : ℕ) (seals : List SealValue) : Type 0 where
   pub order : List ℕ
   pub order_is : IsOrder order (length rows) writers
-  pub seals_are : seals ≡ seal_of rows writers order [] ∷ []
+  pub seals_are : AreSeals capacity (log_of rows writers order) [] seals
 
--- The entries of a closed log of the rows, its seal, and the answers of its load: each row stands in it once, each answer is its
--- question's meaning on the entries that it saw, and the root was told of the tails of the live ones.
-pub record IsClosed (setup : SetupValue) (capacity writers nodes rounds : ℕ) (rows : List RowValue) (entries : List Entry) (seal : SealValue) (answered : LoadedValue) : Type 0 where
+-- The entries of a closed log of the rows, the seals of its segments, and the answers of its load: each row stands in it once, each
+-- answer is its question's meaning on the entries that it saw, and the roots were told of the tails of the live ones.
+pub record IsClosed (setup : SetupValue) (capacity writers nodes rounds : ℕ) (rows : List RowValue) (entries : List Entry) (seals : List SealValue) (answered : LoadedValue) : Type 0 where
   pub is : IsLogOf rows writers entries
   pub meant : AreMeant setup (shaped setup capacity writers nodes) rounds entries answered
-  pub seal_is : seal ≡ record { entries = entries; told = tails_of answered.lives }
-  pub few_nodes : distinct (shaped setup capacity writers nodes) rows ≤ writers * nodes
+  pub seals_are : AreSeals capacity entries (tails_of answered.lives) seals
+  pub few_nodes : NeedsAtMost (shaped setup capacity writers nodes) (writers * nodes) rows
 
--- a report of the rows, with the seal of the log that it prints
-pub record IsSealedReport (setup : SetupValue) (capacity writers nodes rounds : ℕ) (rows : List RowValue) (text : List ℕ) (seal : SealValue) : Type 0 where
+-- a report of the rows, with the seals of the log that it prints
+pub record IsSealedReport (setup : SetupValue) (capacity writers nodes rounds : ℕ) (rows : List RowValue) (text : List ℕ) (seals : List SealValue) : Type 0 where
   pub order : List ℕ
   pub report : IsReport setup capacity writers nodes rounds rows order text
-  pub seal_is : seal ≡ seal_of rows writers order (tails_of report.lives)
-  pub few_nodes : distinct (shaped setup capacity writers nodes) rows ≤ writers * nodes
+  pub seals_are : AreSeals capacity (log_of rows writers order) (tails_of report.lives) seals
+  pub few_nodes : NeedsAtMost (shaped setup capacity writers nodes) (writers * nodes) rows
 
--- the final part of a report of the rows, with the seal of a log to which no live question was asked
-pub record IsSealedFinal (setup : SetupValue) (capacity writers nodes : ℕ) (rows : List RowValue) (text : List ℕ) (seal : SealValue) : Type 0 where
+-- the final part of a report of the rows, with the seals of a log to which no live question was asked
+pub record IsSealedFinal (setup : SetupValue) (capacity writers nodes : ℕ) (rows : List RowValue) (text : List ℕ) (seals : List SealValue) : Type 0 where
   pub text_is : text ≡ final_text (shaped setup capacity writers nodes) setup rows
-  pub order : List ℕ
-  pub order_is : IsOrder order (length rows) writers
-  pub seal_is : seal ≡ seal_of rows writers order []
-  pub few_nodes : distinct (shaped setup capacity writers nodes) rows ≤ writers * nodes
+  pub seals_are : AreSynthSeals rows capacity writers seals
+  pub few_nodes : NeedsAtMost (shaped setup capacity writers nodes) (writers * nodes) rows

@@ -1,37 +1,19 @@
 // What is to be written.
-ghost use Rattle.std.specs.Prelude.{◌≡◌, [], ◌∷◌, MatchResult};
+ghost use Rattle.std.specs.Prelude.{◌≡◌, [], MatchResult};
 ghost use Rattle.cf_run.specs.Parts.{draft_status, draft_text, draft_seals};
 ghost use Rattle.cf_run.specs.Refusals.{line_of, status_of};
-ghost use Rattle.cf_run.specs.declared.refusal.Halt.TheVariants.{Stopped};
 ghost use Rattle.cf_run.specs.declared.refusal.Stop.TheVariants as stops;
 
 use crate::Status;
-use crate::log::Report;
-use crate::refusal::{Halt, Refusal, Stop};
+use crate::refusal::{Refusal, Stop};
 use cf_table::Seal;
 use std::alloc::Global;
 
-/// What a command's work comes to: its text, and the seal of the log that it tells of, where it has one.
+/// What a command's work comes to: its text, and the seals of the segments of the log that it tells of, where it has one.
 #[derive(Drop)]
 pub(crate) struct Product {
     pub(crate) text: Vec<u8>,
     pub(crate) seals: Vec<Seal>,
-}
-
-/// The product of a report: its text and its seal.
-pub(crate) fn sealed(alloc: Global, report: Report) -> Result<Product, Halt>
-    ensures { MatchResult result
-        (λ product. (product.text.items ≡ report.text.items) × (product.seals.items ≡ report.seal ∷ []))
-        (λ halt. halt ≡ Stopped stops.Memory) }
-{
-    let mut seals = Vec::new(alloc);
-    match seals.push(report.seal) {
-        Ok(()) => Ok(Product {
-            text: report.text,
-            seals,
-        }),
-        Err(_) => Err(Halt::Stopped(Stop::Memory)),
-    }
 }
 
 /// What is to be written: a text with the seals of what it tells, or the line of a refusal.

@@ -95,10 +95,10 @@ pub(crate) fn fill_rows<R: Threads + Sync, F: Shelf, G: Gate>(
     format: Format,
     filling: &mut Filling<'_, R, G>,
 ) -> Result<(), Halt>
-    requires attrs { filling.old.log.shape.schema ≡ attrs_in format }
-    requires none { IsFilled filling.old.log filling.old.log filling.old.loader.plan filling.old.root filling.old.loader filling.old.waiting.items filling.old.count [] }
+    requires attrs { filling.old.segments.shape.schema ≡ attrs_in format }
+    requires none { IsFilled filling.old.segments.shape filling.old.segments.most filling.old.loader.plan filling.old.segments filling.old.loader filling.old.waiting.items filling.old.count [] }
     ensures files { F.files shelf.new ≡ F.files shelf.old }
-    ensures read { ReadsRows (is_packets format.entry) (attrs_in format.entry) (IsFilled filling.old.log filling.new.log filling.old.loader.plan filling.new.root filling.new.loader filling.new.waiting.items filling.new.count) (F.files shelf.old) name.now (F.rest shelf.old) (F.rest shelf.new) result }
+    ensures read { ReadsRows (is_packets format.entry) (attrs_in format.entry) (IsFilled filling.old.segments.shape filling.old.segments.most filling.old.loader.plan filling.new.segments filling.new.loader filling.new.waiting.items filling.new.count) (F.files shelf.old) name.now (F.rest shelf.old) (F.rest shelf.new) result }
     ensures cause { HasHaltCause (F.faults shelf.old) (F.faults shelf.new) result }
 {
     match format {

@@ -1,17 +1,18 @@
 // A log that rows fill as they come.
 ghost use Rattle.std.specs.Prelude.{◌≡◌, ◌<◌, ◌≤◌, ◌++◌, ◌∷◌, List, [], All, false, IfOk, IsTrue, MatchResult};
 ghost use Rattle.cf_row.specs.Row.{Fits, RowValue};
+ghost use Rattle.cf_load.specs.Loads.{room_of};
 ghost use Rattle.cf_load.specs.Planned.{IsPlan, IsSamePlan};
+ghost use Rattle.cf_load.specs.Segments.{AllowsSegments};
 ghost use Rattle.cf_run.specs.Filling.{IsFilled, AreLoaded, HasBatch, LoadsWaiting};
 ghost use Rattle.cf_run.specs.Logs.{IsLogClosed, IsUnmade};
 
 use crate::log::Unmade;
-use cf_load::{LivePlan, LoadFault, Loader};
+use cf_load::{Closing, LivePlan, LoadFault, Loader, Segments};
 use cf_outside::Gate;
 use cf_report::Loaded;
 use cf_row::{Memory, Row};
 use cf_shape::Shape;
-use cf_table::{Closed, MultiLog, Root};
 use std::alloc::{AllocError, Global};
 use std::thread::Threads;
 
@@ -24,36 +25,37 @@ pub(crate) struct Filling<'a, R: Threads + Sync, G: Gate> {
     rt: &'a R,
     alloc: Global,
     gate: &'a G,
-    log: MultiLog,
-    root: Root,
+    segments: Segments,
     loader: Loader,
     waiting: Vec<Row>,
-    // How many rows came, up to one more than the capacity.
+    // How many rows came, up to one more than there is room for.
     count: u32,
 }
 
 impl<'a, R: Threads + Sync, G: Gate> Filling<'a, R, G> {
-    /// An empty log of the shape, of which is asked what the plan says.
+    /// An empty log of at most so many segments of the shape, of which is asked what the plan says.
     pub(crate) fn new(
         rt: &'a R,
         alloc: Global,
         shape: Shape,
+        most: u32,
         plan: &LivePlan,
         gate: &'a G,
     ) -> Result<Self, Memory>
-        requires { IsPlan shape plan.now }
-        ensures shape { IfOk result (λ filling. filling.log.shape ≡ shape) }
+        requires allowed { AllowsSegments shape most }
+        requires plan { IsPlan shape plan.now }
+        ensures shape { IfOk result (λ filling. filling.segments.shape ≡ shape) }
+        ensures most { IfOk result (λ filling. filling.segments.most ≡ most) }
         ensures plan { IfOk result (λ filling. IsSamePlan plan.now filling.loader.plan) }
-        ensures none { IfOk result (λ filling. IsFilled filling.log filling.log filling.loader.plan filling.root filling.loader filling.waiting.items filling.count []) }
+        ensures none { IfOk result (λ filling. IsFilled filling.segments.shape filling.segments.most filling.loader.plan filling.segments filling.loader filling.waiting.items filling.count []) }
     {
-        let (log, root) = MultiLog::open(alloc, shape)?;
-        let loader = Loader::new(alloc, &log, plan)?;
+        let segments = Segments::open(alloc, shape, most)?;
+        let loader = Loader::new(alloc, &segments, plan)?;
         Ok(Filling {
             rt,
             alloc,
             gate,
-            log,
-            root,
+            segments,
             loader,
             waiting: Vec::new(alloc),
             count: 0,
@@ -62,26 +64,26 @@ impl<'a, R: Threads + Sync, G: Gate> Filling<'a, R, G> {
 
     /// Whether more rows came than the log may hold.
     pub(crate) fn is_full(&self) -> bool
-        ensures full { IsTrue result → self.now.log.shape.capacity < self.now.count }
-        ensures room { result ≡ false → self.now.count ≤ self.now.log.shape.capacity }
+        ensures full { IsTrue result → room_of self.now.segments < self.now.count }
+        ensures room { result ≡ false → self.now.count ≤ room_of self.now.segments }
     {
-        self.count > self.log.shape().capacity()
+        self.count > self.segments.room()
     }
 
     // Loads the rows that wait.
     fn load(&mut self) -> Result<(), Memory>
-        requires { HasBatch self.old.log self.old.waiting.items self.old.loader self.old.root }
-        ensures log { self.new.log ≡ self.old.log }
+        requires { HasBatch self.old.segments self.old.waiting.items self.old.loader }
+        ensures shape { self.new.segments.shape ≡ self.old.segments.shape }
+        ensures most { self.new.segments.most ≡ self.old.segments.most }
         ensures plan { self.new.loader.plan ≡ self.old.loader.plan }
         ensures count { self.new.count ≡ self.old.count }
         ensures none { self.new.waiting.items ≡ [] }
-        ensures loaded { IfOk result (λ _. LoadsWaiting self.old.log self.old.waiting.items self.old.loader self.new.loader self.old.root self.new.root) }
+        ensures loaded { IfOk result (λ _. LoadsWaiting self.old.waiting.items self.old.segments self.new.segments self.old.loader self.new.loader) }
     {
         let loaded = self.loader.batch(
             self.rt,
             self.alloc,
-            &self.log,
-            &mut self.root,
+            &mut self.segments,
             &self.waiting,
             self.gate,
         );
@@ -97,18 +99,18 @@ impl<'a, R: Threads + Sync, G: Gate> Filling<'a, R, G> {
 
     // Takes the next row. Where it ends a batch, the batch is loaded.
     fn push(&mut self, row: Row) -> Result<(), Memory>
-        requires fits { Fits self.old.log.shape.schema row }
-        requires filled { (rows : List RowValue) × IsFilled self.old.log self.old.log self.old.loader.plan self.old.root self.old.loader self.old.waiting.items self.old.count rows }
-        ensures log { self.new.log ≡ self.old.log }
-        ensures filled { IfOk result (λ _. (rows : List RowValue) → IsFilled self.old.log self.old.log self.old.loader.plan self.old.root self.old.loader self.old.waiting.items self.old.count rows
-            → IsFilled self.old.log self.new.log self.old.loader.plan self.new.root self.new.loader self.new.waiting.items self.new.count (rows ++ row ∷ [])) }
+        requires fits { Fits self.old.segments.shape.schema row }
+        requires filled { (rows : List RowValue) × IsFilled self.old.segments.shape self.old.segments.most self.old.loader.plan self.old.segments self.old.loader self.old.waiting.items self.old.count rows }
+        ensures shape { self.new.segments.shape ≡ self.old.segments.shape }
+        ensures filled { IfOk result (λ _. (rows : List RowValue) → IsFilled self.old.segments.shape self.old.segments.most self.old.loader.plan self.old.segments self.old.loader self.old.waiting.items self.old.count rows
+            → IsFilled self.old.segments.shape self.old.segments.most self.old.loader.plan self.new.segments self.new.loader self.new.waiting.items self.new.count (rows ++ row ∷ [])) }
     {
-        let capacity = self.log.shape().capacity();
-        if self.count > capacity {
+        let room = self.segments.room();
+        if self.count > room {
             return Ok(());
         }
         self.count += 1;
-        if self.count > capacity || self.loader.stopped() {
+        if self.count > room || self.loader.stopped() {
             return Ok(());
         }
         self.waiting.push(row)?;
@@ -120,10 +122,10 @@ impl<'a, R: Threads + Sync, G: Gate> Filling<'a, R, G> {
 
     /// Takes the next rows. Each batch that they end is loaded.
     pub(crate) fn take_rows(&mut self, rows: Vec<Row>) -> Result<(), Memory>
-        requires fit { All (Fits self.old.log.shape.schema) rows.items }
-        requires filled { (before : List RowValue) × IsFilled self.old.log self.old.log self.old.loader.plan self.old.root self.old.loader self.old.waiting.items self.old.count before }
-        ensures filled { IfOk result (λ _. (before : List RowValue) → IsFilled self.old.log self.old.log self.old.loader.plan self.old.root self.old.loader self.old.waiting.items self.old.count before
-            → IsFilled self.old.log self.new.log self.old.loader.plan self.new.root self.new.loader self.new.waiting.items self.new.count (before ++ rows.items)) }
+        requires fit { All (Fits self.old.segments.shape.schema) rows.items }
+        requires filled { (before : List RowValue) × IsFilled self.old.segments.shape self.old.segments.most self.old.loader.plan self.old.segments self.old.loader self.old.waiting.items self.old.count before }
+        ensures filled { IfOk result (λ _. (before : List RowValue) → IsFilled self.old.segments.shape self.old.segments.most self.old.loader.plan self.old.segments self.old.loader self.old.waiting.items self.old.count before
+            → IsFilled self.old.segments.shape self.old.segments.most self.old.loader.plan self.new.segments self.new.loader self.new.waiting.items self.new.count (before ++ rows.items)) }
     {
         for row in rows {
             self.push(row)?;
@@ -131,13 +133,27 @@ impl<'a, R: Threads + Sync, G: Gate> Filling<'a, R, G> {
         Ok(())
     }
 
+    /// Takes copies of the next rows.
+    pub(crate) fn take_copies(&mut self, rows: &[Row]) -> Result<(), Memory>
+        requires fit { All (Fits self.old.segments.shape.schema) rows.now }
+        requires filled { (before : List RowValue) × IsFilled self.old.segments.shape self.old.segments.most self.old.loader.plan self.old.segments self.old.loader self.old.waiting.items self.old.count before }
+        ensures filled { IfOk result (λ _. (before : List RowValue) → IsFilled self.old.segments.shape self.old.segments.most self.old.loader.plan self.old.segments self.old.loader self.old.waiting.items self.old.count before
+            → IsFilled self.old.segments.shape self.old.segments.most self.old.loader.plan self.new.segments self.new.loader self.new.waiting.items self.new.count (before ++ rows.now)) }
+    {
+        for row in rows {
+            let copied = row.copy(self.alloc)?;
+            self.push(copied)?;
+        }
+        Ok(())
+    }
+
     // Loads the last rows, which may be fewer than a batch.
     fn load_last(&mut self) -> Result<(), Memory>
-        requires filled { (rows : List RowValue) × IsFilled self.old.log self.old.log self.old.loader.plan self.old.root self.old.loader self.old.waiting.items self.old.count rows }
-        requires few { self.old.count ≤ self.old.log.shape.capacity }
-        ensures log { self.new.log ≡ self.old.log }
+        requires filled { (rows : List RowValue) × IsFilled self.old.segments.shape self.old.segments.most self.old.loader.plan self.old.segments self.old.loader self.old.waiting.items self.old.count rows }
+        requires few { self.old.count ≤ room_of self.old.segments }
+        ensures shape { self.new.segments.shape ≡ self.old.segments.shape }
         ensures plan { self.new.loader.plan ≡ self.old.loader.plan }
-        ensures loaded { IfOk result (λ _. (rows : List RowValue) → IsFilled self.old.log self.old.log self.old.loader.plan self.old.root self.old.loader self.old.waiting.items self.old.count rows → AreLoaded self.old.log rows self.new.loader self.new.root) }
+        ensures loaded { IfOk result (λ _. (rows : List RowValue) → IsFilled self.old.segments.shape self.old.segments.most self.old.loader.plan self.old.segments self.old.loader self.old.waiting.items self.old.count rows → AreLoaded self.new.segments rows self.new.loader) }
     {
         if self.loader.stopped() || self.waiting.is_empty() {
             return Ok(());
@@ -146,11 +162,11 @@ impl<'a, R: Threads + Sync, G: Gate> Filling<'a, R, G> {
     }
 
     /// Loads the last rows, asks all questions of the whole log, and closes it.
-    pub(crate) fn finish(mut self) -> Result<(Closed, Loaded), Unmade>
-        requires filled { (rows : List RowValue) × IsFilled self.log self.log self.loader.plan self.root self.loader self.waiting.items self.count rows }
-        requires few { self.count ≤ self.log.shape.capacity }
-        ensures { (rows : List RowValue) → IsFilled self.entry.log self.entry.log self.entry.loader.plan self.entry.root self.entry.loader self.entry.waiting.items self.entry.count rows
-            → MatchResult result (λ made. IsLogClosed self.entry.log.shape self.entry.loader.plan rows made.0.entries.items made.0.seal made.1) (IsUnmade self.entry.log.shape rows) }
+    pub(crate) fn finish(mut self) -> Result<(Closing, Loaded), Unmade>
+        requires filled { (rows : List RowValue) × IsFilled self.segments.shape self.segments.most self.loader.plan self.segments self.loader self.waiting.items self.count rows }
+        requires few { self.count ≤ room_of self.segments }
+        ensures { (rows : List RowValue) → IsFilled self.entry.segments.shape self.entry.segments.most self.entry.loader.plan self.entry.segments self.entry.loader self.entry.waiting.items self.entry.count rows
+            → MatchResult result (λ made. IsLogClosed self.entry.segments.shape self.entry.loader.plan rows made.0.entries.items made.0.seals.items made.1) (IsUnmade self.entry.segments.shape rows) }
     {
         let Ok(()) = self.load_last() else {
             return Err(Unmade::Memory);
@@ -160,16 +176,15 @@ impl<'a, R: Threads + Sync, G: Gate> Filling<'a, R, G> {
         }
         let Filling {
             alloc,
-            log,
-            mut root,
+            mut segments,
             loader,
             ..
         } = self;
-        let Ok(answers) = loader.finish(alloc, &log, &mut root) else {
+        let Ok(answers) = loader.finish(alloc, &mut segments) else {
             return Err(Unmade::Memory);
         };
-        match log.close(alloc, root) {
-            Ok(closed) => Ok((closed, answers)),
+        match segments.close(alloc) {
+            Ok(closing) => Ok((closing, answers)),
             Err(_) => Err(Unmade::Memory),
         }
     }

@@ -167,10 +167,10 @@ pub(crate) fn fill_packets<R: Threads + Sync, F: Shelf, G: Gate>(
     shelf: &mut F,
     filling: &mut Filling<'_, R, G>,
 ) -> Result<(), Halt>
-    requires attrs { filling.old.log.shape.schema ≡ packet_attrs }
-    requires none { IsFilled filling.old.log filling.old.log filling.old.loader.plan filling.old.root filling.old.loader filling.old.waiting.items filling.old.count [] }
+    requires attrs { filling.old.segments.shape.schema ≡ packet_attrs }
+    requires none { IsFilled filling.old.segments.shape filling.old.segments.most filling.old.loader.plan filling.old.segments filling.old.loader filling.old.waiting.items filling.old.count [] }
     ensures files { F.files shelf.new ≡ F.files shelf.old }
-    ensures taken { TakesRows (2 ^ 32) ArePackets HasPacketFault (λ _. IsFilled filling.old.log filling.new.log filling.old.loader.plan filling.new.root filling.new.loader filling.new.waiting.items filling.new.count) (F.rest shelf.old) (F.rest shelf.new) result }
+    ensures taken { TakesRows (2 ^ 32) ArePackets HasPacketFault (λ _. IsFilled filling.old.segments.shape filling.old.segments.most filling.old.loader.plan filling.new.segments filling.new.loader filling.new.waiting.items filling.new.count) (F.rest shelf.old) (F.rest shelf.new) result }
     ensures cause { HasHaltCause (F.faults shelf.old) (F.faults shelf.new) result }
 {
     let (mut pieces, rows) = Pieces::begin(alloc, shelf)?;

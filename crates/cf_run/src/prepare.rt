@@ -1,10 +1,10 @@
 // The work up to the text that is to be written.
-ghost use Rattle.std.specs.Prelude.{◌≡◌, ◌≤◌, Some, None};
+ghost use Rattle.std.specs.Prelude.{◌≡◌, ◌≤◌, ◌^◌, Some, None};
 ghost use Rattle.cf_command.specs.Call.{AreSizes, IsSnapshotInRange, call_of, run_by, synth_by, dump_by, snapshot_by, texts};
 ghost use Rattle.cf_command.specs.Call.Call.{run, synth, dump, snapshot};
 ghost use Rattle.cf_run.specs.Parts.{HasHaltCause, HasStopCause, Ends, IsPrepared};
 
-use crate::draft::{Draft, Product, refused, sealed};
+use crate::draft::{Draft, Product, refused};
 use crate::dumping::dump_of;
 use crate::files::{collect_rows, fill_rows, read_setup};
 use crate::hosts::read_hosts;
@@ -44,11 +44,11 @@ fn run_report<R: Threads + Sync, F: Shelf, G: Gate>(
         &mut filling,
     )?;
     if filling.is_full() {
-        let capacity = sizes.capacity;
-        return Err(Halt::Refused(Refusal::Full { capacity }));
+        let most = sizes.most();
+        return Err(Halt::Refused(Refusal::Full { most }));
     }
     match report_of(rt, alloc, &setup, filling) {
-        Ok(report) => sealed(alloc, report),
+        Ok(product) => Ok(product),
         Err(Unmade::Nodes) => Err(Halt::Refused(Refusal::Nodes { nodes: sizes.nodes })),
         Err(Unmade::Memory) => Err(Halt::Stopped(Stop::Memory)),
     }
@@ -63,7 +63,7 @@ fn synth_answers<R: Threads + Sync, F: Shelf, G: Gate>(
     gate: &G,
 ) -> Result<Product, Halt>
     requires sizes { AreSizes command.now.sizes }
-    requires few { command.now.count ≤ 65536 }
+    requires few { command.now.count ≤ 2 ^ 20 }
     ensures files { F.files shelf.new ≡ F.files shelf.old }
     ensures ends { Ends (F.files shelf.old) (Some (synth (synth_by command.now))) (F.rest shelf.old) (F.rest shelf.new) result }
     ensures cause { HasHaltCause (F.faults shelf.old) (F.faults shelf.new) result }
@@ -75,12 +75,12 @@ fn synth_answers<R: Threads + Sync, F: Shelf, G: Gate>(
     }
     let rows = drawn_packets(alloc, command.seed, command.count)?;
     let sizes = command.sizes;
-    if rows.len() > sizes.capacity as usize {
-        let capacity = sizes.capacity;
-        return Err(Halt::Refused(Refusal::Full { capacity }));
+    let most = sizes.most();
+    if rows.len() > most as usize {
+        return Err(Halt::Refused(Refusal::Full { most }));
     }
-    match final_of(rt, alloc, &setup, &rows, sizes, gate) {
-        Ok(report) => sealed(alloc, report),
+    match final_of(rt, alloc, &setup, rows, sizes, gate) {
+        Ok(product) => Ok(product),
         Err(Unmade::Nodes) => Err(Halt::Refused(Refusal::Nodes { nodes: sizes.nodes })),
         Err(Unmade::Memory) => Err(Halt::Stopped(Stop::Memory)),
     }
@@ -124,7 +124,7 @@ fn snapshot_answers<R: Threads + Sync, F: Shelf, G: Gate>(
         ..
     } = command.sizes;
     if is_some_full(&hosts, capacity) {
-        return Err(Halt::Refused(Refusal::Full { capacity }));
+        return Err(Halt::Refused(Refusal::Full { most: capacity }));
     }
     match load_hosts(rt, alloc, &setup, &hosts, command.sizes, gate) {
         Ok(()) => {}

@@ -23,8 +23,8 @@ pub(crate) enum Refusal {
     /// The capture has a fault, at that record, of that code.
     Capture { at: u32, code: u8 },
     /// There are more records than the log may hold.
-    Full { capacity: u32 },
-    /// The paths of the records need more different nodes than a writer has.
+    Full { most: u32 },
+    /// The paths of the records in a segment need more different nodes than a writer has in it.
     Nodes { nodes: u32 },
 }
 
@@ -56,9 +56,7 @@ impl Refusal {
             Refusal::Capture { at, code } => {
                 format!(in alloc; "capture: record {at} code {code}\n")
             }
-            Refusal::Full { capacity } => {
-                format!(in alloc; "full: more than {capacity} records\n")
-            }
+            Refusal::Full { most } => format!(in alloc; "full: more than {most} records\n"),
             Refusal::Nodes { nodes } => format!(in alloc; "nodes: more than {nodes} nodes\n"),
         }
     }

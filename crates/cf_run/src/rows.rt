@@ -1,5 +1,5 @@
 // The rows of the bytes of a capture.
-ghost use Rattle.std.specs.Prelude.{◌≡◌, ◌≤◌, All, IfOk, MatchResult};
+ghost use Rattle.std.specs.Prelude.{◌≡◌, ◌≤◌, ◌^◌, All, IfOk, MatchResult};
 ghost use Rattle.cf_row.specs.Row.{Fits};
 ghost use Rattle.cf_row.specs.Schema.{packet_attrs};
 ghost use Rattle.cf_make.specs.Generated.{generated_frames};
@@ -57,7 +57,7 @@ pub(crate) fn rows_of(alloc: Global, frames: &[Frame]) -> Result<Vec<Row>, Memor
 
 /// The rows of the packets that a seed draws.
 pub(crate) fn drawn_packets(alloc: Global, seed: u64, count: u32) -> Result<Vec<Row>, Memory>
-    requires { count ≤ 65536 }
+    requires { count ≤ 2 ^ 20 }
     ensures rows { IfOk result (λ rows. rows.items ≡ packet_rows (generated_frames seed count)) }
     ensures fit { IfOk result (λ rows. All (Fits packet_attrs) rows.items) }
 {

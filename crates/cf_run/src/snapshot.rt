@@ -8,12 +8,13 @@ ghost use Rattle.cf_row.specs.Row.{Fits};
 ghost use Rattle.cf_setup.specs.Setups.{IsSetup};
 ghost use Rattle.cf_shape.specs.Nodes.{distinct};
 ghost use Rattle.cf_run.specs.Due.{HasRoom, IsSnapshotOf};
-ghost use Rattle.cf_run.specs.Logs.{IsUnmade};
+ghost use Rattle.cf_run.specs.Logs.{IsUnmadeAlone};
 ghost use Rattle.cf_run.specs.Parts.{rows_each, AreWithin};
 ghost use Rattle.cf_run.specs.Work.{shape_for};
 ghost use Rattle.cf_run.specs.declared.log.Unmade.TheVariants.{Nodes};
 
-use crate::log::{Unmade, load_rows, log_of};
+use crate::filling::Filling;
+use crate::log::{Unmade, log_of, opened};
 use cf_command::{LogSizes, SnapshotCommand};
 use cf_load::LivePlan;
 use cf_outside::Gate;
@@ -37,7 +38,7 @@ pub(crate) fn is_some_full(hosts: &[Vec<Row>], capacity: u32) -> bool
     false
 }
 
-// Loads rows into a log of which nothing is asked.
+// Loads rows into a log of one segment, of which nothing is asked.
 fn load_silently<R: Threads + Sync, G: Gate>(
     rt: &R,
     alloc: Global,
@@ -49,7 +50,7 @@ fn load_silently<R: Threads + Sync, G: Gate>(
     requires fit { All (Fits setup.now.schema) rows.now }
     requires few { length rows.now ≤ sizes.capacity }
     requires sizes { AreSizes sizes }
-    ensures { MatchResult result (λ _. distinct (shape_for setup.now sizes) rows.now ≤ sizes.writers * sizes.nodes) (IsUnmade (shape_for setup.now sizes) rows.now) }
+    ensures { MatchResult result (λ _. distinct (shape_for setup.now sizes) rows.now ≤ sizes.writers * sizes.nodes) (IsUnmadeAlone (shape_for setup.now sizes) rows.now) }
 {
     let Ok(shape) = shape_of(alloc, setup, sizes.capacity, sizes.writers, sizes.nodes) else {
         return Err(Unmade::Memory);
@@ -60,7 +61,13 @@ fn load_silently<R: Threads + Sync, G: Gate>(
         lives: Vec::new(alloc),
         rounds: 0,
     };
-    load_rows(rt, alloc, shape, rows, &plan, gate)?;
+    let Ok(mut filling) = Filling::new(rt, alloc, shape, 1, &plan, gate) else {
+        return Err(Unmade::Memory);
+    };
+    let Ok(()) = filling.take_copies(rows) else {
+        return Err(Unmade::Memory);
+    };
+    filling.finish()?;
     Ok(())
 }
 
@@ -109,7 +116,7 @@ fn total_of(cut: &[u32]) -> u32
     total
 }
 
-// Writes the part of a host, with its answers on these rows, which are loaded into a log of one writer.
+// Writes the part of a host, with its answers on these rows, which are loaded into a log of one writer and one segment.
 fn push_answers<R: Threads + Sync, G: Gate>(
     rt: &R,
     alloc: Global,
@@ -125,11 +132,18 @@ fn push_answers<R: Threads + Sync, G: Gate>(
     requires few { length rows.now ≤ sizes.capacity }
     requires sizes { AreSizes sizes }
     requires one { sizes.writers ≡ 1 }
+    requires undivided { sizes.segments ≡ 1 }
     ensures told { OnOk result (string_bytes text.new ≡ string_bytes text.old ++ host_text (shape_for setup.now sizes) setup.now host rows.now) }
-    ensures unmade { MatchResult result (λ _. Unit {0}) (IsUnmade (shape_for setup.now sizes) rows.now) }
+    ensures unmade { MatchResult result (λ _. Unit {0}) (IsUnmadeAlone (shape_for setup.now sizes) rows.now) }
 {
-    let (closed, answers) = log_of(rt, alloc, setup, rows, sizes, 0, gate)?;
-    match push_host(alloc, text, setup, host, &closed.entries, answers.finals()) {
+    let Ok(mut filling) = opened(rt, alloc, setup, sizes, 0, gate) else {
+        return Err(Unmade::Memory);
+    };
+    let Ok(()) = filling.take_copies(rows) else {
+        return Err(Unmade::Memory);
+    };
+    let (closing, answers) = log_of(rt, alloc, setup, filling)?;
+    match push_host(alloc, text, setup, host, &closing.entries, answers.finals()) {
         Ok(()) => Ok(()),
         Err(_) => Err(Unmade::Memory),
     }
@@ -151,6 +165,7 @@ fn push_hosts<R: Threads + Sync, G: Gate>(
     requires room { All (HasRoom sizes setup.now) (rows_each hosts.now) }
     requires sizes { AreSizes sizes }
     requires one { sizes.writers ≡ 1 }
+    requires undivided { sizes.segments ≡ 1 }
     requires size { length cut.now ≡ length hosts.now }
     requires within { AreWithin cut.now (rows_each hosts.now) }
     ensures { OnOk result (string_bytes text.new ≡ string_bytes text.old ++ flat_map (host_text_at (shape_for setup.now sizes) setup.now cut.now (rows_each hosts.now)) (range_with_len 0 (length hosts.now))) }

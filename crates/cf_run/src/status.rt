@@ -21,7 +21,7 @@ pub enum Status {
     WriteFault,
     /// There are more records than a log may hold.
     Full,
-    /// The paths of the records need more different nodes than a writer has.
+    /// The paths of the records in a segment need more different nodes than a writer has in it.
     Nodes,
     /// Want of memory. Nothing was written.
     Memory,
@@ -49,8 +49,8 @@ impl Status {
     }
 }
 
-/// How the work ended, and the seals of the logs that it loaded: one of a report or of the answers on drawn packets, and else
-/// none.
+/// How the work ended, and the seals of the segments of the log that it told of: those of a report or of the answers on drawn
+/// packets, and else none.
 #[derive(Drop)]
 pub struct Outcome {
     pub status: Status,
