@@ -124,6 +124,9 @@ fn read_all(
     ensures closed { AllZip HasLooked closed.old closed.new }
     ensures current { HasLooked current.old current.new }
 {
+    if closed.is_empty() {
+        return current.entries(alloc);
+    }
     let mut entries = Vec::new(alloc);
     push_entries(alloc, closed, &mut entries)?;
     let mut more = current.entries(alloc)?;
