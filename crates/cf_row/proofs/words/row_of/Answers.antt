@@ -7,11 +7,11 @@ use Rattle.cf_row.specs.Words.{word_count, values_read, entry_read, spelled, IsE
 use Rattle.cf_row.proofs.Readable.{spelled_fits, spelled_read}
 use Rattle.cf_row.proofs.words.row_of.Goals as goal
 
-pub read_values-requires-clause-room : goal.read_values-requires-clause-room
-read_values-requires-clause-room c = let f = spelled_fits c.args.schema.now c.args.words.now c.requires in rw c.attrs.ensures.attrs (let l = f.0 in omega (arith, l))
+pub new-requires-clause-long : goal.new-requires-clause-long
+new-requires-clause-long c = let f = spelled_fits c.args.schema.now c.args.words.now c.requires in rw c.attrs.ensures.attrs (let l = f.0 in omega (arith, l))
 
-pub read_values-requires-clause-fits : goal.read_values-requires-clause-fits
-read_values-requires-clause-fits c = let f = spelled_fits c.args.schema.now c.args.words.now c.requires in rw c.attrs.ensures.attrs f.1
+pub new-requires-clause-fits : goal.new-requires-clause-fits
+new-requires-clause-fits c = let f = spelled_fits c.args.schema.now c.args.words.now c.requires in rw c.attrs.ensures.attrs f.1
 
 pub bounds-words-word_count : goal.bounds-words-word_count
 bounds-words-word_count c = let f = spelled_fits c.args.schema.now c.args.words.now c.requires in let l = f.0 in omega (arith, l, c.word_count.ensures.count)
@@ -30,18 +30,18 @@ overflow_cast-tag c = rw c.word_count.ensures.count (omega (arith, tag_low c.arg
 
 pub returns-clause-read : goal.returns-clause-read
 returns-clause-read c =
-    let vs : c.in_ok-values.values.items ≡ values_read c.args.schema.now c.args.words.now = search (rules, c.in_ok-values.ensures, c.attrs.ensures.attrs) in
-    made c.args.schema.now c.args.words.now c.word_count.result c.in_ok-values.values.items c.new.result c.word_count.ensures.count vs c.new.ensures
+    let vs : c.in_ok-values.values ≡ values_read c.args.schema.now c.args.words.now = search (rules, c.in_ok-values.ensures, c.attrs.ensures.attrs) in
+    made c.args.schema.now c.args.words.now c.word_count.result c.in_ok-values.values c.spelled.result c.word_count.ensures.count vs c.spelled.ensures
 
 pub returns-clause-entry : goal.returns-clause-entry
 returns-clause-entry c =
-    let vs : c.in_ok-values.values.items ≡ values_read c.args.schema.now c.args.words.now = search (rules, c.in_ok-values.ensures, c.attrs.ensures.attrs) in
-    let is = made c.args.schema.now c.args.words.now c.word_count.result c.in_ok-values.values.items c.new.result c.word_count.ensures.count vs c.new.ensures in
+    let vs : c.in_ok-values.values ≡ values_read c.args.schema.now c.args.words.now = search (rules, c.in_ok-values.ensures, c.attrs.ensures.attrs) in
+    let is = made c.args.schema.now c.args.words.now c.word_count.result c.in_ok-values.values c.spelled.result c.word_count.ensures.count vs c.spelled.ensures in
     let s = c.requires in
     subst (λ (e : Entry). IsEntry c.args.schema.now e × (c.args.words.now ≡ spelled e)) (sym (is ∙ spelled_read c.args.schema.now c.args.words.now s.entry s.lawful s.spells)) (s.lawful, s.spells)
 
 pub returns-clause-inverse : goal.returns-clause-inverse
 returns-clause-inverse c =
-    let vs : c.in_ok-values.values.items ≡ values_read c.args.schema.now c.args.words.now = search (rules, c.in_ok-values.ensures, c.attrs.ensures.attrs) in
-    let is = made c.args.schema.now c.args.words.now c.word_count.result c.in_ok-values.values.items c.new.result c.word_count.ensures.count vs c.new.ensures in
+    let vs : c.in_ok-values.values ≡ values_read c.args.schema.now c.args.words.now = search (rules, c.in_ok-values.ensures, c.attrs.ensures.attrs) in
+    let is = made c.args.schema.now c.args.words.now c.word_count.result c.in_ok-values.values c.spelled.result c.word_count.ensures.count vs c.spelled.ensures in
     λ entry lawful words. is ∙ spelled_read c.args.schema.now c.args.words.now entry lawful words
