@@ -1,15 +1,15 @@
 -- The values that words and lengths keep.
-use Rattle.std.proofs.Common.{◌≡◌, ℕ, zero, suc, ◌+◌, ◌-◌, ◌*◌, ◌^◌, ◌<◌, ◌≤◌, List, [], ◌∷◌, ◌++◌, length, map, set, get_or, take, drop, Bool, true, ◌&&◌, nat_lt, refl, arith, ap, ap₂, sym, ◌∙◌, subst}
+use Rattle.std.proofs.Common.{◌≡◌, ℕ, zero, suc, ◌+◌, ◌-◌, ◌*◌, ◌^◌, ◌<◌, ◌≤◌, List, [], ◌∷◌, ◌++◌, length, map, set, get_or, take, drop, replicate, cond, Bool, true, false, ◌&&◌, nat_lt, refl, arith, ap, ap₂, sym, ◌∙◌, subst}
 use Rattle.std.specs.List.{list_all}
 use Rattle.std.proofs.lemmas.Bool.{and_from, ltb-true, lt-ltb}
-use Rattle.std.proofs.lemmas.List.{drop-drop, drop_more, drop_all, length-map, take_more, take_more_set, map-append, get_or_past}
+use Rattle.std.proofs.lemmas.List.{drop-drop, drop_more, drop_all, length-map, take_more, take_more_set, map-append, get_or_past, get_or-take, drop-take, length-take-le}
 use Rattle.cf_row.specs.declared.schema.Attr.{Attr}
 use Rattle.cf_row.specs.declared.schema.Kind.{Kind}
 use Rattle.cf_row.specs.declared.schema.Kind.TheVariants.{U8, U16, U32, U64, Bytes}
 use Rattle.cf_row.specs.declared.row.Value.{Value}
-use Rattle.cf_row.specs.declared.row.Value.TheVariants.{Num}
+use Rattle.cf_row.specs.declared.row.Value.TheVariants.{Num, Raw}
 use Rattle.cf_row.specs.Schema.{has_good_size}
-use Rattle.cf_row.specs.Words.{words_of_kind, word_count, value_read, values_read, word_fits, words_fit}
+use Rattle.cf_row.specs.Words.{words_of_kind, word_count, big_bytes, value_read, values_read, word_fits, words_fit}
 use Rattle.cf_row.specs.Kept.{len_of, kind_of, attrs_of, values_kept, AreKept}
 use Rattle.cf_row.proofs.Counts.{count_none, count_cons, count_low}
 use Rattle.cf_row.proofs.Bytes.{both}
@@ -147,7 +147,7 @@ lens_more f attrs lens i r a lt room kept is same =
     ∙ sym (ap (map f) (take_more attrs i a lt) ∙ map-append f (take i attrs) (get_or attrs i a ∷ [])))
 
 -- the words of an entry of the attributes keep its values
-pub kept_new : (attrs : List Attr) (lens ws items : List ℕ) → lens ≡ map (λ attr. len_of attr.kind) attrs → items ≡ ws → list_all (λ attr. has_good_size attr.kind) attrs ≡ true → length attrs ≤ 24 → length ws ≡ word_count attrs + 1 → words_fit attrs ws ≡ true → AreKept lens items
+pub kept_new : (attrs : List Attr) (lens ws items : List ℕ) → lens ≡ map (λ attr. len_of attr.kind) attrs → items ≡ ws → list_all (λ attr. has_good_size attr.kind) attrs ≡ true → length attrs ≤ 24 → length ws ≡ word_count attrs → words_fit attrs ws ≡ true → AreKept lens items
 kept_new attrs lens ws items is same good few long fits =
     let alike = attrs_kept attrs good in
     let kept : List ℕ = map (λ attr. len_of attr.kind) attrs in
@@ -163,3 +163,66 @@ read_new attrs lens ws items is same good = ap₂ values_kept is same ∙ (attrs
 
 pub none_kept : (lens ws : List ℕ) (i : ℕ) → length lens ≤ i → get_or (values_kept lens ws) i (Num 0) ≡ Num 0
 none_kept lens ws i le = get_or_past (values_kept lens ws) i (Num 0) (omega (arith, le, long_kept lens ws))
+
+-- Of the words of an entry those of the values are read alike, and are as much in range.
+pub record AreReadAlone (attrs : List Attr) (ws : List ℕ) : Type 0 where
+  pub read : values_read attrs (take (word_count attrs) ws) ≡ values_read attrs ws
+  pub fits : words_fit attrs (take (word_count attrs) ws) ≡ true
+
+abbrev raw_by : ℕ → Bool → List ℕ → List ℕ
+raw_by k long ws = cond long (big_bytes 8 (get_or ws 0 0) ++ big_bytes (k - 8) (get_or ws 1 0)) (big_bytes k (get_or ws 0 0))
+
+abbrev fits_by : ℕ → Bool → List ℕ → Bool
+fits_by k long ws = cond long (nat_lt (get_or ws 0 0) (256 ^ 8) && nat_lt (get_or ws 1 0) (256 ^ (k - 8))) (nat_lt (get_or ws 0 0) (256 ^ k))
+
+front : (n : ℕ) (ws : List ℕ) (i : ℕ) → i < n → get_or (take n ws) i 0 ≡ get_or ws i 0
+front n ws i lt = get_or-take n ws i 0 lt
+
+raw_alone : (k : ℕ) (long : Bool) (ws : List ℕ) (m : ℕ) → raw_by k long (take (cond long 2 1 + m) ws) ≡ raw_by k long ws
+raw_alone k true ws m = ap₂ (λ (x y : ℕ). big_bytes 8 x ++ big_bytes (k - 8) y) (front (2 + m) ws 0 (omega arith)) (front (2 + m) ws 1 (omega arith))
+raw_alone k false ws m = ap (big_bytes k) (front (1 + m) ws 0 (omega arith))
+
+fits_alone : (k : ℕ) (long : Bool) (ws : List ℕ) (m : ℕ) → fits_by k long (take (cond long 2 1 + m) ws) ≡ fits_by k long ws
+fits_alone k true ws m = ap₂ (λ (x y : ℕ). nat_lt x (256 ^ 8) && nat_lt y (256 ^ (k - 8))) (front (2 + m) ws 0 (omega arith)) (front (2 + m) ws 1 (omega arith))
+fits_alone k false ws m = ap (λ (x : ℕ). nat_lt x (256 ^ k)) (front (1 + m) ws 0 (omega arith))
+
+value_alone : (k : Kind) (ws : List ℕ) (m : ℕ) → value_read k (take (words_of_kind k + m) ws) ≡ value_read k ws
+value_alone U8 ws m = ap Num (front (1 + m) ws 0 (omega arith))
+value_alone U16 ws m = ap Num (front (1 + m) ws 0 (omega arith))
+value_alone U32 ws m = ap Num (front (1 + m) ws 0 (omega arith))
+value_alone U64 ws m = ap Num (front (1 + m) ws 0 (omega arith))
+value_alone (Bytes k) ws m = ap (λ (bs : List ℕ). Raw k (bs ++ replicate (16 - k) 0)) (raw_alone k (nat_lt 8 k) ws m)
+
+word_alone : (k : Kind) (ws : List ℕ) (m : ℕ) → word_fits k (take (words_of_kind k + m) ws) ≡ word_fits k ws
+word_alone U8 ws m = ap (λ (x : ℕ). nat_lt x (256 ^ 1)) (front (1 + m) ws 0 (omega arith))
+word_alone U16 ws m = ap (λ (x : ℕ). nat_lt x (256 ^ 2)) (front (1 + m) ws 0 (omega arith))
+word_alone U32 ws m = ap (λ (x : ℕ). nat_lt x (256 ^ 4)) (front (1 + m) ws 0 (omega arith))
+word_alone U64 ws m = ap (λ (x : ℕ). nat_lt x (256 ^ 8)) (front (1 + m) ws 0 (omega arith))
+word_alone (Bytes k) ws m = fits_alone k (nat_lt 8 k) ws m
+
+pub read_alone : (attrs : List Attr) (ws : List ℕ) → words_fit attrs ws ≡ true → AreReadAlone attrs ws
+read_alone [] ws fits = record {
+  read = read_none (take (word_count []) ws) ∙ sym (read_none ws);
+  fits = fit_none (take (word_count []) ws) ∙ (ap (λ (n : ℕ). nat_lt (get_or (take n ws) 0 0) (2 ^ 36)) count_none ∙ lt-ltb 0 (2 ^ 36) (omega arith));
+}
+read_alone (a ∷ attrs) ws fits =
+    let n = words_of_kind a.kind in
+    let m = word_count attrs in
+    let f = both (word_fits a.kind ws) (words_fit attrs (drop n ws)) (sym (fit_cons a attrs ws) ∙ fits) in
+    let more = read_alone attrs (drop n ws) f.1 in
+    let rest : drop n (take (n + m) ws) ≡ take m (drop n ws) = drop-take n m ws in
+    let count = count_cons a attrs in record {
+      read = ap (λ (c : ℕ). values_read (a ∷ attrs) (take c ws)) count
+          ∙ (read_cons a attrs (take (n + m) ws)
+          ∙ (ap₂ (λ (v : Value) (vs : List Value). v ∷ vs) (value_alone a.kind ws m) (ap (values_read attrs) rest ∙ more.read) ∙ sym (read_cons a attrs ws)));
+      fits = ap (λ (c : ℕ). words_fit (a ∷ attrs) (take c ws)) count
+          ∙ (fit_cons a attrs (take (n + m) ws) ∙ and_from _ _ (word_alone a.kind ws m ∙ f.0) (ap (words_fit attrs) rest ∙ more.fits));
+    }
+
+-- the same by any number that is that of the words
+pub alone_of : (attrs : List Attr) (ws : List ℕ) (n : ℕ) → n ≡ word_count attrs → word_count attrs ≤ length ws → words_fit attrs ws ≡ true
+    → (length (take n ws) ≡ word_count attrs) × (words_fit attrs (take n ws) ≡ true) × (values_read attrs (take n ws) ≡ values_read attrs ws)
+alone_of attrs ws n count le fits =
+    let alone = read_alone attrs ws fits in
+    let cut = ap (λ (c : ℕ). take c ws) count in
+    (ap (length {A = ℕ}) cut ∙ length-take-le (word_count attrs) ws le, ap (words_fit attrs) cut ∙ alone.fits, ap (values_read attrs) cut ∙ alone.read)

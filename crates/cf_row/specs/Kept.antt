@@ -1,5 +1,5 @@
 -- How a row keeps its values.
-use Rattle.std.specs.Prelude.{◌≡◌, ℕ, ◌+◌, ◌≤◌, zero, suc, true, List, [], length, map}
+use Rattle.std.specs.Prelude.{◌≡◌, ℕ, ◌≤◌, zero, suc, true, List, [], length, map}
 use Rattle.std.specs.List.{list_all}
 use Rattle.cf_row.specs.declared.schema.Attr.{Attr}
 use Rattle.cf_row.specs.declared.schema.Kind.{Kind}
@@ -31,11 +31,11 @@ attrs_of lens = map (λ len. record { name = []; kind = kind_of len }) lens
 abbrev pub values_kept : List ℕ → List ℕ → List Value
 values_kept lens words = values_read (attrs_of lens) words
 
--- the words are those of some entry with values of these lengths
+-- the words are those of values of these lengths
 pub record AreKept (lens words : List ℕ) : Type 0 where
   pub few : length lens ≤ 24
   pub sized : list_all (λ attr. has_good_size attr.kind) (attrs_of lens) ≡ true
-  pub long : length words ≡ word_count (attrs_of lens) + 1
+  pub long : length words ≡ word_count (attrs_of lens)
   pub fits : words_fit (attrs_of lens) words ≡ true
 
 -- the values that a row keeps, as a list

@@ -49,7 +49,7 @@ impl Values {
     }
 }
 
-/// The words of an entry, and for each of its values the bytes of the string, 0 for a number.
+/// The words of values, and for each value how many bytes it has, 0 for a number.
 #[derive(Debug, Drop)]
 pub(crate) struct Spelling {
     lens: [u8; 24],
@@ -77,7 +77,7 @@ impl Spelling {
     pub(crate) fn new(alloc: Global, attrs: &[Attr], words: &[u64]) -> Result<Spelling, Memory>
         requires sized { list_all (λ attr. has_good_size attr.kind) attrs.now ≡ true }
         requires few { length attrs.now ≤ 24 }
-        requires long { length words.now ≡ word_count attrs.now + 1 }
+        requires long { length words.now ≡ word_count attrs.now }
         requires fits { words_fit attrs.now words.now ≡ true }
         ensures { IfOk result (λ spelling. spelling ≡ values_read attrs.now words.now) }
     {
@@ -174,6 +174,6 @@ fn value_of(lens: &[u8], words: &[u64], place: usize) -> Value
     if place >= lens.len() {
         return Value::Num(0);
     }
-    let at = start_of(lens, words.len() - 1, place);
+    let at = start_of(lens, words.len(), place);
     read_value(kind_of(lens[place]), words, at)
 }

@@ -162,8 +162,9 @@ pub fn row_of(alloc: Global, schema: &Schema, words: &[u64]) -> Result<Entry, Me
     ensures inverse { IfOk result (λ read. (entry : Entry) → IsEntry schema.now entry → words.now ≡ spelled entry → read ≡ entry) }
     ensures read { IfOk result (λ entry. entry ≡ entry_read schema.now words.now) }
 {
-    let values = Spelling::new(alloc, schema.attrs(), words)?;
-    let tag = words[word_count(schema)];
+    let count = word_count(schema);
+    let values = Spelling::new(alloc, schema.attrs(), &words[..count])?;
+    let tag = words[count];
     Ok(Entry {
         writer: (tag % 16) as u8,
         row: Row::spelled((tag / 16) as u32, values),

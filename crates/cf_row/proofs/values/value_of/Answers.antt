@@ -1,9 +1,8 @@
 use Rattle.std.proofs.Common.{◌≡◌, ◌<◌, ℕ, length, get_or, drop, rules, arith, ap, ap₂, sym, ◌∙◌}
 use Rattle.cf_row.specs.declared.schema.Kind.{Kind}
-use Rattle.cf_row.specs.declared.row.Value.TheVariants.{Num}
 use Rattle.cf_row.specs.Schema.{has_good_size}
 use Rattle.cf_row.specs.Words.{words_of_kind, word_fits, value_read}
-use Rattle.cf_row.specs.Kept.{kind_of, values_kept}
+use Rattle.cf_row.specs.Kept.{kind_of}
 use Rattle.cf_row.proofs.Kept.{kept_at, none_kept}
 use Rattle.cf_row.proofs.values.value_of.Goals as goal
 

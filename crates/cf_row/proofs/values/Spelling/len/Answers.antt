@@ -1,4 +1,4 @@
-use Rattle.std.proofs.Common.{◌≡◌, List, length, take, arith, ap, sym}
+use Rattle.std.proofs.Common.{length, take, arith, ap}
 use Rattle.std.proofs.lemmas.List.{length-take-le}
 use Rattle.cf_row.specs.declared.row.Value.{Value}
 use Rattle.cf_row.proofs.Kept.{long_kept}

@@ -1,4 +1,4 @@
-use Rattle.std.proofs.Common.{◌≡◌, rules, arith}
+use Rattle.std.proofs.Common.{◌≡◌, rules}
 use Rattle.cf_row.proofs.Kept.{kept_new, read_new}
 use Rattle.std.proofs.Common.{take, length}
 use Rattle.cf_row.proofs.values.Spelling.new.Goals as goal
