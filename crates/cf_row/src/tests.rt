@@ -147,11 +147,10 @@ fn are_alike(row: &Row, other: &Row) -> bool {
 #[test]
 fn words_spell_an_entry(rt: HostRuntime) -> Result<(), Fail> {
     let alloc = rt.alloc();
-    let ts = ("ts", Kind::U64);
     let front = 0x0102030405060708;
-    let long = [
+    let kinds = [
         ("a", Kind::Bytes(1)),
-        ts,
+        ("ts", Kind::U64),
         ("b", Kind::Bytes(8)),
         ("c", Kind::Bytes(9)),
         ("d", Kind::Bytes(16)),
@@ -165,15 +164,18 @@ fn words_spell_an_entry(rt: HostRuntime) -> Result<(), Fail> {
         string_of(16),
         Value::Num(7),
     ];
-    let words = [1, 5, front, front, 9, front, 0x090a0b0c0d0e0f10, 7, 17];
-    let table: [(&[(&str, Kind)], &[Value], &[u64]); 3] = [
-        (&long, &values, &words),
-        (&long[..3], &values[..3], &[1, 5, front, 17]),
-        (&[ts], &[Value::Num(5)], &[5, 17]),
+    let table: [(usize, &[u64]); 3] = [
+        (2, &[1, 5, 17]),
+        (3, &[1, 5, front, 17]),
+        (
+            6,
+            &[1, 5, front, front, 9, front, 0x090a0b0c0d0e0f10, 7, 17],
+        ),
     ];
-    for (kinds, values, wanted) in table {
-        let schema = Schema::new(attrs(alloc, kinds)?)?;
-        let row = Row::new(1, values.to_vec(alloc)?);
+    for (count, wanted) in table {
+        let count = count.min(6);
+        let schema = Schema::new(attrs(alloc, &kinds[..count])?)?;
+        let row = Row::new(1, values[..count].to_vec(alloc)?);
         assert!(rt; fits(&schema, &row));
         let mut words = vec![in alloc; 0; word_count(&schema) + 1]?;
         words_of(&schema, &row, 1, &mut words);

@@ -1,5 +1,5 @@
 // How a row keeps its values: as a list, or as the words that spell them.
-ghost use Rattle.std.specs.Prelude.{◌≡◌, ℕ, ◌+◌, ◌<◌, ◌≤◌, List, length, map, take, IfOk, slice_index_or, true};
+ghost use Rattle.std.specs.Prelude.{◌≡◌, ◌<◌, ◌≤◌, length, map, take, IfOk, slice_index_or, true};
 ghost use Rattle.std.specs.List.{list_all};
 ghost use Rattle.cf_row.specs.declared.row.Value.TheVariants.{Num};
 ghost use Rattle.cf_row.specs.Schema.{has_good_size};

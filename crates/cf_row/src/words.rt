@@ -1,11 +1,10 @@
 // The words that spell an entry.
 ghost use Rattle.std.specs.Prelude.{◌≡◌, ℕ, ◌+◌, ◌-◌, ◌*◌, ◌^◌, ◌<◌, ◌≤◌, ◌++◌, List, length, take, drop, IfOk, IsTrue, ◌↔◌, true, nat_lt};
-ghost use Rattle.std.specs.List.{list_all};
 ghost use Rattle.cf_row.specs.Schema.{has_good_size};
 ghost use Rattle.cf_row.specs.declared.schema.Kind.TheVariants.{Bytes};
 ghost use Rattle.cf_row.specs.Row.{Fits};
 ghost use Rattle.cf_row.specs.Kept.{values_of};
-ghost use Rattle.cf_row.specs.Words.{word_count as word_count_of, words_of_kind, big_number as big_number_of, big_bytes, value_words, values_words, value_read, values_read, entry_read, raw_words, raw_read, spelled, IsEntry, AreSpelled, word_fits, words_fit};
+ghost use Rattle.cf_row.specs.Words.{word_count as word_count_of, words_of_kind, big_number as big_number_of, big_bytes, value_words, values_words, value_read, entry_read, raw_words, raw_read, spelled, IsEntry, AreSpelled, word_fits, words_fit};
 ghost use Rattle.cf_row.specs.declared.row.Entry.{Entry};
 
 use crate::values::{Spelling, Values};
