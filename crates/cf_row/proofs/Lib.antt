@@ -4,3 +4,4 @@ pub mod Bytes
 pub mod Spelling
 pub mod Readable
 pub mod Written
+pub mod Kept

@@ -156,11 +156,11 @@ value_is_read (Bytes k) ws good le fits =
           }
     ]
 
-read_cons : (a : Attr) (attrs : List Attr) (ws : List ℕ) → values_read (a ∷ attrs) ws ≡ value_read a.kind ws ∷ values_read attrs (drop (words_of_kind a.kind) ws)
+pub read_cons : (a : Attr) (attrs : List Attr) (ws : List ℕ) → values_read (a ∷ attrs) ws ≡ value_read a.kind ws ∷ values_read attrs (drop (words_of_kind a.kind) ws)
 unfolding values_read
 read_cons a attrs ws = refl
 
-read_none : (ws : List ℕ) → values_read [] ws ≡ []
+pub read_none : (ws : List ℕ) → values_read [] ws ≡ []
 unfolding values_read
 read_none ws = refl
 

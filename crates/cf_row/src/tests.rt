@@ -130,8 +130,70 @@ fn packets_have_the_fields_of_their_headers(rt: HostRuntime) -> Result<(), Fail>
     Ok(())
 }
 
+// the bytes 1, 2 and so on
+fn string_of(len: u8) -> Value {
+    let mut bytes = [0; 16];
+    for place in 0..len.min(16) {
+        bytes[place as usize] = place + 1;
+    }
+    Value::Raw { len, bytes }
+}
+
+// also where neither has a value
+fn are_alike(row: &Row, other: &Row) -> bool {
+    (0..25).all(|place| row.value_at(place) == other.value_at(place))
+}
+
 #[test]
 fn words_spell_an_entry(rt: HostRuntime) -> Result<(), Fail> {
+    let alloc = rt.alloc();
+    let front = 0x0102030405060708;
+    let kinds = [
+        ("a", Kind::Bytes(1)),
+        ("ts", Kind::U64),
+        ("b", Kind::Bytes(8)),
+        ("c", Kind::Bytes(9)),
+        ("d", Kind::Bytes(16)),
+        ("e", Kind::U8),
+    ];
+    let values = [
+        string_of(1),
+        Value::Num(5),
+        string_of(8),
+        string_of(9),
+        string_of(16),
+        Value::Num(7),
+    ];
+    let table: [(usize, &[u64]); 3] = [
+        (2, &[1, 5, 17]),
+        (3, &[1, 5, front, 17]),
+        (
+            6,
+            &[1, 5, front, front, 9, front, 0x090a0b0c0d0e0f10, 7, 17],
+        ),
+    ];
+    for (count, wanted) in table {
+        let count = count.min(6);
+        let schema = Schema::new(attrs(alloc, &kinds[..count])?)?;
+        let row = Row::new(1, values[..count].to_vec(alloc)?);
+        assert!(rt; fits(&schema, &row));
+        let mut words = vec![in alloc; 0; word_count(&schema) + 1]?;
+        words_of(&schema, &row, 1, &mut words);
+        assert_eq!(rt; words.as_slice(), wanted);
+        assert!(rt; spells(&schema, &words));
+        let entry = row_of(alloc, &schema, &words)?.copy(alloc)?;
+        assert_eq!(rt; (entry.writer, entry.row.num()), (1, 1));
+        assert!(rt; fits(&schema, &entry.row));
+        assert!(rt; are_alike(&entry.row, &row), "{wanted:?}");
+        let mut again = vec![in alloc; 0; word_count(&schema) + 1]?;
+        words_of(&schema, &entry.row, 1, &mut again);
+        assert_eq!(rt; again.as_slice(), wanted);
+    }
+    Ok(())
+}
+
+#[test]
+fn words_out_of_range_spell_nothing(rt: HostRuntime) -> Result<(), Fail> {
     let alloc = rt.alloc();
     let kinds = [
         ("ts", Kind::U64),
@@ -139,22 +201,8 @@ fn words_spell_an_entry(rt: HostRuntime) -> Result<(), Fail> {
         ("n", Kind::Bytes(11)),
     ];
     let schema = Schema::new(attrs(alloc, &kinds)?)?;
-    let long = Value::Raw {
-        len: 11,
-        bytes: [0, 0, 0, 0, 0, 0, 1, 2, 0, 3, 4, 0, 0, 0, 0, 0],
-    };
-    let row = Row::new(1, [Value::Num(5), bytes_of(9), long].to_vec(alloc)?);
-    assert!(rt; fits(&schema, &row));
-    assert_eq!(rt; word_count(&schema), 4);
-    let mut words = [0; 5];
-    words_of(&schema, &row, 1, &mut words);
-    assert_eq!(rt; words, [5, 2304, 258, 772, 17]);
+    let words = [5, 2304, 258, 772, 17];
     assert!(rt; spells(&schema, &words));
-    let entry = row_of(alloc, &schema, &words)?;
-    assert_eq!(rt; (entry.writer, entry.row.num()), (1, 1));
-    assert!(rt; fits(&schema, &entry.row));
-    assert_eq!(rt; schema.attrs().len(), 3);
-    assert_eq!(rt; entry.row.get(&schema, 2), long);
     for (place, word) in [(1, 65536), (3, 1 << 24), (4, 1 << 36)] {
         let mut other = words;
         other[place] = word;

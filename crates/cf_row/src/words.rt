@@ -1,17 +1,18 @@
 // The words that spell an entry.
 ghost use Rattle.std.specs.Prelude.{◌≡◌, ℕ, ◌+◌, ◌-◌, ◌*◌, ◌^◌, ◌<◌, ◌≤◌, ◌++◌, List, length, take, drop, IfOk, IsTrue, ◌↔◌, true, nat_lt};
-ghost use Rattle.std.specs.List.{list_all};
 ghost use Rattle.cf_row.specs.Schema.{has_good_size};
 ghost use Rattle.cf_row.specs.declared.schema.Kind.TheVariants.{Bytes};
 ghost use Rattle.cf_row.specs.Row.{Fits};
-ghost use Rattle.cf_row.specs.Words.{word_count as word_count_of, words_of_kind, big_number as big_number_of, big_bytes, value_words, values_words, value_read, values_read, entry_read, raw_words, raw_read, spelled, IsEntry, AreSpelled, word_fits, words_fit};
+ghost use Rattle.cf_row.specs.Kept.{values_of};
+ghost use Rattle.cf_row.specs.Words.{word_count as word_count_of, words_of_kind, big_number as big_number_of, big_bytes, value_words, values_words, value_read, entry_read, raw_words, raw_read, spelled, IsEntry, AreSpelled, word_fits, words_fit};
 ghost use Rattle.cf_row.specs.declared.row.Entry.{Entry};
 
+use crate::values::{Spelling, Values};
 use crate::{Attr, Entry, Kind, Memory, Row, Schema, Value};
 use std::alloc::Global;
 
 // How many words the values of a kind take.
-fn kind_words(kind: Kind) -> usize
+pub(crate) fn kind_words(kind: Kind) -> usize
     ensures { result ≡ words_of_kind kind }
 {
     match kind {
@@ -85,14 +86,14 @@ fn put_bytes(len: u8, bytes: &[u8; 16], out: &mut [u64], at: usize) -> usize
 }
 
 // Writes the words of the values, and answers where they end.
-fn put_values(values: &[Value], out: &mut [u64]) -> usize
-    requires room { length (values_words values.now) ≤ length out.old }
-    ensures end { result ≡ length (values_words values.now) }
-    ensures words { take result out.new ≡ values_words values.now }
+fn put_values(values: &Values, out: &mut [u64]) -> usize
+    requires room { length (values_words (values_of values.now)) ≤ length out.old }
+    ensures end { result ≡ length (values_words (values_of values.now)) }
+    ensures words { take result out.new ≡ values_words (values_of values.now) }
 {
     let mut at = 0;
-    for value in values {
-        at = put_value(value, out, at);
+    for place in 0..values.len() {
+        at = put_value(&values.at(place), out, at);
     }
     at
 }
@@ -141,7 +142,7 @@ fn read_string(size: u8, words: &[u64], at: usize) -> Value
     Value::Raw { len: size, bytes }
 }
 
-fn read_value(kind: Kind, words: &[u64], at: usize) -> Value
+pub(crate) fn read_value(kind: Kind, words: &[u64], at: usize) -> Value
     requires few { has_good_size kind ≡ true }
     requires room { at + words_of_kind kind ≤ length words.now }
     requires fits { word_fits kind (drop at words.now) ≡ true }
@@ -153,22 +154,6 @@ fn read_value(kind: Kind, words: &[u64], at: usize) -> Value
     }
 }
 
-fn read_values(alloc: Global, attrs: &[Attr], words: &[u64]) -> Result<Vec<Value>, Memory>
-    requires sized { list_all (λ attr. has_good_size attr.kind) attrs.now ≡ true }
-    requires few { length attrs.now ≤ 24 }
-    requires room { word_count_of attrs.now ≤ length words.now }
-    requires fits { words_fit attrs.now words.now ≡ true }
-    ensures { IfOk result (λ values. values.items ≡ values_read attrs.now words.now) }
-{
-    let mut values = Vec::with_capacity(alloc, attrs.len())?;
-    let mut at = 0;
-    for attr in attrs {
-        values.push(read_value(attr.kind, words, at))?;
-        at += kind_words(attr.kind);
-    }
-    Ok(values)
-}
-
 /// The entry that these words spell.
 pub fn row_of(alloc: Global, schema: &Schema, words: &[u64]) -> Result<Entry, Memory>
     requires { AreSpelled schema.now words.now }
@@ -176,11 +161,12 @@ pub fn row_of(alloc: Global, schema: &Schema, words: &[u64]) -> Result<Entry, Me
     ensures inverse { IfOk result (λ read. (entry : Entry) → IsEntry schema.now entry → words.now ≡ spelled entry → read ≡ entry) }
     ensures read { IfOk result (λ entry. entry ≡ entry_read schema.now words.now) }
 {
-    let values = read_values(alloc, schema.attrs(), words)?;
-    let tag = words[word_count(schema)];
+    let count = word_count(schema);
+    let values = Spelling::new(alloc, schema.attrs(), &words[..count])?;
+    let tag = words[count];
     Ok(Entry {
         writer: (tag % 16) as u8,
-        row: Row::new((tag / 16) as u32, values),
+        row: Row::spelled((tag / 16) as u32, values),
     })
 }
 

@@ -1,23 +1,31 @@
-use Rattle.std.proofs.Common.{◌++◌, ℕ, List, length, arith, ap, sym, ◌∙◌, length-append}
+use Rattle.std.proofs.Common.{◌≡◌, ◌<◌, ◌+◌, ◌++◌, ℕ, List, length, take, get_or, arith, ap, sym, ◌∙◌, length-append}
+use Rattle.cf_row.specs.declared.row.Value.{Value}
 use Rattle.cf_row.specs.declared.row.Value.TheVariants.{Num}
+use Rattle.cf_row.specs.Kept.{values_of}
 use Rattle.cf_row.specs.Words.{values_words, value_words}
 use Rattle.cf_row.proofs.Spelling.{words_more, words_front, words_none}
 use Rattle.cf_row.proofs.words.put_values.Goals as goal
 
-pub loop-value-init : goal.loop-value-init
-loop-value-init c = record { end = ap (length {A = ℕ}) (sym words_none); words = sym words_none }
+pub loop-place-init : goal.loop-place-init
+loop-place-init c = record { end = ap (length {A = ℕ}) (sym words_none); words = sym words_none }
+
+-- the words of the first values and of the next
+next : (vs : List Value) (i : ℕ) (v : Value) → i < length vs → v ≡ get_or vs i (Num 0) → values_words (take (i + 1) vs) ≡ values_words (take i vs) ++ value_words v
+next vs i v lt is = words_more vs i (Num 0) lt ∙ ap (λ (x : Value). values_words (take i vs) ++ value_words x) (sym is)
 
 pub put_value-at-requires : goal.put_value-at-requires
-put_value-at-requires c = record {
-  room = (let m = words_more c.args.values.now c.loop-value.value-index (Num 0) c.loop-value-test.true in
-      let f = words_front c.args.values.now (Rattle.std.specs.Prelude.◌+◌ c.loop-value.value-index 1) in
-      omega (arith, ap (length {A = ℕ}) m, length-append (values_words (Rattle.std.specs.Prelude.take c.loop-value.value-index c.args.values.now)) (value_words (Rattle.std.specs.Prelude.slice_index_or c.args.values.now c.loop-value.value-index (Num 0))), f, c.loop-value.invariant.end, c.requires.room, c.loop-value.auto.out));
-}
+put_value-at-requires c =
+    let vs : List Value = values_of c.args.values.now in
+    let lt : c.loop-place.place < length vs = omega (arith, c.loop-place-test.true, c.len-place-end.ensures, c.loop-place.auto.place-end) in
+    let m = next vs c.loop-place.place c.at.result lt c.at.ensures in record {
+      room = omega (arith, ap (length {A = ℕ}) m, length-append (values_words (take c.loop-place.place vs)) (value_words c.at.result), words_front vs (c.loop-place.place + 1), c.loop-place.invariant.end, c.requires.room, c.loop-place.auto.out);
+    }
 
-pub loop-value-preserved : goal.loop-value-preserved
-loop-value-preserved c =
-    let m = words_more c.args.values.now c.loop-value.value-index (Num 0) c.loop-value-test.true in
-    let long = length-append (values_words (Rattle.std.specs.Prelude.take c.loop-value.value-index c.args.values.now)) (value_words (Rattle.std.specs.Prelude.slice_index_or c.args.values.now c.loop-value.value-index (Num 0))) in record {
-      end = omega (arith, ap (length {A = ℕ}) m, long, c.loop-value.invariant.end, c.put_value-at.ensures.end);
-      words = c.put_value-at.ensures.words ∙ (ap (λ (ws : List ℕ). ws ++ value_words (Rattle.std.specs.Prelude.slice_index_or c.args.values.now c.loop-value.value-index (Num 0))) c.loop-value.invariant.words ∙ sym m);
+pub loop-place-preserved : goal.loop-place-preserved
+loop-place-preserved c =
+    let vs : List Value = values_of c.args.values.now in
+    let lt : c.loop-place.place < length vs = omega (arith, c.loop-place-test.true, c.len-place-end.ensures, c.loop-place.auto.place-end) in
+    let m = next vs c.loop-place.place c.at.result lt c.at.ensures in record {
+      end = omega (arith, ap (length {A = ℕ}) m, length-append (values_words (take c.loop-place.place vs)) (value_words c.at.result), c.loop-place.invariant.end, c.put_value-at.ensures.end);
+      words = c.put_value-at.ensures.words ∙ (ap (λ (ws : List ℕ). ws ++ value_words c.at.result) c.loop-place.invariant.words ∙ sym m);
     }

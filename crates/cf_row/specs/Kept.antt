@@ -1,0 +1,44 @@
+-- How a row keeps its values.
+use Rattle.std.specs.Prelude.{◌≡◌, ℕ, ◌≤◌, zero, suc, true, List, [], length, map}
+use Rattle.std.specs.List.{list_all}
+use Rattle.cf_row.specs.declared.schema.Attr.{Attr}
+use Rattle.cf_row.specs.declared.schema.Kind.{Kind}
+use Rattle.cf_row.specs.declared.schema.Kind.TheVariants.{U8, U16, U32, U64, Bytes}
+use Rattle.cf_row.specs.declared.row.Value.{Value}
+use Rattle.cf_row.specs.declared.values.Values.{Values}
+use Rattle.cf_row.specs.declared.values.Values.TheVariants.{Listed, Spelled}
+use Rattle.cf_row.specs.Schema.{has_good_size}
+use Rattle.cf_row.specs.Words.{word_count, values_read, words_fit}
+
+-- the bytes of a string of the kind, 0 for a number
+abbrev pub len_of : Kind → ℕ
+len_of U8 = 0
+len_of U16 = 0
+len_of U32 = 0
+len_of U64 = 0
+len_of (Bytes k) = k
+
+-- the kind that is kept for that length: numbers of all sizes are kept alike
+abbrev pub kind_of : ℕ → Kind
+kind_of zero = U64
+kind_of (suc k) = Bytes (suc k)
+
+-- attributes of these lengths, whose names don't matter
+abbrev pub attrs_of : List ℕ → List Attr
+attrs_of lens = map (λ len. record { name = []; kind = kind_of len }) lens
+
+-- the values of these lengths that the words spell
+abbrev pub values_kept : List ℕ → List ℕ → List Value
+values_kept lens words = values_read (attrs_of lens) words
+
+-- the words are those of values of these lengths
+pub record AreKept (lens words : List ℕ) : Type 0 where
+  pub few : length lens ≤ 24
+  pub sized : list_all (λ attr. has_good_size attr.kind) (attrs_of lens) ≡ true
+  pub long : length words ≡ word_count (attrs_of lens)
+  pub fits : words_fit (attrs_of lens) words ≡ true
+
+-- the values that a row keeps, as a list
+abbrev pub values_of : Values → List Value
+values_of (Listed values) = values.items
+values_of (Spelled values) = values

@@ -1,0 +1,179 @@
+// How a row keeps its values: as a list, or as the words that spell them.
+ghost use Rattle.std.specs.Prelude.{◌≡◌, ◌<◌, ◌≤◌, length, map, take, IfOk, slice_index_or, true};
+ghost use Rattle.std.specs.List.{list_all};
+ghost use Rattle.cf_row.specs.declared.row.Value.TheVariants.{Num};
+ghost use Rattle.cf_row.specs.Schema.{has_good_size};
+ghost use Rattle.cf_row.specs.Words.{word_count, words_fit, values_read};
+ghost use Rattle.cf_row.specs.Kept.{len_of as len_of_kind, kind_of as kind_of_len, attrs_of, values_kept, AreKept, values_of};
+
+use crate::words::{kind_words, read_value};
+use crate::{Attr, Kind, Memory, Value};
+use std::alloc::Global;
+use std::marker::Model;
+
+/// The values of a row: a list, or the words that spell them.
+#[derive(Debug, Drop)]
+pub(crate) enum Values {
+    Listed(Vec<Value>),
+    Spelled(Spelling),
+}
+
+impl Values {
+    pub(crate) fn len(&self) -> usize
+        ensures { result ≡ length (values_of self.now) }
+    {
+        match self {
+            Values::Listed(values) => values.len(),
+            Values::Spelled(spelling) => spelling.len(),
+        }
+    }
+
+    // The value at that place, `Num(0)` where there is none.
+    pub(crate) fn at(&self, place: usize) -> Value
+        ensures { result ≡ slice_index_or (values_of self.now) place (Num 0) }
+    {
+        match self {
+            Values::Listed(values) => values.get(place).copied().unwrap_or(Value::Num(0)),
+            Values::Spelled(spelling) => spelling.at(place),
+        }
+    }
+
+    // Equal values, kept alike.
+    pub(crate) fn copy(&self, alloc: Global) -> Result<Values, Memory>
+        ensures { IfOk result (λ values. values_of values ≡ values_of self.now) }
+    {
+        match self {
+            Values::Listed(values) => Ok(Values::Listed(values.to_vec(alloc)?)),
+            Values::Spelled(spelling) => Ok(Values::Spelled(spelling.copy(alloc)?)),
+        }
+    }
+}
+
+/// The words of values, and for each value how many bytes it has, 0 for a number.
+#[derive(Debug, Drop)]
+pub(crate) struct Spelling {
+    lens: [u8; 24],
+    // how many values there are
+    count: u8,
+    words: Vec<u64>,
+}
+
+impl Model for Spelling {
+    ghost use Rattle.std.specs.Prelude.{List};
+    ghost use Rattle.cf_row.specs.declared.row.Value.{Value as ValueOf};
+
+    ghost Value = { List ValueOf };
+
+    ghost use Rattle.std.specs.Prelude.{take, length, ◌≤◌};
+    ghost use Rattle.cf_row.specs.Kept.{values_kept, AreKept};
+
+    ghost view = { λ s. values_kept (take s.count s.lens) s.words.items };
+
+    ghost invariant = { λ s. AreKept (take s.count s.lens) s.words.items × (s.count ≤ length s.lens) };
+}
+
+impl Spelling {
+    // The values of these attributes, spelled by the words.
+    pub(crate) fn new(alloc: Global, attrs: &[Attr], words: &[u64]) -> Result<Spelling, Memory>
+        requires sized { list_all (λ attr. has_good_size attr.kind) attrs.now ≡ true }
+        requires few { length attrs.now ≤ 24 }
+        requires long { length words.now ≡ word_count attrs.now }
+        requires fits { words_fit attrs.now words.now ≡ true }
+        ensures { IfOk result (λ spelling. spelling ≡ values_read attrs.now words.now) }
+    {
+        Ok(Spelling {
+            lens: lens_of(attrs),
+            count: attrs.len() as u8,
+            words: words.to_vec(alloc)?,
+        })
+    }
+
+    fn len(&self) -> usize
+        ensures { result ≡ length self.now }
+    {
+        usize::from(self.count)
+    }
+
+    fn at(&self, place: usize) -> Value
+        ensures { result ≡ slice_index_or self.now place (Num 0) }
+    {
+        value_of(&self.lens[..usize::from(self.count)], &self.words, place)
+    }
+
+    fn copy(&self, alloc: Global) -> Result<Spelling, Memory>
+        ensures { IfOk result (λ spelling. spelling ≡ self.now) }
+    {
+        let words = self.words.to_vec(alloc)?;
+        Ok(Spelling {
+            lens: self.lens,
+            count: self.count,
+            words,
+        })
+    }
+}
+
+fn len_of(kind: Kind) -> u8
+    ensures { result ≡ len_of_kind kind }
+{
+    match kind {
+        Kind::Bytes(size) => size,
+        _ => 0,
+    }
+}
+
+fn kind_of(len: u8) -> Kind
+    ensures { result ≡ kind_of_len len }
+{
+    if len == 0 {
+        return Kind::U64;
+    }
+    Kind::Bytes(len)
+}
+
+fn lens_of(attrs: &[Attr]) -> [u8; 24]
+    requires { length attrs.now ≤ 24 }
+    ensures lens { take (length attrs.now) result ≡ map (λ attr. len_of_kind attr.kind) attrs.now }
+    ensures room { length attrs.now ≤ length result }
+{
+    let mut lens = [0; 24];
+    for place in 0..attrs.len() {
+        lens[place] = len_of(attrs[place].kind);
+    }
+    lens
+}
+
+// How many words values of these lengths take.
+fn count_lens(lens: &[u8]) -> usize
+    requires { length lens.now ≤ 24 }
+    ensures { result ≡ word_count (attrs_of lens.now) }
+{
+    let mut count = 0;
+    for len in lens {
+        count += kind_words(kind_of(*len));
+    }
+    count
+}
+
+// Where the words of a value begin; if each value has one word, at its own place.
+fn start_of(lens: &[u8], count: usize, place: usize) -> usize
+    requires few { length lens.now ≤ 24 }
+    requires place { place < length lens.now }
+    requires count { count ≡ word_count (attrs_of lens.now) }
+    ensures { result ≡ word_count (attrs_of (take place lens.now)) }
+{
+    if count == lens.len() {
+        return place;
+    }
+    count_lens(&lens[..place])
+}
+
+fn value_of(lens: &[u8], words: &[u64], place: usize) -> Value
+    requires { AreKept lens.now words.now }
+    ensures { result ≡ slice_index_or (values_kept lens.now words.now) place (Num 0) }
+{
+    if place >= lens.len() {
+        return Value::Num(0);
+    }
+    let at = start_of(lens, words.len(), place);
+    read_value(kind_of(lens[place]), words, at)
+}
