@@ -96,7 +96,7 @@ impl MultiLog {
         ensures looked { OnlyLooked token.old token.new }
     {
         let mut words = vec![in alloc; 0u64; word_count(self.shape().schema()) + 1]?;
-        let mut entries = Vec::new(alloc);
+        let mut entries = Vec::with_capacity(alloc, token.known() as usize)?;
         for offset in 0..token.known() {
             let entry = self.read_entry(alloc, token, offset, &mut words)?;
             entries.push(entry)?;
