@@ -10,12 +10,13 @@ It writes the generated capture to a temporary file, the same bytes that `conflu
  - `confluo run` and `confluo synth` by one, two and four writers, with setups of no, one, four and sixteen lanes;
  - a usual setup (one index, one aggregate, one trigger, four questions) by `confluo run`, and `tcpdump` and `tshark` on the same file
    where they are installed, with and without a filter that a fifth of the packets pass, and the file read once by this script;
- - live questions beside two writers, each by the time of a run that asks it 1,024 times less that of the same run without.
+ - live questions beside two writers, each by the time of a run that asks it 1,024 times less that of the same run without;
+ - final questions by one, two and four processors, each by the time of a run that asks it 32 times less that of one that asks it once.
 
 Each command runs N times (5 where it is not said), and the shortest time counts, as other work on the machine only lengthens a
-run. The peak of memory is the least of the runs'. The capture has 65,536 packets. --table writes the tables in Markdown, --plot
-draws the first of them, which needs matplotlib (`apt-get install python3-matplotlib`). CONFLUO may name another build of the
-program. It is no part of the gate.
+run. The peak of memory is the least of the runs'. Captures have 65,536 packets, and 1,048,576 over 16 segments unless --short is
+given. --table writes the tables in Markdown, --plot draws the first of them, which needs matplotlib (`apt-get install
+python3-matplotlib`). CONFLUO may name another build of the program. It is no part of the gate.
 """
 
 import argparse
@@ -30,6 +31,8 @@ import tempfile
 import time
 
 COUNT = 2**16
+LONG = 2**20
+CAPACITY = 2**16
 ATTRIBUTES = ["src", "dst", "sport", "dport", "proto", "ttl", "tos", "flags", "kind", "etype", "win", "iplen", "len", "seq", "ack", "caplen"]
 PLAIN = "schema packet\nask all list len>1080\n"
 USUAL = """schema packet
@@ -48,8 +51,10 @@ QUESTIONS = {
     "a bucket's aggregate": "filter f *\naggregate a f len\nask q measure a 40 40\n",
     "a scan of a bucket": "filter f *\naggregate a f len\nask q list ts in 40000000000..40000000010\n",
     "a trigger's marks": "filter f *\naggregate a f len\ntrigger t a sum > 4294967295\nask q fired t\n",
-    "the ten heaviest keys": "tally a src len *\nask q top a sum 10\n",
+    "the ten heaviest of 16 keys": "tally a src len *\nask q top a sum 10\n",
+    "the ten heaviest of 65,536 keys": "tally a ts len *\nask q top a sum 10\n",
 }
+FINALS = {"a list": "list len>1080", "a total": "total len len>1080", "the ten heaviest of 65,536 keys a segment": "top a sum 10"}
 # What a fifth of the packets pass: lengths run evenly from 64 to 1,087.
 READERS = {
     "tcpdump -n -r": ["tcpdump", "-n", "-r"],
@@ -59,6 +64,7 @@ READERS = {
 }
 ROUNDS_A_BATCH = 64
 BATCH = 4096
+ASKED = 32
 # What two runs of one command may differ by, in seconds.
 NOISE = 0.02
 
@@ -143,7 +149,9 @@ class Sitting:
     def words(self, command, text, count, writers, live=0):
         """The words of a command over so many packets, whose paths have all the nodes that they may need."""
         pathlib.Path(self.setup).write_text(text)
-        words = [self.program, command, "--setup", self.setup, "--writers", str(writers), "--nodes", "65536"]
+        words = [self.program, command, "--setup", self.setup, "--writers", str(writers), "--nodes", "16384"]
+        if count > CAPACITY:
+            words += ["--segments", str(-(-count // CAPACITY))]
         if command == "synth":
             return words + ["--seed", "1", "--count", str(count)]
         return words + ["--live", str(live), self.file(count)]
@@ -159,17 +167,17 @@ def table(title, heads, rows):
     return "\n".join(lines) + "\n"
 
 
-def time_loads(sitting):
+def time_loads(sitting, count):
     """Records loaded a second, by the number of lanes and of writers, and the peak of memory a record."""
     rows = []
     for command in ("run", "synth"):
         for lane_count in (0, 1, 4, 16):
-            costs = [sitting.cost(command, lanes(lane_count), COUNT, writers) for writers in (1, 2, 4)]
-            speeds = [f"{COUNT / it.seconds / 1000:,.0f}" for it in costs]
-            rows.append([command, str(lane_count), *speeds, f"{costs[0].memory / COUNT:,.0f}"])
+            costs = [sitting.cost(command, lanes(lane_count), count, writers) for writers in (1, 2, 4)]
+            speeds = [f"{count / it.seconds / 1000:,.0f}" for it in costs]
+            rows.append([command, str(lane_count), *speeds, f"{costs[0].memory / count:,.0f}"])
             print(*rows[-1], flush=True)
     heads = ["command", "lanes", "1 writer", "2 writers", "4 writers", "peak bytes a record, 1 writer"]
-    return table(f"{COUNT:,} packets, in thousands a second", heads, rows)
+    return table(f"{count:,} packets, in thousands a second", heads, rows)
 
 
 def read_once(file):
@@ -215,6 +223,23 @@ def time_questions(sitting):
     return table("Live questions beside two writers", ["question", "answers a second", "microseconds of work each"], rows)
 
 
+def time_finals(sitting, count):
+    """Seconds that a final question takes, by how many processors the run may use."""
+    rows = []
+    for name, question in FINALS.items():
+        costs = []
+        for processors in ("0", "0,1", "0-3"):
+            text = "schema packet\ntally a ts len *\n"
+            most, one = (text + "".join(f"ask q{k} {question}\n" for k in range(asked)) for asked in (ASKED, 1))
+            pinned = ["taskset", "-c", processors]
+            many = measured(pinned + sitting.words("run", most, count, 1), sitting.rounds).seconds
+            few = measured(pinned + sitting.words("run", one, count, 1), sitting.rounds).seconds
+            costs.append((many - few) / (ASKED - 1))
+        rows.append([name, *(f"{it * 1000:,.2f}" for it in costs)])
+        print(*rows[-1], flush=True)
+    return table(f"Final questions over {count:,} packets, in milliseconds each", ["question", "1 processor", "2 processors", "4 processors"], rows)
+
+
 def plot(times, count, out):
     """Bars of the readers' speeds, on a scale of powers of ten."""
     import matplotlib
@@ -238,18 +263,22 @@ def main():
     parser.add_argument("--rounds", type=int, default=5)
     parser.add_argument("--table")
     parser.add_argument("--plot")
+    parser.add_argument("--short", action="store_true")
     given = parser.parse_args()
     built = pathlib.Path(__file__).parent.parent / "crates/confluo/out/confluo"
     program = os.environ.get("CONFLUO", str(built))
     with tempfile.TemporaryDirectory() as folder:
         sitting = Sitting(program, folder, given.rounds)
-        times = time_readers(sitting, COUNT)
-        tables = [reader_table(times, COUNT), time_loads(sitting), time_questions(sitting)]
+        count = COUNT if given.short else LONG
+        times = time_readers(sitting, count)
+        tables = [reader_table(times, count)]
+        tables += [time_loads(sitting, it) for it in sorted({COUNT, count})]
+        tables += [time_finals(sitting, count), time_questions(sitting)]
     if given.table:
         text = f"{os.cpu_count()} processors; each time is the shortest of {given.rounds} runs.\n\n" + "\n".join(tables)
         pathlib.Path(given.table).write_text(text)
     if given.plot:
-        plot(times, COUNT, given.plot)
+        plot(times, count, given.plot)
 
 
 if __name__ == "__main__":
