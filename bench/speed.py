@@ -33,6 +33,7 @@ import time
 COUNT = 2**16
 LONG = 2**20
 CAPACITY = 2**16
+NODES = 16384
 ATTRIBUTES = ["src", "dst", "sport", "dport", "proto", "ttl", "tos", "flags", "kind", "etype", "win", "iplen", "len", "seq", "ack", "caplen"]
 PLAIN = "schema packet\nask all list len>1080\n"
 USUAL = """schema packet
@@ -52,9 +53,14 @@ QUESTIONS = {
     "a scan of a bucket": "filter f *\naggregate a f len\nask q list ts in 40000000000..40000000010\n",
     "a trigger's marks": "filter f *\naggregate a f len\ntrigger t a sum > 4294967295\nask q fired t\n",
     "the ten heaviest of 16 keys": "tally a src len *\nask q top a sum 10\n",
-    "the ten heaviest of 65,536 keys": "tally a ts len *\nask q top a sum 10\n",
+    "the ten heaviest of 49,000 keys": "tally a seq len *\nask q top a sum 10\n",
 }
-FINALS = {"a list": "list len>1080", "a total": "total len len>1080", "the ten heaviest of 65,536 keys a segment": "top a sum 10"}
+RECORDS = "schema records ts:u64,key:u16,len:u32\ntally keys key len *\n"
+FINALS = {
+    "a list": ("schema packet\n", "list len>1080", LONG),
+    "a total": ("schema packet\n", "total len len>1080", LONG),
+    "the ten heaviest of 65,536 keys": (RECORDS, "top keys sum 10", COUNT),
+}
 # What a fifth of the packets pass: lengths run evenly from 64 to 1,087.
 READERS = {
     "tcpdump -n -r": ["tcpdump", "-n", "-r"],
@@ -146,15 +152,23 @@ class Sitting:
             path.write_bytes(capture(1, count))
         return str(path)
 
+    def records(self, count):
+        """A file of so many records, each with a key of its own."""
+        path = self.folder / f"{count}.csv"
+        if not path.exists():
+            path.write_text("ts,key,len\n" + "".join(f"{num},{num * 40503 % 65536},{num % 1500}\n" for num in range(count)))
+        return str(path)
+
     def words(self, command, text, count, writers, live=0):
         """The words of a command over so many packets, whose paths have all the nodes that they may need."""
         pathlib.Path(self.setup).write_text(text)
-        words = [self.program, command, "--setup", self.setup, "--writers", str(writers), "--nodes", "16384"]
+        words = [self.program, command, "--setup", self.setup, "--writers", str(writers), "--nodes", str(NODES)]
         if count > CAPACITY:
             words += ["--segments", str(-(-count // CAPACITY))]
         if command == "synth":
             return words + ["--seed", "1", "--count", str(count)]
-        return words + ["--live", str(live), self.file(count)]
+        file = self.records(count) if text.startswith(RECORDS) else self.file(count)
+        return words + ["--live", str(live), file]
 
     def cost(self, command, text, count, writers, live=0):
         return measured(self.words(command, text, count, writers, live), self.rounds)
@@ -223,21 +237,24 @@ def time_questions(sitting):
     return table("Live questions beside two writers", ["question", "answers a second", "microseconds of work each"], rows)
 
 
-def time_finals(sitting, count):
-    """Seconds that a final question takes, by how many processors the run may use."""
+def time_final(sitting, text, question, count, processors):
+    """The seconds that one more final question takes, where the run may use these processors."""
+    seconds = []
+    for asked in (1, ASKED):
+        words = sitting.words("run", text + "".join(f"ask q{k} {question}\n" for k in range(asked)), count, 1)
+        seconds.append(measured(["taskset", "-c", processors, *words], sitting.rounds).seconds)
+    return (seconds[1] - seconds[0]) / (ASKED - 1)
+
+
+def time_finals(sitting, most):
+    """Final questions, by how many processors the run may use."""
     rows = []
-    for name, question in FINALS.items():
-        costs = []
-        for processors in ("0", "0,1", "0-3"):
-            text = "schema packet\ntally a ts len *\n"
-            most, one = (text + "".join(f"ask q{k} {question}\n" for k in range(asked)) for asked in (ASKED, 1))
-            pinned = ["taskset", "-c", processors]
-            many = measured(pinned + sitting.words("run", most, count, 1), sitting.rounds).seconds
-            few = measured(pinned + sitting.words("run", one, count, 1), sitting.rounds).seconds
-            costs.append((many - few) / (ASKED - 1))
-        rows.append([name, *(f"{it * 1000:,.2f}" for it in costs)])
+    for name, (text, question, wanted) in FINALS.items():
+        count = min(wanted, most)
+        costs = [time_final(sitting, text, question, count, processors) for processors in ("0", "0,1", "0-3")]
+        rows.append([name, f"{count:,}", *(f"{it * 1000:,.2f}" for it in costs)])
         print(*rows[-1], flush=True)
-    return table(f"Final questions over {count:,} packets, in milliseconds each", ["question", "1 processor", "2 processors", "4 processors"], rows)
+    return table("Final questions, in milliseconds each", ["question", "records", "1 processor", "2 processors", "4 processors"], rows)
 
 
 def plot(times, count, out):
