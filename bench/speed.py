@@ -10,12 +10,13 @@ It writes the generated capture to a temporary file, the same bytes that `conflu
  - `confluo run` and `confluo synth` by one, two and four writers, with setups of no, one, four and sixteen lanes;
  - a usual setup (one index, one aggregate, one trigger, four questions) by `confluo run`, and `tcpdump` and `tshark` on the same file
    where they are installed, with and without a filter that a fifth of the packets pass, and the file read once by this script;
- - live questions beside two writers, each by the time of a run that asks it 1,024 times less that of the same run without.
+ - live questions beside two writers, each by the time of a run that asks it 1,024 times less that of the same run without;
+ - final questions by one, two and four processors, each by the time of a run that asks it 32 times less that of one that asks it once.
 
 Each command runs N times (5 where it is not said), and the shortest time counts, as other work on the machine only lengthens a
-run. The peak of memory is the least of the runs'. The capture has 65,536 packets. --table writes the tables in Markdown, --plot
-draws the first of them, which needs matplotlib (`apt-get install python3-matplotlib`). CONFLUO may name another build of the
-program. It is no part of the gate.
+run. The peak of memory is the least of the runs'. Captures have 65,536 packets, and 1,048,576 over 16 segments unless --short is
+given. --table writes the tables in Markdown, --plot draws the first of them, which needs matplotlib (`apt-get install
+python3-matplotlib`). CONFLUO may name another build of the program. It is no part of the gate.
 """
 
 import argparse
@@ -30,6 +31,9 @@ import tempfile
 import time
 
 COUNT = 2**16
+LONG = 2**20
+CAPACITY = 2**16
+NODES = 16384
 ATTRIBUTES = ["src", "dst", "sport", "dport", "proto", "ttl", "tos", "flags", "kind", "etype", "win", "iplen", "len", "seq", "ack", "caplen"]
 PLAIN = "schema packet\nask all list len>1080\n"
 USUAL = """schema packet
@@ -48,7 +52,14 @@ QUESTIONS = {
     "a bucket's aggregate": "filter f *\naggregate a f len\nask q measure a 40 40\n",
     "a scan of a bucket": "filter f *\naggregate a f len\nask q list ts in 40000000000..40000000010\n",
     "a trigger's marks": "filter f *\naggregate a f len\ntrigger t a sum > 4294967295\nask q fired t\n",
-    "the ten heaviest keys": "tally a src len *\nask q top a sum 10\n",
+    "the ten heaviest of 16 keys": "tally a src len *\nask q top a sum 10\n",
+    "the ten heaviest of 49,000 keys": "tally a seq len *\nask q top a sum 10\n",
+}
+RECORDS = "schema records ts:u64,key:u16,len:u32\ntally keys key len *\n"
+FINALS = {
+    "a list": ("schema packet\n", "list len>1080", LONG),
+    "a total": ("schema packet\n", "total len len>1080", LONG),
+    "the ten heaviest of 65,536 keys": (RECORDS, "top keys sum 10", COUNT),
 }
 # What a fifth of the packets pass: lengths run evenly from 64 to 1,087.
 READERS = {
@@ -59,6 +70,7 @@ READERS = {
 }
 ROUNDS_A_BATCH = 64
 BATCH = 4096
+ASKED = 32
 # What two runs of one command may differ by, in seconds.
 NOISE = 0.02
 
@@ -140,13 +152,23 @@ class Sitting:
             path.write_bytes(capture(1, count))
         return str(path)
 
+    def records(self, count):
+        """A file of so many records, each with a key of its own."""
+        path = self.folder / f"{count}.csv"
+        if not path.exists():
+            path.write_text("ts,key,len\n" + "".join(f"{num},{num * 40503 % 65536},{num % 1500}\n" for num in range(count)))
+        return str(path)
+
     def words(self, command, text, count, writers, live=0):
         """The words of a command over so many packets, whose paths have all the nodes that they may need."""
         pathlib.Path(self.setup).write_text(text)
-        words = [self.program, command, "--setup", self.setup, "--writers", str(writers), "--nodes", "65536"]
+        words = [self.program, command, "--setup", self.setup, "--writers", str(writers), "--nodes", str(NODES)]
+        if count > CAPACITY:
+            words += ["--segments", str(-(-count // CAPACITY))]
         if command == "synth":
             return words + ["--seed", "1", "--count", str(count)]
-        return words + ["--live", str(live), self.file(count)]
+        file = self.records(count) if text.startswith(RECORDS) else self.file(count)
+        return words + ["--live", str(live), file]
 
     def cost(self, command, text, count, writers, live=0):
         return measured(self.words(command, text, count, writers, live), self.rounds)
@@ -159,17 +181,17 @@ def table(title, heads, rows):
     return "\n".join(lines) + "\n"
 
 
-def time_loads(sitting):
+def time_loads(sitting, count):
     """Records loaded a second, by the number of lanes and of writers, and the peak of memory a record."""
     rows = []
     for command in ("run", "synth"):
         for lane_count in (0, 1, 4, 16):
-            costs = [sitting.cost(command, lanes(lane_count), COUNT, writers) for writers in (1, 2, 4)]
-            speeds = [f"{COUNT / it.seconds / 1000:,.0f}" for it in costs]
-            rows.append([command, str(lane_count), *speeds, f"{costs[0].memory / COUNT:,.0f}"])
+            costs = [sitting.cost(command, lanes(lane_count), count, writers) for writers in (1, 2, 4)]
+            speeds = [f"{count / it.seconds / 1000:,.0f}" for it in costs]
+            rows.append([command, str(lane_count), *speeds, f"{costs[0].memory / count:,.0f}"])
             print(*rows[-1], flush=True)
     heads = ["command", "lanes", "1 writer", "2 writers", "4 writers", "peak bytes a record, 1 writer"]
-    return table(f"{COUNT:,} packets, in thousands a second", heads, rows)
+    return table(f"{count:,} packets, in thousands a second", heads, rows)
 
 
 def read_once(file):
@@ -215,6 +237,26 @@ def time_questions(sitting):
     return table("Live questions beside two writers", ["question", "answers a second", "microseconds of work each"], rows)
 
 
+def time_final(sitting, text, question, count, processors):
+    """The seconds that one more final question takes, where the run may use these processors."""
+    seconds = []
+    for asked in (1, ASKED):
+        words = sitting.words("run", text + "".join(f"ask q{k} {question}\n" for k in range(asked)), count, 1)
+        seconds.append(measured(["taskset", "-c", processors, *words], sitting.rounds).seconds)
+    return (seconds[1] - seconds[0]) / (ASKED - 1)
+
+
+def time_finals(sitting, most):
+    """Final questions, by how many processors the run may use."""
+    rows = []
+    for name, (text, question, wanted) in FINALS.items():
+        count = min(wanted, most)
+        costs = [time_final(sitting, text, question, count, processors) for processors in ("0", "0,1", "0-3")]
+        rows.append([name, f"{count:,}", *(f"{it * 1000:,.2f}" for it in costs)])
+        print(*rows[-1], flush=True)
+    return table("Final questions, in milliseconds each", ["question", "records", "1 processor", "2 processors", "4 processors"], rows)
+
+
 def plot(times, count, out):
     """Bars of the readers' speeds, on a scale of powers of ten."""
     import matplotlib
@@ -238,18 +280,22 @@ def main():
     parser.add_argument("--rounds", type=int, default=5)
     parser.add_argument("--table")
     parser.add_argument("--plot")
+    parser.add_argument("--short", action="store_true")
     given = parser.parse_args()
     built = pathlib.Path(__file__).parent.parent / "crates/confluo/out/confluo"
     program = os.environ.get("CONFLUO", str(built))
     with tempfile.TemporaryDirectory() as folder:
         sitting = Sitting(program, folder, given.rounds)
-        times = time_readers(sitting, COUNT)
-        tables = [reader_table(times, COUNT), time_loads(sitting), time_questions(sitting)]
+        count = COUNT if given.short else LONG
+        times = time_readers(sitting, count)
+        tables = [reader_table(times, count)]
+        tables += [time_loads(sitting, it) for it in sorted({COUNT, count})]
+        tables += [time_finals(sitting, count), time_questions(sitting)]
     if given.table:
         text = f"{os.cpu_count()} processors; each time is the shortest of {given.rounds} runs.\n\n" + "\n".join(tables)
         pathlib.Path(given.table).write_text(text)
     if given.plot:
-        plot(times, COUNT, given.plot)
+        plot(times, count, given.plot)
 
 
 if __name__ == "__main__":

@@ -8,14 +8,15 @@ _confluo() {
         return
     fi
     case ${COMP_WORDS[1]} in
-        run) options="--setup --writers --capacity --nodes --live" ;;
-        synth) options="--setup --seed --count --writers --capacity --nodes" ;;
+        run) options="--setup --writers --capacity --segments --nodes --live" ;;
+        synth) options="--setup --seed --count --writers --capacity --segments --nodes" ;;
         snapshot) options="--setup --after --turn --capacity --nodes" ;;
         *) options="" ;;
     esac
     case $before in
         --writers) mapfile -t COMPREPLY < <(compgen -W "1 2 4 8 15" -- "$word"); return ;;
         --nodes) mapfile -t COMPREPLY < <(compgen -W "1024 8192 65536" -- "$word"); return ;;
+        --segments) mapfile -t COMPREPLY < <(compgen -W "1 2 4 16" -- "$word"); return ;;
         --capacity | --live | --seed | --count | --after | --turn) return ;;
     esac
     if [ "$before" != --setup ] && [ "${word:0:1}" = - ]; then
