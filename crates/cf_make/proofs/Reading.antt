@@ -195,10 +195,6 @@ made_is_capture seed count most =
       };
     }
 
--- the same of fewer packets
-pub is_capture : (seed count : ℕ) → count ≤ 65536 → IsCapture (generated_bytes seed count) (generated_frames seed count)
-is_capture seed count few = made_is_capture seed count (omega (arith, few))
-
 pub frames_many : (seed count : ℕ) → length (generated_frames seed count) ≡ count
 unfolding generated_frames
 frames_many seed count = length-map-range_with_len (frame_from seed) 0 count
