@@ -16,4 +16,5 @@ pub mod OneHost
 pub mod Several
 pub mod Deciding
 pub mod Coming
+mod Counted
 pub mod Answering
