@@ -1,5 +1,5 @@
 -- From the parts of the work to what is due, and what is left of the opened file.
-use Rattle.std.proofs.Common.{◌≡◌, ℕ, ◌<◌, ◌≤◌, Bool, true, false, List, [], ◌∷◌, length, drop, Option, Some, None, Result, Ok, Err, MatchResult, All, refl, sym, ap, subst, inl, inr, arith}
+use Rattle.std.proofs.Common.{◌≡◌, ℕ, ◌*◌, ◌<◌, ◌≤◌, Bool, true, false, List, [], ◌∷◌, length, drop, Option, Some, None, Result, Ok, Err, MatchResult, All, refl, sym, ap, subst, inl, inr, arith}
 use Rattle.std.proofs.lemmas.List.{drop_all}
 use Rattle.cf_outside.specs.Files.{File}
 use Rattle.cf_row.specs.Row.{RowValue}
@@ -17,8 +17,8 @@ use Rattle.cf_run.specs.Due.GivesCut.{refuses_hosts, tells_hosts}
 use Rattle.cf_run.specs.Due.GivesLog.{refuses, tells}
 use Rattle.cf_run.specs.Files.{HasLeft, IsStopped, Grammar, setups, captures, IsFileAs, IsFileRefused, IsReadAs, Halts}
 use Rattle.cf_run.specs.Files.IsFileRefused.{missing, broken}
-use Rattle.cf_run.specs.Needs.{NeedsMore}
 use Rattle.cf_run.specs.Parts.{Ends, IsPrepared, draft_status, draft_text, draft_seals}
+use Rattle.cf_run.specs.Needs.{NeedsMore}
 use Rattle.cf_run.specs.Refusals.{status_of, line_of}
 use Rattle.cf_run.specs.Seals.{IsSealedReport, IsSealedFinal}
 use Rattle.cf_run.specs.Several.{AreReadAs, AreHalted, AreStopped}
@@ -27,7 +27,6 @@ use Rattle.cf_run.specs.Due.Exceeds.{full, short}
 use Rattle.cf_run.proofs.Several.{all_taken, refused_stopped}
 use Rattle.cf_run.proofs.Taking.{left_same}
 use Rattle.cf_run.specs.declared.draft.Draft.{Draft}
-use Rattle.cf_run.specs.declared.draft.Product.{Product}
 use Rattle.cf_run.specs.declared.refusal.Halt.{Halt}
 use Rattle.cf_run.specs.declared.refusal.Halt.TheVariants.{Refused, Stopped}
 use Rattle.cf_run.specs.declared.refusal.Refusal.{Refusal}
@@ -108,7 +107,7 @@ module _ (told : Option (List File)) (call : SynthCall) (before now : Option (Li
 
       pub synth_short : (rows : List RowValue) → rows ≡ drawn_rows call → length rows ≤ call.sizes.capacity * call.sizes.segments → NeedsMore (shape_for setup call.sizes) call.sizes.nodes rows → Ends told (Some (synth call)) before now (Err (Refused (refusals.Nodes call.sizes.nodes)))
       synth_short rows is few many =
-          synth_exceeds (refusals.Nodes call.sizes.nodes) (short (subst (λ (rs : List RowValue). length rs ≤ call.sizes.capacity * call.sizes.segments) is few) (subst (NeedsMore (shape_for setup call.sizes) call.sizes.nodes) is many) refl)
+          synth_exceeds (refusals.Nodes call.sizes.nodes) (short (subst (λ (rs : List RowValue). length rs ≤ call.sizes.capacity * call.sizes.segments) is few) (subst (λ (rs : List RowValue). NeedsMore (shape_for setup call.sizes) call.sizes.nodes rs) is many) refl)
 
       pub synth_sealed : (rows : List RowValue) (text : List ℕ) (seals : List SealValue) → rows ≡ drawn_rows call → length rows ≤ call.sizes.capacity * call.sizes.segments → IsSealedFinal setup call.sizes.capacity call.sizes.writers call.sizes.nodes rows text seals → IsDue told (Some (synth call)) before now Done text seals
       synth_sealed rows text seals drawn few over =

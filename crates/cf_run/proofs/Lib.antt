@@ -11,6 +11,7 @@ pub mod OneCase
 pub mod Completed
 pub mod Logs
 pub mod MoreRows
+pub mod Sealing
 pub mod Filled
 pub mod OneHost
 pub mod Several
