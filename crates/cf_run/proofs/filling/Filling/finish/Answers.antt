@@ -1,6 +1,21 @@
-use Rattle.std.proofs.Common.{rules, ◌≡◌, false, true}
+use Rattle.std.proofs.Common.{rules, ◌≡◌, false, true, subst}
+use Rattle.cf_shape.specs.Lanes.{ShapeValue}
+use Rattle.cf_run.specs.Needs.{NeedsMore}
 use Rattle.cf_run.proofs.Filled.{closed_at, lack_of, loaded_of}
 use Rattle.cf_run.proofs.filling.Filling.finish.Goals as goal
+
+pub returns-then-stopped : goal.returns-then-stopped
+returns-then-stopped g c rows is =
+    let now = c.load_last.new.self in
+    let stopped : now.loader.stopped ≡ true = search rules in
+    subst (λ (h : ShapeValue). NeedsMore h h.nodes rows) c.in-Ok.ensures.shape (lack_of now.segments rows now.loader (c.in-Ok.ensures.loaded rows is) stopped)
+
+pub finish-requires : goal.finish-requires
+finish-requires g c =
+    let now = c.load_last.new.self in
+    let rows = c.requires.filled.0 in
+    let going : now.loader.stopped ≡ false = search rules in
+    record { loading = (rows, (loaded_of now.segments rows now.loader (c.in-Ok.ensures.loaded rows c.requires.filled.1) going).loading) }
 
 pub returns-in-Ok-close : goal.returns-in-Ok-close
 returns-in-Ok-close g c rows is =
