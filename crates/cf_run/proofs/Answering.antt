@@ -1,11 +1,11 @@
 -- From what is prepared to what the program answers.
-use Rattle.std.proofs.Common.{◌≡◌, ◌⊎◌, ℕ, Bool, true, false, List, [], length, Option, Some, None, refl, sym, ap, inl, inr, IfSome, subst}
+use Rattle.std.proofs.Common.{◌≡◌, ◌⊎◌, ℕ, ◌*◌, ◌≤◌, Bool, true, false, List, [], length, Option, Some, None, refl, sym, ap, inl, inr, IfSome, subst}
 use Rattle.std.specs.Io.KnownBytes.{Keeps}
 use Rattle.cf_outside.specs.Files.{File}
 use Rattle.cf_row.specs.Row.{RowValue}
 use Rattle.cf_row.specs.Schema.{packet_attrs}
 use Rattle.cf_command.specs.declared.words.LogSizes.{LogSizes}
-use Rattle.cf_command.specs.Call.{Call, RunCall, SynthCall, DumpCall, SnapshotCall}
+use Rattle.cf_command.specs.Call.{Call, RunCall, SynthCall, DumpCall, SnapshotCall, AreSizes, HasSizes}
 use Rattle.cf_command.specs.Call.Call.{run, synth, dump, snapshot}
 use Rattle.cf_setup.specs.Setups.{SetupValue}
 use Rattle.cf_table.specs.Moves.{SealValue}
@@ -25,6 +25,8 @@ use Rattle.cf_run.specs.Parts.{draft_status, draft_seals}
 use Rattle.cf_run.specs.Work.{drawn_rows}
 use Rattle.cf_run.specs.declared.draft.Draft.{Draft}
 use Rattle.cf_run.specs.declared.draft.Draft.TheVariants as drafts
+use Rattle.cf_load.specs.Planned.{tails_of}
+use Rattle.cf_run.proofs.Counted.{seals_within}
 use Rattle.cf_run.proofs.Deciding.{one_due, lawful_done}
 use Rattle.cf_run.proofs.Several.{files_refusal}
 use Rattle.cf_run.specs.declared.refusal.Refusal.{Refusal}
@@ -80,48 +82,48 @@ module _ (told : Option (List File)) (before now : Option (List ℕ)) (status : 
   by_refusal : (P : Status → List SealValue → Type 0) (why : Refusal) → P (status_of why) [] → Gives (refused why) status text seals → P status seals
   by_refusal P why holds gives = subst (λ (q : List SealValue). P status q) (sym gives.2) (subst (λ (s : Status). P s []) (sym gives.0) holds)
 
-  by_log : (P : Status → List SealValue → Type 0) (sizes : LogSizes) (setup : SetupValue) (rows : List RowValue) (Tells : List ℕ → List SealValue → Type 0) → P Full [] → P Nodes [] → ((q : List SealValue) → Tells text q → P Done q) → GivesLog sizes setup rows Tells status text seals → P status seals
+  by_log : (P : Status → List SealValue → Type 0) (sizes : LogSizes) (setup : SetupValue) (rows : List RowValue) (Tells : List ℕ → List SealValue → Type 0) → P Full [] → P Nodes [] → ((q : List SealValue) → length rows ≤ sizes.capacity * sizes.segments → Tells text q → P Done q) → GivesLog sizes setup rows Tells status text seals → P status seals
   by_log P sizes setup rows Tells over short_of done (refuses why (full many is) gives) = by_refusal P why (subst (λ (w : Refusal). P (status_of w) []) (sym is) over) gives
   by_log P sizes setup rows Tells over short_of done (refuses why (short few many is) gives) = by_refusal P why (subst (λ (w : Refusal). P (status_of w) []) (sym is) short_of) gives
-  by_log P sizes setup rows Tells over short_of done (tells few nodes is told_of) = subst (λ (s : Status). P s seals) (sym is) (done seals told_of)
+  by_log P sizes setup rows Tells over short_of done (tells few nodes is told_of) = subst (λ (s : Status). P s seals) (sym is) (done seals few told_of)
 
   -- of a run
   run_by_call : (call : RunCall) (s : Status) → (s ≡ Words → ⊥) → (s ≡ Done → ⊥) → IsByCall (Some (run call)) s []
   run_by_call call s words done = (words, λ is. absurd (done is))
 
-  run_by_rows : (call : RunCall) (setup : SetupValue) (work : Work) → Gives work status text seals → RunAfter told call now setup work → IsByCall (Some (run call)) status seals
-  run_by_rows call setup work gives (halted why file is) =
+  run_by_rows : (call : RunCall) (setup : SetupValue) (work : Work) → AreSizes call.sizes → Gives work status text seals → RunAfter told call now setup work → IsByCall (Some (run call)) status seals
+  run_by_rows call setup work sized gives (halted why file is) =
       by_refusal (IsByCall (Some (run call))) why
       (file_refusal (captures setup.packet setup.schema) told call.capture (Some []) now (λ w. IsByCall (Some (run call)) (status_of w) []) (run_by_call call NoFile (λ e. cc e) (λ e. cc e)) (λ at code. run_by_call call (Capture at code) (λ e. cc e) (λ e. cc e)) why file)
       (subst (λ (w : Work). Gives w status text seals) is gives)
-  run_by_rows call setup work gives (whole rows said next) =
+  run_by_rows call setup work sized gives (whole rows said next) =
       by_log (IsByCall (Some (run call))) call.sizes setup rows (IsReportOf call setup rows) (run_by_call call Full (λ e. cc e) (λ e. cc e)) (run_by_call call Nodes (λ e. cc e) (λ e. cc e))
-      (λ q made. (λ e. cc e, λ e. ap (λ (ss : List SealValue). length ss) made.seals_are)) (subst (λ (w : Work). Gives w status text seals) next.0 gives)
+      (λ q few made. (λ e. cc e, λ e. seals_within call.sizes rows made.order (tails_of made.report_is.lives) q sized few made.report_is.order_is made.seals_are)) (subst (λ (w : Work). Gives w status text seals) next.0 gives)
 
-  run_by_work : (call : RunCall) (work : Work) → Gives work status text seals → ComesTo told (Some (run call)) before now work → IsByCall (Some (run call)) status seals
-  run_by_work call work gives (halted why file is) =
+  run_by_work : (call : RunCall) (work : Work) → AreSizes call.sizes → Gives work status text seals → ComesTo told (Some (run call)) before now work → IsByCall (Some (run call)) status seals
+  run_by_work call work sized gives (halted why file is) =
       by_refusal (IsByCall (Some (run call))) why
       (file_refusal setups told call.setup before now (λ w. IsByCall (Some (run call)) (status_of w) []) (run_by_call call NoFile (λ e. cc e) (λ e. cc e)) (λ line code. run_by_call call (Setup line code) (λ e. cc e) (λ e. cc e)) why file)
       (subst (λ (w : Work). Gives w status text seals) is gives)
-  run_by_work call work gives (whole setup said next) = run_by_rows call setup work gives next
+  run_by_work call work sized gives (whole setup said next) = run_by_rows call setup work sized gives next
 
   -- of a synth
   synth_by_call : (call : SynthCall) (s : Status) → (s ≡ Words → ⊥) → ((at code : ℕ) → s ≡ Capture at code → ⊥) → (s ≡ Done → ⊥) → IsByCall (Some (synth call)) s []
   synth_by_call call s words capture done = (words, capture, λ is. absurd (done is))
 
-  synth_by_setup : (call : SynthCall) (setup : SetupValue) (packet : Bool) → Gives (drawn_work call setup packet) status text seals → IsByCall (Some (synth call)) status seals
-  synth_by_setup call setup false gives =
+  synth_by_setup : (call : SynthCall) (setup : SetupValue) (packet : Bool) → AreSizes call.sizes → Gives (drawn_work call setup packet) status text seals → IsByCall (Some (synth call)) status seals
+  synth_by_setup call setup false sized gives =
       by_refusal (IsByCall (Some (synth call))) (refusals.Setup setup.schema_line 4) (synth_by_call call (Setup setup.schema_line 4) (λ e. cc e) (λ at code e. cc e) (λ e. cc e)) gives
-  synth_by_setup call setup true gives =
+  synth_by_setup call setup true sized gives =
       by_log (IsByCall (Some (synth call))) call.sizes setup (drawn_rows call) (AreAnswersOf call setup) (synth_by_call call Full (λ e. cc e) (λ at code e. cc e) (λ e. cc e)) (synth_by_call call Nodes (λ e. cc e) (λ at code e. cc e) (λ e. cc e))
-      (λ q made. (λ e. cc e, λ at code e. cc e, λ e. ap (λ (ss : List SealValue). length ss) made.seals_are.seals_are)) gives
+      (λ q few made. (λ e. cc e, λ at code e. cc e, λ e. seals_within call.sizes (drawn_rows call) made.seals_are.order [] q sized few made.seals_are.order_is made.seals_are.seals_are)) gives
 
-  synth_by_work : (call : SynthCall) (work : Work) → Gives work status text seals → ComesTo told (Some (synth call)) before now work → IsByCall (Some (synth call)) status seals
-  synth_by_work call work gives (halted why file is) =
+  synth_by_work : (call : SynthCall) (work : Work) → AreSizes call.sizes → Gives work status text seals → ComesTo told (Some (synth call)) before now work → IsByCall (Some (synth call)) status seals
+  synth_by_work call work sized gives (halted why file is) =
       by_refusal (IsByCall (Some (synth call))) why
       (file_refusal setups told call.setup before now (λ w. IsByCall (Some (synth call)) (status_of w) []) (synth_by_call call NoFile (λ e. cc e) (λ at code e. cc e) (λ e. cc e)) (λ line code. synth_by_call call (Setup line code) (λ e. cc e) (λ at other e. cc e) (λ e. cc e)) why file)
       (subst (λ (w : Work). Gives w status text seals) is gives)
-  synth_by_work call work gives (whole setup said next) = synth_by_setup call setup setup.packet (subst (λ (w : Work). Gives w status text seals) next.0 gives)
+  synth_by_work call work sized gives (whole setup said next) = synth_by_setup call setup setup.packet sized (subst (λ (w : Work). Gives w status text seals) next.0 gives)
 
   -- of a dump
   dump_by_work : (call : DumpCall) (work : Work) → Gives work status text seals → ComesTo told (Some (dump call)) before now work → IsByCall (Some (dump call)) status seals
@@ -154,12 +156,12 @@ module _ (told : Option (List File)) (before now : Option (List ℕ)) (status : 
       (subst (λ (w : Work). Gives w status text seals) is gives)
   snapshot_by_work call work gives (whole setup said next) = snapshot_by_hosts call setup work gives next
 
-  pub by_due : (call : Option Call) → IsDue told call before now status text seals → IsByCall call status seals
-  by_due None due = inl (subst (λ (w : Work). Gives w status text seals) due.comes.0 due.gives).0
-  by_due (Some (run call)) due = run_by_work call due.work due.gives due.comes
-  by_due (Some (synth call)) due = synth_by_work call due.work due.gives due.comes
-  by_due (Some (dump call)) due = dump_by_work call due.work due.gives due.comes
-  by_due (Some (snapshot call)) due = snapshot_by_work call due.work due.gives due.comes
+  pub by_due : (call : Option Call) → HasSizes call → IsDue told call before now status text seals → IsByCall call status seals
+  by_due None sized due = inl (subst (λ (w : Work). Gives w status text seals) due.comes.0 due.gives).0
+  by_due (Some (run call)) sized due = run_by_work call due.work sized due.gives due.comes
+  by_due (Some (synth call)) sized due = synth_by_work call due.work sized due.gives due.comes
+  by_due (Some (dump call)) sized due = dump_by_work call due.work due.gives due.comes
+  by_due (Some (snapshot call)) sized due = snapshot_by_work call due.work due.gives due.comes
 
 -- of the faults of devices, and of want of memory
 pub by_cut : (call : Option Call) (status : Status) (seals : List SealValue) → status ≡ WriteFault → seals ≡ [] → IsByCall call status seals
@@ -189,12 +191,12 @@ pub words_text : (told : Option (List File)) (call : Option Call) (before now : 
 words_text told None before now status text seals due none = (subst (λ (w : Work). Gives w status text seals) due.comes.0 due.gives).1
 words_text told (Some call) before now status text seals due none = absurd (cc none)
 
-pub words_call : (told : Option (List File)) (call : Option Call) (before now : Option (List ℕ)) (status : Status) (text : List ℕ) (seals : List SealValue) → IsDue told call before now status text seals → status ≡ Words → call ≡ None
-words_call told None before now status text seals due is = refl
-words_call told (Some (run call)) before now status text seals due is = absurd ((by_due told before now status text seals (Some (run call)) due).0 is)
-words_call told (Some (synth call)) before now status text seals due is = absurd ((by_due told before now status text seals (Some (synth call)) due).0 is)
-words_call told (Some (dump call)) before now status text seals due is = absurd ((by_due told before now status text seals (Some (dump call)) due).0 is)
-words_call told (Some (snapshot call)) before now status text seals due is = absurd ((by_due told before now status text seals (Some (snapshot call)) due).0 is)
+pub words_call : (told : Option (List File)) (call : Option Call) (before now : Option (List ℕ)) (status : Status) (text : List ℕ) (seals : List SealValue) → HasSizes call → IsDue told call before now status text seals → status ≡ Words → call ≡ None
+words_call told None before now status text seals sized due is = refl
+words_call told (Some (run call)) before now status text seals sized due is = absurd ((by_due told before now status text seals (Some (run call)) sized due).0 is)
+words_call told (Some (synth call)) before now status text seals sized due is = absurd ((by_due told before now status text seals (Some (synth call)) sized due).0 is)
+words_call told (Some (dump call)) before now status text seals sized due is = absurd ((by_due told before now status text seals (Some (dump call)) sized due).0 is)
+words_call told (Some (snapshot call)) before now status text seals sized due is = absurd ((by_due told before now status text seals (Some (snapshot call)) sized due).0 is)
 
 pub keeps_same : (held : Option (List ℕ)) → Keeps held held
 keeps_same None = tt

@@ -1,5 +1,5 @@
 -- From the parts of the work to what is due, and what is left of the opened file.
-use Rattle.std.proofs.Common.{◌≡◌, ℕ, ◌<◌, ◌≤◌, Bool, true, false, List, [], ◌∷◌, length, drop, Option, Some, None, Result, Ok, Err, MatchResult, All, refl, sym, ap, subst, inl, inr, arith}
+use Rattle.std.proofs.Common.{◌≡◌, ℕ, ◌*◌, ◌<◌, ◌≤◌, Bool, true, false, List, [], ◌∷◌, length, drop, Option, Some, None, Result, Ok, Err, MatchResult, All, refl, sym, ap, subst, inl, inr, arith}
 use Rattle.std.proofs.lemmas.List.{drop_all}
 use Rattle.cf_outside.specs.Files.{File}
 use Rattle.cf_row.specs.Row.{RowValue}
@@ -18,16 +18,15 @@ use Rattle.cf_run.specs.Due.GivesLog.{refuses, tells}
 use Rattle.cf_run.specs.Files.{HasLeft, IsStopped, Grammar, setups, captures, IsFileAs, IsFileRefused, IsReadAs, Halts}
 use Rattle.cf_run.specs.Files.IsFileRefused.{missing, broken}
 use Rattle.cf_run.specs.Parts.{Ends, IsPrepared, draft_status, draft_text, draft_seals}
+use Rattle.cf_run.specs.Needs.{NeedsMore}
 use Rattle.cf_run.specs.Refusals.{status_of, line_of}
 use Rattle.cf_run.specs.Seals.{IsSealedReport, IsSealedFinal}
 use Rattle.cf_run.specs.Several.{AreReadAs, AreHalted, AreStopped}
 use Rattle.cf_run.specs.Work.{drawn_rows, shape_for}
-use Rattle.cf_shape.specs.Nodes.{distinct}
 use Rattle.cf_run.specs.Due.Exceeds.{full, short}
 use Rattle.cf_run.proofs.Several.{all_taken, refused_stopped}
 use Rattle.cf_run.proofs.Taking.{left_same}
 use Rattle.cf_run.specs.declared.draft.Draft.{Draft}
-use Rattle.cf_run.specs.declared.draft.Product.{Product}
 use Rattle.cf_run.specs.declared.refusal.Halt.{Halt}
 use Rattle.cf_run.specs.declared.refusal.Halt.TheVariants.{Refused, Stopped}
 use Rattle.cf_run.specs.declared.refusal.Refusal.{Refusal}
@@ -57,13 +56,6 @@ whole_taken {A} g told name start now what read =
     let all : drop (length read.0.bytes) read.0.bytes ≡ [] = drop_all (length read.0.bytes) read.0.bytes (omega arith) in
     inr (read.0.bytes, read.0.file, record { count = length read.0.bytes; most = read.0.few; left = subst (λ (xs : List ℕ). HasLeft told now (Some xs)) (sym all) read.1 })
 
--- a report that was sealed, or not for want of memory
-ends_sealed : (told : Option (List File)) (call : Option Call) (before now : Option (List ℕ)) (text : List ℕ) (seal : SealValue) → IsDue told call before now Done text (seal ∷ []) → StopsAt told call stops.Memory before now → (result : Result Product Halt)
-    → MatchResult result (λ product. (product.text.items ≡ text) × (product.seals.items ≡ seal ∷ [])) (λ halt. halt ≡ Stopped stops.Memory) → Ends told call before now result
-ends_sealed told call before now text seal due stopped (Ok product) made =
-    subst (λ (t : List ℕ). IsDue told call before now Done t product.seals.items) (sym made.0) (subst (λ (q : List SealValue). IsDue told call before now Done text q) (sym made.1) due)
-ends_sealed told call before now text seal due stopped (Err halt) made = subst (λ (h : Halt). Ends told call before now (Err h)) (sym made) stopped
-
 module _ (told : Option (List File)) (call : RunCall) (before now : Option (List ℕ)) where
   pub run_unset : (halt : Halt) → Halts setups told call.setup before now halt → Ends told (Some (run call)) before now (Err halt)
   run_unset halt halts = ends_halted setups told (Some (run call)) call.setup before before now (λ why file. halted why file refl) (λ stop left. inl left) halt halts
@@ -88,11 +80,8 @@ module _ (told : Option (List File)) (call : RunCall) (before now : Option (List
       pub run_stopped : StopsAt told (Some (run call)) stops.Memory before now
       run_stopped = inr (setup, set.0, whole_taken (captures setup.packet setup.schema) told call.capture (Some []) now rows read)
 
-      pub run_sealed : (text : List ℕ) (seal : SealValue) → length rows ≤ call.sizes.capacity → IsSealedReport setup call.sizes.capacity call.sizes.writers call.sizes.nodes call.rounds rows text seal → (result : Result Product Halt)
-          → MatchResult result (λ product. (product.text.items ≡ text) × (product.seals.items ≡ seal ∷ [])) (λ halt. halt ≡ Stopped stops.Memory) → Ends told (Some (run call)) before now result
-      run_sealed text seal few made result is =
-          ends_sealed told (Some (run call)) before now text seal
-          (run_gives Done text (seal ∷ []) (tells few made.few_nodes refl (record { order = made.order; report_is = made.report; seals_are = ap (λ (one : SealValue). one ∷ []) made.seal_is }))) run_stopped result is
+      pub run_sealed : (text : List ℕ) (seals : List SealValue) → length rows ≤ call.sizes.capacity * call.sizes.segments → IsSealedReport setup call.sizes.capacity call.sizes.writers call.sizes.nodes call.rounds rows text seals → IsDue told (Some (run call)) before now Done text seals
+      run_sealed text seals few made = run_gives Done text seals (tells few made.few_nodes refl (record { order = made.order; report_is = made.report; seals_are = made.seals_are }))
 
 module _ (told : Option (List File)) (call : SynthCall) (before now : Option (List ℕ)) where
   pub synth_unset : (halt : Halt) → Halts setups told call.setup before now halt → Ends told (Some (synth call)) before now (Err halt)
@@ -113,19 +102,17 @@ module _ (told : Option (List File)) (call : SynthCall) (before now : Option (Li
       synth_exceeds why over = synth_gives (status_of why) (line_of why) [] (refuses why over (refl, refl, refl))
 
       -- of the rows that were drawn
-      pub synth_full : (rows : List RowValue) → rows ≡ drawn_rows call → call.sizes.capacity < length rows → Ends told (Some (synth call)) before now (Err (Refused (refusals.Full call.sizes.capacity)))
-      synth_full rows is many = synth_exceeds (refusals.Full call.sizes.capacity) (full (subst (λ (rs : List RowValue). call.sizes.capacity < length rs) is many) refl)
+      pub synth_full : (rows : List RowValue) → rows ≡ drawn_rows call → call.sizes.capacity * call.sizes.segments < length rows → Ends told (Some (synth call)) before now (Err (Refused (refusals.Full (call.sizes.capacity * call.sizes.segments))))
+      synth_full rows is many = synth_exceeds (refusals.Full (call.sizes.capacity * call.sizes.segments)) (full (subst (λ (rs : List RowValue). call.sizes.capacity * call.sizes.segments < length rs) is many) refl)
 
-      pub synth_short : (rows : List RowValue) → rows ≡ drawn_rows call → length rows ≤ call.sizes.capacity → call.sizes.nodes < distinct (shape_for setup call.sizes) rows → Ends told (Some (synth call)) before now (Err (Refused (refusals.Nodes call.sizes.nodes)))
+      pub synth_short : (rows : List RowValue) → rows ≡ drawn_rows call → length rows ≤ call.sizes.capacity * call.sizes.segments → NeedsMore (shape_for setup call.sizes) call.sizes.nodes rows → Ends told (Some (synth call)) before now (Err (Refused (refusals.Nodes call.sizes.nodes)))
       synth_short rows is few many =
-          synth_exceeds (refusals.Nodes call.sizes.nodes) (short (subst (λ (rs : List RowValue). length rs ≤ call.sizes.capacity) is few) (subst (λ (rs : List RowValue). call.sizes.nodes < distinct (shape_for setup call.sizes) rs) is many) refl)
+          synth_exceeds (refusals.Nodes call.sizes.nodes) (short (subst (λ (rs : List RowValue). length rs ≤ call.sizes.capacity * call.sizes.segments) is few) (subst (λ (rs : List RowValue). NeedsMore (shape_for setup call.sizes) call.sizes.nodes rs) is many) refl)
 
-      pub synth_sealed : (rows : List RowValue) (text : List ℕ) (seal : SealValue) → rows ≡ drawn_rows call → length rows ≤ call.sizes.capacity → IsSealedFinal setup call.sizes.capacity call.sizes.writers call.sizes.nodes rows text seal → (result : Result Product Halt)
-          → MatchResult result (λ product. (product.text.items ≡ text) × (product.seals.items ≡ seal ∷ [])) (λ halt. halt ≡ Stopped stops.Memory) → Ends told (Some (synth call)) before now result
-      synth_sealed rows text seal drawn few over result is =
-          let made : IsSealedFinal setup call.sizes.capacity call.sizes.writers call.sizes.nodes (drawn_rows call) text seal = subst (λ (rs : List RowValue). IsSealedFinal setup call.sizes.capacity call.sizes.writers call.sizes.nodes rs text seal) drawn over in
-          ends_sealed told (Some (synth call)) before now text seal
-          (synth_gives Done text (seal ∷ []) (tells (subst (λ (rs : List RowValue). length rs ≤ call.sizes.capacity) drawn few) made.few_nodes refl (record { text_is = made.text_is; seals_are = record { order = made.order; order_is = made.order_is; seals_are = ap (λ (one : SealValue). one ∷ []) made.seal_is } }))) synth_stopped result is
+      pub synth_sealed : (rows : List RowValue) (text : List ℕ) (seals : List SealValue) → rows ≡ drawn_rows call → length rows ≤ call.sizes.capacity * call.sizes.segments → IsSealedFinal setup call.sizes.capacity call.sizes.writers call.sizes.nodes rows text seals → IsDue told (Some (synth call)) before now Done text seals
+      synth_sealed rows text seals drawn few over =
+          let made : IsSealedFinal setup call.sizes.capacity call.sizes.writers call.sizes.nodes (drawn_rows call) text seals = subst (λ (rs : List RowValue). IsSealedFinal setup call.sizes.capacity call.sizes.writers call.sizes.nodes rs text seals) drawn over in
+          synth_gives Done text seals (tells (subst (λ (rs : List RowValue). length rs ≤ call.sizes.capacity * call.sizes.segments) drawn few) made.few_nodes refl (record { text_is = made.text_is; seals_are = made.seals_are }))
 
 module _ (told : Option (List File)) (call : DumpCall) (before now : Option (List ℕ)) where
   pub dump_unread : (halt : Halt) → Halts (captures true packet_attrs) told call.capture before now halt → Ends told (Some (dump call)) before now (Err halt)

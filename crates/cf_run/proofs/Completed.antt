@@ -48,8 +48,8 @@ module _ (attrs : List Attr) where
       subst (λ (es : List Entry). FitAll attrs es) (sym same) (after_fits rows writers [] (order_of entries) (recursion_from_All (Fits attrs) rows fit))
 
 -- what a closed log of the plan answers
-pub answers_of : (shape : ShapeValue) (plan : LivePlan) (rows : List RowValue) (entries : List Entry) (seal : SealValue) (answered : LoadedValue) → IsLogClosed shape plan rows entries seal answered → AreAnswers shape plan entries answered
-answers_of shape plan rows entries seal answered closed = record {
+pub answers_of : (shape : ShapeValue) (plan : LivePlan) (rows : List RowValue) (entries : List Entry) (seals : List SealValue) (answered : LoadedValue) → IsLogClosed shape plan rows entries seals answered → AreAnswers shape plan entries answered
+answers_of shape plan rows entries seals answered closed = record {
   finals = closed.finals;
   alerts = closed.alerts;
   lives = subst (λ (n : ℕ). HasAnswered shape plan.asks.items plan.lives.items plan.rounds n entries answered.lives) (sym closed.is.size) closed.lives;

@@ -11,9 +11,11 @@ pub mod OneCase
 pub mod Completed
 pub mod Logs
 pub mod MoreRows
+pub mod Sealing
 pub mod Filled
 pub mod OneHost
 pub mod Several
 pub mod Deciding
 pub mod Coming
+mod Counted
 pub mod Answering

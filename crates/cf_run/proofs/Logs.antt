@@ -1,5 +1,5 @@
 -- From a log that is loaded and closed to what is told of it.
-use Rattle.std.proofs.Common.{◌≡◌, ℕ, ◌<◌, List, [], ◌∷◌, length, map, get_or, All, Result, Ok, Err, MatchResult, refl, sym, ap, subst, ◌∙◌}
+use Rattle.std.proofs.Common.{◌≡◌, ℕ, ◌<◌, List, [], ◌∷◌, length, map, get_or, All, Result, Ok, Err, MatchResult, refl, sym, ap, subst, ◌∙◌, ◌≤◌, ◌^◌, mul_comm}
 use Rattle.std.specs.List.{flat_map, range_with_len}
 use Rattle.std.proofs.lemmas.List.{length-map}
 use Rattle.std.proofs.lemmas.List.Elements.{All-map}
@@ -27,12 +27,16 @@ use Rattle.cf_report.proofs.Legal.{finals_meant, report_told, report_history}
 use Rattle.cf_report.proofs.Reported.{final_is}
 use Rattle.cf_table.specs.Moves.{SealValue}
 use Rattle.cf_load.specs.Planned.{IsPlan, tails_of}
+use Rattle.cf_load.specs.Segments.{AllowsSegments}
 use Rattle.cf_load.specs.declared.plan.LivePlan.{LivePlan}
+use Rattle.cf_command.specs.Call.{AreSizes}
+use Rattle.cf_command.specs.declared.words.LogSizes.{LogSizes}
 use Rattle.cf_run.specs.Logs.{IsPlanOf, IsLogClosed, IsUnmade}
-use Rattle.cf_shape.specs.Nodes.{distinct}
+use Rattle.cf_run.specs.Needs.{NeedsMore}
 use Rattle.cf_run.specs.declared.log.Unmade.{Unmade}
 use Rattle.cf_run.specs.declared.log.Unmade.TheVariants.{Nodes, Memory}
-use Rattle.cf_run.specs.Seals.{IsClosed, IsSealedReport, IsSealedFinal, seal_of}
+use Rattle.cf_run.specs.Work.{shape_for}
+use Rattle.cf_run.specs.Seals.{AreSeals, IsClosed, IsSealedReport, IsSealedFinal}
 
 -- what a setup asks can be asked of a log of its shape
 pub asks_suit : (setup : SetupValue) (capacity writers nodes : ℕ) → IsSetup setup → All (Suits (shaped setup capacity writers nodes)) setup.asks
@@ -50,18 +54,27 @@ plan_suits setup capacity writers nodes rounds plan lawful of =
       lives = subst (λ (n : ℕ). All (λ place. place < n) plan.lives.items) (sym many) of.within;
     }
 
+-- a log of the setup's shape may have so many segments
+pub segments_allowed : (setup : SetupValue) (sizes : LogSizes) → AreSizes sizes → AllowsSegments (shape_for setup sizes) sizes.segments
+segments_allowed setup sizes are = record {
+  some = are.segments.0;
+  few = are.segments.1;
+  rows = subst (λ (n : ℕ). n ≤ 2 ^ 20) (mul_comm sizes.capacity sizes.segments) are.most;
+  whole = are.whole;
+}
+
 -- with all answers that are meant, a log of the setup's plan is closed
-pub closed_of : (setup : SetupValue) (capacity writers nodes rounds : ℕ) (plan : LivePlan) (rows : List RowValue) (entries : List Entry) (seal : SealValue) (answered all : LoadedValue) → IsLogClosed (shaped setup capacity writers nodes) plan rows entries seal answered
-    → AreMeant setup (shaped setup capacity writers nodes) rounds entries all → tails_of all.lives ≡ tails_of answered.lives → IsClosed setup capacity writers nodes rounds rows entries seal all
-closed_of setup capacity writers nodes rounds plan rows entries seal answered all closed meant tails = record {
+pub closed_of : (setup : SetupValue) (capacity writers nodes rounds : ℕ) (plan : LivePlan) (rows : List RowValue) (entries : List Entry) (seals : List SealValue) (answered all : LoadedValue) → IsLogClosed (shaped setup capacity writers nodes) plan rows entries seals answered
+    → AreMeant setup (shaped setup capacity writers nodes) rounds entries all → tails_of all.lives ≡ tails_of answered.lives → IsClosed setup capacity writers nodes rounds rows entries seals all
+closed_of setup capacity writers nodes rounds plan rows entries seals answered all closed meant tails = record {
   is = closed.is;
   meant = meant;
-  seal_is = closed.seal_is ∙ ap (λ (ts : List ℕ). record { entries = entries; told = ts }) (sym tails);
+  seals_are = subst (λ (ts : List ℕ). AreSeals capacity entries ts seals) (sym tails) closed.seals_are;
   few_nodes = closed.few_nodes;
 }
 
 -- why there is no log
-pub short_of : {T : Type 0} (shape : ShapeValue) (rows : List RowValue) (r : Result T Unmade) (P : T → Type 0) → MatchResult r P (IsUnmade shape rows) → r ≡ Err Nodes → shape.nodes < distinct shape rows
+pub short_of : {T : Type 0} (shape : ShapeValue) (rows : List RowValue) (r : Result T Unmade) (P : T → Type 0) → MatchResult r P (IsUnmade shape rows) → r ≡ Err Nodes → NeedsMore shape shape.nodes rows
 short_of shape rows (Ok x) P made is = absurd (cc is)
 short_of shape rows (Err Nodes) P made is = made
 short_of shape rows (Err Memory) P made is = absurd (cc is)
@@ -75,7 +88,7 @@ untold : (n : ℕ) (asks : List ℕ) (lives : List Live) → map (λ (at : Turn 
 untold n asks [] turns = refl
 untold n asks (live ∷ lives) turns = let none = turns ∙ no_rounds (range_with_len 0 (batches_of n)) asks in cc none
 
-module _ (setup : SetupValue) (capacity writers nodes rounds : ℕ) (rows : List RowValue) (entries : List Entry) (seal : SealValue) (answered : LoadedValue) (some : 0 < writers) (closed : IsClosed setup capacity writers nodes rounds rows entries seal answered) where
+module _ (setup : SetupValue) (capacity writers nodes rounds : ℕ) (rows : List RowValue) (entries : List Entry) (seals : List SealValue) (answered : LoadedValue) (some : 0 < writers) (closed : IsClosed setup capacity writers nodes rounds rows entries seals answered) where
   valid : IsOrder (order_of entries) (length rows) writers
   valid = (order_of_log rows writers entries some closed.is).0
 
@@ -85,8 +98,8 @@ module _ (setup : SetupValue) (capacity writers nodes rounds : ℕ) (rows : List
   meant : AreMeant setup (shaped setup capacity writers nodes) rounds (log_of rows writers (order_of entries)) answered
   meant = subst (λ (es : List Entry). AreMeant setup (shaped setup capacity writers nodes) rounds es answered) same closed.meant
 
-  seal_as : seal ≡ seal_of rows writers (order_of entries) (tails_of answered.lives)
-  seal_as = closed.seal_is ∙ ap (λ (es : List Entry). record { entries = es; told = tails_of answered.lives }) same
+  seals_as : AreSeals capacity (log_of rows writers (order_of entries)) (tails_of answered.lives) seals
+  seals_as = subst (λ (es : List Entry). AreSeals capacity es (tails_of answered.lives) seals) same closed.seals_are
 
   -- the report prints the answers that were given
   abbrev report_with : IsReport setup capacity writers nodes rounds rows (order_of entries) (text_of forms.Whole setup (log_of rows writers (order_of entries)) answered)
@@ -104,22 +117,24 @@ module _ (setup : SetupValue) (capacity writers nodes rounds : ℕ) (rows : List
     final_is = final_is setup capacity writers nodes rounds rows (order_of entries) answered some valid meant;
   }
 
-  pub report_sealed : (text : List ℕ) → text ≡ text_of forms.Whole setup entries answered → IsSealedReport setup capacity writers nodes rounds rows text seal
+  pub report_sealed : (text : List ℕ) → text ≡ text_of forms.Whole setup entries answered → IsSealedReport setup capacity writers nodes rounds rows text seals
   report_sealed text text_is =
       let shown : text ≡ text_of forms.Whole setup (log_of rows writers (order_of entries)) answered = text_is ∙ ap (λ (es : List Entry). text_of forms.Whole setup es answered) same in
-      let base : IsSealedReport setup capacity writers nodes rounds rows (text_of forms.Whole setup (log_of rows writers (order_of entries)) answered) seal = record {
+      let base : IsSealedReport setup capacity writers nodes rounds rows (text_of forms.Whole setup (log_of rows writers (order_of entries)) answered) seals = record {
         order = order_of entries;
         report = report_with;
-        seal_is = seal_as;
+        seals_are = seals_as;
         few_nodes = closed.few_nodes;
       } in
-      subst (λ (t : List ℕ). IsSealedReport setup capacity writers nodes rounds rows t seal) (sym shown) base
+      subst (λ (t : List ℕ). IsSealedReport setup capacity writers nodes rounds rows t seals) (sym shown) base
 
-  pub final_sealed : rounds ≡ 0 → (text : List ℕ) → text ≡ text_of forms.Final setup entries answered → IsSealedFinal setup capacity writers nodes rows text seal
+  pub final_sealed : rounds ≡ 0 → (text : List ℕ) → text ≡ text_of forms.Final setup entries answered → IsSealedFinal setup capacity writers nodes rows text seals
   final_sealed none text text_is = record {
     text_is = text_is ∙ ap (λ (es : List Entry). text_of forms.Final setup es answered) same ∙ final_is setup capacity writers nodes rounds rows (order_of entries) answered some valid meant;
-    order = order_of entries;
-    order_is = valid;
-    seal_is = seal_as ∙ ap (λ (ts : List ℕ). seal_of rows writers (order_of entries) ts) (untold (length (log_of rows writers (order_of entries))) setup.lives answered.lives (rw none at meant.tails.turns));
+    seals_are = record {
+      order = order_of entries;
+      order_is = valid;
+      seals_are = subst (λ (ts : List ℕ). AreSeals capacity (log_of rows writers (order_of entries)) ts seals) (untold (length (log_of rows writers (order_of entries))) setup.lives answered.lives (rw none at meant.tails.turns)) seals_as;
+    };
     few_nodes = closed.few_nodes;
   }

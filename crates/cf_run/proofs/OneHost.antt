@@ -29,11 +29,12 @@ use Rattle.cf_shape.specs.Nodes.{Node, same_node, add_node, nodes_for, nodes_of,
 use Rattle.cf_command.specs.declared.words.LogSizes.{LogSizes}
 use Rattle.cf_snapshot.specs.Plans.{cut_by, in_cut}
 use Rattle.cf_run.specs.Due.{HasRoom}
-use Rattle.cf_run.specs.Logs.{IsUnmade}
+use Rattle.cf_run.specs.Logs.{IsUnmade, IsUnmadeAlone}
 use Rattle.cf_run.specs.Parts.{rows_each}
+use Rattle.cf_run.proofs.Sealing.{one_more}
 use Rattle.cf_run.specs.Work.{shape_for}
 use Rattle.cf_run.specs.declared.log.Unmade.{Unmade}
-use Rattle.cf_run.specs.declared.log.Unmade.TheVariants.{Nodes}
+use Rattle.cf_run.specs.declared.log.Unmade.TheVariants.{Nodes, Memory}
 
 -- the rows of the host at a place
 pub at_host : (hosts : List (Vec RowValue Global)) (i : ℕ) (rows : Vec RowValue Global) (d : List RowValue) → i < length hosts → rows ≡ get_or hosts i rows → get_or (rows_each hosts) i d ≡ rows.items
@@ -122,10 +123,15 @@ distinct_front shape rows n =
     let parts : nodes_of shape (front ++ back) ≡ fold add_node (nodes_of shape front) (flat_map (nodes_for shape) back) = ap (fold add_node []) (flat_map-append (nodes_for shape) front back) ∙ fold-append add_node [] (flat_map (nodes_for shape) front) (flat_map (nodes_for shape) back) in
     subst (λ (rs : List RowValue). distinct shape front ≤ distinct shape rs) (take-append-drop n rows) (rw parts (no_fewer (nodes_of shape front) (flat_map (nodes_for shape) back)))
 
+-- of a log of one segment
+pub unmade_alone : (shape : ShapeValue) (rows : List RowValue) (why : Unmade) → length rows ≤ shape.capacity → IsUnmade shape rows why → IsUnmadeAlone shape rows why
+unmade_alone shape rows Nodes few many = one_more shape shape.nodes rows few many
+unmade_alone shape rows Memory few many = tt
+
 -- where there are nodes for all rows, there are for the first
-pub never_short : (shape : ShapeValue) (rows front : List RowValue) (n : ℕ) (why : Unmade) → why ≡ Nodes → front ≡ take n rows → distinct shape rows ≤ shape.nodes → IsUnmade shape front why → ⊥
+pub never_short : (shape : ShapeValue) (rows front : List RowValue) (n : ℕ) (why : Unmade) → why ≡ Nodes → front ≡ take n rows → distinct shape rows ≤ shape.nodes → IsUnmadeAlone shape front why → ⊥
 never_short shape rows front n why is of few bad =
-    let lacks : shape.nodes < distinct shape (take n rows) = subst (λ (w : Unmade). IsUnmade shape (take n rows) w) is (subst (λ (f : List RowValue). IsUnmade shape f why) of bad) in
+    let lacks : shape.nodes < distinct shape (take n rows) = subst (λ (w : Unmade). IsUnmadeAlone shape (take n rows) w) is (subst (λ (f : List RowValue). IsUnmadeAlone shape f why) of bad) in
     let less = distinct_front shape rows n in
     omega (arith, few, lacks, less)
 

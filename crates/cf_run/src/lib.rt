@@ -25,6 +25,8 @@ mod refusal;
 #[cfg(test)]
 mod row_tests;
 mod rows;
+#[cfg(test)]
+mod segment_tests;
 mod snapshot;
 #[cfg(test)]
 mod snapshot_tests;

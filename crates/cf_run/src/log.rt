@@ -3,11 +3,10 @@ ghost use Rattle.std.specs.Prelude.{◌≡◌, ◌≤◌, ◌*◌, ℕ, All, Lis
 ghost use Rattle.cf_row.specs.Row.{Fits, RowValue};
 ghost use Rattle.cf_setup.specs.Setups.{IsSetup, shaped};
 ghost use Rattle.cf_load.specs.Loads.{room_of};
-ghost use Rattle.cf_load.specs.Planned.{IsPlan};
 ghost use Rattle.cf_command.specs.Call.{AreSizes};
 ghost use Rattle.cf_command.specs.declared.words.LogSizes.{LogSizes};
 ghost use Rattle.cf_run.specs.Filling.{IsFilledFor};
-ghost use Rattle.cf_run.specs.Logs.{IsPlanOf, IsUnmade};
+ghost use Rattle.cf_run.specs.Logs.{IsUnmade};
 ghost use Rattle.cf_run.specs.Seals.{IsClosed, IsSealedReport, IsSealedFinal};
 
 use crate::asked::{complete, plan_of};

@@ -15,4 +15,4 @@ pub returns-in_ok-open_packets-in-Packets-clause-read : goal.returns-in_ok-open_
 returns-in_ok-open_packets-in-Packets-clause-read g c =
     let old = c.args.filling.now in
     let new = c.fill_packets.new.filling in
-    rw c.in-Packets.is (packets_read (λ rows. IsFilled old.log new.log old.loader.plan new.root new.loader new.waiting.items new.count rows) (g.F.Shelf.files c.args.shelf.now) c.args.name.now (g.F.Shelf.rest c.args.shelf.now) (g.F.Shelf.rest c.open_packets.new.shelf) (g.F.Shelf.rest c.fill_packets.new.shelf) c.fill_packets.result c.in_ok-open_packets-in-Packets.ensures.opened c.fill_packets.ensures.taken)
+    rw c.in-Packets.is (packets_read (λ rows. IsFilled old.segments.shape old.segments.most old.loader.plan new.segments new.loader new.waiting.items new.count rows) (g.F.Shelf.files c.args.shelf.now) c.args.name.now (g.F.Shelf.rest c.args.shelf.now) (g.F.Shelf.rest c.open_packets.new.shelf) (g.F.Shelf.rest c.fill_packets.new.shelf) c.fill_packets.result c.in_ok-open_packets-in-Packets.ensures.opened c.fill_packets.ensures.taken)

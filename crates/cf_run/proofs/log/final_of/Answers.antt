@@ -1,11 +1,16 @@
-use Rattle.std.proofs.Common.{refl}
+use Rattle.std.proofs.Common.{◌≡◌, [], All, Err, refl, sym, subst, rules}
 use Rattle.cf_report.proofs.Answering.{are_answering}
+use Rattle.cf_row.specs.Row.{Fits}
 use Rattle.cf_setup.specs.Setups.{shaped}
+use Rattle.cf_shape.specs.Lanes.{ShapeValue}
+use Rattle.cf_run.specs.Filling.{IsFilledFor}
+use Rattle.cf_run.proofs.Filled.{filled_few, filled_on}
 use Rattle.cf_run.proofs.Logs.{final_sealed}
+use Rattle.cf_run.proofs.log.final_of.Given.{Over}
 use Rattle.cf_run.proofs.log.final_of.Goals as goal
 
-pub report-requires : goal.report-requires
-report-requires g c = rw c.deref.ensures.value (are_answering c.args.setup.now (shaped c.args.setup.now c.args.sizes.capacity c.args.sizes.writers c.args.sizes.nodes) 0 c.in_ok-closed.closed.entries.items c.in_ok-closed.answers c.requires.lawful c.in_ok-closed.ensures.meant)
+pub take_rows-requires-clause-fit : goal.take_rows-requires-clause-fit
+take_rows-requires-clause-fit g c κs within = subst (λ (h : ShapeValue). All (Fits h.schema) c.args.rows.items) (sym c.in-Ok.ensures.shape) c.requires.fit
 
-pub returns : goal.returns
-returns g c = final_sealed c.args.setup.now c.args.sizes.capacity c.args.sizes.writers c.args.sizes.nodes 0 c.args.rows.now c.in_ok-closed.closed.entries.items c.in_ok-closed.closed.seal c.in_ok-closed.answers c.requires.sizes.writers.0 c.in_ok-closed.ensures refl c.in-Ok.text.items (rw c.deref.ensures.value at c.in-Ok.ensures)
+pub take_rows-requires-clause-filled : goal.take_rows-requires-clause-filled
+take_rows-requires-clause-filled g c κs within = ([], c.in-Ok.ensures.filled)

@@ -1,65 +1,71 @@
-use Rattle.std.proofs.Common.{◌≡◌, List, length, refl, sym, subst, ap, arith}
-use Rattle.cf_shape.specs.Lanes.{ShapeValue}
-use Rattle.cf_load.specs.Planned.{IsPlan}
+use Rattle.std.proofs.Common.{◌≡◌, List, Err, length, refl, sym, ap, subst, rules, arith}
 use Rattle.cf_row.specs.declared.row.Entry.{Entry}
+use Rattle.cf_report.specs.Meaning.{AreMeant}
 use Rattle.cf_scan.specs.Scans.{FitAll}
 use Rattle.cf_setup.specs.Setups.{shaped}
-use Rattle.cf_report.specs.Meaning.{AreMeant}
-use Rattle.cf_run.specs.Logs.{IsLogClosed, AreAnswers}
+use Rattle.cf_run.specs.Logs.{AreAnswers}
 use Rattle.cf_run.proofs.Completed.{entries_fit, answers_of}
-use Rattle.cf_run.proofs.Logs.{asks_suit, plan_suits, closed_of}
+use Rattle.cf_run.proofs.Filled.{filled_closed, filled_fit, filled_unmade, filled_within}
+use Rattle.cf_run.proofs.Logs.{asks_suit, closed_of}
 use Rattle.cf_run.proofs.log.log_of.Goals as goal
-
-pub load_rows-requires-clause-plan : goal.load_rows-requires-clause-plan
-load_rows-requires-clause-plan g c κs within = subst (λ (s : ShapeValue). IsPlan s c.in-Ok-plan_of.plan) (sym c.in-Ok.ensures) (plan_suits c.args.setup.now c.args.sizes.capacity c.args.sizes.writers c.args.sizes.nodes c.args.rounds c.in-Ok-plan_of.plan c.requires.lawful c.in-Ok-plan_of.ensures)
 
 pub complete-requires-clause-fit : goal.complete-requires-clause-fit
 complete-requires-clause-fit g c κs within =
     let setup = c.args.setup.now in
-    let sizes = c.args.sizes in
-    let entries = c.in_ok-closed.closed.entries.items in
-    let closed : IsLogClosed (shaped setup sizes.capacity sizes.writers sizes.nodes) c.in-Ok-plan_of.plan c.args.rows.now entries c.in_ok-closed.closed.seal c.in_ok-closed.answers =
-    subst (λ (s : ShapeValue). IsLogClosed s c.in-Ok-plan_of.plan c.args.rows.now entries c.in_ok-closed.closed.seal c.in_ok-closed.answers) c.in-Ok.ensures c.in_ok-closed.ensures in
-    subst (λ (es : List Entry). FitAll setup.schema es) (sym c.deref.ensures.value) (entries_fit setup.schema c.args.rows.now sizes.writers entries c.requires.sizes.writers.0 closed.is c.requires.fit)
+    let f = c.args.filling in
+    let given = c.requires.filled in
+    let sizes = given.0 in
+    let closing = c.in_ok-closing.closing in
+    let made = filled_closed setup sizes given.1 f.segments f.loader f.waiting.items f.count given.2 given.4 closing.entries.items closing.seals.items c.in_ok-closing.answers c.in_ok-closing.ensures in
+    subst (λ (es : List Entry). FitAll setup.schema es) (sym c.deref.ensures.value)
+    (entries_fit setup.schema given.2 sizes.writers closing.entries.items given.3.writers.0 made.is (filled_fit setup sizes given.1 f.segments f.loader f.waiting.items f.count given.2 given.4))
 
 pub complete-requires-clause-few : goal.complete-requires-clause-few
 complete-requires-clause-few g c κs within =
-    let entries = c.in_ok-closed.closed.entries.items in
-    let size : length entries ≡ length c.args.rows.now = c.in_ok-closed.ensures.is.size in
-    let same : length c.deref.result.now ≡ length entries = ap (λ (es : List Entry). length es) c.deref.ensures.value in
-    let few = c.requires.few in
-    let most = c.requires.sizes.capacity.1 in
+    let setup = c.args.setup.now in
+    let f = c.args.filling in
+    let given = c.requires.filled in
+    let sizes = given.0 in
+    let closing = c.in_ok-closing.closing in
+    let made = filled_closed setup sizes given.1 f.segments f.loader f.waiting.items f.count given.2 given.4 closing.entries.items closing.seals.items c.in_ok-closing.answers c.in_ok-closing.ensures in
+    let size = made.is.size in
+    let same : length c.deref.result.now ≡ length closing.entries.items = ap (λ (es : List Entry). length es) c.deref.ensures.value in
+    let few = filled_within setup sizes given.1 f.segments f.loader f.waiting.items f.count given.2 given.4 c.requires.few in
+    let most = given.3.most in
     omega (arith, size, same, few, most)
 
 pub complete-requires-clause-answers : goal.complete-requires-clause-answers
 complete-requires-clause-answers g c κs within =
     let setup = c.args.setup.now in
-    let sizes = c.args.sizes in
+    let f = c.args.filling in
+    let given = c.requires.filled in
+    let sizes = given.0 in
     let shape = shaped setup sizes.capacity sizes.writers sizes.nodes in
-    let plan = c.in-Ok-plan_of.plan in
-    let entries = c.in_ok-closed.closed.entries.items in
-    let closed : IsLogClosed shape plan c.args.rows.now entries c.in_ok-closed.closed.seal c.in_ok-closed.answers =
-    subst (λ (s : ShapeValue). IsLogClosed s plan c.args.rows.now entries c.in_ok-closed.closed.seal c.in_ok-closed.answers) c.in-Ok.ensures c.in_ok-closed.ensures in (
+    let closing = c.in_ok-closing.closing in
+    let made = filled_closed setup sizes given.1 f.segments f.loader f.waiting.items f.count given.2 given.4 closing.entries.items closing.seals.items c.in_ok-closing.answers c.in_ok-closing.ensures in (
       shape,
-      plan,
-      c.args.rounds,
+      f.loader.plan,
+      given.1,
       refl,
       asks_suit setup sizes.capacity sizes.writers sizes.nodes c.requires.lawful,
-      c.in-Ok-plan_of.ensures,
-      subst (λ (es : List Entry). AreAnswers shape plan es c.in_ok-closed.answers) (sym c.deref.ensures.value) (answers_of shape plan c.args.rows.now entries c.in_ok-closed.closed.seal c.in_ok-closed.answers closed),
+      given.4.plan,
+      subst (λ (es : List Entry). AreAnswers shape f.loader.plan es c.in_ok-closing.answers) (sym c.deref.ensures.value) (answers_of shape f.loader.plan given.2 closing.entries.items closing.seals.items c.in_ok-closing.answers made),
     )
 
-pub returns-in-Ok-complete : goal.returns-in-Ok-complete
-returns-in-Ok-complete g c =
+pub returns-in-Ok : goal.returns-in-Ok
+returns-in-Ok g c = λ sizes rounds rows lawful is.
     let setup = c.args.setup.now in
-    let sizes = c.args.sizes in
+    let f = c.args.filling in
     let shape = shaped setup sizes.capacity sizes.writers sizes.nodes in
-    let plan = c.in-Ok-plan_of.plan in
-    let entries = c.in_ok-closed.closed.entries.items in
-    let seal = c.in_ok-closed.closed.seal in
-    let answers = c.in_ok-closed.answers in
-    let all = c.in-Ok-complete.answers in
-    let closed : IsLogClosed shape plan c.args.rows.now entries seal answers = subst (λ (s : ShapeValue). IsLogClosed s plan c.args.rows.now entries seal answers) c.in-Ok.ensures c.in_ok-closed.ensures in
-    let are : AreAnswers shape plan c.deref.result.now answers = subst (λ (es : List Entry). AreAnswers shape plan es answers) (sym c.deref.ensures.value) (answers_of shape plan c.args.rows.now entries seal answers closed) in
-    let meant : AreMeant setup shape c.args.rounds entries all = subst (λ (es : List Entry). AreMeant setup shape c.args.rounds es all) c.deref.ensures.value (c.in-Ok-complete.ensures.meant shape plan c.args.rounds c.in-Ok-plan_of.ensures are) in
-    closed_of setup sizes.capacity sizes.writers sizes.nodes c.args.rounds plan c.args.rows.now entries seal answers all closed meant c.in-Ok-complete.ensures.tails
+    let closing = c.in_ok-closing.closing in
+    let all = c.in-Ok.answers in
+    let made = filled_closed setup sizes rounds f.segments f.loader f.waiting.items f.count rows is closing.entries.items closing.seals.items c.in_ok-closing.answers c.in_ok-closing.ensures in
+    let are : AreAnswers shape f.loader.plan c.deref.result.now c.in_ok-closing.answers = subst (λ (es : List Entry). AreAnswers shape f.loader.plan es c.in_ok-closing.answers) (sym c.deref.ensures.value) (answers_of shape f.loader.plan rows closing.entries.items closing.seals.items c.in_ok-closing.answers made) in
+    let meant : AreMeant setup shape rounds closing.entries.items all = subst (λ (es : List Entry). AreMeant setup shape rounds es all) c.deref.ensures.value (c.in-Ok.ensures.meant shape f.loader.plan rounds is.plan are) in
+    closed_of setup sizes.capacity sizes.writers sizes.nodes rounds f.loader.plan rows closing.entries.items closing.seals.items c.in_ok-closing.answers all made meant c.in-Ok.ensures.tails
+
+pub returns-in_err-closing : goal.returns-in_err-closing
+returns-in_err-closing g c = λ sizes rounds rows lawful is.
+    let f = c.args.filling in
+    let same : c.from_residual.result ≡ Err c.in_err-closing.field-0.0 = search rules in
+    rw same (filled_unmade c.args.setup.now sizes rounds f.segments f.loader f.waiting.items f.count rows is c.in_err-closing.field-0.0 c.in_err-closing.ensures)

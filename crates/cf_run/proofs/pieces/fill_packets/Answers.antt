@@ -20,18 +20,19 @@ loop-alloc-preserved g c =
     let given : List RowValue = c.in_ok-rows.rows.items in
     let first = v.later in
     let then = c.in_ok-rows.ensures.cause.later in
-    let log = c.args.filling.now.log in
+    let shape = c.args.filling.now.segments.shape in
+    let most = c.args.filling.now.segments.most in
     let plan = c.args.filling.now.loader.plan in
     let old = c.loop-alloc.filling in
     let new = c.take_rows-in-loop-alloc.new.self in
-    let here = filled_here log old.log plan old.root old.loader old.waiting.items old.count rows v.taken.2 in
+    let here = filled_here shape most plan old.segments old.loader old.waiting.items old.count rows v.taken.2 in
     record {
       files = c.in_ok-rows.ensures.files ∙ v.files;
       later = omega (arith, first, then);
       taken = (
         rows ++ given,
         c.in_ok-rows.ensures.read before rows v.taken.1,
-        filled_since log old.log new.log plan old.root new.root old.loader new.loader old.waiting.items new.waiting.items old.count new.count rows (rows ++ given) v.taken.2 (c.in_ok-take_rows-2.ensures.filled rows here),
+        filled_since shape most plan old.segments new.segments old.loader new.loader old.waiting.items new.waiting.items old.count new.count rows (rows ++ given) v.taken.2 (c.in_ok-take_rows-2.ensures.filled rows here),
       );
     }
 
@@ -49,7 +50,7 @@ returns-clause-taken g c =
     let v = c.loop-alloc.invariant.taken in
     let old = c.args.filling.now in
     let new = c.loop-alloc.filling in
-    finished_so (λ these. IsFilled old.log new.log old.loader.plan new.root new.loader new.waiting.items new.count these) before now v.0 c.finish.result (c.finish.ensures.taken before now v.0 v.1) v.2
+    finished_so (λ these. IsFilled old.segments.shape old.segments.most old.loader.plan new.segments new.loader new.waiting.items new.count these) before now v.0 c.finish.result (c.finish.ensures.taken before now v.0 v.1) v.2
 
 pub returns-clause-cause : goal.returns-clause-cause
 returns-clause-cause g c =

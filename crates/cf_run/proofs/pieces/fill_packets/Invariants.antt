@@ -9,7 +9,7 @@ invariant-loop-alloc g l = record {
   files : g.F.Shelf.files l.shelf ≡ g.F.Shelf.files l.fn.shelf;
   later : g.F.Shelf.faults l.fn.shelf ≤ g.F.Shelf.faults l.shelf;
   taken : (rows : List RowValue) × IsReadOn l.pieces (g.F.Shelf.rest l.fn.shelf) (g.F.Shelf.rest l.shelf) rows
-      × IsFilled l.fn.filling.log l.filling.log l.fn.filling.loader.plan l.filling.root l.filling.loader l.filling.waiting.items l.filling.count rows;
+      × IsFilled l.fn.filling.segments.shape l.fn.filling.segments.most l.fn.filling.loader.plan l.filling.segments l.filling.loader l.filling.waiting.items l.filling.count rows;
 }
 
 abbrev pub decreases-loop-alloc : goal.decreases-loop-alloc

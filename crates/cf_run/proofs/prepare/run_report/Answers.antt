@@ -1,4 +1,4 @@
-use Rattle.std.proofs.Common.{◌≡◌, Err, ap, refl, sym, ◌∙◌, rules}
+use Rattle.std.proofs.Common.{◌≡◌, ◌*◌, [], Err, ap, refl, sym, ◌∙◌, rules}
 use Rattle.std.proofs.lemmas.Result.{err_from_is_err_and}
 use Rattle.cf_command.specs.Call.{run_by}
 use Rattle.cf_shape.specs.Lanes.{ShapeValue}
@@ -38,36 +38,49 @@ pub returns-then-is_full-clause-ends : goal.returns-then-is_full-clause-ends
 returns-then-is_full-clause-ends g c =
     let said = c.in_ok-fill_rows.ensures.read in
     let sizes = c.args.command.now.sizes in
-    let filling = c.fill_rows.new.filling in
-    let is = filled_on c.in_ok-setup.setup sizes c.args.command.now.rounds _ filling.log _ filling.root _ filling.loader _ filling.waiting.items _ filling.count _ said.0 c.in_ok-filling.ensures said.2 in
-    run_exceeds (g.F.Shelf.files c.args.shelf.now) (run_by c.args.command.now) (g.F.Shelf.rest c.args.shelf.now) (g.F.Shelf.rest c.fill_rows.new.shelf) c.in_ok-setup.setup (g.F.Shelf.rest c.read_setup.new.shelf) c.in_ok-setup.ensures.read said.0 (rw (c.in_ok-setup.ensures.files, c.format_of.ensures.0, c.format_of.ensures.1) at said.1)
-    (refusals.Full sizes.capacity) (full (filled_over c.in_ok-setup.setup sizes c.args.command.now.rounds filling.log filling.root filling.loader filling.waiting.items filling.count said.0 is (c.is_full.ensures.full c.if-is_full.true)) refl)
+    let setup = c.in_ok-setup.setup in
+    let rounds = c.args.command.now.rounds in
+    let old = c.in_ok-filling.filling in
+    let new = c.fill_rows.new.filling in
+    let is = filled_on setup sizes rounds old.segments new.segments old.loader new.loader old.waiting.items new.waiting.items old.count new.count [] said.0 c.in_ok-filling.ensures said.2 in
+    let most = c.most-most.ensures in
+    rw most (run_exceeds (g.F.Shelf.files c.args.shelf.now) (run_by c.args.command.now) (g.F.Shelf.rest c.args.shelf.now) (g.F.Shelf.rest c.fill_rows.new.shelf) c.in_ok-setup.setup (g.F.Shelf.rest c.read_setup.new.shelf) c.in_ok-setup.ensures.read said.0 (rw (c.in_ok-setup.ensures.files, c.format_of.ensures.0, c.format_of.ensures.1) at said.1)
+    (refusals.Full (sizes.capacity * sizes.segments)) (full (filled_over setup sizes rounds new.segments new.loader new.waiting.items new.count said.0 is (c.is_full.ensures.full c.if-is_full.true)) refl))
 
 pub report_of-requires-clause-filled : goal.report_of-requires-clause-filled
 report_of-requires-clause-filled g c κs within =
     let said = c.in_ok-fill_rows.ensures.read in
     let sizes = c.args.command.now.sizes in
-    let filling = c.fill_rows.new.filling in
-    (sizes, c.args.command.now.rounds, said.0, c.requires, filled_on c.in_ok-setup.setup sizes c.args.command.now.rounds _ filling.log _ filling.root _ filling.loader _ filling.waiting.items _ filling.count _ said.0 c.in_ok-filling.ensures said.2)
+    let setup = c.in_ok-setup.setup in
+    let rounds = c.args.command.now.rounds in
+    let old = c.in_ok-filling.filling in
+    let new = c.fill_rows.new.filling in
+    (sizes, rounds, said.0, c.requires, filled_on setup sizes rounds old.segments new.segments old.loader new.loader old.waiting.items new.waiting.items old.count new.count [] said.0 c.in_ok-filling.ensures said.2)
 
 pub returns-in-Ok-clause-ends : goal.returns-in-Ok-clause-ends
 returns-in-Ok-clause-ends g c =
     let said = c.in_ok-fill_rows.ensures.read in
     let sizes = c.args.command.now.sizes in
-    let filling = c.fill_rows.new.filling in
-    let is = filled_on c.in_ok-setup.setup sizes c.args.command.now.rounds _ filling.log _ filling.root _ filling.loader _ filling.waiting.items _ filling.count _ said.0 c.in_ok-filling.ensures said.2 in
+    let setup = c.in_ok-setup.setup in
+    let rounds = c.args.command.now.rounds in
+    let old = c.in_ok-filling.filling in
+    let new = c.fill_rows.new.filling in
+    let is = filled_on setup sizes rounds old.segments new.segments old.loader new.loader old.waiting.items new.waiting.items old.count new.count [] said.0 c.in_ok-filling.ensures said.2 in
     run_sealed (g.F.Shelf.files c.args.shelf.now) (run_by c.args.command.now) (g.F.Shelf.rest c.args.shelf.now) (g.F.Shelf.rest c.fill_rows.new.shelf) c.in_ok-setup.setup (g.F.Shelf.rest c.read_setup.new.shelf) c.in_ok-setup.ensures.read said.0 (rw (c.in_ok-setup.ensures.files, c.format_of.ensures.0, c.format_of.ensures.1) at said.1)
-    c.in-Ok.report.text.items c.in-Ok.report.seal (filled_within c.in_ok-setup.setup sizes c.args.command.now.rounds filling.log filling.root filling.loader filling.waiting.items filling.count said.0 is (c.is_full.ensures.room c.if-is_full.false))
-    (c.in-Ok.ensures sizes c.args.command.now.rounds said.0 c.requires is) c.sealed.result c.sealed.ensures
+    c.in-Ok.product.text.items c.in-Ok.product.seals.items (filled_within setup sizes rounds new.segments new.loader new.waiting.items new.count said.0 is (c.is_full.ensures.room c.if-is_full.false))
+    (c.in-Ok.ensures sizes rounds said.0 c.requires is)
 
 pub returns-in-Err-Nodes-clause-ends : goal.returns-in-Err-Nodes-clause-ends
 returns-in-Err-Nodes-clause-ends g c =
     let said = c.in_ok-fill_rows.ensures.read in
     let sizes = c.args.command.now.sizes in
-    let filling = c.fill_rows.new.filling in
-    let is = filled_on c.in_ok-setup.setup sizes c.args.command.now.rounds _ filling.log _ filling.root _ filling.loader _ filling.waiting.items _ filling.count _ said.0 c.in_ok-filling.ensures said.2 in
+    let setup = c.in_ok-setup.setup in
+    let rounds = c.args.command.now.rounds in
+    let old = c.in_ok-filling.filling in
+    let new = c.fill_rows.new.filling in
+    let is = filled_on setup sizes rounds old.segments new.segments old.loader new.loader old.waiting.items new.waiting.items old.count new.count [] said.0 c.in_ok-filling.ensures said.2 in
     let err : c.report_of.result ≡ Err Nodes = search rules in
     run_exceeds (g.F.Shelf.files c.args.shelf.now) (run_by c.args.command.now) (g.F.Shelf.rest c.args.shelf.now) (g.F.Shelf.rest c.fill_rows.new.shelf) c.in_ok-setup.setup (g.F.Shelf.rest c.read_setup.new.shelf) c.in_ok-setup.ensures.read said.0 (rw (c.in_ok-setup.ensures.files, c.format_of.ensures.0, c.format_of.ensures.1) at said.1)
     (refusals.Nodes sizes.nodes)
-    (short (filled_within c.in_ok-setup.setup sizes c.args.command.now.rounds filling.log filling.root filling.loader filling.waiting.items filling.count said.0 is (c.is_full.ensures.room c.if-is_full.false))
-    (short_of (shape_for c.in_ok-setup.setup sizes) said.0 c.report_of.result _ (c.report_of.ensures sizes c.args.command.now.rounds said.0 c.requires is) err) refl)
+    (short (filled_within setup sizes rounds new.segments new.loader new.waiting.items new.count said.0 is (c.is_full.ensures.room c.if-is_full.false))
+    (short_of (shape_for setup sizes) said.0 c.report_of.result _ (c.report_of.ensures sizes rounds said.0 c.requires is) err) refl)

@@ -22,24 +22,27 @@ returns-in_err-rows-clause-ends g c =
     let p = err_from_is_err_and c.from_residual-in_err-rows.result c.from_residual-in_err-rows.ensures.1 in
     rw (p.1, p.2) (synth_stopped (g.F.Shelf.files c.args.shelf.now) (synth_by c.args.command.now) (g.F.Shelf.rest c.args.shelf.now) (g.F.Shelf.rest c.read_setup.new.shelf) c.in_ok-setup.setup c.in_ok-setup.ensures.read)
 
-pub returns-then-len-sizes-clause-ends : goal.returns-then-len-sizes-clause-ends
-returns-then-len-sizes-clause-ends g c =
+pub returns-then-len-most-clause-ends : goal.returns-then-len-most-clause-ends
+returns-then-len-most-clause-ends g c =
     let packets : c.in_ok-setup.setup.packet ≡ true = search rules in
-    synth_full (g.F.Shelf.files c.args.shelf.now) (synth_by c.args.command.now) (g.F.Shelf.rest c.args.shelf.now) (g.F.Shelf.rest c.read_setup.new.shelf) c.in_ok-setup.setup c.in_ok-setup.ensures.read packets
-    c.in_ok-rows.rows.items c.in_ok-rows.ensures.rows (omega (arith, c.if-len-sizes.true, c.len.ensures))
+    let most = c.most-most.ensures in
+    rw most (synth_full (g.F.Shelf.files c.args.shelf.now) (synth_by c.args.command.now) (g.F.Shelf.rest c.args.shelf.now) (g.F.Shelf.rest c.read_setup.new.shelf) c.in_ok-setup.setup c.in_ok-setup.ensures.read packets
+    c.in_ok-rows.rows.items c.in_ok-rows.ensures.rows (omega (arith, most, c.if-len-most.true, c.len.ensures)))
 
 pub returns-in-Ok-clause-ends : goal.returns-in-Ok-clause-ends
 returns-in-Ok-clause-ends g c =
     let packets : c.in_ok-setup.setup.packet ≡ true = search rules in
+    let most = c.most-most.ensures in
     synth_sealed (g.F.Shelf.files c.args.shelf.now) (synth_by c.args.command.now) (g.F.Shelf.rest c.args.shelf.now) (g.F.Shelf.rest c.read_setup.new.shelf) c.in_ok-setup.setup c.in_ok-setup.ensures.read packets
-    c.in_ok-rows.rows.items c.in-Ok.report.text.items c.in-Ok.report.seal c.in_ok-rows.ensures.rows (omega (arith, c.if-len-sizes.false, c.len.ensures)) (rw c.deref.ensures.value at c.in-Ok.ensures) c.sealed.result c.sealed.ensures
+    c.in_ok-rows.rows.items c.in-Ok.product.text.items c.in-Ok.product.seals.items c.in_ok-rows.ensures.rows (omega (arith, most, c.if-len-most.false, c.len.ensures)) c.in-Ok.ensures
 
 pub returns-in-Err-Nodes-clause-ends : goal.returns-in-Err-Nodes-clause-ends
 returns-in-Err-Nodes-clause-ends g c =
     let packets : c.in_ok-setup.setup.packet ≡ true = search rules in
     let err : c.final_of.result ≡ Err Nodes = search rules in
+    let most = c.most-most.ensures in
     synth_short (g.F.Shelf.files c.args.shelf.now) (synth_by c.args.command.now) (g.F.Shelf.rest c.args.shelf.now) (g.F.Shelf.rest c.read_setup.new.shelf) c.in_ok-setup.setup c.in_ok-setup.ensures.read packets
-    c.in_ok-rows.rows.items c.in_ok-rows.ensures.rows (omega (arith, c.if-len-sizes.false, c.len.ensures)) (short_of (shape_for c.in_ok-setup.setup c.args.command.now.sizes) c.in_ok-rows.rows.items c.final_of.result _ (rw c.deref.ensures.value at c.final_of.ensures) err)
+    c.in_ok-rows.rows.items c.in_ok-rows.ensures.rows (omega (arith, most, c.if-len-most.false, c.len.ensures)) (short_of (shape_for c.in_ok-setup.setup c.args.command.now.sizes) c.in_ok-rows.rows.items c.final_of.result _ c.final_of.ensures err)
 
 pub returns-clause-ends : goal.returns-clause-ends
 returns-clause-ends g c =

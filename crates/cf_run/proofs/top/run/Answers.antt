@@ -1,5 +1,6 @@
 use Rattle.std.proofs.Common.{inl, inr, ◌∙◌}
 use Rattle.cf_command.specs.Call.{call_of, texts}
+use Rattle.cf_command.proofs.Sizes.{has_sizes}
 use Rattle.cf_run.specs.Answers.Answers.{wrote, cut, stopped}
 use Rattle.cf_run.specs.Parts.{draft_status, draft_text, draft_seals}
 use Rattle.cf_run.proofs.Answering.{decided_if, complete_if, decided_free, complete_free, stop_yields, by_due, by_cut, by_stop, words_text, words_call, keeps_same, due_as, never_yields, draft_unsealed}
@@ -25,7 +26,7 @@ returns-in-Ok-write_all-clause-written g c =
 
 pub returns-in-Ok-write_all-clause-by_command : goal.returns-in-Ok-write_all-clause-by_command
 returns-in-Ok-write_all-clause-by_command g c =
-    by_due (g.F.Shelf.files c.args.shelf.now) (g.F.Shelf.rest c.args.shelf.now) (g.F.Shelf.rest c.prepare.new.shelf) c.status-in-Ok-write_all.result (draft_text c.in-Ok.draft) c.into_seals.result.items (call_of (texts c.args.words.now))
+    by_due (g.F.Shelf.files c.args.shelf.now) (g.F.Shelf.rest c.args.shelf.now) (g.F.Shelf.rest c.prepare.new.shelf) c.status-in-Ok-write_all.result (draft_text c.in-Ok.draft) c.into_seals.result.items (call_of (texts c.args.words.now)) (has_sizes (texts c.args.words.now))
     (due_as (g.F.Shelf.files c.args.shelf.now) (call_of (texts c.args.words.now)) (g.F.Shelf.rest c.args.shelf.now) (g.F.Shelf.rest c.prepare.new.shelf) (draft_status c.in-Ok.draft) c.status-in-Ok-write_all.result (draft_text c.in-Ok.draft) (draft_seals c.in-Ok.draft) c.into_seals.result.items c.in-Ok.ensures.prepared c.status-in-Ok-write_all.ensures c.into_seals.ensures)
 
 pub returns-in-Ok-write_all-clause-decided : goal.returns-in-Ok-write_all-clause-decided
@@ -41,7 +42,7 @@ returns-in-Ok-write_all-clause-complete g c =
 pub returns-in-Ok-write_all-clause-words : goal.returns-in-Ok-write_all-clause-words
 returns-in-Ok-write_all-clause-words g c = λ is.
     let due = (due_as (g.F.Shelf.files c.args.shelf.now) (call_of (texts c.args.words.now)) (g.F.Shelf.rest c.args.shelf.now) (g.F.Shelf.rest c.prepare.new.shelf) (draft_status c.in-Ok.draft) c.status-in-Ok-write_all.result (draft_text c.in-Ok.draft) (draft_seals c.in-Ok.draft) c.into_seals.result.items c.in-Ok.ensures.prepared c.status-in-Ok-write_all.ensures c.into_seals.ensures) in
-    let none = words_call (g.F.Shelf.files c.args.shelf.now) (call_of (texts c.args.words.now)) (g.F.Shelf.rest c.args.shelf.now) (g.F.Shelf.rest c.prepare.new.shelf) c.status-in-Ok-write_all.result (draft_text c.in-Ok.draft) c.into_seals.result.items due is in
+    let none = words_call (g.F.Shelf.files c.args.shelf.now) (call_of (texts c.args.words.now)) (g.F.Shelf.rest c.args.shelf.now) (g.F.Shelf.rest c.prepare.new.shelf) c.status-in-Ok-write_all.result (draft_text c.in-Ok.draft) c.into_seals.result.items (has_sizes (texts c.args.words.now)) due is in
     (none, rw (c.text.ensures, words_text (g.F.Shelf.files c.args.shelf.now) (call_of (texts c.args.words.now)) (g.F.Shelf.rest c.args.shelf.now) (g.F.Shelf.rest c.prepare.new.shelf) c.status-in-Ok-write_all.result (draft_text c.in-Ok.draft) c.into_seals.result.items due none) at c.in-Ok-write_all.ensures.ok)
 
 pub returns-in-Ok-write_all-clause-no_seals : goal.returns-in-Ok-write_all-clause-no_seals

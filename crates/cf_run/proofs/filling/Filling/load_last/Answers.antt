@@ -7,4 +7,4 @@ load-requires-after_bounds g c κs within =
     let s = c.args.self.now in
     let going : s.loader.stopped ≡ false = search rules in
     let some : 0 < length s.waiting.items = search rules in
-    last_batch s.log s.loader.plan s.root s.loader s.waiting.items s.count c.requires.filled.0 c.requires.filled.1 c.requires.few going some
+    last_batch s.segments.shape s.segments.most s.loader.plan s.segments s.loader s.waiting.items s.count c.requires.filled.0 c.requires.filled.1 c.requires.few going some
