@@ -15,7 +15,7 @@ use Rattle.cf_load.specs.Loaders.{LoaderValue, IsFresh, IsLoading, IsBatched, Is
 use Rattle.cf_load.specs.Loading.{HasAnswered}
 use Rattle.cf_load.specs.Loads.{LacksNodes, room_of}
 use Rattle.cf_load.specs.Planned.{tails_of, marks_on}
-use Rattle.cf_load.specs.Segments.{SegmentsValue, GoesOn, HoldsRows, KeepsSegment, all_of, base_of, entries_of, sealed, told_of}
+use Rattle.cf_load.specs.Segments.{SegmentsValue, GoesOn, HoldsRows, KeepsSegment, all_of, entries_of, sealed, told_of}
 use Rattle.cf_load.specs.declared.plan.LivePlan.{LivePlan}
 use Rattle.cf_load.specs.declared.loads.LoadFault.{LoadFault}
 use Rattle.cf_load.specs.declared.loads.LoadFault.TheVariants.{Full, NodesFull}
