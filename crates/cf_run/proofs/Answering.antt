@@ -1,5 +1,5 @@
 -- From what is prepared to what the program answers.
-use Rattle.std.proofs.Common.{◌≡◌, ◌⊎◌, ℕ, ◌*◌, ◌≤◌, Bool, true, false, List, [], length, Option, Some, None, refl, sym, ap, inl, inr, IfSome, subst}
+use Rattle.std.proofs.Common.{◌≡◌, ◌⊎◌, ℕ, ◌*◌, ◌≤◌, Bool, true, false, List, [], length, Option, Some, None, refl, sym, inl, inr, IfSome, subst}
 use Rattle.std.specs.Io.KnownBytes.{Keeps}
 use Rattle.cf_outside.specs.Files.{File}
 use Rattle.cf_row.specs.Row.{RowValue}

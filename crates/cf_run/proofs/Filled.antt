@@ -15,7 +15,7 @@ use Rattle.cf_load.specs.Loaders.{LoaderValue, IsFresh, IsLoading, IsBatched, Is
 use Rattle.cf_load.specs.Loading.{HasAnswered}
 use Rattle.cf_load.specs.Loads.{LacksNodes, room_of}
 use Rattle.cf_load.specs.Planned.{tails_of, marks_on}
-use Rattle.cf_load.specs.Segments.{SegmentsValue, GoesOn, HoldsRows, KeepsSegment, all_of, base_of, entries_of, sealed, told_of}
+use Rattle.cf_load.specs.Segments.{SegmentsValue, GoesOn, HoldsRows, KeepsSegment, all_of, entries_of, sealed, told_of}
 use Rattle.cf_load.specs.declared.plan.LivePlan.{LivePlan}
 use Rattle.cf_load.specs.declared.loads.LoadFault.{LoadFault}
 use Rattle.cf_load.specs.declared.loads.LoadFault.TheVariants.{Full, NodesFull}
@@ -339,6 +339,11 @@ filled_on setup sizes rounds s t old new before waiting none counted first rows 
   plan = subst (λ (p : LivePlan). IsPlanOf setup rounds p) (sym took.plan_is) is.plan;
   filled = filled_here s.shape s.most old.plan t new waiting counted rows took;
 }
+
+-- as when its first rows came
+pub filled_first : (setup : SetupValue) (sizes : LogSizes) (rounds : ℕ) (s t : SegmentsValue) (old new : LoaderValue) (before waiting : List RowValue) (none counted : ℕ) (rows : List RowValue) → IsFilledFor setup sizes rounds s old before none []
+    → ((first : List RowValue) → IsFilled s.shape s.most old.plan s old before none first → IsFilled s.shape s.most old.plan t new waiting counted (first ++ rows)) → IsFilledFor setup sizes rounds t new waiting counted rows
+filled_first setup sizes rounds s t old new before waiting none counted rows is took = filled_on setup sizes rounds s t old new before waiting none counted [] rows is (took [] is.filled)
 
 module _ (setup : SetupValue) (sizes : LogSizes) (rounds : ℕ) (s : SegmentsValue) (loader : LoaderValue) (waiting : List RowValue) (count : ℕ) (rows : List RowValue) (is : IsFilledFor setup sizes rounds s loader waiting count rows) where
   room_for : room_of s ≡ sizes.capacity * sizes.segments

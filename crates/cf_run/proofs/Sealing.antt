@@ -1,8 +1,8 @@
 -- The seals of a log's segments, and the nodes that the rows in each need.
-use Rattle.std.proofs.Common.{◌≡◌, ℕ, ◌+◌, ◌-◌, ◌*◌, ◌/◌, ◌<◌, ◌≤◌, zero, suc, max, List, [], ◌∷◌, ◌++◌, length, map, take, drop, get_or, All, Any, Some, slice_get, refl, sym, ap, ap₂, subst, ◌∙◌, arith, inl, inr, append-nil, length-append, mul-zero, mul-suc, mul-le-mul_left, mul_comm}
+use Rattle.std.proofs.Common.{◌≡◌, ℕ, ◌+◌, ◌-◌, ◌*◌, ◌/◌, ◌<◌, ◌≤◌, zero, suc, max, List, [], ◌∷◌, ◌++◌, length, map, drop, get_or, All, Some, slice_get, refl, sym, ap, subst, ◌∙◌, arith, inl, inr, append-nil, length-append, mul-zero, mul-suc, mul-le-mul_left, mul_comm}
 use Rattle.std.proofs.Math.Nat.{div-zero, div-eq_of_lt, le-div_iff_mul-le}
 use Rattle.std.proofs.lemmas.Bool.{cases_lt}
-use Rattle.std.proofs.lemmas.List.{length-take, length-drop, length-map, take_at, drop_at, take_all, drop_all}
+use Rattle.std.proofs.lemmas.List.{length-take, length-drop, length-map, take_at, drop_at}
 use Rattle.std.proofs.lemmas.List.Elements.{All-map}
 use Rattle.std.proofs.lemmas.List.FromFn.{get_or-map-range_with_len, length-map-range_with_len}
 use Rattle.std.proofs.lemmas.Nat.{div-mul-add}
@@ -14,7 +14,7 @@ use Rattle.cf_row.specs.declared.row.Entry.{Entry}
 use Rattle.cf_shape.specs.Lanes.{ShapeValue}
 use Rattle.cf_shape.specs.Nodes.{distinct}
 use Rattle.cf_table.specs.Moves.{SealValue}
-use Rattle.cf_load.specs.Blocks.{block, blocks}
+use Rattle.cf_load.specs.Blocks.{block}
 use Rattle.cf_load.specs.Segments.{SegmentsValue, HoldsRows, all_of, base_of, entries_of, seen_of, sealed, told_from, told_of}
 use Rattle.cf_load.specs.declared.segments.Segment.{Segment}
 use Rattle.cf_load.proofs.Blocks.{blocks_one, first_block, next_block, whole_block}

@@ -5,8 +5,7 @@ use std::test::Fail;
 #[test]
 fn nodes_are_counted_in_each_segment(rt: HostRuntime) -> Result<(), Fail> {
     let alloc = rt.alloc();
-    let setup =
-        b"schema packet\nwidth 1000000\nfilter f *\nask n between f 1000 1003\n".as_slice();
+    let setup = b"schema packet\nwidth 1000000\nfilter f *\nask n between f 1000 1003\n".as_slice();
     let table: [(&str, &str, &str, (u8, &[u8])); 3] = [
         (
             "4096",
@@ -45,12 +44,32 @@ fn a_log_holds_as_many_records_as_its_segments(rt: HostRuntime) -> Result<(), Fa
     let alloc = rt.alloc();
     let setup = b"schema packet\nindex l len\nask none find l 0 63\n".as_slice();
     let table: [(&str, &str, &str, (u8, &[u8])); 6] = [
-        ("4096", "4096", "1", (0, b"records 4096\nask none find 0:\n")),
+        (
+            "4096",
+            "4096",
+            "1",
+            (0, b"records 4096\nask none find 0:\n"),
+        ),
         ("4097", "4096", "1", (6, b"full: more than 4096 records\n")),
-        ("4097", "4096", "2", (0, b"records 4097\nask none find 0:\n")),
-        ("8192", "4096", "2", (0, b"records 8192\nask none find 0:\n")),
+        (
+            "4097",
+            "4096",
+            "2",
+            (0, b"records 4097\nask none find 0:\n"),
+        ),
+        (
+            "8192",
+            "4096",
+            "2",
+            (0, b"records 8192\nask none find 0:\n"),
+        ),
         ("8193", "4096", "2", (6, b"full: more than 8192 records\n")),
-        ("65537", "65536", "1", (6, b"full: more than 65536 records\n")),
+        (
+            "65537",
+            "65536",
+            "1",
+            (6, b"full: more than 65536 records\n"),
+        ),
     ];
     for (count, capacity, segments, answer) in table {
         let words = [

@@ -1,6 +1,5 @@
 use Rattle.std.proofs.Common.{◌≡◌, ◌*◌, [], Err, ◌∙◌, subst, rules}
 use Rattle.cf_shape.specs.Lanes.{ShapeValue}
-use Rattle.cf_run.specs.Filling.{IsFilled}
 use Rattle.cf_run.specs.Logs.{IsUnmade}
 use Rattle.cf_run.specs.Needs.{NeedsAtMost}
 use Rattle.cf_run.specs.Work.{shape_for}

@@ -1,7 +1,7 @@
 use Rattle.std.proofs.Common.{rules, arith, inl, inr, sym, ◌∙◌, ◌≡◌, ◌<◌, ◌+◌, ◌⊎◌, true, false}
 use Rattle.std.proofs.lemmas.Result.{IfOk-weaker}
 use Rattle.cf_load.specs.Loads.{room_of}
-use Rattle.cf_run.proofs.Filled.{over_full, passes_on, waits, batch_due, loads, room_small}
+use Rattle.cf_run.proofs.Filled.{over_full, passes_on, waits, batch_due, loads}
 use Rattle.cf_run.proofs.filling.Filling.push.Goals.{then-self-room-2-via-then-self-room-2, then-self-room-2-via-else-self-room-2+then-stopped}
 use Rattle.cf_run.proofs.filling.Filling.push.Goals as goal
 
