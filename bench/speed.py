@@ -33,6 +33,7 @@ import time
 COUNT = 2**16
 LONG = 2**20
 CAPACITY = 2**16
+# What an index over different numbers needs; all others have enough with the default.
 NODES = 16384
 ATTRIBUTES = ["src", "dst", "sport", "dport", "proto", "ttl", "tos", "flags", "kind", "etype", "win", "iplen", "len", "seq", "ack", "caplen"]
 PLAIN = "schema packet\nask all list len>1080\n"
@@ -99,14 +100,15 @@ def packet(num, draw):
     return link + network + transport, length
 
 
-def capture(seed, count):
-    """A file in the classic libpcap format 2.4."""
-    parts = [struct.pack("<IHHIIII", 0xA1B2C3D4, 2, 4, 0, 0, 65535, 1)]
-    for num, draw in zip(range(count), draws(seed)):
-        frame, length = packet(num, draw)
-        parts.append(struct.pack("<IIII", 1 + num // 1000, num % 1000 * 1000, len(frame), length))
-        parts.append(frame)
-    return b"".join(parts)
+def write_capture(path, seed, count):
+    """A file in the classic libpcap format 2.4. It is not held in memory, as the peak that is told of a command is at least that
+    of the process that starts it."""
+    with open(path, "wb") as file:
+        file.write(struct.pack("<IHHIIII", 0xA1B2C3D4, 2, 4, 0, 0, 65535, 1))
+        for num, draw in zip(range(count), draws(seed)):
+            frame, length = packet(num, draw)
+            file.write(struct.pack("<IIII", 1 + num // 1000, num % 1000 * 1000, len(frame), length))
+            file.write(frame)
 
 
 def lanes(count):
@@ -149,7 +151,7 @@ class Sitting:
         """The capture of so many packets, made where it isn't there yet."""
         path = self.folder / f"{count}.pcap"
         if not path.exists():
-            path.write_bytes(capture(1, count))
+            write_capture(path, 1, count)
         return str(path)
 
     def records(self, count):
@@ -160,9 +162,11 @@ class Sitting:
         return str(path)
 
     def words(self, command, text, count, writers, live=0):
-        """The words of a command over so many packets, whose paths have all the nodes that they may need."""
+        """The words of a command over so many packets, whose paths have all the nodes that they need."""
         pathlib.Path(self.setup).write_text(text)
-        words = [self.program, command, "--setup", self.setup, "--writers", str(writers), "--nodes", str(NODES)]
+        words = [self.program, command, "--setup", self.setup, "--writers", str(writers)]
+        if "seq" in text or "key" in text:
+            words += ["--nodes", str(NODES)]
         if count > CAPACITY:
             words += ["--segments", str(-(-count // CAPACITY))]
         if command == "synth":
