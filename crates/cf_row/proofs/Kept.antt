@@ -1,19 +1,21 @@
 -- The values that words and lengths keep.
-use Rattle.std.proofs.Common.{◌≡◌, ℕ, zero, suc, ◌+◌, ◌-◌, ◌*◌, ◌^◌, ◌<◌, ◌≤◌, List, [], ◌∷◌, ◌++◌, length, map, set, get_or, take, drop, replicate, cond, Bool, true, false, ◌&&◌, nat_lt, refl, arith, ap, ap₂, sym, ◌∙◌, subst}
+use Rattle.std.proofs.Common.{◌≡◌, ℕ, zero, suc, ◌+◌, ◌-◌, ◌*◌, ◌^◌, ◌<◌, ◌≤◌, List, [], ◌∷◌, ◌++◌, length, map, min, set, get_or, take, drop, replicate, cond, Bool, true, false, ◌&&◌, nat_lt, inl, inr, refl, arith, ap, ap₂, sym, ◌∙◌, subst}
 use Rattle.std.specs.List.{list_all}
-use Rattle.std.proofs.lemmas.Bool.{and_from, ltb-true, lt-ltb}
-use Rattle.std.proofs.lemmas.List.{drop-drop, drop_more, drop_all, length-map, take_more, take_more_set, map-append, get_or_past, get_or-take, drop-take, length-take-le}
+use Rattle.std.proofs.lemmas.Bool.{and_from, ltb-true, lt-ltb, le-leb, cases_lt}
+use Rattle.std.proofs.lemmas.List.{drop-drop, drop_more, drop_all, length-map, take_more, take_more_set, map-append, get_or_past, get_or-take, drop-take, length-take-le, take_all, take_at, append-nil}
 use Rattle.cf_row.specs.declared.schema.Attr.{Attr}
 use Rattle.cf_row.specs.declared.schema.Kind.{Kind}
 use Rattle.cf_row.specs.declared.schema.Kind.TheVariants.{U8, U16, U32, U64, Bytes}
 use Rattle.cf_row.specs.declared.row.Value.{Value}
 use Rattle.cf_row.specs.declared.row.Value.TheVariants.{Num, Raw}
 use Rattle.cf_row.specs.Schema.{has_good_size}
-use Rattle.cf_row.specs.Words.{words_of_kind, word_count, big_bytes, value_read, values_read, word_fits, words_fit}
+use Rattle.cf_row.specs.Row.{is_of_kind, values_fit}
+use Rattle.cf_row.specs.Words.{words_of_kind, word_count, big_bytes, values_words, value_read, values_read, word_fits, words_fit}
 use Rattle.cf_row.specs.Kept.{len_of, kind_of, attrs_of, values_kept, AreKept}
 use Rattle.cf_row.proofs.Counts.{count_none, count_cons, count_low}
 use Rattle.cf_row.proofs.Bytes.{both}
-use Rattle.cf_row.proofs.Readable.{fit_cons, fit_none, read_cons, read_none}
+use Rattle.cf_row.proofs.Spelling.{string_of, values_long, values_back}
+use Rattle.cf_row.proofs.Readable.{fit_cons, fit_none, read_cons, read_none, values_fit_words, values_are_read}
 
 -- A kind that is read as another, and takes its words.
 record IsReadAs (k : Kind) (kept : Kind) : Type 0 where
@@ -226,3 +228,54 @@ alone_of attrs ws n count le fits =
     let alone = read_alone attrs ws fits in
     let cut = ap (λ (c : ℕ). take c ws) count in
     (ap (length {A = ℕ}) cut ∙ length-take-le (word_count attrs) ws le, ap (words_fit attrs) cut ∙ alone.fits, ap (values_read attrs) cut ∙ alone.read)
+
+-- the front of some words
+pub take_min : (n m : ℕ) (ws : List ℕ) → m ≡ min n (length ws) → take m ws ≡ take n ws
+take_min n m ws is = elim (cases_lt (length ws) n) [
+  | inl gt ↦ take_all m ws (omega (arith, is, gt)) ∙ sym (take_all n ws (omega (arith, gt)))
+  | inr le ↦ ap (λ (k : ℕ). take k ws) (let e : m ≡ n = omega (arith, is, le) in e)
+]
+
+-- the words of the values that are kept are those that are kept
+pub kept_words : (lens ws : List ℕ) → AreKept lens ws → values_words (values_kept lens ws) ≡ ws
+kept_words lens ws kept =
+    let long = kept.long in
+    (values_are_read (attrs_of lens) ws kept.sized (omega (arith, long)) kept.fits).words ∙ take_all (word_count (attrs_of lens)) ws (omega (arith, long))
+
+good_len : (n : ℕ) (v : Value) → is_of_kind (kind_of n) v ≡ true → has_good_size (kind_of n) ≡ true
+good_len zero v fits = refl
+good_len (suc k) (Num x) fits = absurd (cc fits)
+good_len (suc k) (Raw len bytes) fits =
+    let s = string_of (suc k) len bytes fits in
+    let same = s.same in
+    let few = s.few in
+    and_from _ _ (le-leb 1 (suc k) (omega arith)) (le-leb (suc k) 16 (omega (arith, same, few)))
+
+good_lens : (lens : List ℕ) (vs : List Value) → values_fit (attrs_of lens) vs ≡ true → list_all (λ attr. has_good_size attr.kind) (attrs_of lens) ≡ true
+good_lens [] vs fits = refl
+good_lens (x ∷ xs) [] fits = absurd (cc fits)
+good_lens (x ∷ xs) (v ∷ vs) fits = let c = both (is_of_kind (kind_of x) v) (values_fit (attrs_of xs) vs) fits in and_from _ _ (good_len x v c.0) (good_lens xs vs c.1)
+
+-- the words of values of these lengths keep them
+pub packed_kept : (lens ws : List ℕ) (vs : List Value) → length lens ≤ 24 → ws ≡ values_words vs → values_fit (attrs_of lens) vs ≡ true → AreKept lens ws × (values_kept lens ws ≡ vs)
+packed_kept lens ws vs few is fits =
+    let attrs : List Attr = attrs_of lens in
+    let long = values_long attrs vs fits in
+    let alone = read_alone attrs (values_words vs ++ 0 ∷ []) (values_fit_words attrs vs 0 fits (omega arith)) in
+    let cut : take (word_count attrs) (values_words vs ++ 0 ∷ []) ≡ values_words vs = take_at (values_words vs) (0 ∷ []) (word_count attrs) long in
+    let low : words_fit attrs (values_words vs) ≡ true = subst (λ (xs : List ℕ). words_fit attrs xs ≡ true) cut alone.fits in
+    let back : values_read attrs (values_words vs) ≡ vs = ap (values_read attrs) (sym (append-nil (values_words vs))) ∙ values_back attrs vs [] fits in
+    subst (λ (xs : List ℕ). AreKept lens xs × (values_kept lens xs ≡ vs)) (sym is) (record { few = few; sized = good_lens lens vs fits; long = long; fits = low }, back)
+
+fit_push : (lens : List ℕ) (vs : List Value) (n : ℕ) (v : Value) → values_fit (attrs_of lens) vs ≡ true → is_of_kind (kind_of n) v ≡ true → values_fit (attrs_of (lens ++ n ∷ [])) (vs ++ v ∷ []) ≡ true
+fit_push [] [] n v fits one = and_from _ _ one refl
+fit_push [] (y ∷ ys) n v fits one = absurd (cc fits)
+fit_push (x ∷ xs) [] n v fits one = absurd (cc fits)
+fit_push (x ∷ xs) (y ∷ ys) n v fits one = let c = both (is_of_kind (kind_of x) y) (values_fit (attrs_of xs) ys) fits in and_from _ _ c.0 (fit_push xs ys n v c.1 one)
+
+-- the next value is of the next length
+pub fit_more : (lens : List ℕ) (vs : List Value) (i n : ℕ) → i < length vs → i < length lens → is_of_kind (kind_of n) (get_or vs i (Num 0)) ≡ true
+    → values_fit (attrs_of (take i lens)) (take i vs) ≡ true → values_fit (attrs_of (take (i + 1) (set lens i n))) (take (i + 1) vs) ≡ true
+fit_more lens vs i n lt room one fits =
+    ap₂ (λ (xs : List ℕ) (ys : List Value). values_fit (attrs_of xs) ys) (take_more_set lens i n room) (take_more vs i (Num 0) lt)
+    ∙ fit_push (take i lens) (take i vs) n (get_or vs i (Num 0)) fits one

@@ -60,7 +60,7 @@ value_fits (Bytes k) (Raw len bytes) rest h =
     let s = string_of k len bytes h in
     subst (λ (n : ℕ). word_fits (Bytes n) (raw_words len bytes ++ rest) ≡ true) s.same (raw_fits len bytes rest s.few s.size s.low)
 
-values_fit_words : (attrs : List Attr) (vs : List Value) (tag : ℕ) → values_fit attrs vs ≡ true → tag < 2 ^ 36 → words_fit attrs (values_words vs ++ tag ∷ []) ≡ true
+pub values_fit_words : (attrs : List Attr) (vs : List Value) (tag : ℕ) → values_fit attrs vs ≡ true → tag < 2 ^ 36 → words_fit attrs (values_words vs ++ tag ∷ []) ≡ true
 values_fit_words [] [] tag h lt = fit_none (values_words [] ++ tag ∷ []) ∙ (ap (λ (ws : List ℕ). nat_lt (get_or (ws ++ tag ∷ []) 0 0) (2 ^ 36)) words_none ∙ lt-ltb tag (2 ^ 36) lt)
 values_fit_words [] (v ∷ vs) tag h lt = absurd (cc h)
 values_fit_words (a ∷ attrs) [] tag h lt = absurd (cc h)

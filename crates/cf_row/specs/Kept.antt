@@ -1,5 +1,5 @@
 -- How a row keeps its values.
-use Rattle.std.specs.Prelude.{◌≡◌, ℕ, ◌≤◌, zero, suc, true, List, [], length, map}
+use Rattle.std.specs.Prelude.{◌≡◌, ℕ, ◌≤◌, zero, suc, true, List, [], length, map, take}
 use Rattle.std.specs.List.{list_all}
 use Rattle.cf_row.specs.declared.schema.Attr.{Attr}
 use Rattle.cf_row.specs.declared.schema.Kind.{Kind}
@@ -7,6 +7,8 @@ use Rattle.cf_row.specs.declared.schema.Kind.TheVariants.{U8, U16, U32, U64, Byt
 use Rattle.cf_row.specs.declared.row.Value.{Value}
 use Rattle.cf_row.specs.declared.values.Values.{Values}
 use Rattle.cf_row.specs.declared.values.Values.TheVariants.{Listed, Spelled}
+use Rattle.cf_row.specs.declared.values.Words.{Words}
+use Rattle.cf_row.specs.declared.values.Words.TheVariants.{Few, Many}
 use Rattle.cf_row.specs.Schema.{has_good_size}
 use Rattle.cf_row.specs.Words.{word_count, values_read, words_fit}
 
@@ -37,6 +39,11 @@ pub record AreKept (lens words : List ℕ) : Type 0 where
   pub sized : list_all (λ attr. has_good_size attr.kind) (attrs_of lens) ≡ true
   pub long : length words ≡ word_count (attrs_of lens)
   pub fits : words_fit (attrs_of lens) words ≡ true
+
+-- the words that a row keeps, as a list
+abbrev pub words_in : Words → List ℕ
+words_in (Few words count) = take count words
+words_in (Many words) = words.items
 
 -- the values that a row keeps, as a list
 abbrev pub values_of : Values → List Value

@@ -188,7 +188,37 @@ fn words_spell_an_entry(rt: HostRuntime) -> Result<(), Fail> {
         let mut again = vec![in alloc; 0; word_count(&schema) + 1]?;
         words_of(&schema, &entry.row, 1, &mut again);
         assert_eq!(rt; again.as_slice(), wanted);
+        let packed = Row::packed(alloc, 1, &values[..count])?;
+        assert!(rt; fits(&schema, &packed));
+        words_of(&schema, &packed, 1, &mut again);
+        assert_eq!(rt; again.as_slice(), wanted);
     }
+    Ok(())
+}
+
+// rows that are kept within themselves, and those that aren't: with too many values or words, or a string of no byte
+#[test]
+fn a_packed_row_has_its_values(rt: HostRuntime) -> Result<(), Fail> {
+    let alloc = rt.alloc();
+    let mut many = [string_of(16); 12];
+    many[0] = Value::Num(3);
+    let table: [(&[Value], usize); 5] = [
+        (&[], 0),
+        (&[Value::Num(7), string_of(1), string_of(9)], 4),
+        (&many[..10], 19),
+        (&many, 23),
+        (&[Value::Num(5); 21], 21),
+    ];
+    for (values, count) in table {
+        let row = Row::packed(alloc, 2, values)?.copy(alloc)?;
+        assert_eq!(rt; (row.num(), row.values().len()), (2, values.len()));
+        assert!(rt;
+            are_alike(&row, &Row::new(2, values.to_vec(alloc)?)),
+            "{count} words"
+        );
+    }
+    let none = Row::packed(alloc, 2, &[string_of(0)])?;
+    assert_eq!(rt; none.value_at(0), string_of(0));
     Ok(())
 }
 

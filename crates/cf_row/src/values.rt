@@ -1,12 +1,14 @@
 // How a row keeps its values: as a list, or as the words that spell them.
-ghost use Rattle.std.specs.Prelude.{◌≡◌, ◌<◌, ◌≤◌, length, map, take, IfOk, slice_index_or, true};
+ghost use Rattle.std.specs.Prelude.{◌≡◌, ◌<◌, ◌≤◌, ◌++◌, length, map, take, IfOk, IfSome, slice_index_or, true};
 ghost use Rattle.std.specs.List.{list_all};
 ghost use Rattle.cf_row.specs.declared.row.Value.TheVariants.{Num};
+ghost use Rattle.cf_row.specs.Row.{is_of_kind as is_of_kind_of};
 ghost use Rattle.cf_row.specs.Schema.{has_good_size};
-ghost use Rattle.cf_row.specs.Words.{word_count, words_fit, values_read};
-ghost use Rattle.cf_row.specs.Kept.{len_of as len_of_kind, kind_of as kind_of_len, attrs_of, values_kept, AreKept, values_of};
+ghost use Rattle.cf_row.specs.Words.{word_count, words_fit, values_read, values_words};
+ghost use Rattle.cf_row.specs.Kept.{len_of as len_of_kind, kind_of as kind_of_len, attrs_of, values_kept, AreKept, values_of, words_in};
 
-use crate::words::{kind_words, read_value};
+use crate::row::is_of_kind;
+use crate::words::{kind_words, put_value, read_value};
 use crate::{Attr, Kind, Memory, Value};
 use std::alloc::Global;
 use std::marker::Model;
@@ -49,13 +51,62 @@ impl Values {
     }
 }
 
+/// How many words a row keeps within itself: those of a packet.
+const FEW: usize = 20;
+
+/// The words of a row: a few lie within it, more have a block of their own.
+#[derive(Debug, Drop)]
+pub(crate) enum Words {
+    // the words, and how many of them count
+    Few([u64; 20], u8),
+    Many(Vec<u64>),
+}
+
+impl Words {
+    fn new(alloc: Global, words: &[u64]) -> Result<Words, Memory>
+        ensures { IfOk result (λ kept. words_in kept ≡ words.now) }
+    {
+        if words.len() > FEW {
+            return Ok(Words::Many(words.to_vec(alloc)?));
+        }
+        let mut few = [0; FEW];
+        few[..words.len()].copy_from_slice(words);
+        Ok(Words::Few(few, words.len() as u8))
+    }
+
+    fn as_slice(&self) -> &[u64]
+        ensures { result.now ≡ words_in self.now }
+    {
+        match self {
+            Words::Few(words, count) => front(words, *count),
+            Words::Many(words) => words,
+        }
+    }
+
+    fn copy(&self, alloc: Global) -> Result<Words, Memory>
+        ensures { IfOk result (λ kept. words_in kept ≡ words_in self.now) }
+    {
+        match self {
+            Words::Few(words, count) => Ok(Words::Few(*words, *count)),
+            Words::Many(words) => Ok(Words::Many(words.to_vec(alloc)?)),
+        }
+    }
+}
+
+// The first words, all of them where there are fewer.
+fn front(words: &[u64; 20], count: u8) -> &[u64]
+    ensures { result.now ≡ take count words.now }
+{
+    &words[..usize::from(count).min(FEW)]
+}
+
 /// The words of values, and for each value how many bytes it has, 0 for a number.
 #[derive(Debug, Drop)]
 pub(crate) struct Spelling {
     lens: [u8; 24],
     // how many values there are
     count: u8,
-    words: Vec<u64>,
+    words: Words,
 }
 
 impl Model for Spelling {
@@ -65,11 +116,11 @@ impl Model for Spelling {
     ghost Value = { List ValueOf };
 
     ghost use Rattle.std.specs.Prelude.{take, length, ◌≤◌};
-    ghost use Rattle.cf_row.specs.Kept.{values_kept, AreKept};
+    ghost use Rattle.cf_row.specs.Kept.{values_kept, AreKept, words_in};
 
-    ghost view = { λ s. values_kept (take s.count s.lens) s.words.items };
+    ghost view = { λ s. values_kept (take s.count s.lens) (words_in s.words) };
 
-    ghost invariant = { λ s. AreKept (take s.count s.lens) s.words.items × (s.count ≤ length s.lens) };
+    ghost invariant = { λ s. AreKept (take s.count s.lens) (words_in s.words) × (s.count ≤ length s.lens) };
 }
 
 impl Spelling {
@@ -84,8 +135,42 @@ impl Spelling {
         Ok(Spelling {
             lens: lens_of(attrs),
             count: attrs.len() as u8,
-            words: words.to_vec(alloc)?,
+            words: Words::new(alloc, words)?,
         })
+    }
+
+    // These values, where they are few enough and each is a number or has 1 to 16 bytes.
+    pub(crate) fn of(values: &[Value]) -> Option<Spelling>
+        ensures { IfSome result (λ spelling. spelling ≡ values.now) }
+    {
+        if values.len() > FEW {
+            return None;
+        }
+        let mut lens = [0; 24];
+        let mut words = [0; FEW];
+        let mut at = 0;
+        for place in 0..values.len() {
+            let Some(len) = len_kept(values[place]) else {
+                return None;
+            };
+            if at + kind_words(kind_of(len)) > FEW {
+                return None;
+            }
+            lens[place] = len;
+            at = put_value(&values[place], &mut words, at);
+        }
+        Some(Spelling {
+            lens,
+            count: values.len() as u8,
+            words: Words::Few(words, at as u8),
+        })
+    }
+
+    // The words that spell the values.
+    pub(crate) fn words(&self) -> &[u64]
+        ensures { result.now ≡ values_words self.now }
+    {
+        self.words.as_slice()
     }
 
     fn len(&self) -> usize
@@ -97,13 +182,17 @@ impl Spelling {
     fn at(&self, place: usize) -> Value
         ensures { result ≡ slice_index_or self.now place (Num 0) }
     {
-        value_of(&self.lens[..usize::from(self.count)], &self.words, place)
+        value_of(
+            &self.lens[..usize::from(self.count)],
+            self.words.as_slice(),
+            place,
+        )
     }
 
     fn copy(&self, alloc: Global) -> Result<Spelling, Memory>
         ensures { IfOk result (λ spelling. spelling ≡ self.now) }
     {
-        let words = self.words.to_vec(alloc)?;
+        let words = self.words.copy(alloc)?;
         Ok(Spelling {
             lens: self.lens,
             count: self.count,
@@ -128,6 +217,21 @@ fn kind_of(len: u8) -> Kind
         return Kind::U64;
     }
     Kind::Bytes(len)
+}
+
+// The length that is kept for the value, if the value is of the kind that is kept for it.
+fn len_kept(value: Value) -> Option<u8>
+    ensures { IfSome result (λ len. is_of_kind_of (kind_of_len len) value ≡ true) }
+{
+    let len = match value {
+        Value::Num(_) => 0,
+        Value::Raw { len, .. } => len,
+    };
+    if is_of_kind(kind_of(len), value) {
+        Some(len)
+    } else {
+        None
+    }
 }
 
 fn lens_of(attrs: &[Attr]) -> [u8; 24]

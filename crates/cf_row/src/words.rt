@@ -54,7 +54,7 @@ fn big_number(bytes: &[u8]) -> u64
 }
 
 // Writes the words of a value from `at` on, and answers where they end.
-fn put_value(value: &Value, out: &mut [u64], at: usize) -> usize
+pub(crate) fn put_value(value: &Value, out: &mut [u64], at: usize) -> usize
     requires room { at + length (value_words value.now) ≤ length out.old }
     ensures end { result ≡ at + length (value_words value.now) }
     ensures words { take result out.new ≡ take at out.old ++ value_words value.now }
@@ -86,16 +86,38 @@ fn put_bytes(len: u8, bytes: &[u8; 16], out: &mut [u64], at: usize) -> usize
 }
 
 // Writes the words of the values, and answers where they end.
+fn put_list(values: &[Value], out: &mut [u64]) -> usize
+    requires room { length (values_words values.now) ≤ length out.old }
+    ensures end { result ≡ length (values_words values.now) }
+    ensures words { take result out.new ≡ values_words values.now }
+{
+    let mut at = 0;
+    for value in values {
+        at = put_value(value, out, at);
+    }
+    at
+}
+
+// Copies the words to the front, and answers where they end.
+fn put_words(words: &[u64], out: &mut [u64]) -> usize
+    requires room { length words.now ≤ length out.old }
+    ensures end { result ≡ length words.now }
+    ensures words { take result out.new ≡ words.now }
+{
+    out[..words.len()].copy_from_slice(words);
+    words.len()
+}
+
+// Writes the words of a row's values, and answers where they end.
 fn put_values(values: &Values, out: &mut [u64]) -> usize
     requires room { length (values_words (values_of values.now)) ≤ length out.old }
     ensures end { result ≡ length (values_words (values_of values.now)) }
     ensures words { take result out.new ≡ values_words (values_of values.now) }
 {
-    let mut at = 0;
-    for place in 0..values.len() {
-        at = put_value(&values.at(place), out, at);
+    match values {
+        Values::Listed(values) => put_list(values, out),
+        Values::Spelled(spelling) => put_words(spelling.words(), out),
     }
-    at
 }
 
 /// Writes the words of the entry of that row and writer: for each attribute one word with a number or up to 8 bytes as a
