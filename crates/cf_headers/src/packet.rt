@@ -63,6 +63,43 @@ fn transport_values(transport: Transport, frame: &[u8]) -> [Value; 6]
     }
 }
 
+// All values of a packet's row.
+fn packet_values(ts: u64, caplen: u32, len: u32, link: u16, bytes: &[u8]) -> [Value; 20]
+    ensures { result ≡ (packet_row_of (record { num = 0; ts = ts; caplen = caplen; len = len; link = link; bytes = bytes.now })).values }
+{
+    let header = link_header(link, bytes);
+    let ipv4 = has_ipv4(header.etype, header.network, bytes);
+    let transport = transport_of(ipv4, header.network, bytes);
+    let [dmac, smac] = address_values(link, bytes);
+    let [tos, iplen, ttl, proto, src, dst] = network_values(ipv4, header.network, bytes);
+    let [sport, dport, seq, ack, flags, win] = transport_values(transport, bytes);
+    let etype = Value::Num(u64::from(header.etype));
+    let kind = Value::Num(u64::from(kind_of(ipv4, transport)));
+    let vlan = Value::Num(u64::from(header.vlan));
+    [
+        Value::Num(ts),
+        Value::Num(u64::from(caplen)),
+        Value::Num(u64::from(len)),
+        dmac,
+        smac,
+        etype,
+        kind,
+        tos,
+        iplen,
+        ttl,
+        proto,
+        src,
+        dst,
+        sport,
+        dport,
+        seq,
+        ack,
+        flags,
+        win,
+        vlan,
+    ]
+}
+
 fn row_of(
     alloc: Global,
     num: u32,
@@ -75,20 +112,7 @@ fn row_of(
     ensures row { IfOk result (λ row. row ≡ packet_row_of (record { num = num; ts = ts; caplen = caplen; len = len; link = link; bytes = bytes.now })) }
     ensures fits { IfOk result (Fits packet_attrs) }
 {
-    let header = link_header(link, bytes);
-    let ipv4 = has_ipv4(header.etype, header.network, bytes);
-    let transport = transport_of(ipv4, header.network, bytes);
-    let mut values = Vec::with_capacity(alloc, 20)?;
-    values.push(Value::Num(ts))?;
-    values.push(Value::Num(caplen as u64))?;
-    values.push(Value::Num(len as u64))?;
-    values.extend_from_slice(&address_values(link, bytes))?;
-    values.push(Value::Num(header.etype as u64))?;
-    values.push(Value::Num(kind_of(ipv4, transport) as u64))?;
-    values.extend_from_slice(&network_values(ipv4, header.network, bytes))?;
-    values.extend_from_slice(&transport_values(transport, bytes))?;
-    values.push(Value::Num(header.vlan as u64))?;
-    Ok(Row::new(num, values))
+    Row::packed(alloc, num, &packet_values(ts, caplen, len, link, bytes))
 }
 
 /// The row of a captured packet, of the packet schema, with the packet's number. What isn't read is 0,

@@ -1,4 +1,6 @@
-use Rattle.std.proofs.Common.{◌≡◌, subst, sym, rules, arith}
+use Rattle.std.proofs.Common.{◌≡◌, List, ap, subst, sym, arith, ◌∙◌}
+use Rattle.std.proofs.lemmas.Result.{IfOk-weaker}
+use Rattle.cf_row.specs.declared.row.Value.{Value}
 use Rattle.cf_row.specs.Row.{RowValue, Fits}
 use Rattle.cf_row.specs.Schema.{packet_attrs}
 use Rattle.cf_pcap.specs.Capture.{FrameValue}
@@ -10,5 +12,5 @@ pub returns-clause-fits : goal.returns-clause-fits
 returns-clause-fits c =
     let packet : FrameValue = record { num = c.args.num; ts = c.args.ts; caplen = c.args.caplen; len = c.args.len; link = c.args.link; bytes = c.args.bytes.now } in
     let fits = packet_fits packet c.ranges.ts.fits c.ranges.caplen.fits c.ranges.len.fits (λ i. omega (arith, c.type_inv.bytes i)) in
-    let row : c.new.result ≡ packet_row_of packet = search rules in
-    subst (λ (row : RowValue). Fits packet_attrs row) (sym row) fits
+    let same : record { num = c.args.num; values = c.packet_values.result } ≡ packet_row_of packet = ap (λ (values : List Value). record { num = c.args.num; values = values }) c.packet_values.ensures in
+    IfOk-weaker c.packed.result (λ (row : RowValue). row ≡ record { num = c.args.num; values = c.packet_values.result }) (Fits packet_attrs) (λ row is. subst (λ (r : RowValue). Fits packet_attrs r) (sym (is ∙ same)) fits) c.packed.ensures
