@@ -1,11 +1,12 @@
 -- A row's paths: the spots of a key's prefixes, and the leaves in the lanes that select it.
-use Rattle.std.proofs.Common.{◌≡◌, ℕ, ◌+◌, ◌-◌, ◌*◌, ◌/◌, ◌%◌, ◌<◌, ◌≤◌, zero, suc, inl, inr, List, [], ◌∷◌, length, set, get_or, get_or-set_same, get_or-set_other, Bool, true, false, Option, Some, None, MatchOption, slice_index, refl, ap, sym, subst, ◌∙◌, arith}
+use Rattle.std.proofs.Common.{◌≡◌, ℕ, ◌+◌, ◌-◌, ◌*◌, ◌/◌, ◌%◌, ◌<◌, ◌≤◌, zero, suc, inl, inr, List, [], ◌∷◌, length, length-set, set, get_or, get_or-set_same, get_or-set_other, Bool, true, false, Option, Some, None, MatchOption, slice_get, slice_index, refl, ap, sym, subst, ◌∙◌, arith}
 use Rattle.std.proofs.lemmas.Bool.{cases_eq}
 use Rattle.cf_row.specs.Row.{RowValue}
 use Rattle.cf_shape.specs.Lanes.{ShapeValue, IsShape, selected_by, key_of}
 use Rattle.cf_shape.specs.Nodes.{levels_of}
 use Rattle.cf_shape.specs.Places.Slot.{root, body}
 use Rattle.cf_words.specs.Words.{Spot, spot}
+use Rattle.cf_words.proofs.Heads.{get_set_other}
 use Rattle.cf_law.specs.Nibbles.{nibbles}
 use Rattle.cf_law.specs.Passes.{Pass}
 use Rattle.cf_law.specs.Steps.{IsChild, Knows, Reaches}
@@ -13,8 +14,10 @@ use Rattle.cf_law.proofs.Paths.{path_some, path_none}
 use Rattle.cf_law.specs.Shapes.{layout, path_in}
 use Rattle.cf_law.proofs.Nibbles.{length-nibbles, nibbles_more}
 use Rattle.cf_table.specs.Values.{PassValue}
+use Rattle.cf_append.specs.declared.leaves.Leaf.{Leaf}
+use Rattle.cf_append.specs.declared.leaves.Leaves.{Leaves}
 use Rattle.cf_append.specs.declared.paths.Prefix.{Prefix}
-use Rattle.cf_append.specs.Paths.{Strides, IsPrefix, IsAlong, IsOnPath, IsStuck, IsNodeOf, IsLeafIn, HasLeaves, spot_of, spot_before, path_steps}
+use Rattle.cf_append.specs.Paths.{Strides, IsPrefix, IsAlong, IsOnPath, IsStuck, IsNodeOf, IsLeafIn, HasLeaves, Keeps, Remembers, spot_of, spot_before, path_steps}
 use Rattle.cf_append.proofs.Walking.{strides_none, stuck_by}
 
 no_nibbles : (k : ℕ) → nibbles 0 k ≡ []
@@ -134,6 +137,44 @@ leaves_more shape row p leaves k i leaf here low has is lane below last q leads 
       subst (λ (j : ℕ). IsNodeOf shape p (spot lane q) (slice_index (set leaves j leaf) lane)) (sym here)
       (subst (IsNodeOf shape p (spot lane q)) (sym (get_or-set_other leaves k lane leaf 0 other)) (has lane (omega (arith, below, other)) last q leads))
 ]
+
+-- the leaves that are kept
+set_here : {A : Type 0} (xs : List A) (i : ℕ) (x : A) → i < length xs → slice_get (set xs i x) i ≡ Some x
+set_here [] i x low = absurd (omega (arith, low))
+set_here (y ∷ ys) zero x low = refl
+set_here (y ∷ ys) (suc i) x low = set_here ys i x (omega (arith, low))
+
+pub remembers_still : (shape : ShapeValue) (p q : Pass) (leaves : Leaves) → ((s : Spot) (node : ℕ) → Knows p s node → Knows q s node) → Remembers shape p leaves → Remembers shape q leaves
+remembers_still shape p q leaves knows near = record {
+  long = near.long;
+  stands = λ lane front node low kept. (let there = near.stands lane front node low kept in record { knows = knows _ node there.knows; low = there.low });
+}
+
+pub knows_still : (p q : Pass) → q.known ≡ p.known → (s : Spot) (node : ℕ) → Knows p s node → Knows q s node
+knows_still p q same s node knows = (knows.0, ap (λ (known : List (Spot × ℕ)). slice_get known knows.0) same ∙ knows.1)
+
+pub remembers_more : (shape : ShapeValue) (p : Pass) (leaves : Leaves) (lane front node : ℕ) → lane < length shape.lanes → length shape.lanes ≤ 16 → Remembers shape p leaves → IsNodeOf shape p (spot lane (nibbles (levels_of shape lane - 1) front)) node
+    → Remembers shape p (record leaves { kept = set leaves.kept lane (Some record { front = front; node = node }) })
+remembers_more shape p leaves lane front node low few near there =
+    let long = near.long in
+    let x : Option Leaf = Some record { front = front; node = node } in
+    let inside : lane < length leaves.kept = omega (arith, low, few, long) in
+    record {
+      long = length-set leaves.kept lane x ∙ near.long;
+      stands = λ l f n below kept. elim (cases_eq l lane) [
+        | inl same ↦
+            let at : Some x ≡ Some (Some record { front = f; node = n }) = sym (set_here leaves.kept lane x inside) ∙ (ap (λ (j : ℕ). slice_get (set leaves.kept lane x) j) (sym same) ∙ kept) in
+            let is : record { front = front; node = node } ≡ record { front = f; node = n } = cc at in
+            subst (λ (j : ℕ). IsNodeOf shape p (spot j (nibbles (levels_of shape j - 1) f)) n) (sym same)
+            (subst (λ (h : Leaf). IsNodeOf shape p (spot lane (nibbles (levels_of shape lane - 1) h.front)) h.node) is there)
+        | inr other ↦ near.stands l f n below (sym (get_set_other leaves.kept lane l x other) ∙ kept)
+      ];
+    }
+
+pub kept_leaf : (shape : ShapeValue) (row : RowValue) (lane : ℕ) (at : Prefix) (p : Pass) (leaves : Leaves) (node : ℕ) → lane < length shape.lanes → IsWhole shape row lane at → Remembers shape p leaves → Keeps leaves lane at.front node → IsLeafIn shape row p lane node
+kept_leaf shape row lane at p leaves node low w near kept =
+    leaf_there shape row lane at p node w
+    (subst (λ (s : Spot). IsNodeOf shape p s node) (ap (λ (l : ℕ). spot l (nibbles (levels_of shape lane - 1) at.front)) (sym w.lane_is) ∙ ap (λ (k : ℕ). spot at.lane (nibbles k at.front)) (sym w.level)) (near.stands lane at.front node low kept))
 
 pub path_steps_none : (shape : ShapeValue) → path_steps shape 0 ≡ 0
 unfolding path_steps

@@ -79,6 +79,24 @@ counts_tail shape m n found made =
     let count = ap (λ (q : Pass). (q.look).count) told.is in
     omega (arith, same, count)
 
+-- the nodes that the pass knows stay the same
+sees_known : (n : ℕ) (es : List Entry) (p : Pass) → (pass_that_sees n es p).known ≡ p.known
+sees_known n es p = elim (cases_Bool (nat_lt (length p.seen) n)) [
+  | inl e ↦ ap (λ (b : Bool). (grown n es p b).known) e
+  | inr e ↦ ap (λ (b : Bool). (grown n es p b).known) e
+]
+
+pub known_tail : (shape : ShapeValue) (m n : PassValue) (found : ℕ) → HasStepped shape (tail_effect m.view false) m found n → (n.view).known ≡ (m.view).known
+known_tail shape m n found made = ap (λ (q : Pass). q.known) made.told.is ∙ sees_known found made.told.entries m.view
+
+pub known_look : (shape : ShapeValue) (m n : PassValue) (o found : ℕ) → HasStepped shape (done_effect shape m.view o) m found n → (n.view).known ≡ (m.view).known
+known_look shape m n o found made = ap (λ (q : Pass). q.known) made.told.is
+
+pub known_advance : (shape : ShapeValue) (m n : PassValue) (t : ℕ) → HasSteppedUnseen shape (advance_effect m.view t) m n → (n.view).known ≡ (m.view).known
+known_advance shape m n t stored =
+    let told = stored.made.told in
+    ap (λ (q : Pass). q.known) told.is ∙ sees_known (suc t) told.entries m.view
+
 pub goes_then : (m n o : PassValue) → GoesOn m n → GoesOn n o → GoesOn m o
 goes_then m n o a b = record {
   same = b.same ∙ ap (λ (h : PassValue). record h { view = o.view }) a.same;

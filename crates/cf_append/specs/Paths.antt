@@ -10,6 +10,7 @@ use Rattle.cf_law.specs.Passes.{Book, Pass}
 use Rattle.cf_law.specs.Steps.{Knows, Reaches}
 use Rattle.cf_law.specs.Shapes.{layout}
 use Rattle.cf_table.specs.Values.{PassValue, book_of}
+use Rattle.cf_append.specs.declared.leaves.Leaves.{Leaves}
 use Rattle.cf_append.specs.declared.paths.Prefix.{Prefix}
 
 -- the pass is the same one, has seen as much, has noted no ask, knows each node that it knew, and looked no fewer times
@@ -86,6 +87,15 @@ IsLeafIn shape row p lane node = (last : ℕ) (q : List ℕ) → (layout shape).
 -- in each of the first n lanes that selects the row the path is whole, down to these leaves
 abbrev pub HasLeaves : ShapeValue → RowValue → Pass → List ℕ → ℕ → Type 0
 HasLeaves shape row p leaves n = (lane : ℕ) → lane < n → IsLeafIn shape row p lane (slice_index leaves lane)
+
+-- the node is kept for a lane, as the leaf of keys with that front
+abbrev pub Keeps : Leaves → ℕ → ℕ → ℕ → Type 0
+Keeps leaves lane front node = slice_get leaves.kept lane ≡ Some (Some record { front = front; node = node })
+
+-- Each leaf that is kept for a lane of the shape is the node of its front: the keys' nibbles but the last.
+pub record Remembers (shape : ShapeValue) (pass : Pass) (leaves : Leaves) : Type 0 where
+  pub long : length leaves.kept ≡ 16
+  pub stands : (lane front node : ℕ) → lane < length shape.lanes → Keeps leaves lane front node → IsNodeOf shape pass (spot lane (nibbles (levels_of shape lane - 1) front)) node
 
 -- three steps for each node on a key's path, in the first n lanes
 unfoldable pub path_steps : ShapeValue → ℕ → ℕ

@@ -6,7 +6,9 @@ ghost use Rattle.cf_table.specs.Values.{IsOf, book_of};
 ghost use Rattle.cf_table.specs.Moves.{HasAll, SeenFirst};
 ghost use Rattle.cf_append.specs.Appends.{GoesOn, Stops, Rests, IsAnswered, flying};
 ghost use Rattle.cf_append.specs.Linking.{lane_steps};
+ghost use Rattle.cf_append.specs.Paths.{Remembers};
 
+use crate::leaves::Leaves;
 use crate::links::{fill_cells, link_all};
 use crate::paths::make_paths;
 use crate::settles::{move_tail, wait_for};
@@ -92,10 +94,35 @@ pub fn append<L: Ledger>(
     ensures alone { log.now.shape.writers ≡ 1 → IfOk result (λ _. HasAll pass.new.view) }
     ensures steps { steps.new ≤ steps.old + word_count_of log.now.shape.schema + 3 + lane_steps log.now.shape (length log.now.shape.lanes) + 2 * (length pass.new.view.seen - length pass.old.view.seen + 1) }
 {
+    append_near(log, pass, row, &mut Leaves::new(), steps)
+}
+
+/// As `append`, by a writer that keeps its last leaf in each lane: where that has the front of the row's key, its path isn't walked
+/// again.
+pub fn append_near<L: Ledger>(
+    log: &MultiLog,
+    pass: &mut WriterPass,
+    row: &Row,
+    leaves: &mut Leaves,
+    steps: &mut Steps<L>,
+) -> Result<u32, AppendFault>
+    requires of { IsOf pass.old log.now }
+    requires fits { Fits log.now.shape.schema row.now }
+    requires rest { Rests pass.old.view }
+    requires near { Remembers log.now.shape pass.old.view leaves.old }
+    ensures goes_on { GoesOn pass.old pass.new }
+    ensures rest { Rests pass.new.view }
+    ensures answer { IsAnswered log.now.shape row.now pass.old pass.new result }
+    ensures begins { (((book_of pass.old.view).over ≡ false) ⊎ SeenFirst pass.old.view) → SeenFirst pass.new.view }
+    ensures stops { IfOk result (λ _. Stops log.now.shape pass.old.view pass.new.view) }
+    ensures alone { log.now.shape.writers ≡ 1 → IfOk result (λ _. HasAll pass.new.view) }
+    ensures near { Remembers log.now.shape pass.new.view leaves.new }
+    ensures steps { steps.new ≤ steps.old + word_count_of log.now.shape.schema + 3 + lane_steps log.now.shape (length log.now.shape.lanes) + 2 * (length pass.new.view.seen - length pass.old.view.seen + 1) }
+{
     if pass.over() {
         return Err(AppendFault::Full);
     }
-    let Some(leaves) = make_paths(log, pass, row, steps) else {
+    let Some(filed) = make_paths(log, pass, row, leaves, steps) else {
         return Err(AppendFault::NodesFull);
     };
     let _number = row.num();
@@ -105,8 +132,8 @@ pub fn append<L: Ledger>(
     }
     let offset = found as u32;
     fill(log, pass, offset, row, steps);
-    fill_cells(log, pass, offset, row, &leaves, steps);
-    link_all(log, pass, offset, row, &leaves, steps);
+    fill_cells(log, pass, offset, row, &filed, steps);
+    link_all(log, pass, offset, row, &filed, steps);
     log.finish_record(pass, offset, steps);
     move_tail(log, pass, steps);
     Ok(offset)

@@ -15,7 +15,7 @@ use std::sync::ledger::{Blank, Ledger};
 use std::test::*;
 
 // a schema of times and of numbers of one byte
-fn schema(rt: &impl Abort, alloc: Global) -> Result<Schema, Memory> {
+pub(crate) fn schema(rt: &impl Abort, alloc: Global) -> Result<Schema, Memory> {
     let mut attrs = Vec::new(alloc);
     for (name, kind) in [("ts", Kind::U64), ("k", Kind::U8)] {
         attrs.push(Attr {
@@ -81,13 +81,13 @@ fn append_as<L: Ledger, R: Abort>(
 
 // A word of a ticket, as it is to be once all rows are appended.
 #[derive(Clone, Copy, Drop)]
-struct Stored {
-    offset: u32,
-    word: u8,
-    value: u64,
+pub(crate) struct Stored {
+    pub(crate) offset: u32,
+    pub(crate) word: u8,
+    pub(crate) value: u64,
 }
 
-fn find_stored<L: Ledger, R: Abort>(
+pub(crate) fn find_stored<L: Ledger, R: Abort>(
     rt: &R,
     log: &MultiLog,
     pass: &mut WriterPass,

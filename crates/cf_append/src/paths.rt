@@ -9,8 +9,9 @@ ghost use Rattle.cf_law.specs.Shapes.{layout as layout_of};
 ghost use Rattle.cf_table.specs.Values.{IsOf};
 ghost use Rattle.cf_table.specs.Moves.{SeenFirst};
 ghost use Rattle.cf_append.specs.Appends.{Rests};
-ghost use Rattle.cf_append.specs.Paths.{Strides, HasUsed, IsPrefix, IsAlong, IsOnPath, IsStuck, IsNodeOf, IsLeafIn, HasLeaves, spot_of, spot_before, path_steps};
+ghost use Rattle.cf_append.specs.Paths.{Strides, HasUsed, IsPrefix, IsAlong, IsOnPath, IsStuck, IsNodeOf, IsLeafIn, HasLeaves, Remembers, spot_of, spot_before, path_steps};
 
+use crate::leaves::Leaves;
 use cf_row::Row;
 use cf_shape::{key, levels, place_child, place_root, selects};
 use cf_table::{MultiLog, Steps, WriterPass};
@@ -145,23 +146,26 @@ fn make_node<L: Ledger>(
 }
 
 // The leaf of the row in a lane, after the path to it, and 0 where the lane doesn't select the row; none where a node is
-// missing and all own ones are used.
+// missing and all own ones are used. It is the kept one where that has the front of the row's key, else it is kept.
 fn make_path<L: Ledger>(
     log: &MultiLog,
     pass: &mut WriterPass,
     row: &Row,
     lane: u8,
+    leaves: &mut Leaves,
     steps: &mut Steps<L>,
 ) -> Option<u32>
     requires of { IsOf pass.old log.now }
     requires rest { Rests pass.old.view }
     requires fits { Fits log.now.shape.schema row.now }
     requires lane { lane < length log.now.shape.lanes }
+    requires near { Remembers log.now.shape pass.old.view leaves.old }
     ensures of { IsOf pass.new log.now }
     ensures rest { Rests pass.new.view }
     ensures strides { Strides pass.old pass.new }
     ensures used { HasUsed (IsOnPath log.now.shape row.now) pass.old pass.new }
     ensures answer { MatchOption result (IsStuck log.now.shape (IsOnPath log.now.shape row.now) pass.old pass.new) (IsLeafIn log.now.shape row.now pass.new.view lane) }
+    ensures near { Remembers log.now.shape pass.new.view leaves.new }
     ensures begins { IfNone result (SeenFirst pass.new.view) }
     ensures steps { steps.new ≤ steps.old + 3 * (levels_of log.now.shape lane - 1) }
 {
@@ -169,12 +173,20 @@ fn make_path<L: Ledger>(
     if !selects(shape, lane, row) {
         return Some(0);
     }
+    let front = key(shape, lane, row) / 16;
+    if let Some(leaf) = leaves.find(lane, front) {
+        return Some(leaf);
+    }
     let at = Prefix {
         lane,
         level: levels(shape, lane) - 1,
-        front: key(shape, lane, row) / 16,
+        front,
     };
-    make_node(log, pass, at, steps)
+    let Some(leaf) = make_node(log, pass, at, steps) else {
+        return None;
+    };
+    leaves.keep(lane, front, leaf);
+    Some(leaf)
 }
 
 /// The row's leaf in each lane that selects it, after the paths to them; none where a node is missing and all own ones are
@@ -183,26 +195,29 @@ pub(crate) fn make_paths<L: Ledger>(
     log: &MultiLog,
     pass: &mut WriterPass,
     row: &Row,
+    leaves: &mut Leaves,
     steps: &mut Steps<L>,
 ) -> Option<[u32; 16]>
     requires of { IsOf pass.old log.now }
     requires rest { Rests pass.old.view }
     requires fits { Fits log.now.shape.schema row.now }
+    requires near { Remembers log.now.shape pass.old.view leaves.old }
     ensures of { IsOf pass.new log.now }
     ensures rest { Rests pass.new.view }
     ensures strides { Strides pass.old pass.new }
     ensures used { HasUsed (IsOnPath log.now.shape row.now) pass.old pass.new }
-    ensures answer { MatchOption result (IsStuck log.now.shape (IsOnPath log.now.shape row.now) pass.old pass.new) (λ leaves. HasLeaves log.now.shape row.now pass.new.view leaves (length log.now.shape.lanes)) }
+    ensures answer { MatchOption result (IsStuck log.now.shape (IsOnPath log.now.shape row.now) pass.old pass.new) (λ filed. HasLeaves log.now.shape row.now pass.new.view filed (length log.now.shape.lanes)) }
+    ensures near { Remembers log.now.shape pass.new.view leaves.new }
     ensures begins { IfNone result (SeenFirst pass.new.view) }
     ensures steps { steps.new ≤ steps.old + path_steps log.now.shape (length log.now.shape.lanes) }
 {
     let lanes = log.shape().lanes().len() as u8;
-    let mut leaves = [0u32; 16];
+    let mut filed = [0u32; 16];
     for lane in 0..lanes {
-        let Some(leaf) = make_path(log, pass, row, lane, steps) else {
+        let Some(leaf) = make_path(log, pass, row, lane, leaves, steps) else {
             return None;
         };
-        leaves[usize::from(lane)] = leaf;
+        filed[usize::from(lane)] = leaf;
     }
-    Some(leaves)
+    Some(filed)
 }

@@ -22,6 +22,7 @@ pub(crate) fn move_tail<L: Ledger>(log: &MultiLog, pass: &mut WriterPass, steps:
     requires of { IsOf pass.old log.now }
     ensures goes_on { GoesOn pass.old pass.new }
     ensures books { pass.new.view.books ≡ pass.old.view.books }
+    ensures known { pass.new.view.known ≡ pass.old.view.known }
     ensures stops { Stops log.now.shape pass.old.view pass.new.view }
     ensures begins { SeenFirst pass.new.view }
     ensures fit { AreFit log.now.shape pass.new.view }

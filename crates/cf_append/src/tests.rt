@@ -157,7 +157,7 @@ fn begin<L: Ledger, R: Abort>(
 {
     assert!(rt; !pass.over());
     assert!(rt; offset < log.shape().capacity());
-    let Some(leaves) = make_paths(log, pass, row, steps) else {
+    let Some(leaves) = make_paths(log, pass, row, &mut Leaves::new(), steps) else {
         panic!(rt; "no node");
     };
     let _number = row.num();

@@ -11,7 +11,8 @@ loop-lane-init g c = record {
   strides = strides_none c.args.pass.now;
   used = used_same _ c.args.pass.now c.args.pass.now c.requires.rest refl;
   long = refl;
-  leaves = λ lane low last q leads. absurd (omega (arith, low));
+  filed = λ lane low last q leads. absurd (omega (arith, low));
+  near = c.requires.near;
   steps = omega (arith, path_steps_none c.args.log.now.shape);
 }
 
@@ -38,12 +39,13 @@ loop-lane-preserved g c =
     let n = c.loop-lane.pass in
     let o = c.make_path.new.pass in
     let went = c.make_path.ensures.strides in
-    let inside : k < length c.loop-lane.leaves = search rules in record {
+    let inside : k < length c.loop-lane.filed = search rules in record {
       of = c.make_path.ensures.of;
       rest = c.make_path.ensures.rest;
       strides = strides_then m n o c.loop-lane.invariant.strides went;
       used = used_then (IsOnPath s row) m n o c.loop-lane.invariant.used c.make_path.ensures.used;
       long = search rules;
-      leaves = leaves_more s row o.view c.loop-lane.leaves k c.from.result c.in-Some.leaf c.from.ensures inside (leaves_still s row n o c.loop-lane.leaves k went c.loop-lane.invariant.leaves) c.in-Some.ensures.answer;
+      filed = leaves_more s row o.view c.loop-lane.filed k c.from.result c.in-Some.leaf c.from.ensures inside (leaves_still s row n o c.loop-lane.filed k went c.loop-lane.invariant.filed) c.in-Some.ensures.answer;
+      near = c.make_path.ensures.near;
       steps = (let more = path_steps_more s k in let one = c.make_path.ensures.steps in let so_far = c.loop-lane.invariant.steps in let e : Rattle.std.proofs.Common.suc k ≡ k + 1 = omega arith in let f = ap (Rattle.cf_append.specs.Paths.path_steps s) e in omega (arith, more, one, so_far, f));
     }

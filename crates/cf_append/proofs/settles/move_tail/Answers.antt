@@ -4,7 +4,7 @@ use Rattle.cf_shape.specs.Places.{slot_of}
 use Rattle.cf_shape.specs.Places.Word.{done}
 use Rattle.cf_law.specs.Passes.{Pass, Look}
 use Rattle.cf_table.proofs.Settling.{moved_then, moved_look, moved_advance, may_advance}
-use Rattle.cf_append.proofs.Settling.{looked_seen, moved_tail, counts_tail, counts_look, keeps_look, advanced, all_alone, full_alone, look_fit, begins_long}
+use Rattle.cf_append.proofs.Settling.{looked_seen, moved_tail, counts_tail, counts_look, keeps_look, known_tail, known_look, known_advance, advanced, all_alone, full_alone, look_fit, begins_long}
 use Rattle.cf_append.proofs.settles.move_tail.Goals as goal
 
 pub advance-requires-clause-lawful : goal.advance-requires-clause-lawful
@@ -37,6 +37,7 @@ loop-pass-preserved g c =
     let same = ap (λ (l : Look). l.count) (keeps_look s n o t made) in
     let before = c.loop-pass.invariant.counts in record {
       moved = moved_then c.args.pass.now n o (moved_then c.args.pass.now m n c.loop-pass.invariant.moved (moved_look s m n t found look)) (moved_advance s n o t (omega (arith, seen, at)) made);
+      known = known_advance s n o t made ∙ (known_look s m n t found look ∙ c.loop-pass.invariant.known);
       counts = omega (arith, count, same, before);
       steps = (let more = advanced s n o t (omega (arith, seen, at)) made in let one = c.look_done.ensures.steps in let two = c.advance.ensures.steps in let so_far = c.loop-pass.invariant.steps in omega (arith, seen, at, more, one, two, so_far));
     }
@@ -48,6 +49,7 @@ loop-pass-init g c =
     let n = c.load_tail.new.pass in
     let moved = moved_tail s m n c.load_tail.result c.load_tail.ensures.made in record {
       moved = moved;
+      known = known_tail s m n c.load_tail.result c.load_tail.ensures.made;
       counts = counts_tail s m n c.load_tail.result c.load_tail.ensures.made;
       steps = (let one = c.load_tail.ensures.steps in let more = begins_long (m.view).seen (n.view).seen moved.longer in omega (arith, one, more));
     }
@@ -107,3 +109,9 @@ returns-then-not-look_done-clause-fit g c = look_fit c.args.log.now.shape c.loop
 
 pub returns-clause-fit : goal.returns-clause-fit
 returns-clause-fit g c = look_fit c.args.log.now.shape c.loop-pass.pass c.look_done-2.new.pass 0 (c.look_done-2.new.pass.view.look).value c.look_done-2.ensures.made
+
+pub returns-then-not-look_done-clause-known : goal.returns-then-not-look_done-clause-known
+returns-then-not-look_done-clause-known g c = known_look c.args.log.now.shape c.loop-pass.pass c.look_done.new.pass c.covered-t.result (c.look_done.new.pass.view.look).value c.look_done.ensures.made ∙ c.loop-pass.invariant.known
+
+pub returns-clause-known : goal.returns-clause-known
+returns-clause-known g c = known_look c.args.log.now.shape c.loop-pass.pass c.look_done-2.new.pass 0 (c.look_done-2.new.pass.view.look).value c.look_done-2.ensures.made ∙ c.loop-pass.invariant.known

@@ -8,6 +8,9 @@ use Rattle.cf_append.proofs.Cells.{linked_self}
 use Rattle.cf_append.proofs.Whole.{HasBegun, HasCells, begun_book, begun_self, begun_leaves, cells_self, cells_writer}
 use Rattle.cf_append.proofs.tests.begin.Goals as goal
 
+pub make_paths-requires-clause-near : goal.make_paths-requires-clause-near
+make_paths-requires-clause-near g c = c.new.ensures c.args.log.now.shape c.args.pass.now.view
+
 pub take_ticket-found-requires-clause-lawful : goal.take_ticket-found-requires-clause-lawful
 take_ticket-found-requires-clause-lawful g c =
     let is = c.num-number.ensures in

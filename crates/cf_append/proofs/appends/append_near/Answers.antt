@@ -1,0 +1,222 @@
+use Rattle.std.proofs.Common.{◌∙◌, inr, length, List, ap, sym, arith}
+use Rattle.cf_row.specs.declared.row.Entry.{Entry}
+use Rattle.cf_shape.specs.Lanes.{ShapeValue}
+use Rattle.cf_append.specs.Appends.{HasMade}
+use Rattle.cf_append.proofs.Appending.{may_begin}
+use Rattle.cf_append.proofs.Pathing.{leaves_still, remembers_still, knows_still}
+use Rattle.cf_append.proofs.Cells.{may_close}
+use Rattle.cf_append.proofs.Whole.{HasBegun, HasCells, HasEnded, begun_book, begun_self, begun_leaves, cells_self, cells_writer, ended_strides, appended, appended_stops, late, late_strides, all_steps, path_within}
+use Rattle.cf_append.proofs.appends.append_near.Goals as goal
+
+pub returns-in_default-clause-steps : goal.returns-in_default-clause-steps
+returns-in_default-clause-steps g c =
+    let s = c.args.log.now.shape in
+    let some = c.make_paths.ensures.steps in
+    omega (arith, some, path_within s (length s.lanes))
+
+pub take_ticket-found-requires-clause-lawful : goal.take_ticket-found-requires-clause-lawful
+take_ticket-found-requires-clause-lawful g c =
+    let is = c.num-number.ensures in
+    let low = c.num-number.type_inv in
+    let over = ap (λ b. b.over) (Rattle.cf_table.proofs.Mays.the_book c.make_paths.new.pass.view _ c.make_paths.ensures.used.books) in
+    may_begin c.args.log.now.shape c.make_paths.new.pass.view c.args.row.now c.requires.fits (omega (arith, is, low)) c.make_paths.ensures.rest (over ∙ (sym c.over.ensures ∙ c.if-over.false))
+
+pub returns-then-found-from-clause-answer : goal.returns-then-found-from-clause-answer
+returns-then-found-from-clause-answer g c =
+    let s = c.args.log.now.shape in
+    let row = c.args.row.now in
+    let m = c.args.pass.now in
+    let p = c.make_paths.new.pass in
+    let past = c.if-found-from.true in
+    let wide = c.from.ensures in
+    let room = c.capacity.ensures.capacity ∙ ap (λ (x : ShapeValue). x.capacity) c.shape.ensures.shape in
+    let P : HasMade s row m p = record { strides = c.make_paths.ensures.strides; used = c.make_paths.ensures.used; leaves = c.in-Some.filed; whole = c.in-Some.ensures.answer } in
+    inr (late s row m p c.take_ticket-found.new.pass c.take_ticket-found.result (sym c.over.ensures ∙ c.if-over.false) P (omega (arith, past, wide, room)) c.take_ticket-found.ensures.made)
+
+pub returns-then-found-from-clause-steps : goal.returns-then-found-from-clause-steps
+returns-then-found-from-clause-steps g c =
+    let s = c.args.log.now.shape in
+    let some = c.make_paths.ensures.steps in
+    let one = c.take_ticket-found.ensures.steps in
+    omega (arith, some, one, path_within s (length s.lanes))
+
+pub fill_cells-requires-clause-book : goal.fill_cells-requires-clause-book
+fill_cells-requires-clause-book g c =
+    let s = c.args.log.now.shape in
+    let row = c.args.row.now in
+    let low = c.if-found-from.false in
+    let wide = c.from.ensures in
+    let room = c.capacity.ensures.capacity ∙ ap (λ (x : ShapeValue). x.capacity) c.shape.ensures.shape in
+    let B : HasBegun s row c.make_paths.new.pass c.take_ticket-found.new.pass c.fill.new.pass c.take_ticket-found.result = record { room = omega (arith, low, wide, room); took = c.take_ticket-found.ensures.made; is = c.fill.ensures.pass } in
+    begun_book s row c.make_paths.new.pass c.take_ticket-found.new.pass c.fill.new.pass c.take_ticket-found.result B
+
+pub fill_cells-requires-clause-filled : goal.fill_cells-requires-clause-filled
+fill_cells-requires-clause-filled g c =
+    let s = c.args.log.now.shape in
+    let row = c.args.row.now in
+    let low = c.if-found-from.false in
+    let wide = c.from.ensures in
+    let room = c.capacity.ensures.capacity ∙ ap (λ (x : ShapeValue). x.capacity) c.shape.ensures.shape in
+    let B : HasBegun s row c.make_paths.new.pass c.take_ticket-found.new.pass c.fill.new.pass c.take_ticket-found.result = record { room = omega (arith, low, wide, room); took = c.take_ticket-found.ensures.made; is = c.fill.ensures.pass } in
+    begun_self s row c.make_paths.new.pass c.take_ticket-found.new.pass c.fill.new.pass c.take_ticket-found.result B
+
+pub fill_cells-requires-clause-leaves : goal.fill_cells-requires-clause-leaves
+fill_cells-requires-clause-leaves g c =
+    let s = c.args.log.now.shape in
+    let row = c.args.row.now in
+    let low = c.if-found-from.false in
+    let wide = c.from.ensures in
+    let room = c.capacity.ensures.capacity ∙ ap (λ (x : ShapeValue). x.capacity) c.shape.ensures.shape in
+    let B : HasBegun s row c.make_paths.new.pass c.take_ticket-found.new.pass c.fill.new.pass c.take_ticket-found.result = record { room = omega (arith, low, wide, room); took = c.take_ticket-found.ensures.made; is = c.fill.ensures.pass } in
+    begun_leaves s row c.make_paths.new.pass c.take_ticket-found.new.pass c.fill.new.pass c.take_ticket-found.result c.in-Some.filed (length s.lanes) B c.in-Some.ensures.answer
+
+pub link_all-requires-clause-writer : goal.link_all-requires-clause-writer
+link_all-requires-clause-writer g c =
+    let s = c.args.log.now.shape in
+    let row = c.args.row.now in
+    let low = c.if-found-from.false in
+    let wide = c.from.ensures in
+    let room = c.capacity.ensures.capacity ∙ ap (λ (x : ShapeValue). x.capacity) c.shape.ensures.shape in
+    let C : HasCells s row c.make_paths.new.pass c.take_ticket-found.new.pass c.fill.new.pass c.fill_cells.new.pass c.take_ticket-found.result = record {
+      begun = record { room = omega (arith, low, wide, room); took = c.take_ticket-found.ensures.made; is = c.fill.ensures.pass };
+      strides = c.fill_cells.ensures.strides;
+      filled = c.fill_cells.ensures.filled;
+    } in
+    cells_writer s row c.make_paths.new.pass c.take_ticket-found.new.pass c.fill.new.pass c.fill_cells.new.pass c.take_ticket-found.result C
+
+pub link_all-requires-clause-linked : goal.link_all-requires-clause-linked
+link_all-requires-clause-linked g c =
+    let s = c.args.log.now.shape in
+    let row = c.args.row.now in
+    let low = c.if-found-from.false in
+    let wide = c.from.ensures in
+    let room = c.capacity.ensures.capacity ∙ ap (λ (x : ShapeValue). x.capacity) c.shape.ensures.shape in
+    let C : HasCells s row c.make_paths.new.pass c.take_ticket-found.new.pass c.fill.new.pass c.fill_cells.new.pass c.take_ticket-found.result = record {
+      begun = record { room = omega (arith, low, wide, room); took = c.take_ticket-found.ensures.made; is = c.fill.ensures.pass };
+      strides = c.fill_cells.ensures.strides;
+      filled = c.fill_cells.ensures.filled;
+    } in
+    cells_self s row c.make_paths.new.pass c.take_ticket-found.new.pass c.fill.new.pass c.fill_cells.new.pass c.take_ticket-found.result C
+
+pub link_all-requires-clause-leaves : goal.link_all-requires-clause-leaves
+link_all-requires-clause-leaves g c =
+    let s = c.args.log.now.shape in
+    let row = c.args.row.now in
+    let low = c.if-found-from.false in
+    let wide = c.from.ensures in
+    let room = c.capacity.ensures.capacity ∙ ap (λ (x : ShapeValue). x.capacity) c.shape.ensures.shape in
+    let B : HasBegun s row c.make_paths.new.pass c.take_ticket-found.new.pass c.fill.new.pass c.take_ticket-found.result = record { room = omega (arith, low, wide, room); took = c.take_ticket-found.ensures.made; is = c.fill.ensures.pass } in
+    leaves_still s row c.fill.new.pass c.fill_cells.new.pass c.in-Some.filed (length s.lanes) c.fill_cells.ensures.strides
+    (begun_leaves s row c.make_paths.new.pass c.take_ticket-found.new.pass c.fill.new.pass c.take_ticket-found.result c.in-Some.filed (length s.lanes) B c.in-Some.ensures.answer)
+
+pub finish_record-requires-clause-lawful : goal.finish_record-requires-clause-lawful
+finish_record-requires-clause-lawful g c =
+    may_close c.args.log.now.shape c.fill_cells.new.pass c.link_all.new.pass c.take_ticket-found.result c.args.row.now c.shape.ensures.lawful c.link_all.ensures.linked
+
+pub returns-clause-answer : goal.returns-clause-answer
+returns-clause-answer g c =
+    let s = c.args.log.now.shape in
+    let row = c.args.row.now in
+    let m = c.args.pass.now in
+    let p = c.make_paths.new.pass in
+    let o = c.take_ticket-found.result in
+    let low = c.if-found-from.false in
+    let wide = c.from.ensures in
+    let room = c.capacity.ensures.capacity ∙ ap (λ (x : ShapeValue). x.capacity) c.shape.ensures.shape in
+    let P : HasMade s row m p = record { strides = c.make_paths.ensures.strides; used = c.make_paths.ensures.used; leaves = c.in-Some.filed; whole = c.in-Some.ensures.answer } in
+    let E : HasEnded s row p c.take_ticket-found.new.pass c.fill.new.pass c.fill_cells.new.pass c.link_all.new.pass c.finish_record.new.pass o = record {
+      cells = record {
+        begun = record { room = omega (arith, low, wide, room); took = c.take_ticket-found.ensures.made; is = c.fill.ensures.pass };
+        strides = c.fill_cells.ensures.strides;
+        filled = c.fill_cells.ensures.filled;
+      };
+      strides = c.link_all.ensures.strides;
+      linked = c.link_all.ensures.linked;
+      finishes = c.finish_record.ensures.made;
+    } in
+    appended s row m p c.take_ticket-found.new.pass c.fill.new.pass c.fill_cells.new.pass c.link_all.new.pass c.finish_record.new.pass c.move_tail.new.pass o (sym c.over.ensures ∙ c.if-over.false) P E c.move_tail.ensures.books c.move_tail.ensures.stops
+
+pub returns-clause-stops : goal.returns-clause-stops
+returns-clause-stops g c =
+    let s = c.args.log.now.shape in
+    let row = c.args.row.now in
+    let m = c.args.pass.now in
+    let p = c.make_paths.new.pass in
+    let o = c.take_ticket-found.result in
+    let low = c.if-found-from.false in
+    let wide = c.from.ensures in
+    let room = c.capacity.ensures.capacity ∙ ap (λ (x : ShapeValue). x.capacity) c.shape.ensures.shape in
+    let P : HasMade s row m p = record { strides = c.make_paths.ensures.strides; used = c.make_paths.ensures.used; leaves = c.in-Some.filed; whole = c.in-Some.ensures.answer } in
+    let E : HasEnded s row p c.take_ticket-found.new.pass c.fill.new.pass c.fill_cells.new.pass c.link_all.new.pass c.finish_record.new.pass o = record {
+      cells = record {
+        begun = record { room = omega (arith, low, wide, room); took = c.take_ticket-found.ensures.made; is = c.fill.ensures.pass };
+        strides = c.fill_cells.ensures.strides;
+        filled = c.fill_cells.ensures.filled;
+      };
+      strides = c.link_all.ensures.strides;
+      linked = c.link_all.ensures.linked;
+      finishes = c.finish_record.ensures.made;
+    } in
+    appended_stops s row m p c.take_ticket-found.new.pass c.fill.new.pass c.fill_cells.new.pass c.link_all.new.pass c.finish_record.new.pass c.move_tail.new.pass o P E c.move_tail.ensures.stops
+
+pub returns-then-found-from-clause-near : goal.returns-then-found-from-clause-near
+returns-then-found-from-clause-near g c =
+    let s = c.args.log.now.shape in
+    let row = c.args.row.now in
+    let p = c.make_paths.new.pass in
+    let t = c.take_ticket-found.new.pass in
+    remembers_still s p.view t.view c.make_paths.new.leaves (late_strides s p t c.take_ticket-found.result row c.take_ticket-found.ensures.made).knows c.make_paths.ensures.near
+
+pub returns-clause-near : goal.returns-clause-near
+returns-clause-near g c =
+    let s = c.args.log.now.shape in
+    let row = c.args.row.now in
+    let p = c.make_paths.new.pass in
+    let o = c.take_ticket-found.result in
+    let d = c.finish_record.new.pass in
+    let low = c.if-found-from.false in
+    let wide = c.from.ensures in
+    let room = c.capacity.ensures.capacity ∙ ap (λ (x : ShapeValue). x.capacity) c.shape.ensures.shape in
+    let E : HasEnded s row p c.take_ticket-found.new.pass c.fill.new.pass c.fill_cells.new.pass c.link_all.new.pass c.finish_record.new.pass o = record {
+      cells = record {
+        begun = record { room = omega (arith, low, wide, room); took = c.take_ticket-found.ensures.made; is = c.fill.ensures.pass };
+        strides = c.fill_cells.ensures.strides;
+        filled = c.fill_cells.ensures.filled;
+      };
+      strides = c.link_all.ensures.strides;
+      linked = c.link_all.ensures.linked;
+      finishes = c.finish_record.ensures.made;
+    } in
+    let went = ended_strides s row p c.take_ticket-found.new.pass c.fill.new.pass c.fill_cells.new.pass c.link_all.new.pass d o E in
+    remembers_still s d.view c.move_tail.new.pass.view c.make_paths.new.leaves (knows_still d.view c.move_tail.new.pass.view c.move_tail.ensures.known) (remembers_still s p.view d.view c.make_paths.new.leaves went.knows c.make_paths.ensures.near)
+
+pub returns-clause-steps : goal.returns-clause-steps
+returns-clause-steps g c =
+    let s = c.args.log.now.shape in
+    let row = c.args.row.now in
+    let p = c.make_paths.new.pass in
+    let o = c.take_ticket-found.result in
+    let low = c.if-found-from.false in
+    let wide = c.from.ensures in
+    let room = c.capacity.ensures.capacity ∙ ap (λ (x : ShapeValue). x.capacity) c.shape.ensures.shape in
+    let E : HasEnded s row p c.take_ticket-found.new.pass c.fill.new.pass c.fill_cells.new.pass c.link_all.new.pass c.finish_record.new.pass o = record {
+      cells = record {
+        begun = record { room = omega (arith, low, wide, room); took = c.take_ticket-found.ensures.made; is = c.fill.ensures.pass };
+        strides = c.fill_cells.ensures.strides;
+        filled = c.fill_cells.ensures.filled;
+      };
+      strides = c.link_all.ensures.strides;
+      linked = c.link_all.ensures.linked;
+      finishes = c.finish_record.ensures.made;
+    } in
+    let before = ap (λ (es : List Entry). length es) c.make_paths.ensures.strides.seen in
+    let after = ap (λ (es : List Entry). length es) (ended_strides s row p c.take_ticket-found.new.pass c.fill.new.pass c.fill_cells.new.pass c.link_all.new.pass c.finish_record.new.pass o E).seen in
+    let one = c.make_paths.ensures.steps in
+    let two = c.take_ticket-found.ensures.steps in
+    let three = c.fill.ensures.steps in
+    let four = c.fill_cells.ensures.steps in
+    let five = c.link_all.ensures.steps in
+    let six = c.finish_record.ensures.steps in
+    let seven = c.move_tail.ensures.steps in
+    let all = all_steps s (length s.lanes) c.shape.ensures.lawful (omega arith) in
+    omega (arith, before, after, one, two, three, four, five, six, seven, all)
