@@ -1,5 +1,6 @@
 -- A row's paths: the spots of a key's prefixes, and the leaves in the lanes that select it.
-use Rattle.std.proofs.Common.{◌≡◌, ℕ, ◌+◌, ◌-◌, ◌*◌, ◌/◌, ◌%◌, ◌<◌, ◌≤◌, zero, suc, inl, inr, List, [], ◌∷◌, length, length-set, set, get_or, get_or-set_same, get_or-set_other, Bool, true, false, Option, Some, None, MatchOption, slice_get, slice_index, refl, ap, sym, subst, ◌∙◌, arith}
+use Rattle.std.proofs.Common.{◌≡◌, ℕ, ◌+◌, ◌-◌, ◌*◌, ◌/◌, ◌%◌, ◌<◌, ◌≤◌, zero, suc, inl, inr, List, [], ◌∷◌, length, length-set, set, get_or-set_same, get_or-set_other, map, replicate, Bool, true, false, Option, Some, None, slice_get, slice_index_or, refl, ap, sym, subst, ◌∙◌, arith}
+use Rattle.std.proofs.Math.ListN.{get_or-map}
 use Rattle.std.proofs.lemmas.Bool.{cases_eq}
 use Rattle.cf_row.specs.Row.{RowValue}
 use Rattle.cf_shape.specs.Lanes.{ShapeValue, IsShape, selected_by, key_of}
@@ -14,11 +15,12 @@ use Rattle.cf_law.proofs.Paths.{path_some, path_none}
 use Rattle.cf_law.specs.Shapes.{layout, path_in}
 use Rattle.cf_law.proofs.Nibbles.{length-nibbles, nibbles_more}
 use Rattle.cf_table.specs.Values.{PassValue}
+use Rattle.cf_shape.proofs.KeyLevels.{levels_two}
 use Rattle.cf_append.specs.declared.leaves.Leaf.{Leaf}
 use Rattle.cf_append.specs.declared.leaves.Leaves.{Leaves}
+use Rattle.cf_append.specs.declared.paths.Filing.{Filing}
 use Rattle.cf_append.specs.declared.paths.Prefix.{Prefix}
-use Rattle.cf_append.specs.Paths.{Strides, IsPrefix, IsAlong, IsOnPath, IsStuck, IsNodeOf, IsLeafIn, HasLeaves, Keeps, Remembers, spot_of, spot_before, path_steps}
-use Rattle.cf_append.proofs.Walking.{strides_none, stuck_by}
+use Rattle.cf_append.specs.Paths.{Strides, IsPrefix, IsAlong, IsOnPath, IsNodeOf, IsLeafIn, HasLeaves, IsFiled, IsFiledIn, HasFilings, Remembers, spot_of, spot_before, path_steps}
 
 no_nibbles : (k : ℕ) → nibbles 0 k ≡ []
 unfolding nibbles
@@ -110,33 +112,83 @@ on_path shape row lane at w s a = record {
   is = ap (λ (l : ℕ). path_in shape row l) (a.lane ∙ w.lane_is) ∙ (whole_path shape row lane at w ∙ ap (λ (q : List ℕ). Some (key_of shape lane row % 16 ∷ q)) a.is);
 }
 
-pub leaf_there : (shape : ShapeValue) (row : RowValue) (lane : ℕ) (at : Prefix) (p : Pass) (node : ℕ) → IsWhole shape row lane at → IsNodeOf shape p (spot_of at) node → IsLeafIn shape row p lane node
-leaf_there shape row lane at p node w found last q leads =
-    let same : ◌≡◌ {A = Option (List ℕ)} (Some (key_of shape lane row % 16 ∷ nibbles at.level at.front)) (Some (last ∷ q)) = sym (whole_path shape row lane at w) ∙ leads in
-    let is : nibbles at.level at.front ≡ q = cc same in
-    subst (λ (s : Spot). IsNodeOf shape p s node) (ap (λ (l : ℕ). spot l (nibbles at.level at.front)) w.lane_is ∙ ap (λ (r : List ℕ). spot lane r) is) found
+pub whole_at : (s h : ShapeValue) (row : RowValue) (lane level key : ℕ) → h ≡ s → IsShape s → lane < length s.lanes → selected_by s lane row ≡ true → level ≡ levels_of h lane → key ≡ key_of h lane row → IsWhole s row lane (record { lane = lane; level = level - 1; front = key / 16 })
+whole_at s h row lane level key same is low selects levels keys = record {
+  selects = selects;
+  many = levels_two s lane is low;
+  lane_is = refl;
+  level = ap (λ (n : ℕ). n - 1) (levels ∙ ap (λ (x : ShapeValue). levels_of x lane) same);
+  front = ap (λ (k : ℕ). k / 16) (keys ∙ ap (λ (x : ShapeValue). key_of x lane row) same);
+}
 
-pub leaf_nowhere : (shape : ShapeValue) (row : RowValue) (lane : ℕ) (p : Pass) → selected_by shape lane row ≡ false → IsLeafIn shape row p lane 0
-leaf_nowhere shape row lane p passes last q leads = absurd (cc (sym (path_none shape row lane passes) ∙ leads))
-
--- the leaves so far
+-- what files the row, so far
 pub node_still : (shape : ShapeValue) (m n : PassValue) (s : Spot) (node : ℕ) → Strides m n → IsNodeOf shape m.view s node → IsNodeOf shape n.view s node
 node_still shape m n s node went is = record { knows = went.knows s node is.knows; low = is.low }
 
-pub leaves_still : (shape : ShapeValue) (row : RowValue) (m n : PassValue) (leaves : List ℕ) (k : ℕ) → Strides m n → HasLeaves shape row m.view leaves k → HasLeaves shape row n.view leaves k
-leaves_still shape row m n leaves k went has lane low last q leads = node_still shape m n (spot lane q) (slice_index leaves lane) went (has lane low last q leads)
+filed_still : (shape : ShapeValue) (row : RowValue) (lane : ℕ) (m n : PassValue) (filing : Option Filing) → Strides m n → IsFiledIn shape row m.view lane filing → IsFiledIn shape row n.view lane filing
+filed_still shape row lane m n (Some f) went is = record { selects = is.selects; key = is.key; node = node_still shape m n (spot lane (nibbles (levels_of shape lane - 1) (f.key / 16))) f.leaf went is.node }
+filed_still shape row lane m n None went passes = passes
 
-pub leaves_more : (shape : ShapeValue) (row : RowValue) (p : Pass) (leaves : List ℕ) (k i leaf : ℕ) → i ≡ k → k < length leaves → HasLeaves shape row p leaves k → IsLeafIn shape row p k leaf → HasLeaves shape row p (set leaves i leaf) (k + 1)
-leaves_more shape row p leaves k i leaf here low has is lane below last q leads = elim (cases_eq lane k) [
-  | inl same ↦
-      let at : leaf ≡ slice_index (set leaves k leaf) lane = sym (get_or-set_same leaves k leaf 0 low) ∙ ap (λ (j : ℕ). get_or (set leaves k leaf) j 0) (sym same) in
-      let there : path_in shape row k ≡ Some (last ∷ q) = ap (λ (j : ℕ). path_in shape row j) (sym same) ∙ leads in
-      subst (λ (j : ℕ). IsNodeOf shape p (spot lane q) (slice_index (set leaves j leaf) lane)) (sym here)
-      (subst (λ (j : ℕ). IsNodeOf shape p (spot j q) (slice_index (set leaves k leaf) lane)) (sym same) (subst (IsNodeOf shape p (spot k q)) at (is last q there)))
-  | inr other ↦
-      subst (λ (j : ℕ). IsNodeOf shape p (spot lane q) (slice_index (set leaves j leaf) lane)) (sym here)
-      (subst (IsNodeOf shape p (spot lane q)) (sym (get_or-set_other leaves k lane leaf 0 other)) (has lane (omega (arith, below, other)) last q leads))
+pub filings_still : (shape : ShapeValue) (row : RowValue) (m n : PassValue) (filed : List (Option Filing)) (k : ℕ) → Strides m n → HasFilings shape row m.view filed k → HasFilings shape row n.view filed k
+filings_still shape row m n filed k went has lane low = filed_still shape row lane m n (slice_index_or filed lane None) went (has lane low)
+
+pub filings_more : (shape : ShapeValue) (row : RowValue) (p : Pass) (filed : List (Option Filing)) (k i : ℕ) (f : Filing) → i ≡ k → k < length filed → HasFilings shape row p filed k → IsFiled shape row p k f → HasFilings shape row p (set filed i (Some f)) (k + 1)
+filings_more shape row p filed k i f here low has is =
+    let x : Option Filing = Some f in
+    subst (λ (j : ℕ). HasFilings shape row p (set filed j x) (k + 1)) (sym here) (λ lane below. elim (cases_eq lane k) [
+      | inl same ↦ subst (λ (j : ℕ). IsFiledIn shape row p j (slice_index_or (set filed k x) j None)) (sym same) (subst (IsFiledIn shape row p k) (sym (get_or-set_same filed k x None low)) is)
+      | inr other ↦ subst (IsFiledIn shape row p lane) (sym (get_or-set_other filed k lane x None other)) (has lane (omega (arith, below, other)))
+    ])
+
+pub filings_pass : (shape : ShapeValue) (row : RowValue) (p : Pass) (filed : List (Option Filing)) (k : ℕ) → HasFilings shape row p filed k → slice_index_or filed k None ≡ None → selected_by shape k row ≡ false → HasFilings shape row p filed (k + 1)
+filings_pass shape row p filed k has none passes lane below = elim (cases_eq lane k) [
+  | inl same ↦ subst (λ (j : ℕ). IsFiledIn shape row p j (slice_index_or filed j None)) (sym same) (subst (IsFiledIn shape row p k) (sym none) passes)
+  | inr other ↦ has lane (omega (arith, below, other))
 ]
+
+pub filed_some : (shape : ShapeValue) (row : RowValue) (p : Pass) (lane : ℕ) (filing : Option Filing) (f : Filing) → filing ≡ Some f → IsFiledIn shape row p lane filing → IsFiled shape row p lane f
+filed_some shape row p lane filing f is filed = subst (IsFiledIn shape row p lane) is filed
+
+pub filed_none : (shape : ShapeValue) (row : RowValue) (p : Pass) (lane : ℕ) (filing : Option Filing) → filing ≡ None → IsFiledIn shape row p lane filing → selected_by shape lane row ≡ false
+filed_none shape row p lane filing is filed = subst (IsFiledIn shape row p lane) is filed
+
+-- none is filed in a lane from k on
+abbrev pub AreEmpty : List (Option Filing) → ℕ → Type 0
+AreEmpty filed k = (lane : ℕ) → k ≤ lane → slice_index_or filed lane None ≡ None
+
+abbrev no_filing : Option Filing
+no_filing = None
+
+none_at : (n lane : ℕ) → slice_index_or (replicate n no_filing) lane no_filing ≡ no_filing
+none_at zero lane = refl
+none_at (suc n) zero = refl
+none_at (suc n) (suc lane) = none_at n lane
+
+pub empty_first : AreEmpty (replicate 16 None) 0
+empty_first lane from = none_at 16 lane
+
+pub empty_more : (filed : List (Option Filing)) (k i : ℕ) (x : Option Filing) → i ≡ k → AreEmpty filed k → AreEmpty (set filed i x) (k + 1)
+empty_more filed k i x here empty lane from = get_or-set_other filed i lane x None (λ same. absurd (omega (arith, same, here, from))) ∙ empty lane (omega (arith, from))
+
+-- the row's path in a lane where it is filed, and its leaves
+pub filed_path : (shape : ShapeValue) (row : RowValue) (lane : ℕ) (p : Pass) (f : Filing) → 1 < levels_of shape lane → IsFiled shape row p lane f → path_in shape row lane ≡ Some (f.key % 16 ∷ nibbles (levels_of shape lane - 1) (f.key / 16))
+filed_path shape row lane p f many is =
+    path_some shape row lane is.selects ∙ (ap (λ (k : ℕ). Some (nibbles (levels_of shape lane) k)) (sym is.key) ∙ ap (λ (q : List ℕ). Some q) (nibbles_before (levels_of shape lane) f.key (omega (arith, many))))
+
+abbrev pub leaf_of : Option Filing → ℕ
+leaf_of (Some f) = f.leaf
+leaf_of None = 0
+
+filed_leaf : (shape : ShapeValue) (row : RowValue) (lane : ℕ) (p : Pass) (filing : Option Filing) → 1 < levels_of shape lane → IsFiledIn shape row p lane filing → IsLeafIn shape row p lane (leaf_of filing)
+filed_leaf shape row lane p (Some f) many is last q leads =
+    let same : ◌≡◌ {A = Option (List ℕ)} (Some (f.key % 16 ∷ nibbles (levels_of shape lane - 1) (f.key / 16))) (Some (last ∷ q)) = sym (filed_path shape row lane p f many is) ∙ leads in
+    let rest : nibbles (levels_of shape lane - 1) (f.key / 16) ≡ q = cc same in
+    subst (λ (r : List ℕ). IsNodeOf shape p (spot lane r) f.leaf) rest is.node
+filed_leaf shape row lane p None many passes last q leads = absurd (cc (sym (path_none shape row lane passes) ∙ leads))
+
+pub filings_leaves : (shape : ShapeValue) (row : RowValue) (p : Pass) (filed : List (Option Filing)) (n : ℕ) → IsShape shape → n ≤ length shape.lanes → HasFilings shape row p filed n → HasLeaves shape row p (map leaf_of filed) n
+filings_leaves shape row p filed n is le has lane low =
+    subst (IsLeafIn shape row p lane) (sym (get_or-map leaf_of filed lane no_filing)) (filed_leaf shape row lane p (slice_index_or filed lane None) (levels_two shape lane is (omega (arith, low, le))) (has lane low))
 
 -- the leaves that are kept
 set_here : {A : Type 0} (xs : List A) (i : ℕ) (x : A) → i < length xs → slice_get (set xs i x) i ≡ Some x
@@ -171,11 +223,6 @@ remembers_more shape p leaves lane front node low few near there =
       ];
     }
 
-pub kept_leaf : (shape : ShapeValue) (row : RowValue) (lane : ℕ) (at : Prefix) (p : Pass) (leaves : Leaves) (node : ℕ) → lane < length shape.lanes → IsWhole shape row lane at → Remembers shape p leaves → Keeps leaves lane at.front node → IsLeafIn shape row p lane node
-kept_leaf shape row lane at p leaves node low w near kept =
-    leaf_there shape row lane at p node w
-    (subst (λ (s : Spot). IsNodeOf shape p s node) (ap (λ (l : ℕ). spot l (nibbles (levels_of shape lane - 1) at.front)) (sym w.lane_is) ∙ ap (λ (k : ℕ). spot at.lane (nibbles k at.front)) (sym w.level)) (near.stands lane at.front node low kept))
-
 pub path_steps_none : (shape : ShapeValue) → path_steps shape 0 ≡ 0
 unfolding path_steps
 path_steps_none shape = refl
@@ -191,15 +238,6 @@ path_steps_up shape j (suc k) le = elim (cases_eq j (suc k)) [
   | inr other ↦ (let up = path_steps_up shape j k (omega (arith, le, other)) in omega (arith, up, path_steps_more shape k))
 ]
 
-pub leaf_or : (shape : ShapeValue) (row : RowValue) (lane : ℕ) (at : Prefix) (m n : PassValue) (r : Option ℕ) → IsWhole shape row lane at → MatchOption r (IsStuck shape (IsAlong at) m n) (IsNodeOf shape n.view (spot_of at)) → MatchOption r (IsStuck shape (IsOnPath shape row) m n) (IsLeafIn shape row n.view lane)
-leaf_or shape row lane at m n None w a = stuck_by shape (IsAlong at) (IsOnPath shape row) m m n (on_path shape row lane at w) (strides_none m) a
-leaf_or shape row lane at m n (Some node) w a = leaf_there shape row lane at n.view node w a
-
--- the path by what the shape's functions said
+-- whether the lane selects the row, by what the shape's function said
 pub selected_there : (s h : ShapeValue) (row : RowValue) (lane : ℕ) (takes answer : Bool) → h ≡ s → takes ≡ selected_by h lane row → takes ≡ answer → selected_by s lane row ≡ answer
 selected_there s h row lane takes answer same is told = ap (λ (x : ShapeValue). selected_by x lane row) (sym same) ∙ (sym is ∙ told)
-
-pub row_path : (s h : ShapeValue) (row : RowValue) (lane key : ℕ) → h ≡ s → selected_by s lane row ≡ true → key ≡ key_of h lane row → 1 < levels_of s lane → path_in s row lane ≡ Some (key % 16 ∷ nibbles (levels_of s lane - 1) (key / 16))
-row_path s h row lane key same takes is many =
-    path_some s row lane takes ∙ (ap (λ (k : ℕ). Some (nibbles (levels_of s lane) k)) (ap (λ (x : ShapeValue). key_of x lane row) (sym same) ∙ sym is)
-    ∙ ap (λ (q : List ℕ). Some q) (nibbles_before (levels_of s lane) key (omega (arith, many))))

@@ -1,5 +1,5 @@
 -- The steps of an append, put together.
-use Rattle.std.proofs.Common.{◌≡◌, ℕ, ◌+◌, ◌*◌, ◌<◌, ◌≤◌, zero, suc, inl, inr, List, [], ◌∷◌, length, Bool, true, false, cond, slice_get, take, refl, ap, sym, ◌∙◌, arith}
+use Rattle.std.proofs.Common.{◌≡◌, ℕ, ◌+◌, ◌*◌, ◌<◌, ◌≤◌, zero, suc, inl, inr, List, [], ◌∷◌, length, Bool, true, false, cond, Option, slice_get, take, refl, ap, sym, ◌∙◌, arith}
 use Rattle.std.proofs.Math.Seq.{take-length}
 use Rattle.std.specs.Bool.{nat_lt}
 use Rattle.std.proofs.lemmas.Bool.{cases_lt}
@@ -18,13 +18,14 @@ use Rattle.cf_table.specs.Effects.{HasStepped, HasSteppedUnseen, take_effect, fi
 use Rattle.cf_table.proofs.Mays.{the_book}
 use Rattle.cf_table.specs.Moves.{SeenFirst}
 use Rattle.cf_append.specs.Appends.{GoesOn, Stops, Rests, HasMade, IsAppended, IsLate, with_own, flying, marked}
-use Rattle.cf_append.specs.Paths.{Strides, HasLeaves, with_nodes, path_steps}
+use Rattle.cf_append.specs.Paths.{Strides, HasFilings, with_nodes, path_steps}
+use Rattle.cf_append.specs.declared.paths.Filing.{Filing}
 use Rattle.cf_append.specs.Linking.{HasFilled, HasLinked, IsBookOf, lane_steps}
 use Rattle.cf_append.proofs.Appending.{began, rests_by}
 use Rattle.cf_append.proofs.Settling.{stops_since}
 use Rattle.cf_shape.proofs.KeyLevels.{levels_two}
 use Rattle.cf_append.proofs.Walking.{strides_by, strides_then}
-use Rattle.cf_append.proofs.Pathing.{leaves_still, path_steps_none, path_steps_more}
+use Rattle.cf_append.proofs.Pathing.{filings_still, path_steps_none, path_steps_more}
 use Rattle.cf_append.proofs.Cells.{filled_self, filled_then, linked_begin, linked_self, linked_then, closed_books, close_strides}
 
 pub goes_by : (m n : PassValue) → Strides m n → GoesOn m n
@@ -90,8 +91,8 @@ begun_book shape row p t f o B =
       few = omega (arith, few, long);
     }
 
-pub begun_leaves : (shape : ShapeValue) (row : RowValue) (p t f : PassValue) (o : ℕ) (leaves : List ℕ) (k : ℕ) → HasBegun shape row p t f o → HasLeaves shape row p.view leaves k → HasLeaves shape row f.view leaves k
-begun_leaves shape row p t f o leaves k B has = leaves_still shape row p f leaves k (begun_strides shape row p t f o B) has
+pub begun_filings : (shape : ShapeValue) (row : RowValue) (p t f : PassValue) (o : ℕ) (filed : List (Option Filing)) (k : ℕ) → HasBegun shape row p t f o → HasFilings shape row p.view filed k → HasFilings shape row f.view filed k
+begun_filings shape row p t f o filed k B has = filings_still shape row p f filed k (begun_strides shape row p t f o B) has
 
 -- the cells are stored
 pub record HasCells (shape : ShapeValue) (row : RowValue) (p t f c : PassValue) (o : ℕ) : Type 0 where

@@ -1,7 +1,7 @@
 -- What the making of a row's paths does to a writer's pass.
-use Rattle.std.specs.Prelude.{ℕ, ◌+◌, ◌-◌, ◌*◌, ◌/◌, ◌<◌, ◌≤◌, ◌≡◌, zero, suc, List, [], ◌∷◌, ◌++◌, length, Some, slice_get, slice_index}
+use Rattle.std.specs.Prelude.{ℕ, ◌+◌, ◌-◌, ◌*◌, ◌/◌, ◌<◌, ◌≤◌, ◌≡◌, zero, suc, List, [], ◌∷◌, ◌++◌, length, true, false, Option, Some, None, slice_get, slice_index, slice_index_or}
 use Rattle.cf_row.specs.Row.{RowValue}
-use Rattle.cf_shape.specs.Lanes.{ShapeValue}
+use Rattle.cf_shape.specs.Lanes.{ShapeValue, selected_by, key_of}
 use Rattle.cf_shape.specs.Nodes.{levels_of}
 use Rattle.cf_shape.specs.Places.{Slot, place, sizes_of}
 use Rattle.cf_words.specs.Words.{Spot, spot}
@@ -11,6 +11,7 @@ use Rattle.cf_law.specs.Steps.{Knows, Reaches}
 use Rattle.cf_law.specs.Shapes.{layout}
 use Rattle.cf_table.specs.Values.{PassValue, book_of}
 use Rattle.cf_append.specs.declared.leaves.Leaves.{Leaves}
+use Rattle.cf_append.specs.declared.paths.Filing.{Filing}
 use Rattle.cf_append.specs.declared.paths.Prefix.{Prefix}
 
 -- the pass is the same one, has seen as much, has noted no ask, knows each node that it knew, and looked no fewer times
@@ -87,6 +88,21 @@ IsLeafIn shape row p lane node = (last : ℕ) (q : List ℕ) → (layout shape).
 -- in each of the first n lanes that selects the row the path is whole, down to these leaves
 abbrev pub HasLeaves : ShapeValue → RowValue → Pass → List ℕ → ℕ → Type 0
 HasLeaves shape row p leaves n = (lane : ℕ) → lane < n → IsLeafIn shape row p lane (slice_index leaves lane)
+
+-- The row is filed in the lane, which selects it: by its key there, in its leaf.
+pub record IsFiled (shape : ShapeValue) (row : RowValue) (pass : Pass) (lane : ℕ) (filing : Filing) : Type 0 where
+  pub selects : selected_by shape lane row ≡ true
+  pub key : filing.key ≡ key_of shape lane row
+  pub node : IsNodeOf shape pass (spot lane (nibbles (levels_of shape lane - 1) (filing.key / 16))) filing.leaf
+
+-- the row is filed so in the lane, or the lane doesn't select it
+abbrev pub IsFiledIn : ShapeValue → RowValue → Pass → ℕ → Option Filing → Type 0
+IsFiledIn shape row pass lane (Some filing) = IsFiled shape row pass lane filing
+IsFiledIn shape row pass lane None = selected_by shape lane row ≡ false
+
+-- the row is filed so in each of the first n lanes that selects it
+abbrev pub HasFilings : ShapeValue → RowValue → Pass → List (Option Filing) → ℕ → Type 0
+HasFilings shape row pass filed n = (lane : ℕ) → lane < n → IsFiledIn shape row pass lane (slice_index_or filed lane None)
 
 -- the node is kept for a lane, as the leaf of keys with that front
 abbrev pub Keeps : Leaves → ℕ → ℕ → ℕ → Type 0

@@ -13,12 +13,13 @@ ghost use Rattle.cf_law.specs.Readers.{own_top};
 ghost use Rattle.cf_law.specs.Shapes.{layout as layout_of, path_in};
 ghost use Rattle.cf_table.specs.Values.{IsOf, book_of};
 ghost use Rattle.cf_table.specs.Effects.{IsLawfulStep, HasSteppedUnseen, head_effect};
-ghost use Rattle.cf_append.specs.Paths.{Strides, IsNodeOf, IsLeafIn, HasLeaves};
+ghost use Rattle.cf_append.specs.Paths.{Strides, IsNodeOf, IsFiledIn, HasFilings};
 ghost use Rattle.cf_append.specs.Linking.{HasFilled, HasLinked, IsBookOf, IsNewest, IsCell, amounts, key_path, leaf_chain, cell_from};
 
+use crate::paths::Filing;
 use cf_fold::Quad;
 use cf_row::{Row, word_count};
-use cf_shape::{Shape, key, measure, selects};
+use cf_shape::{Shape, measure};
 use cf_table::{MultiLog, Steps, WriterPass};
 use std::sync::ledger::Ledger;
 
@@ -165,7 +166,7 @@ fn store_version<L: Ledger>(
     offset: u32,
     row: &Row,
     lane: u8,
-    leaf: u32,
+    filing: Option<Filing>,
     i: u8,
     steps: &mut Steps<L>,
 ) -> u8
@@ -176,7 +177,7 @@ fn store_version<L: Ledger>(
     requires at { i ≡ cell_from log.now.shape lane }
     requires book { IsBookOf log.now.shape (book_of pass.old.view) }
     requires filled { HasFilled log.now.shape offset row.now (cell_from log.now.shape lane) pass.old pass.old }
-    requires leaf { IsLeafIn log.now.shape row.now pass.old.view lane leaf }
+    requires filing { IsFiledIn log.now.shape row.now pass.old.view lane filing }
     ensures of { IsOf pass.new log.now }
     ensures strides { Strides pass.old pass.new }
     ensures filled { HasFilled log.now.shape offset row.now (cell_from log.now.shape (lane + 1)) pass.old pass.new }
@@ -184,17 +185,16 @@ fn store_version<L: Ledger>(
     ensures steps { steps.new ≤ steps.old + 7 }
 {
     let shape = log.shape();
-    if !selects(shape, lane, row) {
+    let Some(at) = filing else {
         return i + cell_size(shape, lane);
-    }
-    let key = key(shape, lane, row);
-    let previous = own_head(log, pass, lane, key, leaf, steps);
+    };
+    let previous = own_head(log, pass, lane, at.key, at.leaf, steps);
     if measures(shape, lane) {
-        let quad = quad_with(log, pass, row, lane, key, previous, steps);
+        let quad = quad_with(log, pass, row, lane, at.key, previous, steps);
         let first = previous + quad.count() * 4_294_967_296;
         let ends = quad.least() + quad.greatest() * 4_294_967_296;
         let words = (first, quad.sum(), ends);
-        store_three(log, pass, offset, row, (lane, key), i, words, steps);
+        store_three(log, pass, offset, row, (lane, at.key), i, words, steps);
         return i + 3;
     }
     log.store_cell(pass, offset, i, previous, steps);
@@ -207,7 +207,7 @@ pub(crate) fn fill_cells<L: Ledger>(
     pass: &mut WriterPass,
     offset: u32,
     row: &Row,
-    leaves: &[u32; 16],
+    filed: &[Option<Filing>; 16],
     steps: &mut Steps<L>,
 )
     requires of { IsOf pass.old log.now }
@@ -215,7 +215,7 @@ pub(crate) fn fill_cells<L: Ledger>(
     requires place { offset < log.now.shape.capacity }
     requires book { IsBookOf log.now.shape (book_of pass.old.view) }
     requires filled { HasFilled log.now.shape offset row.now (word_count_of log.now.shape.schema + 1) pass.old pass.old }
-    requires leaves { HasLeaves log.now.shape row.now pass.old.view leaves.now (length log.now.shape.lanes) }
+    requires filed { HasFilings log.now.shape row.now pass.old.view filed.now (length log.now.shape.lanes) }
     ensures of { IsOf pass.new log.now }
     ensures strides { Strides pass.old pass.new }
     ensures filled { HasFilled log.now.shape offset row.now (word_count_of log.now.shape.schema + 1 + cell_count log.now.shape.lanes) pass.old pass.new }
@@ -231,7 +231,7 @@ pub(crate) fn fill_cells<L: Ledger>(
             offset,
             row,
             lane,
-            leaves[usize::from(lane)],
+            filed[usize::from(lane)],
             i,
             steps,
         );
@@ -258,33 +258,31 @@ fn store_top<L: Ledger>(
     log.store_head(pass, leaf, (key % 16) as u8, offset, steps);
 }
 
-// Links the ticket in flight in a lane, where that selects the row.
+// Links the ticket in flight in a lane, where that selects the row. `_row` is for the proof.
 fn link_in<L: Ledger>(
     log: &MultiLog,
     pass: &mut WriterPass,
     offset: u32,
-    row: &Row,
+    _row: &Row,
     lane: u8,
-    leaf: u32,
+    filing: Option<Filing>,
     steps: &mut Steps<L>,
 )
     requires of { IsOf pass.old log.now }
-    requires fits { Fits log.now.shape.schema row.now }
     requires lane { lane < length log.now.shape.lanes }
     requires writer { (book_of pass.old.view).writer < log.now.shape.writers }
-    requires linked { HasLinked log.now.shape offset row.now lane pass.old pass.old }
-    requires leaf { IsLeafIn log.now.shape row.now pass.old.view lane leaf }
+    requires linked { HasLinked log.now.shape offset _row.now lane pass.old pass.old }
+    requires filing { IsFiledIn log.now.shape _row.now pass.old.view lane filing }
     ensures of { IsOf pass.new log.now }
     ensures strides { Strides pass.old pass.new }
-    ensures linked { HasLinked log.now.shape offset row.now (lane + 1) pass.old pass.new }
+    ensures linked { HasLinked log.now.shape offset _row.now (lane + 1) pass.old pass.new }
     ensures steps { steps.new ≤ steps.old + 1 }
 {
-    let shape = log.shape();
-    if !selects(shape, lane, row) {
+    let _lawful = log.shape();
+    let Some(at) = filing else {
         return;
-    }
-    let key = key(shape, lane, row);
-    store_top(log, pass, offset, lane, key, leaf, steps);
+    };
+    store_top(log, pass, offset, lane, at.key, at.leaf, steps);
 }
 
 /// Links the ticket in flight in each lane that selects its row.
@@ -293,14 +291,13 @@ pub(crate) fn link_all<L: Ledger>(
     pass: &mut WriterPass,
     offset: u32,
     row: &Row,
-    leaves: &[u32; 16],
+    filed: &[Option<Filing>; 16],
     steps: &mut Steps<L>,
 )
     requires of { IsOf pass.old log.now }
-    requires fits { Fits log.now.shape.schema row.now }
     requires writer { (book_of pass.old.view).writer < log.now.shape.writers }
     requires linked { HasLinked log.now.shape offset row.now 0 pass.old pass.old }
-    requires leaves { HasLeaves log.now.shape row.now pass.old.view leaves.now (length log.now.shape.lanes) }
+    requires filed { HasFilings log.now.shape row.now pass.old.view filed.now (length log.now.shape.lanes) }
     ensures of { IsOf pass.new log.now }
     ensures strides { Strides pass.old pass.new }
     ensures linked { HasLinked log.now.shape offset row.now (length log.now.shape.lanes) pass.old pass.new }
@@ -314,7 +311,7 @@ pub(crate) fn link_all<L: Ledger>(
             offset,
             row,
             lane,
-            leaves[usize::from(lane)],
+            filed[usize::from(lane)],
             steps,
         );
     }

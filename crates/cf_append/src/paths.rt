@@ -1,6 +1,7 @@
 // The paths of a row are made: in each lane that selects it a node for each proper prefix of its key.
 ghost use Rattle.std.specs.Prelude.{ℕ, ◌≡◌, ◌+◌, ◌-◌, ◌*◌, ◌<◌, ◌≤◌, true, length, MatchOption, IfNone};
 ghost use Rattle.cf_row.specs.Row.{Fits};
+ghost use Rattle.cf_shape.specs.Lanes.{selected_by};
 ghost use Rattle.cf_shape.specs.Nodes.{levels_of};
 ghost use Rattle.cf_shape.specs.Places.{Slot, place as place_by, sizes_of};
 ghost use Rattle.cf_words.specs.Words.{Spot};
@@ -9,7 +10,7 @@ ghost use Rattle.cf_law.specs.Shapes.{layout as layout_of};
 ghost use Rattle.cf_table.specs.Values.{IsOf};
 ghost use Rattle.cf_table.specs.Moves.{SeenFirst};
 ghost use Rattle.cf_append.specs.Appends.{Rests};
-ghost use Rattle.cf_append.specs.Paths.{Strides, HasUsed, IsPrefix, IsAlong, IsOnPath, IsStuck, IsNodeOf, IsLeafIn, HasLeaves, Remembers, spot_of, spot_before, path_steps};
+ghost use Rattle.cf_append.specs.Paths.{Strides, HasUsed, IsPrefix, IsAlong, IsOnPath, IsStuck, IsNodeOf, IsFiled, HasFilings, Remembers, spot_of, spot_before, path_steps};
 
 use crate::leaves::Leaves;
 use cf_row::Row;
@@ -23,6 +24,13 @@ pub(crate) struct Prefix {
     lane: u8,
     level: u8,
     front: u64,
+}
+
+/// What files a row in a lane that selects it: its key there, and the node of its leaf.
+#[derive(Clone, Copy, Drop)]
+pub(crate) struct Filing {
+    pub(crate) key: u64,
+    pub(crate) leaf: u32,
 }
 
 // The node that stands for the spot `to.0`, whose child word is at that place: the one found there, else an own one that is
@@ -145,8 +153,8 @@ fn make_node<L: Ledger>(
     next_node(log, pass, at, above, steps)
 }
 
-// The leaf of the row in a lane, after the path to it, and 0 where the lane doesn't select the row; none where a node is
-// missing and all own ones are used. It is the kept one where that has the front of the row's key, else it is kept.
+// The leaf of the row in a lane that selects it, after the path to it; none where a node is missing and all own ones are used.
+// It is the kept one where that has the front of the row's key, else it is kept.
 fn make_path<L: Ledger>(
     log: &MultiLog,
     pass: &mut WriterPass,
@@ -154,28 +162,27 @@ fn make_path<L: Ledger>(
     lane: u8,
     leaves: &mut Leaves,
     steps: &mut Steps<L>,
-) -> Option<u32>
+) -> Option<Filing>
     requires of { IsOf pass.old log.now }
     requires rest { Rests pass.old.view }
     requires fits { Fits log.now.shape.schema row.now }
     requires lane { lane < length log.now.shape.lanes }
+    requires selects { selected_by log.now.shape lane row.now ≡ true }
     requires near { Remembers log.now.shape pass.old.view leaves.old }
     ensures of { IsOf pass.new log.now }
     ensures rest { Rests pass.new.view }
     ensures strides { Strides pass.old pass.new }
     ensures used { HasUsed (IsOnPath log.now.shape row.now) pass.old pass.new }
-    ensures answer { MatchOption result (IsStuck log.now.shape (IsOnPath log.now.shape row.now) pass.old pass.new) (IsLeafIn log.now.shape row.now pass.new.view lane) }
+    ensures answer { MatchOption result (IsStuck log.now.shape (IsOnPath log.now.shape row.now) pass.old pass.new) (IsFiled log.now.shape row.now pass.new.view lane) }
     ensures near { Remembers log.now.shape pass.new.view leaves.new }
     ensures begins { IfNone result (SeenFirst pass.new.view) }
     ensures steps { steps.new ≤ steps.old + 3 * (levels_of log.now.shape lane - 1) }
 {
     let shape = log.shape();
-    if !selects(shape, lane, row) {
-        return Some(0);
-    }
-    let front = key(shape, lane, row) / 16;
+    let key = key(shape, lane, row);
+    let front = key / 16;
     if let Some(leaf) = leaves.find(lane, front) {
-        return Some(leaf);
+        return Some(Filing { key, leaf });
     }
     let at = Prefix {
         lane,
@@ -186,18 +193,18 @@ fn make_path<L: Ledger>(
         return None;
     };
     leaves.keep(lane, front, leaf);
-    Some(leaf)
+    Some(Filing { key, leaf })
 }
 
-/// The row's leaf in each lane that selects it, after the paths to them; none where a node is missing and all own ones are
-/// used.
+/// What files the row in each lane that selects it, after the paths to its leaves; none where a node is missing and all own ones
+/// are used.
 pub(crate) fn make_paths<L: Ledger>(
     log: &MultiLog,
     pass: &mut WriterPass,
     row: &Row,
     leaves: &mut Leaves,
     steps: &mut Steps<L>,
-) -> Option<[u32; 16]>
+) -> Option<[Option<Filing>; 16]>
     requires of { IsOf pass.old log.now }
     requires rest { Rests pass.old.view }
     requires fits { Fits log.now.shape.schema row.now }
@@ -206,18 +213,22 @@ pub(crate) fn make_paths<L: Ledger>(
     ensures rest { Rests pass.new.view }
     ensures strides { Strides pass.old pass.new }
     ensures used { HasUsed (IsOnPath log.now.shape row.now) pass.old pass.new }
-    ensures answer { MatchOption result (IsStuck log.now.shape (IsOnPath log.now.shape row.now) pass.old pass.new) (λ filed. HasLeaves log.now.shape row.now pass.new.view filed (length log.now.shape.lanes)) }
+    ensures answer { MatchOption result (IsStuck log.now.shape (IsOnPath log.now.shape row.now) pass.old pass.new) (λ filed. HasFilings log.now.shape row.now pass.new.view filed (length log.now.shape.lanes)) }
     ensures near { Remembers log.now.shape pass.new.view leaves.new }
     ensures begins { IfNone result (SeenFirst pass.new.view) }
     ensures steps { steps.new ≤ steps.old + path_steps log.now.shape (length log.now.shape.lanes) }
 {
-    let lanes = log.shape().lanes().len() as u8;
-    let mut filed = [0u32; 16];
+    let shape = log.shape();
+    let lanes = shape.lanes().len() as u8;
+    let mut filed = [None; 16];
     for lane in 0..lanes {
-        let Some(leaf) = make_path(log, pass, row, lane, leaves, steps) else {
+        if !selects(shape, lane, row) {
+            continue;
+        }
+        let Some(filing) = make_path(log, pass, row, lane, leaves, steps) else {
             return None;
         };
-        filed[usize::from(lane)] = leaf;
+        filed[usize::from(lane)] = Some(filing);
     }
     Some(filed)
 }

@@ -157,15 +157,15 @@ fn begin<L: Ledger, R: Abort>(
 {
     assert!(rt; !pass.over());
     assert!(rt; offset < log.shape().capacity());
-    let Some(leaves) = make_paths(log, pass, row, &mut Leaves::new(), steps) else {
+    let Some(filed) = make_paths(log, pass, row, &mut Leaves::new(), steps) else {
         panic!(rt; "no node");
     };
     let _number = row.num();
     let found = log.take_ticket(pass, row, steps);
     assert!(rt; found == u64::from(offset));
     fill(log, pass, offset, row, steps);
-    fill_cells(log, pass, offset, row, &leaves, steps);
-    link_all(log, pass, offset, row, &leaves, steps);
+    fill_cells(log, pass, offset, row, &filed, steps);
+    link_all(log, pass, offset, row, &filed, steps);
 }
 
 // An offset, and what a writer is told of it.

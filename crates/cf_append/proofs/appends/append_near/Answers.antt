@@ -1,11 +1,11 @@
-use Rattle.std.proofs.Common.{◌∙◌, inr, length, List, ap, sym, arith}
+use Rattle.std.proofs.Common.{◌∙◌, inr, length, map, List, ap, sym, arith}
 use Rattle.cf_row.specs.declared.row.Entry.{Entry}
 use Rattle.cf_shape.specs.Lanes.{ShapeValue}
 use Rattle.cf_append.specs.Appends.{HasMade}
 use Rattle.cf_append.proofs.Appending.{may_begin}
-use Rattle.cf_append.proofs.Pathing.{leaves_still, remembers_still, knows_still}
+use Rattle.cf_append.proofs.Pathing.{filings_still, filings_leaves, leaf_of, remembers_still, knows_still}
 use Rattle.cf_append.proofs.Cells.{may_close}
-use Rattle.cf_append.proofs.Whole.{HasBegun, HasCells, HasEnded, begun_book, begun_self, begun_leaves, cells_self, cells_writer, ended_strides, appended, appended_stops, late, late_strides, all_steps, path_within}
+use Rattle.cf_append.proofs.Whole.{HasBegun, HasCells, HasEnded, begun_book, begun_self, begun_filings, cells_self, cells_writer, ended_strides, appended, appended_stops, late, late_strides, all_steps, path_within}
 use Rattle.cf_append.proofs.appends.append_near.Goals as goal
 
 pub returns-in_default-clause-steps : goal.returns-in_default-clause-steps
@@ -30,7 +30,7 @@ returns-then-found-from-clause-answer g c =
     let past = c.if-found-from.true in
     let wide = c.from.ensures in
     let room = c.capacity.ensures.capacity ∙ ap (λ (x : ShapeValue). x.capacity) c.shape.ensures.shape in
-    let P : HasMade s row m p = record { strides = c.make_paths.ensures.strides; used = c.make_paths.ensures.used; leaves = c.in-Some.filed; whole = c.in-Some.ensures.answer } in
+    let P : HasMade s row m p = record { strides = c.make_paths.ensures.strides; used = c.make_paths.ensures.used; leaves = map leaf_of c.in-Some.filed; whole = filings_leaves s row p.view c.in-Some.filed (length s.lanes) c.shape.ensures.lawful (omega arith) c.in-Some.ensures.answer } in
     inr (late s row m p c.take_ticket-found.new.pass c.take_ticket-found.result (sym c.over.ensures ∙ c.if-over.false) P (omega (arith, past, wide, room)) c.take_ticket-found.ensures.made)
 
 pub returns-then-found-from-clause-steps : goal.returns-then-found-from-clause-steps
@@ -60,15 +60,15 @@ fill_cells-requires-clause-filled g c =
     let B : HasBegun s row c.make_paths.new.pass c.take_ticket-found.new.pass c.fill.new.pass c.take_ticket-found.result = record { room = omega (arith, low, wide, room); took = c.take_ticket-found.ensures.made; is = c.fill.ensures.pass } in
     begun_self s row c.make_paths.new.pass c.take_ticket-found.new.pass c.fill.new.pass c.take_ticket-found.result B
 
-pub fill_cells-requires-clause-leaves : goal.fill_cells-requires-clause-leaves
-fill_cells-requires-clause-leaves g c =
+pub fill_cells-requires-clause-filed : goal.fill_cells-requires-clause-filed
+fill_cells-requires-clause-filed g c =
     let s = c.args.log.now.shape in
     let row = c.args.row.now in
     let low = c.if-found-from.false in
     let wide = c.from.ensures in
     let room = c.capacity.ensures.capacity ∙ ap (λ (x : ShapeValue). x.capacity) c.shape.ensures.shape in
     let B : HasBegun s row c.make_paths.new.pass c.take_ticket-found.new.pass c.fill.new.pass c.take_ticket-found.result = record { room = omega (arith, low, wide, room); took = c.take_ticket-found.ensures.made; is = c.fill.ensures.pass } in
-    begun_leaves s row c.make_paths.new.pass c.take_ticket-found.new.pass c.fill.new.pass c.take_ticket-found.result c.in-Some.filed (length s.lanes) B c.in-Some.ensures.answer
+    begun_filings s row c.make_paths.new.pass c.take_ticket-found.new.pass c.fill.new.pass c.take_ticket-found.result c.in-Some.filed (length s.lanes) B c.in-Some.ensures.answer
 
 pub link_all-requires-clause-writer : goal.link_all-requires-clause-writer
 link_all-requires-clause-writer g c =
@@ -98,16 +98,16 @@ link_all-requires-clause-linked g c =
     } in
     cells_self s row c.make_paths.new.pass c.take_ticket-found.new.pass c.fill.new.pass c.fill_cells.new.pass c.take_ticket-found.result C
 
-pub link_all-requires-clause-leaves : goal.link_all-requires-clause-leaves
-link_all-requires-clause-leaves g c =
+pub link_all-requires-clause-filed : goal.link_all-requires-clause-filed
+link_all-requires-clause-filed g c =
     let s = c.args.log.now.shape in
     let row = c.args.row.now in
     let low = c.if-found-from.false in
     let wide = c.from.ensures in
     let room = c.capacity.ensures.capacity ∙ ap (λ (x : ShapeValue). x.capacity) c.shape.ensures.shape in
     let B : HasBegun s row c.make_paths.new.pass c.take_ticket-found.new.pass c.fill.new.pass c.take_ticket-found.result = record { room = omega (arith, low, wide, room); took = c.take_ticket-found.ensures.made; is = c.fill.ensures.pass } in
-    leaves_still s row c.fill.new.pass c.fill_cells.new.pass c.in-Some.filed (length s.lanes) c.fill_cells.ensures.strides
-    (begun_leaves s row c.make_paths.new.pass c.take_ticket-found.new.pass c.fill.new.pass c.take_ticket-found.result c.in-Some.filed (length s.lanes) B c.in-Some.ensures.answer)
+    filings_still s row c.fill.new.pass c.fill_cells.new.pass c.in-Some.filed (length s.lanes) c.fill_cells.ensures.strides
+    (begun_filings s row c.make_paths.new.pass c.take_ticket-found.new.pass c.fill.new.pass c.take_ticket-found.result c.in-Some.filed (length s.lanes) B c.in-Some.ensures.answer)
 
 pub finish_record-requires-clause-lawful : goal.finish_record-requires-clause-lawful
 finish_record-requires-clause-lawful g c =
@@ -123,7 +123,7 @@ returns-clause-answer g c =
     let low = c.if-found-from.false in
     let wide = c.from.ensures in
     let room = c.capacity.ensures.capacity ∙ ap (λ (x : ShapeValue). x.capacity) c.shape.ensures.shape in
-    let P : HasMade s row m p = record { strides = c.make_paths.ensures.strides; used = c.make_paths.ensures.used; leaves = c.in-Some.filed; whole = c.in-Some.ensures.answer } in
+    let P : HasMade s row m p = record { strides = c.make_paths.ensures.strides; used = c.make_paths.ensures.used; leaves = map leaf_of c.in-Some.filed; whole = filings_leaves s row p.view c.in-Some.filed (length s.lanes) c.shape.ensures.lawful (omega arith) c.in-Some.ensures.answer } in
     let E : HasEnded s row p c.take_ticket-found.new.pass c.fill.new.pass c.fill_cells.new.pass c.link_all.new.pass c.finish_record.new.pass o = record {
       cells = record {
         begun = record { room = omega (arith, low, wide, room); took = c.take_ticket-found.ensures.made; is = c.fill.ensures.pass };
@@ -146,7 +146,7 @@ returns-clause-stops g c =
     let low = c.if-found-from.false in
     let wide = c.from.ensures in
     let room = c.capacity.ensures.capacity ∙ ap (λ (x : ShapeValue). x.capacity) c.shape.ensures.shape in
-    let P : HasMade s row m p = record { strides = c.make_paths.ensures.strides; used = c.make_paths.ensures.used; leaves = c.in-Some.filed; whole = c.in-Some.ensures.answer } in
+    let P : HasMade s row m p = record { strides = c.make_paths.ensures.strides; used = c.make_paths.ensures.used; leaves = map leaf_of c.in-Some.filed; whole = filings_leaves s row p.view c.in-Some.filed (length s.lanes) c.shape.ensures.lawful (omega arith) c.in-Some.ensures.answer } in
     let E : HasEnded s row p c.take_ticket-found.new.pass c.fill.new.pass c.fill_cells.new.pass c.link_all.new.pass c.finish_record.new.pass o = record {
       cells = record {
         begun = record { room = omega (arith, low, wide, room); took = c.take_ticket-found.ensures.made; is = c.fill.ensures.pass };

@@ -1,34 +1,32 @@
-use Rattle.std.proofs.Common.{◌-◌, ◌/◌, ◌%◌, false, true}
+use Rattle.std.proofs.Common.{◌-◌, ◌/◌, ◌%◌}
 use Rattle.cf_shape.specs.Nodes.{levels_of}
 use Rattle.cf_law.specs.Nibbles.{nibbles}
 use Rattle.cf_shape.proofs.KeyLevels.{levels_two}
-use Rattle.cf_append.proofs.Pathing.{selected_there, row_path}
+use Rattle.cf_append.proofs.Pathing.{filed_some, filed_none, filed_path}
 use Rattle.cf_append.proofs.Cells.{may_top, linked_more, linked_skip}
 use Rattle.cf_append.proofs.links.link_in.Goals as goal
 
-pub returns-then-not-selects-clause-linked : goal.returns-then-not-selects-clause-linked
-returns-then-not-selects-clause-linked g c =
+pub returns-in_default-clause-linked : goal.returns-in_default-clause-linked
+returns-in_default-clause-linked g c =
     let s = c.args.log.now.shape in
-    linked_skip s c.args.pass.now c.args.pass.now c.args.offset c.args.lane c.args.row.now c.requires.linked
-    (selected_there s c.shape-shape.result.now c.args.row.now c.args.lane c.selects.result false c.shape-shape.ensures.shape c.selects.ensures c.if-not-selects.true)
+    let m = c.args.pass.now in
+    linked_skip s m m c.args.offset c.args.lane c.args._row.now c.requires.linked (filed_none s c.args._row.now m.view c.args.lane c.args.filing c.in_default.is c.requires.filing)
 
 pub store_top-requires : goal.store_top-requires
 store_top-requires g c κs within =
     let s = c.args.log.now.shape in
     let l = c.args.lane in
-    let row = c.args.row.now in
-    let key = c.key-key.result in
-    let h = c.shape-shape.result.now in
-    let same = c.shape-shape.ensures.shape in
-    let many = levels_two s l c.shape-shape.ensures.lawful c.requires.lane in
-    let takes = selected_there s h row l c.selects.result true same c.selects.ensures c.if-not-selects.false in
-    let leads = row_path s h row l key same takes c.key-key.ensures many in
-    let q = nibbles (levels_of s l - 1) (key / 16) in
-    let leaf = c.requires.leaf (key % 16) q leads in
-    (within, (c.requires.of, ((leaf.low, c.requires.writer), may_top s c.args.pass.now c.args.offset l c.args.leaf (key % 16) row q c.requires.linked leads leaf.knows)))
+    let row = c.args._row.now in
+    let p = c.args.pass.now.view in
+    let at = c.in-Some.at in
+    let filed = filed_some s row p l c.args.filing at c.in-Some.is c.requires.filing in
+    let leads = filed_path s row l p at (levels_two s l c.shape-lawful.ensures.lawful c.requires.lane) filed in
+    (within, (c.requires.of, ((filed.node.low, c.requires.writer), may_top s c.args.pass.now c.args.offset l at.leaf (at.key % 16) row (nibbles (levels_of s l - 1) (at.key / 16)) c.requires.linked leads filed.node.knows)))
 
 pub returns-clause-linked : goal.returns-clause-linked
 returns-clause-linked g c =
     let s = c.args.log.now.shape in
-    linked_more s c.args.pass.now c.store_top.new.pass c.args.offset c.args.lane c.args.leaf (c.key-key.result % 16) c.args.row.now c.requires.linked
-    (selected_there s c.shape-shape.result.now c.args.row.now c.args.lane c.selects.result true c.shape-shape.ensures.shape c.selects.ensures c.if-not-selects.false) c.store_top.ensures.made
+    let row = c.args._row.now in
+    let at = c.in-Some.at in
+    let filed = filed_some s row c.args.pass.now.view c.args.lane c.args.filing at c.in-Some.is c.requires.filing in
+    linked_more s c.args.pass.now c.store_top.new.pass c.args.offset c.args.lane at.leaf (at.key % 16) row c.requires.linked filed.selects c.store_top.ensures.made

@@ -14,7 +14,7 @@ use Rattle.cf_table.specs.Values.{book_of}
 use Rattle.cf_append.specs.Linking.{amounts, key_path, leaf_chain, cell_from}
 use Rattle.cf_append.proofs.Newest.{amounts_few, top_few, quad_cell, three_words}
 use Rattle.cf_shape.proofs.KeyLevels.{levels_two}
-use Rattle.cf_append.proofs.Pathing.{selected_there, row_path}
+use Rattle.cf_append.proofs.Pathing.{filed_some, filed_none, filed_path}
 use Rattle.cf_append.proofs.Cells.{cell_next, cell_low, unmeasured_next, head_chain, book_same, filled_skip, filled_more, may_version, store_strides}
 use Rattle.cf_append.proofs.links.store_version.Goals as goal
 
@@ -31,14 +31,14 @@ overflow_add-result-2 g c =
     let at = c.requires.at in
     omega (arith, at, cell_low s c.args.lane c.requires.lane, ticket_few s c.shape-shape.ensures.lawful)
 
-pub returns-then-not-selects-clause-filled : goal.returns-then-not-selects-clause-filled
-returns-then-not-selects-clause-filled g c =
+pub returns-in_default-clause-filled : goal.returns-in_default-clause-filled
+returns-in_default-clause-filled g c =
     let s = c.args.log.now.shape in
     filled_skip s c.args.offset c.args.row.now c.args.lane c.args.pass.now c.args.pass.now c.requires.lane
-    (selected_there s c.shape-shape.result.now c.args.row.now c.args.lane c.selects.result false c.shape-shape.ensures.shape c.selects.ensures c.if-not-selects.true) c.requires.filled
+    (filed_none s c.args.row.now c.args.pass.now.view c.args.lane c.args.filing c.in_default.is c.requires.filing) c.requires.filled
 
-pub returns-then-not-selects-clause-next : goal.returns-then-not-selects-clause-next
-returns-then-not-selects-clause-next g c =
+pub returns-in_default-clause-next : goal.returns-in_default-clause-next
+returns-in_default-clause-next g c =
     let s = c.args.log.now.shape in
     let at = c.requires.at in
     let wide = c.cell_size.ensures ∙ ap (λ (h : ShapeValue). cell_words (lane_at h c.args.lane)) c.shape-shape.ensures.shape in
@@ -56,12 +56,9 @@ own_head-previous-requires g c κs within =
     let s = c.args.log.now.shape in
     let l = c.args.lane in
     let row = c.args.row.now in
-    let key = c.key-key.result in
-    let h = c.shape-shape.result.now in
-    let same = c.shape-shape.ensures.shape in
+    let key = c.in-Some.at.key in
     let many = levels_two s l c.shape-shape.ensures.lawful c.requires.lane in
-    let takes = selected_there s h row l c.selects.result true same c.selects.ensures c.if-not-selects.false in
-    let leads = row_path s h row l key same takes c.key-key.ensures many in (
+    let filed = filed_some s row c.args.pass.now.view l c.args.filing c.in-Some.at c.in-Some.is c.requires.filing in (
       within,
       (
         c.requires.of,
@@ -69,7 +66,7 @@ own_head-previous-requires g c κs within =
           one_book c.args.pass.now.view _ c.requires.filled.books,
           (
             c.requires.book.writer,
-            (c.requires.leaf (key % 16) (nibbles (levels_of s l - 1) (key / 16)) leads, omega (arith, many, length-nibbles (levels_of s l - 1) (key / 16))),
+            (filed.node, omega (arith, many, length-nibbles (levels_of s l - 1) (key / 16))),
           ),
         ),
       ),
@@ -87,12 +84,10 @@ store_cell-requires-clause-lawful g c =
     let bare : is_measured s c.args.lane ≡ false = ap (λ (h : ShapeValue). is_measured h c.args.lane) (sym c.shape-shape.ensures.shape) ∙ (sym c.measures.ensures ∙ c.if-measures.false) in
     let l = c.args.lane in
     let row = c.args.row.now in
-    let key = c.key-key.result in
-    let h = c.shape-shape.result.now in
-    let same = c.shape-shape.ensures.shape in
+    let key = c.in-Some.at.key in
     let many = levels_two s l c.shape-shape.ensures.lawful c.requires.lane in
-    let takes = selected_there s h row l c.selects.result true same c.selects.ensures c.if-not-selects.false in
-    let leads = row_path s h row l key same takes c.key-key.ensures many in
+    let filed = filed_some s row c.args.pass.now.view l c.args.filing c.in-Some.at c.in-Some.is c.requires.filing in
+    let leads = filed_path s row l c.args.pass.now.view c.in-Some.at many filed in
     may_version s c.args.pass.now c.own_head-previous.new.pass c.args.offset l c.args.i c.own_head-previous.result row (key % 16 ∷ nibbles (levels_of s l - 1) (key / 16)) c.requires.filled c.own_head-previous.ensures.books c.requires.lane bare c.requires.at
     leads c.own_head-previous.ensures.head
 
@@ -111,9 +106,7 @@ quad_with-quad-requires-clause-previous g c =
     let s = c.args.log.now.shape in
     let l = c.args.lane in
     let row = c.args.row.now in
-    let key = c.key-key.result in
-    let h = c.shape-shape.result.now in
-    let same = c.shape-shape.ensures.shape in
+    let key = c.in-Some.at.key in
     let m = c.args.pass.now in
     let n = c.own_head-previous.new.pass in
     let previous = head_chain s m n c.args.offset (cell_from s l) c.own_head-previous.result row (spot l (key_path s l key)) c.requires.filled c.own_head-previous.ensures.books c.own_head-previous.ensures.head in
@@ -123,16 +116,10 @@ pub overflow_mul-first : goal.overflow_mul-first
 overflow_mul-first g c =
     let s = c.args.log.now.shape in
     let l = c.args.lane in
-    let row = c.args.row.now in
-    let key = c.key-key.result in
-    let h = c.shape-shape.result.now in
-    let same = c.shape-shape.ensures.shape in
+    let key = c.in-Some.at.key in
     let m = c.args.pass.now in
     let n = c.own_head-previous.new.pass in
-    let previous = head_chain s m n c.args.offset (cell_from s l) c.own_head-previous.result row (spot l (key_path s l key)) c.requires.filled c.own_head-previous.ensures.books c.own_head-previous.ensures.head in
     let own = book_same s m n c.requires.book c.own_head-previous.ensures.books in
-    let z = c.quad_with-quad.new.pass in
-    let b = book_of n.view in
     let quad = c.quad_with-quad.ensures.quad in
     let count = ap (λ (q : QuadValue). q.count) quad in
     let counted = c.count.ensures in
@@ -145,15 +132,11 @@ overflow_add-first g c =
     let s = c.args.log.now.shape in
     let l = c.args.lane in
     let row = c.args.row.now in
-    let key = c.key-key.result in
-    let h = c.shape-shape.result.now in
-    let same = c.shape-shape.ensures.shape in
+    let key = c.in-Some.at.key in
     let m = c.args.pass.now in
     let n = c.own_head-previous.new.pass in
     let previous = head_chain s m n c.args.offset (cell_from s l) c.own_head-previous.result row (spot l (key_path s l key)) c.requires.filled c.own_head-previous.ensures.books c.own_head-previous.ensures.head in
     let own = book_same s m n c.requires.book c.own_head-previous.ensures.books in
-    let z = c.quad_with-quad.new.pass in
-    let b = book_of n.view in
     let quad = c.quad_with-quad.ensures.quad in
     let count = ap (λ (q : QuadValue). q.count) quad in
     let counted = c.count.ensures in
@@ -167,23 +150,16 @@ store_three-requires-clause-leads g c =
     let s = c.args.log.now.shape in
     let l = c.args.lane in
     let row = c.args.row.now in
-    let key = c.key-key.result in
-    let h = c.shape-shape.result.now in
-    let same = c.shape-shape.ensures.shape in
-    let m = c.args.pass.now in
-    let n = c.own_head-previous.new.pass in
-    let previous = head_chain s m n c.args.offset (cell_from s l) c.own_head-previous.result row (spot l (key_path s l key)) c.requires.filled c.own_head-previous.ensures.books c.own_head-previous.ensures.head in
     let many = levels_two s l c.shape-shape.ensures.lawful c.requires.lane in
-    let takes = selected_there s h row l c.selects.result true same c.selects.ensures c.if-not-selects.false in
-    row_path s h row l key same takes c.key-key.ensures many
+    let filed = filed_some s row c.args.pass.now.view l c.args.filing c.in-Some.at c.in-Some.is c.requires.filing in
+    filed_path s row l c.args.pass.now.view c.in-Some.at many filed
 
 pub store_three-requires-clause-words : goal.store_three-requires-clause-words
 store_three-requires-clause-words g c =
     let s = c.args.log.now.shape in
     let l = c.args.lane in
     let row = c.args.row.now in
-    let key = c.key-key.result in
-    let h = c.shape-shape.result.now in
+    let key = c.in-Some.at.key in
     let same = c.shape-shape.ensures.shape in
     let m = c.args.pass.now in
     let n = c.own_head-previous.new.pass in

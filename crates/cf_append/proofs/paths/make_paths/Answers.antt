@@ -1,7 +1,7 @@
-use Rattle.std.proofs.Common.{◌≡◌, ◌∙◌, ◌+◌, ◌<◌, ap, length, refl, arith, rules}
+use Rattle.std.proofs.Common.{◌≡◌, ◌∙◌, ◌+◌, ◌<◌, false, ap, length, refl, arith, rules}
 use Rattle.cf_append.specs.Paths.{IsOnPath}
 use Rattle.cf_append.proofs.Walking.{strides_none, strides_then, used_same, used_then}
-use Rattle.cf_append.proofs.Pathing.{leaves_still, leaves_more, path_steps_none, path_steps_more, path_steps_up}
+use Rattle.cf_append.proofs.Pathing.{filings_still, filings_more, filings_pass, empty_first, empty_more, selected_there, path_steps_none, path_steps_more, path_steps_up}
 use Rattle.cf_append.proofs.paths.make_paths.Goals as goal
 
 pub loop-lane-init : goal.loop-lane-init
@@ -11,7 +11,8 @@ loop-lane-init g c = record {
   strides = strides_none c.args.pass.now;
   used = used_same _ c.args.pass.now c.args.pass.now c.requires.rest refl;
   long = refl;
-  filed = λ lane low last q leads. absurd (omega (arith, low));
+  filed = λ lane low. absurd (omega (arith, low));
+  empty = empty_first;
   near = c.requires.near;
   steps = omega (arith, path_steps_none c.args.log.now.shape);
 }
@@ -45,7 +46,26 @@ loop-lane-preserved g c =
       strides = strides_then m n o c.loop-lane.invariant.strides went;
       used = used_then (IsOnPath s row) m n o c.loop-lane.invariant.used c.make_path.ensures.used;
       long = search rules;
-      filed = leaves_more s row o.view c.loop-lane.filed k c.from.result c.in-Some.leaf c.from.ensures inside (leaves_still s row n o c.loop-lane.filed k went c.loop-lane.invariant.filed) c.in-Some.ensures.answer;
+      filed = filings_more s row o.view c.loop-lane.filed k c.from.result c.in-Some.filing c.from.ensures inside (filings_still s row n o c.loop-lane.filed k went c.loop-lane.invariant.filed) c.in-Some.ensures.answer;
+      empty = empty_more c.loop-lane.filed k c.from.result _ c.from.ensures c.loop-lane.invariant.empty;
       near = c.make_path.ensures.near;
       steps = (let more = path_steps_more s k in let one = c.make_path.ensures.steps in let so_far = c.loop-lane.invariant.steps in let e : Rattle.std.proofs.Common.suc k ≡ k + 1 = omega arith in let f = ap (Rattle.cf_append.specs.Paths.path_steps s) e in omega (arith, more, one, so_far, f));
+    }
+
+pub loop-lane-preserved-then-not-selects : goal.loop-lane-preserved-then-not-selects
+loop-lane-preserved-then-not-selects g c =
+    let s = c.args.log.now.shape in
+    let row = c.args.row.now in
+    let k = c.loop-lane.lane in
+    let I = c.loop-lane.invariant in
+    let passes = selected_there s c.shape-shape.result.now row k c.selects.result false c.shape-shape.ensures.shape c.selects.ensures c.if-not-selects.true in record {
+      of = I.of;
+      rest = I.rest;
+      strides = I.strides;
+      used = I.used;
+      long = I.long;
+      filed = filings_pass s row c.loop-lane.pass.view c.loop-lane.filed k I.filed (I.empty k (omega arith)) passes;
+      empty = λ lane from. I.empty lane (omega (arith, from));
+      near = I.near;
+      steps = (let so_far = I.steps in let up = path_steps_up s k (k + 1) (omega arith) in omega (arith, so_far, up));
     }

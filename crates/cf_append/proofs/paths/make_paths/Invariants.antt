@@ -1,7 +1,8 @@
 use Rattle.std.proofs.Common.{◌≡◌, ◌+◌, ◌≤◌, length}
 use Rattle.cf_table.specs.Values.{IsOf}
 use Rattle.cf_append.specs.Appends.{Rests}
-use Rattle.cf_append.specs.Paths.{Strides, HasUsed, IsOnPath, HasLeaves, Remembers, path_steps}
+use Rattle.cf_append.specs.Paths.{Strides, HasUsed, IsOnPath, HasFilings, Remembers, path_steps}
+use Rattle.cf_append.proofs.Pathing.{AreEmpty}
 use Rattle.cf_append.proofs.paths.make_paths.Given as goal
 
 abbrev pub invariant-loop-lane : goal.invariant-loop-lane
@@ -11,7 +12,8 @@ invariant-loop-lane g l = record {
   strides : Strides l.fn.pass l.pass;
   used : HasUsed (IsOnPath (l.log).shape l.row) l.fn.pass l.pass;
   long : length l.filed ≡ 16;
-  filed : HasLeaves (l.log).shape l.row (l.pass).view l.filed l.lane;
+  filed : HasFilings (l.log).shape l.row (l.pass).view l.filed l.lane;
+  empty : AreEmpty l.filed l.lane;
   near : Remembers (l.log).shape (l.pass).view l.leaves;
   steps : l.steps ≤ l.initial.steps + path_steps (l.log).shape l.lane;
 }

@@ -3,9 +3,9 @@ use Rattle.cf_shape.specs.Lanes.{ShapeValue}
 use Rattle.cf_table.specs.Effects.{HasStepped, take_effect}
 use Rattle.cf_table.proofs.Mays.{the_book}
 use Rattle.cf_append.proofs.Appending.{may_begin}
-use Rattle.cf_append.proofs.Pathing.{leaves_still}
+use Rattle.cf_append.proofs.Pathing.{filings_still}
 use Rattle.cf_append.proofs.Cells.{linked_self}
-use Rattle.cf_append.proofs.Whole.{HasBegun, HasCells, begun_book, begun_self, begun_leaves, cells_self, cells_writer}
+use Rattle.cf_append.proofs.Whole.{HasBegun, HasCells, begun_book, begun_self, begun_filings, cells_self, cells_writer}
 use Rattle.cf_append.proofs.tests.begin.Goals as goal
 
 pub make_paths-requires-clause-near : goal.make_paths-requires-clause-near
@@ -46,8 +46,8 @@ fill_cells-requires-clause-filled g c =
     let B : HasBegun s row p t f o = record { room = room; took = subst (λ (k : ℕ). HasStepped s (take_effect s p.view row) p k t) found c.take_ticket-found.ensures.made; is = c.fill.ensures.pass } in
     begun_self s row p t f o B
 
-pub fill_cells-requires-clause-leaves : goal.fill_cells-requires-clause-leaves
-fill_cells-requires-clause-leaves g c =
+pub fill_cells-requires-clause-filed : goal.fill_cells-requires-clause-filed
+fill_cells-requires-clause-filed g c =
     let s = c.args.log.now.shape in
     let row = c.args.row.now in
     let p = c.make_paths.new.pass in
@@ -58,7 +58,7 @@ fill_cells-requires-clause-leaves g c =
     let room : o < s.capacity = search (rules, capacity) in
     let found : c.take_ticket-found.result ≡ o = search rules in
     let B : HasBegun s row p t f o = record { room = room; took = subst (λ (k : ℕ). HasStepped s (take_effect s p.view row) p k t) found c.take_ticket-found.ensures.made; is = c.fill.ensures.pass } in
-    begun_leaves s row p t f o c.in-Some.leaves (length s.lanes) B c.in-Some.ensures.answer
+    begun_filings s row p t f o c.in-Some.filed (length s.lanes) B c.in-Some.ensures.answer
 
 pub link_all-requires-clause-writer : goal.link_all-requires-clause-writer
 link_all-requires-clause-writer g c =
@@ -90,8 +90,8 @@ link_all-requires-clause-linked g c =
     let C : HasCells s row p t f c.fill_cells.new.pass o = record { begun = B; strides = c.fill_cells.ensures.strides; filled = c.fill_cells.ensures.filled } in
     cells_self s row p t f c.fill_cells.new.pass o C
 
-pub link_all-requires-clause-leaves : goal.link_all-requires-clause-leaves
-link_all-requires-clause-leaves g c =
+pub link_all-requires-clause-filed : goal.link_all-requires-clause-filed
+link_all-requires-clause-filed g c =
     let s = c.args.log.now.shape in
     let row = c.args.row.now in
     let p = c.make_paths.new.pass in
@@ -102,7 +102,7 @@ link_all-requires-clause-leaves g c =
     let room : o < s.capacity = search (rules, capacity) in
     let found : c.take_ticket-found.result ≡ o = search rules in
     let B : HasBegun s row p t f o = record { room = room; took = subst (λ (k : ℕ). HasStepped s (take_effect s p.view row) p k t) found c.take_ticket-found.ensures.made; is = c.fill.ensures.pass } in
-    leaves_still s row f c.fill_cells.new.pass c.in-Some.leaves (length s.lanes) c.fill_cells.ensures.strides (begun_leaves s row p t f o c.in-Some.leaves (length s.lanes) B c.in-Some.ensures.answer)
+    filings_still s row f c.fill_cells.new.pass c.in-Some.filed (length s.lanes) c.fill_cells.ensures.strides (begun_filings s row p t f o c.in-Some.filed (length s.lanes) B c.in-Some.ensures.answer)
 
 pub returns-clause-linked : goal.returns-clause-linked
 returns-clause-linked g c =
