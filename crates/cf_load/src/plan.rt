@@ -1,5 +1,5 @@
 // What is asked of a log that is loaded.
-ghost use Rattle.std.specs.Prelude.{◌≡◌, ◌<◌, ◌↔◌, IsTrue, IfOk, All};
+ghost use Rattle.std.specs.Prelude.{◌≡◌, ◌<◌, ◌⊎◌, ◌↔◌, [], IsTrue, IfOk, All};
 ghost use Rattle.cf_plain.specs.Asks.{Suits, SuitsTrigger};
 ghost use Rattle.cf_load.specs.Planned.{IsPlan, IsSamePlan};
 
@@ -59,6 +59,13 @@ impl LivePlan {
         suit_all(shape, &self.asks)
             && fire_all(shape, &self.triggers)
             && are_below(&self.lives, self.asks.len())
+    }
+
+    // Whether no live question is asked beside a batch.
+    pub(crate) fn asks_nothing(&self) -> bool
+        ensures { IsTrue result ↔ ((self.now.rounds ≡ 0) ⊎ (self.now.lives.items ≡ [])) }
+    {
+        self.rounds == 0 || self.lives.is_empty()
     }
 
     /// One more of the same.

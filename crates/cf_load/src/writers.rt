@@ -7,7 +7,7 @@ ghost use Rattle.cf_table.specs.Values.{book_of};
 ghost use Rattle.cf_load.specs.Needed.{IsOut};
 ghost use Rattle.cf_load.specs.Writing.{IsReady, RanOut, Wrote};
 
-use cf_append::{AppendFault, append};
+use cf_append::{AppendFault, Leaves, append_near};
 use cf_outside::Gate;
 use cf_row::Row;
 use cf_table::{MultiLog, Steps, WriterPass};
@@ -33,11 +33,12 @@ fn write_rows<G: Gate, L: Ledger>(
 {
     let writers = u64::from(log.shape().writers());
     let writer = pass.writer();
+    let mut leaves = Leaves::new();
     let mut number = first;
     for row in batch {
         if number % writers == u64::from(writer) {
             gate.before_append(writer, row.num());
-            match append(log, pass, row, steps) {
+            match append_near(log, pass, row, &mut leaves, steps) {
                 Ok(_) => {}
                 Err(AppendFault::Full) => return None,
                 Err(AppendFault::NodesFull) => return Some(writer),

@@ -6,25 +6,25 @@ use Rattle.cf_load.proofs.writers.write_rows.Goals as goal
 use Rattle.cf_load.proofs.writers.write_rows.Goals.{then-number-writers+in-Ok, else-number-writers}
 
 pub loop-row-init : goal.loop-row-init
-loop-row-init g c = goes_first c.args.log.now c.args.first c.args.batch.now c.args.pass.now c.requires.ready
+loop-row-init g c = record { goes = goes_first c.args.log.now c.args.first c.args.batch.now c.args.pass.now c.requires.ready; near = c.new-leaves.ensures c.args.log.now.shape c.args.pass.now.view }
 
 pub returns-in-Err-Full-clause-wrote : goal.returns-in-Err-Full-clause-wrote
 returns-in-Err-Full-clause-wrote g c =
-    let made = c.append.ensures in
-    let err : c.append.result ≡ Err Full = search rules in
-    stops_full c.args.log.now c.args.first c.args.batch.now c.args.pass.now c.loop-row.number c.loop-row.row-index c.loop-row.pass c.append.new.pass c.append.result c.row-item.result c.loop-row.invariant c.loop-row-test.true (sym c.row-item.is) made.goes_on made.rest made.answer err
+    let made = c.append_near.ensures in
+    let err : c.append_near.result ≡ Err Full = search rules in
+    stops_full c.args.log.now c.args.first c.args.batch.now c.args.pass.now c.loop-row.number c.loop-row.row-index c.loop-row.pass c.append_near.new.pass c.append_near.result c.row-item.result c.loop-row.invariant.goes c.loop-row-test.true (sym c.row-item.is) made.goes_on made.rest made.answer err
 
 pub returns-in-Err-NodesFull-clause-wrote : goal.returns-in-Err-NodesFull-clause-wrote
 returns-in-Err-NodesFull-clause-wrote g c =
-    let made = c.append.ensures in
-    let err : c.append.result ≡ Err NodesFull = search rules in
-    (stops_out c.args.log.now c.args.first c.args.batch.now c.args.pass.now c.loop-row.number c.loop-row.row-index c.loop-row.pass c.append.new.pass c.append.result c.row-item.result c.loop-row.invariant c.loop-row-test.true (sym c.row-item.is) made.goes_on made.rest made.answer err).0
+    let made = c.append_near.ensures in
+    let err : c.append_near.result ≡ Err NodesFull = search rules in
+    (stops_out c.args.log.now c.args.first c.args.batch.now c.args.pass.now c.loop-row.number c.loop-row.row-index c.loop-row.pass c.append_near.new.pass c.append_near.result c.row-item.result c.loop-row.invariant.goes c.loop-row-test.true (sym c.row-item.is) made.goes_on made.rest made.answer err).0
 
 pub returns-in-Err-NodesFull-clause-out : goal.returns-in-Err-NodesFull-clause-out
 returns-in-Err-NodesFull-clause-out g c =
-    let made = c.append.ensures in
-    let err : c.append.result ≡ Err NodesFull = search rules in
-    let out = (stops_out c.args.log.now c.args.first c.args.batch.now c.args.pass.now c.loop-row.number c.loop-row.row-index c.loop-row.pass c.append.new.pass c.append.result c.row-item.result c.loop-row.invariant c.loop-row-test.true (sym c.row-item.is) made.goes_on made.rest made.answer err).1 in
+    let made = c.append_near.ensures in
+    let err : c.append_near.result ≡ Err NodesFull = search rules in
+    let out = (stops_out c.args.log.now c.args.first c.args.batch.now c.args.pass.now c.loop-row.number c.loop-row.row-index c.loop-row.pass c.append_near.new.pass c.append_near.result c.row-item.result c.loop-row.invariant.goes c.loop-row-test.true (sym c.row-item.is) made.goes_on made.rest made.answer err).1 in
     (out.0 ∙ sym c.writer-writer.ensures.writer, out.1)
 
 pub loop-row-preserved : goal.loop-row-preserved
@@ -36,8 +36,8 @@ loop-row-preserved g c =
     let writer = c.from.ensures ∙ c.writer-writer.ensures.writer in
     elim c.if-number-writers.branch [
       | then-number-writers+in-Ok w ↦
-          let made = w.append.ensures in
-          let ok : w.append.result ≡ Ok w.in-Ok.field-0 = search rules in
-          rw w.pass-is (goes_answered c.args.log.now c.args.first c.args.batch.now c.args.pass.now k i c.loop-row.pass w.append.new.pass w.append.result w.in-Ok.field-0 c.row-item.result c.loop-row.invariant c.loop-row-test.true (sym c.row-item.is) (sym same ∙ (w.if-number-writers.true ∙ writer)) made.goes_on made.rest made.answer ok)
-      | else-number-writers w ↦ rw w.pass-is (goes_other c.args.log.now c.args.first c.args.batch.now c.args.pass.now k i c.loop-row.pass c.row-item.result c.loop-row.invariant c.loop-row-test.true (λ e. w.if-number-writers.false (same ∙ (e ∙ sym writer))))
+          let made = w.append_near.ensures in
+          let ok : w.append_near.result ≡ Ok w.in-Ok.field-0 = search rules in
+          rw (w.pass-is, w.leaves-is) (record { goes = goes_answered c.args.log.now c.args.first c.args.batch.now c.args.pass.now k i c.loop-row.pass w.append_near.new.pass w.append_near.result w.in-Ok.field-0 c.row-item.result c.loop-row.invariant.goes c.loop-row-test.true (sym c.row-item.is) (sym same ∙ (w.if-number-writers.true ∙ writer)) made.goes_on made.rest made.answer ok; near = made.near })
+      | else-number-writers w ↦ rw (w.pass-is, w.leaves-is) (record { goes = goes_other c.args.log.now c.args.first c.args.batch.now c.args.pass.now k i c.loop-row.pass c.row-item.result c.loop-row.invariant.goes c.loop-row-test.true (λ e. w.if-number-writers.false (same ∙ (e ∙ sym writer))); near = c.loop-row.invariant.near })
     ]
