@@ -302,12 +302,12 @@ have_looked most closed others current other zip last = record {
   current = last;
 }
 
+pub each_none : (gs : List Segment) → AllZip HasLooked gs gs
+each_none [] = tt
+each_none (g ∷ gs) = (looked_none g, each_none gs)
+
 pub have_none : (s : SegmentsValue) → HaveLooked s s
-have_none s = record { same = refl; closed = each s.closed; current = looked_none s.current }
-  where
-    each : (gs : List Segment) → AllZip HasLooked gs gs
-    each [] = tt
-    each (g ∷ gs) = (looked_none g, each gs)
+have_none s = record { same = refl; closed = each_none s.closed; current = looked_none s.current }
 
 -- each segment is one of the shape
 pub current_is : (s : SegmentsValue) → IsSegments s → IsSegment s.shape s.current

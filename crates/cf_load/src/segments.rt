@@ -127,7 +127,9 @@ fn read_all(
     if closed.is_empty() {
         return current.entries(alloc);
     }
-    let mut entries = Vec::new(alloc);
+    let room = current.log.shape().capacity() as usize;
+    let most = closed.len().saturating_add(1).saturating_mul(room);
+    let mut entries = Vec::with_capacity(alloc, most)?;
     push_entries(alloc, closed, &mut entries)?;
     let mut more = current.entries(alloc)?;
     entries.append(&mut more)?;
