@@ -89,11 +89,13 @@ pub(crate) fn collect_rows<F: Shelf>(
 
 /// Fills the log with the rows of the capture of that name. Those of packets are loaded while the rest is still to be read.
 pub(crate) fn fill_rows<R: Threads + Sync, F: Shelf, G: Gate>(
+    rt: &R,
     alloc: Global,
     shelf: &mut F,
     name: &str,
     format: Format,
-    filling: &mut Filling<'_, R, G>,
+    filling: &mut Filling,
+    gate: &G,
 ) -> Result<(), Halt>
     requires attrs { filling.old.segments.shape.schema ≡ attrs_in format }
     requires none { IsFilled filling.old.segments.shape filling.old.segments.most filling.old.loader.plan filling.old.segments filling.old.loader filling.old.waiting.items filling.old.count [] }
@@ -104,11 +106,11 @@ pub(crate) fn fill_rows<R: Threads + Sync, F: Shelf, G: Gate>(
     match format {
         Format::Packets => {
             open_packets(shelf, name)?;
-            fill_packets(alloc, shelf, filling)
+            fill_packets(rt, alloc, shelf, filling, gate)
         }
         Format::Records(schema) => {
             let rows = read_lines(alloc, shelf, name, schema)?;
-            Ok(filling.take_rows(rows)?)
+            Ok(filling.take_rows(rt, gate, rows)?)
         }
     }
 }

@@ -1,5 +1,5 @@
 // A log that rows fill as they come.
-ghost use Rattle.std.specs.Prelude.{◌≡◌, ◌<◌, ◌≤◌, ◌++◌, ◌∷◌, List, [], All, false, IfOk, IsTrue, MatchResult};
+ghost use Rattle.std.specs.Prelude.{◌≡◌, ◌<◌, ◌≤◌, ◌+◌, ◌%◌, ◌++◌, ◌∷◌, List, [], All, length, false, IfOk, IsTrue, MatchResult};
 ghost use Rattle.cf_row.specs.Row.{Fits, RowValue};
 ghost use Rattle.cf_load.specs.Loads.{room_of};
 ghost use Rattle.cf_load.specs.Planned.{IsPlan, IsSamePlan};
@@ -14,17 +14,16 @@ use cf_report::Loaded;
 use cf_row::{Memory, Row};
 use cf_shape::Shape;
 use std::alloc::{AllocError, Global};
-use std::thread::Threads;
+use std::mem;
+use std::thread::{Threads, join_mut};
 
 /// The rows of a batch.
 const BATCH: usize = 4096;
 
 /// A log that rows fill batch by batch, as they come. The rows of the next batch wait, and no other row is kept beside the log.
 #[derive(Drop)]
-pub(crate) struct Filling<'a, R: Threads + Sync, G: Gate> {
-    rt: &'a R,
+pub(crate) struct Filling {
     alloc: Global,
-    gate: &'a G,
     segments: Segments,
     loader: Loader,
     waiting: Vec<Row>,
@@ -32,16 +31,14 @@ pub(crate) struct Filling<'a, R: Threads + Sync, G: Gate> {
     count: u32,
 }
 
-impl<'a, R: Threads + Sync, G: Gate> Filling<'a, R, G> {
+impl Filling {
     /// An empty log of at most so many segments of the shape, of which is asked what the plan says.
     pub(crate) fn new(
-        rt: &'a R,
         alloc: Global,
         shape: Shape,
         most: u32,
         plan: &LivePlan,
-        gate: &'a G,
-    ) -> Result<Self, Memory>
+    ) -> Result<Filling, Memory>
         requires allowed { AllowsSegments shape most }
         requires plan { IsPlan shape plan.now }
         ensures shape { IfOk result (λ filling. filling.segments.shape ≡ shape) }
@@ -52,9 +49,7 @@ impl<'a, R: Threads + Sync, G: Gate> Filling<'a, R, G> {
         let segments = Segments::open(alloc, shape, most)?;
         let loader = Loader::new(alloc, &segments, plan)?;
         Ok(Filling {
-            rt,
             alloc,
-            gate,
             segments,
             loader,
             waiting: Vec::new(alloc),
@@ -70,8 +65,15 @@ impl<'a, R: Threads + Sync, G: Gate> Filling<'a, R, G> {
         self.count > self.segments.room()
     }
 
+    /// How many rows end the next batch, behind those that wait once so many more came.
+    pub(crate) fn wanted(&self, more: usize) -> usize
+        ensures { result + (length self.now.waiting.items + more) % 4096 ≡ 4096 }
+    {
+        BATCH - (self.waiting.len() % BATCH + more % BATCH) % BATCH
+    }
+
     // Loads the rows that wait.
-    fn load(&mut self) -> Result<(), Memory>
+    fn load<R: Threads + Sync, G: Gate>(&mut self, rt: &R, gate: &G) -> Result<(), Memory>
         requires { HasBatch self.old.segments self.old.waiting.items self.old.loader }
         ensures shape { self.new.segments.shape ≡ self.old.segments.shape }
         ensures most { self.new.segments.most ≡ self.old.segments.most }
@@ -80,13 +82,9 @@ impl<'a, R: Threads + Sync, G: Gate> Filling<'a, R, G> {
         ensures none { self.new.waiting.items ≡ [] }
         ensures loaded { IfOk result (λ _. LoadsWaiting self.old.waiting.items self.old.segments self.new.segments self.old.loader self.new.loader) }
     {
-        let loaded = self.loader.batch(
-            self.rt,
-            self.alloc,
-            &mut self.segments,
-            &self.waiting,
-            self.gate,
-        );
+        let loaded = self
+            .loader
+            .batch(rt, self.alloc, &mut self.segments, &self.waiting, gate);
         self.waiting.clear();
         match loaded {
             Ok(()) => Ok(()),
@@ -98,7 +96,7 @@ impl<'a, R: Threads + Sync, G: Gate> Filling<'a, R, G> {
     }
 
     // Takes the next row. Where it ends a batch, the batch is loaded.
-    fn push(&mut self, row: Row) -> Result<(), Memory>
+    fn push<R: Threads + Sync, G: Gate>(&mut self, rt: &R, gate: &G, row: Row) -> Result<(), Memory>
         requires fits { Fits self.old.segments.shape.schema row }
         requires filled { (rows : List RowValue) × IsFilled self.old.segments.shape self.old.segments.most self.old.loader.plan self.old.segments self.old.loader self.old.waiting.items self.old.count rows }
         ensures shape { self.new.segments.shape ≡ self.old.segments.shape }
@@ -117,24 +115,51 @@ impl<'a, R: Threads + Sync, G: Gate> Filling<'a, R, G> {
         if self.waiting.len() < BATCH {
             return Ok(());
         }
-        self.load()
+        self.load(rt, gate)
     }
 
     /// Takes the next rows. Each batch that they end is loaded.
-    pub(crate) fn take_rows(&mut self, rows: Vec<Row>) -> Result<(), Memory>
+    pub(crate) fn take_rows<R: Threads + Sync, G: Gate>(
+        &mut self,
+        rt: &R,
+        gate: &G,
+        rows: Vec<Row>,
+    ) -> Result<(), Memory>
         requires fit { All (Fits self.old.segments.shape.schema) rows.items }
         requires filled { (before : List RowValue) × IsFilled self.old.segments.shape self.old.segments.most self.old.loader.plan self.old.segments self.old.loader self.old.waiting.items self.old.count before }
         ensures filled { IfOk result (λ _. (before : List RowValue) → IsFilled self.old.segments.shape self.old.segments.most self.old.loader.plan self.old.segments self.old.loader self.old.waiting.items self.old.count before
             → IsFilled self.old.segments.shape self.old.segments.most self.old.loader.plan self.new.segments self.new.loader self.new.waiting.items self.new.count (before ++ rows.items)) }
     {
         for row in rows {
-            self.push(row)?;
+            self.push(rt, gate, row)?;
         }
         Ok(())
     }
 
+    /// Takes the next rows out of the list.
+    pub(crate) fn take_all<R: Threads + Sync, G: Gate>(
+        &mut self,
+        rt: &R,
+        gate: &G,
+        rows: &mut Vec<Row>,
+    ) -> Result<(), Memory>
+        requires fit { All (Fits self.old.segments.shape.schema) rows.old.items }
+        requires filled { (before : List RowValue) × IsFilled self.old.segments.shape self.old.segments.most self.old.loader.plan self.old.segments self.old.loader self.old.waiting.items self.old.count before }
+        ensures filled { IfOk result (λ _. (before : List RowValue) → IsFilled self.old.segments.shape self.old.segments.most self.old.loader.plan self.old.segments self.old.loader self.old.waiting.items self.old.count before
+            → IsFilled self.old.segments.shape self.old.segments.most self.old.loader.plan self.new.segments self.new.loader self.new.waiting.items self.new.count (before ++ rows.old.items)) }
+        ensures none { rows.new.items ≡ [] }
+    {
+        let rows = mem::replace(rows, Vec::new(self.alloc));
+        self.take_rows(rt, gate, rows)
+    }
+
     /// Takes copies of the next rows.
-    pub(crate) fn take_copies(&mut self, rows: &[Row]) -> Result<(), Memory>
+    pub(crate) fn take_copies<R: Threads + Sync, G: Gate>(
+        &mut self,
+        rt: &R,
+        gate: &G,
+        rows: &[Row],
+    ) -> Result<(), Memory>
         requires fit { All (Fits self.old.segments.shape.schema) rows.now }
         requires filled { (before : List RowValue) × IsFilled self.old.segments.shape self.old.segments.most self.old.loader.plan self.old.segments self.old.loader self.old.waiting.items self.old.count before }
         ensures filled { IfOk result (λ _. (before : List RowValue) → IsFilled self.old.segments.shape self.old.segments.most self.old.loader.plan self.old.segments self.old.loader self.old.waiting.items self.old.count before
@@ -142,13 +167,13 @@ impl<'a, R: Threads + Sync, G: Gate> Filling<'a, R, G> {
     {
         for row in rows {
             let copied = row.copy(self.alloc)?;
-            self.push(copied)?;
+            self.push(rt, gate, copied)?;
         }
         Ok(())
     }
 
     // Loads the last rows, which may be fewer than a batch.
-    fn load_last(&mut self) -> Result<(), Memory>
+    fn load_last<R: Threads + Sync, G: Gate>(&mut self, rt: &R, gate: &G) -> Result<(), Memory>
         requires filled { (rows : List RowValue) × IsFilled self.old.segments.shape self.old.segments.most self.old.loader.plan self.old.segments self.old.loader self.old.waiting.items self.old.count rows }
         requires few { self.old.count ≤ room_of self.old.segments }
         ensures shape { self.new.segments.shape ≡ self.old.segments.shape }
@@ -158,17 +183,21 @@ impl<'a, R: Threads + Sync, G: Gate> Filling<'a, R, G> {
         if self.loader.stopped() || self.waiting.is_empty() {
             return Ok(());
         }
-        self.load()
+        self.load(rt, gate)
     }
 
     /// Loads the last rows, asks all questions of the whole log, and closes it.
-    pub(crate) fn finish(mut self) -> Result<(Closing, Loaded), Unmade>
+    pub(crate) fn finish<R: Threads + Sync, G: Gate>(
+        mut self,
+        rt: &R,
+        gate: &G,
+    ) -> Result<(Closing, Loaded), Unmade>
         requires filled { (rows : List RowValue) × IsFilled self.segments.shape self.segments.most self.loader.plan self.segments self.loader self.waiting.items self.count rows }
         requires few { self.count ≤ room_of self.segments }
-        ensures { (rows : List RowValue) → IsFilled self.entry.segments.shape self.entry.segments.most self.entry.loader.plan self.entry.segments self.entry.loader self.entry.waiting.items self.entry.count rows
-            → MatchResult result (λ made. IsLogClosed self.entry.segments.shape self.entry.loader.plan rows made.0.entries.items made.0.seals.items made.1) (IsUnmade self.entry.segments.shape rows) }
+        ensures { (rows : List RowValue) → IsFilled self.segments.shape self.segments.most self.loader.plan self.segments self.loader self.waiting.items self.count rows
+            → MatchResult result (λ made. IsLogClosed self.segments.shape self.loader.plan rows made.0.entries.items made.0.seals.items made.1) (IsUnmade self.segments.shape rows) }
     {
-        let Ok(()) = self.load_last() else {
+        let Ok(()) = self.load_last(rt, gate) else {
             return Err(Unmade::Memory);
         };
         if self.loader.stopped() {
@@ -188,4 +217,24 @@ impl<'a, R: Threads + Sync, G: Gate> Filling<'a, R, G> {
             Err(_) => Err(Unmade::Memory),
         }
     }
+}
+
+// A probe.
+fn room_of_it(segments: &mut Segments, loader: &mut Loader, waiting: &mut Vec<Row>) -> bool {
+    waiting.clear();
+    segments.room() > 0 && loader.stopped()
+}
+
+// A probe.
+pub(crate) fn probe<R: Threads + Sync>(
+    rt: &R,
+    segments: &mut Segments,
+    loader: &mut Loader,
+    waiting: &mut Vec<Row>,
+) -> (bool, bool) {
+    join_mut(
+        rt,
+        &mut || room_of_it(segments, loader, waiting),
+        &mut || true,
+    )
 }

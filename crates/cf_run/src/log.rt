@@ -30,21 +30,19 @@ pub(crate) enum Unmade {
 }
 
 /// An empty log of a setup's shape, of which is asked what the setup asks.
-pub(crate) fn opened<'a, R: Threads + Sync, G: Gate>(
-    rt: &'a R,
+pub(crate) fn opened(
     alloc: Global,
     setup: &Setup,
     sizes: LogSizes,
     rounds: u32,
-    gate: &'a G,
-) -> Result<Filling<'a, R, G>, Memory>
+) -> Result<Filling, Memory>
     requires lawful { IsSetup setup.now }
     requires sizes { AreSizes sizes }
     ensures { IfOk result (λ filling. IsFilledFor setup.now sizes rounds filling.segments filling.loader filling.waiting.items filling.count []) }
 {
     let shape = shape_of(alloc, setup, sizes.capacity, sizes.writers, sizes.nodes)?;
     let plan = plan_of(alloc, setup, rounds)?;
-    Filling::new(rt, alloc, shape, sizes.segments, &plan, gate)
+    Filling::new(alloc, shape, sizes.segments, &plan)
 }
 
 /// The closed log of the rows that filled it, and the answers to all that the setup asks.
@@ -52,15 +50,16 @@ pub(crate) fn log_of<R: Threads + Sync, G: Gate>(
     rt: &R,
     alloc: Global,
     setup: &Setup,
-    filling: Filling<'_, R, G>,
+    filling: Filling,
+    gate: &G,
 ) -> Result<(Closing, Loaded), Unmade>
     requires lawful { IsSetup setup.now }
     requires filled { (sizes : LogSizes) × (rounds : ℕ) × (rows : List RowValue) × AreSizes sizes × IsFilledFor setup.now sizes rounds filling.segments filling.loader filling.waiting.items filling.count rows }
     requires few { filling.count ≤ room_of filling.segments }
-    ensures { (sizes : LogSizes) (rounds : ℕ) (rows : List RowValue) → AreSizes sizes → IsFilledFor setup.now sizes rounds filling.entry.segments filling.entry.loader filling.entry.waiting.items filling.entry.count rows
+    ensures { (sizes : LogSizes) (rounds : ℕ) (rows : List RowValue) → AreSizes sizes → IsFilledFor setup.now sizes rounds filling.segments filling.loader filling.waiting.items filling.count rows
         → MatchResult result (λ made. IsClosed setup.now sizes.capacity sizes.writers sizes.nodes rounds rows made.0.entries.items made.0.seals.items made.1) (IsUnmade (shaped setup.now sizes.capacity sizes.writers sizes.nodes) rows) }
 {
-    let (closing, answers) = filling.finish()?;
+    let (closing, answers) = filling.finish(rt, gate)?;
     match complete(rt, alloc, setup, &closing.entries, answers) {
         Ok(answers) => Ok((closing, answers)),
         Err(_) => Err(Unmade::Memory),
@@ -72,15 +71,16 @@ pub(crate) fn report_of<R: Threads + Sync, G: Gate>(
     rt: &R,
     alloc: Global,
     setup: &Setup,
-    filling: Filling<'_, R, G>,
+    filling: Filling,
+    gate: &G,
 ) -> Result<Product, Unmade>
     requires lawful { IsSetup setup.now }
     requires filled { (sizes : LogSizes) × (rounds : ℕ) × (rows : List RowValue) × AreSizes sizes × IsFilledFor setup.now sizes rounds filling.segments filling.loader filling.waiting.items filling.count rows }
     requires few { filling.count ≤ room_of filling.segments }
-    ensures { (sizes : LogSizes) (rounds : ℕ) (rows : List RowValue) → AreSizes sizes → IsFilledFor setup.now sizes rounds filling.entry.segments filling.entry.loader filling.entry.waiting.items filling.entry.count rows
+    ensures { (sizes : LogSizes) (rounds : ℕ) (rows : List RowValue) → AreSizes sizes → IsFilledFor setup.now sizes rounds filling.segments filling.loader filling.waiting.items filling.count rows
         → MatchResult result (λ made. IsSealedReport setup.now sizes.capacity sizes.writers sizes.nodes rounds rows made.text.items made.seals.items) (IsUnmade (shaped setup.now sizes.capacity sizes.writers sizes.nodes) rows) }
 {
-    let (closing, answers) = log_of(rt, alloc, setup, filling)?;
+    let (closing, answers) = log_of(rt, alloc, setup, filling, gate)?;
     let Ok(text) = report(alloc, setup, &closing.entries, &answers, Form::Whole) else {
         return Err(Unmade::Memory);
     };
@@ -105,13 +105,13 @@ pub(crate) fn final_of<R: Threads + Sync, G: Gate>(
     requires sizes { AreSizes sizes }
     ensures { MatchResult result (λ made. IsSealedFinal setup.now sizes.capacity sizes.writers sizes.nodes rows.items made.text.items made.seals.items) (IsUnmade (shaped setup.now sizes.capacity sizes.writers sizes.nodes) rows.items) }
 {
-    let Ok(mut filling) = opened(rt, alloc, setup, sizes, 0, gate) else {
+    let Ok(mut filling) = opened(alloc, setup, sizes, 0) else {
         return Err(Unmade::Memory);
     };
-    let Ok(()) = filling.take_rows(rows) else {
+    let Ok(()) = filling.take_rows(rt, gate, rows) else {
         return Err(Unmade::Memory);
     };
-    let (closing, answers) = log_of(rt, alloc, setup, filling)?;
+    let (closing, answers) = log_of(rt, alloc, setup, filling, gate)?;
     let Ok(text) = report(alloc, setup, &closing.entries, &answers, Form::Final) else {
         return Err(Unmade::Memory);
     };

@@ -1,5 +1,6 @@
 // A capture of packets is read in pieces, and its rows come piece by piece.
 ghost use Rattle.std.specs.Prelude.{◌≡◌, ◌≤◌, ◌<◌, ◌^◌, ◌+◌, ℕ, List, Option, [], ◌++◌, length, take, false, All, IfOk, OnErr, IsTrue, Err};
+ghost use Rattle.std.specs.Thread.{IsSync};
 ghost use Rattle.cf_outside.specs.Causes.{HasCause};
 ghost use Rattle.cf_pcap.specs.Capture.{FrameValue};
 ghost use Rattle.cf_row.specs.Row.{Fits, RowValue};
@@ -20,7 +21,7 @@ use crate::rows::rows_of;
 use cf_outside::{Failed, Gate, Shelf};
 use cf_row::{Memory, Row};
 use std::alloc::Global;
-use std::thread::Threads;
+use std::thread::{Threads, join_mut};
 
 /// The bytes of a piece.
 const PIECE: usize = 65536;
@@ -134,6 +135,29 @@ impl Pieces {
         Ok(rows)
     }
 
+    /// Reads on until at least so many rows came, or all pieces, and gives their rows.
+    pub(crate) fn next_rows<F: Shelf>(
+        &mut self,
+        alloc: Global,
+        shelf: &mut F,
+        wanted: usize,
+    ) -> Result<Vec<Row>, Stop>
+        requires more { (self.old.count ≡ 65536) × (self.old.number < 65536) }
+        ensures files { F.files shelf.new ≡ F.files shelf.old }
+        ensures number { IfOk result (λ _. self.old.number < self.new.number) }
+        ensures read { IfOk result (λ given. (before : Option (List ℕ)) (rows : List RowValue) → IsReadOn self.old before (F.rest shelf.old) rows → IsReadOn self.new before (F.rest shelf.new) (rows ++ given.items)) }
+        ensures fit { IfOk result (λ given. All (Fits packet_attrs) given.items) }
+        ensures stopped { OnErr result ((before : Option (List ℕ)) (rows : List RowValue) → IsReadOn self.old before (F.rest shelf.old) rows → TakesAtMost before (F.rest shelf.new) (2 ^ 32)) }
+        ensures cause { HasStopCause (F.faults shelf.old) (F.faults shelf.new) result }
+    {
+        let mut given = self.next(alloc, shelf)?;
+        while given.len() < wanted && self.has_more() {
+            let mut more = self.next(alloc, shelf)?;
+            given.append(&mut more)?;
+        }
+        Ok(given)
+    }
+
     /// What the end says: the rows that came are those of the capture, or it has a fault.
     pub(crate) fn finish(self) -> Result<(), Halt>
         requires last { self.count ≡ 65536 → 65536 ≤ self.number }
@@ -161,11 +185,54 @@ pub(crate) fn collect_packets<F: Shelf>(alloc: Global, shelf: &mut F) -> Result<
     Ok(rows)
 }
 
-/// Fills the log with the rows of the opened capture as they come. It is read to its end, or until 2^32 bytes were taken.
-pub(crate) fn fill_packets<R: Threads + Sync, F: Shelf, G: Gate>(
+// The rows at hand go into the log, in a thread of its own where one can be made, while this one reads on, until there are as many
+// as end the next batch.
+fn take_beside<R: Threads + Sync, F: Shelf, G: Gate>(
+    rt: &R,
     alloc: Global,
     shelf: &mut F,
-    filling: &mut Filling<'_, R, G>,
+    filling: &mut Filling,
+    gate: &G,
+    rows: &mut Vec<Row>,
+    pieces: &mut Pieces,
+) -> (Result<(), Memory>, Result<Vec<Row>, Stop>)
+    requires fit { All (Fits filling.old.segments.shape.schema) rows.old.items }
+    requires filled { (before : List RowValue) × IsFilled filling.old.segments.shape filling.old.segments.most filling.old.loader.plan filling.old.segments filling.old.loader filling.old.waiting.items filling.old.count before }
+    requires more { (pieces.old.count ≡ 65536) × (pieces.old.number < 65536) }
+    ensures filled { IfOk result.0 (λ _. (before : List RowValue) → IsFilled filling.old.segments.shape filling.old.segments.most filling.old.loader.plan filling.old.segments filling.old.loader filling.old.waiting.items filling.old.count before
+        → IsFilled filling.old.segments.shape filling.old.segments.most filling.old.loader.plan filling.new.segments filling.new.loader filling.new.waiting.items filling.new.count (before ++ rows.old.items)) }
+    ensures files { F.files shelf.new ≡ F.files shelf.old }
+    ensures number { IfOk result.1 (λ _. pieces.old.number < pieces.new.number) }
+    ensures read { IfOk result.1 (λ given. (before : Option (List ℕ)) (these : List RowValue) → IsReadOn pieces.old before (F.rest shelf.old) these → IsReadOn pieces.new before (F.rest shelf.new) (these ++ given.items)) }
+    ensures fit { IfOk result.1 (λ given. All (Fits packet_attrs) given.items) }
+    ensures stopped { OnErr result.1 ((before : Option (List ℕ)) (these : List RowValue) → IsReadOn pieces.old before (F.rest shelf.old) these → TakesAtMost before (F.rest shelf.new) (2 ^ 32)) }
+    ensures cause { HasStopCause (F.faults shelf.old) (F.faults shelf.new) result.1 }
+{
+    let wanted = filling.wanted(rows.len());
+    let mut take = || -> Result<(), Memory>
+        requires { IsSync R.row × IsSync G.row × All (Fits filling.now.segments.shape.schema) rows.now.items × ((before : List RowValue) × IsFilled filling.now.segments.shape filling.now.segments.most filling.now.loader.plan filling.now.segments filling.now.loader filling.now.waiting.items filling.now.count before) }
+        ensures { IfOk result (λ _. (before : List RowValue) → IsFilled filling.entry.now.segments.shape filling.entry.now.segments.most filling.entry.now.loader.plan filling.entry.now.segments filling.entry.now.loader filling.entry.now.waiting.items filling.entry.now.count before
+            → IsFilled filling.entry.now.segments.shape filling.entry.now.segments.most filling.entry.now.loader.plan filling.exit.now.segments filling.exit.now.loader filling.exit.now.waiting.items filling.exit.now.count (before ++ rows.entry.now.items)) }
+    { filling.take_all(rt, gate, rows) };
+    let mut read = || -> Result<Vec<Row>, Stop>
+        requires { (pieces.now.count ≡ 65536) × (pieces.now.number < 65536) }
+        ensures files { F.files shelf.exit.now ≡ F.files shelf.entry.now }
+        ensures number { IfOk result (λ _. pieces.entry.now.number < pieces.exit.now.number) }
+        ensures read { IfOk result (λ given. (before : Option (List ℕ)) (these : List RowValue) → IsReadOn pieces.entry.now before (F.rest shelf.entry.now) these → IsReadOn pieces.exit.now before (F.rest shelf.exit.now) (these ++ given.items)) }
+        ensures fit { IfOk result (λ given. All (Fits packet_attrs) given.items) }
+        ensures stopped { OnErr result ((before : Option (List ℕ)) (these : List RowValue) → IsReadOn pieces.entry.now before (F.rest shelf.entry.now) these → TakesAtMost before (F.rest shelf.exit.now) (2 ^ 32)) }
+        ensures cause { HasStopCause (F.faults shelf.entry.now) (F.faults shelf.exit.now) result }
+    { pieces.next_rows(alloc, shelf, wanted) };
+    join_mut(rt, &mut take, &mut read)
+}
+
+/// Fills the log with the rows of the opened capture as they come. It is read to its end, or until 2^32 bytes were taken.
+pub(crate) fn fill_packets<R: Threads + Sync, F: Shelf, G: Gate>(
+    rt: &R,
+    alloc: Global,
+    shelf: &mut F,
+    filling: &mut Filling,
+    gate: &G,
 ) -> Result<(), Halt>
     requires attrs { filling.old.segments.shape.schema ≡ packet_attrs }
     requires none { IsFilled filling.old.segments.shape filling.old.segments.most filling.old.loader.plan filling.old.segments filling.old.loader filling.old.waiting.items filling.old.count [] }
@@ -173,11 +240,12 @@ pub(crate) fn fill_packets<R: Threads + Sync, F: Shelf, G: Gate>(
     ensures taken { TakesRows (2 ^ 32) ArePackets HasPacketFault (λ _. IsFilled filling.old.segments.shape filling.old.segments.most filling.old.loader.plan filling.new.segments filling.new.loader filling.new.waiting.items filling.new.count) (F.rest shelf.old) (F.rest shelf.new) result }
     ensures cause { HasHaltCause (F.faults shelf.old) (F.faults shelf.new) result }
 {
-    let (mut pieces, rows) = Pieces::begin(alloc, shelf)?;
-    filling.take_rows(rows)?;
+    let (mut pieces, mut rows) = Pieces::begin(alloc, shelf)?;
     while pieces.has_more() {
-        let rows = pieces.next(alloc, shelf)?;
-        filling.take_rows(rows)?;
+        let (taken, given) = take_beside(rt, alloc, shelf, filling, gate, &mut rows, &mut pieces);
+        rows = given?;
+        taken?;
     }
+    filling.take_rows(rt, gate, rows)?;
     pieces.finish()
 }

@@ -35,19 +35,21 @@ fn run_report<R: Threads + Sync, F: Shelf, G: Gate>(
 {
     let setup = read_setup(alloc, shelf, command.setup)?;
     let sizes = command.sizes;
-    let mut filling = opened(rt, alloc, &setup, sizes, command.rounds, gate)?;
+    let mut filling = opened(alloc, &setup, sizes, command.rounds)?;
     fill_rows(
+        rt,
         alloc,
         shelf,
         command.capture,
         format_of(&setup),
         &mut filling,
+        gate,
     )?;
     if filling.is_full() {
         let most = sizes.most();
         return Err(Halt::Refused(Refusal::Full { most }));
     }
-    match report_of(rt, alloc, &setup, filling) {
+    match report_of(rt, alloc, &setup, filling, gate) {
         Ok(product) => Ok(product),
         Err(Unmade::Nodes) => Err(Halt::Refused(Refusal::Nodes { nodes: sizes.nodes })),
         Err(Unmade::Memory) => Err(Halt::Stopped(Stop::Memory)),

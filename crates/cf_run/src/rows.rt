@@ -48,7 +48,7 @@ pub(crate) fn rows_of(alloc: Global, frames: &[Frame]) -> Result<Vec<Row>, Memor
     ensures rows { IfOk result (λ rows. rows.items ≡ packet_rows frames.now) }
     ensures fit { IfOk result (λ rows. All (Fits packet_attrs) rows.items) }
 {
-    let mut rows = Vec::new(alloc);
+    let mut rows = Vec::with_capacity(alloc, frames.len())?;
     for frame in frames {
         rows.push(packet_row(alloc, frame)?)?;
     }

@@ -61,13 +61,13 @@ fn load_silently<R: Threads + Sync, G: Gate>(
         lives: Vec::new(alloc),
         rounds: 0,
     };
-    let Ok(mut filling) = Filling::new(rt, alloc, shape, 1, &plan, gate) else {
+    let Ok(mut filling) = Filling::new(alloc, shape, 1, &plan) else {
         return Err(Unmade::Memory);
     };
-    let Ok(()) = filling.take_copies(rows) else {
+    let Ok(()) = filling.take_copies(rt, gate, rows) else {
         return Err(Unmade::Memory);
     };
-    filling.finish()?;
+    filling.finish(rt, gate)?;
     Ok(())
 }
 
@@ -136,13 +136,13 @@ fn push_answers<R: Threads + Sync, G: Gate>(
     ensures told { OnOk result (string_bytes text.new ≡ string_bytes text.old ++ host_text (shape_for setup.now sizes) setup.now host rows.now) }
     ensures unmade { MatchResult result (λ _. Unit {0}) (IsUnmadeAlone (shape_for setup.now sizes) rows.now) }
 {
-    let Ok(mut filling) = opened(rt, alloc, setup, sizes, 0, gate) else {
+    let Ok(mut filling) = opened(alloc, setup, sizes, 0) else {
         return Err(Unmade::Memory);
     };
-    let Ok(()) = filling.take_copies(rows) else {
+    let Ok(()) = filling.take_copies(rt, gate, rows) else {
         return Err(Unmade::Memory);
     };
-    let (closing, answers) = log_of(rt, alloc, setup, filling)?;
+    let (closing, answers) = log_of(rt, alloc, setup, filling, gate)?;
     match push_host(alloc, text, setup, host, &closing.entries, answers.finals()) {
         Ok(()) => Ok(()),
         Err(_) => Err(Unmade::Memory),

@@ -1,61 +1,105 @@
-use Rattle.std.proofs.Common.{arith, ℕ, List, Option, ◌++◌, ◌∙◌}
-use Rattle.std.proofs.lemmas.Result.{err_from_is_err_and}
-use Rattle.cf_row.specs.Row.{RowValue}
+use Rattle.std.proofs.Common.{◌≡◌, arith, ℕ, List, [], ◌++◌, Option, Result, Err, OnErr, All, sym, ap, subst, ◌∙◌}
+use Rattle.std.proofs.lemmas.Result.{err_from_is_err_and, IfOk-at_ok}
+use Rattle.cf_row.specs.Row.{RowValue, Fits}
+use Rattle.cf_row.specs.Schema.{packet_attrs}
+use Rattle.cf_row.specs.declared.schema.Attr.{Attr}
+use Rattle.cf_shape.specs.Lanes.{ShapeValue}
 use Rattle.cf_run.specs.Filling.{IsFilled}
 use Rattle.cf_run.proofs.Filled.{filled_here, filled_since}
 use Rattle.cf_run.proofs.Piecewise.{stopped_on, finished_so}
 use Rattle.cf_run.proofs.pieces.fill_packets.Goals as goal
 
-pub returns-in_err-rows-clause-taken : goal.returns-in_err-rows-clause-taken
-returns-in_err-rows-clause-taken g c =
-    let p = err_from_is_err_and c.from_residual-in_err-rows.result c.from_residual-in_err-rows.ensures.1 in
-    let v = c.loop-alloc.invariant.taken in
-    rw (p.1, p.2) (c.in_err-rows.ensures.stopped (g.F.Shelf.rest c.args.shelf.now) v.0 v.1)
+-- what is said of an error, where the result is one
+on_err_at : {T E P : Type 0} (r : Result T E) (y : E) → r ≡ Err y → OnErr r P → P
+on_err_at {P = P} r y is said = subst (λ s. OnErr s P) is said
+
+-- rows of packets fit the schema of a log of packets
+fit_now : (now shape : ShapeValue) (rows : List RowValue) → now ≡ shape → shape.schema ≡ packet_attrs → All (Fits packet_attrs) rows → All (Fits now.schema) rows
+fit_now now shape rows same attrs fit = subst (λ (attributes : List Attr). All (Fits attributes) rows) (sym (ap (λ (h : ShapeValue). h.schema) same ∙ attrs)) fit
+
+pub loop-alloc-init : goal.loop-alloc-init
+loop-alloc-init g c = record {
+  files = c.in_ok-pieces.ensures.files;
+  later = c.in_ok-pieces.ensures.cause.later;
+  fit = c.in_ok-pieces.ensures.fit;
+  taken = ([], c.in_ok-pieces.ensures.read, c.requires.none);
+}
+
+pub take_beside-taken-requires-clause-fit : goal.take_beside-taken-requires-clause-fit
+take_beside-taken-requires-clause-fit g c = λ κs within.
+    let v = c.loop-alloc.invariant in
+    fit_now c.loop-alloc.filling.segments.shape c.args.filling.now.segments.shape c.loop-alloc.rows.items v.taken.2.shape_is c.requires.attrs v.fit
 
 pub loop-alloc-preserved : goal.loop-alloc-preserved
 loop-alloc-preserved g c =
     let v = c.loop-alloc.invariant in
+    let beside = c.take_beside-taken.ensures in
     let before : Option (List ℕ) = g.F.Shelf.rest c.args.shelf.now in
     let rows : List RowValue = v.taken.0 in
-    let given : List RowValue = c.in_ok-rows.rows.items in
+    let more : List RowValue = rows ++ c.loop-alloc.rows.items in
     let first = v.later in
-    let then = c.in_ok-rows.ensures.cause.later in
+    let then = beside.cause.later in
     let shape = c.args.filling.now.segments.shape in
     let most = c.args.filling.now.segments.most in
     let plan = c.args.filling.now.loader.plan in
     let old = c.loop-alloc.filling in
-    let new = c.take_rows-in-loop-alloc.new.self in
+    let new = c.take_beside-taken.new.filling in
     let here = filled_here shape most plan old.segments old.loader old.waiting.items old.count rows v.taken.2 in
     record {
-      files = c.in_ok-rows.ensures.files ∙ v.files;
+      files = beside.files ∙ v.files;
       later = omega (arith, first, then);
+      fit = IfOk-at_ok _ c.in_ok-rows.was beside.fit;
       taken = (
-        rows ++ given,
-        c.in_ok-rows.ensures.read before rows v.taken.1,
-        filled_since shape most plan old.segments new.segments old.loader new.loader old.waiting.items new.waiting.items old.count new.count rows (rows ++ given) v.taken.2 (c.in_ok-take_rows-2.ensures.filled rows here),
+        more,
+        IfOk-at_ok _ c.in_ok-rows.was beside.read before more v.taken.1,
+        filled_since shape most plan old.segments new.segments old.loader new.loader old.waiting.items new.waiting.items old.count new.count rows more v.taken.2 (IfOk-at_ok _ c.in_ok-taken.was beside.filled rows here),
       );
     }
 
-pub returns-in_err-take_rows-2-clause-taken : goal.returns-in_err-take_rows-2-clause-taken
-returns-in_err-take_rows-2-clause-taken g c =
-    let p = err_from_is_err_and c.from_residual-in_err-take_rows-2.result c.from_residual-in_err-take_rows-2.ensures.1 in
+pub returns-in_err-rows-clause-taken : goal.returns-in_err-rows-clause-taken
+returns-in_err-rows-clause-taken g c =
+    let p = err_from_is_err_and c.from_residual-in_err-rows.result c.from_residual-in_err-rows.ensures.1 in
+    let v = c.loop-alloc.invariant.taken in
+    let stopped = on_err_at _ _ c.in_err-rows.was c.take_beside-taken.ensures.stopped in
+    rw (p.1, p.2) (stopped (g.F.Shelf.rest c.args.shelf.now) (v.0 ++ c.loop-alloc.rows.items) v.1)
+
+pub returns-in_err-taken-clause-taken : goal.returns-in_err-taken-clause-taken
+returns-in_err-taken-clause-taken g c =
+    let p = err_from_is_err_and c.from_residual-in_err-taken.result c.from_residual-in_err-taken.ensures.1 in
     let before : Option (List ℕ) = g.F.Shelf.rest c.args.shelf.now in
     let v = c.loop-alloc.invariant.taken in
-    rw (p.1, p.2) (stopped_on c.next.new.self before (g.F.Shelf.rest c.next.new.shelf) (v.0 ++ c.in_ok-rows.rows.items) (c.in_ok-rows.ensures.read before v.0 v.1))
+    let more : List RowValue = v.0 ++ c.loop-alloc.rows.items in
+    let read = IfOk-at_ok _ c.in_ok-rows.was c.take_beside-taken.ensures.read in
+    rw (p.1, p.2) (stopped_on c.take_beside-taken.new.pieces before (g.F.Shelf.rest c.take_beside-taken.new.shelf) (more ++ c.in_ok-rows.rows.items) (read before more v.1))
+
+pub returns-in_err-take_rows-clause-taken : goal.returns-in_err-take_rows-clause-taken
+returns-in_err-take_rows-clause-taken g c =
+    let p = err_from_is_err_and c.from_residual-in_err-take_rows.result c.from_residual-in_err-take_rows.ensures.1 in
+    let v = c.loop-alloc.invariant.taken in
+    rw (p.1, p.2) (stopped_on c.loop-alloc.pieces (g.F.Shelf.rest c.args.shelf.now) (g.F.Shelf.rest c.loop-alloc.shelf) (v.0 ++ c.loop-alloc.rows.items) v.1)
+
+pub take_rows-requires-clause-fit : goal.take_rows-requires-clause-fit
+take_rows-requires-clause-fit g c = λ κs within.
+    let v = c.loop-alloc.invariant in
+    fit_now c.loop-alloc.filling.segments.shape c.args.filling.now.segments.shape c.loop-alloc.rows.items v.taken.2.shape_is c.requires.attrs v.fit
 
 pub returns-clause-taken : goal.returns-clause-taken
 returns-clause-taken g c =
     let before : Option (List ℕ) = g.F.Shelf.rest c.args.shelf.now in
     let now : Option (List ℕ) = g.F.Shelf.rest c.loop-alloc.shelf in
     let v = c.loop-alloc.invariant.taken in
-    let old = c.args.filling.now in
-    let new = c.loop-alloc.filling in
-    finished_so (λ these. IsFilled old.segments.shape old.segments.most old.loader.plan new.segments new.loader new.waiting.items new.count these) before now v.0 c.finish.result (c.finish.ensures.taken before now v.0 v.1) v.2
+    let all : List RowValue = v.0 ++ c.loop-alloc.rows.items in
+    let first = c.args.filling.now in
+    let old = c.loop-alloc.filling in
+    let new = c.take_rows.new.self in
+    let here = filled_here first.segments.shape first.segments.most first.loader.plan old.segments old.loader old.waiting.items old.count v.0 v.2 in
+    let filled = filled_since first.segments.shape first.segments.most first.loader.plan old.segments new.segments old.loader new.loader old.waiting.items new.waiting.items old.count new.count v.0 all v.2 (c.in_ok-take_rows.ensures.filled v.0 here) in
+    finished_so (λ these. IsFilled first.segments.shape first.segments.most first.loader.plan new.segments new.loader new.waiting.items new.count these) before now all c.finish.result (c.finish.ensures.taken before now all v.1) filled
 
 pub returns-clause-cause : goal.returns-clause-cause
 returns-clause-cause g c =
     let v = c.loop-alloc.invariant.taken in
     record {
       later = c.loop-alloc.invariant.later;
-      failed = λ e. absurd (c.finish.ensures.unfailed (g.F.Shelf.rest c.args.shelf.now) (g.F.Shelf.rest c.loop-alloc.shelf) v.0 v.1 e);
+      failed = λ e. absurd (c.finish.ensures.unfailed (g.F.Shelf.rest c.args.shelf.now) (g.F.Shelf.rest c.loop-alloc.shelf) (v.0 ++ c.loop-alloc.rows.items) v.1 e);
     }
