@@ -15,7 +15,7 @@ use cf_row::{Memory, Row};
 use cf_shape::Shape;
 use std::alloc::{AllocError, Global};
 use std::mem;
-use std::thread::{Threads, join_mut};
+use std::thread::Threads;
 
 /// The rows of a batch.
 const BATCH: usize = 4096;
@@ -217,24 +217,4 @@ impl Filling {
             Err(_) => Err(Unmade::Memory),
         }
     }
-}
-
-// A probe.
-fn room_of_it(segments: &mut Segments, loader: &mut Loader, waiting: &mut Vec<Row>) -> bool {
-    waiting.clear();
-    segments.room() > 0 && loader.stopped()
-}
-
-// A probe.
-pub(crate) fn probe<R: Threads + Sync>(
-    rt: &R,
-    segments: &mut Segments,
-    loader: &mut Loader,
-    waiting: &mut Vec<Row>,
-) -> (bool, bool) {
-    join_mut(
-        rt,
-        &mut || room_of_it(segments, loader, waiting),
-        &mut || true,
-    )
 }
