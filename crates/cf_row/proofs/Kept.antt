@@ -1,7 +1,7 @@
 -- The values that words and lengths keep.
-use Rattle.std.proofs.Common.{◌≡◌, ℕ, zero, suc, ◌+◌, ◌-◌, ◌*◌, ◌^◌, ◌<◌, ◌≤◌, List, [], ◌∷◌, ◌++◌, length, map, min, set, get_or, take, drop, replicate, cond, Bool, true, false, ◌&&◌, nat_lt, inl, inr, refl, arith, ap, ap₂, sym, ◌∙◌, subst}
+use Rattle.std.proofs.Common.{◌≡◌, ℕ, zero, suc, ◌+◌, ◌-◌, ◌*◌, ◌^◌, ◌<◌, ◌≤◌, List, [], ◌∷◌, ◌++◌, length, map, min, set, get_or, take, drop, replicate, cond, Bool, true, false, ◌&&◌, nat_lt, nat_le, inl, inr, refl, arith, ap, ap₂, sym, ◌∙◌, subst, length-append}
 use Rattle.std.specs.List.{list_all}
-use Rattle.std.proofs.lemmas.Bool.{and_from, ltb-true, lt-ltb, le-leb, cases_lt}
+use Rattle.std.proofs.lemmas.Bool.{and_from, ltb-true, lt-ltb, le-leb, leb-true, cases_lt, cases_Bool}
 use Rattle.std.proofs.lemmas.List.{drop-drop, drop_more, drop_all, length-map, take_more, take_more_set, map-append, get_or_past, get_or-take, drop-take, length-take-le, take_all, take_at, append-nil}
 use Rattle.cf_row.specs.declared.schema.Attr.{Attr}
 use Rattle.cf_row.specs.declared.schema.Kind.{Kind}
@@ -10,11 +10,11 @@ use Rattle.cf_row.specs.declared.row.Value.{Value}
 use Rattle.cf_row.specs.declared.row.Value.TheVariants.{Num, Raw}
 use Rattle.cf_row.specs.Schema.{has_good_size}
 use Rattle.cf_row.specs.Row.{is_of_kind, values_fit}
-use Rattle.cf_row.specs.Words.{words_of_kind, word_count, big_bytes, values_words, value_read, values_read, word_fits, words_fit}
-use Rattle.cf_row.specs.Kept.{len_of, kind_of, attrs_of, values_kept, AreKept}
+use Rattle.cf_row.specs.Words.{words_of_kind, word_count, big_bytes, value_words, values_words, value_read, values_read, word_fits, words_fit}
+use Rattle.cf_row.specs.Kept.{len_of, kind_of, attrs_of, values_kept, AreKept, can_be_kept, lie_within}
 use Rattle.cf_row.proofs.Counts.{count_none, count_cons, count_low}
 use Rattle.cf_row.proofs.Bytes.{both}
-use Rattle.cf_row.proofs.Spelling.{string_of, values_long, values_back}
+use Rattle.cf_row.proofs.Spelling.{string_of, value_long, values_long, values_back, words_front, words_more}
 use Rattle.cf_row.proofs.Readable.{fit_cons, fit_none, read_cons, read_none, values_fit_words, values_are_read}
 
 -- A kind that is read as another, and takes its words.
@@ -279,3 +279,35 @@ pub fit_more : (lens : List ℕ) (vs : List Value) (i n : ℕ) → i < length vs
 fit_more lens vs i n lt room one fits =
     ap₂ (λ (xs : List ℕ) (ys : List Value). values_fit (attrs_of xs) ys) (take_more_set lens i n room) (take_more vs i (Num 0) lt)
     ∙ fit_push (take i lens) (take i vs) n (get_or vs i (Num 0)) fits one
+
+no_and : (a b : Bool) → b ≡ false → (a && b) ≡ false
+no_and true b h = h
+no_and false b h = refl
+
+not_all : (vs : List Value) (i : ℕ) → i < length vs → can_be_kept (get_or vs i (Num 0)) ≡ false → list_all can_be_kept vs ≡ false
+not_all [] i lt unkept = absurd (omega (arith, lt))
+not_all (v ∷ vs) zero lt unkept = ap (λ (t : Bool). t && list_all can_be_kept vs) unkept
+not_all (v ∷ vs) (suc i) lt unkept = no_and (can_be_kept v) (list_all can_be_kept vs) (not_all vs i (omega (arith, lt)) unkept)
+
+above : (n m : ℕ) → m < n → nat_le n m ≡ false
+above n m lt = elim (cases_Bool (nat_le n m)) [
+  | inl e ↦ (let le = leb-true n m e in absurd (omega (arith, le, lt)))
+  | inr e ↦ e
+]
+
+-- why values have no room within a row
+pub too_many_values : (vs : List Value) → 20 < length vs → lie_within vs ≡ false
+too_many_values vs gt = ap (λ (t : Bool). t && list_all can_be_kept vs && nat_le (length (values_words vs)) 20) (above (length vs) 20 gt)
+
+pub one_is_not_kept : (vs : List Value) (i : ℕ) → i < length vs → can_be_kept (get_or vs i (Num 0)) ≡ false → lie_within vs ≡ false
+one_is_not_kept vs i lt unkept =
+    ap (λ (t : Bool). t && nat_le (length (values_words vs)) 20) (no_and (nat_le (length vs) 20) (list_all can_be_kept vs) (not_all vs i lt unkept))
+
+pub too_many_words : (vs : List Value) (i at n : ℕ) → i < length vs → at ≡ length (values_words (take i vs)) → is_of_kind (kind_of n) (get_or vs i (Num 0)) ≡ true → 20 < at + words_of_kind (kind_of n) → lie_within vs ≡ false
+too_many_words vs i at n lt end fits gt =
+    let v : Value = get_or vs i (Num 0) in
+    let m = ap (length {A = ℕ}) (words_more vs i (Num 0) lt) in
+    let long = value_long (kind_of n) v fits in
+    let all = words_front vs (i + 1) in
+    let more : 20 < length (values_words vs) = omega (arith, m, long, all, end, gt, length-append (values_words (take i vs)) (value_words v)) in
+    no_and (nat_le (length vs) 20 && list_all can_be_kept vs) (nat_le (length (values_words vs)) 20) (above (length (values_words vs)) 20 more)

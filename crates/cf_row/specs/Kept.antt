@@ -1,16 +1,18 @@
 -- How a row keeps its values.
-use Rattle.std.specs.Prelude.{◌≡◌, ℕ, ◌≤◌, zero, suc, true, List, [], length, map, take}
+use Rattle.std.specs.Prelude.{◌≡◌, ℕ, ◌≤◌, zero, suc, Bool, ◌&&◌, nat_le, true, List, [], length, map, take}
 use Rattle.std.specs.List.{list_all}
 use Rattle.cf_row.specs.declared.schema.Attr.{Attr}
 use Rattle.cf_row.specs.declared.schema.Kind.{Kind}
 use Rattle.cf_row.specs.declared.schema.Kind.TheVariants.{U8, U16, U32, U64, Bytes}
 use Rattle.cf_row.specs.declared.row.Value.{Value}
+use Rattle.cf_row.specs.declared.row.Value.TheVariants.{Num, Raw}
 use Rattle.cf_row.specs.declared.values.Values.{Values}
 use Rattle.cf_row.specs.declared.values.Values.TheVariants.{Listed, Spelled}
 use Rattle.cf_row.specs.declared.values.Words.{Words}
 use Rattle.cf_row.specs.declared.values.Words.TheVariants.{Few, Many}
 use Rattle.cf_row.specs.Schema.{has_good_size}
-use Rattle.cf_row.specs.Words.{word_count, values_read, words_fit}
+use Rattle.cf_row.specs.Row.{is_of_kind}
+use Rattle.cf_row.specs.Words.{word_count, values_words, values_read, words_fit}
 
 -- the bytes of a string of the kind, 0 for a number
 abbrev pub len_of : Kind → ℕ
@@ -49,3 +51,16 @@ words_in (Many words) = words.items
 abbrev pub values_of : Values → List Value
 values_of (Listed values) = values.items
 values_of (Spelled values) = values
+
+-- the length that is kept for a value: that of a string, 0 for a number
+abbrev pub len_of_value : Value → ℕ
+len_of_value (Num n) = 0
+len_of_value (Raw len bytes) = len
+
+-- the value is a number, or a string of 1 to 16 bytes whose unused bytes are 0
+abbrev pub can_be_kept : Value → Bool
+can_be_kept value = is_of_kind (kind_of (len_of_value value)) value
+
+-- the values have room within a row: there are at most 20 of them, each can be kept, and all take at most 20 words
+abbrev pub lie_within : List Value → Bool
+lie_within values = nat_le (length values) 20 && list_all can_be_kept values && nat_le (length (values_words values)) 20

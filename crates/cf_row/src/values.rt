@@ -1,11 +1,11 @@
 // How a row keeps its values: as a list, or as the words that spell them.
-ghost use Rattle.std.specs.Prelude.{◌≡◌, ◌<◌, ◌≤◌, ◌++◌, length, map, take, IfOk, IfSome, slice_index_or, true};
+ghost use Rattle.std.specs.Prelude.{◌≡◌, ◌<◌, ◌≤◌, ◌++◌, length, map, take, IfOk, IfSome, IfNone, slice_index_or, true, false};
 ghost use Rattle.std.specs.List.{list_all};
 ghost use Rattle.cf_row.specs.declared.row.Value.TheVariants.{Num};
 ghost use Rattle.cf_row.specs.Row.{is_of_kind as is_of_kind_of};
 ghost use Rattle.cf_row.specs.Schema.{has_good_size};
 ghost use Rattle.cf_row.specs.Words.{word_count, words_fit, values_read, values_words};
-ghost use Rattle.cf_row.specs.Kept.{len_of as len_of_kind, kind_of as kind_of_len, attrs_of, values_kept, AreKept, values_of, words_in};
+ghost use Rattle.cf_row.specs.Kept.{len_of as len_of_kind, kind_of as kind_of_len, attrs_of, values_kept, AreKept, can_be_kept, lie_within, values_of, words_in};
 
 use crate::row::is_of_kind;
 use crate::words::{kind_words, put_value, read_value};
@@ -141,7 +141,8 @@ impl Spelling {
 
     // These values, where they are few enough and each is a number or has 1 to 16 bytes.
     pub(crate) fn of(values: &[Value]) -> Option<Spelling>
-        ensures { IfSome result (λ spelling. spelling ≡ values.now) }
+        ensures same { IfSome result (λ spelling. spelling ≡ values.now) }
+        ensures none { IfNone result (lie_within values.now ≡ false) }
     {
         if values.len() > FEW {
             return None;
@@ -221,7 +222,8 @@ fn kind_of(len: u8) -> Kind
 
 // The length that is kept for the value, if the value is of the kind that is kept for it.
 fn len_kept(value: Value) -> Option<u8>
-    ensures { IfSome result (λ len. is_of_kind_of (kind_of_len len) value ≡ true) }
+    ensures kept { IfSome result (λ len. is_of_kind_of (kind_of_len len) value ≡ true) }
+    ensures none { IfNone result (can_be_kept value ≡ false) }
 {
     let len = match value {
         Value::Num(_) => 0,

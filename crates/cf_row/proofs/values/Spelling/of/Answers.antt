@@ -4,9 +4,9 @@ use Rattle.cf_row.specs.declared.row.Value.{Value}
 use Rattle.cf_row.specs.declared.row.Value.TheVariants.{Num}
 use Rattle.cf_row.specs.Row.{is_of_kind, values_fit}
 use Rattle.cf_row.specs.Kept.{kind_of, attrs_of, values_kept, AreKept}
-use Rattle.cf_row.specs.Words.{values_words, value_words}
+use Rattle.cf_row.specs.Words.{values_words, value_words, words_of_kind}
 use Rattle.cf_row.proofs.Spelling.{words_none, words_more}
-use Rattle.cf_row.proofs.Kept.{fit_more, packed_kept}
+use Rattle.cf_row.proofs.Kept.{fit_more, packed_kept, too_many_words}
 use Rattle.cf_row.proofs.values.Spelling.of.Goals as goal
 
 pub loop-place-init : goal.loop-place-init
@@ -41,6 +41,11 @@ invariant_of-result c =
     let k = kept c.args.values.now c.loop-place.lens c.loop-place.words c.loop-place.place c.loop-place.at c.loop-place.auto.place-end c.loop-place-test.false c.if-values-gt-FEW.false c.loop-place.invariant.long c.loop-place.invariant.fit c.loop-place.invariant.spelled in
     (k.0, omega (arith, c.if-values-gt-FEW.false, c.loop-place.invariant.long))
 
-pub returns : goal.returns
-returns c =
+pub returns-clause-same : goal.returns-clause-same
+returns-clause-same c =
     (kept c.args.values.now c.loop-place.lens c.loop-place.words c.loop-place.place c.loop-place.at c.loop-place.auto.place-end c.loop-place-test.false c.if-values-gt-FEW.false c.loop-place.invariant.long c.loop-place.invariant.fit c.loop-place.invariant.spelled).1
+
+pub returns-then-at-kind_words-gt-FEW-clause-none : goal.returns-then-at-kind_words-gt-FEW-clause-none
+returns-then-at-kind_words-gt-FEW-clause-none c =
+    let one : is_of_kind (kind_of c.in-Some.len) (get_or c.args.values.now c.loop-place.place (Num 0)) ≡ true = search (rules, c.in-Some.ensures) in
+    too_many_words c.args.values.now c.loop-place.place c.loop-place.at c.in-Some.len c.loop-place-test.true c.loop-place.invariant.end one (omega (arith, ap words_of_kind c.kind_of.ensures, c.kind_words.ensures, c.if-at-kind_words-gt-FEW.true))
