@@ -67,7 +67,8 @@ fn read_lines<F: Shelf>(
 }
 
 /// All rows of the capture of that name.
-pub(crate) fn collect_rows<F: Shelf>(
+pub(crate) fn collect_rows<R: Threads + Sync, F: Shelf>(
+    rt: &R,
     alloc: Global,
     shelf: &mut F,
     name: &str,
@@ -81,7 +82,7 @@ pub(crate) fn collect_rows<F: Shelf>(
     match format {
         Format::Packets => {
             open_packets(shelf, name)?;
-            collect_packets(alloc, shelf)
+            collect_packets(rt, alloc, shelf)
         }
         Format::Records(schema) => read_lines(alloc, shelf, name, schema),
     }

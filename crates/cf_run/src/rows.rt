@@ -1,5 +1,6 @@
 // The rows of the bytes of a capture.
 ghost use Rattle.std.specs.Prelude.{◌≡◌, ◌≤◌, ◌^◌, All, IfOk, MatchResult};
+ghost use Rattle.std.specs.Thread.{IsSync};
 ghost use Rattle.cf_row.specs.Row.{Fits};
 ghost use Rattle.cf_row.specs.Schema.{packet_attrs};
 ghost use Rattle.cf_make.specs.Generated.{generated_frames};
@@ -21,6 +22,7 @@ use cf_records::{RecordFault, read_records};
 use cf_row::{Memory, Row, Schema};
 use cf_setup::Setup;
 use std::alloc::{AllocError, Global};
+use std::thread::{Threads, join};
 
 /// The format of a capture.
 #[derive(Clone, Copy)]
@@ -43,16 +45,65 @@ pub(crate) fn format_of<'a>(setup: &'a Setup) -> Format<'a>
     }
 }
 
-/// A row for each frame.
-pub(crate) fn rows_of(alloc: Global, frames: &[Frame]) -> Result<Vec<Row>, Memory>
+/// So many frames are made into rows by several threads.
+const MANY: usize = 2048;
+
+// A row for each frame, in a list that has room for so many.
+fn rows_in_turn(alloc: Global, frames: &[Frame], room: usize) -> Result<Vec<Row>, Memory>
     ensures rows { IfOk result (λ rows. rows.items ≡ packet_rows frames.now) }
     ensures fit { IfOk result (λ rows. All (Fits packet_attrs) rows.items) }
 {
-    let mut rows = Vec::with_capacity(alloc, frames.len())?;
+    let mut rows = Vec::with_capacity(alloc, room)?;
     for frame in frames {
         rows.push(packet_row(alloc, frame)?)?;
     }
     Ok(rows)
+}
+
+// The same. Where there are many, each half is made in a thread of its own, where one can be made.
+#[cycle(halves)]
+fn rows_in_halves<R: Threads + Sync>(
+    rt: &R,
+    alloc: Global,
+    frames: &[Frame],
+    room: usize,
+) -> Result<Vec<Row>, Memory>
+    ensures rows { IfOk result (λ rows. rows.items ≡ packet_rows frames.now) }
+    ensures fit { IfOk result (λ rows. All (Fits packet_attrs) rows.items) }
+{
+    if frames.len() < MANY {
+        return rows_in_turn(alloc, frames, room);
+    }
+    let (front, back) = frames.split_at(frames.len() / 2);
+    let (rows, more) = join(
+        rt,
+        move || -> Result<Vec<Row>, Memory>
+            requires { IsSync R.row }
+            ensures rows { IfOk result (λ rows. rows.items ≡ packet_rows front.entry.now) }
+            ensures fit { IfOk result (λ rows. All (Fits packet_attrs) rows.items) }
+        { rows_in_halves(rt, alloc, front, room) },
+        move || -> Result<Vec<Row>, Memory>
+            requires { IsSync R.row }
+            ensures rows { IfOk result (λ rows. rows.items ≡ packet_rows back.entry.now) }
+            ensures fit { IfOk result (λ rows. All (Fits packet_attrs) rows.items) }
+        { rows_in_halves(rt, alloc, back, back.len()) },
+    );
+    let mut rows = rows?;
+    let mut more = more?;
+    rows.append(&mut more)?;
+    Ok(rows)
+}
+
+/// A row for each frame.
+pub(crate) fn rows_of<R: Threads + Sync>(
+    rt: &R,
+    alloc: Global,
+    frames: &[Frame],
+) -> Result<Vec<Row>, Memory>
+    ensures rows { IfOk result (λ rows. rows.items ≡ packet_rows frames.now) }
+    ensures fit { IfOk result (λ rows. All (Fits packet_attrs) rows.items) }
+{
+    rows_in_halves(rt, alloc, frames, frames.len())
 }
 
 /// The rows of the packets that a seed draws.
@@ -66,7 +117,7 @@ pub(crate) fn drawn_packets(alloc: Global, seed: u64, count: u32) -> Result<Vec<
     let mut reader = Reader::of_pcap(alloc)?;
     reader.feed(&bytes, &mut frames)?;
     match reader.finish() {
-        Ok(()) => rows_of(alloc, &frames),
+        Ok(()) => rows_in_turn(alloc, &frames, frames.len()),
         Err(Halt::Stopped(Stop::Memory)) => Err(AllocError),
         // What is made is a capture.
         Err(_) => unreachable!(),

@@ -1,0 +1,16 @@
+use Rattle.std.proofs.Common.{◌≡◌, ◌≤◌, ◌<◌, ◌-◌, ◌++◌, ℕ, List, Option}
+use Rattle.cf_row.specs.Row.{RowValue}
+use Rattle.cf_run.specs.Reading.{IsReadOn}
+use Rattle.cf_run.specs.Work.{packet_rows}
+use Rattle.cf_run.proofs.pieces.Pieces.next_frames.Given as goal
+
+abbrev pub invariant-loop-self : goal.invariant-loop-self
+invariant-loop-self g l = record {
+  files : g.F.Shelf.files l.shelf ≡ g.F.Shelf.files l.fn.shelf;
+  later : g.F.Shelf.faults l.fn.shelf ≤ g.F.Shelf.faults l.shelf;
+  number : l.fn.self.number < l.self.number;
+  read : (before : Option (List ℕ)) (rows : List RowValue) → IsReadOn l.fn.self before (g.F.Shelf.rest l.fn.shelf) rows → IsReadOn l.self before (g.F.Shelf.rest l.shelf) (rows ++ packet_rows l.frames.items);
+}
+
+abbrev pub decreases-loop-self : goal.decreases-loop-self
+decreases-loop-self g l = 65536 - l.self.number
