@@ -7,3 +7,4 @@ pub mod Planned
 pub mod Priors
 pub mod Loads
 pub mod Loaders
+pub mod Closing

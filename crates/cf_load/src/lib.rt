@@ -3,6 +3,7 @@
 #![tactic(auto)]
 
 mod batch;
+mod closing;
 mod filling;
 mod finals;
 mod loader;

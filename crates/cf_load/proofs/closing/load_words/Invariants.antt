@@ -1,0 +1,13 @@
+use Rattle.std.proofs.Common.{◌≡◌, ◌<◌, ℕ, length, get_or}
+use Rattle.cf_row.specs.Words.{IsEntry, spelled}
+use Rattle.cf_table.specs.Moves.{OnlyLooked}
+use Rattle.cf_query.proofs.Loaded.{entry_at}
+use Rattle.cf_load.proofs.closing.load_words.Given as goal
+
+abbrev pub invariant-loop-i : goal.invariant-loop-i
+invariant-loop-i g l = record {
+  long : length l.words ≡ length l.initial.words;
+  read : (k : ℕ) → k < l.i → get_or l.words k 0 ≡ get_or (spelled (entry_at (l.fn.pass).view l.offset)) k 0;
+  lawful : 0 < l.i → IsEntry (l.log.shape).schema (entry_at (l.fn.pass).view l.offset);
+  looked : OnlyLooked l.fn.pass l.pass;
+}
