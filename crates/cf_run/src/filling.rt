@@ -212,7 +212,7 @@ impl Filling {
         let Ok(answers) = loader.finish(alloc, &mut segments) else {
             return Err(Unmade::Memory);
         };
-        match segments.close(alloc) {
+        match segments.close_by_threads(rt, alloc) {
             Ok(closing) => Ok((closing, answers)),
             Err(_) => Err(Unmade::Memory),
         }
