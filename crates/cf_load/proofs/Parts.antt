@@ -21,7 +21,7 @@ part_more front xs from at x le lt is =
     (ap (λ (y : _). take i (drop from xs) ++ y ∷ []) (sym item) ∙ (sym (take_more (drop from xs) i x (omega (arith, long, le, lt))) ∙ ap (λ (n : ℕ). take n (drop from xs)) next))
 
 -- two parts, one behind the other
-pub part_join : {X : Type 0} (xs : List X) (from middle to : ℕ) → from ≤ middle → middle ≤ to → slice_range xs from middle ++ slice_range xs middle to ≡ slice_range xs from to
+part_join : {X : Type 0} (xs : List X) (from middle to : ℕ) → from ≤ middle → middle ≤ to → slice_range xs from middle ++ slice_range xs middle to ≡ slice_range xs from to
 part_join xs from middle to low high =
     let there : from + (middle - from) ≡ middle = omega (arith, low) in
     let all : middle - from + (to - middle) ≡ to - from = omega (arith, low, high) in

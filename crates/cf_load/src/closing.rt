@@ -1,4 +1,4 @@
-// The entries of a closed log are read, by one thread or by several.
+// The entries of a log are read when it is closed, by one thread or by several.
 ghost use Rattle.std.specs.Prelude.{◌≡◌, ◌+◌, ◌<◌, ◌≤◌, ◌++◌, All, length, slice_get, slice_range, Some, IfOk, OnOk, ⊤};
 ghost use Rattle.std.specs.Thread.{IsSync};
 ghost use Rattle.cf_row.specs.Words.{word_count as word_count_of};
@@ -105,7 +105,7 @@ fn read_between(
     read_counted::<Brand>(log, alloc, pass, from, to, entries, Blank::new(1))
 }
 
-// What the first pass has to read, in a list with that room.
+// The entries from one offset up to another, which the first pass reads, in a list with room for so many.
 fn read_part(
     log: &MultiLog,
     alloc: Global,
@@ -123,7 +123,7 @@ fn read_part(
 }
 
 // The entries from one offset up to another, of which each pass reads a part, in a thread of its own where one can be made. The
-// list has that room, so that more can be put behind them.
+// list of the first part has room for so many, as the others are put behind it.
 #[cycle(parts)]
 fn read_parts<R: Threads + Sync>(
     rt: &R,
@@ -186,7 +186,7 @@ fn fork_all(
     Ok(passes)
 }
 
-// All entries, which several passes read. They do not come home, as they bring nothing.
+// All entries, each read by one of several passes. These do not come home, as they bring nothing.
 fn read_segment<R: Threads + Sync>(
     rt: &R,
     alloc: Global,

@@ -12,7 +12,7 @@ use crate::{Closing, LivePlan, LoadFault, Loader, Segments, TurnFault, load};
 use cf_fold::{Part, Trigger};
 use cf_outside::FreeGate;
 use cf_plain::{Answer, Ask, Body, Fired, Loaded};
-use cf_row::{Attr, Conjunction, Expr, Kind, Memory, Name, Op, Row, Schema, Value, fits};
+use cf_row::{Attr, Conjunction, Entry, Expr, Kind, Memory, Name, Op, Row, Schema, Value, fits};
 use cf_shape::{Key, Lane, Shape, belongs};
 use cf_table::{MultiLog, Pass, Root, WriterPass};
 use std::alloc::Global;
@@ -322,6 +322,12 @@ fn segments_are_filled_one_after_the_other(rt: HostRuntime) -> Result<(), Fail> 
     Ok(())
 }
 
+// an entry's writer and number, and its `ts` and `len`
+fn parts_of(entry: &Entry) -> (u8, u32, u64, u64) {
+    let row = &entry.row;
+    (entry.writer, row.num(), row.number(0), row.number(1))
+}
+
 // Threads read of a full segment, and of one with few rows, what one thread reads of an equal log.
 #[test]
 fn threads_read_what_one_does(rt: HostRuntime) -> Result<(), Fail> {
@@ -342,8 +348,8 @@ fn threads_read_what_one_does(rt: HostRuntime) -> Result<(), Fail> {
     assert_eq!(rt; other.entries.len(), 4100);
     let pairs = closing.entries.iter().zip(other.entries.iter());
     for ((entry, same), number) in pairs.zip(0..4100) {
-        assert!(rt; entry.writer == 0 && same.writer == 0);
-        assert!(rt; entry.row.num() == number && same.row.num() == number);
+        assert_eq!(rt; parts_of(entry), (0, number, 7, 1));
+        assert_eq!(rt; parts_of(same), (0, number, 7, 1));
     }
     Ok(())
 }
