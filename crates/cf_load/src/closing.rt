@@ -212,6 +212,7 @@ fn read_segment<R: Threads + Sync>(
 
 /// Reads the entries of segments.
 pub(crate) trait EntryReader {
+    // That threads may share what it needs of them.
     ghost can_read: { Self → Type 0 };
 
     /// All entries of the segment. Only its root's last look may be another then.
