@@ -24,6 +24,7 @@ use Rattle.cf_run.specs.Seals.{IsSealedReport, IsSealedFinal}
 use Rattle.cf_run.specs.Several.{AreReadAs, AreHalted, AreStopped}
 use Rattle.cf_run.specs.Work.{drawn_rows, shape_for}
 use Rattle.cf_run.specs.Due.Exceeds.{full, short}
+use Rattle.cf_run.proofs.Drawing.{drawn_many}
 use Rattle.cf_run.proofs.Several.{all_taken, refused_stopped}
 use Rattle.cf_run.proofs.Taking.{left_same}
 use Rattle.cf_run.specs.declared.draft.Draft.{Draft}
@@ -101,18 +102,16 @@ module _ (told : Option (List File)) (call : SynthCall) (before now : Option (Li
       synth_exceeds : (why : Refusal) → Exceeds call.sizes setup (drawn_rows call) why → Ends told (Some (synth call)) before now (Err (Refused why))
       synth_exceeds why over = synth_gives (status_of why) (line_of why) [] (refuses why over (refl, refl, refl))
 
-      -- of the rows that were drawn
-      pub synth_full : (rows : List RowValue) → rows ≡ drawn_rows call → call.sizes.capacity * call.sizes.segments < length rows → Ends told (Some (synth call)) before now (Err (Refused (refusals.Full (call.sizes.capacity * call.sizes.segments))))
-      synth_full rows is many = synth_exceeds (refusals.Full (call.sizes.capacity * call.sizes.segments)) (full (subst (λ (rs : List RowValue). call.sizes.capacity * call.sizes.segments < length rs) is many) refl)
+      pub synth_full : call.sizes.capacity * call.sizes.segments < call.count → Ends told (Some (synth call)) before now (Err (Refused (refusals.Full (call.sizes.capacity * call.sizes.segments))))
+      synth_full many =
+          let size = drawn_many call in
+          synth_exceeds (refusals.Full (call.sizes.capacity * call.sizes.segments)) (full (omega (arith, size, many)) refl)
 
-      pub synth_short : (rows : List RowValue) → rows ≡ drawn_rows call → length rows ≤ call.sizes.capacity * call.sizes.segments → NeedsMore (shape_for setup call.sizes) call.sizes.nodes rows → Ends told (Some (synth call)) before now (Err (Refused (refusals.Nodes call.sizes.nodes)))
-      synth_short rows is few many =
-          synth_exceeds (refusals.Nodes call.sizes.nodes) (short (subst (λ (rs : List RowValue). length rs ≤ call.sizes.capacity * call.sizes.segments) is few) (subst (λ (rs : List RowValue). NeedsMore (shape_for setup call.sizes) call.sizes.nodes rs) is many) refl)
+      pub synth_short : length (drawn_rows call) ≤ call.sizes.capacity * call.sizes.segments → NeedsMore (shape_for setup call.sizes) call.sizes.nodes (drawn_rows call) → Ends told (Some (synth call)) before now (Err (Refused (refusals.Nodes call.sizes.nodes)))
+      synth_short few many = synth_exceeds (refusals.Nodes call.sizes.nodes) (short few many refl)
 
-      pub synth_sealed : (rows : List RowValue) (text : List ℕ) (seals : List SealValue) → rows ≡ drawn_rows call → length rows ≤ call.sizes.capacity * call.sizes.segments → IsSealedFinal setup call.sizes.capacity call.sizes.writers call.sizes.nodes rows text seals → IsDue told (Some (synth call)) before now Done text seals
-      synth_sealed rows text seals drawn few over =
-          let made : IsSealedFinal setup call.sizes.capacity call.sizes.writers call.sizes.nodes (drawn_rows call) text seals = subst (λ (rs : List RowValue). IsSealedFinal setup call.sizes.capacity call.sizes.writers call.sizes.nodes rs text seals) drawn over in
-          synth_gives Done text seals (tells (subst (λ (rs : List RowValue). length rs ≤ call.sizes.capacity * call.sizes.segments) drawn few) made.few_nodes refl (record { text_is = made.text_is; seals_are = made.seals_are }))
+      pub synth_sealed : (text : List ℕ) (seals : List SealValue) → length (drawn_rows call) ≤ call.sizes.capacity * call.sizes.segments → IsSealedFinal setup call.sizes.capacity call.sizes.writers call.sizes.nodes (drawn_rows call) text seals → IsDue told (Some (synth call)) before now Done text seals
+      synth_sealed text seals few made = synth_gives Done text seals (tells few made.few_nodes refl (record { text_is = made.text_is; seals_are = made.seals_are }))
 
 module _ (told : Option (List File)) (call : DumpCall) (before now : Option (List ℕ)) where
   pub dump_unread : (halt : Halt) → Halts (captures true packet_attrs) told call.capture before now halt → Ends told (Some (dump call)) before now (Err halt)

@@ -1,33 +1,84 @@
--- The rows of drawn packets.
-use Rattle.std.proofs.Common.{◌≡◌, ℕ, ◌^◌, ◌≤◌, false, List, [], ◌++◌, Result, Vec, IfOk, ◌∙◌, subst, sym, refl}
-use Rattle.std.specs.declared.alloc.Global.{Global}
+-- The packets that a seed draws, read as a capture.
+use Rattle.std.proofs.Common.{◌≡◌, ℕ, ◌+◌, ◌<◌, ◌≤◌, ◌^◌, Bool, true, false, List, ◌∷◌, ◌++◌, length, Option, Some, Result, Ok, Err, refl, sym, ap, subst, ◌∙◌, inl, inr, arith, append-nil, length-append}
+use Rattle.std.specs.Str.{bytes_eq}
+use Rattle.std.proofs.lemmas.List.{length-map}
+use Rattle.std.proofs.lemmas.Slice.Eq.{bytes_eq-Decides}
+use Rattle.cf_outside.specs.Causes.{Rose}
+use Rattle.cf_outside.specs.Files.{File, Opens, file_named}
+use Rattle.cf_outside.specs.declared.shelf.OpenFault.{OpenFault}
+use Rattle.cf_outside.specs.declared.shelf.OpenFault.TheVariants as open_faults
 use Rattle.cf_row.specs.Row.{RowValue}
-use Rattle.cf_pcap.specs.Capture.{FrameValue, IsCapture}
-use Rattle.cf_make.specs.Generated.{generated_bytes, generated_frames}
-use Rattle.cf_make.proofs.Reading.{made_is_capture}
-use Rattle.cf_run.specs.Work.{packet_rows}
-use Rattle.cf_pcap.proofs.Verdict.{one_capture, either}
-use Rattle.cf_run.specs.Faults.{HasRecordFault}
-use Rattle.cf_run.specs.Parts.{IsBad}
-use Rattle.cf_run.specs.Reading.{IsReaderAt, reads_blocks}
-use Rattle.cf_run.specs.declared.reader.Reader.{Reader}
+use Rattle.cf_headers.specs.Packet.{packet_row_of}
+use Rattle.cf_make.specs.Generated.{file_header, generated_bytes, generated_frames}
+use Rattle.cf_make.proofs.Reading.{made_is_capture, frames_many}
+use Rattle.cf_command.specs.Call.{SynthCall}
+use Rattle.cf_run.specs.Devices.{TakesUpTo}
+use Rattle.cf_run.specs.Faults.{HasPacketFault}
+use Rattle.cf_run.specs.Formats.{begins_section}
+use Rattle.cf_run.specs.Parts.{HasHaltCause}
+use Rattle.cf_run.specs.Reading.{TakesRows}
+use Rattle.cf_run.specs.Work.{AreFramesBy, ArePackets, drawn_rows, packet_rows}
 use Rattle.cf_run.specs.declared.refusal.Halt.{Halt}
 use Rattle.cf_run.specs.declared.refusal.Halt.TheVariants.{Refused, Stopped}
 use Rattle.cf_run.specs.declared.refusal.Stop.TheVariants as stops
+use Rattle.cf_run.proofs.Capturing.{packets_either, packets_same}
 
--- what is made is a capture, so its reader gives up for want of memory alone
-pub drawn_memory : (seed count : ℕ) (bytes : List ℕ) (halt : Halt) → count ≤ 2 ^ 20 → bytes ≡ generated_bytes seed count → IsBad (HasRecordFault bytes) halt → (halt ≡ Stopped stops.Memory → ⊥) → ⊥
-drawn_memory seed count bytes (Refused why) few made bad other =
-    either bytes (generated_frames seed count) bad.3.fault (subst (λ (x : List ℕ). IsCapture x (generated_frames seed count)) (sym made) (made_is_capture seed count few)) bad.3.fault_is
-drawn_memory seed count bytes (Stopped stops.ReadFault) few made bad other = bad
-drawn_memory seed count bytes (Stopped stops.Memory) few made bad other = other refl
+-- there are as many as were asked for
+pub drawn_many : (call : SynthCall) → length (drawn_rows call) ≡ call.count
+drawn_many call = length-map (generated_frames call.seed call.count) packet_row_of ∙ frames_many call.seed call.count
 
--- what is read of a made capture are the rows of its packets
-pub drawn_are : {E : Type 0} (seed count : ℕ) (bytes : List ℕ) (frames now : List FrameValue) (result : Result (Vec RowValue Global) E) → count ≤ 2 ^ 20 → bytes ≡ generated_bytes seed count → IsCapture bytes frames → now ≡ frames → IfOk result (λ rows. rows.items ≡ packet_rows now) → IfOk result (λ rows. rows.items ≡ packet_rows (generated_frames seed count))
-drawn_are seed count bytes frames now result few made is same rows =
-    let drawn : frames ≡ generated_frames seed count = one_capture (generated_bytes seed count) frames (generated_frames seed count) (subst (λ (x : List ℕ). IsCapture x frames) made is) (made_is_capture seed count few) in
-    subst (λ (x : List FrameValue). IfOk result (λ all. all.items ≡ packet_rows x)) (same ∙ drawn) rows
+-- The file that was put last is opened by its name.
 
--- the reader that was fed them at once
-pub drawn_frames : (bytes : List ℕ) (given : List FrameValue) (old new : Reader) → reads_blocks old ≡ false → reads_blocks new ≡ reads_blocks old → IsReaderAt old [] [] → ((stream : List ℕ) (frames : List FrameValue) → IsReaderAt old stream frames → IsReaderAt new (stream ++ bytes) (frames ++ given)) → IsReaderAt new bytes given × (reads_blocks new ≡ false)
-drawn_frames bytes given old new records same begins fed = (fed [] [] begins, same ∙ records)
+named_last : (files others : List File) (name bytes : List ℕ) → files ≡ record { name = name; bytes = bytes } ∷ others → file_named files name ≡ Some bytes
+named_last files others name bytes put =
+    let same : bytes_eq name name ≡ true = (bytes_eq-Decides name name).1 refl in
+    let found : file_named (record { name = name; bytes = bytes } ∷ others) name ≡ Some bytes = rw same refl in
+    ap (λ (fs : List File). file_named fs name) put ∙ found
+
+pub last_opened : (files others : List File) (name bytes found left : List ℕ) → files ≡ record { name = name; bytes = bytes } ∷ others → file_named files name ≡ Some found → Some left ≡ Some found → left ≡ bytes
+last_opened files others name bytes found left put named is = let same = named_last files others name bytes put in cc (same, named, is)
+
+pub last_never_refused : (files others : List File) (name bytes : List ℕ) (before now : Option (List ℕ)) (fault : OpenFault) → files ≡ record { name = name; bytes = bytes } ∷ others → Opens (Some files) name before now (Err fault) → (◌≡◌ {A = Result (Unit {0}) OpenFault} (Err fault) (Err open_faults.Failed) → ⊥) → (◌≡◌ {A = Result (Unit {0}) OpenFault} (Err fault) (Err open_faults.Memory) → ⊥) → ⊥
+last_never_refused files others name bytes before now open_faults.Missing put opens unfailed enough = let same = named_last files others name bytes put in let missing = opens.0 in cc (same, missing)
+last_never_refused files others name bytes before now open_faults.Failed put opens unfailed enough = unfailed refl
+last_never_refused files others name bytes before now open_faults.Memory put opens unfailed enough = enough refl
+
+-- The drawn capture is read in the format that it begins as, in which it is one.
+
+begins_pcap : (seed count : ℕ) → begins_section (generated_bytes seed count) ≡ false
+unfolding begins_section file_header generated_bytes
+begins_pcap seed count = refl
+
+drawn_are : (seed count : ℕ) → count ≤ 2 ^ 20 → ArePackets (generated_bytes seed count) (packet_rows (generated_frames seed count))
+drawn_are seed count few = record {
+  frames = generated_frames seed count;
+  frames_are = subst (λ (b : Bool). AreFramesBy b (generated_bytes seed count) (generated_frames seed count)) (sym (begins_pcap seed count)) (made_is_capture seed count few);
+  rows_are = refl;
+}
+
+-- it is shorter than what is read of a file at most, so all of it is taken
+read_whole : (seed count : ℕ) (file left bytes : List ℕ) → count ≤ 2 ^ 20 → file ≡ generated_bytes seed count → TakesUpTo (Some file) (Some left) (2 ^ 32) bytes → bytes ≡ generated_bytes seed count
+read_whole seed count file left bytes few made takes =
+    let parts : file ≡ bytes ++ left = takes.taken in
+    let size : length (generated_bytes seed count) < 2 ^ 32 = (made_is_capture seed count few).size in
+    let sum : length file ≡ length bytes + length left = ap (λ (xs : List ℕ). length xs) parts ∙ length-append bytes left in
+    let same : length file ≡ length (generated_bytes seed count) = ap (λ (xs : List ℕ). length xs) made in
+    elim takes.whole [
+      | inl end ↦ sym (append-nil bytes) ∙ ap (λ (xs : List ℕ). bytes ++ xs) (sym end) ∙ sym parts ∙ made
+      | inr full ↦ absurd (omega (arith, size, sum, same, full))
+    ]
+
+-- So its rows are those of the packets,
+pub drawn_taken : (Took : List RowValue → Type 0) (seed count : ℕ) (file left : List ℕ) → count ≤ 2 ^ 20 → file ≡ generated_bytes seed count → TakesRows (2 ^ 32) ArePackets HasPacketFault (λ (_ : Unit {0}) rows. Took rows) (Some file) (Some left) (Ok (tt {0})) → Took (packet_rows (generated_frames seed count))
+drawn_taken Took seed count file left few made (bytes, rows, takes, are, took) =
+    let all : bytes ≡ generated_bytes seed count = read_whole seed count file left bytes few made takes in
+    let drawn = packets_same (generated_bytes seed count) rows (packet_rows (generated_frames seed count)) (subst (λ (xs : List ℕ). ArePackets xs rows) all are) (drawn_are seed count few) in
+    subst Took drawn took
+
+-- and it is want of memory alone that ends the work before.
+pub drawn_memory : (Took : Unit {0} → List RowValue → Type 0) (seed count : ℕ) (file left : List ℕ) (halt : Halt) → count ≤ 2 ^ 20 → file ≡ generated_bytes seed count → TakesRows (2 ^ 32) ArePackets HasPacketFault Took (Some file) (Some left) (Err halt) → HasHaltCause {T = Unit {0}} 0 0 (Err halt) → (halt ≡ Stopped stops.Memory → ⊥) → ⊥
+drawn_memory Took seed count file left (Refused why) few made (bytes, takes, bad) cause other =
+    let all : bytes ≡ generated_bytes seed count = read_whole seed count file left bytes few made takes in
+    packets_either (generated_bytes seed count) (packet_rows (generated_frames seed count)) bad.0 bad.1 (drawn_are seed count few) (subst (λ (xs : List ℕ). HasPacketFault xs bad.0 bad.1) all bad.3)
+drawn_memory Took seed count file left (Stopped stops.ReadFault) few made stopped cause other = let rose : Rose 0 0 = cause.failed refl in omega (arith, rose)
+drawn_memory Took seed count file left (Stopped stops.Memory) few made stopped cause other = other refl

@@ -340,11 +340,6 @@ filled_on setup sizes rounds s t old new before waiting none counted first rows 
   filled = filled_here s.shape s.most old.plan t new waiting counted rows took;
 }
 
--- as when its first rows came
-pub filled_first : (setup : SetupValue) (sizes : LogSizes) (rounds : ℕ) (s t : SegmentsValue) (old new : LoaderValue) (before waiting : List RowValue) (none counted : ℕ) (rows : List RowValue) → IsFilledFor setup sizes rounds s old before none []
-    → ((first : List RowValue) → IsFilled s.shape s.most old.plan s old before none first → IsFilled s.shape s.most old.plan t new waiting counted (first ++ rows)) → IsFilledFor setup sizes rounds t new waiting counted rows
-filled_first setup sizes rounds s t old new before waiting none counted rows is took = filled_on setup sizes rounds s t old new before waiting none counted [] rows is (took [] is.filled)
-
 module _ (setup : SetupValue) (sizes : LogSizes) (rounds : ℕ) (s : SegmentsValue) (loader : LoaderValue) (waiting : List RowValue) (count : ℕ) (rows : List RowValue) (is : IsFilledFor setup sizes rounds s loader waiting count rows) where
   room_for : room_of s ≡ sizes.capacity * sizes.segments
   room_for = ap₂ (λ (n : ℕ) (h : ShapeValue). n * h.capacity) is.most is.shape ∙ mul_comm sizes.segments sizes.capacity

@@ -15,6 +15,7 @@ use Rattle.cf_plain.specs.Asks.{Suits, SuitsTrigger, suits_of, suits_trigger}
 use Rattle.cf_plain.specs.declared.ask.Ask.{Ask}
 use Rattle.cf_setup.specs.Setups.{SetupValue, IsSetup, shaped}
 use Rattle.cf_plain.specs.declared.loaded.Live.{Live}
+use Rattle.cf_report.specs.declared.text.Form.{Form}
 use Rattle.cf_report.specs.declared.text.Form.TheVariants as forms
 use Rattle.cf_plain.specs.Answered.{LoadedValue, no_ask, turn_of}
 use Rattle.cf_scan.specs.Split.{logged_places}
@@ -36,7 +37,7 @@ use Rattle.cf_run.specs.Needs.{NeedsMore}
 use Rattle.cf_run.specs.declared.log.Unmade.{Unmade}
 use Rattle.cf_run.specs.declared.log.Unmade.TheVariants.{Nodes, Memory}
 use Rattle.cf_run.specs.Work.{shape_for}
-use Rattle.cf_run.specs.Seals.{AreSeals, IsClosed, IsSealedReport, IsSealedFinal}
+use Rattle.cf_run.specs.Seals.{AreSeals, IsClosed, IsSealedReport, IsSealedFinal, IsSealedIn}
 
 -- what a setup asks can be asked of a log of its shape
 pub asks_suit : (setup : SetupValue) (capacity writers nodes : ℕ) → IsSetup setup → All (Suits (shaped setup capacity writers nodes)) setup.asks
@@ -117,7 +118,7 @@ module _ (setup : SetupValue) (capacity writers nodes rounds : ℕ) (rows : List
     final_is = final_is setup capacity writers nodes rounds rows (order_of entries) answered some valid meant;
   }
 
-  pub report_sealed : (text : List ℕ) → text ≡ text_of forms.Whole setup entries answered → IsSealedReport setup capacity writers nodes rounds rows text seals
+  report_sealed : (text : List ℕ) → text ≡ text_of forms.Whole setup entries answered → IsSealedReport setup capacity writers nodes rounds rows text seals
   report_sealed text text_is =
       let shown : text ≡ text_of forms.Whole setup (log_of rows writers (order_of entries)) answered = text_is ∙ ap (λ (es : List Entry). text_of forms.Whole setup es answered) same in
       let base : IsSealedReport setup capacity writers nodes rounds rows (text_of forms.Whole setup (log_of rows writers (order_of entries)) answered) seals = record {
@@ -128,7 +129,7 @@ module _ (setup : SetupValue) (capacity writers nodes rounds : ℕ) (rows : List
       } in
       subst (λ (t : List ℕ). IsSealedReport setup capacity writers nodes rounds rows t seals) (sym shown) base
 
-  pub final_sealed : rounds ≡ 0 → (text : List ℕ) → text ≡ text_of forms.Final setup entries answered → IsSealedFinal setup capacity writers nodes rows text seals
+  final_sealed : rounds ≡ 0 → (text : List ℕ) → text ≡ text_of forms.Final setup entries answered → IsSealedFinal setup capacity writers nodes rows text seals
   final_sealed none text text_is = record {
     text_is = text_is ∙ ap (λ (es : List Entry). text_of forms.Final setup es answered) same ∙ final_is setup capacity writers nodes rounds rows (order_of entries) answered some valid meant;
     seals_are = record {
@@ -138,3 +139,13 @@ module _ (setup : SetupValue) (capacity writers nodes rounds : ℕ) (rows : List
     };
     few_nodes = closed.few_nodes;
   }
+
+  -- in either form
+  pub sealed_in : (form : Form) (text : List ℕ) → text ≡ text_of form setup entries answered → IsSealedIn form setup capacity writers nodes rounds rows text seals
+  sealed_in forms.Whole text text_is = report_sealed text text_is
+  sealed_in forms.Final text text_is = λ none. final_sealed none text text_is
+
+-- where no live question was asked, the final part is sealed
+pub final_so : {T E : Type 0} (r : Result T E) (P : T → Type 0) (Q : E → Type 0) → MatchResult r (λ made. ◌≡◌ {A = ℕ} 0 0 → P made) Q → MatchResult r P Q
+final_so (Ok made) P Q sealed = sealed refl
+final_so (Err why) P Q unmade = unmade

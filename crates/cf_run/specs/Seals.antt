@@ -6,6 +6,8 @@ use Rattle.cf_history.specs.Order.{IsOrder, IsLogOf, log_of}
 use Rattle.cf_setup.specs.Setups.{SetupValue, shaped}
 use Rattle.cf_plain.specs.Answered.{LoadedValue}
 use Rattle.cf_report.specs.Meaning.{IsReport, AreMeant, final_text}
+use Rattle.cf_report.specs.declared.text.Form.{Form}
+use Rattle.cf_report.specs.declared.text.Form.TheVariants.{Whole, Final}
 use Rattle.cf_table.specs.Moves.{SealValue}
 use Rattle.cf_load.specs.Blocks.{block}
 use Rattle.cf_load.specs.Planned.{tails_of}
@@ -51,3 +53,8 @@ pub record IsSealedFinal (setup : SetupValue) (capacity writers nodes : ℕ) (ro
   pub text_is : text ≡ final_text (shaped setup capacity writers nodes) setup rows
   pub seals_are : AreSynthSeals rows capacity writers seals
   pub few_nodes : NeedsAtMost (shaped setup capacity writers nodes) (writers * nodes) rows
+
+-- A report of the rows in that form, with the seals of the log. Of the final part this is said where no live question was asked.
+abbrev pub IsSealedIn : Form → SetupValue → ℕ → ℕ → ℕ → ℕ → List RowValue → List ℕ → List SealValue → Type 0
+IsSealedIn Whole setup capacity writers nodes rounds rows text seals = IsSealedReport setup capacity writers nodes rounds rows text seals
+IsSealedIn Final setup capacity writers nodes rounds rows text seals = rounds ≡ 0 → IsSealedFinal setup capacity writers nodes rows text seals

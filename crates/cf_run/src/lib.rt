@@ -8,6 +8,7 @@
 mod asked;
 mod devices;
 mod draft;
+mod drawn;
 mod dumping;
 mod faults;
 mod files;

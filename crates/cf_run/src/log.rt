@@ -1,13 +1,13 @@
 // The log of some rows, and what is told of it.
-ghost use Rattle.std.specs.Prelude.{◌≡◌, ◌≤◌, ◌*◌, ℕ, All, List, [], length, IfOk, MatchResult};
-ghost use Rattle.cf_row.specs.Row.{Fits, RowValue};
+ghost use Rattle.std.specs.Prelude.{◌≤◌, ℕ, List, [], IfOk, MatchResult};
+ghost use Rattle.cf_row.specs.Row.{RowValue};
 ghost use Rattle.cf_setup.specs.Setups.{IsSetup, shaped};
 ghost use Rattle.cf_load.specs.Loads.{room_of};
 ghost use Rattle.cf_command.specs.Call.{AreSizes};
 ghost use Rattle.cf_command.specs.declared.words.LogSizes.{LogSizes};
 ghost use Rattle.cf_run.specs.Filling.{IsFilledFor};
 ghost use Rattle.cf_run.specs.Logs.{IsUnmade};
-ghost use Rattle.cf_run.specs.Seals.{IsClosed, IsSealedReport, IsSealedFinal};
+ghost use Rattle.cf_run.specs.Seals.{IsClosed, IsSealedReport, IsSealedFinal, IsSealedIn};
 
 use crate::asked::{complete, plan_of};
 use crate::draft::Product;
@@ -16,7 +16,7 @@ use cf_command::LogSizes;
 use cf_load::Closing;
 use cf_outside::Gate;
 use cf_report::{Form, Loaded, report};
-use cf_row::{Memory, Row};
+use cf_row::Memory;
 use cf_setup::{Setup, shape_of};
 use std::alloc::Global;
 use std::thread::Threads;
@@ -66,6 +66,31 @@ pub(crate) fn log_of<R: Threads + Sync, G: Gate>(
     }
 }
 
+// The report of a setup in that form, over the rows that filled a log.
+fn report_in<R: Threads + Sync, G: Gate>(
+    rt: &R,
+    alloc: Global,
+    setup: &Setup,
+    filling: Filling,
+    gate: &G,
+    form: Form,
+) -> Result<Product, Unmade>
+    requires lawful { IsSetup setup.now }
+    requires filled { (sizes : LogSizes) × (rounds : ℕ) × (rows : List RowValue) × AreSizes sizes × IsFilledFor setup.now sizes rounds filling.segments filling.loader filling.waiting.items filling.count rows }
+    requires few { filling.count ≤ room_of filling.segments }
+    ensures { (sizes : LogSizes) (rounds : ℕ) (rows : List RowValue) → AreSizes sizes → IsFilledFor setup.now sizes rounds filling.segments filling.loader filling.waiting.items filling.count rows
+        → MatchResult result (λ made. IsSealedIn form setup.now sizes.capacity sizes.writers sizes.nodes rounds rows made.text.items made.seals.items) (IsUnmade (shaped setup.now sizes.capacity sizes.writers sizes.nodes) rows) }
+{
+    let (closing, answers) = log_of(rt, alloc, setup, filling, gate)?;
+    let Ok(text) = report(alloc, setup, &closing.entries, &answers, form) else {
+        return Err(Unmade::Memory);
+    };
+    Ok(Product {
+        text,
+        seals: closing.seals,
+    })
+}
+
 /// The report of a setup over the rows that filled a log, with the live answers and the order of the writers.
 pub(crate) fn report_of<R: Threads + Sync, G: Gate>(
     rt: &R,
@@ -80,43 +105,22 @@ pub(crate) fn report_of<R: Threads + Sync, G: Gate>(
     ensures { (sizes : LogSizes) (rounds : ℕ) (rows : List RowValue) → AreSizes sizes → IsFilledFor setup.now sizes rounds filling.segments filling.loader filling.waiting.items filling.count rows
         → MatchResult result (λ made. IsSealedReport setup.now sizes.capacity sizes.writers sizes.nodes rounds rows made.text.items made.seals.items) (IsUnmade (shaped setup.now sizes.capacity sizes.writers sizes.nodes) rows) }
 {
-    let (closing, answers) = log_of(rt, alloc, setup, filling, gate)?;
-    let Ok(text) = report(alloc, setup, &closing.entries, &answers, Form::Whole) else {
-        return Err(Unmade::Memory);
-    };
-    Ok(Product {
-        text,
-        seals: closing.seals,
-    })
+    report_in(rt, alloc, setup, filling, gate, Form::Whole)
 }
 
-/// The final part of the report of a setup over some rows.
+/// The final part of the report of a setup over the rows that filled a log to which no live question was asked.
 pub(crate) fn final_of<R: Threads + Sync, G: Gate>(
     rt: &R,
     alloc: Global,
     setup: &Setup,
-    rows: Vec<Row>,
-    sizes: LogSizes,
+    filling: Filling,
     gate: &G,
 ) -> Result<Product, Unmade>
     requires lawful { IsSetup setup.now }
-    requires fit { All (Fits setup.now.schema) rows.items }
-    requires few { length rows.items ≤ sizes.capacity * sizes.segments }
-    requires sizes { AreSizes sizes }
-    ensures { MatchResult result (λ made. IsSealedFinal setup.now sizes.capacity sizes.writers sizes.nodes rows.items made.text.items made.seals.items) (IsUnmade (shaped setup.now sizes.capacity sizes.writers sizes.nodes) rows.items) }
+    requires filled { (sizes : LogSizes) × (rounds : ℕ) × (rows : List RowValue) × AreSizes sizes × IsFilledFor setup.now sizes rounds filling.segments filling.loader filling.waiting.items filling.count rows }
+    requires few { filling.count ≤ room_of filling.segments }
+    ensures { (sizes : LogSizes) (rows : List RowValue) → AreSizes sizes → IsFilledFor setup.now sizes 0 filling.segments filling.loader filling.waiting.items filling.count rows
+        → MatchResult result (λ made. IsSealedFinal setup.now sizes.capacity sizes.writers sizes.nodes rows made.text.items made.seals.items) (IsUnmade (shaped setup.now sizes.capacity sizes.writers sizes.nodes) rows) }
 {
-    let Ok(mut filling) = opened(alloc, setup, sizes, 0) else {
-        return Err(Unmade::Memory);
-    };
-    let Ok(()) = filling.take_rows(rt, gate, rows) else {
-        return Err(Unmade::Memory);
-    };
-    let (closing, answers) = log_of(rt, alloc, setup, filling, gate)?;
-    let Ok(text) = report(alloc, setup, &closing.entries, &answers, Form::Final) else {
-        return Err(Unmade::Memory);
-    };
-    Ok(Product {
-        text,
-        seals: closing.seals,
-    })
+    report_in(rt, alloc, setup, filling, gate, Form::Final)
 }

@@ -5,12 +5,13 @@ ghost use Rattle.cf_command.specs.Call.Call.{run, synth, dump, snapshot};
 ghost use Rattle.cf_run.specs.Parts.{HasHaltCause, HasStopCause, Ends, IsPrepared};
 
 use crate::draft::{Draft, Product, refused};
+use crate::drawn::fill_drawn;
 use crate::dumping::dump_of;
 use crate::files::{collect_rows, fill_rows, read_setup};
 use crate::hosts::read_hosts;
 use crate::log::{Unmade, final_of, opened, report_of};
 use crate::refusal::{Halt, Refusal, Stop};
-use crate::rows::{Format, drawn_packets, format_of};
+use crate::rows::{Format, format_of};
 use crate::snapshot::{cut_text, is_some_full, load_hosts};
 use cf_command::{
     Command, DumpCommand, LogSizes, RunCommand, SnapshotCommand, SynthCommand, command_of,
@@ -75,13 +76,15 @@ fn synth_answers<R: Threads + Sync, F: Shelf, G: Gate>(
         let line = setup.schema_line();
         return Err(Halt::Refused(Refusal::Setup { line, code: 4 }));
     }
-    let rows = drawn_packets(alloc, command.seed, command.count)?;
     let sizes = command.sizes;
     let most = sizes.most();
-    if rows.len() > most as usize {
+    // Each packet is a row.
+    if command.count > most {
         return Err(Halt::Refused(Refusal::Full { most }));
     }
-    match final_of(rt, alloc, &setup, rows, sizes, gate) {
+    let mut filling = opened(alloc, &setup, sizes, 0)?;
+    fill_drawn(rt, alloc, command.seed, command.count, &mut filling, gate)?;
+    match final_of(rt, alloc, &setup, filling, gate) {
         Ok(product) => Ok(product),
         Err(Unmade::Nodes) => Err(Halt::Refused(Refusal::Nodes { nodes: sizes.nodes })),
         Err(Unmade::Memory) => Err(Halt::Stopped(Stop::Memory)),

@@ -1,5 +1,5 @@
 // The reader of a capture of packets, which comes in pieces.
-ghost use Rattle.std.specs.Prelude.{◌≡◌, ℕ, false, List, [], ◌++◌, IfOk, MatchResult};
+ghost use Rattle.std.specs.Prelude.{◌≡◌, ℕ, List, [], ◌++◌, IfOk, MatchResult};
 ghost use Rattle.cf_pcap.specs.Capture.{FrameValue};
 ghost use Rattle.cf_run.specs.Faults.{HasFaultIn};
 ghost use Rattle.cf_run.specs.Formats.{begins_section as section_begins};
@@ -54,14 +54,6 @@ fn feed_pcapng(pcapng: &mut PcapNg, piece: &[u8], out: &mut Vec<Frame>) -> Resul
 }
 
 impl Reader {
-    /// A reader of captures in pcap.
-    pub(crate) fn of_pcap(alloc: Global) -> Result<Reader, Memory>
-        ensures blocks { IfOk result (λ reader. reads_blocks reader ≡ false) }
-        ensures begins { IfOk result (λ reader. IsReaderAt reader [] []) }
-    {
-        Ok(Reader::Pcap(Pcap::new(alloc)?))
-    }
-
     /// A reader of a capture that begins with that piece, in pcapng where this begins with a section header, in pcap otherwise.
     pub(crate) fn of(alloc: Global, piece: &[u8]) -> Result<Reader, Memory>
         ensures blocks { IfOk result (λ reader. reads_blocks reader ≡ section_begins piece.now) }
@@ -70,7 +62,7 @@ impl Reader {
         if begins_section(piece) {
             Ok(Reader::PcapNg(PcapNg::new(alloc)?))
         } else {
-            Reader::of_pcap(alloc)
+            Ok(Reader::Pcap(Pcap::new(alloc)?))
         }
     }
 

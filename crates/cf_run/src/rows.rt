@@ -1,9 +1,8 @@
 // The rows of the bytes of a capture.
-ghost use Rattle.std.specs.Prelude.{◌≡◌, ◌≤◌, ◌^◌, All, IfOk, MatchResult};
+ghost use Rattle.std.specs.Prelude.{◌≡◌, All, IfOk, MatchResult};
 ghost use Rattle.std.specs.Thread.{IsSync};
 ghost use Rattle.cf_row.specs.Row.{Fits};
 ghost use Rattle.cf_row.specs.Schema.{packet_attrs};
-ghost use Rattle.cf_make.specs.Generated.{generated_frames};
 ghost use Rattle.cf_records.specs.Records.{IsRecordFile};
 ghost use Rattle.cf_records.specs.declared.fault.RecordFault.TheVariants as record_faults;
 ghost use Rattle.cf_run.specs.Faults.{HasLineFault, line_code_of as line_code_of_fault, line_of as line_of_fault};
@@ -13,15 +12,13 @@ ghost use Rattle.cf_run.specs.declared.refusal.Halt.TheVariants.{Refused, Stoppe
 ghost use Rattle.cf_run.specs.declared.refusal.Refusal.TheVariants as refusals;
 ghost use Rattle.cf_run.specs.declared.refusal.Stop.TheVariants as stops;
 
-use crate::reader::Reader;
 use crate::refusal::{Halt, Refusal, Stop};
 use cf_headers::packet_row;
-use cf_make::make_capture;
 use cf_pcap::Frame;
 use cf_records::{RecordFault, read_records};
 use cf_row::{Memory, Row, Schema};
 use cf_setup::Setup;
-use std::alloc::{AllocError, Global};
+use std::alloc::Global;
 use std::thread::{Threads, join};
 
 /// The format of a capture.
@@ -104,24 +101,6 @@ pub(crate) fn rows_of<R: Threads + Sync>(
     ensures fit { IfOk result (λ rows. All (Fits packet_attrs) rows.items) }
 {
     rows_in_halves(rt, alloc, frames, frames.len())
-}
-
-/// The rows of the packets that a seed draws.
-pub(crate) fn drawn_packets(alloc: Global, seed: u64, count: u32) -> Result<Vec<Row>, Memory>
-    requires { count ≤ 2 ^ 20 }
-    ensures rows { IfOk result (λ rows. rows.items ≡ packet_rows (generated_frames seed count)) }
-    ensures fit { IfOk result (λ rows. All (Fits packet_attrs) rows.items) }
-{
-    let bytes = make_capture(alloc, seed, count)?;
-    let mut frames = Vec::new(alloc);
-    let mut reader = Reader::of_pcap(alloc)?;
-    reader.feed(&bytes, &mut frames)?;
-    match reader.finish() {
-        Ok(()) => rows_in_turn(alloc, &frames, frames.len()),
-        Err(Halt::Stopped(Stop::Memory)) => Err(AllocError),
-        // What is made is a capture.
-        Err(_) => unreachable!(),
-    }
 }
 
 fn line_code_of(fault: RecordFault) -> u8

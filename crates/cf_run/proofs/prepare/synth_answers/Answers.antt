@@ -1,9 +1,12 @@
-use Rattle.std.proofs.Common.{◌≡◌, Err, true, false, arith, rules}
+use Rattle.std.proofs.Common.{◌≡◌, ◌∙◌, [], Err, true, false, ap, arith, rules}
 use Rattle.std.proofs.lemmas.Result.{err_from_is_err_and}
 use Rattle.cf_command.specs.Call.{synth_by}
-use Rattle.cf_run.specs.Work.{shape_for}
+use Rattle.cf_shape.specs.Lanes.{ShapeValue}
+use Rattle.cf_run.specs.Work.{drawn_rows, shape_for}
 use Rattle.cf_run.specs.declared.log.Unmade.TheVariants.{Nodes}
 use Rattle.cf_run.proofs.Coming.{synth_unset, synth_other, synth_full, synth_short, synth_sealed, synth_stopped}
+use Rattle.cf_run.proofs.Drawing.{drawn_many}
+use Rattle.cf_run.proofs.Filled.{filled_few, filled_on}
 use Rattle.cf_run.proofs.Logs.{short_of}
 use Rattle.cf_run.proofs.prepare.synth_answers.Goals as goal
 
@@ -17,32 +20,69 @@ returns-then-not-packet-clause-ends g c =
     let records : c.in_ok-setup.setup.packet ≡ false = search rules in
     rw c.schema_line-line.ensures (synth_other (g.F.Shelf.files c.args.shelf.now) (synth_by c.args.command.now) (g.F.Shelf.rest c.args.shelf.now) (g.F.Shelf.rest c.read_setup.new.shelf) c.in_ok-setup.setup c.in_ok-setup.ensures.read records)
 
-pub returns-in_err-rows-clause-ends : goal.returns-in_err-rows-clause-ends
-returns-in_err-rows-clause-ends g c =
-    let p = err_from_is_err_and c.from_residual-in_err-rows.result c.from_residual-in_err-rows.ensures.1 in
-    rw (p.1, p.2) (synth_stopped (g.F.Shelf.files c.args.shelf.now) (synth_by c.args.command.now) (g.F.Shelf.rest c.args.shelf.now) (g.F.Shelf.rest c.read_setup.new.shelf) c.in_ok-setup.setup c.in_ok-setup.ensures.read)
-
-pub returns-then-len-most-clause-ends : goal.returns-then-len-most-clause-ends
-returns-then-len-most-clause-ends g c =
+pub returns-then-command-most-clause-ends : goal.returns-then-command-most-clause-ends
+returns-then-command-most-clause-ends g c =
     let packets : c.in_ok-setup.setup.packet ≡ true = search rules in
     let most = c.most-most.ensures in
     rw most (synth_full (g.F.Shelf.files c.args.shelf.now) (synth_by c.args.command.now) (g.F.Shelf.rest c.args.shelf.now) (g.F.Shelf.rest c.read_setup.new.shelf) c.in_ok-setup.setup c.in_ok-setup.ensures.read packets
-    c.in_ok-rows.rows.items c.in_ok-rows.ensures.rows (omega (arith, most, c.if-len-most.true, c.len.ensures)))
+    (omega (arith, most, c.if-command-most.true)))
+
+pub returns-in_err-filling-clause-ends : goal.returns-in_err-filling-clause-ends
+returns-in_err-filling-clause-ends g c =
+    let p = err_from_is_err_and c.from_residual-in_err-filling.result c.from_residual-in_err-filling.ensures.1 in
+    rw (p.1, p.2) (synth_stopped (g.F.Shelf.files c.args.shelf.now) (synth_by c.args.command.now) (g.F.Shelf.rest c.args.shelf.now) (g.F.Shelf.rest c.read_setup.new.shelf) c.in_ok-setup.setup c.in_ok-setup.ensures.read)
+
+pub fill_drawn-requires-clause-attrs : goal.fill_drawn-requires-clause-attrs
+fill_drawn-requires-clause-attrs g c κs within =
+    let packets : c.in_ok-setup.setup.packet ≡ true = search rules in
+    ap (λ (s : ShapeValue). s.schema) c.in_ok-filling.ensures.shape ∙ c.in_ok-setup.ensures.lawful.schema packets
+
+pub returns-in_err-fill_drawn-clause-ends : goal.returns-in_err-fill_drawn-clause-ends
+returns-in_err-fill_drawn-clause-ends g c =
+    let p = err_from_is_err_and c.from_residual-in_err-fill_drawn.result c.from_residual-in_err-fill_drawn.ensures.1 in
+    rw (p.1, p.2) (synth_stopped (g.F.Shelf.files c.args.shelf.now) (synth_by c.args.command.now) (g.F.Shelf.rest c.args.shelf.now) (g.F.Shelf.rest c.read_setup.new.shelf) c.in_ok-setup.setup c.in_ok-setup.ensures.read)
+
+pub final_of-requires-clause-filled : goal.final_of-requires-clause-filled
+final_of-requires-clause-filled g c κs within =
+    let command = synth_by c.args.command.now in
+    let old = c.in_ok-filling.filling in
+    let new = c.fill_drawn.new.filling in
+    (command.sizes, 0, drawn_rows command, c.requires.sizes, filled_on c.in_ok-setup.setup command.sizes 0 old.segments new.segments old.loader new.loader old.waiting.items new.waiting.items old.count new.count [] (drawn_rows command) c.in_ok-filling.ensures c.in_ok-fill_drawn.ensures)
+
+pub final_of-requires-clause-few : goal.final_of-requires-clause-few
+final_of-requires-clause-few g c κs within =
+    let command = synth_by c.args.command.now in
+    let old = c.in_ok-filling.filling in
+    let new = c.fill_drawn.new.filling in
+    let is = filled_on c.in_ok-setup.setup command.sizes 0 old.segments new.segments old.loader new.loader old.waiting.items new.waiting.items old.count new.count [] (drawn_rows command) c.in_ok-filling.ensures c.in_ok-fill_drawn.ensures in
+    let size = drawn_many command in
+    let most = c.most-most.ensures in
+    filled_few c.in_ok-setup.setup command.sizes 0 new.segments new.loader new.waiting.items new.count (drawn_rows command) is (omega (arith, size, most, c.if-command-most.false))
 
 pub returns-in-Ok-clause-ends : goal.returns-in-Ok-clause-ends
 returns-in-Ok-clause-ends g c =
     let packets : c.in_ok-setup.setup.packet ≡ true = search rules in
+    let command = synth_by c.args.command.now in
+    let old = c.in_ok-filling.filling in
+    let new = c.fill_drawn.new.filling in
+    let is = filled_on c.in_ok-setup.setup command.sizes 0 old.segments new.segments old.loader new.loader old.waiting.items new.waiting.items old.count new.count [] (drawn_rows command) c.in_ok-filling.ensures c.in_ok-fill_drawn.ensures in
+    let size = drawn_many command in
     let most = c.most-most.ensures in
-    synth_sealed (g.F.Shelf.files c.args.shelf.now) (synth_by c.args.command.now) (g.F.Shelf.rest c.args.shelf.now) (g.F.Shelf.rest c.read_setup.new.shelf) c.in_ok-setup.setup c.in_ok-setup.ensures.read packets
-    c.in_ok-rows.rows.items c.in-Ok.product.text.items c.in-Ok.product.seals.items c.in_ok-rows.ensures.rows (omega (arith, most, c.if-len-most.false, c.len.ensures)) c.in-Ok.ensures
+    synth_sealed (g.F.Shelf.files c.args.shelf.now) command (g.F.Shelf.rest c.args.shelf.now) (g.F.Shelf.rest c.read_setup.new.shelf) c.in_ok-setup.setup c.in_ok-setup.ensures.read packets
+    c.in-Ok.product.text.items c.in-Ok.product.seals.items (omega (arith, size, most, c.if-command-most.false)) (c.in-Ok.ensures command.sizes (drawn_rows command) c.requires.sizes is)
 
 pub returns-in-Err-Nodes-clause-ends : goal.returns-in-Err-Nodes-clause-ends
 returns-in-Err-Nodes-clause-ends g c =
     let packets : c.in_ok-setup.setup.packet ≡ true = search rules in
+    let command = synth_by c.args.command.now in
+    let old = c.in_ok-filling.filling in
+    let new = c.fill_drawn.new.filling in
+    let is = filled_on c.in_ok-setup.setup command.sizes 0 old.segments new.segments old.loader new.loader old.waiting.items new.waiting.items old.count new.count [] (drawn_rows command) c.in_ok-filling.ensures c.in_ok-fill_drawn.ensures in
     let err : c.final_of.result ≡ Err Nodes = search rules in
+    let size = drawn_many command in
     let most = c.most-most.ensures in
-    synth_short (g.F.Shelf.files c.args.shelf.now) (synth_by c.args.command.now) (g.F.Shelf.rest c.args.shelf.now) (g.F.Shelf.rest c.read_setup.new.shelf) c.in_ok-setup.setup c.in_ok-setup.ensures.read packets
-    c.in_ok-rows.rows.items c.in_ok-rows.ensures.rows (omega (arith, most, c.if-len-most.false, c.len.ensures)) (short_of (shape_for c.in_ok-setup.setup c.args.command.now.sizes) c.in_ok-rows.rows.items c.final_of.result _ c.final_of.ensures err)
+    synth_short (g.F.Shelf.files c.args.shelf.now) command (g.F.Shelf.rest c.args.shelf.now) (g.F.Shelf.rest c.read_setup.new.shelf) c.in_ok-setup.setup c.in_ok-setup.ensures.read packets
+    (omega (arith, size, most, c.if-command-most.false)) (short_of (shape_for c.in_ok-setup.setup command.sizes) (drawn_rows command) c.final_of.result _ (c.final_of.ensures command.sizes (drawn_rows command) c.requires.sizes is) err)
 
 pub returns-clause-ends : goal.returns-clause-ends
 returns-clause-ends g c =

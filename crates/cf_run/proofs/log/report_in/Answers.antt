@@ -1,8 +1,8 @@
 use Rattle.std.proofs.Common.{◌≡◌, Err, rules}
 use Rattle.cf_report.proofs.Answering.{are_answering}
 use Rattle.cf_setup.specs.Setups.{shaped}
-use Rattle.cf_run.proofs.Logs.{report_sealed}
-use Rattle.cf_run.proofs.log.report_of.Goals as goal
+use Rattle.cf_run.proofs.Logs.{sealed_in}
+use Rattle.cf_run.proofs.log.report_in.Goals as goal
 
 pub report-requires : goal.report-requires
 report-requires g c =
@@ -15,7 +15,7 @@ report-requires g c =
 pub returns : goal.returns
 returns g c = λ sizes rounds rows lawful is.
     let closing = c.in_ok-closing.closing in
-    report_sealed c.args.setup.now sizes.capacity sizes.writers sizes.nodes rounds rows closing.entries.items closing.seals.items c.in_ok-closing.answers lawful.writers.0 (c.in_ok-closing.ensures sizes rounds rows lawful is) c.in-Ok.text.items (rw c.deref.ensures.value at c.in-Ok.ensures)
+    sealed_in c.args.setup.now sizes.capacity sizes.writers sizes.nodes rounds rows closing.entries.items closing.seals.items c.in_ok-closing.answers lawful.writers.0 (c.in_ok-closing.ensures sizes rounds rows lawful is) c.args.form c.in-Ok.text.items (rw c.deref.ensures.value at c.in-Ok.ensures)
 
 pub returns-in_err-closing : goal.returns-in_err-closing
 returns-in_err-closing g c = λ sizes rounds rows lawful is.
