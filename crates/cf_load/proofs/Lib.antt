@@ -17,4 +17,3 @@ pub mod Changing
 pub mod Findings
 pub mod Kept
 pub mod Filled
-pub mod Parts

@@ -7,4 +7,3 @@ pub mod Planned
 pub mod Priors
 pub mod Loads
 pub mod Loaders
-pub mod Closing

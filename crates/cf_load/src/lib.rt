@@ -3,7 +3,6 @@
 #![tactic(auto)]
 
 mod batch;
-mod closing;
 mod filling;
 mod finals;
 mod loader;

@@ -7,14 +7,12 @@ ghost use Rattle.cf_load.specs.Loads.{room_of};
 ghost use Rattle.cf_load.specs.Segments.{AllowsSegments, IsSegment, IsOpened, HoldsRows, HasTurned, HasLooked, HaveLooked, all_of, base_of, entries_of, seen_of, sealed, told_of};
 ghost use Rattle.cf_load.specs.declared.segments.TurnFault.TheVariants.{Memory as NoMemory, Spent};
 
-use crate::closing::{EntryReader, LoneReader, ThreadedReader};
 use cf_row::{Entry, Memory};
 use cf_shape::Shape;
 use cf_table::{MultiLog, Root, Seal};
 use std::alloc::Global;
 use std::marker::Model;
 use std::mem;
-use std::thread::Threads;
 use thiserror::Error;
 
 /// A log and the pass that holds its books.
@@ -31,6 +29,15 @@ impl Segment {
     {
         let (log, root) = MultiLog::open(alloc, shape)?;
         Ok(Segment { log, root })
+    }
+
+    // All entries.
+    fn entries(&mut self, alloc: Global) -> Result<Vec<Entry>, Memory>
+        requires of { IsOf self.old.root self.old.log }
+        ensures entries { IfOk result (λ entries. entries.items ≡ seen_of self.old) }
+        ensures looked { HasLooked self.old self.new }
+    {
+        self.log.entries(alloc, &mut self.root)
     }
 
     // Nothing more is done with it.
@@ -89,32 +96,28 @@ impl Model for Segments {
 }
 
 // Puts the entries of the segments behind others.
-fn push_entries<E: EntryReader>(
-    reader: &E,
+fn push_entries(
     alloc: Global,
     segments: &mut [Segment],
     entries: &mut Vec<Entry>,
 ) -> Result<(), Memory>
-    requires can { E.can_read reader.now }
     requires of { All (λ segment. IsOf segment.root segment.log) segments.old }
     ensures entries { OnOk result (entries.new.items ≡ entries.old.items ++ flat_map seen_of segments.old) }
     ensures looked { AllZip HasLooked segments.old segments.new }
 {
     for segment in segments.iter_mut() {
-        let mut more = reader.entries(alloc, segment)?;
+        let mut more = segment.entries(alloc)?;
         entries.append(&mut more)?;
     }
     Ok(())
 }
 
 // The entries of all these segments, end to end.
-fn read_all<E: EntryReader>(
-    reader: &E,
+fn read_all(
     alloc: Global,
     closed: &mut [Segment],
     current: &mut Segment,
 ) -> Result<Vec<Entry>, Memory>
-    requires can { E.can_read reader.now }
     requires closed { All (λ segment. IsOf segment.root segment.log) closed.old }
     requires current { IsOf current.old.root current.old.log }
     ensures entries { IfOk result (λ entries. entries.items ≡ flat_map seen_of closed.old ++ seen_of current.old) }
@@ -122,13 +125,13 @@ fn read_all<E: EntryReader>(
     ensures current { HasLooked current.old current.new }
 {
     if closed.is_empty() {
-        return reader.entries(alloc, current);
+        return current.entries(alloc);
     }
     let room = current.log.shape().capacity() as usize;
     let most = closed.len().saturating_add(1).saturating_mul(room);
     let mut entries = Vec::with_capacity(alloc, most)?;
-    push_entries(reader, alloc, closed, &mut entries)?;
-    let mut more = reader.entries(alloc, current)?;
+    push_entries(alloc, closed, &mut entries)?;
+    let mut more = current.entries(alloc)?;
     entries.append(&mut more)?;
     Ok(entries)
 }
@@ -203,27 +206,22 @@ impl Segments {
     }
 
     // All entries, and room for as many seals as there are segments.
-    fn read<E: EntryReader>(
-        &mut self,
-        reader: &E,
-        alloc: Global,
-    ) -> Result<(Vec<Entry>, Vec<Seal>), Memory>
-        requires { E.can_read reader.now }
+    fn read(&mut self, alloc: Global) -> Result<(Vec<Entry>, Vec<Seal>), Memory>
         ensures entries { IfOk result (λ read. read.0.items ≡ entries_of self.old) }
         ensures room { IfOk result (λ read. (read.1.items ≡ []) × (length self.old.closed + 1 ≤ vec_capacity read.1)) }
         ensures looked { HaveLooked self.old self.new }
     {
         let seals = Vec::with_capacity(alloc, self.closed.len() + 1)?;
-        let entries = read_all(reader, alloc, self.closed.as_mut_slice(), &mut self.current)?;
+        let entries = read_all(alloc, self.closed.as_mut_slice(), &mut self.current)?;
         Ok((entries, seals))
     }
 
-    // As `close`, by that reader.
-    fn close_by<E: EntryReader>(mut self, reader: &E, alloc: Global) -> Result<Closing, Segments>
-        requires { E.can_read reader.now }
+    /// The entries of all segments, end to end, and a seal of each. After want of memory the segments come back, and only their
+    /// roots' last looks are others.
+    pub fn close(mut self, alloc: Global) -> Result<Closing, Segments>
         ensures { MatchResult result (λ closing. (closing.entries.items ≡ entries_of self) × (closing.seals.items ≡ map sealed (all_of self))) (HaveLooked self) }
     {
-        let Ok((entries, mut seals)) = self.read(reader, alloc) else {
+        let Ok((entries, mut seals)) = self.read(alloc) else {
             return Err(self);
         };
         let Segments {
@@ -234,24 +232,5 @@ impl Segments {
         push_seals(closed, &mut seals);
         seals.push_reserved(current.seal());
         Ok(Closing { entries, seals })
-    }
-
-    /// The entries of all segments, end to end, and a seal of each. After want of memory the segments come back, and only their
-    /// roots' last looks are others.
-    pub fn close(self, alloc: Global) -> Result<Closing, Segments>
-        ensures { MatchResult result (λ closing. (closing.entries.items ≡ entries_of self) × (closing.seals.items ≡ map sealed (all_of self))) (HaveLooked self) }
-    {
-        self.close_by(&LoneReader, alloc)
-    }
-
-    /// As `close`. The entries are read in threads of their own where these can be made. It waits for them.
-    pub fn close_by_threads<R: Threads + Sync>(
-        self,
-        rt: &R,
-        alloc: Global,
-    ) -> Result<Closing, Segments>
-        ensures { MatchResult result (λ closing. (closing.entries.items ≡ entries_of self) × (closing.seals.items ≡ map sealed (all_of self))) (HaveLooked self) }
-    {
-        self.close_by(&ThreadedReader { rt }, alloc)
     }
 }

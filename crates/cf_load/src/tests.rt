@@ -12,7 +12,7 @@ use crate::{Closing, LivePlan, LoadFault, Loader, Segments, TurnFault, load};
 use cf_fold::{Part, Trigger};
 use cf_outside::FreeGate;
 use cf_plain::{Answer, Ask, Body, Fired, Loaded};
-use cf_row::{Attr, Conjunction, Entry, Expr, Kind, Memory, Name, Op, Row, Schema, Value, fits};
+use cf_row::{Attr, Conjunction, Expr, Kind, Memory, Name, Op, Row, Schema, Value, fits};
 use cf_shape::{Key, Lane, Shape, belongs};
 use cf_table::{MultiLog, Pass, Root, WriterPass};
 use std::alloc::Global;
@@ -270,7 +270,7 @@ fn load_all<R: Threads + Sync + Abort>(
     alloc: Global,
     sizes: Sizes,
     count: u32,
-) -> Result<Result<(Segments, Loaded), LoadFault>, Fail> {
+) -> Result<Result<(Closing, Loaded), LoadFault>, Fail> {
     let all = rows(alloc, count)?;
     let rows = all.as_slice();
     let plan = plan(alloc)?;
@@ -278,7 +278,10 @@ fn load_all<R: Threads + Sync + Abort>(
     assert!(rt; all_fit(segments.shape().schema(), rows));
     assert!(rt; plan.suits(segments.shape()));
     match load(rt, alloc, &mut segments, rows, &plan, &FreeGate) {
-        Ok(loaded) => Ok(Ok((segments, loaded))),
+        Ok(loaded) => {
+            let closing = segments.close(alloc).ok().expect(rt, "memory");
+            Ok(Ok((closing, loaded)))
+        }
         Err(fault) => Ok(Err(fault)),
     }
 }
@@ -310,46 +313,13 @@ fn segments_are_filled_one_after_the_other(rt: HostRuntime) -> Result<(), Fail> 
             nodes: 30,
         };
         let loaded = load_all(&rt, rt.alloc(), sizes, count)?;
-        let (segments, answers) = loaded.expect(&rt, "loaded");
+        let (closing, answers) = loaded.expect(&rt, "loaded");
         check(&rt, &answers, count);
-        let closing = segments.close(rt.alloc()).ok().expect(&rt, "memory");
         assert_eq!(rt; closing.seals.len(), seals);
         assert_eq!(rt; closing.entries.len(), count as usize);
         for (entry, number) in closing.entries.iter().zip(0..count) {
             assert_eq!(rt; entry.row.num(), number);
         }
-    }
-    Ok(())
-}
-
-// an entry's writer and number, and its `ts` and `len`
-fn parts_of(entry: &Entry) -> (u8, u32, u64, u64) {
-    let row = &entry.row;
-    (entry.writer, row.num(), row.number(0), row.number(1))
-}
-
-// Threads read of a full segment, and of one with few rows, what one thread reads of an equal log.
-#[test]
-fn threads_read_what_one_does(rt: HostRuntime) -> Result<(), Fail> {
-    let alloc = rt.alloc();
-    let sizes = Sizes {
-        most: 2,
-        capacity: 4096,
-        writers: 1,
-        nodes: 30,
-    };
-    let (segments, _) = load_all(&rt, alloc, sizes, 4100)?.expect(&rt, "loaded");
-    let closing = segments.close_by_threads(&rt, alloc);
-    let closing = closing.ok().expect(&rt, "memory");
-    let (segments, _) = load_all(&rt, alloc, sizes, 4100)?.expect(&rt, "loaded");
-    let other = segments.close(alloc).ok().expect(&rt, "memory");
-    assert_eq!(rt; closing.seals.len(), 2);
-    assert_eq!(rt; closing.entries.len(), 4100);
-    assert_eq!(rt; other.entries.len(), 4100);
-    let pairs = closing.entries.iter().zip(other.entries.iter());
-    for ((entry, same), number) in pairs.zip(0..4100) {
-        assert_eq!(rt; parts_of(entry), (0, number, 7, 1));
-        assert_eq!(rt; parts_of(same), (0, number, 7, 1));
     }
     Ok(())
 }

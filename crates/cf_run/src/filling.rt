@@ -20,6 +20,9 @@ use std::thread::Threads;
 /// The rows of a batch.
 const BATCH: usize = 4096;
 
+/// The rows that are read while others are loaded: those of several batches, as a thread that is started may begin late.
+const AHEAD: usize = 4 * BATCH;
+
 /// A log that rows fill batch by batch, as they come. The rows of the next batch wait, and no other row is kept beside the log.
 #[derive(Drop)]
 pub(crate) struct Filling {
@@ -65,11 +68,11 @@ impl Filling {
         self.count > self.segments.room()
     }
 
-    /// How many rows end the next batch, behind those that wait once so many more came.
+    /// How many rows end the next batches, behind those that wait once so many more came.
     pub(crate) fn wanted(&self, more: usize) -> usize
-        ensures { result + (length self.now.waiting.items + more) % 4096 ≡ 4096 }
+        ensures { result + (length self.now.waiting.items + more) % 4096 ≡ 16384 }
     {
-        BATCH - (self.waiting.len() % BATCH + more % BATCH) % BATCH
+        AHEAD - (self.waiting.len() % BATCH + more % BATCH) % BATCH
     }
 
     // Loads the rows that wait.
@@ -212,7 +215,7 @@ impl Filling {
         let Ok(answers) = loader.finish(alloc, &mut segments) else {
             return Err(Unmade::Memory);
         };
-        match segments.close_by_threads(rt, alloc) {
+        match segments.close(alloc) {
             Ok(closing) => Ok((closing, answers)),
             Err(_) => Err(Unmade::Memory),
         }

@@ -31,7 +31,7 @@ const PIECE: usize = 65536;
 const PIECES: usize = 65536;
 
 /// At least so many rows are read at once of a capture that is read whole.
-const AT_ONCE: usize = 4096;
+const AT_ONCE: usize = 16384;
 
 // Reads the next piece of the opened file: as many bytes as the buffer has room for, or all up to the end.
 fn read_piece<F: Shelf>(shelf: &mut F, buf: &mut [u8]) -> Result<usize, Failed>
@@ -208,7 +208,7 @@ pub(crate) fn collect_packets<R: Threads + Sync, F: Shelf>(
 }
 
 // The rows at hand go into the log, in a thread of its own where one can be made, while this one reads on, until there are as many
-// as end the next batch.
+// as end the next batches.
 fn take_beside<R: Threads + Sync, F: Shelf, G: Gate>(
     rt: &R,
     alloc: Global,

@@ -43,7 +43,7 @@ pub(crate) fn format_of<'a>(setup: &'a Setup) -> Format<'a>
 }
 
 /// So many frames are made into rows by several threads.
-const MANY: usize = 2048;
+const MANY: usize = 8192;
 
 // A row for each frame, in a list that has room for so many.
 fn rows_in_turn(alloc: Global, frames: &[Frame], room: usize) -> Result<Vec<Row>, Memory>

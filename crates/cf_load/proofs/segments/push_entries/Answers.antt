@@ -10,28 +10,28 @@ use Rattle.cf_load.proofs.Changing.{changed_at, changed_holds, changed_long, cha
 use Rattle.cf_load.proofs.segments.push_entries.Goals as goal
 
 pub entries-requires : goal.entries-requires
-entries-requires g c =
+entries-requires c =
     let i = c.loop-segment.segment-index in
     let now = c.loop-segment.segments in
     let low : i < length now = search rules in
-    record { can = c.requires.can; of = changed_holds HasLooked (λ (g : Segment). IsOf g.root g.log) i c.args.segments.now now c.segment-item.result c.requires.of low c.loop-segment.invariant.looked }
+    record { of = changed_holds HasLooked (λ (g : Segment). IsOf g.root g.log) i c.args.segments.now now c.segment-item.result c.requires.of low c.loop-segment.invariant.looked }
 
 pub returns-in_err-more-clause-looked : goal.returns-in_err-more-clause-looked
-returns-in_err-more-clause-looked g c =
+returns-in_err-more-clause-looked c =
     let i = c.loop-segment.segment-index in
     let now = c.loop-segment.segments in
     let low : i < length now = search rules in
-    changed_some HasLooked looked_none (i + 1) c.args.segments.now _ (changed_more HasLooked i c.args.segments.now now c.segment-item.result c.entries.new.segment low c.loop-segment.invariant.looked c.in_err-more.ensures.looked)
+    changed_some HasLooked looked_none (i + 1) c.args.segments.now _ (changed_more HasLooked i c.args.segments.now now c.segment-item.result c.entries.new.self low c.loop-segment.invariant.looked c.in_err-more.ensures.looked)
 
 pub returns-in_err-append-clause-looked : goal.returns-in_err-append-clause-looked
-returns-in_err-append-clause-looked g c =
+returns-in_err-append-clause-looked c =
     let i = c.loop-segment.segment-index in
     let now = c.loop-segment.segments in
     let low : i < length now = search rules in
-    changed_some HasLooked looked_none (i + 1) c.args.segments.now _ (changed_more HasLooked i c.args.segments.now now c.segment-item.result c.entries.new.segment low c.loop-segment.invariant.looked c.in_ok-more.ensures.looked)
+    changed_some HasLooked looked_none (i + 1) c.args.segments.now _ (changed_more HasLooked i c.args.segments.now now c.segment-item.result c.entries.new.self low c.loop-segment.invariant.looked c.in_ok-more.ensures.looked)
 
 pub loop-segment-preserved : goal.loop-segment-preserved
-loop-segment-preserved g c =
+loop-segment-preserved c =
     let i = c.loop-segment.segment-index in
     let old = c.args.segments.now in
     let now = c.loop-segment.segments in
@@ -41,7 +41,7 @@ loop-segment-preserved g c =
     let more : List Entry = c.in_ok-more.more.items in
     let all : c.append.new.self.items ≡ c.loop-segment.entries.items ++ more = search rules in
     let same : more ≡ seen_of (get_or old i d) = c.in_ok-more.ensures.entries ∙ ap seen_of (changed_at HasLooked i old now d v.looked) in record {
-      looked = changed_more HasLooked i old now d c.entries.new.segment low v.looked c.in_ok-more.ensures.looked;
+      looked = changed_more HasLooked i old now d c.entries.new.self low v.looked c.in_ok-more.ensures.looked;
       entries = all
           ∙ (ap (λ (es : List Entry). es ++ more) v.entries
           ∙ (ap (λ (es : List Entry). (c.args.entries.now.items ++ flat_map seen_of (take i old)) ++ es) same

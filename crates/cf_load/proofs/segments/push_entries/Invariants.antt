@@ -5,7 +5,7 @@ use Rattle.cf_load.proofs.Changing.{Changed}
 use Rattle.cf_load.proofs.segments.push_entries.Given as goal
 
 abbrev pub invariant-loop-segment : goal.invariant-loop-segment
-invariant-loop-segment g l = record {
+invariant-loop-segment l = record {
   looked : Changed HasLooked l.segment-index l.initial.segments l.segments;
   entries : l.entries.items ≡ l.initial.entries.items ++ flat_map seen_of (take l.segment-index l.initial.segments);
 }

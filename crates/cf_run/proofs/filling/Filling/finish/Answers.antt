@@ -17,11 +17,11 @@ finish-requires g c =
     let going : now.loader.stopped ≡ false = search rules in
     record { loading = (rows, (loaded_of now.segments rows now.loader (c.in-Ok.ensures.loaded rows c.requires.filled.1) going).loading) }
 
-pub returns-in-Ok-close_by_threads : goal.returns-in-Ok-close_by_threads
-returns-in-Ok-close_by_threads g c rows is =
+pub returns-in-Ok-close : goal.returns-in-Ok-close
+returns-in-Ok-close g c rows is =
     let before = c.args.self in
     let now = c.load_last.new.self in
     let going : now.loader.stopped ≡ false = search rules in
-    let closing = c.in-Ok-close_by_threads.closing in
+    let closing = c.in-Ok-close.closing in
     closed_at before.segments.shape before.loader.plan now.segments c.finish.new.segments rows now.loader c.in-Ok-finish.answers closing.entries.items closing.seals.items c.in-Ok.ensures.shape c.in-Ok.ensures.plan (c.in-Ok.ensures.loaded rows is) going
-    (λ all at. c.in-Ok-finish.ensures all at) c.in-Ok-close_by_threads.ensures.0 c.in-Ok-close_by_threads.ensures.1
+    (λ all at. c.in-Ok-finish.ensures all at) c.in-Ok-close.ensures.0 c.in-Ok-close.ensures.1

@@ -4,13 +4,13 @@ use Rattle.cf_table.specs.Moves.{SealValue}
 use Rattle.cf_load.specs.Segments.{SegmentsValue, HasLooked, HaveLooked, all_of, sealed, segments_of}
 use Rattle.cf_load.proofs.Batches.{zip_long}
 use Rattle.cf_load.proofs.Chains.{all_sealed, closed_are, current_is}
-use Rattle.cf_load.proofs.segments.Segments.close_by.Goals as goal
+use Rattle.cf_load.proofs.segments.Segments.close.Goals as goal
 
 pub push_seals-requires-clause-each : goal.push_seals-requires-clause-each
-push_seals-requires-clause-each g c = ((c.self.inside.current.log).shape, closed_are (segments_of c.self.inside.most c.self.inside.closed.items c.self.inside.current) c.self.invariant.0)
+push_seals-requires-clause-each c = ((c.self.inside.current.log).shape, closed_are (segments_of c.self.inside.most c.self.inside.closed.items c.self.inside.current) c.self.invariant.0)
 
 pub push_seals-requires-clause-room : goal.push_seals-requires-clause-room
-push_seals-requires-clause-room g c =
+push_seals-requires-clause-room c =
     let room = c.in-Ok.ensures.room in
     let none = ap (λ (xs : List SealValue). length xs) room.0 in
     let wide = room.1 in
@@ -19,10 +19,10 @@ push_seals-requires-clause-room g c =
     omega (arith, none, wide, long, same)
 
 pub seal-requires : goal.seal-requires
-seal-requires g c = ((c.self.inside.current.log).shape, current_is (segments_of c.self.inside.most c.self.inside.closed.items c.self.inside.current) c.self.invariant.0)
+seal-requires c = ((c.self.inside.current.log).shape, current_is (segments_of c.self.inside.most c.self.inside.closed.items c.self.inside.current) c.self.invariant.0)
 
 pub push_reserved-requires : goal.push_reserved-requires
-push_reserved-requires g c =
+push_reserved-requires c =
     let room = c.in-Ok.ensures.room in
     let none = ap (λ (xs : List SealValue). length xs) room.0 in
     let wide = room.1 in
@@ -37,7 +37,7 @@ push_reserved-requires g c =
     omega (arith, none, wide, long, same, len, all, sum, each, capacity)
 
 pub returns : goal.returns
-returns g c =
+returns c =
     let now : SegmentsValue = segments_of c.self.inside.most c.self.inside.closed.items c.self.inside.current in
     let looked : HaveLooked c.args.self now = subst (HaveLooked c.args.self) (sym c.self.view_is) c.in-Ok.ensures.looked in
     let seals : c.push_reserved.new.self.items ≡ map sealed (all_of c.args.self) =
