@@ -26,17 +26,6 @@ more {A} {B} f xs i x y ys zs lt is row before now =
 pub more_rows : (frames : List FrameValue) (i : ℕ) (frame : FrameValue) (row : RowValue) (rows now : List RowValue) → i < length frames → frame ≡ get_or frames i frame → row ≡ packet_row_of frame → rows ≡ packet_rows (take i frames) → now ≡ rows ++ (row ∷ []) → now ≡ packet_rows (take (i + 1) frames)
 more_rows frames i frame row rows now lt is row_is before grown = more packet_row_of frames i frame row rows now lt is row_is before grown
 
--- the rows of two halves
-pub both_rows : (frames front back : List FrameValue) (rows more now : List RowValue) → frames ≡ front ++ back → rows ≡ packet_rows front → more ≡ packet_rows back → now ≡ rows ++ more → now ≡ packet_rows frames
-both_rows frames front back rows more now halves first second joined =
-    joined ∙ ap₂ (λ (a b : List RowValue). a ++ b) first second ∙ sym (map-append packet_row_of front back) ∙ ap (λ (fs : List FrameValue). packet_rows fs) (sym halves)
-
--- the rows of frames that were given after others
-pub given_more : (rows : List RowValue) (frames given now : List FrameValue) → now ≡ frames ++ given → (rows ++ packet_rows frames) ++ packet_rows given ≡ rows ++ packet_rows now
-given_more rows frames given now grown =
-    append_assoc rows (packet_rows frames) (packet_rows given)
-    ∙ ap (λ (rs : List RowValue). rows ++ rs) (sym (map-append packet_row_of frames given) ∙ ap (λ (fs : List FrameValue). packet_rows fs) (sym grown))
-
 -- after other rows
 pub handed_more : (frames : List FrameValue) (i : ℕ) (frame : FrameValue) (row : RowValue) (rows : List RowValue) → i < length frames → frame ≡ get_or frames i frame → row ≡ packet_row_of frame → (rows ++ packet_rows (take i frames)) ++ row ∷ [] ≡ rows ++ packet_rows (take (i + 1) frames)
 handed_more frames i frame row rows lt is row_is =

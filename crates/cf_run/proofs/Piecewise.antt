@@ -11,14 +11,13 @@ use Rattle.cf_row.specs.Row.{RowValue}
 use Rattle.cf_run.specs.Devices.{TakesUpTo, TakesAtMost}
 use Rattle.cf_run.specs.Faults.{HasFaultIn, HasPacketFault}
 use Rattle.cf_run.specs.Formats.{begins_section}
-use Rattle.cf_run.specs.Parts.{IsBad, HasStopCause}
+use Rattle.cf_run.specs.Parts.{IsBad}
 use Rattle.cf_run.specs.Reading.{IsReaderAt, IsReadOn, TakesRows, reads_blocks}
 use Rattle.cf_run.specs.Work.{AreFramesBy, ArePackets, packet_rows}
 use Rattle.cf_run.specs.declared.pieces.Pieces.{Pieces}
 use Rattle.cf_run.specs.declared.reader.Reader.{Reader}
 use Rattle.cf_run.specs.declared.refusal.Halt.{Halt}
 use Rattle.cf_run.specs.declared.refusal.Halt.TheVariants.{Refused, Stopped}
-use Rattle.cf_run.specs.declared.refusal.Stop.{Stop}
 use Rattle.cf_run.specs.declared.refusal.Stop.TheVariants as stops
 use Rattle.cf_run.proofs.Capturing.{begins_same}
 
@@ -136,15 +135,6 @@ pub finished_so : (Took : List RowValue → Type 0) (before now : Option (List �
 finished_so Took before now rows (Ok done) takes took = (takes.0, takes.1, takes.2, takes.3, subst (λ (these : List RowValue). Took these) (sym takes.4) took)
 finished_so Took before now rows (Err (Refused why)) takes took = takes
 finished_so Took before now rows (Err (Stopped stop)) takes took = takes
-
--- a stop that is handed on has its cause
-pub stop_cause : {A B : Type 0} (before now : ℕ) (stop : Stop) → HasStopCause {T = A} before now (Err stop) → HasStopCause {T = B} before now (Err stop)
-stop_cause {A} {B} before now stop cause =
-    let err : Stop → Result A Stop = λ s. Err s in
-    record {
-      later = cause.later;
-      failed = λ e. (let fault : stop ≡ stops.ReadFault = cc e in cause.failed (ap err fault));
-    }
 
 -- A buffer is filled.
 

@@ -67,8 +67,7 @@ fn read_lines<F: Shelf>(
 }
 
 /// All rows of the capture of that name.
-pub(crate) fn collect_rows<R: Threads + Sync, F: Shelf>(
-    rt: &R,
+pub(crate) fn collect_rows<F: Shelf>(
     alloc: Global,
     shelf: &mut F,
     name: &str,
@@ -82,7 +81,7 @@ pub(crate) fn collect_rows<R: Threads + Sync, F: Shelf>(
     match format {
         Format::Packets => {
             open_packets(shelf, name)?;
-            collect_packets(rt, alloc, shelf)
+            collect_packets(alloc, shelf)
         }
         Format::Records(schema) => read_lines(alloc, shelf, name, schema),
     }

@@ -21,7 +21,7 @@ use std::thread::Threads;
 const BATCH: usize = 4096;
 
 /// The rows that are read while others are loaded: those of several batches, as a thread that is started may begin late.
-const AHEAD: usize = 4 * BATCH;
+const AHEAD: usize = 2 * BATCH;
 
 /// A log that rows fill batch by batch, as they come. The rows of the next batch wait, and no other row is kept beside the log.
 #[derive(Drop)]
@@ -70,7 +70,7 @@ impl Filling {
 
     /// How many rows end the next batches, behind those that wait once so many more came.
     pub(crate) fn wanted(&self, more: usize) -> usize
-        ensures { result + (length self.now.waiting.items + more) % 4096 ≡ 16384 }
+        ensures { result + (length self.now.waiting.items + more) % 4096 ≡ 8192 }
     {
         AHEAD - (self.waiting.len() % BATCH + more % BATCH) % BATCH
     }

@@ -12,11 +12,9 @@ use crate::rows::Format;
 use cf_outside::Shelf;
 use cf_row::Row;
 use std::alloc::Global;
-use std::thread::Threads;
 
 /// The rows of the captures in the files of these names, which are read one after another.
-pub(crate) fn read_hosts<R: Threads + Sync, F: Shelf>(
-    rt: &R,
+pub(crate) fn read_hosts<F: Shelf>(
     alloc: Global,
     shelf: &mut F,
     names: &[&str],
@@ -31,7 +29,7 @@ pub(crate) fn read_hosts<R: Threads + Sync, F: Shelf>(
 {
     let mut hosts = Vec::new(alloc);
     for name in names {
-        let rows = collect_rows(rt, alloc, shelf, name, format)?;
+        let rows = collect_rows(alloc, shelf, name, format)?;
         match hosts.push(rows) {
             Ok(()) => {}
             Err(_) => return Err(Halt::Stopped(Stop::Memory)),

@@ -9,7 +9,7 @@ ghost use Rattle.cf_run.specs.Devices.{TakesUpTo, TakesAtMost};
 ghost use Rattle.cf_run.specs.Faults.{HasPacketFault};
 ghost use Rattle.cf_run.specs.Filling.{IsFilled};
 ghost use Rattle.cf_run.specs.Parts.{HasHaltCause, HasStopCause};
-ghost use Rattle.cf_run.specs.Reading.{IsReadOn, TakesRows};
+ghost use Rattle.cf_run.specs.Reading.{IsReaderAt, IsReadOn, TakesRows, reads_blocks};
 ghost use Rattle.cf_run.specs.Work.{ArePackets, packet_rows};
 ghost use Rattle.cf_run.specs.declared.refusal.Halt.TheVariants.{Stopped};
 ghost use Rattle.cf_run.specs.declared.refusal.Stop.TheVariants as stops;
@@ -19,7 +19,6 @@ use crate::reader::Reader;
 use crate::refusal::{Halt, Stop};
 use crate::rows::rows_of;
 use cf_outside::{Failed, Gate, Shelf};
-use cf_pcap::Frame;
 use cf_row::{Memory, Row};
 use std::alloc::Global;
 use std::thread::{Threads, join_mut};
@@ -29,9 +28,6 @@ const PIECE: usize = 65536;
 
 /// A capture has no more pieces.
 const PIECES: usize = 65536;
-
-/// At least so many rows are read at once of a capture that is read whole.
-const AT_ONCE: usize = 16384;
 
 // Reads the next piece of the opened file: as many bytes as the buffer has room for, or all up to the end.
 fn read_piece<F: Shelf>(shelf: &mut F, buf: &mut [u8]) -> Result<usize, Failed>
@@ -53,6 +49,18 @@ fn read_piece<F: Shelf>(shelf: &mut F, buf: &mut [u8]) -> Result<usize, Failed>
     Ok(filled)
 }
 
+// Feeds a piece, and gives the rows of the frames that end in it.
+fn feed_rows(alloc: Global, reader: &mut Reader, piece: &[u8]) -> Result<Vec<Row>, Memory>
+    ensures blocks { reads_blocks reader.new ≡ reads_blocks reader.old }
+    ensures fed { IfOk result (λ rows. (given : List FrameValue) × (rows.items ≡ packet_rows given)
+        × ((stream : List ℕ) (frames : List FrameValue) → IsReaderAt reader.old stream frames → IsReaderAt reader.new (stream ++ piece.now) (frames ++ given))) }
+    ensures fit { IfOk result (λ rows. All (Fits packet_attrs) rows.items) }
+{
+    let mut frames = Vec::new(alloc);
+    reader.feed(piece, &mut frames)?;
+    rows_of(alloc, &frames)
+}
+
 /// The opened capture of packets, which is read piece by piece.
 #[derive(Drop)]
 pub(crate) struct Pieces {
@@ -64,38 +72,34 @@ pub(crate) struct Pieces {
     number: usize,
 }
 
-// Reads the first piece into the buffer, and puts the frames that end in it into the list.
+// Reads the first piece into the buffer, and gives its rows.
 fn first_piece<F: Shelf>(
     alloc: Global,
     shelf: &mut F,
     mut buf: Vec<u8>,
-    frames: &mut Vec<Frame>,
-) -> Result<Pieces, Stop>
-    requires size { length buf.items ≡ 65536 }
-    requires none { frames.old.items ≡ [] }
+) -> Result<(Pieces, Vec<Row>), Stop>
+    requires { length buf.items ≡ 65536 }
     ensures files { F.files shelf.new ≡ F.files shelf.old }
-    ensures read { IfOk result (λ pieces. IsReadOn pieces (F.rest shelf.old) (F.rest shelf.new) (packet_rows frames.new.items)) }
+    ensures read { IfOk result (λ begun. IsReadOn begun.0 (F.rest shelf.old) (F.rest shelf.new) begun.1.items) }
+    ensures fit { IfOk result (λ begun. All (Fits packet_attrs) begun.1.items) }
     ensures stopped { OnErr result (TakesAtMost (F.rest shelf.old) (F.rest shelf.new) (2 ^ 32)) }
     ensures cause { HasStopCause (F.faults shelf.old) (F.faults shelf.new) result }
 {
     let count = read_piece(shelf, &mut buf)?;
     let mut reader = Reader::of(alloc, &buf[..count])?;
-    reader.feed(&buf[..count], frames)?;
-    Ok(Pieces {
+    let rows = feed_rows(alloc, &mut reader, &buf[..count])?;
+    let pieces = Pieces {
         reader,
         buf,
         count,
         number: 1,
-    })
+    };
+    Ok((pieces, rows))
 }
 
 impl Pieces {
     /// Reads the first piece, and gives its rows.
-    pub(crate) fn begin<R: Threads + Sync, F: Shelf>(
-        rt: &R,
-        alloc: Global,
-        shelf: &mut F,
-    ) -> Result<(Pieces, Vec<Row>), Stop>
+    pub(crate) fn begin<F: Shelf>(alloc: Global, shelf: &mut F) -> Result<(Pieces, Vec<Row>), Stop>
         ensures files { F.files shelf.new ≡ F.files shelf.old }
         ensures read { IfOk result (λ begun. IsReadOn begun.0 (F.rest shelf.old) (F.rest shelf.new) begun.1.items) }
         ensures fit { IfOk result (λ begun. All (Fits packet_attrs) begun.1.items) }
@@ -103,10 +107,7 @@ impl Pieces {
         ensures cause { HasStopCause (F.faults shelf.old) (F.faults shelf.new) result }
     {
         let buf = vec![in alloc; 0u8; PIECE]?;
-        let mut frames = Vec::new(alloc);
-        let pieces = first_piece(alloc, shelf, buf, &mut frames)?;
-        let rows = rows_of(rt, alloc, &frames)?;
-        Ok((pieces, rows))
+        first_piece(alloc, shelf, buf)
     }
 
     /// Whether there may be more pieces.
@@ -117,49 +118,26 @@ impl Pieces {
         self.count == PIECE && self.number < PIECES
     }
 
-    // Reads the next piece, and adds the frames that end in it.
-    fn next<F: Shelf>(&mut self, shelf: &mut F, frames: &mut Vec<Frame>) -> Result<(), Stop>
+    /// Reads the next piece, and gives its rows.
+    pub(crate) fn next<F: Shelf>(&mut self, alloc: Global, shelf: &mut F) -> Result<Vec<Row>, Stop>
         requires more { (self.old.count ≡ 65536) × (self.old.number < 65536) }
         ensures files { F.files shelf.new ≡ F.files shelf.old }
         ensures number { IfOk result (λ _. self.new.number ≡ self.old.number + 1) }
-        ensures read { IfOk result (λ _. (given : List FrameValue) × (frames.new.items ≡ frames.old.items ++ given)
-            × ((before : Option (List ℕ)) (rows : List RowValue) → IsReadOn self.old before (F.rest shelf.old) rows → IsReadOn self.new before (F.rest shelf.new) (rows ++ packet_rows given))) }
+        ensures read { IfOk result (λ given. (before : Option (List ℕ)) (rows : List RowValue) → IsReadOn self.old before (F.rest shelf.old) rows → IsReadOn self.new before (F.rest shelf.new) (rows ++ given.items)) }
+        ensures fit { IfOk result (λ given. All (Fits packet_attrs) given.items) }
         ensures stopped { OnErr result ((before : Option (List ℕ)) (rows : List RowValue) → IsReadOn self.old before (F.rest shelf.old) rows → TakesAtMost before (F.rest shelf.new) (2 ^ 32)) }
         ensures cause { HasStopCause (F.faults shelf.old) (F.faults shelf.new) result }
     {
         let count = read_piece(shelf, &mut self.buf)?;
-        self.reader.feed(&self.buf[..count], frames)?;
+        let rows = feed_rows(alloc, &mut self.reader, &self.buf[..count])?;
         self.count = count;
         self.number += 1;
-        Ok(())
-    }
-
-    // Reads on until there are at least so many frames, or all.
-    fn next_frames<F: Shelf>(
-        &mut self,
-        alloc: Global,
-        shelf: &mut F,
-        wanted: usize,
-    ) -> Result<Vec<Frame>, Stop>
-        requires more { (self.old.count ≡ 65536) × (self.old.number < 65536) }
-        ensures files { F.files shelf.new ≡ F.files shelf.old }
-        ensures number { IfOk result (λ _. self.old.number < self.new.number) }
-        ensures read { IfOk result (λ frames. (before : Option (List ℕ)) (rows : List RowValue) → IsReadOn self.old before (F.rest shelf.old) rows → IsReadOn self.new before (F.rest shelf.new) (rows ++ packet_rows frames.items)) }
-        ensures stopped { OnErr result ((before : Option (List ℕ)) (rows : List RowValue) → IsReadOn self.old before (F.rest shelf.old) rows → TakesAtMost before (F.rest shelf.new) (2 ^ 32)) }
-        ensures cause { HasStopCause (F.faults shelf.old) (F.faults shelf.new) result }
-    {
-        let mut frames = Vec::new(alloc);
-        self.next(shelf, &mut frames)?;
-        while frames.len() < wanted && self.has_more() {
-            self.next(shelf, &mut frames)?;
-        }
-        Ok(frames)
+        Ok(rows)
     }
 
     /// Reads on until at least so many rows came, or all pieces, and gives their rows.
-    pub(crate) fn next_rows<R: Threads + Sync, F: Shelf>(
+    pub(crate) fn next_rows<F: Shelf>(
         &mut self,
-        rt: &R,
         alloc: Global,
         shelf: &mut F,
         wanted: usize,
@@ -172,8 +150,12 @@ impl Pieces {
         ensures stopped { OnErr result ((before : Option (List ℕ)) (rows : List RowValue) → IsReadOn self.old before (F.rest shelf.old) rows → TakesAtMost before (F.rest shelf.new) (2 ^ 32)) }
         ensures cause { HasStopCause (F.faults shelf.old) (F.faults shelf.new) result }
     {
-        let frames = self.next_frames(alloc, shelf, wanted)?;
-        Ok(rows_of(rt, alloc, &frames)?)
+        let mut given = self.next(alloc, shelf)?;
+        while given.len() < wanted && self.has_more() {
+            let mut more = self.next(alloc, shelf)?;
+            given.append(&mut more)?;
+        }
+        Ok(given)
     }
 
     /// What the end says: the rows that came are those of the capture, or it has a fault.
@@ -188,19 +170,15 @@ impl Pieces {
 }
 
 /// The rows of the opened capture, which is read to its end, or until 2^32 bytes were taken.
-pub(crate) fn collect_packets<R: Threads + Sync, F: Shelf>(
-    rt: &R,
-    alloc: Global,
-    shelf: &mut F,
-) -> Result<Vec<Row>, Halt>
+pub(crate) fn collect_packets<F: Shelf>(alloc: Global, shelf: &mut F) -> Result<Vec<Row>, Halt>
     ensures files { F.files shelf.new ≡ F.files shelf.old }
     ensures taken { TakesRows (2 ^ 32) ArePackets HasPacketFault (λ kept rows. kept.items ≡ rows) (F.rest shelf.old) (F.rest shelf.new) result }
     ensures fit { IfOk result (λ kept. All (Fits packet_attrs) kept.items) }
     ensures cause { HasHaltCause (F.faults shelf.old) (F.faults shelf.new) result }
 {
-    let (mut pieces, mut rows) = Pieces::begin(rt, alloc, shelf)?;
+    let (mut pieces, mut rows) = Pieces::begin(alloc, shelf)?;
     while pieces.has_more() {
-        let mut given = pieces.next_rows(rt, alloc, shelf, AT_ONCE)?;
+        let mut given = pieces.next(alloc, shelf)?;
         rows.append(&mut given)?;
     }
     pieces.finish()?;
@@ -237,14 +215,14 @@ fn take_beside<R: Threads + Sync, F: Shelf, G: Gate>(
             → IsFilled filling.entry.now.segments.shape filling.entry.now.segments.most filling.entry.now.loader.plan filling.exit.now.segments filling.exit.now.loader filling.exit.now.waiting.items filling.exit.now.count (before ++ rows.entry.now.items)) }
     { filling.take_all(rt, gate, rows) };
     let mut read = || -> Result<Vec<Row>, Stop>
-        requires { IsSync R.row × (pieces.now.count ≡ 65536) × (pieces.now.number < 65536) }
+        requires { (pieces.now.count ≡ 65536) × (pieces.now.number < 65536) }
         ensures files { F.files shelf.exit.now ≡ F.files shelf.entry.now }
         ensures number { IfOk result (λ _. pieces.entry.now.number < pieces.exit.now.number) }
         ensures read { IfOk result (λ given. (before : Option (List ℕ)) (these : List RowValue) → IsReadOn pieces.entry.now before (F.rest shelf.entry.now) these → IsReadOn pieces.exit.now before (F.rest shelf.exit.now) (these ++ given.items)) }
         ensures fit { IfOk result (λ given. All (Fits packet_attrs) given.items) }
         ensures stopped { OnErr result ((before : Option (List ℕ)) (these : List RowValue) → IsReadOn pieces.entry.now before (F.rest shelf.entry.now) these → TakesAtMost before (F.rest shelf.exit.now) (2 ^ 32)) }
         ensures cause { HasStopCause (F.faults shelf.entry.now) (F.faults shelf.exit.now) result }
-    { pieces.next_rows(rt, alloc, shelf, wanted) };
+    { pieces.next_rows(alloc, shelf, wanted) };
     join_mut(rt, &mut take, &mut read)
 }
 
@@ -262,7 +240,7 @@ pub(crate) fn fill_packets<R: Threads + Sync, F: Shelf, G: Gate>(
     ensures taken { TakesRows (2 ^ 32) ArePackets HasPacketFault (λ _. IsFilled filling.old.segments.shape filling.old.segments.most filling.old.loader.plan filling.new.segments filling.new.loader filling.new.waiting.items filling.new.count) (F.rest shelf.old) (F.rest shelf.new) result }
     ensures cause { HasHaltCause (F.faults shelf.old) (F.faults shelf.new) result }
 {
-    let (mut pieces, mut rows) = Pieces::begin(rt, alloc, shelf)?;
+    let (mut pieces, mut rows) = Pieces::begin(alloc, shelf)?;
     while pieces.has_more() {
         let (taken, given) = take_beside(rt, alloc, shelf, filling, gate, &mut rows, &mut pieces);
         rows = given?;

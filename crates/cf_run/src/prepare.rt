@@ -92,8 +92,7 @@ fn synth_answers<R: Threads + Sync, F: Shelf, G: Gate>(
 }
 
 // The rows that a dump is called for.
-fn dump_listing<R: Threads + Sync, F: Shelf>(
-    rt: &R,
+fn dump_listing<F: Shelf>(
     alloc: Global,
     command: &DumpCommand,
     shelf: &mut F,
@@ -103,7 +102,7 @@ fn dump_listing<R: Threads + Sync, F: Shelf>(
     ensures cause { HasHaltCause (F.faults shelf.old) (F.faults shelf.new) result }
 {
     let schema = packet_schema(alloc)?;
-    let rows = collect_rows(rt, alloc, shelf, command.capture, Format::Packets)?;
+    let rows = collect_rows(alloc, shelf, command.capture, Format::Packets)?;
     let text = dump_of(alloc, &schema, &rows)?;
     let seals = Vec::new(alloc);
     Ok(Product { text, seals })
@@ -123,7 +122,7 @@ fn snapshot_answers<R: Threads + Sync, F: Shelf, G: Gate>(
     ensures cause { HasHaltCause (F.faults shelf.old) (F.faults shelf.new) result }
 {
     let setup = read_setup(alloc, shelf, command.setup)?;
-    let hosts = read_hosts(rt, alloc, shelf, &command.captures, format_of(&setup))?;
+    let hosts = read_hosts(alloc, shelf, &command.captures, format_of(&setup))?;
     let LogSizes {
         capacity,
         nodes,
@@ -158,7 +157,7 @@ fn product_of<R: Threads + Sync, F: Shelf, G: Gate>(
     match command_of(alloc, words)? {
         Some(Command::Run(command)) => run_report(rt, alloc, &command, shelf, gate),
         Some(Command::Synth(command)) => synth_answers(rt, alloc, &command, shelf, gate),
-        Some(Command::Dump(command)) => dump_listing(rt, alloc, &command, shelf),
+        Some(Command::Dump(command)) => dump_listing(alloc, &command, shelf),
         Some(Command::Snapshot(command)) => snapshot_answers(rt, alloc, &command, shelf, gate),
         None => Err(Halt::Refused(Refusal::Words)),
     }

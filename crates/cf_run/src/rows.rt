@@ -1,6 +1,5 @@
 // The rows of the bytes of a capture.
 ghost use Rattle.std.specs.Prelude.{◌≡◌, All, IfOk, MatchResult};
-ghost use Rattle.std.specs.Thread.{IsSync};
 ghost use Rattle.cf_row.specs.Row.{Fits};
 ghost use Rattle.cf_row.specs.Schema.{packet_attrs};
 ghost use Rattle.cf_records.specs.Records.{IsRecordFile};
@@ -19,7 +18,6 @@ use cf_records::{RecordFault, read_records};
 use cf_row::{Memory, Row, Schema};
 use cf_setup::Setup;
 use std::alloc::Global;
-use std::thread::{Threads, join};
 
 /// The format of a capture.
 #[derive(Clone, Copy)]
@@ -42,65 +40,16 @@ pub(crate) fn format_of<'a>(setup: &'a Setup) -> Format<'a>
     }
 }
 
-/// So many frames are made into rows by several threads.
-const MANY: usize = 8192;
-
-// A row for each frame, in a list that has room for so many.
-fn rows_in_turn(alloc: Global, frames: &[Frame], room: usize) -> Result<Vec<Row>, Memory>
+/// A row for each frame.
+pub(crate) fn rows_of(alloc: Global, frames: &[Frame]) -> Result<Vec<Row>, Memory>
     ensures rows { IfOk result (λ rows. rows.items ≡ packet_rows frames.now) }
     ensures fit { IfOk result (λ rows. All (Fits packet_attrs) rows.items) }
 {
-    let mut rows = Vec::with_capacity(alloc, room)?;
+    let mut rows = Vec::with_capacity(alloc, frames.len())?;
     for frame in frames {
         rows.push(packet_row(alloc, frame)?)?;
     }
     Ok(rows)
-}
-
-// The same. Where there are many, each half is made in a thread of its own, where one can be made.
-#[cycle(halves)]
-fn rows_in_halves<R: Threads + Sync>(
-    rt: &R,
-    alloc: Global,
-    frames: &[Frame],
-    room: usize,
-) -> Result<Vec<Row>, Memory>
-    ensures rows { IfOk result (λ rows. rows.items ≡ packet_rows frames.now) }
-    ensures fit { IfOk result (λ rows. All (Fits packet_attrs) rows.items) }
-{
-    if frames.len() < MANY {
-        return rows_in_turn(alloc, frames, room);
-    }
-    let (front, back) = frames.split_at(frames.len() / 2);
-    let (rows, more) = join(
-        rt,
-        move || -> Result<Vec<Row>, Memory>
-            requires { IsSync R.row }
-            ensures rows { IfOk result (λ rows. rows.items ≡ packet_rows front.entry.now) }
-            ensures fit { IfOk result (λ rows. All (Fits packet_attrs) rows.items) }
-        { rows_in_halves(rt, alloc, front, room) },
-        move || -> Result<Vec<Row>, Memory>
-            requires { IsSync R.row }
-            ensures rows { IfOk result (λ rows. rows.items ≡ packet_rows back.entry.now) }
-            ensures fit { IfOk result (λ rows. All (Fits packet_attrs) rows.items) }
-        { rows_in_halves(rt, alloc, back, back.len()) },
-    );
-    let mut rows = rows?;
-    let mut more = more?;
-    rows.append(&mut more)?;
-    Ok(rows)
-}
-
-/// A row for each frame.
-pub(crate) fn rows_of<R: Threads + Sync>(
-    rt: &R,
-    alloc: Global,
-    frames: &[Frame],
-) -> Result<Vec<Row>, Memory>
-    ensures rows { IfOk result (λ rows. rows.items ≡ packet_rows frames.now) }
-    ensures fit { IfOk result (λ rows. All (Fits packet_attrs) rows.items) }
-{
-    rows_in_halves(rt, alloc, frames, frames.len())
 }
 
 fn line_code_of(fault: RecordFault) -> u8

@@ -20,7 +20,7 @@ returns-in_err-append-clause-taken g c =
     let p = err_from_is_err_and c.from_residual-in_err-append.result c.from_residual-in_err-append.ensures.1 in
     let before : Option (List ℕ) = g.F.Shelf.rest c.args.shelf.now in
     let rows : List RowValue = c.loop-alloc.rows.items in
-    rw (p.1, p.2) (stopped_on c.next_rows.new.self before (g.F.Shelf.rest c.next_rows.new.shelf) (rows ++ c.in_ok-given.given.items) (c.in_ok-given.ensures.read before rows c.loop-alloc.invariant.read))
+    rw (p.1, p.2) (stopped_on c.next.new.self before (g.F.Shelf.rest c.next.new.shelf) (rows ++ c.in_ok-given.given.items) (c.in_ok-given.ensures.read before rows c.loop-alloc.invariant.read))
 
 pub loop-alloc-preserved : goal.loop-alloc-preserved
 loop-alloc-preserved g c =
@@ -35,7 +35,7 @@ loop-alloc-preserved g c =
       files = c.in_ok-given.ensures.files ∙ v.files;
       later = omega (arith, first, then);
       fit = subst (λ (rs : List RowValue). All (Fits packet_attrs) rs) (sym grown) (All-append (Fits packet_attrs) rows given v.fit c.in_ok-given.ensures.fit);
-      read = subst (λ (rs : List RowValue). IsReadOn c.next_rows.new.self before (g.F.Shelf.rest c.next_rows.new.shelf) rs) (sym grown) (c.in_ok-given.ensures.read before rows v.read);
+      read = subst (λ (rs : List RowValue). IsReadOn c.next.new.self before (g.F.Shelf.rest c.next.new.shelf) rs) (sym grown) (c.in_ok-given.ensures.read before rows v.read);
     }
 
 pub returns-in_err-finish-clause-taken : goal.returns-in_err-finish-clause-taken

@@ -2,7 +2,7 @@ use Rattle.std.proofs.Common.{◌≡◌, take, All}
 use Rattle.cf_row.specs.Row.{Fits}
 use Rattle.cf_row.specs.Schema.{packet_attrs}
 use Rattle.cf_run.specs.Work.{packet_rows}
-use Rattle.cf_run.proofs.rows.rows_in_turn.Given as goal
+use Rattle.cf_run.proofs.rows.rows_of.Given as goal
 
 abbrev pub invariant-loop-frame : goal.invariant-loop-frame
 invariant-loop-frame l = record {

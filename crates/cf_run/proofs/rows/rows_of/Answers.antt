@@ -1,5 +1,5 @@
 use Rattle.cf_run.proofs.MoreRows.{more_rows, all_fit}
-use Rattle.cf_run.proofs.rows.rows_in_turn.Goals as goal
+use Rattle.cf_run.proofs.rows.rows_of.Goals as goal
 
 pub loop-frame-preserved : goal.loop-frame-preserved
 loop-frame-preserved c = record {

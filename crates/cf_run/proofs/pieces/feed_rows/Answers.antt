@@ -1,0 +1,10 @@
+use Rattle.std.proofs.Common.{◌∙◌, ◌++◌, List, ap}
+use Rattle.std.proofs.lemmas.Result.{IfOk-weaker}
+use Rattle.cf_pcap.specs.Capture.{FrameValue}
+use Rattle.cf_run.specs.Work.{packet_rows}
+use Rattle.cf_run.proofs.pieces.feed_rows.Goals as goal
+
+pub returns-clause-fed : goal.returns-clause-fed
+returns-clause-fed c =
+    let fed = c.in_ok-feed.ensures.fed in
+    IfOk-weaker c.rows_of.result _ _ (λ _ are. (fed.0, are ∙ ap (λ (fs : List FrameValue). packet_rows fs) (c.deref.ensures.value ∙ fed.1 ∙ ap (λ (fs : List FrameValue). fs ++ fed.0) c.new-frames.ensures.items), fed.2)) c.rows_of.ensures.rows
