@@ -1,5 +1,5 @@
 // How a row keeps its values: as a list, or as the words that spell them.
-ghost use Rattle.std.specs.Prelude.{◌≡◌, ◌<◌, ◌≤◌, ◌++◌, length, map, take, IfOk, IfSome, IfNone, slice_index_or, true, false};
+ghost use Rattle.std.specs.Prelude.{◌≡◌, ◌<◌, ◌≤◌, ◌++◌, length, map, take, IfOk, IfSome, IfNone, slice_index_or, true, false, IsOk};
 ghost use Rattle.std.specs.List.{list_all};
 ghost use Rattle.cf_row.specs.declared.row.Value.TheVariants.{Num};
 ghost use Rattle.cf_row.specs.Row.{is_of_kind as is_of_kind_of};
@@ -40,12 +40,24 @@ impl Values {
         }
     }
 
-    // Equal values, kept alike.
+    // These values, without a block of memory where they lie within a row.
+    pub(crate) fn of(alloc: Global, values: &[Value]) -> Result<Values, Memory>
+        ensures same { IfOk result (λ kept. values_of kept ≡ values.now) }
+        ensures free { lie_within values.now ≡ true → IsOk result }
+    {
+        match Spelling::of(values) {
+            Some(spelling) => Ok(Values::Spelled(spelling)),
+            None => Ok(Values::Listed(values.to_vec(alloc)?)),
+        }
+    }
+
+    // Equal values, without a block of memory where they lie within a row.
     pub(crate) fn copy(&self, alloc: Global) -> Result<Values, Memory>
-        ensures { IfOk result (λ values. values_of values ≡ values_of self.now) }
+        ensures same { IfOk result (λ values. values_of values ≡ values_of self.now) }
+        ensures free { lie_within (values_of self.now) ≡ true → IsOk result }
     {
         match self {
-            Values::Listed(values) => Ok(Values::Listed(values.to_vec(alloc)?)),
+            Values::Listed(values) => Values::of(alloc, values),
             Values::Spelled(spelling) => Ok(Values::Spelled(spelling.copy(alloc)?)),
         }
     }
@@ -64,7 +76,8 @@ pub(crate) enum Words {
 
 impl Words {
     fn new(alloc: Global, words: &[u64]) -> Result<Words, Memory>
-        ensures { IfOk result (λ kept. words_in kept ≡ words.now) }
+        ensures words { IfOk result (λ kept. words_in kept ≡ words.now) }
+        ensures free { length words.now ≤ 20 → IsOk result }
     {
         if words.len() > FEW {
             return Ok(Words::Many(words.to_vec(alloc)?));
@@ -84,11 +97,12 @@ impl Words {
     }
 
     fn copy(&self, alloc: Global) -> Result<Words, Memory>
-        ensures { IfOk result (λ kept. words_in kept ≡ words_in self.now) }
+        ensures words { IfOk result (λ kept. words_in kept ≡ words_in self.now) }
+        ensures free { length (words_in self.now) ≤ 20 → IsOk result }
     {
         match self {
             Words::Few(words, count) => Ok(Words::Few(*words, *count)),
-            Words::Many(words) => Ok(Words::Many(words.to_vec(alloc)?)),
+            Words::Many(words) => Words::new(alloc, words),
         }
     }
 }
@@ -130,7 +144,8 @@ impl Spelling {
         requires few { length attrs.now ≤ 24 }
         requires long { length words.now ≡ word_count attrs.now }
         requires fits { words_fit attrs.now words.now ≡ true }
-        ensures { IfOk result (λ spelling. spelling ≡ values_read attrs.now words.now) }
+        ensures read { IfOk result (λ spelling. spelling ≡ values_read attrs.now words.now) }
+        ensures free { length words.now ≤ 20 → IsOk result }
     {
         Ok(Spelling {
             lens: lens_of(attrs),
@@ -191,7 +206,8 @@ impl Spelling {
     }
 
     fn copy(&self, alloc: Global) -> Result<Spelling, Memory>
-        ensures { IfOk result (λ spelling. spelling ≡ self.now) }
+        ensures same { IfOk result (λ spelling. spelling ≡ self.now) }
+        ensures free { length (values_words self.now) ≤ 20 → IsOk result }
     {
         let words = self.words.copy(alloc)?;
         Ok(Spelling {

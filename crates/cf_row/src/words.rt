@@ -1,5 +1,5 @@
 // The words that spell an entry.
-ghost use Rattle.std.specs.Prelude.{◌≡◌, ℕ, ◌+◌, ◌-◌, ◌*◌, ◌^◌, ◌<◌, ◌≤◌, ◌++◌, List, length, take, drop, IfOk, IsTrue, ◌↔◌, true, nat_lt};
+ghost use Rattle.std.specs.Prelude.{◌≡◌, ℕ, ◌+◌, ◌-◌, ◌*◌, ◌^◌, ◌<◌, ◌≤◌, ◌++◌, List, length, take, drop, IfOk, IsOk, IsTrue, ◌↔◌, true, nat_lt};
 ghost use Rattle.cf_row.specs.Schema.{has_good_size};
 ghost use Rattle.cf_row.specs.declared.schema.Kind.TheVariants.{Bytes};
 ghost use Rattle.cf_row.specs.Row.{Fits};
@@ -176,12 +176,13 @@ pub(crate) fn read_value(kind: Kind, words: &[u64], at: usize) -> Value
     }
 }
 
-/// The entry that these words spell.
+/// The entry that these words spell, without a block of memory where its values have at most 20 words.
 pub fn row_of(alloc: Global, schema: &Schema, words: &[u64]) -> Result<Entry, Memory>
     requires { AreSpelled schema.now words.now }
     ensures entry { IfOk result (λ entry. IsEntry schema.now entry × (words.now ≡ spelled entry)) }
     ensures inverse { IfOk result (λ read. (entry : Entry) → IsEntry schema.now entry → words.now ≡ spelled entry → read ≡ entry) }
     ensures read { IfOk result (λ entry. entry ≡ entry_read schema.now words.now) }
+    ensures free { word_count_of schema.now ≤ 20 → IsOk result }
 {
     let count = word_count(schema);
     let values = Spelling::new(alloc, schema.attrs(), &words[..count])?;
