@@ -2,6 +2,7 @@
 ghost use Rattle.std.specs.Prelude.{◌≡◌, ◌⊎◌, ◌+◌, ◌-◌, ◌*◌, ◌<◌, ◌≤◌, length, false, IfOk};
 ghost use Rattle.cf_row.specs.Row.{Fits};
 ghost use Rattle.cf_row.specs.Words.{word_count as word_count_of, spelled};
+ghost use Rattle.cf_table.specs.Loads.{CountsLoads};
 ghost use Rattle.cf_table.specs.Values.{IsOf, book_of};
 ghost use Rattle.cf_table.specs.Moves.{HasAll, SeenFirst};
 ghost use Rattle.cf_append.specs.Appends.{GoesOn, Stops, Rests, IsAnswered, flying};
@@ -45,6 +46,7 @@ fn store_words<L: Ledger>(
     requires flies { pass.old ≡ flying offset row.now 0 pass.old }
     ensures pass { pass.new ≡ flying offset row.now (length words.now) pass.old }
     ensures steps { steps.new ≡ steps.old + length words.now }
+    ensures loads { CountsLoads pass.old pass.new steps.old steps.new }
 {
     let _row = row;
     for i in 0..words.len() {
@@ -66,6 +68,7 @@ pub(crate) fn fill<L: Ledger>(
     requires flies { pass.old ≡ flying offset row.now 0 pass.old }
     ensures pass { pass.new ≡ flying offset row.now (word_count_of log.now.shape.schema + 1) pass.old }
     ensures steps { steps.new ≡ steps.old + (word_count_of log.now.shape.schema + 1) }
+    ensures loads { CountsLoads pass.old pass.new steps.old steps.new }
 {
     let schema = log.shape().schema();
     let mut buffer = [0u64; 64];
@@ -93,6 +96,7 @@ pub fn append<L: Ledger>(
     ensures stops { IfOk result (λ _. Stops log.now.shape pass.old.view pass.new.view) }
     ensures alone { log.now.shape.writers ≡ 1 → IfOk result (λ _. HasAll pass.new.view) }
     ensures steps { steps.new ≤ steps.old + word_count_of log.now.shape.schema + 3 + lane_steps log.now.shape (length log.now.shape.lanes) + 2 * (length pass.new.view.seen - length pass.old.view.seen + 1) }
+    ensures loads { CountsLoads pass.old pass.new steps.old steps.new }
 {
     append_near(log, pass, row, &mut Leaves::new(), steps)
 }
@@ -118,6 +122,7 @@ pub fn append_near<L: Ledger>(
     ensures alone { log.now.shape.writers ≡ 1 → IfOk result (λ _. HasAll pass.new.view) }
     ensures near { Remembers log.now.shape pass.new.view leaves.new }
     ensures steps { steps.new ≤ steps.old + word_count_of log.now.shape.schema + 3 + lane_steps log.now.shape (length log.now.shape.lanes) + 2 * (length pass.new.view.seen - length pass.old.view.seen + 1) }
+    ensures loads { CountsLoads pass.old pass.new steps.old steps.new }
 {
     if pass.over() {
         return Err(AppendFault::Full);
@@ -157,6 +162,7 @@ pub fn append_wait<R: Wait, L: Ledger>(
     ensures stops { IfOk result (λ _. Stops log.now.shape pass.old.view pass.new.view) }
     ensures alone { log.now.shape.writers ≡ 1 → IfOk result (λ _. HasAll pass.new.view) }
     ensures covered { IfOk result (λ o. o < length pass.new.view.seen) }
+    ensures loads { CountsLoads pass.old pass.new steps.old steps.new }
 {
     let offset = append(log, pass, row, steps)?;
     wait_for(log, rt, pass, offset, steps);

@@ -11,6 +11,7 @@ ghost use Rattle.cf_law.specs.Steps.{mine_chain};
 ghost use Rattle.cf_law.specs.Steps.Act.{store_head as stores_head};
 ghost use Rattle.cf_law.specs.Readers.{own_top};
 ghost use Rattle.cf_law.specs.Shapes.{layout as layout_of, path_in};
+ghost use Rattle.cf_table.specs.Loads.{CountsLoads};
 ghost use Rattle.cf_table.specs.Values.{IsOf, book_of};
 ghost use Rattle.cf_table.specs.Effects.{IsLawfulStep, HasSteppedUnseen, head_effect};
 ghost use Rattle.cf_append.specs.Paths.{Strides, IsNodeOf, IsFiledIn, HasFilings};
@@ -43,6 +44,7 @@ fn own_head<L: Ledger>(
     ensures books { pass.new.view.books ≡ pass.old.view.books }
     ensures head { result ≡ own_top (layout_of log.now.shape) (book_of pass.old.view) (spot at.lane (key % 16 ∷ at.path)) }
     ensures steps { steps.new ≡ steps.old + 1 }
+    ensures loads { CountsLoads pass.old pass.new steps.old steps.new }
 {
     let writer = pass.writer();
     log.load_head(pass, leaf, (key % 16) as u8, writer, steps)
@@ -84,6 +86,7 @@ fn cell_quad<L: Ledger>(
     ensures books { pass.new.view.books ≡ pass.old.view.books }
     ensures quad { result ≡ quad_of (amounts log.now.shape lane (mine_chain (layout_of log.now.shape) (spot lane path) (book_of pass.old.view).mine)) }
     ensures steps { steps.new ≡ steps.old + 3 }
+    ensures loads { CountsLoads pass.old pass.new steps.old steps.new }
 {
     let _lawful = log.shape();
     let first = log.load_cell(pass, offset, lane, 0, steps);
@@ -120,6 +123,7 @@ fn quad_with<L: Ledger>(
     ensures books { pass.new.view.books ≡ pass.old.view.books }
     ensures quad { result ≡ quad_of (measure_of log.now.shape lane row.now ∷ amounts log.now.shape lane (leaf_chain log.now.shape lane key (book_of pass.old.view))) }
     ensures steps { steps.new ≤ steps.old + 3 }
+    ensures loads { CountsLoads pass.old pass.new steps.old steps.new }
 {
     let value = Quad::EMPTY.add(measure(log.shape(), lane, row));
     if previous == 0 {
@@ -151,6 +155,7 @@ fn store_three<L: Ledger>(
     ensures strides { Strides pass.old pass.new }
     ensures filled { HasFilled log.now.shape offset _row.now (cell_from log.now.shape (_leaf.0 + 1)) pass.old pass.new }
     ensures steps { steps.new ≡ steps.old + 3 }
+    ensures loads { CountsLoads pass.old pass.new steps.old steps.new }
 {
     let _lawful = log.shape();
     log.store_cell(pass, offset, i, words.0, steps);
@@ -183,6 +188,7 @@ fn store_version<L: Ledger>(
     ensures filled { HasFilled log.now.shape offset row.now (cell_from log.now.shape (lane + 1)) pass.old pass.new }
     ensures next { result ≡ cell_from log.now.shape (lane + 1) }
     ensures steps { steps.new ≤ steps.old + 7 }
+    ensures loads { CountsLoads pass.old pass.new steps.old steps.new }
 {
     let shape = log.shape();
     let Some(at) = filing else {
@@ -220,6 +226,7 @@ pub(crate) fn fill_cells<L: Ledger>(
     ensures strides { Strides pass.old pass.new }
     ensures filled { HasFilled log.now.shape offset row.now (word_count_of log.now.shape.schema + 1 + cell_count log.now.shape.lanes) pass.old pass.new }
     ensures steps { steps.new ≤ steps.old + 7 * length log.now.shape.lanes }
+    ensures loads { CountsLoads pass.old pass.new steps.old steps.new }
 {
     let shape = log.shape();
     let lanes = shape.lanes().len() as u8;
@@ -254,6 +261,7 @@ fn store_top<L: Ledger>(
     requires lawful { IsLawfulStep log.now.shape pass.old.view (stores_head lane leaf (key % 16) offset) (head_effect log.now.shape pass.old.view lane leaf (key % 16) offset) }
     ensures made { HasSteppedUnseen log.now.shape (head_effect log.now.shape pass.old.view lane leaf (key % 16) offset) pass.old pass.new }
     ensures steps { steps.new ≡ steps.old + 1 }
+    ensures loads { CountsLoads pass.old pass.new steps.old steps.new }
 {
     log.store_head(pass, leaf, (key % 16) as u8, offset, steps);
 }
@@ -277,6 +285,7 @@ fn link_in<L: Ledger>(
     ensures strides { Strides pass.old pass.new }
     ensures linked { HasLinked log.now.shape offset _row.now (lane + 1) pass.old pass.new }
     ensures steps { steps.new ≤ steps.old + 1 }
+    ensures loads { CountsLoads pass.old pass.new steps.old steps.new }
 {
     let _lawful = log.shape();
     let Some(at) = filing else {
@@ -302,6 +311,7 @@ pub(crate) fn link_all<L: Ledger>(
     ensures strides { Strides pass.old pass.new }
     ensures linked { HasLinked log.now.shape offset row.now (length log.now.shape.lanes) pass.old pass.new }
     ensures steps { steps.new ≤ steps.old + length log.now.shape.lanes }
+    ensures loads { CountsLoads pass.old pass.new steps.old steps.new }
 {
     let lanes = log.shape().lanes().len() as u8;
     for lane in 0..lanes {

@@ -7,6 +7,7 @@ ghost use Rattle.cf_shape.specs.Places.{Slot, place as place_by, sizes_of};
 ghost use Rattle.cf_words.specs.Words.{Spot};
 ghost use Rattle.cf_law.specs.Steps.{IsChild};
 ghost use Rattle.cf_law.specs.Shapes.{layout as layout_of};
+ghost use Rattle.cf_table.specs.Loads.{CountsLoads};
 ghost use Rattle.cf_table.specs.Values.{IsOf};
 ghost use Rattle.cf_table.specs.Moves.{SeenFirst};
 ghost use Rattle.cf_append.specs.Appends.{Rests};
@@ -56,6 +57,7 @@ fn take_child<L: Ledger>(
     ensures answer { MatchOption result (IsStuck log.now.shape (λ s. s ≡ to.0) pass.old pass.new) (IsNodeOf log.now.shape pass.new.view to.0) }
     ensures begins { IfNone result (SeenFirst pass.new.view) }
     ensures steps { steps.new ≤ steps.old + 3 }
+    ensures loads { CountsLoads pass.old pass.new steps.old steps.new }
 {
     let _lawful = log.shape();
     let found = log.load_child(pass, place, steps);
@@ -91,6 +93,7 @@ fn first_node<L: Ledger>(
     ensures answer { MatchOption result (IsStuck log.now.shape (λ s. s ≡ spot_of at) pass.old pass.new) (IsNodeOf log.now.shape pass.new.view (spot_of at)) }
     ensures begins { IfNone result (SeenFirst pass.new.view) }
     ensures steps { steps.new ≤ steps.old + 3 }
+    ensures loads { CountsLoads pass.old pass.new steps.old steps.new }
 {
     let place = place_root(log.shape(), at.lane, (at.front % 16) as u8);
     take_child(log, pass, place, at.level, (at, 0), steps)
@@ -116,6 +119,7 @@ fn next_node<L: Ledger>(
     ensures answer { MatchOption result (IsStuck log.now.shape (λ s. s ≡ spot_of at) pass.old pass.new) (IsNodeOf log.now.shape pass.new.view (spot_of at)) }
     ensures begins { IfNone result (SeenFirst pass.new.view) }
     ensures steps { steps.new ≤ steps.old + 3 }
+    ensures loads { CountsLoads pass.old pass.new steps.old steps.new }
 {
     let place = place_child(log.shape(), above, (at.front % 16) as u8);
     take_child(log, pass, place, at.level, (at, above), steps)
@@ -138,6 +142,7 @@ fn make_node<L: Ledger>(
     ensures answer { MatchOption result (IsStuck log.now.shape (IsAlong at) pass.old pass.new) (IsNodeOf log.now.shape pass.new.view (spot_of at)) }
     ensures begins { IfNone result (SeenFirst pass.new.view) }
     ensures steps { steps.new ≤ steps.old + 3 * at.level }
+    ensures loads { CountsLoads pass.old pass.new steps.old steps.new }
 {
     if at.level == 1 {
         return first_node(log, pass, at, steps);
@@ -177,6 +182,7 @@ fn make_path<L: Ledger>(
     ensures near { Remembers log.now.shape pass.new.view leaves.new }
     ensures begins { IfNone result (SeenFirst pass.new.view) }
     ensures steps { steps.new ≤ steps.old + 3 * (levels_of log.now.shape lane - 1) }
+    ensures loads { CountsLoads pass.old pass.new steps.old steps.new }
 {
     let shape = log.shape();
     let key = key(shape, lane, row);
@@ -217,6 +223,7 @@ pub(crate) fn make_paths<L: Ledger>(
     ensures near { Remembers log.now.shape pass.new.view leaves.new }
     ensures begins { IfNone result (SeenFirst pass.new.view) }
     ensures steps { steps.new ≤ steps.old + path_steps log.now.shape (length log.now.shape.lanes) }
+    ensures loads { CountsLoads pass.old pass.new steps.old steps.new }
 {
     let shape = log.shape();
     let lanes = shape.lanes().len() as u8;

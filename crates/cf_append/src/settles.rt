@@ -1,5 +1,6 @@
 // The read tail is moved up to the first record that isn't finished.
 ghost use Rattle.std.specs.Prelude.{◌≡◌, ◌⊎◌, ◌+◌, ◌-◌, ◌*◌, ◌<◌, ◌≤◌, length};
+ghost use Rattle.cf_table.specs.Loads.{CountsLoads};
 ghost use Rattle.cf_table.specs.Values.{IsOf};
 ghost use Rattle.cf_table.specs.Moves.{HasAll, SeenFirst, AreFit, MarkedIsFull};
 ghost use Rattle.cf_append.specs.Appends.{GoesOn, Stops, Rests, IsSettledTo};
@@ -29,6 +30,7 @@ pub(crate) fn move_tail<L: Ledger>(log: &MultiLog, pass: &mut WriterPass, steps:
     ensures alone { log.now.shape.writers ≡ 1 → Rests pass.new.view → HasAll pass.new.view }
     ensures full { log.now.shape.writers ≡ 1 → Rests pass.new.view → MarkedIsFull log.now.shape pass.new.view }
     ensures steps { steps.new ≤ steps.old + 2 * (length pass.new.view.seen - length pass.old.view.seen + 1) }
+    ensures loads { CountsLoads pass.old pass.new steps.old steps.new }
 {
     log.load_tail(pass, false, steps);
     let capacity = log.shape().capacity();
@@ -61,6 +63,7 @@ pub fn settle<L: Ledger>(
     ensures alone { log.now.shape.writers ≡ 1 → Rests pass.new.view → HasAll pass.new.view }
     ensures full { log.now.shape.writers ≡ 1 → Rests pass.new.view → MarkedIsFull log.now.shape pass.new.view }
     ensures steps { steps.new ≤ steps.old + 2 * (length pass.new.view.seen - length pass.old.view.seen + 1) }
+    ensures loads { CountsLoads pass.old pass.new steps.old steps.new }
 {
     move_tail(log, pass, steps);
     let covered = pass.covered();
@@ -86,6 +89,7 @@ pub(crate) fn wait_for<R: Wait, L: Ledger>(
     ensures stops { (pass.new ≡ pass.old) ⊎ Stops log.now.shape pass.old.view pass.new.view }
     ensures begins { SeenFirst pass.old.view → SeenFirst pass.new.view }
     ensures alone { log.now.shape.writers ≡ 1 → Rests pass.old.view → HasAll pass.old.view → HasAll pass.new.view }
+    ensures loads { CountsLoads pass.old pass.new steps.old steps.new }
 {
     for _ in rt.forever() {
         if offset < pass.covered() {

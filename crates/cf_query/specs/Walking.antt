@@ -17,6 +17,16 @@ AsksOne (asks.Fired trigger) = ⊥
 AsksOne (asks.Top lane part n) = ⊥
 AsksOne (asks.Total attr expr) = ⊥
 
+-- a question for what is measured under one bucket
+abbrev pub AsksBucket : Ask → Type 0
+AsksBucket (asks.List expr) = ⊥
+AsksBucket (asks.Find lane low high) = ⊥
+AsksBucket (asks.Between lane low high) = ⊥
+AsksBucket (asks.Measure lane low high) = low ≡ high
+AsksBucket (asks.Fired trigger) = ⊥
+AsksBucket (asks.Top lane part n) = ⊥
+AsksBucket (asks.Total attr expr) = ⊥
+
 -- the lane that a question walks; those that go over all entries walk none
 abbrev pub lane_of : Ask → ℕ
 lane_of (asks.List expr) = 0

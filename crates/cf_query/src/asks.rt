@@ -1,13 +1,14 @@
 // Questions are answered.
 ghost use Rattle.std.specs.Prelude.{◌≡◌, ◌+◌, ◌<◌, ◌≤◌, length, map, true, IfOk, IfErr};
 ghost use Rattle.cf_shape.specs.Uses.{is_measured};
+ghost use Rattle.cf_table.specs.Loads.{CountsLoads};
 ghost use Rattle.cf_table.specs.Values.{IsOf};
 ghost use Rattle.cf_plain.specs.Asks.{Suits, eval, rows_in, is_aggregate, is_keyed_between, total_over};
 ghost use Rattle.cf_plain.specs.Groups.{groups as groups_by, as_group};
 ghost use Rattle.cf_query.specs.Asking.{HasAsked};
 ghost use Rattle.cf_query.specs.Walking.{AsksOne, lane_of, steps_of_one, steps_of_bucket};
 
-use crate::bodies::body_of;
+use crate::findings::finding;
 use cf_fold::Quad;
 use cf_plain::{Answer, Ask, Group};
 use cf_row::Memory;
@@ -22,6 +23,7 @@ pub fn tail<P: Pass, L: Ledger>(log: &MultiLog, pass: &mut P, steps: &mut Steps<
     ensures asked { HasAsked log.now.shape (P.held pass.old) (P.held pass.new) }
     ensures tail { result ≡ length (P.held pass.new).view.seen }
     ensures steps { steps.new ≡ steps.old + 1 }
+    ensures loads { CountsLoads (P.held pass.old) (P.held pass.new) steps.old steps.new }
 {
     log.load_tail(pass, true, steps)
 }
@@ -41,9 +43,10 @@ pub fn ask<P: Pass, L: Ledger>(
     ensures ok { IfOk result (λ answer. HasAsked log.now.shape (P.held pass.old) (P.held pass.new) × (answer.tail ≡ length (P.held pass.new).view.seen) × (answer.body ≡ eval log.now.shape ask.now (P.held pass.new).view.seen)) }
     ensures memory { IfErr result (λ _. HasAsked log.now.shape (P.held pass.old) (P.held pass.new)) }
     ensures steps { AsksOne ask.now → IfOk result (λ answer. steps.new ≤ steps.old + steps_of_one log.now.shape (lane_of ask.now) answer.body answer.tail) }
+    ensures loads { CountsLoads (P.held pass.old) (P.held pass.new) steps.old steps.new }
 {
-    let tail = tail(log, pass, steps);
-    let body = body_of(log, alloc, pass, ask, steps)?;
+    let (tail, found) = finding(log, alloc, pass, ask, steps)?;
+    let body = found.body(alloc, ask)?;
     Ok(Answer { tail, body })
 }
 
@@ -64,6 +67,7 @@ pub fn measure<P: Pass, L: Ledger>(
     ensures tail { result.0 ≡ length (P.held pass.new).view.seen }
     ensures quad { result.1 ≡ total_over log.now.shape lane (is_keyed_between log.now.shape lane low high) (rows_in (P.held pass.new).view.seen) }
     ensures steps { low ≡ high → steps.new ≤ steps.old + steps_of_bucket log.now.shape lane result.0 }
+    ensures loads { CountsLoads (P.held pass.old) (P.held pass.new) steps.old steps.new }
 {
     let tail = tail(log, pass, steps);
     let quad = measure_range(log, pass, lane, (low, high), steps);
@@ -85,6 +89,7 @@ pub fn groups<P: Pass, L: Ledger>(
     requires measured { is_measured log.now.shape lane ≡ true }
     ensures ok { IfOk result (λ found. HasAsked log.now.shape (P.held pass.old) (P.held pass.new) × (found.0 ≡ length (P.held pass.new).view.seen) × (found.1.items ≡ map as_group (groups_by log.now.shape lane (rows_in (P.held pass.new).view.seen)))) }
     ensures memory { IfErr result (λ _. HasAsked log.now.shape (P.held pass.old) (P.held pass.new)) }
+    ensures loads { CountsLoads (P.held pass.old) (P.held pass.new) steps.old steps.new }
 {
     let tail = tail(log, pass, steps);
     let groups = cf_walk::groups(log, alloc, pass, lane, steps)?;

@@ -1,17 +1,19 @@
 // What questions find, so that it can be joined with what they find in another log.
-ghost use Rattle.std.specs.Prelude.{◌≡◌, ◌<◌, ◌≤◌, length, true, IfOk, IfErr};
+ghost use Rattle.std.specs.Prelude.{◌≡◌, ◌+◌, ◌<◌, ◌≤◌, length, true, IfOk, IfErr};
 ghost use Rattle.cf_shape.specs.Uses.{is_measured};
+ghost use Rattle.cf_table.specs.Loads.{CountsLoads};
 ghost use Rattle.cf_table.specs.Values.{IsOf};
 ghost use Rattle.cf_table.specs.Moves.{AreFit};
 ghost use Rattle.cf_plain.specs.Asks.{Suits, rows_in};
 ghost use Rattle.cf_plain.specs.Groups.{groups};
-ghost use Rattle.cf_plain.specs.Segments.{finding_in};
+ghost use Rattle.cf_plain.specs.Segments.{finding_in, body_of};
 ghost use Rattle.cf_plain.specs.declared.finding.Finding.TheVariants as findings;
 ghost use Rattle.cf_walk.specs.Walks.{OnlyWalked};
 ghost use Rattle.cf_query.specs.Asking.{HasAsked};
+ghost use Rattle.cf_query.specs.Walking.{AsksOne, AsksBucket, lane_of, steps_of_one, steps_of_bucket};
 
 use crate::asks::tail;
-use crate::bodies::{scan, total_of};
+use crate::scans::{scan, total_of};
 use cf_plain::{Ask, Finding, Groups};
 use cf_row::Memory;
 use cf_table::{MultiLog, Pass, Steps};
@@ -34,6 +36,7 @@ fn groups_of<P: Pass, L: Ledger>(
     requires fit { AreFit log.now.shape (P.held pass.old).view }
     ensures found { IfOk result (λ found. found ≡ findings.Groups (groups log.now.shape lane (rows_in (P.held pass.old).view.seen))) }
     ensures walked { OnlyWalked (P.held pass.old) (P.held pass.new) }
+    ensures loads { CountsLoads (P.held pass.old) (P.held pass.new) steps.old steps.new }
 {
     let groups = cf_walk::groups(log, alloc, pass, lane, steps)?;
     Ok(Finding::Groups(Groups::new(groups)))
@@ -53,6 +56,9 @@ fn finding_of<P: Pass, L: Ledger>(
     requires fit { AreFit log.now.shape (P.held pass.old).view }
     ensures found { IfOk result (λ found. found ≡ finding_in log.now.shape ask.now (rows_in (P.held pass.old).view.seen)) }
     ensures walked { OnlyWalked (P.held pass.old) (P.held pass.new) }
+    ensures steps { AsksOne ask.now → IfOk result (λ found. steps.new + 1 ≤ steps.old + steps_of_one log.now.shape (lane_of ask.now) (body_of ask.now found) (length (P.held pass.old).view.seen)) }
+    ensures bucket { AsksBucket ask.now → IfOk result (λ _. steps.new + 1 ≤ steps.old + steps_of_bucket log.now.shape (lane_of ask.now) (length (P.held pass.old).view.seen)) }
+    ensures loads { CountsLoads (P.held pass.old) (P.held pass.new) steps.old steps.new }
 {
     match ask {
         Ask::List(expr) => Ok(Finding::Places(scan(log, alloc, pass, expr, steps)?)),
@@ -79,7 +85,8 @@ fn finding_of<P: Pass, L: Ledger>(
 
 /// What the question finds in the entries that are covered then, and how many they are: in place of marks the groups of its
 /// lane, so that what it finds in another log can be joined to it. The read tail is loaded once, and the pass notes it. `List`
-/// and `Total` go over all entries; all others walk the lane's tree and chains.
+/// and `Total` go over all entries; all others walk the lane's tree and chains, so that a question for one key or one bucket
+/// reads few words.
 pub fn finding<P: Pass, L: Ledger>(
     log: &MultiLog,
     alloc: Global,
@@ -91,6 +98,9 @@ pub fn finding<P: Pass, L: Ledger>(
     requires suits { Suits log.now.shape ask.now }
     ensures ok { IfOk result (λ found. HasAsked log.now.shape (P.held pass.old) (P.held pass.new) × (found.0 ≡ length (P.held pass.new).view.seen) × (found.1 ≡ finding_in log.now.shape ask.now (rows_in (P.held pass.new).view.seen))) }
     ensures memory { IfErr result (λ _. HasAsked log.now.shape (P.held pass.old) (P.held pass.new)) }
+    ensures steps { AsksOne ask.now → IfOk result (λ found. steps.new ≤ steps.old + steps_of_one log.now.shape (lane_of ask.now) (body_of ask.now found.1) found.0) }
+    ensures bucket { AsksBucket ask.now → IfOk result (λ found. steps.new ≤ steps.old + steps_of_bucket log.now.shape (lane_of ask.now) found.0) }
+    ensures loads { CountsLoads (P.held pass.old) (P.held pass.new) steps.old steps.new }
 {
     let tail = tail(log, pass, steps);
     let finding = finding_of(log, alloc, pass, ask, steps)?;

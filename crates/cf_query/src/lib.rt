@@ -5,10 +5,10 @@
 #![tactic(auto)]
 
 mod asks;
-mod bodies;
 mod findings;
 mod history;
 mod rows;
+mod scans;
 
 pub use asks::{ask, groups, measure, tail};
 pub use findings::finding;

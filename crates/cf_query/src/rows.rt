@@ -1,6 +1,7 @@
 // Rows are read back from the log.
 ghost use Rattle.std.specs.Prelude.{◌≡◌, ◌+◌, ◌<◌, ◌≤◌, length, IfOk, Some, slice_get};
 ghost use Rattle.cf_row.specs.Words.{word_count as word_count_of};
+ghost use Rattle.cf_table.specs.Loads.{CountsLoads};
 ghost use Rattle.cf_table.specs.Values.{IsOf};
 ghost use Rattle.cf_table.specs.Moves.{OnlyLooked};
 ghost use Rattle.cf_plain.specs.Asks.{rows_in, row_at};
@@ -26,6 +27,7 @@ fn load_words<P: Pass, L: Ledger>(
     ensures words { AreWordsAt log.now.shape (P.held pass.old).view.seen offset words.new }
     ensures looked { OnlyLooked (P.held pass.old) (P.held pass.new) }
     ensures steps { steps.new ≡ steps.old + length words.old }
+    ensures loads { CountsLoads (P.held pass.old) (P.held pass.new) steps.old steps.new }
 {
     // No more is covered than there are places, as the first load tells.
     let place = offset.min(log.shape().capacity() - 1);
@@ -47,6 +49,7 @@ pub(crate) fn load_entry<P: Pass, L: Ledger>(
     ensures entry { IfOk result (λ entry. slice_get (P.held pass.old).view.seen offset ≡ Some entry) }
     ensures looked { OnlyLooked (P.held pass.old) (P.held pass.new) }
     ensures steps { steps.new ≡ steps.old + (word_count_of log.now.shape.schema + 1) }
+    ensures loads { CountsLoads (P.held pass.old) (P.held pass.new) steps.old steps.new }
 {
     let schema = log.shape().schema();
     let mut buffer = [0u64; 64];
@@ -69,6 +72,7 @@ pub fn row<P: Pass, L: Ledger>(
     ensures row { IfOk result (λ row. row ≡ row_at (rows_in (P.held pass.old).view.seen) offset) }
     ensures looked { OnlyLooked (P.held pass.old) (P.held pass.new) }
     ensures steps { steps.new ≡ steps.old + (word_count_of log.now.shape.schema + 1) }
+    ensures loads { CountsLoads (P.held pass.old) (P.held pass.new) steps.old steps.new }
 {
     let entry = load_entry(log, alloc, pass, offset, steps)?;
     Ok(entry.row)

@@ -11,3 +11,4 @@ pub mod Reading
 pub mod Mays
 pub mod Fresh
 pub mod Played
+pub mod Looks

@@ -4,3 +4,4 @@ pub mod Rule
 pub mod Moves
 pub mod Fresh
 pub mod Played
+pub mod Loads

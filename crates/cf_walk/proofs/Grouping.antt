@@ -1,6 +1,5 @@
 -- The groups of a lane's entries by their keys.
-use Rattle.std.proofs.Common.{◌≡◌, ◌∙◌, ℕ, zero, suc, ◌+◌, ◌-◌, ◌^◌, ◌<◌, ◌≤◌, ◌==◌, ◌&&◌, inl, inr, List, [], ◌∷◌, ◌++◌, length, map, filter, Bool, true, false, not, cond, Some, slice_get, IfOk, Result, Ok, Err, refl, sym, ap, ap₂, arith}
-use Rattle.std.specs.declared.alloc.AllocError.{AllocError}
+use Rattle.std.proofs.Common.{◌≡◌, ◌∙◌, ℕ, zero, suc, ◌+◌, ◌-◌, ◌^◌, ◌<◌, ◌≤◌, ◌==◌, ◌&&◌, inl, inr, List, [], ◌∷◌, ◌++◌, length, map, filter, Bool, true, false, not, cond, Some, slice_get, refl, sym, ap, ap₂, arith}
 use Rattle.std.specs.List.{range_with_len, list_any}
 use Rattle.std.specs.Bool.{nat_lt}
 use Rattle.std.proofs.lemmas.Bool.{cases_Bool, cases_eq, cases_order, eq-eqb, ne_eqb, le-leb, lt-leb, lt-ltb}
@@ -10,14 +9,12 @@ use Rattle.cf_row.specs.Row.{RowValue}
 use Rattle.cf_row.specs.declared.row.Entry.{Entry}
 use Rattle.cf_row.proofs.Bytes.{both}
 use Rattle.cf_fold.specs.Quads.{QuadValue, quad_of}
-use Rattle.cf_fold.specs.declared.trigger.Trigger.{Trigger}
 use Rattle.cf_shape.specs.Lanes.{ShapeValue, IsShape, selected_by, key_of, measure_of}
 use Rattle.cf_shape.specs.Nodes.{levels_of}
 use Rattle.cf_law.specs.Readers.{IsFit}
 use Rattle.cf_law.specs.Shapes.{layout}
-use Rattle.cf_plain.specs.Asks.{rows_in, is_between, is_keyed_between, total_over, marks_in}
-use Rattle.cf_plain.specs.declared.answer.Fired.{Fired}
-use Rattle.cf_plain.specs.Groups.{keys_in, has_key, group_of, groups, as_group, pair_of}
+use Rattle.cf_plain.specs.Asks.{rows_in, is_between, is_keyed_between, total_over}
+use Rattle.cf_plain.specs.Groups.{keys_in, has_key, group_of, groups, as_group}
 use Rattle.cf_plain.specs.declared.answer.Group.{Group}
 use Rattle.cf_plain.proofs.Grouped.{rise_ascending, any_ascending}
 use Rattle.cf_plain.proofs.Rising.{rising_is_one}
@@ -188,12 +185,3 @@ all_groups shape lane top seen found is there fit most h =
     ∙ (and_all (nat_lt q (0 + n)) (p q) (λ yes'. lt-ltb q (0 + n)
     (let lt = grouped_small shape lane q (16 ^ levels_of shape lane) seen (λ o e at. key_small shape lane e.row is there (fits_of shape e (fit o e at))) (keys_grouped shape lane q rows ∙ yes') in omega (arith, lt, most)))
     ∙ (sym (keys_grouped shape lane q rows) ∙ sym (any_ascending ks q)))))
-
--- groups and pairs of a key and its quad are the same
-pub pairs_of : (gs : List (ℕ × QuadValue)) → map pair_of (map as_group gs) ≡ gs
-pairs_of [] = refl
-pairs_of (g ∷ gs) = ap (λ (rest : List (ℕ × QuadValue)). g ∷ rest) (pairs_of gs)
-
-pub marks_then : (trigger : Trigger) (gs : List Group) (pairs : List (ℕ × QuadValue)) (r : Result (List Fired) AllocError) → gs ≡ map as_group pairs → IfOk r (λ found. found ≡ marks_in trigger (map pair_of gs)) → IfOk r (λ found. found ≡ marks_in trigger pairs)
-marks_then trigger gs pairs (Ok found) same is = is ∙ (ap (λ (xs : List Group). marks_in trigger (map pair_of xs)) same ∙ ap (marks_in trigger) (pairs_of pairs))
-marks_then trigger gs pairs (Err e) same is = is

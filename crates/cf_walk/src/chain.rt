@@ -4,6 +4,7 @@ ghost use Rattle.cf_words.specs.Words.{Spot};
 ghost use Rattle.cf_law.specs.Steps.Act.{load_head};
 ghost use Rattle.cf_table.specs.Values.{IsOf};
 ghost use Rattle.cf_table.specs.Effects.{IsLawfulStep, HasStepped, walk_effect};
+ghost use Rattle.cf_table.specs.Loads.{CountsLoads};
 ghost use Rattle.cf_walk.specs.Walks.{IsAbove, OnlyWalked, ChainSteps, chain_places, leaf_places};
 
 use cf_row::Memory;
@@ -51,6 +52,7 @@ pub(crate) fn collect_chain<P: Pass, L: Ledger>(
     ensures found { OnOk result (found.new.items ≡ found.old.items ++ chain_places log.now.shape leaf.lane leaf.key (P.held pass.old).view.seen writer) }
     ensures walked { OnlyWalked (P.held pass.old) (P.held pass.new) }
     ensures steps { OnOk result (ChainSteps log.now.shape writer (P.held pass.old) (P.held pass.new) (length (chain_places log.now.shape leaf.lane leaf.key (P.held pass.old).view.seen writer)) steps.old steps.new) }
+    ensures loads { CountsLoads (P.held pass.old) (P.held pass.new) steps.old steps.new }
 {
     let _lawful = log.shape();
     let mut link = begin(log, pass, leaf, writer, steps);
@@ -77,6 +79,7 @@ pub(crate) fn collect_leaf<P: Pass, L: Ledger>(
     ensures found { OnOk result (found.new.items ≡ found.old.items ++ leaf_places log.now.shape leaf.lane leaf.key (P.held pass.old).view.seen log.now.shape.writers) }
     ensures walked { OnlyWalked (P.held pass.old) (P.held pass.new) }
     ensures steps { OnOk result (steps.new ≤ steps.old + log.now.shape.writers + length (leaf_places log.now.shape leaf.lane leaf.key (P.held pass.old).view.seen log.now.shape.writers) + (log.now.shape.capacity - length (P.held pass.old).view.seen)) }
+    ensures loads { CountsLoads (P.held pass.old) (P.held pass.new) steps.old steps.new }
 {
     for writer in 0..log.shape().writers() {
         collect_chain(log, pass, leaf, writer, found, steps)?;

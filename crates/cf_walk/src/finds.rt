@@ -4,6 +4,7 @@ ghost use Rattle.cf_shape.specs.Nodes.{levels_of};
 ghost use Rattle.cf_plain.specs.Asks.{rows_in, places, is_keyed_between};
 ghost use Rattle.cf_table.specs.Values.{IsOf};
 ghost use Rattle.cf_table.specs.Moves.{AreFit};
+ghost use Rattle.cf_table.specs.Loads.{CountsLoads};
 ghost use Rattle.cf_walk.specs.Walks.{OnlyWalked};
 
 use crate::range::collect_range;
@@ -40,6 +41,7 @@ pub fn find<P: Pass, L: Ledger>(
     ensures found { IfOk result (λ found. found ≡ places (is_keyed_between log.now.shape lane range.0 range.1) (rows_in (P.held pass.old).view.seen)) }
     ensures walked { OnlyWalked (P.held pass.old) (P.held pass.new) }
     ensures steps { range.0 ≡ range.1 → IfOk result (λ found. steps.new ≤ steps.old + (levels_of log.now.shape lane - 1) + log.now.shape.writers + length found + (log.now.shape.capacity - length (P.held pass.old).view.seen)) }
+    ensures loads { CountsLoads (P.held pass.old) (P.held pass.new) steps.old steps.new }
 {
     let (low, high) = range;
     let high = high.min(greatest_key(log.shape(), lane));

@@ -2,10 +2,11 @@
 ghost use Rattle.std.specs.Prelude.{◌≡◌, ◌^◌, ◌<◌, ◌≤◌, length, map, true, IfOk};
 ghost use Rattle.cf_shape.specs.Nodes.{levels_of};
 ghost use Rattle.cf_shape.specs.Uses.{is_measured};
-ghost use Rattle.cf_plain.specs.Asks.{rows_in, marks_in, marks_over};
-ghost use Rattle.cf_plain.specs.Groups.{groups as groups_by, as_group, pair_of};
+ghost use Rattle.cf_plain.specs.Asks.{rows_in};
+ghost use Rattle.cf_plain.specs.Groups.{groups as groups_by, as_group};
 ghost use Rattle.cf_table.specs.Values.{IsOf};
 ghost use Rattle.cf_table.specs.Moves.{AreFit};
+ghost use Rattle.cf_table.specs.Loads.{CountsLoads};
 ghost use Rattle.cf_walk.specs.Walks.{OnlyWalked};
 ghost use Rattle.cf_walk.specs.Measures.{HasGrouped};
 ghost use Rattle.cf_walk.specs.Reached.{IsPath};
@@ -13,8 +14,7 @@ ghost use Rattle.cf_walk.specs.Reached.{IsPath};
 use crate::finds::greatest_key;
 use crate::measures::measure_key;
 use crate::tree::{Path, no_path};
-use cf_fold::{Trigger, fires};
-use cf_plain::{Fired, Group, Marks};
+use cf_plain::Group;
 use cf_row::Memory;
 use cf_table::{MultiLog, Pass, Steps};
 use std::alloc::Global;
@@ -41,6 +41,7 @@ fn add_group<P: Pass, L: Ledger>(
     ensures path { IfOk result (λ _. IsPath log.now.shape lane path.new (P.held pass.new).view) }
     ensures found { IfOk result (HasGrouped log.now.shape lane range.0 range.1 (rows_in (P.held pass.old).view.seen) groups.old.items groups.new.items) }
     ensures walked { OnlyWalked (P.held pass.old) (P.held pass.new) }
+    ensures loads { CountsLoads (P.held pass.old) (P.held pass.new) steps.old steps.new }
 {
     let _lawful = log.shape();
     let (last, quad) = measure_key(log, pass, lane, range, path, steps);
@@ -66,6 +67,7 @@ pub fn groups<P: Pass, L: Ledger>(
     requires few { length (P.held pass.old).view.seen ≤ log.now.shape.capacity }
     ensures found { IfOk result (λ found. found.items ≡ map as_group (groups_by log.now.shape lane (rows_in (P.held pass.old).view.seen))) }
     ensures walked { OnlyWalked (P.held pass.old) (P.held pass.new) }
+    ensures loads { CountsLoads (P.held pass.old) (P.held pass.new) steps.old steps.new }
 {
     let high = greatest_key(log.shape(), lane);
     let mut groups = Vec::new(alloc);
@@ -83,40 +85,4 @@ pub fn groups<P: Pass, L: Ledger>(
         )?;
     }
     Ok(groups)
-}
-
-// The groups in which the trigger fires.
-fn marked(alloc: Global, trigger: &Trigger, groups: &[Group]) -> Result<Marks, Memory>
-    ensures { IfOk result (λ found. found ≡ marks_in trigger.now (map pair_of groups.now)) }
-{
-    let mut items = Vec::new(alloc);
-    for group in groups {
-        if fires(trigger, &group.quad) {
-            items.push(Fired {
-                bucket: group.key,
-                value: trigger.part.of(group.quad),
-            })?;
-        }
-    }
-    Ok(Marks::new(items))
-}
-
-/// The marks of the trigger on the entries that were seen. The quads of its lane's leaves are read.
-pub fn fired<P: Pass, L: Ledger>(
-    log: &MultiLog,
-    alloc: Global,
-    pass: &mut P,
-    trigger: &Trigger,
-    steps: &mut Steps<L>,
-) -> Result<Marks, Memory>
-    requires of { IsOf (P.held pass.old) log.now }
-    requires lane { trigger.now.agg < length log.now.shape.lanes }
-    requires measured { is_measured log.now.shape trigger.now.agg ≡ true }
-    requires fit { AreFit log.now.shape (P.held pass.old).view }
-    requires few { length (P.held pass.old).view.seen ≤ log.now.shape.capacity }
-    ensures found { IfOk result (λ found. found ≡ marks_over log.now.shape trigger.now (rows_in (P.held pass.old).view.seen)) }
-    ensures walked { OnlyWalked (P.held pass.old) (P.held pass.new) }
-{
-    let groups = groups(log, alloc, pass, trigger.agg, steps)?;
-    marked(alloc, trigger, &groups)
 }

@@ -11,5 +11,5 @@ mod range;
 mod tree;
 
 pub use finds::find;
-pub use leaves::{fired, groups};
+pub use leaves::groups;
 pub use measures::measure_range;

@@ -6,6 +6,7 @@ ghost use Rattle.cf_shape.specs.Uses.{is_measured};
 ghost use Rattle.cf_plain.specs.Asks.{rows_in, is_keyed_between, total_over};
 ghost use Rattle.cf_table.specs.Values.{IsOf};
 ghost use Rattle.cf_table.specs.Moves.{AreFit};
+ghost use Rattle.cf_table.specs.Loads.{CountsLoads};
 ghost use Rattle.cf_walk.specs.Walks.{OnlyWalked, range_places};
 ghost use Rattle.cf_walk.specs.Measures.{amounts_at, HasMeasured};
 ghost use Rattle.cf_walk.specs.Reached.{IsPath};
@@ -40,6 +41,7 @@ pub(crate) fn measure_key<P: Pass, L: Ledger>(
     ensures one { 0 < result.1.count → result.0 ≡ range.0 }
     ensures walked { OnlyWalked (P.held pass.old) (P.held pass.new) }
     ensures steps { steps.new ≤ steps.old + (levels_of log.now.shape lane - 1) + 4 * log.now.shape.writers + (log.now.shape.capacity - length (P.held pass.old).view.seen) }
+    ensures loads { CountsLoads (P.held pass.old) (P.held pass.new) steps.old steps.new }
 {
     let (key, high) = range;
     match reach(log, pass, lane, key, path, steps) {
@@ -69,6 +71,7 @@ fn measure_keys<P: Pass, L: Ledger>(
     ensures quad { result ≡ quad_of (amounts_at log.now.shape lane (P.held pass.old).view.seen (range_places log.now.shape lane range.0 (P.held pass.old).view.seen (range.1 - range.0 + 1))) }
     ensures walked { OnlyWalked (P.held pass.old) (P.held pass.new) }
     ensures steps { range.0 ≡ range.1 → steps.new ≤ steps.old + (levels_of log.now.shape lane - 1) + 4 * log.now.shape.writers + (log.now.shape.capacity - length (P.held pass.old).view.seen) }
+    ensures loads { CountsLoads (P.held pass.old) (P.held pass.new) steps.old steps.new }
 {
     let (low, high) = range;
     let _lawful = log.shape();
@@ -99,6 +102,7 @@ pub fn measure_range<P: Pass, L: Ledger>(
     ensures quad { result ≡ total_over log.now.shape lane (is_keyed_between log.now.shape lane range.0 range.1) (rows_in (P.held pass.old).view.seen) }
     ensures walked { OnlyWalked (P.held pass.old) (P.held pass.new) }
     ensures steps { range.0 ≡ range.1 → steps.new ≤ steps.old + (levels_of log.now.shape lane - 1) + 4 * log.now.shape.writers + (log.now.shape.capacity - length (P.held pass.old).view.seen) }
+    ensures loads { CountsLoads (P.held pass.old) (P.held pass.new) steps.old steps.new }
 {
     let (low, high) = range;
     let high = high.min(greatest_key(log.shape(), lane));

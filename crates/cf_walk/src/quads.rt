@@ -4,6 +4,7 @@ ghost use Rattle.cf_fold.specs.Quads.{quad_of};
 ghost use Rattle.cf_shape.specs.Uses.{is_measured};
 ghost use Rattle.cf_table.specs.Values.{IsOf};
 ghost use Rattle.cf_table.specs.Moves.{AreFit};
+ghost use Rattle.cf_table.specs.Loads.{CountsLoads};
 ghost use Rattle.cf_walk.specs.Walks.{OnlyWalked, Met, IsAbove, IsEntryOf, ChainSteps, amounts_below, leaf_amounts};
 
 use crate::chain::{Leaf, begin};
@@ -30,6 +31,7 @@ fn read_quad<P: Pass, L: Ledger>(
     ensures walked { OnlyWalked (P.held pass.old) (P.held pass.new) }
     ensures met { (k v : ℕ) → Met (P.held pass.old).view k v → Met (P.held pass.new).view k v }
     ensures steps { steps.new ≡ steps.old + 3 }
+    ensures loads { CountsLoads (P.held pass.old) (P.held pass.new) steps.old steps.new }
 {
     let _lawful = log.shape();
     let first = log.load_cell(pass, place, leaf.lane, 0, steps);
@@ -59,6 +61,7 @@ fn chain_quad<P: Pass, L: Ledger>(
     ensures quad { result ≡ quad_of (amounts_below log.now.shape leaf.lane leaf.key (P.held pass.old).view.seen writer (length (P.held pass.old).view.seen)) }
     ensures walked { OnlyWalked (P.held pass.old) (P.held pass.new) }
     ensures steps { ChainSteps log.now.shape writer (P.held pass.old) (P.held pass.new) 3 steps.old steps.new }
+    ensures loads { CountsLoads (P.held pass.old) (P.held pass.new) steps.old steps.new }
 {
     let _lawful = log.shape();
     let covered = u64::from(pass.covered());
@@ -88,6 +91,7 @@ pub(crate) fn leaf_quad<P: Pass, L: Ledger>(
     ensures quad { result ≡ quad_of (leaf_amounts log.now.shape leaf.lane leaf.key (P.held pass.old).view.seen log.now.shape.writers) }
     ensures walked { OnlyWalked (P.held pass.old) (P.held pass.new) }
     ensures steps { steps.new ≤ steps.old + 4 * log.now.shape.writers + (log.now.shape.capacity - length (P.held pass.old).view.seen) }
+    ensures loads { CountsLoads (P.held pass.old) (P.held pass.new) steps.old steps.new }
 {
     let mut total = Quad::EMPTY;
     for writer in 0..log.shape().writers() {

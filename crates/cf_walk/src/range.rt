@@ -2,6 +2,7 @@
 ghost use Rattle.std.specs.Prelude.{◌≡◌, ◌+◌, ◌-◌, ◌<◌, ◌≤◌, ◌++◌, length, suc, IfOk, OnOk};
 ghost use Rattle.cf_shape.specs.Nodes.{levels_of};
 ghost use Rattle.cf_table.specs.Values.{IsOf};
+ghost use Rattle.cf_table.specs.Loads.{CountsLoads};
 ghost use Rattle.cf_walk.specs.Walks.{OnlyWalked, range_places, WentOver};
 ghost use Rattle.cf_walk.specs.Reached.{IsPath};
 
@@ -30,6 +31,7 @@ fn collect_key<P: Pass, L: Ledger>(
     ensures found { IfOk result (WentOver log.now.shape lane range.0 range.1 (P.held pass.old).view.seen found.old.items found.new.items) }
     ensures walked { OnlyWalked (P.held pass.old) (P.held pass.new) }
     ensures steps { IfOk result (λ _. steps.new ≤ steps.old + (levels_of log.now.shape lane - 1) + log.now.shape.writers + (length found.new.items - length found.old.items) + (log.now.shape.capacity - length (P.held pass.old).view.seen)) }
+    ensures loads { CountsLoads (P.held pass.old) (P.held pass.new) steps.old steps.new }
 {
     let (key, high) = range;
     match reach(log, pass, lane, key, path, steps) {
@@ -59,6 +61,7 @@ pub(crate) fn collect_range<P: Pass, L: Ledger>(
     ensures found { OnOk result (found.new.items ≡ found.old.items ++ range_places log.now.shape lane range.0 (P.held pass.old).view.seen (range.1 - range.0 + 1)) }
     ensures walked { OnlyWalked (P.held pass.old) (P.held pass.new) }
     ensures steps { range.0 ≡ range.1 → OnOk result (steps.new ≤ steps.old + (levels_of log.now.shape lane - 1) + log.now.shape.writers + (length found.new.items - length found.old.items) + (log.now.shape.capacity - length (P.held pass.old).view.seen)) }
+    ensures loads { CountsLoads (P.held pass.old) (P.held pass.new) steps.old steps.new }
 {
     let (low, high) = range;
     let _lawful = log.shape();

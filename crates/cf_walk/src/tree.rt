@@ -6,6 +6,7 @@ ghost use Rattle.cf_words.specs.Words.{Spot};
 ghost use Rattle.cf_law.specs.Steps.Act.{load_child};
 ghost use Rattle.cf_table.specs.Values.{IsOf};
 ghost use Rattle.cf_table.specs.Effects.{IsLawfulStep, HasStepped, child_effect};
+ghost use Rattle.cf_table.specs.Loads.{CountsLoads};
 ghost use Rattle.cf_walk.specs.Walks.{IsTurn, HasTurned, OnlyWalked, turn_slot};
 ghost use Rattle.cf_walk.specs.Reached.{Reached, IsPath};
 
@@ -111,6 +112,7 @@ fn go_down<P: Pass, L: Ledger>(
     requires turn { IsTurn log.now.shape turn.lane turn.level turn.front turn.node (P.held pass.old).view }
     ensures turned { HasTurned log.now.shape turn.lane turn.level turn.front (P.held pass.old) result (P.held pass.new) }
     ensures steps { steps.new ≡ steps.old + 1 }
+    ensures loads { CountsLoads (P.held pass.old) (P.held pass.new) steps.old steps.new }
 {
     let place = turn_place(log.shape(), turn);
     load_turn(log, pass, turn, place, steps)
@@ -141,6 +143,7 @@ pub(crate) fn reach<P: Pass, L: Ledger>(
     ensures path { IsPath log.now.shape lane path.new (P.held pass.new).view }
     ensures walked { OnlyWalked (P.held pass.old) (P.held pass.new) }
     ensures steps { steps.new ≤ steps.old + (levels_of log.now.shape lane - 1) }
+    ensures loads { CountsLoads (P.held pass.old) (P.held pass.new) steps.old steps.new }
 {
     let levels = levels(log.shape(), lane);
     let depth = common_depth(levels, path.depth, path.key, key);

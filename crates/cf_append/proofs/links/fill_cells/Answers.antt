@@ -15,6 +15,7 @@ loop-lane-init g c =
       at = omega (arith, count, cell_first s);
       filled = filled_at s c.args.offset c.args.row.now _ _ m m (sym (cell_first s)) c.requires.filled;
       steps = omega arith;
+      loads = omega arith;
     }
 
 pub store_version-i-requires-clause-book : goal.store_version-i-requires-clause-book

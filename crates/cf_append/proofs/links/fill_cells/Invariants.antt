@@ -1,4 +1,5 @@
 use Rattle.std.proofs.Common.{◌≡◌, ◌+◌, ◌*◌, ◌≤◌}
+use Rattle.cf_table.specs.Loads.{CountsLoads}
 use Rattle.cf_table.specs.Values.{IsOf}
 use Rattle.cf_append.specs.Paths.{Strides}
 use Rattle.cf_append.specs.Linking.{HasFilled, cell_from}
@@ -10,5 +11,6 @@ invariant-loop-lane g l = record {
   strides : Strides l.fn.pass l.pass;
   at : l.i ≡ cell_from (l.log).shape l.lane;
   filled : HasFilled (l.log).shape l.offset l.row (cell_from (l.log).shape l.lane) l.fn.pass l.pass;
+  loads : CountsLoads l.fn.pass l.pass l.fn.steps l.steps;
   steps : l.steps ≤ l.initial.steps + 7 * l.lane;
 }

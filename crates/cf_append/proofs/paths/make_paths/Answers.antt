@@ -14,6 +14,7 @@ loop-lane-init g c = record {
   filed = λ lane low. absurd (omega (arith, low));
   empty = empty_first;
   near = c.requires.near;
+  loads = omega arith;
   steps = omega (arith, path_steps_none c.args.log.now.shape);
 }
 
@@ -49,6 +50,7 @@ loop-lane-preserved g c =
       filed = filings_more s row o.view c.loop-lane.filed k c.from.result c.in-Some.filing c.from.ensures inside (filings_still s row n o c.loop-lane.filed k went c.loop-lane.invariant.filed) c.in-Some.ensures.answer;
       empty = empty_more c.loop-lane.filed k c.from.result _ c.from.ensures c.loop-lane.invariant.empty;
       near = c.make_path.ensures.near;
+      loads = (let least = c.loop-lane.invariant.loads in let loads = c.make_path.ensures.loads in omega (arith, least, loads));
       steps = (let more = path_steps_more s k in let one = c.make_path.ensures.steps in let so_far = c.loop-lane.invariant.steps in let e : Rattle.std.proofs.Common.suc k ≡ k + 1 = omega arith in let f = ap (Rattle.cf_append.specs.Paths.path_steps s) e in omega (arith, more, one, so_far, f));
     }
 
@@ -67,5 +69,6 @@ loop-lane-preserved-then-not-selects g c =
       filed = filings_pass s row c.loop-lane.pass.view c.loop-lane.filed k I.filed (I.empty k (omega arith)) passes;
       empty = λ lane from. I.empty lane (omega (arith, from));
       near = I.near;
+      loads = I.loads;
       steps = (let so_far = I.steps in let up = path_steps_up s k (k + 1) (omega arith) in omega (arith, so_far, up));
     }

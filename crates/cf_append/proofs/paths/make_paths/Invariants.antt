@@ -1,4 +1,5 @@
 use Rattle.std.proofs.Common.{◌≡◌, ◌+◌, ◌≤◌, length}
+use Rattle.cf_table.specs.Loads.{CountsLoads}
 use Rattle.cf_table.specs.Values.{IsOf}
 use Rattle.cf_append.specs.Appends.{Rests}
 use Rattle.cf_append.specs.Paths.{Strides, HasUsed, IsOnPath, HasFilings, Remembers, path_steps}
@@ -15,5 +16,6 @@ invariant-loop-lane g l = record {
   filed : HasFilings (l.log).shape l.row (l.pass).view l.filed l.lane;
   empty : AreEmpty l.filed l.lane;
   near : Remembers (l.log).shape (l.pass).view l.leaves;
+  loads : CountsLoads l.fn.pass l.pass l.fn.steps l.steps;
   steps : l.steps ≤ l.initial.steps + path_steps (l.log).shape l.lane;
 }

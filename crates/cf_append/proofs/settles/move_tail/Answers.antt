@@ -3,6 +3,7 @@ use Rattle.cf_shape.specs.Lanes.{ShapeValue}
 use Rattle.cf_shape.specs.Places.{slot_of}
 use Rattle.cf_shape.specs.Places.Word.{done}
 use Rattle.cf_law.specs.Passes.{Pass, Look}
+use Rattle.cf_table.proofs.Looks.{tail_loads, done_loads}
 use Rattle.cf_table.proofs.Settling.{moved_then, moved_look, moved_advance, may_advance}
 use Rattle.cf_append.proofs.Settling.{looked_seen, moved_tail, counts_tail, counts_look, keeps_look, known_tail, known_look, known_advance, advanced, all_alone, full_alone, look_fit, begins_long}
 use Rattle.cf_append.proofs.settles.move_tail.Goals as goal
@@ -39,6 +40,7 @@ loop-pass-preserved g c =
       moved = moved_then c.args.pass.now n o (moved_then c.args.pass.now m n c.loop-pass.invariant.moved (moved_look s m n t found look)) (moved_advance s n o t (omega (arith, seen, at)) made);
       known = known_advance s n o t made ∙ (known_look s m n t found look ∙ c.loop-pass.invariant.known);
       counts = omega (arith, count, same, before);
+      loads = let least = c.loop-pass.invariant.loads in let loads = done_loads s m n t found _ _ look c.look_done.ensures.steps in let two = c.advance.ensures.steps in omega (arith, least, loads, same, two);
       steps = (let more = advanced s n o t (omega (arith, seen, at)) made in let one = c.look_done.ensures.steps in let two = c.advance.ensures.steps in let so_far = c.loop-pass.invariant.steps in omega (arith, seen, at, more, one, two, so_far));
     }
 
@@ -51,6 +53,7 @@ loop-pass-init g c =
       moved = moved;
       known = known_tail s m n c.load_tail.result c.load_tail.ensures.made;
       counts = counts_tail s m n c.load_tail.result c.load_tail.ensures.made;
+      loads = tail_loads s m n false c.load_tail.result _ _ c.load_tail.ensures.made c.load_tail.ensures.steps;
       steps = (let one = c.load_tail.ensures.steps in let more = begins_long (m.view).seen (n.view).seen moved.longer in omega (arith, one, more));
     }
 
@@ -115,3 +118,15 @@ returns-then-not-look_done-clause-known g c = known_look c.args.log.now.shape c.
 
 pub returns-clause-known : goal.returns-clause-known
 returns-clause-known g c = known_look c.args.log.now.shape c.loop-pass.pass c.look_done-2.new.pass 0 (c.look_done-2.new.pass.view.look).value c.look_done-2.ensures.made ∙ c.loop-pass.invariant.known
+
+pub returns-then-not-look_done-clause-loads : goal.returns-then-not-look_done-clause-loads
+returns-then-not-look_done-clause-loads g c =
+    let least = c.loop-pass.invariant.loads in
+    let loads = done_loads c.args.log.now.shape c.loop-pass.pass c.look_done.new.pass c.covered-t.result (c.look_done.new.pass.view.look).value _ _ c.look_done.ensures.made c.look_done.ensures.steps in
+    omega (arith, least, loads)
+
+pub returns-clause-loads : goal.returns-clause-loads
+returns-clause-loads g c =
+    let least = c.loop-pass.invariant.loads in
+    let loads = done_loads c.args.log.now.shape c.loop-pass.pass c.look_done-2.new.pass 0 (c.look_done-2.new.pass.view.look).value _ _ c.look_done-2.ensures.made c.look_done-2.ensures.steps in
+    omega (arith, least, loads)

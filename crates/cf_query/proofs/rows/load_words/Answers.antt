@@ -6,6 +6,7 @@ use Rattle.cf_row.specs.declared.row.Entry.{Entry}
 use Rattle.cf_row.proofs.Spelling.{spelled_long}
 use Rattle.cf_shape.specs.Lanes.{ShapeValue}
 use Rattle.cf_table.specs.Values.{PassValue}
+use Rattle.cf_table.proofs.Looks.{word_loads}
 use Rattle.cf_table.proofs.Reading.{looked_then, read_more}
 use Rattle.cf_query.proofs.Loaded.{no_entry, entry_at, loaded}
 use Rattle.cf_query.proofs.rows.load_words.Goals as goal
@@ -36,6 +37,7 @@ loop-i-preserved g c =
       lawful = λ some. subst (λ (e : Entry). IsEntry s.schema e) same all.lawful;
       looked = looked_then f m n v.looked all.looked;
       steps = omega (arith, count, more);
+      loads = let least = v.loads in let loads = word_loads s m n _ _ c.load_word.result _ _ c.load_word.ensures.made more in omega (arith, least, loads);
     }
 
 pub returns-clause-words : goal.returns-clause-words

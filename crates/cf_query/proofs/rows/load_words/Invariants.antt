@@ -1,5 +1,6 @@
 use Rattle.std.proofs.Common.{◌≡◌, ◌+◌, ◌<◌, ℕ, length, get_or}
 use Rattle.cf_row.specs.Words.{IsEntry, spelled}
+use Rattle.cf_table.specs.Loads.{CountsLoads}
 use Rattle.cf_table.specs.Moves.{OnlyLooked}
 use Rattle.cf_query.proofs.Loaded.{entry_at}
 use Rattle.cf_query.proofs.rows.load_words.Given as goal
@@ -11,4 +12,5 @@ invariant-loop-i g l = record {
   lawful : 0 < l.i → IsEntry (l.log.shape).schema (entry_at (g.P.Pass.held l.fn.pass).view l.offset);
   looked : OnlyLooked (g.P.Pass.held l.fn.pass) (g.P.Pass.held l.pass);
   steps : l.steps ≡ l.fn.steps + l.i;
+  loads : CountsLoads (g.P.Pass.held l.fn.pass) (g.P.Pass.held l.pass) l.fn.steps l.steps;
 }

@@ -1,6 +1,7 @@
 use Rattle.std.proofs.Common.{◌≡◌, ◌∙◌, ◌-◌, ◌%◌, ◌++◌, ◌∷◌, ℕ, suc, List, Vec, Global, length, map, ap, subst, arith, rules}
 use Rattle.cf_row.specs.Row.{RowValue}
 use Rattle.cf_table.proofs.Mays.{may_walk}
+use Rattle.cf_table.proofs.Looks.{head_loads, cell_loads}
 use Rattle.cf_walk.specs.Walks.{leaf_of}
 use Rattle.cf_walk.proofs.Keys.{some_levels, some_cell}
 use Rattle.cf_walk.proofs.Counted.{counting_begins, counting_known, counting_new, counting_ends}
@@ -33,6 +34,7 @@ loop-link-init g c =
       walked = b.walked;
       walking = b.walking;
       found = ap (λ (xs : List ℕ). c.args.found.now.items ++ xs) same;
+      loads = head_loads s m n _ _ _ _ v _ _ c.begin-link.ensures.made count;
       count = counting_begins s c.args.writer m n v (length (below s c.args.writer (leaf_of s leaf.lane leaf.key) (m.view).seen v)) _ _ b.met (omega (arith, long, count));
     }
 
@@ -81,6 +83,8 @@ loop-link-preserved g c =
     let here = below_next s w spot seen link some in
     let far = ap (λ (es : List Rattle.cf_row.specs.declared.row.Entry.Entry). length es) (walked_seen f m v.walked) in
     let covered = c.covered.ensures in
+    let least = v.loads in
+    let loads = cell_loads s m n _ _ _ c.load_cell-link.result _ _ c.load_cell-link.ensures.made more in
     elim c.if-place-covered.branch [
       | then-place-covered+in_ok-push x ↦
           let low = x.if-place-covered.true in
@@ -90,6 +94,7 @@ loop-link-preserved g c =
             walked = walked_then f m n v.walked st.walked;
             walking = st.walking;
             found = kept_known (c.loop-link.found).items (c.if-place-covered.found).items (below s w spot seen link) (below s w spot seen next) _ (link - 1) (ap (λ (u : Vec ℕ Global). u.items) x.found-is ∙ x.in_ok-push.ensures.items) first v.found;
+            loads = omega (arith, least, loads);
             count = counting_known s w f m n link next (link - 1) (length (below s w spot seen link)) (length (below s w spot seen next)) _ _ _ v.count st.met (omega (arith, falls)) long more;
           }
       | else-place-covered x ↦
@@ -100,6 +105,7 @@ loop-link-preserved g c =
             walked = walked_then f m n v.walked st.walked;
             walking = st.walking;
             found = kept_new (c.if-place-covered.found).items (below s w spot seen link) (below s w spot seen next) _ first (ap (λ (u : Vec ℕ Global). u.items ++ below s w spot seen link) x.found-is ∙ v.found);
+            loads = omega (arith, least, loads);
             count = counting_new s w f m n link next (length (below s w spot seen link)) (length (below s w spot seen next)) _ _ _ v.count st.met st.apart some (omega (arith, high, covered, far)) v.walking.low falls long more;
           }
     ]

@@ -1,5 +1,6 @@
 use Rattle.std.proofs.Common.{◌≡◌, ◌+◌, ◌-◌, ◌++◌, length}
 use Rattle.cf_shape.specs.Nodes.{levels_of}
+use Rattle.cf_table.specs.Loads.{CountsLoads}
 use Rattle.cf_walk.specs.Walks.{OnlyWalked, spot_above, leaf_of, chain_places}
 use Rattle.cf_walk.proofs.Counted.{IsCounting}
 use Rattle.cf_walk.proofs.Walked.{IsWalking, below}
@@ -16,6 +17,7 @@ invariant-loop-link g l = record {
       ≡ (l.fn.found).items ++ chain_places (l.log).shape (l.leaf).lane (l.leaf).key ((g.P.Pass.held l.fn.pass).view).seen l.writer;
   count : IsCounting (l.log).shape l.writer (g.P.Pass.held l.fn.pass) (g.P.Pass.held l.pass) l.link (length (below (l.log).shape l.writer (leaf_of (l.log).shape (l.leaf).lane (l.leaf).key) ((g.P.Pass.held l.fn.pass).view).seen l.link))
       (l.fn.steps + 1 + length (chain_places (l.log).shape (l.leaf).lane (l.leaf).key ((g.P.Pass.held l.fn.pass).view).seen l.writer)) l.steps;
+  loads : CountsLoads (g.P.Pass.held l.fn.pass) (g.P.Pass.held l.pass) l.fn.steps l.steps;
 }
 
 abbrev pub decreases-loop-link : goal.decreases-loop-link

@@ -21,6 +21,7 @@ loop-last-preserved g c =
     record {
       path = c.in_ok-last-2.ensures.path;
       walked = walked_then f m n v.walked c.add_group-in-loop-last.ensures.walked;
+      loads = let least = v.loads in let loads = c.add_group-in-loop-last.ensures.loads in omega (arith, least, loads);
       grouped = grouped_then s c.args.lane 0 c.greatest_key-high.result c.loop-last.last c.in_ok-last-2.last (rows_in (f.view).seen) (rows_in (m.view).seen) [] (c.loop-last.groups).items (c.add_group-in-loop-last.new.groups).items (ap rows_in (walked_seen f m v.walked)) v.grouped c.in_ok-last-2.ensures.found;
     }
 

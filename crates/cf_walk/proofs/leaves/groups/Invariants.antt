@@ -1,5 +1,6 @@
 use Rattle.std.proofs.Common.{◌-◌, []}
 use Rattle.cf_plain.specs.Asks.{rows_in}
+use Rattle.cf_table.specs.Loads.{CountsLoads}
 use Rattle.cf_walk.specs.Walks.{OnlyWalked}
 use Rattle.cf_walk.specs.Measures.{HasGrouped}
 use Rattle.cf_walk.specs.Reached.{IsPath}
@@ -10,6 +11,7 @@ invariant-loop-last g l = record {
   path : IsPath (l.log).shape l.lane l.path (g.P.Pass.held l.pass).view;
   walked : OnlyWalked (g.P.Pass.held l.fn.pass) (g.P.Pass.held l.pass);
   grouped : HasGrouped (l.log).shape l.lane 0 l.high (rows_in ((g.P.Pass.held l.fn.pass).view).seen) [] (l.groups).items l.last;
+  loads : CountsLoads (g.P.Pass.held l.fn.pass) (g.P.Pass.held l.pass) l.fn.steps l.steps;
 }
 
 abbrev pub decreases-loop-last : goal.decreases-loop-last

@@ -35,5 +35,6 @@ loop-last-preserved g c =
       path = c.measure_key-next.ensures.path;
       walked = walked_then f m n v.walked c.measure_key-next.ensures.walked;
       quad = measured_then s c.args.lane c.args.range.0 c.args.range.1 c.loop-last.last c.measure_key-next.result.0 (f.view).seen (m.view).seen c.loop-last.total c.measure_key-next.result.1 c.merge-total.result (walked_seen f m v.walked) v.quad c.measure_key-next.ensures.quad c.merge-total.ensures.merged;
+      loads = let least = v.loads in let loads = c.measure_key-next.ensures.loads in omega (arith, least, loads);
       steps = λ one. absurd (let a = v.quad.from in let b = v.quad.upto in let test = c.loop-last-test.true in omega (arith, one, a, b, test));
     }

@@ -3,6 +3,7 @@ use Rattle.cf_row.specs.declared.row.Entry.{Entry}
 use Rattle.cf_fold.specs.Quads.{quad_of}
 use Rattle.cf_walk.specs.Walks.{leaf_of, amounts_below}
 use Rattle.cf_table.proofs.Mays.{may_walk}
+use Rattle.cf_table.proofs.Looks.{head_loads, cell_loads}
 use Rattle.cf_walk.proofs.Keys.{some_levels, some_cell}
 use Rattle.cf_walk.proofs.Counted.{counting_begins, counting_new}
 use Rattle.cf_walk.proofs.Walked.{IsWalking, HasBegun, HasWalkedOn, begun, stepped_from, may_step, walked_then, walked_seen, above_long, picks_from}
@@ -32,6 +33,7 @@ loop-link-init g c =
       walked = b.walked;
       walking = b.walking;
       same = b.all;
+      loads = head_loads s m n _ _ _ _ v _ _ c.begin-link.ensures.made count;
       count = counting_begins s c.args.writer m n v 0 (c.args.steps.now + 1) _ b.met (omega (arith, count));
     }
 
@@ -85,6 +87,7 @@ loop-link-preserved g c =
       walked = walked_then f m n v.walked st.walked;
       walking = st.walking;
       same = sym (st.skips past) ∙ (sym (picks_from s w spot seen link some) ∙ v.same);
+      loads = let least = v.loads in let loads = cell_loads s m n _ _ _ c.load_cell-link.result _ _ c.load_cell-link.ensures.made more in omega (arith, least, loads);
       count = counting_new s w f m n link next 0 0 (c.args.steps.now + 1) c.loop-link.steps _ v.count st.met st.apart some past v.walking.low st.falls (omega arith) more;
     }
 

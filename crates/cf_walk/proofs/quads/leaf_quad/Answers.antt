@@ -13,6 +13,7 @@ loop-writer-init g c = record {
   walked = walked_none (g.P.Pass.held c.args.pass.now);
   quad = amounts_start c.args.log.now.shape c.args.leaf.lane c.args.leaf.key ((g.P.Pass.held c.args.pass.now).view).seen;
   few = omega arith;
+  loads = omega arith;
   count = all_begins c.args.log.now.shape (g.P.Pass.held c.args.pass.now) (length ((g.P.Pass.held c.args.pass.now).view).seen) c.args.steps.now 0;
 }
 
@@ -65,6 +66,7 @@ loop-writer-preserved g c =
       walked = walked_then f m n v.walked c.chain_quad-quad.ensures.walked;
       quad = amounts_next s leaf.lane leaf.key w (w + 1) (f.view).seen (m.view).seen c.loop-writer.total c.chain_quad-quad.result c.merge-total.result (omega arith) same v.quad c.chain_quad-quad.ensures.quad c.merge-total.ensures.merged;
       few = omega (arith, mine, most, far, few, room, before, sum);
+      loads = let least = v.loads in let loads = c.chain_quad-quad.ensures.loads in omega (arith, least, loads);
       count = all_more s m n (length (f.view).seen) w (w + 1) c.args.steps.now (3 * w) 3 (3 * (w + 1)) c.loop-writer.steps _ far (omega arith) (omega arith) v.count c.chain_quad-quad.ensures.steps;
     }
 

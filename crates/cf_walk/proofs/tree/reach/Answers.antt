@@ -49,6 +49,7 @@ loop-level-init g c =
       within = λ more. path_within s c.args.lane (d + 1) p m.view is refl more;
       knows = λ more. path_knows s c.args.lane (d + 1) c.args.key p m.view is refl refl more;
       steps = omega arith;
+      loads = omega arith;
     }
 
 pub loop-level-preserved : goal.loop-level-preserved
@@ -75,6 +76,7 @@ loop-level-preserved g c =
       knows = λ lt. turn_knows s c.args.lane c.args.key c.loop-level.level (c.loop-level.level + 1) (c.go_down-child.result - 1) c.span_of-span.result (g.P.Pass.held c.go_down-child.new.pass).view (omega arith)
           (c.span_of-span.ensures.span ∙ ap (λ (n : ℕ). 16 ^ (n - c.loop-level.level)) all) (turned.knows (omega (arith, some)));
       steps = omega (arith, before, more, low);
+      loads = let least = v.loads in let loads = c.go_down-child.ensures.loads in omega (arith, least, loads);
     }
 
 pub returns-clause-reached : goal.returns-clause-reached

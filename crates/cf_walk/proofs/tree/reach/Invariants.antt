@@ -1,5 +1,6 @@
 use Rattle.std.proofs.Common.{◌≡◌, ◌+◌, ◌-◌, ◌*◌, ◌<◌, ◌≤◌}
 use Rattle.cf_law.specs.Steps.{Knows}
+use Rattle.cf_table.specs.Loads.{CountsLoads}
 use Rattle.cf_walk.specs.Walks.{OnlyWalked, spot_above}
 use Rattle.cf_walk.specs.Reached.{IsPath}
 use Rattle.cf_walk.proofs.tree.reach.Given as goal
@@ -13,4 +14,5 @@ invariant-loop-level g l = record {
   within : 1 < l.level → l.node < (l.log).shape.writers * (l.log).shape.nodes;
   knows : 1 < l.level → Knows (g.P.Pass.held l.pass).view (spot_above (l.log).shape l.lane l.key (l.level - 1)) l.node;
   steps : l.steps ≤ l.fn.steps + (l.level - 1);
+  loads : CountsLoads (g.P.Pass.held l.fn.pass) (g.P.Pass.held l.pass) l.fn.steps l.steps;
 }

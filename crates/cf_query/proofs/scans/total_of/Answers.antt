@@ -6,8 +6,8 @@ use Rattle.cf_table.specs.Values.{PassValue}
 use Rattle.cf_table.proofs.Reading.{looked_then}
 use Rattle.cf_plain.proofs.Amounts.{amounts_few}
 use Rattle.cf_query.proofs.Loaded.{held_fits, summed_one, summed_none}
-use Rattle.cf_query.proofs.bodies.total_of.Goals as goal
-use Rattle.cf_query.proofs.bodies.total_of.Goals.{then-holds, else-holds}
+use Rattle.cf_query.proofs.scans.total_of.Goals as goal
+use Rattle.cf_query.proofs.scans.total_of.Goals.{then-holds, else-holds}
 
 pub holds-requires-clause-fits : goal.holds-requires-clause-fits
 holds-requires-clause-fits g c = held_fits c.args.log.now.shape c.schema-schema.result.now (g.P.Pass.held c.args.pass.now) (g.P.Pass.held c.loop-place.pass) c.loop-place.place c.in_ok-entry.entry c.requires.fit c.loop-place.invariant.looked (c.schema-schema.ensures ∙ ap (λ (x : ShapeValue). x.schema) c.shape.ensures.shape) c.in_ok-entry.ensures.entry
@@ -42,5 +42,6 @@ loop-place-preserved g c =
             summed_one attr expr seen o e at c.holds.result c.loop-place.total c.if-holds.total c.holds.ensures w.if-holds.true v.found added
         | else-holds w ↦ w.total-is ∙ summed_none attr expr seen o e at c.holds.result c.loop-place.total c.holds.ensures w.if-holds.false v.found
       ];
+      loads = let least = v.loads in let loads = c.load_entry.ensures.loads in omega (arith, least, loads);
       looked = looked_then f (g.P.Pass.held c.loop-place.pass) (g.P.Pass.held c.load_entry.new.pass) v.looked c.load_entry.ensures.looked;
     }
