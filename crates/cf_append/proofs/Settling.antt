@@ -12,7 +12,7 @@ use Rattle.cf_law.specs.Steps.{Holds, pass_that_sees, pass_with_look}
 use Rattle.cf_law.specs.Shapes.{layout}
 use Rattle.cf_law.specs.Readers.{AtHome, EndsThere, IsBounded}
 use Rattle.cf_table.specs.Values.{PassValue, book_of}
-use Rattle.cf_table.specs.Moves.{Begins, HasAll, SeenFirst, AreFit, MarkedIsFull}
+use Rattle.cf_table.specs.Moves.{Begins, HasAll, SeenFirst, AreFit, HasPaths, MarkedIsFull}
 use Rattle.cf_table.specs.Effects.{HasStepped, HasSteppedUnseen, tail_effect, done_effect, advance_effect}
 use Rattle.cf_table.proofs.Seen.{grown, sees_books, advance_seen}
 use Rattle.cf_table.proofs.Folds.{sees_told, tail_entries}
@@ -132,6 +132,11 @@ all_alone shape m n o found made ends one rest =
 pub full_alone : (shape : ShapeValue) (m n : PassValue) (o found : ℕ) → HasStepped shape (done_effect shape m.view o) m found n → EndsThere (layout shape) m.view (slot_of shape (done o)) (last_word shape) found → shape.writers ≡ 1 → Rests n.view → MarkedIsFull shape n.view
 full_alone shape m n o found made ends one rest =
     (settled_by shape m m n o found (moved_none m) made ends).full (home_alone shape n.view one made.told.bounds rest)
+
+-- and the paths of all that it has seen are whole
+pub paths_alone : (shape : ShapeValue) (m n : PassValue) (o found : ℕ) → HasStepped shape (done_effect shape m.view o) m found n → EndsThere (layout shape) m.view (slot_of shape (done o)) (last_word shape) found → shape.writers ≡ 1 → Rests n.view → HasPaths shape n.view
+paths_alone shape m n o found made ends one rest =
+    (settled_by shape m m n o found (moved_none m) made ends).paths (home_alone shape n.view one made.told.bounds rest)
 
 -- a look tells that what was seen fits
 pub look_fit : (shape : ShapeValue) (m n : PassValue) (o found : ℕ) → HasStepped shape (done_effect shape m.view o) m found n → AreFit shape n.view

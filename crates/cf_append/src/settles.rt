@@ -2,7 +2,9 @@
 ghost use Rattle.std.specs.Prelude.{◌≡◌, ◌⊎◌, ◌+◌, ◌-◌, ◌*◌, ◌<◌, ◌≤◌, length};
 ghost use Rattle.cf_table.specs.Loads.{CountsLoads};
 ghost use Rattle.cf_table.specs.Values.{IsOf};
-ghost use Rattle.cf_table.specs.Moves.{HasAll, SeenFirst, AreFit, MarkedIsFull};
+ghost use Rattle.cf_law.specs.Readers.{IsBounded};
+ghost use Rattle.cf_law.specs.Shapes.{layout};
+ghost use Rattle.cf_table.specs.Moves.{HasAll, HasPaths, SeenFirst, AreFit, MarkedIsFull};
 ghost use Rattle.cf_append.specs.Appends.{GoesOn, Stops, Rests, IsSettledTo};
 
 use cf_table::{MultiLog, Pass, Steps, WriterPass};
@@ -29,6 +31,8 @@ pub(crate) fn move_tail<L: Ledger>(log: &MultiLog, pass: &mut WriterPass, steps:
     ensures fit { AreFit log.now.shape pass.new.view }
     ensures alone { log.now.shape.writers ≡ 1 → Rests pass.new.view → HasAll pass.new.view }
     ensures full { log.now.shape.writers ≡ 1 → Rests pass.new.view → MarkedIsFull log.now.shape pass.new.view }
+    ensures paths { log.now.shape.writers ≡ 1 → Rests pass.new.view → HasPaths log.now.shape pass.new.view }
+    ensures bounds { IsBounded (layout log.now.shape) pass.new.view }
     ensures steps { steps.new ≤ steps.old + 2 * (length pass.new.view.seen - length pass.old.view.seen + 1) }
     ensures loads { CountsLoads pass.old pass.new steps.old steps.new }
 {
@@ -62,6 +66,8 @@ pub fn settle<L: Ledger>(
     ensures fit { AreFit log.now.shape pass.new.view }
     ensures alone { log.now.shape.writers ≡ 1 → Rests pass.new.view → HasAll pass.new.view }
     ensures full { log.now.shape.writers ≡ 1 → Rests pass.new.view → MarkedIsFull log.now.shape pass.new.view }
+    ensures paths { log.now.shape.writers ≡ 1 → Rests pass.new.view → HasPaths log.now.shape pass.new.view }
+    ensures bounds { IsBounded (layout log.now.shape) pass.new.view }
     ensures steps { steps.new ≤ steps.old + 2 * (length pass.new.view.seen - length pass.old.view.seen + 1) }
     ensures loads { CountsLoads pass.old pass.new steps.old steps.new }
 {

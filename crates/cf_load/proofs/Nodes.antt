@@ -109,7 +109,7 @@ fold_new [] nodes k n at = absurd (cc at)
 fold_new (x ∷ xs) nodes zero n at = (let e : x ≡ n = cc at in fold_old xs (add_node nodes x) n (subst (λ (m : Node). Has (add_node nodes x) m) e (added_has nodes x)))
 fold_new (x ∷ xs) nodes (suc k) n at = fold_new xs (add_node nodes x) k n at
 
-fold_from : (xs nodes : List Node) (n : Node) → Has (fold add_node nodes xs) n → Has nodes n ⊎ Has xs n
+pub fold_from : (xs nodes : List Node) (n : Node) → Has (fold add_node nodes xs) n → Has nodes n ⊎ Has xs n
 fold_from [] nodes n h = inl h
 fold_from (x ∷ xs) nodes n h = elim (fold_from xs (add_node nodes x) n h) [
   | inr r ↦ inr (suc r.0, r.1)
@@ -119,11 +119,11 @@ fold_from (x ∷ xs) nodes n h = elim (fold_from xs (add_node nodes x) n h) [
   ]
 ]
 
-fold_apart : (xs nodes : List Node) → AreApart nodes → AreApart (fold add_node nodes xs)
+pub fold_apart : (xs nodes : List Node) → AreApart nodes → AreApart (fold add_node nodes xs)
 fold_apart [] nodes apart = apart
 fold_apart (x ∷ xs) nodes apart = fold_apart xs (add_node nodes x) (apart_added nodes x apart)
 
-nothing_apart : AreApart {A = Node} []
+pub nothing_apart : AreApart {A = Node} []
 nothing_apart i j x a b = absurd (cc a)
 
 -- a needed spot is that of one of the rows' nodes

@@ -5,7 +5,7 @@ use Rattle.cf_shape.specs.Places.Word.{done}
 use Rattle.cf_law.specs.Passes.{Pass, Look}
 use Rattle.cf_table.proofs.Looks.{tail_loads, done_loads}
 use Rattle.cf_table.proofs.Settling.{moved_then, moved_look, moved_advance, may_advance}
-use Rattle.cf_append.proofs.Settling.{looked_seen, moved_tail, counts_tail, counts_look, keeps_look, known_tail, known_look, known_advance, advanced, all_alone, full_alone, look_fit, begins_long}
+use Rattle.cf_append.proofs.Settling.{looked_seen, moved_tail, counts_tail, counts_look, keeps_look, known_tail, known_look, known_advance, advanced, all_alone, full_alone, paths_alone, look_fit, begins_long}
 use Rattle.cf_append.proofs.settles.move_tail.Goals as goal
 
 pub advance-requires-clause-lawful : goal.advance-requires-clause-lawful
@@ -106,6 +106,37 @@ returns-clause-full g c =
     let known = c.covered.ensures in
     let past = c.loop-pass-test.false in
     full_alone s m n 0 (n.view.look).value c.look_done-2.ensures.made (inl (omega (arith, past, room, known)))
+
+pub returns-then-not-look_done-clause-paths : goal.returns-then-not-look_done-clause-paths
+returns-then-not-look_done-clause-paths g c =
+    let s = c.args.log.now.shape in
+    let m = c.loop-pass.pass in
+    let n = c.look_done.new.pass in
+    let t = c.covered-t.result in
+    let room = c.capacity-capacity.ensures.capacity ∙ ap (λ (x : ShapeValue). x.capacity) c.shape.ensures.shape in
+    let at = c.covered-t.ensures in
+    let low = c.loop-pass-test.true in
+    let known = c.covered.ensures in
+    paths_alone s m n t (n.view.look).value c.look_done.ensures.made (inr (omega (arith, low, room, known), ap (λ (o : ℕ). slot_of s (done o)) at, λ one. other (c.look_done.ensures.found.1 one)))
+  where
+    other : c.look_done.result ≡ true → ⊥
+    other one = (let f : true ≡ false = sym one ∙ c.if-not-look_done.true in absurd (cc f))
+
+pub returns-clause-paths : goal.returns-clause-paths
+returns-clause-paths g c =
+    let s = c.args.log.now.shape in
+    let m = c.loop-pass.pass in
+    let n = c.look_done-2.new.pass in
+    let room = c.capacity-capacity.ensures.capacity ∙ ap (λ (x : ShapeValue). x.capacity) c.shape.ensures.shape in
+    let known = c.covered.ensures in
+    let past = c.loop-pass-test.false in
+    paths_alone s m n 0 (n.view.look).value c.look_done-2.ensures.made (inl (omega (arith, past, room, known)))
+
+pub returns-then-not-look_done-clause-bounds : goal.returns-then-not-look_done-clause-bounds
+returns-then-not-look_done-clause-bounds g c = c.look_done.ensures.made.told.bounds
+
+pub returns-clause-bounds : goal.returns-clause-bounds
+returns-clause-bounds g c = c.look_done-2.ensures.made.told.bounds
 
 pub returns-then-not-look_done-clause-fit : goal.returns-then-not-look_done-clause-fit
 returns-then-not-look_done-clause-fit g c = look_fit c.args.log.now.shape c.loop-pass.pass c.look_done.new.pass c.covered-t.result (c.look_done.new.pass.view.look).value c.look_done.ensures.made

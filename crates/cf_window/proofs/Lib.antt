@@ -1,0 +1,5 @@
+pub mod Taken
+pub mod Holding
+pub mod Finding
+pub mod Dropping
+pub mod Examples

@@ -1,0 +1,41 @@
+use Rattle.std.proofs.Common.{◌≡◌, ◌∙◌, ◌<◌, ◌≤◌, ◌++◌, ◌∷◌, [], List, length, map, sym, ap, ap₂, subst, arith}
+use Rattle.std.proofs.lemmas.List.{length-map, map-append}
+use Rattle.cf_row.specs.Row.{RowValue}
+use Rattle.cf_shape.specs.Lanes.{ShapeValue}
+use Rattle.cf_shape.specs.Nodes.{nodes_for}
+use Rattle.cf_window.specs.Segments.{SegmentValue}
+use Rattle.cf_window.specs.Held.{WindowValue, rows_each}
+use Rattle.cf_window.proofs.Holding.{opened_window, new_takes}
+use Rattle.cf_window.proofs.window.Window.open_for.Goals as goal
+
+pub invariant_of-self : goal.invariant_of-self
+invariant_of-self c =
+    let inside = c.self.inside in
+    let v = c.self.invariant in
+    let xs : List SegmentValue = inside.segments.items in
+    let e = c.push_reserved.ensures in
+    let x = c.take.new.self in
+    let shape_is = ap (λ (w : WindowValue). w.shape) c.self.view_is in
+    let low = subst (λ (s : ShapeValue). length (nodes_for s c.args.row.now) ≤ s.nodes) (sym shape_is) c.requires.small in
+    let is = new_takes inside.shape c.args.row.now c.in_ok-segment.segment x c.take.result c.lanes-lawful.ensures.lawful low (c.in_ok-segment.ensures ∙ ap (λ (s : ShapeValue). record { shape = s; rows = []; is_spent = Rattle.std.proofs.Common.false }) c.in_ok-shape.ensures) c.take.ensures.taken c.take.ensures.segment in
+    let long = length-map xs (λ (s : SegmentValue). s.rows) in
+    let same = ap (λ (w : WindowValue). length w.segments) c.self.view_is in
+    let most = ap (λ (w : WindowValue). w.most) c.self.view_is in
+    let room = c.requires.room in
+    let r = opened_window inside.shape inside.most xs c.push_reserved.new.self.items x v.0 e.items (ap (λ (s : SegmentValue). s.shape) is) (ap (λ (s : SegmentValue). s.is_spent) is) (omega (arith, long, same, most, room)) in
+    let held = v.1 in
+    let cap = e.capacity in
+    (r.0, omega (arith, held, cap), λ _. r.1)
+
+pub returns-clause-opened : goal.returns-clause-opened
+returns-clause-opened c =
+    let inside = c.self.inside in
+    let v = c.self.invariant in
+    let xs : List SegmentValue = inside.segments.items in
+    let e = c.push_reserved.ensures in
+    let x = c.take.new.self in
+    let shape_is = ap (λ (w : WindowValue). w.shape) c.self.view_is in
+    let low = subst (λ (s : ShapeValue). length (nodes_for s c.args.row.now) ≤ s.nodes) (sym shape_is) c.requires.small in
+    let is = new_takes inside.shape c.args.row.now c.in_ok-segment.segment x c.take.result c.lanes-lawful.ensures.lawful low (c.in_ok-segment.ensures ∙ ap (λ (s : ShapeValue). record { shape = s; rows = []; is_spent = Rattle.std.proofs.Common.false }) c.in_ok-shape.ensures) c.take.ensures.taken c.take.ensures.segment in
+    ap (λ (ys : List SegmentValue). rows_each ys) e.items
+    ∙ (map-append (λ (s : SegmentValue). s.rows) xs (x ∷ []) ∙ ap₂ (λ (a : List (List RowValue)) (b : List RowValue). a ++ b ∷ []) (ap (λ (w : WindowValue). w.segments) c.self.view_is) (ap (λ (s : SegmentValue). s.rows) is))

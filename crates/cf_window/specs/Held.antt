@@ -1,0 +1,50 @@
+-- A window as its caller holds it, and what its calls do.
+use Rattle.std.specs.Prelude.{◌≡◌, ℕ, ◌≤◌, ◌-◌, Bool, true, false, List, Some, slice_get, length, map, All}
+use Rattle.cf_row.specs.Row.{RowValue}
+use Rattle.cf_shape.specs.Lanes.{ShapeValue}
+use Rattle.cf_window.specs.Segments.{SegmentValue}
+use Rattle.cf_window.specs.Windows.{after_row, drops, goes_in, is_small, with_last}
+use Rattle.cf_window.specs.declared.window.Pushed.{Pushed}
+use Rattle.cf_window.specs.declared.window.Pushed.TheVariants.{Gone, NeedsDrop, NoNodes}
+
+-- the shape of each segment, how many there may be, the segments, and whether the last has refused a row
+pub record WindowValue : Type 0 where
+  pub shape : ShapeValue
+  pub most : ℕ
+  pub segments : List (List RowValue)
+  pub is_spent : Bool
+
+-- the rows of each segment
+abbrev pub rows_each : List SegmentValue → List (List RowValue)
+rows_each segments = map (λ segment. segment.rows) segments
+
+abbrev pub IsOfShape : ShapeValue → SegmentValue → Type 0
+IsOfShape shape segment = segment.shape ≡ shape
+
+-- Each segment has the shape, which has one writer, and there are no more than there may be. Only of the last one it matters whether
+-- it has refused a row.
+pub record IsWindow (shape : ShapeValue) (most : ℕ) (segments : List SegmentValue) : Type 0 where
+  pub one : shape.writers ≡ 1
+  pub shapes : All (IsOfShape shape) segments
+  pub few : length segments ≤ most
+
+-- What a push did with a row: it has come; or nothing has come, since the oldest segment has to be dropped for it first, or since
+-- it needs more nodes than an empty segment has.
+abbrev pub HasPushed : WindowValue → RowValue → WindowValue → Pushed → Type 0
+HasPushed old row new Gone = (drops old.shape old.most old.segments row ≡ false) × (new.segments ≡ after_row old.shape old.most old.segments row)
+HasPushed old row new NeedsDrop = (drops old.shape old.most old.segments row ≡ true) × (is_small old.shape row ≡ true) × (new.segments ≡ old.segments)
+HasPushed old row new NoNodes = (goes_in old.shape old.segments row ≡ false) × (is_small old.shape row ≡ false) × (new.segments ≡ old.segments)
+
+-- the last segment, where there is one, has refused no row
+abbrev pub IsOpenLast : List SegmentValue → Type 0
+IsOpenLast segments = (segment : SegmentValue) → slice_get segments (length segments - 1) ≡ Some segment → segment.is_spent ≡ false
+
+-- the row behind those of the last segment, where it was taken
+abbrev pub with_taken : List (List RowValue) → RowValue → Bool → List (List RowValue)
+with_taken segments row true = with_last segments row
+with_taken segments row false = segments
+
+-- Once the oldest segment is dropped the row comes without another, as it would have come before.
+pub record ComesThen (old : WindowValue) (row : RowValue) (new : WindowValue) : Type 0 where
+  pub room : drops new.shape new.most new.segments row ≡ false
+  pub same : after_row new.shape new.most new.segments row ≡ after_row old.shape old.most old.segments row

@@ -1,0 +1,5 @@
+pub mod Windows
+pub mod Rounds
+pub mod Watched
+pub mod Segments
+pub mod Held

@@ -1,0 +1,32 @@
+-- How reads cut a stream, and what is written for some such cut.
+use Rattle.std.specs.Prelude.{◌≡◌, ℕ, ◌<◌, ◌≤◌, List, length, take, All}
+use Rattle.std.specs.List.{flat_map}
+use Rattle.cf_row.specs.Row.{RowValue}
+use Rattle.cf_setup.specs.Setups.{SetupValue}
+use Rattle.cf_shape.specs.Lanes.{ShapeValue}
+use Rattle.cf_window.specs.Rounds.{watch_text}
+use Rattle.cf_window.specs.Windows.{rows_in_all}
+
+-- the bytes of all pieces
+abbrev pub bytes_in_all : List (List ℕ) → List ℕ
+bytes_in_all pieces = flat_map (λ piece. piece) pieces
+
+-- Reads have cut the bytes into these pieces: none is empty, and none is longer than a read moves.
+pub record AreCut (bytes : List ℕ) (pieces : List (List ℕ)) : Type 0 where
+  pub all : bytes_in_all pieces ≡ bytes
+  pub some : All (λ piece. 0 < length piece) pieces
+  pub short : All (λ piece. length piece ≤ 65536) pieces
+
+-- Each read ended these records: those of the first k reads are those that end within the first k pieces. `Given` says which
+-- records end within some first bytes of a stream.
+pub record AreEnded (Given : List ℕ → List RowValue → Type 0) (pieces : List (List ℕ)) (reads : List (List RowValue)) : Type 0 where
+  pub count : length reads ≡ length pieces
+  pub each : (k : ℕ) → k ≤ length pieces → Given (bytes_in_all (take k pieces)) (rows_in_all (take k reads))
+
+-- The text is that of the bytes, for some way in which reads cut them.
+pub record IsWatched (Given : List ℕ → List RowValue → Type 0) (shape : ShapeValue) (setup : SetupValue) (most every : ℕ) (bytes text : List ℕ) : Type 0 where
+  pub pieces : List (List ℕ)
+  pub reads : List (List RowValue)
+  pub cut : AreCut bytes pieces
+  pub ended : AreEnded Given pieces reads
+  pub text_is : text ≡ watch_text shape setup most every reads

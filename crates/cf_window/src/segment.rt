@@ -1,0 +1,128 @@
+// A segment of a window.
+ghost use Rattle.std.specs.Prelude.{◌≡◌, ◌<◌, ◌++◌, ◌∷◌, [], not, length, true, false, IfOk, IsTrue, if◌then◌else◌};
+ghost use Rattle.cf_row.specs.Row.{Fits};
+ghost use Rattle.cf_plain.specs.Asks.{Suits, rows_in};
+ghost use Rattle.cf_plain.specs.Segments.{finding_in};
+ghost use Rattle.cf_window.specs.Segments.{IsSegment, with_row};
+ghost use Rattle.cf_window.specs.Windows.{takes};
+
+use cf_append::{append, settle};
+use cf_plain::{Ask, Finding};
+use cf_query::finding;
+use cf_row::{Memory, Row};
+use cf_shape::Shape;
+use cf_table::{MultiLog, Pass, Root, Steps, WriterPass};
+use std::alloc::Global;
+use std::marker::{Brand, Model};
+use std::sync::ledger::{Blank, Ledger};
+
+/// A log of one writer, which takes rows until one has no place in it or lacks a node.
+#[derive(Drop)]
+pub struct Segment {
+    log: MultiLog,
+    // its one book is dealt to the pass
+    _root: Root,
+    pass: WriterPass,
+    is_spent: bool,
+}
+
+impl Model for Segment {
+    ghost use Rattle.cf_window.specs.Segments.{SegmentValue, IsSegment, segment_value};
+
+    ghost Value = { SegmentValue };
+
+    ghost view = { λ s. segment_value s.log s.pass s.is_spent };
+
+    ghost invariant = { λ s. IsSegment s.log s.pass s.is_spent };
+}
+
+// Appends the row, where it has a place and lacks no node, and moves the read tail on.
+fn take_counted<L: Ledger>(log: &MultiLog, pass: &mut WriterPass, row: &Row, blank: Blank) -> bool
+    requires segment { IsSegment log.now pass.old false }
+    requires fits { Fits log.now.shape.schema row.now }
+    requires blank { (blank.name ≡ L.name) × (blank.parts ≡ L.parts) × (0 < L.parts) }
+    ensures segment { IsSegment log.now pass.new (not result) }
+    ensures taken { result ≡ takes log.now.shape (rows_in pass.old.view.seen) row.now }
+    ensures rows { rows_in pass.new.view.seen ≡ with_row (rows_in pass.old.view.seen) row.now result }
+{
+    let mut steps = Steps::<L>::new(blank);
+    let answer = append(log, pass, row, &mut steps);
+    let _lawful = log.shape();
+    let offset = answer.unwrap_or(0);
+    settle(log, pass, offset, &mut steps);
+    answer.is_ok()
+}
+
+// Asks by the writer's pass.
+fn find_counted<L: Ledger>(
+    log: &MultiLog,
+    alloc: Global,
+    pass: &mut WriterPass,
+    question: &Ask,
+    is_spent: bool,
+    blank: Blank,
+) -> Result<(u32, Finding), Memory>
+    requires segment { IsSegment log.now pass.old is_spent }
+    requires suits { Suits log.now.shape question.now }
+    requires blank { (blank.name ≡ L.name) × (blank.parts ≡ L.parts) × (0 < L.parts) }
+    ensures segment { IsSegment log.now pass.new is_spent }
+    ensures seen { pass.new.view.seen ≡ pass.old.view.seen }
+    ensures ok { IfOk result (λ found. (found.0 ≡ length pass.old.view.seen) × (found.1 ≡ finding_in log.now.shape question.now (rows_in pass.old.view.seen))) }
+{
+    let mut steps = Steps::<L>::new(blank);
+    finding(log, alloc, pass, question, &mut steps)
+}
+
+impl Segment {
+    /// An empty segment of the shape, which has one writer.
+    pub fn open(alloc: Global, shape: Shape) -> Result<Segment, Memory>
+        requires one { shape.writers ≡ 1 }
+        ensures { IfOk result (λ segment. segment ≡ record { shape = shape; rows = []; is_spent = false }) }
+    {
+        let (log, mut root) = MultiLog::open(alloc, shape)?;
+        let mut passes = log.deal(alloc, &mut root)?;
+        let pass = passes.swap_remove(0);
+        Ok(Segment {
+            log,
+            _root: root,
+            pass,
+            is_spent: false,
+        })
+    }
+
+    /// The shape of its log.
+    pub fn shape(&self) -> &Shape
+        ensures { result.now ≡ self.now.shape }
+    {
+        self.log.shape()
+    }
+
+    /// Takes the row as its last one, where it has a place for it and the nodes that the row needs. Else its rows stay as they are,
+    /// and it takes none from then on.
+    pub fn take(&mut self, row: &Row) -> bool
+        requires open { self.old.is_spent ≡ false }
+        requires fits { Fits self.old.shape.schema row.now }
+        ensures taken { result ≡ takes self.old.shape self.old.rows row.now }
+        ensures segment { self.new ≡ record { shape = self.old.shape; rows = with_row self.old.rows row.now result; is_spent = not result } }
+    {
+        let taken = take_counted::<Brand>(&self.log, &mut self.pass, row, Blank::new(1));
+        self.is_spent = !taken;
+        taken
+    }
+
+    /// What the question finds in its rows, and how many they are.
+    pub fn find(&mut self, alloc: Global, question: &Ask) -> Result<(u32, Finding), Memory>
+        requires suits { Suits self.old.shape question.now }
+        ensures stays { self.new ≡ self.old }
+        ensures found { IfOk result (λ found. (found.0 ≡ length self.old.rows) × (found.1 ≡ finding_in self.old.shape question.now self.old.rows)) }
+    {
+        find_counted::<Brand>(
+            &self.log,
+            alloc,
+            &mut self.pass,
+            question,
+            self.is_spent,
+            Blank::new(1),
+        )
+    }
+}
