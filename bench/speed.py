@@ -9,7 +9,8 @@ It writes the generated capture to a temporary file, the same bytes that `conflu
 
  - `confluo run` and `confluo synth` by one, two and four writers, with setups of no, one, four and sixteen lanes;
  - a usual setup (one index, one aggregate, one trigger, four questions) by `confluo run`, and `tcpdump` and `tshark` on the same file
-   where they are installed, with and without a filter that a fifth of the packets pass, and the file read once by this script;
+   where they are installed, with and without a filter that a fifth of the packets pass, the file read once by this script, and the
+   plain twin of the log's own steps (bench/plain_twin.c) where there is a C compiler;
  - live questions beside two writers, each by the time of a run that asks it 1,024 times less that of the same run without;
  - final questions by one, two and four processors, each by the time of a run that asks it 32 times less that of one that asks it once.
 
@@ -47,6 +48,8 @@ ask load measure bytes 0 1000000
 ask when fired busy
 ask big list len>1080
 """
+# An index, a filter and an aggregate.
+USUAL_LANES = 3
 QUESTIONS = {
     "one key of an index": "index s seq\nask q find s 12345 12345\n",
     "a scan for that key": "index s seq\nask q list seq==12345\n",
@@ -207,10 +210,27 @@ def read_once(file):
     return time.perf_counter() - start
 
 
+def time_twin(sitting, count):
+    """The seconds of the log's own steps in plain C for so many records and the lanes of the usual setup, by one, two and four writers."""
+    compiler = shutil.which("cc")
+    if compiler is None:
+        return {}
+    twin = sitting.folder / "plain_twin"
+    source = pathlib.Path(__file__).parent / "plain_twin.c"
+    subprocess.run([compiler, "-std=c11", "-O2", "-pthread", "-o", twin, source], check=True)
+    times = {}
+    for writers in (1, 2, 4):
+        words = [twin, "--records", str(count), "--lanes", str(USUAL_LANES), "--writers", str(writers)]
+        runs = [subprocess.run(words, check=True, capture_output=True, text=True) for _ in range(sitting.rounds)]
+        times[f"plain twin, {writers} writer{'s' * (writers > 1)}"] = min(float(run.stdout.split()[-1]) for run in runs)
+    return times
+
+
 def time_readers(sitting, count):
     """The seconds of one reading of the capture, by each reader that is installed."""
     file = sitting.file(count)
     times = {"reading the file once": min(read_once(file) for _ in range(sitting.rounds))}
+    times |= time_twin(sitting, count)
     for writers in (1, 2, 4):
         times[f"confluo run, {writers} writer{'s' * (writers > 1)}"] = sitting.cost("run", USUAL, count, writers).seconds
     for name, words in READERS.items():
