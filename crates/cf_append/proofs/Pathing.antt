@@ -196,14 +196,12 @@ set_here [] i x low = absurd (omega (arith, low))
 set_here (y ∷ ys) zero x low = refl
 set_here (y ∷ ys) (suc i) x low = set_here ys i x (omega (arith, low))
 
+-- leaves that were kept can be taken by a pass that knows each node that was known
 pub remembers_still : (shape : ShapeValue) (p q : Pass) (leaves : Leaves) → ((s : Spot) (node : ℕ) → Knows p s node → Knows q s node) → Remembers shape p leaves → Remembers shape q leaves
 remembers_still shape p q leaves knows near = record {
   long = near.long;
   stands = λ lane front node low kept. (let there = near.stands lane front node low kept in record { knows = knows _ node there.knows; low = there.low });
 }
-
-pub knows_still : (p q : Pass) → q.known ≡ p.known → (s : Spot) (node : ℕ) → Knows p s node → Knows q s node
-knows_still p q same s node knows = (knows.0, ap (λ (known : List (Spot × ℕ)). slice_get known knows.0) same ∙ knows.1)
 
 pub remembers_more : (shape : ShapeValue) (p : Pass) (leaves : Leaves) (lane front node : ℕ) → lane < length shape.lanes → length shape.lanes ≤ 16 → Remembers shape p leaves → IsNodeOf shape p (spot lane (nibbles (levels_of shape lane - 1) front)) node
     → Remembers shape p (record leaves { kept = set leaves.kept lane (Some record { front = front; node = node }) })
