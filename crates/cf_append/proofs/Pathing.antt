@@ -20,7 +20,7 @@ use Rattle.cf_append.specs.declared.leaves.Leaf.{Leaf}
 use Rattle.cf_append.specs.declared.leaves.Leaves.{Leaves}
 use Rattle.cf_append.specs.declared.paths.Filing.{Filing}
 use Rattle.cf_append.specs.declared.paths.Prefix.{Prefix}
-use Rattle.cf_append.specs.Paths.{Strides, IsPrefix, IsAlong, IsOnPath, IsNodeOf, IsLeafIn, HasLeaves, IsFiled, IsFiledIn, HasFilings, Remembers, spot_of, spot_before, path_steps}
+use Rattle.cf_append.specs.Paths.{Strides, IsPrefix, IsAlong, IsOnPath, IsNodeOf, IsLeafIn, HasLeaves, IsFiled, IsFiledIn, HasFilings, Remembers, Keeps, KeepsLeaf, KeepsLeaves, spot_of, spot_before, path_steps}
 
 no_nibbles : (k : ℕ) → nibbles 0 k ≡ []
 unfolding nibbles
@@ -196,14 +196,12 @@ set_here [] i x low = absurd (omega (arith, low))
 set_here (y ∷ ys) zero x low = refl
 set_here (y ∷ ys) (suc i) x low = set_here ys i x (omega (arith, low))
 
+-- leaves that were kept can be taken by a pass that knows each node that was known
 pub remembers_still : (shape : ShapeValue) (p q : Pass) (leaves : Leaves) → ((s : Spot) (node : ℕ) → Knows p s node → Knows q s node) → Remembers shape p leaves → Remembers shape q leaves
 remembers_still shape p q leaves knows near = record {
   long = near.long;
   stands = λ lane front node low kept. (let there = near.stands lane front node low kept in record { knows = knows _ node there.knows; low = there.low });
 }
-
-pub knows_still : (p q : Pass) → q.known ≡ p.known → (s : Spot) (node : ℕ) → Knows p s node → Knows q s node
-knows_still p q same s node knows = (knows.0, ap (λ (known : List (Spot × ℕ)). slice_get known knows.0) same ∙ knows.1)
 
 pub remembers_more : (shape : ShapeValue) (p : Pass) (leaves : Leaves) (lane front node : ℕ) → lane < length shape.lanes → length shape.lanes ≤ 16 → Remembers shape p leaves → IsNodeOf shape p (spot lane (nibbles (levels_of shape lane - 1) front)) node
     → Remembers shape p (record leaves { kept = set leaves.kept lane (Some record { front = front; node = node }) })
@@ -222,6 +220,36 @@ remembers_more shape p leaves lane front node low few near there =
         | inr other ↦ near.stands l f n below (sym (get_set_other leaves.kept lane l x other) ∙ kept)
       ];
     }
+
+-- whether the leaf of a row is kept
+pub kept_by : (shape : ShapeValue) (row : RowValue) (leaves : Leaves) (lane key node : ℕ) → key ≡ key_of shape lane row → Keeps leaves lane (key / 16) node → KeepsLeaf shape row leaves lane
+kept_by shape row leaves lane key node same kept = (node, subst (λ (k : ℕ). Keeps leaves lane (k / 16) node) same kept)
+
+pub kept_now : (shape : ShapeValue) (row : RowValue) (leaves : Leaves) (lane key node : ℕ) → key ≡ key_of shape lane row → lane < length leaves.kept → KeepsLeaf shape row (record leaves { kept = set leaves.kept lane (Some record { front = key / 16; node = node }) }) lane
+kept_now shape row leaves lane key node same low =
+    kept_by shape row (record leaves { kept = set leaves.kept lane (Some record { front = key / 16; node = node }) }) lane key node same (set_here leaves.kept lane (Some record { front = key / 16; node = node }) low)
+
+pub kept_other : (leaves : Leaves) (lane front node l : ℕ) → (l ≡ lane → ⊥) → slice_get (set leaves.kept lane (Some record { front = front; node = node })) l ≡ slice_get leaves.kept l
+kept_other leaves lane front node l other = get_set_other leaves.kept lane l (Some record { front = front; node = node }) other
+
+pub not_kept : (shape : ShapeValue) (row : RowValue) (leaves : Leaves) (lane key : ℕ) → key ≡ key_of shape lane row → ((node : ℕ) → Keeps leaves lane (key / 16) node → ⊥) → KeepsLeaf shape row leaves lane → ⊥
+not_kept shape row leaves lane key same none kept = none kept.0 (subst (λ (k : ℕ). Keeps leaves lane (k / 16) kept.0) (sym same) kept.1)
+
+pub keeps_still : (shape : ShapeValue) (row : RowValue) (a b : Leaves) (lane : ℕ) → slice_get b.kept lane ≡ slice_get a.kept lane → KeepsLeaf shape row a lane → KeepsLeaf shape row b lane
+keeps_still shape row a b lane same kept = (kept.0, same ∙ kept.1)
+
+-- one lane more
+pub keeps_more : (shape : ShapeValue) (row : RowValue) (a b : Leaves) (k : ℕ) → KeepsLeaves shape row a k → ((l : ℕ) → (l ≡ k → ⊥) → slice_get b.kept l ≡ slice_get a.kept l) → KeepsLeaf shape row b k → KeepsLeaves shape row b (k + 1)
+keeps_more shape row a b k has others here lane low passes = elim (cases_eq lane k) [
+  | inl e ↦ subst (λ (j : ℕ). KeepsLeaf shape row b j) (sym e) here
+  | inr ne ↦ keeps_still shape row a b lane (others lane ne) (has lane (omega (arith, low, ne)) passes)
+]
+
+pub keeps_passed : (shape : ShapeValue) (row : RowValue) (a : Leaves) (k : ℕ) → KeepsLeaves shape row a k → selected_by shape k row ≡ false → KeepsLeaves shape row a (k + 1)
+keeps_passed shape row a k has fails lane low passes = elim (cases_eq lane k) [
+  | inl e ↦ absurd (let both : true ≡ false = sym passes ∙ (ap (λ (j : ℕ). selected_by shape j row) e ∙ fails) in absurd (cc both))
+  | inr ne ↦ has lane (omega (arith, low, ne)) passes
+]
 
 pub path_steps_none : (shape : ShapeValue) → path_steps shape 0 ≡ 0
 unfolding path_steps

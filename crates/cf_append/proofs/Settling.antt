@@ -7,8 +7,9 @@ use Rattle.cf_shape.specs.Lanes.{ShapeValue}
 use Rattle.cf_shape.specs.Places.{place_of, slot_of}
 use Rattle.cf_shape.specs.Places.Slot.{cell}
 use Rattle.cf_shape.specs.Places.Word.{done}
+use Rattle.cf_words.specs.Words.{Spot}
 use Rattle.cf_law.specs.Passes.{Book, Pass, Look}
-use Rattle.cf_law.specs.Steps.{Holds, pass_that_sees, pass_with_look}
+use Rattle.cf_law.specs.Steps.{Holds, Knows, pass_that_sees, pass_with_look}
 use Rattle.cf_law.specs.Shapes.{layout}
 use Rattle.cf_law.specs.Readers.{AtHome, EndsThere, IsBounded}
 use Rattle.cf_table.specs.Values.{PassValue, book_of}
@@ -19,8 +20,18 @@ use Rattle.cf_table.proofs.Folds.{sees_told, tail_entries}
 use Rattle.cf_table.proofs.Settling.{Moved, moved_none, settled_by, begins_then, last_word}
 use Rattle.cf_append.specs.Appends.{GoesOn, IsUnfinished, Stops, Rests}
 
-pub goes_on : (m n : PassValue) → Moved m n → GoesOn m n
-goes_on m n moved = record { same = moved.same; longer = moved.longer; tails = moved.tails; told = moved.told }
+-- the nodes that the pass knows stay known
+pub knows_still : (p q : Pass) → q.known ≡ p.known → (s : Spot) (node : ℕ) → Knows p s node → Knows q s node
+knows_still p q same s node knows = (knows.0, ap (λ (known : List (Spot × ℕ)). slice_get known knows.0) same ∙ knows.1)
+
+pub goes_on : (m n : PassValue) → Moved m n → (n.view).known ≡ (m.view).known → GoesOn m n
+goes_on m n moved known = record {
+  same = moved.same;
+  longer = moved.longer;
+  tails = moved.tails;
+  told = moved.told;
+  knows = knows_still m.view n.view known;
+}
 
 sees_look : (n : ℕ) (es : List Entry) (p : Pass) → (pass_that_sees n es p).look ≡ p.look
 sees_look n es p = elim (cases_Bool (nat_lt (length p.seen) n)) [
@@ -103,10 +114,11 @@ goes_then m n o a b = record {
   longer = begins_then (m.view).seen (n.view).seen (o.view).seen a.longer b.longer;
   tails = b.tails ∙ a.tails;
   told = b.told ∙ a.told;
+  knows = λ s node k. b.knows s node (a.knows s node k);
 }
 
 pub goes_none : (m : PassValue) → GoesOn m m
-goes_none m = record { same = refl; longer = Rattle.std.proofs.Math.Seq.take-length (m.view).seen; tails = refl; told = refl }
+goes_none m = record { same = refl; longer = Rattle.std.proofs.Math.Seq.take-length (m.view).seen; tails = refl; told = refl; knows = λ s node k. k }
 
 -- a look tells that what was seen of a book's tickets are the first
 pub seen_first : (shape : ShapeValue) (m n : PassValue) (o found : ℕ) → HasStepped shape (done_effect shape m.view o) m found n → SeenFirst n.view

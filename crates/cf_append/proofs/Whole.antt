@@ -34,6 +34,7 @@ goes_by m n went = record {
   longer = ap (λ (es : List Entry). take (length (m.view).seen) es) went.seen ∙ take-length (m.view).seen;
   tails = went.tails;
   told = went.told;
+  knows = went.knows;
 }
 
 flown_strides : (m n : PassValue) (o k : ℕ) (row : RowValue) → n ≡ flying o row k m → Strides m n

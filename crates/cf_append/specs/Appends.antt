@@ -6,8 +6,9 @@ use Rattle.cf_row.specs.Row.{RowValue}
 use Rattle.cf_shape.specs.Lanes.{ShapeValue}
 use Rattle.cf_shape.specs.Places.{place_of}
 use Rattle.cf_shape.specs.Places.Word.{done}
+use Rattle.cf_words.specs.Words.{Spot}
 use Rattle.cf_law.specs.Passes.{Own, Book, Pass}
-use Rattle.cf_law.specs.Steps.{Holds}
+use Rattle.cf_law.specs.Steps.{Holds, Knows}
 use Rattle.cf_table.specs.Values.{PassValue, book_of}
 use Rattle.cf_table.specs.Effects.{HasStepped, take_effect}
 use Rattle.cf_table.specs.Moves.{Begins}
@@ -17,12 +18,13 @@ use Rattle.cf_append.specs.declared.appends.AppendFault.TheVariants.{Full, Nodes
 use Rattle.cf_append.specs.declared.settles.Settled.{Settled}
 use Rattle.cf_append.specs.declared.settles.Settled.TheVariants.{Covered, Behind}
 
--- the pass is the same one, it has seen no less, and no ask is noted
+-- the pass is the same one, it has seen no less, no ask is noted, and it knows each node that it knew
 pub record GoesOn (before after : PassValue) : Type 0 where
   pub same : after ≡ record before { view = after.view }
   pub longer : Begins (before.view).seen (after.view).seen
   pub tails : (after.view).tails ≡ (before.view).tails
   pub told : (after.view).told ≡ (before.view).told
+  pub knows : (s : Spot) (node : ℕ) → Knows before.view s node → Knows after.view s node
 
 -- the last look, which was made since p, found the record at b unfinished
 pub record IsUnfinished (shape : ShapeValue) (b : ℕ) (p q : Pass) : Type 0 where

@@ -113,6 +113,14 @@ pub record Remembers (shape : ShapeValue) (pass : Pass) (leaves : Leaves) : Type
   pub long : length leaves.kept ≡ 16
   pub stands : (lane front node : ℕ) → lane < length shape.lanes → Keeps leaves lane front node → IsNodeOf shape pass (spot lane (nibbles (levels_of shape lane - 1) front)) node
 
+-- the leaf of the row in that lane is kept: by the front of the row's key there
+abbrev pub KeepsLeaf : ShapeValue → RowValue → Leaves → ℕ → Type 0
+KeepsLeaf shape row leaves lane = (node : ℕ) × Keeps leaves lane (key_of shape lane row / 16) node
+
+-- so is the leaf in each of the first n lanes that selects the row
+abbrev pub KeepsLeaves : ShapeValue → RowValue → Leaves → ℕ → Type 0
+KeepsLeaves shape row leaves n = (lane : ℕ) → lane < n → selected_by shape lane row ≡ true → KeepsLeaf shape row leaves lane
+
 -- three steps for each node on a key's path, in the first n lanes
 unfoldable pub path_steps : ShapeValue → ℕ → ℕ
 path_steps shape zero = 0

@@ -7,7 +7,7 @@ ghost use Rattle.cf_table.specs.Values.{IsOf, book_of};
 ghost use Rattle.cf_table.specs.Moves.{HasAll, SeenFirst};
 ghost use Rattle.cf_append.specs.Appends.{GoesOn, Stops, Rests, IsAnswered, flying};
 ghost use Rattle.cf_append.specs.Linking.{lane_steps};
-ghost use Rattle.cf_append.specs.Paths.{Remembers};
+ghost use Rattle.cf_append.specs.Paths.{Remembers, KeepsLeaves};
 
 use crate::leaves::Leaves;
 use crate::links::{fill_cells, link_all};
@@ -80,6 +80,10 @@ pub(crate) fn fill<L: Ledger>(
 /// Appends the row: makes its paths, takes a ticket, fills it, links it in each lane that selects the row, finishes it, and
 /// moves the read tail over each finished record, up to the first that the last look found unfinished, or to the last place.
 /// Answers the record's offset. It is covered then, or stands behind that unfinished one.
+///
+/// It takes a step for each attribute and three more, at most three for each level of a lane's tree and five more for each
+/// lane, and two for each place by which the read tail is moved and for one more. After `NodesFull` the nodes that were made
+/// for other lanes of the row stay, and no ticket is taken.
 pub fn append<L: Ledger>(
     log: &MultiLog,
     pass: &mut WriterPass,
@@ -101,8 +105,10 @@ pub fn append<L: Ledger>(
     append_near(log, pass, row, &mut Leaves::new(), steps)
 }
 
-/// As `append`, by a writer that keeps its last leaf in each lane: where that has the front of the row's key, its path isn't walked
-/// again.
+/// As `append`, by a writer that keeps its last leaf in each lane. If a kept leaf has the front of the row's key, no step is made
+/// on the way to it; if all do, the row takes at most 8 steps for each lane beside those for its words and the read tail.
+/// After `Ok` the leaf of each lane that selects the row is kept. The leaves stay good through all that the pass does but
+/// being joined to another.
 pub fn append_near<L: Ledger>(
     log: &MultiLog,
     pass: &mut WriterPass,
@@ -121,6 +127,8 @@ pub fn append_near<L: Ledger>(
     ensures stops { IfOk result (λ _. Stops log.now.shape pass.old.view pass.new.view) }
     ensures alone { log.now.shape.writers ≡ 1 → IfOk result (λ _. HasAll pass.new.view) }
     ensures near { Remembers log.now.shape pass.new.view leaves.new }
+    ensures kept { IfOk result (λ _. KeepsLeaves log.now.shape row.now leaves.new (length log.now.shape.lanes)) }
+    ensures near_steps { KeepsLeaves log.now.shape row.now leaves.old (length log.now.shape.lanes) → steps.new ≤ steps.old + word_count_of log.now.shape.schema + 3 + 8 * length log.now.shape.lanes + 2 * (length pass.new.view.seen - length pass.old.view.seen + 1) }
     ensures steps { steps.new ≤ steps.old + word_count_of log.now.shape.schema + 3 + lane_steps log.now.shape (length log.now.shape.lanes) + 2 * (length pass.new.view.seen - length pass.old.view.seen + 1) }
     ensures loads { CountsLoads pass.old pass.new steps.old steps.new }
 {

@@ -1,5 +1,5 @@
 // The paths of a row are made: in each lane that selects it a node for each proper prefix of its key.
-ghost use Rattle.std.specs.Prelude.{ℕ, ◌≡◌, ◌+◌, ◌-◌, ◌*◌, ◌<◌, ◌≤◌, true, length, MatchOption, IfNone};
+ghost use Rattle.std.specs.Prelude.{ℕ, ◌≡◌, ◌+◌, ◌-◌, ◌*◌, ◌<◌, ◌≤◌, true, length, slice_get, MatchOption, IfNone, IfSome};
 ghost use Rattle.cf_row.specs.Row.{Fits};
 ghost use Rattle.cf_shape.specs.Lanes.{selected_by};
 ghost use Rattle.cf_shape.specs.Nodes.{levels_of};
@@ -11,7 +11,7 @@ ghost use Rattle.cf_table.specs.Loads.{CountsLoads};
 ghost use Rattle.cf_table.specs.Values.{IsOf};
 ghost use Rattle.cf_table.specs.Moves.{SeenFirst};
 ghost use Rattle.cf_append.specs.Appends.{Rests};
-ghost use Rattle.cf_append.specs.Paths.{Strides, HasUsed, IsPrefix, IsAlong, IsOnPath, IsStuck, IsNodeOf, IsFiled, HasFilings, Remembers, spot_of, spot_before, path_steps};
+ghost use Rattle.cf_append.specs.Paths.{Strides, HasUsed, IsPrefix, IsAlong, IsOnPath, IsStuck, IsNodeOf, IsFiled, HasFilings, Remembers, KeepsLeaf, KeepsLeaves, spot_of, spot_before, path_steps};
 
 use crate::leaves::Leaves;
 use cf_row::Row;
@@ -181,7 +181,10 @@ fn make_path<L: Ledger>(
     ensures answer { MatchOption result (IsStuck log.now.shape (IsOnPath log.now.shape row.now) pass.old pass.new) (IsFiled log.now.shape row.now pass.new.view lane) }
     ensures near { Remembers log.now.shape pass.new.view leaves.new }
     ensures begins { IfNone result (SeenFirst pass.new.view) }
+    ensures kept { IfSome result (λ _. KeepsLeaf log.now.shape row.now leaves.new lane) }
+    ensures others { (l : ℕ) → (l ≡ lane → ⊥) → slice_get leaves.new.kept l ≡ slice_get leaves.old.kept l }
     ensures steps { steps.new ≤ steps.old + 3 * (levels_of log.now.shape lane - 1) }
+    ensures near_steps { KeepsLeaf log.now.shape row.now leaves.old lane → steps.new ≡ steps.old }
     ensures loads { CountsLoads pass.old pass.new steps.old steps.new }
 {
     let shape = log.shape();
@@ -222,7 +225,9 @@ pub(crate) fn make_paths<L: Ledger>(
     ensures answer { MatchOption result (IsStuck log.now.shape (IsOnPath log.now.shape row.now) pass.old pass.new) (λ filed. HasFilings log.now.shape row.now pass.new.view filed (length log.now.shape.lanes)) }
     ensures near { Remembers log.now.shape pass.new.view leaves.new }
     ensures begins { IfNone result (SeenFirst pass.new.view) }
+    ensures kept { IfSome result (λ _. KeepsLeaves log.now.shape row.now leaves.new (length log.now.shape.lanes)) }
     ensures steps { steps.new ≤ steps.old + path_steps log.now.shape (length log.now.shape.lanes) }
+    ensures near_steps { KeepsLeaves log.now.shape row.now leaves.old (length log.now.shape.lanes) → steps.new ≡ steps.old }
     ensures loads { CountsLoads pass.old pass.new steps.old steps.new }
 {
     let shape = log.shape();

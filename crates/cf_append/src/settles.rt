@@ -49,7 +49,8 @@ pub(crate) fn move_tail<L: Ledger>(log: &MultiLog, pass: &mut WriterPass, steps:
 }
 
 /// Moves the read tail over each finished record, up to the first that isn't. Says whether the record at that offset is
-/// covered then, or which one, found unfinished by the last look, stands in its way.
+/// covered then, or which one, found unfinished by the last look, stands in its way. It takes two steps for each place by which
+/// the read tail is moved and for one more.
 pub fn settle<L: Ledger>(
     log: &MultiLog,
     pass: &mut WriterPass,

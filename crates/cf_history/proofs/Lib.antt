@@ -2,3 +2,4 @@ pub mod Spelled
 pub mod Logs
 pub mod OneWriter
 pub mod Orders
+pub mod Placed

@@ -48,6 +48,7 @@ module _ {Entry Ask Body : Type 0} where
   spell_from tail [] passes = asked_at tail 0 passes
   spell_from tail (entry ∷ log) passes = asked_at tail 0 passes ++ Appended entry tail ∷ spell_from (tail + 1) log passes
 
+  -- the whole of it, from the first append on
   abbrev pub spell : List Entry → List (List (AskReply Ask Body)) → List (HistoryEvent Entry Ask Body)
   spell log passes = spell_from 0 log passes
 
@@ -55,22 +56,25 @@ module _ {Entry Ask Body : Type 0} where
   abbrev pub IsToldBy : (Ask → List Entry → Body) → List Entry → AskReply Ask Body → Type 0
   IsToldBy eval log told = (told.tail ≤ length log) × (told.body ≡ eval told.ask (take told.tail log))
 
+  -- so is each answer of each pass
   abbrev pub AreToldBy : (Ask → List Entry → Body) → List Entry → List (List (AskReply Ask Body)) → Type 0
   AreToldBy eval log passes = AllByRecursion (AllByRecursion (IsToldBy eval log)) passes
 
-  -- the entries that a history appends, in its order
+  -- the entry of an append
   abbrev pub appended_by : HistoryEvent Entry Ask Body → Option Entry
   appended_by (Appended entry offset) = Some entry
   appended_by (Asked pass told) = None
 
+  -- the entries that a history appends, in its order
   abbrev pub appends_of : List (HistoryEvent Entry Ask Body) → List Entry
   appends_of events = filter_map appended_by events
 
-  -- the questions of a pass, in the history's order
+  -- the question of that pass, with its answer
   abbrev pub asked_by : ℕ → HistoryEvent Entry Ask Body → Option (AskReply Ask Body)
   asked_by pass (Appended entry offset) = None
   asked_by pass (Asked other told) = if other == pass then Some told else None
 
+  -- the questions of a pass, in the history's order
   abbrev pub asks_of : ℕ → List (HistoryEvent Entry Ask Body) → List (AskReply Ask Body)
   asks_of pass events = filter_map (asked_by pass) events
 

@@ -1,14 +1,25 @@
 -- The read tail is loaded for an ask.
-use Rattle.std.proofs.Common.{◌≡◌, ◌∙◌, ℕ, List, [], ◌∷◌, ◌++◌, true, length, take, slice_get, ap, sym}
+use Rattle.std.proofs.Common.{◌≡◌, ◌∙◌, ℕ, List, [], ◌∷◌, ◌++◌, Bool, true, inl, inr, length, take, slice_get, ap, sym}
+use Rattle.std.specs.Bool.{nat_lt}
+use Rattle.std.proofs.lemmas.Bool.{cases_Bool}
 use Rattle.cf_row.specs.declared.row.Entry.{Entry}
 use Rattle.cf_shape.specs.Lanes.{ShapeValue}
+use Rattle.cf_words.specs.Words.{Spot}
 use Rattle.cf_law.specs.Passes.{Pass}
+use Rattle.cf_law.specs.Steps.{pass_that_sees}
 use Rattle.cf_table.specs.Values.{PassValue}
 use Rattle.cf_table.specs.Effects.{HasStepped, tail_effect}
 use Rattle.cf_table.specs.Moves.{HoldsAllBooks}
-use Rattle.cf_table.proofs.Seen.{sees_books}
+use Rattle.cf_table.proofs.Seen.{grown, sees_books}
 use Rattle.cf_table.proofs.Folds.{sees_told, tail_entries}
 use Rattle.cf_query.specs.Asking.{HasAsked}
+
+-- the nodes that the pass knows stay the same
+sees_known : (n : ℕ) (es : List Entry) (p : Pass) → (pass_that_sees n es p).known ≡ p.known
+sees_known n es p = elim (cases_Bool (nat_lt (length p.seen) n)) [
+  | inl e ↦ ap (λ (b : Bool). (grown n es p b).known) e
+  | inr e ↦ ap (λ (b : Bool). (grown n es p b).known) e
+]
 
 pub has_asked : (shape : ShapeValue) (m n : PassValue) (found : ℕ) → HasStepped shape (tail_effect m.view true) m found n → (HoldsAllBooks shape m.view → (n.view).seen ≡ (m.view).seen) → length (n.view).seen ≡ found → HasAsked shape m n
 has_asked shape m n found made stays long =
@@ -25,4 +36,5 @@ has_asked shape m n found made stays long =
       few = told.bounds.seen;
       fit = λ o e at. told.fit o e (ap (λ (es : List Entry). slice_get es o) (sym entries) ∙ at);
       first = told.mine;
+      knows = λ s node k. (k.0, ap (λ (q : Pass). slice_get q.known k.0) told.is ∙ (ap (λ (xs : List (Spot × ℕ)). slice_get xs k.0) (sees_known found told.entries p) ∙ k.1));
     }

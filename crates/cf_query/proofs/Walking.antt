@@ -49,6 +49,7 @@ asked_walked shape m n o a b =
       few = subst (λ (es : List Entry). length es ≤ shape.capacity) (sym seen) a.few;
       fit = λ k e at. a.fit k e (ap (λ (es : List Entry). slice_get es k) (sym seen) ∙ at);
       first = subst SeenFirst (sym view) a.first;
+      knows = λ s node k. b.knows s node (a.knows s node k);
     }
 
 pub walked_seen : (m n : PassValue) → OnlyWalked m n → (m.view).seen ≡ (n.view).seen

@@ -3,10 +3,14 @@ use Rattle.std.specs.Prelude.{ℕ, ◌≡◌, ◌≤◌, List, [], ◌∷◌, �
 use Rattle.cf_row.specs.declared.row.Entry.{Entry}
 use Rattle.cf_row.specs.Words.{IsEntry, spelled}
 use Rattle.cf_shape.specs.Lanes.{ShapeValue}
+use Rattle.cf_words.specs.Words.{Spot}
+use Rattle.cf_law.specs.Steps.{Knows}
 use Rattle.cf_table.specs.Values.{PassValue}
 use Rattle.cf_table.specs.Moves.{Begins, HoldsAllBooks, AreFit, SeenFirst}
 
--- The pass asked once: the read tail was loaded for an ask, and as many entries are seen then, with those seen before as their beginning. All else that it holds is as it was, and while all books are home no entry is new.
+-- The pass asked once: the read tail was loaded for an ask, and as many entries are seen then, with those seen before as
+-- their beginning. All else that it holds is as it was, it knows each node that it knew, and while all books are home no
+-- entry is new.
 pub record HasAsked (shape : ShapeValue) (before after : PassValue) : Type 0 where
   pub same : after ≡ record before { view = after.view }
   pub tails : (after.view).tails ≡ (before.view).tails ++ length (after.view).seen ∷ []
@@ -17,6 +21,7 @@ pub record HasAsked (shape : ShapeValue) (before after : PassValue) : Type 0 whe
   pub few : length (after.view).seen ≤ shape.capacity
   pub fit : AreFit shape after.view
   pub first : SeenFirst after.view
+  pub knows : (s : Spot) (node : ℕ) → Knows before.view s node → Knows after.view s node
 
 -- the words are those of the entry at that offset, which is lawful
 pub record AreWordsAt (shape : ShapeValue) (seen : List Entry) (offset : ℕ) (words : List ℕ) : Type 0 where

@@ -17,7 +17,7 @@ use cf_walk::measure_range;
 use std::alloc::Global;
 use std::sync::ledger::Ledger;
 
-/// Asks how many entries are covered, and answers it.
+/// Asks how many entries are covered, and answers it: one step, which loads the read tail and notes it.
 pub fn tail<P: Pass, L: Ledger>(log: &MultiLog, pass: &mut P, steps: &mut Steps<L>) -> u32
     requires of { IsOf (P.held pass.old) log.now }
     ensures asked { HasAsked log.now.shape (P.held pass.old) (P.held pass.new) }
@@ -29,8 +29,10 @@ pub fn tail<P: Pass, L: Ledger>(log: &MultiLog, pass: &mut P, steps: &mut Steps<
 }
 
 /// The question's meaning on the entries that are covered then, and how many they are. The read tail is loaded once, and
-/// the pass notes it. `List` and `Total` go over all entries; all others walk the lane's tree and chains, so that a question for
-/// one key reads few words.
+/// the pass notes it. `List` and `Total` go over all entries; all others walk the lane's tree and chains. A question for one key
+/// takes one step for the read tail, one for each level of the tree and each writer, one for each place found, and at most
+/// one for each place past the tail; for the other kinds no bound is stated. If memory runs out, there is no answer, but the
+/// pass has asked all the same.
 pub fn ask<P: Pass, L: Ledger>(
     log: &MultiLog,
     alloc: Global,
@@ -52,7 +54,8 @@ pub fn ask<P: Pass, L: Ledger>(
 
 /// The quad of what the lane measures of its entries that are covered then and have a bucket in the range, both ends taken in,
 /// and how many entries are covered. The read tail is loaded once, and the pass notes it. The lane's tree and chains are
-/// walked, and no memory is taken.
+/// walked, and no memory is taken. One bucket takes one step for the read tail, one for each level of the tree, four for each
+/// writer, and at most one for each place past the tail; for more than one no bound is stated.
 pub fn measure<P: Pass, L: Ledger>(
     log: &MultiLog,
     pass: &mut P,
@@ -76,7 +79,7 @@ pub fn measure<P: Pass, L: Ledger>(
 
 /// The groups of a lane that measures something: for each key that an entry has which is covered then, ascending, the key and the
 /// quad of what the lane measures of its entries; and how many entries are covered. The read tail is loaded once, and the pass
-/// notes it. The lane's tree and chains are walked.
+/// notes it. The lane's tree and chains are walked. If memory runs out, there is no answer, but the pass has asked all the same.
 pub fn groups<P: Pass, L: Ledger>(
     log: &MultiLog,
     alloc: Global,

@@ -86,7 +86,8 @@ fn finding_of<P: Pass, L: Ledger>(
 /// What the question finds in the entries that are covered then, and how many they are: in place of marks the groups of its
 /// lane, so that what it finds in another log can be joined to it. The read tail is loaded once, and the pass notes it. `List`
 /// and `Total` go over all entries; all others walk the lane's tree and chains, so that a question for one key or one bucket
-/// reads few words.
+/// reads few words: as many as `ask` and `measure` say. If memory runs out, nothing is found, but the pass has asked all the
+/// same.
 pub fn finding<P: Pass, L: Ledger>(
     log: &MultiLog,
     alloc: Global,

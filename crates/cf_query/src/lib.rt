@@ -12,5 +12,5 @@ mod scans;
 
 pub use asks::{ask, groups, measure, tail};
 pub use findings::finding;
-pub use history::seals_are_histories;
+pub use history::{questions_keep_their_place, seals_are_histories};
 pub use rows::row;

@@ -58,8 +58,8 @@ pub(crate) fn load_entry<P: Pass, L: Ledger>(
     row_of(alloc, schema, words)
 }
 
-/// The row of the entry at that offset, which the pass knows as covered. Its attribute words and its tag are read, and no
-/// others.
+/// The row of the entry at that offset, which the pass knows as covered. Its attribute words and its tag are read, one step
+/// each, and no others. If memory runs out, there is no row, and the pass has looked at those words alone.
 pub fn row<P: Pass, L: Ledger>(
     log: &MultiLog,
     alloc: Global,

@@ -1,5 +1,5 @@
 -- How far the path of a key was found to go.
-use Rattle.std.specs.Prelude.{ℕ, ◌≡◌, ◌<◌, ◌≤◌, ◌*◌, List, length, slice_index_or}
+use Rattle.std.specs.Prelude.{ℕ, ◌≡◌, ◌<◌, ◌≤◌, ◌-◌, ◌*◌, ◌/◌, ◌^◌, List, length, slice_index_or}
 use Rattle.cf_row.specs.declared.row.Entry.{Entry}
 use Rattle.cf_shape.specs.Lanes.{ShapeValue}
 use Rattle.cf_shape.specs.Nodes.{levels_of}
@@ -21,3 +21,8 @@ pub record IsPath (shape : ShapeValue) (lane : ℕ) (path : Path) (pass : Pass) 
   pub long : length path.nodes ≡ 16
   pub within : (i : ℕ) → 1 ≤ i → i ≤ path.depth → slice_index_or path.nodes i 0 < shape.writers * shape.nodes
   pub knows : (i : ℕ) → 1 ≤ i → i ≤ path.depth → Knows pass (spot_above shape lane path.key i) (slice_index_or path.nodes i 0)
+
+-- the first d nodes of the path that was gone down last are on the key's path too
+abbrev pub Shares : ShapeValue → ℕ → Path → ℕ → ℕ → Type 0
+Shares shape lane path key d =
+    (d ≤ path.depth) × (path.key / 16 ^ (levels_of shape lane - d) ≡ key / 16 ^ (levels_of shape lane - d))

@@ -1,5 +1,5 @@
 // The way down a lane's tree.
-ghost use Rattle.std.specs.Prelude.{◌≡◌, ◌+◌, ◌-◌, ◌*◌, ◌/◌, ◌^◌, ◌<◌, ◌≤◌, length};
+ghost use Rattle.std.specs.Prelude.{ℕ, ◌≡◌, ◌+◌, ◌-◌, ◌*◌, ◌/◌, ◌^◌, ◌<◌, ◌≤◌, length};
 ghost use Rattle.cf_shape.specs.Nodes.{levels_of};
 ghost use Rattle.cf_shape.specs.Places.{Slot, place as place_of_slot, sizes_of};
 ghost use Rattle.cf_words.specs.Words.{Spot};
@@ -8,7 +8,7 @@ ghost use Rattle.cf_table.specs.Values.{IsOf};
 ghost use Rattle.cf_table.specs.Effects.{IsLawfulStep, HasStepped, child_effect};
 ghost use Rattle.cf_table.specs.Loads.{CountsLoads};
 ghost use Rattle.cf_walk.specs.Walks.{IsTurn, HasTurned, OnlyWalked, turn_slot};
-ghost use Rattle.cf_walk.specs.Reached.{Reached, IsPath};
+ghost use Rattle.cf_walk.specs.Reached.{Reached, Shares, IsPath};
 
 use cf_shape::{Shape, levels, place_child, place_root};
 use cf_table::{MultiLog, Pass, Steps};
@@ -51,12 +51,14 @@ pub(crate) fn no_path() -> Path
     }
 }
 
-// How many of the first nodes, at most `depth`, are on the paths of both keys.
+// How many of the first nodes, at most `depth`, are on the paths of both keys. Two keys have a node in common where their
+// first nibbles are the same.
 fn common_depth(levels: u8, depth: u8, before: u64, key: u64) -> u8
     requires levels { levels ≤ 16 }
     requires depth { depth < levels }
     ensures most { result ≤ depth }
     ensures common { 0 < result → before / 16 ^ (levels - result) ≡ key / 16 ^ (levels - result) }
+    ensures longest { (d : ℕ) → result < d → d ≤ depth → before / 16 ^ (levels - d) ≡ key / 16 ^ (levels - d) → ⊥ }
 {
     let mut depth = depth;
     while depth > 0 {
@@ -143,6 +145,7 @@ pub(crate) fn reach<P: Pass, L: Ledger>(
     ensures path { IsPath log.now.shape lane path.new (P.held pass.new).view }
     ensures walked { OnlyWalked (P.held pass.old) (P.held pass.new) }
     ensures steps { steps.new ≤ steps.old + (levels_of log.now.shape lane - 1) }
+    ensures shared { (d : ℕ) → Shares log.now.shape lane path.old key d → steps.new + d ≤ steps.old + (levels_of log.now.shape lane - 1) }
     ensures loads { CountsLoads (P.held pass.old) (P.held pass.new) steps.old steps.new }
 {
     let levels = levels(log.shape(), lane);

@@ -3,9 +3,11 @@ use Rattle.cf_row.specs.declared.row.Entry.{Entry}
 use Rattle.cf_shape.specs.Lanes.{ShapeValue}
 use Rattle.cf_append.specs.Appends.{HasMade}
 use Rattle.cf_append.proofs.Appending.{may_begin}
-use Rattle.cf_append.proofs.Pathing.{filings_still, filings_leaves, leaf_of, remembers_still, knows_still}
+use Rattle.cf_append.proofs.Pathing.{filings_still, filings_leaves, leaf_of, remembers_still}
 use Rattle.cf_append.proofs.Cells.{may_close}
-use Rattle.cf_append.proofs.Whole.{HasBegun, HasCells, HasEnded, begun_book, begun_self, begun_filings, cells_self, cells_writer, ended_strides, appended, appended_stops, late, late_strides, all_steps, path_within}
+use Rattle.cf_append.proofs.Settling.{knows_still, goes_then}
+use Rattle.cf_append.proofs.Walking.{strides_then}
+use Rattle.cf_append.proofs.Whole.{goes_by, HasBegun, HasCells, HasEnded, begun_book, begun_self, begun_filings, cells_self, cells_writer, ended_strides, appended, appended_stops, late, late_strides, all_steps, path_within}
 use Rattle.cf_append.proofs.appends.append_near.Goals as goal
 
 pub returns-in_default-clause-steps : goal.returns-in_default-clause-steps
@@ -159,6 +161,38 @@ returns-clause-stops g c =
     } in
     appended_stops s row m p c.take_ticket-found.new.pass c.fill.new.pass c.fill_cells.new.pass c.link_all.new.pass c.finish_record.new.pass c.move_tail.new.pass o P E c.move_tail.ensures.stops
 
+pub returns-then-found-from-clause-goes_on : goal.returns-then-found-from-clause-goes_on
+returns-then-found-from-clause-goes_on g c =
+    let s = c.args.log.now.shape in
+    let m = c.args.pass.now in
+    let p = c.make_paths.new.pass in
+    let t = c.take_ticket-found.new.pass in
+    goes_by m t (strides_then m p t c.make_paths.ensures.strides (late_strides s p t c.take_ticket-found.result c.args.row.now c.take_ticket-found.ensures.made))
+
+pub returns-clause-goes_on : goal.returns-clause-goes_on
+returns-clause-goes_on g c =
+    let s = c.args.log.now.shape in
+    let row = c.args.row.now in
+    let p = c.make_paths.new.pass in
+    let o = c.take_ticket-found.result in
+    let d = c.finish_record.new.pass in
+    let low = c.if-found-from.false in
+    let wide = c.from.ensures in
+    let room = c.capacity.ensures.capacity ∙ ap (λ (x : ShapeValue). x.capacity) c.shape.ensures.shape in
+    let E : HasEnded s row p c.take_ticket-found.new.pass c.fill.new.pass c.fill_cells.new.pass c.link_all.new.pass c.finish_record.new.pass o = record {
+      cells = record {
+        begun = record { room = omega (arith, low, wide, room); took = c.take_ticket-found.ensures.made; is = c.fill.ensures.pass };
+        strides = c.fill_cells.ensures.strides;
+        filled = c.fill_cells.ensures.filled;
+      };
+      strides = c.link_all.ensures.strides;
+      linked = c.link_all.ensures.linked;
+      finishes = c.finish_record.ensures.made;
+    } in
+    let m = c.args.pass.now in
+    let went = ended_strides s row p c.take_ticket-found.new.pass c.fill.new.pass c.fill_cells.new.pass c.link_all.new.pass d o E in
+    goes_then m d c.move_tail.new.pass (goes_by m d (strides_then m p d c.make_paths.ensures.strides went)) c.move_tail.ensures.goes_on
+
 pub returns-then-found-from-clause-near : goal.returns-then-found-from-clause-near
 returns-then-found-from-clause-near g c =
     let s = c.args.log.now.shape in
@@ -220,3 +254,42 @@ returns-clause-steps g c =
     let seven = c.move_tail.ensures.steps in
     let all = all_steps s (length s.lanes) c.shape.ensures.lawful (omega arith) in
     omega (arith, before, after, one, two, three, four, five, six, seven, all)
+
+pub returns-in_default-clause-near_steps : goal.returns-in_default-clause-near_steps
+returns-in_default-clause-near_steps g c = λ kept. (let some = c.make_paths.ensures.near_steps kept in omega (arith, some))
+
+pub returns-then-found-from-clause-near_steps : goal.returns-then-found-from-clause-near_steps
+returns-then-found-from-clause-near_steps g c = λ kept.
+    let some = c.make_paths.ensures.near_steps kept in
+    let one = c.take_ticket-found.ensures.steps in
+    omega (arith, some, one)
+
+pub returns-clause-near_steps : goal.returns-clause-near_steps
+returns-clause-near_steps g c = λ kept.
+    let s = c.args.log.now.shape in
+    let row = c.args.row.now in
+    let p = c.make_paths.new.pass in
+    let o = c.take_ticket-found.result in
+    let low = c.if-found-from.false in
+    let wide = c.from.ensures in
+    let room = c.capacity.ensures.capacity ∙ ap (λ (x : ShapeValue). x.capacity) c.shape.ensures.shape in
+    let E : HasEnded s row p c.take_ticket-found.new.pass c.fill.new.pass c.fill_cells.new.pass c.link_all.new.pass c.finish_record.new.pass o = record {
+      cells = record {
+        begun = record { room = omega (arith, low, wide, room); took = c.take_ticket-found.ensures.made; is = c.fill.ensures.pass };
+        strides = c.fill_cells.ensures.strides;
+        filled = c.fill_cells.ensures.filled;
+      };
+      strides = c.link_all.ensures.strides;
+      linked = c.link_all.ensures.linked;
+      finishes = c.finish_record.ensures.made;
+    } in
+    let before = ap (λ (es : List Entry). length es) c.make_paths.ensures.strides.seen in
+    let after = ap (λ (es : List Entry). length es) (ended_strides s row p c.take_ticket-found.new.pass c.fill.new.pass c.fill_cells.new.pass c.link_all.new.pass c.finish_record.new.pass o E).seen in
+    let one = c.make_paths.ensures.near_steps kept in
+    let two = c.take_ticket-found.ensures.steps in
+    let three = c.fill.ensures.steps in
+    let four = c.fill_cells.ensures.steps in
+    let five = c.link_all.ensures.steps in
+    let six = c.finish_record.ensures.steps in
+    let seven = c.move_tail.ensures.steps in
+    omega (arith, before, after, one, two, three, four, five, six, seven)

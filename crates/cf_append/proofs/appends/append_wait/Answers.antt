@@ -1,4 +1,4 @@
-use Rattle.cf_append.proofs.Settling.{stops_still}
+use Rattle.cf_append.proofs.Settling.{goes_then, stops_still}
 use Rattle.cf_append.proofs.Whole.{waited}
 use Rattle.cf_append.proofs.appends.append_wait.Goals as goal
 
@@ -9,3 +9,6 @@ returns-clause-answer g c =
 pub returns-clause-stops : goal.returns-clause-stops
 returns-clause-stops g c =
     stops_still c.args.log.now.shape c.args.pass.now c.append.new.pass c.wait_for.new.pass c.wait_for.ensures.goes_on c.in_ok-offset.ensures.stops c.wait_for.ensures.stops
+
+pub returns-clause-goes_on : goal.returns-clause-goes_on
+returns-clause-goes_on g c = goes_then c.args.pass.now c.append.new.pass c.wait_for.new.pass c.append.ensures.goes_on c.wait_for.ensures.goes_on

@@ -1,12 +1,13 @@
-use Rattle.std.proofs.Common.{◌-◌, ◌/◌, refl, ap, sym, subst, ◌∙◌, ℕ, arith}
+use Rattle.std.proofs.Common.{◌-◌, ◌/◌, refl, slice_get, ap, sym, subst, ◌∙◌, ℕ, arith}
 use Rattle.cf_shape.specs.Lanes.{ShapeValue, key_of}
 use Rattle.cf_shape.specs.Nodes.{levels_of}
 use Rattle.cf_words.specs.Words.{spot}
 use Rattle.cf_law.specs.Nibbles.{nibbles}
 use Rattle.cf_append.specs.declared.paths.Prefix.{Prefix}
-use Rattle.cf_append.specs.Paths.{IsAlong, IsOnPath, IsNodeOf, Remembers}
+use Rattle.cf_append.specs.declared.leaves.Leaves.{Leaves}
+use Rattle.cf_append.specs.Paths.{IsAlong, IsOnPath, IsNodeOf, Remembers, KeepsLeaf}
 use Rattle.cf_append.proofs.Walking.{strides_none, used_by, used_same, stuck_by}
-use Rattle.cf_append.proofs.Pathing.{whole_at, on_path, remembers_still, remembers_more}
+use Rattle.cf_append.proofs.Pathing.{whole_at, on_path, remembers_still, remembers_more, kept_by, kept_now, kept_other, not_kept}
 use Rattle.cf_append.proofs.paths.make_path.Goals as goal
 
 pub find-requires : goal.find-requires
@@ -87,3 +88,35 @@ returns-clause-near g c =
     let near = remembers_still s c.args.pass.now.view q c.args.leaves.now c.make_node.ensures.strides.knows c.requires.near in
     let there = subst (λ (k : ℕ). IsNodeOf s q (spot l (nibbles k (c.key-key.result / 16))) c.in-Some-make_node.leaf) level c.in-Some-make_node.ensures.answer in
     subst (Remembers s q) (sym c.keep.ensures) (remembers_more s q c.args.leaves.now l (c.key-key.result / 16) c.in-Some-make_node.leaf c.requires.lane c.shape-shape.ensures.lawful.few near there)
+
+-- which leaves are kept
+pub returns-in-Some-clause-kept : goal.returns-in-Some-clause-kept
+returns-in-Some-clause-kept g c =
+    let s = c.args.log.now.shape in
+    let same = c.key-key.ensures ∙ ap (λ (h : ShapeValue). key_of h c.args.lane c.args.row.now) c.shape-shape.ensures.shape in
+    kept_by s c.args.row.now c.args.leaves.now c.args.lane c.key-key.result c.in-Some.leaf same c.in-Some.ensures.found
+
+pub returns-clause-kept : goal.returns-clause-kept
+returns-clause-kept g c =
+    let s = c.args.log.now.shape in
+    let same = c.key-key.ensures ∙ ap (λ (h : ShapeValue). key_of h c.args.lane c.args.row.now) c.shape-shape.ensures.shape in
+    let low = c.requires.lane in
+    let few = c.shape-shape.ensures.lawful.few in
+    let long = c.requires.near.long in
+    subst (λ (l : Leaves). KeepsLeaf s c.args.row.now l c.args.lane) (sym c.keep.ensures) (kept_now s c.args.row.now c.args.leaves.now c.args.lane c.key-key.result c.in-Some-make_node.leaf same (omega (arith, low, few, long)))
+
+pub returns-clause-others : goal.returns-clause-others
+returns-clause-others g c = λ l other.
+    ap (λ (h : Leaves). slice_get h.kept l) c.keep.ensures ∙ kept_other c.args.leaves.now c.args.lane (c.key-key.result / 16) c.in-Some-make_node.leaf l other
+
+pub returns-clause-near_steps : goal.returns-clause-near_steps
+returns-clause-near_steps g c = λ kept.
+    let s = c.args.log.now.shape in
+    let same = c.key-key.ensures ∙ ap (λ (h : ShapeValue). key_of h c.args.lane c.args.row.now) c.shape-shape.ensures.shape in
+    absurd (not_kept s c.args.row.now c.args.leaves.now c.args.lane c.key-key.result same c.in_default.ensures.none kept)
+
+pub returns-in_default-make_node-clause-near_steps : goal.returns-in_default-make_node-clause-near_steps
+returns-in_default-make_node-clause-near_steps g c = λ kept.
+    let s = c.args.log.now.shape in
+    let same = c.key-key.ensures ∙ ap (λ (h : ShapeValue). key_of h c.args.lane c.args.row.now) c.shape-shape.ensures.shape in
+    absurd (not_kept s c.args.row.now c.args.leaves.now c.args.lane c.key-key.result same c.in_default.ensures.none kept)

@@ -1,7 +1,7 @@
-use Rattle.std.proofs.Common.{◌≡◌, ◌∙◌, ◌+◌, ◌<◌, false, ap, length, refl, arith, rules}
+use Rattle.std.proofs.Common.{◌≡◌, ◌∙◌, ◌+◌, ◌<◌, true, false, ap, length, refl, arith, rules}
 use Rattle.cf_append.specs.Paths.{IsOnPath}
 use Rattle.cf_append.proofs.Walking.{strides_none, strides_then, used_same, used_then}
-use Rattle.cf_append.proofs.Pathing.{filings_still, filings_more, filings_pass, empty_first, empty_more, selected_there, path_steps_none, path_steps_more, path_steps_up}
+use Rattle.cf_append.proofs.Pathing.{filings_still, filings_more, filings_pass, empty_first, empty_more, selected_there, keeps_more, keeps_passed, keeps_still, path_steps_none, path_steps_more, path_steps_up}
 use Rattle.cf_append.proofs.paths.make_paths.Goals as goal
 
 pub loop-lane-init : goal.loop-lane-init
@@ -14,6 +14,9 @@ loop-lane-init g c = record {
   filed = λ lane low. absurd (omega (arith, low));
   empty = empty_first;
   near = c.requires.near;
+  kept = λ lane low. absurd (omega (arith, low));
+  others = λ lane from. refl;
+  near_steps = λ all. refl;
   loads = omega arith;
   steps = omega (arith, path_steps_none c.args.log.now.shape);
 }
@@ -41,6 +44,8 @@ loop-lane-preserved g c =
     let n = c.loop-lane.pass in
     let o = c.make_path.new.pass in
     let went = c.make_path.ensures.strides in
+    let low : k < length s.lanes = search rules in
+    let passes = selected_there s c.shape-shape.result.now row k c.selects.result true c.shape-shape.ensures.shape c.selects.ensures c.if-not-selects.false in
     let inside : k < length c.loop-lane.filed = search rules in record {
       of = c.make_path.ensures.of;
       rest = c.make_path.ensures.rest;
@@ -50,6 +55,9 @@ loop-lane-preserved g c =
       filed = filings_more s row o.view c.loop-lane.filed k c.from.result c.in-Some.filing c.from.ensures inside (filings_still s row n o c.loop-lane.filed k went c.loop-lane.invariant.filed) c.in-Some.ensures.answer;
       empty = empty_more c.loop-lane.filed k c.from.result _ c.from.ensures c.loop-lane.invariant.empty;
       near = c.make_path.ensures.near;
+      kept = keeps_more s row c.loop-lane.leaves c.make_path.new.leaves k c.loop-lane.invariant.kept c.make_path.ensures.others c.in-Some.ensures.kept;
+      others = λ lane from. c.make_path.ensures.others lane (λ e. omega (arith, from, e)) ∙ c.loop-lane.invariant.others lane (omega (arith, from));
+      near_steps = λ all. c.make_path.ensures.near_steps (keeps_still s row c.args.leaves.now c.loop-lane.leaves k (c.loop-lane.invariant.others k (omega arith)) (all k low passes)) ∙ c.loop-lane.invariant.near_steps all;
       loads = (let least = c.loop-lane.invariant.loads in let loads = c.make_path.ensures.loads in omega (arith, least, loads));
       steps = (let more = path_steps_more s k in let one = c.make_path.ensures.steps in let so_far = c.loop-lane.invariant.steps in let e : Rattle.std.proofs.Common.suc k ≡ k + 1 = omega arith in let f = ap (Rattle.cf_append.specs.Paths.path_steps s) e in omega (arith, more, one, so_far, f));
     }
@@ -69,6 +77,18 @@ loop-lane-preserved-then-not-selects g c =
       filed = filings_pass s row c.loop-lane.pass.view c.loop-lane.filed k I.filed (I.empty k (omega arith)) passes;
       empty = λ lane from. I.empty lane (omega (arith, from));
       near = I.near;
+      kept = keeps_passed s row c.loop-lane.leaves k I.kept passes;
+      others = λ lane from. I.others lane (omega (arith, from));
+      near_steps = I.near_steps;
       loads = I.loads;
       steps = (let so_far = I.steps in let up = path_steps_up s k (k + 1) (omega arith) in omega (arith, so_far, up));
     }
+
+pub returns-in_default-clause-near_steps : goal.returns-in_default-clause-near_steps
+returns-in_default-clause-near_steps g c = λ all.
+    let s = c.args.log.now.shape in
+    let row = c.args.row.now in
+    let k = c.loop-lane.lane in
+    let low : k < length s.lanes = search rules in
+    let passes = selected_there s c.shape-shape.result.now row k c.selects.result true c.shape-shape.ensures.shape c.selects.ensures c.if-not-selects.false in
+    c.make_path.ensures.near_steps (keeps_still s row c.args.leaves.now c.loop-lane.leaves k (c.loop-lane.invariant.others k (omega arith)) (all k low passes)) ∙ c.loop-lane.invariant.near_steps all

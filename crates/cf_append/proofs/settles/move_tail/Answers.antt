@@ -5,7 +5,7 @@ use Rattle.cf_shape.specs.Places.Word.{done}
 use Rattle.cf_law.specs.Passes.{Pass, Look}
 use Rattle.cf_table.proofs.Looks.{tail_loads, done_loads}
 use Rattle.cf_table.proofs.Settling.{moved_then, moved_look, moved_advance, may_advance}
-use Rattle.cf_append.proofs.Settling.{looked_seen, moved_tail, counts_tail, counts_look, keeps_look, known_tail, known_look, known_advance, advanced, all_alone, full_alone, paths_alone, look_fit, begins_long}
+use Rattle.cf_append.proofs.Settling.{goes_on, looked_seen, moved_tail, counts_tail, counts_look, keeps_look, known_tail, known_look, known_advance, advanced, all_alone, full_alone, paths_alone, look_fit, begins_long}
 use Rattle.cf_append.proofs.settles.move_tail.Goals as goal
 
 pub advance-requires-clause-lawful : goal.advance-requires-clause-lawful
@@ -161,3 +161,22 @@ returns-clause-loads g c =
     let least = c.loop-pass.invariant.loads in
     let loads = done_loads c.args.log.now.shape c.loop-pass.pass c.look_done-2.new.pass 0 (c.look_done-2.new.pass.view.look).value _ _ c.look_done-2.ensures.made c.look_done-2.ensures.steps in
     omega (arith, least, loads)
+
+pub returns-then-not-look_done-clause-goes_on : goal.returns-then-not-look_done-clause-goes_on
+returns-then-not-look_done-clause-goes_on g c =
+    let s = c.args.log.now.shape in
+    let m = c.args.pass.now in
+    let n = c.loop-pass.pass in
+    let o = c.look_done.new.pass in
+    let t = c.covered-t.result in
+    let look = c.look_done.ensures.made in
+    goes_on m o (moved_then m n o c.loop-pass.invariant.moved (moved_look s n o t (o.view.look).value look)) (known_look s n o t (o.view.look).value look ∙ c.loop-pass.invariant.known)
+
+pub returns-clause-goes_on : goal.returns-clause-goes_on
+returns-clause-goes_on g c =
+    let s = c.args.log.now.shape in
+    let m = c.args.pass.now in
+    let n = c.loop-pass.pass in
+    let o = c.look_done-2.new.pass in
+    let look = c.look_done-2.ensures.made in
+    goes_on m o (moved_then m n o c.loop-pass.invariant.moved (moved_look s n o 0 (o.view.look).value look)) (known_look s n o 0 (o.view.look).value look ∙ c.loop-pass.invariant.known)

@@ -13,6 +13,6 @@ invariant-loop-level g l = record {
   walked : OnlyWalked (g.P.Pass.held l.fn.pass) (g.P.Pass.held l.pass);
   within : 1 < l.level → l.node < (l.log).shape.writers * (l.log).shape.nodes;
   knows : 1 < l.level → Knows (g.P.Pass.held l.pass).view (spot_above (l.log).shape l.lane l.key (l.level - 1)) l.node;
-  steps : l.steps ≤ l.fn.steps + (l.level - 1);
+  steps : l.steps + l.initial.level ≤ l.fn.steps + l.level;
   loads : CountsLoads (g.P.Pass.held l.fn.pass) (g.P.Pass.held l.pass) l.fn.steps l.steps;
 }
