@@ -5,14 +5,18 @@ use std::marker::Model;
 /// A bucket in which a trigger fired, or a key of a heavy group, and the part of its quad that was asked for.
 #[derive(Clone, Copy, Debug, PartialEq, Eq)]
 pub struct Fired {
+    /// The bucket's number, a time divided by the width of the buckets; in an answer to `Top`, the key.
     pub bucket: u64,
+    /// The part of the quad: a count, a sum, a least or a greatest number.
     pub value: u64,
 }
 
 /// The rows of a lane that have one key, as the quad of what the lane measures of them.
 #[derive(Clone, Copy, Debug, PartialEq, Eq)]
 pub struct Group {
+    /// The key: a value of the lane's attribute, or the number of a bucket.
     pub key: u64,
+    /// The count, the sum, the least and the greatest of what the lane measures.
     pub quad: Quad,
 }
 
@@ -40,12 +44,14 @@ impl Places {
         Places { items }
     }
 
+    /// The places, in order.
     pub fn as_slice(&self) -> &[u32]
         ensures { result.now ≡ self.now }
     {
         self.items.as_slice()
     }
 
+    /// The places, in order. It takes no memory.
     pub fn into_vec(self) -> Vec<u32>
         ensures { result.items ≡ self }
     {
@@ -79,12 +85,14 @@ impl Marks {
         Marks { items }
     }
 
+    /// The marks, in order.
     pub fn as_slice(&self) -> &[Fired]
         ensures { result.now ≡ self.now }
     {
         self.items.as_slice()
     }
 
+    /// The marks, in order. It takes no memory.
     pub fn into_vec(self) -> Vec<Fired>
         ensures { result.items ≡ self }
     {
@@ -119,12 +127,14 @@ impl Groups {
         Groups { items }
     }
 
+    /// The groups, in order.
     pub fn as_slice(&self) -> &[Group]
         ensures { map pair_of result.now ≡ self.now }
     {
         self.items.as_slice()
     }
 
+    /// The groups, in order. It takes no memory.
     pub fn into_vec(self) -> Vec<Group>
         ensures { map pair_of result.items ≡ self }
     {
@@ -148,6 +158,8 @@ pub enum Body {
 /// What a question found in the log's first `tail` entries.
 #[derive(Debug, Drop)]
 pub struct Answer {
+    /// The number of entries, from the first one on, that the answer is about.
     pub tail: u32,
+    /// What was found in them.
     pub body: Body,
 }

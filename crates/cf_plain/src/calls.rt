@@ -11,14 +11,18 @@ use std::alloc::Global;
 /// A call of the one thread.
 #[derive(Debug, Drop)]
 pub enum Call {
+    /// Appends the entry's row as its writer's.
     Append(Entry),
+    /// Asks the question on the entries so far.
     Ask(Ask),
 }
 
 /// A call's answer: the place of an appended entry, or what a question found.
 #[derive(Debug, Drop)]
 pub enum Reply {
+    /// The place of the appended entry, from 0.
     Place(u32),
+    /// The answer to the question.
     Told(Answer),
 }
 
@@ -41,7 +45,7 @@ fn reply_to(alloc: Global, plain: &mut Plain, call: Call) -> Result<Reply, Memor
     }
 }
 
-/// Each call's answer, on the list that the calls before it made.
+/// Each call's answer, on the list that the calls before it made. It fails only if memory runs out.
 pub fn run_calls(alloc: Global, shape: Shape, calls: Vec<Call>) -> Result<Vec<Reply>, Memory>
     requires lawful { AllByRecursion (IsLawful shape) calls.items }
     requires few { appends_in calls.items ≤ 2 ^ 20 }

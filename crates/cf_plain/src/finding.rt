@@ -3,9 +3,8 @@ ghost use Rattle.std.specs.Prelude.{◌≡◌, ◌+◌, ◌<◌, ◌≤◌, ◌^
 ghost use Rattle.cf_plain.specs.Groups.{pair_of};
 ghost use Rattle.cf_plain.specs.Segments.{body_of, body_of_groups as body_of_groups_as, joined, merged, numbers_in, CanJoin};
 
-use crate::{
-    Ask, Body, Group, Groups, Marks, Places, marks_of_groups, merge_groups, push_places, top,
-};
+use crate::segments::{marks_of_groups, merge_groups, push_places};
+use crate::{Ask, Body, Group, Groups, Marks, Places, top};
 use cf_fold::Quad;
 use cf_row::Memory;
 use std::alloc::Global;

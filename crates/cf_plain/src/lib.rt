@@ -23,5 +23,5 @@ pub use heaviest::{top, tops_are_heaviest};
 pub use history::{replies_are_histories, spelled_are_histories};
 pub use loaded::{Live, Loaded};
 pub use plain::Plain;
-pub use segments::{findings_tell_answers, marks_of_groups, merge_groups, push_places};
+pub use segments::findings_tell_answers;
 pub use total::{amount, total_of_expr};

@@ -2,12 +2,16 @@
 use crate::{Answer, Marks};
 use std::marker::Model;
 
-/// The answer of a live question in a round of a batch. `ask` is the question's place in the setup.
+/// The answer of a live question in a round of a batch.
 #[derive(Debug, Drop)]
 pub struct Live {
+    /// The batch's number, from 0.
     pub batch: u32,
+    /// The round's number in its batch, from 0.
     pub round: u32,
+    /// The question's place among those of the setup, from 0.
     pub ask: u8,
+    /// What it found then.
     pub answer: Answer,
 }
 
@@ -31,7 +35,7 @@ impl Model for Loaded {
 impl Loaded {
     ghost use Rattle.std.specs.Prelude.{◌≡◌};
 
-    /// These answers.
+    /// These answers. It takes no memory.
     pub fn new(finals: Vec<Answer>, alerts: Vec<Marks>, lives: Vec<Live>) -> Loaded
         ensures { result ≡ record { finals = finals.items; alerts = alerts.items; lives = lives.items } }
     {

@@ -1,10 +1,12 @@
 // The list of one thread.
-ghost use Rattle.std.specs.Prelude.{◌≡◌, ℕ, ◌<◌, ◌≤◌, ◌^◌, ◌∷◌, [], ◌++◌, length, IfOk, OnErr};
+ghost use Rattle.std.specs.Prelude.{◌≡◌, ℕ, ◌<◌, ◌≤◌, ◌^◌, ◌∷◌, [], ◌++◌, length, map, true, IfOk, OnErr};
 ghost use Rattle.cf_row.specs.Row.{Fits};
-ghost use Rattle.cf_plain.specs.Asks.{Suits, eval};
+ghost use Rattle.cf_shape.specs.Uses.{is_measured};
+ghost use Rattle.cf_plain.specs.Asks.{Suits, eval, rows_in};
+ghost use Rattle.cf_plain.specs.Groups.{as_group, groups as groups_by};
 
-use crate::scan::{marks_of, places_of, tops_of, total_of};
-use crate::{Answer, Ask, Body, total_of_expr};
+use crate::scan::{grouped_by, listed, marks_of, places_of, tops_of, total_of};
+use crate::{Answer, Ask, Body, Group, total_of_expr};
 use cf_row::{Entry, Memory, Row};
 use cf_shape::Shape;
 use std::alloc::Global;
@@ -57,7 +59,8 @@ impl Plain {
         self.entries.as_slice()
     }
 
-    /// Appends the row as that writer's, and answers its place, which is how many entries stood before it.
+    /// Appends the row as that writer's and returns its place, the number of entries before it. If memory runs out, the log
+    /// is unchanged and the row is lost.
     pub fn append(&mut self, writer: u8, row: Row) -> Result<u32, Memory>
         requires few { length self.old.entries < 2 ^ 20 }
         requires fits { Fits self.old.shape.schema row }
@@ -70,7 +73,7 @@ impl Plain {
         Ok(offset)
     }
 
-    /// The question's meaning on the entries, and how many they are.
+    /// The answer to the question on all entries, and their number. It fails only if memory runs out.
     pub fn ask(&self, alloc: Global, ask: &Ask) -> Result<Answer, Memory>
         requires suits { Suits self.now.shape ask.now }
         ensures { IfOk result (λ answer. (answer.tail ≡ length self.now.entries) × (answer.body ≡ eval self.now.shape ask.now self.now.entries)) }
@@ -78,6 +81,17 @@ impl Plain {
         let tail = self.entries.len() as u32;
         let body = self.body(alloc, ask)?;
         Ok(Answer { tail, body })
+    }
+
+    /// The groups of the lane's rows, ascending by key: for each key that a selected row has, the quad of what the lane
+    /// measures of the rows with that key. It fails only if memory runs out.
+    pub fn groups(&self, alloc: Global, lane: u8) -> Result<Vec<Group>, Memory>
+        requires lane { lane < length self.now.shape.lanes }
+        requires measured { is_measured self.now.shape lane ≡ true }
+        ensures { IfOk result (λ found. found.items ≡ map as_group (groups_by self.now.shape lane (rows_in self.now.entries))) }
+    {
+        let grouped = grouped_by(alloc, &self.shape, lane, self.entries.as_slice())?;
+        listed(alloc, &grouped)
     }
 
     fn body(&self, alloc: Global, ask: &Ask) -> Result<Body, Memory>

@@ -145,7 +145,7 @@ pub(crate) fn listed(alloc: Global, grouped: &BTreeMap<u64, Quad>) -> Result<Vec
 }
 
 // The quad of each key that some selected row has.
-fn grouped_by(
+pub(crate) fn grouped_by(
     alloc: Global,
     shape: &Shape,
     lane: u8,

@@ -308,6 +308,120 @@ fn totals_of_the_packets_of_which_an_expression_holds(rt: HostRuntime) -> Result
     Ok(())
 }
 
+// The groups of the lane, each as its key and the four numbers of its quad; None where no such lane measures something.
+fn group_numbers(alloc: Global, plain: &Plain, number: u8) -> Result<Option<Vec<u64>>, Memory> {
+    let Some(lane) = plain.shape().lanes().get(number as usize) else {
+        return Ok(None);
+    };
+    if lane.measure.is_none() {
+        return Ok(None);
+    }
+    let mut numbers = Vec::new(alloc);
+    for group in plain.groups(alloc, number)? {
+        let quad = group.quad;
+        let five = [
+            group.key,
+            quad.count(),
+            quad.sum(),
+            quad.least(),
+            quad.greatest(),
+        ];
+        numbers.extend_from_slice(&five)?;
+    }
+    Ok(Some(numbers))
+}
+
+#[test]
+fn groups_of_a_measured_lane(rt: HostRuntime) -> Result<(), Fail> {
+    let alloc = rt.alloc();
+    let kinds = [("ts", Kind::U64), ("len", Kind::U32)];
+    let shape = shape_of(alloc, &kinds, Key::Bucket, Some(1))?.expect(&rt, "lawful");
+    let mut plain = Plain::new(alloc, shape);
+    assert_eq!(rt;
+        group_numbers(alloc, &plain, 0)?.as_deref(),
+        Some([].as_slice())
+    );
+    assert!(rt; append_all(alloc, &mut plain, &[&[3, 7], &[5, 9], &[4, 1]])?);
+    let found = group_numbers(alloc, &plain, 0)?;
+    assert_eq!(rt; found.as_deref(), Some([0, 3, 17, 1, 9].as_slice()));
+    assert_eq!(rt; group_numbers(alloc, &plain, 1)?.as_deref(), None);
+    let packets = four_packets(alloc)?.expect(&rt, "lawful");
+    let found = group_numbers(alloc, &packets, 0)?;
+    let sources = [
+        167_772_161,
+        2,
+        120,
+        20,
+        100,
+        167_772_162,
+        1,
+        70,
+        70,
+        70,
+        167_772_163,
+        1,
+        70,
+        70,
+        70,
+    ];
+    assert_eq!(rt; found.as_deref(), Some(sources.as_slice()));
+    Ok(())
+}
+
+// A log of 5,000 rows by that key, of which row i has the numbers i, i % 100 and i; None is for a fault of this fixture.
+fn many_rows(alloc: Global, key: Key) -> Result<Option<Plain>, Fail> {
+    let kinds = [("ts", Kind::U64), ("k", Kind::U32), ("len", Kind::U32)];
+    let Some(shape) = shape_of(alloc, &kinds, key, Some(2))? else {
+        return Ok(None);
+    };
+    let mut plain = Plain::new(alloc, shape);
+    for place in 0..5000 {
+        if !append_all(alloc, &mut plain, &[&[place, place % 100, place]])? {
+            return Ok(None);
+        }
+    }
+    Ok(Some(plain))
+}
+
+#[test]
+fn five_thousand_rows_are_asked(rt: HostRuntime) -> Result<(), Fail> {
+    let alloc = rt.alloc();
+    let by_key = many_rows(alloc, Key::Attr(1))?.expect(&rt, "lawful");
+    let mut hundreds = Vec::new(alloc);
+    hundreds.push(5000)?;
+    for place in 0..50 {
+        hundreds.push(place * 100)?;
+    }
+    let first = expr_of(alloc, &[&[atom(1, Op::Eq, 0)]])?;
+    let all = expr_of(alloc, &[&[]])?;
+    for (ask, found) in [
+        (Ask::List(first), hundreds.as_slice()),
+        (Ask::Find(0, 0, 0), hundreds.as_slice()),
+        (Ask::Top(0, Part::Sum, 1), &[5000, 99, 127_450]),
+        (Ask::Total(2, all), &[5000, 5000, 12_497_500, 0, 4999]),
+    ] {
+        check(&rt, alloc, &by_key, &ask, Some(found))?;
+    }
+    let groups = group_numbers(alloc, &by_key, 0)?.unwrap_or(Vec::new(alloc));
+    assert_eq!(rt; groups.len(), 500);
+    assert_eq!(rt; groups.get(..5), Some([0, 50, 122_500, 0, 4900].as_slice()));
+    let by_time = many_rows(alloc, Key::Bucket)?.expect(&rt, "lawful");
+    for (ask, found) in [
+        (
+            Ask::Between(0, 499, 499),
+            [
+                5000, 4990, 4991, 4992, 4993, 4994, 4995, 4996, 4997, 4998, 4999,
+            ]
+            .as_slice(),
+        ),
+        (Ask::Measure(0, 0, 499), &[5000, 5000, 12_497_500, 0, 4999]),
+        (trigger(Part::Sum, Op::Ge, 49_945), &[5000, 499, 49_945]),
+    ] {
+        check(&rt, alloc, &by_time, &ask, Some(found))?;
+    }
+    Ok(())
+}
+
 #[test]
 fn equal_groups_are_ranked_by_their_keys(rt: HostRuntime) -> Result<(), Fail> {
     let alloc = rt.alloc();
