@@ -65,7 +65,7 @@ fn run_beside<R: Threads + Sync, G: Gate>(
     requires fits { All (Fits log.now.shape.schema) rows.now }
     requires room { 4096 * batch + length rows.now < 2 ^ 32 }
     ensures wrote { AllZip (Wrote (is_none result.0) log.now (4096 * batch) rows.now) passes.old passes.new }
-    ensures out { IfSome result.0 (λ writer. RanOut log.now rows.now writer passes.new) }
+    ensures out { IfSome result.0 (λ writer. RanOut log.now (4096 * batch) rows.now writer passes.old passes.new) }
     ensures of { IsOf reader.new log.now }
     ensures asks { IfOk result.1 (λ more. AsksBatch log.now.shape plan.now.asks.items plan.now.lives.items plan.now.rounds batch (entries_before prior.now ++ reader.old.view.seen) (entries_before prior.now ++ reader.new.view.seen) more.items) }
     ensures read { IfOk result.1 (λ more. HasRead prior.now.base reader.old reader.new more.items) }
@@ -82,7 +82,7 @@ fn run_beside<R: Threads + Sync, G: Gate>(
         &mut || -> Option<u8>
             requires { IsSync R.row × IsSync G.row × All (IsReady log.now) passes.now × All (Fits log.now.shape.schema) rows.now × (4096 * batch + length rows.now < 2 ^ 32) }
             ensures wrote { AllZip (Wrote (is_none result) log.entry.now (4096 * batch) rows.entry.now) passes.entry.now passes.exit.now }
-            ensures out { IfSome result (λ writer. RanOut log.entry.now rows.entry.now writer passes.exit.now) }
+            ensures out { IfSome result (λ writer. RanOut log.entry.now (4096 * batch) rows.entry.now writer passes.entry.now passes.exit.now) }
         { run_writers(rt, log, gate, 4096 * u64::from(batch), rows, passes) },
         &mut || -> Result<Vec<Live>, Memory>
             requires { IsSync G.row × IsOf reader.now log.now × IsPlan log.now.shape plan.now × IsPrior log.now.shape plan.now prior.now }

@@ -10,13 +10,14 @@ ghost use Rattle.cf_load.specs.Writing.{IsReady};
 use crate::writers::run_writers;
 use crate::{Closing, LivePlan, LoadFault, Loader, Segments, TurnFault, load};
 use cf_fold::{Part, Trigger};
-use cf_outside::FreeGate;
+use cf_outside::{FreeGate, Gate, Held, HoldGate};
 use cf_plain::{Answer, Ask, Body, Fired, Loaded};
 use cf_row::{Attr, Conjunction, Expr, Kind, Memory, Name, Op, Row, Schema, Value, fits};
 use cf_shape::{Key, Lane, Shape, belongs};
 use cf_table::{MultiLog, Pass, Root, WriterPass};
 use std::alloc::Global;
 use std::process::Abort;
+use std::sync::atomic::{AtomicU64, Ordering};
 use std::test::*;
 use std::thread::Threads;
 
@@ -61,13 +62,18 @@ fn shape(
     Ok(shape)
 }
 
+fn row(alloc: Global, num: u32, key: u64) -> Result<Row, Memory> {
+    let mut values = Vec::new(alloc);
+    values.push(Value::Num(key))?;
+    values.push(Value::Num(1))?;
+    Ok(Row::new(num, values))
+}
+
+// So many rows of one path.
 fn rows(alloc: Global, count: u32) -> Result<Vec<Row>, Memory> {
     let mut rows = Vec::new(alloc);
     for num in 0..count {
-        let mut values = Vec::new(alloc);
-        values.push(Value::Num(7))?;
-        values.push(Value::Num(1))?;
-        rows.push(Row::new(num, values))?;
+        rows.push(row(alloc, num, 7)?)?;
     }
     Ok(rows)
 }
@@ -264,7 +270,28 @@ fn segments_turn_until_they_are_spent(rt: HostRuntime) -> Result<(), Fail> {
     Ok(())
 }
 
-// So many rows are loaded, beside a reader.
+// The rows are loaded, beside a reader.
+fn load_rows<R: Threads + Sync + Abort, G: Gate>(
+    rt: &R,
+    alloc: Global,
+    sizes: Sizes,
+    rows: &[Row],
+    plan: &LivePlan,
+    gate: &G,
+) -> Result<Result<(Closing, Loaded), LoadFault>, Fail> {
+    let mut segments = open_segments(rt, alloc, sizes)?;
+    assert!(rt; all_fit(segments.shape().schema(), rows));
+    assert!(rt; plan.suits(segments.shape()));
+    match load(rt, alloc, &mut segments, rows, plan, gate) {
+        Ok(loaded) => {
+            let closing = segments.close(alloc).ok().expect(rt, "memory");
+            Ok(Ok((closing, loaded)))
+        }
+        Err(fault) => Ok(Err(fault)),
+    }
+}
+
+// So many rows of one path are loaded.
 fn load_all<R: Threads + Sync + Abort>(
     rt: &R,
     alloc: Global,
@@ -272,18 +299,8 @@ fn load_all<R: Threads + Sync + Abort>(
     count: u32,
 ) -> Result<Result<(Closing, Loaded), LoadFault>, Fail> {
     let all = rows(alloc, count)?;
-    let rows = all.as_slice();
     let plan = plan(alloc)?;
-    let mut segments = open_segments(rt, alloc, sizes)?;
-    assert!(rt; all_fit(segments.shape().schema(), rows));
-    assert!(rt; plan.suits(segments.shape()));
-    match load(rt, alloc, &mut segments, rows, &plan, &FreeGate) {
-        Ok(loaded) => {
-            let closing = segments.close(alloc).ok().expect(rt, "memory");
-            Ok(Ok((closing, loaded)))
-        }
-        Err(fault) => Ok(Err(fault)),
-    }
+    load_rows(rt, alloc, sizes, all.as_slice(), &plan, &FreeGate)
 }
 
 #[test]
@@ -351,6 +368,32 @@ fn there_is_no_room_or_the_nodes_are_too_few(rt: HostRuntime) -> Result<(), Fail
         };
         let loaded = load_all(&rt, rt.alloc(), sizes, 4)?;
         assert!(rt; matches!(loaded, Err(LoadFault::NodesFull(_))));
+    }
+    Ok(())
+}
+
+// Of two writers one has rows of one path, and the other's rows have two: it alone runs out of nodes, whoever made the nodes that
+// paths share.
+#[test]
+fn the_writer_that_lacks_nodes_is_named(rt: HostRuntime) -> Result<(), Fail> {
+    let alloc = rt.alloc();
+    let plan = plan(alloc)?;
+    for (keys, writer) in [
+        ([7, 1 << 60, 7, 1 << 61], 1),
+        ([1 << 60, 7, 1 << 61, 7], 0),
+    ] {
+        let mut rows = Vec::new(alloc);
+        for (num, key) in (0..).zip(keys) {
+            rows.push(row(alloc, num, key)?)?;
+        }
+        let sizes = Sizes {
+            most: 1,
+            capacity: 4,
+            writers: 2,
+            nodes: 30,
+        };
+        let loaded = load_rows(&rt, alloc, sizes, rows.as_slice(), &plan, &FreeGate)?;
+        assert_eq!(rt; loaded.err(), Some(LoadFault::NodesFull(writer)));
     }
     Ok(())
 }
