@@ -43,7 +43,7 @@ fn ask_beside<G: Gate>(
     ask_counted::<_, Brand>(log, alloc, gate, plan, prior, batch, reader, Blank::new(1))
 }
 
-// The writers append the rows of a batch in threads of their own, while the reader asks in this one. Where nothing is asked, no
+// The writers append the rows of a batch in threads of their own, while the reader asks in this one. Where no round is made, no
 // thread is started for the reader: the writers are run from this thread, and one that is alone appends in it, as another would
 // first have to fetch the rows. Answers a writer that ran out of nodes, if there is one, and what the reader was answered.
 fn run_beside<R: Threads + Sync, G: Gate>(
@@ -70,7 +70,7 @@ fn run_beside<R: Threads + Sync, G: Gate>(
     ensures asks { IfOk result.1 (λ more. AsksBatch log.now.shape plan.now.asks.items plan.now.lives.items plan.now.rounds batch (entries_before prior.now ++ reader.old.view.seen) (entries_before prior.now ++ reader.new.view.seen) more.items) }
     ensures read { IfOk result.1 (λ more. HasRead prior.now.base reader.old reader.new more.items) }
 {
-    if plan.asks_nothing() {
+    if plan.makes_no_round() {
         let out = run_writers(rt, log, gate, 4096 * u64::from(batch), rows, passes);
         return (
             out,
