@@ -7,17 +7,17 @@ ghost use Rattle.cf_table.specs.Moves.{AreAll};
 ghost use Rattle.cf_load.specs.Segments.{AllowsSegments, HoldsRows};
 ghost use Rattle.cf_load.specs.Writing.{IsReady};
 
+use crate::gates::{NoteGate, SecondGate};
 use crate::writers::run_writers;
 use crate::{Closing, LivePlan, LoadFault, Loader, Segments, TurnFault, load};
 use cf_fold::{Part, Trigger};
-use cf_outside::{FreeGate, Gate, Held, HoldGate};
+use cf_outside::{FreeGate, Gate, Held};
 use cf_plain::{Answer, Ask, Body, Fired, Loaded};
 use cf_row::{Attr, Conjunction, Expr, Kind, Memory, Name, Op, Row, Schema, Value, fits};
 use cf_shape::{Key, Lane, Shape, belongs};
 use cf_table::{MultiLog, Pass, Root, WriterPass};
 use std::alloc::Global;
 use std::process::Abort;
-use std::sync::atomic::{AtomicU64, Ordering};
 use std::test::*;
 use std::thread::Threads;
 
@@ -438,6 +438,65 @@ fn two_batches_load_what_all_rows_at_once_do(rt: HostRuntime) -> Result<(), Fail
             assert_eq!(rt; entry.row.num(), row.num());
         }
         check(&rt, &told, 4100);
+    }
+    Ok(())
+}
+
+// Each row comes to the gate once, by its writer, and each round once beside each batch.
+#[test]
+fn the_gate_is_called_for_each_row_and_each_round(rt: HostRuntime) -> Result<(), Fail> {
+    let alloc = rt.alloc();
+    let rows = rows(alloc, 4100)?;
+    let mut plan = plan(alloc)?;
+    plan.rounds = 2;
+    for (most, capacity) in [(1, 5000), (2, 4096)] {
+        let sizes = Sizes {
+            most,
+            capacity,
+            writers: 2,
+            nodes: 30,
+        };
+        let gate = NoteGate::new(alloc, 4100)?;
+        let loaded = load_rows(&rt, alloc, sizes, rows.as_slice(), &plan, &gate)?;
+        assert!(rt; loaded.is_ok());
+        assert!(rt; gate.has_noted(4));
+    }
+    Ok(())
+}
+
+// The reader's rounds come beside the writers of the second batch too, also where no question is live. No schedule changes the
+// outcome. A writer's first append waits for the first round, which waits for no append; the end of that round waits for each
+// writer's second call, which comes once its first append is done; and the second append waits for the second round, which waits
+// for nothing more: so some thread can always go on, and a wait yields in each of its ten million turns. A reader that begins
+// when the writers have ended leaves them waiting for it, until they give up.
+#[test]
+fn the_reader_asks_beside_the_second_batch(rt: HostRuntime) -> Result<(), Fail> {
+    let alloc = rt.alloc();
+    let rows = rows(alloc, 4104)?;
+    for (most, capacity, is_live) in [(1, 5000, true), (2, 4096, true), (1, 5000, false)] {
+        let sizes = Sizes {
+            most,
+            capacity,
+            writers: 2,
+            nodes: 30,
+        };
+        let mut plan = plan(alloc)?;
+        plan.rounds = 2;
+        if !is_live {
+            plan.lives.clear();
+        }
+        let gate = SecondGate::new();
+        let loaded = load_rows(&rt, alloc, sizes, rows.as_slice(), &plan, &gate)?;
+        let (_, answers) = loaded.expect(&rt, "loaded");
+        assert!(rt; matches!(gate.report(), Held::Answered(_)));
+        let second = answers.lives().iter().filter(|live| live.batch == 1);
+        let tails = [4096, 4096, 4098, 4098];
+        let mut count = 0;
+        for (live, tail) in second.zip(tails) {
+            assert_eq!(rt; seen_by(&live.answer), (tail as usize, tail));
+            count += 1;
+        }
+        assert_eq!(rt; count, if is_live { 4 } else { 0 });
     }
     Ok(())
 }
