@@ -23,8 +23,8 @@ use Rattle.cf_table.specs.Rule.{root_pass}
 use Rattle.cf_table.specs.Moves.{Begins, HoldsAllBooks, AreDealt, AreAll, AreFit, HasGathered, books_of, told_by}
 use Rattle.cf_table.proofs.Homing.{still_one, get_front, opened as opened_settled}
 use Rattle.cf_append.specs.Appends.{Rests}
-use Rattle.cf_load.specs.Needed.{IsNeeded, HasNodes}
-use Rattle.cf_load.specs.Writing.{rows_of_book, IsReady, RanOut, Wrote}
+use Rattle.cf_load.specs.Needed.{IsNeeded, IsOut, HasNodes, HasRunOut}
+use Rattle.cf_load.specs.Writing.{rows_of_book, IsReady, RanOut, RunsOut, Wrote}
 use Rattle.cf_load.specs.Loading.{IsLogFrom, HasLoaded, IsShort}
 use Rattle.cf_load.proofs.Alls.{all_drop}
 use Rattle.cf_load.proofs.Written.{written_append, rows_append, WrotePart, all_written, log_more}
@@ -191,6 +191,21 @@ needed_left shape rows more s n = record { place = n.place; row = n.row; at = ha
 
 pub needed_right : (shape : ShapeValue) (rows more : List RowValue) (s : Spot) → IsNeeded shape more s → IsNeeded shape (rows ++ more) s
 needed_right shape rows more s n = (let h = has_right rows more n.row (n.place, n.at) in record { place = h.0; row = n.row; at = h.1; on = n.on })
+
+-- a writer that ran out while some rows need one more node did so while more rows do
+pub run_out_more : (shape : ShapeValue) (first : ℕ) (rows more : List RowValue) (w : ℕ) (p : Pass) → HasRunOut shape first rows w p → HasRunOut shape first (rows ++ more) w p
+run_out_more shape first rows more w p r = record {
+  place = r.place;
+  book = r.book;
+  held = r.held;
+  writer_is = r.writer_is;
+  out = record { full = r.out.full; apart = r.out.apart; at = r.out.at; needed = needed_left shape rows more r.out.at r.out.needed; other = r.out.other };
+  next = r.next;
+  left = r.left ++ rows_of shape.writers w (first + length rows) more;
+  split = sym (append_assoc (written_by w p.seen) (r.next ∷ r.left) (rows_of shape.writers w (first + length rows) more))
+      ∙ (ap (λ (rs : List RowValue). rs ++ rows_of shape.writers w (first + length rows) more) r.split ∙ sym (rows_append shape.writers w first rows more));
+  wants = r.wants;
+}
 
 -- each of the books of passes at rest is a pass's one book
 pub book_from : (after : List PassValue) → ((i : ℕ) (a : PassValue) → slice_get after i ≡ Some a → Rests a.view) → (k : ℕ) (b : Book) → slice_get (books_of after) k ≡ Some b → (i : ℕ) × (a : PassValue) × (slice_get after i ≡ Some a) × (b ≡ book_of a.view)
@@ -365,16 +380,11 @@ still_loaded log first rows m n has of books seen_is = record {
 -- A writer ran out of nodes in that batch: the rows before it and its own need more different ones than it has, and each writer's
 -- entries are the first of its rows.
 pub batch_out : (whole : Bool) (log : LogValue) (first : ℕ) (rows batch : List RowValue) (w : ℕ) (m r n : PassValue) (passes after : List PassValue) → IsShape log.shape → HasLoaded log first rows m → length rows + length batch ≤ (log.shape).capacity
-    → AreDealt log m passes r → AllZip (Wrote whole log (first + length rows) batch) passes after → RanOut log batch w after → HasGathered log.shape r after n → IsShort log first (rows ++ batch) w n
+    → AreDealt log m passes r → AllZip (Wrote whole log (first + length rows) batch) passes after → RanOut log (first + length rows) batch w passes after → HasGathered log.shape r after n → IsShort log first (rows ++ batch) w n
 batch_out whole log first rows batch w m r n passes after shape has room dealt wrote out g = record {
-  exists = subst (λ (v : ℕ). v < W) out.writer_is (g.bounds.writer book.0 (book_of out.pass.view) (ap (λ (bs : List Book). slice_get bs book.0) g.books ∙ book.1));
-  many = (too_many log.shape (rows ++ batch) (book_of out.pass.view) shape (λ j s used. used_by whole log first rows batch m r n passes after has dealt wrote g out.place out.pass j s out.at used) (record {
-    full = out.out.full;
-    apart = out.out.apart;
-    at = out.out.at;
-    needed = needed_right log.shape rows batch out.out.at out.out.needed;
-    other = out.out.other;
-  }));
+  exists = exists;
+  many = too_many log.shape (rows ++ batch) mine shape (λ j s used. used_by whole log first rows batch m r n passes after has dealt wrote g out.place out.pass j s out.at used) all_used;
+  out = record { place = book.0; book = mine; held = held; writer_is = runs.writer_is; out = all_used; next = runs.next; left = runs.left; split = split; wants = runs.wants };
   of = home_again whole log first rows batch m r n passes after has dealt wrote g;
   settled = g.settled;
   fronts = fronts;
@@ -383,8 +393,47 @@ batch_out whole log first rows batch w m r n passes after shape has room dealt w
     W : ℕ
     W = (log.shape).writers
 
-    book : (i : ℕ) × (slice_get (books_of after) i ≡ Some (book_of out.pass.view))
-    book = book_in after out.place out.pass (book_of out.pass.view) out.at (first_book out.pass.view ((zip_back (Wrote whole log (first + length rows) batch) passes after out.place out.pass wrote out.at).2).rest)
+    runs : RunsOut log (first + length rows) batch w out.old out.pass
+    runs = out.runs
+
+    mine : Book
+    mine = book_of out.pass.view
+
+    book : (i : ℕ) × (slice_get (books_of after) i ≡ Some mine)
+    book = book_in after out.place out.pass mine out.at (first_book out.pass.view ((zip_back (Wrote whole log (first + length rows) batch) passes after out.place out.pass wrote out.at).2).rest)
+
+    held : Holds n.view book.0 mine
+    held = ap (λ (bs : List Book). slice_get bs book.0) g.books ∙ book.1
+
+    exists : w < W
+    exists = subst (λ (v : ℕ). v < W) runs.writer_is (g.bounds.writer book.0 mine held)
+
+    all_used : IsOut log.shape (rows ++ batch) mine
+    all_used = record {
+      full = runs.out.full;
+      apart = runs.out.apart;
+      at = runs.out.at;
+      needed = needed_right log.shape rows batch runs.out.at runs.out.needed;
+      other = runs.out.other;
+    }
+
+    -- what the writer had written before, and what it has written now
+    before : rows_of_book (book_of out.old.view) ≡ rows_of W w first rows
+    before =
+        let d = dealt.each out.from out.old out.was_at in
+        let same : book_of out.old.view ≡ d.book = ap (λ (p : Pass). book_of p) d.view in
+        let own : (d.book).writer ≡ w = ap (λ (b : Book). b.writer) (sym same) ∙ runs.was in
+        ap rows_of_book same
+        ∙ (ap (map (λ (o : Own). o.row)) (has.settled.all out.from d.book d.at) ∙ (mine_rows (d.book).writer 0 (m.view).seen ∙ (ap (λ v. written_by v (m.view).seen) own ∙ has.own w exists)))
+
+    now : rows_of_book mine ≡ written_by w (n.view).seen
+    now = ap (map (λ (o : Own). o.row)) (g.settled.all book.0 mine held) ∙ (mine_rows mine.writer 0 (n.view).seen ∙ ap (λ v. written_by v (n.view).seen) runs.writer_is)
+
+    split : written_by w (n.view).seen ++ runs.next ∷ runs.left ≡ rows_of W w first (rows ++ batch)
+    split =
+        ap (λ (rs : List RowValue). rs ++ runs.next ∷ runs.left) (sym now ∙ (runs.rows ∙ ap (λ (rs : List RowValue). rs ++ runs.done) before))
+        ∙ (append_assoc (rows_of W w first rows) runs.done (runs.next ∷ runs.left)
+        ∙ (ap (λ (rs : List RowValue). rows_of W w first rows ++ rs) runs.split ∙ sym (rows_append W w first rows batch)))
 
     fronts : (v : ℕ) → v < W → (left : List RowValue) × (written_by v (n.view).seen ++ left ≡ rows_of W v first (rows ++ batch))
     fronts v lt =
@@ -418,6 +467,7 @@ pub short_kept : (log : LogValue) (first : ℕ) (rows : List RowValue) (w : ℕ)
 short_kept log first rows w n o lacks of books seen_is = record {
   exists = lacks.exists;
   many = lacks.many;
+  out = record { place = lacks.out.place; book = lacks.out.book; held = ap (λ (bs : List Book). slice_get bs lacks.out.place) books ∙ lacks.out.held; writer_is = lacks.out.writer_is; out = lacks.out.out; next = lacks.out.next; left = lacks.out.left; split = ap (λ (es : List Entry). written_by w es ++ lacks.out.next ∷ lacks.out.left) seen_is ∙ lacks.out.split; wants = lacks.out.wants };
   of = of;
   settled = settled_still log.shape n o lacks.settled books seen_is;
   fronts = λ v lt. (let f = lacks.fronts v lt in (f.0, ap (λ (es : List Entry). written_by v es ++ f.0) seen_is ∙ f.1));

@@ -17,6 +17,7 @@ use Rattle.cf_table.specs.Moves.{HoldsAllBooks}
 use Rattle.cf_load.specs.Blocks.{block}
 use Rattle.cf_load.specs.Loading.{HasLoaded, IsShort, HasStopped}
 use Rattle.cf_load.specs.Loads.{LacksNodes, HaveStopped}
+use Rattle.cf_load.specs.Needed.{HasRunOut}
 use Rattle.cf_load.specs.Segments.{SegmentsValue, all_of, seen_of, entries_of, base_of, told_from, told_of, IsSegment, IsSegments, HoldsRows, IsSameSegment, AreFirst, GoesOn, KeepsAll}
 use Rattle.cf_load.specs.declared.loads.LoadFault.{LoadFault}
 use Rattle.cf_load.specs.declared.loads.LoadFault.TheVariants.{Full, NodesFull, Memory}
@@ -147,6 +148,7 @@ module _ (s : SegmentsValue) (before : List RowValue) (holds : HoldsRows s befor
         exists = subst (λ (h : ShapeValue). w < h.writers) same short.exists;
         place = length s.closed;
         many = subst (λ (rs : List RowValue). (s.shape).nodes < distinct s.shape rs) (sym (own_more rows room)) (subst (λ (h : ShapeValue). h.nodes < distinct h (own_rows ++ rows)) same short.many);
+        out = subst (λ (rs : List RowValue). HasRunOut s.shape (base_of s) rs w root.view) (sym (own_more rows room)) (subst (λ (h : ShapeValue). HasRunOut h (base_of s) (own_rows ++ rows) w root.view) same short.out);
         fronts = λ v lt. fronts v lt;
       }
     where

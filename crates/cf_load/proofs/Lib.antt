@@ -17,3 +17,4 @@ pub mod Changing
 pub mod Findings
 pub mod Kept
 pub mod Filled
+pub mod Costs

@@ -24,11 +24,12 @@ use Rattle.cf_load.specs.declared.loads.LoadFault.TheVariants.{Full, NodesFull, 
 use Rattle.cf_load.specs.declared.segments.Segment.{Segment}
 use Rattle.cf_load.specs.Blocks.{block}
 use Rattle.cf_load.specs.Loading.{HasAnswered, AsksBeside}
+use Rattle.cf_load.specs.Needed.{HasRunOut}
 use Rattle.cf_load.specs.Loads.{LacksNodes, HasSome, HaveStopped, IsLoaded, room_of}
 use Rattle.cf_load.specs.Loaders.{LoaderValue, IsFresh, IsLoading, IsBatched, IsRefused, IsFinished}
 use Rattle.cf_load.specs.Planned.{IsPlan, IsSamePlan, marks_on, tails_of}
 use Rattle.cf_load.specs.Segments.{SegmentsValue, all_of, base_of, entries_of, told_of, IsSegments, HoldsRows, GoesOn, KeepsAll}
-use Rattle.cf_load.proofs.Batches.{distinct_more}
+use Rattle.cf_load.proofs.Batches.{distinct_more, run_out_more}
 use Rattle.cf_load.proofs.Chains.{base_whole, rows_are_log}
 use Rattle.cf_load.proofs.Enough.{loaded_few}
 use Rattle.cf_load.proofs.Kept.{kept_entries, kept_goes, kept_holds, kept_told, goes_none, goes_then}
@@ -111,11 +112,13 @@ lacks_more s rows more w lacks =
     let n = (s.shape).capacity in
     let b = block_more n lacks.place rows more in
     let d = distinct_more s.shape (block n lacks.place rows) b.0 in
+    let last = block_more n (length s.closed) rows more in
     let many = lacks.many in record {
       are = lacks.are;
       exists = lacks.exists;
       place = lacks.place;
       many = subst (λ (rs : List RowValue). (s.shape).nodes < distinct s.shape rs) (sym b.1) (omega (arith, many, d));
+      out = subst (λ (rs : List RowValue). HasRunOut s.shape (base_of s) rs w s.current.root.view) (sym last.1) (run_out_more s.shape (base_of s) (block n (length s.closed) rows) last.0 w s.current.root.view lacks.out);
       fronts = λ v lt. (let f = lacks.fronts v lt in let W = (s.shape).writers in (
         f.0 ++ rows_of W v (0 + length rows) more,
         sym (append_assoc (written_by v (entries_of s)) f.0 (rows_of W v (0 + length rows) more)) ∙ (ap (λ (rs : List RowValue). rs ++ rows_of W v (0 + length rows) more) f.1 ∙ sym (rows_append W v 0 rows more)),

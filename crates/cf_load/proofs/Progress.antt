@@ -22,7 +22,7 @@ use Rattle.cf_append.specs.declared.appends.AppendFault.{AppendFault}
 use Rattle.cf_append.specs.declared.appends.AppendFault.TheVariants.{Full, NodesFull}
 use Rattle.cf_history.specs.Order.{rows_of}
 use Rattle.cf_load.specs.Needed.{IsNeeded, IsOut}
-use Rattle.cf_load.specs.Writing.{rows_of_book, IsReady, RanOut, Wrote}
+use Rattle.cf_load.specs.Writing.{rows_of_book, IsReady, RanOut, RunsOut, Wrote}
 use Rattle.cf_load.proofs.Pigeons.{in_either}
 
 -- the writer's rows of the part of a batch from row i on, which is number k
@@ -196,7 +196,8 @@ stops_full log first batch m k i n p answer row goes low at on rest answered err
 
 -- the writer's nodes are used up
 pub stops_out : (log : LogValue) (first : ℕ) (batch : List RowValue) (m : PassValue) (k i : ℕ) (n p : PassValue) (answer : Result ℕ AppendFault) (row : RowValue) → Goes log first batch m k i n → i < length batch → get_or batch i row ≡ row
-    → GoesOn n p → Rests p.view → IsAnswered log.shape row n p answer → answer ≡ Err NodesFull → Wrote false log first batch m p × (((book_of p.view).writer ≡ (book_of m.view).writer) × IsOut log.shape batch (book_of p.view))
+    → GoesOn n p → Rests p.view → IsAnswered log.shape row n p answer → answer ≡ Err NodesFull → Wrote false log first batch m p
+    × ((w : ℕ) → w ≡ (book_of m.view).writer → k % (log.shape).writers ≡ (book_of m.view).writer → RunsOut log first batch w m p)
 stops_out log first batch m k i n p answer row goes low at on rest answered err =
     let out : IsNodesFull log.shape row n p = subst (λ (r : Result ℕ AppendFault). IsAnswered log.shape row n p r) err answered in
     let is : book_of p.view ≡ with_nodes out.used.spots out.used.label (book_of n.view) = ap (λ (bs : List Book). get_or bs 0 (no_book 0)) out.used.books in
@@ -208,16 +209,24 @@ stops_out log first batch m k i n p answer row goes low at on rest answered err 
             used = used_more log.shape batch m n p i row out.used.spots low at goes.used (ap (λ (b : Book). b.used) is) out.used.on;
           })
           (λ whole. absurd (cc whole)),
-      (
-        writer ∙ goes.writer,
-        record {
+      (λ w w_is own. record {
+        was = sym w_is;
+        writer_is = writer ∙ (goes.writer ∙ sym w_is);
+        out = record {
           full = out.stuck.full;
           apart = out.stuck.apart;
           at = out.stuck.at;
           needed = record { place = i; row = row; at = slice_get-get_or batch i row low ∙ ap (λ (r : RowValue). Some r) at; on = out.stuck.on };
           other = out.stuck.other;
-        },
-      ),
+        };
+        done = goes.done;
+        next = row;
+        left = left_of log batch m (k + 1) (i + 1);
+        split = ap (λ (rs : List RowValue). goes.done ++ rs) (sym (next_own (log.shape).writers (book_of m.view).writer k i batch row low at own))
+            ∙ (goes.split ∙ ap (λ (v : ℕ). rows_of (log.shape).writers v first batch) (sym w_is));
+        rows = ap (λ (b : Book). rows_of_book b) is ∙ goes.rows;
+        wants = out.stuck.on;
+      }),
     )
 
 -- what holds of the halves of two lists holds of the lists
@@ -260,19 +269,31 @@ both_wrote log first batch ms more ns others None b low high = half b low high
     half (Some w) l h = zip_append (Wrote false log first batch) ms more ns others (less_said_all true log first batch ms ns l) h
 both_wrote log first batch ms more ns others (Some w) b low high = zip_append (Wrote false log first batch) ms more ns others low (less_said_all (is_none b) log first batch more others high)
 
-out_low : (log : LogValue) (batch : List RowValue) (w : ℕ) (ns others : List PassValue) → RanOut log batch w ns → RanOut log batch w (ns ++ others)
-out_low log batch w ns others r = record { place = r.place; pass = r.pass; at = has_left ns others r.place r.pass r.at; writer_is = r.writer_is; out = r.out }
+out_low : (log : LogValue) (first : ℕ) (batch : List RowValue) (w : ℕ) (ms more ns others : List PassValue) → RanOut log first batch w ms ns → RanOut log first batch w (ms ++ more) (ns ++ others)
+out_low log first batch w ms more ns others r = record {
+  from = r.from;
+  old = r.old;
+  was_at = has_left ms more r.from r.old r.was_at;
+  place = r.place;
+  pass = r.pass;
+  at = has_left ns others r.place r.pass r.at;
+  runs = r.runs;
+}
 
-out_high : (log : LogValue) (batch : List RowValue) (w : ℕ) (ns others : List PassValue) → RanOut log batch w others → RanOut log batch w (ns ++ others)
-out_high log batch w ns others r = (let h = has_right ns others r.pass (r.place, r.at) in record { place = h.0; pass = r.pass; at = h.1; writer_is = r.writer_is; out = r.out })
+out_high : (log : LogValue) (first : ℕ) (batch : List RowValue) (w : ℕ) (ms more ns others : List PassValue) → RanOut log first batch w more others → RanOut log first batch w (ms ++ more) (ns ++ others)
+out_high log first batch w ms more ns others r =
+    let was = has_right ms more r.old (r.from, r.was_at) in
+    let is = has_right ns others r.pass (r.place, r.at) in
+    record { from = was.0; old = r.old; was_at = was.1; place = is.0; pass = r.pass; at = is.1; runs = r.runs }
 
-pub either_out : (log : LogValue) (batch : List RowValue) (ns others : List PassValue) (a b : Option ℕ) → IfSome a (λ w. RanOut log batch w ns) → IfSome b (λ w. RanOut log batch w others) → IfSome (option_or a b) (λ w. RanOut log batch w (ns ++ others))
-either_out log batch ns others (Some w) b low high = out_low log batch w ns others low
-either_out log batch ns others None None low high = tt
-either_out log batch ns others None (Some w) low high = out_high log batch w ns others high
+pub either_out : (log : LogValue) (first : ℕ) (batch : List RowValue) (ms more ns others : List PassValue) (a b : Option ℕ) → IfSome a (λ w. RanOut log first batch w ms ns) → IfSome b (λ w. RanOut log first batch w more others)
+    → IfSome (option_or a b) (λ w. RanOut log first batch w (ms ++ more) (ns ++ others))
+either_out log first batch ms more ns others (Some w) b low high = out_low log first batch w ms more ns others low
+either_out log first batch ms more ns others None None low high = tt
+either_out log first batch ms more ns others None (Some w) low high = out_high log first batch w ms more ns others high
 
 -- the one pass ran out
-pub first_out : (log : LogValue) (batch : List RowValue) (ms : List PassValue) (n : PassValue) (a : Option ℕ) → 0 < length ms → IfSome a (λ w. ((book_of n.view).writer ≡ w) × IsOut log.shape batch (book_of n.view)) → IfSome a (λ w. RanOut log batch w (slice_set ms 0 n))
-first_out log batch [] n a some out = absurd (omega (arith, some))
-first_out log batch (m ∷ ms) n None some out = tt
-first_out log batch (m ∷ ms) n (Some w) some out = record { place = 0; pass = n; at = refl; writer_is = out.0; out = out.1 }
+pub first_out : (log : LogValue) (first : ℕ) (batch : List RowValue) (ms : List PassValue) (m n : PassValue) (a : Option ℕ) → 0 < length ms → m ≡ get_or ms 0 m → IfSome a (λ w. RunsOut log first batch w m n) → IfSome a (λ w. RanOut log first batch w ms (slice_set ms 0 n))
+first_out log first batch [] m n a some is out = absurd (omega (arith, some))
+first_out log first batch (x ∷ ms) m n None some is out = tt
+first_out log first batch (x ∷ ms) m n (Some w) some is out = record { from = 0; old = m; was_at = ap (λ (p : PassValue). Some p) (sym is); place = 0; pass = n; at = refl; runs = out }

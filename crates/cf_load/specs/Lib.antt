@@ -3,6 +3,7 @@ pub mod Needed
 pub mod Writing
 pub mod Loading
 pub mod Segments
+pub mod Costs
 pub mod Planned
 pub mod Priors
 pub mod Loads

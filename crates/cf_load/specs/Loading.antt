@@ -15,7 +15,7 @@ use Rattle.cf_plain.specs.Answered.{no_ask, turn_of}
 use Rattle.cf_load.specs.declared.plan.LivePlan.{LivePlan}
 use Rattle.cf_load.specs.declared.loads.LoadFault.{LoadFault}
 use Rattle.cf_load.specs.declared.loads.LoadFault.TheVariants.{Full, NodesFull, Memory}
-use Rattle.cf_load.specs.Needed.{HasNodes}
+use Rattle.cf_load.specs.Needed.{HasNodes, HasRunOut}
 use Rattle.cf_table.specs.Values.{PassValue, LogValue, IsOf}
 use Rattle.cf_table.specs.Moves.{Begins, HoldsAllBooks}
 
@@ -35,11 +35,13 @@ pub record HasLoaded (log : LogValue) (first : ℕ) (rows : List RowValue) (befo
   pub own : (w : ℕ) → w < (log.shape).writers → written_by w (before.view).seen ≡ rows_of (log.shape).writers w first rows
   pub nodes : HasNodes log.shape rows before.view
 
--- The rows, of which the first is row number `first`, need more different nodes than that writer has, which ran out of them. The
--- root holds all books at rest, and each writer's entries are the first of its rows.
+-- The rows, of which the first is row number `first`, need more different nodes than a writer has, and that writer's own are used
+-- up, while the next of its rows wants one more. The root holds all books at rest, and each writer's entries are the first of its
+-- rows.
 pub record IsShort (log : LogValue) (first : ℕ) (rows : List RowValue) (writer : ℕ) (after : PassValue) : Type 0 where
   pub exists : writer < (log.shape).writers
   pub many : (log.shape).nodes < distinct log.shape rows
+  pub out : HasRunOut log.shape first rows writer after.view
   pub of : IsOf after log
   pub settled : HoldsAllBooks log.shape after.view
   pub fronts : (w : ℕ) → w < (log.shape).writers → (left : List RowValue) × (written_by w (after.view).seen ++ left ≡ rows_of (log.shape).writers w first rows)

@@ -10,8 +10,9 @@ use Rattle.cf_load.specs.declared.loads.LoadFault.{LoadFault}
 use Rattle.cf_load.specs.declared.loads.LoadFault.TheVariants.{Full, NodesFull, Memory}
 use Rattle.cf_load.specs.Blocks.{block}
 use Rattle.cf_load.specs.Loading.{HasAnswered}
+use Rattle.cf_load.specs.Needed.{HasRunOut}
 use Rattle.cf_load.specs.Planned.{marks_on, tails_of}
-use Rattle.cf_load.specs.Segments.{SegmentsValue, IsSegments, HoldsRows, GoesOn, entries_of, told_of}
+use Rattle.cf_load.specs.Segments.{SegmentsValue, IsSegments, HoldsRows, GoesOn, base_of, entries_of, told_of}
 
 -- how many rows all segments have room for
 abbrev pub room_of : SegmentsValue → ℕ
@@ -29,13 +30,14 @@ pub record IsLoaded (rows : List RowValue) (plan : LivePlan) (before after : Seg
   pub told : told_of after ≡ told_of before ++ tails_of answered.lives
   pub few_nodes : (k : ℕ) → distinct before.shape (block (before.shape).capacity k rows) ≤ (before.shape).writers * (before.shape).nodes
 
--- A block of the rows needs more different nodes than that writer has, which ran out of them. All books are home, and each writer's
--- entries are the first of its rows.
+-- A block of the rows needs more different nodes than a writer has, and in the current segment that writer's own are used up, while
+-- the next of its rows wants one more. All books are home, and each writer's entries are the first of its rows.
 pub record LacksNodes (s : SegmentsValue) (rows : List RowValue) (writer : ℕ) : Type 0 where
   pub are : IsSegments s
   pub exists : writer < (s.shape).writers
   pub place : ℕ
   pub many : (s.shape).nodes < distinct s.shape (block (s.shape).capacity place rows)
+  pub out : HasRunOut s.shape (base_of s) (block (s.shape).capacity (length s.closed) rows) writer s.current.root.view
   pub fronts : (w : ℕ) → w < (s.shape).writers → (left : List RowValue) × (written_by w (entries_of s) ++ left ≡ rows_of (s.shape).writers w 0 rows)
 
 -- the segments hold the first of these rows

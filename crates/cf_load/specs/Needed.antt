@@ -1,6 +1,7 @@
 -- Which nodes the rows of a log need.
-use Rattle.std.specs.Prelude.{ℕ, ◌≡◌, ◌≤◌, List, length, Some, slice_get}
+use Rattle.std.specs.Prelude.{ℕ, ◌≡◌, ◌≤◌, List, ◌∷◌, ◌++◌, length, Some, slice_get}
 use Rattle.cf_row.specs.Row.{RowValue}
+use Rattle.cf_history.specs.Order.{rows_of, written_by}
 use Rattle.cf_shape.specs.Lanes.{ShapeValue}
 use Rattle.cf_words.specs.Words.{Spot}
 use Rattle.cf_law.specs.Passes.{Book, Pass}
@@ -22,6 +23,19 @@ pub record IsOut (shape : ShapeValue) (rows : List RowValue) (book : Book) : Typ
   pub at : Spot
   pub needed : IsNeeded shape rows at
   pub other : (j : ℕ) → slice_get book.used j ≡ Some at → ⊥
+
+-- The pass holds that writer's book, all of its nodes are used, and the next of the writer's own rows wants one more. The first of
+-- the rows is number `first`.
+pub record HasRunOut (shape : ShapeValue) (first : ℕ) (rows : List RowValue) (writer : ℕ) (pass : Pass) : Type 0 where
+  pub place : ℕ
+  pub book : Book
+  pub held : Holds pass place book
+  pub writer_is : book.writer ≡ writer
+  pub out : IsOut shape rows book
+  pub next : RowValue
+  pub left : List RowValue
+  pub split : written_by writer pass.seen ++ next ∷ left ≡ rows_of shape.writers writer first rows
+  pub wants : IsOnPath shape next out.at
 
 -- Each used node of the held books is needed by these rows, no book has used more than its own, and the paths of all that was
 -- seen are whole.

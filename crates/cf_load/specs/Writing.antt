@@ -1,11 +1,12 @@
 -- What the writers of a batch append.
-use Rattle.std.specs.Prelude.{ℕ, ◌≡◌, ◌⊎◌, Bool, List, [], ◌++◌, true, map, Some, slice_get}
+use Rattle.std.specs.Prelude.{ℕ, ◌≡◌, ◌⊎◌, Bool, List, [], ◌∷◌, ◌++◌, true, map, Some, slice_get}
 use Rattle.cf_row.specs.Row.{RowValue}
 use Rattle.cf_words.specs.Words.{Spot}
 use Rattle.cf_law.specs.Passes.{Book}
 use Rattle.cf_table.specs.Values.{PassValue, LogValue, IsOf, book_of}
 use Rattle.cf_table.specs.Moves.{Begins}
 use Rattle.cf_append.specs.Appends.{Rests}
+use Rattle.cf_append.specs.Paths.{IsOnPath}
 use Rattle.cf_history.specs.Order.{rows_of}
 use Rattle.cf_load.specs.Needed.{IsNeeded, IsOut}
 
@@ -34,10 +35,25 @@ pub record Wrote (whole : Bool) (log : LogValue) (first : ℕ) (batch : List Row
   pub tails : (after.view).tails ≡ (before.view).tails
   pub told : (after.view).told ≡ (before.view).told
 
+-- The pass is that writer's, which ran out of nodes: all of its book's are used, and the next of its rows of a batch whose first row
+-- is number `first` wants one more.
+pub record RunsOut (log : LogValue) (first : ℕ) (batch : List RowValue) (writer : ℕ) (before after : PassValue) : Type 0 where
+  pub was : (book_of before.view).writer ≡ writer
+  pub writer_is : (book_of after.view).writer ≡ writer
+  pub out : IsOut log.shape batch (book_of after.view)
+  pub done : List RowValue
+  pub next : RowValue
+  pub left : List RowValue
+  pub split : done ++ next ∷ left ≡ rows_of (log.shape).writers writer first batch
+  pub rows : rows_of_book (book_of after.view) ≡ rows_of_book (book_of before.view) ++ done
+  pub wants : IsOnPath log.shape next out.at
+
 -- one of the passes, of that writer, ran out of nodes
-pub record RanOut (log : LogValue) (batch : List RowValue) (writer : ℕ) (passes : List PassValue) : Type 0 where
+pub record RanOut (log : LogValue) (first : ℕ) (batch : List RowValue) (writer : ℕ) (before after : List PassValue) : Type 0 where
+  pub from : ℕ
+  pub old : PassValue
+  pub was_at : slice_get before from ≡ Some old
   pub place : ℕ
   pub pass : PassValue
-  pub at : slice_get passes place ≡ Some pass
-  pub writer_is : (book_of pass.view).writer ≡ writer
-  pub out : IsOut log.shape batch (book_of pass.view)
+  pub at : slice_get after place ≡ Some pass
+  pub runs : RunsOut log first batch writer old pass

@@ -43,7 +43,7 @@ fn ask_beside<G: Gate>(
     ask_counted::<_, Brand>(log, alloc, gate, plan, prior, batch, reader, Blank::new(1))
 }
 
-// The writers append the rows of a batch in threads of their own, while the reader asks in this one. Where nothing is asked, no
+// The writers append the rows of a batch in threads of their own, while the reader asks in this one. Where no round is made, no
 // thread is started for the reader: the writers are run from this thread, and one that is alone appends in it, as another would
 // first have to fetch the rows. Answers a writer that ran out of nodes, if there is one, and what the reader was answered.
 fn run_beside<R: Threads + Sync, G: Gate>(
@@ -65,12 +65,12 @@ fn run_beside<R: Threads + Sync, G: Gate>(
     requires fits { All (Fits log.now.shape.schema) rows.now }
     requires room { 4096 * batch + length rows.now < 2 ^ 32 }
     ensures wrote { AllZip (Wrote (is_none result.0) log.now (4096 * batch) rows.now) passes.old passes.new }
-    ensures out { IfSome result.0 (λ writer. RanOut log.now rows.now writer passes.new) }
+    ensures out { IfSome result.0 (λ writer. RanOut log.now (4096 * batch) rows.now writer passes.old passes.new) }
     ensures of { IsOf reader.new log.now }
     ensures asks { IfOk result.1 (λ more. AsksBatch log.now.shape plan.now.asks.items plan.now.lives.items plan.now.rounds batch (entries_before prior.now ++ reader.old.view.seen) (entries_before prior.now ++ reader.new.view.seen) more.items) }
     ensures read { IfOk result.1 (λ more. HasRead prior.now.base reader.old reader.new more.items) }
 {
-    if plan.asks_nothing() {
+    if plan.makes_no_round() {
         let out = run_writers(rt, log, gate, 4096 * u64::from(batch), rows, passes);
         return (
             out,
@@ -82,7 +82,7 @@ fn run_beside<R: Threads + Sync, G: Gate>(
         &mut || -> Option<u8>
             requires { IsSync R.row × IsSync G.row × All (IsReady log.now) passes.now × All (Fits log.now.shape.schema) rows.now × (4096 * batch + length rows.now < 2 ^ 32) }
             ensures wrote { AllZip (Wrote (is_none result) log.entry.now (4096 * batch) rows.entry.now) passes.entry.now passes.exit.now }
-            ensures out { IfSome result (λ writer. RanOut log.entry.now rows.entry.now writer passes.exit.now) }
+            ensures out { IfSome result (λ writer. RanOut log.entry.now (4096 * batch) rows.entry.now writer passes.entry.now passes.exit.now) }
         { run_writers(rt, log, gate, 4096 * u64::from(batch), rows, passes) },
         &mut || -> Result<Vec<Live>, Memory>
             requires { IsSync G.row × IsOf reader.now log.now × IsPlan log.now.shape plan.now × IsPrior log.now.shape plan.now prior.now }

@@ -8,7 +8,9 @@ ghost use Rattle.cf_load.specs.Loading.{AsksBeside};
 ghost use Rattle.cf_load.specs.Loads.{HaveStopped, room_of};
 ghost use Rattle.cf_load.specs.Planned.{IsPlan, tails_of};
 ghost use Rattle.cf_load.specs.Priors.{IsPrior, entries_before};
-ghost use Rattle.cf_load.specs.Segments.{GoesOn, HoldsRows, KeepsAll, base_of, entries_of, seen_of, told_of};
+ghost use Rattle.cf_query.specs.Walking.{AsksOne, AsksBucket};
+ghost use Rattle.cf_load.specs.Costs.{CountLoads, bucket_steps_in, key_steps_in};
+ghost use Rattle.cf_load.specs.Segments.{GoesOn, HoldsRows, KeepsAll, all_of, base_of, entries_of, seen_of, told_of};
 ghost use Rattle.cf_load.specs.declared.loads.LoadFault.TheVariants.{Memory as NoMemory};
 
 use crate::batch::load_batch;
@@ -35,6 +37,9 @@ impl Segments {
         requires suits { Suits self.old.shape ask.now }
         ensures kept { KeepsAll self.old self.new }
         ensures answer { IfOk result (λ answer. answer ≡ answer_on self.old.shape (entries_of self.old) ask.now) }
+        ensures steps { AsksOne ask.now → IfOk result (λ _. steps.new ≤ steps.old + key_steps_in self.old.shape ask.now (all_of self.old)) }
+        ensures bucket { AsksBucket ask.now → IfOk result (λ _. steps.new ≤ steps.old + bucket_steps_in self.old.shape ask.now (all_of self.old)) }
+        ensures loads { CountLoads (all_of self.old) (all_of self.new) steps.old steps.new }
     {
         let shape = self.current.log.shape();
         let before = found_in(alloc, shape, self.closed.as_mut_slice(), ask, steps)?;

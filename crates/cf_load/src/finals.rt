@@ -3,7 +3,8 @@ ghost use Rattle.std.specs.Prelude.{◌≡◌, ◌+◌, ◌<◌, ◌≤◌, All,
 ghost use Rattle.cf_plain.specs.Asks.{Suits, SuitsTrigger, rows_in, marks_over};
 ghost use Rattle.cf_plain.specs.Answered.{answer_on};
 ghost use Rattle.cf_load.specs.Planned.{IsPlan, marks_on};
-ghost use Rattle.cf_load.specs.Segments.{KeepsAll, entries_of};
+ghost use Rattle.cf_load.specs.Costs.{CountLoads};
+ghost use Rattle.cf_load.specs.Segments.{KeepsAll, all_of, entries_of};
 
 use crate::{LivePlan, Segments};
 use cf_fold::Trigger;
@@ -23,6 +24,7 @@ fn finals_of<L: Ledger>(
     requires suit { All (Suits segments.old.shape) asks.now }
     ensures keeps { KeepsAll segments.old segments.new }
     ensures answers { IfOk result (λ finals. finals.items ≡ map (answer_on segments.old.shape (entries_of segments.old)) asks.now) }
+    ensures loads { CountLoads (all_of segments.old) (all_of segments.new) steps.old steps.new }
 {
     let mut finals = Vec::new(alloc);
     for question in asks {
@@ -41,6 +43,7 @@ fn marks_of<L: Ledger>(
     requires suits { SuitsTrigger segments.old.shape trigger }
     ensures keeps { KeepsAll segments.old segments.new }
     ensures marks { IfOk result (λ marks. marks ≡ marks_over segments.old.shape trigger (rows_in (entries_of segments.old))) }
+    ensures loads { CountLoads (all_of segments.old) (all_of segments.new) steps.old steps.new }
 {
     let answer = segments.ask(alloc, &Ask::Fired(trigger), steps)?;
     match answer.body {
@@ -60,6 +63,7 @@ fn alerts_of<L: Ledger>(
     requires suit { All (SuitsTrigger segments.old.shape) triggers.now }
     ensures keeps { KeepsAll segments.old segments.new }
     ensures marks { IfOk result (λ alerts. alerts.items ≡ map (marks_on segments.old.shape (entries_of segments.old)) triggers.now) }
+    ensures loads { CountLoads (all_of segments.old) (all_of segments.new) steps.old steps.new }
 {
     let mut alerts = Vec::new(alloc);
     for trigger in triggers {

@@ -5,6 +5,8 @@
 mod batch;
 mod filling;
 mod finals;
+#[cfg(test)]
+mod gates;
 mod loader;
 mod loads;
 mod plan;

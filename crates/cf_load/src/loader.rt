@@ -80,8 +80,9 @@ impl Loader {
     /// Loads the next batch of 4,096 rows, or the last, which may have fewer, by as many writers as the shape has, each in a
     /// thread of its own where one can be made; row k of all batches is of writer k modulo their number. Where the current
     /// segment is full, it is closed first. Beside the batch a reader makes the plan's rounds, each asking the live questions
-    /// once, of all entries so far. A writer calls the gate before each append, and the reader after each round. It waits for
-    /// its own workers. After a refusal the loader is stopped.
+    /// once, of all entries so far, anywhere among the batch's appends. A writer calls the gate before each append, and the
+    /// reader after each round, also if no question is live. It waits for its own workers. After a refusal the loader is
+    /// stopped.
     pub fn batch<R: Threads + Sync, G: Gate>(
         &mut self,
         rt: &R,

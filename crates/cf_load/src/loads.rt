@@ -70,9 +70,10 @@ fn load_batches<R: Threads + Sync, G: Gate>(
 
 /// Loads rows into segments that have none, batch by batch of 4,096 rows, by as many writers as the shape has, each in a thread
 /// of its own where one can be made; row k is of writer k modulo their number. A segment that is full is closed before the next
-/// batch. Beside each batch a reader makes the plan's rounds, each asking the live questions once, of all entries so far. A writer
-/// calls the gate before each append, and the reader after each round. At the end every question and every trigger is asked of all
-/// entries. It waits for its own workers.
+/// batch. Beside each batch a reader makes the plan's rounds, each asking the live questions once, of all entries so far. The rounds
+/// of a batch come after the appends of the batches before it and before those of the batches behind it, anywhere among its own. A
+/// writer calls the gate before each append, and the reader after each round, also if no question is live. At the end every
+/// question and every trigger is asked of all entries. It waits for its own workers.
 pub fn load<R: Threads + Sync, G: Gate>(
     rt: &R,
     alloc: Global,

@@ -1,5 +1,5 @@
 // What is asked of a log that is loaded.
-ghost use Rattle.std.specs.Prelude.{◌≡◌, ◌<◌, ◌⊎◌, ◌↔◌, [], IsTrue, IfOk, All};
+ghost use Rattle.std.specs.Prelude.{◌≡◌, ◌<◌, ◌↔◌, IsTrue, IfOk, All};
 ghost use Rattle.cf_plain.specs.Asks.{Suits, SuitsTrigger};
 ghost use Rattle.cf_load.specs.Planned.{IsPlan, IsSamePlan};
 
@@ -16,7 +16,7 @@ pub struct LivePlan {
     pub triggers: Vec<Trigger>,
     /// The live questions by their places in `asks`, in the order in which a round asks them.
     pub lives: Vec<u8>,
-    /// How many rounds the reader makes beside each batch.
+    /// How many rounds the reader makes beside each batch, also if no question is live.
     pub rounds: u32,
 }
 
@@ -61,11 +61,11 @@ impl LivePlan {
             && are_below(&self.lives, self.asks.len())
     }
 
-    // Whether no live question is asked beside a batch.
-    pub(crate) fn asks_nothing(&self) -> bool
-        ensures { IsTrue result ↔ ((self.now.rounds ≡ 0) ⊎ (self.now.lives.items ≡ [])) }
+    // Whether the reader makes no round beside a batch.
+    pub(crate) fn makes_no_round(&self) -> bool
+        ensures { IsTrue result ↔ (self.now.rounds ≡ 0) }
     {
-        self.rounds == 0 || self.lives.is_empty()
+        self.rounds == 0
     }
 
     /// One more of the same.

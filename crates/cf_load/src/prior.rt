@@ -7,7 +7,10 @@ ghost use Rattle.cf_plain.specs.Asks.{Suits};
 ghost use Rattle.cf_plain.specs.Answered.{answer_on};
 ghost use Rattle.cf_plain.specs.Segments.{finding_in};
 ghost use Rattle.cf_table.specs.Values.{IsOf};
+ghost use Rattle.cf_table.specs.Loads.{CountsLoads};
 ghost use Rattle.cf_query.specs.Asking.{HasAsked};
+ghost use Rattle.cf_query.specs.Walking.{AsksOne, AsksBucket};
+ghost use Rattle.cf_load.specs.Costs.{CountLoads, bucket_steps, bucket_steps_in, key_steps, key_steps_in};
 ghost use Rattle.cf_load.specs.Planned.{IsPlan, findings_on};
 ghost use Rattle.cf_load.specs.Priors.{HasFound};
 ghost use Rattle.cf_load.specs.Segments.{IsSegment, KeepsSegment, seen_of};
@@ -63,6 +66,9 @@ fn find_behind<P: Pass, L: Ledger>(
     requires found { (entries : List Entry) × HasFound log.now.shape ask.now entries before.0 before.1 }
     ensures asked { HasAsked log.now.shape (P.held pass.old) (P.held pass.new) }
     ensures found { (entries : List Entry) → HasFound log.now.shape ask.now entries before.0 before.1 → IfOk result (λ found. HasFound log.now.shape ask.now (entries ++ (P.held pass.new).view.seen) found.0 found.1) }
+    ensures steps { AsksOne ask.now → IfOk result (λ _. steps.new ≤ steps.old + key_steps log.now.shape ask.now (P.held pass.new).view.seen) }
+    ensures bucket { AsksBucket ask.now → IfOk result (λ _. steps.new ≤ steps.old + bucket_steps log.now.shape ask.now (P.held pass.new).view.seen) }
+    ensures loads { CountsLoads (P.held pass.old) (P.held pass.new) steps.old steps.new }
 {
     let (base, start) = before;
     let (tail, more) = finding(log, alloc, pass, ask, steps)?;
@@ -85,6 +91,9 @@ pub(crate) fn answer_behind<P: Pass, L: Ledger>(
     requires found { (entries : List Entry) × HasFound log.now.shape ask.now entries before.0 before.1 }
     ensures asked { HasAsked log.now.shape (P.held pass.old) (P.held pass.new) }
     ensures answer { (entries : List Entry) → HasFound log.now.shape ask.now entries before.0 before.1 → IfOk result (λ answer. answer ≡ answer_on log.now.shape (entries ++ (P.held pass.new).view.seen) ask.now) }
+    ensures steps { AsksOne ask.now → IfOk result (λ _. steps.new ≤ steps.old + key_steps log.now.shape ask.now (P.held pass.new).view.seen) }
+    ensures bucket { AsksBucket ask.now → IfOk result (λ _. steps.new ≤ steps.old + bucket_steps log.now.shape ask.now (P.held pass.new).view.seen) }
+    ensures loads { CountsLoads (P.held pass.old) (P.held pass.new) steps.old steps.new }
 {
     let (tail, found) = find_behind(log, alloc, pass, ask, before, steps)?;
     let body = found.body(alloc, ask)?;
@@ -105,6 +114,9 @@ pub(crate) fn found_in<L: Ledger>(
     ensures kept { AllZip KeepsSegment segments.old segments.new }
     ensures found { IfOk result (λ found. HasFound shape.now ask.now (flat_map seen_of segments.old) found.0 found.1) }
     ensures few { IfOk result (λ found. found.0 ≤ shape.now.capacity * length segments.old) }
+    ensures steps { AsksOne ask.now → IfOk result (λ _. steps.new ≤ steps.old + key_steps_in shape.now ask.now segments.old) }
+    ensures bucket { AsksBucket ask.now → IfOk result (λ _. steps.new ≤ steps.old + bucket_steps_in shape.now ask.now segments.old) }
+    ensures loads { CountLoads segments.old segments.new steps.old steps.new }
 {
     let _shape = shape;
     let mut found = (0, nothing(alloc, ask));
@@ -127,6 +139,7 @@ pub(crate) fn findings_in<L: Ledger>(
     requires few { shape.now.capacity * length segments.old ≤ 2 ^ 20 }
     ensures kept { AllZip KeepsSegment segments.old segments.new }
     ensures found { IfOk result (λ found. found.items ≡ findings_on shape.now plan.now (flat_map seen_of segments.old)) }
+    ensures loads { CountLoads segments.old segments.new steps.old steps.new }
 {
     let mut findings = Vec::new(alloc);
     for place in &plan.lives {

@@ -1,5 +1,6 @@
 // The reader asks its live questions while the writers append a batch.
 ghost use Rattle.std.specs.Prelude.{◌≡◌, ◌+◌, ◌<◌, ◌++◌, IfOk};
+ghost use Rattle.cf_table.specs.Loads.{CountsLoads};
 ghost use Rattle.cf_table.specs.Values.{IsOf};
 ghost use Rattle.cf_load.specs.Loading.{AsksBatch, AsksSome};
 ghost use Rattle.cf_load.specs.Planned.{IsPlan, HasRead};
@@ -36,6 +37,7 @@ fn ask_round<L: Ledger>(
     ensures of { IsOf reader.new log.now }
     ensures asks { IfOk result (λ _. AsksSome log.now.shape plan.now.asks.items plan.now.lives.items (at.1 + 1) 0 at.0 (entries_before prior.now ++ start.now.value.view.seen) (entries_before prior.now ++ reader.new.view.seen) answers.new.items) }
     ensures read { IfOk result (λ _. HasRead prior.now.base start.now.value reader.new answers.new.items) }
+    ensures loads { CountsLoads reader.old reader.new steps.old steps.new }
 {
     let (batch, round) = at;
     let _start = start;
@@ -71,6 +73,7 @@ fn ask_rounds<G: Gate, L: Ledger>(
     ensures of { IsOf reader.new log.now }
     ensures asks { IfOk result (λ more. AsksBatch log.now.shape plan.now.asks.items plan.now.lives.items plan.now.rounds batch (entries_before prior.now ++ reader.old.view.seen) (entries_before prior.now ++ reader.new.view.seen) more.items) }
     ensures read { IfOk result (λ more. HasRead prior.now.base reader.old reader.new more.items) }
+    ensures loads { CountsLoads reader.old reader.new steps.old steps.new }
 {
     let start = Snapshot::of(reader);
     let mut answers = Vec::new(alloc);

@@ -7,10 +7,11 @@ ghost use Rattle.cf_table.specs.Moves.{AreAll};
 ghost use Rattle.cf_load.specs.Segments.{AllowsSegments, HoldsRows};
 ghost use Rattle.cf_load.specs.Writing.{IsReady};
 
+use crate::gates::{NoteGate, SecondGate};
 use crate::writers::run_writers;
 use crate::{Closing, LivePlan, LoadFault, Loader, Segments, TurnFault, load};
 use cf_fold::{Part, Trigger};
-use cf_outside::FreeGate;
+use cf_outside::{FreeGate, Gate, Held};
 use cf_plain::{Answer, Ask, Body, Fired, Loaded};
 use cf_row::{Attr, Conjunction, Expr, Kind, Memory, Name, Op, Row, Schema, Value, fits};
 use cf_shape::{Key, Lane, Shape, belongs};
@@ -61,13 +62,18 @@ fn shape(
     Ok(shape)
 }
 
+fn row(alloc: Global, num: u32, key: u64) -> Result<Row, Memory> {
+    let mut values = Vec::new(alloc);
+    values.push(Value::Num(key))?;
+    values.push(Value::Num(1))?;
+    Ok(Row::new(num, values))
+}
+
+// So many rows of one path.
 fn rows(alloc: Global, count: u32) -> Result<Vec<Row>, Memory> {
     let mut rows = Vec::new(alloc);
     for num in 0..count {
-        let mut values = Vec::new(alloc);
-        values.push(Value::Num(7))?;
-        values.push(Value::Num(1))?;
-        rows.push(Row::new(num, values))?;
+        rows.push(row(alloc, num, 7)?)?;
     }
     Ok(rows)
 }
@@ -264,7 +270,28 @@ fn segments_turn_until_they_are_spent(rt: HostRuntime) -> Result<(), Fail> {
     Ok(())
 }
 
-// So many rows are loaded, beside a reader.
+// The rows are loaded, beside a reader.
+fn load_rows<R: Threads + Sync + Abort, G: Gate>(
+    rt: &R,
+    alloc: Global,
+    sizes: Sizes,
+    rows: &[Row],
+    plan: &LivePlan,
+    gate: &G,
+) -> Result<Result<(Closing, Loaded), LoadFault>, Fail> {
+    let mut segments = open_segments(rt, alloc, sizes)?;
+    assert!(rt; all_fit(segments.shape().schema(), rows));
+    assert!(rt; plan.suits(segments.shape()));
+    match load(rt, alloc, &mut segments, rows, plan, gate) {
+        Ok(loaded) => {
+            let closing = segments.close(alloc).ok().expect(rt, "memory");
+            Ok(Ok((closing, loaded)))
+        }
+        Err(fault) => Ok(Err(fault)),
+    }
+}
+
+// So many rows of one path are loaded.
 fn load_all<R: Threads + Sync + Abort>(
     rt: &R,
     alloc: Global,
@@ -272,18 +299,8 @@ fn load_all<R: Threads + Sync + Abort>(
     count: u32,
 ) -> Result<Result<(Closing, Loaded), LoadFault>, Fail> {
     let all = rows(alloc, count)?;
-    let rows = all.as_slice();
     let plan = plan(alloc)?;
-    let mut segments = open_segments(rt, alloc, sizes)?;
-    assert!(rt; all_fit(segments.shape().schema(), rows));
-    assert!(rt; plan.suits(segments.shape()));
-    match load(rt, alloc, &mut segments, rows, &plan, &FreeGate) {
-        Ok(loaded) => {
-            let closing = segments.close(alloc).ok().expect(rt, "memory");
-            Ok(Ok((closing, loaded)))
-        }
-        Err(fault) => Ok(Err(fault)),
-    }
+    load_rows(rt, alloc, sizes, all.as_slice(), &plan, &FreeGate)
 }
 
 #[test]
@@ -355,6 +372,32 @@ fn there_is_no_room_or_the_nodes_are_too_few(rt: HostRuntime) -> Result<(), Fail
     Ok(())
 }
 
+// Of two writers one has rows of one path, and the other's rows have two: it alone runs out of nodes, whoever made the nodes that
+// paths share.
+#[test]
+fn the_writer_that_lacks_nodes_is_named(rt: HostRuntime) -> Result<(), Fail> {
+    let alloc = rt.alloc();
+    let plan = plan(alloc)?;
+    for (keys, writer) in [
+        ([7, 1 << 60, 7, 1 << 61], 1),
+        ([1 << 60, 7, 1 << 61, 7], 0),
+    ] {
+        let mut rows = Vec::new(alloc);
+        for (num, key) in (0..).zip(keys) {
+            rows.push(row(alloc, num, key)?)?;
+        }
+        let sizes = Sizes {
+            most: 1,
+            capacity: 4,
+            writers: 2,
+            nodes: 30,
+        };
+        let loaded = load_rows(&rt, alloc, sizes, rows.as_slice(), &plan, &FreeGate)?;
+        assert_eq!(rt; loaded.err(), Some(LoadFault::NodesFull(writer)));
+    }
+    Ok(())
+}
+
 // Loads the rows by a loader in two batches, the first of which has 4,096.
 fn load_in_two<R: Threads + Sync + Abort>(
     rt: &R,
@@ -395,6 +438,65 @@ fn two_batches_load_what_all_rows_at_once_do(rt: HostRuntime) -> Result<(), Fail
             assert_eq!(rt; entry.row.num(), row.num());
         }
         check(&rt, &told, 4100);
+    }
+    Ok(())
+}
+
+// Each row comes to the gate once, by its writer, and each round once beside each batch.
+#[test]
+fn the_gate_is_called_for_each_row_and_each_round(rt: HostRuntime) -> Result<(), Fail> {
+    let alloc = rt.alloc();
+    let rows = rows(alloc, 4100)?;
+    let mut plan = plan(alloc)?;
+    plan.rounds = 2;
+    for (most, capacity) in [(1, 5000), (2, 4096)] {
+        let sizes = Sizes {
+            most,
+            capacity,
+            writers: 2,
+            nodes: 30,
+        };
+        let gate = NoteGate::new(alloc, 4100)?;
+        let loaded = load_rows(&rt, alloc, sizes, rows.as_slice(), &plan, &gate)?;
+        assert!(rt; loaded.is_ok());
+        assert!(rt; gate.has_noted(4));
+    }
+    Ok(())
+}
+
+// The reader's rounds come beside the writers of the second batch too, also where no question is live. No schedule changes the
+// outcome. A writer's first append waits for the first round, which waits for no append; the end of that round waits for each
+// writer's second call, which comes once its first append is done; and the second append waits for the second round, which waits
+// for nothing more: so some thread can always go on, and a wait yields in each of its ten million turns. A reader that begins
+// when the writers have ended leaves them waiting for it, until they give up.
+#[test]
+fn the_reader_asks_beside_the_second_batch(rt: HostRuntime) -> Result<(), Fail> {
+    let alloc = rt.alloc();
+    let rows = rows(alloc, 4104)?;
+    for (most, capacity, is_live) in [(1, 5000, true), (2, 4096, true), (1, 5000, false)] {
+        let sizes = Sizes {
+            most,
+            capacity,
+            writers: 2,
+            nodes: 30,
+        };
+        let mut plan = plan(alloc)?;
+        plan.rounds = 2;
+        if !is_live {
+            plan.lives.clear();
+        }
+        let gate = SecondGate::new();
+        let loaded = load_rows(&rt, alloc, sizes, rows.as_slice(), &plan, &gate)?;
+        let (_, answers) = loaded.expect(&rt, "loaded");
+        assert!(rt; matches!(gate.report(), Held::Answered(_)));
+        let second = answers.lives().iter().filter(|live| live.batch == 1);
+        let tails = [4096, 4096, 4098, 4098];
+        let mut count = 0;
+        for (live, tail) in second.zip(tails) {
+            assert_eq!(rt; seen_by(&live.answer), (tail as usize, tail));
+            count += 1;
+        }
+        assert_eq!(rt; count, if is_live { 4 } else { 0 });
     }
     Ok(())
 }

@@ -3,9 +3,7 @@ ghost use Rattle.std.specs.Prelude.{◌≡◌, ◌+◌, ◌<◌, ◌^◌, All, l
 ghost use Rattle.std.specs.List.{AllZip};
 ghost use Rattle.std.specs.Thread.{IsSync};
 ghost use Rattle.cf_row.specs.Row.{Fits};
-ghost use Rattle.cf_table.specs.Values.{book_of};
-ghost use Rattle.cf_load.specs.Needed.{IsOut};
-ghost use Rattle.cf_load.specs.Writing.{IsReady, RanOut, Wrote};
+ghost use Rattle.cf_load.specs.Writing.{IsReady, RanOut, RunsOut, Wrote};
 
 use cf_append::{AppendFault, Leaves, append_near};
 use cf_outside::Gate;
@@ -29,7 +27,7 @@ fn write_rows<G: Gate, L: Ledger>(
     requires fits { All (Fits log.now.shape.schema) batch.now }
     requires room { first + length batch.now < 2 ^ 32 }
     ensures wrote { Wrote (is_none result) log.now first batch.now pass.old pass.new }
-    ensures out { IfSome result (λ writer. ((book_of pass.new.view).writer ≡ writer) × IsOut log.now.shape batch.now (book_of pass.new.view)) }
+    ensures out { IfSome result (λ writer. RunsOut log.now first batch.now writer pass.old pass.new) }
 {
     let writers = u64::from(log.shape().writers());
     let writer = pass.writer();
@@ -63,7 +61,7 @@ fn write_counted<G: Gate, L: Ledger>(
     requires room { first + length batch.now < 2 ^ 32 }
     requires blank { (blank.name ≡ L.name) × (blank.parts ≡ L.parts) × (0 < L.parts) }
     ensures wrote { Wrote (is_none result) log.now first batch.now pass.old pass.new }
-    ensures out { IfSome result (λ writer. ((book_of pass.new.view).writer ≡ writer) × IsOut log.now.shape batch.now (book_of pass.new.view)) }
+    ensures out { IfSome result (λ writer. RunsOut log.now first batch.now writer pass.old pass.new) }
 {
     let mut steps = Steps::<L>::new(blank);
     write_rows(log, gate, first, batch, pass, &mut steps)
@@ -82,7 +80,7 @@ fn run_first<G: Gate>(
     requires fits { All (Fits log.now.shape.schema) batch.now }
     requires room { first + length batch.now < 2 ^ 32 }
     ensures wrote { AllZip (Wrote (is_none result) log.now first batch.now) passes.old passes.new }
-    ensures out { IfSome result (λ writer. RanOut log.now batch.now writer passes.new) }
+    ensures out { IfSome result (λ writer. RanOut log.now first batch.now writer passes.old passes.new) }
 {
     match passes.first_mut() {
         Some(pass) => write_counted::<_, Brand>(log, gate, first, batch, pass, Blank::new(1)),
@@ -106,7 +104,7 @@ pub(crate) fn run_writers<R: Threads + Sync, G: Gate>(
     requires fits { All (Fits log.now.shape.schema) batch.now }
     requires room { first + length batch.now < 2 ^ 32 }
     ensures wrote { AllZip (Wrote (is_none result) log.now first batch.now) passes.old passes.new }
-    ensures out { IfSome result (λ writer. RanOut log.now batch.now writer passes.new) }
+    ensures out { IfSome result (λ writer. RanOut log.now first batch.now writer passes.old passes.new) }
 {
     if passes.len() < 2 {
         return run_first(log, gate, first, batch, passes);
@@ -117,12 +115,12 @@ pub(crate) fn run_writers<R: Threads + Sync, G: Gate>(
         &mut || -> Option<u8>
             requires { IsSync R.row × IsSync G.row × All (IsReady log.now) front.now × All (Fits log.now.shape.schema) batch.now × (first + length batch.now < 2 ^ 32) }
             ensures wrote { AllZip (Wrote (is_none result) log.entry.now first batch.entry.now) front.entry.now front.exit.now }
-            ensures out { IfSome result (λ writer. RanOut log.entry.now batch.entry.now writer front.exit.now) }
+            ensures out { IfSome result (λ writer. RanOut log.entry.now first batch.entry.now writer front.entry.now front.exit.now) }
         { run_writers(rt, log, gate, first, batch, front) },
         &mut || -> Option<u8>
             requires { IsSync R.row × IsSync G.row × All (IsReady log.now) back.now × All (Fits log.now.shape.schema) batch.now × (first + length batch.now < 2 ^ 32) }
             ensures wrote { AllZip (Wrote (is_none result) log.entry.now first batch.entry.now) back.entry.now back.exit.now }
-            ensures out { IfSome result (λ writer. RanOut log.entry.now batch.entry.now writer back.exit.now) }
+            ensures out { IfSome result (λ writer. RanOut log.entry.now first batch.entry.now writer back.entry.now back.exit.now) }
         { run_writers(rt, log, gate, first, batch, back) },
     );
     low.or(high)

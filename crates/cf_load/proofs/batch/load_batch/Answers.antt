@@ -38,6 +38,10 @@ gather-requires-clause-all g c =
 written : (g : Over) (c : goal.After-outcome g) (first : ℕ) → first ≡ 4096 * c.args.batch → AllZip (Wrote (is_none c.run_beside-out.result.0) c.args.log.now first c.args.rows.now) c.in-Ok.passes.items c.run_beside-out.new.passes
 written g c first is = rw (is, sym c.as_mut_slice.ensures.value) c.run_beside-out.ensures.wrote
 
+-- one of which may have run out
+ran : (g : Over) (c : goal.After-outcome g) (first : ℕ) → first ≡ 4096 * c.args.batch → IfSome c.run_beside-out.result.0 (λ v. RanOut c.args.log.now first c.args.rows.now v c.in-Ok.passes.items c.run_beside-out.new.passes)
+ran g c first is = rw (is, sym c.as_mut_slice.ensures.value) c.run_beside-out.ensures.out
+
 -- and came home
 gathered : (g : Over) (c : goal.After-outcome g) → HasGathered c.args.log.now.shape c.deal.new.root c.run_beside-out.new.passes c.gather.new.root
 gathered g c =
@@ -68,7 +72,7 @@ lacking : (g : Over) (c : goal.After-outcome g) (before : List RowValue) → c.a
 lacking g c before long had w is =
     let log = c.args.log.now in
     let base = c.args.prior.now.base in
-    let out = subst (λ (o : Option ℕ). IfSome o (λ v. RanOut log c.args.rows.now v c.run_beside-out.new.passes)) is c.run_beside-out.ensures.out in
+    let out = subst (λ (o : Option ℕ). IfSome o (λ v. RanOut log (base + length before) c.args.rows.now v c.in-Ok.passes.items c.run_beside-out.new.passes)) is (ran g c (base + length before) long) in
     out_home log base (before ++ c.args.rows.now) w c.gather.new.root c.fold_back.new.root (c.run_beside-out.new.reader).view
     (batch_out (is_none c.run_beside-out.result.0) log base before c.args.rows.now w c.args.root.now c.deal.new.root c.gather.new.root c.in-Ok.passes.items c.run_beside-out.new.passes c.shape.ensures.lawful had (room g c before long)
     c.in-Ok.ensures.dealt (written g c (base + length before) long) out (gathered g c))

@@ -1,7 +1,9 @@
-use Rattle.std.proofs.Common.{◌≡◌, ◌+◌, List, arith, sym, ap, subst, ◌∙◌, ℕ}
+use Rattle.std.proofs.Common.{◌≡◌, ◌≤◌, ◌+◌, List, arith, sym, ap, subst, ◌∙◌, ℕ}
 use Rattle.cf_row.specs.declared.row.Entry.{Entry}
 use Rattle.cf_plain.specs.Asks.{rows_in}
 use Rattle.cf_plain.specs.Segments.{CanJoin, finding_in, joined}
+use Rattle.cf_query.specs.Walking.{lane_of, steps_of_bucket}
+use Rattle.cf_load.proofs.Costs.{key_cost}
 use Rattle.cf_load.proofs.Findings.{found_behind, found_can}
 use Rattle.cf_load.proofs.prior.find_behind.Goals as goal
 
@@ -30,3 +32,17 @@ returns-clause-found g c entries found =
       count_is = ap (λ (n : ℕ). c.args.before.0 + n) made.1 ∙ both.count_is;
       finding_is = joined_is ∙ both.finding_is;
     }
+
+pub returns-clause-steps : goal.returns-clause-steps
+returns-clause-steps g c one =
+    let shape = c.args.log.now.shape in
+    let ask = c.args.ask.now in
+    let seen : List Entry = ((g.P.Pass.held c.finding.new.pass).view).seen in
+    let made = c.in_ok-tail.ensures.ok in
+    subst (λ (n : ℕ). c.finding.new.steps ≤ c.args.steps.now + n) (key_cost shape ask seen c.in_ok-tail.more c.in_ok-tail.tail made.2 made.1) (c.in_ok-tail.ensures.steps one)
+
+pub returns-clause-bucket : goal.returns-clause-bucket
+returns-clause-bucket g c one =
+    let shape = c.args.log.now.shape in
+    let ask = c.args.ask.now in
+    subst (λ (n : ℕ). c.finding.new.steps ≤ c.args.steps.now + steps_of_bucket shape (lane_of ask) n) c.in_ok-tail.ensures.ok.1 (c.in_ok-tail.ensures.bucket one)

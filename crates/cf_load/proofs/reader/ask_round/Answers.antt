@@ -1,4 +1,4 @@
-use Rattle.std.proofs.Common.{refl, ◌≡◌, ◌<◌, ◌+◌, ◌++◌, ◌∷◌, [], ℕ, List, length, length-append, get_or, ap, sym, subst, ◌∙◌, rules}
+use Rattle.std.proofs.Common.{refl, ◌≡◌, ◌<◌, ◌+◌, ◌++◌, ◌∷◌, [], ℕ, List, length, length-append, get_or, ap, sym, subst, ◌∙◌, arith, rules}
 use Rattle.std.proofs.lemmas.List.{get_or-map}
 use Rattle.cf_row.specs.declared.row.Entry.{Entry}
 use Rattle.cf_plain.specs.Asks.{eval, rows_in}
@@ -49,6 +49,7 @@ loop-turn-preserved g c =
     let body : live.answer.body ≡ eval log.shape (get_or plan.asks.items live.ask no_ask) (before ++ seen) = ap (λ (a : Answer). a.body) answer ∙ ap (λ (a : Ask). eval log.shape a (before ++ seen)) asked in
     record {
       of = search rules;
+      loads = (let now = c.loop-turn.invariant.loads in let more = c.in_ok-answer.ensures.loads in omega (arith, now, more));
       asks = subst (λ (xs : List Live). AsksSome log.shape plan.asks.items plan.lives.items c.args.at.1 (i + 1) c.args.at.0 (before ++ (start.view).seen) (before ++ seen) xs) (sym items)
           (asks_more log.shape plan.asks.items plan.lives.items c.args.at.1 i c.args.at.0 (before ++ (start.view).seen) (before ++ (m.view).seen) (before ++ seen) c.loop-turn.answers.items live c.loop-turn.invariant.asks there (begins_behind before (m.view).seen seen made.longer) refl refl place tail body);
       read = subst (HasRead prior.base start n) (sym items)

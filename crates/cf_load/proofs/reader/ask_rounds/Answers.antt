@@ -1,4 +1,4 @@
-use Rattle.std.proofs.Common.{◌++◌, subst, sym, List}
+use Rattle.std.proofs.Common.{◌++◌, subst, sym, List, arith}
 use Rattle.cf_row.specs.declared.row.Entry.{Entry}
 use Rattle.cf_plain.specs.declared.loaded.Live.{Live}
 use Rattle.cf_load.specs.Loading.{AsksSome}
@@ -18,6 +18,7 @@ loop-round-init g c =
     let none = sym c.new-answers.ensures.items in
     record {
       of = c.requires.of;
+      loads = omega arith;
       asks = subst (λ (xs : List Live). AsksSome log.shape plan.asks.items plan.lives.items 0 0 c.args.batch seen seen xs) none (asks_none log.shape plan.asks.items plan.lives.items c.args.batch seen);
       read = subst (HasRead base m m) none (read_none base m);
     }

@@ -6,4 +6,4 @@ pub returns-clause-wrote : goal.returns-clause-wrote
 returns-clause-wrote g t c = rw (c.split_at_mut-front.ensures.value, c.or.ensures) (search (rules, both_wrote))
 
 pub returns-clause-out : goal.returns-clause-out
-returns-clause-out g t c = rw c.or.ensures (search (rules, either_out))
+returns-clause-out g t c = rw (c.split_at_mut-front.ensures.value, c.or.ensures) (search (rules, either_out))

@@ -24,8 +24,11 @@ pub returns-in-Err-NodesFull-clause-out : goal.returns-in-Err-NodesFull-clause-o
 returns-in-Err-NodesFull-clause-out g c =
     let made = c.append_near.ensures in
     let err : c.append_near.result ≡ Err NodesFull = search rules in
-    let out = (stops_out c.args.log.now c.args.first c.args.batch.now c.args.pass.now c.loop-row.number c.loop-row.row-index c.loop-row.pass c.append_near.new.pass c.append_near.result c.row-item.result c.loop-row.invariant.goes c.loop-row-test.true (sym c.row-item.is) made.goes_on made.rest made.answer err).1 in
-    (out.0 ∙ sym c.writer-writer.ensures.writer, out.1)
+    let writers = c.from-writers.ensures ∙ (c.writers.ensures.writers ∙ ap (λ (s : ShapeValue). s.writers) c.shape.ensures.shape) in
+    let same = ap (λ n. c.loop-row.number % n) writers in
+    let writer = c.from.ensures ∙ c.writer-writer.ensures.writer in
+    (stops_out c.args.log.now c.args.first c.args.batch.now c.args.pass.now c.loop-row.number c.loop-row.row-index c.loop-row.pass c.append_near.new.pass c.append_near.result c.row-item.result c.loop-row.invariant.goes c.loop-row-test.true (sym c.row-item.is) made.goes_on made.rest made.answer err).1
+    _ c.writer-writer.ensures.writer (sym same ∙ (c.if-number-writers.true ∙ writer))
 
 pub loop-row-preserved : goal.loop-row-preserved
 loop-row-preserved g c =

@@ -1,5 +1,5 @@
 use Rattle.std.proofs.Common.{sym, rules}
-use Rattle.cf_load.proofs.tests.load_all.Goals as goal
+use Rattle.cf_load.proofs.tests.load_rows.Goals as goal
 
 pub load-requires-clause-fits : goal.load-requires-clause-fits
 load-requires-clause-fits g c κs within =
