@@ -378,10 +378,7 @@ fn there_is_no_room_or_the_nodes_are_too_few(rt: HostRuntime) -> Result<(), Fail
 fn the_writer_that_lacks_nodes_is_named(rt: HostRuntime) -> Result<(), Fail> {
     let alloc = rt.alloc();
     let plan = plan(alloc)?;
-    for (keys, writer) in [
-        ([7, 1 << 60, 7, 1 << 61], 1),
-        ([1 << 60, 7, 1 << 61, 7], 0),
-    ] {
+    for (keys, writer) in [([7, 1 << 60, 7, 1 << 61], 1), ([1 << 60, 7, 1 << 61, 7], 0)] {
         let mut rows = Vec::new(alloc);
         for (num, key) in (0..4).zip(keys) {
             rows.push(row(alloc, num, key)?)?;
