@@ -1,5 +1,5 @@
 // The row of a captured packet.
-ghost use Rattle.std.specs.Prelude.{◌≡◌, ◌+◌, ◌≤◌, length, IfOk, IsTrue};
+ghost use Rattle.std.specs.Prelude.{◌≡◌, ◌+◌, ◌≤◌, length, IfOk, IsOk, IsTrue};
 ghost use Rattle.cf_row.specs.Row.{Fits};
 ghost use Rattle.cf_row.specs.Schema.{packet_attrs};
 ghost use Rattle.cf_headers.specs.Packet.{packet_row_of, address_values as address_values_of, network_values as network_values_of, transport_values as transport_values_of, IsWithin};
@@ -111,6 +111,7 @@ fn row_of(
 ) -> Result<Row, Memory>
     ensures row { IfOk result (λ row. row ≡ packet_row_of (record { num = num; ts = ts; caplen = caplen; len = len; link = link; bytes = bytes.now })) }
     ensures fits { IfOk result (Fits packet_attrs) }
+    ensures free { IsOk result }
 {
     Row::packed(alloc, num, &packet_values(ts, caplen, len, link, bytes))
 }
@@ -120,10 +121,11 @@ fn row_of(
 /// packet that isn't the later part of a fragmented one, and only within the total length that the IPv4
 /// header states. A total length of 0 is taken for the captured length, since captures of a sender that
 /// leaves segmentation to its device hold it. Of a link that is neither 1 nor 113 the type is read where
-/// it stands in an Ethernet header, and no address.
+/// it stands in an Ethernet header, and no address. The row takes no block of memory, so it is never refused for want of one.
 pub fn packet_row(alloc: Global, frame: &Frame) -> Result<Row, Memory>
     ensures row { IfOk result (λ row. row ≡ packet_row_of frame.now) }
     ensures fits { IfOk result (Fits packet_attrs) }
+    ensures free { IsOk result }
 {
     row_of(
         alloc,

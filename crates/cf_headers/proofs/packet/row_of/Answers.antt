@@ -6,6 +6,7 @@ use Rattle.cf_row.specs.Schema.{packet_attrs}
 use Rattle.cf_pcap.specs.Capture.{FrameValue}
 use Rattle.cf_headers.specs.Packet.{packet_row_of}
 use Rattle.cf_headers.proofs.Fitting.{packet_fits}
+use Rattle.cf_headers.proofs.Within.{lies_within}
 use Rattle.cf_headers.proofs.packet.row_of.Goals as goal
 
 pub returns-clause-fits : goal.returns-clause-fits
@@ -13,4 +14,12 @@ returns-clause-fits c =
     let packet : FrameValue = record { num = c.args.num; ts = c.args.ts; caplen = c.args.caplen; len = c.args.len; link = c.args.link; bytes = c.args.bytes.now } in
     let fits = packet_fits packet c.ranges.ts.fits c.ranges.caplen.fits c.ranges.len.fits (λ i. omega (arith, c.type_inv.bytes i)) in
     let same : record { num = c.args.num; values = c.packet_values.result } ≡ packet_row_of packet = ap (λ (values : List Value). record { num = c.args.num; values = values }) c.packet_values.ensures in
-    IfOk-weaker c.packed.result (λ (row : RowValue). row ≡ record { num = c.args.num; values = c.packet_values.result }) (Fits packet_attrs) (λ row is. subst (λ (r : RowValue). Fits packet_attrs r) (sym (is ∙ same)) fits) c.packed.ensures
+    IfOk-weaker c.packed.result (λ (row : RowValue). row ≡ record { num = c.args.num; values = c.packet_values.result }) (Fits packet_attrs) (λ row is. subst (λ (r : RowValue). Fits packet_attrs r) (sym (is ∙ same)) fits) c.packed.ensures.same
+
+pub returns-clause-free : goal.returns-clause-free
+returns-clause-free c =
+    let packet : FrameValue = record { num = c.args.num; ts = c.args.ts; caplen = c.args.caplen; len = c.args.len; link = c.args.link; bytes = c.args.bytes.now } in
+    let fits = packet_fits packet c.ranges.ts.fits c.ranges.caplen.fits c.ranges.len.fits (λ i. omega (arith, c.type_inv.bytes i)) in
+    let row : RowValue = record { num = c.args.num; values = c.packet_values.result } in
+    let same : row ≡ packet_row_of packet = ap (λ (values : List Value). record { num = c.args.num; values = values }) c.packet_values.ensures in
+    c.packed.ensures.free (lies_within row (subst (λ (r : RowValue). Fits packet_attrs r) (sym same) fits))
