@@ -1,5 +1,5 @@
 // A gate that brings writers and a reader into one order.
-ghost use Rattle.std.specs.Prelude.{◌≡◌};
+ghost use Rattle.std.specs.Prelude.{◌≡◌, ◌≤◌, false};
 ghost use Rattle.cf_outside.specs.Gate.{most_turns as turns_at_most};
 
 use crate::Gate;
@@ -35,6 +35,16 @@ enum Place {
     Second,
 }
 
+// What one wait came to.
+#[derive(Clone, Copy)]
+struct Wait {
+    // How many turns it took.
+    turns: u32,
+
+    // Whether what it waited for has come.
+    came: bool,
+}
+
 /// Holds writers and a reader, so that each writer appends one record, the reader asks while those
 /// records are there and no others, and then the writers go on while it asks again.
 ///
@@ -43,8 +53,8 @@ enum Place {
 /// `before_append` until `after_ask(1)` was called. Other calls wait for nothing. A wait gives up
 /// after ten million turns.
 ///
-/// This is a test's tool: contracts say how many turns a wait takes at most, and that each call returns, but not what a
-/// wait waits for.
+/// This is a test's tool: contracts say how many turns a wait takes at most, that it takes all of them before it gives up,
+/// and that each call returns, but not what a wait waits for.
 #[derive(Drop)]
 pub struct HoldGate {
     writers: u8,
@@ -135,15 +145,30 @@ impl HoldGate {
     }
 
     // Waits at this place.
-    fn wait_at(&self, place: Place) {
-        for _ in 0..self.most_turns {
+    fn wait_at(&self, place: Place) -> Wait
+        ensures most { result.turns ≤ turns_at_most self.now }
+        ensures gave_up { result.came ≡ false → result.turns ≡ turns_at_most self.now }
+    {
+        let most = self.most_turns;
+        let mut turns = 0;
+        while turns < most {
             if self.has_come(place) {
-                return;
+                return Wait { turns, came: true };
             }
-            self.turns.fetch_add(1, Ordering::SeqCst);
             yield_now();
+            turns += 1;
         }
-        self.exhausted.fetch_add(1, Ordering::SeqCst);
+        Wait { turns, came: false }
+    }
+
+    // Waits at this place, and notes what that came to.
+    fn hold_at(&self, place: Place) {
+        let wait = self.wait_at(place);
+        self.turns
+            .fetch_add(u64::from(wait.turns), Ordering::SeqCst);
+        if !wait.came {
+            self.exhausted.fetch_add(1, Ordering::SeqCst);
+        }
     }
 }
 
@@ -153,8 +178,8 @@ impl Gate for HoldGate {
             return;
         };
         match count.fetch_add(1, Ordering::SeqCst) {
-            0 => self.wait_at(Place::First),
-            1 => self.wait_at(Place::Second),
+            0 => self.hold_at(Place::First),
+            1 => self.hold_at(Place::Second),
             _ => {}
         }
     }
@@ -163,7 +188,7 @@ impl Gate for HoldGate {
         match round {
             0 => {
                 if self.asked.fetch_add(1, Ordering::SeqCst) == 0 {
-                    self.wait_at(Place::Asked);
+                    self.hold_at(Place::Asked);
                 }
             }
             1 => {

@@ -1,6 +1,6 @@
 // The real devices. As shelves and sinks they tell nothing of content. They count each error but
 // that a file is missing and, at an open, want of memory.
-ghost use Rattle.std.specs.Prelude.{◌≡◌, ◌↔◌, [], take, if◌then◌else◌, is_err, IfOk, OnErr, Some};
+ghost use Rattle.std.specs.Prelude.{◌≡◌, ◌↔◌, [], take, if◌then◌else◌, is_err, IfOk, OnErr, OnOk, Some};
 ghost use Rattle.std.specs.Io.{ReadsAtMost};
 ghost use Rattle.std.specs.Io.KnownBytes.{Appends, ReadConsumes, WriteAppends};
 ghost use Rattle.std.specs.declared.option.Option.TheVariants.{None};
@@ -71,6 +71,9 @@ impl<'a, R: Files> Shelf for FileShelf<'a, R> {
         // Each failure is counted, once, and nothing else is.
         ensures counted { self.new.faults ≡ (if is_failed result then count_up self.old.faults else self.old.faults) }
         ensures refused { OnErr result (self.new.known ≡ self.old.known) }
+
+        // What is read next is what some opened file has left.
+        ensures opened { OnOk result ((file : R.File) × (self.new.known ≡ R.File.remaining file)) }
     {
         match fs::open(self.rt, name) {
             Ok(file) => {

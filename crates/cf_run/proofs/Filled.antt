@@ -1,6 +1,7 @@
 -- A log is filled row by row.
-use Rattle.std.proofs.Common.{append-nil, ◌≡◌, ◌⊎◌, inl, inr, ℕ, ◌+◌, ◌*◌, ◌<◌, ◌≤◌, ◌%◌, min, true, false, List, [], ◌∷◌, ◌++◌, length, map, All, Result, Ok, Err, MatchResult, refl, sym, ap, ap₂, subst, ◌∙◌, arith, length-append, mul_comm, ◌^◌}
-use Rattle.std.proofs.lemmas.Bool.{both_ways}
+use Rattle.std.proofs.Common.{append-nil, ◌≡◌, ◌⊎◌, inl, inr, ℕ, ◌+◌, ◌*◌, ◌<◌, ◌≤◌, ◌%◌, min, Bool, true, false, List, [], ◌∷◌, ◌++◌, length, map, All, Result, Ok, Err, MatchResult, refl, sym, ap, ap₂, subst, ◌∙◌, arith, length-append, mul_comm, ◌^◌}
+use Rattle.std.proofs.lemmas.Bool.{both_ways, false_from_ne_true}
+use Rattle.std.proofs.lemmas.Bool.Decides.{leb_tells}
 use Rattle.std.proofs.lemmas.List.{append_assoc, drop_at}
 use Rattle.std.proofs.lemmas.List.Elements.{All-nil, All-drop}
 use Rattle.cf_row.specs.declared.row.Entry.{Entry}
@@ -26,7 +27,7 @@ use Rattle.cf_load.proofs.Loaders.{lacks_more, refused_goes}
 use Rattle.cf_load.proofs.Loading.{told_more}
 use Rattle.cf_command.specs.declared.words.LogSizes.{LogSizes}
 use Rattle.cf_setup.specs.Setups.{SetupValue}
-use Rattle.cf_run.specs.Filling.{IsLoadedSo, AreLoaded, HasBatch, AwaitsBatch, IsFilled, LoadsWaiting, IsFilledFor}
+use Rattle.cf_run.specs.Filling.{IsLoadedSo, AreLoaded, HasBatch, AwaitsBatch, IsFilled, LoadsWaiting, IsFilledFor, most_waiting, rows_waiting}
 use Rattle.cf_run.specs.Logs.{IsPlanOf, IsLogClosed, IsUnmade}
 use Rattle.cf_run.specs.Needs.{NeedsMore}
 use Rattle.cf_run.specs.Seals.{AreSeals}
@@ -57,6 +58,7 @@ none_filled s plan loader waiting count holds one told fresh begins none zero = 
     };
   };
   lacking = λ stopped. absurd (both_ways loader.stopped fresh.going stopped);
+  idle = λ _. none;
 }
 
 -- whatever a batch comes to, the segments go on
@@ -167,8 +169,8 @@ module _ (shape : ShapeValue) (most : ℕ) (plan : LivePlan) (s : SegmentsValue)
   more_lacks stopped = let lacks = is.lacking stopped in (lacks.0, lacks_more s rows (row ∷ []) lacks.0 lacks.1)
 
   -- that is not counted
-  pub over_full : room_of s < count → IsFilled shape most plan s loader waiting count (rows ++ row ∷ [])
-  over_full many =
+  pub over_full : (left : List RowValue) → left ≡ [] → room_of s < count → IsFilled shape most plan s loader left count (rows ++ row ∷ [])
+  over_full left none many =
       let same = same_room in
       let counted : count ≡ min (length rows) (most * shape.capacity + 1) = is.count_is in
       let long = longer in record {
@@ -180,11 +182,12 @@ module _ (shape : ShapeValue) (most : ℕ) (plan : LivePlan) (s : SegmentsValue)
         fit = fit_now;
         going = λ going few. absurd (omega (arith, many, same, counted, long, few));
         lacking = more_lacks;
+        idle = λ _. none;
       }
 
   -- that is counted, and does not wait
-  pub passes_on : count ≤ room_of s → (room_of s < count + 1) ⊎ (loader.stopped ≡ true) → IsFilled shape most plan s loader waiting (count + 1) (rows ++ row ∷ [])
-  passes_on low why =
+  pub passes_on : (left : List RowValue) → left ≡ [] → count ≤ room_of s → (room_of s < count + 1) ⊎ (loader.stopped ≡ true) → IsFilled shape most plan s loader left (count + 1) (rows ++ row ∷ [])
+  passes_on left none low why =
       let same = same_room in
       let counted : count ≡ min (length rows) (most * shape.capacity + 1) = is.count_is in
       let long = longer in record {
@@ -199,6 +202,7 @@ module _ (shape : ShapeValue) (most : ℕ) (plan : LivePlan) (s : SegmentsValue)
           | inr stopped ↦ absurd (both_ways loader.stopped going stopped)
         ];
         lacking = more_lacks;
+        idle = λ _. none;
       }
 
   -- that waits
@@ -228,6 +232,10 @@ module _ (shape : ShapeValue) (most : ℕ) (plan : LivePlan) (s : SegmentsValue)
       fit = fit_now;
       going = λ _ _. record { before = awaits.before; rows_are = rows_now; whole = awaits.whole; few = short; loaded = awaits.loaded };
       lacking = λ stopped. absurd (both_ways loader.stopped going stopped);
+      idle = λ why. elim why [
+        | inl stopped ↦ absurd (both_ways loader.stopped going stopped)
+        | inr many ↦ let less = few in let long = longer in absurd (omega (arith, many, less, long))
+      ];
     }
 
     now_long : length now ≡ length waiting + 1
@@ -287,6 +295,7 @@ module _ (shape : ShapeValue) (most : ℕ) (plan : LivePlan) (s : SegmentsValue)
           fit = fit_now;
           going = λ goes _. subst (λ (rs : List RowValue). AwaitsBatch t (rows ++ row ∷ []) rs new) (sym none) (going_on t new full found goes);
           lacking = λ stopped. lacking_then t new found stopped;
+          idle = λ _. none;
         }
 
 -- what is told of a log that was finished and closed
@@ -327,6 +336,58 @@ pub filled_since : (shape : ShapeValue) (most : ℕ) (plan : LivePlan) (s t : Se
 filled_since shape most plan s t old new before waiting some counted first rows is then =
     subst (λ (p : LivePlan). IsFilled shape most p t new waiting counted rows) is.plan_is
     (subst (λ (n : ℕ). IsFilled shape n old.plan t new waiting counted rows) is.most_is (subst (λ (h : ShapeValue). IsFilled h s.most old.plan t new waiting counted rows) is.shape_is then))
+
+-- Few rows wait.
+
+is_either : (b : Bool) → (b ≡ true) ⊎ (b ≡ false)
+is_either true = inl refl
+is_either false = inr refl
+
+split_le : (a b : ℕ) → (a ≤ b) ⊎ (b < a)
+split_le a b = elim (leb_tells a b) [ inl low ↦ inl low.1 | inr high ↦ inr high.1 ]
+
+some_or_idle : (shape : ShapeValue) (most : ℕ) (plan : LivePlan) (s : SegmentsValue) (loader : LoaderValue) (waiting : List RowValue) (count : ℕ) (rows : List RowValue) → IsFilled shape most plan s loader waiting count rows
+    → (loader.stopped ≡ true) ⊎ (most * shape.capacity < length rows) ⊎ ((loader.stopped ≡ false) × (length rows ≤ most * shape.capacity))
+some_or_idle shape most plan s loader waiting count rows is = elim (is_either loader.stopped) [
+  | inl stopped ↦ inl stopped
+  | inr going ↦ elim (split_le (length rows) (most * shape.capacity)) [ inl few ↦ inr (inr (going, few)) | inr many ↦ inr (inl many) ]
+]
+
+-- those that wait are what whole batches leave of all, or none
+module _ (shape : ShapeValue) (most : ℕ) (plan : LivePlan) (s : SegmentsValue) (loader : LoaderValue) (waiting : List RowValue) (count : ℕ) (rows : List RowValue) (is : IsFilled shape most plan s loader waiting count rows) where
+  left_over : loader.stopped ≡ false → length rows ≤ most * shape.capacity → length waiting ≡ length rows % 4096
+  left_over going few =
+      let awaits = is.going going few in
+      let size : length rows ≡ length awaits.before + length waiting = ap (λ (rs : List RowValue). length rs) awaits.rows_are ∙ length-append awaits.before waiting in
+      let whole = awaits.whole in
+      let short = awaits.few in
+      omega (arith, size, whole, short)
+
+  pub waits_short : length waiting < 4096
+  waits_short = elim (some_or_idle shape most plan s loader waiting count rows is) [
+    | inl stopped ↦ (let none : length waiting ≡ 0 = ap (λ (rs : List RowValue). length rs) (is.idle (inl stopped)) in omega (arith, none))
+    | inr (inl many) ↦ (let none : length waiting ≡ 0 = ap (λ (rs : List RowValue). length rs) (is.idle (inr many)) in omega (arith, none))
+    | inr (inr going) ↦ (let left = left_over going.0 going.1 in omega (arith, left))
+  ]
+
+-- once more came, no more wait than those behind the batch that was at hand
+pub waits_few : (shape : ShapeValue) (most : ℕ) (plan : LivePlan) (s t : SegmentsValue) (old new : LoaderValue) (before waiting : List RowValue) (some counted : ℕ) (first rows : List RowValue) → IsFilled shape most plan s old before some first → IsFilled shape most plan t new waiting counted (first ++ rows)
+    → (old.stopped ≡ true → new.stopped ≡ true) → length waiting ≤ (length before + length rows) % 4096
+waits_few shape most plan s t old new before waiting some counted first rows is then stops = elim (some_or_idle shape most plan t new waiting counted (first ++ rows) then) [
+  | inl stopped ↦ (let none : length waiting ≡ 0 = ap (λ (rs : List RowValue). length rs) (then.idle (inl stopped)) in omega (arith, none))
+  | inr (inl many) ↦ (let none : length waiting ≡ 0 = ap (λ (rs : List RowValue). length rs) (then.idle (inr many)) in omega (arith, none))
+  | inr (inr going) ↦ (
+  let size = length-append first rows in
+  let few = going.1 in
+  let went : old.stopped ≡ false = false_from_ne_true old.stopped (λ stopped. both_ways new.stopped going.0 (stops stopped)) in
+  let had = left_over shape most plan s old before some first is went (omega (arith, size, few)) in
+  let has = left_over shape most plan t new waiting counted (first ++ rows) then going.0 few in
+  omega (arith, size, had, has))
+]
+
+-- those that are read meanwhile end the next batch, and no more than a piece brings
+pub ahead_few : (wanted before rows size ahead : ℕ) → wanted + (before + size) % 4096 ≡ 4096 → size ≡ rows → ahead < wanted + 4096 → rows_waiting (before + rows) ahead ≤ most_waiting
+ahead_few wanted before rows size ahead is same few = omega (arith, is, same, few)
 
 -- A log that is filled for a setup.
 

@@ -16,6 +16,7 @@ pub mod Filled
 pub mod OneHost
 pub mod Several
 pub mod Deciding
+pub mod Ending
 pub mod Coming
 mod Counted
 pub mod Answering

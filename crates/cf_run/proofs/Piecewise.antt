@@ -2,7 +2,7 @@
 use Rattle.std.proofs.Common.{◌≡◌, inl, inr, ℕ, ◌+◌, ◌-◌, ◌*◌, ◌<◌, ◌≤◌, ◌^◌, min, take, drop, Bool, List, [], ◌++◌, length, Option, Result, Ok, Err, MatchResult, refl, sym, ap, ap₂, subst, ◌∙◌, arith, length-append}
 use Rattle.std.proofs.KnownBytes.{Consumes-trans}
 use Rattle.std.proofs.Math.Seq.{take-append-add}
-use Rattle.std.proofs.lemmas.List.{map-append, length-drop, length-take, take-append-le}
+use Rattle.std.proofs.lemmas.List.{map-append, length-drop, length-map, length-take, take-append-le}
 use borrow.Rule.Slice.PartMut.{mid_of, post_of, put_mid, same_len_mid}
 use Rattle.std.specs.Io.KnownBytes.{Consumes}
 use Rattle.cf_headers.specs.Packet.{packet_row_of}
@@ -12,7 +12,7 @@ use Rattle.cf_run.specs.Devices.{TakesUpTo, TakesAtMost}
 use Rattle.cf_run.specs.Faults.{HasFaultIn, HasPacketFault}
 use Rattle.cf_run.specs.Formats.{begins_section}
 use Rattle.cf_run.specs.Parts.{IsBad}
-use Rattle.cf_run.specs.Reading.{IsReaderAt, IsReadOn, TakesRows, reads_blocks}
+use Rattle.cf_run.specs.Reading.{AddsFew, IsReaderAt, IsReadOn, TakesRows, reads_blocks}
 use Rattle.cf_run.specs.Work.{AreFramesBy, ArePackets, packet_rows}
 use Rattle.cf_run.specs.declared.pieces.Pieces.{Pieces}
 use Rattle.cf_run.specs.declared.reader.Reader.{Reader}
@@ -135,6 +135,22 @@ pub finished_so : (Took : List RowValue → Type 0) (before now : Option (List �
 finished_so Took before now rows (Ok done) takes took = (takes.0, takes.1, takes.2, takes.3, subst (λ (these : List RowValue). Took these) (sym takes.4) took)
 finished_so Took before now rows (Err (Refused why)) takes took = takes
 finished_so Took before now rows (Err (Stopped stop)) takes took = takes
+
+-- Few rows come.
+
+pub rows_few : (piece : List ℕ) (none frames these : List FrameValue) (rows : List RowValue) → none ≡ [] → these ≡ frames → rows ≡ packet_rows these → AddsFew piece none frames → AddsFew piece [] rows
+rows_few piece none frames these rows empty same are few =
+    let zero : length none ≡ 0 = ap (λ (fs : List FrameValue). length fs) empty in
+    let size : length rows ≡ length frames = ap (λ (rs : List RowValue). length rs) are ∙ length-map these packet_row_of ∙ ap (λ (fs : List FrameValue). length fs) same in
+    omega (arith, zero, size, few)
+
+pub piece_few : (piece : List ℕ) (rows : List RowValue) → length piece ≤ 65536 → AddsFew piece [] rows → length rows ≤ 4096
+piece_few piece rows short few = omega (arith, short, few)
+
+pub few_more : (given more all : List RowValue) (wanted : ℕ) → all ≡ given ++ more → length given < wanted → length more ≤ 4096 → length all < wanted + 4096
+few_more given more all wanted grown short few =
+    let size : length all ≡ length given + length more = ap (λ (rs : List RowValue). length rs) grown ∙ length-append given more in
+    omega (arith, size, short, few)
 
 -- A buffer is filled.
 

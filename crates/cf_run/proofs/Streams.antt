@@ -1,5 +1,5 @@
 -- A reader of one of the two formats, over a stream.
-use Rattle.std.proofs.Common.{◌≡◌, ℕ, List, [], ◌++◌, Result, Ok, subst, arith}
+use Rattle.std.proofs.Common.{◌≡◌, ℕ, ◌+◌, ◌*◌, ◌≤◌, List, [], ◌++◌, length, length-append, Result, Ok, subst, ap, ◌∙◌, arith}
 use Rattle.cf_pcap.specs.declared.fault.PcapFault.{PcapFault}
 use Rattle.cf_pcap.specs.Capture.{FrameValue, IsCapture}
 use Rattle.cf_pcap.specs.File.{pcap}
@@ -18,7 +18,7 @@ use Rattle.cf_stream.proofs.Ending.{whole_gives}
 use Rattle.cf_stream.proofs.Given.{given_of, one_given}
 use Rattle.cf_stream.proofs.Seen.{early_short}
 use Rattle.cf_stream.proofs.Units.{reads_nothing, wants_none}
-use Rattle.cf_run.specs.Reading.{IsReaderAt}
+use Rattle.cf_run.specs.Reading.{AddsFew, IsReaderAt}
 use Rattle.cf_run.specs.declared.reader.Reader.TheVariants.{Pcap, PcapNg}
 
 -- of a stream of no bytes no item is given
@@ -52,6 +52,21 @@ blocks_fed old new piece given answer feeds stream frames at =
     let fed = feeds stream at.0 in
     let same : fed.before ≡ frames = one_given pcapng stream fed.before frames fed.given_before at.1 in
     (fed.state, subst (λ (fs : List FrameValue). AreGiven pcapng (stream ++ piece) (fs ++ given)) same fed.given_now)
+
+-- These are few.
+
+adds_few : {A : Type 0} (piece : List ℕ) (old new given : List A) → new ≡ old ++ given → 16 * length given ≤ length piece + 15 → AddsFew piece old new
+adds_few {A} piece old new given grown few =
+    let size : length new ≡ length old + length given = ap (λ (xs : List A). length xs) grown ∙ length-append old given in
+    omega (arith, size, few)
+
+pub records_few : (old new : records.PcapValue) (piece : List ℕ) (given before after : List FrameValue) (answer : Result (Unit {0}) PcapFault) → after ≡ before ++ given → ((stream : List ℕ) → records.IsStateOf old stream → records.IsFed stream piece given answer new)
+    → (stream : List ℕ) (frames : List FrameValue) → IsReaderAt (Pcap old) stream frames → AddsFew piece before after
+records_few old new piece given before after answer grown feeds stream frames at = adds_few piece before after given grown (feeds stream at.0).few
+
+pub blocks_few : (old new : blocks.PcapNgValue) (piece : List ℕ) (given before after : List FrameValue) (answer : Result (Unit {0}) NgFault) → after ≡ before ++ given → ((stream : List ℕ) → blocks.IsStateOf old stream → blocks.IsFed stream piece given answer new)
+    → (stream : List ℕ) (frames : List FrameValue) → IsReaderAt (PcapNg old) stream frames → AddsFew piece before after
+blocks_few old new piece given before after answer grown feeds stream frames at = adds_few piece before after given grown (feeds stream at.0).few
 
 -- At the end they are those of the capture.
 

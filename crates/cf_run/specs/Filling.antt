@@ -1,5 +1,5 @@
 -- A log that rows fill as they come.
-use Rattle.std.specs.Prelude.{◌≡◌, ◌⊎◌, ℕ, ◌+◌, ◌*◌, ◌<◌, ◌≤◌, ◌%◌, min, true, false, List, ◌++◌, length, All}
+use Rattle.std.specs.Prelude.{◌≡◌, ◌⊎◌, ℕ, ◌+◌, ◌*◌, ◌<◌, ◌≤◌, ◌%◌, min, true, false, List, [], ◌++◌, length, All}
 use Rattle.cf_row.specs.Row.{RowValue, Fits}
 use Rattle.cf_shape.specs.Lanes.{ShapeValue}
 use Rattle.cf_load.specs.Segments.{SegmentsValue, AllowsSegments, base_of, told_of}
@@ -46,7 +46,8 @@ pub record AwaitsBatch (s : SegmentsValue) (rows waiting : List RowValue) (loade
   pub loaded : IsLoadedSo s before loader
 
 -- These rows came. The shape, the most segments and the plan are as they were. The rows are counted up to one more than all segments have
--- room for. While they are no more than that, they are loaded batch by batch, or their paths lack nodes.
+-- room for. While they are no more than that, they are loaded batch by batch, or their paths lack nodes. Where no more is loaded, none
+-- waits.
 pub record IsFilled (shape : ShapeValue) (most : ℕ) (plan : LivePlan) (s : SegmentsValue) (loader : LoaderValue) (waiting : List RowValue) (count : ℕ) (rows : List RowValue) : Type 0 where
   pub shape_is : s.shape ≡ shape
   pub most_is : s.most ≡ most
@@ -56,6 +57,16 @@ pub record IsFilled (shape : ShapeValue) (most : ℕ) (plan : LivePlan) (s : Seg
   pub fit : All (Fits shape.schema) rows
   pub going : loader.stopped ≡ false → length rows ≤ most * shape.capacity → AwaitsBatch s rows waiting loader
   pub lacking : loader.stopped ≡ true → (writer : ℕ) × LacksNodes s rows writer
+  pub idle : (loader.stopped ≡ true) ⊎ (most * shape.capacity < length rows) → waiting ≡ []
+
+-- the most rows that wait for a batch
+abbrev pub most_waiting : ℕ
+most_waiting = 8191
+
+-- How many rows wait for a batch while those at hand are loaded, and so many more were read. Of fewer than two batches at hand, a whole one
+-- is being loaded, and the others wait.
+abbrev pub rows_waiting : ℕ → ℕ → ℕ
+rows_waiting at_hand ahead = at_hand % 4096 + ahead
 
 -- These rows came into a log of the setup's shape and of so many segments, of which is asked what the setup asks.
 pub record IsFilledFor (setup : SetupValue) (sizes : LogSizes) (rounds : ℕ) (s : SegmentsValue) (loader : LoaderValue) (waiting : List RowValue) (count : ℕ) (rows : List RowValue) : Type 0 where

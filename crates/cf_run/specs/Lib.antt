@@ -10,6 +10,7 @@ pub mod Seals
 pub mod Logs
 pub mod Filling
 pub mod Due
+pub mod Ending
 pub mod Devices
 pub mod Answers
 pub mod Parts

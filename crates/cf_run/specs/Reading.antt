@@ -30,6 +30,10 @@ abbrev pub IsReaderAt : Reader → List ℕ → List FrameValue → Type 0
 IsReaderAt (Pcap reader) stream frames = pcap.IsStateOf reader stream × pcap.AreGiven stream frames
 IsReaderAt (PcapNg reader) stream frames = ng.IsStateOf reader stream × streams.AreGiven pcapng stream frames
 
+-- a piece adds few to a list: each frame takes 16 bytes at least, and only the first of them may begin before the piece
+abbrev pub AddsFew : {A : Type 0} → List ℕ → List A → List A → Type 0
+AddsFew piece old new = 16 * length new ≤ 16 * length old + length piece + 15
+
 -- Of the opened file so many pieces were read, and the last of them lies in the buffer. The rows are those of the frames that end in them.
 pub record IsReadOn (pieces : Pieces) (before now : Option (List ℕ)) (rows : List RowValue) : Type 0 where
   pub stream : List ℕ

@@ -1,5 +1,5 @@
 // A log that rows fill as they come.
-ghost use Rattle.std.specs.Prelude.{◌≡◌, ◌<◌, ◌≤◌, ◌+◌, ◌%◌, ◌++◌, ◌∷◌, List, [], All, length, false, IfOk, IsTrue, MatchResult};
+ghost use Rattle.std.specs.Prelude.{◌≡◌, ◌<◌, ◌≤◌, ◌+◌, ◌%◌, ◌++◌, ◌∷◌, List, [], All, length, true, false, IfOk, IsTrue, MatchResult};
 ghost use Rattle.cf_row.specs.Row.{Fits, RowValue};
 ghost use Rattle.cf_load.specs.Loads.{room_of};
 ghost use Rattle.cf_load.specs.Planned.{IsPlan, IsSamePlan};
@@ -20,10 +20,8 @@ use std::thread::Threads;
 /// The rows of a batch.
 const BATCH: usize = 4096;
 
-/// The rows that are read while others are loaded: those of several batches, as a thread that is started may begin late.
-const AHEAD: usize = 2 * BATCH;
-
-/// A log that rows fill batch by batch, as they come. The rows of the next batch wait, and no other row is kept beside the log.
+/// A log that rows fill batch by batch, as they come. The rows of the next batch wait, and no other row is kept beside the log. None
+/// waits once no more is loaded, because there are more than the log may hold or a writer has no node left.
 #[derive(Drop)]
 pub(crate) struct Filling {
     alloc: Global,
@@ -68,11 +66,11 @@ impl Filling {
         self.count > self.segments.room()
     }
 
-    /// How many rows end the next batches, behind those that wait once so many more came.
+    /// How many rows end the next batch, behind those that wait once so many more came.
     pub(crate) fn wanted(&self, more: usize) -> usize
-        ensures { result + (length self.now.waiting.items + more) % 4096 ≡ 8192 }
+        ensures { result + (length self.now.waiting.items + more) % 4096 ≡ 4096 }
     {
-        AHEAD - (self.waiting.len() % BATCH + more % BATCH) % BATCH
+        BATCH - (self.waiting.len() % BATCH + more % BATCH) % BATCH
     }
 
     // Loads the rows that wait.
@@ -98,20 +96,23 @@ impl Filling {
         }
     }
 
-    // Takes the next row. Where it ends a batch, the batch is loaded.
+    // Takes the next row. Where it ends a batch, the batch is loaded. Once no more is loaded, none waits.
     fn push<R: Threads + Sync, G: Gate>(&mut self, rt: &R, gate: &G, row: Row) -> Result<(), Memory>
         requires fits { Fits self.old.segments.shape.schema row }
         requires filled { (rows : List RowValue) × IsFilled self.old.segments.shape self.old.segments.most self.old.loader.plan self.old.segments self.old.loader self.old.waiting.items self.old.count rows }
         ensures shape { self.new.segments.shape ≡ self.old.segments.shape }
+        ensures stops { self.old.loader.stopped ≡ true → self.new.loader.stopped ≡ true }
         ensures filled { IfOk result (λ _. (rows : List RowValue) → IsFilled self.old.segments.shape self.old.segments.most self.old.loader.plan self.old.segments self.old.loader self.old.waiting.items self.old.count rows
             → IsFilled self.old.segments.shape self.old.segments.most self.old.loader.plan self.new.segments self.new.loader self.new.waiting.items self.new.count (rows ++ row ∷ [])) }
     {
         let room = self.segments.room();
         if self.count > room {
+            self.waiting.clear();
             return Ok(());
         }
         self.count += 1;
         if self.count > room || self.loader.stopped() {
+            self.waiting.clear();
             return Ok(());
         }
         self.waiting.push(row)?;
@@ -130,6 +131,7 @@ impl Filling {
     ) -> Result<(), Memory>
         requires fit { All (Fits self.old.segments.shape.schema) rows.items }
         requires filled { (before : List RowValue) × IsFilled self.old.segments.shape self.old.segments.most self.old.loader.plan self.old.segments self.old.loader self.old.waiting.items self.old.count before }
+        ensures stops { self.old.loader.stopped ≡ true → self.new.loader.stopped ≡ true }
         ensures filled { IfOk result (λ _. (before : List RowValue) → IsFilled self.old.segments.shape self.old.segments.most self.old.loader.plan self.old.segments self.old.loader self.old.waiting.items self.old.count before
             → IsFilled self.old.segments.shape self.old.segments.most self.old.loader.plan self.new.segments self.new.loader self.new.waiting.items self.new.count (before ++ rows.items)) }
     {
@@ -148,6 +150,7 @@ impl Filling {
     ) -> Result<(), Memory>
         requires fit { All (Fits self.old.segments.shape.schema) rows.old.items }
         requires filled { (before : List RowValue) × IsFilled self.old.segments.shape self.old.segments.most self.old.loader.plan self.old.segments self.old.loader self.old.waiting.items self.old.count before }
+        ensures stops { self.old.loader.stopped ≡ true → self.new.loader.stopped ≡ true }
         ensures filled { IfOk result (λ _. (before : List RowValue) → IsFilled self.old.segments.shape self.old.segments.most self.old.loader.plan self.old.segments self.old.loader self.old.waiting.items self.old.count before
             → IsFilled self.old.segments.shape self.old.segments.most self.old.loader.plan self.new.segments self.new.loader self.new.waiting.items self.new.count (before ++ rows.old.items)) }
         ensures none { rows.new.items ≡ [] }

@@ -1,5 +1,5 @@
 // A capture of packets is read in pieces, and its rows come piece by piece.
-ghost use Rattle.std.specs.Prelude.{◌≡◌, ◌≤◌, ◌<◌, ◌^◌, ◌+◌, ℕ, List, Option, [], ◌++◌, length, take, false, All, IfOk, OnErr, IsTrue, Err};
+ghost use Rattle.std.specs.Prelude.{◌≡◌, ◌≤◌, ◌<◌, ◌^◌, ◌+◌, ℕ, List, Option, [], ◌++◌, length, take, true, false, All, IfOk, OnErr, IsTrue, Err};
 ghost use Rattle.std.specs.Thread.{IsSync};
 ghost use Rattle.cf_outside.specs.Causes.{HasCause};
 ghost use Rattle.cf_pcap.specs.Capture.{FrameValue};
@@ -7,9 +7,9 @@ ghost use Rattle.cf_row.specs.Row.{Fits, RowValue};
 ghost use Rattle.cf_row.specs.Schema.{packet_attrs};
 ghost use Rattle.cf_run.specs.Devices.{TakesUpTo, TakesAtMost};
 ghost use Rattle.cf_run.specs.Faults.{HasPacketFault};
-ghost use Rattle.cf_run.specs.Filling.{IsFilled};
+ghost use Rattle.cf_run.specs.Filling.{IsFilled, most_waiting, rows_waiting};
 ghost use Rattle.cf_run.specs.Parts.{HasHaltCause, HasStopCause};
-ghost use Rattle.cf_run.specs.Reading.{IsReaderAt, IsReadOn, TakesRows, reads_blocks};
+ghost use Rattle.cf_run.specs.Reading.{AddsFew, IsReaderAt, IsReadOn, TakesRows, reads_blocks};
 ghost use Rattle.cf_run.specs.Work.{ArePackets, packet_rows};
 ghost use Rattle.cf_run.specs.declared.refusal.Halt.TheVariants.{Stopped};
 ghost use Rattle.cf_run.specs.declared.refusal.Stop.TheVariants as stops;
@@ -54,6 +54,8 @@ fn feed_rows(alloc: Global, reader: &mut Reader, piece: &[u8]) -> Result<Vec<Row
     ensures blocks { reads_blocks reader.new ≡ reads_blocks reader.old }
     ensures fed { IfOk result (λ rows. (given : List FrameValue) × (rows.items ≡ packet_rows given)
         × ((stream : List ℕ) (frames : List FrameValue) → IsReaderAt reader.old stream frames → IsReaderAt reader.new (stream ++ piece.now) (frames ++ given))) }
+    ensures few { IfOk result (λ rows. (stream : List ℕ) (frames : List FrameValue) → IsReaderAt reader.old stream frames
+        → AddsFew piece.now [] rows.items) }
     ensures fit { IfOk result (λ rows. All (Fits packet_attrs) rows.items) }
 {
     let mut frames = Vec::new(alloc);
@@ -81,6 +83,7 @@ fn first_piece<F: Shelf>(
     requires { length buf.items ≡ 65536 }
     ensures files { F.files shelf.new ≡ F.files shelf.old }
     ensures read { IfOk result (λ begun. IsReadOn begun.0 (F.rest shelf.old) (F.rest shelf.new) begun.1.items) }
+    ensures few { IfOk result (λ begun. length begun.1.items ≤ 4096) }
     ensures fit { IfOk result (λ begun. All (Fits packet_attrs) begun.1.items) }
     ensures stopped { OnErr result (TakesAtMost (F.rest shelf.old) (F.rest shelf.new) (2 ^ 32)) }
     ensures cause { HasStopCause (F.faults shelf.old) (F.faults shelf.new) result }
@@ -102,6 +105,7 @@ impl Pieces {
     pub(crate) fn begin<F: Shelf>(alloc: Global, shelf: &mut F) -> Result<(Pieces, Vec<Row>), Stop>
         ensures files { F.files shelf.new ≡ F.files shelf.old }
         ensures read { IfOk result (λ begun. IsReadOn begun.0 (F.rest shelf.old) (F.rest shelf.new) begun.1.items) }
+        ensures few { IfOk result (λ begun. length begun.1.items ≤ 4096) }
         ensures fit { IfOk result (λ begun. All (Fits packet_attrs) begun.1.items) }
         ensures stopped { OnErr result (TakesAtMost (F.rest shelf.old) (F.rest shelf.new) (2 ^ 32)) }
         ensures cause { HasStopCause (F.faults shelf.old) (F.faults shelf.new) result }
@@ -123,6 +127,7 @@ impl Pieces {
         requires more { (self.old.count ≡ 65536) × (self.old.number < 65536) }
         ensures files { F.files shelf.new ≡ F.files shelf.old }
         ensures number { IfOk result (λ _. self.new.number ≡ self.old.number + 1) }
+        ensures few { IfOk result (λ given. (before : Option (List ℕ)) (rows : List RowValue) → IsReadOn self.old before (F.rest shelf.old) rows → length given.items ≤ 4096) }
         ensures read { IfOk result (λ given. (before : Option (List ℕ)) (rows : List RowValue) → IsReadOn self.old before (F.rest shelf.old) rows → IsReadOn self.new before (F.rest shelf.new) (rows ++ given.items)) }
         ensures fit { IfOk result (λ given. All (Fits packet_attrs) given.items) }
         ensures stopped { OnErr result ((before : Option (List ℕ)) (rows : List RowValue) → IsReadOn self.old before (F.rest shelf.old) rows → TakesAtMost before (F.rest shelf.new) (2 ^ 32)) }
@@ -143,8 +148,10 @@ impl Pieces {
         wanted: usize,
     ) -> Result<Vec<Row>, Stop>
         requires more { (self.old.count ≡ 65536) × (self.old.number < 65536) }
+        requires some { 0 < wanted }
         ensures files { F.files shelf.new ≡ F.files shelf.old }
         ensures number { IfOk result (λ _. self.old.number < self.new.number) }
+        ensures few { IfOk result (λ given. (before : Option (List ℕ)) (rows : List RowValue) → IsReadOn self.old before (F.rest shelf.old) rows → length given.items < wanted + 4096) }
         ensures read { IfOk result (λ given. (before : Option (List ℕ)) (rows : List RowValue) → IsReadOn self.old before (F.rest shelf.old) rows → IsReadOn self.new before (F.rest shelf.new) (rows ++ given.items)) }
         ensures fit { IfOk result (λ given. All (Fits packet_attrs) given.items) }
         ensures stopped { OnErr result ((before : Option (List ℕ)) (rows : List RowValue) → IsReadOn self.old before (F.rest shelf.old) rows → TakesAtMost before (F.rest shelf.new) (2 ^ 32)) }
@@ -186,7 +193,7 @@ pub(crate) fn collect_packets<F: Shelf>(alloc: Global, shelf: &mut F) -> Result<
 }
 
 // The rows at hand go into the log, in a thread of its own where one can be made, while this one reads on, until there are as many
-// as end the next batches.
+// as end the next batch.
 fn take_beside<R: Threads + Sync, F: Shelf, G: Gate>(
     rt: &R,
     alloc: Global,
@@ -199,8 +206,13 @@ fn take_beside<R: Threads + Sync, F: Shelf, G: Gate>(
     requires fit { All (Fits filling.old.segments.shape.schema) rows.old.items }
     requires filled { (before : List RowValue) × IsFilled filling.old.segments.shape filling.old.segments.most filling.old.loader.plan filling.old.segments filling.old.loader filling.old.waiting.items filling.old.count before }
     requires more { (pieces.old.count ≡ 65536) × (pieces.old.number < 65536) }
+    requires few { length filling.old.waiting.items + length rows.old.items ≤ most_waiting }
     ensures filled { IfOk result.0 (λ _. (before : List RowValue) → IsFilled filling.old.segments.shape filling.old.segments.most filling.old.loader.plan filling.old.segments filling.old.loader filling.old.waiting.items filling.old.count before
         → IsFilled filling.old.segments.shape filling.old.segments.most filling.old.loader.plan filling.new.segments filling.new.loader filling.new.waiting.items filling.new.count (before ++ rows.old.items)) }
+    ensures stops { filling.old.loader.stopped ≡ true → filling.new.loader.stopped ≡ true }
+    // While the batch that is at hand is loaded, few rows wait.
+    ensures few { IfOk result.1 (λ given. (before : Option (List ℕ)) (these : List RowValue) → IsReadOn pieces.old before (F.rest shelf.old) these
+        → rows_waiting (length filling.old.waiting.items + length rows.old.items) (length given.items) ≤ most_waiting) }
     ensures files { F.files shelf.new ≡ F.files shelf.old }
     ensures number { IfOk result.1 (λ _. pieces.old.number < pieces.new.number) }
     ensures read { IfOk result.1 (λ given. (before : Option (List ℕ)) (these : List RowValue) → IsReadOn pieces.old before (F.rest shelf.old) these → IsReadOn pieces.new before (F.rest shelf.new) (these ++ given.items)) }
@@ -211,13 +223,15 @@ fn take_beside<R: Threads + Sync, F: Shelf, G: Gate>(
     let wanted = filling.wanted(rows.len());
     let mut take = || -> Result<(), Memory>
         requires { IsSync R.row × IsSync G.row × All (Fits filling.now.segments.shape.schema) rows.now.items × ((before : List RowValue) × IsFilled filling.now.segments.shape filling.now.segments.most filling.now.loader.plan filling.now.segments filling.now.loader filling.now.waiting.items filling.now.count before) }
-        ensures { IfOk result (λ _. (before : List RowValue) → IsFilled filling.entry.now.segments.shape filling.entry.now.segments.most filling.entry.now.loader.plan filling.entry.now.segments filling.entry.now.loader filling.entry.now.waiting.items filling.entry.now.count before
+        ensures filled { IfOk result (λ _. (before : List RowValue) → IsFilled filling.entry.now.segments.shape filling.entry.now.segments.most filling.entry.now.loader.plan filling.entry.now.segments filling.entry.now.loader filling.entry.now.waiting.items filling.entry.now.count before
             → IsFilled filling.entry.now.segments.shape filling.entry.now.segments.most filling.entry.now.loader.plan filling.exit.now.segments filling.exit.now.loader filling.exit.now.waiting.items filling.exit.now.count (before ++ rows.entry.now.items)) }
+        ensures stops { filling.entry.now.loader.stopped ≡ true → filling.exit.now.loader.stopped ≡ true }
     { filling.take_all(rt, gate, rows) };
     let mut read = || -> Result<Vec<Row>, Stop>
-        requires { (pieces.now.count ≡ 65536) × (pieces.now.number < 65536) }
+        requires { (pieces.now.count ≡ 65536) × (pieces.now.number < 65536) × (0 < wanted) }
         ensures files { F.files shelf.exit.now ≡ F.files shelf.entry.now }
         ensures number { IfOk result (λ _. pieces.entry.now.number < pieces.exit.now.number) }
+        ensures few { IfOk result (λ given. (before : Option (List ℕ)) (these : List RowValue) → IsReadOn pieces.entry.now before (F.rest shelf.entry.now) these → length given.items < wanted + 4096) }
         ensures read { IfOk result (λ given. (before : Option (List ℕ)) (these : List RowValue) → IsReadOn pieces.entry.now before (F.rest shelf.entry.now) these → IsReadOn pieces.exit.now before (F.rest shelf.exit.now) (these ++ given.items)) }
         ensures fit { IfOk result (λ given. All (Fits packet_attrs) given.items) }
         ensures stopped { OnErr result ((before : Option (List ℕ)) (these : List RowValue) → IsReadOn pieces.entry.now before (F.rest shelf.entry.now) these → TakesAtMost before (F.rest shelf.exit.now) (2 ^ 32)) }

@@ -1,25 +1,64 @@
 // The program over the real devices.
-ghost use Rattle.std.specs.Prelude.{◌≡◌, ◌≤◌, ◌⊎◌, None, IfOk, MatchResult, map, string_bytes};
+ghost use Rattle.std.specs.Prelude.{◌≡◌, ◌⊎◌, ◌≤◌, ℕ, List, [], None, IfOk, MatchResult, drop, map, string_bytes};
+ghost use Rattle.std.specs.Process.{exit_status};
+ghost use Rattle.std.specs.Vec.Iter.{into_iter_items};
 ghost use Rattle.cf_command.specs.Call.{call_of, texts as texts_of};
-ghost use Rattle.cf_run.specs.Answers.{number_of};
+ghost use Rattle.cf_outside.specs.Causes.{Rose};
+ghost use Rattle.cf_run.specs.Ending.{EndsBy, HasEnded};
 
 use crate::{Status, run};
-use cf_outside::{FileShelf, FreeGate, StdSink};
+use cf_outside::{FileShelf, FreeGate, Gate, Shelf, Sink, StdSink};
 use cf_row::Memory;
 use std::alloc::{AllocError, Global};
+use std::env::Args;
 use std::io::ErrorKind;
+use std::process::ExitCode;
 use std::rt::{Env, Files};
 use std::thread::Threads;
 use std::{env, io};
 
+// Does the work that the words ask for, and gives the exit code of its status. What `run` says of its outcome, it says of one whose
+// status has that number.
+fn run_to_code<R: Threads + Sync, F: Shelf, K: Sink, G: Gate>(
+    rt: &R,
+    alloc: Global,
+    words: &[&str],
+    shelf: &mut F,
+    sink: &mut K,
+    gate: &G,
+) -> ExitCode
+    ensures ended { HasEnded (F.files shelf.old) (call_of (texts_of words.now))
+        (K.held sink.old) (K.held sink.new) (F.rest shelf.old) (F.rest shelf.new) (exit_status result) }
+
+    ensures no_words_no_file { call_of (texts_of words.now) ≡ None → shelf.new ≡ shelf.old }
+    ensures files { F.files shelf.new ≡ F.files shelf.old }
+
+    // 8 is the number of `Memory`, 4 of `ReadFault` and 5 of `WriteFault`.
+    ensures no_memory_no_write { exit_status result ≡ 8 → sink.new ≡ sink.old }
+    ensures no_read_no_write { exit_status result ≡ 4 → sink.new ≡ sink.old }
+    ensures read_fault { exit_status result ≡ 4 → Rose (F.faults shelf.old) (F.faults shelf.new) }
+    ensures write_fault { exit_status result ≡ 5 → Rose (K.faults sink.old) (K.faults sink.new) }
+    ensures shelf_count { F.faults shelf.old ≤ F.faults shelf.new }
+    ensures sink_count { K.faults sink.old ≤ K.faults sink.new }
+{
+    let outcome = run(rt, alloc, words, shelf, sink, gate);
+    ExitCode::from(outcome.status.number())
+}
+
 // Runs over the files of the system and standard output.
-fn run_words<R: Files + Print + Threads + Sync>(rt: &R, alloc: Global, words: &[&str]) -> Status
-    ensures words { result ≡ Status.Words → call_of (texts_of words.now) ≡ None }
-    ensures no_words { call_of (texts_of words.now) ≡ None → (result ≡ Status.Words) ⊎ (result ≡ Status.Memory) ⊎ (result ≡ Status.WriteFault) }
+fn run_words<R: Files + Print + Threads + Sync>(
+    rt: &R,
+    alloc: Global,
+    words: &[&str],
+) -> ExitCode
+    ensures by_command { EndsBy (call_of (texts_of words.now)) (exit_status result) }
+    ensures words { exit_status result ≡ 1 → call_of (texts_of words.now) ≡ None }
+    ensures no_words { call_of (texts_of words.now) ≡ None
+        → (exit_status result ≡ 1) ⊎ (exit_status result ≡ 8) ⊎ (exit_status result ≡ 5) }
 {
     let mut shelf = FileShelf::new(rt);
     let mut sink = StdSink::new(io::writer(rt));
-    run(rt, alloc, words, &mut shelf, &mut sink, &FreeGate).status
+    run_to_code(rt, alloc, words, &mut shelf, &mut sink, &FreeGate)
 }
 
 // The words as they came.
@@ -33,41 +72,51 @@ fn texts(alloc: Global, owned: &[String]) -> Result<Vec<&str>, Memory>
     Ok(words)
 }
 
-// Runs with the words after the program's name. Words that are no text are no command.
+// All words behind the first, which is the program's name.
+fn words_after(alloc: Global, mut args: Args) -> Result<Vec<String>, Memory>
+    ensures { IfOk result (λ words. words.items ≡ drop 1 (into_iter_items args)) }
+{
+    let _program = args.next();
+    let mut words = Vec::with_capacity(alloc, args.len())?;
+    for word in args {
+        words.push(word)?;
+    }
+    Ok(words)
+}
+
+// The words where the system's were not read. Words that are no text are no command, as no words are.
+fn words_unread(alloc: Global, kind: ErrorKind) -> Result<Vec<String>, Memory>
+    ensures { MatchResult result (λ words. (words.items ≡ []) × (kind ≡ ErrorKind.OutOfMemory → ⊥)) (λ _. kind ≡ ErrorKind.OutOfMemory) }
+{
+    if kind == ErrorKind::OutOfMemory {
+        Err(AllocError)
+    } else {
+        Ok(Vec::new(alloc))
+    }
+}
+
+// Does the work that the words after the program's name ask for. Of the system's words no contract says what they are, so it is said
+// that there are some by which the program ends.
 fn run_args<R: Files + Print + Env + Threads + Sync + AllocGlobal>(
     rt: &R,
-) -> Result<Status, Memory> {
-    let mut owned = Vec::new(rt.alloc());
-    match env::args(rt) {
-        Ok(args) => {
-            for word in args.skip(1) {
-                owned.push(word)?;
-            }
-        }
-        Err(error) => {
-            if error.kind() == ErrorKind::OutOfMemory {
-                return Err(AllocError);
-            }
-        }
-    }
+) -> Result<ExitCode, Memory>
+    ensures { IfOk result (λ code. (words : List (List ℕ)) × EndsBy (call_of words) (exit_status code)) }
+{
+    let owned = match env::args(rt) {
+        Ok(args) => words_after(rt.alloc(), args)?,
+        Err(error) => words_unread(rt.alloc(), error.kind())?,
+    };
     let words = texts(rt.alloc(), &owned)?;
     Ok(run_words(rt, rt.alloc(), &words))
 }
 
-// The number with which the program is to end: that of the status, and that of want of memory where there is none for the words.
-fn exit_number(ended: Result<Status, Memory>) -> u8
-    ensures { MatchResult ended (λ status. result ≡ number_of status) (λ error. result ≡ 8) }
+/// Does the work of the program, and gives the code with which it ends: that of a status to which its words can come, or that
+/// of `Status::Memory` if there is no memory for the words.
+pub fn start<R: Files + Print + Env + Threads + Sync + AllocGlobal>(rt: &R) -> ExitCode
+    ensures { ((words : List (List ℕ)) × EndsBy (call_of words) (exit_status result)) ⊎ (exit_status result ≡ 8) }
 {
-    match ended {
-        Ok(status) => status.number(),
-        Err(_) => Status::Memory.number(),
+    match run_args(rt) {
+        Ok(code) => code,
+        Err(_) => ExitCode::from(Status::Memory.number()),
     }
-}
-
-/// Does the work of the program, and gives the number with which it is to end. Where there is no memory for the words
-/// this is that of want of memory.
-pub fn start<R: Files + Print + Env + Threads + Sync + AllocGlobal>(rt: &R) -> u8
-    ensures { result ≤ 9 }
-{
-    exit_number(run_args(rt))
 }

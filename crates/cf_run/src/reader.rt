@@ -4,7 +4,7 @@ ghost use Rattle.cf_pcap.specs.Capture.{FrameValue};
 ghost use Rattle.cf_run.specs.Faults.{HasFaultIn};
 ghost use Rattle.cf_run.specs.Formats.{begins_section as section_begins};
 ghost use Rattle.cf_run.specs.Parts.{IsBad};
-ghost use Rattle.cf_run.specs.Reading.{IsReaderAt, reads_blocks};
+ghost use Rattle.cf_run.specs.Reading.{AddsFew, IsReaderAt, reads_blocks};
 ghost use Rattle.cf_run.specs.Work.{AreFramesBy};
 
 use crate::faults::{refused_pcap, refused_pcapng};
@@ -33,8 +33,10 @@ fn begins_section(bytes: &[u8]) -> bool
 
 // The frames that a piece gives a reader of records, whose fault is told at the end.
 fn feed_pcap(pcap: &mut Pcap, piece: &[u8], out: &mut Vec<Frame>) -> Result<(), Memory>
-    ensures { IfOk result (λ _. (given : List FrameValue) × (out.new.items ≡ out.old.items ++ given)
+    ensures fed { IfOk result (λ _. (given : List FrameValue) × (out.new.items ≡ out.old.items ++ given)
         × ((stream : List ℕ) (frames : List FrameValue) → IsReaderAt (Reader.Pcap pcap.old) stream frames → IsReaderAt (Reader.Pcap pcap.new) (stream ++ piece.now) (frames ++ given))) }
+    ensures few { IfOk result (λ _. (stream : List ℕ) (frames : List FrameValue) → IsReaderAt (Reader.Pcap pcap.old) stream frames
+        → AddsFew piece.now out.old.items out.new.items) }
 {
     match pcap.feed(piece, out) {
         Err(PcapFault::Memory) => Err(AllocError),
@@ -44,8 +46,10 @@ fn feed_pcap(pcap: &mut Pcap, piece: &[u8], out: &mut Vec<Frame>) -> Result<(), 
 
 // The frames that a piece gives a reader of blocks, whose fault is told at the end.
 fn feed_pcapng(pcapng: &mut PcapNg, piece: &[u8], out: &mut Vec<Frame>) -> Result<(), Memory>
-    ensures { IfOk result (λ _. (given : List FrameValue) × (out.new.items ≡ out.old.items ++ given)
+    ensures fed { IfOk result (λ _. (given : List FrameValue) × (out.new.items ≡ out.old.items ++ given)
         × ((stream : List ℕ) (frames : List FrameValue) → IsReaderAt (Reader.PcapNg pcapng.old) stream frames → IsReaderAt (Reader.PcapNg pcapng.new) (stream ++ piece.now) (frames ++ given))) }
+    ensures few { IfOk result (λ _. (stream : List ℕ) (frames : List FrameValue) → IsReaderAt (Reader.PcapNg pcapng.old) stream frames
+        → AddsFew piece.now out.old.items out.new.items) }
 {
     match pcapng.feed(piece, out) {
         Err(NgFault::Memory) => Err(AllocError),
@@ -71,6 +75,8 @@ impl Reader {
         ensures blocks { reads_blocks self.new ≡ reads_blocks self.old }
         ensures fed { IfOk result (λ _. (given : List FrameValue) × (out.new.items ≡ out.old.items ++ given)
             × ((stream : List ℕ) (frames : List FrameValue) → IsReaderAt self.old stream frames → IsReaderAt self.new (stream ++ piece.now) (frames ++ given))) }
+        ensures few { IfOk result (λ _. (stream : List ℕ) (frames : List FrameValue) → IsReaderAt self.old stream frames
+            → AddsFew piece.now out.old.items out.new.items) }
     {
         match self {
             Reader::Pcap(pcap) => feed_pcap(pcap, piece, out),

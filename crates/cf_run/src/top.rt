@@ -29,6 +29,9 @@ fn unsealed(alloc: Global, status: Status) -> Outcome
 
 /// Does the work that the words ask for: reads the setup and the captures from the shelf, or draws packets, and writes the
 /// report, the final part of it, a dump, or the answers of several hosts at a cut, or the line of a refusal, to the sink.
+///
+/// Of several causes of refusal the first of these decides: words that are no command, the file and then the text of the setup, the
+/// file and then the bytes of each capture in its order, more records than there is room for, and a lack of nodes.
 pub fn run<R: Threads + Sync, F: Shelf, K: Sink, G: Gate>(
     rt: &R,
     alloc: Global,
@@ -93,6 +96,8 @@ pub fn run_steadily<R: Threads + Sync, G: Gate>(
     gate: &G,
 ) -> Outcome
     ensures written { Answers (Some shelf.old.files) (call_of (texts words.now)) result.status result.seals.items None None (Some shelf.old.rest) (Some shelf.new.rest) }
+    ensures by_command { IsByCall (call_of (texts words.now)) result.status result.seals.items }
+    ensures words { result.status ≡ Status.Words → call_of (texts words.now) ≡ None }
     ensures no_seals { (result.status ≡ Status.Done → ⊥) → result.seals.items ≡ [] }
     ensures decided { IsDecided shelf.old.files (call_of (texts words.now)) result.status }
     ensures complete { IsLawful (Some shelf.old.files) (call_of (texts words.now)) → (result.status ≡ Status.Done) ⊎ (result.status ≡ Status.Memory) }

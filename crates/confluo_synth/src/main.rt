@@ -5,5 +5,5 @@ use cf_run::start;
 use std::process::ExitCode;
 
 fn main(rt: HostRuntime) -> ExitCode {
-    ExitCode::from(start(&rt))
+    start(&rt)
 }

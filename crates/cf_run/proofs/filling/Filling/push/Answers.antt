@@ -10,7 +10,7 @@ returns-then-self-room-clause-filled g c rows is =
     let s = c.args.self.now in
     let size = c.room-room.ensures in
     let many = c.if-self-room.true in
-    over_full s.segments.shape s.segments.most s.loader.plan s.segments s.loader s.waiting.items s.count rows c.args.row is c.requires.fits (omega (arith, size, many))
+    over_full s.segments.shape s.segments.most s.loader.plan s.segments s.loader s.waiting.items s.count rows c.args.row is c.requires.fits c.clear.new.self.items c.clear.ensures.items (omega (arith, size, many))
 
 pub returns-then-self-room-2-clause-filled : goal.returns-then-self-room-2-clause-filled
 returns-then-self-room-2-clause-filled g c rows is =
@@ -21,7 +21,7 @@ returns-then-self-room-2-clause-filled g c rows is =
       | then-self-room-2-via-then-self-room-2 w ↦ (let many = w.if-self-room-2.true in inl (omega (arith, size, many)))
       | then-self-room-2-via-else-self-room-2+then-stopped w ↦ inr (sym w.stopped.ensures ∙ w.if-stopped.true)
     ] in
-    passes_on s.segments.shape s.segments.most s.loader.plan s.segments s.loader s.waiting.items s.count rows c.args.row is c.requires.fits (omega (arith, size, room)) why
+    passes_on s.segments.shape s.segments.most s.loader.plan s.segments s.loader s.waiting.items s.count rows c.args.row is c.requires.fits c.clear-then-self-room-2.new.self.items c.clear-then-self-room-2.ensures.items (omega (arith, size, room)) why
 
 pub returns-then-len-lt-BATCH-clause-filled : goal.returns-then-len-lt-BATCH-clause-filled
 returns-then-len-lt-BATCH-clause-filled g c rows is =

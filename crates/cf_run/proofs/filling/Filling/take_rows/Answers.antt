@@ -12,6 +12,7 @@ loop-row-init g c =
     let s = c.args.self.now in
     record {
       shape = refl;
+      stops = λ stopped. stopped;
       rows = search rules;
       filled = λ before old. subst (λ (rs : List RowValue). IsFilled s.segments.shape s.segments.most s.loader.plan s.segments s.loader s.waiting.items s.count rs) (sym (append-nil before)) old;
     }
@@ -37,6 +38,7 @@ loop-row-preserved g c =
     let steps : c.loop-row.row-iterator.rest.items ≡ c.in-Some.row ∷ c.next.new.self.rest.items = search rules in
     record {
       shape = c.in_ok-push.ensures.shape ∙ c.loop-row.invariant.shape;
+      stops = λ stopped. c.in_ok-push.ensures.stops (c.loop-row.invariant.stops stopped);
       rows = c.loop-row.invariant.rows ∙ ap (λ (rs : List RowValue). c.loop-row.yielded ++ rs) steps ∙ sym (append_assoc c.loop-row.yielded (c.in-Some.row ∷ []) c.next.new.self.rest.items);
       filled = λ before old.
           let rows = before ++ c.loop-row.yielded in
@@ -46,11 +48,11 @@ loop-row-preserved g c =
           (filled_since s.segments.shape s.segments.most s.loader.plan mid.segments now.segments mid.loader now.loader mid.waiting.items now.waiting.items mid.count now.count rows (rows ++ c.in-Some.row ∷ []) is more);
     }
 
-pub returns : goal.returns
-returns g c =
+pub returns-clause-filled : goal.returns-clause-filled
+returns-clause-filled g c =
     let s = c.args.self.now in
     let now = c.loop-row.self in
     let empty = c.in-None.ensures.steps.0 in
     let none : c.loop-row.row-iterator.rest.items ≡ [] = nil_from_length c.loop-row.row-iterator.rest.items (search rules) in
     let all : c.args.rows.items ≡ c.loop-row.yielded = c.loop-row.invariant.rows ∙ ap (λ (rs : List RowValue). c.loop-row.yielded ++ rs) none ∙ append-nil c.loop-row.yielded in
-    record { filled = λ before old. subst (λ (rs : List RowValue). IsFilled s.segments.shape s.segments.most s.loader.plan now.segments now.loader now.waiting.items now.count (before ++ rs)) (sym all) (c.loop-row.invariant.filled before old) }
+    λ before old. subst (λ (rs : List RowValue). IsFilled s.segments.shape s.segments.most s.loader.plan now.segments now.loader now.waiting.items now.count (before ++ rs)) (sym all) (c.loop-row.invariant.filled before old)

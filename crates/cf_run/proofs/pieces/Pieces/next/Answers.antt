@@ -1,10 +1,10 @@
-use Rattle.std.proofs.Common.{◌≡◌, ◌≤◌, ◌+◌, ap, refl, sym, subst, ◌∙◌, List, ℕ, Option, length, take, drop}
+use Rattle.std.proofs.Common.{◌≡◌, ◌≤◌, ◌+◌, ap, refl, sym, subst, ◌∙◌, arith, List, ℕ, Option, length, take, drop}
 use Rattle.std.proofs.lemmas.List.{take_at}
 use Rattle.std.proofs.lemmas.Result.{err_from_is_err_and}
 use Rattle.std.specs.Vec.{with_items}
 use Rattle.cf_run.specs.declared.pieces.Pieces.{Pieces}
 use Rattle.cf_run.specs.Devices.{TakesUpTo, TakesAtMost}
-use Rattle.cf_run.proofs.Piecewise.{gone_on, stopped_next, stopped_then, piece_long}
+use Rattle.cf_run.proofs.Piecewise.{gone_on, stopped_next, stopped_then, piece_few, piece_long}
 use Rattle.cf_run.proofs.pieces.Pieces.next.Goals as goal
 
 pub returns-in_err-count-clause-stopped : goal.returns-in_err-count-clause-stopped
@@ -39,3 +39,16 @@ returns-clause-read g c = λ before rows on.
     let fed = rw (c.deref.ensures.value ∙ same) at c.in_ok-rows.ensures.fed in
     let new : Pieces = record { reader = c.feed_rows.new.reader; buf = with_items c.args.self.now.buf buf; count = count; number = c.args.self.now.number + 1 } in
     gone_on c.args.self.now new before mid now (take count buf) rows c.in_ok-rows.rows.items fed.0 on c.requires.more.0 c.requires.more.1 c.in_ok-rows.ensures.blocks (ap (λ (xs : List ℕ). length xs) same ∙ ok.size ∙ room) refl takes (piece_long count (length c.deref_mut.result.now) buf ok.size within) fed.2 fed.1
+
+pub returns-clause-few : goal.returns-clause-few
+returns-clause-few g c = λ before rows on.
+    let ok = c.in_ok-count.ensures in
+    let count = c.in_ok-count.count in
+    let buf : List ℕ = c.read_piece.new.buf in
+    let room : length c.deref_mut.result.now ≡ 65536 = ap (λ (xs : List ℕ). length xs) c.deref_mut.ensures.value ∙ on.size in
+    let within : count ≤ length c.deref_mut.result.now = ok.within in
+    let long : length buf ≡ c.args.self.now.buf.len = ok.size ∙ ap (λ (xs : List ℕ). length xs) c.deref_mut.ensures.value ∙ sym c.args.self.now.buf.ok.0 in
+    let same : (with_items c.args.self.now.buf buf).items ≡ buf = take_at buf (drop (length buf) c.args.self.now.buf.items) c.args.self.now.buf.len long in
+    let few = rw (c.deref.ensures.value ∙ same) at c.in_ok-rows.ensures.few in
+    let size = piece_long count (length c.deref_mut.result.now) buf ok.size within in
+    piece_few (take count buf) c.in_ok-rows.rows.items (omega (arith, size, room, within)) (few on.stream on.frames on.at)

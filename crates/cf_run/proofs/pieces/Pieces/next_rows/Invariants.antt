@@ -1,4 +1,4 @@
-use Rattle.std.proofs.Common.{◌≡◌, ◌≤◌, ◌<◌, ◌-◌, ◌++◌, ℕ, List, Option, All}
+use Rattle.std.proofs.Common.{◌≡◌, ◌≤◌, ◌<◌, ◌+◌, ◌-◌, ◌++◌, ℕ, List, Option, All, length}
 use Rattle.cf_row.specs.Row.{Fits, RowValue}
 use Rattle.cf_row.specs.Schema.{packet_attrs}
 use Rattle.cf_run.specs.Reading.{IsReadOn}
@@ -10,6 +10,7 @@ invariant-loop-self g l = record {
   later : g.F.Shelf.faults l.fn.shelf ≤ g.F.Shelf.faults l.shelf;
   number : l.fn.self.number < l.self.number;
   read : (before : Option (List ℕ)) (rows : List RowValue) → IsReadOn l.fn.self before (g.F.Shelf.rest l.fn.shelf) rows → IsReadOn l.self before (g.F.Shelf.rest l.shelf) (rows ++ l.given.items);
+  few : (before : Option (List ℕ)) (rows : List RowValue) → IsReadOn l.fn.self before (g.F.Shelf.rest l.fn.shelf) rows → length l.given.items < l.fn.wanted + 4096;
   fit : All (Fits packet_attrs) l.given.items;
 }
 
