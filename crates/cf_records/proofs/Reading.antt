@@ -1,7 +1,7 @@
 -- Each text has its records, and one list of them.
-use Rattle.std.proofs.Common.{List, ℕ, zero, suc, Option, Bool, true, false, ◌≡◌, ◌⊎◌, ◌<◌, ◌≤◌, ◌∙◌, sym, refl, ap, ap₂, Some, None, [], ◌∷◌, ◌++◌, length, inl, inr, rules, arith, cond, subst}
+use Rattle.std.proofs.Common.{List, ℕ, zero, suc, Option, Bool, true, false, ◌≡◌, ◌⊎◌, ◌<◌, ◌≤◌, ◌∙◌, sym, refl, ap, ap₂, Some, None, [], ◌∷◌, ◌++◌, ◌+◌, length, inl, inr, rules, arith, cond, subst}
 use Rattle.csv.specs.Machine.{Read, next_record, ends_at_end, is_end, step, fields_after, field_after}
-use Rattle.csv.specs.Reading.{AreRecords, Reached, Ready, default_config, strip_bom, source_of}
+use Rattle.csv.specs.Reading.{AreRecords, Reached, Ready, default_config, strip_bom, source_of, is_bom}
 use Rattle.csv.specs.declared.parser.Config.{Config}
 use Rattle.csv.specs.declared.parser.State.{State}
 use Rattle.csv.specs.declared.parser.State.TheVariants as st
@@ -110,3 +110,46 @@ read_to_end text s ys records reached =
 pub read_whole : (text : List ℕ) (s : State) (ys : List ℕ) (records : List (List (List ℕ))) → Reached default_config st.StartRecord (strip_bom text) records s ys → next_record default_config s [] [] ys ≡ None → AreRead text records
 unfolding AreRead
 read_whole text s ys records reached none = (s, ys, reached, none)
+
+-- there is no record at the end
+at_rest : (cfg : Config) (s2 : State) (ys : List ℕ) (rows : List (List (List ℕ))) → Reached cfg st.StartRecord [] rows s2 ys → length rows ≡ 0
+unfolding Reached
+at_rest cfg s2 ys [] h = refl
+at_rest cfg s2 ys (r ∷ rows) h = absurd (some_none (next_record cfg st.StartRecord [] [] []) h.0 h.1 (at_start cfg))
+
+last_read : (cfg : Config) (s : State) (p : Read) → next_record cfg s [] [] [] ≡ Some p → p ≡ ([] ∷ [], st.StartRecord, [])
+unfolding next_record
+last_read cfg s p e = next_end (ends_at_end s) p ([] ∷ [], st.StartRecord, []) e
+
+-- each record takes a byte, but for a last one at the end
+few_reached : (cfg : Config) (s s2 : State) (xs ys : List ℕ) (rows : List (List (List ℕ))) → Reached cfg s xs rows s2 ys → length rows ≤ length xs + 1
+unfolding Reached
+few_reached cfg s s2 xs ys [] h = omega arith
+few_reached cfg s s2 [] ys (r ∷ rows) h =
+    let rest = subst (λ (p : Read). Reached cfg p.1 p.2 rows s2 ys) (last_read cfg s h.0 h.1) h.3 in
+    let none = at_rest cfg s2 ys rows rest in
+    omega (arith, none)
+few_reached cfg s s2 (c ∷ xs) ys (r ∷ rows) h =
+    let more = few_reached cfg h.0.1 s2 h.0.2 ys rows h.3 in
+    elim (shrinks cfg s [] [] (c ∷ xs) h.0 h.1) [
+      | inl less ↦ omega (arith, less, more)
+      | inr end ↦ let none : length h.0.2 ≡ 0 = ap (λ (q : List ℕ). length q) end.1 in omega (arith, none, more)
+    ]
+
+cond_short : (b : Bool) (xs ys : List ℕ) (n : ℕ) → length xs ≤ n → length ys ≤ n → length (cond b xs ys) ≤ n
+cond_short true xs ys n x y = x
+cond_short false xs ys n x y = y
+
+strip_short : (text : List ℕ) → length (strip_bom text) ≤ length text
+unfolding strip_bom
+strip_short [] = omega arith
+strip_short (a ∷ []) = omega arith
+strip_short (a ∷ b ∷ []) = omega arith
+strip_short (a ∷ b ∷ c ∷ rest) = cond_short (is_bom a b c) rest (a ∷ b ∷ c ∷ rest) (length (a ∷ b ∷ c ∷ rest)) (omega arith) (omega arith)
+
+-- a text has no more records than bytes, but for one
+pub few_read : (text : List ℕ) (s : State) (ys : List ℕ) (records : List (List (List ℕ))) → Reached default_config st.StartRecord (strip_bom text) records s ys → length records ≤ length text + 1
+few_read text s ys records reached =
+    let few = few_reached default_config st.StartRecord s (strip_bom text) ys records reached in
+    let short = strip_short text in
+    omega (arith, few, short)

@@ -10,8 +10,11 @@ use cf_row::{Row, Schema};
 use csv::{ByteRecord, Reader, ReaderBuilder};
 use std::alloc::{AllocError, Global};
 
-/// A file of more bytes is refused.
+/// A file of that many bytes or more is refused.
 const LIMIT: usize = 1 << 24;
+
+// More records than a file has: each takes a byte of it, the header too.
+const MOST: u32 = 1 << 24;
 
 // Reads the next record; false at the end of the text.
 fn read_next(reader: &mut Reader<&[u8]>, line: &mut ByteRecord) -> Result<bool, AllocError>
@@ -33,33 +36,31 @@ fn reader_of<'a>(alloc: Global, bytes: &'a [u8]) -> Reader<&'a [u8]>
         .from_reader(alloc, bytes)
 }
 
-// The rows of a text of less than 2^24 bytes of which nothing was read.
-fn read_rows(
-    alloc: Global,
-    schema: &Schema,
-    reader: &mut Reader<&[u8]>,
-    line: &mut ByteRecord,
-) -> Result<Vec<Row>, RecordFault>
-    ensures answer { (text : List ℕ) → length text < 2 ^ 24 → HasRead text [] reader.old → MatchResult result (λ rows. IsRecordFile schema.now text rows.items) (λ fault. (fault ≡ RecordFault.Memory) ⊎ HasRecordsFault schema.now text fault) }
+// The rows of a text of less than 2^24 bytes.
+fn read_rows(alloc: Global, schema: &Schema, bytes: &[u8]) -> Result<Vec<Row>, RecordFault>
+    requires small { length bytes.now < 2 ^ 24 }
+    ensures answer { MatchResult result (λ rows. IsRecordFile schema.now bytes.now rows.items) (λ fault. (fault ≡ RecordFault.Memory) ⊎ HasRecordsFault schema.now bytes.now fault) }
     ensures fit { IfOk result (λ rows. All (Fits schema.now) rows.items) }
 {
-    if !read_next(reader, line)? {
+    let mut reader = reader_of(alloc, bytes);
+    let mut line = ByteRecord::new(alloc);
+    if !read_next(&mut reader, &mut line)? {
         return Err(RecordFault::NoHeader);
     }
-    if !is_header(schema.attrs(), line) {
+    if !is_header(schema.attrs(), &line) {
         return Err(RecordFault::BadHeader);
     }
     let mut rows = Vec::new(alloc);
-    for num in 0..u32::MAX {
-        if !read_next(reader, line)? {
+    for num in 0..MOST {
+        if !read_next(&mut reader, &mut line)? {
             return Ok(rows);
         }
-        match row_of(alloc, schema, num, line) {
+        match row_of(alloc, schema, num, &line) {
             Ok(row) => rows.push(row)?,
             Err(fault) => return Err(fault),
         }
     }
-    Err(RecordFault::Memory)
+    unreachable!()
 }
 
 /// The rows of a file of records: CSV as it is read by default, with the schema's names as its first record, and then a
@@ -72,7 +73,5 @@ pub fn read_records(alloc: Global, schema: &Schema, bytes: &[u8]) -> Result<Vec<
     if bytes.len() >= LIMIT {
         return Err(RecordFault::TooManyBytes);
     }
-    let mut reader = reader_of(alloc, bytes);
-    let mut line = ByteRecord::new(alloc);
-    read_rows(alloc, schema, &mut reader, &mut line)
+    read_rows(alloc, schema, bytes)
 }

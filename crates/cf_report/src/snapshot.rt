@@ -11,15 +11,16 @@ use cf_setup::Setup;
 use std::alloc::Global;
 use std::fmt::Write;
 
-/// The line of a cut that has so many rows.
+/// Appends the line of a cut that has so many rows. If memory runs out, the text may end with a part of it: drop the text.
 pub fn push_cut(text: &mut String, total: u32) -> Result<(), Memory>
     ensures { OnOk result (string_bytes text.new ≡ string_bytes text.old ++ cut_line total) }
 {
     write!(text, "cut {total}\n")
 }
 
-/// The part of a host: how many of its rows are in the cut, and its answers on them. The entries are those of a log of these rows, and
-/// there is an answer to each question of the setup, in its order.
+/// Appends the part of a host: how many of its rows are in the cut, and its answers on them. The entries are those of a log of
+/// these rows, and there is an answer to each question of the setup, in its order. If memory runs out, the text may end with a
+/// part of it: drop the text.
 pub fn push_host(
     alloc: Global,
     text: &mut String,
