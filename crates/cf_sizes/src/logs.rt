@@ -95,7 +95,15 @@ fn live_questions_go_over_three_segments(rt: HostRuntime) -> Result<(), Fail> {
 // The words of a snapshot of so many hosts, each with the capture `c`, in turns of two records.
 fn hosts(alloc: Global, count: usize) -> Result<Vec<&'static str>, Memory> {
     let mut words = [
-        "snapshot", "--setup", "s", "--after", "1000000", "--turn", "2",
+        "snapshot",
+        "--setup",
+        "s",
+        "--after",
+        "1000000",
+        "--turn",
+        "2",
+        "--capacity",
+        "5000",
     ]
     .to_vec(alloc)?;
     for _ in 0..count {
