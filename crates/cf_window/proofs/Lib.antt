@@ -4,4 +4,5 @@ pub mod Finding
 pub mod Dropping
 pub mod Rows
 pub mod Pushing
+pub mod Courses
 pub mod Examples
