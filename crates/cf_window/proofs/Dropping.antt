@@ -23,7 +23,7 @@ refused_still shape (x ∷ []) row e = refl
 refused_still shape (x ∷ y ∷ ys) row e =
     ap₂ (λ (b : Bool) (rows : List RowValue). b && takes shape rows row) (some_long y ys ∙ sym (some_long x (y ∷ ys))) (sym (last_drop x y ys)) ∙ e
 
-out_of : (b : Bool) → not b ≡ true → b ≡ false
+pub out_of : (b : Bool) → not b ≡ true → b ≡ false
 out_of true e = absurd (cc e)
 out_of false e = refl
 

@@ -1,7 +1,8 @@
 -- What is found in segments that stand one behind the other.
-use Rattle.std.proofs.Common.{◌≡◌, ◌∙◌, ℕ, ◌+◌, ◌^◌, ◌<◌, ◌≤◌, List, [], ◌∷◌, ◌++◌, length, take, drop, get_or, sym, ap, ap₂, subst, arith, length-append, append-nil}
+use Rattle.std.proofs.Common.{◌≡◌, ◌∙◌, ℕ, ◌+◌, ◌*◌, ◌^◌, ◌<◌, ◌≤◌, List, [], ◌∷◌, ◌++◌, length, take, get_or, sym, ap, ap₂, subst, arith, length-append, append-nil}
+use Rattle.std.proofs.Math.Nat.{mul-le-mul_right}
 use Rattle.std.proofs.lemmas.List.Concat.{flat_map-append}
-use Rattle.std.proofs.lemmas.List.{map-append, take_more, take-append-drop}
+use Rattle.std.proofs.lemmas.List.{map-append, take_more}
 use Rattle.cf_row.specs.Row.{RowValue}
 use Rattle.cf_shape.specs.Lanes.{ShapeValue}
 use Rattle.cf_plain.specs.Segments.{CanJoin, finding_in, joined}
@@ -25,14 +26,7 @@ rows_append xs ys = ap rows_in_all (map-append (λ (s : SegmentValue). s.rows) x
 pub rows_more : (xs : List SegmentValue) (i : ℕ) (d : SegmentValue) → i < length xs → rows_to xs (i + 1) ≡ rows_to xs i ++ (get_or xs i d).rows
 rows_more xs i d low = ap rows_all (take_more xs i d low) ∙ (rows_append (take i xs) (get_or xs i d ∷ []) ∙ ap (λ (rs : List RowValue). rows_to xs i ++ rs) (append-nil (get_or xs i d).rows))
 
-pub rows_most : (xs : List SegmentValue) (i : ℕ) → length (rows_to xs i) ≤ length (rows_all xs)
-rows_most xs i =
-    let all = ap (λ (ys : List SegmentValue). length (rows_all ys)) (take-append-drop i xs) in
-    let two = ap (λ (rs : List RowValue). length rs) (rows_append (take i xs) (drop i xs)) in
-    let long = length-append (rows_to xs i) (rows_all (drop i xs)) in
-    omega (arith, all, two, long)
-
-module _ (shape : ShapeValue) (ask : Ask) (xs now : List SegmentValue) (i : ℕ) (d : SegmentValue) (low : i < length now) (same : now ≡ xs) (few : length (rows_all xs) ≤ 2 ^ 20) (count : ℕ) (found : Finding) (count_is : count ≡ length (rows_to xs i)) (found_is : found ≡ finding_in shape ask (rows_to xs i)) (tail : ℕ) (more : Finding) (shape_is : (get_or now i d).shape ≡ shape) (tail_is : tail ≡ length (get_or now i d).rows) (more_is : more ≡ finding_in (get_or now i d).shape ask (get_or now i d).rows) where
+module _ (shape : ShapeValue) (ask : Ask) (xs now : List SegmentValue) (i : ℕ) (d : SegmentValue) (low : i < length now) (same : now ≡ xs) (few : length xs * shape.capacity ≤ 2 ^ 20) (count : ℕ) (found : Finding) (count_is : count ≡ length (rows_to xs i)) (found_is : found ≡ finding_in shape ask (rows_to xs i)) (tail : ℕ) (more : Finding) (shape_is : (get_or now i d).shape ≡ shape) (tail_is : tail ≡ length (get_or now i d).rows) (more_is : more ≡ finding_in (get_or now i d).shape ask (get_or now i d).rows) (so_far : count ≤ i * shape.capacity) (short : length (get_or now i d).rows ≤ ((get_or now i d).shape).capacity) where
   there : i < length xs
   there = subst (λ (ys : List SegmentValue). i < length ys) same low
 
@@ -48,8 +42,13 @@ module _ (shape : ShapeValue) (ask : Ask) (xs now : List SegmentValue) (i : ℕ)
   pub count_next : count + tail ≡ length (rows_to xs (i + 1))
   count_next = ap₂ (λ (a b : ℕ). a + b) count_is tail_is ∙ (sym (length-append (rows_to xs i) one) ∙ ap (λ (rs : List RowValue). length rs) (sym next))
 
+  pub low_next : count + tail ≤ (i + 1) * shape.capacity
+  low_next =
+      let one_short : length one ≤ shape.capacity = subst (λ (s : ShapeValue). length one ≤ s.capacity) shape_is short in
+      omega (arith, so_far, one_short, tail_is)
+
   pub count_few : count + tail ≤ 2 ^ 20
-  count_few = (let is = count_next in let most = rows_most xs (i + 1) in let low = few in omega (arith, is, most, low))
+  count_few = (let low = low_next in let more : (i + 1) * shape.capacity ≤ length xs * shape.capacity = mul-le-mul_right shape.capacity (let at = there in omega (arith, at)) in omega (arith, low, more, few))
 
   pub can : CanJoin count found more
   can =

@@ -76,6 +76,8 @@ window_more shape most xs x is same low = record {
   one = is.one;
   shapes = All-append (IsOfShape shape) xs (x ∷ []) is.shapes (all_one (IsOfShape shape) x same);
   few = (let long = length-append xs (x ∷ []) in omega (arith, long, low));
+  bounded = is.bounded;
+  some = is.some;
 }
 
 pub open_last : (xs : List SegmentValue) (x : SegmentValue) → x.is_spent ≡ false → IsOpenLast (xs ++ x ∷ [])
@@ -88,7 +90,7 @@ open_last xs x is y at =
 
 -- the last segment was asked to take a row
 pub window_taken : (shape : ShapeValue) (most : ℕ) (xs ys : List SegmentValue) → IsWindow shape most xs → ((s : ShapeValue) → All (IsOfShape s) xs → All (IsOfShape s) ys) → length ys ≡ length xs → IsWindow shape most ys
-window_taken shape most xs ys is shapes same = record { one = is.one; shapes = shapes shape is.shapes; few = (let few = is.few in omega (arith, few, same)) }
+window_taken shape most xs ys is shapes same = record { one = is.one; shapes = shapes shape is.shapes; few = (let few = is.few in omega (arith, few, same)); bounded = is.bounded; some = is.some }
 
 pub taken_from : (b : Bool) → not b ≡ false → b ≡ true
 taken_from true e = refl

@@ -3,3 +3,5 @@ pub mod Rounds
 pub mod Watched
 pub mod Segments
 pub mod Held
+pub mod Laws
+pub mod Courses

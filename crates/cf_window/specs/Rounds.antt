@@ -68,7 +68,7 @@ abbrev pub fresh_marks : ShapeValue → List RowValue → Span → Span → Trig
 fresh_marks shape rows before now trigger = newly (marks_over shape trigger (within rows before)) (marks_over shape trigger (within rows now))
 
 -- for each trigger of a list, whose first has that place, its new marks
-pub fresh_lines : ShapeValue → SetupValue → List RowValue → Span → Span → ℕ → List Trigger → List ℕ
+abbrev pub fresh_lines : ShapeValue → SetupValue → List RowValue → Span → Span → ℕ → List Trigger → List ℕ
 fresh_lines shape setup rows before now place [] = []
 fresh_lines shape setup rows before now place (trigger ∷ triggers) =
     flat_map (fresh_line (trigger_name setup place) now.to) (fresh_marks shape rows before now trigger) ++ fresh_lines shape setup rows before now (place + 1) triggers
@@ -91,7 +91,7 @@ round_text shape setup every rows before asked now =
     fresh_lines shape setup rows before now 0 setup.triggers ++ (if is_due every asked now.to then flat_map (span_line shape setup rows now) setup.lives else [])
 
 -- what is written in these rounds
-pub rounds_text : ShapeValue → SetupValue → ℕ → List RowValue → Span → ℕ → List Span → List ℕ
+abbrev pub rounds_text : ShapeValue → SetupValue → ℕ → List RowValue → Span → ℕ → List Span → List ℕ
 rounds_text shape setup every rows before asked [] = []
 rounds_text shape setup every rows before asked (now ∷ spans) =
     round_text shape setup every rows before asked now ++ rounds_text shape setup every rows now (if is_due every asked now.to then now.to else asked) spans

@@ -1,5 +1,5 @@
 // What questions find in segments that stand one behind the other.
-ghost use Rattle.std.specs.Prelude.{◌≡◌, ◌≤◌, ◌^◌, [], All, length, IfOk};
+ghost use Rattle.std.specs.Prelude.{◌≡◌, ◌*◌, ◌≤◌, ◌^◌, [], All, length, IfOk};
 ghost use Rattle.cf_shape.specs.Lanes.{ShapeValue};
 ghost use Rattle.cf_plain.specs.Asks.{Suits};
 ghost use Rattle.cf_plain.specs.Segments.{finding_in};
@@ -35,7 +35,7 @@ pub(crate) fn find_in(
 ) -> Result<Finding, Memory>
     requires shapes { All (IsOfShape shape.now) segments.old }
     requires suits { Suits shape.now ask.now }
-    requires few { length (rows_in_all (rows_each segments.old)) ≤ 2 ^ 20 }
+    requires few { length segments.old * shape.now.capacity ≤ 2 ^ 20 }
     ensures stays { segments.new ≡ segments.old }
     ensures found { IfOk result (λ found. found ≡ finding_in shape.now ask.now (rows_in_all (rows_each segments.old))) }
 {

@@ -1,5 +1,5 @@
 // A segment of a window.
-ghost use Rattle.std.specs.Prelude.{◌≡◌, ◌<◌, ◌++◌, ◌∷◌, [], not, length, true, false, IfOk, IsTrue, if◌then◌else◌};
+ghost use Rattle.std.specs.Prelude.{◌≡◌, ◌<◌, ◌≤◌, ◌++◌, ◌∷◌, [], not, length, true, false, IfOk, IsTrue, if◌then◌else◌};
 ghost use Rattle.cf_row.specs.Row.{Fits};
 ghost use Rattle.cf_plain.specs.Asks.{Suits, rows_in};
 ghost use Rattle.cf_plain.specs.Segments.{finding_in};
@@ -8,7 +8,7 @@ ghost use Rattle.cf_window.specs.Windows.{takes};
 
 use cf_append::{append, settle};
 use cf_plain::{Ask, Finding};
-use cf_query::finding;
+use cf_query::{finding, tail};
 use cf_row::{Memory, Row};
 use cf_shape::Shape;
 use cf_table::{MultiLog, Pass, Root, Steps, WriterPass};
@@ -67,10 +67,28 @@ fn find_counted<L: Ledger>(
     requires blank { (blank.name ≡ L.name) × (blank.parts ≡ L.parts) × (0 < L.parts) }
     ensures segment { IsSegment log.now pass.new is_spent }
     ensures seen { pass.new.view.seen ≡ pass.old.view.seen }
+    ensures few { length pass.old.view.seen ≤ log.now.shape.capacity }
     ensures ok { IfOk result (λ found. (found.0 ≡ length pass.old.view.seen) × (found.1 ≡ finding_in log.now.shape question.now (rows_in pass.old.view.seen))) }
 {
     let mut steps = Steps::<L>::new(blank);
     finding(log, alloc, pass, question, &mut steps)
+}
+
+// How many rows the writer's pass has seen.
+fn count_counted<L: Ledger>(
+    log: &MultiLog,
+    pass: &mut WriterPass,
+    is_spent: bool,
+    blank: Blank,
+) -> u32
+    requires segment { IsSegment log.now pass.old is_spent }
+    requires blank { (blank.name ≡ L.name) × (blank.parts ≡ L.parts) × (0 < L.parts) }
+    ensures segment { IsSegment log.now pass.new is_spent }
+    ensures seen { pass.new.view.seen ≡ pass.old.view.seen }
+    ensures count { result ≡ length pass.old.view.seen }
+{
+    let mut steps = Steps::<L>::new(blank);
+    tail(log, pass, &mut steps)
 }
 
 impl Segment {
@@ -110,10 +128,19 @@ impl Segment {
         taken
     }
 
+    /// How many rows it has.
+    pub fn count(&mut self) -> u32
+        ensures stays { self.new ≡ self.old }
+        ensures count { result ≡ length self.old.rows }
+    {
+        count_counted::<Brand>(&self.log, &mut self.pass, self.is_spent, Blank::new(1))
+    }
+
     /// What the question finds in its rows, and how many they are.
     pub fn find(&mut self, alloc: Global, question: &Ask) -> Result<(u32, Finding), Memory>
         requires suits { Suits self.old.shape question.now }
         ensures stays { self.new ≡ self.old }
+        ensures few { length self.old.rows ≤ self.old.shape.capacity }
         ensures found { IfOk result (λ found. (found.0 ≡ length self.old.rows) × (found.1 ≡ finding_in self.old.shape question.now self.old.rows)) }
     {
         find_counted::<Brand>(

@@ -1,7 +1,7 @@
 use Rattle.std.proofs.Common.{◌≡◌, ◌∙◌, ◌<◌, List, length, get_or, set, sym, ap, subst, arith, rules}
 use Rattle.std.proofs.lemmas.List.{set-get_or}
 use Rattle.cf_window.specs.Segments.{SegmentValue}
-use Rattle.cf_window.proofs.Finding.{can, count_few, count_next, found_next}
+use Rattle.cf_window.proofs.Finding.{can, count_few, count_next, found_next, low_next}
 use Rattle.cf_window.proofs.find.find_in.Goals as goal
 
 pub join-requires : goal.join-requires
@@ -14,7 +14,7 @@ join-requires c =
     let low : i < length now = search rules in
     let shape = subst (λ (ys : List SegmentValue). (get_or ys i d).shape ≡ c.args.shape.now) (sym v.same) (c.requires.shapes i d (subst (λ (ys : List SegmentValue). i < length ys) v.same low)) in
     let f = c.in_ok-tail.ensures.found in
-    record { can = can c.args.shape.now c.args.ask.now xs now i d low v.same c.requires.few c.loop-segment.count c.loop-segment.found v.count v.found c.in_ok-tail.tail c.in_ok-tail.more shape f.0 f.1 }
+    record { can = can c.args.shape.now c.args.ask.now xs now i d low v.same c.requires.few c.loop-segment.count c.loop-segment.found v.count v.found c.in_ok-tail.tail c.in_ok-tail.more shape f.0 f.1 v.low c.find.ensures.few }
 
 pub overflow_add-count : goal.overflow_add-count
 overflow_add-count c =
@@ -26,7 +26,7 @@ overflow_add-count c =
     let low : i < length now = search rules in
     let shape = subst (λ (ys : List SegmentValue). (get_or ys i d).shape ≡ c.args.shape.now) (sym v.same) (c.requires.shapes i d (subst (λ (ys : List SegmentValue). i < length ys) v.same low)) in
     let f = c.in_ok-tail.ensures.found in
-    let few = count_few c.args.shape.now c.args.ask.now xs now i d low v.same c.requires.few c.loop-segment.count c.loop-segment.found v.count v.found c.in_ok-tail.tail c.in_ok-tail.more shape f.0 f.1 in
+    let few = count_few c.args.shape.now c.args.ask.now xs now i d low v.same c.requires.few c.loop-segment.count c.loop-segment.found v.count v.found c.in_ok-tail.tail c.in_ok-tail.more shape f.0 f.1 v.low c.find.ensures.few in
     omega (arith, few)
 
 pub loop-segment-preserved : goal.loop-segment-preserved
@@ -41,6 +41,7 @@ loop-segment-preserved c =
     let f = c.in_ok-tail.ensures.found in
     record {
       same = ap (λ (x : SegmentValue). set now i x) c.in_ok-tail.ensures.stays ∙ (set-get_or now i d ∙ v.same);
-      count = count_next c.args.shape.now c.args.ask.now xs now i d low v.same c.requires.few c.loop-segment.count c.loop-segment.found v.count v.found c.in_ok-tail.tail c.in_ok-tail.more shape f.0 f.1;
-      found = found_next c.args.shape.now c.args.ask.now xs now i d low v.same c.requires.few c.loop-segment.count c.loop-segment.found v.count v.found c.in_ok-tail.tail c.in_ok-tail.more shape f.0 f.1 c.in_ok-found.found c.in_ok-found.ensures;
+      count = count_next c.args.shape.now c.args.ask.now xs now i d low v.same c.requires.few c.loop-segment.count c.loop-segment.found v.count v.found c.in_ok-tail.tail c.in_ok-tail.more shape f.0 f.1 v.low c.find.ensures.few;
+      low = low_next c.args.shape.now c.args.ask.now xs now i d low v.same c.requires.few c.loop-segment.count c.loop-segment.found v.count v.found c.in_ok-tail.tail c.in_ok-tail.more shape f.0 f.1 v.low c.find.ensures.few;
+      found = found_next c.args.shape.now c.args.ask.now xs now i d low v.same c.requires.few c.loop-segment.count c.loop-segment.found v.count v.found c.in_ok-tail.tail c.in_ok-tail.more shape f.0 f.1 v.low c.find.ensures.few c.in_ok-found.found c.in_ok-found.ensures;
     }
