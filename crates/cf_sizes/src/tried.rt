@@ -8,7 +8,7 @@ use std::thread::Threads;
 
 // What a run ended with: the status's number, the number of seals, and what was written.
 #[derive(Drop)]
-pub(crate) struct Answer {
+pub(crate) struct Ended {
     pub(crate) number: u8,
     pub(crate) seals: usize,
     pub(crate) text: Vec<u8>,
@@ -20,14 +20,14 @@ pub(crate) fn answer<R: Threads + Sync>(
     alloc: Global,
     words: &[&str],
     files: &[(&str, &[u8])],
-) -> Result<Answer, Memory> {
+) -> Result<Ended, Memory> {
     let mut shelf = MemShelf::new(alloc, Vec::new(alloc), 65_536);
     for (name, bytes) in files {
         shelf.put(name, bytes)?;
     }
     let mut sink = MemSink::new(alloc, 2_000_000, Vec::new(alloc), 65_536)?;
     let outcome = run(rt, alloc, words, &mut shelf, &mut sink, &FreeGate);
-    Ok(Answer {
+    Ok(Ended {
         number: outcome.status.number(),
         seals: outcome.seals.len(),
         text: sink.held().to_vec(alloc)?,
