@@ -34,14 +34,15 @@ SECONDS = 60
 
 
 def blocks_of(page):
-    """The indented blocks of a page, each as a list of lines without the four spaces."""
-    block = []
-    for line in [*page.read_text().splitlines(), ""]:
+    """The indented blocks of a page, each as a list of lines without the four spaces; blank lines belong to one, as in Markdown."""
+    block, blank = [], False
+    for line in [*page.read_text().splitlines(), "end"]:
         if line.startswith("    "):
-            block.append(line[4:])
-        elif block:
+            block += [""] * (blank and bool(block)) + [line[4:]]
+        elif line and block:
             yield block
             block = []
+        blank = not line
 
 
 def anchors_of(page):
@@ -108,7 +109,7 @@ def wrong_sessions(program):
             (here / "bin" / "confluo").symlink_to(program)
             for it in ("examples", "tools", "docs"):
                 (here / it).symlink_to(ROOT / it)
-            environment = os.environ | {"PATH": f"{here / 'bin'}:{os.environ['PATH']}"}
+            environment = os.environ | {"PATH": f"{here / 'bin'}:{ROOT / 'tools'}:{os.environ['PATH']}"}
             for block in blocks_of(ROOT / name):
                 if block[0].startswith("schema "):
                     (here / "questions.setup").write_text("\n".join(block) + "\n")
