@@ -8,7 +8,8 @@
 - docs/INCIDENTS.md shows each setup of examples/incidents, without its comments, and below each command the stored report.
 - VERSION is the newest version of CHANGELOG.md, the README has at most 900 words and docs/ at most 20,000.
 - With PROGRAM: README.md, docs/GUIDE.md and examples/*.md are right about what commands print. A block whose first line begins
-  with `$ ` is run, with `confluo` being PROGRAM and `questions.setup` the setup shown last, and must print the lines below.
+  with `$ ` is run, with `confluo` being PROGRAM and `questions.setup` the setup shown last, and must print the lines below. Blocks
+  with confluo-report are passed over if tools/ has none.
 
 A shown line `..` stands for any number of lines. Of `live`, `new` and `order` lines, which depend on threads, only the front is
 compared, and all are left out if none is shown. Ends with 1 if something differs. Needs the standard library alone.
@@ -109,13 +110,15 @@ def wrong_sessions(program):
             (here / "bin" / "confluo").symlink_to(program)
             for it in ("examples", "tools", "docs"):
                 (here / it).symlink_to(ROOT / it)
-            environment = os.environ | {"PATH": f"{here / 'bin'}:{ROOT / 'tools'}:{os.environ['PATH']}"}
+            environment = os.environ | {"PATH": f"{here / 'bin'}:{ROOT / 'tools'}:{os.environ['PATH']}", "CONFLUO": str(program)}
             for block in blocks_of(ROOT / name):
                 if block[0].startswith("schema "):
                     (here / "questions.setup").write_text("\n".join(block) + "\n")
                 if not block[0].startswith("$ "):
                     continue
                 commands = "\n".join(it[2:] for it in block if it.startswith("$ "))
+                if "confluo-report" in commands and not (ROOT / "tools" / "confluo-report").exists():
+                    continue
                 ran = subprocess.run(["bash", "-c", commands], cwd=here, env=environment, stdout=subprocess.PIPE, text=True, timeout=SECONDS)
                 if not agrees([it for it in block if not it.startswith("$ ")], ran.stdout.splitlines()):
                     yield f"{name}: {commands}\nprints\n{ran.stdout}"
