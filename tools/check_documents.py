@@ -7,7 +7,8 @@
 - docs/full_link.svg is what tools/draw_full_link.py draws.
 - docs/INCIDENTS.md shows each setup of examples/incidents, without its comments, and below each command the stored report.
 - VERSION is the newest version of CHANGELOG.md, the README has at most 900 words and docs/ at most 20,000.
-- With PROGRAM: README.md, docs/GUIDE.md and examples/*.md are right about what commands print. A block whose first line begins
+- With PROGRAM: README.md, docs/GUIDE.md, examples/*.md and, of confluo-report, docs/INCIDENTS.md are right about what commands
+  print. A block whose first line begins
   with `$ ` is run, with `confluo` being PROGRAM and `questions.setup` the setup shown last, and must print the lines below. Blocks
   with confluo-report are passed over if tools/ has none.
 
@@ -30,7 +31,7 @@ ROOT = pathlib.Path(__file__).resolve().parent.parent
 INCIDENTS = ROOT / "examples" / "incidents"
 PAGES = [ROOT / it for it in ("README.md", "CONTRIBUTING.md", "CHANGELOG.md")]
 PAGES += sorted([*ROOT.glob("docs/*.md"), *ROOT.glob("examples/**/*.md")])
-RUN = ["README.md", "docs/GUIDE.md", "examples/README.md", "examples/formats/README.md"]
+RUN = ["README.md", "docs/GUIDE.md", "docs/INCIDENTS.md", "examples/README.md", "examples/formats/README.md"]
 SECONDS = 60
 
 
@@ -108,8 +109,8 @@ def wrong_sessions(program):
             here = pathlib.Path(folder)
             (here / "bin").mkdir()
             (here / "bin" / "confluo").symlink_to(program)
-            for it in ("examples", "tools", "docs"):
-                (here / it).symlink_to(ROOT / it)
+            for it in [ROOT / "examples", ROOT / "tools", ROOT / "docs", *INCIDENTS.glob("*.pcap")]:
+                (here / it.name).symlink_to(it)
             environment = os.environ | {"PATH": f"{here / 'bin'}:{ROOT / 'tools'}:{os.environ['PATH']}", "CONFLUO": str(program)}
             for block in blocks_of(ROOT / name):
                 if block[0].startswith("schema "):
@@ -117,7 +118,8 @@ def wrong_sessions(program):
                 if not block[0].startswith("$ "):
                     continue
                 commands = "\n".join(it[2:] for it in block if it.startswith("$ "))
-                if "confluo-report" in commands and not (ROOT / "tools" / "confluo-report").exists():
+                is_of_tool = "confluo-report" in commands
+                if is_of_tool and not (ROOT / "tools" / "confluo-report").exists() or name == "docs/INCIDENTS.md" and not is_of_tool:
                     continue
                 ran = subprocess.run(["bash", "-c", commands], cwd=here, env=environment, stdout=subprocess.PIPE, text=True, timeout=SECONDS)
                 if not agrees([it for it in block if not it.startswith("$ ")], ran.stdout.splitlines()):
