@@ -57,7 +57,10 @@ class Frame:
 
 @dataclass(frozen=True)
 class Piece:
-    """Consecutive bytes of a file: a header, a block, or a packet with its frame."""
+    """Consecutive bytes of a file: a header, a block, or a packet with its frame.
+
+    A long block that is passed over has no bytes here.
+    """
 
     raw: bytes
     frame: Frame | None = None
@@ -225,7 +228,7 @@ class _Blocks:
         body = self.rest(at, kind, size, head)
         frame = self.read_block(at, kind, head + body)
         self.number += frame is not None
-        return Piece(head + body, frame)
+        return Piece(head + body if len(head) + len(body) == size else b"", frame)
 
     def rest(self, at: int, kind: int, size: int, head: bytes) -> bytes:
         """The block's further bytes; of a long one that is passed over only the last four."""
