@@ -50,7 +50,8 @@ def fault_lines(path: str, fault: SetupFault) -> list[str]:
         lines += ["", f"    {shown}", f"    {' ' * (fault.fault.place - begin)}^"]
     lines += ["", f"Why: {fault.fault.why}.", f"Rule {fault.fault.code}: {RULES[fault.fault.code]}."]
     if fault.fault.right:
-        lines += ["A line that would be right:", "", f"    {fault.fault.right}"]
+        several = "Lines" if "\n" in fault.fault.right else "A line"
+        lines += [f"{several} that would be right:", "", *(f"    {it}" for it in fault.fault.right.split("\n"))]
     return lines
 
 

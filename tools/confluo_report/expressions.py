@@ -2,6 +2,7 @@
 
 from __future__ import annotations
 
+import difflib
 import re
 from dataclasses import dataclass
 from typing import Callable, Sequence, Union
@@ -68,11 +69,15 @@ class Expression:
 
 
 class ExpressionFault(Exception):
-    """The first fault of an expression: its code in a setup, its place in the text and why."""
+    """The first fault of an expression: its code in a setup, its place in the text and why.
 
-    def __init__(self, code: int, place: int, why: str) -> None:
+    `size` is the length of the offending token, and `instead` are texts that may stand in its place.
+    """
+
+    def __init__(self, code: int, place: int, why: str, size: int, instead: Sequence[str]) -> None:
         super().__init__(why)
         self.code, self.place, self.why = code, place, why
+        self.size, self.instead = size, instead
 
 
 def is_form(text: str) -> bool:
@@ -109,6 +114,18 @@ def values_of_kind(kind: str) -> str:
     return f"a number from 0 to {most}{dotted}"
 
 
+def greatest(attribute: Attribute) -> str:
+    """The text of the attribute's greatest value."""
+    if attribute.kind in NUMBER_BITS:
+        return str((1 << NUMBER_BITS[attribute.kind]) - 1)
+    return "0x" + "ff" * int(attribute.kind[1:])
+
+
+def least(attribute: Attribute) -> str:
+    """The text of the attribute's least value."""
+    return "0" if attribute.kind in NUMBER_BITS else "0x" + "00" * int(attribute.kind[1:])
+
+
 class _Reader:
     """Reads an expression from the left."""
 
@@ -129,8 +146,9 @@ class _Reader:
         self.at += len(token)
         self.skip()
 
-    def fail(self, code: int, why: str) -> None:
-        raise ExpressionFault(code, self.at, why)
+    def fail(self, code: int, why: str, *instead: str, size: int | None = None) -> None:
+        word = self.text[self.at :].split(" ")[0]
+        raise ExpressionFault(code, self.at, why, len(word) if size is None else size, instead)
 
     def here(self) -> str:
         """What stands here, in words."""
@@ -147,7 +165,7 @@ class _Reader:
         while self.at < len(self.text):
             connective = self.text[self.at : self.at + 2]
             if connective not in ("&&", "||"):
-                self.fail(SYNTAX, f"`&&`, `||` or the end is wanted here, and not {self.here()}")
+                self.fail(SYNTAX, f"`&&`, `||` or the end is wanted here, and not {self.here()}", "&& ", size=0)
             self.pass_over(connective)
             if self.atoms == MOST_ATOMS:
                 self.fail(TOO_LONG, f"an expression has at most {MOST_ATOMS} comparisons")
@@ -165,33 +183,36 @@ class _Reader:
         return Atom(place, operator, low, high)
 
     def attribute(self) -> int:
-        name = self.token(WORD)
+        name, names = self.token(WORD), [it.name for it in self.schema]
         if not name:
-            self.fail(SYNTAX, f"the name of an attribute is wanted here, and not {self.here()}")
-        names = [it.name for it in self.schema]
+            why = f"the name of an attribute is wanted here, and not {self.here()}"
+            self.fail(SYNTAX, why, f"{names[-1]}==0", "*")
         if name not in names:
-            self.fail(UNKNOWN_NAME, f"no attribute is called `{name}`; there are {', '.join(names)}")
+            why = f"no attribute is called `{name}`; there are {', '.join(names)}"
+            self.fail(UNKNOWN_NAME, why, *difflib.get_close_matches(name, names, 1, 0.5), *names, size=len(name))
         self.pass_over(name)
         return names.index(name)
 
     def operator(self, attribute: Attribute) -> str:
         operator = self.token(SIGNS) or self.token(WORD)
         if not operator:
-            self.fail(SYNTAX, f"`==` or another operator is wanted here, and not {self.here()}")
+            self.fail(SYNTAX, f"`==` or another operator is wanted here, and not {self.here()}", "==", f"=={least(attribute)}")
         if operator not in (*OPERATORS, "in"):
-            self.fail(BAD_OPERATOR, f"`{operator}` is none of == != < <= > >= in")
+            why = f"`{operator}` is none of == != < <= > >= in"
+            self.fail(BAD_OPERATOR, why, "==", f"=={least(attribute)}", size=len(operator))
         if not attribute.is_number and operator not in ("==", "!="):
-            self.fail(BAD_OPERATOR, f"`{attribute.name}` is bytes, which compare by == and != alone")
+            why = f"`{attribute.name}` is bytes, which compare by == and != alone"
+            self.fail(BAD_OPERATOR, why, "==", f"=={least(attribute)}", size=len(operator))
         self.pass_over(operator)
         return operator
 
     def value(self, attribute: Attribute) -> tuple[Value, Value]:
         token = self.token(VALUE)
         if not is_form(token):
-            self.fail(SYNTAX, f"a value is wanted here, and not {self.here()}")
+            self.fail(SYNTAX, f"a value is wanted here, and not {self.here()}", least(attribute))
         value = value_of(attribute.kind, token)
         if value is None:
-            self.fail(VALUE_RANGE, _no_value(attribute, token))
+            self.fail(VALUE_RANGE, _no_value(attribute, token), greatest(attribute), size=len(token))
             raise AssertionError
         self.pass_over(token)
         return value, value
@@ -205,7 +226,8 @@ class _Reader:
         elif slash and DOTTED.fullmatch(address) and DECIMAL.fullmatch(bits):
             ends = self.network(attribute, address, int(bits))
         else:
-            self.fail(SYNTAX, f"a range as 60..99 or 10.0.0.0/8 is wanted here, and not {self.here()}")
+            why = f"a range as 60..99 or 10.0.0.0/8 is wanted here, and not {self.here()}"
+            self.fail(SYNTAX, why, f"{least(attribute)}..{greatest(attribute)}")
             raise AssertionError
         self.pass_over(token)
         return ends
@@ -214,20 +236,20 @@ class _Reader:
         values = value_of(attribute.kind, low), value_of(attribute.kind, high)
         for text, value in zip((low, high), values):
             if value is None:
-                self.fail(VALUE_RANGE, _no_value(attribute, text))
+                self.fail(VALUE_RANGE, _no_value(attribute, text), f"{least(attribute)}..{greatest(attribute)}")
         if values[0] > values[1]:  # type: ignore[operator]
-            self.fail(VALUE_RANGE, f"the range begins at {low}, above its end {high}")
+            self.fail(VALUE_RANGE, f"the range begins at {low}, above its end {high}", f"{high}..{low}")
         return values  # type: ignore[return-value]
 
     def network(self, attribute: Attribute, address: str, bits: int) -> tuple[Value, Value]:
-        number = value_of("u32", address)
+        number, whole = value_of("u32", address), f"{least(attribute)}..{greatest(attribute)}"
         if attribute.kind != "u32":
-            self.fail(VALUE_RANGE, f"`{attribute.name}` is no address, so it has no networks")
+            self.fail(VALUE_RANGE, f"`{attribute.name}` is no address, so it has no networks", whole)
         if not isinstance(number, int):
-            self.fail(VALUE_RANGE, _no_value(attribute, address))
+            self.fail(VALUE_RANGE, _no_value(attribute, address), "10.0.0.0/8")
             raise AssertionError
         if bits > 32:
-            self.fail(VALUE_RANGE, f"a network has 0 to 32 bits after the slash, and not {bits}")
+            self.fail(VALUE_RANGE, f"a network has 0 to 32 bits after the slash, and not {bits}", f"{address}/32")
         rest = (1 << (32 - bits)) - 1
         return number & ~rest, number | rest
 
@@ -240,3 +262,19 @@ def _no_value(attribute: Attribute, text: str) -> str:
 def parse_expression(schema: Sequence[Attribute], text: str) -> Expression:
     """The expression that the text is over the schema, or its first fault from the left."""
     return _Reader(schema, text).expression()
+
+
+def _is_lawful(schema: Sequence[Attribute], text: str) -> bool:
+    try:
+        parse_expression(schema, text)
+    except ExpressionFault:
+        return False
+    return True
+
+
+def repaired(schema: Sequence[Attribute], text: str, fault: ExpressionFault) -> str:
+    """A lawful expression near to the faulty one."""
+    front, rest = text[: fault.place], text[fault.place + fault.size :]
+    candidates = [it for instead in fault.instead for it in (front + instead + rest, front + instead)]
+    candidates.append(re.sub(r" *(&&|\|\|)? *$", "", front))
+    return next((it for it in candidates if _is_lawful(schema, it)), "*")

@@ -115,6 +115,8 @@ def _sure(ranked: Sequence[_Bounds], unseen: int | None) -> int:
 def joined_top(question: Question, tops: Sequence[Top], asked: int | None = None) -> tuple[Top, str]:
     """The first keys over all reports, and a note where the tail could be wrong."""
     asked = asked or question.high
+    if len(tops) == 1:
+        return Top(tops[0].keys[:asked]), ""
     full = [len(it.keys) >= question.high for it in tops]
     values = [{pair.key: pair.value for pair in it.keys} for it in tops]
     lasts = [it.keys[-1].value if it.keys else 0 for it in tops]

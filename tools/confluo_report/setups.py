@@ -6,6 +6,7 @@ whose rule the line breaks, so each statement gathers all of its faults.
 
 from __future__ import annotations
 
+import difflib
 import re
 from dataclasses import dataclass, field
 from typing import Callable
@@ -18,6 +19,7 @@ from .expressions import (
     ExpressionFault,
     Value,
     parse_expression,
+    repaired,
     value_of,
     values_of_kind,
 )
@@ -36,27 +38,6 @@ PACKET = tuple(
         "proto:u8 src:u32 dst:u32 sport:u16 dport:u16 seq:u32 ack:u32 flags:u8 win:u16 vlan:u16"
     ).split()
 )
-FORMS = {
-    "schema": ("schema packet", "schema records ts:u64,src:u32,len:u16"),
-    "width": ("width 1000000000",),
-    "index": ("index senders src",),
-    "filter": ("filter web dport==80 || dport==443",),
-    "aggregate": ("aggregate sent web len",),
-    "tally": ("tally talkers src len *",),
-    "trigger": ("trigger bursts sent sum > 1000",),
-    "ask": (
-        "ask resets list kind==2 && flags==20",
-        "ask resolver find senders 10.0.0.53 10.0.0.53",
-        "ask then between web 1700000000 1700000009",
-        "ask volume measure sent 1700000000 1700000009",
-        "ask busy fired bursts",
-        "ask most top talkers sum 10",
-        "ask all total len *",
-    ),
-    "live": ("live busy",),
-}
-
-
 @dataclass(frozen=True)
 class Lane:
     """An index, filter, aggregate or tally. `key` is an attribute's place, or None for the bucket."""
@@ -115,6 +96,10 @@ class Setup:
     def lane(self, name: str, *families: str) -> Lane | None:
         """The lane of one of the families with that name."""
         return next((it for it in self.lanes if it.name == name and it.family in families), None)
+
+    def lane_of(self, family: str) -> Lane | None:
+        """The first lane of the family."""
+        return next((it for it in self.lanes if it.family == family), None)
 
     def trigger(self, name: str) -> Trigger | None:
         return next((it for it in self.triggers if it.name == name), None)
@@ -175,10 +160,8 @@ class _Statement:
         self.faults.append(Fault(code, word.place, why, right))
 
     def right(self) -> str:
-        """A lawful line of this statement."""
-        lines = FORMS[self.words[0].text]
-        kind = self.word(2).text
-        return next((it for it in lines if it.split()[2:3] == [kind]), lines[0])
+        """A lawful line of this statement, with the lines before it that it needs."""
+        return right_lines(self.setup, [it.text for it in self.words])
 
     def must_have(self, count: int, form: str) -> bool:
         """Whether there are that many words; `form` shows them."""
@@ -213,8 +196,7 @@ class _Statement:
             self.fault(3, word, why, self.right())
         elif word.text in self.setup.names():
             why = f"the name `{word.text}` stands for something on a line above; names are all different"
-            other = f"{word.text[:30]}_2"
-            self.fault(5, word, why, self.with_word(number, other))
+            self.fault(5, word, why, self.with_word(number, fresh(self.setup, word.text[:28])))
         return word.text
 
     def with_word(self, number: int, text: str) -> str:
@@ -260,7 +242,7 @@ class _Statement:
         if value is None:
             wanted = values_of_kind(attribute.kind)
             why = f"`{word.text}` is no value of `{attribute.name}`, which is {wanted}"
-            self.fault(7, word, why)
+            self.fault(7, word, why, self.right())
             return 0
         return value
 
@@ -272,13 +254,13 @@ class _Statement:
         if kind not in ("u8", "u16", "u32"):
             word = self.word(number)
             why = f"`{word.text}` is {_of_kind(kind)}; only numbers below 2^32 (u8, u16, u32) are measured"
-            self.fault(8, word, why, self.with_word(number, "len"))
+            self.fault(8, word, why, self.right())
 
     def must_be_a_key(self, number: int, place: int | None) -> None:
         if place is not None and not self.setup.schema[place].is_number:
             word = self.word(number)
-            why = f"`{word.text}` is bytes; an index or a tally is over numbers. For one address write `ask NAME list {word.text}==0x..`"
-            self.fault(8, word, why, self.with_word(number, "src"))
+            why = f"`{word.text}` is bytes; an index or a tally is over numbers (`ask NAME list {word.text}==0x..` finds one)"
+            self.fault(8, word, why, self.right())
 
     def must_have_room(self, what: str, there: int) -> None:
         if there >= MOST[what]:
@@ -291,7 +273,9 @@ class _Statement:
         try:
             return parse_expression(self.setup.schema, rest.text)
         except ExpressionFault as fault:
-            self.faults.append(Fault(fault.code, rest.place + fault.place, fault.why, _right_expression(fault.code)))
+            front = self.line[: rest.place].rstrip(" ")
+            right = f"{front} {repaired(self.setup.schema, rest.text, fault)}"
+            self.faults.append(Fault(fault.code, rest.place + fault.place, fault.why, right))
         return Expression("*", ((),))
 
 
@@ -299,14 +283,98 @@ def _of_kind(kind: str) -> str:
     return "a u64" if kind == "u64" else "bytes"
 
 
-def _right_expression(code: int) -> str:
-    return {
-        10: "dport==53 || sport==53",
-        11: "src in 10.0.0.0/8 && dport==443",
-        12: "len>=100 && smac==0x020000000001",
-        13: "dport==65535",
-        14: "dport in 80..443",
-    }[code]
+def fresh(setup: Setup, name: str) -> str:
+    """A name that stands for nothing yet."""
+    names = (name, *(f"{name}_{it}" for it in range(2, 100)))
+    return next(it for it in names if it not in setup.names())
+
+
+def _first(setup: Setup, kinds: tuple[str, ...], *liked: str) -> str:
+    """The name of an attribute of one of the kinds, one that is liked if it is there."""
+    names = [it.name for it in setup.schema if it.kind in kinds]
+    return next((it for it in liked if it in names), names[0] if names else "len")
+
+
+class _Example:
+    """Lawful lines of one statement, with names that are there."""
+
+    def __init__(self, setup: Setup, words: list[str]) -> None:
+        self.setup, self.words = setup, words
+        self.before: list[str] = []
+        self.key = _first(setup, tuple(NUMBER_BITS), "src")
+        self.measure = _first(setup, ("u8", "u16", "u32"), "len")
+        self.some = "dport==53" if setup.is_packet else f"{self.key}>=0"
+
+    def named(self, name: str) -> str:
+        """The name that the line gives, where it is lawful and new, else a fresh one."""
+        given = self.words[1] if len(self.words) > 1 else ""
+        lawful = NAME.fullmatch(given) and given not in self.setup.names()
+        return given if lawful else fresh(self.setup, name)
+
+    def lane(self, family: str, line: str) -> str:
+        """A lane of that family: one of a line above, else that of a line to be added."""
+        there = next((it.name for it in self.setup.lanes if it.family == family), None)
+        if there is None:
+            there = fresh(self.setup, f"some_{family}")
+            self.before.append(f"{family} {there} {line}")
+        return there
+
+    def filter(self) -> str:
+        return self.lane("filter", self.some)
+
+    def aggregate(self) -> str:
+        if self.setup.lane_of("aggregate"):
+            return self.lane("aggregate", "")
+        return self.lane("aggregate", f"{self.filter()} {self.measure}")
+
+    def trigger(self) -> str:
+        if self.setup.triggers:
+            return self.setup.triggers[0].name
+        name = fresh(self.setup, "some_trigger")
+        self.before.append(f"trigger {name} {self.aggregate()} sum > 1000")
+        return name
+
+    def ask(self) -> str:
+        """The question of the kind that the line has, else a list."""
+        kind = self.words[2] if len(self.words) > 2 else ""
+        forms: dict[str, Callable[[], str]] = {
+            "find": lambda: f"find {self.lane('index', self.key)} 0 255",
+            "between": lambda: f"between {self.filter()} 1700000000 1700000009",
+            "measure": lambda: f"measure {self.aggregate()} 1700000000 1700000009",
+            "fired": lambda: f"fired {self.trigger()}",
+            "top": lambda: f"top {self.lane('tally', f'{self.key} {self.measure} *')} sum 10",
+            "total": lambda: f"total {self.measure} *",
+        }
+        statement = forms.get(kind, lambda: f"list {self.some}")()
+        return f"ask {self.named('found')} {statement}"
+
+    def live(self) -> str:
+        name = next((it.name for it in self.setup.asks if it.name not in self.setup.lives), None)
+        if name is None:
+            name = fresh(self.setup, "found")
+            self.before.append(f"ask {name} list {self.some}")
+        return f"live {name}"
+
+    def line(self) -> str:
+        forms: dict[str, Callable[[], str]] = {
+            "schema": lambda: "schema packet",
+            "width": lambda: "width 1000000000",
+            "index": lambda: f"index {self.named('senders')} {self.key}",
+            "filter": lambda: f"filter {self.named('some')} {self.some}",
+            "aggregate": lambda: f"aggregate {self.named('sent')} {self.filter()} {self.measure}",
+            "tally": lambda: f"tally {self.named('talkers')} {self.key} {self.measure} *",
+            "trigger": lambda: f"trigger {self.named('bursts')} {self.aggregate()} sum > 1000",
+            "ask": self.ask,
+            "live": self.live,
+        }
+        return forms[self.words[0]]()
+
+
+def right_lines(setup: Setup, words: list[str]) -> str:
+    """A lawful line of the statement that begins so, after the lines that it needs."""
+    example = _Example(setup, words)
+    line = example.line()
+    return "\n".join([*example.before, line])
 
 
 def _schema(it: _Statement) -> None:
@@ -325,7 +393,7 @@ def _schema(it: _Statement) -> None:
 def _attributes(it: _Statement, word: _Word) -> tuple[Attribute, ...]:
     found: list[Attribute] = []
     place = word.place
-    right = FORMS["schema"][1]
+    right = "schema records ts:u64,src:u32,len:u16"
     for item in word.text.split(","):
         name, _, kind = item.partition(":")
         at = _Word(item, place)
@@ -519,7 +587,9 @@ def _take(setup: Setup, line: str) -> Fault | None:
     statement = _Statement(setup, line)
     why = _misplaced(setup, statement)
     if why:
-        return Fault(2, statement.words[0].place, why, "" if setup.schema else "schema packet")
+        near = difflib.get_close_matches(statement.words[0].text, [it for it in STATEMENTS if it not in ("schema", "width")], 1)
+        right = right_lines(setup, [near[0] if near else "ask", *(it.text for it in statement.words[1:])])
+        return Fault(2, statement.words[0].place, why, right if setup.schema else "schema packet")
     STATEMENTS[statement.words[0].text](statement)
     return min(statement.faults, key=lambda it: it.code, default=None)
 
@@ -546,7 +616,3 @@ def parse_setup(data: bytes) -> Setup:
     if not setup.schema:
         raise SetupFault(len(lines) + 1, "", Fault(2, 0, "there is no statement; the first is the schema", "schema packet"))
     return setup
-
-
-def is_number_kind(kind: str) -> bool:
-    return kind in NUMBER_BITS
