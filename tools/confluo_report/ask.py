@@ -49,7 +49,9 @@ def job_of(words: Sequence[str], schema: str, needs_capture: bool) -> Job:
     captures = [it for it in words if not is_question(it)]
     for it in captures:
         if it != "-" and not pathlib.Path(it).exists():
-            raise Complaint(f"`{it}` is neither a file nor a question; questions begin with top, list, find, count, ..")
+            raise Complaint(
+                f"`{it}` is neither a file nor a question; questions begin with top, list, find, count, .."
+            )
     if not texts:
         raise Complaint("there is no question, as 'top src by bytes' or 'list dport==53'")
     if needs_capture and not captures:
@@ -101,6 +103,16 @@ def run_raising(setup_path: str, capture: str) -> str:
     raise Complaint(_refused(ran, setup_path, capture))
 
 
+def _named(setup_path: str, name: str, capture: str) -> Named:
+    try:
+        return Named(name, parse_report(run_raising(setup_path, capture), name))
+    except Complaint as complaint:
+        if name != "-":
+            raise
+        shown = str(complaint).replace(capture, "standard input", 1).replace(capture, "CAPTURE")
+        raise Complaint(shown) from complaint
+
+
 def _refused(ran: program.Ran, setup_path: str, capture: str) -> str:
     refusal = refusal_of(ran.text)
     if refusal is None and ran.status not in (4, 5, 8):
@@ -127,9 +139,7 @@ def answers(job: Job, style: Style, most: int, as_report: bool = False) -> list[
     text = job.setup_text()
     setup = lawful(job, text)
     with _files(job, text) as (setup_path, captures):
-        named = [
-            Named(name, parse_report(run_raising(setup_path, it), name)) for name, it in zip(job.captures, captures)
-        ]
+        named = [_named(setup_path, name, it) for name, it in zip(job.captures, captures)]
         if as_report and not job.is_several:
             return list(lines_of(named[0].report))
         asked = {name_of(at): it.count for at, it in enumerate(job.queries) if it.verb == "top"}

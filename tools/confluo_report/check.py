@@ -11,7 +11,8 @@ def summary(setup: Setup) -> str:
     """What a lawful setup has."""
     families = [it.family for it in setup.lanes]
     parts = [
-        _counted(families.count(it), it, "es" if it == "index" else "s") for it in ("index", "filter", "aggregate")
+        _counted(families.count(it), it, "es" if it == "index" else "s")
+        for it in ("index", "filter", "aggregate")
     ]
     parts.append(_counted(families.count("tally"), "tall", "ies", "y"))
     parts += [_counted(len(setup.triggers), "trigger"), _counted(len(setup.asks), "question")]

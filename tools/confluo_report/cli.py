@@ -97,7 +97,9 @@ def _explain(words: Words) -> int:
     refusal = refusal_of(text)
     if refusal is None and text and words.status != 5:
         parse(text, _shown(words.report or "-"))
-        raise Complaint(f"{_shown(words.report or '-')} is a report and no refusal: `confluo-report show` shows it")
+        raise Complaint(
+            f"{_shown(words.report or '-')} is a report and no refusal: `confluo-report show` shows it"
+        )
     _print(explain(refusal, words.status, case))
     return 0
 
@@ -188,38 +190,56 @@ def _check(words: Words) -> int:
 
 def _add_report(parser: argparse.ArgumentParser, setup: str) -> None:
     parser.add_argument("--setup", metavar="FILE", help=setup)
-    parser.add_argument("report", metavar="REPORT", nargs="?", default="-", help="a file; default: standard input")
+    parser.add_argument(
+        "report", metavar="REPORT", nargs="?", default="-", help="a file; default: standard input"
+    )
 
 
 def _add_show(commands: argparse._SubParsersAction) -> Callable[[Words], int]:
-    parser = commands.add_parser("show", help="a report as tables", description="Shows a report or snapshot as tables.")
+    parser = commands.add_parser(
+        "show", help="a report as tables", description="Shows a report or snapshot as tables."
+    )
     _add_report(parser, "the setup: then times, addresses, units and conditions are shown")
-    parser.add_argument("--capture", metavar="FILE", help="the capture: then found packets are shown, one a line")
-    parser.add_argument("--most", type=_count, default=20, metavar="N", help="records shown of each answer; 0: all (20)")
+    parser.add_argument(
+        "--capture", metavar="FILE", help="the capture: then found packets are shown, one a line"
+    )
+    parser.add_argument(
+        "--most", type=_count, default=20, metavar="N", help="records shown of each answer; 0: all (20)"
+    )
     return _show
 
 
 def _add_explain(commands: argparse._SubParsersAction) -> Callable[[Words], int]:
     parser = commands.add_parser(
-        "explain", help="a refusal in words", description="Says in words why confluo refused a run, and what to do."
+        "explain",
+        help="a refusal in words",
+        description="Says in words why confluo refused a run, and what to do.",
     )
     parser.add_argument("--setup", metavar="FILE", help="the setup of the run")
     parser.add_argument("--capture", metavar="FILE", action="append", default=[], help="a capture of the run")
-    parser.add_argument("--command", metavar="WORDS", help="the command as typed: 'confluo run --setup q.setup c.pcap'")
+    parser.add_argument(
+        "--command", metavar="WORDS", help="the command as typed: 'confluo run --setup q.setup c.pcap'"
+    )
     parser.add_argument("--status", type=_count, metavar="N", help="the exit status; needed for 4, 5 and 8")
-    parser.add_argument("report", metavar="REPORT", nargs="?", help="what confluo printed; default: standard input")
+    parser.add_argument(
+        "report", metavar="REPORT", nargs="?", help="what confluo printed; default: standard input"
+    )
     return _explain
 
 
 def _add_json(commands: argparse._SubParsersAction) -> Callable[[Words], int]:
-    parser = commands.add_parser("json", help="a report as JSON", description="Writes all of a report as JSON.")
+    parser = commands.add_parser(
+        "json", help="a report as JSON", description="Writes all of a report as JSON."
+    )
     _add_report(parser, "the setup: then buckets have their times and keys their texts beside them")
     parser.add_argument("--indent", type=_count, metavar="N", help="spaces of indentation; default: one line")
     return _json
 
 
 def _add_csv(commands: argparse._SubParsersAction) -> Callable[[Words], int]:
-    parser = commands.add_parser("csv", help="a report as CSV", description="Writes all of a report as one CSV table.")
+    parser = commands.add_parser(
+        "csv", help="a report as CSV", description="Writes all of a report as one CSV table."
+    )
     _add_report(parser, "the setup, which must be the report's")
     return _csv
 
@@ -229,30 +249,51 @@ def _add_prometheus(commands: argparse._SubParsersAction) -> Callable[[Words], i
         "prometheus", help="a report as metrics", description="Writes a report in Prometheus' text format."
     )
     _add_report(parser, "the setup: then triggers without alerts are shown as 0")
-    parser.add_argument("--label", metavar="NAME=VALUE", action="append", default=[], help="a label of all metrics")
-    parser.add_argument("--brief", action="store_true", help="without record numbers, live answers and the order")
-    parser.add_argument("--textfile", metavar="FILE", help="write this file at once or not at all, for node_exporter")
+    parser.add_argument(
+        "--label", metavar="NAME=VALUE", action="append", default=[], help="a label of all metrics"
+    )
+    parser.add_argument(
+        "--brief", action="store_true", help="without record numbers, live answers and the order"
+    )
+    parser.add_argument(
+        "--textfile", metavar="FILE", help="write this file at once or not at all, for node_exporter"
+    )
     return _prometheus
 
 
 def _add_several(parser: argparse.ArgumentParser) -> None:
-    parser.add_argument("--setup", metavar="FILE", help="the setup of the reports; needed where there are tops")
-    parser.add_argument("--tagged", action="store_true", help="lines have their tag before them, as of parallel --tag")
-    parser.add_argument("reports", metavar="REPORT", nargs="+", help="files, each with one report or several; - is standard input")
+    parser.add_argument(
+        "--setup", metavar="FILE", help="the setup of the reports; needed where there are tops"
+    )
+    parser.add_argument(
+        "--tagged", action="store_true", help="lines have their tag before them, as of parallel --tag"
+    )
+    parser.add_argument(
+        "reports",
+        metavar="REPORT",
+        nargs="+",
+        help="files, each with one report or several; - is standard input",
+    )
 
 
 def _add_merge(commands: argparse._SubParsersAction) -> Callable[[Words], int]:
     parser = commands.add_parser(
-        "merge", help="reports of one setup together", description="Puts the final parts of reports of one setup together."
+        "merge",
+        help="reports of one setup together",
+        description="Puts the final parts of reports of one setup together.",
     )
     _add_several(parser)
     return _merge
 
 
 def _add_plot(commands: argparse._SubParsersAction) -> Callable[[Words], int]:
-    parser = commands.add_parser("plot", help="a picture of reports", description="Draws reports as PNG or SVG.")
+    parser = commands.add_parser(
+        "plot", help="a picture of reports", description="Draws reports as PNG or SVG."
+    )
     parser.add_argument("--out", metavar="FILE", required=True, help="the picture, FILE.png or FILE.svg")
-    parser.add_argument("--width", type=_count, default=10**9, metavar="NS", help="the setup's width, without --setup")
+    parser.add_argument(
+        "--width", type=_count, default=10**9, metavar="NS", help="the setup's width, without --setup"
+    )
     parser.add_argument("--dotted", action="store_true", help="keys are addresses, without --setup")
     _add_several(parser)
     return _plot
@@ -263,9 +304,15 @@ def _add_packets(commands: argparse._SubParsersAction) -> Callable[[Words], int]
         "packets", help="found packets as a capture", description="Copies the packets that a question found."
     )
     parser.add_argument("--ask", metavar="NAME", required=True, help="the question, a list, find or between")
-    parser.add_argument("--out", metavar="FILE", default="-", help="the new capture; default: standard output")
-    parser.add_argument("--into", metavar="FOLDER", help="for several captures: new ones of the same names there")
-    parser.add_argument("files", metavar="REPORT CAPTURE", nargs="+", help="a report and its capture, or several such pairs")
+    parser.add_argument(
+        "--out", metavar="FILE", default="-", help="the new capture; default: standard output"
+    )
+    parser.add_argument(
+        "--into", metavar="FOLDER", help="for several captures: new ones of the same names there"
+    )
+    parser.add_argument(
+        "files", metavar="REPORT CAPTURE", nargs="+", help="a report and its capture, or several such pairs"
+    )
     return _packets
 
 
@@ -281,17 +328,26 @@ def _add_ask(commands: argparse._SubParsersAction) -> Callable[[Words], int]:
     )
     parser.add_argument("--setup-only", action="store_true", help="print the setup and run nothing")
     parser.add_argument("--report", action="store_true", help="print the report's lines instead of tables")
-    parser.add_argument("--most", type=_count, default=20, metavar="N", help="records shown of each answer; 0: all (20)")
-    parser.add_argument("--schema", default="packet", metavar="S", help="of CSV files: 'records ts:u64,src:u32,len:u16'")
     parser.add_argument(
-        "words", metavar="CAPTURE|QUESTION", nargs="+", help="captures, also packed by gzip or zstd; then questions"
+        "--most", type=_count, default=20, metavar="N", help="records shown of each answer; 0: all (20)"
+    )
+    parser.add_argument(
+        "--schema", default="packet", metavar="S", help="of CSV files: 'records ts:u64,src:u32,len:u16'"
+    )
+    parser.add_argument(
+        "words",
+        metavar="CAPTURE|QUESTION",
+        nargs="+",
+        help="captures, also packed by gzip or zstd; then questions",
     )
     return _ask
 
 
 def _add_check(commands: argparse._SubParsersAction) -> Callable[[Words], int]:
     parser = commands.add_parser(
-        "check", help="whether a setup is lawful", description="Says whether setups are lawful; status 1 if one is not."
+        "check",
+        help="whether a setup is lawful",
+        description="Says whether setups are lawful; status 1 if one is not.",
     )
     parser.add_argument("setups", metavar="SETUP", nargs="+", help="files; - is standard input")
     return _check
@@ -344,7 +400,10 @@ def main(arguments: Sequence[str] | None = None) -> int:
         print(f"confluo-report: {complaint}", file=sys.stderr)
         return 2
     except CaptureFault as fault:
-        print(f"confluo-report: the capture is faulty: code {fault.code} at record {fault.record}", file=sys.stderr)
+        print(
+            f"confluo-report: the capture is faulty: code {fault.code} at record {fault.record}",
+            file=sys.stderr,
+        )
         return 2
     except BrokenPipeError:
         os.dup2(os.open(os.devnull, os.O_WRONLY), sys.stdout.fileno())

@@ -121,7 +121,8 @@ def _must_be_complete(form: Form, command: Command) -> None:
     if count > form.most:
         takes = {0: "no capture", 1: "one capture"}.get(form.most, f"at most {form.most} captures")
         raise WordsFault(
-            f"`{command.name}` takes {takes}, and there are {count}: {' '.join(command.captures[:4])}", form.example
+            f"`{command.name}` takes {takes}, and there are {count}: {' '.join(command.captures[:4])}",
+            form.example,
         )
 
 

@@ -12,7 +12,7 @@ from .expressions import Value, value_of
 from .reports import Ask, Found
 from .rows import bucket_of, rows_of
 from .setups import PACKET, Question, Setup
-from .values import KINDS, PROTOCOLS, clock, flags_text
+from .values import KINDS, PROTOCOLS, flags_text, packet_clock
 
 Details = Mapping[int, str]
 
@@ -27,7 +27,7 @@ class Packet:
     def text(self) -> str:
         """The packet in one line."""
         it = self.values
-        return f"{clock(int(it['ts']))}  {self.way()}  {it['len']} bytes{self.more()}"
+        return f"{packet_clock(int(it['ts']))}  {self.way()}  {it['len']} bytes{self.more()}"
 
     def way(self) -> str:
         it = self.values
@@ -96,11 +96,16 @@ def _meant(setup: Setup, question: Question) -> Callable[[Sequence[Value]], bool
         key = lane.key
         return lambda row: question.low <= row[key] <= question.high  # type: ignore[operator]
     if lane:
-        return lambda row: lane.select.holds(row) and question.low <= bucket_of(setup, tuple(row)) <= question.high
+        return (
+            lambda row: lane.select.holds(row)
+            and question.low <= bucket_of(setup, tuple(row)) <= question.high
+        )
     return lambda row: True
 
 
-def _must_be_found(setup: Setup, asks: Sequence[Ask], rows: Mapping[int, Sequence[Value]], capture: str) -> None:
+def _must_be_found(
+    setup: Setup, asks: Sequence[Ask], rows: Mapping[int, Sequence[Value]], capture: str
+) -> None:
     for ask in asks:
         question = setup.question(ask.name)
         if not question or not isinstance(ask.body, Found):
@@ -129,7 +134,9 @@ def _record_lines(asks: Sequence[Ask], records: int, setup: Setup, capture: str,
     try:
         rows = list(rows_of(setup, capture))
     except CaptureFault as fault:
-        raise Complaint(f"{capture} is not the capture of the report: it is refused with code {fault.code}") from fault
+        raise Complaint(
+            f"{capture} is not the capture of the report: it is refused with code {fault.code}"
+        ) from fault
     _must_be_as_many(capture, len(rows), records)
     found = {at: rows[at] for at in wanted}
     _must_be_found(setup, asks, found, capture)

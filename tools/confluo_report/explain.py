@@ -51,7 +51,9 @@ class Case:
         try:
             return parse_setup(read_bytes(self.setup))
         except SetupFault as fault:
-            raise Complaint(f"{self.setup} is not the setup of that run: its line {fault.line} is refused") from fault
+            raise Complaint(
+                f"{self.setup} is not the setup of that run: its line {fault.line} is refused"
+            ) from fault
 
 
 def read_bytes(path: str) -> bytes:
@@ -93,7 +95,10 @@ def explain_file(case: Case) -> list[str]:
     for path in missing:
         place = os.path.dirname(os.path.abspath(path))
         there = sorted(os.listdir(place))[:8] if os.path.isdir(place) else []
-        lines.append(f"{path} does not exist." + (f" {place} has: {', '.join(there)}" if there else f" Nor does {place}."))
+        lines.append(
+            f"{path} does not exist."
+            + (f" {place} has: {', '.join(there)}" if there else f" Nor does {place}.")
+        )
     if known and not missing:
         raise Complaint(f"all of these exist: {', '.join(known)}; they are not the files of that run")
     return lines if known else lines + ["Check the names:", "", "    ls -l SETUP CAPTURE"]
@@ -147,7 +152,9 @@ def _need(case: Case, capacity: int) -> Need | None:
         try:
             needs.append(need_of(setup, rows_of(setup, path), capacity))
         except CaptureFault as fault:
-            raise Complaint(f"{path} is not the capture of that run: it is refused with code {fault.code}") from fault
+            raise Complaint(
+                f"{path} is not the capture of that run: it is refused with code {fault.code}"
+            ) from fault
     nodes = {size: max(it.nodes[size] for it in needs) for size in needs[0].nodes}
     return Need(max(it.records for it in needs), nodes)
 
@@ -196,7 +203,9 @@ def _sized(case: Case, need: Need) -> list[str]:
 
 def explain_nodes(refusal: Refusal, case: Case) -> list[str]:
     """Status 7."""
-    lines = [f"The keys of indexes, filters, aggregates and tallies need more tree nodes than {refusal.place} (status 7)."]
+    lines = [
+        f"The keys of indexes, filters, aggregates and tallies need more tree nodes than {refusal.place} (status 7)."
+    ]
     command = case.command()
     capacity = command.number("capacity") if command else 65536
     need = _need(case, capacity)
@@ -217,7 +226,9 @@ def explain(refusal: Refusal | None, status: int | None, case: Case) -> list[str
     case.take_from_command()
     if refusal is None:
         if status not in (4, 5, 8):
-            raise Complaint("there is no refusal's line; a run without one ends with status 0, 4, 5 or 8: give --status N")
+            raise Complaint(
+                "there is no refusal's line; a run without one ends with status 0, 4, 5 or 8: give --status N"
+            )
         return {4: explain_reading, 8: explain_memory}.get(status, lambda _: explain_writing())(case)
     if status is not None and KINDS.get(status) != refusal.kind:
         raise Complaint(f"the line is that of a refused {refusal.kind}, and status {status} is another")

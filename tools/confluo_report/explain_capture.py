@@ -52,7 +52,10 @@ def _unpack(path: str, packer: str | None) -> tuple[str, list[str]]:
             f"It is packed by {packer}. Let confluo read it by a pipe:",
             [f"{packer} -dc {path} | confluo run --setup questions.setup /dev/stdin"],
         )
-    return "If Wireshark reads it, this writes it as pcap:", [f"editcap -F pcap {path} mended.pcap"]
+    advice = (
+        "Is it the capture, and not the setup or another file? If Wireshark reads it, this writes it as pcap:"
+    )
+    return advice, [f"editcap -F pcap {path} mended.pcap"]
 
 
 def mending(code: int, record: int, path: str, packer: str | None) -> tuple[str, list[str]]:
@@ -85,9 +88,18 @@ def _csv_mending(code: int, names: str, record: int, path: str) -> tuple[str, li
     line = record + 2
     return {
         11: ("The first line is to be the names:", [f"echo '{names}' > {path}"]),
-        12: ("This puts the names before the records, if there are none yet:", [f"sed -i '1i {names}' {path}"]),
-        13: ("Look at the line (lines of nothing and fields with line ends count otherwise):", [f"sed -n {line}p {path}"]),
-        14: ("Look at the line (lines of nothing and fields with line ends count otherwise):", [f"sed -n {line}p {path}"]),
+        12: (
+            "This puts the names before the records, if there are none yet:",
+            [f"sed -i '1i {names}' {path}"],
+        ),
+        13: (
+            "Look at the line (lines of nothing and fields with line ends count otherwise):",
+            [f"sed -n {line}p {path}"],
+        ),
+        14: (
+            "Look at the line (lines of nothing and fields with line ends count otherwise):",
+            [f"sed -n {line}p {path}"],
+        ),
         15: ("Cut it into parts that begin with the names each:", [f"split -C 16000000 {path} part_"]),
     }[code]
 

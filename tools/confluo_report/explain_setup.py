@@ -51,7 +51,11 @@ def fault_lines(path: str, fault: SetupFault) -> list[str]:
     lines += ["", f"Why: {fault.fault.why}.", f"Rule {fault.fault.code}: {RULES[fault.fault.code]}."]
     if fault.fault.right:
         several = "Lines" if "\n" in fault.fault.right else "A line"
-        lines += [f"{several} that would be right:", "", *(f"    {it}" for it in fault.fault.right.split("\n"))]
+        lines += [
+            f"{several} that would be right:",
+            "",
+            *(f"    {it}" for it in fault.fault.right.split("\n")),
+        ]
     return lines
 
 

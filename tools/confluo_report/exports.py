@@ -19,7 +19,9 @@ def _time(setup: Setup | None, bucket: int) -> dict[str, Any]:
     return {"time": clock(bucket * setup.nanoseconds)} if setup else {}
 
 
-def _pairs(pairs: Sequence[Pair], name: str, setup: Setup | None, question: Question | None) -> list[dict[str, Any]]:
+def _pairs(
+    pairs: Sequence[Pair], name: str, setup: Setup | None, question: Question | None
+) -> list[dict[str, Any]]:
     found: list[dict[str, Any]] = []
     for it in pairs:
         more: dict[str, Any] = _time(setup, it.key) if name == "bucket" else {}

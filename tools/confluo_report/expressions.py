@@ -165,7 +165,9 @@ class _Reader:
         while self.at < len(self.text):
             connective = self.text[self.at : self.at + 2]
             if connective not in ("&&", "||"):
-                self.fail(SYNTAX, f"`&&`, `||` or the end is wanted here, and not {self.here()}", "&& ", size=0)
+                self.fail(
+                    SYNTAX, f"`&&`, `||` or the end is wanted here, and not {self.here()}", "&& ", size=0
+                )
             self.pass_over(connective)
             if self.atoms == MOST_ATOMS:
                 self.fail(TOO_LONG, f"an expression has at most {MOST_ATOMS} comparisons")
@@ -189,14 +191,21 @@ class _Reader:
             self.fail(SYNTAX, why, f"{names[-1]}==0", "*")
         if name not in names:
             why = f"no attribute is called `{name}`; there are {', '.join(names)}"
-            self.fail(UNKNOWN_NAME, why, *difflib.get_close_matches(name, names, 1, 0.5), *names, size=len(name))
+            self.fail(
+                UNKNOWN_NAME, why, *difflib.get_close_matches(name, names, 1, 0.5), *names, size=len(name)
+            )
         self.pass_over(name)
         return names.index(name)
 
     def operator(self, attribute: Attribute) -> str:
         operator = self.token(SIGNS) or self.token(WORD)
         if not operator:
-            self.fail(SYNTAX, f"`==` or another operator is wanted here, and not {self.here()}", "==", f"=={least(attribute)}")
+            self.fail(
+                SYNTAX,
+                f"`==` or another operator is wanted here, and not {self.here()}",
+                "==",
+                f"=={least(attribute)}",
+            )
         if operator not in (*OPERATORS, "in"):
             why = f"`{operator}` is none of == != < <= > >= in"
             self.fail(BAD_OPERATOR, why, "==", f"=={least(attribute)}", size=len(operator))
@@ -236,7 +245,9 @@ class _Reader:
         values = value_of(attribute.kind, low), value_of(attribute.kind, high)
         for text, value in zip((low, high), values):
             if value is None:
-                self.fail(VALUE_RANGE, _no_value(attribute, text), f"{least(attribute)}..{greatest(attribute)}")
+                self.fail(
+                    VALUE_RANGE, _no_value(attribute, text), f"{least(attribute)}..{greatest(attribute)}"
+                )
         if values[0] > values[1]:  # type: ignore[operator]
             self.fail(VALUE_RANGE, f"the range begins at {low}, above its end {high}", f"{high}..{low}")
         return values  # type: ignore[return-value]
@@ -249,7 +260,9 @@ class _Reader:
             self.fail(VALUE_RANGE, _no_value(attribute, address), "10.0.0.0/8")
             raise AssertionError
         if bits > 32:
-            self.fail(VALUE_RANGE, f"a network has 0 to 32 bits after the slash, and not {bits}", f"{address}/32")
+            self.fail(
+                VALUE_RANGE, f"a network has 0 to 32 bits after the slash, and not {bits}", f"{address}/32"
+            )
         rest = (1 << (32 - bits)) - 1
         return number & ~rest, number | rest
 

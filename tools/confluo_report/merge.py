@@ -48,13 +48,18 @@ class Merged:
 def split_reports(text: str, source: str, tagged: bool = False) -> list[Named]:
     """The reports of a text that has several one after another, each line with its tag where `tagged`."""
     if tagged:
-        return [Named(tag, parse_report(part, f"{source}, {tag}")) for tag, part in _by_tag(text, source).items()]
+        return [
+            Named(tag, parse_report(part, f"{source}, {tag}")) for tag, part in _by_tag(text, source).items()
+        ]
     begins = [at for at, line in enumerate(text.split("\n")) if line.startswith("records ")]
     if len(begins) < 2 or begins[0] != 0:
         return [Named(source, parse_report(text, source))]
     lines = text.splitlines(keepends=True)
     parts = ["".join(lines[a:b]) for a, b in zip(begins, [*begins[1:], len(lines)])]
-    return [Named(f"{source}:{at}", parse_report(part, f"{source}, report {at},")) for at, part in enumerate(parts, 1)]
+    return [
+        Named(f"{source}:{at}", parse_report(part, f"{source}, report {at},"))
+        for at, part in enumerate(parts, 1)
+    ]
 
 
 def _by_tag(text: str, source: str) -> dict[str, str]:
@@ -63,7 +68,9 @@ def _by_tag(text: str, source: str) -> dict[str, str]:
     for number, line in enumerate(text.splitlines(keepends=True), 1):
         tag, tab, rest = line.rpartition("\t")
         if not tab:
-            raise Complaint(f"{source}: line {number} has no tag and tab before it, as `parallel --tag` writes them")
+            raise Complaint(
+                f"{source}: line {number} has no tag and tab before it, as `parallel --tag` writes them"
+            )
         parts[tag] = parts.get(tag, "") + rest
     if not parts:
         raise Complaint(f"{source} is empty")
@@ -126,7 +133,9 @@ def joined_top(question: Question, tops: Sequence[Top], asked: int | None = None
         hidden = [last for its, last, is_full in zip(values, lasts, full) if is_full and key not in its]
         bounds.append(_bounds(question.part, key, listed, hidden))
     ranked = sorted(bounds, key=lambda it: (-it.value, it.key))
-    unseen = _unseen(question.part, [last for last, is_full in zip(lasts, full) if is_full]) if any(full) else None
+    unseen = (
+        _unseen(question.part, [last for last, is_full in zip(lasts, full) if is_full]) if any(full) else None
+    )
     sure = _sure(ranked, unseen)
     shown = Top(tuple(Pair(it.key, it.value) for it in ranked[:asked]))
     if sure >= min(asked, len(ranked)) and not (any(full) and len(ranked) < asked):
@@ -135,8 +144,9 @@ def joined_top(question: Question, tops: Sequence[Top], asked: int | None = None
 
 
 def _tail_note(sure: int, full: int, asked: int) -> str:
-    certain = "no place is certain" if sure == 0 else f"only the first {sure} are certain"
-    return f"{certain}: {full} reports list {asked} keys each and may have more, so a key or value could be missing"
+    certain = "no place is certain" if sure == 0 else f"certain up to place {sure} only"
+    lists = "1 report lists" if full == 1 else f"{full} reports list"
+    return f"{certain}: {lists} {asked} keys and may have more, so further keys and values could be wrong"
 
 
 def merge(named: Sequence[Named], setup: Setup | None, asked: dict[str, int] | None = None) -> Merged:

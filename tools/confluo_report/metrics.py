@@ -138,7 +138,20 @@ def metrics_text(
 def label_of(text: str) -> tuple[str, str]:
     """The label of a word NAME=VALUE."""
     name, equals, value = text.partition("=")
-    taken = {"ask", "kind", "part", "place", "record", "bucket", "key", "trigger", "host", "line", "prefix", "writer"}
+    taken = {
+        "ask",
+        "kind",
+        "part",
+        "place",
+        "record",
+        "bucket",
+        "key",
+        "trigger",
+        "host",
+        "line",
+        "prefix",
+        "writer",
+    }
     if not equals or not LABEL.fullmatch(name) or name.startswith("__") or name in taken:
         raise Complaint(f"`{text}` is no label NAME=VALUE, or its name is one of {', '.join(sorted(taken))}")
     return name, value

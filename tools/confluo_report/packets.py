@@ -27,7 +27,9 @@ def rows_found(report: Report, name: str, source: str) -> set[int]:
     for ask in report.asks:
         if ask.name == name:
             if not isinstance(ask.body, Found):
-                raise Complaint(f"{source}: `{name}` is a question that finds no packets: it is a {ask.body.kind}")
+                raise Complaint(
+                    f"{source}: `{name}` is a question that finds no packets: it is a {ask.body.kind}"
+                )
             return set(ask.body.rows)
     names = ", ".join(it.name for it in report.asks) or "none"
     raise Complaint(f"{source} has no line of `{name}`; it has {names}")

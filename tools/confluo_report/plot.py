@@ -13,7 +13,16 @@ from .reports import Fired, Pair, Top
 from .setups import SECOND, Setup
 from .values import clock, dotted, value_text
 
-COLOURS = ("tab:blue", "tab:orange", "tab:green", "tab:purple", "tab:brown", "tab:pink", "tab:gray", "tab:cyan")
+COLOURS = (
+    "tab:blue",
+    "tab:orange",
+    "tab:green",
+    "tab:purple",
+    "tab:brown",
+    "tab:pink",
+    "tab:gray",
+    "tab:cyan",
+)
 Text = Callable[[int], str]
 
 
@@ -78,12 +87,24 @@ def _keys(name: str, tops: list[Top], setup: Setup | None) -> list[Pair]:
     return list(joined_top(question, tops)[0].keys)
 
 
-def _draw_marks(panel: Any, name: str, series: list[tuple[str, list[Pair]]], place: Text, span: float) -> None:
+def _draw_marks(
+    panel: Any, name: str, series: list[tuple[str, list[Pair]]], place: Text, span: float
+) -> None:
     for at, (source, pairs) in enumerate(series):
         colour = COLOURS[at % len(COLOURS)]
         places, values = [place(it.key) for it in pairs], [it.value for it in pairs]
         alpha = 1.0 if len(series) == 1 else 0.6
-        panel.bar(places, values, span, align="edge", color=colour, edgecolor=colour, linewidth=0.6, alpha=alpha, label=source)
+        panel.bar(
+            places,
+            values,
+            span,
+            align="edge",
+            color=colour,
+            edgecolor=colour,
+            linewidth=0.6,
+            alpha=alpha,
+            label=source,
+        )
         middles = [float(it) + span / 2 for it in places]
         panel.plot(middles, values, "o", color="black", markersize=2.5)
     if len(series) > 1:
@@ -138,7 +159,9 @@ def _figure(pyplot: Any, drawing: Drawing) -> Any:
     heights = _heights(drawing)
     timed = len(drawing.marks) + bool(drawing.alerts)
     size = (8, 0.8 + 0.7 * sum(heights))
-    figure, grid = pyplot.subplots(len(heights), squeeze=False, figsize=size, gridspec_kw={"height_ratios": heights})
+    figure, grid = pyplot.subplots(
+        len(heights), squeeze=False, figsize=size, gridspec_kw={"height_ratios": heights}
+    )
     panels = [row[0] for row in grid]
     if timed:
         _draw_over_time(panels[:timed], drawing)

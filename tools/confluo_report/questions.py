@@ -123,7 +123,9 @@ def time_of(text: str) -> int:
     try:
         moment = datetime.datetime.fromisoformat(text)
     except ValueError as error:
-        raise Complaint(f"`{text}` is no time as 2026-11-28T13:00:05, in UTC, or seconds since 1970") from error
+        raise Complaint(
+            f"`{text}` is no time as 2026-11-28T13:00:05, in UTC, or seconds since 1970"
+        ) from error
     if moment.tzinfo is None:
         moment = moment.replace(tzinfo=datetime.timezone.utc)
     since = moment - datetime.datetime(1970, 1, 1, tzinfo=datetime.timezone.utc)
@@ -184,7 +186,9 @@ def width_of(queries: list[Query]) -> int:
     widths = {it.width: it.text for it in queries if it.width}
     if len(widths) > 1:
         both = "\n    ".join(widths.values())
-        raise Complaint(f"one setup has one width of buckets, and these want two; ask them in two calls:\n    {both}")
+        raise Complaint(
+            f"one setup has one width of buckets, and these want two; ask them in two calls:\n    {both}"
+        )
     return next(iter(widths), SECOND)
 
 

@@ -38,6 +38,8 @@ PACKET = tuple(
         "proto:u8 src:u32 dst:u32 sport:u16 dport:u16 seq:u32 ack:u32 flags:u8 win:u16 vlan:u16"
     ).split()
 )
+
+
 @dataclass(frozen=True)
 class Lane:
     """An index, filter, aggregate or tally. `key` is an attribute's place, or None for the bucket."""
@@ -264,7 +266,11 @@ class _Statement:
 
     def must_have_room(self, what: str, there: int) -> None:
         if there >= MOST[what]:
-            things = {"lane": "indexes, filters, aggregates and tallies", "trigger": "triggers", "ask": "questions"}[what]
+            things = {
+                "lane": "indexes, filters, aggregates and tallies",
+                "trigger": "triggers",
+                "ask": "questions",
+            }[what]
             why = f"there are at most {MOST[what]} {things}; drop one, or ask in two setups"
             self.fault(9, self.word(0), why)
 
@@ -399,7 +405,12 @@ def _attributes(it: _Statement, word: _Word) -> tuple[Attribute, ...]:
         at = _Word(item, place)
         place += len(item) + 1
         if not ATTRIBUTE_NAME.fullmatch(name):
-            it.fault(4, at, f"`{item}` is not NAME:KIND; a name is a letter, then letters a to z, digits and _, at most 16", right)
+            it.fault(
+                4,
+                at,
+                f"`{item}` is not NAME:KIND; a name is a letter, then letters a to z, digits and _, at most 16",
+                right,
+            )
         elif not KIND.fullmatch(kind):
             it.fault(4, at, f"`{item}` is not NAME:KIND; a kind is u8, u16, u32, u64 or b1 to b16", right)
         elif name in [known.name for known in found]:
@@ -587,7 +598,9 @@ def _take(setup: Setup, line: str) -> Fault | None:
     statement = _Statement(setup, line)
     why = _misplaced(setup, statement)
     if why:
-        near = difflib.get_close_matches(statement.words[0].text, [it for it in STATEMENTS if it not in ("schema", "width")], 1)
+        near = difflib.get_close_matches(
+            statement.words[0].text, [it for it in STATEMENTS if it not in ("schema", "width")], 1
+        )
         right = right_lines(setup, [near[0] if near else "ask", *(it.text for it in statement.words[1:])])
         return Fault(2, statement.words[0].place, why, right if setup.schema else "schema packet")
     STATEMENTS[statement.words[0].text](statement)
@@ -614,5 +627,7 @@ def parse_setup(data: bytes) -> Setup:
             if fault:
                 raise SetupFault(number, line, fault)
     if not setup.schema:
-        raise SetupFault(len(lines) + 1, "", Fault(2, 0, "there is no statement; the first is the schema", "schema packet"))
+        raise SetupFault(
+            len(lines) + 1, "", Fault(2, 0, "there is no statement; the first is the schema", "schema packet")
+        )
     return setup

@@ -32,7 +32,11 @@ def part_text(setup: Setup, part: str, lane: Lane) -> str:
     """A part of what a lane measures, as `sum of len`."""
     measure = setup.schema[lane.measure].name if lane.measure is not None else "?"
     thing = "packets" if setup.is_packet else "records"
-    return f"number of {thing}" if part == "count" else f"{PART_WORDS[part]} {'of ' if part == 'sum' else ''}{measure}"
+    return (
+        f"number of {thing}"
+        if part == "count"
+        else f"{PART_WORDS[part]} {'of ' if part == 'sum' else ''}{measure}"
+    )
 
 
 def condition_text(setup: Setup, trigger: Trigger) -> str:

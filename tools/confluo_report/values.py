@@ -40,6 +40,14 @@ def clock(nanoseconds: int) -> str:
     return f"{day:%Y-%m-%d %H:%M:%S}" + (f".{digits}" if digits else "")
 
 
+def packet_clock(nanoseconds: int) -> str:
+    """A packet's time in UTC, with 6 digits behind the seconds, or 9 where it has more."""
+    whole, rest = clock(nanoseconds - nanoseconds % SECOND), nanoseconds % SECOND
+    if whole.endswith(" ns"):
+        return f"{nanoseconds} ns"
+    return f"{whole}.{rest:09d}" if rest % 1000 else f"{whole}.{rest // 1000:06d}"
+
+
 def unit(width: int) -> str:
     """What a bucket of that width is called."""
     if width in UNITS:

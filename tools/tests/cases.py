@@ -8,7 +8,10 @@ from support import block, enhanced, frame, interface, pcap, section
 
 # The setup, the line and code of its first fault, and the place in that line.
 PACKET = "schema packet\n"
-LANES = PACKET + "index i src\nfilter f *\naggregate a f len\ntally y src len *\ntrigger t a sum > 5\nask q list *\n"
+LANES = (
+    PACKET
+    + "index i src\nfilter f *\naggregate a f len\ntally y src len *\ntrigger t a sum > 5\nask q list *\n"
+)
 SETUPS = (
     (PACKET + "ask a list\tlen>5\n", 2, 1, 10),
     (PACKET + "foo x\n", 2, 2, 0),

@@ -84,15 +84,19 @@ def tool(*words: object, stdin: bytes | str = b"") -> Ended:
 
 def confluo(*words: object, stdin: bytes = b"") -> Ended:
     """Runs the program with the words."""
-    done = subprocess.run([program.program(), *map(str, words)], input=stdin, capture_output=True, timeout=600)
-    return Ended(done.returncode, done.stdout.decode("ascii", "replace"), done.stderr.decode("utf-8", "replace"))
+    done = subprocess.run(
+        [program.program(), *map(str, words)], input=stdin, capture_output=True, timeout=600
+    )
+    return Ended(
+        done.returncode, done.stdout.decode("ascii", "replace"), done.stderr.decode("utf-8", "replace")
+    )
 
 
 def frame(src: int = 1, dport: int = 80, size: int = 54, flags: int = 16) -> bytes:
     """An Ethernet frame of TCP from 10.0.0.`src` to 10.0.1.10."""
     link = bytes.fromhex("020000000001 020000000002 0800")
     ip = struct.pack(">BBHIBBHII", 0x45, 0, size - 14, 0, 64, 6, 0, 0x0A000000 + src, 0x0A00010A)
-    tcp = struct.pack(">HHIIBBHI", 40000 + src, dport, 0, 0, 0x50, flags, 1024, 0)
+    tcp = struct.pack(">HHIIBBHI", 40000 + src % 250, dport, 0, 0, 0x50, flags, 1024, 0)
     return link + ip + tcp
 
 

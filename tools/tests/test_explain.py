@@ -41,7 +41,12 @@ WORDS = (
     ("snapshot --setup s --after 1 --turn 0 c", "from 1 to 4096"),
     ("snapshot --setup s --after 1" + " c" * 17, "at most 16 captures"),
 )
-LAWFUL = ("run --setup=s --writers=2 c", "run c --setup s --live 3", "dump c", "snapshot --after 0 --setup s c c")
+LAWFUL = (
+    "run --setup=s --writers=2 c",
+    "run c --setup s --live 3",
+    "dump c",
+    "snapshot --after 0 --setup s c c",
+)
 
 
 class Folder(unittest.TestCase):
@@ -81,7 +86,9 @@ class OfSetups(Folder):
             try:
                 parse_setup(mended.encode())
             except SetupFault as fault:
-                self.assertGreater(fault.line, line + right.count("\n"), (right, fault.why if hasattr(fault, "why") else ""))
+                self.assertGreater(
+                    fault.line, line + right.count("\n"), (right, fault.why if hasattr(fault, "why") else "")
+                )
 
     @needs_program
     def test_each_code_as_the_program_prints_it(self) -> None:
@@ -117,7 +124,9 @@ class OfCaptures(Folder):
             self.assertEqual((ran.status, ran.out), (3, f"capture: record {record} code {code}\n"))
             said = self.explained("--setup", self.setup, "--capture", self.capture, stdin=ran.out)
             self.assertIn(REASONS[code], said)
-            self.assertIn(f"Where: packet {record} (number {record + 1} in Wireshark), at byte {at} of the file", said)
+            self.assertIn(
+                f"Where: packet {record} (number {record + 1} in Wireshark), at byte {at} of the file", said
+            )
 
     @needs_program
     def test_csv_files(self) -> None:
@@ -133,7 +142,9 @@ class OfCaptures(Folder):
     def test_the_commands_mend(self) -> None:
         for data, record, code, _ in CAPTURES:
             path = self.file("c", data)
-            said = self.explained("--setup", self.setup, "--capture", path, stdin=f"capture: record {record} code {code}\n")
+            said = self.explained(
+                "--setup", self.setup, "--capture", path, stdin=f"capture: record {record} code {code}\n"
+            )
             command = [it.strip() for it in said.splitlines() if it.startswith("    editcap -r")]
             if not command:
                 self.assertTrue(record == 0 or code in (2, 3, 23), code)
@@ -228,7 +239,9 @@ class OfRuns(Folder):
         with open("/dev/full", "wb") as full:
             words = [program(), "run", "--setup", self.setup, *SMALL, self.capture]
             self.assertEqual(subprocess.run(words, stdout=full).returncode, 5)
-        self.assertIn("Standard output could not be written", self.explained("--status", "5", stdin="records 3\nas"))
+        self.assertIn(
+            "Standard output could not be written", self.explained("--status", "5", stdin="records 3\nas")
+        )
 
     @needs_program
     def test_full(self) -> None:

@@ -103,7 +103,9 @@ class Reports(unittest.TestCase):
         ran = confluo("run", *words, EXAMPLES / "web_and_dns.pcap")
         self.assertEqual("".join(f"{it}\n" for it in lines_of(parse(ran.out))), ran.out)
         two = EXAMPLES / "two_frames.pcap"
-        ran = confluo("snapshot", "--setup", EXAMPLES / "two_frames.setup", "--after", "4", *SMALL[2:], two, two)
+        ran = confluo(
+            "snapshot", "--setup", EXAMPLES / "two_frames.setup", "--after", "4", *SMALL[2:], two, two
+        )
         self.assertIsInstance(parse(ran.out), Snapshot)
 
 

@@ -38,7 +38,9 @@ class Setups(unittest.TestCase):
             with self.subTest(text=text[-60:]), self.assertRaises(SetupFault) as caught:
                 parse_setup(text.encode())
             fault = caught.exception
-            self.assertEqual((fault.line, fault.fault.code, fault.fault.place), (line, code, place), text[-60:])
+            self.assertEqual(
+                (fault.line, fault.fault.code, fault.fault.place), (line, code, place), text[-60:]
+            )
 
     def test_a_lawful_setup(self) -> None:
         for end in ("\n", "\r\n"):
@@ -49,7 +51,28 @@ class Setups(unittest.TestCase):
             self.assertTrue(parse_setup(path.read_bytes()).asks, path)
 
     def test_expressions(self) -> None:
-        row = (5, 60, 60, b"\2\0\0\0\0\1", bytes(6), 2048, 2, 0, 46, 64, 6, 0x0A000001, 0x0A000002, 1, 53, 0, 0, 2, 0, 0)
+        row = (
+            5,
+            60,
+            60,
+            b"\2\0\0\0\0\1",
+            bytes(6),
+            2048,
+            2,
+            0,
+            46,
+            64,
+            6,
+            0x0A000001,
+            0x0A000002,
+            1,
+            53,
+            0,
+            0,
+            2,
+            0,
+            0,
+        )
         for text, holds in (
             ("*", True),
             ("dport==53 && len>=60", True),
@@ -68,7 +91,9 @@ class Setups(unittest.TestCase):
             bad.write_text("schema packet\nask a list dport==65536\n")
             ended = tool("check", good)
             self.assertEqual((ended.status, ended.err), (0, ""))
-            self.assertIn("lawful: packets, by the microsecond; 1 index, 1 filter, 1 aggregate, 1 tally", ended.out)
+            self.assertIn(
+                "lawful: packets, by the microsecond; 1 index, 1 filter, 1 aggregate, 1 tally", ended.out
+            )
             ended = tool("check", good, bad)
             self.assertEqual(ended.status, 1)
             self.assertIn("bad, line 2: the setup is refused, code 13.", ended.out)
