@@ -6,7 +6,7 @@ import tempfile
 import unittest
 from unittest import mock
 
-from support import EXAMPLES, INCIDENTS, REPORT, needs_program, tool
+from support import INCIDENTS, REPORT, needs_program, tool
 
 from confluo_report.tables import Style, marks, style_for, table
 from confluo_report.values import clock, flags_text, unit, units
