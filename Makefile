@@ -1,12 +1,21 @@
-# `make run` proves and builds the program and prints the report of the example capture; `make test` is the gate.
+# `make run` proves and builds the program and prints the report of the example capture.
+# `make test` is the gate (`rt ci`), and then the checks of what is not Rattle: `make check-tools` (Python) and `make check-twin` (C).
 # `make try` prints the same report before anything is proved: it shows what a report looks like, and proves nothing.
 # `make incidents` compares the documents and the reports of examples/incidents with what the built program prints ($CONFLUO, if set).
-# `make install PREFIX=..` copies the built program, its manual page and its completion for bash.
-.PHONY: run try test incidents install built
+# `make install PREFIX=..` copies the built program, confluo-report, manual pages, completions and examples.
+# `make deb` puts the same into a Debian package, build/confluo_VERSION_ARCHITECTURE.deb.
+.PHONY: run try test check-tools check-twin incidents install deb built
 
 PREFIX ?= /usr/local
-PROGRAM = $(or $(CONFLUO),crates/confluo/out/confluo)
+PYTHON ?= python3
+PROGRAM ?= $(or $(CONFLUO),crates/confluo/out/confluo)
 PLACE = $(DESTDIR)$(PREFIX)
+SHARE = $(PLACE)/share
+VERSION := $(shell cat VERSION)
+ARCHITECTURE := $(shell dpkg --print-architecture 2>/dev/null)
+BUILD ?= build
+STAGE = $(BUILD)/stage
+PACKAGE = $(BUILD)/confluo_$(VERSION)_$(ARCHITECTURE).deb
 
 run:
 	@cd crates/confluo && rt run -- run --setup ../../examples/web_and_dns.setup --writers 4 --live 2 ../../examples/web_and_dns.pcap
@@ -16,15 +25,47 @@ try:
 
 test:
 	rt ci
+	@$(MAKE) --no-print-directory check-tools check-twin
+
+check-tools:
+	cd tools/tests && $(PYTHON) -B -m unittest discover
+	@tools/lint.sh
+
+# The plain twin of bench/ is clean under warnings and sanitizers, and its log is whole by one writer and by several.
+check-twin:
+	@if command -v cc > /dev/null; then bench/check_twin.sh; else echo "check-twin: skipped, there is no C compiler"; fi
 
 built:
 	@test -x $(PROGRAM) || { echo "There is no $(PROGRAM) yet: make run builds it"; exit 1; }
 
 incidents:
-	@if test -x $(PROGRAM); then python3 examples/incidents/compare.py $(PROGRAM) && python3 tools/check_documents.py $(PROGRAM); \
-	else echo "There is no $(PROGRAM) yet (make run builds it): what it prints is not compared"; python3 tools/check_documents.py; fi
+	@if test -x $(PROGRAM); then $(PYTHON) examples/incidents/compare.py $(PROGRAM) && $(PYTHON) tools/check_documents.py $(PROGRAM); \
+	else echo "There is no $(PROGRAM) yet (make run builds it): what it prints is not compared"; $(PYTHON) tools/check_documents.py; fi
 
 install: built
 	install -D -m 755 $(PROGRAM) $(PLACE)/bin/confluo
-	install -D -m 644 docs/confluo.1 $(PLACE)/share/man/man1/confluo.1
-	install -D -m 644 tools/confluo.bash $(PLACE)/share/bash-completion/completions/confluo
+	install -D -m 755 tools/confluo-report $(PLACE)/bin/confluo-report
+	install -d $(SHARE)/confluo/confluo_report $(SHARE)/doc/confluo/examples/incidents $(SHARE)/doc/confluo/examples/formats
+	install -m 644 tools/confluo_report/*.py VERSION $(SHARE)/confluo/confluo_report
+	install -D -m 644 docs/confluo.1 $(SHARE)/man/man1/confluo.1
+	install -D -m 644 tools/confluo-report.1 $(SHARE)/man/man1/confluo-report.1
+	install -D -m 644 tools/completions/confluo.bash $(SHARE)/bash-completion/completions/confluo
+	install -D -m 644 tools/completions/confluo-report.bash $(SHARE)/bash-completion/completions/confluo-report
+	install -D -m 644 -t $(SHARE)/zsh/site-functions tools/completions/_confluo tools/completions/_confluo-report
+	install -D -m 644 -t $(SHARE)/fish/vendor_completions.d tools/completions/confluo.fish tools/completions/confluo-report.fish
+	install -m 644 -t $(SHARE)/doc/confluo README.md docs/GUIDE.md docs/FORMATS.md docs/INCIDENTS.md docs/report.schema.json
+	install -m 644 -t $(SHARE)/doc/confluo/examples examples/*.md examples/*.pcap examples/*.setup
+	install -m 644 -t $(SHARE)/doc/confluo/examples/incidents examples/incidents/*.pcap examples/incidents/*.setup examples/incidents/*.report
+	install -m 644 -t $(SHARE)/doc/confluo/examples/formats examples/formats/*.md examples/formats/*.dump examples/formats/*.pcap*
+
+deb: built
+	@command -v dpkg-deb > /dev/null || { echo "dpkg-deb is missing: apt-get install dpkg"; exit 1; }
+	rm -rf $(STAGE)
+	$(MAKE) --no-print-directory install DESTDIR=$(STAGE) PREFIX=/usr
+	strip --strip-unneeded $(STAGE)/usr/bin/confluo 2> /dev/null || true
+	gzip -9 -n $(STAGE)/usr/share/man/man1/*.1
+	install -D -m 644 LICENSE $(STAGE)/usr/share/doc/confluo/copyright
+	install -d $(STAGE)/DEBIAN
+	sed -e 's/@VERSION@/$(VERSION)/' -e 's/@ARCHITECTURE@/$(ARCHITECTURE)/' tools/deb/control > $(STAGE)/DEBIAN/control
+	cd $(STAGE) && find usr -type f -print0 | sort -z | xargs -0 md5sum > DEBIAN/md5sums
+	dpkg-deb --root-owner-group --build $(STAGE) $(PACKAGE)

@@ -1,0 +1,21 @@
+#!/bin/sh
+# Builds the plain twin with warnings as errors, with and without sanitizers, and runs it small: it ends with 0 if its log is whole.
+set -eu
+here=$(cd "$(dirname "$0")" && pwd)
+folder=$(mktemp -d)
+trap 'rm -rf "$folder"' EXIT
+for sanitizer in none address,undefined thread; do
+    flags="-fsanitize=$sanitizer"
+    [ "$sanitizer" = none ] && flags=-O2
+    cc -std=c11 -g -Wall -Wextra -Werror "$flags" -pthread -o "$folder/twin" "$here/plain_twin.c"
+    for writers in 1 4; do
+        "$folder/twin" --records 9001 --lanes 4 --writers "$writers" --batch 1000 > /dev/null
+    done
+done
+for words in "--writers 0" "--lanes 17" "--batch" "--records -1" "--other 1"; do
+    # shellcheck disable=SC2086
+    status=0
+    "$folder/twin" $words 2> /dev/null || status=$?
+    [ "$status" -eq 2 ] || { echo "check-twin: status $status for: $words"; exit 1; }
+done
+echo "check-twin: the plain twin is clean and its log whole"

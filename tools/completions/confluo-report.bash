@@ -1,0 +1,35 @@
+# Bash completion for confluo-report. Source this file, or put it where bash-completion looks for one of this name.
+
+_confluo_report() {
+    local word=${COMP_WORDS[COMP_CWORD]} before=${COMP_WORDS[COMP_CWORD-1]} options
+    COMPREPLY=()
+    if [ "$COMP_CWORD" -eq 1 ]; then
+        mapfile -t COMPREPLY < <(compgen -W "show explain json csv prometheus merge plot packets ask check --version --help" -- "$word")
+        return
+    fi
+    case ${COMP_WORDS[1]} in
+        show) options="--setup --capture --most" ;;
+        explain) options="--setup --capture --command --status" ;;
+        json) options="--setup --indent" ;;
+        csv) options="--setup" ;;
+        prometheus) options="--setup --label --brief --textfile" ;;
+        merge) options="--setup --tagged" ;;
+        plot) options="--setup --tagged --out --width --dotted" ;;
+        packets) options="--ask --out --into" ;;
+        ask) options="--setup-only --report --most --schema" ;;
+        *) options="" ;;
+    esac
+    case $before in
+        --status) mapfile -t COMPREPLY < <(compgen -W "1 2 3 4 5 6 7 8 9" -- "$word"); return ;;
+        --into) mapfile -t COMPREPLY < <(compgen -d -- "$word"); return ;;
+        --most | --indent | --width | --label | --command | --ask | --schema) return ;;
+        --setup | --capture | --out | --textfile) mapfile -t COMPREPLY < <(compgen -f -- "$word"); return ;;
+    esac
+    if [ "${word:0:1}" = - ]; then
+        mapfile -t COMPREPLY < <(compgen -W "$options --help" -- "$word")
+    else
+        mapfile -t COMPREPLY < <(compgen -f -- "$word")
+    fi
+}
+
+complete -o filenames -F _confluo_report confluo-report

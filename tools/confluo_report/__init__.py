@@ -1,0 +1,1 @@
+"""Reports of confluo for people and for other programs; see confluo-report(1)."""

@@ -1,0 +1,148 @@
+"""One line for each packet or record that a question found."""
+
+from __future__ import annotations
+
+from dataclasses import dataclass
+from typing import Callable, Iterable, Mapping, Sequence
+
+from . import program
+from .captures import CaptureFault
+from .errors import Complaint
+from .expressions import Value, value_of
+from .reports import Ask, Found
+from .rows import bucket_of, rows_of
+from .setups import PACKET, Question, Setup
+from .values import KINDS, PROTOCOLS, flags_text, packet_clock
+
+Details = Mapping[int, str]
+
+
+@dataclass(frozen=True)
+class Packet:
+    """A line of `confluo dump`."""
+
+    number: int
+    values: dict[str, str]
+
+    def text(self) -> str:
+        """The packet in one line."""
+        it = self.values
+        return f"{packet_clock(int(it['ts']))}  {self.way()}  {it['len']} bytes{self.more()}"
+
+    def way(self) -> str:
+        it = self.values
+        if it["kind"] == "0":
+            return f"{_mac(it['smac'])} > {_mac(it['dmac'])}  type {int(it['etype']):#06x}"
+        if it["kind"] in ("2", "3"):
+            name = KINDS[int(it["kind"])]
+            return f"{name} {it['src']}:{it['sport']} > {it['dst']}:{it['dport']}"
+        proto = int(it["proto"])
+        return f"{PROTOCOLS.get(proto, f'protocol {proto}')} {it['src']} > {it['dst']}"
+
+    def more(self) -> str:
+        it = self.values
+        flags = f"  {flags_text(int(it['flags']))}" if it["flags"] != "0" else ""
+        numbers = f"  seq {it['seq']} ack {it['ack']}" if it["kind"] == "2" else ""
+        vlan = f"  vlan {it['vlan']}" if it["vlan"] != "0" else ""
+        return f"{flags}{numbers}{vlan}"
+
+    def row(self) -> tuple[Value, ...]:
+        """The values of the packet schema."""
+        found = [value_of(it.kind, self.values[it.name]) for it in PACKET]
+        if any(it is None for it in found):
+            raise Complaint(f"packet {self.number} of `confluo dump` cannot be read")
+        return tuple(it for it in found if it is not None)
+
+
+def _mac(text: str) -> str:
+    digits = text.removeprefix("0x")
+    return ":".join(digits[at : at + 2] for at in range(0, len(digits), 2))
+
+
+def _packet(line: str) -> Packet:
+    number, *words = line.split(" ")
+    values = dict(it.partition("=")[::2] for it in words)
+    if not number.isdigit() or list(values) != [it.name for it in PACKET]:
+        raise Complaint(f"`confluo dump` printed a line that cannot be read: {line[:60]}")
+    return Packet(int(number), values)
+
+
+def dumped(capture: str, wanted: Iterable[int], records: int) -> dict[int, Packet]:
+    """The packets of these numbers by `confluo dump`, of a capture that must have that many."""
+    ran = program.run_over(["dump"], capture)
+    if ran.status != 0:
+        raise Complaint(
+            f"{capture}: `confluo dump` refuses it with status {ran.status}: {ran.text.strip()}\n"
+            f"`confluo-report explain --capture {capture}` says what that means"
+        )
+    head, *lines = ran.text.splitlines()
+    _must_be_as_many(capture, len(lines), records)
+    return {it: _packet(lines[it]) for it in set(wanted) if it < len(lines)}
+
+
+def _must_be_as_many(capture: str, there: int, records: int) -> None:
+    if there != records:
+        raise Complaint(
+            f"{capture} is not the capture of the report: it has {there} records, and the report {records}"
+        )
+
+
+def _meant(setup: Setup, question: Question) -> Callable[[Sequence[Value]], bool]:
+    """Whether the question finds a row."""
+    lane = question.lane
+    if question.expression:
+        return question.expression.holds
+    if lane and lane.key is not None:
+        key = lane.key
+        return lambda row: question.low <= row[key] <= question.high  # type: ignore[operator]
+    if lane:
+        return (
+            lambda row: lane.select.holds(row)
+            and question.low <= bucket_of(setup, tuple(row)) <= question.high
+        )
+    return lambda row: True
+
+
+def _must_be_found(
+    setup: Setup, asks: Sequence[Ask], rows: Mapping[int, Sequence[Value]], capture: str
+) -> None:
+    for ask in asks:
+        question = setup.question(ask.name)
+        if not question or not isinstance(ask.body, Found):
+            continue
+        meant = _meant(setup, question)
+        for number in ask.body.rows:
+            if number in rows and not meant(rows[number]):
+                raise Complaint(
+                    f"{capture} is not the capture of the report: `{ask.name}` found record {number}, "
+                    f"and that record is none that `{question.text}` finds"
+                )
+
+
+def details_of(asks: Sequence[Ask], records: int, setup: Setup | None, capture: str, most: int) -> Details:
+    """The lines of the first records that each question found."""
+    wanted = {row for ask in asks if isinstance(ask.body, Found) for row in ask.body.rows[: most or None]}
+    if setup and not setup.is_packet:
+        return _record_lines(asks, records, setup, capture, wanted)
+    packets = dumped(capture, wanted, records)
+    if setup:
+        _must_be_found(setup, asks, {at: it.row() for at, it in packets.items()}, capture)
+    return {at: it.text() for at, it in packets.items()}
+
+
+def _record_lines(asks: Sequence[Ask], records: int, setup: Setup, capture: str, wanted: set[int]) -> Details:
+    try:
+        rows = list(rows_of(setup, capture))
+    except CaptureFault as fault:
+        raise Complaint(
+            f"{capture} is not the capture of the report: it is refused with code {fault.code}"
+        ) from fault
+    _must_be_as_many(capture, len(rows), records)
+    found = {at: rows[at] for at in wanted}
+    _must_be_found(setup, asks, found, capture)
+    names = [it.name for it in setup.schema]
+    return {at: " ".join(f"{a}={_plain(v)}" for a, v in zip(names, row)) for at, row in found.items()}
+
+
+def _plain(value: Value) -> str:
+    return str(value) if isinstance(value, int) else f"0x{value.hex()}"

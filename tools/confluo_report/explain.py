@@ -1,0 +1,260 @@
+"""Says in words what a refusal of confluo means, and what to do."""
+
+from __future__ import annotations
+
+import os
+import pathlib
+from dataclasses import dataclass, field
+
+from .captures import CaptureFault
+from .commands import Command, WordsFault, parse_words
+from .errors import Complaint
+from .explain_capture import explain_capture
+from .explain_setup import explain_setup
+from .nodes import MOST_RECORDS, Need, need_of, sizes_for
+from .reports import Refusal
+from .rows import rows_of
+from .setups import Setup, SetupFault, parse_setup
+
+KINDS = {1: "words", 2: "setup", 3: "capture", 6: "full", 7: "nodes", 9: "file"}
+BYTES_OF_A_PLACE = 8 * 22
+
+
+@dataclass
+class Case:
+    """What is known of a refused run: its files and the words of its command."""
+
+    setup: str | None = None
+    captures: list[str] = field(default_factory=list)
+    words: list[str] | None = None
+
+    def command(self) -> Command | None:
+        """The command, where its words are given and lawful."""
+        if self.words is None:
+            return None
+        try:
+            return parse_words(self.words)
+        except WordsFault:
+            return None
+
+    def take_from_command(self) -> None:
+        """The names of the files, where only the words say them."""
+        command = self.command()
+        if command:
+            self.setup = self.setup or command.options.get("setup")
+            self.captures = self.captures or command.captures
+
+    def parsed(self) -> Setup | None:
+        """The setup, where it is given and lawful."""
+        if self.setup is None:
+            return None
+        try:
+            return parse_setup(read_bytes(self.setup))
+        except SetupFault as fault:
+            raise Complaint(
+                f"{self.setup} is not the setup of that run: its line {fault.line} is refused"
+            ) from fault
+
+
+def read_bytes(path: str) -> bytes:
+    """The file's bytes; a Complaint where it cannot be read."""
+    try:
+        return pathlib.Path(path).read_bytes()
+    except OSError as error:
+        raise Complaint(f"{path}: {error.strerror}") from error
+
+
+def explain_words(case: Case) -> list[str]:
+    """Status 1."""
+    lines = ["The words are no command of confluo (status 1)."]
+    if case.words is None:
+        lines.append("With --command 'confluo run ..' the words are looked at. The commands are:")
+        return lines + _usage()
+    try:
+        parse_words(case.words)
+    except WordsFault as fault:
+        return lines + [f"Why: {fault.why}.", "Words that would be right:", "", f"    {fault.right}"]
+    raise Complaint("the words of --command are a lawful command: they are not the ones that were refused")
+
+
+def _usage() -> list[str]:
+    return [
+        "",
+        "    confluo run --setup FILE [--writers W] [--capacity N] [--segments G] [--nodes M] [--live R] CAPTURE",
+        "    confluo synth --setup FILE --seed S --count C [--writers W] [--capacity N] [--segments G] [--nodes M]",
+        "    confluo dump CAPTURE",
+        "    confluo snapshot --setup FILE --after A [--turn T] [--capacity N] [--nodes M] CAPTURE ..",
+    ]
+
+
+def explain_file(case: Case) -> list[str]:
+    """Status 9."""
+    lines = ["There is no file of that name (status 9): the setup, or, if the setup is lawful, the capture."]
+    known = [it for it in (case.setup, *case.captures) if it]
+    missing = [it for it in known if not os.path.lexists(it)]
+    for path in missing:
+        place = os.path.dirname(os.path.abspath(path))
+        there = sorted(os.listdir(place))[:8] if os.path.isdir(place) else []
+        lines.append(
+            f"{path} does not exist."
+            + (f" {place} has: {', '.join(there)}" if there else f" Nor does {place}.")
+        )
+    if known and not missing:
+        raise Complaint(f"all of these exist: {', '.join(known)}; they are not the files of that run")
+    return lines if known else lines + ["Check the names:", "", "    ls -l SETUP CAPTURE"]
+
+
+def explain_reading(case: Case) -> list[str]:
+    """Status 4."""
+    lines = ["The system could not open or read a file (status 4). Nothing was printed."]
+    for path in (it for it in (case.setup, *case.captures) if it):
+        if os.path.isdir(path):
+            lines.append(f"{path} is a folder, and no file.")
+        elif os.path.exists(path) and not os.access(path, os.R_OK):
+            lines.append(f"{path} may not be read by you: chmod a+r {path}")
+    names = " ".join(it for it in (case.setup, *case.captures) if it) or "SETUP CAPTURE"
+    return lines + ["These show why:", "", f"    ls -ld {names}", f"    cat {names} > /dev/null"]
+
+
+def explain_writing() -> list[str]:
+    """Status 5."""
+    return [
+        "Standard output could not be written (status 5): the disk is full, or the reader of the pipe is gone.",
+        "What was written is cut off. Do not use it: make room and run again.",
+        "",
+        "    df -h .",
+    ]
+
+
+def explain_memory(case: Case) -> list[str]:
+    """Status 8."""
+    command = case.command() or Command("run")
+    writers, nodes, capacity = (command.number(it) for it in ("writers", "nodes", "capacity"))
+    trees = 8 * (1 + 16 * writers) * writers * nodes
+    log = BYTES_OF_A_PLACE * capacity
+    return [
+        "There was not enough memory (status 8). Nothing was printed.",
+        f"A segment with --writers {writers} --nodes {nodes} --capacity {capacity} takes about "
+        f"{trees / 1e6:.0f} MB for trees and {log / 1e6:.0f} MB or more for the log.",
+        "One writer needs the least, and small segments are taken only as records come:",
+        "",
+        f"    confluo run --setup questions.setup --writers 1 --nodes {nodes} --capacity 4096 --segments 256 capture.pcap",
+    ]
+
+
+def _need(case: Case, capacity: int) -> Need | None:
+    """What the capture needs, where it and the setup are given."""
+    setup = case.parsed()
+    if setup is None or not case.captures:
+        return None
+    needs = []
+    for path in case.captures:
+        try:
+            needs.append(need_of(setup, rows_of(setup, path), capacity))
+        except CaptureFault as fault:
+            raise Complaint(
+                f"{path} is not the capture of that run: it is refused with code {fault.code}"
+            ) from fault
+    nodes = {size: max(it.nodes[size] for it in needs) for size in needs[0].nodes}
+    return Need(max(it.records for it in needs), nodes)
+
+
+def _again(case: Case, options: str) -> list[str]:
+    setup, capture = case.setup or "questions.setup", " ".join(case.captures) or "capture.pcap"
+    name = "run"
+    command = case.command()
+    if command and command.name != "dump":
+        name = command.name
+    return ["", f"    confluo {name} --setup {setup} {options} {capture}"]
+
+
+def explain_full(refusal: Refusal, case: Case) -> list[str]:
+    """Status 6."""
+    lines = [f"The capture has more records than the log holds, {refusal.place} (status 6)."]
+    need = _need(case, 65536)
+    if need is None:
+        return lines + [
+            "A log of 16 segments holds 1048576 records. With --setup and --capture the options are computed:",
+            *_again(case, "--segments 16"),
+        ]
+    if need.records <= refusal.place:
+        raise Complaint(f"the capture is not the one that was refused: it has {need.records} records")
+    lines.append(f"It has {need.records} records.")
+    if need.records > MOST_RECORDS:
+        return lines + [
+            f"More than {MOST_RECORDS} fit in no log. Cut the capture, and ask the parts together:",
+            "",
+            f"    editcap -F pcap -c {MOST_RECORDS} {case.captures[0]} part.pcap",
+            "    confluo-report ask part_*.pcap 'top src by bytes'",
+        ]
+    return lines + _sized(case, need)
+
+
+def _sized(case: Case, need: Need) -> list[str]:
+    sizes = sizes_for(need)
+    if sizes is None:
+        least = min(need.nodes.values())
+        return [
+            f"Its keys need {least} nodes even in segments of 4096 records, and 65536 are the most.",
+            "Ask with fewer indexes, filters, aggregates and tallies at a time.",
+        ]
+    return ["These options suffice:", *_again(case, sizes.options())]
+
+
+def explain_nodes(refusal: Refusal, case: Case) -> list[str]:
+    """Status 7."""
+    lines = [
+        f"The keys of indexes, filters, aggregates and tallies need more tree nodes than {refusal.place} (status 7)."
+    ]
+    command = case.command()
+    capacity = command.number("capacity") if command else 65536
+    need = _need(case, capacity)
+    if need is None:
+        return lines + [
+            "Raise --nodes, up to 65536. With --setup and --capture the number is computed:",
+            *_again(case, "--nodes 65536"),
+        ]
+    most = need.nodes[max(need.nodes)]
+    if most <= refusal.place:
+        raise Complaint(f"setup and capture are not those that were refused: they need {most} nodes")
+    lines.append(f"They need {most} in a segment of {max(need.nodes)} records.")
+    return lines + _sized(case, need)
+
+
+def explain(refusal: Refusal | None, status: int | None, case: Case) -> list[str]:
+    """The refusal's line, or the status of a run that printed none, in words."""
+    case.take_from_command()
+    if refusal is None:
+        if status not in (4, 5, 8):
+            raise Complaint(
+                "there is no refusal's line; a run without one ends with status 0, 4, 5 or 8: give --status N"
+            )
+        return {4: explain_reading, 8: explain_memory}.get(status, lambda _: explain_writing())(case)
+    if status is not None and KINDS.get(status) != refusal.kind:
+        raise Complaint(f"the line is that of a refused {refusal.kind}, and status {status} is another")
+    if refusal.kind == "setup":
+        return explain_setup(refusal, case.setup, read_bytes(case.setup) if case.setup else None)
+    if refusal.kind == "capture":
+        return _explain_capture(refusal, case)
+    return {
+        "words": lambda: explain_words(case),
+        "file": lambda: explain_file(case),
+        "full": lambda: explain_full(refusal, case),
+        "nodes": lambda: explain_nodes(refusal, case),
+    }[refusal.kind]()
+
+
+def _explain_capture(refusal: Refusal, case: Case) -> list[str]:
+    if len(case.captures) > 1:
+        return _explain_one_of(refusal, case)
+    return explain_capture(refusal, case.captures[0] if case.captures else None, case.parsed())
+
+
+def _explain_one_of(refusal: Refusal, case: Case) -> list[str]:
+    """Of several captures the first with that fault is meant."""
+    for path in case.captures:
+        try:
+            return explain_capture(refusal, path, case.parsed())
+        except Complaint:
+            continue
+    raise Complaint("none of these captures is the one that was refused")

@@ -1,0 +1,68 @@
+"""Whether a report belongs to a setup."""
+
+from __future__ import annotations
+
+from typing import Sequence
+
+from .errors import Complaint
+from .reports import Alert, Ask, Fired, Report, Snapshot, Top
+from .setups import Setup
+
+
+def _must_have_asks(asks: Sequence[Ask], setup: Setup, source: str) -> None:
+    there = [(it.name, it.body.kind) for it in asks]
+    wanted = [(it.name, it.kind) for it in setup.asks]
+    if there == wanted:
+        return
+    for have, want in zip(there, wanted):
+        if have != want:
+            raise Complaint(
+                f"{source} is no report of this setup: it answers `{have[0]} {have[1]}` "
+                f"where the setup asks `{want[0]} {want[1]}`"
+            )
+    few = "fewer" if len(there) < len(wanted) else "more"
+    raise Complaint(
+        f"{source} is no report of this setup, or is cut off: it has {len(there)} answers, "
+        f"{few} than the {len(wanted)} questions of the setup"
+    )
+
+
+def _must_fit(asks: Sequence[Ask], setup: Setup, source: str) -> None:
+    for ask, question in zip(asks, setup.asks):
+        if isinstance(ask.body, Top) and len(ask.body.keys) > question.high:
+            raise Complaint(
+                f"{source} is no report of this setup: `{ask.name}` lists {len(ask.body.keys)} keys, "
+                f"and {question.high} were asked for"
+            )
+
+
+def _must_have_alerts(report: Report, setup: Setup, source: str) -> None:
+    names = [it.name for it in setup.triggers]
+    there = list(dict.fromkeys(it.trigger for it in report.alerts))
+    if [it for it in names if it in there] != there:
+        strange = next((it for it in there if it not in names), there[0])
+        raise Complaint(f"{source} is no report of this setup: its alerts of `{strange}` are not the setup's")
+    for ask, question in zip(report.asks, setup.asks):
+        if isinstance(ask.body, Fired) and question.trigger:
+            marks = tuple(Alert(question.trigger.name, it.key, it.value) for it in ask.body.marks)
+            alerts = tuple(it for it in report.alerts if it.trigger == question.trigger.name)
+            if marks != alerts:
+                raise Complaint(
+                    f"{source} is no report of this setup, or is cut off: the marks of `{ask.name}` "
+                    f"are not the alerts of its trigger `{question.trigger.name}`"
+                )
+
+
+def must_match(read: Report | Snapshot, setup: Setup, source: str) -> None:
+    """A Complaint where the report is not one of this setup."""
+    if isinstance(read, Snapshot):
+        for host in read.hosts:
+            _must_have_asks(host.asks, setup, f"{source}, host {host.number},")
+            _must_fit(host.asks, setup, source)
+        return
+    _must_have_asks(read.asks, setup, source)
+    _must_fit(read.asks, setup, source)
+    _must_have_alerts(read, setup, source)
+    strange = [it.name for it in read.lives if it.name not in setup.lives]
+    if strange:
+        raise Complaint(f"{source} is no report of this setup: `{strange[0]}` is not live in it")

@@ -1,0 +1,190 @@
+"""Puts the final parts of reports of one setup together.
+
+What can be added up exactly is: records, and the answers of measure and total. Found records, marks and
+alerts stay with their report, since record numbers count within one capture, and a bucket that fires in
+no report may still fire in the sum. Answers of top are put together with bounds: the answer says from
+which place on it could be another.
+"""
+
+from __future__ import annotations
+
+from dataclasses import dataclass
+from typing import Sequence
+
+from .errors import Complaint
+from .matching import must_match
+from .reports import Alert, Body, Pair, Quad, Report, Top, body_text, parse_report
+from .setups import Question, Setup
+
+
+@dataclass(frozen=True)
+class Named:
+    """A report and the name of its file."""
+
+    name: str
+    report: Report
+
+
+@dataclass(frozen=True)
+class Joined:
+    """One question over all reports: a joined answer, or each report's own."""
+
+    name: str
+    kind: str
+    body: Body | None
+    parts: tuple[tuple[str, Body], ...]
+    note: str = ""
+
+
+@dataclass(frozen=True)
+class Merged:
+    """All reports together."""
+
+    records: int
+    asks: tuple[Joined, ...]
+    alerts: tuple[tuple[str, Alert], ...]
+
+
+def split_reports(text: str, source: str, tagged: bool = False) -> list[Named]:
+    """The reports of a text that has several one after another, each line with its tag where `tagged`."""
+    if tagged:
+        return [
+            Named(tag, parse_report(part, f"{source}, {tag}")) for tag, part in _by_tag(text, source).items()
+        ]
+    begins = [at for at, line in enumerate(text.split("\n")) if line.startswith("records ")]
+    if len(begins) < 2 or begins[0] != 0:
+        return [Named(source, parse_report(text, source))]
+    lines = text.splitlines(keepends=True)
+    parts = ["".join(lines[a:b]) for a, b in zip(begins, [*begins[1:], len(lines)])]
+    return [
+        Named(f"{source}:{at}", parse_report(part, f"{source}, report {at},"))
+        for at, part in enumerate(parts, 1)
+    ]
+
+
+def _by_tag(text: str, source: str) -> dict[str, str]:
+    """The texts by the tags that `parallel --tag` puts before each line, with a tab behind it."""
+    parts: dict[str, str] = {}
+    for number, line in enumerate(text.splitlines(keepends=True), 1):
+        tag, tab, rest = line.rpartition("\t")
+        if not tab:
+            raise Complaint(
+                f"{source}: line {number} has no tag and tab before it, as `parallel --tag` writes them"
+            )
+        parts[tag] = parts.get(tag, "") + rest
+    if not parts:
+        raise Complaint(f"{source} is empty")
+    return parts
+
+
+def joined_quad(quads: Sequence[Quad]) -> Quad:
+    """The quad of all numbers."""
+    leasts = [it.least for it in quads if it.least is not None]
+    greatests = [it.greatest for it in quads if it.greatest is not None]
+    count, total = sum(it.count for it in quads), sum(it.sum for it in quads)
+    return Quad(quads[0].kind, count, total, min(leasts, default=None), max(greatests, default=None))
+
+
+@dataclass(frozen=True)
+class _Bounds:
+    """A key with the value that its reports show, and the least and greatest that it can have."""
+
+    key: int
+    value: int
+    low: int
+    high: int
+
+
+def _unseen(part: str, lasts: Sequence[int]) -> int:
+    """The most that a key can have that no report lists."""
+    return sum(lasts) if part in ("count", "sum") else max(lasts, default=0)
+
+
+def _bounds(part: str, key: int, listed: Sequence[int], lasts: Sequence[int]) -> _Bounds:
+    """`lasts` are the last values of the reports that are full and do not list the key."""
+    if part in ("count", "sum"):
+        return _Bounds(key, sum(listed), sum(listed), sum(listed) + sum(lasts))
+    if part == "greatest":
+        return _Bounds(key, max(listed), max(listed), max([*listed, *lasts]))
+    return _Bounds(key, min(listed), 0 if lasts else min(listed), min(listed))
+
+
+def _sure(ranked: Sequence[_Bounds], unseen: int | None) -> int:
+    """How many places from the first on are certain, with their values."""
+    for at, it in enumerate(ranked):
+        others = [(other.high, other.key) for other in ranked[at + 1 :]]
+        above = any(high > it.value or (high == it.value and key < it.key) for high, key in others)
+        if it.low != it.high or above or (unseen is not None and unseen >= it.value):
+            return at
+    return len(ranked)
+
+
+def joined_top(question: Question, tops: Sequence[Top], asked: int | None = None) -> tuple[Top, str]:
+    """The first keys over all reports, and a note where the tail could be wrong."""
+    asked = asked or question.high
+    if len(tops) == 1:
+        return Top(tops[0].keys[:asked]), ""
+    full = [len(it.keys) >= question.high for it in tops]
+    values = [{pair.key: pair.value for pair in it.keys} for it in tops]
+    lasts = [it.keys[-1].value if it.keys else 0 for it in tops]
+    bounds = []
+    for key in {key for its in values for key in its}:
+        listed = [its[key] for its in values if key in its]
+        hidden = [last for its, last, is_full in zip(values, lasts, full) if is_full and key not in its]
+        bounds.append(_bounds(question.part, key, listed, hidden))
+    ranked = sorted(bounds, key=lambda it: (-it.value, it.key))
+    unseen = (
+        _unseen(question.part, [last for last, is_full in zip(lasts, full) if is_full]) if any(full) else None
+    )
+    sure = _sure(ranked, unseen)
+    shown = Top(tuple(Pair(it.key, it.value) for it in ranked[:asked]))
+    if sure >= min(asked, len(ranked)) and not (any(full) and len(ranked) < asked):
+        return shown, ""
+    return shown, _tail_note(sure, sum(full), question.high)
+
+
+def _tail_note(sure: int, full: int, asked: int) -> str:
+    certain = "no place is certain" if sure == 0 else f"certain up to place {sure} only"
+    lists = "1 report lists" if full == 1 else f"{full} reports list"
+    return f"{certain}: {lists} {asked} keys and may have more, so further keys and values could be wrong"
+
+
+def merge(named: Sequence[Named], setup: Setup | None, asked: dict[str, int] | None = None) -> Merged:
+    """All reports together; a Complaint where they are of different setups."""
+    first = named[0]
+    shape = [(it.name, it.body.kind) for it in first.report.asks]
+    for it in named:
+        if [(ask.name, ask.body.kind) for ask in it.report.asks] != shape:
+            raise Complaint(f"{it.name} and {first.name} are reports of different setups")
+        if setup:
+            must_match(it.report, setup, it.name)
+    asks = tuple(_joined(named, at, setup, asked or {}) for at in range(len(shape)))
+    alerts = tuple((it.name, alert) for it in named for alert in it.report.alerts)
+    return Merged(sum(it.report.records for it in named), asks, alerts)
+
+
+def _joined(named: Sequence[Named], at: int, setup: Setup | None, asked: dict[str, int]) -> Joined:
+    parts = tuple((it.name, it.report.asks[at].body) for it in named)
+    name, kind = named[0].report.asks[at].name, parts[0][1].kind
+    quads = [body for _, body in parts if isinstance(body, Quad)]
+    if quads:
+        return Joined(name, kind, joined_quad(quads), parts)
+    tops = [body for _, body in parts if isinstance(body, Top)]
+    if tops:
+        question = setup.question(name) if setup else None
+        if question is None:
+            raise Complaint(f"ask {name}: to put answers of top together, give the setup: --setup FILE")
+        body, note = joined_top(question, tops, asked.get(name))
+        return Joined(name, kind, body, parts, note)
+    return Joined(name, kind, None, parts)
+
+
+def merged_lines(merged: Merged) -> list[str]:
+    """The lines of the merged report: those of one report have its name in parentheses behind them."""
+    lines = [f"records {merged.records}"]
+    for it in merged.asks:
+        if it.body is None:
+            lines += (f"ask {it.name} {body_text(body)} ({name})" for name, body in it.parts)
+        else:
+            lines.append(f"ask {it.name} {body_text(it.body)}" + (f" ({it.note})" if it.note else ""))
+    return lines + [f"alert {it.trigger} {it.bucket} {it.value} ({name})" for name, it in merged.alerts]

@@ -1,0 +1,176 @@
+"""A report as Prometheus metrics, and the file that node_exporter's textfile collector reads."""
+
+from __future__ import annotations
+
+import os
+import pathlib
+import re
+import tempfile
+from dataclasses import dataclass, field
+from typing import Iterable
+
+from .errors import Complaint
+from .reports import Body, Fired, Found, Quad, Report, Snapshot
+
+LABEL = re.compile(r"[a-zA-Z_][a-zA-Z0-9_]*")
+EXACT = 2**53
+HELP = {
+    "confluo_records": "Records of the capture.",
+    "confluo_cut_records": "Records of all hosts in the cut.",
+    "confluo_host_records": "Records of the host in the cut.",
+    "confluo_found_records": "How many records the question found.",
+    "confluo_found_record": "A record that the question found, by its number; the value is 1.",
+    "confluo_measured": "What the question measured: count, sum, least or greatest.",
+    "confluo_fired_buckets": "In how many time buckets the question's trigger fires.",
+    "confluo_fired_value": "The value in a time bucket in which the question's trigger fires.",
+    "confluo_top_keys": "How many keys the question lists.",
+    "confluo_top_value": "The part of a key; the greatest has place 0.",
+    "confluo_alerts": "In how many time buckets the trigger fires.",
+    "confluo_alert_value": "The value in a time bucket in which the trigger fires.",
+    "confluo_order_records": "Consecutive records of one writer in the log.",
+}
+STAGES = {"live": "Asked while records were loaded: ", "new": "New in the live answer: "}
+
+
+@dataclass
+class Families:
+    """Samples by the names of their metrics, in the order in which these first came."""
+
+    common: dict[str, str] = field(default_factory=dict)
+    samples: dict[str, list[str]] = field(default_factory=dict)
+
+    def add(self, name: str, value: int, **labels: object) -> None:
+        """One sample; a number that a Prometheus value cannot hold exactly is a Complaint."""
+        if value > EXACT:
+            raise Complaint(f"{name}: {value} is above 2^53, and no Prometheus value holds it exactly")
+        texts = {**self.common, **{key: str(it) for key, it in labels.items()}}
+        inner = ",".join(f'{key}="{_escaped(text)}"' for key, text in texts.items())
+        self.samples.setdefault(name, []).append(f"{name}{{{inner}}} {value}" if inner else f"{name} {value}")
+
+    def text(self) -> str:
+        lines: list[str] = []
+        for name, samples in self.samples.items():
+            lines += [f"# HELP {name} {help_of(name)}", f"# TYPE {name} gauge", *samples]
+        return "\n".join(lines) + "\n"
+
+
+def _escaped(text: str) -> str:
+    return text.replace("\\", r"\\").replace('"', r"\"").replace("\n", r"\n")
+
+
+def help_of(name: str) -> str:
+    """What the metric is, in words."""
+    for stage, words in STAGES.items():
+        plain = name.replace(f"confluo_{stage}_", "confluo_", 1)
+        if plain != name:
+            text = HELP[plain]
+            return words + text[0].lower() + text[1:]
+    return HELP[name]
+
+
+def _add_body(families: Families, stage: str, body: Body, brief: bool, **labels: object) -> None:
+    front = f"confluo_{stage}"
+    labels["kind"] = body.kind
+    if isinstance(body, Quad):
+        for part in ("count", "sum", "least", "greatest"):
+            value = getattr(body, part)
+            if value is not None:
+                families.add(f"{front}measured", value, **labels, part=part)
+    elif isinstance(body, Found):
+        families.add(f"{front}found_records", len(body.rows), **labels)
+        for place, row in enumerate(() if brief else body.rows):
+            families.add(f"{front}found_record", 1, **labels, place=place, record=row)
+    elif isinstance(body, Fired):
+        families.add(f"{front}fired_buckets", len(body.marks), **labels)
+        for it in body.marks:
+            families.add(f"{front}fired_value", it.value, **labels, bucket=it.key)
+    else:
+        families.add(f"{front}top_keys", len(body.keys), **labels)
+        for place, it in enumerate(body.keys):
+            families.add(f"{front}top_value", it.value, **labels, place=place, key=it.key)
+
+
+def _add_report(families: Families, report: Report, triggers: Iterable[str], brief: bool) -> None:
+    families.add("confluo_records", report.records)
+    for ask in report.asks:
+        _add_body(families, "", ask.body, brief, ask=ask.name)
+    counts = dict.fromkeys(triggers, 0)
+    for it in report.alerts:
+        counts[it.trigger] = counts.get(it.trigger, 0) + 1
+    for name, count in counts.items():
+        families.add("confluo_alerts", count, trigger=name)
+    for it in report.alerts:
+        families.add("confluo_alert_value", it.value, trigger=it.trigger, bucket=it.bucket)
+    if brief:
+        return
+    for line, live in enumerate(report.lives):
+        labels = {"ask": live.name, "line": line, "prefix": live.prefix}
+        _add_body(families, "live_", live.body, False, **labels)
+        if live.new is not None:
+            _add_body(families, "new_", live.new, False, **labels)
+    for place, stretch in enumerate(report.order or ()):
+        families.add("confluo_order_records", stretch.count, place=place, writer=stretch.writer)
+
+
+def _add_snapshot(families: Families, snapshot: Snapshot, brief: bool) -> None:
+    families.add("confluo_cut_records", snapshot.cut)
+    for host in snapshot.hosts:
+        families.add("confluo_host_records", host.records, host=host.number)
+        for ask in host.asks:
+            _add_body(families, "", ask.body, brief, ask=ask.name, host=host.number)
+
+
+def metrics_text(
+    read: Report | Snapshot,
+    labels: dict[str, str] | None = None,
+    triggers: Iterable[str] = (),
+    brief: bool = False,
+) -> str:
+    """The report in Prometheus' text format; `brief` leaves out record numbers, live answers and the order."""
+    families = Families(labels or {})
+    if isinstance(read, Snapshot):
+        _add_snapshot(families, read, brief)
+    else:
+        _add_report(families, read, triggers, brief)
+    return families.text()
+
+
+def label_of(text: str) -> tuple[str, str]:
+    """The label of a word NAME=VALUE."""
+    name, equals, value = text.partition("=")
+    taken = {
+        "ask",
+        "kind",
+        "part",
+        "place",
+        "record",
+        "bucket",
+        "key",
+        "trigger",
+        "host",
+        "line",
+        "prefix",
+        "writer",
+    }
+    if not equals or not LABEL.fullmatch(name) or name.startswith("__") or name in taken:
+        raise Complaint(f"`{text}` is no label NAME=VALUE, or its name is one of {', '.join(sorted(taken))}")
+    return name, value
+
+
+def write_at_once(path: str, text: str) -> None:
+    """The file has the whole text or is as before: a new file takes its place in one step."""
+    place = pathlib.Path(path)
+    try:
+        handle, name = tempfile.mkstemp(prefix=f".{place.name}.", suffix=".new", dir=place.parent)
+    except OSError as error:
+        raise Complaint(f"{path} cannot be written: {error.strerror}") from error
+    try:
+        with os.fdopen(handle, "w", encoding="utf-8") as file:
+            file.write(text)
+            file.flush()
+            os.fsync(file.fileno())
+        os.chmod(name, 0o644)
+        os.replace(name, place)
+    except OSError as error:
+        pathlib.Path(name).unlink(missing_ok=True)
+        raise Complaint(f"{path} cannot be written: {error.strerror}; it is as before") from error

@@ -1,0 +1,63 @@
+"""Finds and runs the program confluo."""
+
+from __future__ import annotations
+
+import os
+import pathlib
+import shutil
+import subprocess
+from dataclasses import dataclass
+from typing import BinaryIO, Sequence
+
+from . import captures
+from .errors import Complaint
+
+HERE = pathlib.Path(__file__).resolve().parent
+PLACES = (HERE.parent.parent / "crates/confluo/out/confluo", HERE.parent.parent.parent / "bin/confluo")
+
+
+@dataclass(frozen=True)
+class Ran:
+    """What a run ended with and printed."""
+
+    status: int
+    text: str
+
+
+def find_program() -> str | None:
+    """$CONFLUO, else the built program of this repository or installation, else confluo on the path."""
+    named = os.environ.get("CONFLUO")
+    if named:
+        return named
+    built = [str(it) for it in PLACES if os.access(it, os.X_OK) and it.is_file()]
+    return built[0] if built else shutil.which("confluo")
+
+
+def program() -> str:
+    """The program's path; a Complaint where there is none."""
+    found = find_program()
+    if not found:
+        raise Complaint(
+            "the program confluo is needed for this, and there is none on the path: "
+            "`make run` builds it; CONFLUO=FILE names one that is elsewhere"
+        )
+    return found
+
+
+def run(words: Sequence[str], stdin: BinaryIO | None = None) -> Ran:
+    """Runs the program with these words."""
+    named = program()
+    try:
+        done = subprocess.run([named, *words], stdin=stdin or subprocess.DEVNULL, stdout=subprocess.PIPE)
+    except OSError as error:
+        raise Complaint(f"{named} cannot be run: {error.strerror}") from error
+    return Ran(done.returncode, done.stdout.decode("ascii", "replace"))
+
+
+def run_over(words: Sequence[str], path: str) -> Ran:
+    """Runs the program over the capture, which comes by a pipe where it is packed."""
+    packer = captures.packer_of(path)
+    if packer is None:
+        return run([*words, path])
+    with captures.unpacking(path, packer) as pipe:
+        return run([*words, "/dev/stdin"], pipe)

@@ -1,0 +1,436 @@
+"""Reads the texts that confluo prints: reports, snapshots, dumps and refusals.
+
+The lines are those of docs/FORMATS.md and no others. A text that is anything else is a Complaint that
+names the line and quotes it.
+"""
+
+from __future__ import annotations
+
+import re
+from dataclasses import dataclass
+from typing import Callable, Iterator, Union
+
+from .errors import Complaint
+
+NUMBER = r"(?:0|[1-9][0-9]*)"
+NAME = r"[a-z][a-z0-9_]{0,31}"
+FOUND = ("list", "find", "between")
+QUADS = ("measure", "total")
+
+
+@dataclass(frozen=True)
+class Found:
+    """The records that a `list`, `find` or `between` found, by their numbers."""
+
+    kind: str
+    rows: tuple[int, ...]
+
+
+@dataclass(frozen=True)
+class Quad:
+    """The answer of a `measure` or a `total`; least and greatest are None where nothing was counted."""
+
+    kind: str
+    count: int
+    sum: int
+    least: int | None
+    greatest: int | None
+
+
+@dataclass(frozen=True)
+class Pair:
+    """A bucket with its value, or a key with its part."""
+
+    key: int
+    value: int
+
+
+@dataclass(frozen=True)
+class Fired:
+    """The buckets in which a trigger fires, ascending."""
+
+    marks: tuple[Pair, ...]
+    kind: str = "fired"
+
+
+@dataclass(frozen=True)
+class Top:
+    """The first keys of a tally, the greatest part first."""
+
+    keys: tuple[Pair, ...]
+    kind: str = "top"
+
+
+Body = Union[Found, Quad, Fired, Top]
+
+
+@dataclass(frozen=True)
+class Ask:
+    """A question's name with its answer."""
+
+    name: str
+    body: Body
+
+
+@dataclass(frozen=True)
+class Alert:
+    """A bucket in which a trigger fires, with the value."""
+
+    trigger: str
+    bucket: int
+    value: int
+
+
+@dataclass(frozen=True)
+class Live:
+    """An answer on the first `prefix` records of the log; `new` follows an answer of the kind fired."""
+
+    name: str
+    prefix: int
+    body: Body
+    new: Fired | None = None
+
+
+@dataclass(frozen=True)
+class Stretch:
+    """A run of consecutive records of one writer."""
+
+    writer: int
+    count: int
+
+
+@dataclass(frozen=True)
+class Report:
+    """What `run` prints, or `synth`, whose report has no order."""
+
+    records: int
+    asks: tuple[Ask, ...]
+    alerts: tuple[Alert, ...]
+    lives: tuple[Live, ...] = ()
+    order: tuple[Stretch, ...] | None = None
+
+
+@dataclass(frozen=True)
+class Host:
+    """A host's part of a snapshot: how many of its records are in the cut, and the answers on these."""
+
+    number: int
+    records: int
+    asks: tuple[Ask, ...]
+
+
+@dataclass(frozen=True)
+class Snapshot:
+    """What `snapshot` prints."""
+
+    cut: int
+    hosts: tuple[Host, ...]
+
+
+@dataclass(frozen=True)
+class Refusal:
+    """A refusal's line: `kind` is its first word, `place` its line, record or number, `code` its code."""
+
+    kind: str
+    place: int = 0
+    code: int = 0
+
+
+REFUSALS = (
+    ("words", re.compile(r"words: not a command")),
+    ("setup", re.compile(rf"setup: line ({NUMBER}) code ({NUMBER})")),
+    ("capture", re.compile(rf"capture: record ({NUMBER}) code ({NUMBER})")),
+    ("full", re.compile(rf"full: more than ({NUMBER}) records")),
+    ("nodes", re.compile(rf"nodes: more than ({NUMBER}) nodes")),
+    ("file", re.compile(r"file: none of that name")),
+)
+FORMS = {
+    "records": re.compile(rf"records ({NUMBER})"),
+    "ask": re.compile(rf"ask ({NAME}) (.*)"),
+    "alert": re.compile(rf"alert ({NAME}) ({NUMBER}) ({NUMBER})"),
+    "live": re.compile(rf"live ({NAME}) @({NUMBER}) (.*)"),
+    "new": re.compile(rf"new ({NAME}) @({NUMBER}) (.*)"),
+    "order": re.compile(rf"order((?: {NUMBER}\*{NUMBER})*)"),
+    "cut": re.compile(rf"cut ({NUMBER})"),
+    "host": re.compile(rf"host ({NUMBER}) @({NUMBER})"),
+}
+QUAD = re.compile(
+    rf"(measure|total) count ({NUMBER}) sum ({NUMBER}) least ({NUMBER}|-) greatest ({NUMBER}|-)"
+)
+LISTED = re.compile(rf"(list|find|between) ({NUMBER}):((?: {NUMBER})*)")
+PAIRED = re.compile(rf"(fired|top) ({NUMBER}):((?: {NUMBER}={NUMBER})*)")
+
+
+def refusal_of(text: str) -> Refusal | None:
+    """The refusal, if the text is one line of a refusal."""
+    for kind, form in REFUSALS:
+        found = form.fullmatch(text.removesuffix("\n"))
+        if found:
+            return Refusal(kind, *map(int, found.groups()))
+    return None
+
+
+class _Lines:
+    """The lines of a text one after another, with the number of the one that is next."""
+
+    def __init__(self, text: str, source: str) -> None:
+        self.source = source
+        self.whole = text.endswith("\n")
+        self.lines = text.split("\n")[:-1] if self.whole else text.split("\n")
+        self.at = 0
+
+    def word(self) -> str:
+        """The first word of the next line, or nothing at the end."""
+        return self.lines[self.at].split(" ")[0] if self.at < len(self.lines) else ""
+
+    def take(self, word: str) -> tuple[str, ...]:
+        """The parts of the next line, which begins with that word."""
+        found = FORMS[word].fullmatch(self.lines[self.at])
+        if not found:
+            self.fail(f"a line of the form {_shown_form(word)}")
+        self.at += 1
+        return found.groups() if found else ()
+
+    def fail(self, wanted: str, back: int = 0) -> None:
+        """Complains of the line `back` lines before the next one."""
+        at = self.at - back
+        if at >= len(self.lines):
+            raise Complaint(f"{self.source}: the report ends after line {at}; {wanted} should follow")
+        line = self.lines[at]
+        shown = line if len(line) <= 76 else line[:73] + "..."
+        cut = ""
+        if at == len(self.lines) - 1 and not self.whole:
+            cut = "\nThe last line has no line end: the report is cut off."
+        raise Complaint(
+            f"{self.source}: line {at + 1} cannot be read as part of a report:\n    {shown}\n"
+            f"Expected: {wanted}.{cut}"
+        )
+
+
+def _shown_form(word: str) -> str:
+    return {
+        "records": "`records K`",
+        "ask": "`ask NAME KIND ..`",
+        "alert": "`alert TRIGGER BUCKET VALUE`",
+        "live": "`live NAME @T ..`",
+        "new": "`new NAME @T fired K: ..`",
+        "order": "`order W*K ..`",
+        "cut": "`cut K`",
+        "host": "`host H @C`",
+    }[word]
+
+
+def _body(lines: _Lines, text: str, most: int, ascending: bool) -> Body:
+    """An answer whose line was just taken, over `most` records."""
+    if found := QUAD.fullmatch(text):
+        return _quad(lines, found.groups())
+    if found := LISTED.fullmatch(text):
+        rows = tuple(map(int, found[3].split()))
+        _must_count(lines, int(found[2]), len(rows))
+        _must_be_rows(lines, rows, most, ascending)
+        return Found(found[1], rows)
+    if found := PAIRED.fullmatch(text):
+        pairs = tuple(Pair(*map(int, it.split("="))) for it in found[3].split())
+        _must_count(lines, int(found[2]), len(pairs))
+        _must_be_in_order(lines, found[1], pairs)
+        return Fired(pairs) if found[1] == "fired" else Top(pairs)
+    lines.fail(
+        "an answer as `list K: ..`, `find K: ..`, `between K: ..`, `fired K: ..`, `top K: ..`, "
+        "`measure count C sum S least L greatest G` or `total count ..`",
+        back=1,
+    )
+    raise AssertionError
+
+
+def _quad(lines: _Lines, parts: tuple[str, ...]) -> Quad:
+    kind, count, total, least, greatest = parts
+    if (count == "0") != (least == "-") or (least == "-") != (greatest == "-"):
+        lines.fail("`-` for least and greatest exactly where the count is 0", back=1)
+    ends = [None if it == "-" else int(it) for it in (least, greatest)]
+    return Quad(kind, int(count), int(total), ends[0], ends[1])
+
+
+def _must_count(lines: _Lines, stated: int, there: int) -> None:
+    if stated != there:
+        lines.fail(f"{stated} entries after the colon, and there are {there}", back=1)
+
+
+def _must_be_rows(lines: _Lines, rows: tuple[int, ...], most: int, ascending: bool) -> None:
+    if any(row >= most for row in rows):
+        lines.fail(f"numbers of records below {most}", back=1)
+    if ascending and any(low >= high for low, high in zip(rows, rows[1:])):
+        lines.fail("numbers of records in ascending order", back=1)
+    if len(set(rows)) != len(rows):
+        lines.fail("each record once", back=1)
+
+
+def _must_be_in_order(lines: _Lines, kind: str, pairs: tuple[Pair, ...]) -> None:
+    if kind == "fired":
+        places = [(it.key, 0) for it in pairs]
+        wanted = "buckets in ascending order"
+    else:
+        places = [(-it.value, it.key) for it in pairs]
+        wanted = "the greater part first, and of equal parts the lower key"
+    if any(low >= high for low, high in zip(places, places[1:])):
+        lines.fail(wanted, back=1)
+
+
+def _asks(lines: _Lines, most: int) -> tuple[Ask, ...]:
+    asks: list[Ask] = []
+    while lines.word() == "ask":
+        name, text = lines.take("ask")
+        if any(it.name == name for it in asks):
+            lines.fail(f"another name than {name}, which has its answer above", back=1)
+        asks.append(Ask(name, _body(lines, text, most, True)))
+    return tuple(asks)
+
+
+def _alerts(lines: _Lines) -> tuple[Alert, ...]:
+    alerts: list[Alert] = []
+    while lines.word() == "alert":
+        name, bucket, value = lines.take("alert")
+        alert = Alert(name, int(bucket), int(value))
+        before = [it for it in alerts if it.trigger == name]
+        if before and (alerts[-1].trigger != name or before[-1].bucket >= alert.bucket):
+            lines.fail("the alerts of a trigger together, by ascending buckets", back=1)
+        alerts.append(alert)
+    return tuple(alerts)
+
+
+def _lives(lines: _Lines, most: int) -> tuple[Live, ...]:
+    lives: list[Live] = []
+    while lines.word() == "live":
+        name, prefix, text = lines.take("live")
+        if int(prefix) > most:
+            lines.fail(f"at most @{most}, since there are {most} records", back=1)
+        body = _body(lines, text, most, False)
+        new = _new(lines, name, prefix) if isinstance(body, Fired) else None
+        lives.append(Live(name, int(prefix), body, new))
+    return tuple(lives)
+
+
+def _new(lines: _Lines, name: str, prefix: str) -> Fired:
+    wanted = f"`new {name} @{prefix} fired K: ..` after the live line above"
+    if lines.word() != "new":
+        lines.fail(wanted)
+    other, at, text = lines.take("new")
+    body = _body(lines, text, 0, True)
+    if (other, at) != (name, prefix) or not isinstance(body, Fired):
+        lines.fail(wanted, back=1)
+    assert isinstance(body, Fired)
+    return body
+
+
+def _order(lines: _Lines, records: int) -> tuple[Stretch, ...] | None:
+    if lines.word() != "order":
+        return None
+    (text,) = lines.take("order")
+    order = tuple(Stretch(*map(int, it.split("*"))) for it in text.split())
+    if sum(it.count for it in order) != records:
+        lines.fail(f"an order of {records} records", back=1)
+    if any(it.count == 0 for it in order) or any(a.writer == b.writer for a, b in zip(order, order[1:])):
+        lines.fail("the longest runs of records of one writer", back=1)
+    return order
+
+
+def _must_end(lines: _Lines, wanted: str) -> None:
+    if lines.at < len(lines.lines):
+        lines.fail(wanted)
+    if not lines.whole:
+        lines.fail("a line end after the last line", back=1)
+
+
+def _report(lines: _Lines) -> Report:
+    records = int(lines.take("records")[0])
+    asks = _asks(lines, records)
+    alerts = _alerts(lines)
+    lives = _lives(lines, records)
+    order = _order(lines, records)
+    if lives and order is None:
+        lines.fail("a further `live` line, or `order W*K ..`")
+    _must_end(lines, "a further line of a report, in the order records, ask, alert, live, order")
+    return Report(records, asks, alerts, lives, order)
+
+
+def _snapshot(lines: _Lines) -> Snapshot:
+    cut = int(lines.take("cut")[0])
+    hosts: list[Host] = []
+    while lines.word() == "host":
+        number, count = map(int, lines.take("host"))
+        if number != len(hosts):
+            lines.fail(f"host {len(hosts)}", back=1)
+        hosts.append(Host(number, count, _asks(lines, count)))
+    _must_end(lines, "`host H @C` or `ask NAME KIND ..`")
+    if not hosts or sum(it.records for it in hosts) != cut:
+        lines.fail(f"hosts that have {cut} records in the cut together")
+    return Snapshot(cut, tuple(hosts))
+
+
+def _must_be_text(text: str, source: str) -> None:
+    if not text:
+        raise Complaint(
+            f"{source}: this is no report: it is empty. confluo prints nothing with status 4 "
+            "(a file could not be read) and 8 (out of memory)"
+        )
+    refusal = refusal_of(text)
+    if refusal:
+        raise Complaint(
+            f"{source}: this is no report but a refusal: {text.strip()}\n"
+            "`confluo-report explain` says what it means"
+        )
+    lines = text.split("\n", 2)
+    if FORMS["records"].fullmatch(lines[0]) and re.match(r"0 ts=", "".join(lines[1:2])):
+        raise Complaint(f"{source}: this is no report but the text of `confluo dump`")
+
+
+def parse(text: str, source: str = "report") -> Report | Snapshot:
+    """The report or snapshot that the text is."""
+    _must_be_text(text, source)
+    lines = _Lines(text, source)
+    readers: dict[str, Callable[[_Lines], Report | Snapshot]]
+    readers = {"records": _report, "cut": _snapshot}
+    reader = readers.get(lines.word())
+    if not reader:
+        lines.fail("`records K`, the first line of a report, or `cut K`, that of a snapshot")
+        raise AssertionError
+    return reader(lines)
+
+
+def parse_report(text: str, source: str = "report") -> Report:
+    """The report that the text is; a snapshot is a Complaint."""
+    read = parse(text, source)
+    if isinstance(read, Snapshot):
+        raise Complaint(f"{source}: this is a snapshot; a report of `confluo run` is needed here")
+    return read
+
+
+def body_text(body: Body) -> str:
+    """The answer as confluo prints it."""
+    if isinstance(body, Quad):
+        ends = ["-" if it is None else str(it) for it in (body.least, body.greatest)]
+        return f"{body.kind} count {body.count} sum {body.sum} least {ends[0]} greatest {ends[1]}"
+    if isinstance(body, Found):
+        words = list(map(str, body.rows))
+    else:
+        pairs = body.marks if isinstance(body, Fired) else body.keys
+        words = [f"{it.key}={it.value}" for it in pairs]
+    return " ".join([f"{body.kind} {len(words)}:", *words])
+
+
+def lines_of(read: Report | Snapshot) -> Iterator[str]:
+    """The lines of the report or snapshot, as confluo prints them."""
+    if isinstance(read, Snapshot):
+        yield f"cut {read.cut}"
+        for host in read.hosts:
+            yield f"host {host.number} @{host.records}"
+            yield from (f"ask {it.name} {body_text(it.body)}" for it in host.asks)
+        return
+    yield f"records {read.records}"
+    yield from (f"ask {it.name} {body_text(it.body)}" for it in read.asks)
+    yield from (f"alert {it.trigger} {it.bucket} {it.value}" for it in read.alerts)
+    for live in read.lives:
+        yield f"live {live.name} @{live.prefix} {body_text(live.body)}"
+        if live.new is not None:
+            yield f"new {live.name} @{live.prefix} {body_text(live.new)}"
+    if read.order is not None:
+        yield "order" + "".join(f" {it.writer}*{it.count}" for it in read.order)

@@ -1,0 +1,29 @@
+"""The rows of a capture or record file, by a setup's schema."""
+
+from __future__ import annotations
+
+from typing import Iterator
+
+from .captures import frames, opened
+from .expressions import Value
+from .frames import packet_row
+from .recordfiles import record_rows
+from .setups import Setup
+
+Row = tuple[Value, ...]
+
+
+def rows_of(setup: Setup, path: str) -> Iterator[Row]:
+    """The rows in order; a CaptureFault at the first fault."""
+    with opened(path) as file:
+        if setup.is_packet:
+            yield from map(packet_row, frames(file))
+        else:
+            yield from record_rows(setup.schema, file.read())
+
+
+def bucket_of(setup: Setup, row: Row) -> int:
+    """The row's time bucket."""
+    ts = row[setup.place_of("ts") or 0]
+    assert isinstance(ts, int)
+    return ts // setup.nanoseconds

@@ -1,0 +1,90 @@
+"""Numbers, times and addresses as people write them."""
+
+from __future__ import annotations
+
+import datetime
+import ipaddress
+
+from .expressions import Attribute
+from .setups import SECOND, Setup
+
+ADDRESSES = ("src", "dst")
+PROTOCOLS = {1: "ICMP", 2: "IGMP", 6: "TCP", 17: "UDP", 47: "GRE", 50: "ESP", 58: "ICMPv6"}
+KINDS = {0: "not IPv4", 1: "other IPv4", 2: "TCP", 3: "UDP"}
+UNITS = {
+    1: "nanosecond",
+    10**3: "microsecond",
+    10**6: "millisecond",
+    SECOND: "second",
+    60 * SECOND: "minute",
+    3600 * SECOND: "hour",
+    86400 * SECOND: "day",
+}
+
+
+def grouped(number: int | None) -> str:
+    """The number with commas, `-` for none."""
+    return "-" if number is None else f"{number:,}"
+
+
+def clock(nanoseconds: int) -> str:
+    """The time in UTC, with as many digits behind the seconds as it has, by threes."""
+    seconds, rest = divmod(nanoseconds, SECOND)
+    try:
+        day = datetime.datetime.fromtimestamp(seconds, datetime.timezone.utc)
+    except (OverflowError, ValueError, OSError):
+        return f"{nanoseconds} ns"
+    digits = f"{rest:09d}"
+    while digits.endswith("000"):
+        digits = digits[:-3]
+    return f"{day:%Y-%m-%d %H:%M:%S}" + (f".{digits}" if digits else "")
+
+
+def packet_clock(nanoseconds: int) -> str:
+    """A packet's time in UTC, with 6 digits behind the seconds, or 9 where it has more."""
+    whole, rest = clock(nanoseconds - nanoseconds % SECOND), nanoseconds % SECOND
+    if whole.endswith(" ns"):
+        return f"{nanoseconds} ns"
+    return f"{whole}.{rest:09d}" if rest % 1000 else f"{whole}.{rest // 1000:06d}"
+
+
+def unit(width: int) -> str:
+    """What a bucket of that width is called."""
+    if width in UNITS:
+        return UNITS[width]
+    for size in sorted(UNITS, reverse=True):
+        if width % size == 0:
+            return f"bucket of {width // size} {UNITS[size]}s"
+    return f"bucket of {width} nanoseconds"
+
+
+def units(width: int) -> str:
+    """The plural of `unit`."""
+    text = unit(width)
+    return text + "s" if width in UNITS else text.replace("bucket", "buckets", 1)
+
+
+def dotted(number: int) -> str:
+    """The IPv4 address, or the number itself where it is none."""
+    return str(ipaddress.IPv4Address(number)) if 0 <= number < 2**32 else str(number)
+
+
+def value_text(setup: Setup, attribute: Attribute, value: int) -> str:
+    """A value of the attribute: addresses dotted, protocols and kinds named, times as times."""
+    if attribute.kind == "u32" and attribute.name in ADDRESSES:
+        return dotted(value)
+    if attribute.name == "ts":
+        return clock(value)
+    if setup.is_packet and attribute.name == "proto" and value in PROTOCOLS:
+        return f"{value} ({PROTOCOLS[value]})"
+    if setup.is_packet and attribute.name == "kind" and value in KINDS:
+        return f"{value} ({KINDS[value]})"
+    if setup.is_packet and attribute.name == "flags":
+        return f"{value} ({flags_text(value)})" if value else "0"
+    return str(value)
+
+
+def flags_text(flags: int) -> str:
+    """The names of TCP flags."""
+    names = ("FIN", "SYN", "RST", "PSH", "ACK", "URG", "ECE", "CWR")
+    return "+".join(name for at, name in enumerate(names) if flags >> at & 1)

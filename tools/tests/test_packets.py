@@ -1,0 +1,100 @@
+"""Packets that a question found are copied, and reports are drawn."""
+
+import io
+import os
+import pathlib
+import tempfile
+import unittest
+
+from cases import BLOCKS
+from support import EXAMPLES, INCIDENTS, enhanced, frame, tool
+
+from confluo_report.captures import frames
+
+REPORT = INCIDENTS / "port_scan_stranger.report"
+CAPTURE = INCIDENTS / "port_scan.pcap"
+
+
+def frames_in(data: bytes) -> list[bytes]:
+    return [it.data for it in frames(io.BytesIO(data))]
+
+
+class Packets(unittest.TestCase):
+    def setUp(self) -> None:
+        self.place = tempfile.TemporaryDirectory()
+        self.addCleanup(self.place.cleanup)
+        self.out = pathlib.Path(self.place.name, "found.pcap")
+
+    def test_classic(self) -> None:
+        ended = tool("packets", "--ask", "open", "--out", self.out, REPORT, CAPTURE)
+        self.assertEqual((ended.status, ended.out), (0, f"{self.out}: 2 of 184 packets\n"))
+        whole = CAPTURE.read_bytes()
+        self.assertEqual(frames_in(self.out.read_bytes()), [frames_in(whole)[it] for it in (33, 166)])
+        self.assertEqual(self.out.read_bytes()[:24], whole[:24])
+
+    def test_blocks(self) -> None:
+        capture = pathlib.Path(self.place.name, "c.pcapng")
+        capture.write_bytes(BLOCKS + b"".join(enhanced(frame(at)) for at in range(4)))
+        text = "records 4\nask a find 2: 1 3\n"
+        self.assertEqual(tool("packets", "--ask", "a", "--out", self.out, "-", capture, stdin=text).status, 0)
+        self.assertEqual(self.out.read_bytes(), BLOCKS + enhanced(frame(1)) + enhanced(frame(3)))
+
+    def test_several(self) -> None:
+        words = ["packets", "--ask", "open", "--into", self.place.name, REPORT, CAPTURE]
+        second = pathlib.Path(self.place.name, "r")
+        second.write_text("records 225\nask open list 1: 7\n")
+        ended = tool(*words, second, INCIDENTS / "full_link.pcap")
+        self.assertEqual(ended.status, 0, ended.err)
+        self.assertIn("full_link.pcap: 1 of 225 packets\n", ended.out)
+        self.assertEqual(len(frames_in((self.out.parent / "port_scan.pcap").read_bytes())), 2)
+
+    def test_what_does_not_fit_leaves_no_file(self) -> None:
+        self.out.write_text("before")
+        for words, why in (
+            (("--ask", "tried", "--out", self.out, REPORT, CAPTURE), "finds no packets"),
+            (("--ask", "nosuch", "--out", self.out, REPORT, CAPTURE), "has no line of `nosuch`"),
+            (("--ask", "open", "--out", self.out, REPORT, INCIDENTS / "full_link.pcap"), "not the capture"),
+            (("--ask", "open", "--out", self.out, REPORT, EXAMPLES / "two_frames.setup"), "faulty, code 1"),
+            (("--ask", "open", "--out", self.out, REPORT), "in pairs"),
+            (("--ask", "open", "--out", self.out, REPORT, CAPTURE, REPORT, CAPTURE), "--into"),
+            (("--ask", "open", "--out", self.out, REPORT, "/no/such/file"), "No such file"),
+        ):
+            ended = tool("packets", *words)
+            self.assertEqual((ended.status, ended.out), (2, ""), why)
+            self.assertIn(why, ended.err)
+        self.assertEqual((self.out.read_text(), os.listdir(self.place.name)), ("before", ["found.pcap"]))
+
+    def plotted(self, *words: object) -> str:
+        try:
+            import matplotlib  # noqa: F401
+        except ImportError:
+            self.skipTest("matplotlib is missing: apt-get install python3-matplotlib")
+        out = pathlib.Path(self.place.name, "p.svg")
+        ended = tool("plot", "--out", out, *words)
+        self.assertEqual((ended.status, ended.err), (0, ""))
+        return out.read_text()
+
+    def test_a_picture(self) -> None:
+        report = INCIDENTS / "full_link.report"
+        by_setup = self.plotted("--setup", INCIDENTS / "full_link.setup", report)
+        for text in ("load", "when", "alerts", "192.0.2.31", "seconds from 2023-11-20 13:00:00 UTC"):
+            self.assertIn(text, by_setup)
+        self.assertEqual(by_setup, self.plotted("--dotted", report))
+        self.assertNotIn("192.0.2.31", self.plotted(report))
+
+    def test_a_picture_of_several(self) -> None:
+        report = INCIDENTS / "full_link.report"
+        other = pathlib.Path(self.place.name, "other.report")
+        other.write_text(report.read_text())
+        self.assertIn("other.report", self.plotted("--setup", INCIDENTS / "full_link.setup", report, other))
+
+    def test_nothing_to_draw(self) -> None:
+        ended = tool("plot", "--out", self.out.with_suffix(".svg"), REPORT)
+        self.assertEqual(ended.status, 2)
+        self.assertIn("nothing to draw", ended.err)
+        ended = tool("plot", "--out", self.out, INCIDENTS / "full_link.report")
+        self.assertIn("neither with .png nor with .svg", ended.err)
+
+
+if __name__ == "__main__":
+    unittest.main()
