@@ -1,5 +1,5 @@
 -- Writers' passes append and ask, and come home.
-use Rattle.std.proofs.Common.{◌≡◌, ◌∙◌, ◌<◌, get_or, ℕ, zero, suc, List, [], ◌∷◌, length, Some, slice_get, Result, Ok, Err, IfOk, IfErr, refl, ap, sym, subst, arith}
+use Rattle.std.proofs.Common.{◌≡◌, ◌∙◌, ◌+◌, ◌<◌, ◌++◌, get_or, ℕ, zero, suc, List, [], ◌∷◌, length, Some, slice_get, Result, Ok, Err, is_ok, true, IfOk, IfErr, refl, ap, sym, subst, arith}
 use Rattle.std.specs.declared.alloc.AllocError.{AllocError}
 use Rattle.std.proofs.lemmas.Option.{slice_get_within}
 use Rattle.cf_row.specs.Row.{RowValue}
@@ -18,7 +18,7 @@ use Rattle.cf_append.specs.declared.appends.AppendFault.{AppendFault}
 use Rattle.cf_append.proofs.Appending.{rests_by, rests_all}
 use Rattle.cf_append.proofs.Answering.{of_then, rests_same, same_writer}
 use Rattle.cf_query.specs.Asking.{HasAsked}
-use Rattle.cf_asking.specs.Writers.{IsWriters, AreDealtOut}
+use Rattle.cf_asking.specs.Writers.{IsWriters, AreDealtOut, AreWritersFrom}
 
 -- All books are dealt.
 dealt_at : (log : LogValue) (m n : PassValue) (hs : List PassValue) (k : ℕ) (h : PassValue) → m.view ≡ root_pass log.shape → AreDealt log m hs n → slice_get hs k ≡ Some h → IsWriters log k h
@@ -72,6 +72,11 @@ pub asked : (log : LogValue) (w : ℕ) (m n : PassValue) (A : Type 0) (P : A →
 asked log w m n A P (Ok a) is ok err = same_books log w m n is (ok.0).same (ok.0).books
 asked log w m n A P (Err e) is ok err = same_books log w m n is err.same err.books
 
+-- what holds of an answer holds where there is one
+pub ok_then : {A B : Type 0} {P : Type 0} (r : Result A B) → is_ok r ≡ true → IfOk r (λ _. P) → P
+ok_then (Ok a) good p = p
+ok_then (Err e) good p = absurd (cc good)
+
 -- One writer's pass, or two, are all.
 pub each_one : (P : PassValue → Type 0) (a : PassValue) → P a → (k : ℕ) (h : PassValue) → slice_get (a ∷ []) k ≡ Some h → P h
 each_one P a is zero h at = (let same : a ≡ h = cc at in subst P same is)
@@ -121,3 +126,36 @@ home_same sh p q same home w lt = (let h = home w lt in (h.0, h.1, ap (λ (bs : 
 pub forked_first : (shape : ShapeValue) (log : LogValue) (m p q n a : PassValue) (hs rest : List PassValue) → log.shape ≡ shape → m ≡ record { table = log.table; id = 0; nodes = (log.shape).nodes; view = root_pass log.shape } → p ≡ m → q ≡ p
     → AreDealt log q hs n → hs ≡ a ∷ rest → IsWriters log 0 a
 forked_first shape log m p q n a hs rest opened is one two dealt first = first_ready shape log n a hs rest (dealt_out shape log q n hs opened (two ∙ (one ∙ is)) dealt) first
+
+-- The writers' passes, one after the other.
+pub dealt_from : (shape : ShapeValue) (log : LogValue) (root : PassValue) (hs : List PassValue) → AreDealtOut shape log root hs → AreWritersFrom log 0 hs
+dealt_from shape log root hs dealt k h at = subst (λ (w : ℕ). IsWriters log w h) (omega arith) (dealt.each k h at)
+
+pub from_first : (log : LogValue) (n : ℕ) (h : PassValue) (rest : List PassValue) → AreWritersFrom log n (h ∷ rest) → IsWriters log n h
+from_first log n h rest all = subst (λ (w : ℕ). IsWriters log w h) (omega arith) (all 0 h refl)
+
+pub from_rest : (log : LogValue) (n : ℕ) (h : PassValue) (rest : List PassValue) → AreWritersFrom log n (h ∷ rest) → AreWritersFrom log (n + 1) rest
+from_rest log n h rest all k x at = subst (λ (w : ℕ). IsWriters log w x) (omega arith) (all (suc k) x at)
+
+pub from_push : (log : LogValue) (n : ℕ) (hs : List PassValue) (x : PassValue) → AreWritersFrom log n hs → IsWriters log (n + length hs) x → AreWritersFrom log n (hs ++ x ∷ [])
+from_push log n [] x all last zero h at = (let same : x ≡ h = cc at in subst (λ (g : PassValue). IsWriters log (n + 0) g) same last)
+from_push log n [] x all last (suc k) h at = absurd (cc at)
+from_push log n (y ∷ ys) x all last zero h at = all 0 h at
+from_push log n (y ∷ ys) x all last (suc k) h at =
+    subst (λ (w : ℕ). IsWriters log w h) (omega arith) (from_push log (n + 1) ys x (from_rest log n y ys all) (subst (λ (w : ℕ). IsWriters log w x) (omega arith) last) k h at)
+
+some_at : (hs : List PassValue) (k : ℕ) → k < length hs → (h : PassValue) × (slice_get hs k ≡ Some h)
+some_at [] k lt = absurd (omega (arith, lt))
+some_at (h ∷ hs) zero lt = (h, refl)
+some_at (h ∷ hs) (suc k) lt = some_at hs k (omega (arith, lt))
+
+pub all_from : (log : LogValue) (hs : List PassValue) → length hs ≡ (log.shape).writers → AreWritersFrom log 0 hs → AreAll log hs
+all_from log hs count all = record {
+  of = λ k h at. (all k h at).of;
+  rest = λ k h at. rests_all h.view (all k h at).rest;
+  count = count;
+  writers = λ w lt.
+      let there = some_at hs w (omega (arith, lt, count)) in
+      let is = all w there.0 there.1 in
+      (w, there.0, 0, book_of (there.0).view, there.1, holds_its log (0 + w) there.0 is, is.writer_is ∙ (omega arith));
+}

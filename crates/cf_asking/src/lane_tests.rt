@@ -279,7 +279,7 @@ fn chains_of_fifteen_writers(rt: HostRuntime) -> Result<(), Fail> {
 }
 
 // The groups of the first lane are as a list of one thread measures their buckets, and have all rows.
-fn agree_in_groups<P: Pass, L: Ledger, R: Abort>(
+pub(crate) fn agree_in_groups<P: Pass, L: Ledger, R: Abort>(
     rt: &R,
     alloc: Global,
     log: &MultiLog,
@@ -306,7 +306,7 @@ fn agree_in_groups<P: Pass, L: Ledger, R: Abort>(
 }
 
 // What the question finds tells that answer.
-fn check_finding<P: Pass, L: Ledger, R: Abort>(
+pub(crate) fn check_finding<P: Pass, L: Ledger, R: Abort>(
     rt: &R,
     alloc: Global,
     log: &MultiLog,
@@ -355,7 +355,7 @@ fn agree<P: Pass, L: Ledger, R: Abort>(
 }
 
 // Appends the row to the log and to the list.
-fn append_both<L: Ledger, R: Abort>(
+pub(crate) fn append_both<L: Ledger, R: Abort>(
     rt: &R,
     log: &MultiLog,
     plain: &mut Plain,
