@@ -7,10 +7,9 @@
 - docs/full_link.svg is what tools/draw_full_link.py draws.
 - docs/INCIDENTS.md shows each setup of examples/incidents, without its comments, and below each command the stored report.
 - VERSION is the newest version of CHANGELOG.md, the README has at most 900 words and docs/ at most 20,000.
-- With PROGRAM: README.md, docs/GUIDE.md, examples/*.md and, of confluo-report, docs/INCIDENTS.md are right about what commands
-  print. A block whose first line begins
-  with `$ ` is run, with `confluo` being PROGRAM and `questions.setup` the setup shown last, and must print the lines below. Blocks
-  with confluo-report are passed over if tools/ has none.
+- With PROGRAM: README.md, docs/GUIDE.md, examples/*.md and, of confluo-report, docs/INCIDENTS.md are right about what
+  commands print. A block whose first line begins with `$ ` is run, with `confluo` being PROGRAM and `questions.setup` the
+  setup shown last, and must print the lines below. Blocks with confluo-report are passed over if tools/ has none.
 
 A shown line `..` stands for any number of lines. Of `live`, `new` and `order` lines, which depend on threads, only the front is
 compared, and all are left out if none is shown. Ends with 1 if something differs. Needs the standard library alone.
@@ -25,7 +24,7 @@ import tempfile
 
 sys.dont_write_bytecode = True
 
-import draw_full_link
+import draw_full_link  # noqa: E402
 
 ROOT = pathlib.Path(__file__).resolve().parent.parent
 INCIDENTS = ROOT / "examples" / "incidents"
@@ -36,7 +35,7 @@ SECONDS = 60
 
 
 def blocks_of(page):
-    """The indented blocks of a page, each as a list of lines without the four spaces; blank lines belong to one, as in Markdown."""
+    """The indented blocks of a page, each as its lines without the four spaces; blank lines belong to one, as in Markdown."""
     block, blank = [], False
     for line in [*page.read_text().splitlines(), "end"]:
         if line.startswith("    "):
@@ -71,7 +70,13 @@ def is_varying(line):
 
 def front(line):
     """Of a line that depends on threads, what does not."""
-    return line.split("@")[0].split()[:2] if line.startswith(("live ", "new ")) else line.split()[:1] if is_varying(line) else line
+    return (
+        line.split("@")[0].split()[:2]
+        if line.startswith(("live ", "new "))
+        else line.split()[:1]
+        if is_varying(line)
+        else line
+    )
 
 
 def agrees(shown, printed):
@@ -81,7 +86,9 @@ def agrees(shown, printed):
     if ".." in shown:
         at = shown.index("..")
         rest = printed[at:]
-        return agrees_front(shown[:at], printed[:at]) and any(agrees(shown[at + 1 :], rest[skip:]) for skip in range(len(rest) + 1))
+        return agrees_front(shown[:at], printed[:at]) and any(
+            agrees(shown[at + 1 :], rest[skip:]) for skip in range(len(rest) + 1)
+        )
     return agrees_front(shown, printed)
 
 
@@ -96,7 +103,11 @@ def wrong_incidents():
     for setup in sorted(INCIDENTS.glob("*.setup")):
         if [it for it in setup.read_text().splitlines() if not it.startswith("#")] not in blocks:
             yield f"docs/INCIDENTS.md does not show {setup.name}"
-    shown = {re.search(r"(\w+)\.setup", block[0]).group(1): block[1:] for block in blocks if block[0].startswith("$ ") and ".setup" in block[0]}
+    shown = {
+        re.search(r"(\w+)\.setup", block[0]).group(1): block[1:]
+        for block in blocks
+        if block[0].startswith("$ ") and ".setup" in block[0]
+    }
     for report in sorted(INCIDENTS.glob("*.report")):
         if not agrees(shown.get(report.stem, []), report.read_text().splitlines()):
             yield f"docs/INCIDENTS.md does not show {report.name}"
@@ -111,7 +122,10 @@ def wrong_sessions(program):
             (here / "bin" / "confluo").symlink_to(program)
             for it in [ROOT / "examples", ROOT / "tools", ROOT / "docs", *INCIDENTS.glob("*.pcap")]:
                 (here / it.name).symlink_to(it)
-            environment = os.environ | {"PATH": f"{here / 'bin'}:{ROOT / 'tools'}:{os.environ['PATH']}", "CONFLUO": str(program)}
+            environment = os.environ | {
+                "PATH": f"{here / 'bin'}:{ROOT / 'tools'}:{os.environ['PATH']}",
+                "CONFLUO": str(program),
+            }
             for block in blocks_of(ROOT / name):
                 if block[0].startswith("schema "):
                     (here / "questions.setup").write_text("\n".join(block) + "\n")
@@ -119,16 +133,31 @@ def wrong_sessions(program):
                     continue
                 commands = "\n".join(it[2:] for it in block if it.startswith("$ "))
                 is_of_tool = "confluo-report" in commands
-                if is_of_tool and not (ROOT / "tools" / "confluo-report").exists() or name == "docs/INCIDENTS.md" and not is_of_tool:
+                if (
+                    is_of_tool
+                    and not (ROOT / "tools" / "confluo-report").exists()
+                    or name == "docs/INCIDENTS.md"
+                    and not is_of_tool
+                ):
                     continue
-                ran = subprocess.run(["bash", "-c", commands], cwd=here, env=environment, stdout=subprocess.PIPE, text=True, timeout=SECONDS)
+                ran = subprocess.run(
+                    ["bash", "-c", commands],
+                    cwd=here,
+                    env=environment,
+                    stdout=subprocess.PIPE,
+                    text=True,
+                    timeout=SECONDS,
+                )
                 if not agrees([it for it in block if not it.startswith("$ ")], ran.stdout.splitlines()):
                     yield f"{name}: {commands}\nprints\n{ran.stdout}"
 
 
 def wrong_sizes():
     """Documents that are too long, and a version that is not the newest of the changes."""
-    words = {it: len(it.read_text().split()) for it in [ROOT / "README.md", *ROOT.glob("docs/*.md"), *ROOT.glob("docs/*.1")]}
+    words = {
+        it: len(it.read_text().split())
+        for it in [ROOT / "README.md", *ROOT.glob("docs/*.md"), *ROOT.glob("docs/*.1")]
+    }
     first = words.pop(ROOT / "README.md")
     if first > 900:
         yield f"README.md has {first} words, more than 900"
@@ -150,7 +179,10 @@ def main():
         wrong += wrong_sessions(pathlib.Path(sys.argv[1]).resolve())
     for it in wrong:
         print(f"wrong: {it}")
-    print(f"documents checked, {len(wrong)} wrong" + ("" if len(sys.argv) == 2 else "; what commands print was not compared"))
+    print(
+        f"documents checked, {len(wrong)} wrong"
+        + ("" if len(sys.argv) == 2 else "; what commands print was not compared")
+    )
     sys.exit(1 if wrong else 0)
 
 

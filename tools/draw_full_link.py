@@ -65,15 +65,21 @@ def load_panel(load, most):
         out += [line(LEFT, y, RIGHT, y, "stroke:#dddddd"), text(LEFT - 8, y + 4, f"{tick:,}", "end")]
     for place, (_, value) in enumerate(load):
         colour = LOUD if value > most else QUIET
-        out.append(box(LEFT + slot * (place + 0.1), LOAD_FOOT - height(value), slot * 0.8, height(value), colour))
+        out.append(
+            box(LEFT + slot * (place + 0.1), LOAD_FOOT - height(value), slot * 0.8, height(value), colour)
+        )
         out.append(text(LEFT + slot * (place + 0.5), LOAD_FOOT + 18, f"{place}", "middle"))
     y = LOAD_FOOT - height(most)
     out += [line(LEFT, y, RIGHT, y, f"stroke:{LOUD};stroke-width:1.5;stroke-dasharray:6 4")]
     out += [text(LEFT + 6, y + 17, f"trigger full: above {most:,}")]
     middle = (LOAD_TOP + LOAD_FOOT) / 2
-    out.append(f'<text transform="translate(24 {middle:g}) rotate(-90)" text-anchor="middle" font-size="13">bytes per second</text>')
+    out.append(
+        f'<text transform="translate(24 {middle:g}) rotate(-90)" text-anchor="middle" font-size="13">bytes per second</text>'
+    )
     start = datetime.datetime.fromtimestamp(load[0][0], datetime.timezone.utc)
-    out.append(text((LEFT + RIGHT) / 2, LOAD_FOOT + 40, f"seconds after {start:%Y-%m-%d %H:%M:%S} UTC", "middle"))
+    out.append(
+        text((LEFT + RIGHT) / 2, LOAD_FOOT + 40, f"seconds after {start:%Y-%m-%d %H:%M:%S} UTC", "middle")
+    )
     return out
 
 
@@ -84,7 +90,10 @@ def senders_panel(senders):
     for place, (key, value) in enumerate(senders):
         y = SENDERS_TOP + ROW * place
         wide = (RIGHT - LEFT - 130) * value / greatest
-        out += [text(LEFT - 8, y + 17, str(ipaddress.ip_address(key)), "end"), box(LEFT, y + 4, wide, ROW - 9, SENDER)]
+        out += [
+            text(LEFT - 8, y + 17, str(ipaddress.ip_address(key)), "end"),
+            box(LEFT, y + 4, wide, ROW - 9, SENDER),
+        ]
         out.append(text(LEFT + wide + 8, y + 17, f"{value:,} bytes"))
     return out
 
@@ -92,7 +101,8 @@ def senders_panel(senders):
 def picture(setup, report):
     """The whole picture."""
     load, senders, most = answer(report, "load"), answer(report, "most"), threshold(setup, "full")
-    head = f'<svg xmlns="http://www.w3.org/2000/svg" width="{WIDE}" height="{TALL}" viewBox="0 0 {WIDE} {TALL}" font-family="sans-serif">'
+    size = f'width="{WIDE}" height="{TALL}" viewBox="0 0 {WIDE} {TALL}"'
+    head = f'<svg xmlns="http://www.w3.org/2000/svg" {size} font-family="sans-serif">'
     parts = [head, "<title>A link that is full</title>", box(0, 0, WIDE, TALL, "#ffffff")]
     return "\n".join(parts + load_panel(load, most) + senders_panel(senders) + ["</svg>", ""])
 

@@ -190,7 +190,9 @@ class Answers(unittest.TestCase):
         self.assertIn("lost_before.pcap: 15\n", out)
         self.assertIn("lost_behind.pcap: 5\n", out)
 
-    @unittest.skipUnless(os.environ.get("CONFLUO_SLOW"), "65537 packets are asked about where CONFLUO_SLOW is set")
+    @unittest.skipUnless(
+        os.environ.get("CONFLUO_SLOW"), "65537 packets are asked about where CONFLUO_SLOW is set"
+    )
     def test_segments_are_raised(self) -> None:
         with tempfile.TemporaryDirectory() as folder:
             path = pathlib.Path(folder, "c")
