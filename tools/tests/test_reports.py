@@ -99,7 +99,7 @@ class Reports(unittest.TestCase):
     @needs_program
     def test_what_the_program_prints_is_read(self) -> None:
         setup = EXAMPLES / "web_and_dns.setup"
-        words = ("--setup", setup, "--live", "3", *SMALL)
+        words = ("--setup", setup, "--live", "3", "--writers", "1", "--nodes", "1024")
         ran = confluo("run", *words, EXAMPLES / "web_and_dns.pcap")
         self.assertEqual("".join(f"{it}\n" for it in lines_of(parse(ran.out))), ran.out)
         two = EXAMPLES / "two_frames.pcap"
