@@ -377,12 +377,12 @@ waits_few shape most plan s t old new before waiting some counted first rows is 
   | inl stopped ↦ (let none : length waiting ≡ 0 = ap (λ (rs : List RowValue). length rs) (then.idle (inl stopped)) in omega (arith, none))
   | inr (inl many) ↦ (let none : length waiting ≡ 0 = ap (λ (rs : List RowValue). length rs) (then.idle (inr many)) in omega (arith, none))
   | inr (inr going) ↦ (
-  let size = length-append first rows in
-  let few = going.1 in
-  let went : old.stopped ≡ false = false_from_ne_true old.stopped (λ stopped. both_ways new.stopped going.0 (stops stopped)) in
-  let had = left_over shape most plan s old before some first is went (omega (arith, size, few)) in
-  let has = left_over shape most plan t new waiting counted (first ++ rows) then going.0 few in
-  omega (arith, size, had, has))
+      let size = length-append first rows in
+      let few = going.1 in
+      let went : old.stopped ≡ false = false_from_ne_true old.stopped (λ stopped. both_ways new.stopped going.0 (stops stopped)) in
+      let had = left_over shape most plan s old before some first is went (omega (arith, size, few)) in
+      let has = left_over shape most plan t new waiting counted (first ++ rows) then going.0 few in
+      omega (arith, size, had, has))
 ]
 
 -- those that are read meanwhile end the next batch, and no more than a piece brings

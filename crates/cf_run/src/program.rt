@@ -46,11 +46,7 @@ fn run_to_code<R: Threads + Sync, F: Shelf, K: Sink, G: Gate>(
 }
 
 // Runs over the files of the system and standard output.
-fn run_words<R: Files + Print + Threads + Sync>(
-    rt: &R,
-    alloc: Global,
-    words: &[&str],
-) -> ExitCode
+fn run_words<R: Files + Print + Threads + Sync>(rt: &R, alloc: Global, words: &[&str]) -> ExitCode
     ensures by_command { EndsBy (call_of (texts_of words.now)) (exit_status result) }
     ensures words { exit_status result ≡ 1 → call_of (texts_of words.now) ≡ None }
     ensures no_words { call_of (texts_of words.now) ≡ None

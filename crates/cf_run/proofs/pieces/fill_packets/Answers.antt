@@ -23,11 +23,11 @@ loop-alloc-init g c = record {
   later = c.in_ok-pieces.ensures.cause.later;
   fit = c.in_ok-pieces.ensures.fit;
   few = (
-    let begun = c.in_ok-pieces.ensures.few in
-    let f = c.args.filling.now in
-    let short = waits_short f.segments.shape f.segments.most f.loader.plan f.segments f.loader f.waiting.items f.count [] c.requires.none in
-    omega (arith, begun, short)
-  );
+      let begun = c.in_ok-pieces.ensures.few in
+      let f = c.args.filling.now in
+      let short = waits_short f.segments.shape f.segments.most f.loader.plan f.segments f.loader f.waiting.items f.count [] c.requires.none in
+      omega (arith, begun, short)
+      );
   taken = ([], c.in_ok-pieces.ensures.read, c.requires.none);
 }
 
@@ -56,11 +56,11 @@ loop-alloc-preserved g c =
       later = omega (arith, first, then);
       fit = IfOk-at_ok _ c.in_ok-rows.was beside.fit;
       few = (
-        let filled = filled_since shape most plan old.segments new.segments old.loader new.loader old.waiting.items new.waiting.items old.count new.count rows more v.taken.2 (IfOk-at_ok _ c.in_ok-taken.was beside.filled rows here) in
-        let wait = waits_few shape most plan old.segments new.segments old.loader new.loader old.waiting.items new.waiting.items old.count new.count rows c.loop-alloc.rows.items v.taken.2 filled beside.stops in
-        let ahead = IfOk-at_ok _ c.in_ok-rows.was beside.few before more v.taken.1 in
-        omega (arith, wait, ahead)
-      );
+          let filled = filled_since shape most plan old.segments new.segments old.loader new.loader old.waiting.items new.waiting.items old.count new.count rows more v.taken.2 (IfOk-at_ok _ c.in_ok-taken.was beside.filled rows here) in
+          let wait = waits_few shape most plan old.segments new.segments old.loader new.loader old.waiting.items new.waiting.items old.count new.count rows c.loop-alloc.rows.items v.taken.2 filled beside.stops in
+          let ahead = IfOk-at_ok _ c.in_ok-rows.was beside.few before more v.taken.1 in
+          omega (arith, wait, ahead)
+          );
       taken = (
         more,
         IfOk-at_ok _ c.in_ok-rows.was beside.read before more v.taken.1,
