@@ -158,6 +158,34 @@ fn what_was_seen_is_handed_on(rt: HostRuntime) -> Result<(), Fail> {
 }
 
 #[test]
+fn one_writer_is_marked_once(rt: HostRuntime) -> Result<(), Fail> {
+    let alloc = rt.alloc();
+    let mut world = world(&rt, alloc, 4, 1)?;
+    for num in 0..4 {
+        let ticket = Act::Ticket(row(alloc, num, 9)?);
+        says(&rt, alloc, &mut world, 0, ticket, true)?;
+        let tag = Act::Cell(num, 1, 16 * u64::from(num));
+        for act in [Act::Cell(num, 0, 9), tag, Act::Done(num)] {
+            says(&rt, alloc, &mut world, 0, act, true)?;
+        }
+    }
+    for (num, answer) in [(4, true), (5, false)] {
+        let ticket = Act::Ticket(row(alloc, num, 9)?);
+        says(&rt, alloc, &mut world, 0, ticket, answer)?;
+        assert_eq!(rt; world.words()[0], 5);
+    }
+    Ok(())
+}
+
+// 3 words for each ticket, and 241 for each node.
+#[test]
+fn a_large_world(rt: HostRuntime) -> Result<(), Fail> {
+    let world = world(&rt, rt.alloc(), 20_000, 15)?;
+    assert_eq!(rt; world.words().len(), 2 + 3 * 20_000 + 241 * 30);
+    Ok(())
+}
+
+#[test]
 fn every_writer_is_marked_once(rt: HostRuntime) -> Result<(), Fail> {
     let alloc = rt.alloc();
     let mut world = world(&rt, alloc, 1, 15)?;
@@ -199,12 +227,12 @@ fn every_writer_is_marked_once(rt: HostRuntime) -> Result<(), Fail> {
     Ok(())
 }
 
-// A world of two writers and one lane of all rows, or none where the lane isn't of the schema.
+// A world of two writers and a lane of all rows for each key, or none where a lane isn't of the schema.
 fn lane_world(
     rt: &impl Abort,
     alloc: Global,
     kinds: &[(&str, Kind)],
-    key: Key,
+    keys: &[Key],
     measure: Option<u8>,
     nodes: u32,
 ) -> Result<Option<World>, Memory> {
@@ -216,14 +244,16 @@ fn lane_world(
         })?;
     }
     let schema = Schema::new(attrs).expect(rt, "a schema");
-    let mut all = Vec::new(alloc);
-    all.push(Conjunction::new(Vec::new(alloc)))?;
     let mut lanes = Vec::new(alloc);
-    lanes.push(Lane {
-        select: Expr::new(all),
-        key,
-        measure,
-    })?;
+    for key in keys {
+        let mut all = Vec::new(alloc);
+        all.push(Conjunction::new(Vec::new(alloc)))?;
+        lanes.push(Lane {
+            select: Expr::new(all),
+            key: *key,
+            measure,
+        })?;
+    }
     if !belongs(&schema, &lanes) {
         return Ok(None);
     }
@@ -259,7 +289,7 @@ fn takes(
 fn one_node_is_linked_for_two(rt: HostRuntime) -> Result<(), Fail> {
     let alloc = rt.alloc();
     let kinds = [("ts", Kind::U64), ("k", Kind::U8)];
-    let mut world = lane_world(&rt, alloc, &kinds, Key::Attr(1), None, 2)?.expect(&rt, "a lane");
+    let mut world = lane_world(&rt, alloc, &kinds, &[Key::Attr(1)], None, 2)?.expect(&rt, "a lane");
     assert_eq!(rt; world.words().len(), 170);
     takes(&rt, alloc, &mut world, [[3, 53], [5, 53]])?;
     for (pass, act, answer) in [
@@ -297,7 +327,7 @@ fn one_node_is_linked_for_two(rt: HostRuntime) -> Result<(), Fail> {
 fn a_ticket_ends_in_each_lane(rt: HostRuntime) -> Result<(), Fail> {
     let alloc = rt.alloc();
     let kinds = [("ts", Kind::U64), ("k", Kind::U8)];
-    let mut world = lane_world(&rt, alloc, &kinds, Key::Attr(1), None, 2)?.expect(&rt, "a lane");
+    let mut world = lane_world(&rt, alloc, &kinds, &[Key::Attr(1)], None, 2)?.expect(&rt, "a lane");
     takes(&rt, alloc, &mut world, [[3, 53], [5, 53]])?;
     for (pass, act, answer) in [
         (1, Act::Label(0, 801), true),
@@ -342,6 +372,33 @@ fn a_ticket_ends_in_each_lane(rt: HostRuntime) -> Result<(), Fail> {
     Ok(())
 }
 
+#[test]
+fn a_ticket_ends_after_its_last_lane(rt: HostRuntime) -> Result<(), Fail> {
+    let alloc = rt.alloc();
+    let kinds = [("ts", Kind::U64), ("k", Kind::U8)];
+    let keys = [Key::Attr(1), Key::Attr(1)];
+    let mut world = lane_world(&rt, alloc, &kinds, &keys, None, 2)?.expect(&rt, "lanes");
+    takes(&rt, alloc, &mut world, [[3, 53], [5, 53]])?;
+    for (act, answer) in [
+        (Act::Label(0, 929), true),
+        (Act::Link(29, 0), true),
+        (Act::Label(1, 1441), true),
+        (Act::Link(45, 1), true),
+        (Act::Cell(0, 0, 3), true),
+        (Act::Cell(0, 1, 53), true),
+        (Act::Cell(0, 2, 0), true),
+        (Act::Cell(0, 3, 0), true),
+        (Act::Cell(0, 4, 0), true),
+        (Act::Head(0, 0, 5, 0), true),
+        (Act::Done(0), false),
+        (Act::Head(1, 1, 5, 0), true),
+        (Act::Done(0), true),
+    ] {
+        says(&rt, alloc, &mut world, 1, act, answer)?;
+    }
+    Ok(())
+}
+
 // the path of bucket 0 is linked by pass 1 and loaded by pass 2
 fn bucket_path(rt: &impl Abort, alloc: Global, world: &mut World) -> Result<(), Memory> {
     for level in 1..16 {
@@ -366,7 +423,7 @@ fn bucket_path(rt: &impl Abort, alloc: Global, world: &mut World) -> Result<(), 
 fn a_cell_counts_its_writers_rows(rt: HostRuntime) -> Result<(), Fail> {
     let alloc = rt.alloc();
     let kinds = [("ts", Kind::U64), ("len", Kind::U32)];
-    let world = lane_world(&rt, alloc, &kinds, Key::Bucket, Some(1), 15)?;
+    let world = lane_world(&rt, alloc, &kinds, &[Key::Bucket], Some(1), 15)?;
     let mut world = world.expect(&rt, "a lane");
     takes(&rt, alloc, &mut world, [[3, 7], [5, 9]])?;
     bucket_path(&rt, alloc, &mut world)?;
