@@ -1,13 +1,11 @@
 -- What a lawful world says of its words, each clause by itself.
 use Rattle.std.specs.Prelude.{ℕ, ◌+◌, ◌*◌, ◌<◌, ◌≤◌, ◌≡◌, suc, List, ◌∷◌, ◌++◌, length, get_or, true, Some, None, slice_get}
-use Rattle.cf_shape.specs.Lanes.{ShapeValue, IsShape}
 use Rattle.cf_shape.specs.Places.{Slot, place, IsReal, head_slot}
 use Rattle.cf_shape.specs.Places.Slot.{tail, cell, body}
 use Rattle.cf_words.specs.Words.{Spot, spot, Layout, Ticket, Stock, stock_of, marked, node_at, IsNamedBy, free_of, has, done_word, full_word, chain, top}
 use Rattle.cf_law.specs.Passes.{Cursor, Pass}
-use Rattle.cf_law.specs.Lawful.{Base, Lawful}
+use Rattle.cf_law.specs.Lawful.{Base}
 use Rattle.cf_law.specs.Events.{word_at}
-use Rattle.cf_law.specs.Shapes.{layout}
 
 -- the slot t is a child word that stands for the spot s
 pub record IsChildWord (sh : Layout) (stocks : List Stock) (spot : Spot) (slot : Slot) : Type 0 where
@@ -51,7 +49,3 @@ pub record SaysPlainly (sh : Layout) (base : Base) (passes : List Pass) : Type 0
   -- a cursor names a place whose words spell an entry of its writer and leaf
   pub cursor : (k o i : ℕ) (p : Pass) (c : Cursor) → slice_get passes k ≡ Some p → p.cursor ≡ Some c → c.link ≡ suc o → c.spot.lane < sh.sizes.lanes → i < sh.plain_words
       → (t : Ticket) × (slice_get base.log o ≡ Some t) × (t.writer ≡ c.writer) × (sh.path t.row c.spot.lane ≡ Some c.spot.path) × (word_at sh base.words (cell o i) ≡ get_or (sh.spelled t.row t.writer) i 0)
-
--- the clauses of the words are so in every lawful world of a lawful shape
-abbrev pub LawfulSaysPlainly : Type 0
-LawfulSaysPlainly = (s : ShapeValue) (words : List ℕ) (passes : List Pass) → IsShape s → Lawful (layout s) words passes → (m : Base) × (m.words ≡ words) × SaysPlainly (layout s) m passes

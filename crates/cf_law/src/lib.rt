@@ -1,8 +1,8 @@
 //! The steps of the passes over a log's table, and the law that they keep.
 //!
 //! A world has the words of a table and the passes that act on them. Each event is one step or move of one pass. `Step`
-//! says when a step is lawful, which word it touches, what it leaves there and what the pass is afterwards; `Does` says
-//! the same of events; `Lawful` is the law. The functions here run nothing: their contracts are the theorems.
+//! says when a step is lawful, which word it touches, what it leaves there and what the pass is afterwards; `IsEvent`
+//! says the same of events; `Lawful` is the law. The functions here run nothing: their contracts are the theorems.
 #![tactic(auto)]
 
 mod laws;

@@ -11,7 +11,7 @@ use std::alloc::{AllocError, Global};
 /// The length of a record's header.
 pub(crate) const RECORD_HEADER: usize = 16;
 
-/// The most bytes that a record may hold of its frame.
+/// The most bytes that a record may hold of its frame: libpcap's `MAXIMUM_SNAPLEN`.
 const LONGEST: u32 = 262_144;
 
 /// What was read of some bytes: what the file header states, the frames, and how many of the bytes these take.

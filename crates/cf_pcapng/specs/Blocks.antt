@@ -1,4 +1,4 @@
--- The blocks of the PCAP Next Generation capture file format (draft-ietf-opsawg-pcapng): what stands at the front of some
+-- The blocks of the PCAP Next Generation capture file format (draft-ietf-opsawg-pcapng-02): what stands at the front of some
 -- bytes, and what a whole block states.
 use Rattle.std.specs.Prelude.{ℕ, ◌+◌, ◌-◌, ◌*◌, ◌/◌, ◌%◌, ◌^◌, ◌==◌, ◌&&◌, min, nat_lt, nat_le, if◌then◌else◌, Bool, true, false, List, length, drop, slice_range, slice_index, slice_get, Option, Some, None, Result, Ok, Err, zero, suc}
 use Rattle.byteorder.specs.Endian.{little_number, big_number}

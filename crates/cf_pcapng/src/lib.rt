@@ -1,4 +1,4 @@
-//! Captures in the PCAP Next Generation format (draft-ietf-opsawg-pcapng), read as a stream that comes in any pieces.
+//! Captures in the PCAP Next Generation format (draft-ietf-opsawg-pcapng-02), read as a stream that comes in any pieces.
 #![tactic(auto)]
 
 mod blocks;

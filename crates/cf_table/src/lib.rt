@@ -2,7 +2,7 @@
 //!
 //! The table's words and the passes over it keep the law of `cf_law` as the rule of an `atomic_table`. Each step call
 //! makes the event of its name by one atomic step on one word: it asks for a lawful `Step` of its pass, and tells its
-//! caller all of `Told`.
+//! caller what the word was and what its pass is afterwards (`HasStepped`).
 #![tactic(auto)]
 
 mod closes;
