@@ -13,7 +13,7 @@ use Rattle.cf_shape.specs.Uses.Use.{version}
 use Rattle.cf_shape.specs.Places.{place, sizes_of, head_slot}
 use Rattle.cf_shape.proofs.Counts.{count_cons, count_none}
 use Rattle.cf_shape.proofs.Used.{version_at, before_fits}
-use Rattle.cf_words.specs.Words.{Spot, spot, fresh_ticket, has, same_path, version_word, top}
+use Rattle.cf_words.specs.Words.{Spot, spot, fresh_ticket, has, same_path, version_word, link_to_newest}
 use Rattle.cf_words.specs.Law.{IsWhole, Skips}
 use Rattle.cf_law.specs.Passes.{Book, Flight, Pass}
 use Rattle.cf_law.specs.Steps.{Knows, IsNext, ticket_of, book_with_flight, book_with_head, book_with_record, own_word, own_lane_word, mine_chain, pass_with_head}
@@ -26,7 +26,7 @@ use Rattle.cf_table.specs.Values.{PassValue, book_of, flight_or}
 use Rattle.cf_table.specs.Effects.{IsLawfulStep, HasStepped, HasSteppedUnseen, store_effect, walk_effect, head_effect, finish_effect}
 use Rattle.cf_table.proofs.Mays.{the_book, may_store, may_head, may_finish}
 use Rattle.cf_append.specs.Appends.{with_own}
-use Rattle.cf_append.specs.Paths.{Strides}
+use Rattle.cf_append.specs.Paths.{KeepsSeen}
 use Rattle.cf_append.specs.Linking.{HasFilled, HasLinked, IsBookOf, IsPassedOver, with_flight, cell_from, linked_to}
 use Rattle.cf_append.proofs.Walking.{strides_by}
 use Rattle.cf_law.proofs.Paths.{path_none, skips_any}
@@ -98,7 +98,7 @@ pub filled_writer : (s : ShapeValue) (o : ℕ) (row : RowValue) (k : ℕ) (m n :
 filled_writer s o row k m n F = ap (λ (b : Book). b.writer) (the_book n.view (with_flight o row F.filled [] (book_of m.view)) F.books)
 
 -- An own head was loaded.
-pub walk_strides : (shape : ShapeValue) (m n : PassValue) (s : Spot) (node d w found : ℕ) → HasStepped shape (walk_effect shape m.view s node d w) m found n → Strides m n
+pub walk_strides : (shape : ShapeValue) (m n : PassValue) (s : Spot) (node d w found : ℕ) → HasStepped shape (walk_effect shape m.view s node d w) m found n → KeepsSeen m n
 walk_strides shape m n s node d w found made =
     strides_by m n (pass_with_head (place (sizes_of shape) (head_slot (sizes_of shape) node d w)) w (spot s.lane (d ∷ s.path)) m.view found) made.same made.told.is refl refl refl (λ r k h. h) (omega arith)
 
@@ -114,13 +114,13 @@ has_nothing : (l : ℕ) → has [] l ≡ false
 unfolding has
 has_nothing l = refl
 
-own_plain_top : (shape : ShapeValue) (b : Book) (o : ℕ) (row : RowValue) (filled : ℕ) (s : Spot) → own_top (layout shape) (with_flight o row filled [] b) s ≡ top (mine_chain (layout shape) s b.mine)
+own_plain_top : (shape : ShapeValue) (b : Book) (o : ℕ) (row : RowValue) (filled : ℕ) (s : Spot) → own_top (layout shape) (with_flight o row filled [] b) s ≡ link_to_newest (mine_chain (layout shape) s b.mine)
 own_plain_top shape b o row filled s =
-    ap (λ (linked : Bool). cond {A = ℕ} (cond {A = Bool} linked (same_path (path_in shape row s.lane) s.path) false) (suc o) (top (mine_chain (layout shape) s b.mine))) (has_nothing s.lane)
+    ap (λ (linked : Bool). cond {A = ℕ} (cond {A = Bool} linked (same_path (path_in shape row s.lane) s.path) false) (suc o) (link_to_newest (mine_chain (layout shape) s b.mine))) (has_nothing s.lane)
 
-plain_version : (shape : ShapeValue) (l : ℕ) (c : List (ℕ × RowValue)) (row : RowValue) → is_measured shape l ≡ false → version_word (layout shape) l 0 c row ≡ top c
+plain_version : (shape : ShapeValue) (l : ℕ) (c : List (ℕ × RowValue)) (row : RowValue) → is_measured shape l ≡ false → version_word (layout shape) l 0 c row ≡ link_to_newest c
 unfolding version_word
-plain_version shape l c row bare = ap (λ (b : Bool). top c + 2 ^ 32 * cond {A = ℕ} b (length c + 1) 0) bare ∙ omega arith
+plain_version shape l c row bare = ap (λ (b : Bool). link_to_newest c + 2 ^ 32 * cond {A = ℕ} b (length c + 1) 0) bare ∙ omega arith
 
 -- A cell is stored.
 abbrev pub flight_at : ℕ → RowValue → ℕ → List ℕ → Flight
@@ -152,7 +152,7 @@ may_version shape m n o l i value row q F kept there bare at leads is =
     ∙ (sym (plain_version shape l (mine_chain sh (spot l q) (book_of m.view).mine) row bare)
     ∙ (ap (λ (p : Option (List ℕ)). own_lane_word sh b row l 0 p) (sym leads) ∙ ap (λ (u : Use). own_word sh b row u) (sym stands))))))
 
-pub store_strides : (shape : ShapeValue) (m n : PassValue) (o i value : ℕ) → HasSteppedUnseen shape (store_effect m.view o i value) m n → Strides m n
+pub store_strides : (shape : ShapeValue) (m n : PassValue) (o i value : ℕ) → HasSteppedUnseen shape (store_effect m.view o i value) m n → KeepsSeen m n
 store_strides shape m n o i value stored = strides_by m n ((store_effect m.view o i value).after 0 []) stored.made.same stored.made.told.is refl refl refl (λ r k h. h) (omega arith)
 
 pub filled_more : (shape : ShapeValue) (m n z : PassValue) (o l i value : ℕ) (row : RowValue) → HasFilled shape o row (cell_from shape l) m m → (n.view).books ≡ (m.view).books → l < length shape.lanes → is_measured shape l ≡ false → i ≡ cell_from shape l
@@ -228,7 +228,7 @@ may_top shape m o l node d row q L leads knows =
     let b : Book = with_flight o row L.filled (linked_to shape row l) (book_of m.view) in
     may_head shape m.view b (flight_at o row L.filled (linked_to shape row l)) l node d o q L.books refl refl (whole_ticket shape o row L.filled (linked_to shape row l) b.writer L.whole) (not_linked shape row l l (omega arith)) leads knows
 
-pub head_strides : (shape : ShapeValue) (m n : PassValue) (l node d o : ℕ) → HasSteppedUnseen shape (head_effect shape m.view l node d o) m n → Strides m n
+pub head_strides : (shape : ShapeValue) (m n : PassValue) (l node d o : ℕ) → HasSteppedUnseen shape (head_effect shape m.view l node d o) m n → KeepsSeen m n
 head_strides shape m n l node d o stored = strides_by m n ((head_effect shape m.view l node d o).after 0 []) stored.made.same stored.made.told.is refl refl refl (λ r k h. h) (omega arith)
 
 one_more : (l : ℕ) → suc l ≡ l + 1
@@ -287,7 +287,7 @@ pub closed_books : (shape : ShapeValue) (m n z : PassValue) (o k : ℕ) (row : R
 closed_books shape m n z o k row L stored =
     ap (λ (p : Pass). p.books) stored.made.told.is ∙ ap (λ (bs : List Book). set bs 0 (book_with_record (get_or bs 0 (no_book 0)) (flight_or (get_or bs 0 (no_book 0)).flight))) L.books
 
-pub close_strides : (shape : ShapeValue) (m n : PassValue) (o : ℕ) → HasSteppedUnseen shape (finish_effect shape m.view o) m n → Strides m n
+pub close_strides : (shape : ShapeValue) (m n : PassValue) (o : ℕ) → HasSteppedUnseen shape (finish_effect shape m.view o) m n → KeepsSeen m n
 close_strides shape m n o stored = strides_by m n ((finish_effect shape m.view o).after 0 []) stored.made.same stored.made.told.is refl refl refl (λ r k h. h) (omega arith)
 
 -- A word of a cell, wherever it stands.
@@ -332,10 +332,10 @@ skip_words true = omega arith
 skip_words false = omega arith
 
 -- an own head, where the ticket in flight isn't linked
-pub head_chain : (shape : ShapeValue) (m n : PassValue) (o k v : ℕ) (row : RowValue) (q : Spot) → HasFilled shape o row k m m → (n.view).books ≡ (m.view).books → v ≡ own_top (layout shape) (book_of m.view) q → v ≡ top (mine_chain (layout shape) q (book_of n.view).mine)
+pub head_chain : (shape : ShapeValue) (m n : PassValue) (o k v : ℕ) (row : RowValue) (q : Spot) → HasFilled shape o row k m m → (n.view).books ≡ (m.view).books → v ≡ own_top (layout shape) (book_of m.view) q → v ≡ link_to_newest (mine_chain (layout shape) q (book_of n.view).mine)
 head_chain shape m n o k v row q F kept is =
     is ∙ (ap (λ (c : Book). own_top (layout shape) c q) (the_book m.view (with_flight o row F.filled [] (book_of m.view)) F.books)
-    ∙ (own_plain_top shape (book_of m.view) o row F.filled q ∙ ap (λ (bs : List Book). top (mine_chain (layout shape) q (get_or bs 0 (no_book 0)).mine)) (sym kept)))
+    ∙ (own_plain_top shape (book_of m.view) o row F.filled q ∙ ap (λ (bs : List Book). link_to_newest (mine_chain (layout shape) q (get_or bs 0 (no_book 0)).mine)) (sym kept)))
 
 pub book_same : (shape : ShapeValue) (m n : PassValue) → IsBookOf shape (book_of m.view) → (n.view).books ≡ (m.view).books → IsBookOf shape (book_of n.view)
 book_same shape m n own kept = subst (λ (bs : List Book). IsBookOf shape (get_or bs 0 (no_book 0))) (sym kept) own

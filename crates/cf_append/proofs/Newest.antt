@@ -8,21 +8,21 @@ use Rattle.cf_fold.proofs.Lawful.{AreLow, quad_is_lawful}
 use Rattle.cf_shape.specs.Lanes.{ShapeValue, IsShape, lane_at, measure_of}
 use Rattle.cf_shape.specs.Places.{place_of}
 use Rattle.cf_shape.specs.Places.Slot.{cell}
-use Rattle.cf_shape.specs.Places.Word.{version}
+use Rattle.cf_shape.specs.Places.WordName.{version}
 use Rattle.cf_shape.proofs.Measured.{measure_low}
 use Rattle.cf_shape.proofs.Used.{before_fits, version_at}
 use Rattle.cf_row.specs.Words.{word_count}
 use Rattle.cf_table.specs.Values.{PassValue}
 use Rattle.cf_table.specs.Effects.{HasStepped, cell_effect}
-use Rattle.cf_append.specs.Paths.{Strides}
+use Rattle.cf_append.specs.Paths.{KeepsSeen}
 use Rattle.cf_append.proofs.Walking.{strides_by}
 use Rattle.cf_shape.specs.Uses.{is_measured, cell_words, cells_before}
-use Rattle.cf_words.specs.Words.{Spot, spot, Layout, same_path, top, version_word}
+use Rattle.cf_words.specs.Words.{Spot, spot, Layout, same_path, link_to_newest, version_word}
 use Rattle.cf_words.proofs.Chains.{same_path_true}
 use Rattle.cf_law.specs.Passes.{Own, Book, Pass}
 use Rattle.cf_law.specs.Steps.{IsOwn, mine_chain, pass_with_cell}
 use Rattle.cf_law.specs.Shapes.{layout}
-use Rattle.cf_append.specs.Linking.{IsNewest, IsBookOf, IsCell, amounts}
+use Rattle.cf_append.specs.Linking.{IsNewest, IsBookOf, IsCell, amounts_in_chain}
 
 chain_nil : (sh : Layout) (s : Spot) → mine_chain sh s [] ≡ []
 unfolding mine_chain
@@ -35,21 +35,21 @@ chain_cons : (sh : Layout) (s : Spot) (x : Own) (xs : List Own) → mine_chain s
 unfolding mine_chain
 chain_cons sh s x xs = refl
 
-newest_step : (sh : Layout) (s : Spot) (x : Own) (xs : List Own) (o : ℕ) → (top (mine_chain sh s xs) ≡ suc o → IsNewest sh s xs o) → (c : List (ℕ × RowValue)) → mine_chain sh s xs ≡ c → top (mine_chain sh s (x ∷ xs)) ≡ suc o → IsNewest sh s (x ∷ xs) o
+newest_step : (sh : Layout) (s : Spot) (x : Own) (xs : List Own) (o : ℕ) → (link_to_newest (mine_chain sh s xs) ≡ suc o → IsNewest sh s xs o) → (c : List (ℕ × RowValue)) → mine_chain sh s xs ≡ c → link_to_newest (mine_chain sh s (x ∷ xs)) ≡ suc o → IsNewest sh s (x ∷ xs) o
 newest_step sh s x xs o more [] is e = elim (cases_Bool (same_path (sh.path x.row s.lane) s.path)) [
   | inl here ↦
       let whole : mine_chain sh s (x ∷ xs) ≡ (x.offset, x.row) ∷ [] = chain_cons sh s x xs ∙ (ap (λ (c : List (ℕ × RowValue)). c ++ here_if x (same_path (sh.path x.row s.lane) s.path)) is ∙ ap (here_if x) here) in
-      let first : suc x.offset ≡ suc o = ap top (sym whole) ∙ e in
+      let first : suc x.offset ≡ suc o = ap link_to_newest (sym whole) ∙ e in
       record { place = 0; own = x; at = refl; offset = omega (arith, first); leads = same_path_true (sh.path x.row s.lane) s.path here; chain = whole ∙ ap (λ (c : List (ℕ × RowValue)). (x.offset, x.row) ∷ c) (sym (chain_nil sh s)) }
   | inr other ↦
       let whole : mine_chain sh s (x ∷ xs) ≡ [] = chain_cons sh s x xs ∙ (ap (λ (c : List (ℕ × RowValue)). c ++ here_if x (same_path (sh.path x.row s.lane) s.path)) is ∙ ap (here_if x) other) in
-      let first : 0 ≡ suc o = ap top (sym whole) ∙ e in
+      let first : 0 ≡ suc o = ap link_to_newest (sym whole) ∙ e in
       absurd (omega (arith, first))
 ]
 newest_step sh s x xs o more (y ∷ ys) is e =
     let tail = here_if x (same_path (sh.path x.row s.lane) s.path) in
     let whole : mine_chain sh s (x ∷ xs) ≡ y ∷ (ys ++ tail) = chain_cons sh s x xs ∙ ap (λ (c : List (ℕ × RowValue)). c ++ tail) is in
-    let r = more (ap top is ∙ (ap top (sym whole) ∙ e)) in record {
+    let r = more (ap link_to_newest is ∙ (ap link_to_newest (sym whole) ∙ e)) in record {
       place = suc r.place;
       own = r.own;
       at = r.at;
@@ -58,8 +58,8 @@ newest_step sh s x xs o more (y ∷ ys) is e =
       chain = chain_cons sh s x xs ∙ (ap (λ (c : List (ℕ × RowValue)). c ++ tail) r.chain ∙ ap (λ (c : List (ℕ × RowValue)). (r.own.offset, r.own.row) ∷ c) (sym (chain_cons sh s x (take r.place xs))));
     }
 
-pub newest : (sh : Layout) (s : Spot) (mine : List Own) (o : ℕ) → top (mine_chain sh s mine) ≡ suc o → IsNewest sh s mine o
-newest sh s [] o e = absurd (let f : 0 ≡ suc o = ap top (sym (chain_nil sh s)) ∙ e in omega (arith, f))
+pub newest : (sh : Layout) (s : Spot) (mine : List Own) (o : ℕ) → link_to_newest (mine_chain sh s mine) ≡ suc o → IsNewest sh s mine o
+newest sh s [] o e = absurd (let f : 0 ≡ suc o = ap link_to_newest (sym (chain_nil sh s)) ∙ e in omega (arith, f))
 newest sh s (x ∷ xs) o e = newest_step sh s x xs o (λ f. newest sh s xs o f) (mine_chain sh s xs) refl e
 
 -- a chain is no longer than what the writer has finished
@@ -75,9 +75,9 @@ chain_few sh s (x ∷ xs) =
     omega (arith, e, length-append (mine_chain sh s xs) tail, at_most_one x (same_path (sh.path x.row s.lane) s.path), chain_few sh s xs)
 
 -- the words of a measured cell, by the quad
-pub first_word : (shape : ShapeValue) (l : ℕ) (c : List (ℕ × RowValue)) (row : RowValue) → is_measured shape l ≡ true → version_word (layout shape) l 0 c row ≡ top c + 2 ^ 32 * (length c + 1)
+pub first_word : (shape : ShapeValue) (l : ℕ) (c : List (ℕ × RowValue)) (row : RowValue) → is_measured shape l ≡ true → version_word (layout shape) l 0 c row ≡ link_to_newest c + 2 ^ 32 * (length c + 1)
 unfolding version_word
-first_word shape l c row takes = ap (λ (b : Bool). top c + 2 ^ 32 * cond {A = ℕ} b (length c + 1) 0) takes
+first_word shape l c row takes = ap (λ (b : Bool). link_to_newest c + 2 ^ 32 * cond {A = ℕ} b (length c + 1) 0) takes
 
 pub sum_word : (shape : ShapeValue) (l : ℕ) (c : List (ℕ × RowValue)) (row : RowValue) → version_word (layout shape) l 1 c row ≡ (quad_of (map (λ (r : RowValue). measure_of shape l r) (row ∷ map (λ (x : ℕ × RowValue). x.1) c))).sum
 unfolding version_word
@@ -92,21 +92,21 @@ low_append : (xs ys : List ℕ) → AreLow xs → AreLow ys → AreLow (xs ++ ys
 low_append [] ys a b = b
 low_append (x ∷ xs) ys a b = (a.0, low_append xs ys a.1 b)
 
-amounts_append : (shape : ShapeValue) (l : ℕ) (c d : List (ℕ × RowValue)) → amounts shape l (c ++ d) ≡ amounts shape l c ++ amounts shape l d
+amounts_append : (shape : ShapeValue) (l : ℕ) (c d : List (ℕ × RowValue)) → amounts_in_chain shape l (c ++ d) ≡ amounts_in_chain shape l c ++ amounts_in_chain shape l d
 amounts_append shape l [] d = refl
 amounts_append shape l (x ∷ c) d = ap (λ (xs : List ℕ). measure_of shape l x.1 ∷ xs) (amounts_append shape l c d)
 
-low_here : (shape : ShapeValue) (l : ℕ) (x : Own) (b : Bool) → measure_of shape l x.row < 2 ^ 32 → AreLow (amounts shape l (here_if x b))
+low_here : (shape : ShapeValue) (l : ℕ) (x : Own) (b : Bool) → measure_of shape l x.row < 2 ^ 32 → AreLow (amounts_in_chain shape l (here_if x b))
 low_here shape l x true low = (low, tt)
 low_here shape l x false low = tt
 
-pub low_amounts : (shape : ShapeValue) (l : ℕ) (s : Spot) (mine : List Own) → ((j : ℕ) (x : Own) → slice_get mine j ≡ Some x → measure_of shape l x.row < 2 ^ 32) → AreLow (amounts shape l (mine_chain (layout shape) s mine))
-low_amounts shape l s [] low = subst (λ (c : List (ℕ × RowValue)). AreLow (amounts shape l c)) (sym (chain_nil (layout shape) s)) tt
+pub low_amounts : (shape : ShapeValue) (l : ℕ) (s : Spot) (mine : List Own) → ((j : ℕ) (x : Own) → slice_get mine j ≡ Some x → measure_of shape l x.row < 2 ^ 32) → AreLow (amounts_in_chain shape l (mine_chain (layout shape) s mine))
+low_amounts shape l s [] low = subst (λ (c : List (ℕ × RowValue)). AreLow (amounts_in_chain shape l c)) (sym (chain_nil (layout shape) s)) tt
 low_amounts shape l s (x ∷ xs) low =
     let b = same_path ((layout shape).path x.row s.lane) s.path in
-    subst (λ (c : List (ℕ × RowValue)). AreLow (amounts shape l c)) (sym (chain_cons (layout shape) s x xs))
+    subst (λ (c : List (ℕ × RowValue)). AreLow (amounts_in_chain shape l c)) (sym (chain_cons (layout shape) s x xs))
     (subst AreLow (sym (amounts_append shape l (mine_chain (layout shape) s xs) (here_if x b)))
-    (low_append (amounts shape l (mine_chain (layout shape) s xs)) (amounts shape l (here_if x b)) (low_amounts shape l s xs (λ j y at. low (suc j) y at)) (low_here shape l x b (low 0 x refl))))
+    (low_append (amounts_in_chain shape l (mine_chain (layout shape) s xs)) (amounts_in_chain shape l (here_if x b)) (low_amounts shape l s xs (λ j y at. low (suc j) y at)) (low_here shape l x b (low 0 x refl))))
 
 pub take_get : (n i : ℕ) (xs : List Own) (x : Own) → slice_get (take n xs) i ≡ Some x → slice_get xs i ≡ Some x
 take_get zero i [] x at = absurd (cc at)
@@ -115,16 +115,16 @@ take_get (suc n) i [] x at = absurd (cc at)
 take_get (suc n) zero (y ∷ xs) x at = at
 take_get (suc n) (suc i) (y ∷ xs) x at = take_get n i xs x at
 
-pub top_most : (sh : Layout) (s : Spot) (mine : List Own) (n : ℕ) → ((j : ℕ) (x : Own) → slice_get mine j ≡ Some x → x.offset < n) → (k : ℕ) → top (mine_chain sh s mine) ≡ k → k ≤ n
+pub top_most : (sh : Layout) (s : Spot) (mine : List Own) (n : ℕ) → ((j : ℕ) (x : Own) → slice_get mine j ≡ Some x → x.offset < n) → (k : ℕ) → link_to_newest (mine_chain sh s mine) ≡ k → k ≤ n
 top_most sh s mine n low zero e = omega arith
 top_most sh s mine n low (suc o) e = (let r = newest sh s mine o e in let at = low r.place r.own r.at in let is = r.offset in omega (arith, at, is))
 
-pub quad_read : (shape : ShapeValue) (l : ℕ) (c : List (ℕ × RowValue)) (row : RowValue) (first sum ends : ℕ) → IsCell shape l c row first sum ends → is_measured shape l ≡ true → top c < 2 ^ 32 → AreLow (measure_of shape l row ∷ amounts shape l c)
-    → record { count = first / 4294967296; sum = sum; least = ends % 4294967296; greatest = ends / 4294967296 } ≡ quad_of (measure_of shape l row ∷ amounts shape l c)
+pub quad_read : (shape : ShapeValue) (l : ℕ) (c : List (ℕ × RowValue)) (row : RowValue) (first sum ends : ℕ) → IsCell shape l c row first sum ends → is_measured shape l ≡ true → link_to_newest c < 2 ^ 32 → AreLow (measure_of shape l row ∷ amounts_in_chain shape l c)
+    → record { count = first / 4294967296; sum = sum; least = ends % 4294967296; greatest = ends / 4294967296 } ≡ quad_of (measure_of shape l row ∷ amounts_in_chain shape l c)
 quad_read shape l c row first sum ends w takes small low =
-    let xs = measure_of shape l row ∷ amounts shape l c in
+    let xs = measure_of shape l row ∷ amounts_in_chain shape l c in
     let lawful = quad_is_lawful xs low in
-    let many : length (amounts shape l c) ≡ length c = length-map (map (λ (x : ℕ × RowValue). x.1) c) (λ (r : RowValue). measure_of shape l r) ∙ length-map c (λ (x : ℕ × RowValue). x.1) in
+    let many : length (amounts_in_chain shape l c) ≡ length c = length-map (map (λ (x : ℕ × RowValue). x.1) c) (λ (r : RowValue). measure_of shape l r) ∙ length-map c (λ (x : ℕ × RowValue). x.1) in
     let one = w.first_is ∙ first_word shape l c row takes in
     let three = w.ends_is ∙ ends_word shape l c row in
     let least = lawful.least_is_low in
@@ -137,7 +137,7 @@ quad_read shape l c row first sum ends w takes small low =
     ∙ (ap (λ (n : ℕ). record (quad_of xs) { least = n; greatest = ends / 4294967296 }) low_end ∙ ap (λ (n : ℕ). record (quad_of xs) { greatest = n }) high_end))
 
 -- no record is in the leaf
-pub top_none : (c : List (ℕ × RowValue)) → top c ≡ 0 → c ≡ []
+pub top_none : (c : List (ℕ × RowValue)) → link_to_newest c ≡ 0 → c ≡ []
 top_none [] e = refl
 top_none (x ∷ c) e = absurd (cc e)
 
@@ -145,16 +145,16 @@ both_left : (a b : Bool) → Rattle.std.proofs.Common.◌&&◌ a b ≡ true → 
 both_left true b h = refl
 both_left false b h = h
 
-pub all_low : (shape : ShapeValue) (l : ℕ) (s : Spot) (b : Book) → IsShape shape → l < length shape.lanes → IsBookOf shape b → AreLow (amounts shape l (mine_chain (layout shape) s b.mine))
+pub all_low : (shape : ShapeValue) (l : ℕ) (s : Spot) (b : Book) → IsShape shape → l < length shape.lanes → IsBookOf shape b → AreLow (amounts_in_chain shape l (mine_chain (layout shape) s b.mine))
 all_low shape l s b lawful there own = low_amounts shape l s b.mine (λ j x at. measure_low shape l x.row lawful there (both_left _ _ (own.rows j x at).0))
 
-pub top_few : (shape : ShapeValue) (s : Spot) (b : Book) → IsBookOf shape b → top (mine_chain (layout shape) s b.mine) ≤ shape.capacity
-top_few shape s b own = top_most (layout shape) s b.mine shape.capacity (λ j x at. (own.rows j x at).1) (top (mine_chain (layout shape) s b.mine)) refl
+pub top_few : (shape : ShapeValue) (s : Spot) (b : Book) → IsBookOf shape b → link_to_newest (mine_chain (layout shape) s b.mine) ≤ shape.capacity
+top_few shape s b own = top_most (layout shape) s b.mine shape.capacity (λ j x at. (own.rows j x at).1) (link_to_newest (mine_chain (layout shape) s b.mine)) refl
 
-pub amounts_few : (shape : ShapeValue) (l : ℕ) (s : Spot) (b : Book) → IsBookOf shape b → length (amounts shape l (mine_chain (layout shape) s b.mine)) ≤ shape.capacity
+pub amounts_few : (shape : ShapeValue) (l : ℕ) (s : Spot) (b : Book) → IsBookOf shape b → length (amounts_in_chain shape l (mine_chain (layout shape) s b.mine)) ≤ shape.capacity
 amounts_few shape l s b own =
     let c = mine_chain (layout shape) s b.mine in
-    let many : length (amounts shape l c) ≡ length c = length-map (map (λ (x : ℕ × RowValue). x.1) c) (λ (r : RowValue). measure_of shape l r) ∙ length-map c (λ (x : ℕ × RowValue). x.1) in
+    let many : length (amounts_in_chain shape l c) ≡ length c = length-map (map (λ (x : ℕ × RowValue). x.1) c) (λ (r : RowValue). measure_of shape l r) ∙ length-map c (λ (x : ℕ × RowValue). x.1) in
     let few = own.few in
     omega (arith, many, few, chain_few (layout shape) s b.mine)
 
@@ -162,7 +162,7 @@ amounts_few shape l s b own =
 pub own_at : (shape : ShapeValue) (p : Pass) (b : Book) (s : Spot) (o : ℕ) → p.books ≡ b ∷ [] → IsNewest (layout shape) s b.mine o → IsOwn p o
 own_at shape p b s o one N = (0, b, ap (λ (bs : List Book). slice_get bs 0) one, inl (N.place, N.own, N.at, N.offset))
 
-pub read_strides : (shape : ShapeValue) (m n : PassValue) (o l h found : ℕ) → HasStepped shape (cell_effect shape m.view o l h) m found n → Strides m n
+pub read_strides : (shape : ShapeValue) (m n : PassValue) (o l h found : ℕ) → HasStepped shape (cell_effect shape m.view o l h) m found n → KeepsSeen m n
 read_strides shape m n o l h found made = strides_by m n (pass_with_cell (place_of shape (version o l h)) o l h m.view found) made.same made.told.is refl refl refl (λ s k e. e) (omega arith)
 
 pub read_books : (shape : ShapeValue) (m n : PassValue) (o l h found : ℕ) → HasStepped shape (cell_effect shape m.view o l h) m found n → (n.view).books ≡ (m.view).books
@@ -180,27 +180,27 @@ three_words shape l takes = ap (λ (b : Bool). cond {A = ℕ} b 3 1) takes
 
 pub quad_there : (shape : ShapeValue) (b : Book) (q : List ℕ) (o l first sum ends : ℕ) → IsShape shape → l < length shape.lanes → is_measured shape l ≡ true → IsBookOf shape b → (N : IsNewest (layout shape) (spot l q) b.mine o)
     → IsCell shape l (mine_chain (layout shape) (spot l q) (take N.place b.mine)) N.own.row first sum ends
-    → record { count = first / 4294967296; sum = sum; least = ends % 4294967296; greatest = ends / 4294967296 } ≡ quad_of (amounts shape l (mine_chain (layout shape) (spot l q) b.mine))
+    → record { count = first / 4294967296; sum = sum; least = ends % 4294967296; greatest = ends / 4294967296 } ≡ quad_of (amounts_in_chain shape l (mine_chain (layout shape) (spot l q) b.mine))
 quad_there shape b q o l first sum ends lawful there takes own N w =
     let sh = layout shape in
     let s = spot l q in
     let c = mine_chain sh s (take N.place b.mine) in
-    let small = top_most sh s (take N.place b.mine) shape.capacity (λ j x at. (own.rows j x (take_get N.place j b.mine x at)).1) (top c) refl in
+    let small = top_most sh s (take N.place b.mine) shape.capacity (λ j x at. (own.rows j x (take_get N.place j b.mine x at)).1) (link_to_newest c) refl in
     let room = lawful.capacity in
-    let low : AreLow (measure_of shape l N.own.row ∷ amounts shape l c) = subst (λ (d : List (ℕ × RowValue)). AreLow (amounts shape l d)) N.chain (all_low shape l s b lawful there own) in
-    quad_read shape l c N.own.row first sum ends w takes (omega (arith, small, room)) low ∙ ap (λ (d : List (ℕ × RowValue)). quad_of (amounts shape l d)) (sym N.chain)
+    let low : AreLow (measure_of shape l N.own.row ∷ amounts_in_chain shape l c) = subst (λ (d : List (ℕ × RowValue)). AreLow (amounts_in_chain shape l d)) N.chain (all_low shape l s b lawful there own) in
+    quad_read shape l c N.own.row first sum ends w takes (omega (arith, small, room)) low ∙ ap (λ (d : List (ℕ × RowValue)). quad_of (amounts_in_chain shape l d)) (sym N.chain)
 
 pub counts_there : (shape : ShapeValue) (b : Book) (q : List ℕ) (o l first sum ends : ℕ) → IsShape shape → l < length shape.lanes → is_measured shape l ≡ true → IsBookOf shape b → (N : IsNewest (layout shape) (spot l q) b.mine o)
     → IsCell shape l (mine_chain (layout shape) (spot l q) (take N.place b.mine)) N.own.row first sum ends
     → IsQuad (record { count = first / 4294967296; sum = sum; least = ends % 4294967296; greatest = ends / 4294967296 })
 counts_there shape b q o l first sum ends lawful there takes own N w =
-    subst IsQuad (sym (quad_there shape b q o l first sum ends lawful there takes own N w)) (quad_is_lawful (amounts shape l (mine_chain (layout shape) (spot l q) b.mine)) (all_low shape l (spot l q) b lawful there own))
+    subst IsQuad (sym (quad_there shape b q o l first sum ends lawful there takes own N w)) (quad_is_lawful (amounts_in_chain shape l (mine_chain (layout shape) (spot l q) b.mine)) (all_low shape l (spot l q) b lawful there own))
 
 -- the words of a new cell
-pub quad_cell : (shape : ShapeValue) (l : ℕ) (c : List (ℕ × RowValue)) (row : RowValue) (q : QuadValue) (previous first ends : ℕ) → is_measured shape l ≡ true → previous ≡ top c → q ≡ quad_of (measure_of shape l row ∷ amounts shape l c)
+pub quad_cell : (shape : ShapeValue) (l : ℕ) (c : List (ℕ × RowValue)) (row : RowValue) (q : QuadValue) (previous first ends : ℕ) → is_measured shape l ≡ true → previous ≡ link_to_newest c → q ≡ quad_of (measure_of shape l row ∷ amounts_in_chain shape l c)
     → first ≡ previous + q.count * 4294967296 → ends ≡ q.least + q.greatest * 4294967296 → IsCell shape l c row first q.sum ends
 quad_cell shape l c row q previous first ends takes at is one three =
-    let many : length (amounts shape l c) ≡ length c = length-map (map (λ (x : ℕ × RowValue). x.1) c) (λ (r : RowValue). measure_of shape l r) ∙ length-map c (λ (x : ℕ × RowValue). x.1) in
+    let many : length (amounts_in_chain shape l c) ≡ length c = length-map (map (λ (x : ℕ × RowValue). x.1) c) (λ (r : RowValue). measure_of shape l r) ∙ length-map c (λ (x : ℕ × RowValue). x.1) in
     let count = ap (λ (k : QuadValue). k.count) is in
     let least = ap (λ (k : QuadValue). k.least) is in
     let greatest = ap (λ (k : QuadValue). k.greatest) is in record {

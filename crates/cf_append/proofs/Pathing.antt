@@ -20,7 +20,7 @@ use Rattle.cf_append.specs.declared.leaves.Leaf.{Leaf}
 use Rattle.cf_append.specs.declared.leaves.Leaves.{Leaves}
 use Rattle.cf_append.specs.declared.paths.Filing.{Filing}
 use Rattle.cf_append.specs.declared.paths.Prefix.{Prefix}
-use Rattle.cf_append.specs.Paths.{Strides, IsPrefix, IsAlong, IsOnPath, IsNodeOf, IsLeafIn, HasLeaves, IsFiled, IsFiledIn, HasFilings, Remembers, Keeps, KeepsLeaf, KeepsLeaves, spot_of, spot_before, path_steps}
+use Rattle.cf_append.specs.Paths.{KeepsSeen, IsPrefix, IsAlong, IsOnPath, IsNodeOf, IsLeafIn, HasLeaves, IsFiled, IsFiledIn, HasFilings, Remembers, Keeps, KeepsLeaf, KeepsLeaves, spot_of, spot_before, path_steps}
 
 no_nibbles : (k : ℕ) → nibbles 0 k ≡ []
 unfolding nibbles
@@ -122,14 +122,14 @@ whole_at s h row lane level key same is low selects levels keys = record {
 }
 
 -- what files the row, so far
-pub node_still : (shape : ShapeValue) (m n : PassValue) (s : Spot) (node : ℕ) → Strides m n → IsNodeOf shape m.view s node → IsNodeOf shape n.view s node
+pub node_still : (shape : ShapeValue) (m n : PassValue) (s : Spot) (node : ℕ) → KeepsSeen m n → IsNodeOf shape m.view s node → IsNodeOf shape n.view s node
 node_still shape m n s node went is = record { knows = went.knows s node is.knows; low = is.low }
 
-filed_still : (shape : ShapeValue) (row : RowValue) (lane : ℕ) (m n : PassValue) (filing : Option Filing) → Strides m n → IsFiledIn shape row m.view lane filing → IsFiledIn shape row n.view lane filing
+filed_still : (shape : ShapeValue) (row : RowValue) (lane : ℕ) (m n : PassValue) (filing : Option Filing) → KeepsSeen m n → IsFiledIn shape row m.view lane filing → IsFiledIn shape row n.view lane filing
 filed_still shape row lane m n (Some f) went is = record { selects = is.selects; key = is.key; node = node_still shape m n (spot lane (nibbles (levels_of shape lane - 1) (f.key / 16))) f.leaf went is.node }
 filed_still shape row lane m n None went passes = passes
 
-pub filings_still : (shape : ShapeValue) (row : RowValue) (m n : PassValue) (filed : List (Option Filing)) (k : ℕ) → Strides m n → HasFilings shape row m.view filed k → HasFilings shape row n.view filed k
+pub filings_still : (shape : ShapeValue) (row : RowValue) (m n : PassValue) (filed : List (Option Filing)) (k : ℕ) → KeepsSeen m n → HasFilings shape row m.view filed k → HasFilings shape row n.view filed k
 filings_still shape row m n filed k went has lane low = filed_still shape row lane m n (slice_index_or filed lane None) went (has lane low)
 
 pub filings_more : (shape : ShapeValue) (row : RowValue) (p : Pass) (filed : List (Option Filing)) (k i : ℕ) (f : Filing) → i ≡ k → k < length filed → HasFilings shape row p filed k → IsFiled shape row p k f → HasFilings shape row p (set filed i (Some f)) (k + 1)

@@ -6,7 +6,7 @@ use Rattle.cf_row.specs.declared.row.Entry.{Entry}
 use Rattle.cf_shape.specs.Lanes.{ShapeValue}
 use Rattle.cf_shape.specs.Places.{place_of, slot_of}
 use Rattle.cf_shape.specs.Places.Slot.{cell}
-use Rattle.cf_shape.specs.Places.Word.{done}
+use Rattle.cf_shape.specs.Places.WordName.{done}
 use Rattle.cf_words.specs.Words.{Spot}
 use Rattle.cf_law.specs.Passes.{Book, Pass, Look}
 use Rattle.cf_law.specs.Steps.{Holds, Knows, pass_that_sees, pass_with_look}
@@ -18,13 +18,13 @@ use Rattle.cf_table.specs.Effects.{HasStepped, HasSteppedUnseen, tail_effect, do
 use Rattle.cf_table.proofs.Seen.{grown, sees_books, advance_seen}
 use Rattle.cf_table.proofs.Folds.{sees_told, tail_entries}
 use Rattle.cf_table.proofs.Settling.{Moved, moved_none, settled_by, begins_then, last_word}
-use Rattle.cf_append.specs.Appends.{GoesOn, IsUnfinished, Stops, Rests}
+use Rattle.cf_append.specs.Appends.{PassGoesOn, IsUnfinished, Stops, Rests}
 
 -- the nodes that the pass knows stay known
 pub knows_still : (p q : Pass) → q.known ≡ p.known → (s : Spot) (node : ℕ) → Knows p s node → Knows q s node
 knows_still p q same s node knows = (knows.0, ap (λ (known : List (Spot × ℕ)). slice_get known knows.0) same ∙ knows.1)
 
-pub goes_on : (m n : PassValue) → Moved m n → (n.view).known ≡ (m.view).known → GoesOn m n
+pub goes_on : (m n : PassValue) → Moved m n → (n.view).known ≡ (m.view).known → PassGoesOn m n
 goes_on m n moved known = record {
   same = moved.same;
   longer = moved.longer;
@@ -108,7 +108,7 @@ known_advance shape m n t stored =
     let told = stored.made.told in
     ap (λ (q : Pass). q.known) told.is ∙ sees_known (suc t) told.entries m.view
 
-pub goes_then : (m n o : PassValue) → GoesOn m n → GoesOn n o → GoesOn m o
+pub goes_then : (m n o : PassValue) → PassGoesOn m n → PassGoesOn n o → PassGoesOn m o
 goes_then m n o a b = record {
   same = b.same ∙ ap (λ (h : PassValue). record h { view = o.view }) a.same;
   longer = begins_then (m.view).seen (n.view).seen (o.view).seen a.longer b.longer;
@@ -117,7 +117,7 @@ goes_then m n o a b = record {
   knows = λ s node k. b.knows s node (a.knows s node k);
 }
 
-pub goes_none : (m : PassValue) → GoesOn m m
+pub goes_none : (m : PassValue) → PassGoesOn m m
 goes_none m = record { same = refl; longer = Rattle.std.proofs.Math.Seq.take-length (m.view).seen; tails = refl; told = refl; knows = λ s node k. k }
 
 -- a look tells that what was seen of a book's tickets are the first
@@ -169,20 +169,20 @@ stops_since shape p q r le stops = elim stops [
 ]
 
 -- and it stops where it is moved to then
-pub stops_then : (shape : ShapeValue) (m n o : PassValue) → GoesOn n o → Stops shape m.view n.view → Stops shape n.view o.view → Stops shape m.view o.view
+pub stops_then : (shape : ShapeValue) (m n o : PassValue) → PassGoesOn n o → Stops shape m.view n.view → Stops shape n.view o.view → Stops shape m.view o.view
 stops_then shape m n o goes before after = elim before [
   | inl all ↦ inl (let more = begins_long (n.view).seen (o.view).seen goes.longer in omega (arith, all, more))
   | inr u ↦ stops_since shape m.view n.view o.view (let since = u.since in omega (arith, since)) after
 ]
 
 -- as it does where it may have stayed
-pub stops_on : (shape : ShapeValue) (m n o : PassValue) → GoesOn n o → (n ≡ m) ⊎ Stops shape m.view n.view → Stops shape n.view o.view → Stops shape m.view o.view
+pub stops_on : (shape : ShapeValue) (m n o : PassValue) → PassGoesOn n o → (n ≡ m) ⊎ Stops shape m.view n.view → Stops shape n.view o.view → Stops shape m.view o.view
 stops_on shape m n o goes before after = elim before [
   | inl same ↦ subst (λ (h : PassValue). Stops shape h.view o.view) same after
   | inr stops ↦ stops_then shape m n o goes stops after
 ]
 
-pub stops_still : (shape : ShapeValue) (m n o : PassValue) → GoesOn n o → Stops shape m.view n.view → (o ≡ n) ⊎ Stops shape n.view o.view → Stops shape m.view o.view
+pub stops_still : (shape : ShapeValue) (m n o : PassValue) → PassGoesOn n o → Stops shape m.view n.view → (o ≡ n) ⊎ Stops shape n.view o.view → Stops shape m.view o.view
 stops_still shape m n o goes before after = elim after [
   | inl same ↦ subst (λ (h : PassValue). Stops shape m.view h.view) (sym same) before
   | inr stops ↦ stops_then shape m n o goes before stops

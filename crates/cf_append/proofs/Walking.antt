@@ -14,11 +14,11 @@ use Rattle.cf_table.specs.Effects.{HasStepped, HasSteppedUnseen, child_effect, l
 use Rattle.cf_table.proofs.Mays.{the_book}
 use Rattle.cf_table.specs.Moves.{SeenFirst}
 use Rattle.cf_append.specs.Appends.{Rests}
-use Rattle.cf_append.specs.Paths.{Strides, HasUsed, IsStuck, IsNodeOf, with_nodes}
+use Rattle.cf_append.specs.Paths.{KeepsSeen, HasUsed, LacksNode, IsNodeOf, with_nodes}
 use Rattle.cf_append.proofs.Appending.{rests_by}
 
 pub strides_by : (m n : PassValue) (q : Pass) → n ≡ record m { view = n.view } → n.view ≡ q → q.seen ≡ (m.view).seen → q.tails ≡ (m.view).tails → q.told ≡ (m.view).told
-    → ((s : Spot) (node : ℕ) → Knows m.view s node → Knows q s node) → ((m.view).look).count ≤ (q.look).count → Strides m n
+    → ((s : Spot) (node : ℕ) → Knows m.view s node → Knows q s node) → ((m.view).look).count ≤ (q.look).count → KeepsSeen m n
 strides_by m n q same is seen tails told knows looks = record {
   same = same;
   seen = ap (λ (p : Pass). p.seen) is ∙ seen;
@@ -28,10 +28,10 @@ strides_by m n q same is seen tails told knows looks = record {
   looks = (let e = ap (λ (p : Pass). (p.look).count) is in omega (arith, e, looks));
 }
 
-pub strides_none : (m : PassValue) → Strides m m
+pub strides_none : (m : PassValue) → KeepsSeen m m
 strides_none m = record { same = refl; seen = refl; tails = refl; told = refl; knows = λ s node h. h; looks = omega arith }
 
-pub strides_then : (m n o : PassValue) → Strides m n → Strides n o → Strides m o
+pub strides_then : (m n o : PassValue) → KeepsSeen m n → KeepsSeen n o → KeepsSeen m o
 strides_then m n o a b = record {
   same = b.same ∙ ap (λ (h : PassValue). record h { view = o.view }) a.same;
   seen = b.seen ∙ a.seen;
@@ -49,14 +49,14 @@ reaches_still p q l [] t keeps h = h
 reaches_still p q l (d ∷ []) t keeps h = h
 reaches_still p q l (d ∷ (e ∷ r)) t keeps h = (let k = keeps (spot l (e ∷ r)) h.0 (h.1, h.2) in (h.0, k.0, k.1, h.3, h.4))
 
-pub child_still : (sh : Layout) (m n : PassValue) (s : Spot) (t : Slot) → Strides m n → IsChild sh m.view s t → IsChild sh n.view s t
+pub child_still : (sh : Layout) (m n : PassValue) (s : Spot) (t : Slot) → KeepsSeen m n → IsChild sh m.view s t → IsChild sh n.view s t
 child_still sh m n s t went child = record { reaches = reaches_still m.view n.view s.lane s.path t went.knows child.reaches; real = child.real; inner = child.inner }
 
 pub holds_rested : (p : Pass) → Rests p → Holds p 0 (book_of p)
 holds_rested p rest = ap (λ (bs : List Book). slice_get bs 0) rest.one
 
 -- A child word was loaded.
-pub load_strides : (shape : ShapeValue) (m n : PassValue) (s : Spot) (t : Slot) (found : ℕ) → HasStepped shape (child_effect shape m.view s t) m found n → Strides m n
+pub load_strides : (shape : ShapeValue) (m n : PassValue) (s : Spot) (t : Slot) (found : ℕ) → HasStepped shape (child_effect shape m.view s t) m found n → KeepsSeen m n
 load_strides shape m n s t zero made =
     strides_by m n (pass_with_look (place (sizes_of shape) t) 0 m.view) made.same made.told.is refl refl refl (λ r k h. h) (omega arith)
 load_strides shape m n s t (suc k) made =
@@ -87,7 +87,7 @@ pub rests_same : (m n : PassValue) → Rests m.view → (n.view).books ≡ (m.vi
 rests_same m n rest same = rests_by n.view (book_of m.view) (same ∙ rest.one) rest.free
 
 pub load_stuck : (shape : ShapeValue) (m n : PassValue) (s : Spot) (t : Slot) (found : ℕ) → found ≡ 0 → HasStepped shape (child_effect shape m.view s t) m found n → IsChild (layout shape) m.view s t → Rests m.view → length (book_of n.view).used ≡ shape.nodes
-    → IsStuck shape (λ r. r ≡ s) m n
+    → LacksNode shape (λ r. r ≡ s) m n
 load_stuck shape m n s t (suc k) none made child rest full = absurd (cc none)
 load_stuck shape m n s t zero none made child rest full =
     let is = made.told.is in
@@ -129,7 +129,7 @@ pub load_first : (shape : ShapeValue) (m n : PassValue) (s : Spot) (t : Slot) (f
 load_first shape m n s t found made k b held = made.told.mine k b held
 
 -- A label was stored.
-pub label_strides : (shape : ShapeValue) (m n : PassValue) (node value : ℕ) → HasSteppedUnseen shape (label_effect m.view node value) m n → Strides m n
+pub label_strides : (shape : ShapeValue) (m n : PassValue) (node value : ℕ) → HasSteppedUnseen shape (label_effect m.view node value) m n → KeepsSeen m n
 label_strides shape m n node value stored =
     strides_by m n (pass_with_book 0 (book_with_label value (book_of m.view)) m.view) stored.made.same stored.made.told.is refl refl refl (λ r k h. h) (omega arith)
 
@@ -138,7 +138,7 @@ label_books shape m n node value rest stored =
     ap (λ (p : Pass). p.books) stored.made.told.is ∙ ap (λ (bs : List Book). set bs 0 (book_with_label value (book_of m.view))) rest.one
 
 -- A link was tried.
-pub link_strides : (shape : ShapeValue) (m n : PassValue) (s : Spot) (t : Slot) (node found : ℕ) → HasStepped shape (link_effect m.view s t node) m found n → Strides m n
+pub link_strides : (shape : ShapeValue) (m n : PassValue) (s : Spot) (t : Slot) (node found : ℕ) → HasStepped shape (link_effect m.view s t node) m found n → KeepsSeen m n
 link_strides shape m n s t node zero made =
     strides_by m n (pass_with_book 0 (book_with_node s (book_of m.view)) (pass_with_node s node m.view)) made.same made.told.is refl refl refl (knows_more m.view s node) (omega arith)
 link_strides shape m n s t node (suc k) made =
@@ -208,7 +208,7 @@ pub rests_used : (On : Spot → Type 0) (m n : PassValue) → Rests m.view → H
 rests_used On m n rest used = rests_by n.view (with_nodes used.spots used.label (book_of m.view)) used.books rest.free
 
 -- Where no node was left.
-pub stuck_by : (shape : ShapeValue) (P Q : Spot → Type 0) (l m n : PassValue) → ((s : Spot) → P s → Q s) → Strides l m → IsStuck shape P m n → IsStuck shape Q l n
+pub stuck_by : (shape : ShapeValue) (P Q : Spot → Type 0) (l m n : PassValue) → ((s : Spot) → P s → Q s) → KeepsSeen l m → LacksNode shape P m n → LacksNode shape Q l n
 stuck_by shape P Q l m n more went a = record {
   full = a.full;
   apart = a.apart;
@@ -223,7 +223,7 @@ stuck_by shape P Q l m n more went a = record {
 }
 
 -- what is answered at last: where none was left, that is so since an earlier time too
-pub stuck_or : (shape : ShapeValue) (P Q : Spot → Type 0) (l m n : PassValue) (Good : ℕ → Type 0) (r : Option ℕ) → ((s : Spot) → P s → Q s) → Strides l m → MatchOption r (IsStuck shape P m n) Good → MatchOption r (IsStuck shape Q l n) Good
+pub stuck_or : (shape : ShapeValue) (P Q : Spot → Type 0) (l m n : PassValue) (Good : ℕ → Type 0) (r : Option ℕ) → ((s : Spot) → P s → Q s) → KeepsSeen l m → MatchOption r (LacksNode shape P m n) Good → MatchOption r (LacksNode shape Q l n) Good
 stuck_or shape P Q l m n Good None more went a = stuck_by shape P Q l m n more went a
 stuck_or shape P Q l m n Good (Some node) more went a = a
 

@@ -17,8 +17,8 @@ use Rattle.cf_table.specs.Values.{PassValue, book_of}
 use Rattle.cf_table.specs.Effects.{HasStepped, HasSteppedUnseen, take_effect, finish_effect}
 use Rattle.cf_table.proofs.Mays.{the_book}
 use Rattle.cf_table.specs.Moves.{SeenFirst}
-use Rattle.cf_append.specs.Appends.{GoesOn, Stops, Rests, HasMade, IsAppended, IsLate, with_own, flying, marked}
-use Rattle.cf_append.specs.Paths.{Strides, HasFilings, with_nodes, path_steps}
+use Rattle.cf_append.specs.Appends.{PassGoesOn, Stops, Rests, HasMade, IsAppended, IsLate, with_own, flying, with_mark}
+use Rattle.cf_append.specs.Paths.{KeepsSeen, HasFilings, with_nodes, path_steps}
 use Rattle.cf_append.specs.declared.paths.Filing.{Filing}
 use Rattle.cf_append.specs.Linking.{HasFilled, HasLinked, IsBookOf, lane_steps}
 use Rattle.cf_append.proofs.Appending.{began, rests_by}
@@ -28,7 +28,7 @@ use Rattle.cf_append.proofs.Walking.{strides_by, strides_then}
 use Rattle.cf_append.proofs.Pathing.{filings_still, path_steps_none, path_steps_more}
 use Rattle.cf_append.proofs.Cells.{filled_self, filled_then, linked_begin, linked_self, linked_then, closed_books, close_strides}
 
-pub goes_by : (m n : PassValue) → Strides m n → GoesOn m n
+pub goes_by : (m n : PassValue) → KeepsSeen m n → PassGoesOn m n
 goes_by m n went = record {
   same = went.same;
   longer = ap (λ (es : List Entry). take (length (m.view).seen) es) went.seen ∙ take-length (m.view).seen;
@@ -37,7 +37,7 @@ goes_by m n went = record {
   knows = went.knows;
 }
 
-flown_strides : (m n : PassValue) (o k : ℕ) (row : RowValue) → n ≡ flying o row k m → Strides m n
+flown_strides : (m n : PassValue) (o k : ℕ) (row : RowValue) → n ≡ flying o row k m → KeepsSeen m n
 flown_strides m n o k row is =
     let view = ap (λ (h : PassValue). h.view) is in
     strides_by m n (flying o row k m).view (is ∙ ap (λ (q : Pass). record m { view = q }) (sym view)) view refl refl refl (λ s node h. h) (omega arith)
@@ -48,7 +48,7 @@ pub record HasBegun (shape : ShapeValue) (row : RowValue) (p t f : PassValue) (o
   pub took : HasStepped shape (take_effect shape p.view row) p o t
   pub is : f ≡ flying o row (word_count shape.schema + 1) t
 
-pub begun_strides : (shape : ShapeValue) (row : RowValue) (p t f : PassValue) (o : ℕ) → HasBegun shape row p t f o → Strides p f
+pub begun_strides : (shape : ShapeValue) (row : RowValue) (p t f : PassValue) (o : ℕ) → HasBegun shape row p t f o → KeepsSeen p f
 begun_strides shape row p t f o B =
     strides_then p t f (flown_strides p t o 0 row (began shape p t o row B.room B.took)) (flown_strides t f o (word_count shape.schema + 1) row B.is)
 
@@ -98,7 +98,7 @@ begun_filings shape row p t f o filed k B has = filings_still shape row p f file
 -- the cells are stored
 pub record HasCells (shape : ShapeValue) (row : RowValue) (p t f c : PassValue) (o : ℕ) : Type 0 where
   pub begun : HasBegun shape row p t f o
-  pub strides : Strides f c
+  pub strides : KeepsSeen f c
   pub filled : HasFilled shape o row (word_count shape.schema + 1 + cell_count shape.lanes) f c
 
 pub cells_linked : (shape : ShapeValue) (row : RowValue) (p t f c : PassValue) (o : ℕ) → HasCells shape row p t f c o → HasLinked shape o row 0 p c
@@ -117,7 +117,7 @@ cells_writer shape row p t f c o C =
 -- all was linked, and the record is finished
 pub record HasEnded (shape : ShapeValue) (row : RowValue) (p t f c l d : PassValue) (o : ℕ) : Type 0 where
   pub cells : HasCells shape row p t f c o
-  pub strides : Strides c l
+  pub strides : KeepsSeen c l
   pub linked : HasLinked shape o row (length shape.lanes) c l
   pub finishes : HasSteppedUnseen shape (finish_effect shape l.view o) l d
 
@@ -127,7 +127,7 @@ all_linked shape row p t f c l o C L = linked_then shape o row 0 (length shape.l
 pub ended_books : (shape : ShapeValue) (row : RowValue) (p t f c l d : PassValue) (o : ℕ) → HasEnded shape row p t f c l d o → (d.view).books ≡ with_own o row (book_of p.view) ∷ []
 ended_books shape row p t f c l d o E = closed_books shape p l d o (length shape.lanes) row (all_linked shape row p t f c l o E.cells E.linked) E.finishes
 
-pub ended_strides : (shape : ShapeValue) (row : RowValue) (p t f c l d : PassValue) (o : ℕ) → HasEnded shape row p t f c l d o → Strides p d
+pub ended_strides : (shape : ShapeValue) (row : RowValue) (p t f c l d : PassValue) (o : ℕ) → HasEnded shape row p t f c l d o → KeepsSeen p d
 ended_strides shape row p t f c l d o E =
     strides_then p f d (begun_strides shape row p t f o E.cells.begun) (strides_then f c d E.cells.strides (strides_then c l d E.strides (close_strides shape l d o E.finishes)))
 
@@ -172,7 +172,7 @@ appended_stops shape row m p t f c l d z o P E stops =
     stops_since shape m.view d.view z.view (strides_then m p d P.strides (ended_strides shape row p t f c l d o E)).looks stops
 
 -- The ticket lay past the last place.
-late_books : (shape : ShapeValue) (p n : PassValue) (found : ℕ) (row : RowValue) → shape.capacity ≤ found → HasStepped shape (take_effect shape p.view row) p found n → (n.view).books ≡ marked (book_of p.view) ∷ []
+late_books : (shape : ShapeValue) (p n : PassValue) (found : ℕ) (row : RowValue) → shape.capacity ≤ found → HasStepped shape (take_effect shape p.view row) p found n → (n.view).books ≡ with_mark (book_of p.view) ∷ []
 late_books shape p n found row past made =
     let high : nat_lt found shape.capacity ≡ false = grind (arith, nat_tests) in
     let b = book_of p.view in
@@ -186,14 +186,14 @@ late shape row m p n found fresh P past made = record {
   found = found;
   past = past;
   took = made;
-  books = late_books shape p n found row past made ∙ ap (λ (b : Book). marked b ∷ []) (made_book shape row m p P);
+  books = late_books shape p n found row past made ∙ ap (λ (b : Book). with_mark b ∷ []) (made_book shape row m p P);
 }
 
-pub late_strides : (shape : ShapeValue) (p n : PassValue) (found : ℕ) (row : RowValue) → HasStepped shape (take_effect shape p.view row) p found n → Strides p n
+pub late_strides : (shape : ShapeValue) (p n : PassValue) (found : ℕ) (row : RowValue) → HasStepped shape (take_effect shape p.view row) p found n → KeepsSeen p n
 late_strides shape p n found row made = strides_by p n ((take_effect shape p.view row).after found []) made.same made.told.is refl refl refl (λ s k h. h) (omega arith)
 
 pub late_rests : (shape : ShapeValue) (row : RowValue) (m n : PassValue) → Rests m.view → IsLate shape row m n → Rests n.view
-late_rests shape row m n rest L = rests_by n.view (marked (with_nodes L.paths.used.spots L.paths.used.label (book_of m.view))) L.books rest.free
+late_rests shape row m n rest L = rests_by n.view (with_mark (with_nodes L.paths.used.spots L.paths.used.label (book_of m.view))) L.books rest.free
 
 pub took_first : (shape : ShapeValue) (p n : PassValue) (found : ℕ) (row : RowValue) → HasStepped shape (take_effect shape p.view row) p found n → SeenFirst n.view
 took_first shape p n found row made k b held = made.told.mine k b held

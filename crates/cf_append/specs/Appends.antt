@@ -5,21 +5,21 @@ use Rattle.std.specs.declared.result.Result.TheVariants.{Ok, Err}
 use Rattle.cf_row.specs.Row.{RowValue}
 use Rattle.cf_shape.specs.Lanes.{ShapeValue}
 use Rattle.cf_shape.specs.Places.{place_of}
-use Rattle.cf_shape.specs.Places.Word.{done}
+use Rattle.cf_shape.specs.Places.WordName.{done}
 use Rattle.cf_words.specs.Words.{Spot}
 use Rattle.cf_law.specs.Passes.{Own, Book, Pass}
 use Rattle.cf_law.specs.Steps.{Holds, Knows}
 use Rattle.cf_table.specs.Values.{PassValue, book_of}
 use Rattle.cf_table.specs.Effects.{HasStepped, take_effect}
 use Rattle.cf_table.specs.Moves.{Begins}
-use Rattle.cf_append.specs.Paths.{Strides, HasUsed, IsOnPath, IsStuck, HasLeaves, with_nodes}
+use Rattle.cf_append.specs.Paths.{KeepsSeen, HasUsed, IsOnPath, LacksNode, HasLeaves, with_nodes}
 use Rattle.cf_append.specs.declared.appends.AppendFault.{AppendFault}
 use Rattle.cf_append.specs.declared.appends.AppendFault.TheVariants.{Full, NodesFull}
 use Rattle.cf_append.specs.declared.settles.Settled.{Settled}
 use Rattle.cf_append.specs.declared.settles.Settled.TheVariants.{Covered, Behind}
 
 -- the pass is the same one, it has seen no less, no ask is noted, and it knows each node that it knew
-pub record GoesOn (before after : PassValue) : Type 0 where
+pub record PassGoesOn (before after : PassValue) : Type 0 where
   pub same : after ≡ record before { view = after.view }
   pub longer : Begins (before.view).seen (after.view).seen
   pub tails : (after.view).tails ≡ (before.view).tails
@@ -61,12 +61,12 @@ abbrev pub with_own : ℕ → RowValue → Book → Book
 with_own o row b = record b { mine = b.mine ++ record { offset = o; row = row } ∷ []; flight = None }
 
 -- the book marked: a ticket of it lay past the last place
-abbrev pub marked : Book → Book
-marked b = record b { over = true }
+abbrev pub with_mark : Book → Book
+with_mark b = record b { over = true }
 
 -- The paths of the row are whole: nodes were used on them alone, and the leaf in each lane that selects the row is known.
 pub record HasMade (shape : ShapeValue) (row : RowValue) (before after : PassValue) : Type 0 where
-  pub strides : Strides before after
+  pub strides : KeepsSeen before after
   pub used : HasUsed (IsOnPath shape row) before after
   pub leaves : List ℕ
   pub whole : HasLeaves shape row after.view leaves (length shape.lanes)
@@ -92,7 +92,7 @@ pub record IsLate (shape : ShapeValue) (row : RowValue) (m n : PassValue) : Type
   pub found : ℕ
   pub past : shape.capacity ≤ found
   pub took : HasStepped shape (take_effect shape before.view row) before found n
-  pub books : (n.view).books ≡ marked (with_nodes paths.used.spots paths.used.label (book_of m.view)) ∷ []
+  pub books : (n.view).books ≡ with_mark (with_nodes paths.used.spots paths.used.label (book_of m.view)) ∷ []
 
 -- the book was marked before, and all is as it was
 pub record IsOver (before after : PassValue) : Type 0 where
@@ -102,13 +102,13 @@ pub record IsOver (before after : PassValue) : Type 0 where
 -- no ticket was taken: the row's paths want a node, and all of the writer's are used
 pub record IsNodesFull (shape : ShapeValue) (row : RowValue) (before after : PassValue) : Type 0 where
   pub open_book : (book_of before.view).over ≡ false
-  pub strides : Strides before after
+  pub strides : KeepsSeen before after
   pub used : HasUsed (IsOnPath shape row) before after
-  pub stuck : IsStuck shape (IsOnPath shape row) before after
+  pub stuck : LacksNode shape (IsOnPath shape row) before after
 
 -- Full exactly where the book was marked, or is now that the ticket taken lay past the last place; NodesFull only where no
 -- node is left for one that the row's paths want.
-abbrev pub IsAnswered : ShapeValue → RowValue → PassValue → PassValue → Result ℕ AppendFault → Type 0
-IsAnswered shape row m n (Ok o) = IsAppended shape o row m n
-IsAnswered shape row m n (Err Full) = IsOver m n ⊎ IsLate shape row m n
-IsAnswered shape row m n (Err NodesFull) = IsNodesFull shape row m n
+abbrev pub HasAppendAnswer : ShapeValue → RowValue → PassValue → PassValue → Result ℕ AppendFault → Type 0
+HasAppendAnswer shape row m n (Ok o) = IsAppended shape o row m n
+HasAppendAnswer shape row m n (Err Full) = IsOver m n ⊎ IsLate shape row m n
+HasAppendAnswer shape row m n (Err NodesFull) = IsNodesFull shape row m n

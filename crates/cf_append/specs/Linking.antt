@@ -31,8 +31,8 @@ pub record IsNewest (sh : Layout) (spot : Spot) (mine : List Own) (o : ℕ) : Ty
   pub chain : mine_chain sh spot mine ≡ (own.offset, own.row) ∷ mine_chain sh spot (take place mine)
 
 -- what the lane measures of the records of a chain
-abbrev pub amounts : ShapeValue → ℕ → List (ℕ × RowValue) → List ℕ
-amounts shape lane c = map (λ (r : RowValue). measure_of shape lane r) (map (λ (x : ℕ × RowValue). x.1) c)
+abbrev pub amounts_in_chain : ShapeValue → ℕ → List (ℕ × RowValue) → List ℕ
+amounts_in_chain shape lane c = map (λ (r : RowValue). measure_of shape lane r) (map (λ (x : ℕ × RowValue). x.1) c)
 
 -- the words of a measured cell of the row, after this chain
 pub record IsCell (shape : ShapeValue) (lane : ℕ) (c : List (ℕ × RowValue)) (row : RowValue) (first sum ends : ℕ) : Type 0 where

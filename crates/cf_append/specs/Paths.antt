@@ -15,7 +15,7 @@ use Rattle.cf_append.specs.declared.paths.Filing.{Filing}
 use Rattle.cf_append.specs.declared.paths.Prefix.{Prefix}
 
 -- the pass is the same one, has seen as much, has noted no ask, knows each node that it knew, and looked no fewer times
-pub record Strides (before after : PassValue) : Type 0 where
+pub record KeepsSeen (before after : PassValue) : Type 0 where
   pub same : after ≡ record before { view = after.view }
   pub seen : (after.view).seen ≡ (before.view).seen
   pub tails : (after.view).tails ≡ (before.view).tails
@@ -64,7 +64,7 @@ pub record IsOnPath (shape : ShapeValue) (row : RowValue) (spot : Spot) : Type 0
 
 -- All nodes of the writer are used, for different spots; and the last look, which was made since m, found 0 at the child
 -- word of a spot that is On, for which none of these nodes is used.
-pub record IsStuck (shape : ShapeValue) (On : Spot → Type 0) (before after : PassValue) : Type 0 where
+pub record LacksNode (shape : ShapeValue) (On : Spot → Type 0) (before after : PassValue) : Type 0 where
   pub full : length (book_of after.view).used ≡ shape.nodes
   pub apart : (i j : ℕ) (s : Spot) → slice_get (book_of after.view).used i ≡ Some s → slice_get (book_of after.view).used j ≡ Some s → i ≡ j
   pub at : Spot

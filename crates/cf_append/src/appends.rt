@@ -5,7 +5,7 @@ ghost use Rattle.cf_row.specs.Words.{word_count as word_count_of, spelled};
 ghost use Rattle.cf_table.specs.Loads.{CountsLoads};
 ghost use Rattle.cf_table.specs.Values.{IsOf, book_of};
 ghost use Rattle.cf_table.specs.Moves.{HasAll, SeenFirst};
-ghost use Rattle.cf_append.specs.Appends.{GoesOn, Stops, Rests, IsAnswered, flying};
+ghost use Rattle.cf_append.specs.Appends.{PassGoesOn, Stops, Rests, HasAppendAnswer, flying};
 ghost use Rattle.cf_append.specs.Linking.{lane_steps};
 ghost use Rattle.cf_append.specs.Paths.{Remembers, KeepsLeaves};
 
@@ -93,9 +93,9 @@ pub fn append<L: Ledger>(
     requires of { IsOf pass.old log.now }
     requires fits { Fits log.now.shape.schema row.now }
     requires rest { Rests pass.old.view }
-    ensures goes_on { GoesOn pass.old pass.new }
+    ensures goes_on { PassGoesOn pass.old pass.new }
     ensures rest { Rests pass.new.view }
-    ensures answer { IsAnswered log.now.shape row.now pass.old pass.new result }
+    ensures answer { HasAppendAnswer log.now.shape row.now pass.old pass.new result }
     ensures begins { (((book_of pass.old.view).over ≡ false) ⊎ SeenFirst pass.old.view) → SeenFirst pass.new.view }
     ensures stops { IfOk result (λ _. Stops log.now.shape pass.old.view pass.new.view) }
     ensures alone { log.now.shape.writers ≡ 1 → IfOk result (λ _. HasAll pass.new.view) }
@@ -120,9 +120,9 @@ pub fn append_near<L: Ledger>(
     requires fits { Fits log.now.shape.schema row.now }
     requires rest { Rests pass.old.view }
     requires near { Remembers log.now.shape pass.old.view leaves.old }
-    ensures goes_on { GoesOn pass.old pass.new }
+    ensures goes_on { PassGoesOn pass.old pass.new }
     ensures rest { Rests pass.new.view }
-    ensures answer { IsAnswered log.now.shape row.now pass.old pass.new result }
+    ensures answer { HasAppendAnswer log.now.shape row.now pass.old pass.new result }
     ensures begins { (((book_of pass.old.view).over ≡ false) ⊎ SeenFirst pass.old.view) → SeenFirst pass.new.view }
     ensures stops { IfOk result (λ _. Stops log.now.shape pass.old.view pass.new.view) }
     ensures alone { log.now.shape.writers ≡ 1 → IfOk result (λ _. HasAll pass.new.view) }
@@ -163,9 +163,9 @@ pub fn append_wait<R: Wait, L: Ledger>(
     requires of { IsOf pass.old log.now }
     requires fits { Fits log.now.shape.schema row.now }
     requires rest { Rests pass.old.view }
-    ensures goes_on { GoesOn pass.old pass.new }
+    ensures goes_on { PassGoesOn pass.old pass.new }
     ensures rest { Rests pass.new.view }
-    ensures answer { IsAnswered log.now.shape row.now pass.old pass.new result }
+    ensures answer { HasAppendAnswer log.now.shape row.now pass.old pass.new result }
     ensures begins { (((book_of pass.old.view).over ≡ false) ⊎ SeenFirst pass.old.view) → SeenFirst pass.new.view }
     ensures stops { IfOk result (λ _. Stops log.now.shape pass.old.view pass.new.view) }
     ensures alone { log.now.shape.writers ≡ 1 → IfOk result (λ _. HasAll pass.new.view) }

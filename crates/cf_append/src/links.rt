@@ -2,11 +2,11 @@
 ghost use Rattle.std.specs.Prelude.{ℕ, ◌≡◌, ◌+◌, ◌*◌, ◌%◌, ◌<◌, ◌≤◌, List, ◌∷◌, [], suc, true, length};
 ghost use Rattle.cf_row.specs.Row.{Fits};
 ghost use Rattle.cf_row.specs.Words.{word_count as word_count_of};
-ghost use Rattle.cf_shape.specs.Lanes.{lane_at, measure_of};
+ghost use Rattle.cf_shape.specs.Lanes.{measure_of};
 ghost use Rattle.cf_shape.specs.Nodes.{levels_of};
 ghost use Rattle.cf_fold.specs.Quads.{quad_of};
-ghost use Rattle.cf_shape.specs.Uses.{cell_count, cell_words, is_measured};
-ghost use Rattle.cf_words.specs.Words.{Spot, spot, top};
+ghost use Rattle.cf_shape.specs.Uses.{cell_count, is_measured};
+ghost use Rattle.cf_words.specs.Words.{Spot, spot, link_to_newest};
 ghost use Rattle.cf_law.specs.Steps.{mine_chain};
 ghost use Rattle.cf_law.specs.Steps.Act.{store_head as stores_head};
 ghost use Rattle.cf_law.specs.Readers.{own_top};
@@ -14,13 +14,13 @@ ghost use Rattle.cf_law.specs.Shapes.{layout as layout_of, path_in};
 ghost use Rattle.cf_table.specs.Loads.{CountsLoads};
 ghost use Rattle.cf_table.specs.Values.{IsOf, book_of};
 ghost use Rattle.cf_table.specs.Effects.{IsLawfulStep, HasSteppedUnseen, head_effect};
-ghost use Rattle.cf_append.specs.Paths.{Strides, IsNodeOf, IsFiledIn, HasFilings};
-ghost use Rattle.cf_append.specs.Linking.{HasFilled, HasLinked, IsBookOf, IsNewest, IsCell, amounts, key_path, leaf_chain, cell_from};
+ghost use Rattle.cf_append.specs.Paths.{KeepsSeen, IsNodeOf, IsFiledIn, HasFilings};
+ghost use Rattle.cf_append.specs.Linking.{HasFilled, HasLinked, IsBookOf, IsNewest, IsCell, amounts_in_chain, key_path, leaf_chain, cell_from};
 
 use crate::paths::Filing;
 use cf_fold::Quad;
 use cf_row::{Row, word_count};
-use cf_shape::{Shape, measure};
+use cf_shape::{cell_size, measure, measures};
 use cf_table::{MultiLog, Steps, WriterPass};
 use std::sync::ledger::Ledger;
 
@@ -40,7 +40,7 @@ fn own_head<L: Ledger>(
     requires leaf { IsNodeOf log.now.shape pass.old.view at leaf }
     requires level { suc (length at.path) ≡ levels_of log.now.shape at.lane }
     ensures of { IsOf pass.new log.now }
-    ensures strides { Strides pass.old pass.new }
+    ensures strides { KeepsSeen pass.old pass.new }
     ensures books { pass.new.view.books ≡ pass.old.view.books }
     ensures head { result ≡ own_top (layout_of log.now.shape) (book_of pass.old.view) (spot at.lane (key % 16 ∷ at.path)) }
     ensures steps { steps.new ≡ steps.old + 1 }
@@ -48,22 +48,6 @@ fn own_head<L: Ledger>(
 {
     let writer = pass.writer();
     log.load_head(pass, leaf, (key % 16) as u8, writer, steps)
-}
-
-// Whether the lane measures something.
-fn measures(shape: &Shape, lane: u8) -> bool
-    requires { lane < length shape.now.lanes }
-    ensures { result ≡ is_measured shape.now lane }
-{
-    shape.lanes()[usize::from(lane)].measure.is_some()
-}
-
-// How many words the lane's cell has.
-fn cell_size(shape: &Shape, lane: u8) -> u8
-    requires { lane < length shape.now.lanes }
-    ensures { result ≡ cell_words (lane_at shape.now lane) }
-{
-    if measures(shape, lane) { 3 } else { 1 }
 }
 
 // The quad in the cell of an own record, which is the newest in a leaf. `_key` is for the proof.
@@ -82,9 +66,9 @@ fn cell_quad<L: Ledger>(
     requires lane { (lane < length log.now.shape.lanes) × (is_measured log.now.shape lane ≡ true) }
     requires newest { IsNewest (layout_of log.now.shape) (spot lane path) (book_of pass.old.view).mine offset }
     ensures of { IsOf pass.new log.now }
-    ensures strides { Strides pass.old pass.new }
+    ensures strides { KeepsSeen pass.old pass.new }
     ensures books { pass.new.view.books ≡ pass.old.view.books }
-    ensures quad { result ≡ quad_of (amounts log.now.shape lane (mine_chain (layout_of log.now.shape) (spot lane path) (book_of pass.old.view).mine)) }
+    ensures quad { result ≡ quad_of (amounts_in_chain log.now.shape lane (mine_chain (layout_of log.now.shape) (spot lane path) (book_of pass.old.view).mine)) }
     ensures steps { steps.new ≡ steps.old + 3 }
     ensures loads { CountsLoads pass.old pass.new steps.old steps.new }
 {
@@ -117,11 +101,11 @@ fn quad_with<L: Ledger>(
     requires book { IsBookOf log.now.shape (book_of pass.old.view) }
     requires lane { lane < length log.now.shape.lanes }
     requires measured { is_measured log.now.shape lane ≡ true }
-    requires previous { previous ≡ top (leaf_chain log.now.shape lane key (book_of pass.old.view)) }
+    requires previous { previous ≡ link_to_newest (leaf_chain log.now.shape lane key (book_of pass.old.view)) }
     ensures of { IsOf pass.new log.now }
-    ensures strides { Strides pass.old pass.new }
+    ensures strides { KeepsSeen pass.old pass.new }
     ensures books { pass.new.view.books ≡ pass.old.view.books }
-    ensures quad { result ≡ quad_of (measure_of log.now.shape lane row.now ∷ amounts log.now.shape lane (leaf_chain log.now.shape lane key (book_of pass.old.view))) }
+    ensures quad { result ≡ quad_of (measure_of log.now.shape lane row.now ∷ amounts_in_chain log.now.shape lane (leaf_chain log.now.shape lane key (book_of pass.old.view))) }
     ensures steps { steps.new ≤ steps.old + 3 }
     ensures loads { CountsLoads pass.old pass.new steps.old steps.new }
 {
@@ -152,7 +136,7 @@ fn store_three<L: Ledger>(
     requires filled { HasFilled log.now.shape offset _row.now (cell_from log.now.shape _leaf.0) pass.old pass.old }
     requires words { IsCell log.now.shape _leaf.0 (leaf_chain log.now.shape _leaf.0 _leaf.1 (book_of pass.old.view)) _row.now words.0 words.1 words.2 }
     ensures of { IsOf pass.new log.now }
-    ensures strides { Strides pass.old pass.new }
+    ensures strides { KeepsSeen pass.old pass.new }
     ensures filled { HasFilled log.now.shape offset _row.now (cell_from log.now.shape (_leaf.0 + 1)) pass.old pass.new }
     ensures steps { steps.new ≡ steps.old + 3 }
     ensures loads { CountsLoads pass.old pass.new steps.old steps.new }
@@ -184,7 +168,7 @@ fn store_version<L: Ledger>(
     requires filled { HasFilled log.now.shape offset row.now (cell_from log.now.shape lane) pass.old pass.old }
     requires filing { IsFiledIn log.now.shape row.now pass.old.view lane filing }
     ensures of { IsOf pass.new log.now }
-    ensures strides { Strides pass.old pass.new }
+    ensures strides { KeepsSeen pass.old pass.new }
     ensures filled { HasFilled log.now.shape offset row.now (cell_from log.now.shape (lane + 1)) pass.old pass.new }
     ensures next { result ≡ cell_from log.now.shape (lane + 1) }
     ensures steps { steps.new ≤ steps.old + 7 }
@@ -223,7 +207,7 @@ pub(crate) fn fill_cells<L: Ledger>(
     requires filled { HasFilled log.now.shape offset row.now (word_count_of log.now.shape.schema + 1) pass.old pass.old }
     requires filed { HasFilings log.now.shape row.now pass.old.view filed.now (length log.now.shape.lanes) }
     ensures of { IsOf pass.new log.now }
-    ensures strides { Strides pass.old pass.new }
+    ensures strides { KeepsSeen pass.old pass.new }
     ensures filled { HasFilled log.now.shape offset row.now (word_count_of log.now.shape.schema + 1 + cell_count log.now.shape.lanes) pass.old pass.new }
     ensures steps { steps.new ≤ steps.old + 7 * length log.now.shape.lanes }
     ensures loads { CountsLoads pass.old pass.new steps.old steps.new }
@@ -282,7 +266,7 @@ fn link_in<L: Ledger>(
     requires linked { HasLinked log.now.shape offset _row.now lane pass.old pass.old }
     requires filing { IsFiledIn log.now.shape _row.now pass.old.view lane filing }
     ensures of { IsOf pass.new log.now }
-    ensures strides { Strides pass.old pass.new }
+    ensures strides { KeepsSeen pass.old pass.new }
     ensures linked { HasLinked log.now.shape offset _row.now (lane + 1) pass.old pass.new }
     ensures steps { steps.new ≤ steps.old + 1 }
     ensures loads { CountsLoads pass.old pass.new steps.old steps.new }
@@ -308,7 +292,7 @@ pub(crate) fn link_all<L: Ledger>(
     requires linked { HasLinked log.now.shape offset row.now 0 pass.old pass.old }
     requires filed { HasFilings log.now.shape row.now pass.old.view filed.now (length log.now.shape.lanes) }
     ensures of { IsOf pass.new log.now }
-    ensures strides { Strides pass.old pass.new }
+    ensures strides { KeepsSeen pass.old pass.new }
     ensures linked { HasLinked log.now.shape offset row.now (length log.now.shape.lanes) pass.old pass.new }
     ensures steps { steps.new ≤ steps.old + length log.now.shape.lanes }
     ensures loads { CountsLoads pass.old pass.new steps.old steps.new }

@@ -11,7 +11,7 @@ ghost use Rattle.cf_table.specs.Loads.{CountsLoads};
 ghost use Rattle.cf_table.specs.Values.{IsOf};
 ghost use Rattle.cf_table.specs.Moves.{SeenFirst};
 ghost use Rattle.cf_append.specs.Appends.{Rests};
-ghost use Rattle.cf_append.specs.Paths.{Strides, HasUsed, IsPrefix, IsAlong, IsOnPath, IsStuck, IsNodeOf, IsFiled, HasFilings, Remembers, KeepsLeaf, KeepsLeaves, spot_of, spot_before, path_steps};
+ghost use Rattle.cf_append.specs.Paths.{KeepsSeen, HasUsed, IsPrefix, IsAlong, IsOnPath, LacksNode, IsNodeOf, IsFiled, HasFilings, Remembers, KeepsLeaf, KeepsLeaves, spot_of, spot_before, path_steps};
 
 use crate::leaves::Leaves;
 use cf_row::Row;
@@ -52,9 +52,9 @@ fn take_child<L: Ledger>(
     requires level { level ≡ length to.0.path }
     ensures of { IsOf pass.new log.now }
     ensures rest { Rests pass.new.view }
-    ensures strides { Strides pass.old pass.new }
+    ensures strides { KeepsSeen pass.old pass.new }
     ensures used { HasUsed (λ s. s ≡ to.0) pass.old pass.new }
-    ensures answer { MatchOption result (IsStuck log.now.shape (λ s. s ≡ to.0) pass.old pass.new) (IsNodeOf log.now.shape pass.new.view to.0) }
+    ensures answer { MatchOption result (LacksNode log.now.shape (λ s. s ≡ to.0) pass.old pass.new) (IsNodeOf log.now.shape pass.new.view to.0) }
     ensures begins { IfNone result (SeenFirst pass.new.view) }
     ensures steps { steps.new ≤ steps.old + 3 }
     ensures loads { CountsLoads pass.old pass.new steps.old steps.new }
@@ -88,9 +88,9 @@ fn first_node<L: Ledger>(
     requires one { at.level ≡ 1 }
     ensures of { IsOf pass.new log.now }
     ensures rest { Rests pass.new.view }
-    ensures strides { Strides pass.old pass.new }
+    ensures strides { KeepsSeen pass.old pass.new }
     ensures used { HasUsed (λ s. s ≡ spot_of at) pass.old pass.new }
-    ensures answer { MatchOption result (IsStuck log.now.shape (λ s. s ≡ spot_of at) pass.old pass.new) (IsNodeOf log.now.shape pass.new.view (spot_of at)) }
+    ensures answer { MatchOption result (LacksNode log.now.shape (λ s. s ≡ spot_of at) pass.old pass.new) (IsNodeOf log.now.shape pass.new.view (spot_of at)) }
     ensures begins { IfNone result (SeenFirst pass.new.view) }
     ensures steps { steps.new ≤ steps.old + 3 }
     ensures loads { CountsLoads pass.old pass.new steps.old steps.new }
@@ -114,9 +114,9 @@ fn next_node<L: Ledger>(
     requires above { IsNodeOf log.now.shape pass.old.view (spot_before at) above }
     ensures of { IsOf pass.new log.now }
     ensures rest { Rests pass.new.view }
-    ensures strides { Strides pass.old pass.new }
+    ensures strides { KeepsSeen pass.old pass.new }
     ensures used { HasUsed (λ s. s ≡ spot_of at) pass.old pass.new }
-    ensures answer { MatchOption result (IsStuck log.now.shape (λ s. s ≡ spot_of at) pass.old pass.new) (IsNodeOf log.now.shape pass.new.view (spot_of at)) }
+    ensures answer { MatchOption result (LacksNode log.now.shape (λ s. s ≡ spot_of at) pass.old pass.new) (IsNodeOf log.now.shape pass.new.view (spot_of at)) }
     ensures begins { IfNone result (SeenFirst pass.new.view) }
     ensures steps { steps.new ≤ steps.old + 3 }
     ensures loads { CountsLoads pass.old pass.new steps.old steps.new }
@@ -137,9 +137,9 @@ fn make_node<L: Ledger>(
     requires prefix { IsPrefix log.now.shape at }
     ensures of { IsOf pass.new log.now }
     ensures rest { Rests pass.new.view }
-    ensures strides { Strides pass.old pass.new }
+    ensures strides { KeepsSeen pass.old pass.new }
     ensures used { HasUsed (IsAlong at) pass.old pass.new }
-    ensures answer { MatchOption result (IsStuck log.now.shape (IsAlong at) pass.old pass.new) (IsNodeOf log.now.shape pass.new.view (spot_of at)) }
+    ensures answer { MatchOption result (LacksNode log.now.shape (IsAlong at) pass.old pass.new) (IsNodeOf log.now.shape pass.new.view (spot_of at)) }
     ensures begins { IfNone result (SeenFirst pass.new.view) }
     ensures steps { steps.new ≤ steps.old + 3 * at.level }
     ensures loads { CountsLoads pass.old pass.new steps.old steps.new }
@@ -176,9 +176,9 @@ fn make_path<L: Ledger>(
     requires near { Remembers log.now.shape pass.old.view leaves.old }
     ensures of { IsOf pass.new log.now }
     ensures rest { Rests pass.new.view }
-    ensures strides { Strides pass.old pass.new }
+    ensures strides { KeepsSeen pass.old pass.new }
     ensures used { HasUsed (IsOnPath log.now.shape row.now) pass.old pass.new }
-    ensures answer { MatchOption result (IsStuck log.now.shape (IsOnPath log.now.shape row.now) pass.old pass.new) (IsFiled log.now.shape row.now pass.new.view lane) }
+    ensures answer { MatchOption result (LacksNode log.now.shape (IsOnPath log.now.shape row.now) pass.old pass.new) (IsFiled log.now.shape row.now pass.new.view lane) }
     ensures near { Remembers log.now.shape pass.new.view leaves.new }
     ensures begins { IfNone result (SeenFirst pass.new.view) }
     ensures kept { IfSome result (λ _. KeepsLeaf log.now.shape row.now leaves.new lane) }
@@ -220,9 +220,9 @@ pub(crate) fn make_paths<L: Ledger>(
     requires near { Remembers log.now.shape pass.old.view leaves.old }
     ensures of { IsOf pass.new log.now }
     ensures rest { Rests pass.new.view }
-    ensures strides { Strides pass.old pass.new }
+    ensures strides { KeepsSeen pass.old pass.new }
     ensures used { HasUsed (IsOnPath log.now.shape row.now) pass.old pass.new }
-    ensures answer { MatchOption result (IsStuck log.now.shape (IsOnPath log.now.shape row.now) pass.old pass.new) (λ filed. HasFilings log.now.shape row.now pass.new.view filed (length log.now.shape.lanes)) }
+    ensures answer { MatchOption result (LacksNode log.now.shape (IsOnPath log.now.shape row.now) pass.old pass.new) (λ filed. HasFilings log.now.shape row.now pass.new.view filed (length log.now.shape.lanes)) }
     ensures near { Remembers log.now.shape pass.new.view leaves.new }
     ensures begins { IfNone result (SeenFirst pass.new.view) }
     ensures kept { IfSome result (λ _. KeepsLeaves log.now.shape row.now leaves.new (length log.now.shape.lanes)) }

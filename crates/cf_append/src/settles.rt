@@ -5,7 +5,7 @@ ghost use Rattle.cf_table.specs.Values.{IsOf};
 ghost use Rattle.cf_law.specs.Readers.{IsBounded};
 ghost use Rattle.cf_law.specs.Shapes.{layout};
 ghost use Rattle.cf_table.specs.Moves.{HasAll, HasPaths, SeenFirst, AreFit, MarkedIsFull};
-ghost use Rattle.cf_append.specs.Appends.{GoesOn, Stops, Rests, IsSettledTo};
+ghost use Rattle.cf_append.specs.Appends.{PassGoesOn, Stops, Rests, IsSettledTo};
 
 use cf_table::{MultiLog, Pass, Steps, WriterPass};
 use std::sync::Wait;
@@ -23,7 +23,7 @@ pub enum Settled {
 // last look shows it.
 pub(crate) fn move_tail<L: Ledger>(log: &MultiLog, pass: &mut WriterPass, steps: &mut Steps<L>)
     requires of { IsOf pass.old log.now }
-    ensures goes_on { GoesOn pass.old pass.new }
+    ensures goes_on { PassGoesOn pass.old pass.new }
     ensures books { pass.new.view.books ≡ pass.old.view.books }
     ensures known { pass.new.view.known ≡ pass.old.view.known }
     ensures stops { Stops log.now.shape pass.old.view pass.new.view }
@@ -59,7 +59,7 @@ pub fn settle<L: Ledger>(
 ) -> Settled
     requires of { IsOf pass.old log.now }
     requires place { offset < log.now.shape.capacity }
-    ensures goes_on { GoesOn pass.old pass.new }
+    ensures goes_on { PassGoesOn pass.old pass.new }
     ensures books { pass.new.view.books ≡ pass.old.view.books }
     ensures answer { IsSettledTo log.now.shape offset pass.old.view pass.new.view result }
     ensures stops { Stops log.now.shape pass.old.view pass.new.view }
@@ -90,7 +90,7 @@ pub(crate) fn wait_for<R: Wait, L: Ledger>(
     steps: &mut Steps<L>,
 )
     requires of { IsOf pass.old log.now }
-    ensures goes_on { GoesOn pass.old pass.new }
+    ensures goes_on { PassGoesOn pass.old pass.new }
     ensures books { pass.new.view.books ≡ pass.old.view.books }
     ensures covered { offset < length pass.new.view.seen }
     ensures stops { (pass.new ≡ pass.old) ⊎ Stops log.now.shape pass.old.view pass.new.view }

@@ -6,14 +6,14 @@ use Rattle.cf_row.specs.Row.{RowValue}
 use Rattle.cf_shape.specs.Lanes.{ShapeValue}
 use Rattle.cf_law.specs.Passes.{Book, Pass}
 use Rattle.cf_law.specs.Steps.{Holds, IsAtRest}
-use Rattle.cf_law.specs.Events.{table, no_book}
+use Rattle.cf_law.specs.Events.{tabulated, no_book}
 use Rattle.cf_words.specs.Words.{Layout}
 use Rattle.cf_law.specs.Readers.{AtHome}
 use Rattle.cf_law.proofs.Fronts.{table_length, table_at}
 use Rattle.cf_table.specs.Values.{PassValue, LogValue, IsOf, book_of}
 use Rattle.cf_table.specs.Rule.{root_pass}
 use Rattle.cf_table.specs.Moves.{AreDealt, AreAll, OnlyLooked}
-use Rattle.cf_append.specs.Appends.{GoesOn, Rests, IsAnswered}
+use Rattle.cf_append.specs.Appends.{PassGoesOn, Rests, HasAppendAnswer}
 use Rattle.cf_append.specs.declared.appends.AppendFault.{AppendFault}
 use Rattle.cf_append.proofs.Appending.{rests_by, rests_all}
 use Rattle.cf_append.proofs.Answering.{of_then, rests_same, same_writer}
@@ -25,8 +25,8 @@ dealt_at : (log : LogValue) (m n : PassValue) (hs : List PassValue) (k : ℕ) (h
 dealt_at log m n hs k h is dealt at =
     let d = dealt.each k h at in
     let w = (log.shape).writers in
-    let there : slice_get (table no_book w) k ≡ Some d.book = ap (λ (p : Pass). slice_get p.books k) (sym is) ∙ d.at in
-    let lt : k < w = omega (arith, slice_get_within (table no_book w) k d.book there, table_length no_book w) in
+    let there : slice_get (tabulated no_book w) k ≡ Some d.book = ap (λ (p : Pass). slice_get p.books k) (sym is) ∙ d.at in
+    let lt : k < w = omega (arith, slice_get_within (tabulated no_book w) k d.book there, table_length no_book w) in
     let e : no_book k ≡ d.book = (let f : Some (no_book k) ≡ Some d.book = sym (table_at no_book w k lt) ∙ there in cc f) in
     let one : (h.view).books ≡ d.book ∷ [] = ap (λ (p : Pass). p.books) d.view in
     record {
@@ -60,7 +60,7 @@ same_books log w m n is same books =
       writer_is = ap (λ (bs : List Book). (get_or bs 0 (no_book 0)).writer) books ∙ is.writer_is;
     }
 
-pub appended : (log : LogValue) (w : ℕ) (row : RowValue) (m n : PassValue) (r : Result ℕ AppendFault) → IsWriters log w m → GoesOn m n → Rests n.view → IsAnswered log.shape row m n r → IsWriters log w n
+pub appended : (log : LogValue) (w : ℕ) (row : RowValue) (m n : PassValue) (r : Result ℕ AppendFault) → IsWriters log w m → PassGoesOn m n → Rests n.view → HasAppendAnswer log.shape row m n r → IsWriters log w n
 appended log w row m n r is goes rest done = record { of = of_then log m n is.of goes.same; rest = rest; writer_is = same_writer log.shape row m n r done ∙ is.writer_is }
 
 looked_books : (log : LogValue) (w : ℕ) (m n : PassValue) → IsWriters log w m → OnlyLooked m n → IsWriters log w n

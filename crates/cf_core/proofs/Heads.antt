@@ -2,7 +2,7 @@
 use Rattle.std.proofs.Common.{◌≡◌, ℕ, ◌+◌, ◌<◌, suc, List, ◌∷◌, set, Some, false, refl, arith, ap, sym, ◌∙◌, subst}
 use Rattle.cf_row.specs.Row.{RowValue}
 use Rattle.cf_shape.specs.Places.{place_of, head_slot}
-use Rattle.cf_shape.specs.Places.Word.{head as head_word}
+use Rattle.cf_shape.specs.Places.WordName.{head as head_word}
 use Rattle.cf_words.specs.Words.{Spot, spot, has}
 use Rattle.cf_words.specs.Law.{IsWhole}
 use Rattle.cf_law.specs.Passes.{Book, Flight, Pass}

@@ -9,7 +9,7 @@ use Rattle.cf_shape.specs.declared.lane.Key.TheVariants as keys
 use Rattle.cf_shape.specs.Lanes.{ShapeValue, lane_at}
 use Rattle.cf_shape.specs.Nodes.{levels_of, nibbles_of_kind, nibbles_of_attr, nibbles_of_key}
 use Rattle.cf_shape.specs.Places.{Slot, place, place_of}
-use Rattle.cf_shape.specs.Places.Word.{label as label_word}
+use Rattle.cf_shape.specs.Places.WordName.{label as label_word}
 use Rattle.cf_shape.specs.Places.Slot.{body}
 use Rattle.cf_words.specs.Words.{Spot}
 use Rattle.cf_law.specs.Passes.{Book, Pass}

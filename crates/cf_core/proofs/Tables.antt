@@ -14,7 +14,7 @@ use Rattle.cf_law.specs.Steps.{pass_that_sees, pass_with_tail}
 use Rattle.cf_law.specs.Steps.Act.{load_tail, advance}
 use Rattle.cf_law.specs.Steps.Step.{loads_tail, advances}
 use Rattle.cf_law.specs.Lawful.{World, DoneAt}
-use Rattle.cf_law.specs.Events.{table, IsEvent, word_at, plain_at, entries_spelled}
+use Rattle.cf_law.specs.Events.{tabulated, IsEvent, word_at, plain_at, entries_spelled}
 use Rattle.cf_law.specs.Events.WorldEvent.{acts}
 use Rattle.cf_law.specs.Shapes.{layout}
 use Rattle.cf_law.proofs.Shapes.{layout_law}
@@ -26,26 +26,26 @@ use Rattle.cf_core.specs.Worlds.{WorldValue, IsLawfulWorld, IsLivePass, AreReada
 use Rattle.cf_core.proofs.Making.{does_step, word_there, live_one}
 use Rattle.cf_core.proofs.Inverse.{acts_of, advances_of}
 
-pub table_long : {A : Type 0} (f : ℕ → A) (n : ℕ) → length (table f n) ≡ n
+pub table_long : {A : Type 0} (f : ℕ → A) (n : ℕ) → length (tabulated f n) ≡ n
 table_long f zero = ap length (table_none f)
-table_long f (suc n) = omega (arith, ap length (table_more f n), length-append (table f n) (f n ∷ []), table_long f n)
+table_long f (suc n) = omega (arith, ap length (table_more f n), length-append (tabulated f n) (f n ∷ []), table_long f n)
 
-pub table_get : {A : Type 0} (f : ℕ → A) (n i : ℕ) (d : A) → i < n → get_or (table f n) i d ≡ f i
+pub table_get : {A : Type 0} (f : ℕ → A) (n i : ℕ) (d : A) → i < n → get_or (tabulated f n) i d ≡ f i
 table_get f zero i d lt = absurd (omega arith)
 table_get {A = A} f (suc n) i d lt = ap (λ (xs : List A). get_or xs i d) (table_more f n) ∙ elim (cases_eq i n) [
-  | inl e ↦ get_or_push (table f n) (f n) d i (table_long f n ∙ sym e) ∙ ap f (sym e)
-  | inr ne ↦ get_or_append_left (table f n) (f n ∷ []) d i (omega (arith, table_long f n)) ∙ table_get f n i d (omega arith)
+  | inl e ↦ get_or_push (tabulated f n) (f n) d i (table_long f n ∙ sym e) ∙ ap f (sym e)
+  | inr ne ↦ get_or_append_left (tabulated f n) (f n ∷ []) d i (omega (arith, table_long f n)) ∙ table_get f n i d (omega arith)
 ]
 
-pub table_same : {A : Type 0} (f g : ℕ → A) (n : ℕ) → ((i : ℕ) → i < n → f i ≡ g i) → table f n ≡ table g n
+pub table_same : {A : Type 0} (f g : ℕ → A) (n : ℕ) → ((i : ℕ) → i < n → f i ≡ g i) → tabulated f n ≡ tabulated g n
 table_same f g zero h = table_none f ∙ sym (table_none g)
 table_same {A = A} f g (suc n) h = table_more f n ∙ (ap₂ (λ (xs : List A) (x : A). xs ++ x ∷ []) (table_same f g n (λ i lt. h i (omega arith))) (h n (omega arith)) ∙ sym (table_more g n))
 
-pub table_take : {A : Type 0} (f : ℕ → A) (n m : ℕ) → n ≤ m → take n (table f m) ≡ table f n
-table_take f n zero le = take_all n (table f 0) (omega (arith, table_long f 0)) ∙ ap (table f) (let e : zero ≡ n = omega arith in e)
+pub table_take : {A : Type 0} (f : ℕ → A) (n m : ℕ) → n ≤ m → take n (tabulated f m) ≡ tabulated f n
+table_take f n zero le = take_all n (tabulated f 0) (omega (arith, table_long f 0)) ∙ ap (tabulated f) (let e : zero ≡ n = omega arith in e)
 table_take {A = A} f n (suc m) le = elim (cases_eq n (suc m)) [
-  | inl e ↦ take_all n (table f (suc m)) (omega (arith, table_long f (suc m))) ∙ ap (table f) (sym e)
-  | inr ne ↦ ap (take n) (table_more f m) ∙ (take-append-le n (table f m) (f m ∷ []) (omega (arith, table_long f m)) ∙ table_take f n m (omega arith))
+  | inl e ↦ take_all n (tabulated f (suc m)) (omega (arith, table_long f (suc m))) ∙ ap (tabulated f) (sym e)
+  | inr ne ↦ ap (take n) (table_more f m) ∙ (take-append-le n (tabulated f m) (f m ∷ []) (omega (arith, table_long f m)) ∙ table_take f n m (omega arith))
 ]
 
 -- the words of an entry stand together
@@ -53,12 +53,12 @@ place_cell : (sh : Layout) (o i : ℕ) → place sh.sizes (cell o i) ≡ 2 + (o 
 unfolding place
 place_cell sh o i = refl
 
-pub plain_range : (sh : Layout) (words : List ℕ) (o n : ℕ) → place sh.sizes (cell o 0) + n ≤ length words → table (λ i. word_at sh words (cell o i)) n ≡ take n (drop (place sh.sizes (cell o 0)) words)
+pub plain_range : (sh : Layout) (words : List ℕ) (o n : ℕ) → place sh.sizes (cell o 0) + n ≤ length words → tabulated (λ i. word_at sh words (cell o i)) n ≡ take n (drop (place sh.sizes (cell o 0)) words)
 plain_range sh words o n le =
     let f = λ (i : ℕ). word_at sh words (cell o i) in
     let start = place sh.sizes (cell o 0) in
     let long : length (take n (drop start words)) ≡ n = Rattle.std.proofs.lemmas.List.length-take-le n (drop start words) (omega (arith, Rattle.std.proofs.Common.length-drop start words)) in
-    ext_get_or 0 (table f n) (take n (drop start words)) (table_long f n ∙ sym long)
+    ext_get_or 0 (tabulated f n) (take n (drop start words)) (table_long f n ∙ sym long)
     (λ i lt. let small : i < n = omega (arith, table_long f n) in
     table_get f n i 0 small ∙ sym (get_or-take n (drop start words) i 0 small ∙ (get_or-drop start words i 0 ∙ ap (λ (k : ℕ). get_or words k 0) (let e : start + i ≡ place sh.sizes (cell o i) = omega (arith, place_cell sh o 0, place_cell sh o i) in e))))
 

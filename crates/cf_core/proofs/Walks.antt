@@ -3,7 +3,7 @@ use Rattle.std.proofs.Common.{◌≡◌, ℕ, ◌+◌, ◌<◌, suc, ◌∷◌, 
 use Rattle.std.proofs.lemmas.Nat.{mul-add-lt}
 use Rattle.cf_row.specs.Words.{word_count}
 use Rattle.cf_shape.specs.Places.{place, IsReal, head_slot, place_of}
-use Rattle.cf_shape.specs.Places.Word.{head as head_word, version as version_word}
+use Rattle.cf_shape.specs.Places.WordName.{head as head_word, version as version_word}
 use Rattle.cf_shape.specs.Places.Slot.{cell}
 use Rattle.cf_shape.specs.Uses.{ticket_words, cells_before}
 use Rattle.cf_shape.proofs.Used.{version_at, version_is, before_fits}

@@ -149,8 +149,8 @@ pub record AreOwn (shape : ShapeValue) (mine : List Own) : Type 0 where
   pub offset : (i : ℕ) (x : Own) → slice_get mine i ≡ Some x → x.offset < 65536
 
 -- what the lane measures of the row and of the entries of a chain
-abbrev pub amounts : ShapeValue → ℕ → RowValue → List (ℕ × RowValue) → List ℕ
-amounts shape lane row chain = map (λ x. measure_of shape lane x) (row ∷ map (λ x. x.1) chain)
+abbrev pub amounts_with_row : ShapeValue → ℕ → RowValue → List (ℕ × RowValue) → List ℕ
+amounts_with_row shape lane row chain = map (λ x. measure_of shape lane x) (row ∷ map (λ x. x.1) chain)
 
 -- word j of a cell with that previous link and that quad
 abbrev pub cell_word_of : Bool → ℕ → QuadValue → ℕ → ℕ

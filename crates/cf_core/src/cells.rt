@@ -3,18 +3,18 @@ ghost use Rattle.std.specs.Prelude.{◌≡◌, ◌+◌, ◌<◌, ◌≤◌, ◌=
 ghost use Rattle.cf_fold.specs.Quads.{quad_of, IsQuad};
 ghost use Rattle.cf_row.specs.Row.{Fits};
 ghost use Rattle.cf_row.specs.Words.{spelled, word_count as word_total_of};
-ghost use Rattle.cf_shape.specs.Uses.{ticket_words, use_at, cell_words as cell_words_of, is_measured as is_measured_of};
-ghost use Rattle.cf_words.specs.Words.{spot as spot_of, has, same_path, top};
+ghost use Rattle.cf_shape.specs.Uses.{ticket_words, use_at, cell_words as cell_words_of};
+ghost use Rattle.cf_words.specs.Words.{spot as spot_of, has, same_path, link_to_newest};
 ghost use Rattle.cf_words.specs.Law.{IsWhole};
 ghost use Rattle.cf_law.specs.Nibbles.{nibbles};
 ghost use Rattle.cf_law.specs.Steps.{IsNext, mine_chain, own_word as own_word_of, own_lane_word};
 ghost use Rattle.cf_law.specs.Shapes.{layout, path_in};
-ghost use Rattle.cf_core.specs.Worlds.{HasCell, IsPlainUse, IsCellUse, IsPassed, ArePassed, draft, AllLinked, AreOwn, amounts, cell_word_of};
+ghost use Rattle.cf_core.specs.Worlds.{HasCell, IsPlainUse, IsCellUse, IsPassed, ArePassed, draft, AllLinked, AreOwn, amounts_with_row, cell_word_of};
 
 use cf_fold::Quad;
 use cf_pass::{OwnTicket, WriterBook};
 use cf_row::{Memory, Row, word_count, words_of};
-use cf_shape::{Lane, Shape, key, levels, measure, selects};
+use cf_shape::{Lane, Shape, key, levels, measure, measures, selects};
 use std::alloc::Global;
 
 // How many words the lane's cell has.
@@ -202,8 +202,8 @@ fn chained(
     requires exists { lane < length shape.now.lanes }
     requires fits { Fits shape.now.schema row.now }
     requires own { AreOwn shape.now mine.now }
-    ensures previous { IfOk result (λ r. r.0 ≡ top (mine_chain (layout shape.now) (spot_of lane path.now) mine.now)) }
-    ensures quad { IfOk result (λ r. r.1 ≡ quad_of (amounts shape.now lane row.now (mine_chain (layout shape.now) (spot_of lane path.now) mine.now))) }
+    ensures previous { IfOk result (λ r. r.0 ≡ link_to_newest (mine_chain (layout shape.now) (spot_of lane path.now) mine.now)) }
+    ensures quad { IfOk result (λ r. r.1 ≡ quad_of (amounts_with_row shape.now lane row.now (mine_chain (layout shape.now) (spot_of lane path.now) mine.now))) }
 {
     let mut previous = 0;
     let mut quad = Quad::EMPTY.add(measure(shape, lane, row));
@@ -216,16 +216,6 @@ fn chained(
         quad = quad.add(measure(shape, lane, ticket.row()));
     }
     Ok((previous, quad))
-}
-
-fn is_measured(shape: &Shape, lane: u8) -> bool
-    requires { lane < length shape.now.lanes }
-    ensures { result ≡ is_measured_of shape.now lane }
-{
-    match shape.lanes()[lane as usize].measure {
-        Some(_) => true,
-        None => false,
-    }
 }
 
 // Word j of a cell: the previous link and the count, the sum, and the least and greatest.
@@ -267,7 +257,7 @@ fn version(
         return Ok(0);
     };
     let (previous, quad) = chained(alloc, shape, book.mine(), row, lane, &path)?;
-    Ok(cell_word(is_measured(shape, lane), previous, quad, j))
+    Ok(cell_word(measures(shape, lane), previous, quad, j))
 }
 
 // Word i of the entry of the row and the writer.

@@ -7,7 +7,7 @@ use Rattle.std.proofs.lemmas.Bool.{cases_eq, cases_lt}
 use Rattle.std.proofs.lemmas.Option.{slice_get_within}
 use Rattle.cf_shape.specs.Places.{Slot, place}
 use Rattle.cf_shape.specs.Places.Slot.{tail, cell, body}
-use Rattle.cf_words.specs.Words.{Spot, Layout, Ticket, Stock, stock_of, Spells, has, stocks_with_label, stocks_with_node, stocks_with_mark, marked, free_of, ticket_with_word, ticket_with_head, ticket_with_done, fresh_ticket, full_word}
+use Rattle.cf_words.specs.Words.{Spot, Layout, Ticket, Stock, stock_of, Spells, has, stocks_with_label, stocks_with_node, stocks_with_mark, marked_books, free_of, ticket_with_word, ticket_with_head, ticket_with_done, fresh_ticket, full_word}
 use Rattle.cf_words.specs.Law.{LayoutLaw, HasLeaf, CanLink, CanHead, CanFill, Skips, IsWhole}
 use Rattle.cf_law.specs.Lawful.{Base, BaseLaw, IsFilledIn}
 use Rattle.cf_words.proofs.Nodes.{over_node_at, relabel_marked, use_marked, over_marked, relabel_over, use_over}
@@ -156,7 +156,7 @@ change_base sh x o t u z v law at grown spells leaves full linked whole = record
     | inl e ↦ subst (IsWhole sh) (sym e.1) (whole (ap (λ (k : Ticket). k.is_done) (sym e.1) ∙ d))
     | inr e ↦ law.whole i q e d
   ];
-  marks = law.marks ∙ ap (λ (n : ℕ). n + marked x.stocks) (sym (length-set x.log o u));
+  marks = law.marks ∙ ap (λ (n : ℕ). n + marked_books x.stocks) (sym (length-set x.log o u));
   ends = λ w h. length-set x.log o u ∙ law.ends w h;
   writers = λ i q a. elim (get_from_set x.log o i t u q at a) [
     | inl e ↦ omega (arith, ap (λ (k : Ticket). k.writer) e.1, grown.becomes.writer, law.writers o t at)

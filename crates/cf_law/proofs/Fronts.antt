@@ -11,22 +11,22 @@ use Rattle.cf_shape.specs.Places.Slot.{cell}
 use Rattle.cf_words.specs.Words.{Layout, entry, Ticket, ticket_word, full_word, used_word, done_word}
 use Rattle.cf_words.specs.Law.{LayoutLaw, Skips}
 use Rattle.cf_law.specs.Lawful.{Base, BaseLaw, front}
-use Rattle.cf_law.specs.Events.{table, word_at, plain_at, entries_spelled}
+use Rattle.cf_law.specs.Events.{tabulated, word_at, plain_at, entries_spelled}
 use Rattle.cf_law.proofs.Passes.{Evolves, no_gap}
 
 module _ {A : Type 0} where
-  pub table_length : (f : ℕ → A) (n : ℕ) → length (table f n) ≡ n
-  unfolding table
+  pub table_length : (f : ℕ → A) (n : ℕ) → length (tabulated f n) ≡ n
+  unfolding tabulated
   table_length f zero = refl
-  table_length f (suc n) = omega (arith, length-append (table f n) (f n ∷ []), table_length f n)
+  table_length f (suc n) = omega (arith, length-append (tabulated f n) (f n ∷ []), table_length f n)
 
-  pub table_at : (f : ℕ → A) (n i : ℕ) → i < n → slice_get (table f n) i ≡ Some (f i)
-  unfolding table
+  pub table_at : (f : ℕ → A) (n i : ℕ) → i < n → slice_get (tabulated f n) i ≡ Some (f i)
+  unfolding tabulated
   table_at f zero i lt = absurd (omega arith)
   table_at f (suc n) i lt = elim (cases_eq i n) [
-    | inl e ↦ let here : i ≡ length (table f n) = omega (arith, table_length f n) in
-        ap (slice_get (table f n ++ f n ∷ [])) here ∙ (get_push_same (table f n) (f n) ∙ ap (λ (k : ℕ). Some (f k)) (sym e))
-    | inr ne ↦ get_push_other (table f n) (f n) i (λ e. absurd (omega (arith, table_length f n))) ∙ table_at f n i (omega arith)
+    | inl e ↦ let here : i ≡ length (tabulated f n) = omega (arith, table_length f n) in
+        ap (slice_get (tabulated f n ++ f n ∷ [])) here ∙ (get_push_same (tabulated f n) (f n) ∙ ap (λ (k : ℕ). Some (f k)) (sym e))
+    | inr ne ↦ get_push_other (tabulated f n) (f n) i (λ e. absurd (omega (arith, table_length f n))) ∙ table_at f n i (omega arith)
   ]
 
   -- a list by its elements

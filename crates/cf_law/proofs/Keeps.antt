@@ -9,7 +9,7 @@ use Rattle.std.proofs.lemmas.Bool.Decides.{nat_tests}
 use Rattle.std.proofs.lemmas.Option.{slice_get_within}
 use Rattle.cf_shape.specs.Places.{Slot, place}
 use Rattle.cf_shape.specs.Places.Slot.{tail, cell}
-use Rattle.cf_words.specs.Words.{Spot, spot, Layout, Ticket, Stock, stock_of, marked, node_at, has, IsNamedBy, is_inner, stocks_with_label, stocks_with_node, stocks_with_mark, ticket_with_word, ticket_with_head, ticket_with_done, fresh_ticket, full_word, free_of, ticket_word, done_word}
+use Rattle.cf_words.specs.Words.{Spot, spot, Layout, Ticket, Stock, stock_of, marked_books, node_at, has, IsNamedBy, is_inner, stocks_with_label, stocks_with_node, stocks_with_mark, ticket_with_word, ticket_with_head, ticket_with_done, fresh_ticket, full_word, free_of, ticket_word, done_word}
 use Rattle.cf_words.specs.Law.{LayoutLaw, CanHead, CanFill, IsWhole}
 use Rattle.cf_law.specs.Passes.{Own, Flight, Book, Pass}
 use Rattle.cf_law.specs.Steps.{Holds, HoldsInFlight, ticket_of, book_with_flight, book_with_ticket, book_with_word, book_with_record, book_with_head, book_with_label, book_with_node, own_word, pass_with_book, pass_with_look, pass_that_sees, pass_with_tail, pass_with_node, IsNext, IsChild, Reaches, Knows, label_of, free_node}
@@ -39,8 +39,8 @@ pub stock_label_other : (bs : List Stock) (w l v : ℕ) → v ≢ w → stock_of
 unfolding stocks_with_label
 stock_label_other bs w l v h = book_other bs w v _ h
 
-marked_some : (bs : List Stock) → 0 < marked bs → (w : ℕ) × ((stock_of bs w).over ≡ true)
-unfolding marked stock_of
+marked_some : (bs : List Stock) → 0 < marked_books bs → (w : ℕ) × ((stock_of bs w).over ≡ true)
+unfolding marked_books stock_of
 marked_some [] h = absurd (omega arith)
 marked_some (b ∷ bs) h = elim (cases_Bool b.over) [
   | inl e ↦ (0, e)
@@ -150,7 +150,7 @@ finish_keeps sh m passes kk p k i b f S at flies last ready everywhere =
 
 -- A ticket.
 no_marks : (sh : Layout) (m : Base) → BaseLaw sh m → length m.log < sh.sizes.tickets → m.tails.0 ≡ length m.log
-no_marks sh m law lt = elim (cases_eq (marked m.stocks) 0) [
+no_marks sh m law lt = elim (cases_eq (marked_books m.stocks) 0) [
   | inl e ↦ omega (arith, law.marks)
   | inr ne ↦ let k = marked_some m.stocks (omega arith) in absurd (omega (arith, law.ends k.0 k.1))
 ]
@@ -187,7 +187,7 @@ take_mark sh m passes kk p b S at held fresh le =
     let w : ℕ = b.writer in
     let m' = new_mark sh w m in
     let room : w < length m.stocks = omega (arith, S.law.nodes.writers, own.0) in
-    let full : length m.log ≡ sh.sizes.tickets = elim (cases_eq (marked m.stocks) 0) [
+    let full : length m.log ≡ sh.sizes.tickets = elim (cases_eq (marked_books m.stocks) 0) [
       | inl e ↦ omega (arith, S.law.marks, S.law.room)
       | inr ne ↦ let k = marked_some m.stocks (omega arith) in S.law.ends k.0 k.1
     ] in (

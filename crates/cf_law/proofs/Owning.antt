@@ -9,7 +9,7 @@ use Rattle.std.proofs.lemmas.Option.{slice_get_within}
 use Rattle.cf_shape.specs.Places.{head_slot, IsReal}
 use Rattle.cf_shape.specs.Places.Slot.{cell}
 use Rattle.cf_shape.specs.Uses.Use.{version}
-use Rattle.cf_words.specs.Words.{Spot, spot, Layout, Ticket, entry, has, same_path, links, entry_at, chain, top, version_word, used_word, lane_word}
+use Rattle.cf_words.specs.Words.{Spot, spot, Layout, Ticket, entry, has, same_path, links, entry_at, chain, link_to_newest, version_word, used_word, lane_word}
 use Rattle.cf_law.specs.Passes.{Own, Flight, Book, Pass}
 use Rattle.cf_law.specs.Steps.{Holds, Knows, mine_chain, ticket_of}
 use Rattle.cf_law.specs.Lawful.{Base, BaseLaw, PassLaw, front, mine_in, flight_in, book_at}
@@ -155,13 +155,13 @@ own_head_is sh m p k b n d l q law knows held real known leaf = word ∙ go b.fl
     mine : b.mine ≡ mine_in b.writer 0 m.log
     mine = ap (λ (c : Book). c.mine) own.1
 
-    word : word_at sh m.words (head_slot sh.sizes n d b.writer) ≡ top (chain sh m.log b.writer (spot l (d ∷ q)) (length m.log))
+    word : word_at sh m.words (head_slot sh.sizes n d b.writer) ≡ link_to_newest (chain sh m.log b.writer (spot l (d ∷ q)) (length m.log))
     word = head_word sh m.tails m.log m.stocks m.words n d b.writer l q real own.0 (knows.known known.0 (spot l q, n) known.1) (lt_false (suc (length q)) (sh.levels l) (λ h. omega (arith, leaf))) law.spells
 
-    go : (x : Option Flight) → b.flight ≡ x → top (chain sh m.log b.writer (spot l (d ∷ q)) (length m.log)) ≡ own_top sh b (spot l (d ∷ q))
+    go : (x : Option Flight) → b.flight ≡ x → link_to_newest (chain sh m.log b.writer (spot l (d ∷ q)) (length m.log)) ≡ own_top sh b (spot l (d ∷ q))
     go None e =
         let none : flight_in b.writer 0 m.log ≡ None = sym (ap (λ (c : Book). c.flight) own.1) ∙ e in
-        ap top (chain_rest sh m b.writer (spot l (d ∷ q)) law none ∙ ap (mine_chain sh (spot l (d ∷ q))) (sym mine)) ∙ ap (own_top_by sh b (spot l (d ∷ q))) (sym e)
+        ap link_to_newest (chain_rest sh m b.writer (spot l (d ∷ q)) law none ∙ ap (mine_chain sh (spot l (d ∷ q))) (sym mine)) ∙ ap (own_top_by sh b (spot l (d ∷ q))) (sym e)
     go (Some f) e =
         let A = aloft sh m p k b f law knows (held, e) in
         let lt : f.offset < length m.log = slice_get_within m.log f.offset (ticket_of b.writer f) A.at in
@@ -172,13 +172,13 @@ own_head_is sh m p k b n d l q law knows held real known leaf = word ∙ go b.fl
           | inl g ↦
               let here : entry_at sh b.writer (spot l (d ∷ q)) f.offset (slice_get m.log f.offset) ≡ (f.offset, f.row) ∷ [] = ap (entry_at sh b.writer (spot l (d ∷ q)) f.offset) A.at ∙ entry_linked sh b.writer (spot l (d ∷ q)) f.offset (ticket_of b.writer f) (same ∙ g) in
               chain_top sh m.log b.writer (spot l (d ∷ q)) f.offset (length m.log) f.row lt here (λ i low small. past i low)
-              ∙ (sym (ap (λ (t : Bool). cond t (suc f.offset) (top (mine_chain sh (spot l (d ∷ q)) b.mine))) g) ∙ ap (own_top_by sh b (spot l (d ∷ q))) (sym e))
+              ∙ (sym (ap (λ (t : Bool). cond t (suc f.offset) (link_to_newest (mine_chain sh (spot l (d ∷ q)) b.mine))) g) ∙ ap (own_top_by sh b (spot l (d ∷ q))) (sym e))
           | inr g ↦
               let here : entry_at sh b.writer (spot l (d ∷ q)) f.offset (slice_get m.log f.offset) ≡ [] = ap (entry_at sh b.writer (spot l (d ∷ q)) f.offset) A.at ∙ entry_unlinked sh b.writer (spot l (d ∷ q)) f.offset (ticket_of b.writer f) (same ∙ g) in
               let rest = chain_from sh m.log b.writer (spot l (d ∷ q)) f.offset (length m.log) (omega arith) (λ i ge small. from_here here past i ge) in
               let below = chain_mine sh m b.writer f.offset (spot l (d ∷ q)) (ticket_of b.writer f) law A.at refl refl in
-              ap top (rest ∙ (sym below ∙ ap (mine_chain sh (spot l (d ∷ q))) (sym mine)))
-              ∙ (sym (ap (λ (t : Bool). cond t (suc f.offset) (top (mine_chain sh (spot l (d ∷ q)) b.mine))) g) ∙ ap (own_top_by sh b (spot l (d ∷ q))) (sym e))
+              ap link_to_newest (rest ∙ (sym below ∙ ap (mine_chain sh (spot l (d ∷ q))) (sym mine)))
+              ∙ (sym (ap (λ (t : Bool). cond t (suc f.offset) (link_to_newest (mine_chain sh (spot l (d ∷ q)) b.mine))) g) ∙ ap (own_top_by sh b (spot l (d ∷ q))) (sym e))
         ]
       where
         from_here : entry_at sh b.writer (spot l (d ∷ q)) f.offset (slice_get m.log f.offset) ≡ [] → ((i : ℕ) → f.offset < i → entry_at sh b.writer (spot l (d ∷ q)) i (slice_get m.log i) ≡ []) → (i : ℕ) → f.offset ≤ i → entry_at sh b.writer (spot l (d ∷ q)) i (slice_get m.log i) ≡ []

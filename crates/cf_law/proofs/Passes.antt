@@ -7,7 +7,7 @@ use Rattle.std.proofs.lemmas.Bool.{cases_eq}
 use Rattle.std.specs.Bool.{nat_lt}
 use Rattle.cf_shape.specs.Places.{Slot, place, IsReal}
 use Rattle.cf_shape.specs.Places.Slot.{cell}
-use Rattle.cf_words.specs.Words.{Spot, spot, Layout, Ticket, Stock, stock_of, node_at, Names, IsNamedBy, NodeWord, BodyWord, is_inner, Word, Spells, links, entry_at, chain, top, has, ticket_word, full_word, used_word, lane_word, version_word}
+use Rattle.cf_words.specs.Words.{Spot, spot, Layout, Ticket, Stock, stock_of, node_at, IsChildFor, IsNamedBy, NodeWord, BodyWord, is_inner, IsWordOf, Spells, links, entry_at, chain, link_to_newest, has, ticket_word, full_word, used_word, lane_word, version_word}
 use Rattle.cf_shape.specs.Uses.Use.{version}
 use Rattle.cf_words.specs.Law.{NodesLaw}
 use Rattle.cf_law.specs.Passes.{Cursor}
@@ -26,10 +26,10 @@ top_of_entry : (sh : Layout) (log : List Ticket) (w : ℕ) (s : Spot) (n v : ℕ
 top_of_entry sh log w s n zero h = omega arith
 top_of_entry sh log w s n (suc o) h = h.0
 
-pub top_within : (sh : Layout) (log : List Ticket) (w : ℕ) (s : Spot) (n : ℕ) → top (chain sh log w s n) ≤ n
-top_within sh log w s n = top_of_entry sh log w s n (top (chain sh log w s n)) (chain_is sh log w s n)
+pub top_within : (sh : Layout) (log : List Ticket) (w : ℕ) (s : Spot) (n : ℕ) → link_to_newest (chain sh log w s n) ≤ n
+top_within sh log w s n = top_of_entry sh log w s n (link_to_newest (chain sh log w s n)) (chain_is sh log w s n)
 
-version_low : (sh : Layout) (l : ℕ) (c : List (ℕ × RowValue)) (r : RowValue) → top c < 2 ^ 32 → version_word sh l 0 c r % 2 ^ 32 ≡ top c
+version_low : (sh : Layout) (l : ℕ) (c : List (ℕ × RowValue)) (r : RowValue) → link_to_newest c < 2 ^ 32 → version_word sh l 0 c r % 2 ^ 32 ≡ link_to_newest c
 unfolding version_word
 version_low sh l c r h = omega arith
 
@@ -86,13 +86,13 @@ done_evolves log log' o ev h = let u = ev o h.0 h.1 in (u.0, u.1, (u.2).done h.2
 -- The walk. A head begins it.
 pub head_word : (sh : Layout) (ts : ℕ × ℕ) (log : List Ticket) (bs : List Stock) (words : List ℕ) (n d w l : ℕ) (p : List ℕ)
     → IsReal sh.sizes (head_slot sh.sizes n d w) → w < sh.sizes.writers → node_at sh.sizes.nodes bs n ≡ Some (spot l p) → is_inner sh (spot l p) ≡ false
-    → Spells sh ts log bs words → get_or words (place sh.sizes (head_slot sh.sizes n d w)) 0 ≡ top (chain sh log w (spot l (d ∷ p)) (length log))
+    → Spells sh ts log bs words → get_or words (place sh.sizes (head_slot sh.sizes n d w)) 0 ≡ link_to_newest (chain sh log w (spot l (d ∷ p)) (length log))
 head_word sh ts log bs words n d w l p real lt at outer spells =
     let v = get_or words (place sh.sizes (head_slot sh.sizes n d w)) 0 in
     let r0 : BodyWord sh log bs n (suc (d * sh.sizes.writers + w)) v (node_at sh.sizes.nodes bs n) = spells (head_slot sh.sizes n d w) real in
     let r1 : NodeWord sh log bs (spot l p) (d * sh.sizes.writers + w) v (is_inner sh (spot l p)) = subst (λ (o : Option Spot). BodyWord sh log bs n (suc (d * sh.sizes.writers + w)) v o) at r0 in
     let r2 : NodeWord sh log bs (spot l p) (d * sh.sizes.writers + w) v false = subst (λ (b : Bool). NodeWord sh log bs (spot l p) (d * sh.sizes.writers + w) v b) outer r1 in
-    r2 ∙ ap₂ (λ (u e : ℕ). top (chain sh log u (spot l (e ∷ p)) (length log))) (col_of sh.sizes.writers d w lt) (row_of sh.sizes.writers d w lt)
+    r2 ∙ ap₂ (λ (u e : ℕ). link_to_newest (chain sh log u (spot l (e ∷ p)) (length log))) (col_of sh.sizes.writers d w lt) (row_of sh.sizes.writers d w lt)
 
 -- what the law says of tickets, as far as a walk needs it
 pub record WalkLaw (sh : Layout) (log : List Ticket) (seen : ℕ) : Type 0 where
@@ -105,9 +105,9 @@ entry_leads sh log seen w s n gone met k zero law h = tt
 entry_leads sh log seen w s n gone met k (suc o) law h = let x = links_true sh w s h.1 h.3 in (h.1, h.2, x.0, x.2, law.full o s.lane h.1 h.2 x.1)
 
 pub walk_begins : (sh : Layout) (log : List Ticket) (seen w : ℕ) (s : Spot) (met : List (ℕ × ℕ)) → WalkLaw sh log seen → ((i : ℕ) (x : ℕ × ℕ) → slice_get met i ≡ Some x → HasWriter log x)
-    → CursorLaw sh log seen (record { writer = w; spot = s; link = top (chain sh log w s (length log)); gone = []; met = met })
+    → CursorLaw sh log seen (record { writer = w; spot = s; link = link_to_newest (chain sh log w s (length log)); gone = []; met = met })
 walk_begins sh log seen w s met law theirs = record {
-  leads = entry_leads sh log seen w s (length log) [] met (top (chain sh log w s (length log))) (top (chain sh log w s (length log))) law (chain_is sh log w s (length log));
+  leads = entry_leads sh log seen w s (length log) [] met (link_to_newest (chain sh log w s (length log))) (link_to_newest (chain sh log w s (length log))) law (chain_is sh log w s (length log));
   left = λ i t lt at e p. inl (chain_has sh log w s (length log) i t at (links_intro sh w s t e (law.linked i s.lane t s.path lt at p) p) (omega (arith, law.within)));
   met = theirs;
 }
@@ -124,9 +124,9 @@ met_more log o w met new old (suc i) x at = old i x at
 
 -- The cell that the link names leads it on.
 pub walk_goes : (sh : Layout) (log : List Ticket) (seen : ℕ) (c : Cursor) (o : ℕ) → WalkLaw sh log seen → c.link ≡ suc o → CursorLaw sh log seen c
-    → CursorLaw sh log seen (record { writer = c.writer; spot = c.spot; link = top (chain sh log c.writer c.spot o); gone = o ∷ c.gone; met = (o, c.writer) ∷ c.met })
+    → CursorLaw sh log seen (record { writer = c.writer; spot = c.spot; link = link_to_newest (chain sh log c.writer c.spot o); gone = o ∷ c.gone; met = (o, c.writer) ∷ c.met })
 walk_goes sh log seen c o law is h = record {
-  leads = entry_leads sh log seen c.writer c.spot o (o ∷ c.gone) ((o, c.writer) ∷ c.met) (top (chain sh log c.writer c.spot o)) (top (chain sh log c.writer c.spot o)) law (chain_is sh log c.writer c.spot o);
+  leads = entry_leads sh log seen c.writer c.spot o (o ∷ c.gone) ((o, c.writer) ∷ c.met) (link_to_newest (chain sh log c.writer c.spot o)) (link_to_newest (chain sh log c.writer c.spot o)) law (chain_is sh log c.writer c.spot o);
   left = λ i t lt at e p. elim (h.left i t lt at e p) [
     | inr g ↦ inr (has_rest o i c.gone g)
     | inl g ↦ elim (cases_eq i o) [
@@ -140,7 +140,7 @@ walk_goes sh log seen c o law is h = record {
 -- the word that is found there
 pub previous_word : (sh : Layout) (ts : ℕ × ℕ) (log : List Ticket) (bs : List Stock) (words : List ℕ) (c : Cursor) (o k : ℕ)
     → Leads sh log c (suc o) → sh.use_of k ≡ version c.spot.lane 0 → suc k < sh.sizes.ticket_words → o < sh.sizes.tickets → sh.sizes.tickets < 2 ^ 32
-    → Spells sh ts log bs words → get_or words (place sh.sizes (cell o k)) 0 % 2 ^ 32 ≡ top (chain sh log c.writer c.spot o)
+    → Spells sh ts log bs words → get_or words (place sh.sizes (cell o k)) 0 % 2 ^ 32 ≡ link_to_newest (chain sh log c.writer c.spot o)
 previous_word sh ts log bs words c o k leads is within room small spells =
     let t = leads.0 in
     let v = get_or words (place sh.sizes (cell o k)) 0 in
@@ -151,6 +151,6 @@ previous_word sh ts log bs words c o k leads is within room small spells =
     let r2 : full_word sh log o t k ≡ version_word sh c.spot.lane 0 (chain sh log t.writer c.spot o) t.row =
     ap (used_word sh log o t) is ∙ ap (lane_word sh log o c.spot.lane 0 t) leads.3 in
     let r3 : chain sh log t.writer c.spot o ≡ chain sh log c.writer c.spot o = ap (λ (w : ℕ). chain sh log w c.spot o) leads.2 in
-    let below : top (chain sh log c.writer c.spot o) ≤ o = top_within sh log c.writer c.spot o in
+    let below : link_to_newest (chain sh log c.writer c.spot o) ≤ o = top_within sh log c.writer c.spot o in
     ap (λ (q : ℕ). q % 2 ^ 32) (r0 ∙ (ap (ticket_word sh log o k) leads.1 ∙ (r1 ∙ (r2 ∙ ap (λ (q : List (ℕ × RowValue)). version_word sh c.spot.lane 0 q t.row) r3))))
     ∙ version_low sh c.spot.lane (chain sh log c.writer c.spot o) t.row (omega arith)

@@ -12,7 +12,7 @@ use Rattle.std.proofs.lemmas.Option.{slice_get_within}
 use Rattle.cf_shape.specs.Places.{Slot, place, IsReal}
 use Rattle.cf_shape.specs.Places.Slot.{tail, cell}
 use Rattle.cf_shape.specs.Uses.Use.{version}
-use Rattle.cf_words.specs.Words.{marked, Spot, spot, Layout, entry, Ticket, Stock, stock_of, node_at, IsNamedBy, has, same_path, ticket_word, done_word, full_word, links, entry_at, chain, version_word, used_word, lane_word}
+use Rattle.cf_words.specs.Words.{marked_books, Spot, spot, Layout, entry, Ticket, Stock, stock_of, node_at, IsNamedBy, has, same_path, ticket_word, done_word, full_word, links, entry_at, chain, version_word, used_word, lane_word}
 use Rattle.cf_words.specs.Law.{LayoutLaw, NodesLaw}
 use Rattle.cf_law.specs.Passes.{Book, Flight, Cursor, Pass}
 use Rattle.cf_law.specs.Steps.{Holds, HoldsInFlight, IsChild, Knows, Step, met_of, mine_chain, ticket_of, own_word}
@@ -34,8 +34,8 @@ use Rattle.cf_law.proofs.Keeps.{aloft, Later}
 use Rattle.cf_law.proofs.Steps.{step_keeps}
 use Rattle.cf_law.proofs.Homes.{own_done, whole, stays}
 
-marked_most : (bs : List Stock) → marked bs ≤ length bs
-unfolding marked
+marked_most : (bs : List Stock) → marked_books bs ≤ length bs
+unfolding marked_books
 marked_most [] = omega arith
 marked_most (b ∷ bs) = elim (cases_Bool b.over) [
   | inl e ↦ omega (arith, marked_most bs, ap (λ (t : Bool). cond {A = ℕ} t 1 0) e)

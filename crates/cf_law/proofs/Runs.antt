@@ -6,12 +6,12 @@ use Rattle.std.proofs.lemmas.Bool.{cases_lt}
 use Rattle.std.proofs.lemmas.Option.{slice_get_within}
 use Rattle.cf_shape.specs.Places.{Slot, place, word_total}
 use Rattle.cf_shape.specs.Places.Slot.{tail, cell, root, body}
-use Rattle.cf_words.specs.Words.{Spot, Layout, Stock, stock_of, node_at, spare_label, Word, BodyWord, marked}
+use Rattle.cf_words.specs.Words.{Spot, Layout, Stock, stock_of, node_at, spare_label, IsWordOf, BodyWord, marked_books}
 use Rattle.cf_words.specs.Law.{LayoutLaw}
 use Rattle.cf_law.specs.Passes.{Book, Pass}
 use Rattle.cf_law.specs.Steps.{new_pass}
 use Rattle.cf_law.specs.Lawful.{Base, BaseLaw, mine_in, flight_in, book_at, PassLaw, HoldsAt, Stands, World, Lawful}
-use Rattle.cf_law.specs.Events.{table, word_at, no_book, opening, WorldEvent, IsEvent, Runs, RunsAreLawful, ShapesAreLawful}
+use Rattle.cf_law.specs.Events.{tabulated, word_at, no_book, opening, WorldEvent, IsEvent, Runs, RunsAreLawful, ShapesAreLawful}
 use Rattle.cf_law.specs.Shapes.{layout}
 use Rattle.cf_law.proofs.Shapes.{layout_law}
 use Rattle.cf_law.specs.Events.IsEvent.{steps, parts, meets}
@@ -43,15 +43,15 @@ opening_spare : (m n k : ℕ) → spare_label m (replicate n empty_stock) k ≡ 
 unfolding spare_label
 opening_spare m n k = ap (λ (b : Stock). cond (k % m == length b.used) b.label 0) (opening_stock n (k / m)) ∙ cond_zero (k % m == 0)
 
-opening_marked : (n : ℕ) → marked (replicate n empty_stock) ≡ 0
-unfolding marked
+opening_marked : (n : ℕ) → marked_books (replicate n empty_stock) ≡ 0
+unfolding marked_books
 opening_marked zero = refl
 opening_marked (suc n) = omega (arith, opening_marked n)
 
 nothing_used : (m n k : ℕ) (s : Spot) → node_at m (replicate n empty_stock) k ≡ Some s → ⊥
 nothing_used m n k s e = cc (opening_node m n k, e)
 
-opening_word : (sh : Layout) (t : Slot) → Word sh (0, 0) [] (replicate sh.sizes.writers empty_stock) t 0
+opening_word : (sh : Layout) (t : Slot) → IsWordOf sh (0, 0) [] (replicate sh.sizes.writers empty_stock) t 0
 opening_word sh (tail zero) = refl
 opening_word sh (tail (suc k)) = refl
 opening_word sh (cell o i) = refl
@@ -69,7 +69,7 @@ opening_base sh = record { words = replicate (word_total sh.sizes) 0; tails = (0
 opening_law : (sh : Layout) → BaseLaw sh (opening_base sh)
 opening_law sh = let none = nothing_used sh.sizes.nodes sh.sizes.writers in record {
   size = length-replicate (word_total sh.sizes) 0;
-  spells = λ t real. subst (λ (v : ℕ). Word sh (0, 0) [] (replicate sh.sizes.writers empty_stock) t v) (sym (get_or-replicate (word_total sh.sizes) (place sh.sizes t) 0 0 (place_within sh.sizes t real))) (opening_word sh t);
+  spells = λ t real. subst (λ (v : ℕ). IsWordOf sh (0, 0) [] (replicate sh.sizes.writers empty_stock) t v) (sym (get_or-replicate (word_total sh.sizes) (place sh.sizes t) 0 0 (place_within sh.sizes t real))) (opening_word sh t);
   nodes = record {
     writers = length-replicate sh.sizes.writers empty_stock;
     room = λ w. omega (arith, ap (λ (b : Stock). length b.used) (opening_stock sh.sizes.writers w));
@@ -95,13 +95,13 @@ opening_book : (sh : Layout) (w : ℕ) → no_book w ≡ book_at (opening_base s
 unfolding mine_in flight_in
 opening_book sh w = made_book (opening_base sh) w [] None empty_stock refl refl (sym (opening_stock sh.sizes.writers w))
 
-opening_held : (sh : Layout) (k : ℕ) (b : Book) → slice_get (table no_book sh.sizes.writers) k ≡ Some b → (k < sh.sizes.writers) × (b ≡ no_book k)
+opening_held : (sh : Layout) (k : ℕ) (b : Book) → slice_get (tabulated no_book sh.sizes.writers) k ≡ Some b → (k < sh.sizes.writers) × (b ≡ no_book k)
 opening_held sh k b e =
-    let lt : k < sh.sizes.writers = omega (arith, slice_get_within (table no_book sh.sizes.writers) k b e, table_length (no_book) sh.sizes.writers) in
+    let lt : k < sh.sizes.writers = omega (arith, slice_get_within (tabulated no_book sh.sizes.writers) k b e, table_length (no_book) sh.sizes.writers) in
     let same : no_book k ≡ b = cc (table_at no_book sh.sizes.writers k lt, e) in
     (lt, sym same)
 
-opening_pass : (sh : Layout) → PassLaw sh (opening_base sh) (new_pass (table no_book sh.sizes.writers) [])
+opening_pass : (sh : Layout) → PassLaw sh (opening_base sh) (new_pass (tabulated no_book sh.sizes.writers) [])
 opening_pass sh = record {
   within = omega arith;
   seen = front_take [] 0 0 (omega arith);
@@ -121,17 +121,17 @@ pub opening_stands : (sh : Layout) → Stands sh (opening_base sh) (opening sh).
 opening_stands sh = record {
   law = opening_law sh;
   knows = knows;
-  held = λ w lt. (0, w, record { pass = new_pass (table no_book sh.sizes.writers) []; book = no_book w; at = refl; held = table_at no_book sh.sizes.writers w lt; writer = refl });
+  held = λ w lt. (0, w, record { pass = new_pass (tabulated no_book sh.sizes.writers) []; book = no_book w; at = refl; held = table_at no_book sh.sizes.writers w lt; writer = refl });
   once = λ j k h i w x y. let a = place_of j h w x in let b = place_of k i w y in (a.0 ∙ sym b.0, a.1 ∙ sym b.1);
 }
   where
     knows : (k : ℕ) (p : Pass) → slice_get (opening sh).passes k ≡ Some p → PassLaw sh (opening_base sh) p
-    knows zero p e = let same : new_pass (table no_book sh.sizes.writers) [] ≡ p = cc e in subst (PassLaw sh (opening_base sh)) same (opening_pass sh)
+    knows zero p e = let same : new_pass (tabulated no_book sh.sizes.writers) [] ≡ p = cc e in subst (PassLaw sh (opening_base sh)) same (opening_pass sh)
     knows (suc k) p e = absurd (cc e)
 
     place_of : (j h w : ℕ) → HoldsAt (opening sh).passes j h w → (j ≡ 0) × (h ≡ w)
     place_of zero h w x =
-        let same : new_pass (table no_book sh.sizes.writers) [] ≡ x.pass = cc (x.at) in
+        let same : new_pass (tabulated no_book sh.sizes.writers) [] ≡ x.pass = cc (x.at) in
         let b = opening_held sh h x.book (ap (λ (q : Pass). slice_get q.books h) same ∙ x.held) in
         (refl, sym (ap (λ (c : Book). c.writer) b.1) ∙ x.writer)
     place_of (suc j) h w x = absurd (cc (x.at))

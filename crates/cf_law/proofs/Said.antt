@@ -12,7 +12,7 @@ use Rattle.cf_words.specs.Law.{LayoutLaw}
 use Rattle.cf_law.specs.Passes.{Cursor, Pass}
 use Rattle.cf_law.specs.Steps.{Act, Step}
 use Rattle.cf_law.specs.Lawful.{Base, BaseLaw, PassLaw, CursorLaw, CursorIs, Leads, Stands, Lawful, World, book_at}
-use Rattle.cf_law.specs.Events.{WorldEvent, IsEvent, opening, no_book, table, word_at, entries_spelled}
+use Rattle.cf_law.specs.Events.{WorldEvent, IsEvent, opening, no_book, tabulated, word_at, entries_spelled}
 use Rattle.cf_law.specs.Events.IsEvent.{steps, parts, meets}
 use Rattle.cf_law.specs.Shapes.{layout}
 use Rattle.cf_law.specs.Readers.{Tells}
@@ -114,10 +114,10 @@ opening_is_empty = record {
 }
   where
     root_seen : (s : ShapeValue) (p : Pass) → slice_get (opening (layout s)).passes 0 ≡ Some p → p.seen ≡ []
-    root_seen s p at = let same : Rattle.cf_law.specs.Steps.new_pass (table no_book s.writers) [] ≡ p = cc at in ap (λ (q : Pass). q.seen) (sym same)
+    root_seen s p at = let same : Rattle.cf_law.specs.Steps.new_pass (tabulated no_book s.writers) [] ≡ p = cc at in ap (λ (q : Pass). q.seen) (sym same)
 
-    root_books : (s : ShapeValue) (p : Pass) → slice_get (opening (layout s)).passes 0 ≡ Some p → p.books ≡ table no_book s.writers
-    root_books s p at = let same : Rattle.cf_law.specs.Steps.new_pass (table no_book s.writers) [] ≡ p = cc at in ap (λ (q : Pass). q.books) (sym same)
+    root_books : (s : ShapeValue) (p : Pass) → slice_get (opening (layout s)).passes 0 ≡ Some p → p.books ≡ tabulated no_book s.writers
+    root_books s p at = let same : Rattle.cf_law.specs.Steps.new_pass (tabulated no_book s.writers) [] ≡ p = cc at in ap (λ (q : Pass). q.books) (sym same)
 
 covers : (sh : Layout) (m : Base) (o i : ℕ) → BaseLaw sh m → o < word_at sh m.words (tail 1) → suc i ≡ sh.sizes.ticket_words → word_at sh m.words (cell o i) ≡ 1
 covers sh m o i law lt last = go (slice_get m.log o) refl

@@ -2,7 +2,7 @@
 use Rattle.std.proofs.Common.{zero, false, ◌≡◌, ℕ, ◌+◌, ◌*◌, ◌<◌, suc, List, [], ◌∷◌, length, Option, Some, None, Bool, true, inl, inr, arith, ap, sym, ◌∙◌, subst}
 use Rattle.cf_shape.specs.Places.{Slot, place, IsReal}
 use Rattle.cf_shape.specs.Places.Slot.{tail, root, cell, body}
-use Rattle.cf_words.specs.Words.{Names, NodeWord, is_inner, Spot, Layout, Ticket, Stock, stock_of, node_at, IsNamedBy, BodyWord, Word, free_of}
+use Rattle.cf_words.specs.Words.{IsChildFor, NodeWord, is_inner, Spot, Layout, Ticket, Stock, stock_of, node_at, IsNamedBy, BodyWord, IsWordOf, free_of}
 use Rattle.cf_words.specs.Law.{NodesLaw}
 use Rattle.cf_law.specs.Lawful.{Base, BaseLaw}
 use Rattle.cf_law.specs.Events.{word_at}
@@ -48,7 +48,7 @@ spare_tells sh x w law room real =
     r ∙ spare_free sh.sizes.nodes x.stocks w room
 
 -- The model determines each word.
-names_one : (sh : Layout) (bs : List Stock) (s : Spot) (v w : ℕ) → NodesLaw sh bs → Names sh.sizes.nodes bs s v → Names sh.sizes.nodes bs s w → v ≡ w
+names_one : (sh : Layout) (bs : List Stock) (s : Spot) (v w : ℕ) → NodesLaw sh bs → IsChildFor sh.sizes.nodes bs s v → IsChildFor sh.sizes.nodes bs s w → v ≡ w
 names_one sh bs s v w law (inl a) (inl b) = a.0 ∙ sym b.0
 names_one sh bs s v w law (inl a) (inr b) = absurd (a.1 b.0 b.2)
 names_one sh bs s v w law (inr a) (inl b) = absurd (b.1 a.0 a.2)
@@ -73,7 +73,7 @@ body_one sh log bs n zero v w (Some s) law a b =
     a.3 ∙ (ap (λ (t : Slot). 32 * place sh.sizes t + length s.path) (named_one sh bs s.lane s.path a.0 b.0 law a.1 b.1) ∙ sym b.3)
 body_one sh log bs n (suc j) v w (Some s) law a b = node_one sh log bs s j v w (is_inner sh s) law a b
 
-pub word_one : (sh : Layout) (ts : ℕ × ℕ) (log : List Ticket) (bs : List Stock) (t : Slot) (v w : ℕ) → NodesLaw sh bs → Word sh ts log bs t v → Word sh ts log bs t w → v ≡ w
+pub word_one : (sh : Layout) (ts : ℕ × ℕ) (log : List Ticket) (bs : List Stock) (t : Slot) (v w : ℕ) → NodesLaw sh bs → IsWordOf sh ts log bs t v → IsWordOf sh ts log bs t w → v ≡ w
 word_one sh ts log bs (tail k) v w law a b = a ∙ sym b
 word_one sh ts log bs (cell o i) v w law a b = a ∙ sym b
 word_one sh ts log bs (root l d) v w law a b = names_one sh bs _ v w law a b

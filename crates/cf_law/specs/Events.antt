@@ -19,9 +19,9 @@ pub data WorldEvent : Type 0 where
   joins : ℕ → WorldEvent
 
 -- the values at 0 .. n - 1
-unfoldable pub table : {A : Type 0} → (ℕ → A) → ℕ → List A
-table f zero = []
-table f (suc n) = table f n ++ f n ∷ []
+unfoldable pub tabulated : {A : Type 0} → (ℕ → A) → ℕ → List A
+tabulated f zero = []
+tabulated f (suc n) = tabulated f n ++ f n ∷ []
 
 -- the word at the slot t, or 0 where the list of words ends before it
 abbrev pub word_at : Layout → List ℕ → Slot → ℕ
@@ -29,11 +29,11 @@ word_at sh words t = get_or words (place sh.sizes t) 0
 
 -- the words of the entry at offset o: those of its attributes and its tag
 abbrev pub plain_at : Layout → List ℕ → ℕ → List ℕ
-plain_at sh words o = table (λ i. word_at sh words (cell o i)) sh.plain_words
+plain_at sh words o = tabulated (λ i. word_at sh words (cell o i)) sh.plain_words
 
 -- the entries that the words of the first n offsets spell
 abbrev pub entries_spelled : Layout → List ℕ → ℕ → List Entry
-entries_spelled sh words n = table (λ o. sh.reads (plain_at sh words o)) n
+entries_spelled sh words n = tabulated (λ o. sh.reads (plain_at sh words o)) n
 
 -- the word at slot t becomes v, and pass k becomes what g makes of the entries that are then below the read tail
 abbrev pub world_after : Layout → World → ℕ → Slot → ℕ → (List Entry → Pass) → World
@@ -52,7 +52,7 @@ no_book w = record { writer = w; mine = []; flight = None; over = false; used = 
 
 -- the world before all events: all words are 0, and one pass, number 0, holds the empty books of all writers
 abbrev pub opening : Layout → World
-opening sh = record { words = replicate (word_total sh.sizes) 0; passes = new_pass (table no_book sh.sizes.writers) [] ∷ [] }
+opening sh = record { words = replicate (word_total sh.sizes) 0; passes = new_pass (tabulated no_book sh.sizes.writers) [] ∷ [] }
 
 -- one event of pass k
 pub data IsEvent (sh : Layout) (x : World) (k : ℕ) : WorldEvent → World → Type 0 where

@@ -3,7 +3,7 @@ use Rattle.std.specs.Prelude.{ℕ, ◌+◌, ◌<◌, ◌≤◌, ◌≡◌, ◌==
 use Rattle.cf_row.specs.declared.row.Entry.{Entry}
 use Rattle.cf_shape.specs.Places.{place, word_total}
 use Rattle.cf_shape.specs.Places.Slot.{cell}
-use Rattle.cf_words.specs.Words.{Spot, Layout, entry, Ticket, Stock, stock_of, marked, node_at, has, Spells}
+use Rattle.cf_words.specs.Words.{Spot, Layout, entry, Ticket, Stock, stock_of, marked_books, node_at, has, Spells}
 use Rattle.cf_shape.specs.Uses.Use.{version}
 use Rattle.cf_words.specs.Law.{NodesLaw, LeavesLaw, FlightLaw, IsWhole}
 use Rattle.cf_law.specs.Passes.{Own, Flight, Book, Cursor, Pass}
@@ -35,7 +35,7 @@ pub record BaseLaw (layout : Layout) (base : Base) : Type 0 where
   pub linked : (o l : ℕ) (t : Ticket) (p : List ℕ) → slice_get base.log o ≡ Some t → t.is_done ≡ true → layout.path t.row l ≡ Some p → has t.linked l ≡ true
   -- a finished ticket is filled
   pub whole : (o : ℕ) (t : Ticket) → slice_get base.log o ≡ Some t → t.is_done ≡ true → IsWhole layout t
-  pub marks : base.tails.0 ≡ length base.log + marked base.stocks
+  pub marks : base.tails.0 ≡ length base.log + marked_books base.stocks
   pub ends : (w : ℕ) → (stock_of base.stocks w).over ≡ true → length base.log ≡ layout.sizes.tickets
   pub writers : (o : ℕ) (t : Ticket) → slice_get base.log o ≡ Some t → t.writer < layout.sizes.writers
   pub fits : (o : ℕ) (t : Ticket) → slice_get base.log o ≡ Some t → layout.fits t.row ≡ true

@@ -8,7 +8,7 @@ use Rattle.cf_words.specs.Words.{Layout}
 use Rattle.cf_law.specs.Passes.{Pass}
 use Rattle.cf_law.specs.Steps.{Act, Step}
 use Rattle.cf_law.specs.Lawful.{World, Lawful}
-use Rattle.cf_law.specs.Events.{WorldEvent, IsEvent, opening, no_book, table, word_at, entries_spelled}
+use Rattle.cf_law.specs.Events.{WorldEvent, IsEvent, opening, no_book, tabulated, word_at, entries_spelled}
 use Rattle.cf_law.specs.Shapes.{layout}
 use Rattle.cf_law.specs.Readers.{Tells, StepTells}
 
@@ -25,7 +25,7 @@ EveryListKeepsTheLaw = (s : ShapeValue) (es : List (ℕ × WorldEvent)) (y : Wor
 pub record OpeningIsEmpty : Type 0 where
   pub words : (s : ShapeValue) → (opening (layout s)).words ≡ replicate (word_total (layout s).sizes) 0
   pub one : (s : ShapeValue) → length (opening (layout s)).passes ≡ 1
-  pub root : (s : ShapeValue) (p : Pass) → slice_get (opening (layout s)).passes 0 ≡ Some p → (p.seen ≡ []) × (p.books ≡ table no_book s.writers)
+  pub root : (s : ShapeValue) (p : Pass) → slice_get (opening (layout s)).passes 0 ≡ Some p → (p.seen ≡ []) × (p.books ≡ tabulated no_book s.writers)
   pub lawful : (s : ShapeValue) → Lawful (layout s) (opening (layout s)).words (opening (layout s)).passes
 
 -- The read tail never passes an unfinished ticket: each place below it has the done word 1.

@@ -2,7 +2,7 @@
 use Rattle.std.specs.Prelude.{ℕ, ◌+◌, ◌*◌, ◌<◌, ◌≤◌, ◌≡◌, suc, List, ◌∷◌, ◌++◌, length, get_or, true, Some, None, slice_get}
 use Rattle.cf_shape.specs.Places.{Slot, place, IsReal, head_slot}
 use Rattle.cf_shape.specs.Places.Slot.{tail, cell, body}
-use Rattle.cf_words.specs.Words.{Spot, spot, Layout, Ticket, Stock, stock_of, marked, node_at, IsNamedBy, free_of, has, done_word, full_word, chain, top}
+use Rattle.cf_words.specs.Words.{Spot, spot, Layout, Ticket, Stock, stock_of, marked_books, node_at, IsNamedBy, free_of, has, done_word, full_word, chain, link_to_newest}
 use Rattle.cf_law.specs.Passes.{Cursor, Pass}
 use Rattle.cf_law.specs.Lawful.{Base}
 use Rattle.cf_law.specs.Events.{word_at}
@@ -17,7 +17,7 @@ pub record IsChildWord (sh : Layout) (stocks : List Stock) (spot : Spot) (slot :
 pub record SaysPlainly (sh : Layout) (base : Base) (passes : List Pass) : Type 0 where
   -- the tickets are at most the capacity; the write tail is their number and that of the marked books, and a mark exists only where all places are taken
   pub tickets : length base.log ≤ sh.sizes.tickets
-  pub write_tail : word_at sh base.words (tail 0) ≡ length base.log + marked base.stocks
+  pub write_tail : word_at sh base.words (tail 0) ≡ length base.log + marked_books base.stocks
   pub mark : (w : ℕ) → (stock_of base.stocks w).over ≡ true → length base.log ≡ sh.sizes.tickets
   -- the read tail is at most the number of tickets, and those below it are finished
   pub read_tail : word_at sh base.words (tail 1) ≤ length base.log
@@ -30,7 +30,7 @@ pub record SaysPlainly (sh : Layout) (base : Base) (passes : List Pass) : Type 0
   pub empty : (o i : ℕ) → o < sh.sizes.tickets → i < sh.sizes.ticket_words → slice_get base.log o ≡ None → word_at sh base.words (cell o i) ≡ 0
   -- a head is the writer's newest ticket linked there
   pub head : (node d w l : ℕ) (q : List ℕ) → node_at sh.sizes.nodes base.stocks node ≡ Some (spot l q) → suc (length q) ≡ sh.levels l → d < 16 → w < sh.sizes.writers
-      → word_at sh base.words (head_slot sh.sizes node d w) ≡ top (chain sh base.log w (spot l (d ∷ q)) (length base.log))
+      → word_at sh base.words (head_slot sh.sizes node d w) ≡ link_to_newest (chain sh base.log w (spot l (d ∷ q)) (length base.log))
   -- a used node's label is the place of the child word that names it, and its level; that word names it
   pub label : (n : ℕ) (s : Spot) → node_at sh.sizes.nodes base.stocks n ≡ Some s
       → (t : Slot) × IsChildWord sh base.stocks s t × (word_at sh base.words (body n 0) ≡ 32 * place sh.sizes t + length s.path) × (word_at sh base.words t ≡ suc n)

@@ -5,7 +5,7 @@ use Rattle.cf_row.specs.declared.row.Entry.{Entry}
 use Rattle.cf_shape.specs.Places.{head_slot}
 use Rattle.cf_shape.specs.Places.{Slot}
 use Rattle.cf_shape.specs.Places.Slot.{tail, cell}
-use Rattle.cf_words.specs.Words.{Spot, spot, Layout, has, same_path, version_word, top}
+use Rattle.cf_words.specs.Words.{Spot, spot, Layout, has, same_path, version_word, link_to_newest}
 use Rattle.cf_shape.specs.Uses.Use.{version}
 use Rattle.cf_law.specs.Passes.{Own, Flight, Book, Cursor, Pass}
 use Rattle.cf_law.specs.Steps.{Holds, IsChild, Knows, HoldsInFlight, met_of, mine_chain, own_word}
@@ -56,8 +56,8 @@ AtHome layout p = (w : ℕ) → w < layout.sizes.writers → (k : ℕ) × (b : B
 
 -- a writer's head in a leaf, as its book has it: its ticket in flight where that is linked there, else the newest of what it has finished
 abbrev pub own_top_by : Layout → Book → Spot → Option Flight → ℕ
-own_top_by layout b s None = top (mine_chain layout s b.mine)
-own_top_by layout b s (Some f) = cond (cond (has f.linked s.lane) (same_path (layout.path f.row s.lane) s.path) false) (suc f.offset) (top (mine_chain layout s b.mine))
+own_top_by layout b s None = link_to_newest (mine_chain layout s b.mine)
+own_top_by layout b s (Some f) = cond (cond (has f.linked s.lane) (same_path (layout.path f.row s.lane) s.path) false) (suc f.offset) (link_to_newest (mine_chain layout s b.mine))
 
 -- the head of the book's writer in the leaf s, as the book has it: the offset of the newest ticket linked there plus 1, or 0
 abbrev pub own_top : Layout → Book → Spot → ℕ

@@ -13,7 +13,7 @@ use Rattle.cf_history.specs.Order.{rows_of, written_by}
 use Rattle.cf_shape.specs.Lanes.{ShapeValue, IsShape}
 use Rattle.cf_shape.specs.Nodes.{Node, nodes_for, nodes_of, same_node, add_node, distinct}
 use Rattle.cf_words.specs.Words.{Spot}
-use Rattle.cf_law.specs.Events.{table, no_book}
+use Rattle.cf_law.specs.Events.{tabulated, no_book}
 use Rattle.cf_law.proofs.Fronts.{table_length, table_at}
 use Rattle.cf_law.specs.Passes.{Own, Book, Pass}
 use Rattle.cf_law.specs.Steps.{Holds, IsAtRest}
@@ -173,9 +173,9 @@ opened log first m of is = record {
   });
 }
   where
-    new_book : (k : ℕ) (b : Book) → slice_get (table no_book (log.shape).writers) k ≡ Some b → no_book k ≡ b
+    new_book : (k : ℕ) (b : Book) → slice_get (tabulated no_book (log.shape).writers) k ≡ Some b → no_book k ≡ b
     new_book k b at =
-        let lt : k < (log.shape).writers = omega (arith, slice_get_within (table no_book (log.shape).writers) k b at, table_length no_book (log.shape).writers) in
+        let lt : k < (log.shape).writers = omega (arith, slice_get_within (tabulated no_book (log.shape).writers) k b at, table_length no_book (log.shape).writers) in
         let f : Some (no_book k) ≡ Some b = sym (table_at no_book (log.shape).writers k lt) ∙ at in cc f
 
     none : IsLogFrom first [] (log.shape).writers []

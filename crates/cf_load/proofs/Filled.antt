@@ -18,7 +18,7 @@ use Rattle.cf_load.specs.Blocks.{block}
 use Rattle.cf_load.specs.Loading.{HasLoaded, IsShort, HasStopped}
 use Rattle.cf_load.specs.Loads.{LacksNodes, HaveStopped}
 use Rattle.cf_load.specs.Needed.{HasRunOut}
-use Rattle.cf_load.specs.Segments.{SegmentsValue, all_of, seen_of, entries_of, base_of, told_from, told_of, IsSegment, IsSegments, HoldsRows, IsSameSegment, AreFirst, GoesOn, KeepsAll}
+use Rattle.cf_load.specs.Segments.{SegmentsValue, all_of, seen_of, entries_of, base_of, told_from, told_of, IsSegment, IsSegments, HoldsRows, IsSameSegment, AreFirst, SegmentsGoOn, KeepsAll}
 use Rattle.cf_load.specs.declared.loads.LoadFault.{LoadFault}
 use Rattle.cf_load.specs.declared.loads.LoadFault.TheVariants.{Full, NodesFull, Memory}
 use Rattle.cf_load.specs.declared.segments.Segment.{Segment}
@@ -46,7 +46,7 @@ first_last [] g h same = (same, tt)
 first_last (f ∷ fs) g h same = (record { log = refl; root = refl }, first_last fs g h same)
 
 -- they go on
-pub filled_goes : (s : SegmentsValue) (root : PassValue) → root ≡ record s.current.root { view = root.view } → GoesOn s (filled s root)
+pub filled_goes : (s : SegmentsValue) (root : PassValue) → root ≡ record s.current.root { view = root.view } → SegmentsGoOn s (filled s root)
 filled_goes s root same = record { shape = refl; most = refl; first = first_last s.closed s.current (record { log = s.current.log; root = root }) (record { log = refl; root = same }) }
 
 -- what the current root was told of comes at the end

@@ -8,7 +8,7 @@ use Rattle.cf_shape.specs.Lanes.{ShapeValue}
 use Rattle.cf_table.specs.Values.{PassValue, LogValue, IsOf}
 use Rattle.cf_load.specs.Blocks.{block}
 use Rattle.cf_load.specs.Loading.{HasLoaded}
-use Rattle.cf_load.specs.Segments.{SegmentsValue, segments_of, all_of, seen_of, entries_of, base_of, told_from, told_of, AllowsSegments, IsSegment, IsSegments, HoldsRows, HasTurned, IsSameSegment, AreFirst, GoesOn, KeepsSegment, KeepsAll}
+use Rattle.cf_load.specs.Segments.{SegmentsValue, segments_of, all_of, seen_of, entries_of, base_of, told_from, told_of, AllowsSegments, IsSegment, IsSegments, HoldsRows, HasTurned, IsSameSegment, AreFirst, SegmentsGoOn, KeepsSegment, KeepsAll}
 use Rattle.cf_load.specs.declared.segments.Segment.{Segment}
 use Rattle.cf_load.proofs.Batches.{zip_back, zip_long}
 use Rattle.cf_query.specs.Asking.{HasAsked}
@@ -82,7 +82,7 @@ module _ (s t : SegmentsValue) (keeps : KeepsAll s t) where
   pub kept_told : told_of t ≡ told_of s
   kept_told = ap (λ (h : ShapeValue). told_from h.capacity 0 (all_of t)) kept_shape ∙ segments_told (s.shape).capacity 0 (all_of s) (all_of t) kept_each
 
-  pub kept_goes : GoesOn s t
+  pub kept_goes : SegmentsGoOn s t
   kept_goes = record { shape = kept_shape; most = kept_most; first = segments_first (all_of s) (all_of t) kept_each }
 
   pub kept_lawful : IsSegments s → IsSegments t
@@ -133,14 +133,14 @@ first_more : (gs hs : List Segment) → AreFirst gs (gs ++ hs)
 first_more [] hs = tt
 first_more (g ∷ gs) hs = (record { log = refl; root = refl }, first_more gs hs)
 
-pub goes_none : (s : SegmentsValue) → GoesOn s s
+pub goes_none : (s : SegmentsValue) → SegmentsGoOn s s
 goes_none s = kept_goes s s (all_none s)
 
-pub goes_then : (s t u : SegmentsValue) → GoesOn s t → GoesOn t u → GoesOn s u
+pub goes_then : (s t u : SegmentsValue) → SegmentsGoOn s t → SegmentsGoOn t u → SegmentsGoOn s u
 goes_then s t u a b = record { shape = b.shape ∙ a.shape; most = b.most ∙ a.most; first = first_then (all_of s) (all_of t) (all_of u) a.first b.first }
 
 -- a segment came behind
-pub goes_turned : (s t : SegmentsValue) → HasTurned s t → GoesOn s t
+pub goes_turned : (s t : SegmentsValue) → HasTurned s t → SegmentsGoOn s t
 goes_turned s t turned = record {
   shape = ap (λ (u : SegmentsValue). u.shape) turned.same;
   most = ap (λ (u : SegmentsValue). u.most) turned.same;

@@ -28,7 +28,7 @@ use Rattle.cf_load.specs.Needed.{HasRunOut}
 use Rattle.cf_load.specs.Loads.{LacksNodes, HasSome, HaveStopped, IsLoaded, room_of}
 use Rattle.cf_load.specs.Loaders.{LoaderValue, IsFresh, IsLoading, IsBatched, IsRefused, IsFinished}
 use Rattle.cf_load.specs.Planned.{IsPlan, IsSamePlan, marks_on, tails_of}
-use Rattle.cf_load.specs.Segments.{SegmentsValue, all_of, base_of, entries_of, told_of, IsSegments, HoldsRows, GoesOn, KeepsAll}
+use Rattle.cf_load.specs.Segments.{SegmentsValue, all_of, base_of, entries_of, told_of, IsSegments, HoldsRows, SegmentsGoOn, KeepsAll}
 use Rattle.cf_load.proofs.Batches.{distinct_more, run_out_more}
 use Rattle.cf_load.proofs.Chains.{base_whole, rows_are_log}
 use Rattle.cf_load.proofs.Enough.{loaded_few}
@@ -46,7 +46,7 @@ same_suits shape plan other same suits = record {
 }
 
 -- segments that go on have room for as many rows
-pub same_room : (s t : SegmentsValue) → GoesOn s t → room_of t ≡ room_of s
+pub same_room : (s t : SegmentsValue) → SegmentsGoOn s t → room_of t ≡ room_of s
 same_room s t same = ap₂ (λ (n : ℕ) (h : ShapeValue). n * h.capacity) same.most same.shape
 
 -- segments that hold rows have as many entries
@@ -66,7 +66,7 @@ starts s plan loader suits fresh has = record {
 }
 
 -- a batch is loaded, and its answers come after those before
-pub goes_on : (before rows : List RowValue) (old new : LoaderValue) (b : ℕ) (s t : SegmentsValue) (more : List Live) → IsLoading s before old → HoldsRows t (before ++ rows) → GoesOn s t → base_of t ≤ length before → length before ≡ 4096 * b → 0 < length rows → length rows ≤ 4096
+pub goes_on : (before rows : List RowValue) (old new : LoaderValue) (b : ℕ) (s t : SegmentsValue) (more : List Live) → IsLoading s before old → HoldsRows t (before ++ rows) → SegmentsGoOn s t → base_of t ≤ length before → length before ≡ 4096 * b → 0 < length rows → length rows ≤ 4096
     → length before + length rows ≤ room_of s → All (Fits (s.shape).schema) rows → AsksBeside s.shape old.plan b (entries_of s) (entries_of t) more
     → told_of t ≡ told_of s ++ tails_of more → new ≡ record old { count = old.count + length rows; lives = old.lives ++ more }
     → IsBatched before rows old new s t
@@ -196,13 +196,13 @@ some_of rows before part s t i j Memory front both few left = elim left.2 [
 ]
 
 -- what a refused batch leaves of the segments
-pub refused_goes : (before part : List RowValue) (s t : SegmentsValue) (fault : LoadFault) → IsRefused before part s t fault → GoesOn s t
-refused_goes before part s t Full left = subst (GoesOn s) (sym left.1) (goes_none s)
+pub refused_goes : (before part : List RowValue) (s t : SegmentsValue) (fault : LoadFault) → IsRefused before part s t fault → SegmentsGoOn s t
+refused_goes before part s t Full left = subst (SegmentsGoOn s) (sym left.1) (goes_none s)
 refused_goes before part s t (NodesFull w) left = left.1
 refused_goes before part s t Memory left = left.1
 
 -- all batches of a load, and then the answers
-pub loads : (rows : List RowValue) (plan : LivePlan) (loader : LoaderValue) (s t u : SegmentsValue) (answered : LoadedValue) → IsSamePlan plan loader.plan → IsLoading t rows loader → GoesOn s t → told_of t ≡ told_of s ++ tails_of loader.lives
+pub loads : (rows : List RowValue) (plan : LivePlan) (loader : LoaderValue) (s t u : SegmentsValue) (answered : LoadedValue) → IsSamePlan plan loader.plan → IsLoading t rows loader → SegmentsGoOn s t → told_of t ≡ told_of s ++ tails_of loader.lives
     → IsFinished rows loader t u answered → IsLoaded rows plan s u answered
 loads rows plan loader s t u answered same is goes told made = record {
   few = (let few = is.few in let most = same_room s t goes in omega (arith, few, most));
@@ -230,7 +230,7 @@ batch_room s count k is begins few some room = elim (cases_lt 1 s.most) [
 ]
 
 -- what a batch leaves that was refused beside its rows
-pub refused : (before rows : List RowValue) (s t : SegmentsValue) (fault : LoadFault) → length before + length rows ≤ room_of s → GoesOn s t → HaveStopped before rows t fault → IsRefused before rows s t fault
+pub refused : (before rows : List RowValue) (s t : SegmentsValue) (fault : LoadFault) → length before + length rows ≤ room_of s → SegmentsGoOn s t → HaveStopped before rows t fault → IsRefused before rows s t fault
 refused before rows s t Full room goes stopped = absurd stopped
 refused before rows s t (NodesFull w) room goes stopped = (room, goes, stopped)
 refused before rows s t Memory room goes stopped = (room, goes, stopped)

@@ -17,7 +17,7 @@ use Rattle.cf_table.specs.Moves.{Begins}
 use Rattle.cf_table.proofs.Settling.{begins_then}
 use Rattle.cf_words.specs.Words.{Spot}
 use Rattle.cf_append.specs.Paths.{IsOnPath, with_nodes}
-use Rattle.cf_append.specs.Appends.{GoesOn, Rests, IsAppended, IsNodesFull, IsAnswered, with_own, marked}
+use Rattle.cf_append.specs.Appends.{PassGoesOn, Rests, IsAppended, IsNodesFull, HasAppendAnswer, with_own, with_mark}
 use Rattle.cf_append.specs.declared.appends.AppendFault.{AppendFault}
 use Rattle.cf_append.specs.declared.appends.AppendFault.TheVariants.{Full, NodesFull}
 use Rattle.cf_history.specs.Order.{rows_of}
@@ -111,7 +111,7 @@ book_is : (shape : ShapeValue) (o : ℕ) (row : RowValue) (n p : PassValue) (app
 book_is shape o row n p appended = ap (λ (bs : List Book). get_or bs 0 (no_book 0)) appended.books
 
 pub goes_own : (log : LogValue) (first : ℕ) (batch : List RowValue) (m : PassValue) (k i : ℕ) (n p : PassValue) (o : ℕ) (row : RowValue) → Goes log first batch m k i n → i < length batch → get_or batch i row ≡ row → k % (log.shape).writers ≡ (book_of m.view).writer
-    → GoesOn n p → Rests p.view → IsAppended log.shape o row n p → Goes log first batch m (k + 1) (i + 1) p
+    → PassGoesOn n p → Rests p.view → IsAppended log.shape o row n p → Goes log first batch m (k + 1) (i + 1) p
 goes_own log first batch m k i n p o row goes low at own on rest appended =
     let w = (book_of m.view).writer in
     let is = book_is log.shape o row n p appended in
@@ -130,9 +130,9 @@ goes_own log first batch m k i n p o row goes low at own on rest appended =
     }
 
 pub goes_answered : (log : LogValue) (first : ℕ) (batch : List RowValue) (m : PassValue) (k i : ℕ) (n p : PassValue) (answer : Result ℕ AppendFault) (o : ℕ) (row : RowValue) → Goes log first batch m k i n → i < length batch → get_or batch i row ≡ row → k % (log.shape).writers ≡ (book_of m.view).writer
-    → GoesOn n p → Rests p.view → IsAnswered log.shape row n p answer → answer ≡ Ok o → Goes log first batch m (k + 1) (i + 1) p
+    → PassGoesOn n p → Rests p.view → HasAppendAnswer log.shape row n p answer → answer ≡ Ok o → Goes log first batch m (k + 1) (i + 1) p
 goes_answered log first batch m k i n p answer o row goes low at own on rest answered ok =
-    goes_own log first batch m k i n p o row goes low at own on rest (subst (λ (r : Result ℕ AppendFault). IsAnswered log.shape row n p r) ok answered)
+    goes_own log first batch m k i n p o row goes low at own on rest (subst (λ (r : Result ℕ AppendFault). HasAppendAnswer log.shape row n p r) ok answered)
 
 -- the whole batch was gone through
 pub ends : (log : LogValue) (first : ℕ) (batch : List RowValue) (m : PassValue) (k i : ℕ) (n : PassValue) → Goes log first batch m k i n → length batch ≤ i → Wrote true log first batch m n
@@ -158,7 +158,7 @@ record Stopped (shape : ShapeValue) (batch : List RowValue) (m n p : PassValue) 
   pub used : UsedFor shape batch m p
 
 -- the batch stops there
-stopped_at : (whole : Bool) (log : LogValue) (first : ℕ) (batch : List RowValue) (m : PassValue) (k i : ℕ) (n p : PassValue) → Goes log first batch m k i n → GoesOn n p → Rests p.view → Stopped log.shape batch m n p → (whole ≡ true → (book_of p.view).over ≡ true) → Wrote whole log first batch m p
+stopped_at : (whole : Bool) (log : LogValue) (first : ℕ) (batch : List RowValue) (m : PassValue) (k i : ℕ) (n p : PassValue) → Goes log first batch m k i n → PassGoesOn n p → Rests p.view → Stopped log.shape batch m n p → (whole ≡ true → (book_of p.view).over ≡ true) → Wrote whole log first batch m p
 stopped_at whole log first batch m k i n p goes on rest book over = record {
   same = same_then m n p goes.same on.same;
   rest = rest;
@@ -176,15 +176,15 @@ stopped_at whole log first batch m k i n p goes on rest book over = record {
 
 -- the log was found full
 pub stops_full : (log : LogValue) (first : ℕ) (batch : List RowValue) (m : PassValue) (k i : ℕ) (n p : PassValue) (answer : Result ℕ AppendFault) (row : RowValue) → Goes log first batch m k i n → i < length batch → get_or batch i row ≡ row
-    → GoesOn n p → Rests p.view → IsAnswered log.shape row n p answer → answer ≡ Err Full → Wrote true log first batch m p
-stops_full log first batch m k i n p answer row goes low at on rest answered err = elim (subst (λ (r : Result ℕ AppendFault). IsAnswered log.shape row n p r) err answered) [
+    → PassGoesOn n p → Rests p.view → HasAppendAnswer log.shape row n p answer → answer ≡ Err Full → Wrote true log first batch m p
+stops_full log first batch m k i n p answer row goes low at on rest answered err = elim (subst (λ (r : Result ℕ AppendFault). HasAppendAnswer log.shape row n p r) err answered) [
   | inl over ↦
       let is = ap (λ (h : PassValue). book_of h.view) over.is in
       stopped_at true log first batch m k i n p goes on rest
       (record { writer = ap (λ (b : Book). b.writer) is; mine = ap (λ (b : Book). b.mine) is; used = λ j s there. goes.used j s (ap (λ (b : Book). slice_get b.used j) (sym is) ∙ there) })
       (λ whole. ap (λ (b : Book). b.over) is ∙ over.over)
   | inr late ↦
-      let is : book_of p.view ≡ marked (with_nodes late.paths.used.spots late.paths.used.label (book_of n.view)) = ap (λ (bs : List Book). get_or bs 0 (no_book 0)) late.books in
+      let is : book_of p.view ≡ with_mark (with_nodes late.paths.used.spots late.paths.used.label (book_of n.view)) = ap (λ (bs : List Book). get_or bs 0 (no_book 0)) late.books in
       stopped_at true log first batch m k i n p goes on rest
       (record {
         writer = ap (λ (b : Book). b.writer) is;
@@ -196,10 +196,10 @@ stops_full log first batch m k i n p answer row goes low at on rest answered err
 
 -- the writer's nodes are used up
 pub stops_out : (log : LogValue) (first : ℕ) (batch : List RowValue) (m : PassValue) (k i : ℕ) (n p : PassValue) (answer : Result ℕ AppendFault) (row : RowValue) → Goes log first batch m k i n → i < length batch → get_or batch i row ≡ row
-    → GoesOn n p → Rests p.view → IsAnswered log.shape row n p answer → answer ≡ Err NodesFull → Wrote false log first batch m p
+    → PassGoesOn n p → Rests p.view → HasAppendAnswer log.shape row n p answer → answer ≡ Err NodesFull → Wrote false log first batch m p
     × ((w : ℕ) → w ≡ (book_of m.view).writer → k % (log.shape).writers ≡ (book_of m.view).writer → RunsOut log first batch w m p)
 stops_out log first batch m k i n p answer row goes low at on rest answered err =
-    let out : IsNodesFull log.shape row n p = subst (λ (r : Result ℕ AppendFault). IsAnswered log.shape row n p r) err answered in
+    let out : IsNodesFull log.shape row n p = subst (λ (r : Result ℕ AppendFault). HasAppendAnswer log.shape row n p r) err answered in
     let is : book_of p.view ≡ with_nodes out.used.spots out.used.label (book_of n.view) = ap (λ (bs : List Book). get_or bs 0 (no_book 0)) out.used.books in
     let writer : (book_of p.view).writer ≡ (book_of n.view).writer = ap (λ (b : Book). b.writer) is in (
       stopped_at false log first batch m k i n p goes on rest

@@ -12,7 +12,7 @@ use Rattle.cf_load.specs.Blocks.{block}
 use Rattle.cf_load.specs.Loading.{HasAnswered}
 use Rattle.cf_load.specs.Loads.{LacksNodes, room_of}
 use Rattle.cf_load.specs.Planned.{IsPlan, IsSamePlan, marks_on, tails_of}
-use Rattle.cf_load.specs.Segments.{SegmentsValue, HoldsRows, GoesOn, KeepsAll, base_of, entries_of, told_of}
+use Rattle.cf_load.specs.Segments.{SegmentsValue, HoldsRows, SegmentsGoOn, KeepsAll, base_of, entries_of, told_of}
 
 -- what it asks, how many rows it has loaded, the live answers so far, and whether a batch was refused
 pub record LoaderValue : Type 0 where
@@ -42,7 +42,7 @@ pub record IsLoading (s : SegmentsValue) (rows : List RowValue) (loader : Loader
 -- A batch is loaded after the rows before it, and the current segment has all its rows. The loader has the answers that came beside
 -- it, and a root was told of them.
 pub record IsBatched (before rows : List RowValue) (old new : LoaderValue) (s t : SegmentsValue) : Type 0 where
-  pub same : GoesOn s t
+  pub same : SegmentsGoOn s t
   pub within : base_of t ≤ length before
   pub more : List Live
   pub loader : new ≡ record old { count = old.count + length rows; lives = old.lives ++ more }
@@ -55,8 +55,8 @@ pub record IsBatched (before rows : List RowValue) (old new : LoaderValue) (s t 
 -- after want of memory the segments have all rows of the batch, or none.
 abbrev pub IsRefused : List RowValue → List RowValue → SegmentsValue → SegmentsValue → LoadFault → Type 0
 IsRefused before rows s t Full = (room_of s < length before + length rows) × (t ≡ s)
-IsRefused before rows s t (NodesFull writer) = (length before + length rows ≤ room_of s) × GoesOn s t × LacksNodes t (before ++ rows) writer
-IsRefused before rows s t Memory = (length before + length rows ≤ room_of s) × GoesOn s t × (HoldsRows t before ⊎ HoldsRows t (before ++ rows))
+IsRefused before rows s t (NodesFull writer) = (length before + length rows ≤ room_of s) × SegmentsGoOn s t × LacksNodes t (before ++ rows) writer
+IsRefused before rows s t Memory = (length before + length rows ≤ room_of s) × SegmentsGoOn s t × (HoldsRows t before ⊎ HoldsRows t (before ++ rows))
 
 -- The answers at the end: the final ones and the marks on all entries, which stay as they are, and the live ones that came before.
 pub record IsFinished (rows : List RowValue) (loader : LoaderValue) (before after : SegmentsValue) (answered : LoadedValue) : Type 0 where

@@ -12,7 +12,7 @@ use Rattle.cf_load.specs.Blocks.{block}
 use Rattle.cf_load.specs.Loading.{HasAnswered}
 use Rattle.cf_load.specs.Needed.{HasRunOut}
 use Rattle.cf_load.specs.Planned.{marks_on, tails_of}
-use Rattle.cf_load.specs.Segments.{SegmentsValue, IsSegments, HoldsRows, GoesOn, base_of, entries_of, told_of}
+use Rattle.cf_load.specs.Segments.{SegmentsValue, IsSegments, HoldsRows, SegmentsGoOn, base_of, entries_of, told_of}
 
 -- how many rows all segments have room for
 abbrev pub room_of : SegmentsValue → ℕ
@@ -22,7 +22,7 @@ room_of s = s.most * (s.shape).capacity
 -- marks on all entries, the live ones, in their turns, on as many of them as they saw. The roots were told of the live ones.
 pub record IsLoaded (rows : List RowValue) (plan : LivePlan) (before after : SegmentsValue) (answered : LoadedValue) : Type 0 where
   pub few : length rows ≤ room_of before
-  pub same : GoesOn before after
+  pub same : SegmentsGoOn before after
   pub loaded : HoldsRows after rows
   pub finals : answered.finals ≡ map (answer_on before.shape (entries_of after)) plan.asks.items
   pub alerts : answered.alerts ≡ map (marks_on before.shape (entries_of after)) plan.triggers.items
@@ -67,5 +67,5 @@ HasSome rows s Memory = HoldsSome s rows
 abbrev pub Loads : List RowValue → LivePlan → SegmentsValue → SegmentsValue → Result LoadedValue LoadFault → Type 0
 Loads rows plan s t (Ok answered) = IsLoaded rows plan s t answered
 Loads rows plan s t (Err Full) = (room_of s < length rows) × (t ≡ s)
-Loads rows plan s t (Err (NodesFull writer)) = (length rows ≤ room_of s) × GoesOn s t × LacksNodes t rows writer
-Loads rows plan s t (Err Memory) = (length rows ≤ room_of s) × GoesOn s t × HoldsSome t rows
+Loads rows plan s t (Err (NodesFull writer)) = (length rows ≤ room_of s) × SegmentsGoOn s t × LacksNodes t rows writer
+Loads rows plan s t (Err Memory) = (length rows ≤ room_of s) × SegmentsGoOn s t × HoldsSome t rows

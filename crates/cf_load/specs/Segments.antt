@@ -116,7 +116,7 @@ AreFirst (segment ∷ segments) [] = ⊥
 AreFirst (segment ∷ segments) (other ∷ others) = IsSameSegment segment other × AreFirst segments others
 
 -- They are the same segments, and others may have come behind them.
-pub record GoesOn (before after : SegmentsValue) : Type 0 where
+pub record SegmentsGoOn (before after : SegmentsValue) : Type 0 where
   pub shape : after.shape ≡ before.shape
   pub most : after.most ≡ before.most
   pub first : AreFirst (all_of before) (all_of after)

@@ -10,7 +10,7 @@ ghost use Rattle.cf_load.specs.Planned.{IsPlan, tails_of};
 ghost use Rattle.cf_load.specs.Priors.{IsPrior, entries_before};
 ghost use Rattle.cf_query.specs.Walking.{AsksOne, AsksBucket};
 ghost use Rattle.cf_load.specs.Costs.{CountLoads, bucket_steps_in, key_steps_in};
-ghost use Rattle.cf_load.specs.Segments.{GoesOn, HoldsRows, KeepsAll, all_of, base_of, entries_of, seen_of, told_of};
+ghost use Rattle.cf_load.specs.Segments.{SegmentsGoOn, HoldsRows, KeepsAll, all_of, base_of, entries_of, seen_of, told_of};
 ghost use Rattle.cf_load.specs.declared.loads.LoadFault.TheVariants.{Memory as NoMemory};
 
 use crate::batch::load_batch;
@@ -91,7 +91,7 @@ impl Segments {
     pub(crate) fn make_room(&mut self, alloc: Global, count: u32) -> Result<(), LoadFault>
         requires holds { (rows : List RowValue) × (length rows ≡ count) × HoldsRows self.old rows }
         requires room { count < room_of self.old }
-        ensures same { GoesOn self.old self.new }
+        ensures same { SegmentsGoOn self.old self.new }
         ensures entries { entries_of self.new ≡ entries_of self.old }
         ensures told { told_of self.new ≡ told_of self.old }
         ensures holds { (rows : List RowValue) → length rows ≡ count → HoldsRows self.old rows → HoldsRows self.new rows }
@@ -124,7 +124,7 @@ impl Segments {
         requires fits { All (Fits self.old.shape.schema) rows.now }
         requires few { length rows.now ≤ 4096 }
         requires room { 4096 * batch + length rows.now ≤ base_of self.old + self.old.shape.capacity }
-        ensures same { GoesOn self.old self.new }
+        ensures same { SegmentsGoOn self.old self.new }
         ensures base { base_of self.new ≡ base_of self.old }
         ensures loaded { (before : List RowValue) → length before ≡ 4096 * batch → HoldsRows self.old before → MatchResult result (λ _. HoldsRows self.new (before ++ rows.now)) (HaveStopped before rows.now self.new) }
         ensures asked { IfOk result (λ more. AsksBeside self.old.shape plan.now batch (entries_of self.old) (entries_of self.new) more.items) }

@@ -4,7 +4,7 @@ ghost use Rattle.cf_row.specs.Row.{Fits};
 ghost use Rattle.cf_load.specs.Loaders.{IsLoading};
 ghost use Rattle.cf_load.specs.Planned.{IsPlan, tails_of};
 ghost use Rattle.cf_load.specs.Loads.{HasSome, Loads, room_of};
-ghost use Rattle.cf_load.specs.Segments.{GoesOn, HoldsRows, told_of};
+ghost use Rattle.cf_load.specs.Segments.{SegmentsGoOn, HoldsRows, told_of};
 ghost use Rattle.cf_load.specs.declared.loads.LoadFault.TheVariants.{Memory as NoMemory};
 
 use crate::{LivePlan, Loader, Segments};
@@ -53,7 +53,7 @@ fn load_batches<R: Threads + Sync, G: Gate>(
     requires none { loader.old.lives ≡ [] }
     requires fits { All (Fits segments.old.shape.schema) rows.now }
     requires few { length rows.now ≤ room_of segments.old }
-    ensures same { GoesOn segments.old segments.new }
+    ensures same { SegmentsGoOn segments.old segments.new }
     ensures loading { IfOk result (λ _. IsLoading segments.new rows.now loader.new) }
     ensures plan { IfOk result (λ _. loader.new.plan ≡ loader.old.plan) }
     ensures told { IfOk result (λ _. told_of segments.new ≡ told_of segments.old ++ tails_of loader.new.lives) }

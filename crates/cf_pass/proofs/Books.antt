@@ -3,14 +3,14 @@ use Rattle.std.proofs.Common.{◌≡◌, ℕ, ◌-◌, zero, suc, List, [], ◌�
 use Rattle.cf_words.specs.Words.{Spot}
 use Rattle.cf_law.specs.Passes.{Book, Pass}
 use Rattle.cf_law.specs.Steps.{without, pass_with_book, pass_with_node, book_with_node, pass_with_look, pass_with_link, pass_with_child}
-use Rattle.cf_law.specs.Events.{table}
+use Rattle.cf_law.specs.Events.{tabulated}
 
-pub table_none : {A : Type 0} (f : ℕ → A) → table f 0 ≡ []
-unfolding table
+pub table_none : {A : Type 0} (f : ℕ → A) → tabulated f 0 ≡ []
+unfolding tabulated
 table_none f = refl
 
-pub table_more : {A : Type 0} (f : ℕ → A) (n : ℕ) → table f (suc n) ≡ table f n ++ f n ∷ []
-unfolding table
+pub table_more : {A : Type 0} (f : ℕ → A) (n : ℕ) → tabulated f (suc n) ≡ tabulated f n ++ f n ∷ []
+unfolding tabulated
 table_more f n = refl
 
 pub but_is : {A : Type 0} (k : ℕ) (xs : List A) → without k xs ≡ take k xs ++ drop (suc k) xs

@@ -22,8 +22,8 @@ abbrev pub NoneHeld : Pass → ℕ → Type 0
 NoneHeld p w = (j : ℕ) (b : Book) → Holds p j b → b.writer ≡ w → ⊥
 
 -- the walk's link names the cell of that ticket in the walk's own lane
-abbrev pub Names : Cursor → ℕ → ℕ → Type 0
-Names c offset lane = (c.link ≡ suc offset) × (c.spot.lane ≡ lane)
+abbrev pub NamesTicket : Cursor → ℕ → ℕ → Type 0
+NamesTicket c offset lane = (c.link ≡ suc offset) × (c.spot.lane ≡ lane)
 
 -- the walk went by that ticket, whose cell's first word was found
 abbrev pub gone_on_of : Cursor → ℕ → ℕ → Cursor

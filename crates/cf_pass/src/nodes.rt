@@ -2,7 +2,7 @@
 ghost use Rattle.std.specs.Prelude.{◌≡◌, ◌<◌, ◌^◌, ◌∷◌, [], IfOk, IsTrue, ◌↔◌, length};
 ghost use Rattle.cf_words.specs.Words.{spot as spot_of};
 ghost use Rattle.cf_law.specs.Steps.{met_of, cursor_after_cell as walk_on_of};
-ghost use Rattle.cf_pass.specs.Books.{gone_on_of, Names};
+ghost use Rattle.cf_pass.specs.Books.{gone_on_of, NamesTicket};
 
 use cf_row::Memory;
 use std::alloc::Global;
@@ -174,7 +174,7 @@ impl Walk {
 
     // Whether the link names the cell of that ticket in the walk's own lane.
     pub(crate) fn names(&self, offset: u32, lane: u8) -> bool
-        ensures { IsTrue result ↔ Names self.now offset lane }
+        ensures { IsTrue result ↔ NamesTicket self.now offset lane }
     {
         self.link == u64::from(offset) + 1 && self.spot.lane == lane
     }

@@ -2,7 +2,7 @@
 ghost use Rattle.std.specs.Prelude.{◌≡◌, ℕ, ◌+◌, ◌-◌, ◌*◌, ◌^◌, ◌<◌, ◌≤◌, ◌++◌, ◌∷◌, List, [], length, take, IfOk, IsTrue, ◌↔◌, Some, None, MatchOption, slice_get, set, false};
 ghost use Rattle.cf_law.specs.Passes.{Book, Pass};
 ghost use Rattle.cf_law.specs.Steps.{pass_with_book, pass_with_look, pass_with_tail, book_with_label, book_with_node, pass_with_link, pass_with_child, pass_with_head, pass_with_cell, pass_that_sees, book_with_word, book_with_head, book_with_record, new_pass, spent_pass, joined_pass, without, IsAtRest, HoldsInFlight, Holds, Knows, IsOwn, IsNamed};
-ghost use Rattle.cf_law.specs.Events.{table, no_book};
+ghost use Rattle.cf_law.specs.Events.{tabulated, no_book};
 ghost use Rattle.cf_pass.specs.Books.{MayTake, ticketed_at, NoneFlies, NoneHeld, NoneKnown, IsFreeIn, IsFree, NoneFree, HasFinished, HasOpen, Owns, MayRead};
 
 use crate::nodes::{
@@ -819,7 +819,7 @@ fn both_seen(alloc: Global, one: &[Entry], other: &[Entry]) -> Result<Vec<Entrie
 
 /// Empty books of that many writers.
 pub fn empty_books(alloc: Global, writers: u8) -> Result<Vec<WriterBook>, Memory>
-    ensures { IfOk result (λ books. books.items ≡ table no_book writers) }
+    ensures { IfOk result (λ books. books.items ≡ tabulated no_book writers) }
 {
     let mut books = Vec::with_capacity(alloc, writers as usize)?;
     for writer in 0..writers {

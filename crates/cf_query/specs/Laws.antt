@@ -10,7 +10,7 @@ use Rattle.cf_plain.specs.declared.answer.Body.{Body}
 use Rattle.cf_table.specs.Moves.{Begins, SealValue}
 
 -- the question was answered on some beginning of the log
-pub record IsAnswered (shape : ShapeValue) (entries : List Entry) (t : AskReply Ask Body) : Type 0 where
+pub record IsAskAnswered (shape : ShapeValue) (entries : List Entry) (t : AskReply Ask Body) : Type 0 where
   pub seen : List Entry
   pub begins : Begins seen entries
   pub tail : t.tail ≡ length seen
@@ -20,4 +20,4 @@ pub record IsAnswered (shape : ShapeValue) (entries : List Entry) (t : AskReply 
 -- history of one thread.
 abbrev pub SealsAreHistories : Type 0
 SealsAreHistories =
-    (shape : ShapeValue) (seal : SealValue) (passes : List (List (AskReply Ask Body))) → AllByRecursion (AllByRecursion (IsAnswered shape seal.entries)) passes → NeverGoBack passes → IsHistoryOf (eval shape) seal.entries passes (spell seal.entries passes)
+    (shape : ShapeValue) (seal : SealValue) (passes : List (List (AskReply Ask Body))) → AllByRecursion (AllByRecursion (IsAskAnswered shape seal.entries)) passes → NeverGoBack passes → IsHistoryOf (eval shape) seal.entries passes (spell seal.entries passes)

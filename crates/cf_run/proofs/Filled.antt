@@ -16,7 +16,7 @@ use Rattle.cf_load.specs.Loaders.{LoaderValue, IsFresh, IsLoading, IsBatched, Is
 use Rattle.cf_load.specs.Loading.{HasAnswered}
 use Rattle.cf_load.specs.Loads.{LacksNodes, room_of}
 use Rattle.cf_load.specs.Planned.{tails_of, marks_on}
-use Rattle.cf_load.specs.Segments.{SegmentsValue, GoesOn, HoldsRows, KeepsSegment, all_of, entries_of, sealed, told_of}
+use Rattle.cf_load.specs.Segments.{SegmentsValue, SegmentsGoOn, HoldsRows, KeepsSegment, all_of, entries_of, sealed, told_of}
 use Rattle.cf_load.specs.declared.plan.LivePlan.{LivePlan}
 use Rattle.cf_load.specs.declared.loads.LoadFault.{LoadFault}
 use Rattle.cf_load.specs.declared.loads.LoadFault.TheVariants.{Full, NodesFull}
@@ -62,7 +62,7 @@ none_filled s plan loader waiting count holds one told fresh begins none zero = 
 }
 
 -- whatever a batch comes to, the segments go on
-pub batch_goes : {T : Type 0} (before waiting : List RowValue) (old new : LoaderValue) (s t : SegmentsValue) (result : Result T LoadFault) → MatchResult result (λ x. IsBatched before waiting old new s t) (IsRefused before waiting s t) → GoesOn s t
+pub batch_goes : {T : Type 0} (before waiting : List RowValue) (old new : LoaderValue) (s t : SegmentsValue) (result : Result T LoadFault) → MatchResult result (λ x. IsBatched before waiting old new s t) (IsRefused before waiting s t) → SegmentsGoOn s t
 batch_goes before waiting old new s t (Ok x) made = made.same
 batch_goes before waiting old new s t (Err fault) left = refused_goes before waiting s t fault left
 

@@ -5,9 +5,9 @@ use Rattle.cf_row.specs.Words.{word_count}
 use Rattle.cf_shape.specs.Lanes.{ShapeValue}
 use Rattle.cf_shape.specs.Uses.{Use, use_at, cell_count, cells_before, ticket_words}
 use Rattle.cf_shape.specs.Uses.Use.{plain as plain_use, version as version_use}
-use Rattle.cf_shape.specs.Places.{Sizes, Slot, place, IsReal, node_words, word_total, sizes_of, Word, Exists, slot_of}
+use Rattle.cf_shape.specs.Places.{Sizes, Slot, place, IsReal, node_words, word_total, sizes_of, WordName, Exists, slot_of}
 use Rattle.cf_shape.specs.Places.Slot.{tail, cell, root, body}
-use Rattle.cf_shape.specs.Places.Word.{write_tail, read_tail, word, version, done, root_child, label, child, head}
+use Rattle.cf_shape.specs.Places.WordName.{write_tail, read_tail, word, version, done, root_child, label, child, head}
 use Rattle.cf_shape.specs.Laws.{PlacesDiffer}
 use Rattle.cf_shape.proofs.Used.{plain_at, version_at, before_fits}
 
@@ -37,12 +37,12 @@ place_within g (cell o i) r = omega (arith, mul-add-lt o g.ticket_words i g.tick
 place_within g (root l d) r = omega (arith, mul-add-lt l 16 d g.lanes r.0 r.1)
 place_within g (body n j) r = omega (arith, mul-add-lt n (node_words g) j (g.writers * g.nodes) r.0 r.1)
 
-abbrev by_use : ℕ → Use → Word
+abbrev by_use : ℕ → Use → WordName
 by_use o (plain_use i) = word o i
 by_use o (version_use l i) = version o l i
 
 -- the word that has a slot
-abbrev named : ShapeValue → (ℕ → Bool) → Slot → Word
+abbrev named : ShapeValue → (ℕ → Bool) → Slot → WordName
 named s f (tail zero) = write_tail
 named s f (tail (suc k)) = read_tail
 named s f (cell o i) = cond (suc i == ticket_words s) (done o) (by_use o (use_at s i))
@@ -50,7 +50,7 @@ named s f (root l d) = root_child l d
 named s f (body n zero) = label n
 named s f (body n (suc j)) = cond (f n) (child n j) (head n (j / s.writers) (j % s.writers))
 
-named_back : (s : ShapeValue) (f : ℕ → Bool) (w : Word) → Exists s f w → named s f (slot_of s w) ≡ w
+named_back : (s : ShapeValue) (f : ℕ → Bool) (w : WordName) → Exists s f w → named s f (slot_of s w) ≡ w
 named_back s f write_tail e = refl
 named_back s f read_tail e = refl
 named_back s f (word o i) e =
@@ -79,7 +79,7 @@ some_writers : (n w m : ℕ) → n < w * m → 0 < w
 some_writers n zero m lt = absurd (omega arith)
 some_writers n (suc w) m lt = omega arith
 
-slot_real : (s : ShapeValue) (f : ℕ → Bool) (w : Word) → Exists s f w → IsReal (sizes_of s) (slot_of s w)
+slot_real : (s : ShapeValue) (f : ℕ → Bool) (w : WordName) → Exists s f w → IsReal (sizes_of s) (slot_of s w)
 slot_real s f write_tail e = omega arith
 slot_real s f read_tail e = omega arith
 slot_real s f (word o i) e = (e.0, (let lt = e.1 in omega arith))

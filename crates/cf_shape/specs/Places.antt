@@ -62,19 +62,19 @@ abbrev pub StandsAt : ShapeValue → ℕ → ℕ → Type 0
 StandsAt shape roots nodes = (roots ≡ roots_at (sizes_of shape)) × (nodes ≡ nodes_at (sizes_of shape))
 
 -- The words by name. A node has children, or heads at the last level.
-pub data Word : Type 0 where
-  write_tail : Word
-  read_tail : Word
-  word : ℕ → ℕ → Word
-  version : ℕ → ℕ → ℕ → Word
-  done : ℕ → Word
-  root_child : ℕ → ℕ → Word
-  label : ℕ → Word
-  child : ℕ → ℕ → Word
-  head : ℕ → ℕ → ℕ → Word
+pub data WordName : Type 0 where
+  write_tail : WordName
+  read_tail : WordName
+  word : ℕ → ℕ → WordName
+  version : ℕ → ℕ → ℕ → WordName
+  done : ℕ → WordName
+  root_child : ℕ → ℕ → WordName
+  label : ℕ → WordName
+  child : ℕ → ℕ → WordName
+  head : ℕ → ℕ → ℕ → WordName
 
 -- the word exists, where `is_inner` says which nodes have children
-abbrev pub Exists : ShapeValue → (ℕ → Bool) → Word → Type 0
+abbrev pub Exists : ShapeValue → (ℕ → Bool) → WordName → Type 0
 Exists shape is_inner write_tail = Unit {0}
 Exists shape is_inner read_tail = Unit {0}
 Exists shape is_inner (word offset i) = (offset < shape.capacity) × (i < word_count shape.schema + 1)
@@ -86,7 +86,7 @@ Exists shape is_inner (child node d) = (node < shape.writers * shape.nodes) × (
 Exists shape is_inner (head node d writer) = (node < shape.writers * shape.nodes) × (d < 16) × (writer < shape.writers) × (is_inner node ≡ false)
 
 -- the slot of a word
-abbrev pub slot_of : ShapeValue → Word → Slot
+abbrev pub slot_of : ShapeValue → WordName → Slot
 slot_of shape write_tail = tail 0
 slot_of shape read_tail = tail 1
 slot_of shape (word offset i) = cell offset i
@@ -98,5 +98,5 @@ slot_of shape (child node d) = body node (suc d)
 slot_of shape (head node d writer) = head_slot (sizes_of shape) node d writer
 
 -- the place of a word
-abbrev pub place_of : ShapeValue → Word → ℕ
+abbrev pub place_of : ShapeValue → WordName → ℕ
 place_of shape w = place (sizes_of shape) (slot_of shape w)

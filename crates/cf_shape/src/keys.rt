@@ -1,8 +1,9 @@
 // What a lane says of a row.
 ghost use Rattle.std.specs.Prelude.{◌≡◌, ◌<◌, length};
 ghost use Rattle.cf_row.specs.Row.{Fits};
-ghost use Rattle.cf_shape.specs.Lanes.{key_of, selected_by, measure_of};
+ghost use Rattle.cf_shape.specs.Lanes.{key_of, lane_at, selected_by, measure_of};
 ghost use Rattle.cf_shape.specs.Nodes.{levels_of};
+ghost use Rattle.cf_shape.specs.Uses.{cell_words, is_measured};
 
 use crate::kinds::key_nibbles;
 use crate::{Key, Shape};
@@ -39,6 +40,22 @@ pub fn measure(shape: &Shape, lane: u8, row: &Row) -> u32
         Some(attr) => row.number(attr) as u32,
         None => 0,
     }
+}
+
+/// Whether the lane measures an attribute of its rows.
+pub fn measures(shape: &Shape, lane: u8) -> bool
+    requires exists { lane < length shape.now.lanes }
+    ensures { result ≡ is_measured shape.now lane }
+{
+    shape.lane(lane).measure.is_some()
+}
+
+/// How many words the lane's cell has: 3 where it measures an attribute, else 1.
+pub fn cell_size(shape: &Shape, lane: u8) -> u8
+    requires exists { lane < length shape.now.lanes }
+    ensures { result ≡ cell_words (lane_at shape.now lane) }
+{
+    if measures(shape, lane) { 3 } else { 1 }
 }
 
 /// How many nibbles the lane's keys have: 2, 4, 8 or 16 for keys of 1, 2, 4 or 8 bytes, and 16 for buckets.

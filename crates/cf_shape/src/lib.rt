@@ -13,7 +13,7 @@ mod shape;
 #[cfg(test)]
 mod tests;
 
-pub use keys::{key, levels, measure, selects};
+pub use keys::{cell_size, key, levels, measure, measures, selects};
 pub use lane::{Key, Lane, belongs};
 pub use laws::places_differ;
 pub use places::{

@@ -5,7 +5,7 @@ ghost use Rattle.cf_shape.specs.Lanes.{IsShape, lane_at};
 ghost use Rattle.cf_shape.specs.Uses.{cell_words, ticket_words};
 ghost use Rattle.cf_shape.specs.Places.{place, place_of, sizes_of, IsReal, word_total as word_total_of, roots_at as roots_at_of, nodes_at as nodes_at_of};
 ghost use Rattle.cf_shape.specs.Places.Slot.{cell, root, body};
-ghost use Rattle.cf_shape.specs.Places.Word.{write_tail, read_tail, word, version, done, root_child, label, child, head};
+ghost use Rattle.cf_shape.specs.Places.WordName.{write_tail, read_tail, word, version, done, root_child, label, child, head};
 
 use crate::Shape;
 use crate::lane::cell_count;

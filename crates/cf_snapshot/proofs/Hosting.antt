@@ -10,7 +10,7 @@ use Rattle.cf_lemmas.proofs.Truths.{eq_true}
 use Rattle.cf_lemmas.proofs.Lists.{get_push_same}
 use Rattle.cf_law.specs.Passes.{Own, Book, Pass}
 use Rattle.cf_law.specs.Steps.{Holds}
-use Rattle.cf_law.specs.Events.{table, no_book}
+use Rattle.cf_law.specs.Events.{tabulated, no_book}
 use Rattle.cf_law.specs.Readers.{mine_from}
 use Rattle.cf_law.proofs.Fronts.{table_length, table_at}
 use Rattle.cf_table.specs.Values.{PassValue, LogValue, book_of}
@@ -19,7 +19,7 @@ use Rattle.cf_table.specs.Moves.{Begins, AreDealt, AreFit, HasAll, MarkedIsFull,
 use Rattle.cf_table.proofs.Counting.{AreBelow}
 use Rattle.cf_table.proofs.Folds.{all_of}
 use Rattle.cf_table.proofs.Settling.{begins_then}
-use Rattle.cf_append.specs.Appends.{GoesOn, Rests, IsAnswered}
+use Rattle.cf_append.specs.Appends.{PassGoesOn, Rests, HasAppendAnswer}
 use Rattle.cf_append.specs.declared.appends.AppendFault.{AppendFault}
 use Rattle.cf_append.specs.declared.appends.AppendFault.TheVariants.{Full, NodesFull}
 use Rattle.cf_append.proofs.Appending.{rests_by, rests_all}
@@ -129,7 +129,7 @@ module _ (log : LogValue) (m o : PassValue) (before : IsAlone log m) (now : IsAl
   all_taken b is over same = (ap (λ (es : List Entry). length es) (sym same) ∙ now.full 0 (book_of o.view) (holds_its o.view now.rest) (ap (λ (c : Book). c.over) is ∙ over), same)
 
 -- A row was appended, and the read tail moved on.
-pub covered : (log : LogValue) (row : RowValue) (m n o : PassValue) (r : Result ℕ AppendFault) → IsAlone log m → GoesOn m n → GoesOn n o → IsAnswered log.shape row m n r → IsAlone log o → (o.view).books ≡ (n.view).books → HasCovered log.shape row (m.view).seen (o.view).seen r
+pub covered : (log : LogValue) (row : RowValue) (m n o : PassValue) (r : Result ℕ AppendFault) → IsAlone log m → PassGoesOn m n → PassGoesOn n o → HasAppendAnswer log.shape row m n r → IsAlone log o → (o.view).books ≡ (n.view).books → HasCovered log.shape row (m.view).seen (o.view).seen r
 covered log row m n o (Ok at) before on then done now books =
     let begins = begins_then (m.view).seen (n.view).seen (o.view).seen on.longer then.longer in
     let is = ap (λ (bs : List Book). get_or bs 0 (no_book 0)) (books ∙ done.books) in
@@ -151,7 +151,7 @@ covered log row m n o (Err NodesFull) before on then done now books =
     none_seen log m o before now begins (ap (λ (b : Book). b.mine) is)
 
 -- and the log has its one writer's pass as before
-pub alone_then : (log : LogValue) (row : RowValue) (m n o : PassValue) (r : Result ℕ AppendFault) → IsAlone log m → GoesOn m n → Rests n.view → IsAnswered log.shape row m n r → GoesOn n o → (o.view).books ≡ (n.view).books → AreFit log.shape o.view
+pub alone_then : (log : LogValue) (row : RowValue) (m n o : PassValue) (r : Result ℕ AppendFault) → IsAlone log m → PassGoesOn m n → Rests n.view → HasAppendAnswer log.shape row m n r → PassGoesOn n o → (o.view).books ≡ (n.view).books → AreFit log.shape o.view
     → ((log.shape).writers ≡ 1 → Rests o.view → HasAll o.view) → ((log.shape).writers ≡ 1 → Rests o.view → MarkedIsFull log.shape o.view) → IsAlone log o
 alone_then log row m n o r alone on rest done then books fit all full =
     let rests : Rests o.view = rests_same n.view o.view books rest in
@@ -174,7 +174,7 @@ settled log h alone = record {
 }
 
 -- the place of an answer, or 0, is one of the log's
-pub placed : (shape : ShapeValue) (row : RowValue) (m n : PassValue) (r : Result ℕ AppendFault) → 0 < shape.capacity → IsAnswered shape row m n r → result_unwrap_or r 0 < shape.capacity
+pub placed : (shape : ShapeValue) (row : RowValue) (m n : PassValue) (r : Result ℕ AppendFault) → 0 < shape.capacity → HasAppendAnswer shape row m n r → result_unwrap_or r 0 < shape.capacity
 placed shape row m n (Ok o) some done = done.room
 placed shape row m n (Err fault) some done = some
 
@@ -185,7 +185,7 @@ covered_more shape row before entries (Ok o) few has =
 covered_more shape row before entries (Err fault) few has = tt
 
 -- The nodes that were used.
-pub used_for : (shape : ShapeValue) (row : RowValue) (m n o : PassValue) (r : Result ℕ AppendFault) → IsAnswered shape row m n r → (o.view).books ≡ (n.view).books → HasUsedFor shape row (book_of m.view).used (book_of o.view).used r
+pub used_for : (shape : ShapeValue) (row : RowValue) (m n o : PassValue) (r : Result ℕ AppendFault) → HasAppendAnswer shape row m n r → (o.view).books ≡ (n.view).books → HasUsedFor shape row (book_of m.view).used (book_of o.view).used r
 used_for shape row m n o (Ok at) done books = record {
   spots = done.paths.used.spots;
   is = ap (λ (bs : List Book). (get_or bs 0 (no_book 0)).used) (books ∙ done.books);
@@ -259,7 +259,7 @@ pub opened_used : (log : LogValue) (m n h : PassValue) (hs : List PassValue) →
 opened_used log m n h hs one is dealt at =
     let d = dealt.each 0 h at in
     let w = (log.shape).writers in
-    let there : slice_get (table no_book w) 0 ≡ Some d.book = ap (λ (p : Pass). slice_get p.books 0) (sym is) ∙ d.at in
+    let there : slice_get (tabulated no_book w) 0 ≡ Some d.book = ap (λ (p : Pass). slice_get p.books 0) (sym is) ∙ d.at in
     let lt : 0 < w = omega (arith, one) in
     let e : no_book 0 ≡ d.book = (let f : Some (no_book 0) ≡ Some d.book = sym (table_at no_book w 0 lt) ∙ there in cc f) in
     ap (λ (p : Pass). (book_of p).used) d.view ∙ ap (λ (b : Book). b.used) (sym e)
@@ -268,7 +268,7 @@ pub opened : (log : LogValue) (m n h : PassValue) (hs : List PassValue) → (log
 opened log m n h hs one is dealt at =
     let d = dealt.each 0 h at in
     let w = (log.shape).writers in
-    let there : slice_get (table no_book w) 0 ≡ Some d.book = ap (λ (p : Pass). slice_get p.books 0) (sym is) ∙ d.at in
+    let there : slice_get (tabulated no_book w) 0 ≡ Some d.book = ap (λ (p : Pass). slice_get p.books 0) (sym is) ∙ d.at in
     let lt : 0 < w = omega (arith, one) in
     let e : no_book 0 ≡ d.book = (let f : Some (no_book 0) ≡ Some d.book = sym (table_at no_book w 0 lt) ∙ there in cc f) in
     let books : (h.view).books ≡ d.book ∷ [] = ap (λ (p : Pass). p.books) d.view in

@@ -7,7 +7,7 @@ use Rattle.cf_shape.specs.Lanes.{ShapeValue, lane_at}
 use Rattle.cf_shape.specs.Uses.{cell_count, cell_words, ticket_words}
 use Rattle.cf_shape.specs.Places.{Slot, place, place_of, sizes_of, IsReal, head_slot}
 use Rattle.cf_shape.specs.Places.Slot.{cell}
-use Rattle.cf_shape.specs.Places.Word.{done, version, label as label_word}
+use Rattle.cf_shape.specs.Places.WordName.{done, version, label as label_word}
 use Rattle.cf_shape.proofs.Used.{before_fits}
 use Rattle.cf_words.specs.Words.{Spot, Layout}
 use Rattle.cf_law.specs.Passes.{Book, Pass}

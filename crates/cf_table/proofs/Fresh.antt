@@ -4,7 +4,7 @@ use Rattle.std.specs.Option.{option_to_list}
 use Rattle.std.proofs.lemmas.Option.{slice_get_within}
 use Rattle.cf_lemmas.proofs.Lists.{get_push_same}
 use Rattle.cf_law.specs.Passes.{Book, Pass}
-use Rattle.cf_law.specs.Events.{table, no_book}
+use Rattle.cf_law.specs.Events.{tabulated, no_book}
 use Rattle.cf_law.proofs.Fronts.{table_length, table_at}
 use Rattle.cf_table.specs.Values.{PassValue, LogValue}
 use Rattle.cf_table.specs.Rule.{root_pass}
@@ -28,8 +28,8 @@ pub dealt_fresh : (log : LogValue) (m n : PassValue) (hs : List PassValue) → m
 dealt_fresh log m n hs is dealt k h at =
     let d = dealt.each k h at in
     let w = (log.shape).writers in
-    let there : slice_get (table no_book w) k ≡ Some d.book = ap (λ (p : Pass). slice_get p.books k) (sym is) ∙ d.at in
-    let lt : k < w = omega (arith, slice_get_within (table no_book w) k d.book there, table_length no_book w) in
+    let there : slice_get (tabulated no_book w) k ≡ Some d.book = ap (λ (p : Pass). slice_get p.books k) (sym is) ∙ d.at in
+    let lt : k < w = omega (arith, slice_get_within (tabulated no_book w) k d.book there, table_length no_book w) in
     let e : no_book k ≡ d.book = (let f : Some (no_book k) ≡ Some d.book = sym (table_at no_book w k lt) ∙ there in cc f) in record {
       of = d.of;
       book = d.book;

@@ -9,7 +9,7 @@ use Rattle.cf_law.specs.Shapes.{layout}
 use Rattle.cf_law.specs.Readers.{AtHome, mine_from}
 use Rattle.cf_law.proofs.Moves.{at_either}
 use Rattle.cf_law.proofs.Fronts.{table_length, table_at}
-use Rattle.cf_law.specs.Events.{table, no_book}
+use Rattle.cf_law.specs.Events.{tabulated, no_book}
 use Rattle.std.proofs.lemmas.Option.{slice_get_within, slice_get-get_or}
 use Rattle.cf_table.specs.Rule.{root_pass}
 use Rattle.cf_table.specs.Values.{PassValue, LogValue, IsOf}
@@ -139,9 +139,9 @@ opened shape = record {
   all = λ k b at. (let e = first_book k b at in ap (λ (c : Book). c.mine) (sym e) ∙ sym (no_mine b.writer));
 }
   where
-    first_book : (k : ℕ) (b : Book) → slice_get (table no_book shape.writers) k ≡ Some b → no_book k ≡ b
+    first_book : (k : ℕ) (b : Book) → slice_get (tabulated no_book shape.writers) k ≡ Some b → no_book k ≡ b
     first_book k b e =
-        let lt : k < shape.writers = omega (arith, slice_get_within (table no_book shape.writers) k b e, table_length no_book shape.writers) in
+        let lt : k < shape.writers = omega (arith, slice_get_within (tabulated no_book shape.writers) k b e, table_length no_book shape.writers) in
         let f : Some (no_book k) ≡ Some b = sym (table_at no_book shape.writers k lt) ∙ e in cc f
 
 -- passes that were just dealt may come home as they are

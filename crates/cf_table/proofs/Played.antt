@@ -17,7 +17,7 @@ use Rattle.cf_law.specs.Nibbles.{nibbles}
 use Rattle.cf_law.specs.Passes.{Book, Flight, Cursor, Pass}
 use Rattle.cf_law.specs.Steps.{IsChild, IsNext, IsAtRest, Holds, new_pass, ticket_of, own_word, own_lane_word, mine_chain, label_of, pass_with_link, pass_with_child, met_of}
 use Rattle.cf_law.specs.Steps.Act.{take_ticket, store_cell, finish_record, label, link, store_head, load_child, load_head, load_cell}
-use Rattle.cf_law.specs.Events.{table, no_book}
+use Rattle.cf_law.specs.Events.{tabulated, no_book}
 use Rattle.cf_law.specs.Shapes.{layout, path_in}
 use Rattle.cf_law.proofs.Shapes.{layout_law}
 use Rattle.cf_law.proofs.Fronts.{table_length, table_at}
@@ -26,14 +26,14 @@ use Rattle.cf_table.specs.Values.{PassValue, LogValue, IsOf, book_of}
 use Rattle.cf_table.specs.Effects.{IsLawfulStep, HasStepped, HasSteppedUnseen, take_effect, store_effect, finish_effect, label_effect, link_effect, head_effect, child_effect, walk_effect, cell_effect}
 use Rattle.cf_table.specs.Rule.{root_pass}
 use Rattle.cf_table.specs.Moves.{AreDealt, AreAll}
-use Rattle.cf_table.specs.Played.{LeadsTo, IsNew, AreNew, IsHome, spot_above_leaf, book_in_flight, pass_with_first_ticket, pass_with_linked_node}
+use Rattle.cf_table.specs.Played.{HasOneLane, IsNew, AreNew, IsHome, spot_above_leaf, book_in_flight, pass_with_first_ticket, pass_with_linked_node}
 use Rattle.cf_table.proofs.Mays.{may_take, may_store, may_finish, may_label, may_link, may_head, may_child, may_walk, may_cell}
 
 -- the knot's word is a child of the root
-pub knot_child : (shape : ShapeValue) (row : RowValue) (p : Pass) → LeadsTo shape row → IsChild (layout shape) p spot_above_leaf (root 0 3)
+pub knot_child : (shape : ShapeValue) (row : RowValue) (p : Pass) → HasOneLane shape row → IsChild (layout shape) p spot_above_leaf (root 0 3)
 knot_child shape row p l = (let one = l.one in let levels = l.levels in record { reaches = refl; real = (omega (arith, one), omega arith); inner = omega (arith, levels) })
 
-pub low_node : (shape : ShapeValue) (row : RowValue) → LeadsTo shape row → 0 < shape.writers * shape.nodes
+pub low_node : (shape : ShapeValue) (row : RowValue) → HasOneLane shape row → 0 < shape.writers * shape.nodes
 low_node shape row l =
     let is : 4 ≡ shape.writers * shape.nodes = sym (ap (λ (n : ℕ). n * shape.nodes) l.writers ∙ ap (λ (n : ℕ). 2 * n) l.nodes) in
     subst (λ (n : ℕ). 0 < n) is (omega arith)
@@ -51,7 +51,7 @@ the_path shape row levels takes is =
 abbrev pub flight : RowValue → ℕ → List ℕ → Flight
 flight row filled linked = record { offset = 0; row = row; filled = filled; linked = linked }
 
-pub begins : (shape : ShapeValue) (row : RowValue) (p : Pass) → LeadsTo shape row → p ≡ new_pass (no_book 0 ∷ []) [] → IsLawfulStep shape p (take_ticket row) (take_effect shape p row)
+pub begins : (shape : ShapeValue) (row : RowValue) (p : Pass) → HasOneLane shape row → p ≡ new_pass (no_book 0 ∷ []) [] → IsLawfulStep shape p (take_ticket row) (take_effect shape p row)
 begins shape row p l is = may_take shape p row (no_book 0) l.row_fits (ap (λ (q : Pass). q.books) is) refl refl
 
 abbrev pub labelled_pass : RowValue → Pass
@@ -60,7 +60,7 @@ labelled_pass row = new_pass (record (book_in_flight row [] 0 []) { label = 801 
 knot_label : (shape : ShapeValue) → 25 ≡ place (sizes_of shape) (root 0 3) → 801 ≡ label_of (layout shape) spot_above_leaf (root 0 3)
 knot_label shape at = omega (arith, at)
 
-pub labels_knot : (shape : ShapeValue) (row : RowValue) (p : Pass) → LeadsTo shape row → p ≡ pass_with_first_ticket row → IsLawfulStep shape p (label 0 801) (label_effect p 0 801)
+pub labels_knot : (shape : ShapeValue) (row : RowValue) (p : Pass) → HasOneLane shape row → p ≡ pass_with_first_ticket row → IsLawfulStep shape p (label 0 801) (label_effect p 0 801)
 labels_knot shape row p l is =
     let room = l.nodes in
     may_label shape p (book_in_flight row [] 0 []) spot_above_leaf (root 0 3) 0 801 (ap (λ (q : Pass). q.books) is) (omega (arith, room)) (knot_child shape row p l) (omega arith) (knot_label shape (sym l.place_is))
@@ -68,7 +68,7 @@ labels_knot shape row p l is =
 pub labelled_view : (shape : ShapeValue) (row : RowValue) (m n : PassValue) → m.view ≡ pass_with_first_ticket row → HasSteppedUnseen shape (label_effect m.view 0 801) m n → n.view ≡ labelled_pass row
 labelled_view shape row m n is stored = stored.made.told.is ∙ ap (λ (q : Pass). (label_effect q 0 801).after 0 []) is
 
-pub links_knot : (shape : ShapeValue) (row : RowValue) (p : Pass) → LeadsTo shape row → p ≡ labelled_pass row → IsLawfulStep shape p (link 25 0) (link_effect p spot_above_leaf (root 0 3) 0)
+pub links_knot : (shape : ShapeValue) (row : RowValue) (p : Pass) → HasOneLane shape row → p ≡ labelled_pass row → IsLawfulStep shape p (link 25 0) (link_effect p spot_above_leaf (root 0 3) 0)
 links_knot shape row p l is =
     let room = l.nodes in
     may_link shape p (record (book_in_flight row [] 0 []) { label = 801 }) spot_above_leaf (root 0 3) 25 0 (ap (λ (q : Pass). q.books) is) (omega (arith, room)) (knot_child shape row p l) (knot_label shape (sym l.place_is)) (sym l.place_is) (omega arith)
@@ -78,7 +78,7 @@ knotted_view shape row m n found is none made =
     made.told.is ∙ (ap (λ (q : Pass). pass_with_link 0 (book_of q) spot_above_leaf 0 q found) is ∙ ap (λ (k : ℕ). pass_with_link 0 (book_of (labelled_pass row)) spot_above_leaf 0 (labelled_pass row) k) none)
 
 -- the reader's first step
-pub finds_knot : (shape : ShapeValue) (row : RowValue) (p : Pass) → LeadsTo shape row → IsLawfulStep shape p (load_child 25) (child_effect shape p spot_above_leaf (root 0 3))
+pub finds_knot : (shape : ShapeValue) (row : RowValue) (p : Pass) → HasOneLane shape row → IsLawfulStep shape p (load_child 25) (child_effect shape p spot_above_leaf (root 0 3))
 finds_knot shape row p l = may_child shape p spot_above_leaf (root 0 3) 25 (sym l.place_is) (knot_child shape row p l)
 
 pub found_view : (shape : ShapeValue) (m n : PassValue) (found : ℕ) → m.view ≡ new_pass [] [] → found ≡ 1 → HasStepped shape (child_effect shape m.view spot_above_leaf (root 0 3)) m found n → (n.view).known ≡ (spot_above_leaf, 0) ∷ []
@@ -114,10 +114,10 @@ one_cell [] one bare = absurd (omega (arith, one))
 one_cell (x ∷ []) one bare = omega (arith, count_cons x [], count_none, one_word x.measure bare)
 one_cell (x ∷ (y ∷ ys)) one bare = absurd (omega (arith, one))
 
-pub all_words : (shape : ShapeValue) (row : RowValue) → LeadsTo shape row → ticket_words shape ≡ word_count shape.schema + 3
+pub all_words : (shape : ShapeValue) (row : RowValue) → HasOneLane shape row → ticket_words shape ≡ word_count shape.schema + 3
 all_words shape row l = (let e = one_cell shape.lanes l.one l.bare in omega (arith, e))
 
-cell_at : (shape : ShapeValue) (row : RowValue) → LeadsTo shape row → use_at shape (word_count shape.schema + 1) ≡ version 0 0
+cell_at : (shape : ShapeValue) (row : RowValue) → HasOneLane shape row → use_at shape (word_count shape.schema + 1) ≡ version 0 0
 cell_at shape row l =
     let one = l.one in
     let e : word_count shape.schema + 1 ≡ word_count shape.schema + 1 + cells_before shape 0 + 0 = omega (arith, count_none) in
@@ -128,7 +128,7 @@ no_version : (shape : ShapeValue) (row : RowValue) (q : List ℕ) → (lane_at s
 unfolding version_word mine_chain
 no_version shape row q bare = ap (λ (m : Option ℕ). 0 + 2 ^ 32 * cond (has_measure m) 1 0) bare
 
-pub stores_cell : (shape : ShapeValue) (row : RowValue) (p : Pass) (i : ℕ) → LeadsTo shape row → i ≡ word_count shape.schema + 1 → p ≡ pass_with_linked_node row i [] → IsLawfulStep shape p (store_cell 0 i 0) (store_effect p 0 i 0)
+pub stores_cell : (shape : ShapeValue) (row : RowValue) (p : Pass) (i : ℕ) → HasOneLane shape row → i ≡ word_count shape.schema + 1 → p ≡ pass_with_linked_node row i [] → IsLawfulStep shape p (store_cell 0 i 0) (store_effect p 0 i 0)
 stores_cell shape row p i l last is =
     let b : Book = book_in_flight row (spot_above_leaf ∷ []) i [] in
     let t = ticket_of 0 (flight row i []) in
@@ -144,7 +144,7 @@ stores_cell shape row p i l last is =
     (sym (ap (λ (u : Use). own_word (layout shape) b row u) stands ∙ (ap (λ (o : Option (List ℕ)). own_lane_word (layout shape) b row 0 0 o) l.path ∙ no_version shape row (5 ∷ 3 ∷ []) l.bare)))
 
 -- the head
-whole : (shape : ShapeValue) (row : RowValue) (linked : List ℕ) → LeadsTo shape row → IsWhole (layout shape) (ticket_of 0 (flight row (word_count shape.schema + 2) linked))
+whole : (shape : ShapeValue) (row : RowValue) (linked : List ℕ) → HasOneLane shape row → IsWhole (layout shape) (ticket_of 0 (flight row (word_count shape.schema + 2) linked))
 whole shape row linked l k le lt = absurd (let long = all_words shape row l in let f : ⊥ = omega (arith, long) in f)
 
 has_none : has [] 0 ≡ false
@@ -155,7 +155,7 @@ has_first : has (0 ∷ []) 0 ≡ true
 unfolding has
 has_first = refl
 
-pub heads_row : (shape : ShapeValue) (row : RowValue) (p : Pass) → LeadsTo shape row → p ≡ pass_with_linked_node row (word_count shape.schema + 2) [] → IsLawfulStep shape p (store_head 0 0 5 0) (head_effect shape p 0 0 5 0)
+pub heads_row : (shape : ShapeValue) (row : RowValue) (p : Pass) → HasOneLane shape row → p ≡ pass_with_linked_node row (word_count shape.schema + 2) [] → IsLawfulStep shape p (store_head 0 0 5 0) (head_effect shape p 0 0 5 0)
 heads_row shape row p l is =
     let n = word_count shape.schema + 2 in
     may_head shape p (book_in_flight row (spot_above_leaf ∷ []) n []) (flight row n []) 0 0 5 0 (3 ∷ []) (ap (λ (q : Pass). q.books) is) refl refl (whole shape row [] l) has_none l.path
@@ -164,28 +164,28 @@ heads_row shape row p l is =
 pub headed_view : (shape : ShapeValue) (row : RowValue) (m n : PassValue) (k : ℕ) → m.view ≡ pass_with_linked_node row k [] → HasSteppedUnseen shape (head_effect shape m.view 0 0 5 0) m n → n.view ≡ pass_with_linked_node row k (0 ∷ [])
 headed_view shape row m n k is stored = stored.made.told.is ∙ ap (λ (q : Pass). (head_effect shape q 0 0 5 0).after 0 []) is
 
-pub low_writer : (shape : ShapeValue) (row : RowValue) (p : Pass) (k : ℕ) (linked : List ℕ) → LeadsTo shape row → p ≡ pass_with_linked_node row k linked → (book_of p).writer < shape.writers
+pub low_writer : (shape : ShapeValue) (row : RowValue) (p : Pass) (k : ℕ) (linked : List ℕ) → HasOneLane shape row → p ≡ pass_with_linked_node row k linked → (book_of p).writer < shape.writers
 low_writer shape row p k linked l is = (let two = l.writers in let w = ap (λ (q : Pass). (book_of q).writer) is in omega (arith, two, w))
 
 -- the reader's walk
-pub walks_head : (shape : ShapeValue) (row : RowValue) (p : Pass) → LeadsTo shape row → p.known ≡ (spot_above_leaf, 0) ∷ [] → IsLawfulStep shape p (load_head 0 5 0) (walk_effect shape p spot_above_leaf 0 5 0)
+pub walks_head : (shape : ShapeValue) (row : RowValue) (p : Pass) → HasOneLane shape row → p.known ≡ (spot_above_leaf, 0) ∷ [] → IsLawfulStep shape p (load_head 0 5 0) (walk_effect shape p spot_above_leaf 0 5 0)
 walks_head shape row p l known =
     let two = l.writers in
     let levels = l.levels in
     may_walk shape p 0 (3 ∷ []) 0 5 0 (0, ap (λ (ks : List (Spot × ℕ)). slice_get ks 0) known) (sym levels) (omega arith) (omega (arith, two))
 
-pub walks_cell : (shape : ShapeValue) (row : RowValue) (m n : PassValue) (found : ℕ) → LeadsTo shape row → 0 < shape.capacity → found ≡ 1 → HasStepped shape (walk_effect shape m.view spot_above_leaf 0 5 0) m found n → IsLawfulStep shape n.view (load_cell 0 0 0) (cell_effect shape n.view 0 0 0)
+pub walks_cell : (shape : ShapeValue) (row : RowValue) (m n : PassValue) (found : ℕ) → HasOneLane shape row → 0 < shape.capacity → found ≡ 1 → HasStepped shape (walk_effect shape m.view spot_above_leaf 0 5 0) m found n → IsLawfulStep shape n.view (load_cell 0 0 0) (cell_effect shape n.view 0 0 0)
 walks_cell shape row m n found l room one made =
     let lanes = l.one in
     let some : 0 < cell_words (lane_at shape 0) = (let w = one_word (lane_at shape 0).measure l.bare in omega (arith, w)) in
     let cursor : Cursor = record { writer = 0; spot = spot 0 (5 ∷ 3 ∷ []); link = found; gone = []; met = met_of (m.view).cursor } in
     may_cell shape n.view 0 0 0 room (omega (arith, lanes)) some (inr (inr (cursor, ap (λ (q : Pass). q.cursor) made.told.is, one, refl)))
 
-pub one_cell_word : (shape : ShapeValue) (row : RowValue) → LeadsTo shape row → 0 < cell_words (lane_at shape 0)
+pub one_cell_word : (shape : ShapeValue) (row : RowValue) → HasOneLane shape row → 0 < cell_words (lane_at shape 0)
 one_cell_word shape row l = (let w = one_word (lane_at shape 0).measure l.bare in omega (arith, w))
 
 -- the end
-pub finishes_row : (shape : ShapeValue) (row : RowValue) (p : Pass) → IsShape shape → LeadsTo shape row → p ≡ pass_with_linked_node row (word_count shape.schema + 2) (0 ∷ []) → IsLawfulStep shape p (finish_record 0) (finish_effect shape p 0)
+pub finishes_row : (shape : ShapeValue) (row : RowValue) (p : Pass) → IsShape shape → HasOneLane shape row → p ≡ pass_with_linked_node row (word_count shape.schema + 2) (0 ∷ []) → IsLawfulStep shape p (finish_record 0) (finish_effect shape p 0)
 finishes_row shape row p lawful l is =
     let n = word_count shape.schema + 2 in
     may_finish shape p (book_in_flight row (spot_above_leaf ∷ []) n (0 ∷ [])) (flight row n (0 ∷ [])) 0 (ap (λ (q : Pass). q.books) is) refl refl (whole shape row (0 ∷ []) l)
@@ -208,8 +208,8 @@ pub dealt_new : (log : LogValue) (m n : PassValue) (hs : List PassValue) → m.v
 dealt_new log m n hs is dealt k h at =
     let d = dealt.each k h at in
     let w = (log.shape).writers in
-    let there : slice_get (table no_book w) k ≡ Some d.book = ap (λ (p : Pass). slice_get p.books k) (sym is) ∙ d.at in
-    let lt : k < w = omega (arith, slice_get_within (table no_book w) k d.book there, table_length no_book w) in
+    let there : slice_get (tabulated no_book w) k ≡ Some d.book = ap (λ (p : Pass). slice_get p.books k) (sym is) ∙ d.at in
+    let lt : k < w = omega (arith, slice_get_within (tabulated no_book w) k d.book there, table_length no_book w) in
     let e : no_book k ≡ d.book = (let f : Some (no_book k) ≡ Some d.book = sym (table_at no_book w k lt) ∙ there in cc f) in record {
       of = d.of;
       view = d.view ∙ (ap (λ (b : Book). new_pass (b ∷ []) (m.view).seen) (sym e) ∙ ap (λ (p : Pass). new_pass (no_book k ∷ []) p.seen) is);

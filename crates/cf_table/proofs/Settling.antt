@@ -10,7 +10,7 @@ use Rattle.cf_shape.specs.Lanes.{ShapeValue}
 use Rattle.cf_shape.specs.Uses.{cell_count}
 use Rattle.cf_shape.specs.Places.{place_of, slot_of}
 use Rattle.cf_shape.specs.Places.Slot.{tail}
-use Rattle.cf_shape.specs.Places.Word.{done}
+use Rattle.cf_shape.specs.Places.WordName.{done}
 use Rattle.cf_law.specs.Passes.{Pass}
 use Rattle.cf_law.specs.Steps.{pass_that_sees, pass_with_look}
 use Rattle.cf_law.specs.Steps.Act.{advance}

@@ -13,7 +13,7 @@ use Rattle.cf_law.specs.Shapes.{layout, path_in}
 use Rattle.cf_table.specs.Values.{PassValue, LogValue, IsOf}
 
 -- two writers with two nodes each, and one lane, of two levels, that measures nothing and leads the row to that leaf
-pub record LeadsTo (shape : ShapeValue) (row : RowValue) : Type 0 where
+pub record HasOneLane (shape : ShapeValue) (row : RowValue) : Type 0 where
   pub fits : Fits shape.schema row
   pub row_fits : (layout shape).fits row ≡ true
   pub one : length shape.lanes ≡ 1

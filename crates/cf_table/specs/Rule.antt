@@ -9,7 +9,7 @@ use Rattle.cf_shape.specs.Places.Slot.{tail}
 use Rattle.cf_law.specs.Passes.{Pass}
 use Rattle.cf_law.specs.Steps.{Act, Step, new_pass, spent_pass}
 use Rattle.cf_law.specs.Lawful.{Lawful}
-use Rattle.cf_law.specs.Events.{table, no_book}
+use Rattle.cf_law.specs.Events.{tabulated, no_book}
 use Rattle.cf_law.specs.Shapes.{layout}
 use Rattle.cf_law.specs.Readers.{StepTells}
 use Rattle.cf_table.specs.Effects.{StepEffect, take_effect, tail_effect, advance_effect}
@@ -24,7 +24,7 @@ IsLawfulState shape s = Lawful (layout shape) s.words s.views
 
 -- the first pass: it holds all books
 abbrev pub root_pass : ShapeValue → Pass
-root_pass shape = new_pass (table no_book shape.writers) []
+root_pass shape = new_pass (tabulated no_book shape.writers) []
 
 -- what a call gives its step
 pub record StepGiven : Type 0 where

@@ -5,7 +5,7 @@ ghost use Rattle.cf_law.specs.Steps.{new_pass};
 ghost use Rattle.cf_table.specs.Values.{IsOf};
 ghost use Rattle.cf_table.specs.Rule.{root_pass};
 ghost use Rattle.cf_table.specs.Moves.{HoldsAllBooks};
-ghost use Rattle.cf_table.specs.Played.{LeadsTo, IsNew, AreNew, IsHome, pass_with_first_ticket, pass_with_linked_node, spot_above_leaf};
+ghost use Rattle.cf_table.specs.Played.{HasOneLane, IsNew, AreNew, IsHome, pass_with_first_ticket, pass_with_linked_node, spot_above_leaf};
 
 use super::*;
 use crate::tests::is_of;
@@ -27,7 +27,7 @@ fn has_two_writers(shape: &Shape) -> bool
 
 // Whether the shape has one lane of that kind, which leads the row to the nibbles 3 and 5.
 fn leads(shape: &Shape, row: &Row) -> bool
-    ensures { IsTrue result → LeadsTo shape.now row.now }
+    ensures { IsTrue result → HasOneLane shape.now row.now }
 {
     if !is_of(shape, row) || !fits(shape.schema(), row) || !has_two_writers(shape) {
         return false;
@@ -51,7 +51,7 @@ fn take<L: Ledger, R: Abort>(
     steps: &mut Steps<L>,
 )
     requires new { IsNew log.now 0 pass.old }
-    requires leads { LeadsTo log.now.shape row.now }
+    requires leads { HasOneLane log.now.shape row.now }
     ensures of { IsOf pass.new log.now }
     ensures view { pass.new.view ≡ pass_with_first_ticket row.now }
 {
@@ -70,7 +70,7 @@ fn link_knot<L: Ledger, R: Abort>(
 )
     requires of { IsOf pass.old log.now }
     requires view { pass.old.view ≡ pass_with_first_ticket row.now }
-    requires leads { LeadsTo log.now.shape row.now }
+    requires leads { HasOneLane log.now.shape row.now }
     ensures of { IsOf pass.new log.now }
     ensures view { pass.new.view ≡ pass_with_linked_node row.now 0 [] }
 {
@@ -92,7 +92,7 @@ fn find_knot<L: Ledger, R: Abort>(
 )
     requires of { IsOf pass.old log.now }
     requires view { pass.old.view ≡ new_pass [] [] }
-    requires leads { LeadsTo log.now.shape row.now }
+    requires leads { HasOneLane log.now.shape row.now }
     ensures of { IsOf pass.new log.now }
     ensures known { pass.new.view.known ≡ (spot_above_leaf, 0) ∷ [] }
 {
@@ -129,7 +129,7 @@ fn store_words<L: Ledger>(
 fn fill<L: Ledger>(log: &MultiLog, pass: &mut WriterPass, row: &Row, steps: &mut Steps<L>)
     requires of { IsOf pass.old log.now }
     requires view { pass.old.view ≡ pass_with_linked_node row.now 0 [] }
-    requires leads { LeadsTo log.now.shape row.now }
+    requires leads { HasOneLane log.now.shape row.now }
     ensures of { IsOf pass.new log.now }
     ensures view { pass.new.view ≡ pass_with_linked_node row.now (word_count_of log.now.shape.schema + 2) [] }
 {
@@ -147,7 +147,7 @@ fn fill<L: Ledger>(log: &MultiLog, pass: &mut WriterPass, row: &Row, steps: &mut
 fn link_row<L: Ledger>(log: &MultiLog, pass: &mut WriterPass, row: &Row, steps: &mut Steps<L>)
     requires of { IsOf pass.old log.now }
     requires view { pass.old.view ≡ pass_with_linked_node row.now (word_count_of log.now.shape.schema + 2) [] }
-    requires leads { LeadsTo log.now.shape row.now }
+    requires leads { HasOneLane log.now.shape row.now }
     ensures of { IsOf pass.new log.now }
     ensures view { pass.new.view ≡ pass_with_linked_node row.now (word_count_of log.now.shape.schema + 2) (0 ∷ []) }
 {
@@ -165,7 +165,7 @@ fn walk<L: Ledger, R: Abort>(
 )
     requires of { IsOf pass.old log.now }
     requires known { pass.old.view.known ≡ (spot_above_leaf, 0) ∷ [] }
-    requires leads { LeadsTo log.now.shape row.now }
+    requires leads { HasOneLane log.now.shape row.now }
     ensures of { IsOf pass.new log.now }
 {
     let _row = row;
@@ -182,7 +182,7 @@ fn walk<L: Ledger, R: Abort>(
 fn finish<L: Ledger>(log: &MultiLog, pass: &mut WriterPass, row: &Row, steps: &mut Steps<L>)
     requires of { IsOf pass.old log.now }
     requires view { pass.old.view ≡ pass_with_linked_node row.now (word_count_of log.now.shape.schema + 2) (0 ∷ []) }
-    requires leads { LeadsTo log.now.shape row.now }
+    requires leads { HasOneLane log.now.shape row.now }
     ensures home { IsHome log.now 0 pass.new }
 {
     let _row = row;
@@ -202,7 +202,7 @@ fn play<L: Ledger, R: Abort>(
     requires new { IsNew log.now 0 pass.old }
     requires of { IsOf reader.old log.now }
     requires view { reader.old.view ≡ new_pass [] [] }
-    requires leads { LeadsTo log.now.shape row.now }
+    requires leads { HasOneLane log.now.shape row.now }
     ensures home { IsHome log.now 0 pass.new }
 {
     take(rt, log, pass, row, steps);

@@ -1,6 +1,6 @@
 // The log: the words, and what they are for.
 ghost use Rattle.std.specs.Prelude.{◌≡◌, ◌+◌, ◌<◌, ◌≤◌, IfOk, map, vec_capacity};
-ghost use Rattle.cf_law.specs.Events.{table, no_book};
+ghost use Rattle.cf_law.specs.Events.{tabulated, no_book};
 ghost use Rattle.cf_table.specs.Moves.{note_of, HoldsAllBooks};
 ghost use Rattle.cf_shape.specs.Lanes.{IsShape};
 ghost use Rattle.cf_table.specs.Rule.{root_pass};
@@ -68,7 +68,7 @@ impl MultiLog {
 // The notes of empty books.
 fn first_notes(alloc: Global, writers: u8) -> Result<Vec<Note>, Memory>
     requires { writers ≤ 15 }
-    ensures notes { IfOk result (λ notes. notes.items ≡ map note_of (table no_book writers)) }
+    ensures notes { IfOk result (λ notes. notes.items ≡ map note_of (tabulated no_book writers)) }
     ensures room { IfOk result (λ notes. 16 ≤ vec_capacity notes) }
 {
     let mut notes = Vec::with_capacity(alloc, 16)?;

@@ -14,7 +14,7 @@ use Rattle.cf_shape.specs.Uses.{cells_before, cell_words, is_measured}
 use Rattle.cf_shape.proofs.Used.{before_fits, version_at}
 use Rattle.cf_shape.proofs.Measured.{measure_low}
 use Rattle.cf_shape.specs.Nodes.{levels_of}
-use Rattle.cf_words.specs.Words.{Spot, spot, Layout, version_word, top}
+use Rattle.cf_words.specs.Words.{Spot, spot, Layout, version_word, link_to_newest}
 use Rattle.cf_law.specs.Nibbles.{nibbles}
 use Rattle.cf_law.specs.Passes.{Cursor, Pass}
 use Rattle.cf_law.specs.Steps.{cursor_after_cell, met_of}
@@ -47,18 +47,18 @@ version_is shape m n lane key w o i found seen x there small same made =
     told ∙ ap₂ (λ (v : ℕ) (es : List Entry). version_word sh lane i (picks sh v (leaf_of shape lane key) es o) (x.entry).row) (x.stands).0 same
 
 -- the newest of a chain lies below its end
-top_at : (a b : Bool) (o : ℕ) (r : RowValue) (xs : List (ℕ × RowValue)) → top xs ≤ o → top (cond a (cond b ((o, r) ∷ []) []) [] ++ xs) ≤ suc o
+top_at : (a b : Bool) (o : ℕ) (r : RowValue) (xs : List (ℕ × RowValue)) → link_to_newest xs ≤ o → link_to_newest (cond a (cond b ((o, r) ∷ []) []) [] ++ xs) ≤ suc o
 top_at true true o r xs le = omega arith
 top_at true false o r xs le = omega (arith, le)
 top_at false b o r xs le = omega (arith, le)
 
-top_pick : (sh : Layout) (w : ℕ) (s : Spot) (o : ℕ) (x : Option Entry) (xs : List (ℕ × RowValue)) → top xs ≤ o → top (pick_at sh w s o x ++ xs) ≤ suc o
+top_pick : (sh : Layout) (w : ℕ) (s : Spot) (o : ℕ) (x : Option Entry) (xs : List (ℕ × RowValue)) → link_to_newest xs ≤ o → link_to_newest (pick_at sh w s o x ++ xs) ≤ suc o
 top_pick sh w s o None xs le = omega (arith, le)
 top_pick sh w s o (Some e) xs le = top_at _ _ o e.row xs le
 
-top_picks : (sh : Layout) (w : ℕ) (s : Spot) (seen : List Entry) (n : ℕ) → top (picks sh w s seen n) ≤ n
-top_picks sh w s seen zero = (let e : top (picks sh w s seen 0) ≡ 0 = ap top (picks_zero sh w s seen) in omega (arith, e))
-top_picks sh w s seen (suc o) = (let e = ap top (picks_next sh w s seen o) in let le = top_pick sh w s o (slice_get seen o) (picks sh w s seen o) (top_picks sh w s seen o) in omega (arith, e, le))
+top_picks : (sh : Layout) (w : ℕ) (s : Spot) (seen : List Entry) (n : ℕ) → link_to_newest (picks sh w s seen n) ≤ n
+top_picks sh w s seen zero = (let e : link_to_newest (picks sh w s seen 0) ≡ 0 = ap link_to_newest (picks_zero sh w s seen) in omega (arith, e))
+top_picks sh w s seen (suc o) = (let e = ap link_to_newest (picks_next sh w s seen o) in let le = top_pick sh w s o (slice_get seen o) (picks sh w s seen o) (top_picks sh w s seen o) in omega (arith, e, le))
 
 -- what the lane measures of the entry and of those before it
 pub amounts_upto : (shape : ShapeValue) (lane key w o : ℕ) (seen : List Entry) (x : IsEntryOf shape lane key w o seen)
@@ -72,7 +72,7 @@ amounts_upto shape lane key w o seen x =
     (picks_next sh w s seen o ∙ (ap (λ (e : Option Entry). pick_at sh w s o e ++ picks sh w s seen o) x.at ∙ ap (λ (xs : List (ℕ × RowValue)). xs ++ picks sh w s seen o) (pick_some sh w s o x.entry x.stands)))
 
 -- the four numbers of the words
-pub quad_words : (shape : ShapeValue) (lane o first sum ends : ℕ) (c : List (ℕ × RowValue)) (r : RowValue) → is_measured shape lane ≡ true → top c ≤ o → o < 2 ^ 32 → IsQuad (quad_of (map (λ y. measure_of shape lane y) (r ∷ map (λ y. y.1) c)))
+pub quad_words : (shape : ShapeValue) (lane o first sum ends : ℕ) (c : List (ℕ × RowValue)) (r : RowValue) → is_measured shape lane ≡ true → link_to_newest c ≤ o → o < 2 ^ 32 → IsQuad (quad_of (map (λ y. measure_of shape lane y) (r ∷ map (λ y. y.1) c)))
     → first ≡ version_word (layout shape) lane 0 c r → sum ≡ version_word (layout shape) lane 1 c r → ends ≡ version_word (layout shape) lane 2 c r
     → ◌≡◌ {A = QuadValue} (record { count = first / 4294967296; sum = sum; least = ends % 4294967296; greatest = ends / 4294967296 }) (quad_of (map (λ y. measure_of shape lane y) (r ∷ map (λ y. y.1) c)))
 unfolding version_word

@@ -17,7 +17,7 @@ use Rattle.cf_law.specs.Steps.{Holds}
 use Rattle.cf_law.specs.Events.{no_book}
 use Rattle.cf_table.specs.Values.{PassValue, LogValue, book_of}
 use Rattle.cf_table.specs.Moves.{HasPaths}
-use Rattle.cf_append.specs.Appends.{Rests, IsAnswered}
+use Rattle.cf_append.specs.Appends.{Rests, HasAppendAnswer}
 use Rattle.cf_append.specs.declared.appends.AppendFault.{AppendFault}
 use Rattle.cf_append.specs.declared.appends.AppendFault.TheVariants.{Full, NodesFull}
 use Rattle.cf_append.specs.Paths.{IsOnPath}
@@ -81,7 +81,7 @@ module _ (log : LogValue) (row : RowValue) (m n o : PassValue) (is : IsShape log
   abbrev new : List RowValue
   new = old ++ row ∷ []
 
-  pub taken : (r : Result ℕ AppendFault) → IsAnswered log.shape row m n r → HasCovered log.shape row (m.view).seen (o.view).seen r → HasUsedFor log.shape row (book_of m.view).used (book_of o.view).used r → HasTaken log.shape row (m.view).seen o.view r
+  pub taken : (r : Result ℕ AppendFault) → HasAppendAnswer log.shape row m n r → HasCovered log.shape row (m.view).seen (o.view).seen r → HasUsedFor log.shape row (book_of m.view).used (book_of o.view).used r → HasTaken log.shape row (m.view).seen o.view r
   taken (Ok at) done covered used = (ap₂ (λ (a b : Bool). a && b) room few, rows, nodes)
     where
       rows : rows_in (o.view).seen ≡ new

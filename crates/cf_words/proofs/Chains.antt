@@ -4,7 +4,7 @@ use Rattle.cf_lemmas.proofs.Truths.{eq_from, eq_true}
 use Rattle.cf_row.specs.Row.{RowValue}
 use Rattle.std.proofs.lemmas.Bool.{cases_Bool, cases_eq, cases_lt}
 use Rattle.std.proofs.lemmas.Bool.Decides.{nat_tests}
-use Rattle.cf_words.specs.Words.{Spot, Layout, Ticket, has, same_path, links, entry_at, chain, top, fresh_ticket}
+use Rattle.cf_words.specs.Words.{Spot, Layout, Ticket, has, same_path, links, entry_at, chain, link_to_newest, fresh_ticket}
 
 -- a conjunction of two tests
 pub both : (a b : Bool) → cond a b false ≡ true → (a ≡ true) × (b ≡ true)
@@ -121,16 +121,16 @@ chain_from sh log w s o (suc n) le h = elim (cases_eq o (suc n)) [
   | inr ne ↦ ap (λ (e : List (ℕ × RowValue)). e ++ chain sh log w s n) (h n (omega arith) (omega arith)) ∙ chain_from sh log w s o n (omega arith) (λ i l k. h i l (omega arith))
 ]
 
-chain_suc_top : (sh : Layout) (log : List Ticket) (w : ℕ) (s : Spot) (o : ℕ) (r : RowValue) → entry_at sh w s o (slice_get log o) ≡ (o, r) ∷ [] → top (chain sh log w s (suc o)) ≡ suc o
+chain_suc_top : (sh : Layout) (log : List Ticket) (w : ℕ) (s : Spot) (o : ℕ) (r : RowValue) → entry_at sh w s o (slice_get log o) ≡ (o, r) ∷ [] → link_to_newest (chain sh log w s (suc o)) ≡ suc o
 unfolding chain
-chain_suc_top sh log w s o r e = ap (λ (c : List (ℕ × RowValue)). top (c ++ chain sh log w s o)) e
+chain_suc_top sh log w s o r e = ap (λ (c : List (ℕ × RowValue)). link_to_newest (c ++ chain sh log w s o)) e
 
 -- the newest entry is on top
 pub chain_top : (sh : Layout) (log : List Ticket) (w : ℕ) (s : Spot) (o n : ℕ) (r : RowValue) → o < n
     → entry_at sh w s o (slice_get log o) ≡ (o, r) ∷ []
-    → ((i : ℕ) → o < i → i < n → entry_at sh w s i (slice_get log i) ≡ []) → top (chain sh log w s n) ≡ suc o
+    → ((i : ℕ) → o < i → i < n → entry_at sh w s i (slice_get log i) ≡ []) → link_to_newest (chain sh log w s n) ≡ suc o
 chain_top sh log w s o n r lt here h =
-    ap top (chain_from sh log w s (suc o) n lt (λ i l k. h i l k)) ∙ chain_suc_top sh log w s o r here
+    ap link_to_newest (chain_from sh log w s (suc o) n lt (λ i l k. h i l k)) ∙ chain_suc_top sh log w s o r here
 
 pub fresh_unlinked : (sh : Layout) (v : ℕ) (s : Spot) (w : ℕ) (r : RowValue) → links sh v s (fresh_ticket w r) ≡ false
 fresh_unlinked sh v s w r = elim (cases_Bool (links sh v s (fresh_ticket w r))) [
@@ -139,22 +139,22 @@ fresh_unlinked sh v s w r = elim (cases_Bool (links sh v s (fresh_ticket w r))) 
 ]
 
 -- what a chain says of the log: its top is the newest entry that is linked there
-top_after : (sh : Layout) (w : ℕ) (s : Spot) (n i : ℕ) (o : Option Ticket) (c : List (ℕ × RowValue)) → i < suc n → (i < n → i < top c) → ((t : Ticket) → i ≡ n → o ≡ Some t → links sh w s t ≡ true) → (i ≡ n → (t : Ticket) × (o ≡ Some t))
-    → i < top (entry_at sh w s n o ++ c)
+top_after : (sh : Layout) (w : ℕ) (s : Spot) (n i : ℕ) (o : Option Ticket) (c : List (ℕ × RowValue)) → i < suc n → (i < n → i < link_to_newest c) → ((t : Ticket) → i ≡ n → o ≡ Some t → links sh w s t ≡ true) → (i ≡ n → (t : Ticket) × (o ≡ Some t))
+    → i < link_to_newest (entry_at sh w s n o ++ c)
 unfolding entry_at
 top_after sh w s n i None c lt below here there = elim (cases_lt i n) [
   | inl h ↦ below h
   | inr h ↦ let x = there (omega arith) in absurd (cc (x.1))
 ]
 top_after sh w s n i (Some t) c lt below here there = elim (cases_Bool (links sh w s t)) [
-  | inl h ↦ subst (λ (b : Bool). i < top (cond b ((n, t.row) ∷ []) [] ++ c)) (sym h) lt
-  | inr h ↦ subst (λ (b : Bool). i < top (cond b ((n, t.row) ∷ []) [] ++ c)) (sym h) (elim (cases_lt i n) [
+  | inl h ↦ subst (λ (b : Bool). i < link_to_newest (cond b ((n, t.row) ∷ []) [] ++ c)) (sym h) lt
+  | inr h ↦ subst (λ (b : Bool). i < link_to_newest (cond b ((n, t.row) ∷ []) [] ++ c)) (sym h) (elim (cases_lt i n) [
     | inl k ↦ below k
     | inr k ↦ absurd (cc (here t (omega arith) refl, h))
   ])
 ]
 
-pub chain_has : (sh : Layout) (log : List Ticket) (w : ℕ) (s : Spot) (n i : ℕ) (t : Ticket) → slice_get log i ≡ Some t → links sh w s t ≡ true → i < n → i < top (chain sh log w s n)
+pub chain_has : (sh : Layout) (log : List Ticket) (w : ℕ) (s : Spot) (n i : ℕ) (t : Ticket) → slice_get log i ≡ Some t → links sh w s t ≡ true → i < n → i < link_to_newest (chain sh log w s n)
 unfolding chain
 chain_has sh log w s zero i t at h lt = absurd (omega arith)
 chain_has sh log w s (suc n) i t at h lt =
@@ -171,16 +171,16 @@ entry_weaker : (sh : Layout) (log : List Ticket) (w : ℕ) (s : Spot) (n v : ℕ
 entry_weaker sh log w s n zero h = h
 entry_weaker sh log w s n (suc o) h = let lt = h.0 in (omega arith, h.1, h.2, h.3)
 
-top_entry : (sh : Layout) (log : List Ticket) (w : ℕ) (s : Spot) (n : ℕ) (o : Option Ticket) (c : List (ℕ × RowValue)) → slice_get log n ≡ o → IsEntry sh log w s n (top c)
-    → IsEntry sh log w s (suc n) (top (entry_at sh w s n o ++ c))
+top_entry : (sh : Layout) (log : List Ticket) (w : ℕ) (s : Spot) (n : ℕ) (o : Option Ticket) (c : List (ℕ × RowValue)) → slice_get log n ≡ o → IsEntry sh log w s n (link_to_newest c)
+    → IsEntry sh log w s (suc n) (link_to_newest (entry_at sh w s n o ++ c))
 unfolding entry_at
-top_entry sh log w s n None c e h = entry_weaker sh log w s n (top c) h
+top_entry sh log w s n None c e h = entry_weaker sh log w s n (link_to_newest c) h
 top_entry sh log w s n (Some t) c e h = elim (cases_Bool (links sh w s t)) [
-  | inl l ↦ subst (λ (b : Bool). IsEntry sh log w s (suc n) (top (cond b ((n, t.row) ∷ []) [] ++ c))) (sym l) (omega arith, t, e, l)
-  | inr l ↦ subst (λ (b : Bool). IsEntry sh log w s (suc n) (top (cond b ((n, t.row) ∷ []) [] ++ c))) (sym l) (entry_weaker sh log w s n (top c) h)
+  | inl l ↦ subst (λ (b : Bool). IsEntry sh log w s (suc n) (link_to_newest (cond b ((n, t.row) ∷ []) [] ++ c))) (sym l) (omega arith, t, e, l)
+  | inr l ↦ subst (λ (b : Bool). IsEntry sh log w s (suc n) (link_to_newest (cond b ((n, t.row) ∷ []) [] ++ c))) (sym l) (entry_weaker sh log w s n (link_to_newest c) h)
 ]
 
-pub chain_is : (sh : Layout) (log : List Ticket) (w : ℕ) (s : Spot) (n : ℕ) → IsEntry sh log w s n (top (chain sh log w s n))
+pub chain_is : (sh : Layout) (log : List Ticket) (w : ℕ) (s : Spot) (n : ℕ) → IsEntry sh log w s n (link_to_newest (chain sh log w s n))
 unfolding chain
 chain_is sh log w s zero = tt
 chain_is sh log w s (suc n) = top_entry sh log w s n (slice_get log n) (chain sh log w s n) refl (chain_is sh log w s n)

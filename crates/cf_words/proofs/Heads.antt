@@ -12,7 +12,7 @@ use Rattle.std.proofs.lemmas.Option.{slice_get_within, slice_get_past}
 use Rattle.std.proofs.lemmas.Nat.{mul-add-lt, div-add-mod'}
 use Rattle.cf_shape.specs.Places.{Slot, place, IsReal, word_total}
 use Rattle.cf_shape.specs.Places.Slot.{tail, cell, root, body}
-use Rattle.cf_words.specs.Words.{Spot, spot, Layout, Ticket, Stock, node_at, NodeWord, BodyWord, is_inner, Word, Spells, links, entry_at, chain, top, tail_word, ticket_word, full_word, used_word, lane_word, version_word, done_word, ticket_with_word, ticket_with_head, ticket_with_done, fresh_ticket}
+use Rattle.cf_words.specs.Words.{Spot, spot, Layout, Ticket, Stock, node_at, NodeWord, BodyWord, is_inner, IsWordOf, Spells, links, entry_at, chain, link_to_newest, tail_word, ticket_word, full_word, used_word, lane_word, version_word, done_word, ticket_with_word, ticket_with_head, ticket_with_done, fresh_ticket}
 use Rattle.cf_shape.specs.Uses.Use.{plain, version}
 use Rattle.cf_words.specs.Law.{LayoutLaw, NodesLaw, FlightLaw, CanHead, CanFill, Skips}
 use Rattle.cf_words.proofs.Nodes.{cond_zero, row_of, col_of, node_within}
@@ -32,14 +32,14 @@ get_set_other (z ∷ xs) (suc i) zero x ne = refl
 get_set_other (z ∷ xs) (suc i) (suc k) x ne = get_set_other xs i k x (λ e. ne (ap suc e))
 
 head_word_keeps : (sh : Layout) (log log' : List Ticket) (bs : List Stock) (s : Spot) (j v : ℕ) (b : Bool)
-    → (b ≡ false → top (chain sh log (j % sh.sizes.writers) (spot s.lane (j / sh.sizes.writers ∷ s.path)) (length log)) ≡ top (chain sh log' (j % sh.sizes.writers) (spot s.lane (j / sh.sizes.writers ∷ s.path)) (length log')))
+    → (b ≡ false → link_to_newest (chain sh log (j % sh.sizes.writers) (spot s.lane (j / sh.sizes.writers ∷ s.path)) (length log)) ≡ link_to_newest (chain sh log' (j % sh.sizes.writers) (spot s.lane (j / sh.sizes.writers ∷ s.path)) (length log')))
     → NodeWord sh log bs s j v b → NodeWord sh log' bs s j v b
 head_word_keeps sh log log' bs s j v true same h = h
 head_word_keeps sh log log' bs s j v false same h = h ∙ same refl
 
 body_log_keeps : (sh : Layout) (log log' : List Ticket) (bs : List Stock) (n j v : ℕ) (o : Option Spot)
     → ((s : Spot) (i : ℕ) → o ≡ Some s → j ≡ suc i → is_inner sh s ≡ false
-    → top (chain sh log (i % sh.sizes.writers) (spot s.lane (i / sh.sizes.writers ∷ s.path)) (length log)) ≡ top (chain sh log' (i % sh.sizes.writers) (spot s.lane (i / sh.sizes.writers ∷ s.path)) (length log')))
+    → link_to_newest (chain sh log (i % sh.sizes.writers) (spot s.lane (i / sh.sizes.writers ∷ s.path)) (length log)) ≡ link_to_newest (chain sh log' (i % sh.sizes.writers) (spot s.lane (i / sh.sizes.writers ∷ s.path)) (length log')))
     → BodyWord sh log bs n j v o → BodyWord sh log' bs n j v o
 body_log_keeps sh log log' bs n zero v None heads h = h
 body_log_keeps sh log log' bs n (suc j) v None heads h = h
@@ -51,8 +51,8 @@ pub log_keeps : (sh : Layout) (ts ts' : ℕ × ℕ) (log log' : List Ticket) (bs
     → ((k : ℕ) → u ≡ tail k → tail_word ts k ≡ tail_word ts' k)
     → ((o i : ℕ) → u ≡ cell o i → ticket_word sh log o i (slice_get log o) ≡ ticket_word sh log' o i (slice_get log' o))
     → ((n j : ℕ) (s : Spot) → u ≡ body n (suc j) → node_at sh.sizes.nodes bs n ≡ Some s → is_inner sh s ≡ false
-    → top (chain sh log (j % sh.sizes.writers) (spot s.lane (j / sh.sizes.writers ∷ s.path)) (length log)) ≡ top (chain sh log' (j % sh.sizes.writers) (spot s.lane (j / sh.sizes.writers ∷ s.path)) (length log')))
-    → Word sh ts log bs u x → Word sh ts' log' bs u x
+    → link_to_newest (chain sh log (j % sh.sizes.writers) (spot s.lane (j / sh.sizes.writers ∷ s.path)) (length log)) ≡ link_to_newest (chain sh log' (j % sh.sizes.writers) (spot s.lane (j / sh.sizes.writers ∷ s.path)) (length log')))
+    → IsWordOf sh ts log bs u x → IsWordOf sh ts' log' bs u x
 log_keeps sh ts ts' log log' bs (tail k) x tails cells heads h = h ∙ tails k refl
 log_keeps sh ts ts' log log' bs (cell o i) x tails cells heads h = h ∙ cells o i refl
 log_keeps sh ts ts' log log' bs (root l d) x tails cells heads h = h
@@ -139,7 +139,7 @@ head_far sh log bs o t l d p n law can k j s at ne w e =
     ne (ap₂ body node (ap suc column))
 
 head_others : (sh : Layout) (ts : ℕ × ℕ) (log : List Ticket) (bs : List Stock) (o : ℕ) (t : Ticket) (l d : ℕ) (p : List ℕ) (n : ℕ) → NodesLaw sh bs → FlightLaw log → CanHead sh log bs o t l d p n
-    → (u : Slot) → (u ≡ head_slot sh.sizes n d t.writer → ⊥) → (x : ℕ) → Word sh ts log bs u x → Word sh ts (set log o (ticket_with_head l t)) bs u x
+    → (u : Slot) → (u ≡ head_slot sh.sizes n d t.writer → ⊥) → (x : ℕ) → IsWordOf sh ts log bs u x → IsWordOf sh ts (set log o (ticket_with_head l t)) bs u x
 head_others sh ts log bs o t l d p n law flight can u ne x = let log' = set log o (ticket_with_head l t) in
     log_keeps sh ts ts log log' bs u x (λ k e. refl)
     (λ i k e. head_cells sh log o t l i k (d ∷ p) flight can.at can.flies can.leads)
@@ -147,11 +147,11 @@ head_others sh ts log bs o t l d p n law flight can u ne x = let log' = set log 
     let c = chain_same sh log log' (j % sh.sizes.writers) (spot s.lane (j / sh.sizes.writers ∷ s.path)) (length log) (λ i h.
     entries_elsewhere sh log o t l (j % sh.sizes.writers) (spot s.lane (j / sh.sizes.writers ∷ s.path)) (d ∷ p) can.at can.leads
     (λ w f. head_far sh log bs o t l d p n law can k j s at (λ g. ne (e ∙ g)) w f) i) in
-    ap top (c ∙ ap (chain sh log' (j % sh.sizes.writers) (spot s.lane (j / sh.sizes.writers ∷ s.path))) (sym (length-set log o (ticket_with_head l t)))))
+    ap link_to_newest (c ∙ ap (chain sh log' (j % sh.sizes.writers) (spot s.lane (j / sh.sizes.writers ∷ s.path))) (sym (length-set log o (ticket_with_head l t)))))
 
 -- the new head
 own_chain : (sh : Layout) (log : List Ticket) (bs : List Stock) (o : ℕ) (t : Ticket) (l d : ℕ) (p : List ℕ) (n : ℕ) → FlightLaw log → CanHead sh log bs o t l d p n
-    → top (chain sh (set log o (ticket_with_head l t)) t.writer (spot l (d ∷ p)) (length (set log o (ticket_with_head l t)))) ≡ suc o
+    → link_to_newest (chain sh (set log o (ticket_with_head l t)) t.writer (spot l (d ∷ p)) (length (set log o (ticket_with_head l t)))) ≡ suc o
 own_chain sh log bs o t l d p n flight can = let log' = set log o (ticket_with_head l t) in let s = spot l (d ∷ p) in
     let there : slice_get log' o ≡ Some (ticket_with_head l t) = get_set_same log o (ticket_with_head l t) t can.at in
     chain_top sh log' t.writer s o (length log') t.row (slice_get_within log' o _ there)
@@ -181,8 +181,8 @@ pub head_keeps : (sh : Layout) (ts : ℕ × ℕ) (log : List Ticket) (bs : List 
     → Spells sh ts (set log o (ticket_with_head l t)) bs (set words (place sh.sizes (head_slot sh.sizes n d t.writer)) (suc o))
 head_keeps sh ts log bs words o t l d p n shaped law flight can len spells =
     let log' = set log o (ticket_with_head l t) in
-    let own : suc o ≡ top (chain sh log' ((d * sh.sizes.writers + t.writer) % sh.sizes.writers) (spot l ((d * sh.sizes.writers + t.writer) / sh.sizes.writers ∷ p)) (length log')) =
-    sym (ap₂ (λ (w e : ℕ). top (chain sh log' w (spot l (e ∷ p)) (length log'))) (col_of sh.sizes.writers d t.writer can.writer) (row_of sh.sizes.writers d t.writer can.writer) ∙ own_chain sh log bs o t l d p n flight can) in
+    let own : suc o ≡ link_to_newest (chain sh log' ((d * sh.sizes.writers + t.writer) % sh.sizes.writers) (spot l ((d * sh.sizes.writers + t.writer) / sh.sizes.writers ∷ p)) (length log')) =
+    sym (ap₂ (λ (w e : ℕ). link_to_newest (chain sh log' w (spot l (e ∷ p)) (length log'))) (col_of sh.sizes.writers d t.writer can.writer) (row_of sh.sizes.writers d t.writer can.writer) ∙ own_chain sh log bs o t l d p n flight can) in
     let word : NodeWord sh log' bs (spot l p) (d * sh.sizes.writers + t.writer) (suc o) (is_inner sh (spot l p)) =
     subst (λ (b : Bool). NodeWord sh log' bs (spot l p) (d * sh.sizes.writers + t.writer) (suc o) b) (sym (leaf_not_inner sh t.row l d p shaped can.leads)) own in
     store_keeps sh ts ts log log' bs bs words (head_slot sh.sizes n d t.writer) (suc o) len (head_real sh log bs o t l d p n shaped law can) spells
@@ -202,7 +202,7 @@ entries_kept sh log o t u at ew er el w s i = elim (cases_eq i o) [
 
 pub retouch_others : (sh : Layout) (ts : ℕ × ℕ) (log : List Ticket) (bs : List Stock) (o k : ℕ) (t u : Ticket) → slice_get log o ≡ Some t → u.writer ≡ t.writer → u.row ≡ t.row → u.linked ≡ t.linked
     → ((i : ℕ) → (i ≡ k → ⊥) → ticket_word sh (set log o u) o i (Some t) ≡ ticket_word sh (set log o u) o i (Some u))
-    → (z : Slot) → (z ≡ cell o k → ⊥) → (x : ℕ) → Word sh ts log bs z x → Word sh ts (set log o u) bs z x
+    → (z : Slot) → (z ≡ cell o k → ⊥) → (x : ℕ) → IsWordOf sh ts log bs z x → IsWordOf sh ts (set log o u) bs z x
 retouch_others sh ts log bs o k t u at ew er el words z ne x =
     let log' = set log o u in
     let chains = λ (w : ℕ) (s : Spot) (n : ℕ). chain_same sh log log' w s n (λ i h. entries_kept sh log o t u at ew er el w s i) in
@@ -217,7 +217,7 @@ retouch_others sh ts log bs o k t u at ew er el words z ne x =
           same ∙ (ap (ticket_word sh log' i j) here ∙ (step ∙ ap (ticket_word sh log' i j) (sym there)))
       | inr far ↦ same ∙ ap (ticket_word sh log' i j) (sym (get_set_other log o i u far))
     ])
-    (λ n j s e f inner. ap top (chains (j % sh.sizes.writers) (spot s.lane (j / sh.sizes.writers ∷ s.path)) (length log)
+    (λ n j s e f inner. ap link_to_newest (chains (j % sh.sizes.writers) (spot s.lane (j / sh.sizes.writers ∷ s.path)) (length log)
     ∙ ap (chain sh log' (j % sh.sizes.writers) (spot s.lane (j / sh.sizes.writers ∷ s.path))) (sym (length-set log o u))))
 
 skipped_zero : (sh : Layout) (log : List Ticket) (o : ℕ) (t : Ticket) (u : Use) → Skips sh t u → used_word sh log o t u ≡ 0
@@ -306,7 +306,7 @@ ticket_keeps sh ts log bs words w r len spells =
           let there : slice_get log' o ≡ Some (fresh_ticket w r) = ap (slice_get log') f ∙ get_push_same log (fresh_ticket w r) in
           ap (ticket_word sh log' o i) here ∙ (fresh_zero sh log' o i w r ∙ ap (ticket_word sh log' o i) (sym there))
     ])
-    (λ n j s e f inner. ap top (chains_pushed sh log w r (j % sh.sizes.writers) (spot s.lane (j / sh.sizes.writers ∷ s.path)))))
+    (λ n j s e f inner. ap link_to_newest (chains_pushed sh log w r (j % sh.sizes.writers) (spot s.lane (j / sh.sizes.writers ∷ s.path)))))
     refl
   where
     later : (u : Slot) → (u ≡ tail 0 → ⊥) → (k : ℕ) → u ≡ tail k → tail_word ts k ≡ tail_word (suc ts.0, ts.1) k

@@ -7,7 +7,7 @@ use Rattle.std.specs.Bool.{nat_lt}
 use Rattle.cf_lemmas.proofs.Truths.{lt_true}
 use Rattle.cf_shape.specs.Places.{Sizes, Slot, place, IsReal, word_total}
 use Rattle.cf_shape.specs.Places.Slot.{tail, cell, root, body}
-use Rattle.cf_words.specs.Words.{Spot, spot, Layout, Ticket, Stock, stock_of, node_at, spare_label, stocks_with_label, stocks_with_node, stocks_with_mark, free_of, Names, IsNamedBy, NodeWord, BodyWord, is_inner, Word, Spells, links, entry_at, chain, top}
+use Rattle.cf_words.specs.Words.{Spot, spot, Layout, Ticket, Stock, stock_of, node_at, spare_label, stocks_with_label, stocks_with_node, stocks_with_mark, free_of, IsChildFor, IsNamedBy, NodeWord, BodyWord, is_inner, IsWordOf, Spells, links, entry_at, chain, link_to_newest}
 use Rattle.cf_words.specs.Law.{NodesLaw, LeavesLaw, CanLink}
 use Rattle.cf_words.proofs.Nodes.{free_is_free, label_node_at, label_spare_here, label_spare_other, spare_free, relabel_length, relabel_used, over_used, over_length, over_node_at, over_spare, use_length, use_room, use_node_at_here, use_node_at_other, use_spare}
 use Rattle.cf_words.proofs.Stores.{store_keeps}
@@ -22,7 +22,7 @@ named_grows m bs bs' grows l [] t h = h
 named_grows m bs bs' grows l (d ∷ []) t h = h
 named_grows m bs bs' grows l (d ∷ (e ∷ p)) t h = (h.0, grows h.0 _ h.1, h.2, h.3)
 
-names_same : (m : ℕ) (bs bs' : List Stock) (s : Spot) (v : ℕ) → ((n : ℕ) → node_at m bs' n ≡ node_at m bs n) → Names m bs s v → Names m bs' s v
+names_same : (m : ℕ) (bs bs' : List Stock) (s : Spot) (v : ℕ) → ((n : ℕ) → node_at m bs' n ≡ node_at m bs n) → IsChildFor m bs s v → IsChildFor m bs' s v
 names_same m bs bs' s v same (inl h) = inl (h.0, λ n e. h.1 n (sym (same n) ∙ e))
 names_same m bs bs' s v same (inr h) = inr (h.0, h.1, same h.0 ∙ h.2)
 
@@ -43,7 +43,7 @@ link_from m bs w s n r h room e = elim (cases_eq n (free_of m bs w)) [
 ]
 
 link_names : (m : ℕ) (bs : List Stock) (w : ℕ) (s r : Spot) (v : ℕ) → w < length bs → length (stock_of bs w).used < m
-    → (r ≡ s → ⊥) → Names m bs r v → Names m (stocks_with_node w s bs) r v
+    → (r ≡ s → ⊥) → IsChildFor m bs r v → IsChildFor m (stocks_with_node w s bs) r v
 link_names m bs w s r v h room ne (inl k) = inl (k.0, λ n e. elim (link_from m bs w s n r h room e) [ inl f ↦ ne f.1 | inr f ↦ k.1 n f ])
 link_names m bs w s r v h room ne (inr k) = inr (k.0, k.1, link_grows m bs w s h room k.0 r k.2)
 
@@ -62,7 +62,7 @@ pub is_inner_true : (sh : Layout) (s : Spot) → suc (length s.path) < sh.levels
 is_inner_true sh s h = lt_true _ _ h
 
 node_keeps : (sh : Layout) (log : List Ticket) (bs bs' : List Stock) (s : Spot) (j v : ℕ) (b : Bool)
-    → (Names sh.sizes.nodes bs (spot s.lane (j ∷ s.path)) v → Names sh.sizes.nodes bs' (spot s.lane (j ∷ s.path)) v)
+    → (IsChildFor sh.sizes.nodes bs (spot s.lane (j ∷ s.path)) v → IsChildFor sh.sizes.nodes bs' (spot s.lane (j ∷ s.path)) v)
     → NodeWord sh log bs s j v b → NodeWord sh log bs' s j v b
 node_keeps sh log bs bs' s j v true names (inl h) = inl (h.0, names h.1)
 node_keeps sh log bs bs' s j v true names (inr h) = inr h
@@ -71,7 +71,7 @@ node_keeps sh log bs bs' s j v false names h = h
 body_keeps : (sh : Layout) (log : List Ticket) (bs bs' : List Stock) (n j v : ℕ) (o : Option Spot)
     → Grows sh.sizes.nodes bs bs'
     → (j ≡ 0 → spare_label sh.sizes.nodes bs' n ≡ spare_label sh.sizes.nodes bs n)
-    → ((s : Spot) (i : ℕ) → o ≡ Some s → j ≡ suc i → Names sh.sizes.nodes bs (spot s.lane (i ∷ s.path)) v → Names sh.sizes.nodes bs' (spot s.lane (i ∷ s.path)) v)
+    → ((s : Spot) (i : ℕ) → o ≡ Some s → j ≡ suc i → IsChildFor sh.sizes.nodes bs (spot s.lane (i ∷ s.path)) v → IsChildFor sh.sizes.nodes bs' (spot s.lane (i ∷ s.path)) v)
     → BodyWord sh log bs n j v o → BodyWord sh log bs' n j v o
 body_keeps sh log bs bs' n zero v None grows spare names h = h ∙ sym (spare refl)
 body_keeps sh log bs bs' n (suc j) v None grows spare names h = h
@@ -80,7 +80,7 @@ body_keeps sh log bs bs' n (suc j) v (Some s) grows spare names h = node_keeps s
 
 -- The label of the free node.
 label_others : (sh : Layout) (ts : ℕ × ℕ) (log : List Ticket) (bs : List Stock) (w v : ℕ) → w < length bs
-    → (t : Slot) → (t ≡ body (free_of sh.sizes.nodes bs w) 0 → ⊥) → (x : ℕ) → Word sh ts log bs t x → Word sh ts log (stocks_with_label w v bs) t x
+    → (t : Slot) → (t ≡ body (free_of sh.sizes.nodes bs w) 0 → ⊥) → (x : ℕ) → IsWordOf sh ts log bs t x → IsWordOf sh ts log (stocks_with_label w v bs) t x
 label_others sh ts log bs w v h (tail k) ne x r = r
 label_others sh ts log bs w v h (cell o i) ne x r = r
 label_others sh ts log bs w v h (root l d) ne x r = names_same sh.sizes.nodes bs (stocks_with_label w v bs) _ x (λ n. label_node_at sh.sizes.nodes bs w v n h) r
@@ -135,7 +135,7 @@ fresh_word : (sh : Layout) (log : List Ticket) (bs : List Stock) (s : Spot) (i :
     → ((w d : ℕ) → chain sh log w (spot s.lane (d ∷ s.path)) (length log) ≡ [])
     → NodeWord sh log bs s i 0 b
 fresh_word sh log bs s i true none empty = elim (cases_lt i 16) [ inl h ↦ inl (h, inl (refl, none)) | inr h ↦ inr (h, refl) ]
-fresh_word sh log bs s i false none empty = sym (ap top (empty (i % sh.sizes.writers) (i / sh.sizes.writers)))
+fresh_word sh log bs s i false none empty = sym (ap link_to_newest (empty (i % sh.sizes.writers) (i / sh.sizes.writers)))
 
 -- the words of the new node
 fresh_body : (sh : Layout) (log : List Ticket) (bs : List Stock) (w : ℕ) (s : Spot) (t : Slot) (j x : ℕ) → NodesLaw sh bs → LeavesLaw sh log bs → CanLink sh bs w s t
@@ -154,7 +154,7 @@ fresh_body sh log bs w s t (suc i) x law leaves can none r =
 
 link_others : (sh : Layout) (ts : ℕ × ℕ) (log : List Ticket) (bs : List Stock) (w : ℕ) (s : Spot) (t : Slot) → NodesLaw sh bs → LeavesLaw sh log bs → CanLink sh bs w s t
     → ((n : ℕ) → node_at sh.sizes.nodes bs n ≡ Some s → ⊥)
-    → (u : Slot) → (u ≡ t → ⊥) → (x : ℕ) → Word sh ts log bs u x → Word sh ts log (stocks_with_node w s bs) u x
+    → (u : Slot) → (u ≡ t → ⊥) → (x : ℕ) → IsWordOf sh ts log bs u x → IsWordOf sh ts log (stocks_with_node w s bs) u x
 link_others sh ts log bs w s t law leaves can none (tail k) ne x r = r
 link_others sh ts log bs w s t law leaves can none (cell o i) ne x r = r
 link_others sh ts log bs w s t law leaves can none (root l d) ne x r =
@@ -179,25 +179,25 @@ link_others sh ts log bs w s t law leaves can none (body n j) ne x r = elim (cas
 
 -- the word that names a spot
 word_named : (sh : Layout) (ts : ℕ × ℕ) (log : List Ticket) (bs : List Stock) (l : ℕ) (p : List ℕ) (t : Slot) (x : ℕ) → length p < sh.levels l → IsReal sh.sizes t
-    → IsNamedBy sh.sizes.nodes bs l p t → Word sh ts log bs t x → Names sh.sizes.nodes bs (spot l p) x
+    → IsNamedBy sh.sizes.nodes bs l p t → IsWordOf sh ts log bs t x → IsChildFor sh.sizes.nodes bs (spot l p) x
 word_named sh ts log bs l [] t x inner real h r = absurd h
-word_named sh ts log bs l (d ∷ []) t x inner real h r = subst (λ (u : Slot). Word sh ts log bs u x) h r
+word_named sh ts log bs l (d ∷ []) t x inner real h r = subst (λ (u : Slot). IsWordOf sh ts log bs u x) h r
 word_named sh ts log bs l (d ∷ (e ∷ p)) t x inner real h r =
-    let r1 : BodyWord sh log bs h.0 (suc d) x (node_at sh.sizes.nodes bs h.0) = subst (λ (u : Slot). Word sh ts log bs u x) h.3 r in
+    let r1 : BodyWord sh log bs h.0 (suc d) x (node_at sh.sizes.nodes bs h.0) = subst (λ (u : Slot). IsWordOf sh ts log bs u x) h.3 r in
     let r2 : NodeWord sh log bs (spot l (e ∷ p)) d x (is_inner sh (spot l (e ∷ p))) = subst (λ (o : Option Spot). BodyWord sh log bs h.0 (suc d) x o) h.1 r1 in
     let r3 : NodeWord sh log bs (spot l (e ∷ p)) d x true = subst (λ (b : Bool). NodeWord sh log bs (spot l (e ∷ p)) d x b) (is_inner_true sh (spot l (e ∷ p)) inner) r2 in
     elim r3 [ inl k ↦ k.1 | inr k ↦ absurd (omega (arith, k.0, h.2)) ]
 
 -- the word that names a used node
 named_word : (sh : Layout) (ts : ℕ × ℕ) (log : List Ticket) (bs : List Stock) (l : ℕ) (p : List ℕ) (t : Slot) (n : ℕ) → length p < sh.levels l
-    → IsNamedBy sh.sizes.nodes bs l p t → node_at sh.sizes.nodes bs n ≡ Some (spot l p) → Word sh ts log bs t (suc n)
+    → IsNamedBy sh.sizes.nodes bs l p t → node_at sh.sizes.nodes bs n ≡ Some (spot l p) → IsWordOf sh ts log bs t (suc n)
 named_word sh ts log bs l [] t n inner h at = absurd h
-named_word sh ts log bs l (d ∷ []) t n inner h at = subst (λ (u : Slot). Word sh ts log bs u (suc n)) (sym h) (inr (n, refl, at))
+named_word sh ts log bs l (d ∷ []) t n inner h at = subst (λ (u : Slot). IsWordOf sh ts log bs u (suc n)) (sym h) (inr (n, refl, at))
 named_word sh ts log bs l (d ∷ (e ∷ p)) t n inner h at =
     let r3 : NodeWord sh log bs (spot l (e ∷ p)) d (suc n) true = inl (h.2, inr (n, refl, at)) in
     let r2 : NodeWord sh log bs (spot l (e ∷ p)) d (suc n) (is_inner sh (spot l (e ∷ p))) = subst (λ (b : Bool). NodeWord sh log bs (spot l (e ∷ p)) d (suc n) b) (sym (is_inner_true sh (spot l (e ∷ p)) inner)) r3 in
     let r1 : BodyWord sh log bs h.0 (suc d) (suc n) (node_at sh.sizes.nodes bs h.0) = subst (λ (o : Option Spot). BodyWord sh log bs h.0 (suc d) (suc n) o) (sym h.1) r2 in
-    subst (λ (u : Slot). Word sh ts log bs u (suc n)) (sym h.3) r1
+    subst (λ (u : Slot). IsWordOf sh ts log bs u (suc n)) (sym h.3) r1
 
 -- a child word found 0 says that no node is used for what it stands for
 pub none_from_zero : (sh : Layout) (ts : ℕ × ℕ) (log : List Ticket) (bs : List Stock) (words : List ℕ) (s : Spot) (t : Slot)
@@ -284,7 +284,7 @@ label_leaves sh log bs w v h leaves o t l at linked = let y = leaves o t l at li
 
 -- The mark, past the end.
 over_others : (sh : Layout) (ts ts' : ℕ × ℕ) (log : List Ticket) (bs : List Stock) (w : ℕ) → w < length bs → ts'.1 ≡ ts.1
-    → (t : Slot) → (t ≡ tail 0 → ⊥) → (x : ℕ) → Word sh ts log bs t x → Word sh ts' log (stocks_with_mark w bs) t x
+    → (t : Slot) → (t ≡ tail 0 → ⊥) → (x : ℕ) → IsWordOf sh ts log bs t x → IsWordOf sh ts' log (stocks_with_mark w bs) t x
 over_others sh ts ts' log bs w h e (tail zero) ne x r = absurd (ne refl)
 over_others sh ts ts' log bs w h e (tail (suc k)) ne x r = r ∙ sym e
 over_others sh ts ts' log bs w h e (cell o i) ne x r = r

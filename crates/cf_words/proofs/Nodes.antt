@@ -8,7 +8,7 @@ use Rattle.std.proofs.lemmas.Option.{slice_get_past, slice_get_within}
 use Rattle.std.proofs.lemmas.Bool.Decides.{nat_tests}
 use Rattle.cf_lemmas.proofs.Lists.{get_push_other, get_push_same}
 use Rattle.cf_lemmas.proofs.Truths.{eq_false, eq_true}
-use Rattle.cf_words.specs.Words.{Spot, Stock, stock_of, node_at, spare_label, stocks_with_label, stocks_with_node, free_of, stocks_with_mark, marked}
+use Rattle.cf_words.specs.Words.{Spot, Stock, stock_of, node_at, spare_label, stocks_with_label, stocks_with_node, free_of, stocks_with_mark, marked_books}
 
 pub cond_zero : (b : Bool) → ◌≡◌ {A = ℕ} (cond b 0 0) 0
 cond_zero true = refl
@@ -189,24 +189,24 @@ unfolding spare_label
 over_spare m bs w n h = let b = over_book bs w (n / m) h in ap₂ (λ (xs : List Spot) (l : ℕ). cond (n % m == length xs) l 0) b.0 b.1
 
 -- How many books are marked.
-count_set : (bs : List Stock) (w : ℕ) (b : Stock) → w < length bs → marked (set bs w b) + cond (stock_of bs w).over 1 0 ≡ marked bs + cond b.over 1 0
-unfolding marked stock_of
+count_set : (bs : List Stock) (w : ℕ) (b : Stock) → w < length bs → marked_books (set bs w b) + cond (stock_of bs w).over 1 0 ≡ marked_books bs + cond b.over 1 0
+unfolding marked_books stock_of
 count_set [] w b h = absurd (omega arith)
 count_set (c ∷ bs) zero b h = omega arith
 count_set (c ∷ bs) (suc w) b h = omega (arith, count_set bs w b (omega arith))
 
-count_same : (bs : List Stock) (w : ℕ) (b : Stock) → w < length bs → b.over ≡ (stock_of bs w).over → marked (set bs w b) ≡ marked bs
+count_same : (bs : List Stock) (w : ℕ) (b : Stock) → w < length bs → b.over ≡ (stock_of bs w).over → marked_books (set bs w b) ≡ marked_books bs
 count_same bs w b h e = omega (arith, count_set bs w b h, ap (λ (t : Bool). cond {A = ℕ} t 1 0) e)
 
-pub relabel_marked : (w v : ℕ) (bs : List Stock) → w < length bs → marked (stocks_with_label w v bs) ≡ marked bs
+pub relabel_marked : (w v : ℕ) (bs : List Stock) → w < length bs → marked_books (stocks_with_label w v bs) ≡ marked_books bs
 unfolding stocks_with_label
 relabel_marked w v bs h = count_same bs w _ h refl
 
-pub use_marked : (w : ℕ) (s : Spot) (bs : List Stock) → w < length bs → marked (stocks_with_node w s bs) ≡ marked bs
+pub use_marked : (w : ℕ) (s : Spot) (bs : List Stock) → w < length bs → marked_books (stocks_with_node w s bs) ≡ marked_books bs
 unfolding stocks_with_node
 use_marked w s bs h = count_same bs w _ h refl
 
-pub over_marked : (w : ℕ) (bs : List Stock) → w < length bs → (stock_of bs w).over ≡ false → marked (stocks_with_mark w bs) ≡ suc (marked bs)
+pub over_marked : (w : ℕ) (bs : List Stock) → w < length bs → (stock_of bs w).over ≡ false → marked_books (stocks_with_mark w bs) ≡ suc (marked_books bs)
 unfolding stocks_with_mark
 over_marked w bs h e = omega (arith, count_set bs w (record { used = (stock_of bs w).used; label = (stock_of bs w).label; over = true }) h, ap (λ (t : Bool). cond {A = ℕ} t 1 0) e)
 

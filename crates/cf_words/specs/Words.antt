@@ -63,8 +63,8 @@ unfoldable pub spare_label : ℕ → List Stock → ℕ → ℕ
 spare_label m bs n = cond (n % m == length (stock_of bs (n / m)).used) (stock_of bs (n / m)).label 0
 
 -- a child word that stands for the spot s
-abbrev pub Names : ℕ → List Stock → Spot → ℕ → Type 0
-Names m bs s v = ((v ≡ 0) × ((n : ℕ) → node_at m bs n ≡ Some s → ⊥)) ⊎ ((n : ℕ) × (v ≡ suc n) × (node_at m bs n ≡ Some s))
+abbrev pub IsChildFor : ℕ → List Stock → Spot → ℕ → Type 0
+IsChildFor m bs s v = ((v ≡ 0) × ((n : ℕ) → node_at m bs n ≡ Some s → ⊥)) ⊎ ((n : ℕ) × (v ≡ suc n) × (node_at m bs n ≡ Some s))
 
 -- the slot whose word names the spot
 abbrev pub IsNamedBy : ℕ → List Stock → ℕ → List ℕ → Slot → Type 0
@@ -112,9 +112,9 @@ unfoldable pub stocks_with_mark : ℕ → List Stock → List Stock
 stocks_with_mark w bs = set bs w (record { used = (stock_of bs w).used; label = (stock_of bs w).label; over = true })
 
 -- how many books are marked
-unfoldable pub marked : List Stock → ℕ
-marked [] = 0
-marked (b ∷ bs) = cond b.over 1 0 + marked bs
+unfoldable pub marked_books : List Stock → ℕ
+marked_books [] = 0
+marked_books (b ∷ bs) = cond b.over 1 0 + marked_books bs
 
 -- the number of the least unused node of writer w; m is the number of nodes of each writer
 abbrev pub free_of : ℕ → List Stock → ℕ → ℕ
@@ -151,13 +151,13 @@ chain layout log w s zero = []
 chain layout log w s (suc o) = entry_at layout w s o (slice_get log o) ++ chain layout log w s o
 
 -- 0, or the newest offset plus 1
-abbrev pub top : List (ℕ × RowValue) → ℕ
-top [] = 0
-top (x ∷ xs) = suc x.0
+abbrev pub link_to_newest : List (ℕ × RowValue) → ℕ
+link_to_newest [] = 0
+link_to_newest (x ∷ xs) = suc x.0
 
 -- word j of the cell of lane l, for a row whose chain before it is c: the previous offset and the count, the sum, and the least and greatest
 unfoldable pub version_word : Layout → ℕ → ℕ → List (ℕ × RowValue) → RowValue → ℕ
-version_word layout l zero c r = top c + 2 ^ 32 * cond (layout.is_measured l) (length c + 1) 0
+version_word layout l zero c r = link_to_newest c + 2 ^ 32 * cond (layout.is_measured l) (length c + 1) 0
 version_word layout l (suc j) c r = measure_word j (quad_of (map (λ x. layout.amount x l) (r ∷ map (λ x. x.1) c)))
 
 -- word j of the cell of lane l of ticket t at offset o, by its path there; 0 for None, where the lane does not select the row
@@ -182,8 +182,8 @@ ticket_word layout log o i (Some t) = cond (suc i == layout.sizes.ticket_words) 
 -- what word j after the label, from 0, of a used node has to be. Above the last level (true) it is child j, and 0 from 16 on; at the last
 -- (false) it is the head of nibble j / writers and writer j % writers
 abbrev pub NodeWord : Layout → List Ticket → List Stock → Spot → ℕ → ℕ → Bool → Type 0
-NodeWord layout log bs s j v true = ((j < 16) × Names layout.sizes.nodes bs (spot s.lane (j ∷ s.path)) v) ⊎ ((16 ≤ j) × (v ≡ 0))
-NodeWord layout log bs s j v false = v ≡ top (chain layout log (j % layout.sizes.writers) (spot s.lane (j / layout.sizes.writers ∷ s.path)) (length log))
+NodeWord layout log bs s j v true = ((j < 16) × IsChildFor layout.sizes.nodes bs (spot s.lane (j ∷ s.path)) v) ⊎ ((16 ≤ j) × (v ≡ 0))
+NodeWord layout log bs s j v false = v ≡ link_to_newest (chain layout log (j % layout.sizes.writers) (spot s.lane (j / layout.sizes.writers ∷ s.path)) (length log))
 
 -- whether a node for the spot s has children: it stands above the last level of its lane
 abbrev pub is_inner : Layout → Spot → Bool
@@ -197,12 +197,12 @@ BodyWord layout log bs n zero v (Some s) = (t : Slot) × IsNamedBy layout.sizes.
 BodyWord layout log bs n (suc j) v (Some s) = NodeWord layout log bs s j v (is_inner layout s)
 
 -- the words that need no more than the tails, the log and the books
-abbrev pub Word : Layout → ℕ × ℕ → List Ticket → List Stock → Slot → ℕ → Type 0
-Word layout ts log bs (tail k) v = v ≡ tail_word ts k
-Word layout ts log bs (cell o i) v = v ≡ ticket_word layout log o i (slice_get log o)
-Word layout ts log bs (root l d) v = Names layout.sizes.nodes bs (spot l (d ∷ [])) v
-Word layout ts log bs (body n j) v = BodyWord layout log bs n j v (node_at layout.sizes.nodes bs n)
+abbrev pub IsWordOf : Layout → ℕ × ℕ → List Ticket → List Stock → Slot → ℕ → Type 0
+IsWordOf layout ts log bs (tail k) v = v ≡ tail_word ts k
+IsWordOf layout ts log bs (cell o i) v = v ≡ ticket_word layout log o i (slice_get log o)
+IsWordOf layout ts log bs (root l d) v = IsChildFor layout.sizes.nodes bs (spot l (d ∷ [])) v
+IsWordOf layout ts log bs (body n j) v = BodyWord layout log bs n j v (node_at layout.sizes.nodes bs n)
 
 -- each word is what the model says
 abbrev pub Spells : Layout → ℕ × ℕ → List Ticket → List Stock → List ℕ → Type 0
-Spells layout ts log bs words = (t : Slot) → IsReal layout.sizes t → Word layout ts log bs t (get_or words (place layout.sizes t) 0)
+Spells layout ts log bs words = (t : Slot) → IsReal layout.sizes t → IsWordOf layout ts log bs t (get_or words (place layout.sizes t) 0)

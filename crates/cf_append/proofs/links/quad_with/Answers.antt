@@ -1,10 +1,10 @@
 use Rattle.std.proofs.Common.{◌≡◌, ◌∙◌, ◌∷◌, ◌++◌, ◌-◌, ◌≤◌, [], length, ap, sym, subst, refl, arith, rules}
 use Rattle.cf_fold.specs.Quads.{QuadValue, quad_of}
 use Rattle.cf_shape.specs.Lanes.{ShapeValue, measure_of}
-use Rattle.cf_words.specs.Words.{spot, top}
+use Rattle.cf_words.specs.Words.{spot, link_to_newest}
 use Rattle.cf_law.specs.Shapes.{layout}
 use Rattle.cf_table.specs.Values.{book_of}
-use Rattle.cf_append.specs.Linking.{key_path, leaf_chain, amounts}
+use Rattle.cf_append.specs.Linking.{key_path, leaf_chain, amounts_in_chain}
 use Rattle.cf_append.proofs.Newest.{newest, top_few, amounts_few}
 use Rattle.cf_append.proofs.links.quad_with.Goals as goal
 
@@ -22,7 +22,7 @@ cell_quad-before-requires g c κs within =
     let b = book_of c.args.pass.now.view in
     let is = c.requires.previous in
     let some = c.if-previous-eq0.false in
-    let at : top (leaf_chain s c.args.lane c.args.key b) ≡ Rattle.std.proofs.Common.suc (c.args.previous - 1) = omega (arith, is, some) in
+    let at : link_to_newest (leaf_chain s c.args.lane c.args.key b) ≡ Rattle.std.proofs.Common.suc (c.args.previous - 1) = omega (arith, is, some) in
     (within, (c.requires.of, (c.requires.one, (c.requires.book, ((c.requires.lane, c.requires.measured), newest (layout s) (spot c.args.lane (key_path s c.args.lane c.args.key)) b.mine (c.args.previous - 1) at)))))
 
 pub merge-requires : goal.merge-requires
@@ -41,4 +41,4 @@ returns-clause-quad g c =
     let b = book_of c.args.pass.now.view in
     let l = c.args.lane in
     let value = c.measure.ensures ∙ ap (λ (h : ShapeValue). measure_of h l c.args.row.now) c.shape.ensures.shape in
-    c.merge.ensures.merged (measure_of s l c.args.row.now ∷ []) (amounts s l (leaf_chain s l c.args.key b)) (c.add-value.ensures.added [] refl ∙ ap (λ v. quad_of (v ∷ [])) value) c.cell_quad-before.ensures.quad
+    c.merge.ensures.merged (measure_of s l c.args.row.now ∷ []) (amounts_in_chain s l (leaf_chain s l c.args.key b)) (c.add-value.ensures.added [] refl ∙ ap (λ v. quad_of (v ∷ [])) value) c.cell_quad-before.ensures.quad

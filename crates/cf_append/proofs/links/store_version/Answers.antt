@@ -8,10 +8,10 @@ use Rattle.cf_row.specs.Row.{RowValue}
 use Rattle.cf_fold.specs.Quads.{QuadValue, quad_of}
 use Rattle.cf_shape.specs.Lanes.{ShapeValue, lane_at, measure_of}
 use Rattle.cf_shape.specs.Uses.{cell_words, is_measured}
-use Rattle.cf_words.specs.Words.{spot, top}
+use Rattle.cf_words.specs.Words.{spot, link_to_newest}
 use Rattle.cf_law.specs.Passes.{Book}
 use Rattle.cf_table.specs.Values.{book_of}
-use Rattle.cf_append.specs.Linking.{amounts, key_path, leaf_chain, cell_from}
+use Rattle.cf_append.specs.Linking.{amounts_in_chain, key_path, leaf_chain, cell_from}
 use Rattle.cf_append.proofs.Newest.{amounts_few, top_few, quad_cell, three_words}
 use Rattle.cf_shape.proofs.KeyLevels.{levels_two}
 use Rattle.cf_append.proofs.Pathing.{filed_some, filed_none, filed_path}
@@ -168,8 +168,8 @@ store_three-requires-clause-words g c =
     let measured : is_measured s l ≡ true = ap (λ (x : ShapeValue). is_measured x l) (sym same) ∙ (sym c.measures.ensures ∙ c.if-measures.true) in
     let kept = same_book n z c.quad_with-quad.ensures.books in
     let chain = ap (λ (b : Book). leaf_chain s l key b) (sym kept) in
-    let cell = quad_cell s l (leaf_chain s l key (book_of z.view)) row c.quad_with-quad.result c.own_head-previous.result _ _ measured (previous ∙ ap top chain)
-    (c.quad_with-quad.ensures.quad ∙ ap (λ (d : List (ℕ × RowValue)). quad_of (measure_of s l row ∷ amounts s l d)) chain)
+    let cell = quad_cell s l (leaf_chain s l key (book_of z.view)) row c.quad_with-quad.result c.own_head-previous.result _ _ measured (previous ∙ ap link_to_newest chain)
+    (c.quad_with-quad.ensures.quad ∙ ap (λ (d : List (ℕ × RowValue)). quad_of (measure_of s l row ∷ amounts_in_chain s l d)) chain)
     (ap (λ (k : ℕ). c.own_head-previous.result + k * 4294967296) c.count.ensures) (ap₂ (λ (x y : ℕ). x + y * 4294967296) c.least.ensures c.greatest.ensures) in
     record { first_is = cell.first_is; sum_is = c.sum.ensures ∙ cell.sum_is; ends_is = cell.ends_is }
 

@@ -1,7 +1,7 @@
 use Rattle.std.proofs.Common.{◌%◌, ap, sym, ◌∙◌}
 use Rattle.cf_shape.specs.Lanes.{ShapeValue}
 use Rattle.cf_shape.specs.Places.{place_of}
-use Rattle.cf_shape.specs.Places.Word.{root_child}
+use Rattle.cf_shape.specs.Places.WordName.{root_child}
 use Rattle.cf_law.proofs.Nibbles.{length-nibbles}
 use Rattle.cf_append.proofs.Pathing.{first_child}
 use Rattle.cf_append.proofs.paths.first_node.Goals as goal

@@ -2,7 +2,7 @@ use Rattle.std.proofs.Common.{◌≡◌, ◌+◌, ◌≤◌, ℕ, length, slice_
 use Rattle.cf_table.specs.Loads.{CountsLoads}
 use Rattle.cf_table.specs.Values.{IsOf}
 use Rattle.cf_append.specs.Appends.{Rests}
-use Rattle.cf_append.specs.Paths.{Strides, HasUsed, IsOnPath, HasFilings, Remembers, KeepsLeaves, path_steps}
+use Rattle.cf_append.specs.Paths.{KeepsSeen, HasUsed, IsOnPath, HasFilings, Remembers, KeepsLeaves, path_steps}
 use Rattle.cf_append.proofs.Pathing.{AreEmpty}
 use Rattle.cf_append.proofs.paths.make_paths.Given as goal
 
@@ -10,7 +10,7 @@ abbrev pub invariant-loop-lane : goal.invariant-loop-lane
 invariant-loop-lane g l = record {
   of : IsOf l.pass l.log;
   rest : Rests (l.pass).view;
-  strides : Strides l.fn.pass l.pass;
+  strides : KeepsSeen l.fn.pass l.pass;
   used : HasUsed (IsOnPath (l.log).shape l.row) l.fn.pass l.pass;
   long : length l.filed ≡ 16;
   filed : HasFilings (l.log).shape l.row (l.pass).view l.filed l.lane;

@@ -1,7 +1,7 @@
 use Rattle.std.proofs.Common.{◌≡◌, ◌∙◌, ℕ, true, false, inl, inr, length, ap, sym, arith}
 use Rattle.cf_shape.specs.Lanes.{ShapeValue}
 use Rattle.cf_shape.specs.Places.{slot_of}
-use Rattle.cf_shape.specs.Places.Word.{done}
+use Rattle.cf_shape.specs.Places.WordName.{done}
 use Rattle.cf_law.specs.Passes.{Pass, Look}
 use Rattle.cf_table.proofs.Looks.{tail_loads, done_loads}
 use Rattle.cf_table.proofs.Settling.{moved_then, moved_look, moved_advance, may_advance}

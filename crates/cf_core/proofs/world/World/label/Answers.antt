@@ -5,7 +5,7 @@ use Rattle.cf_law.specs.Events.WorldEvent.{acts}
 use Rattle.cf_law.specs.Steps.Act.{label}
 use Rattle.cf_law.specs.Steps.{pass_with_book, book_with_label}
 use Rattle.cf_shape.specs.Places.{place_of}
-use Rattle.cf_shape.specs.Places.Word.{label as label_word}
+use Rattle.cf_shape.specs.Places.WordName.{label as label_word}
 use Rattle.cf_core.specs.Worlds.{IsLabelOf, NoLabel}
 use Rattle.cf_pass.specs.Books.{IsFree, NoneFree}
 use Rattle.cf_core.proofs.Making.{made, made_lawful, pass_there}

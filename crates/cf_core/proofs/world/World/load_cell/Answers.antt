@@ -3,7 +3,7 @@ use Rattle.cf_law.specs.Events.WorldEvent.{acts}
 use Rattle.cf_law.specs.Steps.Act.{load_cell}
 use Rattle.cf_law.specs.Steps.{pass_with_cell}
 use Rattle.cf_shape.specs.Places.{place_of}
-use Rattle.cf_shape.specs.Places.Word.{version}
+use Rattle.cf_shape.specs.Places.WordName.{version}
 use Rattle.cf_core.specs.Worlds.{HasCell}
 use Rattle.cf_core.proofs.Making.{made, made_lawful, pass_there}
 use Rattle.cf_core.proofs.Walks.{cell_there, cell_load_does, cell_load_only}

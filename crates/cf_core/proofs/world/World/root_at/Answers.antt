@@ -1,7 +1,7 @@
 use Rattle.std.proofs.Common.{◌≡◌, ◌+◌, ◌<◌, ℕ, length, inl, inr, ap, ◌∙◌, arith, subst}
 use Rattle.std.proofs.lemmas.Bool.{cases_eq}
 use Rattle.cf_shape.specs.Places.{place_of}
-use Rattle.cf_shape.specs.Places.Word.{root_child}
+use Rattle.cf_shape.specs.Places.WordName.{root_child}
 use Rattle.cf_shape.specs.declared.lane.Lane.{Lane}
 use Rattle.cf_shape.specs.Lanes.{ShapeValue}
 use Rattle.cf_core.specs.Worlds.{IsRootAt}

@@ -7,7 +7,7 @@ use Rattle.cf_words.specs.Words.{has}
 use Rattle.cf_core.specs.Worlds.{draft, LeadsTo}
 use Rattle.cf_words.specs.Words.{spot}
 use Rattle.cf_shape.specs.Places.{place_of}
-use Rattle.cf_shape.specs.Places.Word.{head}
+use Rattle.cf_shape.specs.Places.WordName.{head}
 use Rattle.cf_law.specs.Steps.{pass_with_book, book_with_head}
 use Rattle.cf_law.specs.Steps.Act.{store_head}
 use Rattle.cf_core.proofs.Making.{made, made_lawful, pass_there}

@@ -1,7 +1,7 @@
 use Rattle.std.proofs.Common.{◌≡◌, ◌+◌, ◌*◌, ℕ, suc, length, sym, ap, subst, ◌∙◌, arith, mul-suc, mul_comm, Err, rules}
 use Rattle.cf_load.specs.declared.segments.TurnFault.TheVariants.{Spent}
 use Rattle.cf_shape.specs.Lanes.{ShapeValue}
-use Rattle.cf_load.specs.Segments.{SegmentsValue, GoesOn}
+use Rattle.cf_load.specs.Segments.{SegmentsValue, SegmentsGoOn}
 use Rattle.cf_load.proofs.Kept.{goes_none, goes_turned}
 use Rattle.cf_load.proofs.segments.Segments.make_room.Goals as goal
 
@@ -26,4 +26,4 @@ pub returns-in-Ok-clause-same : goal.returns-in-Ok-clause-same
 returns-in-Ok-clause-same c = goes_turned c.args.self.now c.turn.new.self c.in-Ok.ensures.turned
 
 pub returns-in-Err-Memory-clause-same : goal.returns-in-Err-Memory-clause-same
-returns-in-Err-Memory-clause-same c = subst (GoesOn c.args.self.now) (sym c.in-Err-Memory.ensures.stays) (goes_none c.args.self.now)
+returns-in-Err-Memory-clause-same c = subst (SegmentsGoOn c.args.self.now) (sym c.in-Err-Memory.ensures.stays) (goes_none c.args.self.now)

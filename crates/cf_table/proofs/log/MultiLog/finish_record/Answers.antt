@@ -1,7 +1,7 @@
 use Rattle.std.proofs.Common.{◌≡◌, refl, ap, subst}
 use Rattle.cf_shape.specs.Lanes.{ShapeValue}
 use Rattle.cf_shape.specs.Places.{place_of}
-use Rattle.cf_shape.specs.Places.Word.{done}
+use Rattle.cf_shape.specs.Places.WordName.{done}
 use Rattle.cf_law.specs.Steps.{book_with_record}
 use Rattle.cf_table.specs.Values.{LogValue, book_of, flight_of}
 use Rattle.cf_table.specs.Effects.{finish_effect}

@@ -1,7 +1,7 @@
 use Rattle.std.proofs.Common.{◌≡◌, ap, subst}
 use Rattle.cf_shape.specs.Lanes.{ShapeValue}
 use Rattle.cf_shape.specs.Places.{place_of}
-use Rattle.cf_shape.specs.Places.Word.{version}
+use Rattle.cf_shape.specs.Places.WordName.{version}
 use Rattle.cf_table.specs.Values.{LogValue}
 use Rattle.cf_table.proofs.Calls.{calls_cell}
 use Rattle.cf_table.proofs.log.MultiLog.load_cell.Goals as goal

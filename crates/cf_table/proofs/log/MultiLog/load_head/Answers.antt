@@ -1,7 +1,7 @@
 use Rattle.std.proofs.Common.{◌≡◌, ap, subst}
 use Rattle.cf_shape.specs.Lanes.{ShapeValue}
 use Rattle.cf_shape.specs.Places.{place_of}
-use Rattle.cf_shape.specs.Places.Word.{head}
+use Rattle.cf_shape.specs.Places.WordName.{head}
 use Rattle.cf_table.specs.Values.{LogValue}
 use Rattle.cf_table.proofs.Calls.{calls_walk}
 use Rattle.cf_table.proofs.log.MultiLog.load_head.Goals as goal

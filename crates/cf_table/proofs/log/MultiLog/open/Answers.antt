@@ -4,7 +4,7 @@ use Rattle.cf_law.specs.Lawful.{Lawful}
 use Rattle.cf_law.specs.Shapes.{layout}
 use Rattle.cf_law.proofs.Runs.{opening_lawful}
 use Rattle.cf_law.specs.Passes.{Book}
-use Rattle.cf_law.specs.Events.{table, no_book}
+use Rattle.cf_law.specs.Events.{tabulated, no_book}
 use Rattle.cf_table.specs.Rule.{root_pass, SeatView}
 use Rattle.cf_table.specs.Moves.{note_of, AreNoted, HoldsAllBooks}
 use Rattle.cf_table.proofs.Homing.{opened}
@@ -25,7 +25,7 @@ invariant_of-result c =
     let n = c.nodes-nodes.ensures.nodes in
     let few = lawful.writers in
     let low = lawful.nodes in
-    let noted = first_noted c.in_ok-notes.notes.items s.writers c.nodes-nodes.result (e.notes ∙ ap (λ (k : ℕ). map note_of (table no_book k)) c.writers.ensures.writers) few.1 (omega (arith, n, low)) in
+    let noted = first_noted c.in_ok-notes.notes.items s.writers c.nodes-nodes.result (e.notes ∙ ap (λ (k : ℕ). map note_of (tabulated no_book k)) c.writers.ensures.writers) few.1 (omega (arith, n, low)) in
     (subst (λ (bs : List Book). AreNoted c.in_ok-notes.notes.items bs c.nodes-nodes.result) (sym (ap (λ (m : SeatView). (m.0).books) c.in_ok-table.ensures.4)) noted, e.room)
 
 pub returns-clause-home : goal.returns-clause-home

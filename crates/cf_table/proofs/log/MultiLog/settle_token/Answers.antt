@@ -1,7 +1,7 @@
 use Rattle.std.proofs.Common.{◌≡◌, ◌∙◌, ℕ, inl, inr, length, ap, arith}
 use Rattle.cf_shape.specs.Lanes.{ShapeValue}
 use Rattle.cf_shape.specs.Places.{slot_of}
-use Rattle.cf_shape.specs.Places.Word.{done}
+use Rattle.cf_shape.specs.Places.WordName.{done}
 use Rattle.cf_law.specs.Passes.{Pass}
 use Rattle.cf_table.proofs.Settling.{moved_then, moved_look, moved_advance, may_advance, settled_by}
 use Rattle.cf_table.proofs.log.MultiLog.settle_token.Goals as goal

@@ -1,7 +1,7 @@
 use Rattle.std.proofs.Common.{◌≡◌, refl, ap, subst}
 use Rattle.cf_shape.specs.Lanes.{ShapeValue}
 use Rattle.cf_shape.specs.Places.{place_of}
-use Rattle.cf_shape.specs.Places.Word.{head}
+use Rattle.cf_shape.specs.Places.WordName.{head}
 use Rattle.cf_law.specs.Steps.{book_with_head}
 use Rattle.cf_table.specs.Values.{LogValue, book_of, flight_of}
 use Rattle.cf_table.specs.Effects.{head_effect}
