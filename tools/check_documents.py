@@ -4,7 +4,7 @@
     tools/check_documents.py [PROGRAM]
 
 - Each relative link and its anchor exists.
-- docs/full_link.svg is what tools/draw_full_link.py draws.
+- docs/full_link.svg is what tools/draw_full_link.py draws, and the table of crates what tools/crate_table.py writes.
 - docs/INCIDENTS.md shows each setup of examples/incidents, without its comments, and below each command the stored report.
 - VERSION is the newest version of CHANGELOG.md, the README has at most 900 words and docs/ at most 20,000.
 - With PROGRAM: README.md, docs/GUIDE.md, examples/*.md and, of confluo-report, docs/INCIDENTS.md are right about what
@@ -24,6 +24,7 @@ import tempfile
 
 sys.dont_write_bytecode = True
 
+import crate_table  # noqa: E402
 import draw_full_link  # noqa: E402
 
 ROOT = pathlib.Path(__file__).resolve().parent.parent
@@ -172,7 +173,7 @@ def wrong_sizes():
 def main():
     if len(sys.argv) > 2:
         sys.exit(__doc__)
-    wrong = [*broken_links(), *wrong_incidents(), *wrong_sizes()]
+    wrong = [*broken_links(), *wrong_incidents(), *wrong_sizes(), *crate_table.wrong()]
     if draw_full_link.PICTURE.read_text() != draw_full_link.drawn():
         wrong.append("docs/full_link.svg is not what tools/draw_full_link.py draws")
     if len(sys.argv) == 2:

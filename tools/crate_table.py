@@ -1,0 +1,87 @@
+#!/usr/bin/env python3
+"""Writes the table of crates in docs/ARCHITECTURE.md from crates.txt and from the first sentence of each crate's `//!`.
+
+    tools/crate_table.py [--check]
+
+The comment lines of crates.txt name the layers. With --check nothing is written: ends with 1 if the table differs, or if a
+crate stands before one of its own layer that it needs. Needs the standard library alone.
+"""
+
+import pathlib
+import re
+import sys
+
+ROOT = pathlib.Path(__file__).resolve().parent.parent
+PAGE = ROOT / "docs" / "ARCHITECTURE.md"
+LIST = ROOT / "crates.txt"
+HEAD = "| Crate | What it is |\n|---|---|\n"
+
+
+def layers_of(text):
+    """The layers of crates.txt: the name of each, and its crates with those that they need."""
+    layers = []
+    for line in text.splitlines():
+        if layer := re.fullmatch(r"# Layer: (.*)", line):
+            layers.append((layer.group(1), []))
+        elif crate := re.fullmatch(r"(\w+):(.*)", line):
+            layers[-1][1].append((crate.group(1), crate.group(2).split()))
+    return layers
+
+
+def sentence_of(crate):
+    """The first sentence of what a crate says of itself, up to a colon behind at least five words."""
+    sources = [ROOT / "crates" / crate / "src" / it for it in ("lib.rt", "main.rt")]
+    source = next(it for it in sources if it.exists())
+    lines = [line[3:] for line in source.read_text().splitlines() if line.startswith("//!")]
+    said = " ".join(" ".join(lines).split())
+    sentence = re.match(r".*?\.(?= [A-Z]|$)", said).group()
+    front, colon, _ = sentence.partition(":")
+    return front + "." if colon and len(front.split()) >= 5 else sentence
+
+
+def table_of(layers):
+    """The table, a row for each crate under a row for its layer."""
+    rows = []
+    for layer, crates in layers:
+        rows.append(f"| **{layer}** | |\n")
+        rows += [f"| {crate} | {sentence_of(crate)} |\n" for crate, _ in crates]
+    return HEAD + "".join(rows)
+
+
+def out_of_order(layers):
+    """Crates that stand before one of their own layer that they need."""
+    for layer, crates in layers:
+        names = [name for name, _ in crates]
+        for at, (crate, needs) in enumerate(crates):
+            yield from (f"{crate} stands before {it}" for it in needs if it in names[at:])
+
+
+def page_with(table, page):
+    """The page with that table in place of its own."""
+    start = page.index(HEAD)
+    end = re.compile(r"\n(?!\|)").search(page, start).end()
+    return page[:start] + table + page[end:]
+
+
+def wrong():
+    """What the list of crates and the page do not agree in."""
+    layers = layers_of(LIST.read_text())
+    page = PAGE.read_text()
+    if page != page_with(table_of(layers), page):
+        yield "docs/ARCHITECTURE.md has another table of crates than tools/crate_table.py writes"
+    yield from (f"crates.txt: {it}" for it in out_of_order(layers))
+
+
+def main():
+    if sys.argv[1:] not in ([], ["--check"]):
+        sys.exit(__doc__)
+    if not sys.argv[1:]:
+        PAGE.write_text(page_with(table_of(layers_of(LIST.read_text())), PAGE.read_text()))
+    found = list(wrong())
+    for it in found:
+        print(f"wrong: {it}")
+    sys.exit(1 if found else 0)
+
+
+if __name__ == "__main__":
+    main()
