@@ -20,7 +20,8 @@ rests_same p q books rest =
     record { one = books ∙ (rest.one ∙ ap (λ (b : Book). b ∷ []) (sym book)); free = ap (λ (b : Book). b.flight) book ∙ rest.free }
 
 -- Whatever the answer is, the book is of the same writer.
-pub same_writer : (shape : ShapeValue) (row : RowValue) (m n : PassValue) (r : Result ℕ AppendFault) → HasAppendAnswer shape row m n r → (book_of n.view).writer ≡ (book_of m.view).writer
+pub same_writer : (shape : ShapeValue) (row : RowValue) (m n : PassValue) (r : Result ℕ AppendFault) → HasAppendAnswer shape row m n r
+    → (book_of n.view).writer ≡ (book_of m.view).writer
 same_writer shape row m n (Ok o) done = ap (λ (bs : List Book). (get_or bs 0 (no_book 0)).writer) done.books
 same_writer shape row m n (Err Full) (inl over) = ap (λ (h : PassValue). (book_of h.view).writer) over.is
 same_writer shape row m n (Err Full) (inr late) = ap (λ (bs : List Book). (get_or bs 0 (no_book 0)).writer) late.books

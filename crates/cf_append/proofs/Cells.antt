@@ -55,14 +55,16 @@ cell_one s l bare = ap (λ (b : Bool). cond {A = ℕ} b 3 1) bare
 pub cell_low : (s : ShapeValue) (l : ℕ) → l < length s.lanes → cell_from s l + cell_words (lane_at s l) < ticket_words s
 cell_low s l lt = omega (arith, before_fits s.lanes l lt)
 
-passed_here : (s : ShapeValue) (row : RowValue) (l k : ℕ) → l < length s.lanes → path_in s row l ≡ None → cell_from s l ≤ k → k < cell_from s (l + 1) → IsPassedOver s row k
+passed_here : (s : ShapeValue) (row : RowValue) (l k : ℕ) → l < length s.lanes → path_in s row l ≡ None → cell_from s l ≤ k → k < cell_from s (l + 1)
+    → IsPassedOver s row k
 passed_here s row l k there none ge lt =
     let j : ℕ = k - cell_from s l in
     let at : cell_from s l + j ≡ k = omega (arith, ge) in
     let low : j < cell_words (lane_at s l) = omega (arith, ge, lt, cell_next s l there) in
     subst (λ (i : ℕ). IsPassedOver s row i) at (subst (λ (u : Use). Skips (layout s) (fresh_ticket 0 row) u) (sym (version_at s l j there low)) none)
 
-pub filled_skip : (s : ShapeValue) (o : ℕ) (row : RowValue) (l : ℕ) (m n : PassValue) → l < length s.lanes → selected_by s l row ≡ false → HasFilled s o row (cell_from s l) m n → HasFilled s o row (cell_from s (l + 1)) m n
+pub filled_skip : (s : ShapeValue) (o : ℕ) (row : RowValue) (l : ℕ) (m n : PassValue) → l < length s.lanes → selected_by s l row ≡ false
+    → HasFilled s o row (cell_from s l) m n → HasFilled s o row (cell_from s (l + 1)) m n
 filled_skip s o row l m n there passes F =
     let from = F.from in record {
       filled = F.filled;
@@ -83,7 +85,8 @@ filled_self s o row k m n F = record {
   passed = F.passed;
 }
 
-pub filled_then : (s : ShapeValue) (o : ℕ) (row : RowValue) (j k : ℕ) (m n z : PassValue) → HasFilled s o row j m n → HasFilled s o row k n z → HasFilled s o row k m z
+pub filled_then : (s : ShapeValue) (o : ℕ) (row : RowValue) (j k : ℕ) (m n z : PassValue) → HasFilled s o row j m n → HasFilled s o row k n z
+    → HasFilled s o row k m z
 filled_then s o row j k m n z F G = record {
   filled = G.filled;
   books = G.books ∙ ap (λ (b : Book). with_flight o row G.filled [] b ∷ []) (the_book n.view (with_flight o row F.filled [] (book_of m.view)) F.books);
@@ -94,31 +97,41 @@ filled_then s o row j k m n z F G = record {
 pub filled_at : (s : ShapeValue) (o : ℕ) (row : RowValue) (j k : ℕ) (m n : PassValue) → j ≡ k → HasFilled s o row j m n → HasFilled s o row k m n
 filled_at s o row j k m n e F = subst (λ (i : ℕ). HasFilled s o row i m n) e F
 
-pub filled_writer : (s : ShapeValue) (o : ℕ) (row : RowValue) (k : ℕ) (m n : PassValue) → HasFilled s o row k m n → (book_of n.view).writer ≡ (book_of m.view).writer
+pub filled_writer : (s : ShapeValue) (o : ℕ) (row : RowValue) (k : ℕ) (m n : PassValue) → HasFilled s o row k m n
+    → (book_of n.view).writer ≡ (book_of m.view).writer
 filled_writer s o row k m n F = ap (λ (b : Book). b.writer) (the_book n.view (with_flight o row F.filled [] (book_of m.view)) F.books)
 
 -- An own head was loaded.
-pub walk_strides : (shape : ShapeValue) (m n : PassValue) (s : Spot) (node d w found : ℕ) → HasStepped shape (walk_effect shape m.view s node d w) m found n → KeepsSeen m n
+pub walk_strides : (shape : ShapeValue) (m n : PassValue) (s : Spot) (node d w found : ℕ) → HasStepped shape (walk_effect shape m.view s node d w) m found n
+    → KeepsSeen m n
 walk_strides shape m n s node d w found made =
-    strides_by m n (pass_with_head (place (sizes_of shape) (head_slot (sizes_of shape) node d w)) w (spot s.lane (d ∷ s.path)) m.view found) made.same made.told.is refl refl refl (λ r k h. h) (omega arith)
+    strides_by m n
+        (pass_with_head (place (sizes_of shape) (head_slot (sizes_of shape) node d w)) w
+        (spot s.lane (d ∷ s.path)) m.view found) made.same made.told.is refl refl refl (λ r k h. h) (omega arith)
 
-pub walk_books : (shape : ShapeValue) (m n : PassValue) (s : Spot) (node d w found : ℕ) → HasStepped shape (walk_effect shape m.view s node d w) m found n → (n.view).books ≡ (m.view).books
+pub walk_books : (shape : ShapeValue) (m n : PassValue) (s : Spot) (node d w found : ℕ) → HasStepped shape (walk_effect shape m.view s node d w) m found n
+    → (n.view).books ≡ (m.view).books
 walk_books shape m n s node d w found made = ap (λ (p : Pass). p.books) made.told.is
 
-pub walk_own : (shape : ShapeValue) (m n : PassValue) (s : Spot) (node d w found : ℕ) → HasStepped shape (walk_effect shape m.view s node d w) m found n → (m.view).books ≡ book_of m.view ∷ [] → w ≡ (book_of m.view).writer
+pub walk_own : (shape : ShapeValue) (m n : PassValue) (s : Spot) (node d w found : ℕ) → HasStepped shape (walk_effect shape m.view s node d w) m found n
+    → (m.view).books ≡ book_of m.view ∷ [] → w ≡ (book_of m.view).writer
     → Knows m.view s node → suc (length s.path) ≡ levels_of shape s.lane → d < 16 → found ≡ own_top (layout shape) (book_of m.view) (spot s.lane (d ∷ s.path))
 walk_own shape m n s node d w found made one own knows level dl =
-    made.told.tells.own 0 node d s.lane s.path (book_of m.view) (ap (λ (v : ℕ). head_slot (sizes_of shape) node d v) own) (ap (λ (bs : List Book). slice_get bs 0) one) knows level dl
+    made.told.tells.own 0 node d s.lane s.path (book_of m.view) (ap (λ (v : ℕ). head_slot (sizes_of shape) node d v) own)
+        (ap (λ (bs : List Book). slice_get bs 0) one) knows level dl
 
 has_nothing : (l : ℕ) → has [] l ≡ false
 unfolding has
 has_nothing l = refl
 
-own_plain_top : (shape : ShapeValue) (b : Book) (o : ℕ) (row : RowValue) (filled : ℕ) (s : Spot) → own_top (layout shape) (with_flight o row filled [] b) s ≡ link_to_newest (mine_chain (layout shape) s b.mine)
+own_plain_top : (shape : ShapeValue) (b : Book) (o : ℕ) (row : RowValue) (filled : ℕ) (s : Spot)
+    → own_top (layout shape) (with_flight o row filled [] b) s ≡ link_to_newest (mine_chain (layout shape) s b.mine)
 own_plain_top shape b o row filled s =
-    ap (λ (linked : Bool). cond {A = ℕ} (cond {A = Bool} linked (same_path (path_in shape row s.lane) s.path) false) (suc o) (link_to_newest (mine_chain (layout shape) s b.mine))) (has_nothing s.lane)
+    ap (λ (linked : Bool). cond {A = ℕ} (cond {A = Bool} linked (same_path (path_in shape row s.lane) s.path) false) (suc o)
+        (link_to_newest (mine_chain (layout shape) s b.mine))) (has_nothing s.lane)
 
-plain_version : (shape : ShapeValue) (l : ℕ) (c : List (ℕ × RowValue)) (row : RowValue) → is_measured shape l ≡ false → version_word (layout shape) l 0 c row ≡ link_to_newest c
+plain_version : (shape : ShapeValue) (l : ℕ) (c : List (ℕ × RowValue)) (row : RowValue) → is_measured shape l ≡ false
+    → version_word (layout shape) l 0 c row ≡ link_to_newest c
 unfolding version_word
 plain_version shape l c row bare = ap (λ (b : Bool). link_to_newest c + 2 ^ 32 * cond {A = ℕ} b (length c + 1) 0) bare ∙ omega arith
 
@@ -131,8 +144,10 @@ cell_use s l i there bare at =
     let e : i ≡ cell_from s l + 0 = omega (arith, at) in
     ap (use_at s) e ∙ version_at s l 0 there (omega (arith, cell_one s l bare))
 
-pub may_version : (shape : ShapeValue) (m n : PassValue) (o l i value : ℕ) (row : RowValue) (q : List ℕ) → HasFilled shape o row (cell_from shape l) m m → (n.view).books ≡ (m.view).books → l < length shape.lanes → is_measured shape l ≡ false → i ≡ cell_from shape l
-    → path_in shape row l ≡ Some q → value ≡ own_top (layout shape) (book_of m.view) (spot l q) → IsLawfulStep shape n.view (store_cell o i value) (store_effect n.view o i value)
+pub may_version : (shape : ShapeValue) (m n : PassValue) (o l i value : ℕ) (row : RowValue) (q : List ℕ) → HasFilled shape o row (cell_from shape l) m m
+    → (n.view).books ≡ (m.view).books → l < length shape.lanes → is_measured shape l ≡ false → i ≡ cell_from shape l
+    → path_in shape row l ≡ Some q → value ≡ own_top (layout shape) (book_of m.view) (spot l q)
+        → IsLawfulStep shape n.view (store_cell o i value) (store_effect n.view o i value)
 may_version shape m n o l i value row q F kept there bare at leads is =
     let sh = layout shape in
     let b : Book = with_flight o row F.filled [] (book_of m.view) in
@@ -153,16 +168,19 @@ may_version shape m n o l i value row q F kept there bare at leads is =
     ∙ (ap (λ (p : Option (List ℕ)). own_lane_word sh b row l 0 p) (sym leads) ∙ ap (λ (u : Use). own_word sh b row u) (sym stands))))))
 
 pub store_strides : (shape : ShapeValue) (m n : PassValue) (o i value : ℕ) → HasSteppedUnseen shape (store_effect m.view o i value) m n → KeepsSeen m n
-store_strides shape m n o i value stored = strides_by m n ((store_effect m.view o i value).after 0 []) stored.made.same stored.made.told.is refl refl refl (λ r k h. h) (omega arith)
+store_strides shape m n o i value stored =
+    strides_by m n ((store_effect m.view o i value).after 0 []) stored.made.same stored.made.told.is refl refl refl (λ r k h. h) (omega arith)
 
-pub filled_more : (shape : ShapeValue) (m n z : PassValue) (o l i value : ℕ) (row : RowValue) → HasFilled shape o row (cell_from shape l) m m → (n.view).books ≡ (m.view).books → l < length shape.lanes → is_measured shape l ≡ false → i ≡ cell_from shape l
+pub filled_more : (shape : ShapeValue) (m n z : PassValue) (o l i value : ℕ) (row : RowValue) → HasFilled shape o row (cell_from shape l) m m
+    → (n.view).books ≡ (m.view).books → l < length shape.lanes → is_measured shape l ≡ false → i ≡ cell_from shape l
     → HasSteppedUnseen shape (store_effect n.view o i value) n z → HasFilled shape o row (cell_from shape (l + 1)) m z
 filled_more shape m n z o l i value row F kept there bare at stored =
     let b : Book = with_flight o row F.filled [] (book_of m.view) in
     let next : cell_from shape (l + 1) ≡ suc i = omega (arith, at, cell_next shape l there, cell_one shape l bare) in record {
       filled = suc i;
       books = ap (λ (p : Pass). p.books) stored.made.told.is
-          ∙ ap (λ (bs : List Book). set bs 0 (book_with_flight (get_or bs 0 (no_book 0)) (record (flight_or (get_or bs 0 (no_book 0)).flight) { filled = suc i }))) (kept ∙ F.books);
+          ∙ ap (λ (bs : List Book). set bs 0
+              (book_with_flight (get_or bs 0 (no_book 0)) (record (flight_or (get_or bs 0 (no_book 0)).flight) { filled = suc i }))) (kept ∙ F.books);
       from = omega (arith, next);
       passed = λ k ge lt. absurd (omega (arith, ge, lt, next));
     }
@@ -191,7 +209,8 @@ not_linked s row zero l le = ap (λ (ls : List ℕ). has ls l) (linked_none s ro
 not_linked s row (suc n) l le = elim (cases_Bool (selected_by s n row)) [
   | inl takes ↦
       let other : (n == l) ≡ false = grind (arith, nat_tests) in
-      ap (λ (ls : List ℕ). has ls l) (linked_one s row n takes) ∙ (has_first n (linked_to s row n) l ∙ (ap (λ (b : Bool). cond b true (has (linked_to s row n) l)) other ∙ not_linked s row n l (omega (arith, le))))
+      ap (λ (ls : List ℕ). has ls l) (linked_one s row n takes)
+          ∙ (has_first n (linked_to s row n) l ∙ (ap (λ (b : Bool). cond b true (has (linked_to s row n) l)) other ∙ not_linked s row n l (omega (arith, le))))
   | inr passes ↦ ap (λ (ls : List ℕ). has ls l) (linked_same s row n passes) ∙ not_linked s row n l (omega (arith, le))
 ]
 
@@ -201,40 +220,50 @@ is_linked s row (suc n) l lt takes = elim (cases_eq l n) [
   | inl same ↦
       let self : (n == l) ≡ true = grind (arith, nat_tests) in
       let there : selected_by s n row ≡ true = ap (λ (k : ℕ). selected_by s k row) (sym same) ∙ takes in
-      ap (λ (ls : List ℕ). has ls l) (linked_one s row n there) ∙ (has_first n (linked_to s row n) l ∙ ap (λ (b : Bool). cond b true (has (linked_to s row n) l)) self)
+      ap (λ (ls : List ℕ). has ls l) (linked_one s row n there)
+          ∙ (has_first n (linked_to s row n) l ∙ ap (λ (b : Bool). cond b true (has (linked_to s row n) l)) self)
   | inr other ↦
       let before = is_linked s row n l (omega (arith, lt, other)) takes in
       elim (cases_Bool (selected_by s n row)) [
         | inl one ↦
             let apart : (n == l) ≡ false = grind (arith, nat_tests) in
-            ap (λ (ls : List ℕ). has ls l) (linked_one s row n one) ∙ (has_first n (linked_to s row n) l ∙ (ap (λ (b : Bool). cond b true (has (linked_to s row n) l)) apart ∙ before))
+            ap (λ (ls : List ℕ). has ls l) (linked_one s row n one)
+                ∙ (has_first n (linked_to s row n) l ∙ (ap (λ (b : Bool). cond b true (has (linked_to s row n) l)) apart ∙ before))
         | inr passes ↦ ap (λ (ls : List ℕ). has ls l) (linked_same s row n passes) ∙ before
       ]
 ]
 
 -- A head is stored.
-whole_ticket : (shape : ShapeValue) (o : ℕ) (row : RowValue) (filled : ℕ) (linked : List ℕ) (w : ℕ) → ((i : ℕ) → filled ≤ i → suc i < ticket_words shape → IsPassedOver shape row i) → IsWhole (layout shape) (ticket_of w (flight_at o row filled linked))
-whole_ticket shape o row filled linked w whole k ge lt = skips_any (layout shape) (fresh_ticket 0 row) (ticket_of w (flight_at o row filled linked)) (use_at shape k) refl (whole k ge lt)
+whole_ticket : (shape : ShapeValue) (o : ℕ) (row : RowValue) (filled : ℕ) (linked : List ℕ) (w : ℕ)
+    → ((i : ℕ) → filled ≤ i → suc i < ticket_words shape → IsPassedOver shape row i) → IsWhole (layout shape) (ticket_of w (flight_at o row filled linked))
+whole_ticket shape o row filled linked w whole k ge lt =
+    skips_any (layout shape) (fresh_ticket 0 row) (ticket_of w (flight_at o row filled linked)) (use_at shape k) refl (whole k ge lt)
 
-pub linked_begin : (shape : ShapeValue) (o : ℕ) (row : RowValue) (m n : PassValue) → HasFilled shape o row (word_count shape.schema + 1 + cell_count shape.lanes) m n → HasLinked shape o row 0 m n
+pub linked_begin : (shape : ShapeValue) (o : ℕ) (row : RowValue) (m n : PassValue)
+    → HasFilled shape o row (word_count shape.schema + 1 + cell_count shape.lanes) m n → HasLinked shape o row 0 m n
 linked_begin shape o row m n F = record {
   filled = F.filled;
   books = F.books ∙ ap (λ (ls : List ℕ). with_flight o row F.filled ls (book_of m.view) ∷ []) (sym (linked_none shape row));
   whole = λ i ge lt. F.passed i ge (omega (arith, lt));
 }
 
-pub may_top : (shape : ShapeValue) (m : PassValue) (o l node d : ℕ) (row : RowValue) (q : List ℕ) → HasLinked shape o row l m m → path_in shape row l ≡ Some (d ∷ q) → Knows m.view (spot l q) node → IsLawfulStep shape m.view (store_head l node d o) (head_effect shape m.view l node d o)
+pub may_top : (shape : ShapeValue) (m : PassValue) (o l node d : ℕ) (row : RowValue) (q : List ℕ) → HasLinked shape o row l m m
+    → path_in shape row l ≡ Some (d ∷ q) → Knows m.view (spot l q) node
+    → IsLawfulStep shape m.view (store_head l node d o) (head_effect shape m.view l node d o)
 may_top shape m o l node d row q L leads knows =
     let b : Book = with_flight o row L.filled (linked_to shape row l) (book_of m.view) in
-    may_head shape m.view b (flight_at o row L.filled (linked_to shape row l)) l node d o q L.books refl refl (whole_ticket shape o row L.filled (linked_to shape row l) b.writer L.whole) (not_linked shape row l l (omega arith)) leads knows
+    may_head shape m.view b (flight_at o row L.filled (linked_to shape row l)) l node d o q L.books refl refl
+        (whole_ticket shape o row L.filled (linked_to shape row l) b.writer L.whole) (not_linked shape row l l (omega arith)) leads knows
 
 pub head_strides : (shape : ShapeValue) (m n : PassValue) (l node d o : ℕ) → HasSteppedUnseen shape (head_effect shape m.view l node d o) m n → KeepsSeen m n
-head_strides shape m n l node d o stored = strides_by m n ((head_effect shape m.view l node d o).after 0 []) stored.made.same stored.made.told.is refl refl refl (λ r k h. h) (omega arith)
+head_strides shape m n l node d o stored =
+    strides_by m n ((head_effect shape m.view l node d o).after 0 []) stored.made.same stored.made.told.is refl refl refl (λ r k h. h) (omega arith)
 
 one_more : (l : ℕ) → suc l ≡ l + 1
 one_more l = omega arith
 
-pub linked_more : (shape : ShapeValue) (m n : PassValue) (o l node d : ℕ) (row : RowValue) → HasLinked shape o row l m m → selected_by shape l row ≡ true → HasSteppedUnseen shape (head_effect shape m.view l node d o) m n → HasLinked shape o row (l + 1) m n
+pub linked_more : (shape : ShapeValue) (m n : PassValue) (o l node d : ℕ) (row : RowValue) → HasLinked shape o row l m m → selected_by shape l row ≡ true
+    → HasSteppedUnseen shape (head_effect shape m.view l node d o) m n → HasLinked shape o row (l + 1) m n
 linked_more shape m n o l node d row L takes stored = record {
   filled = L.filled;
   books = ap (λ (p : Pass). p.books) stored.made.told.is
@@ -244,7 +273,8 @@ linked_more shape m n o l node d row L takes stored = record {
   whole = L.whole;
 }
 
-pub linked_skip : (shape : ShapeValue) (m n : PassValue) (o l : ℕ) (row : RowValue) → HasLinked shape o row l m n → selected_by shape l row ≡ false → HasLinked shape o row (l + 1) m n
+pub linked_skip : (shape : ShapeValue) (m n : PassValue) (o l : ℕ) (row : RowValue) → HasLinked shape o row l m n → selected_by shape l row ≡ false
+    → HasLinked shape o row (l + 1) m n
 linked_skip shape m n o l row L passes = record {
   filled = L.filled;
   books = L.books ∙ (ap (λ (ls : List ℕ). with_flight o row L.filled ls (book_of m.view) ∷ []) (sym (linked_same shape row l passes))
@@ -255,18 +285,24 @@ linked_skip shape m n o l row L passes = record {
 pub linked_self : (shape : ShapeValue) (o : ℕ) (row : RowValue) (k : ℕ) (m n : PassValue) → HasLinked shape o row k m n → HasLinked shape o row k n n
 linked_self shape o row k m n L = record {
   filled = L.filled;
-  books = L.books ∙ ap (λ (b : Book). with_flight o row L.filled (linked_to shape row k) b ∷ []) (sym (the_book n.view (with_flight o row L.filled (linked_to shape row k) (book_of m.view)) L.books));
+  books = L.books
+      ∙ ap (λ (b : Book). with_flight o row L.filled (linked_to shape row k) b ∷ [])
+      (sym (the_book n.view (with_flight o row L.filled (linked_to shape row k) (book_of m.view)) L.books));
   whole = L.whole;
 }
 
-pub linked_then : (shape : ShapeValue) (o : ℕ) (row : RowValue) (j k : ℕ) (m n z : PassValue) → HasLinked shape o row j m n → HasLinked shape o row k n z → HasLinked shape o row k m z
+pub linked_then : (shape : ShapeValue) (o : ℕ) (row : RowValue) (j k : ℕ) (m n z : PassValue) → HasLinked shape o row j m n → HasLinked shape o row k n z
+    → HasLinked shape o row k m z
 linked_then shape o row j k m n z K L = record {
   filled = L.filled;
-  books = L.books ∙ ap (λ (b : Book). with_flight o row L.filled (linked_to shape row k) b ∷ []) (the_book n.view (with_flight o row K.filled (linked_to shape row j) (book_of m.view)) K.books);
+  books = L.books
+      ∙ ap (λ (b : Book). with_flight o row L.filled (linked_to shape row k) b ∷ [])
+      (the_book n.view (with_flight o row K.filled (linked_to shape row j) (book_of m.view)) K.books);
   whole = L.whole;
 }
 
-pub linked_writer : (shape : ShapeValue) (o : ℕ) (row : RowValue) (k : ℕ) (m n : PassValue) → HasLinked shape o row k m n → (book_of n.view).writer ≡ (book_of m.view).writer
+pub linked_writer : (shape : ShapeValue) (o : ℕ) (row : RowValue) (k : ℕ) (m n : PassValue) → HasLinked shape o row k m n
+    → (book_of n.view).writer ≡ (book_of m.view).writer
 linked_writer shape o row k m n L = ap (λ (b : Book). b.writer) (the_book n.view (with_flight o row L.filled (linked_to shape row k) (book_of m.view)) L.books)
 
 -- The record is finished.
@@ -276,23 +312,29 @@ some_path s row l q h = elim (cases_Bool (selected_by s l row)) [
   | inr e ↦ absurd (let f : Some q ≡ None = sym h ∙ path_none s row l e in cc f)
 ]
 
-pub may_close : (shape : ShapeValue) (m n : PassValue) (o : ℕ) (row : RowValue) → IsShape shape → HasLinked shape o row (length shape.lanes) m n → IsLawfulStep shape n.view (finish_record o) (finish_effect shape n.view o)
+pub may_close : (shape : ShapeValue) (m n : PassValue) (o : ℕ) (row : RowValue) → IsShape shape → HasLinked shape o row (length shape.lanes) m n
+    → IsLawfulStep shape n.view (finish_record o) (finish_effect shape n.view o)
 may_close shape m n o row lawful L =
     let ls = linked_to shape row (length shape.lanes) in
     let b : Book = with_flight o row L.filled ls (book_of m.view) in
     may_finish shape n.view b (flight_at o row L.filled ls) o L.books refl refl (whole_ticket shape o row L.filled ls b.writer L.whole)
     (λ l q leads. is_linked shape row (length shape.lanes) l ((layout_law shape lawful).lanes row l q leads) (some_path shape row l q leads))
 
-pub closed_books : (shape : ShapeValue) (m n z : PassValue) (o k : ℕ) (row : RowValue) → HasLinked shape o row k m n → HasSteppedUnseen shape (finish_effect shape n.view o) n z → (z.view).books ≡ with_own o row (book_of m.view) ∷ []
+pub closed_books : (shape : ShapeValue) (m n z : PassValue) (o k : ℕ) (row : RowValue) → HasLinked shape o row k m n
+    → HasSteppedUnseen shape (finish_effect shape n.view o) n z → (z.view).books ≡ with_own o row (book_of m.view) ∷ []
 closed_books shape m n z o k row L stored =
-    ap (λ (p : Pass). p.books) stored.made.told.is ∙ ap (λ (bs : List Book). set bs 0 (book_with_record (get_or bs 0 (no_book 0)) (flight_or (get_or bs 0 (no_book 0)).flight))) L.books
+    ap (λ (p : Pass). p.books) stored.made.told.is
+        ∙ ap (λ (bs : List Book). set bs 0 (book_with_record (get_or bs 0 (no_book 0)) (flight_or (get_or bs 0 (no_book 0)).flight))) L.books
 
 pub close_strides : (shape : ShapeValue) (m n : PassValue) (o : ℕ) → HasSteppedUnseen shape (finish_effect shape m.view o) m n → KeepsSeen m n
-close_strides shape m n o stored = strides_by m n ((finish_effect shape m.view o).after 0 []) stored.made.same stored.made.told.is refl refl refl (λ r k h. h) (omega arith)
+close_strides shape m n o stored =
+    strides_by m n ((finish_effect shape m.view o).after 0 []) stored.made.same stored.made.told.is refl refl refl (λ r k h. h) (omega arith)
 
 -- A word of a cell, wherever it stands.
-pub may_word : (shape : ShapeValue) (p : PassValue) (o l h i value : ℕ) (row : RowValue) (q : List ℕ) → HasFilled shape o row i p p → l < length shape.lanes → h < cell_words (lane_at shape l) → i ≡ cell_from shape l + h
-    → path_in shape row l ≡ Some q → value ≡ version_word (layout shape) l h (mine_chain (layout shape) (spot l q) (book_of p.view).mine) row → IsLawfulStep shape p.view (store_cell o i value) (store_effect p.view o i value)
+pub may_word : (shape : ShapeValue) (p : PassValue) (o l h i value : ℕ) (row : RowValue) (q : List ℕ) → HasFilled shape o row i p p → l < length shape.lanes
+    → h < cell_words (lane_at shape l) → i ≡ cell_from shape l + h
+    → path_in shape row l ≡ Some q → value ≡ version_word (layout shape) l h (mine_chain (layout shape) (spot l q) (book_of p.view).mine) row
+        → IsLawfulStep shape p.view (store_cell o i value) (store_effect p.view o i value)
 may_word shape p o l h i value row q F there low at leads is =
     let sh = layout shape in
     let b : Book = with_flight o row F.filled [] (book_of p.view) in
@@ -309,11 +351,13 @@ may_word shape p o l h i value row q F there low at leads is =
     may_store shape p.view b f o i value F.books refl refl next
     (is ∙ (ap (λ (r : Option (List ℕ)). own_lane_word sh b row l h r) (sym leads) ∙ ap (λ (u : Use). own_word sh b row u) (sym stands)))
 
-pub word_filled : (shape : ShapeValue) (p n : PassValue) (o i value : ℕ) (row : RowValue) → HasFilled shape o row i p p → HasSteppedUnseen shape (store_effect p.view o i value) p n → HasFilled shape o row (suc i) p n
+pub word_filled : (shape : ShapeValue) (p n : PassValue) (o i value : ℕ) (row : RowValue) → HasFilled shape o row i p p
+    → HasSteppedUnseen shape (store_effect p.view o i value) p n → HasFilled shape o row (suc i) p n
 word_filled shape p n o i value row F stored = record {
   filled = suc i;
   books = ap (λ (q : Pass). q.books) stored.made.told.is
-      ∙ ap (λ (bs : List Book). set bs 0 (book_with_flight (get_or bs 0 (no_book 0)) (record (flight_or (get_or bs 0 (no_book 0)).flight) { filled = suc i }))) F.books;
+      ∙ ap (λ (bs : List Book). set bs 0
+          (book_with_flight (get_or bs 0 (no_book 0)) (record (flight_or (get_or bs 0 (no_book 0)).flight) { filled = suc i }))) F.books;
   from = omega arith;
   passed = λ k ge lt. absurd (omega (arith, ge, lt));
 }
@@ -321,7 +365,8 @@ word_filled shape p n o i value row F stored = record {
 pub filled_mine : (s : ShapeValue) (o : ℕ) (row : RowValue) (k : ℕ) (m n : PassValue) → HasFilled s o row k m n → (book_of n.view).mine ≡ (book_of m.view).mine
 filled_mine s o row k m n F = ap (λ (b : Book). b.mine) (the_book n.view (with_flight o row F.filled [] (book_of m.view)) F.books)
 
-pub filled_kept : (shape : ShapeValue) (o : ℕ) (row : RowValue) (k : ℕ) (m n : PassValue) → HasFilled shape o row k m m → (n.view).books ≡ (m.view).books → HasFilled shape o row k m n
+pub filled_kept : (shape : ShapeValue) (o : ℕ) (row : RowValue) (k : ℕ) (m n : PassValue) → HasFilled shape o row k m m → (n.view).books ≡ (m.view).books
+    → HasFilled shape o row k m n
 filled_kept shape o row k m n F kept = record { filled = F.filled; books = kept ∙ F.books; from = F.from; passed = F.passed }
 
 pub unmeasured_next : (s : ShapeValue) (l : ℕ) → l < length s.lanes → is_measured s l ≡ false → cell_from s (l + 1) ≡ cell_from s l + 1
@@ -332,15 +377,18 @@ skip_words true = omega arith
 skip_words false = omega arith
 
 -- an own head, where the ticket in flight isn't linked
-pub head_chain : (shape : ShapeValue) (m n : PassValue) (o k v : ℕ) (row : RowValue) (q : Spot) → HasFilled shape o row k m m → (n.view).books ≡ (m.view).books → v ≡ own_top (layout shape) (book_of m.view) q → v ≡ link_to_newest (mine_chain (layout shape) q (book_of n.view).mine)
+pub head_chain : (shape : ShapeValue) (m n : PassValue) (o k v : ℕ) (row : RowValue) (q : Spot) → HasFilled shape o row k m m
+    → (n.view).books ≡ (m.view).books → v ≡ own_top (layout shape) (book_of m.view) q → v ≡ link_to_newest (mine_chain (layout shape) q (book_of n.view).mine)
 head_chain shape m n o k v row q F kept is =
     is ∙ (ap (λ (c : Book). own_top (layout shape) c q) (the_book m.view (with_flight o row F.filled [] (book_of m.view)) F.books)
-    ∙ (own_plain_top shape (book_of m.view) o row F.filled q ∙ ap (λ (bs : List Book). link_to_newest (mine_chain (layout shape) q (get_or bs 0 (no_book 0)).mine)) (sym kept)))
+    ∙ (own_plain_top shape (book_of m.view) o row F.filled q
+        ∙ ap (λ (bs : List Book). link_to_newest (mine_chain (layout shape) q (get_or bs 0 (no_book 0)).mine)) (sym kept)))
 
 pub book_same : (shape : ShapeValue) (m n : PassValue) → IsBookOf shape (book_of m.view) → (n.view).books ≡ (m.view).books → IsBookOf shape (book_of n.view)
 book_same shape m n own kept = subst (λ (bs : List Book). IsBookOf shape (get_or bs 0 (no_book 0))) (sym kept) own
 
-pub filled_book : (s : ShapeValue) (o : ℕ) (row : RowValue) (k : ℕ) (m n : PassValue) → HasFilled s o row k m n → IsBookOf s (book_of m.view) → IsBookOf s (book_of n.view)
+pub filled_book : (s : ShapeValue) (o : ℕ) (row : RowValue) (k : ℕ) (m n : PassValue) → HasFilled s o row k m n → IsBookOf s (book_of m.view)
+    → IsBookOf s (book_of n.view)
 filled_book s o row k m n F own =
     let is = the_book n.view (with_flight o row F.filled [] (book_of m.view)) F.books in
     subst (IsBookOf s) (sym is) (record { writer = own.writer; rows = own.rows; few = own.few })

@@ -31,18 +31,23 @@ chain_nil sh s = refl
 abbrev here_if : Own → Bool → List (ℕ × RowValue)
 here_if x b = cond b ((x.offset, x.row) ∷ []) []
 
-chain_cons : (sh : Layout) (s : Spot) (x : Own) (xs : List Own) → mine_chain sh s (x ∷ xs) ≡ mine_chain sh s xs ++ here_if x (same_path (sh.path x.row s.lane) s.path)
+chain_cons : (sh : Layout) (s : Spot) (x : Own) (xs : List Own)
+    → mine_chain sh s (x ∷ xs) ≡ mine_chain sh s xs ++ here_if x (same_path (sh.path x.row s.lane) s.path)
 unfolding mine_chain
 chain_cons sh s x xs = refl
 
-newest_step : (sh : Layout) (s : Spot) (x : Own) (xs : List Own) (o : ℕ) → (link_to_newest (mine_chain sh s xs) ≡ suc o → IsNewest sh s xs o) → (c : List (ℕ × RowValue)) → mine_chain sh s xs ≡ c → link_to_newest (mine_chain sh s (x ∷ xs)) ≡ suc o → IsNewest sh s (x ∷ xs) o
+newest_step : (sh : Layout) (s : Spot) (x : Own) (xs : List Own) (o : ℕ) → (link_to_newest (mine_chain sh s xs) ≡ suc o → IsNewest sh s xs o)
+    → (c : List (ℕ × RowValue)) → mine_chain sh s xs ≡ c → link_to_newest (mine_chain sh s (x ∷ xs)) ≡ suc o → IsNewest sh s (x ∷ xs) o
 newest_step sh s x xs o more [] is e = elim (cases_Bool (same_path (sh.path x.row s.lane) s.path)) [
   | inl here ↦
-      let whole : mine_chain sh s (x ∷ xs) ≡ (x.offset, x.row) ∷ [] = chain_cons sh s x xs ∙ (ap (λ (c : List (ℕ × RowValue)). c ++ here_if x (same_path (sh.path x.row s.lane) s.path)) is ∙ ap (here_if x) here) in
+      let whole : mine_chain sh s (x ∷ xs) ≡ (x.offset, x.row) ∷ [] = chain_cons sh s x xs
+          ∙ (ap (λ (c : List (ℕ × RowValue)). c ++ here_if x (same_path (sh.path x.row s.lane) s.path)) is ∙ ap (here_if x) here) in
       let first : suc x.offset ≡ suc o = ap link_to_newest (sym whole) ∙ e in
-      record { place = 0; own = x; at = refl; offset = omega (arith, first); leads = same_path_true (sh.path x.row s.lane) s.path here; chain = whole ∙ ap (λ (c : List (ℕ × RowValue)). (x.offset, x.row) ∷ c) (sym (chain_nil sh s)) }
+      record { place = 0; own = x; at = refl; offset = omega (arith, first); leads = same_path_true (sh.path x.row s.lane) s.path here; chain = whole
+          ∙ ap (λ (c : List (ℕ × RowValue)). (x.offset, x.row) ∷ c) (sym (chain_nil sh s)) }
   | inr other ↦
-      let whole : mine_chain sh s (x ∷ xs) ≡ [] = chain_cons sh s x xs ∙ (ap (λ (c : List (ℕ × RowValue)). c ++ here_if x (same_path (sh.path x.row s.lane) s.path)) is ∙ ap (here_if x) other) in
+      let whole : mine_chain sh s (x ∷ xs) ≡ [] = chain_cons sh s x xs
+          ∙ (ap (λ (c : List (ℕ × RowValue)). c ++ here_if x (same_path (sh.path x.row s.lane) s.path)) is ∙ ap (here_if x) other) in
       let first : 0 ≡ suc o = ap link_to_newest (sym whole) ∙ e in
       absurd (omega (arith, first))
 ]
@@ -55,7 +60,9 @@ newest_step sh s x xs o more (y ∷ ys) is e =
       at = r.at;
       offset = r.offset;
       leads = r.leads;
-      chain = chain_cons sh s x xs ∙ (ap (λ (c : List (ℕ × RowValue)). c ++ tail) r.chain ∙ ap (λ (c : List (ℕ × RowValue)). (r.own.offset, r.own.row) ∷ c) (sym (chain_cons sh s x (take r.place xs))));
+      chain = chain_cons sh s x xs
+          ∙ (ap (λ (c : List (ℕ × RowValue)). c ++ tail) r.chain
+          ∙ ap (λ (c : List (ℕ × RowValue)). (r.own.offset, r.own.row) ∷ c) (sym (chain_cons sh s x (take r.place xs))));
     }
 
 pub newest : (sh : Layout) (s : Spot) (mine : List Own) (o : ℕ) → link_to_newest (mine_chain sh s mine) ≡ suc o → IsNewest sh s mine o
@@ -75,15 +82,19 @@ chain_few sh s (x ∷ xs) =
     omega (arith, e, length-append (mine_chain sh s xs) tail, at_most_one x (same_path (sh.path x.row s.lane) s.path), chain_few sh s xs)
 
 -- the words of a measured cell, by the quad
-pub first_word : (shape : ShapeValue) (l : ℕ) (c : List (ℕ × RowValue)) (row : RowValue) → is_measured shape l ≡ true → version_word (layout shape) l 0 c row ≡ link_to_newest c + 2 ^ 32 * (length c + 1)
+pub first_word : (shape : ShapeValue) (l : ℕ) (c : List (ℕ × RowValue)) (row : RowValue) → is_measured shape l ≡ true
+    → version_word (layout shape) l 0 c row ≡ link_to_newest c + 2 ^ 32 * (length c + 1)
 unfolding version_word
 first_word shape l c row takes = ap (λ (b : Bool). link_to_newest c + 2 ^ 32 * cond {A = ℕ} b (length c + 1) 0) takes
 
-pub sum_word : (shape : ShapeValue) (l : ℕ) (c : List (ℕ × RowValue)) (row : RowValue) → version_word (layout shape) l 1 c row ≡ (quad_of (map (λ (r : RowValue). measure_of shape l r) (row ∷ map (λ (x : ℕ × RowValue). x.1) c))).sum
+pub sum_word : (shape : ShapeValue) (l : ℕ) (c : List (ℕ × RowValue)) (row : RowValue)
+    → version_word (layout shape) l 1 c row ≡ (quad_of (map (λ (r : RowValue). measure_of shape l r) (row ∷ map (λ (x : ℕ × RowValue). x.1) c))).sum
 unfolding version_word
 sum_word shape l c row = refl
 
-pub ends_word : (shape : ShapeValue) (l : ℕ) (c : List (ℕ × RowValue)) (row : RowValue) → let q = quad_of (map (λ (r : RowValue). measure_of shape l r) (row ∷ map (λ (x : ℕ × RowValue). x.1) c)) in version_word (layout shape) l 2 c row ≡ q.least + 2 ^ 32 * q.greatest
+pub ends_word : (shape : ShapeValue) (l : ℕ) (c : List (ℕ × RowValue)) (row : RowValue) → let q =
+    quad_of (map (λ (r : RowValue). measure_of shape l r) (row ∷ map (λ (x : ℕ × RowValue). x.1) c)) in
+    version_word (layout shape) l 2 c row ≡ q.least + 2 ^ 32 * q.greatest
 unfolding version_word
 ends_word shape l c row = refl
 
@@ -92,7 +103,8 @@ low_append : (xs ys : List ℕ) → AreLow xs → AreLow ys → AreLow (xs ++ ys
 low_append [] ys a b = b
 low_append (x ∷ xs) ys a b = (a.0, low_append xs ys a.1 b)
 
-amounts_append : (shape : ShapeValue) (l : ℕ) (c d : List (ℕ × RowValue)) → amounts_in_chain shape l (c ++ d) ≡ amounts_in_chain shape l c ++ amounts_in_chain shape l d
+amounts_append : (shape : ShapeValue) (l : ℕ) (c d : List (ℕ × RowValue))
+    → amounts_in_chain shape l (c ++ d) ≡ amounts_in_chain shape l c ++ amounts_in_chain shape l d
 amounts_append shape l [] d = refl
 amounts_append shape l (x ∷ c) d = ap (λ (xs : List ℕ). measure_of shape l x.1 ∷ xs) (amounts_append shape l c d)
 
@@ -100,13 +112,15 @@ low_here : (shape : ShapeValue) (l : ℕ) (x : Own) (b : Bool) → measure_of sh
 low_here shape l x true low = (low, tt)
 low_here shape l x false low = tt
 
-pub low_amounts : (shape : ShapeValue) (l : ℕ) (s : Spot) (mine : List Own) → ((j : ℕ) (x : Own) → slice_get mine j ≡ Some x → measure_of shape l x.row < 2 ^ 32) → AreLow (amounts_in_chain shape l (mine_chain (layout shape) s mine))
+pub low_amounts : (shape : ShapeValue) (l : ℕ) (s : Spot) (mine : List Own)
+    → ((j : ℕ) (x : Own) → slice_get mine j ≡ Some x → measure_of shape l x.row < 2 ^ 32) → AreLow (amounts_in_chain shape l (mine_chain (layout shape) s mine))
 low_amounts shape l s [] low = subst (λ (c : List (ℕ × RowValue)). AreLow (amounts_in_chain shape l c)) (sym (chain_nil (layout shape) s)) tt
 low_amounts shape l s (x ∷ xs) low =
     let b = same_path ((layout shape).path x.row s.lane) s.path in
     subst (λ (c : List (ℕ × RowValue)). AreLow (amounts_in_chain shape l c)) (sym (chain_cons (layout shape) s x xs))
     (subst AreLow (sym (amounts_append shape l (mine_chain (layout shape) s xs) (here_if x b)))
-    (low_append (amounts_in_chain shape l (mine_chain (layout shape) s xs)) (amounts_in_chain shape l (here_if x b)) (low_amounts shape l s xs (λ j y at. low (suc j) y at)) (low_here shape l x b (low 0 x refl))))
+    (low_append (amounts_in_chain shape l (mine_chain (layout shape) s xs)) (amounts_in_chain shape l (here_if x b))
+        (low_amounts shape l s xs (λ j y at. low (suc j) y at)) (low_here shape l x b (low 0 x refl))))
 
 pub take_get : (n i : ℕ) (xs : List Own) (x : Own) → slice_get (take n xs) i ≡ Some x → slice_get xs i ≡ Some x
 take_get zero i [] x at = absurd (cc at)
@@ -115,16 +129,20 @@ take_get (suc n) i [] x at = absurd (cc at)
 take_get (suc n) zero (y ∷ xs) x at = at
 take_get (suc n) (suc i) (y ∷ xs) x at = take_get n i xs x at
 
-pub top_most : (sh : Layout) (s : Spot) (mine : List Own) (n : ℕ) → ((j : ℕ) (x : Own) → slice_get mine j ≡ Some x → x.offset < n) → (k : ℕ) → link_to_newest (mine_chain sh s mine) ≡ k → k ≤ n
+pub top_most : (sh : Layout) (s : Spot) (mine : List Own) (n : ℕ) → ((j : ℕ) (x : Own) → slice_get mine j ≡ Some x → x.offset < n) → (k : ℕ)
+    → link_to_newest (mine_chain sh s mine) ≡ k → k ≤ n
 top_most sh s mine n low zero e = omega arith
 top_most sh s mine n low (suc o) e = (let r = newest sh s mine o e in let at = low r.place r.own r.at in let is = r.offset in omega (arith, at, is))
 
-pub quad_read : (shape : ShapeValue) (l : ℕ) (c : List (ℕ × RowValue)) (row : RowValue) (first sum ends : ℕ) → IsCell shape l c row first sum ends → is_measured shape l ≡ true → link_to_newest c < 2 ^ 32 → AreLow (measure_of shape l row ∷ amounts_in_chain shape l c)
-    → record { count = first / 4294967296; sum = sum; least = ends % 4294967296; greatest = ends / 4294967296 } ≡ quad_of (measure_of shape l row ∷ amounts_in_chain shape l c)
+pub quad_read : (shape : ShapeValue) (l : ℕ) (c : List (ℕ × RowValue)) (row : RowValue) (first sum ends : ℕ) → IsCell shape l c row first sum ends
+    → is_measured shape l ≡ true → link_to_newest c < 2 ^ 32 → AreLow (measure_of shape l row ∷ amounts_in_chain shape l c)
+    → record { count = first / 4294967296; sum = sum; least = ends % 4294967296; greatest = ends / 4294967296 } ≡ quad_of
+        (measure_of shape l row ∷ amounts_in_chain shape l c)
 quad_read shape l c row first sum ends w takes small low =
     let xs = measure_of shape l row ∷ amounts_in_chain shape l c in
     let lawful = quad_is_lawful xs low in
-    let many : length (amounts_in_chain shape l c) ≡ length c = length-map (map (λ (x : ℕ × RowValue). x.1) c) (λ (r : RowValue). measure_of shape l r) ∙ length-map c (λ (x : ℕ × RowValue). x.1) in
+    let many : length (amounts_in_chain shape l c) ≡ length c = length-map (map (λ (x : ℕ × RowValue). x.1) c) (λ (r : RowValue). measure_of shape l r)
+        ∙ length-map c (λ (x : ℕ × RowValue). x.1) in
     let one = w.first_is ∙ first_word shape l c row takes in
     let three = w.ends_is ∙ ends_word shape l c row in
     let least = lawful.least_is_low in
@@ -145,16 +163,20 @@ both_left : (a b : Bool) → Rattle.std.proofs.Common.◌&&◌ a b ≡ true → 
 both_left true b h = refl
 both_left false b h = h
 
-pub all_low : (shape : ShapeValue) (l : ℕ) (s : Spot) (b : Book) → IsShape shape → l < length shape.lanes → IsBookOf shape b → AreLow (amounts_in_chain shape l (mine_chain (layout shape) s b.mine))
+pub all_low : (shape : ShapeValue) (l : ℕ) (s : Spot) (b : Book) → IsShape shape → l < length shape.lanes → IsBookOf shape b
+    → AreLow (amounts_in_chain shape l (mine_chain (layout shape) s b.mine))
 all_low shape l s b lawful there own = low_amounts shape l s b.mine (λ j x at. measure_low shape l x.row lawful there (both_left _ _ (own.rows j x at).0))
 
 pub top_few : (shape : ShapeValue) (s : Spot) (b : Book) → IsBookOf shape b → link_to_newest (mine_chain (layout shape) s b.mine) ≤ shape.capacity
-top_few shape s b own = top_most (layout shape) s b.mine shape.capacity (λ j x at. (own.rows j x at).1) (link_to_newest (mine_chain (layout shape) s b.mine)) refl
+top_few shape s b own =
+    top_most (layout shape) s b.mine shape.capacity (λ j x at. (own.rows j x at).1) (link_to_newest (mine_chain (layout shape) s b.mine)) refl
 
-pub amounts_few : (shape : ShapeValue) (l : ℕ) (s : Spot) (b : Book) → IsBookOf shape b → length (amounts_in_chain shape l (mine_chain (layout shape) s b.mine)) ≤ shape.capacity
+pub amounts_few : (shape : ShapeValue) (l : ℕ) (s : Spot) (b : Book) → IsBookOf shape b
+    → length (amounts_in_chain shape l (mine_chain (layout shape) s b.mine)) ≤ shape.capacity
 amounts_few shape l s b own =
     let c = mine_chain (layout shape) s b.mine in
-    let many : length (amounts_in_chain shape l c) ≡ length c = length-map (map (λ (x : ℕ × RowValue). x.1) c) (λ (r : RowValue). measure_of shape l r) ∙ length-map c (λ (x : ℕ × RowValue). x.1) in
+    let many : length (amounts_in_chain shape l c) ≡ length c = length-map (map (λ (x : ℕ × RowValue). x.1) c) (λ (r : RowValue). measure_of shape l r)
+        ∙ length-map c (λ (x : ℕ × RowValue). x.1) in
     let few = own.few in
     omega (arith, many, few, chain_few (layout shape) s b.mine)
 
@@ -163,44 +185,56 @@ pub own_at : (shape : ShapeValue) (p : Pass) (b : Book) (s : Spot) (o : ℕ) →
 own_at shape p b s o one N = (0, b, ap (λ (bs : List Book). slice_get bs 0) one, inl (N.place, N.own, N.at, N.offset))
 
 pub read_strides : (shape : ShapeValue) (m n : PassValue) (o l h found : ℕ) → HasStepped shape (cell_effect shape m.view o l h) m found n → KeepsSeen m n
-read_strides shape m n o l h found made = strides_by m n (pass_with_cell (place_of shape (version o l h)) o l h m.view found) made.same made.told.is refl refl refl (λ s k e. e) (omega arith)
+read_strides shape m n o l h found made =
+    strides_by m n (pass_with_cell (place_of shape (version o l h)) o l h m.view found) made.same made.told.is refl refl refl (λ s k e. e) (omega arith)
 
-pub read_books : (shape : ShapeValue) (m n : PassValue) (o l h found : ℕ) → HasStepped shape (cell_effect shape m.view o l h) m found n → (n.view).books ≡ (m.view).books
+pub read_books : (shape : ShapeValue) (m n : PassValue) (o l h found : ℕ) → HasStepped shape (cell_effect shape m.view o l h) m found n
+    → (n.view).books ≡ (m.view).books
 read_books shape m n o l h found made = ap (λ (p : Pass). p.books) made.told.is
 
-pub read_word : (shape : ShapeValue) (m n : PassValue) (b : Book) (q : List ℕ) (o l h found : ℕ) → HasStepped shape (cell_effect shape m.view o l h) m found n → (m.view).books ≡ b ∷ [] → (N : IsNewest (layout shape) (spot l q) b.mine o) → l < length shape.lanes → h < cell_words (lane_at shape l)
+pub read_word : (shape : ShapeValue) (m n : PassValue) (b : Book) (q : List ℕ) (o l h found : ℕ) → HasStepped shape (cell_effect shape m.view o l h) m found n
+    → (m.view).books ≡ b ∷ [] → (N : IsNewest (layout shape) (spot l q) b.mine o) → l < length shape.lanes → h < cell_words (lane_at shape l)
     → found ≡ version_word (layout shape) l h (mine_chain (layout shape) (spot l q) (take N.place b.mine)) N.own.row
 read_word shape m n b q o l h found made one N there low =
     let i = word_count shape.schema + 1 + cells_before shape l + h in
     let fits = before_fits shape.lanes l there in
-    made.told.tells.own_cell 0 N.place i l h q b N.own (ap (λ (k : ℕ). cell k i) (sym N.offset)) (ap (λ (bs : List Book). slice_get bs 0) one) N.at (omega (arith, fits, low)) (version_at shape l h there low) N.leads
+    made.told.tells.own_cell 0 N.place i l h q b N.own (ap (λ (k : ℕ). cell k i) (sym N.offset)) (ap (λ (bs : List Book). slice_get bs 0) one) N.at
+        (omega (arith, fits, low)) (version_at shape l h there low) N.leads
 
 pub three_words : (shape : ShapeValue) (l : ℕ) → is_measured shape l ≡ true → cell_words (lane_at shape l) ≡ 3
 three_words shape l takes = ap (λ (b : Bool). cond {A = ℕ} b 3 1) takes
 
-pub quad_there : (shape : ShapeValue) (b : Book) (q : List ℕ) (o l first sum ends : ℕ) → IsShape shape → l < length shape.lanes → is_measured shape l ≡ true → IsBookOf shape b → (N : IsNewest (layout shape) (spot l q) b.mine o)
+pub quad_there : (shape : ShapeValue) (b : Book) (q : List ℕ) (o l first sum ends : ℕ) → IsShape shape → l < length shape.lanes → is_measured shape l ≡ true
+    → IsBookOf shape b → (N : IsNewest (layout shape) (spot l q) b.mine o)
     → IsCell shape l (mine_chain (layout shape) (spot l q) (take N.place b.mine)) N.own.row first sum ends
-    → record { count = first / 4294967296; sum = sum; least = ends % 4294967296; greatest = ends / 4294967296 } ≡ quad_of (amounts_in_chain shape l (mine_chain (layout shape) (spot l q) b.mine))
+    → record { count = first / 4294967296; sum = sum; least = ends % 4294967296; greatest = ends / 4294967296 } ≡ quad_of
+        (amounts_in_chain shape l (mine_chain (layout shape) (spot l q) b.mine))
 quad_there shape b q o l first sum ends lawful there takes own N w =
     let sh = layout shape in
     let s = spot l q in
     let c = mine_chain sh s (take N.place b.mine) in
     let small = top_most sh s (take N.place b.mine) shape.capacity (λ j x at. (own.rows j x (take_get N.place j b.mine x at)).1) (link_to_newest c) refl in
     let room = lawful.capacity in
-    let low : AreLow (measure_of shape l N.own.row ∷ amounts_in_chain shape l c) = subst (λ (d : List (ℕ × RowValue)). AreLow (amounts_in_chain shape l d)) N.chain (all_low shape l s b lawful there own) in
-    quad_read shape l c N.own.row first sum ends w takes (omega (arith, small, room)) low ∙ ap (λ (d : List (ℕ × RowValue)). quad_of (amounts_in_chain shape l d)) (sym N.chain)
+    let low : AreLow (measure_of shape l N.own.row ∷ amounts_in_chain shape l c) =
+        subst (λ (d : List (ℕ × RowValue)). AreLow (amounts_in_chain shape l d)) N.chain (all_low shape l s b lawful there own) in
+    quad_read shape l c N.own.row first sum ends w takes (omega (arith, small, room)) low
+        ∙ ap (λ (d : List (ℕ × RowValue)). quad_of (amounts_in_chain shape l d)) (sym N.chain)
 
-pub counts_there : (shape : ShapeValue) (b : Book) (q : List ℕ) (o l first sum ends : ℕ) → IsShape shape → l < length shape.lanes → is_measured shape l ≡ true → IsBookOf shape b → (N : IsNewest (layout shape) (spot l q) b.mine o)
+pub counts_there : (shape : ShapeValue) (b : Book) (q : List ℕ) (o l first sum ends : ℕ) → IsShape shape → l < length shape.lanes → is_measured shape l ≡ true
+    → IsBookOf shape b → (N : IsNewest (layout shape) (spot l q) b.mine o)
     → IsCell shape l (mine_chain (layout shape) (spot l q) (take N.place b.mine)) N.own.row first sum ends
     → IsQuad (record { count = first / 4294967296; sum = sum; least = ends % 4294967296; greatest = ends / 4294967296 })
 counts_there shape b q o l first sum ends lawful there takes own N w =
-    subst IsQuad (sym (quad_there shape b q o l first sum ends lawful there takes own N w)) (quad_is_lawful (amounts_in_chain shape l (mine_chain (layout shape) (spot l q) b.mine)) (all_low shape l (spot l q) b lawful there own))
+    subst IsQuad (sym (quad_there shape b q o l first sum ends lawful there takes own N w))
+        (quad_is_lawful (amounts_in_chain shape l (mine_chain (layout shape) (spot l q) b.mine)) (all_low shape l (spot l q) b lawful there own))
 
 -- the words of a new cell
-pub quad_cell : (shape : ShapeValue) (l : ℕ) (c : List (ℕ × RowValue)) (row : RowValue) (q : QuadValue) (previous first ends : ℕ) → is_measured shape l ≡ true → previous ≡ link_to_newest c → q ≡ quad_of (measure_of shape l row ∷ amounts_in_chain shape l c)
+pub quad_cell : (shape : ShapeValue) (l : ℕ) (c : List (ℕ × RowValue)) (row : RowValue) (q : QuadValue) (previous first ends : ℕ) → is_measured shape l ≡ true
+    → previous ≡ link_to_newest c → q ≡ quad_of (measure_of shape l row ∷ amounts_in_chain shape l c)
     → first ≡ previous + q.count * 4294967296 → ends ≡ q.least + q.greatest * 4294967296 → IsCell shape l c row first q.sum ends
 quad_cell shape l c row q previous first ends takes at is one three =
-    let many : length (amounts_in_chain shape l c) ≡ length c = length-map (map (λ (x : ℕ × RowValue). x.1) c) (λ (r : RowValue). measure_of shape l r) ∙ length-map c (λ (x : ℕ × RowValue). x.1) in
+    let many : length (amounts_in_chain shape l c) ≡ length c = length-map (map (λ (x : ℕ × RowValue). x.1) c) (λ (r : RowValue). measure_of shape l r)
+        ∙ length-map c (λ (x : ℕ × RowValue). x.1) in
     let count = ap (λ (k : QuadValue). k.count) is in
     let least = ap (λ (k : QuadValue). k.least) is in
     let greatest = ap (λ (k : QuadValue). k.greatest) is in record {

@@ -40,7 +40,8 @@ sees_look n es p = elim (cases_Bool (nat_lt (length p.seen) n)) [
 ]
 
 -- a look counts one more
-pub counts_look : (shape : ShapeValue) (m n : PassValue) (o found : ℕ) → HasStepped shape (done_effect shape m.view o) m found n → ((n.view).look).count ≡ ((m.view).look).count + 1
+pub counts_look : (shape : ShapeValue) (m n : PassValue) (o found : ℕ) → HasStepped shape (done_effect shape m.view o) m found n
+    → ((n.view).look).count ≡ ((m.view).look).count + 1
 counts_look shape m n o found made = ap (λ (q : Pass). (q.look).count) made.told.is
 
 -- the read tail was moved: the last look stays
@@ -50,7 +51,8 @@ keeps_look shape m n t stored =
     ap (λ (q : Pass). q.look) told.is ∙ sees_look (suc t) told.entries m.view
 
 -- a look that didn't find 1 found the record unfinished
-pub unfinished : (shape : ShapeValue) (m n : PassValue) (p : Pass) (b found : ℕ) → HasStepped shape (done_effect shape m.view b) m found n → b < shape.capacity → (found ≡ 1 → ⊥) → (p.look).count ≤ ((m.view).look).count → IsUnfinished shape b p n.view
+pub unfinished : (shape : ShapeValue) (m n : PassValue) (p : Pass) (b found : ℕ) → HasStepped shape (done_effect shape m.view b) m found n
+    → b < shape.capacity → (found ≡ 1 → ⊥) → (p.look).count ≤ ((m.view).look).count → IsUnfinished shape b p n.view
 unfinished shape m n p b found made low other le =
     let told = made.told in
     let count = counts_look shape m n b found made in
@@ -62,7 +64,9 @@ unfinished shape m n p b found made low other le =
       word = ap (λ (q : Pass). (q.look).word) told.is;
       value = ap (λ (q : Pass). (q.look).value) told.is ∙ none;
       since = omega (arith, count);
-      other = λ k j book x held at same. other (told.tells.own_done k j (last_word shape) book x (ap (λ (o : ℕ). cell o (last_word shape)) (sym same)) (ap (λ (bs : List Book). slice_get bs k) (sym books) ∙ held) at (omega arith));
+      other = λ k j book x held at same. other
+          (told.tells.own_done k j (last_word shape) book x (ap (λ (o : ℕ). cell o (last_word shape)) (sym same))
+          (ap (λ (bs : List Book). slice_get bs k) (sym books) ∙ held) at (omega arith));
     }
 
 -- what a look and a move of the read tail after it ask and leave
@@ -83,7 +87,8 @@ moved_tail shape m n found made =
       longer = ap (λ (es : List Entry). take (length p.seen) es) (tail_entries shape p n.view false found told) ∙ told.goes_on.seen;
     }
 
-pub counts_tail : (shape : ShapeValue) (m n : PassValue) (found : ℕ) → HasStepped shape (tail_effect m.view false) m found n → ((m.view).look).count ≤ ((n.view).look).count
+pub counts_tail : (shape : ShapeValue) (m n : PassValue) (found : ℕ) → HasStepped shape (tail_effect m.view false) m found n
+    → ((m.view).look).count ≤ ((n.view).look).count
 counts_tail shape m n found made =
     let told = made.told in
     let same = ap (λ (l : Look). l.count) (sees_look found told.entries m.view) in
@@ -100,7 +105,8 @@ sees_known n es p = elim (cases_Bool (nat_lt (length p.seen) n)) [
 pub known_tail : (shape : ShapeValue) (m n : PassValue) (found : ℕ) → HasStepped shape (tail_effect m.view false) m found n → (n.view).known ≡ (m.view).known
 known_tail shape m n found made = ap (λ (q : Pass). q.known) made.told.is ∙ sees_known found made.told.entries m.view
 
-pub known_look : (shape : ShapeValue) (m n : PassValue) (o found : ℕ) → HasStepped shape (done_effect shape m.view o) m found n → (n.view).known ≡ (m.view).known
+pub known_look : (shape : ShapeValue) (m n : PassValue) (o found : ℕ) → HasStepped shape (done_effect shape m.view o) m found n
+    → (n.view).known ≡ (m.view).known
 known_look shape m n o found made = ap (λ (q : Pass). q.known) made.told.is
 
 pub known_advance : (shape : ShapeValue) (m n : PassValue) (t : ℕ) → HasSteppedUnseen shape (advance_effect m.view t) m n → (n.view).known ≡ (m.view).known
@@ -136,17 +142,20 @@ home_alone shape p one bounds rest w lt =
     (0, book_of p, held, omega (arith, low, only, one), rest.free)
 
 -- the look that ends a move of the read tail: the one writer has seen all that it has finished
-pub all_alone : (shape : ShapeValue) (m n : PassValue) (o found : ℕ) → HasStepped shape (done_effect shape m.view o) m found n → EndsThere (layout shape) m.view (slot_of shape (done o)) (last_word shape) found → shape.writers ≡ 1 → Rests n.view → HasAll n.view
+pub all_alone : (shape : ShapeValue) (m n : PassValue) (o found : ℕ) → HasStepped shape (done_effect shape m.view o) m found n
+    → EndsThere (layout shape) m.view (slot_of shape (done o)) (last_word shape) found → shape.writers ≡ 1 → Rests n.view → HasAll n.view
 all_alone shape m n o found made ends one rest =
     (settled_by shape m m n o found (moved_none m) made ends).all (home_alone shape n.view one made.told.bounds rest)
 
 -- and where its book is marked all places are covered
-pub full_alone : (shape : ShapeValue) (m n : PassValue) (o found : ℕ) → HasStepped shape (done_effect shape m.view o) m found n → EndsThere (layout shape) m.view (slot_of shape (done o)) (last_word shape) found → shape.writers ≡ 1 → Rests n.view → MarkedIsFull shape n.view
+pub full_alone : (shape : ShapeValue) (m n : PassValue) (o found : ℕ) → HasStepped shape (done_effect shape m.view o) m found n
+    → EndsThere (layout shape) m.view (slot_of shape (done o)) (last_word shape) found → shape.writers ≡ 1 → Rests n.view → MarkedIsFull shape n.view
 full_alone shape m n o found made ends one rest =
     (settled_by shape m m n o found (moved_none m) made ends).full (home_alone shape n.view one made.told.bounds rest)
 
 -- and the paths of all that it has seen are whole
-pub paths_alone : (shape : ShapeValue) (m n : PassValue) (o found : ℕ) → HasStepped shape (done_effect shape m.view o) m found n → EndsThere (layout shape) m.view (slot_of shape (done o)) (last_word shape) found → shape.writers ≡ 1 → Rests n.view → HasPaths shape n.view
+pub paths_alone : (shape : ShapeValue) (m n : PassValue) (o found : ℕ) → HasStepped shape (done_effect shape m.view o) m found n
+    → EndsThere (layout shape) m.view (slot_of shape (done o)) (last_word shape) found → shape.writers ≡ 1 → Rests n.view → HasPaths shape n.view
 paths_alone shape m n o found made ends one rest =
     (settled_by shape m m n o found (moved_none m) made ends).paths (home_alone shape n.view one made.told.bounds rest)
 
@@ -155,7 +164,8 @@ pub look_fit : (shape : ShapeValue) (m n : PassValue) (o found : ℕ) → HasSte
 look_fit shape m n o found made = subst (AreFit shape) (sym made.told.is) (λ k e at. made.told.tells.fit k e at)
 
 -- an advance covers the record
-pub advanced : (shape : ShapeValue) (m n : PassValue) (t : ℕ) → t ≤ length (m.view).seen → HasSteppedUnseen shape (advance_effect m.view t) m n → length (n.view).seen ≡ max (length (m.view).seen) (t + 1)
+pub advanced : (shape : ShapeValue) (m n : PassValue) (t : ℕ) → t ≤ length (m.view).seen → HasSteppedUnseen shape (advance_effect m.view t) m n
+    → length (n.view).seen ≡ max (length (m.view).seen) (t + 1)
 advanced shape m n t le stored = advance_seen shape m.view n.view t stored.found le stored.made.told
 
 pub begins_long : (xs ys : List Entry) → Begins xs ys → length xs ≤ length ys
@@ -176,13 +186,15 @@ stops_then shape m n o goes before after = elim before [
 ]
 
 -- as it does where it may have stayed
-pub stops_on : (shape : ShapeValue) (m n o : PassValue) → PassGoesOn n o → (n ≡ m) ⊎ Stops shape m.view n.view → Stops shape n.view o.view → Stops shape m.view o.view
+pub stops_on : (shape : ShapeValue) (m n o : PassValue) → PassGoesOn n o → (n ≡ m) ⊎ Stops shape m.view n.view → Stops shape n.view o.view
+    → Stops shape m.view o.view
 stops_on shape m n o goes before after = elim before [
   | inl same ↦ subst (λ (h : PassValue). Stops shape h.view o.view) same after
   | inr stops ↦ stops_then shape m n o goes stops after
 ]
 
-pub stops_still : (shape : ShapeValue) (m n o : PassValue) → PassGoesOn n o → Stops shape m.view n.view → (o ≡ n) ⊎ Stops shape n.view o.view → Stops shape m.view o.view
+pub stops_still : (shape : ShapeValue) (m n o : PassValue) → PassGoesOn n o → Stops shape m.view n.view → (o ≡ n) ⊎ Stops shape n.view o.view
+    → Stops shape m.view o.view
 stops_still shape m n o goes before after = elim after [
   | inl same ↦ subst (λ (h : PassValue). Stops shape m.view h.view) (sym same) before
   | inr stops ↦ stops_then shape m n o goes before stops

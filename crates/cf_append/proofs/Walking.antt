@@ -17,7 +17,8 @@ use Rattle.cf_append.specs.Appends.{Rests}
 use Rattle.cf_append.specs.Paths.{KeepsSeen, HasUsed, LacksNode, IsNodeOf, with_nodes}
 use Rattle.cf_append.proofs.Appending.{rests_by}
 
-pub strides_by : (m n : PassValue) (q : Pass) → n ≡ record m { view = n.view } → n.view ≡ q → q.seen ≡ (m.view).seen → q.tails ≡ (m.view).tails → q.told ≡ (m.view).told
+pub strides_by : (m n : PassValue) (q : Pass) → n ≡ record m { view = n.view } → n.view ≡ q → q.seen ≡ (m.view).seen → q.tails ≡ (m.view).tails
+    → q.told ≡ (m.view).told
     → ((s : Spot) (node : ℕ) → Knows m.view s node → Knows q s node) → ((m.view).look).count ≤ (q.look).count → KeepsSeen m n
 strides_by m n q same is seen tails told knows looks = record {
   same = same;
@@ -50,19 +51,23 @@ reaches_still p q l (d ∷ []) t keeps h = h
 reaches_still p q l (d ∷ (e ∷ r)) t keeps h = (let k = keeps (spot l (e ∷ r)) h.0 (h.1, h.2) in (h.0, k.0, k.1, h.3, h.4))
 
 pub child_still : (sh : Layout) (m n : PassValue) (s : Spot) (t : Slot) → KeepsSeen m n → IsChild sh m.view s t → IsChild sh n.view s t
-child_still sh m n s t went child = record { reaches = reaches_still m.view n.view s.lane s.path t went.knows child.reaches; real = child.real; inner = child.inner }
+child_still sh m n s t went child =
+    record { reaches = reaches_still m.view n.view s.lane s.path t went.knows child.reaches; real = child.real; inner = child.inner }
 
 pub holds_rested : (p : Pass) → Rests p → Holds p 0 (book_of p)
 holds_rested p rest = ap (λ (bs : List Book). slice_get bs 0) rest.one
 
 -- A child word was loaded.
-pub load_strides : (shape : ShapeValue) (m n : PassValue) (s : Spot) (t : Slot) (found : ℕ) → HasStepped shape (child_effect shape m.view s t) m found n → KeepsSeen m n
+pub load_strides : (shape : ShapeValue) (m n : PassValue) (s : Spot) (t : Slot) (found : ℕ) → HasStepped shape (child_effect shape m.view s t) m found n
+    → KeepsSeen m n
 load_strides shape m n s t zero made =
     strides_by m n (pass_with_look (place (sizes_of shape) t) 0 m.view) made.same made.told.is refl refl refl (λ r k h. h) (omega arith)
 load_strides shape m n s t (suc k) made =
-    strides_by m n (pass_with_look (place (sizes_of shape) t) (suc k) (pass_with_node s k m.view)) made.same made.told.is refl refl refl (knows_more m.view s k) (omega arith)
+    strides_by m n (pass_with_look (place (sizes_of shape) t) (suc k) (pass_with_node s k m.view)) made.same made.told.is refl refl refl
+        (knows_more m.view s k) (omega arith)
 
-pub load_books : (shape : ShapeValue) (m n : PassValue) (s : Spot) (t : Slot) (found : ℕ) → HasStepped shape (child_effect shape m.view s t) m found n → (n.view).books ≡ (m.view).books
+pub load_books : (shape : ShapeValue) (m n : PassValue) (s : Spot) (t : Slot) (found : ℕ) → HasStepped shape (child_effect shape m.view s t) m found n
+    → (n.view).books ≡ (m.view).books
 load_books shape m n s t zero made = ap (λ (p : Pass). p.books) made.told.is
 load_books shape m n s t (suc k) made = ap (λ (p : Pass). p.books) made.told.is
 
@@ -70,11 +75,13 @@ load_books shape m n s t (suc k) made = ap (λ (p : Pass). p.books) made.told.is
 named_by : (s : Spot) (k : ℕ) (p : Pass) → Knows (pass_with_node s k p) s (suc k - 1)
 named_by s k p = (0, ap (λ (j : ℕ). Some (s, j)) (let e : k ≡ suc k - 1 = omega arith in e))
 
-pub load_knows : (shape : ShapeValue) (m n : PassValue) (s : Spot) (t : Slot) (found : ℕ) → HasStepped shape (child_effect shape m.view s t) m found n → (found ≡ 0 → ⊥) → Knows n.view s (found - 1)
+pub load_knows : (shape : ShapeValue) (m n : PassValue) (s : Spot) (t : Slot) (found : ℕ) → HasStepped shape (child_effect shape m.view s t) m found n
+    → (found ≡ 0 → ⊥) → Knows n.view s (found - 1)
 load_knows shape m n s t zero made some = absurd (some refl)
 load_knows shape m n s t (suc k) made some = subst (λ (p : Pass). Knows p s (suc k - 1)) (sym made.told.is) (named_by s k m.view)
 
-pub load_node : (shape : ShapeValue) (m n : PassValue) (s : Spot) (t : Slot) (found : ℕ) → HasStepped shape (child_effect shape m.view s t) m found n → (found ≡ 0 → ⊥) → IsNodeOf shape n.view s (found - 1)
+pub load_node : (shape : ShapeValue) (m n : PassValue) (s : Spot) (t : Slot) (found : ℕ) → HasStepped shape (child_effect shape m.view s t) m found n
+    → (found ≡ 0 → ⊥) → IsNodeOf shape n.view s (found - 1)
 load_node shape m n s t found made some =
     let k = load_knows shape m n s t found made some in
     record { knows = k; low = (made.told.bounds.known k.0 (found - 1) s k.1).0 }
@@ -86,7 +93,8 @@ same_book m n same = ap (λ (bs : List Book). get_or bs 0 (no_book 0)) same
 pub rests_same : (m n : PassValue) → Rests m.view → (n.view).books ≡ (m.view).books → Rests n.view
 rests_same m n rest same = rests_by n.view (book_of m.view) (same ∙ rest.one) rest.free
 
-pub load_stuck : (shape : ShapeValue) (m n : PassValue) (s : Spot) (t : Slot) (found : ℕ) → found ≡ 0 → HasStepped shape (child_effect shape m.view s t) m found n → IsChild (layout shape) m.view s t → Rests m.view → length (book_of n.view).used ≡ shape.nodes
+pub load_stuck : (shape : ShapeValue) (m n : PassValue) (s : Spot) (t : Slot) (found : ℕ) → found ≡ 0
+    → HasStepped shape (child_effect shape m.view s t) m found n → IsChild (layout shape) m.view s t → Rests m.view → length (book_of n.view).used ≡ shape.nodes
     → LacksNode shape (λ r. r ≡ s) m n
 load_stuck shape m n s t (suc k) none made child rest full = absurd (cc none)
 load_stuck shape m n s t zero none made child rest full =
@@ -108,16 +116,21 @@ load_stuck shape m n s t zero none made child rest full =
     }
 
 -- the free node
-pub writer_low : (shape : ShapeValue) (m n : PassValue) (s : Spot) (t : Slot) (found : ℕ) → Rests m.view → HasStepped shape (child_effect shape m.view s t) m found n → (book_of n.view).writer < shape.writers
-writer_low shape m n s t found rest made = made.told.bounds.writer 0 (book_of n.view) (holds_rested n.view (rests_same m n rest (load_books shape m n s t found made)))
+pub writer_low : (shape : ShapeValue) (m n : PassValue) (s : Spot) (t : Slot) (found : ℕ) → Rests m.view
+    → HasStepped shape (child_effect shape m.view s t) m found n → (book_of n.view).writer < shape.writers
+writer_low shape m n s t found rest made =
+    made.told.bounds.writer 0 (book_of n.view) (holds_rested n.view (rests_same m n rest (load_books shape m n s t found made)))
 
 abbrev pub IsFree : PassValue → ℕ → Type 0
 IsFree n node = (length (book_of n.view).used < n.nodes) × (node ≡ (book_of n.view).writer * n.nodes + length (book_of n.view).used)
 
-pub label_room : (shape : ShapeValue) (n : PassValue) (node : ℕ) → n.nodes ≡ shape.nodes → IsFree n node → (length (book_of n.view).used < shape.nodes) × (node ≡ free_node (layout shape) (book_of n.view))
-label_room shape n node nodes free = ((let low = free.0 in omega (arith, low, nodes)), free.1 ∙ ap (λ (k : ℕ). (book_of n.view).writer * k + length (book_of n.view).used) nodes)
+pub label_room : (shape : ShapeValue) (n : PassValue) (node : ℕ) → n.nodes ≡ shape.nodes → IsFree n node → (length (book_of n.view).used < shape.nodes)
+    × (node ≡ free_node (layout shape) (book_of n.view))
+label_room shape n node nodes free =
+    ((let low = free.0 in omega (arith, low, nodes)), free.1 ∙ ap (λ (k : ℕ). (book_of n.view).writer * k + length (book_of n.view).used) nodes)
 
-pub node_low : (shape : ShapeValue) (n : PassValue) (node : ℕ) → n.nodes ≡ shape.nodes → (book_of n.view).writer < shape.writers → IsFree n node → node < shape.writers * shape.nodes
+pub node_low : (shape : ShapeValue) (n : PassValue) (node : ℕ) → n.nodes ≡ shape.nodes → (book_of n.view).writer < shape.writers → IsFree n node
+    → node < shape.writers * shape.nodes
 node_low shape n node nodes low free =
     let room = label_room shape n node nodes free in
     let most = mul-add-lt (book_of n.view).writer shape.nodes (length (book_of n.view).used) shape.writers low room.0 in
@@ -125,51 +138,63 @@ node_low shape n node nodes low free =
     omega (arith, most, is, mul_comm shape.nodes shape.writers)
 
 -- what the load tells of the book's tickets
-pub load_first : (shape : ShapeValue) (m n : PassValue) (s : Spot) (t : Slot) (found : ℕ) → HasStepped shape (child_effect shape m.view s t) m found n → SeenFirst n.view
+pub load_first : (shape : ShapeValue) (m n : PassValue) (s : Spot) (t : Slot) (found : ℕ) → HasStepped shape (child_effect shape m.view s t) m found n
+    → SeenFirst n.view
 load_first shape m n s t found made k b held = made.told.mine k b held
 
 -- A label was stored.
 pub label_strides : (shape : ShapeValue) (m n : PassValue) (node value : ℕ) → HasSteppedUnseen shape (label_effect m.view node value) m n → KeepsSeen m n
 label_strides shape m n node value stored =
-    strides_by m n (pass_with_book 0 (book_with_label value (book_of m.view)) m.view) stored.made.same stored.made.told.is refl refl refl (λ r k h. h) (omega arith)
+    strides_by m n (pass_with_book 0 (book_with_label value (book_of m.view)) m.view) stored.made.same stored.made.told.is refl refl refl (λ r k h. h)
+        (omega arith)
 
-pub label_books : (shape : ShapeValue) (m n : PassValue) (node value : ℕ) → Rests m.view → HasSteppedUnseen shape (label_effect m.view node value) m n → (n.view).books ≡ book_with_label value (book_of m.view) ∷ []
+pub label_books : (shape : ShapeValue) (m n : PassValue) (node value : ℕ) → Rests m.view → HasSteppedUnseen shape (label_effect m.view node value) m n
+    → (n.view).books ≡ book_with_label value (book_of m.view) ∷ []
 label_books shape m n node value rest stored =
     ap (λ (p : Pass). p.books) stored.made.told.is ∙ ap (λ (bs : List Book). set bs 0 (book_with_label value (book_of m.view))) rest.one
 
 -- A link was tried.
-pub link_strides : (shape : ShapeValue) (m n : PassValue) (s : Spot) (t : Slot) (node found : ℕ) → HasStepped shape (link_effect m.view s t node) m found n → KeepsSeen m n
+pub link_strides : (shape : ShapeValue) (m n : PassValue) (s : Spot) (t : Slot) (node found : ℕ) → HasStepped shape (link_effect m.view s t node) m found n
+    → KeepsSeen m n
 link_strides shape m n s t node zero made =
-    strides_by m n (pass_with_book 0 (book_with_node s (book_of m.view)) (pass_with_node s node m.view)) made.same made.told.is refl refl refl (knows_more m.view s node) (omega arith)
+    strides_by m n (pass_with_book 0 (book_with_node s (book_of m.view)) (pass_with_node s node m.view)) made.same made.told.is refl refl refl
+        (knows_more m.view s node) (omega arith)
 link_strides shape m n s t node (suc k) made =
     strides_by m n (pass_with_node s k m.view) made.same made.told.is refl refl refl (knows_more m.view s k) (omega arith)
 
-pub link_won : (shape : ShapeValue) (m n : PassValue) (s : Spot) (t : Slot) (node found : ℕ) → HasStepped shape (link_effect m.view s t node) m found n → found ≡ 0 → Rests m.view → (n.view).books ≡ book_with_node s (book_of m.view) ∷ []
-link_won shape m n s t node zero made won rest = ap (λ (p : Pass). p.books) made.told.is ∙ ap (λ (bs : List Book). set bs 0 (book_with_node s (book_of m.view))) rest.one
+pub link_won : (shape : ShapeValue) (m n : PassValue) (s : Spot) (t : Slot) (node found : ℕ) → HasStepped shape (link_effect m.view s t node) m found n
+    → found ≡ 0 → Rests m.view → (n.view).books ≡ book_with_node s (book_of m.view) ∷ []
+link_won shape m n s t node zero made won rest = ap (λ (p : Pass). p.books) made.told.is
+    ∙ ap (λ (bs : List Book). set bs 0 (book_with_node s (book_of m.view))) rest.one
 link_won shape m n s t node (suc k) made won rest = absurd (cc won)
 
-pub link_lost : (shape : ShapeValue) (m n : PassValue) (s : Spot) (t : Slot) (node found : ℕ) → HasStepped shape (link_effect m.view s t node) m found n → (found ≡ 0 → ⊥) → (n.view).books ≡ (m.view).books
+pub link_lost : (shape : ShapeValue) (m n : PassValue) (s : Spot) (t : Slot) (node found : ℕ) → HasStepped shape (link_effect m.view s t node) m found n
+    → (found ≡ 0 → ⊥) → (n.view).books ≡ (m.view).books
 link_lost shape m n s t node zero made lost = absurd (lost refl)
 link_lost shape m n s t node (suc k) made lost = ap (λ (p : Pass). p.books) made.told.is
 
-pub won_node : (shape : ShapeValue) (m n : PassValue) (s : Spot) (t : Slot) (node found : ℕ) → HasStepped shape (link_effect m.view s t node) m found n → found ≡ 0 → IsNodeOf shape n.view s node
+pub won_node : (shape : ShapeValue) (m n : PassValue) (s : Spot) (t : Slot) (node found : ℕ) → HasStepped shape (link_effect m.view s t node) m found n
+    → found ≡ 0 → IsNodeOf shape n.view s node
 won_node shape m n s t node zero made won =
     let k : Knows n.view s node = subst (λ (p : Pass). Knows p s node) (sym made.told.is) (0, refl) in
     record { knows = k; low = (made.told.bounds.known k.0 node s k.1).0 }
 won_node shape m n s t node (suc k) made won = absurd (cc won)
 
-pub lost_node : (shape : ShapeValue) (m n : PassValue) (s : Spot) (t : Slot) (node found : ℕ) → HasStepped shape (link_effect m.view s t node) m found n → (found ≡ 0 → ⊥) → IsNodeOf shape n.view s (found - 1)
+pub lost_node : (shape : ShapeValue) (m n : PassValue) (s : Spot) (t : Slot) (node found : ℕ) → HasStepped shape (link_effect m.view s t node) m found n
+    → (found ≡ 0 → ⊥) → IsNodeOf shape n.view s (found - 1)
 lost_node shape m n s t node zero made lost = absurd (lost refl)
 lost_node shape m n s t node (suc j) made lost =
     let k : Knows n.view s (suc j - 1) = subst (λ (p : Pass). Knows p s (suc j - 1)) (sym made.told.is) (named_by s j m.view) in
     record { knows = k; low = (made.told.bounds.known k.0 (suc j - 1) s k.1).0 }
 
 -- Nodes that were used.
-pub used_none : (On : Spot → Type 0) (m n : PassValue) (b : Book) (label : ℕ) → (n.view).books ≡ record b { label = label } ∷ [] → b ≡ book_of m.view → HasUsed On m n
+pub used_none : (On : Spot → Type 0) (m n : PassValue) (b : Book) (label : ℕ) → (n.view).books ≡ record b { label = label } ∷ [] → b ≡ book_of m.view
+    → HasUsed On m n
 used_none On m n b label is same = record {
   spots = [];
   label = label;
-  books = is ∙ (ap (λ (c : Book). record c { label = label } ∷ []) same ∙ ap (λ (us : List Spot). record (book_of m.view) { used = us; label = label } ∷ []) (sym (append-nil (book_of m.view).used)));
+  books = is ∙ (ap (λ (c : Book). record c { label = label } ∷ []) same
+      ∙ ap (λ (us : List Spot). record (book_of m.view) { used = us; label = label } ∷ []) (sym (append-nil (book_of m.view).used)));
   on = λ j s at. absurd (cc at);
 }
 
@@ -180,7 +205,8 @@ only : (s r : Spot) (j : ℕ) → slice_get (s ∷ []) j ≡ Some r → r ≡ s
 only s r zero at = cc at
 only s r (suc j) at = absurd (cc at)
 
-pub used_one : (m n o : PassValue) (s : Spot) (value : ℕ) → (n.view).books ≡ book_with_label value (book_of m.view) ∷ [] → (o.view).books ≡ book_with_node s (book_of n.view) ∷ [] → HasUsed (λ r. r ≡ s) m o
+pub used_one : (m n o : PassValue) (s : Spot) (value : ℕ) → (n.view).books ≡ book_with_label value (book_of m.view) ∷ []
+    → (o.view).books ≡ book_with_node s (book_of n.view) ∷ [] → HasUsed (λ r. r ≡ s) m o
 used_one m n o s value labels links = record {
   spots = s ∷ [];
   label = 0;
@@ -208,7 +234,8 @@ pub rests_used : (On : Spot → Type 0) (m n : PassValue) → Rests m.view → H
 rests_used On m n rest used = rests_by n.view (with_nodes used.spots used.label (book_of m.view)) used.books rest.free
 
 -- Where no node was left.
-pub stuck_by : (shape : ShapeValue) (P Q : Spot → Type 0) (l m n : PassValue) → ((s : Spot) → P s → Q s) → KeepsSeen l m → LacksNode shape P m n → LacksNode shape Q l n
+pub stuck_by : (shape : ShapeValue) (P Q : Spot → Type 0) (l m n : PassValue) → ((s : Spot) → P s → Q s) → KeepsSeen l m → LacksNode shape P m n
+    → LacksNode shape Q l n
 stuck_by shape P Q l m n more went a = record {
   full = a.full;
   apart = a.apart;
@@ -223,7 +250,8 @@ stuck_by shape P Q l m n more went a = record {
 }
 
 -- what is answered at last: where none was left, that is so since an earlier time too
-pub stuck_or : (shape : ShapeValue) (P Q : Spot → Type 0) (l m n : PassValue) (Good : ℕ → Type 0) (r : Option ℕ) → ((s : Spot) → P s → Q s) → KeepsSeen l m → MatchOption r (LacksNode shape P m n) Good → MatchOption r (LacksNode shape Q l n) Good
+pub stuck_or : (shape : ShapeValue) (P Q : Spot → Type 0) (l m n : PassValue) (Good : ℕ → Type 0) (r : Option ℕ) → ((s : Spot) → P s → Q s) → KeepsSeen l m
+    → MatchOption r (LacksNode shape P m n) Good → MatchOption r (LacksNode shape Q l n) Good
 stuck_or shape P Q l m n Good None more went a = stuck_by shape P Q l m n more went a
 stuck_or shape P Q l m n Good (Some node) more went a = a
 

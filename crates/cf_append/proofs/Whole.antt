@@ -52,7 +52,8 @@ pub begun_strides : (shape : ShapeValue) (row : RowValue) (p t f : PassValue) (o
 begun_strides shape row p t f o B =
     strides_then p t f (flown_strides p t o 0 row (began shape p t o row B.room B.took)) (flown_strides t f o (word_count shape.schema + 1) row B.is)
 
-pub begun_filled : (shape : ShapeValue) (row : RowValue) (p t f : PassValue) (o : ℕ) → HasBegun shape row p t f o → HasFilled shape o row (word_count shape.schema + 1) p f
+pub begun_filled : (shape : ShapeValue) (row : RowValue) (p t f : PassValue) (o : ℕ) → HasBegun shape row p t f o
+    → HasFilled shape o row (word_count shape.schema + 1) p f
 begun_filled shape row p t f o B =
     let k = word_count shape.schema + 1 in
     let all : f ≡ flying o row k p = B.is ∙ ap (λ (h : PassValue). flying o row k h) (began shape p t o row B.room B.took) in record {
@@ -62,7 +63,8 @@ begun_filled shape row p t f o B =
       passed = λ i ge lt. absurd (omega (arith, ge, lt));
     }
 
-pub begun_self : (shape : ShapeValue) (row : RowValue) (p t f : PassValue) (o : ℕ) → HasBegun shape row p t f o → HasFilled shape o row (word_count shape.schema + 1) f f
+pub begun_self : (shape : ShapeValue) (row : RowValue) (p t f : PassValue) (o : ℕ) → HasBegun shape row p t f o
+    → HasFilled shape o row (word_count shape.schema + 1) f f
 begun_self shape row p t f o B = filled_self shape o row (word_count shape.schema + 1) p f (begun_filled shape row p t f o B)
 
 pub begun_writer : (shape : ShapeValue) (row : RowValue) (p t f : PassValue) (o : ℕ) → HasBegun shape row p t f o → (book_of f.view).writer < shape.writers
@@ -81,18 +83,22 @@ begun_book shape row p t f o B =
     let held : Holds t.view 0 b = ap (λ (h : PassValue). slice_get (h.view).books 0) is in
     let bounds = B.took.told.bounds in
     let same : book_of f.view ≡ record b { flight = (book_of f.view).flight } =
-    ap (λ (h : PassValue). book_of h.view) (B.is ∙ ap (λ (h : PassValue). flying o row (word_count shape.schema + 1) h) is) ∙ sym (ap (λ (h : PassValue). record b { flight = (book_of h.view).flight }) (B.is ∙ ap (λ (h : PassValue). flying o row (word_count shape.schema + 1) h) is)) in
+    ap (λ (h : PassValue). book_of h.view) (B.is ∙ ap (λ (h : PassValue). flying o row (word_count shape.schema + 1) h) is)
+        ∙ sym (ap (λ (h : PassValue). record b { flight = (book_of h.view).flight })
+        (B.is ∙ ap (λ (h : PassValue). flying o row (word_count shape.schema + 1) h) is)) in
     let mine = ap (λ (c : Book). c.mine) same in
     let writer = ap (λ (c : Book). c.writer) same in
     let low = bounds.writer 0 b held in
     let few = bounds.few 0 b held in
     let long = ap (λ (xs : List Own). length xs) mine in record {
       writer = omega (arith, low, writer);
-      rows = λ j x at. (let there = ap (λ (xs : List Own). slice_get xs j) (sym mine) ∙ at in (bounds.rows 0 j b x held there, bounds.offset 0 j b x held there));
+      rows = λ j x at.
+          (let there = ap (λ (xs : List Own). slice_get xs j) (sym mine) ∙ at in (bounds.rows 0 j b x held there, bounds.offset 0 j b x held there));
       few = omega (arith, few, long);
     }
 
-pub begun_filings : (shape : ShapeValue) (row : RowValue) (p t f : PassValue) (o : ℕ) (filed : List (Option Filing)) (k : ℕ) → HasBegun shape row p t f o → HasFilings shape row p.view filed k → HasFilings shape row f.view filed k
+pub begun_filings : (shape : ShapeValue) (row : RowValue) (p t f : PassValue) (o : ℕ) (filed : List (Option Filing)) (k : ℕ) → HasBegun shape row p t f o
+    → HasFilings shape row p.view filed k → HasFilings shape row f.view filed k
 begun_filings shape row p t f o filed k B has = filings_still shape row p f filed k (begun_strides shape row p t f o B) has
 
 -- the cells are stored
@@ -103,7 +109,9 @@ pub record HasCells (shape : ShapeValue) (row : RowValue) (p t f c : PassValue) 
 
 pub cells_linked : (shape : ShapeValue) (row : RowValue) (p t f c : PassValue) (o : ℕ) → HasCells shape row p t f c o → HasLinked shape o row 0 p c
 cells_linked shape row p t f c o C =
-    linked_begin shape o row p c (filled_then shape o row (word_count shape.schema + 1) (word_count shape.schema + 1 + cell_count shape.lanes) p f c (begun_filled shape row p t f o C.begun) C.filled)
+    linked_begin shape o row p c
+        (filled_then shape o row (word_count shape.schema + 1) (word_count shape.schema + 1 + cell_count shape.lanes) p f c
+        (begun_filled shape row p t f o C.begun) C.filled)
 
 pub cells_self : (shape : ShapeValue) (row : RowValue) (p t f c : PassValue) (o : ℕ) → HasCells shape row p t f c o → HasLinked shape o row 0 c c
 cells_self shape row p t f c o C = linked_self shape o row 0 p c (cells_linked shape row p t f c o C)
@@ -121,26 +129,32 @@ pub record HasEnded (shape : ShapeValue) (row : RowValue) (p t f c l d : PassVal
   pub linked : HasLinked shape o row (length shape.lanes) c l
   pub finishes : HasSteppedUnseen shape (finish_effect shape l.view o) l d
 
-pub all_linked : (shape : ShapeValue) (row : RowValue) (p t f c l : PassValue) (o : ℕ) → HasCells shape row p t f c o → HasLinked shape o row (length shape.lanes) c l → HasLinked shape o row (length shape.lanes) p l
+pub all_linked : (shape : ShapeValue) (row : RowValue) (p t f c l : PassValue) (o : ℕ) → HasCells shape row p t f c o
+    → HasLinked shape o row (length shape.lanes) c l → HasLinked shape o row (length shape.lanes) p l
 all_linked shape row p t f c l o C L = linked_then shape o row 0 (length shape.lanes) p c l (cells_linked shape row p t f c o C) L
 
-pub ended_books : (shape : ShapeValue) (row : RowValue) (p t f c l d : PassValue) (o : ℕ) → HasEnded shape row p t f c l d o → (d.view).books ≡ with_own o row (book_of p.view) ∷ []
+pub ended_books : (shape : ShapeValue) (row : RowValue) (p t f c l d : PassValue) (o : ℕ) → HasEnded shape row p t f c l d o
+    → (d.view).books ≡ with_own o row (book_of p.view) ∷ []
 ended_books shape row p t f c l d o E = closed_books shape p l d o (length shape.lanes) row (all_linked shape row p t f c l o E.cells E.linked) E.finishes
 
 pub ended_strides : (shape : ShapeValue) (row : RowValue) (p t f c l d : PassValue) (o : ℕ) → HasEnded shape row p t f c l d o → KeepsSeen p d
 ended_strides shape row p t f c l d o E =
-    strides_then p f d (begun_strides shape row p t f o E.cells.begun) (strides_then f c d E.cells.strides (strides_then c l d E.strides (close_strides shape l d o E.finishes)))
+    strides_then p f d (begun_strides shape row p t f o E.cells.begun)
+        (strides_then f c d E.cells.strides (strides_then c l d E.strides (close_strides shape l d o E.finishes)))
 
 -- the book with its paths made
-made_book : (shape : ShapeValue) (row : RowValue) (m p : PassValue) (P : HasMade shape row m p) → book_of p.view ≡ with_nodes P.used.spots P.used.label (book_of m.view)
+made_book : (shape : ShapeValue) (row : RowValue) (m p : PassValue) (P : HasMade shape row m p)
+    → book_of p.view ≡ with_nodes P.used.spots P.used.label (book_of m.view)
 made_book shape row m p P = the_book p.view (with_nodes P.used.spots P.used.label (book_of m.view)) P.used.books
 
 -- All the steps of an append.
-pub appended : (shape : ShapeValue) (row : RowValue) (m p t f c l d z : PassValue) (o : ℕ) → (book_of m.view).over ≡ false → HasMade shape row m p → HasEnded shape row p t f c l d o → (z.view).books ≡ (d.view).books → Stops shape d.view z.view → IsAppended shape o row m z
+pub appended : (shape : ShapeValue) (row : RowValue) (m p t f c l d z : PassValue) (o : ℕ) → (book_of m.view).over ≡ false → HasMade shape row m p
+    → HasEnded shape row p t f c l d o → (z.view).books ≡ (d.view).books → Stops shape d.view z.view → IsAppended shape o row m z
 appended shape row m p t f c l d z o fresh P E kept stops =
     let own : Own = record { offset = o; row = row } in
     let b : Book = with_own o row (with_nodes P.used.spots P.used.label (book_of m.view)) in
-    let books : (z.view).books ≡ b ∷ [] = kept ∙ (ended_books shape row p t f c l d o E ∙ ap (λ (x : Book). with_own o row x ∷ []) (made_book shape row m p P)) in
+    let books : (z.view).books ≡ b ∷ [] = kept
+        ∙ (ended_books shape row p t f c l d o E ∙ ap (λ (x : Book). with_own o row x ∷ []) (made_book shape row m p P)) in
     let took = E.cells.begun.took in
     let room = E.cells.begun.room in
     let count = (strides_then m p d P.strides (ended_strides shape row p t f c l d o E)).looks in
@@ -159,26 +173,33 @@ appended shape row m p t f c l d z o fresh P E kept stops =
         | inr u ↦ elim (cases_lt o (length (z.view).seen)) [
           | inl lt ↦ inl lt
           | inr ge ↦
-              let other : o ≡ length (z.view).seen → ⊥ = u.other 0 (length (book_of m.view).mine) b own (ap (λ (bs : List Book). slice_get bs 0) books) (get_push_same (book_of m.view).mine own) in
+              let other : o ≡ length (z.view).seen → ⊥ =
+                  u.other 0 (length (book_of m.view).mine) b own (ap (λ (bs : List Book). slice_get bs 0) books) (get_push_same (book_of m.view).mine own) in
               let since = u.since in
-              inr (length (z.view).seen, omega (arith, ge, other), record { word = u.word; value = u.value; since = omega (arith, since, count); other = u.other })
+              inr (length (z.view).seen, omega (arith, ge, other),
+                  record { word = u.word; value = u.value; since = omega (arith, since, count); other = u.other })
         ]
       ];
     }
 
 -- The read tail stops where the last step left it.
-pub appended_stops : (shape : ShapeValue) (row : RowValue) (m p t f c l d z : PassValue) (o : ℕ) → HasMade shape row m p → HasEnded shape row p t f c l d o → Stops shape d.view z.view → Stops shape m.view z.view
+pub appended_stops : (shape : ShapeValue) (row : RowValue) (m p t f c l d z : PassValue) (o : ℕ) → HasMade shape row m p → HasEnded shape row p t f c l d o
+    → Stops shape d.view z.view → Stops shape m.view z.view
 appended_stops shape row m p t f c l d z o P E stops =
     stops_since shape m.view d.view z.view (strides_then m p d P.strides (ended_strides shape row p t f c l d o E)).looks stops
 
 -- The ticket lay past the last place.
-late_books : (shape : ShapeValue) (p n : PassValue) (found : ℕ) (row : RowValue) → shape.capacity ≤ found → HasStepped shape (take_effect shape p.view row) p found n → (n.view).books ≡ with_mark (book_of p.view) ∷ []
+late_books : (shape : ShapeValue) (p n : PassValue) (found : ℕ) (row : RowValue) → shape.capacity ≤ found
+    → HasStepped shape (take_effect shape p.view row) p found n → (n.view).books ≡ with_mark (book_of p.view) ∷ []
 late_books shape p n found row past made =
     let high : nat_lt found shape.capacity ≡ false = grind (arith, nat_tests) in
     let b = book_of p.view in
-    ap (λ (q : Pass). q.books) made.told.is ∙ ap (λ (t : Bool). cond t (Rattle.cf_law.specs.Steps.book_with_flight b (Rattle.cf_law.specs.Steps.fresh_flight found row)) (record b { over = true }) ∷ []) high
+    ap (λ (q : Pass). q.books) made.told.is
+        ∙ ap (λ (t : Bool). cond t (Rattle.cf_law.specs.Steps.book_with_flight b (Rattle.cf_law.specs.Steps.fresh_flight found row))
+        (record b { over = true }) ∷ []) high
 
-pub late : (shape : ShapeValue) (row : RowValue) (m p n : PassValue) (found : ℕ) → (book_of m.view).over ≡ false → HasMade shape row m p → shape.capacity ≤ found → HasStepped shape (take_effect shape p.view row) p found n → IsLate shape row m n
+pub late : (shape : ShapeValue) (row : RowValue) (m p n : PassValue) (found : ℕ) → (book_of m.view).over ≡ false → HasMade shape row m p
+    → shape.capacity ≤ found → HasStepped shape (take_effect shape p.view row) p found n → IsLate shape row m n
 late shape row m p n found fresh P past made = record {
   open_book = fresh;
   before = p;
@@ -189,18 +210,24 @@ late shape row m p n found fresh P past made = record {
   books = late_books shape p n found row past made ∙ ap (λ (b : Book). with_mark b ∷ []) (made_book shape row m p P);
 }
 
-pub late_strides : (shape : ShapeValue) (p n : PassValue) (found : ℕ) (row : RowValue) → HasStepped shape (take_effect shape p.view row) p found n → KeepsSeen p n
-late_strides shape p n found row made = strides_by p n ((take_effect shape p.view row).after found []) made.same made.told.is refl refl refl (λ s k h. h) (omega arith)
+pub late_strides : (shape : ShapeValue) (p n : PassValue) (found : ℕ) (row : RowValue) → HasStepped shape (take_effect shape p.view row) p found n
+    → KeepsSeen p n
+late_strides shape p n found row made =
+    strides_by p n ((take_effect shape p.view row).after found []) made.same made.told.is refl refl refl (λ s k h. h) (omega arith)
 
 pub late_rests : (shape : ShapeValue) (row : RowValue) (m n : PassValue) → Rests m.view → IsLate shape row m n → Rests n.view
 late_rests shape row m n rest L = rests_by n.view (with_mark (with_nodes L.paths.used.spots L.paths.used.label (book_of m.view))) L.books rest.free
 
-pub took_first : (shape : ShapeValue) (p n : PassValue) (found : ℕ) (row : RowValue) → HasStepped shape (take_effect shape p.view row) p found n → SeenFirst n.view
+pub took_first : (shape : ShapeValue) (p n : PassValue) (found : ℕ) (row : RowValue) → HasStepped shape (take_effect shape p.view row) p found n
+    → SeenFirst n.view
 took_first shape p n found row made k b held = made.told.mine k b held
 
 -- More places are covered than when the append ended.
-pub waited : (shape : ShapeValue) (row : RowValue) (m z w : PassValue) (o : ℕ) → IsAppended shape o row m z → (w.view).books ≡ (z.view).books → o < length (w.view).seen → IsAppended shape o row m w
-waited shape row m z w o all kept far = record { open_book = all.open_book; before = all.before; paths = all.paths; taken = all.taken; took = all.took; room = all.room; fresh = all.fresh; books = kept ∙ all.books; covered = inl far }
+pub waited : (shape : ShapeValue) (row : RowValue) (m z w : PassValue) (o : ℕ) → IsAppended shape o row m z → (w.view).books ≡ (z.view).books
+    → o < length (w.view).seen → IsAppended shape o row m w
+waited shape row m z w o all kept far =
+    record { open_book = all.open_book; before = all.before; paths = all.paths; taken = all.taken; took = all.took; room = all.room; fresh = all.fresh; books =
+    kept ∙ all.books; covered = inl far }
 
 pub appended_rests : (shape : ShapeValue) (row : RowValue) (m z : PassValue) (o : ℕ) → IsAppended shape o row m z → Rests z.view
 appended_rests shape row m z o A = rests_by z.view (with_own o row (with_nodes A.paths.used.spots A.paths.used.label (book_of m.view))) A.books refl

@@ -111,7 +111,8 @@ Keeps leaves lane front node = slice_get leaves.kept lane ≡ Some (Some record 
 -- Each leaf that is kept for a lane of the shape is the node of its front: the keys' nibbles but the last.
 pub record Remembers (shape : ShapeValue) (pass : Pass) (leaves : Leaves) : Type 0 where
   pub long : length leaves.kept ≡ 16
-  pub stands : (lane front node : ℕ) → lane < length shape.lanes → Keeps leaves lane front node → IsNodeOf shape pass (spot lane (nibbles (levels_of shape lane - 1) front)) node
+  pub stands : (lane front node : ℕ) → lane < length shape.lanes → Keeps leaves lane front node
+      → IsNodeOf shape pass (spot lane (nibbles (levels_of shape lane - 1) front)) node
 
 -- the leaf of the row in that lane is kept: by the front of the row's key there
 abbrev pub KeepsLeaf : ShapeValue → RowValue → Leaves → ℕ → Type 0

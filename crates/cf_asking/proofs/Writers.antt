@@ -21,7 +21,8 @@ use Rattle.cf_query.specs.Asking.{HasAsked}
 use Rattle.cf_asking.specs.Writers.{IsWriters, AreDealtOut, AreWritersFrom}
 
 -- All books are dealt.
-dealt_at : (log : LogValue) (m n : PassValue) (hs : List PassValue) (k : ℕ) (h : PassValue) → m.view ≡ root_pass log.shape → AreDealt log m hs n → slice_get hs k ≡ Some h → IsWriters log k h
+dealt_at : (log : LogValue) (m n : PassValue) (hs : List PassValue) (k : ℕ) (h : PassValue) → m.view ≡ root_pass log.shape → AreDealt log m hs n
+    → slice_get hs k ≡ Some h → IsWriters log k h
 dealt_at log m n hs k h is dealt at =
     let d = dealt.each k h at in
     let w = (log.shape).writers in
@@ -35,7 +36,8 @@ dealt_at log m n hs k h is dealt at =
       writer_is = ap (λ (bs : List Book). (get_or bs 0 (no_book 0)).writer) one ∙ ap (λ (b : Book). b.writer) (sym e);
     }
 
-pub dealt_out : (shape : ShapeValue) (log : LogValue) (m n : PassValue) (hs : List PassValue) → log.shape ≡ shape → m ≡ record { table = log.table; id = 0; nodes = (log.shape).nodes; view = root_pass log.shape } → AreDealt log m hs n
+pub dealt_out : (shape : ShapeValue) (log : LogValue) (m n : PassValue) (hs : List PassValue) → log.shape ≡ shape
+    → m ≡ record { table = log.table; id = 0; nodes = (log.shape).nodes; view = root_pass log.shape } → AreDealt log m hs n
     → AreDealtOut shape log n hs
 dealt_out shape log m n hs opened is dealt =
     let writers : (log.shape).writers ≡ shape.writers = ap (λ (s : ShapeValue). s.writers) opened in
@@ -52,7 +54,8 @@ dealt_out shape log m n hs opened is dealt =
       each = λ k h at. dealt_at log m n hs k h view dealt at;
     }
 
-pub same_books : (log : LogValue) (w : ℕ) (m n : PassValue) → IsWriters log w m → n ≡ record m { view = n.view } → (n.view).books ≡ (m.view).books → IsWriters log w n
+pub same_books : (log : LogValue) (w : ℕ) (m n : PassValue) → IsWriters log w m → n ≡ record m { view = n.view } → (n.view).books ≡ (m.view).books
+    → IsWriters log w n
 same_books log w m n is same books =
     record {
       of = of_then log m n is.of same;
@@ -60,15 +63,18 @@ same_books log w m n is same books =
       writer_is = ap (λ (bs : List Book). (get_or bs 0 (no_book 0)).writer) books ∙ is.writer_is;
     }
 
-pub appended : (log : LogValue) (w : ℕ) (row : RowValue) (m n : PassValue) (r : Result ℕ AppendFault) → IsWriters log w m → PassGoesOn m n → Rests n.view → HasAppendAnswer log.shape row m n r → IsWriters log w n
-appended log w row m n r is goes rest done = record { of = of_then log m n is.of goes.same; rest = rest; writer_is = same_writer log.shape row m n r done ∙ is.writer_is }
+pub appended : (log : LogValue) (w : ℕ) (row : RowValue) (m n : PassValue) (r : Result ℕ AppendFault) → IsWriters log w m → PassGoesOn m n → Rests n.view
+    → HasAppendAnswer log.shape row m n r → IsWriters log w n
+appended log w row m n r is goes rest done =
+    record { of = of_then log m n is.of goes.same; rest = rest; writer_is = same_writer log.shape row m n r done ∙ is.writer_is }
 
 looked_books : (log : LogValue) (w : ℕ) (m n : PassValue) → IsWriters log w m → OnlyLooked m n → IsWriters log w n
 looked_books log w m n is looked =
     let view = ap (λ (h : PassValue). h.view) looked in
     same_books log w m n is (looked ∙ ap (λ (q : Pass). record m { view = q }) (sym view)) (ap (λ (q : Pass). q.books) view)
 
-pub asked : (log : LogValue) (w : ℕ) (m n : PassValue) (A : Type 0) (P : A → Type 0) (r : Result A AllocError) → IsWriters log w m → IfOk r (λ a. HasAsked log.shape m n × P a) → IfErr r (λ x. HasAsked log.shape m n) → IsWriters log w n
+pub asked : (log : LogValue) (w : ℕ) (m n : PassValue) (A : Type 0) (P : A → Type 0) (r : Result A AllocError) → IsWriters log w m
+    → IfOk r (λ a. HasAsked log.shape m n × P a) → IfErr r (λ x. HasAsked log.shape m n) → IsWriters log w n
 asked log w m n A P (Ok a) is ok err = same_books log w m n is (ok.0).same (ok.0).books
 asked log w m n A P (Err e) is ok err = same_books log w m n is err.same err.books
 
@@ -98,7 +104,8 @@ all_one log a count is = record {
   writers = λ w lt. (0, a, 0, book_of a.view, refl, holds_its log 0 a is, is.writer_is ∙ (omega arith));
 }
 
-writer_of : (log : LogValue) (a b : PassValue) → IsWriters log 0 a → IsWriters log 1 b → (w : ℕ) → w < 2 → (k : ℕ) × (h : PassValue) × (j : ℕ) × (c : Book) × (slice_get (a ∷ b ∷ []) k ≡ Some h) × Holds h.view j c × (c.writer ≡ w)
+writer_of : (log : LogValue) (a b : PassValue) → IsWriters log 0 a → IsWriters log 1 b → (w : ℕ) → w < 2 → (k : ℕ) × (h : PassValue) × (j : ℕ) × (c : Book)
+    × (slice_get (a ∷ b ∷ []) k ≡ Some h) × Holds h.view j c × (c.writer ≡ w)
 writer_of log a b is too zero lt = (0, a, 0, book_of a.view, refl, holds_its log 0 a is, is.writer_is)
 writer_of log a b is too (suc zero) lt = (1, b, 0, book_of b.view, refl, holds_its log 1 b too, too.writer_is)
 writer_of log a b is too (suc (suc w)) lt = absurd (omega arith)
@@ -112,20 +119,25 @@ all_two log a b count is too = record {
 }
 
 -- the passes that were dealt first
-pub first_ready : (shape : ShapeValue) (log : LogValue) (root a : PassValue) (hs rest : List PassValue) → AreDealtOut shape log root hs → hs ≡ a ∷ rest → IsWriters log 0 a
+pub first_ready : (shape : ShapeValue) (log : LogValue) (root a : PassValue) (hs rest : List PassValue) → AreDealtOut shape log root hs → hs ≡ a ∷ rest
+    → IsWriters log 0 a
 first_ready shape log root a hs rest dealt is = dealt.each 0 a (ap (λ (xs : List PassValue). slice_get xs 0) is)
 
-pub both_ready : (shape : ShapeValue) (log : LogValue) (root a b : PassValue) (hs rest : List PassValue) → AreDealtOut shape log root hs → hs ≡ a ∷ b ∷ rest → IsWriters log 0 a × IsWriters log 1 b
-both_ready shape log root a b hs rest dealt is = (dealt.each 0 a (ap (λ (xs : List PassValue). slice_get xs 0) is), dealt.each 1 b (ap (λ (xs : List PassValue). slice_get xs 1) is))
+pub both_ready : (shape : ShapeValue) (log : LogValue) (root a b : PassValue) (hs rest : List PassValue) → AreDealtOut shape log root hs → hs ≡ a ∷ b ∷ rest
+    → IsWriters log 0 a × IsWriters log 1 b
+both_ready shape log root a b hs rest dealt is =
+    (dealt.each 0 a (ap (λ (xs : List PassValue). slice_get xs 0) is), dealt.each 1 b (ap (λ (xs : List PassValue). slice_get xs 1) is))
 
 -- passes at home are so by their books alone
 pub home_same : (sh : Layout) (p q : Pass) → q.books ≡ p.books → AtHome sh p → AtHome sh q
 home_same sh p q same home w lt = (let h = home w lt in (h.0, h.1, ap (λ (bs : List Book). slice_get bs h.0) same ∙ h.2, h.3, h.4))
 
 -- a log was opened and forked twice, and then its books were dealt
-pub forked_first : (shape : ShapeValue) (log : LogValue) (m p q n a : PassValue) (hs rest : List PassValue) → log.shape ≡ shape → m ≡ record { table = log.table; id = 0; nodes = (log.shape).nodes; view = root_pass log.shape } → p ≡ m → q ≡ p
+pub forked_first : (shape : ShapeValue) (log : LogValue) (m p q n a : PassValue) (hs rest : List PassValue) → log.shape ≡ shape
+    → m ≡ record { table = log.table; id = 0; nodes = (log.shape).nodes; view = root_pass log.shape } → p ≡ m → q ≡ p
     → AreDealt log q hs n → hs ≡ a ∷ rest → IsWriters log 0 a
-forked_first shape log m p q n a hs rest opened is one two dealt first = first_ready shape log n a hs rest (dealt_out shape log q n hs opened (two ∙ (one ∙ is)) dealt) first
+forked_first shape log m p q n a hs rest opened is one two dealt first =
+    first_ready shape log n a hs rest (dealt_out shape log q n hs opened (two ∙ (one ∙ is)) dealt) first
 
 -- The writers' passes, one after the other.
 pub dealt_from : (shape : ShapeValue) (log : LogValue) (root : PassValue) (hs : List PassValue) → AreDealtOut shape log root hs → AreWritersFrom log 0 hs
@@ -137,12 +149,14 @@ from_first log n h rest all = subst (λ (w : ℕ). IsWriters log w h) (omega ari
 pub from_rest : (log : LogValue) (n : ℕ) (h : PassValue) (rest : List PassValue) → AreWritersFrom log n (h ∷ rest) → AreWritersFrom log (n + 1) rest
 from_rest log n h rest all k x at = subst (λ (w : ℕ). IsWriters log w x) (omega arith) (all (suc k) x at)
 
-pub from_push : (log : LogValue) (n : ℕ) (hs : List PassValue) (x : PassValue) → AreWritersFrom log n hs → IsWriters log (n + length hs) x → AreWritersFrom log n (hs ++ x ∷ [])
+pub from_push : (log : LogValue) (n : ℕ) (hs : List PassValue) (x : PassValue) → AreWritersFrom log n hs → IsWriters log (n + length hs) x
+    → AreWritersFrom log n (hs ++ x ∷ [])
 from_push log n [] x all last zero h at = (let same : x ≡ h = cc at in subst (λ (g : PassValue). IsWriters log (n + 0) g) same last)
 from_push log n [] x all last (suc k) h at = absurd (cc at)
 from_push log n (y ∷ ys) x all last zero h at = all 0 h at
 from_push log n (y ∷ ys) x all last (suc k) h at =
-    subst (λ (w : ℕ). IsWriters log w h) (omega arith) (from_push log (n + 1) ys x (from_rest log n y ys all) (subst (λ (w : ℕ). IsWriters log w x) (omega arith) last) k h at)
+    subst (λ (w : ℕ). IsWriters log w h) (omega arith)
+        (from_push log (n + 1) ys x (from_rest log n y ys all) (subst (λ (w : ℕ). IsWriters log w x) (omega arith) last) k h at)
 
 some_at : (hs : List PassValue) (k : ℕ) → k < length hs → (h : PassValue) × (slice_get hs k ≡ Some h)
 some_at [] k lt = absurd (omega (arith, lt))

@@ -55,7 +55,8 @@ below_reaches : (p : Pass) (l d i n : ℕ) (q : List ℕ) → 0 < length q → s
 below_reaches p l d i n [] some at low = absurd (omega arith)
 below_reaches p l d i n (e ∷ q) some at low = (n, i, at, low, refl)
 
-pub below_found : (h : WorldValue) (k at i d : ℕ) (p : Pass) (x : Spot × ℕ) → IsLawfulWorld h → IsLivePass h k p → slice_get p.known i ≡ Some x → IsChildOf h x at d → IsChildAt h p at (spot (x.0).lane (d ∷ (x.0).path))
+pub below_found : (h : WorldValue) (k at i d : ℕ) (p : Pass) (x : Spot × ℕ) → IsLawfulWorld h → IsLivePass h k p → slice_get p.known i ≡ Some x
+    → IsChildOf h x at d → IsChildAt h p at (spot (x.0).lane (d ∷ (x.0).path))
 below_found h k at i d p x is live known found =
     let b = (bounds h k p is live).known i x.1 x.0 known in
     let w = some_writer x.1 h.shape.writers h.shape.nodes b.0 in (
@@ -64,7 +65,8 @@ below_found h k at i d p x is live known found =
       found.2,
     )
 
-reached_none : (h : WorldValue) (p : Pass) (at l : ℕ) (q : List ℕ) (t : Slot) → NoRootAt h at → NoneBelow h p at → Reaches p l q t → IsReal (layout h.shape).sizes t → length q < (layout h.shape).levels l → place (layout h.shape).sizes t ≡ at → ⊥
+reached_none : (h : WorldValue) (p : Pass) (at l : ℕ) (q : List ℕ) (t : Slot) → NoRootAt h at → NoneBelow h p at → Reaches p l q t
+    → IsReal (layout h.shape).sizes t → length q < (layout h.shape).levels l → place (layout h.shape).sizes t ≡ at → ⊥
 reached_none h p at l [] t roots below reaches real inner same = reaches
 reached_none h p at l (d ∷ []) t roots below reaches real inner same =
     let r : IsReal (layout h.shape).sizes (root l d) = subst (IsReal (layout h.shape).sizes) reaches real in
@@ -79,17 +81,20 @@ pub child_there : (h : WorldValue) (p : Pass) (at : ℕ) (s : Spot) → IsLawful
 child_there h p at s is found = subst (λ (n : ℕ). n < length h.words) found.2 (word_there h found.0 is (found.1).real)
 
 -- Loads of child words.
-pub child_does : (h : WorldValue) (k at found : ℕ) (p after : Pass) (s : Spot) → IsLivePass h k p → IsChildAt h p at s → found ≡ get_or h.words at 0 → after ≡ pass_with_child at s p found
+pub child_does : (h : WorldValue) (k at found : ℕ) (p after : Pass) (s : Spot) → IsLivePass h k p → IsChildAt h p at s → found ≡ get_or h.words at 0
+    → after ≡ pass_with_child at s p found
     → IsEvent (layout h.shape) (world_of h) k (acts (load_child at)) (record { words = set h.words at found; passes = set h.passes k after })
 child_does h k at found p after s live child v is =
     let sh = layout h.shape in
     let t = child.0 in
     let word : found ≡ word_at sh h.words t = v ∙ ap (λ (n : ℕ). get_or h.words n 0) (sym child.2) in
     subst (λ (n : ℕ). IsEvent sh (world_of h) k (acts (load_child n)) (record { words = set h.words at found; passes = set h.passes k after })) child.2
-    (does_step sh (world_of h) k p (load_child (place sh.sizes t)) t (λ n. n) (λ n es. pass_with_child (place sh.sizes t) s p n) at found after live (loads_child s t child.1) (sym child.2) word
+    (does_step sh (world_of h) k p (load_child (place sh.sizes t)) t (λ n. n) (λ n es. pass_with_child (place sh.sizes t) s p n) at found after live
+        (loads_child s t child.1) (sym child.2) word
     (is ∙ ap₂ (λ (a b : ℕ). pass_with_child a s p b) (sym child.2) word))
 
-pub child_none : (h : WorldValue) (k at : ℕ) (p : Pass) (y : World) → IsLivePass h k p → NoChildAt h p at → IsEvent (layout h.shape) (world_of h) k (acts (load_child at)) y → ⊥
+pub child_none : (h : WorldValue) (k at : ℕ) (p : Pass) (y : World) → IsLivePass h k p → NoChildAt h p at
+    → IsEvent (layout h.shape) (world_of h) k (acts (load_child at)) y → ⊥
 child_none h k at p y live none does =
     let A = acts_of (layout h.shape) (world_of h) k (load_child at) y does in
     let r = child_of (layout h.shape) A.pass at A.slot A.change A.after A.step in

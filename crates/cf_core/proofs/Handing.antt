@@ -19,31 +19,41 @@ use Rattle.cf_core.proofs.Inverse.{parts_of, hands_of, meets_of}
 pub bare_does : (h : WorldValue) (k : ℕ) (p left right : Pass) → IsLivePass h k p → left ≡ p → right ≡ new_pass [] p.seen
     → IsEvent (layout h.shape) (world_of h) k (splits None) (record { words = h.words; passes = set h.passes k left ++ right ∷ [] })
 bare_does h k p left right live l r =
-    let same : ◌≡◌ {A = World} (record { words = h.words; passes = set h.passes k p ++ new_pass [] p.seen ∷ [] }) (record { words = h.words; passes = set h.passes k left ++ right ∷ [] }) = ap₂ (λ (a b : Pass). record { words = h.words; passes = set h.passes k a ++ b ∷ [] }) (sym l) (sym r) in
+    let same : ◌≡◌ {A = World} (record { words = h.words; passes = set h.passes k p ++ new_pass [] p.seen ∷ [] })
+        (record { words = h.words; passes = set h.passes k left ++ right ∷ [] }) =
+        ap₂ (λ (a b : Pass). record { words = h.words; passes = set h.passes k a ++ b ∷ [] }) (sym l) (sym r) in
     subst (IsEvent (layout h.shape) (world_of h) k (splits None)) same (parts p p (new_pass [] p.seen) None live bare)
 
-pub hands_does : (h : WorldValue) (k j w : ℕ) (p left right : Pass) (b : Book) → IsLivePass h k p → Holds p j b → b.writer ≡ w → left ≡ record p { books = without j p.books } → right ≡ new_pass (b ∷ []) p.seen
+pub hands_does : (h : WorldValue) (k j w : ℕ) (p left right : Pass) (b : Book) → IsLivePass h k p → Holds p j b → b.writer ≡ w
+    → left ≡ record p { books = without j p.books } → right ≡ new_pass (b ∷ []) p.seen
     → IsEvent (layout h.shape) (world_of h) k (splits (Some w)) (record { words = h.words; passes = set h.passes k left ++ right ∷ [] })
 hands_does h k j w p left right b live held writer l r =
-    let same : ◌≡◌ {A = World} (record { words = h.words; passes = set h.passes k (record p { books = without j p.books }) ++ new_pass (b ∷ []) p.seen ∷ [] }) (record { words = h.words; passes = set h.passes k left ++ right ∷ [] }) =
+    let same : ◌≡◌ {A = World} (record { words = h.words; passes = set h.passes k (record p { books = without j p.books }) ++ new_pass (b ∷ []) p.seen ∷ [] })
+        (record { words = h.words; passes = set h.passes k left ++ right ∷ [] }) =
     ap₂ (λ (a c : Pass). record { words = h.words; passes = set h.passes k a ++ c ∷ [] }) (sym l) (sym r) in
     subst (λ (v : ℕ). IsEvent (layout h.shape) (world_of h) k (splits (Some v)) (record { words = h.words; passes = set h.passes k left ++ right ∷ [] })) writer
-    (subst (IsEvent (layout h.shape) (world_of h) k (splits (Some b.writer))) same (parts p (record p { books = without j p.books }) (new_pass (b ∷ []) p.seen) (Some b.writer) live (hands j b held)))
+    (subst (IsEvent (layout h.shape) (world_of h) k (splits (Some b.writer))) same
+        (parts p (record p { books = without j p.books }) (new_pass (b ∷ []) p.seen) (Some b.writer) live (hands j b held)))
 
-pub hands_none : (h : WorldValue) (k w : ℕ) (p : Pass) (y : World) → IsLivePass h k p → NoneHeld p w → IsEvent (layout h.shape) (world_of h) k (splits (Some w)) y → ⊥
+pub hands_none : (h : WorldValue) (k w : ℕ) (p : Pass) (y : World) → IsLivePass h k p → NoneHeld p w
+    → IsEvent (layout h.shape) (world_of h) k (splits (Some w)) y → ⊥
 hands_none h k w p y live none does =
     let A = parts_of (layout h.shape) (world_of h) k (Some w) y does in
     let r = hands_of A.pass A.left A.right w A.split in
     let same = live_one h k A.pass p A.live live in
     none r.0 r.1 (subst (λ (q : Pass). Holds q r.0 r.1) same r.2) r.3
 
-pub joins_does : (h : WorldValue) (k j : ℕ) (p q one other : Pass) → IsLivePass h k p → IsLivePass h j q → (j ≡ k → ⊥) → IsAtRest q → one ≡ joined_pass p q → other ≡ spent_pass
+pub joins_does : (h : WorldValue) (k j : ℕ) (p q one other : Pass) → IsLivePass h k p → IsLivePass h j q → (j ≡ k → ⊥) → IsAtRest q → one ≡ joined_pass p q
+    → other ≡ spent_pass
     → IsEvent (layout h.shape) (world_of h) k (joins j) (record { words = h.words; passes = set (set h.passes k one) j other })
 joins_does h k j p q one other live there ne rests a b =
-    let same : ◌≡◌ {A = World} (record { words = h.words; passes = set (set h.passes k (joined_pass p q)) j spent_pass }) (record { words = h.words; passes = set (set h.passes k one) j other }) = ap₂ (λ (x y : Pass). record { words = h.words; passes = set (set h.passes k x) j y }) (sym a) (sym b) in
+    let same : ◌≡◌ {A = World} (record { words = h.words; passes = set (set h.passes k (joined_pass p q)) j spent_pass })
+        (record { words = h.words; passes = set (set h.passes k one) j other }) =
+        ap₂ (λ (x y : Pass). record { words = h.words; passes = set (set h.passes k x) j y }) (sym a) (sym b) in
     subst (IsEvent (layout h.shape) (world_of h) k (joins j)) same (meets p q j live there ne rests)
 
-pub joins_only : (h : WorldValue) (k j : ℕ) (q : Pass) (y : World) → IsLivePass h j q → IsEvent (layout h.shape) (world_of h) k (joins j) y → (j ≡ k → ⊥) × IsAtRest q
+pub joins_only : (h : WorldValue) (k j : ℕ) (q : Pass) (y : World) → IsLivePass h j q → IsEvent (layout h.shape) (world_of h) k (joins j) y → (j ≡ k → ⊥)
+    × IsAtRest q
 joins_only h k j q y there does =
     let A = meets_of (layout h.shape) (world_of h) k j y does in
     let same = live_one h j A.other q A.there there in (A.apart, subst IsAtRest same A.rests)
@@ -52,24 +62,30 @@ joins_only h k j q y there does =
 pub pushed : (passes : List Pass) (k : ℕ) (left right : Pass) → k < length passes → set (passes ++ right ∷ []) k left ≡ set passes k left ++ right ∷ []
 pushed passes k left right lt = set-append_left passes (right ∷ []) k left lt
 
-pub part_lawful : (inside now : WorldValue) (items : List Pass) (k : ℕ) (left right : Pass) → IsLawfulWorld inside → inside ≡ now → items ≡ inside.passes ++ right ∷ [] → k < length now.passes → Lawful (layout now.shape) now.words (set now.passes k left ++ right ∷ [])
+pub part_lawful : (inside now : WorldValue) (items : List Pass) (k : ℕ) (left right : Pass) → IsLawfulWorld inside → inside ≡ now
+    → items ≡ inside.passes ++ right ∷ [] → k < length now.passes → Lawful (layout now.shape) now.words (set now.passes k left ++ right ∷ [])
     → IsLawfulWorld (record { shape = inside.shape; words = inside.words; passes = set items k left })
 part_lawful inside now items k left right is same added lt law = record {
   shape = is.shape;
-  law = (let old : Lawful (layout inside.shape) inside.words (set inside.passes k left ++ right ∷ []) = subst (λ (h : WorldValue). Lawful (layout h.shape) h.words (set h.passes k left ++ right ∷ [])) (sym same) law in
+  law = (let old : Lawful (layout inside.shape) inside.words (set inside.passes k left ++ right ∷ []) =
+      subst (λ (h : WorldValue). Lawful (layout h.shape) h.words (set h.passes k left ++ right ∷ [])) (sym same) law in
       let low : k < length inside.passes = subst (λ (h : WorldValue). k < length h.passes) (sym same) lt in
       subst (Lawful (layout inside.shape) inside.words) (sym (ap (λ (ps : List Pass). set ps k left) added ∙ pushed inside.passes k left right low)) old);
 }
 
-pub part_is : (inside now : WorldValue) (items : List Pass) (k : ℕ) (left right : Pass) → inside ≡ now → items ≡ inside.passes ++ right ∷ [] → k < length now.passes
-    → ◌≡◌ {A = WorldValue} (record { shape = inside.shape; words = inside.words; passes = set items k left }) (record { shape = now.shape; words = now.words; passes = set now.passes k left ++ right ∷ [] })
+pub part_is : (inside now : WorldValue) (items : List Pass) (k : ℕ) (left right : Pass) → inside ≡ now → items ≡ inside.passes ++ right ∷ []
+    → k < length now.passes
+    → ◌≡◌ {A = WorldValue} (record { shape = inside.shape; words = inside.words; passes = set items k left })
+        (record { shape = now.shape; words = now.words; passes = set now.passes k left ++ right ∷ [] })
 part_is inside now items k left right same added lt =
     let low : k < length inside.passes = subst (λ (h : WorldValue). k < length h.passes) (sym same) lt in
-    ap (λ (ps : List Pass). record { shape = inside.shape; words = inside.words; passes = ps }) (ap (λ (ps : List Pass). set ps k left) added ∙ pushed inside.passes k left right low)
+    ap (λ (ps : List Pass). record { shape = inside.shape; words = inside.words; passes = ps })
+        (ap (λ (ps : List Pass). set ps k left) added ∙ pushed inside.passes k left right low)
     ∙ ap (λ (h : WorldValue). record { shape = h.shape; words = h.words; passes = set h.passes k left ++ right ∷ [] }) same
 
 -- the opening
-pub opening_held : (s : ShapeValue) (words : List ℕ) (passes : List Pass) → IsShape s → words ≡ (opening (layout s)).words → passes ≡ (opening (layout s)).passes → IsLawfulWorld (record { shape = s; words = words; passes = passes })
+pub opening_held : (s : ShapeValue) (words : List ℕ) (passes : List Pass) → IsShape s → words ≡ (opening (layout s)).words
+    → passes ≡ (opening (layout s)).passes → IsLawfulWorld (record { shape = s; words = words; passes = passes })
 opening_held s words passes is w p = record {
   shape = is;
   law = subst (λ (ws : List ℕ). Lawful (layout s) ws passes) (sym w) (subst (Lawful (layout s) (opening (layout s)).words) (sym p) (opening_lawful (layout s)));

@@ -26,29 +26,35 @@ pub low_nibble : (h : WorldValue) (p : Pass) (row : RowValue) (l node d : ℕ) �
 low_nibble h p row l node d is leads = (layout_law h.shape is.shape).nibble row l d leads.0 leads.1
 
 -- what leads there
-pub leads_is : (h : WorldValue) (p : Pass) (row : RowValue) (l node d : ℕ) (s : Spot) (path : List ℕ) → Knows p s node → path_in h.shape row l ≡ Some path → spot s.lane (d ∷ s.path) ≡ spot l path → LeadsTo h p row l node d
+pub leads_is : (h : WorldValue) (p : Pass) (row : RowValue) (l node d : ℕ) (s : Spot) (path : List ℕ) → Knows p s node → path_in h.shape row l ≡ Some path
+    → spot s.lane (d ∷ s.path) ≡ spot l path → LeadsTo h p row l node d
 leads_is h p row l node d s path known leads same =
     let lane : s.lane ≡ l = ap (λ (x : Spot). x.lane) same in
     let nibbles : d ∷ s.path ≡ path = ap (λ (x : Spot). x.path) same in
     (s.path, leads ∙ ap (λ (q : List ℕ). Some q) (sym nibbles), subst (λ (x : ℕ). Knows p (spot x s.path) node) lane known)
 
-pub leads_only : (h : WorldValue) (k : ℕ) (p : Pass) (row : RowValue) (l node d : ℕ) (s : Spot) (path : List ℕ) → IsLawfulWorld h → IsLivePass h k p → Knows p s node → path_in h.shape row l ≡ Some path → LeadsTo h p row l node d → spot s.lane (d ∷ s.path) ≡ spot l path
+pub leads_only : (h : WorldValue) (k : ℕ) (p : Pass) (row : RowValue) (l node d : ℕ) (s : Spot) (path : List ℕ) → IsLawfulWorld h → IsLivePass h k p
+    → Knows p s node → path_in h.shape row l ≡ Some path → LeadsTo h p row l node d → spot s.lane (d ∷ s.path) ≡ spot l path
 leads_only h k p row l node d s path is live known there leads =
     let one : spot l leads.0 ≡ s = known_unique (layout h.shape) is.law.base p (spot l leads.0) s node (is.law.stands.knows k p live.0) leads.2 known in
     let e : ◌≡◌ {A = Rattle.std.specs.Prelude.Option (List ℕ)} (Some (d ∷ leads.0)) (Some path) = sym leads.1 ∙ there in
     let nibbles : d ∷ leads.0 ≡ path = cc e in
     ap (λ (x : Spot). spot x.lane (d ∷ x.path)) (sym one) ∙ ap (spot l) nibbles
 
-pub head_does : (h : WorldValue) (k at l node d offset value j : ℕ) (p after : Pass) (b : Book) (f : Flight) → IsLivePass h k p → HoldsInFlight p j b f → f.offset ≡ offset → IsWhole (layout h.shape) (draft f.row f.filled) → has f.linked l ≡ false → LeadsTo h p f.row l node d
+pub head_does : (h : WorldValue) (k at l node d offset value j : ℕ) (p after : Pass) (b : Book) (f : Flight) → IsLivePass h k p → HoldsInFlight p j b f
+    → f.offset ≡ offset → IsWhole (layout h.shape) (draft f.row f.filled) → has f.linked l ≡ false → LeadsTo h p f.row l node d
     → at ≡ place_of h.shape (head_word node d b.writer) → value ≡ offset + 1 → after ≡ pass_with_book j (book_with_head l b f) p
     → IsEvent (layout h.shape) (world_of h) k (acts (store_head l node d offset)) (record { words = set h.words at value; passes = set h.passes k after })
 head_does h k at l node d offset value j p after b f live flies off whole fresh leads e v pass =
     let sh = layout h.shape in
     subst (λ (o : ℕ). IsEvent sh (world_of h) k (acts (store_head l node d o)) (record { words = set h.words at value; passes = set h.passes k after })) off
-    (does_step sh (world_of h) k p (store_head l node d f.offset) (head_slot sh.sizes node d b.writer) (λ n. suc f.offset) (λ n es. pass_with_book j (book_with_head l b f) p) at value after live
-    (heads j l d node leads.0 b f flies (whole_any sh (draft f.row f.filled) (ticket_of b.writer f) refl refl whole) fresh leads.1 leads.2) e (let n : value ≡ suc f.offset = omega (arith, off, v) in n) pass)
+    (does_step sh (world_of h) k p (store_head l node d f.offset) (head_slot sh.sizes node d b.writer) (λ n. suc f.offset)
+        (λ n es. pass_with_book j (book_with_head l b f) p) at value after live
+    (heads j l d node leads.0 b f flies (whole_any sh (draft f.row f.filled) (ticket_of b.writer f) refl refl whole) fresh leads.1 leads.2) e
+        (let n : value ≡ suc f.offset = omega (arith, off, v) in n) pass)
 
-pub head_only : (h : WorldValue) (k l node d offset j : ℕ) (p : Pass) (b : Book) (f : Flight) (y : World) → IsLawfulWorld h → IsLivePass h k p → HoldsInFlight p j b f → f.offset ≡ offset → IsEvent (layout h.shape) (world_of h) k (acts (store_head l node d offset)) y
+pub head_only : (h : WorldValue) (k l node d offset j : ℕ) (p : Pass) (b : Book) (f : Flight) (y : World) → IsLawfulWorld h → IsLivePass h k p
+    → HoldsInFlight p j b f → f.offset ≡ offset → IsEvent (layout h.shape) (world_of h) k (acts (store_head l node d offset)) y
     → IsWhole (layout h.shape) (draft f.row f.filled) × (has f.linked l ≡ false) × LeadsTo h p f.row l node d
 head_only h k l node d offset j p b f y is live flies off does =
     let sh = layout h.shape in
@@ -62,7 +68,8 @@ head_only h k l node d offset j p b f y is live flies off does =
       (r.above, ap (λ (g : Flight). path_in h.shape g.row l) (sym one.1) ∙ r.leads, subst (λ (q : Pass). Knows q (spot l r.above) node) same r.known),
     )
 
-pub head_none : (h : WorldValue) (k l node d offset : ℕ) (p : Pass) (y : World) → IsLivePass h k p → NoneFlies p offset → IsEvent (layout h.shape) (world_of h) k (acts (store_head l node d offset)) y → ⊥
+pub head_none : (h : WorldValue) (k l node d offset : ℕ) (p : Pass) (y : World) → IsLivePass h k p → NoneFlies p offset
+    → IsEvent (layout h.shape) (world_of h) k (acts (store_head l node d offset)) y → ⊥
 head_none h k l node d offset p y live none does =
     let sh = layout h.shape in
     let A = acts_of sh (world_of h) k (store_head l node d offset) y does in

@@ -61,7 +61,8 @@ pub record Finishes (sh : Layout) (p : Pass) (o : ℕ) : Type 0 where
   pub offset : flight.offset ≡ o
 
 pub finishes_of : (sh : Layout) (p : Pass) (o : ℕ) (t : Slot) (f : ℕ → ℕ) (g : ℕ → List Entry → Pass) → Step sh p (finish_record o) t f g → Finishes sh p o
-finishes_of sh p o t f g (finishes k i b fl flies last whole linked) = record { place = k; book = b; flight = fl; flies = flies; whole = whole; linked = linked; offset = refl }
+finishes_of sh p o t f g (finishes k i b fl flies last whole linked) =
+    record { place = k; book = b; flight = fl; flies = flies; whole = whole; linked = linked; offset = refl }
 
 pub record Advances (sh : Layout) (p : Pass) (t : ℕ) : Type 0 where
   pub last : ℕ
@@ -72,12 +73,14 @@ pub record Advances (sh : Layout) (p : Pass) (t : ℕ) : Type 0 where
   pub value : p.look.value ≡ 1
 
 pub advances_of : (sh : Layout) (p : Pass) (n : ℕ) (t : Slot) (f : ℕ → ℕ) (g : ℕ → List Entry → Pass) → Step sh p (advance n) t f g → Advances sh p n
-advances_of sh p n t f g (advances m i seen within last word value) = record { last = i; seen = seen; within = within; is_last = last; word = word; value = value }
+advances_of sh p n t f g (advances m i seen within last word value) =
+    record { last = i; seen = seen; within = within; is_last = last; word = word; value = value }
 
 pub looks_of : (sh : Layout) (p : Pass) (o : ℕ) (t : Slot) (f : ℕ → ℕ) (g : ℕ → List Entry → Pass) → Step sh p (look_done o) t f g → o < sh.sizes.tickets
 looks_of sh p o t f g (looks_done m i within last) = within
 
-pub loads_of : (sh : Layout) (p : Pass) (o i : ℕ) (t : Slot) (f : ℕ → ℕ) (g : ℕ → List Entry → Pass) → Step sh p (load_word o i) t f g → (o < length p.seen) × (i < sh.sizes.ticket_words)
+pub loads_of : (sh : Layout) (p : Pass) (o i : ℕ) (t : Slot) (f : ℕ → ℕ) (g : ℕ → List Entry → Pass) → Step sh p (load_word o i) t f g → (o < length p.seen)
+    × (i < sh.sizes.ticket_words)
 loads_of sh p o i t f g (loads_word m j seen within) = (seen, within)
 
 pub record Parts (sh : Layout) (x : World) (k : ℕ) (w : Option ℕ) : Type 0 where
@@ -105,7 +108,8 @@ pub meets_of : (sh : Layout) (x : World) (k j : ℕ) (y : World) → IsEvent sh 
 meets_of sh x k j y (meets p q i live there apart rests) = record { pass = p; other = q; live = live; there = there; apart = apart; rests = rests }
 
 -- the child word, by its place
-pub child_of : (sh : Layout) (p : Pass) (at : ℕ) (t : Slot) (f : ℕ → ℕ) (g : ℕ → List Entry → Pass) → Step sh p (load_child at) t f g → (s : Spot) × (u : Slot) × IsChild sh p s u × (place sh.sizes u ≡ at)
+pub child_of : (sh : Layout) (p : Pass) (at : ℕ) (t : Slot) (f : ℕ → ℕ) (g : ℕ → List Entry → Pass) → Step sh p (load_child at) t f g → (s : Spot)
+    × (u : Slot) × IsChild sh p s u × (place sh.sizes u ≡ at)
 child_of sh p at t f g (loads_child s u child) = (s, u, child, refl)
 
 pub record HeadLoads (sh : Layout) (p : Pass) (node d w : ℕ) : Type 0 where
@@ -116,8 +120,10 @@ pub record HeadLoads (sh : Layout) (p : Pass) (node d w : ℕ) : Type 0 where
   pub low : d < 16
   pub writer : w < sh.sizes.writers
 
-pub head_load_of : (sh : Layout) (p : Pass) (node d w : ℕ) (t : Slot) (f : ℕ → ℕ) (g : ℕ → List Entry → Pass) → Step sh p (load_head node d w) t f g → HeadLoads sh p node d w
-head_load_of sh p node d w t f g (loads_head n e v l q known leaf low writer) = record { lane = l; above = q; known = known; leaf = leaf; low = low; writer = writer }
+pub head_load_of : (sh : Layout) (p : Pass) (node d w : ℕ) (t : Slot) (f : ℕ → ℕ) (g : ℕ → List Entry → Pass) → Step sh p (load_head node d w) t f g
+    → HeadLoads sh p node d w
+head_load_of sh p node d w t f g (loads_head n e v l q known leaf low writer) =
+    record { lane = l; above = q; known = known; leaf = leaf; low = low; writer = writer }
 
 pub record CellLoads (sh : Layout) (p : Pass) (o l i : ℕ) : Type 0 where
   pub word : ℕ
@@ -126,8 +132,10 @@ pub record CellLoads (sh : Layout) (p : Pass) (o l i : ℕ) : Type 0 where
   pub within : suc word < sh.sizes.ticket_words
   pub may : IsOwn p o ⊎ ((o < length p.seen) ⊎ IsNamed p o l)
 
-pub cell_load_of : (sh : Layout) (p : Pass) (o l i : ℕ) (t : Slot) (f : ℕ → ℕ) (g : ℕ → List Entry → Pass) → Step sh p (load_cell o l i) t f g → CellLoads sh p o l i
-cell_load_of sh p o l i t f g (loads_cell m n j k low is_version within may) = record { word = k; low = low; is_version = is_version; within = within; may = may }
+pub cell_load_of : (sh : Layout) (p : Pass) (o l i : ℕ) (t : Slot) (f : ℕ → ℕ) (g : ℕ → List Entry → Pass) → Step sh p (load_cell o l i) t f g
+    → CellLoads sh p o l i
+cell_load_of sh p o l i t f g (loads_cell m n j k low is_version within may) =
+    record { word = k; low = low; is_version = is_version; within = within; may = may }
 
 pub record Labels (sh : Layout) (p : Pass) (node v : ℕ) : Type 0 where
   pub place : ℕ
@@ -141,7 +149,8 @@ pub record Labels (sh : Layout) (p : Pass) (node v : ℕ) : Type 0 where
   pub value : label_of sh spot slot ≡ v
 
 pub labels_of : (sh : Layout) (p : Pass) (node v : ℕ) (t : Slot) (f : ℕ → ℕ) (g : ℕ → List Entry → Pass) → Step sh p (label node v) t f g → Labels sh p node v
-labels_of sh p node v t f g (labels k b s u held room child) = record { place = k; book = b; spot = s; slot = u; held = held; room = room; child = child; own = refl; value = refl }
+labels_of sh p node v t f g (labels k b s u held room child) =
+    record { place = k; book = b; spot = s; slot = u; held = held; room = room; child = child; own = refl; value = refl }
 
 pub record Links (sh : Layout) (p : Pass) (at node : ℕ) : Type 0 where
   pub book_at : ℕ
@@ -156,7 +165,8 @@ pub record Links (sh : Layout) (p : Pass) (at node : ℕ) : Type 0 where
   pub stands : place sh.sizes slot ≡ at
 
 pub links_of : (sh : Layout) (p : Pass) (at node : ℕ) (t : Slot) (f : ℕ → ℕ) (g : ℕ → List Entry → Pass) → Step sh p (link at node) t f g → Links sh p at node
-links_of sh p at node t f g (links k b s u held room child stored) = record { book_at = k; book = b; spot = s; slot = u; held = held; room = room; child = child; label = stored; own = refl; stands = refl }
+links_of sh p at node t f g (links k b s u held room child stored) =
+    record { book_at = k; book = b; spot = s; slot = u; held = held; room = room; child = child; label = stored; own = refl; stands = refl }
 
 pub record Heads (sh : Layout) (p : Pass) (l node d o : ℕ) : Type 0 where
   pub place : ℕ
@@ -170,5 +180,7 @@ pub record Heads (sh : Layout) (p : Pass) (l node d o : ℕ) : Type 0 where
   pub known : Knows p (spot l above) node
   pub offset : flight.offset ≡ o
 
-pub heads_of : (sh : Layout) (p : Pass) (l node d o : ℕ) (t : Slot) (f : ℕ → ℕ) (g : ℕ → List Entry → Pass) → Step sh p (store_head l node d o) t f g → Heads sh p l node d o
-heads_of sh p l node d o t f g (heads k m e n q b fl flies whole fresh leads known) = record { place = k; above = q; book = b; flight = fl; flies = flies; whole = whole; fresh = fresh; leads = leads; known = known; offset = refl }
+pub heads_of : (sh : Layout) (p : Pass) (l node d o : ℕ) (t : Slot) (f : ℕ → ℕ) (g : ℕ → List Entry → Pass) → Step sh p (store_head l node d o) t f g
+    → Heads sh p l node d o
+heads_of sh p l node d o t f g (heads k m e n q b fl flies whole fresh leads known) =
+    record { place = k; above = q; book = b; flight = fl; flies = flies; whole = whole; fresh = fresh; leads = leads; known = known; offset = refl }

@@ -65,22 +65,26 @@ child_one h k at p s r is live a b = (child_unique (layout h.shape) is.law.base 
 pub label_none_at : (h : WorldValue) (p : Pass) (value : ℕ) → NoChildAt h p (value / 32) → NoLabel h p value
 label_none_at h p value none s named = none s (label_child h p value s named).0
 
-pub label_none_level : (h : WorldValue) (k value : ℕ) (p : Pass) (s : Spot) → IsLawfulWorld h → IsLivePass h k p → IsChildAt h p (value / 32) s → (length s.path ≡ value % 32 → ⊥) → NoLabel h p value
+pub label_none_level : (h : WorldValue) (k value : ℕ) (p : Pass) (s : Spot) → IsLawfulWorld h → IsLivePass h k p → IsChildAt h p (value / 32) s
+    → (length s.path ≡ value % 32 → ⊥) → NoLabel h p value
 label_none_level h k value p s is live child ne r named =
     let c = label_child h p value r named in
     ne (ap (λ (x : Spot). length x.path) (child_one h k (value / 32) p s r is live child c.0) ∙ c.1)
 
 -- Labels.
-pub free_within : (h : WorldValue) (k node j : ℕ) (p : Pass) (b : Book) → IsLawfulWorld h → IsLivePass h k p → IsFree h.shape.nodes p node j b → node < h.shape.writers * h.shape.nodes
+pub free_within : (h : WorldValue) (k node j : ℕ) (p : Pass) (b : Book) → IsLawfulWorld h → IsLivePass h k p → IsFree h.shape.nodes p node j b
+    → node < h.shape.writers * h.shape.nodes
 free_within h k node j p b is live free =
     let w = (bounds h k p is live).writer j b free.0 in
     let lt = mul-add-lt b.writer h.shape.nodes (length b.used) h.shape.writers w (free.1).0 in
     omega (arith, lt, (free.1).1)
 
-pub label_there : (h : WorldValue) (k node j : ℕ) (p : Pass) (b : Book) → IsLawfulWorld h → IsLivePass h k p → IsFree h.shape.nodes p node j b → place_of h.shape (label_word node) < length h.words
+pub label_there : (h : WorldValue) (k node j : ℕ) (p : Pass) (b : Book) → IsLawfulWorld h → IsLivePass h k p → IsFree h.shape.nodes p node j b
+    → place_of h.shape (label_word node) < length h.words
 label_there h k node j p b is live free = word_there h (body node 0) is (free_within h k node j p b is live free, omega arith)
 
-pub label_does : (h : WorldValue) (k at node value j : ℕ) (p after : Pass) (b : Book) (s : Spot) → IsLivePass h k p → IsFree h.shape.nodes p node j b → IsLabelOf h p value s → at ≡ place_of h.shape (label_word node) → after ≡ pass_with_book j (book_with_label value b) p
+pub label_does : (h : WorldValue) (k at node value j : ℕ) (p after : Pass) (b : Book) (s : Spot) → IsLivePass h k p → IsFree h.shape.nodes p node j b
+    → IsLabelOf h p value s → at ≡ place_of h.shape (label_word node) → after ≡ pass_with_book j (book_with_label value b) p
     → IsEvent (layout h.shape) (world_of h) k (acts (label node value)) (record { words = set h.words at value; passes = set h.passes k after })
 label_does h k at node value j p after b s live free named e is =
     let sh = layout h.shape in
@@ -88,11 +92,13 @@ label_does h k at node value j p after b s live free named e is =
     let own : free_node sh b ≡ node = (free.1).1 in
     let act : label (free_node sh b) (label_of sh s t) ≡ label node value = ap₂ label own named.2 in
     subst (λ (a : Act). IsEvent sh (world_of h) k (acts a) (record { words = set h.words at value; passes = set h.passes k after })) act
-    (does_step sh (world_of h) k p (label (free_node sh b) (label_of sh s t)) (body (free_node sh b) 0) (λ n. label_of sh s t) (λ n es. pass_with_book j (book_with_label (label_of sh s t) b) p) at value after live
+    (does_step sh (world_of h) k p (label (free_node sh b) (label_of sh s t)) (body (free_node sh b) 0) (λ n. label_of sh s t)
+        (λ n es. pass_with_book j (book_with_label (label_of sh s t) b) p) at value after live
     (labels j b s t free.0 (free.1).0 named.1) (e ∙ ap (λ (n : ℕ). place sh.sizes (body n 0)) (sym own)) (sym named.2)
     (is ∙ ap (λ (v : ℕ). pass_with_book j (book_with_label v b) p) (sym named.2)))
 
-pub label_free : (h : WorldValue) (k node value : ℕ) (p : Pass) (y : World) → IsLivePass h k p → NoneFree h.shape.nodes p node → IsEvent (layout h.shape) (world_of h) k (acts (label node value)) y → ⊥
+pub label_free : (h : WorldValue) (k node value : ℕ) (p : Pass) (y : World) → IsLivePass h k p → NoneFree h.shape.nodes p node
+    → IsEvent (layout h.shape) (world_of h) k (acts (label node value)) y → ⊥
 label_free h k node value p y live none does =
     let sh = layout h.shape in
     let A = acts_of sh (world_of h) k (label node value) y does in
@@ -100,7 +106,8 @@ label_free h k node value p y live none does =
     let same = live_one h k A.pass p A.live live in
     none r.place r.book (subst (λ (q : Pass). Holds q r.place r.book) same r.held, (r.room, r.own))
 
-pub label_named : (h : WorldValue) (k node value : ℕ) (p : Pass) (y : World) → IsLivePass h k p → NoLabel h p value → IsEvent (layout h.shape) (world_of h) k (acts (label node value)) y → ⊥
+pub label_named : (h : WorldValue) (k node value : ℕ) (p : Pass) (y : World) → IsLivePass h k p → NoLabel h p value
+    → IsEvent (layout h.shape) (world_of h) k (acts (label node value)) y → ⊥
 label_named h k node value p y live none does =
     let sh = layout h.shape in
     let A = acts_of sh (world_of h) k (label node value) y does in
@@ -113,7 +120,8 @@ pub child_word_is : (node found : ℕ) → (found ≡ 0 → ⊥) → found ≡ c
 child_word_is node zero ne = absurd (ne refl)
 child_word_is node (suc n) ne = refl
 
-pub link_does : (h : WorldValue) (k at node found left j : ℕ) (p after : Pass) (b : Book) (s : Spot) → IsLivePass h k p → IsFree h.shape.nodes p node j b → IsChildAt h p at s → b.label ≡ 32 * at + length s.path → found ≡ get_or h.words at 0 → left ≡ child_word node found
+pub link_does : (h : WorldValue) (k at node found left j : ℕ) (p after : Pass) (b : Book) (s : Spot) → IsLivePass h k p → IsFree h.shape.nodes p node j b
+    → IsChildAt h p at s → b.label ≡ 32 * at + length s.path → found ≡ get_or h.words at 0 → left ≡ child_word node found
     → after ≡ pass_with_link j b s node p found
     → IsEvent (layout h.shape) (world_of h) k (acts (link at node)) (record { words = set h.words at left; passes = set h.passes k after })
 link_does h k at node found left j p after b s live free child stored v change is =
@@ -124,24 +132,29 @@ link_does h k at node found left j p after b s live free child stored v change i
     let act : link (place sh.sizes t) (free_node sh b) ≡ link at node = ap₂ link child.2 own in
     let same_label : b.label ≡ label_of sh s t = (let e = child.2 in omega (arith, stored, e)) in
     subst (λ (a : Act). IsEvent sh (world_of h) k (acts a) (record { words = set h.words at left; passes = set h.passes k after })) act
-    (does_step sh (world_of h) k p (link (place sh.sizes t) (free_node sh b)) t (λ n. child_word (free_node sh b) n) (λ n es. pass_with_link j b s (free_node sh b) p n) at left after live
+    (does_step sh (world_of h) k p (link (place sh.sizes t) (free_node sh b)) t (λ n. child_word (free_node sh b) n)
+        (λ n es. pass_with_link j b s (free_node sh b) p n) at left after live
     (links j b s t free.0 (free.1).0 child.1 same_label) (sym child.2) (change ∙ ap₂ child_word (sym own) word)
     (is ∙ ap₂ (λ (m n : ℕ). pass_with_link j b s m p n) (sym own) word))
 
 -- what a link asked for
-links_there : (h : WorldValue) (k at node : ℕ) (p : Pass) (y : World) → IsLivePass h k p → IsEvent (layout h.shape) (world_of h) k (acts (link at node)) y → Links (layout h.shape) p at node
+links_there : (h : WorldValue) (k at node : ℕ) (p : Pass) (y : World) → IsLivePass h k p → IsEvent (layout h.shape) (world_of h) k (acts (link at node)) y
+    → Links (layout h.shape) p at node
 links_there h k at node p y live does =
     let sh = layout h.shape in
     let A = acts_of sh (world_of h) k (link at node) y does in
     subst (λ (q : Pass). Links sh q at node) (live_one h k A.pass p A.live live) (links_of sh A.pass at node A.slot A.change A.after A.step)
 
-pub link_free : (h : WorldValue) (k at node : ℕ) (p : Pass) (y : World) → IsLivePass h k p → NoneFree h.shape.nodes p node → IsEvent (layout h.shape) (world_of h) k (acts (link at node)) y → ⊥
+pub link_free : (h : WorldValue) (k at node : ℕ) (p : Pass) (y : World) → IsLivePass h k p → NoneFree h.shape.nodes p node
+    → IsEvent (layout h.shape) (world_of h) k (acts (link at node)) y → ⊥
 link_free h k at node p y live none does = let r = links_there h k at node p y live does in none r.book_at r.book (r.held, (r.room, r.own))
 
-pub link_child : (h : WorldValue) (k at node : ℕ) (p : Pass) (y : World) → IsLivePass h k p → NoChildAt h p at → IsEvent (layout h.shape) (world_of h) k (acts (link at node)) y → ⊥
+pub link_child : (h : WorldValue) (k at node : ℕ) (p : Pass) (y : World) → IsLivePass h k p → NoChildAt h p at
+    → IsEvent (layout h.shape) (world_of h) k (acts (link at node)) y → ⊥
 link_child h k at node p y live none does = let r = links_there h k at node p y live does in none r.spot (r.slot, r.child, r.stands)
 
-pub link_label : (h : WorldValue) (k at node j : ℕ) (p : Pass) (b : Book) (s : Spot) (y : World) → IsLawfulWorld h → IsLivePass h k p → IsFree h.shape.nodes p node j b → IsChildAt h p at s → IsEvent (layout h.shape) (world_of h) k (acts (link at node)) y → b.label ≡ 32 * at + length s.path
+pub link_label : (h : WorldValue) (k at node j : ℕ) (p : Pass) (b : Book) (s : Spot) (y : World) → IsLawfulWorld h → IsLivePass h k p
+    → IsFree h.shape.nodes p node j b → IsChildAt h p at s → IsEvent (layout h.shape) (world_of h) k (acts (link at node)) y → b.label ≡ 32 * at + length s.path
 link_label h k at node j p b s y is live free child does =
     let sh = layout h.shape in
     let r = links_there h k at node p y live does in

@@ -22,23 +22,30 @@ use Rattle.cf_core.specs.Worlds.{WorldValue, IsLawfulWorld, Answers, NoPass, IsL
 use Rattle.cf_core.proofs.Inverse.{acts_of, looks_of, loads_of}
 
 -- a step by the place, the value and the pass that it leaves
-pub does_step : (sh : Layout) (x : World) (k : ℕ) (p : Pass) (a : Act) (t : Slot) (f : ℕ → ℕ) (g : ℕ → List Entry → Pass) (at value : ℕ) (after : Pass) → IsLive x k p → Step sh p a t f g → at ≡ place sh.sizes t → value ≡ f (word_at sh x.words t)
+pub does_step : (sh : Layout) (x : World) (k : ℕ) (p : Pass) (a : Act) (t : Slot) (f : ℕ → ℕ) (g : ℕ → List Entry → Pass) (at value : ℕ) (after : Pass)
+    → IsLive x k p → Step sh p a t f g → at ≡ place sh.sizes t → value ≡ f (word_at sh x.words t)
     → after ≡ g (word_at sh x.words t) (entries_spelled sh (set x.words at value) (word_at sh (set x.words at value) (tail 1)))
     → IsEvent sh x k (acts a) (record { words = set x.words at value; passes = set x.passes k after })
 does_step sh x k p a t f g at value after live step e v h =
     let words : set x.words at value ≡ set x.words (place sh.sizes t) (f (word_at sh x.words t)) = ap₂ (set x.words) e v in
-    let pass : after ≡ g (word_at sh x.words t) (entries_spelled sh (set x.words (place sh.sizes t) (f (word_at sh x.words t))) (word_at sh (set x.words (place sh.sizes t) (f (word_at sh x.words t))) (tail 1))) = h ∙ ap (λ (ws : List ℕ). g (word_at sh x.words t) (entries_spelled sh ws (word_at sh ws (tail 1)))) words in
-    let same : ◌≡◌ {A = World} (record { words = set x.words at value; passes = set x.passes k after }) _ = ap₂ (λ (ws : List ℕ) (q : Pass). record { words = ws; passes = set x.passes k q }) words pass in
+    let pass : after ≡ g (word_at sh x.words t)
+        (entries_spelled sh (set x.words (place sh.sizes t) (f (word_at sh x.words t)))
+        (word_at sh (set x.words (place sh.sizes t) (f (word_at sh x.words t))) (tail 1))) = h
+        ∙ ap (λ (ws : List ℕ). g (word_at sh x.words t) (entries_spelled sh ws (word_at sh ws (tail 1)))) words in
+    let same : ◌≡◌ {A = World} (record { words = set x.words at value; passes = set x.passes k after }) _ =
+        ap₂ (λ (ws : List ℕ) (q : Pass). record { words = ws; passes = set x.passes k q }) words pass in
     subst (IsEvent sh x k (acts a)) (sym same) (steps p a t f g live step)
 
-pub made_lawful : (h : WorldValue) (k : ℕ) (e : WorldEvent) (y : World) → IsLawfulWorld h → IsEvent (layout h.shape) (world_of h) k e y → Lawful (layout h.shape) y.words y.passes
+pub made_lawful : (h : WorldValue) (k : ℕ) (e : WorldEvent) (y : World) → IsLawfulWorld h → IsEvent (layout h.shape) (world_of h) k e y
+    → Lawful (layout h.shape) y.words y.passes
 made_lawful h k e y is does = kept (layout h.shape) (world_of h) k e y (layout_law h.shape is.shape) is.law does
 
 -- the answers
 abbrev pub with : WorldValue → List ℕ → List Pass → WorldValue
 with h words passes = record { shape = h.shape; words = words; passes = passes }
 
-pub made : (h new : WorldValue) (k : ℕ) (e : WorldEvent) (words : List ℕ) (passes : List Pass) → new ≡ with h words passes → IsEvent (layout h.shape) (world_of h) k e (record { words = words; passes = passes }) → Answers h k e new true
+pub made : (h new : WorldValue) (k : ℕ) (e : WorldEvent) (words : List ℕ) (passes : List Pass) → new ≡ with h words passes
+    → IsEvent (layout h.shape) (world_of h) k e (record { words = words; passes = passes }) → Answers h k e new true
 made h new k e words passes is does = subst (λ (n : WorldValue). Answers h k e n true) (sym is) (does, refl)
 
 pub live_one : (h : WorldValue) (k : ℕ) (p q : Pass) → IsLivePass h k p → IsLivePass h k q → p ≡ q
@@ -48,32 +55,39 @@ pub none_live : (h : WorldValue) (k : ℕ) (a : Act) (y : World) → NoPass h k 
 none_live h k a y none does = let A = acts_of (layout h.shape) (world_of h) k a y does in none A.pass A.live
 
 pub word_there : (h : WorldValue) (t : Slot) → IsLawfulWorld h → IsReal (layout h.shape).sizes t → place (layout h.shape).sizes t < length h.words
-word_there h t is real = let w = place_within (layout h.shape).sizes t real in let m = is.law.base in let size = is.law.stands.law.size in omega (arith, w, size, ap (length {A = ℕ}) is.law.spelled)
+word_there h t is real = let w = place_within (layout h.shape).sizes t real in let m = is.law.base in let size = is.law.stands.law.size in
+    omega (arith, w, size, ap (length {A = ℕ}) is.law.spelled)
 
 pub pass_there : (h : WorldValue) (k : ℕ) (p : Pass) → IsLivePass h k p → k < length h.passes
 pass_there h k p live = slice_get_within h.passes k p live.0
 
 -- Looks.
-pub look_does : (h : WorldValue) (k offset at i found : ℕ) (p after : Pass) → IsLivePass h k p → offset < h.shape.capacity → suc i ≡ ticket_words h.shape → at ≡ place (layout h.shape).sizes (cell offset i) → found ≡ get_or h.words at 0 → after ≡ pass_with_look at found p
+pub look_does : (h : WorldValue) (k offset at i found : ℕ) (p after : Pass) → IsLivePass h k p → offset < h.shape.capacity → suc i ≡ ticket_words h.shape
+    → at ≡ place (layout h.shape).sizes (cell offset i) → found ≡ get_or h.words at 0 → after ≡ pass_with_look at found p
     → IsEvent (layout h.shape) (world_of h) k (acts (look_done offset)) (record { words = set h.words at found; passes = set h.passes k after })
 look_does h k offset at i found p after live lt last e v is =
     let sh = layout h.shape in
     let word : found ≡ word_at sh h.words (cell offset i) = v ∙ ap (λ (n : ℕ). get_or h.words n 0) e in
-    does_step sh (world_of h) k p (look_done offset) (cell offset i) (λ n. n) (λ n es. pass_with_look (place sh.sizes (cell offset i)) n p) at found after live (looks_done offset i lt last) e word
+    does_step sh (world_of h) k p (look_done offset) (cell offset i) (λ n. n) (λ n es. pass_with_look (place sh.sizes (cell offset i)) n p) at found after live
+        (looks_done offset i lt last) e word
     (is ∙ ap₂ (λ (a b : ℕ). pass_with_look a b p) e word)
 
 pub look_only : (h : WorldValue) (k offset : ℕ) (y : World) → IsEvent (layout h.shape) (world_of h) k (acts (look_done offset)) y → offset < h.shape.capacity
-look_only h k offset y does = let A = acts_of (layout h.shape) (world_of h) k (look_done offset) y does in looks_of (layout h.shape) A.pass offset A.slot A.change A.after A.step
+look_only h k offset y does = let A = acts_of (layout h.shape) (world_of h) k (look_done offset) y does in
+    looks_of (layout h.shape) A.pass offset A.slot A.change A.after A.step
 
-pub load_does : (h : WorldValue) (k offset at i found : ℕ) (p after : Pass) → IsLivePass h k p → offset < length p.seen → i < ticket_words h.shape → at ≡ place (layout h.shape).sizes (cell offset i) → found ≡ get_or h.words at 0 → after ≡ pass_with_look at found p
+pub load_does : (h : WorldValue) (k offset at i found : ℕ) (p after : Pass) → IsLivePass h k p → offset < length p.seen → i < ticket_words h.shape
+    → at ≡ place (layout h.shape).sizes (cell offset i) → found ≡ get_or h.words at 0 → after ≡ pass_with_look at found p
     → IsEvent (layout h.shape) (world_of h) k (acts (load_word offset i)) (record { words = set h.words at found; passes = set h.passes k after })
 load_does h k offset at i found p after live seen lt e v is =
     let sh = layout h.shape in
     let word : found ≡ word_at sh h.words (cell offset i) = v ∙ ap (λ (n : ℕ). get_or h.words n 0) e in
-    does_step sh (world_of h) k p (load_word offset i) (cell offset i) (λ n. n) (λ n es. pass_with_look (place sh.sizes (cell offset i)) n p) at found after live (loads_word offset i seen lt) e word
+    does_step sh (world_of h) k p (load_word offset i) (cell offset i) (λ n. n)
+        (λ n es. pass_with_look (place sh.sizes (cell offset i)) n p) at found after live (loads_word offset i seen lt) e word
     (is ∙ ap₂ (λ (a b : ℕ). pass_with_look a b p) e word)
 
-pub load_only : (h : WorldValue) (k offset i : ℕ) (p : Pass) (y : World) → IsLivePass h k p → IsEvent (layout h.shape) (world_of h) k (acts (load_word offset i)) y → (offset < length p.seen) × (i < ticket_words h.shape)
+pub load_only : (h : WorldValue) (k offset i : ℕ) (p : Pass) (y : World) → IsLivePass h k p
+    → IsEvent (layout h.shape) (world_of h) k (acts (load_word offset i)) y → (offset < length p.seen) × (i < ticket_words h.shape)
 load_only h k offset i p y live does =
     let A = acts_of (layout h.shape) (world_of h) k (load_word offset i) y does in
     let r = loads_of (layout h.shape) A.pass offset i A.slot A.change A.after A.step in
@@ -81,4 +95,5 @@ load_only h k offset i p y live does =
 
 -- what was seen is within the table
 pub seen_within : (h : WorldValue) (k : ℕ) (p : Pass) → IsLawfulWorld h → IsLivePass h k p → length p.seen ≤ h.shape.capacity
-seen_within h k p is live = let m = is.law.base in let S = is.law.stands in let a = (S.knows k p live.0).within in let b = S.law.covered in let c = S.law.room in omega (arith, a, b, c)
+seen_within h k p is live = let m = is.law.base in let S = is.law.stands in let a = (S.knows k p live.0).within in let b = S.law.covered in let c =
+    S.law.room in omega (arith, a, b, c)

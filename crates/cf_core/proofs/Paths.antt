@@ -26,7 +26,8 @@ count_take : (xs : List Lane) (l : ℕ) → l < length xs → cell_count (take (
 count_take [] l lt = absurd (omega arith)
 count_take (x ∷ xs) zero lt = omega (arith, count_cons x [], count_none)
 count_take (x ∷ xs) (suc l) lt =
-    let e : cell_count (take (suc l + 1) (x ∷ xs)) ≡ cell_words x + cell_count (take (l + 1) xs) = ap (λ (n : ℕ). cell_count (take n (x ∷ xs))) (let f : suc l + 1 ≡ suc (l + 1) = omega arith in f) ∙ count_cons x (take (l + 1) xs) in
+    let e : cell_count (take (suc l + 1) (x ∷ xs)) ≡ cell_words x + cell_count (take (l + 1) xs) =
+        ap (λ (n : ℕ). cell_count (take n (x ∷ xs))) (let f : suc l + 1 ≡ suc (l + 1) = omega arith in f) ∙ count_cons x (take (l + 1) xs) in
     let w : cell_words (get_or (x ∷ xs) (suc l) no_lane) ≡ cell_words (get_or xs l no_lane) = refl in
     omega (arith, e, w, count_cons x (take l xs), count_take xs l (omega arith))
 
@@ -66,7 +67,8 @@ pub any_passed : (s : ShapeValue) (t : Ticket) (i : ℕ) → Skips (layout s) t 
 any_passed s t i h = skips_any (layout s) t (draft t.row 0) (use_at s i) refl h
 
 -- the next word, and the whole ticket
-pub next_is : (s : ShapeValue) (row : RowValue) (filled i : ℕ) → suc i < ticket_words s → filled ≤ i → (IsPassed s row i → ⊥) → ArePassed s row filled i → IsNext (layout s) (draft row filled) i
+pub next_is : (s : ShapeValue) (row : RowValue) (filled i : ℕ) → suc i < ticket_words s → filled ≤ i → (IsPassed s row i → ⊥) → ArePassed s row filled i
+    → IsNext (layout s) (draft row filled) i
 next_is s row filled i lt le wanted passed = record {
   from = le;
   skipped = λ k ge low. passed_any s (draft row filled) k (passed k ge low);
@@ -74,13 +76,17 @@ next_is s row filled i lt le wanted passed = record {
   within = lt;
 }
 
-pub next_only : (s : ShapeValue) (row : RowValue) (filled i : ℕ) → IsNext (layout s) (draft row filled) i → (suc i < ticket_words s) × (filled ≤ i) × (IsPassed s row i → ⊥) × ArePassed s row filled i
-next_only s row filled i next = (next.within, next.from, λ h. next.wanted (passed_any s (draft row filled) i h), λ k ge low. any_passed s (draft row filled) k (next.skipped k ge low))
+pub next_only : (s : ShapeValue) (row : RowValue) (filled i : ℕ) → IsNext (layout s) (draft row filled) i → (suc i < ticket_words s) × (filled ≤ i)
+    × (IsPassed s row i → ⊥) × ArePassed s row filled i
+next_only s row filled i next =
+    (next.within, next.from, λ h. next.wanted (passed_any s (draft row filled) i h), λ k ge low. any_passed s (draft row filled) k (next.skipped k ge low))
 
-pub whole_is : (s : ShapeValue) (row : RowValue) (filled last : ℕ) → suc last ≡ ticket_words s → ArePassed s row filled last → IsWhole (layout s) (draft row filled)
+pub whole_is : (s : ShapeValue) (row : RowValue) (filled last : ℕ) → suc last ≡ ticket_words s → ArePassed s row filled last
+    → IsWhole (layout s) (draft row filled)
 whole_is s row filled last e passed k ge lt = passed_any s (draft row filled) k (passed k ge (omega arith))
 
-pub whole_only : (s : ShapeValue) (row : RowValue) (filled last : ℕ) → suc last ≡ ticket_words s → IsWhole (layout s) (draft row filled) → ArePassed s row filled last
+pub whole_only : (s : ShapeValue) (row : RowValue) (filled last : ℕ) → suc last ≡ ticket_words s → IsWhole (layout s) (draft row filled)
+    → ArePassed s row filled last
 whole_only s row filled last e whole k ge lt = any_passed s (draft row filled) k (whole k ge (omega arith))
 
 -- the same of any ticket of the row that is filled so far
@@ -122,7 +128,8 @@ pub nibbles_none : (k : ℕ) → nibbles 0 k ≡ []
 unfolding nibbles
 nibbles_none k = refl
 
-pub nibbles_step : (n i k : ℕ) (path : List ℕ) → i < n → path ++ nibbles (n - i) k ≡ (path ++ Rattle.std.proofs.Common.◌%◌ k 16 ∷ []) ++ nibbles (n - (i + 1)) (Rattle.std.proofs.Common.◌/◌ k 16)
+pub nibbles_step : (n i k : ℕ) (path : List ℕ) → i < n
+    → path ++ nibbles (n - i) k ≡ (path ++ Rattle.std.proofs.Common.◌%◌ k 16 ∷ []) ++ nibbles (n - (i + 1)) (Rattle.std.proofs.Common.◌/◌ k 16)
 nibbles_step n i k path lt =
     let e : n - i ≡ suc (n - (i + 1)) = omega arith in
     ap (λ (m : ℕ). path ++ nibbles m k) e ∙ (ap (λ (q : List ℕ). path ++ q) (nibbles_more (n - (i + 1)) k)

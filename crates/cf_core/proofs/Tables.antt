@@ -39,7 +39,8 @@ table_get {A = A} f (suc n) i d lt = ap (λ (xs : List A). get_or xs i d) (table
 
 pub table_same : {A : Type 0} (f g : ℕ → A) (n : ℕ) → ((i : ℕ) → i < n → f i ≡ g i) → tabulated f n ≡ tabulated g n
 table_same f g zero h = table_none f ∙ sym (table_none g)
-table_same {A = A} f g (suc n) h = table_more f n ∙ (ap₂ (λ (xs : List A) (x : A). xs ++ x ∷ []) (table_same f g n (λ i lt. h i (omega arith))) (h n (omega arith)) ∙ sym (table_more g n))
+table_same {A = A} f g (suc n) h = table_more f n
+    ∙ (ap₂ (λ (xs : List A) (x : A). xs ++ x ∷ []) (table_same f g n (λ i lt. h i (omega arith))) (h n (omega arith)) ∙ sym (table_more g n))
 
 pub table_take : {A : Type 0} (f : ℕ → A) (n m : ℕ) → n ≤ m → take n (tabulated f m) ≡ tabulated f n
 table_take f n zero le = take_all n (tabulated f 0) (omega (arith, table_long f 0)) ∙ ap (tabulated f) (let e : zero ≡ n = omega arith in e)
@@ -53,16 +54,22 @@ place_cell : (sh : Layout) (o i : ℕ) → place sh.sizes (cell o i) ≡ 2 + (o 
 unfolding place
 place_cell sh o i = refl
 
-pub plain_range : (sh : Layout) (words : List ℕ) (o n : ℕ) → place sh.sizes (cell o 0) + n ≤ length words → tabulated (λ i. word_at sh words (cell o i)) n ≡ take n (drop (place sh.sizes (cell o 0)) words)
+pub plain_range : (sh : Layout) (words : List ℕ) (o n : ℕ) → place sh.sizes (cell o 0) + n ≤ length words
+    → tabulated (λ i. word_at sh words (cell o i)) n ≡ take n (drop (place sh.sizes (cell o 0)) words)
 plain_range sh words o n le =
     let f = λ (i : ℕ). word_at sh words (cell o i) in
     let start = place sh.sizes (cell o 0) in
-    let long : length (take n (drop start words)) ≡ n = Rattle.std.proofs.lemmas.List.length-take-le n (drop start words) (omega (arith, Rattle.std.proofs.Common.length-drop start words)) in
+    let long : length (take n (drop start words)) ≡ n =
+        Rattle.std.proofs.lemmas.List.length-take-le n (drop start words) (omega (arith, Rattle.std.proofs.Common.length-drop start words)) in
     ext_get_or 0 (tabulated f n) (take n (drop start words)) (table_long f n ∙ sym long)
     (λ i lt. let small : i < n = omega (arith, table_long f n) in
-    table_get f n i 0 small ∙ sym (get_or-take n (drop start words) i 0 small ∙ (get_or-drop start words i 0 ∙ ap (λ (k : ℕ). get_or words k 0) (let e : start + i ≡ place sh.sizes (cell o i) = omega (arith, place_cell sh o 0, place_cell sh o i) in e))))
+    table_get f n i 0 small
+        ∙ sym (get_or-take n (drop start words) i 0 small
+        ∙ (get_or-drop start words i 0
+        ∙ ap (λ (k : ℕ). get_or words k 0) (let e : start + i ≡ place sh.sizes (cell o i) = omega (arith, place_cell sh o 0, place_cell sh o i) in e))))
 
-pub plain_room : (h : WorldValue) (o : ℕ) → IsLawfulWorld h → o < h.shape.capacity → place (layout h.shape).sizes (cell o 0) + (word_count h.shape.schema + 1) ≤ length h.words
+pub plain_room : (h : WorldValue) (o : ℕ) → IsLawfulWorld h → o < h.shape.capacity
+    → place (layout h.shape).sizes (cell o 0) + (word_count h.shape.schema + 1) ≤ length h.words
 plain_room h o is lt =
     let w = word_there h (cell o (word_count h.shape.schema)) is (lt, omega arith) in
     omega (arith, w, place_cell (layout h.shape) o 0, place_cell (layout h.shape) o (word_count h.shape.schema))
@@ -73,10 +80,12 @@ plain_kept sh words v o = table_same (λ i. word_at sh (set words 1 v) (cell o i
     (λ i lt. get_or-set_other words 1 (place sh.sizes (cell o i)) v 0 (λ e. omega (arith, e, place_cell sh o i)))
 
 pub spelt_kept : (sh : Layout) (words : List ℕ) (v n : ℕ) → entries_spelled sh (set words 1 v) n ≡ entries_spelled sh words n
-spelt_kept sh words v n = table_same (λ o. sh.reads (plain_at sh (set words 1 v) o)) (λ o. sh.reads (plain_at sh words o)) n (λ o lt. ap sh.reads (plain_kept sh words v o))
+spelt_kept sh words v n =
+    table_same (λ o. sh.reads (plain_at sh (set words 1 v) o)) (λ o. sh.reads (plain_at sh words o)) n (λ o lt. ap sh.reads (plain_kept sh words v o))
 
 -- the words of a finished ticket are those of an entry
-pub done_spelled : (h : WorldValue) (o : ℕ) → IsLawfulWorld h → (is : IsLawfulWorld h) → DoneAt is.law.base.log o → AreSpelled h.shape.schema (plain_at (layout h.shape) h.words o)
+pub done_spelled : (h : WorldValue) (o : ℕ) → IsLawfulWorld h → (is : IsLawfulWorld h) → DoneAt is.law.base.log o
+    → AreSpelled h.shape.schema (plain_at (layout h.shape) h.words o)
 done_spelled h o again is done =
     let m = is.law.base in
     let L = is.law.stands.law in
@@ -86,11 +95,13 @@ done_spelled h o again is done =
     let few = is.shape.writers in record {
       entry = entry t.writer t.row;
       lawful = record { fits = f.0; num = ltb-true (t.row).num 4294967296 f.1; writer = omega (arith, w, few.1) };
-      spells = ap (λ (ws : List ℕ). plain_at (layout h.shape) ws o) (sym is.law.spelled) ∙ plain_spells (layout h.shape) m o t (layout_law h.shape is.shape) L done.1 done.2;
+      spells = ap (λ (ws : List ℕ). plain_at (layout h.shape) ws o) (sym is.law.spelled)
+          ∙ plain_spells (layout h.shape) m o t (layout_law h.shape is.shape) L done.1 done.2;
     }
 
 tail_of : (h : WorldValue) → (is : IsLawfulWorld h) → get_or h.words 1 0 ≡ is.law.base.tails.1
-tail_of h is = ap (λ (k : ℕ). get_or h.words k 0) (sym (place_tail (layout h.shape).sizes 1)) ∙ (ap (λ (ws : List ℕ). word_at (layout h.shape) ws (tail 1)) (sym is.law.spelled) ∙ tail_is (layout h.shape) is.law.base 1 is.law.stands.law (omega arith))
+tail_of h is = ap (λ (k : ℕ). get_or h.words k 0) (sym (place_tail (layout h.shape).sizes 1))
+    ∙ (ap (λ (ws : List ℕ). word_at (layout h.shape) ws (tail 1)) (sym is.law.spelled) ∙ tail_is (layout h.shape) is.law.base 1 is.law.stands.law (omega arith))
 
 pub tail_there : (h : WorldValue) → IsLawfulWorld h → 1 < length h.words
 tail_there h is = let w = word_there h (tail 1) is (omega arith) in omega (arith, w, place_tail (layout h.shape).sizes 1)
@@ -109,14 +120,16 @@ pub tail_readable : (h : WorldValue) → IsLawfulWorld h → AreReadable h (get_
 tail_readable h is o lt = done_spelled h o is is (done_below h is o (omega (arith, lt, tail_of h is)))
 
 -- Loads of the read tail.
-pub tail_does : (h : WorldValue) (k found : ℕ) (asked : Bool) (p after : Pass) (es : List Entry) → IsLawfulWorld h → IsLivePass h k p → found ≡ get_or h.words 1 0 → es ≡ entries_spelled (layout h.shape) h.words found → after ≡ pass_with_tail asked found es p
+pub tail_does : (h : WorldValue) (k found : ℕ) (asked : Bool) (p after : Pass) (es : List Entry) → IsLawfulWorld h → IsLivePass h k p
+    → found ≡ get_or h.words 1 0 → es ≡ entries_spelled (layout h.shape) h.words found → after ≡ pass_with_tail asked found es p
     → IsEvent (layout h.shape) (world_of h) k (acts (load_tail asked)) (record { words = set h.words 1 found; passes = set h.passes k after })
 tail_does h k found asked p after es is live v spelled is_after =
     let sh = layout h.shape in
     let one = place_tail sh.sizes 1 in
     let word : found ≡ word_at sh h.words (tail 1) = v ∙ ap (λ (n : ℕ). get_or h.words n 0) (sym one) in
     let same : set h.words 1 found ≡ h.words = ap (set h.words 1) v ∙ set-get_or h.words 1 0 in
-    let entries : entries_spelled sh (set h.words 1 found) (word_at sh (set h.words 1 found) (tail 1)) ≡ es = ap (λ (ws : List ℕ). entries_spelled sh ws (word_at sh ws (tail 1))) same ∙ (ap (entries_spelled sh h.words) (sym word) ∙ sym spelled) in
+    let entries : entries_spelled sh (set h.words 1 found) (word_at sh (set h.words 1 found) (tail 1)) ≡ es =
+        ap (λ (ws : List ℕ). entries_spelled sh ws (word_at sh ws (tail 1))) same ∙ (ap (entries_spelled sh h.words) (sym word) ∙ sym spelled) in
     does_step sh (world_of h) k p (load_tail asked) (tail 1) (λ n. n) (λ n xs. pass_with_tail asked n xs p) 1 found after live (loads_tail asked) (sym one) word
     (is_after ∙ ap₂ (λ (n : ℕ) (xs : List Entry). pass_with_tail asked n xs p) word (sym entries))
 
@@ -124,8 +137,10 @@ tail_does h k found asked p after es is live v spelled is_after =
 sees_same : (n : ℕ) (xs ys : List Entry) (p : Pass) → take n xs ≡ take n ys → pass_that_sees n xs p ≡ pass_that_sees n ys p
 sees_same n xs ys p e = ap (λ (zs : List Entry). cond (nat_lt (length p.seen) n) (record p { seen = zs; cursor = None }) p) e
 
-pub advance_does : (h : WorldValue) (k t at i tail_found left : ℕ) (p after : Pass) (es : List Entry) → IsLawfulWorld h → IsLivePass h k p → t ≤ length p.seen → t < h.shape.capacity → suc i ≡ (layout h.shape).sizes.ticket_words → at ≡ place (layout h.shape).sizes (cell t i) → p.look.word ≡ at → p.look.value ≡ 1
-    → tail_found ≡ get_or h.words 1 0 → left ≡ cond (tail_found == t) (t + 1) tail_found → es ≡ entries_spelled (layout h.shape) h.words (t + 1) → after ≡ pass_that_sees (t + 1) es p
+pub advance_does : (h : WorldValue) (k t at i tail_found left : ℕ) (p after : Pass) (es : List Entry) → IsLawfulWorld h → IsLivePass h k p → t ≤ length p.seen
+    → t < h.shape.capacity → suc i ≡ (layout h.shape).sizes.ticket_words → at ≡ place (layout h.shape).sizes (cell t i) → p.look.word ≡ at → p.look.value ≡ 1
+    → tail_found ≡ get_or h.words 1 0 → left ≡ cond (tail_found == t) (t + 1) tail_found → es ≡ entries_spelled (layout h.shape) h.words (t + 1)
+        → after ≡ pass_that_sees (t + 1) es p
     → IsEvent (layout h.shape) (world_of h) k (acts (advance t)) (record { words = set h.words 1 left; passes = set h.passes k after })
 advance_does h k t at i found left p after es is live seen lt last where_is word value v change spelled is_after =
     let sh = layout h.shape in
@@ -133,14 +148,18 @@ advance_does h k t at i found left p after es is live seen lt last where_is word
     let one = place_tail sh.sizes 1 in
     let tail_word : found ≡ word_at sh h.words (tail 1) = v ∙ ap (λ (n : ℕ). get_or h.words n 0) (sym one) in
     let next : t + 1 ≡ suc t = omega arith in
-    let change' : left ≡ cond (word_at sh h.words (tail 1) == t) (suc t) (word_at sh h.words (tail 1)) = change ∙ (ap (λ (n : ℕ). cond (found == t) n found) next ∙ ap (λ (n : ℕ). cond (n == t) (suc t) n) tail_word) in
+    let change' : left ≡ cond (word_at sh h.words (tail 1) == t) (suc t) (word_at sh h.words (tail 1)) = change
+        ∙ (ap (λ (n : ℕ). cond (found == t) n found) next ∙ ap (λ (n : ℕ). cond (n == t) (suc t) n) tail_word) in
     let more : suc t ≤ left = reached found left change (let w = (is.law.stands.knows k p live.0).within in omega (arith, w, seen, v, tail_of h is)) in
-    let left_word : word_at sh (set h.words 1 left) (tail 1) ≡ left = ap (λ (n : ℕ). get_or (set h.words 1 left) n 0) one ∙ Rattle.std.proofs.lemmas.List.get_or-set_same h.words 1 left 0 (tail_there h is) in
+    let left_word : word_at sh (set h.words 1 left) (tail 1) ≡ left = ap (λ (n : ℕ). get_or (set h.words 1 left) n 0) one
+        ∙ Rattle.std.proofs.lemmas.List.get_or-set_same h.words 1 left 0 (tail_there h is) in
     let there : take (suc t) (entries_spelled sh (set h.words 1 left) (word_at sh (set h.words 1 left) (tail 1))) ≡ entries_spelled sh h.words (suc t) =
-    ap (λ (n : ℕ). take (suc t) (entries_spelled sh (set h.words 1 left) n)) left_word ∙ (ap (take (suc t)) (spelt_kept sh h.words left left) ∙ table_take (λ o. sh.reads (plain_at sh h.words o)) (suc t) left more) in
+    ap (λ (n : ℕ). take (suc t) (entries_spelled sh (set h.words 1 left) n)) left_word
+        ∙ (ap (take (suc t)) (spelt_kept sh h.words left left) ∙ table_take (λ o. sh.reads (plain_at sh h.words o)) (suc t) left more) in
     let here : take (suc t) es ≡ entries_spelled sh h.words (suc t) =
     ap (take (suc t)) (spelled ∙ ap (entries_spelled sh h.words) next) ∙ table_take (λ o. sh.reads (plain_at sh h.words o)) (suc t) (suc t) (omega arith) in
-    does_step sh (world_of h) k p (advance t) (tail 1) (λ n. cond (n == t) (suc t) n) (λ n xs. pass_that_sees (suc t) xs p) 1 left after live (advances t i seen lt last (word ∙ where_is) value) (sym one) change'
+    does_step sh (world_of h) k p (advance t) (tail 1) (λ n. cond (n == t) (suc t) n) (λ n xs. pass_that_sees (suc t) xs p) 1 left after live
+        (advances t i seen lt last (word ∙ where_is) value) (sym one) change'
     (is_after ∙ (ap (λ (n : ℕ). pass_that_sees n es p) next ∙ sees_same (suc t) es _ p (here ∙ sym there)))
   where
     reached : (n l : ℕ) → l ≡ cond (n == t) (t + 1) n → t ≤ n → suc t ≤ l
@@ -150,20 +169,23 @@ advance_does h k t at i found left p after es is live seen lt last where_is word
     ]
 
 -- the places up to t are readable where the last look found t's done word 1
-pub look_readable : (h : WorldValue) (k t at i : ℕ) (p : Pass) → IsLawfulWorld h → IsLivePass h k p → t ≤ length p.seen → t < h.shape.capacity → suc i ≡ (layout h.shape).sizes.ticket_words → at ≡ place (layout h.shape).sizes (cell t i) → p.look.word ≡ at → p.look.value ≡ 1 → AreReadable h (t + 1)
+pub look_readable : (h : WorldValue) (k t at i : ℕ) (p : Pass) → IsLawfulWorld h → IsLivePass h k p → t ≤ length p.seen → t < h.shape.capacity
+    → suc i ≡ (layout h.shape).sizes.ticket_words → at ≡ place (layout h.shape).sizes (cell t i) → p.look.word ≡ at → p.look.value ≡ 1 → AreReadable h (t + 1)
 look_readable h k t at i p is live seen lt last where_is word value o low = elim (cases_eq o t) [
   | inl e ↦ done_spelled h o is is (subst (DoneAt is.law.base.log) (sym e) ((is.law.stands.knows k p live.0).look t i lt last (word ∙ where_is) value))
   | inr ne ↦ done_spelled h o is is (done_below h is o (let w = (is.law.stands.knows k p live.0).within in omega (arith, w, seen, low)))
 ]
 
 pub advance_only : (h : WorldValue) (k t : ℕ) (p : Pass) (y : World) → IsLivePass h k p → IsEvent (layout h.shape) (world_of h) k (acts (advance t)) y
-    → (t ≤ length p.seen) × (t < h.shape.capacity) × ((i : ℕ) → suc i ≡ (layout h.shape).sizes.ticket_words → p.look.word ≡ place (layout h.shape).sizes (cell t i)) × (p.look.value ≡ 1)
+    → (t ≤ length p.seen) × (t < h.shape.capacity)
+        × ((i : ℕ) → suc i ≡ (layout h.shape).sizes.ticket_words → p.look.word ≡ place (layout h.shape).sizes (cell t i)) × (p.look.value ≡ 1)
 advance_only h k t p y live does =
     let A = acts_of (layout h.shape) (world_of h) k (advance t) y does in
     let r = advances_of (layout h.shape) A.pass t A.slot A.change A.after A.step in
     let same = live_one h k A.pass p A.live live in (
       subst (λ (q : Pass). t ≤ length q.seen) same r.seen,
       r.within,
-      λ i last. subst (λ (q : Pass). q.look.word ≡ place (layout h.shape).sizes (cell t i)) same (r.word ∙ ap (λ (j : ℕ). place (layout h.shape).sizes (cell t j)) (let a = r.is_last in let e : r.last ≡ i = omega (arith, a) in e)),
+      λ i last. subst (λ (q : Pass). q.look.word ≡ place (layout h.shape).sizes (cell t i)) same
+          (r.word ∙ ap (λ (j : ℕ). place (layout h.shape).sizes (cell t j)) (let a = r.is_last in let e : r.last ≡ i = omega (arith, a) in e)),
       subst (λ (q : Pass). q.look.value ≡ 1) same r.value,
     )

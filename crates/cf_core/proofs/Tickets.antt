@@ -35,7 +35,8 @@ write_tail_few h is =
     let b = is.shape.writers.1 in
     omega (arith, m, e, a, b)
 
-pub ticket_does : (h : WorldValue) (k found : ℕ) (row : RowValue) (p after : Pass) → IsLivePass h k p → (layout h.shape).fits row ≡ true → MayTake p → found ≡ get_or h.words 0 0
+pub ticket_does : (h : WorldValue) (k found : ℕ) (row : RowValue) (p after : Pass) → IsLivePass h k p → (layout h.shape).fits row ≡ true → MayTake p
+    → found ≡ get_or h.words 0 0
     → ((b : Book) → p.books ≡ b ∷ [] → after ≡ record p { books = ticketed_at h.shape.capacity row found b ∷ [] })
     → IsEvent (layout h.shape) (world_of h) k (acts (take_ticket row)) (record { words = set h.words 0 (found + 1); passes = set h.passes k after })
 ticket_does h k found row p after live fits may v is =
@@ -44,10 +45,12 @@ ticket_does h k found row p after live fits may v is =
     let word : found ≡ word_at sh h.words (tail 0) = v ∙ ap (λ (n : ℕ). get_or h.words n 0) (sym none) in
     let next : found + 1 ≡ suc (word_at sh h.words (tail 0)) = omega (arith, word) in
     let b = may.0 in
-    does_step sh (world_of h) k p (take_ticket row) (tail 0) (λ n. suc n) (λ n es. record p { books = book_with_ticket sh row n b ∷ [] }) 0 (found + 1) after live (takes row b fits may.1 may.2 may.3) (sym none) next
+    does_step sh (world_of h) k p (take_ticket row) (tail 0) (λ n. suc n) (λ n es. record p { books = book_with_ticket sh row n b ∷ [] }) 0
+        (found + 1) after live (takes row b fits may.1 may.2 may.3) (sym none) next
     (is b may.1 ∙ ap (λ (n : ℕ). record p { books = book_with_ticket sh row n b ∷ [] }) word)
 
-pub ticket_only : (h : WorldValue) (k : ℕ) (row : RowValue) (p : Pass) (y : World) → IsLivePass h k p → IsEvent (layout h.shape) (world_of h) k (acts (take_ticket row)) y → ((layout h.shape).fits row ≡ true) × MayTake p
+pub ticket_only : (h : WorldValue) (k : ℕ) (row : RowValue) (p : Pass) (y : World) → IsLivePass h k p
+    → IsEvent (layout h.shape) (world_of h) k (acts (take_ticket row)) y → ((layout h.shape).fits row ≡ true) × MayTake p
 ticket_only h k row p y live does =
     let A = acts_of (layout h.shape) (world_of h) k (take_ticket row) y does in
     let r = takes_of (layout h.shape) A.pass row A.slot A.change A.after A.step in
@@ -55,33 +58,43 @@ ticket_only h k row p y live does =
     (r.fits, subst MayTake same (r.book, r.one, r.free, r.rests))
 
 -- Words of tickets.
-pub cell_does : (h : WorldValue) (k offset i value at j : ℕ) (p after : Pass) (b : Book) (f : Flight) → IsLivePass h k p → HoldsInFlight p j b f → f.offset ≡ offset → IsNext (layout h.shape) (draft f.row f.filled) i
-    → value ≡ own_word (layout h.shape) b f.row (use_at h.shape i) → at ≡ place (layout h.shape).sizes (cell offset i) → after ≡ pass_with_book j (book_with_word i b f) p
+pub cell_does : (h : WorldValue) (k offset i value at j : ℕ) (p after : Pass) (b : Book) (f : Flight) → IsLivePass h k p → HoldsInFlight p j b f
+    → f.offset ≡ offset → IsNext (layout h.shape) (draft f.row f.filled) i
+    → value ≡ own_word (layout h.shape) b f.row (use_at h.shape i) → at ≡ place (layout h.shape).sizes (cell offset i)
+        → after ≡ pass_with_book j (book_with_word i b f) p
     → IsEvent (layout h.shape) (world_of h) k (acts (store_cell offset i value)) (record { words = set h.words at value; passes = set h.passes k after })
 cell_does h k offset i value at j p after b f live flies off next own e pass =
     let sh = layout h.shape in
-    let act : Rattle.cf_law.specs.Steps.Act.store_cell f.offset i (own_word sh b f.row (sh.use_of i)) ≡ store_cell offset i value = ap₂ (λ (o w : ℕ). store_cell o i w) off (sym own) in
-    subst (λ (a : Rattle.cf_law.specs.Steps.Act). IsEvent sh (world_of h) k (acts a) (record { words = set h.words at value; passes = set h.passes k after })) act
-    (does_step sh (world_of h) k p (store_cell f.offset i (own_word sh b f.row (sh.use_of i))) (cell f.offset i) (λ n. own_word sh b f.row (sh.use_of i)) (λ n es. pass_with_book j (book_with_word i b f) p) at value after live
-    (stores j i b f flies (next_any sh (draft f.row f.filled) (ticket_of b.writer f) i refl refl next)) (e ∙ ap (λ (o : ℕ). place sh.sizes (cell o i)) (sym off)) own pass)
+    let act : Rattle.cf_law.specs.Steps.Act.store_cell f.offset i (own_word sh b f.row (sh.use_of i)) ≡ store_cell offset i value =
+        ap₂ (λ (o w : ℕ). store_cell o i w) off (sym own) in
+    subst (λ (a : Rattle.cf_law.specs.Steps.Act). IsEvent sh (world_of h) k (acts a)
+        (record { words = set h.words at value; passes = set h.passes k after })) act
+    (does_step sh (world_of h) k p (store_cell f.offset i (own_word sh b f.row (sh.use_of i))) (cell f.offset i) (λ n. own_word sh b f.row (sh.use_of i))
+        (λ n es. pass_with_book j (book_with_word i b f) p) at value after live
+    (stores j i b f flies (next_any sh (draft f.row f.filled) (ticket_of b.writer f) i refl refl next))
+        (e ∙ ap (λ (o : ℕ). place sh.sizes (cell o i)) (sym off)) own pass)
 
-pub done_does : (h : WorldValue) (k offset i at j : ℕ) (p after : Pass) (b : Book) (f : Flight) → IsLivePass h k p → HoldsInFlight p j b f → f.offset ≡ offset → suc i ≡ ticket_words h.shape → IsWhole (layout h.shape) (draft f.row f.filled) → AllLinked h.shape f.row f.linked
+pub done_does : (h : WorldValue) (k offset i at j : ℕ) (p after : Pass) (b : Book) (f : Flight) → IsLivePass h k p → HoldsInFlight p j b f → f.offset ≡ offset
+    → suc i ≡ ticket_words h.shape → IsWhole (layout h.shape) (draft f.row f.filled) → AllLinked h.shape f.row f.linked
     → at ≡ place (layout h.shape).sizes (cell offset i) → after ≡ pass_with_book j (book_with_record b f) p
     → IsEvent (layout h.shape) (world_of h) k (acts (finish_record offset)) (record { words = set h.words at 1; passes = set h.passes k after })
 done_does h k offset i at j p after b f live flies off last whole linked e pass =
     let sh = layout h.shape in
     subst (λ (o : ℕ). IsEvent sh (world_of h) k (acts (finish_record o)) (record { words = set h.words at 1; passes = set h.passes k after })) off
     (does_step sh (world_of h) k p (finish_record f.offset) (cell f.offset i) (λ n. 1) (λ n es. pass_with_book j (book_with_record b f) p) at 1 after live
-    (finishes j i b f flies last (whole_any sh (draft f.row f.filled) (ticket_of b.writer f) refl refl whole) linked) (e ∙ ap (λ (o : ℕ). place sh.sizes (cell o i)) (sym off)) refl pass)
+    (finishes j i b f flies last (whole_any sh (draft f.row f.filled) (ticket_of b.writer f) refl refl whole) linked)
+        (e ∙ ap (λ (o : ℕ). place sh.sizes (cell o i)) (sym off)) refl pass)
 
 -- the flight is the one
-pub same_flight : (h : WorldValue) (k i j : ℕ) (p : Pass) (b c : Book) (f g : Flight) → IsLawfulWorld h → IsLivePass h k p → HoldsInFlight p i b f → HoldsInFlight p j c g → f.offset ≡ g.offset → (b ≡ c) × (f ≡ g)
+pub same_flight : (h : WorldValue) (k i j : ℕ) (p : Pass) (b c : Book) (f g : Flight) → IsLawfulWorld h → IsLivePass h k p → HoldsInFlight p i b f
+    → HoldsInFlight p j c g → f.offset ≡ g.offset → (b ≡ c) × (f ≡ g)
 same_flight h k i j p b c f g is live x y same =
     let e = flight_unique (layout h.shape) is.law.base h.passes k p i j b c f g is.law.stands live.0 x y same in
     let books : b ≡ c = cc (x.0, ap (slice_get p.books) e, y.0) in
     (books, cc (x.1, ap (λ (d : Book). d.flight) books, y.1))
 
-pub cell_only : (h : WorldValue) (k offset i value j : ℕ) (p : Pass) (b : Book) (f : Flight) (y : World) → IsLawfulWorld h → IsLivePass h k p → HoldsInFlight p j b f → f.offset ≡ offset → IsEvent (layout h.shape) (world_of h) k (acts (store_cell offset i value)) y
+pub cell_only : (h : WorldValue) (k offset i value j : ℕ) (p : Pass) (b : Book) (f : Flight) (y : World) → IsLawfulWorld h → IsLivePass h k p
+    → HoldsInFlight p j b f → f.offset ≡ offset → IsEvent (layout h.shape) (world_of h) k (acts (store_cell offset i value)) y
     → IsNext (layout h.shape) (draft f.row f.filled) i × (value ≡ own_word (layout h.shape) b f.row (use_at h.shape i))
 cell_only h k offset i value j p b f y is live flies off does =
     let sh = layout h.shape in
@@ -94,14 +107,16 @@ cell_only h k offset i value j p b f y is live flies off does =
       sym r.value ∙ ap₂ (λ (c : Book) (g : Flight). own_word sh c g.row (use_at h.shape i)) one.0 one.1,
     )
 
-pub cell_none : (h : WorldValue) (k offset i value : ℕ) (p : Pass) (y : World) → IsLivePass h k p → NoneFlies p offset → IsEvent (layout h.shape) (world_of h) k (acts (store_cell offset i value)) y → ⊥
+pub cell_none : (h : WorldValue) (k offset i value : ℕ) (p : Pass) (y : World) → IsLivePass h k p → NoneFlies p offset
+    → IsEvent (layout h.shape) (world_of h) k (acts (store_cell offset i value)) y → ⊥
 cell_none h k offset i value p y live none does =
     let A = acts_of (layout h.shape) (world_of h) k (store_cell offset i value) y does in
     let r = stores_of (layout h.shape) A.pass offset i value A.slot A.change A.after A.step in
     let same = live_one h k A.pass p A.live live in
     none r.place r.book r.flight (subst (λ (q : Pass). HoldsInFlight q r.place r.book r.flight) same r.flies) r.offset
 
-pub done_only : (h : WorldValue) (k offset j : ℕ) (p : Pass) (b : Book) (f : Flight) (y : World) → IsLawfulWorld h → IsLivePass h k p → HoldsInFlight p j b f → f.offset ≡ offset → IsEvent (layout h.shape) (world_of h) k (acts (finish_record offset)) y
+pub done_only : (h : WorldValue) (k offset j : ℕ) (p : Pass) (b : Book) (f : Flight) (y : World) → IsLawfulWorld h → IsLivePass h k p → HoldsInFlight p j b f
+    → f.offset ≡ offset → IsEvent (layout h.shape) (world_of h) k (acts (finish_record offset)) y
     → IsWhole (layout h.shape) (draft f.row f.filled) × AllLinked h.shape f.row f.linked
 done_only h k offset j p b f y is live flies off does =
     let sh = layout h.shape in
@@ -114,7 +129,8 @@ done_only h k offset j p b f y is live flies off does =
       subst (λ (g : Flight). AllLinked h.shape g.row g.linked) one.1 r.linked,
     )
 
-pub done_none : (h : WorldValue) (k offset : ℕ) (p : Pass) (y : World) → IsLivePass h k p → NoneFlies p offset → IsEvent (layout h.shape) (world_of h) k (acts (finish_record offset)) y → ⊥
+pub done_none : (h : WorldValue) (k offset : ℕ) (p : Pass) (y : World) → IsLivePass h k p → NoneFlies p offset
+    → IsEvent (layout h.shape) (world_of h) k (acts (finish_record offset)) y → ⊥
 done_none h k offset p y live none does =
     let A = acts_of (layout h.shape) (world_of h) k (finish_record offset) y does in
     let r = finishes_of (layout h.shape) A.pass offset A.slot A.change A.after A.step in

@@ -26,11 +26,19 @@ mine_none w k = refl
 mine_one : (w k : ℕ) (t : Ticket) (ts : List Ticket) → length (mine_in w k (t ∷ ts)) ≤ suc (length (mine_in w (suc k) ts))
 unfolding mine_in
 mine_one w k t ts = elim (cases_Bool (t.writer == w)) [
-  | inr e ↦ subst (λ (b : Bool). length (cond b (cond t.is_done (record { offset = k; row = t.row } ∷ mine_in w (suc k) ts) (mine_in w (suc k) ts)) (mine_in w (suc k) ts)) ≤ suc (length (mine_in w (suc k) ts))) (sym e) (omega arith)
-  | inl e ↦ subst (λ (b : Bool). length (cond b (cond t.is_done (record { offset = k; row = t.row } ∷ mine_in w (suc k) ts) (mine_in w (suc k) ts)) (mine_in w (suc k) ts)) ≤ suc (length (mine_in w (suc k) ts))) (sym e) (done t.is_done)
+  | inr e ↦ subst
+      (λ (b : Bool). length
+      (cond b (cond t.is_done (record { offset = k; row = t.row } ∷ mine_in w (suc k) ts) (mine_in w (suc k) ts)) (mine_in w (suc k) ts)) ≤ suc
+      (length (mine_in w (suc k) ts))) (sym e) (omega arith)
+  | inl e ↦ subst
+      (λ (b : Bool). length
+      (cond b (cond t.is_done (record { offset = k; row = t.row } ∷ mine_in w (suc k) ts) (mine_in w (suc k) ts)) (mine_in w (suc k) ts)) ≤ suc
+      (length (mine_in w (suc k) ts))) (sym e) (done t.is_done)
 ]
   where
-    done : (b : Bool) → length (cond {A = List Own} b (record { offset = k; row = t.row } ∷ mine_in w (suc k) ts) (mine_in w (suc k) ts)) ≤ suc (length (mine_in w (suc k) ts))
+    done : (b : Bool)
+        → length (cond {A = List Own} b (record { offset = k; row = t.row } ∷ mine_in w (suc k) ts) (mine_in w (suc k) ts)) ≤ suc
+        (length (mine_in w (suc k) ts))
     done true = omega arith
     done false = omega arith
 
@@ -48,7 +56,8 @@ own_are h k j p b is live held =
     let low = is.shape.capacity.1 in record {
       few = omega (arith, ap (length {A = Own}) mine, mine_few b.writer 0 m.log, room, low);
       fits = λ i x at. (let r = mine_before b.writer 0 m.log i x (ap (λ (xs : List Own). slice_get xs i) (sym mine) ∙ at) in
-          let fits = (both (values_fit h.shape.schema r.ticket.row.values) (Rattle.std.proofs.Common.nat_lt r.ticket.row.num 4294967296) (L.fits r.place r.ticket r.at)).0 in
+          let fits = (both (values_fit h.shape.schema r.ticket.row.values) (Rattle.std.proofs.Common.nat_lt r.ticket.row.num 4294967296)
+              (L.fits r.place r.ticket r.at)).0 in
           subst (Fits h.shape.schema) (sym r.row) fits);
       offset = λ i x at. (let lt = (bounds h k p is live).offset j i b x held at in omega (arith, lt, low));
     }
@@ -58,57 +67,73 @@ chain_none : (sh : Layout) (s : Spot) → mine_chain sh s [] ≡ []
 unfolding mine_chain
 chain_none sh s = refl
 
-chain_cons : (sh : Layout) (s : Spot) (x : Own) (xs : List Own) → mine_chain sh s (x ∷ xs) ≡ mine_chain sh s xs ++ cond (same_path (sh.path x.row s.lane) s.path) ((x.offset, x.row) ∷ []) []
+chain_cons : (sh : Layout) (s : Spot) (x : Own) (xs : List Own)
+    → mine_chain sh s (x ∷ xs) ≡ mine_chain sh s xs ++ cond (same_path (sh.path x.row s.lane) s.path) ((x.offset, x.row) ∷ []) []
 unfolding mine_chain
 chain_cons sh s x xs = refl
 
 pub chain_end : (sh : Layout) (s : Spot) (mine : List Own) (n : ℕ) → length mine ≤ n → mine_chain sh s (drop n mine) ≡ []
 chain_end sh s mine n le = ap (mine_chain sh s) (drop_all n mine le) ∙ chain_none sh s
 
-chain_from : (sh : Layout) (s : Spot) (mine : List Own) (i : ℕ) (x : Own) → i < length mine → x ≡ get_or mine i x → mine_chain sh s (drop i mine) ≡ mine_chain sh s (x ∷ drop (i + 1) mine)
+chain_from : (sh : Layout) (s : Spot) (mine : List Own) (i : ℕ) (x : Own) → i < length mine → x ≡ get_or mine i x
+    → mine_chain sh s (drop i mine) ≡ mine_chain sh s (x ∷ drop (i + 1) mine)
 chain_from sh s mine i x lt is = ap (mine_chain sh s) (drop_more mine i x lt ∙ ap (λ (y : Own). y ∷ drop (i + 1) mine) (sym is))
 
-pub chain_in : (sh : Layout) (s : Spot) (mine : List Own) (i : ℕ) (x : Own) → i < length mine → x ≡ get_or mine i x → same_path (sh.path x.row s.lane) s.path ≡ true → mine_chain sh s (drop i mine) ≡ mine_chain sh s (drop (i + 1) mine) ++ (x.offset, x.row) ∷ []
+pub chain_in : (sh : Layout) (s : Spot) (mine : List Own) (i : ℕ) (x : Own) → i < length mine → x ≡ get_or mine i x
+    → same_path (sh.path x.row s.lane) s.path ≡ true → mine_chain sh s (drop i mine) ≡ mine_chain sh s (drop (i + 1) mine) ++ (x.offset, x.row) ∷ []
 chain_in sh s mine i x lt is e =
-    chain_from sh s mine i x lt is ∙ (chain_cons sh s x (drop (i + 1) mine) ∙ ap (λ (b : Bool). mine_chain sh s (drop (i + 1) mine) ++ cond b ((x.offset, x.row) ∷ []) []) e)
+    chain_from sh s mine i x lt is
+        ∙ (chain_cons sh s x (drop (i + 1) mine) ∙ ap (λ (b : Bool). mine_chain sh s (drop (i + 1) mine) ++ cond b ((x.offset, x.row) ∷ []) []) e)
 
-pub chain_out : (sh : Layout) (s : Spot) (mine : List Own) (i : ℕ) (x : Own) → i < length mine → x ≡ get_or mine i x → same_path (sh.path x.row s.lane) s.path ≡ false → mine_chain sh s (drop i mine) ≡ mine_chain sh s (drop (i + 1) mine)
+pub chain_out : (sh : Layout) (s : Spot) (mine : List Own) (i : ℕ) (x : Own) → i < length mine → x ≡ get_or mine i x
+    → same_path (sh.path x.row s.lane) s.path ≡ false → mine_chain sh s (drop i mine) ≡ mine_chain sh s (drop (i + 1) mine)
 chain_out sh s mine i x lt is e =
-    chain_from sh s mine i x lt is ∙ (chain_cons sh s x (drop (i + 1) mine) ∙ (ap (λ (b : Bool). mine_chain sh s (drop (i + 1) mine) ++ cond b ((x.offset, x.row) ∷ []) []) e ∙ Rattle.std.proofs.Common.append-nil (mine_chain sh s (drop (i + 1) mine))))
+    chain_from sh s mine i x lt is
+        ∙ (chain_cons sh s x (drop (i + 1) mine)
+        ∙ (ap (λ (b : Bool). mine_chain sh s (drop (i + 1) mine) ++ cond b ((x.offset, x.row) ∷ []) []) e
+        ∙ Rattle.std.proofs.Common.append-nil (mine_chain sh s (drop (i + 1) mine))))
 
 top_push : (c : List (ℕ × RowValue)) (x : ℕ × RowValue) → link_to_newest (c ++ x ∷ []) ≡ cond (link_to_newest c == 0) (suc x.0) (link_to_newest c)
 top_push [] x = ap (λ (b : Bool). cond b (suc x.0) 0) (sym (eq-eqb 0 0 refl))
 top_push (y ∷ ys) x = ap (λ (b : Bool). cond b (suc x.0) (suc y.0)) (sym (ne_eqb (suc y.0) 0 (λ e. omega (arith, e))))
 
-pub newest_is : (c : List (ℕ × RowValue)) (x : ℕ × RowValue) (previous left : ℕ) → previous ≡ link_to_newest c → left ≡ cond (previous == 0) (x.0 + 1) previous → left ≡ link_to_newest (c ++ x ∷ [])
+pub newest_is : (c : List (ℕ × RowValue)) (x : ℕ × RowValue) (previous left : ℕ) → previous ≡ link_to_newest c
+    → left ≡ cond (previous == 0) (x.0 + 1) previous → left ≡ link_to_newest (c ++ x ∷ [])
 newest_is c x previous left e is =
     is ∙ (ap₂ (λ (a b : ℕ). cond (a == 0) b a) e (let f : x.0 + 1 ≡ suc x.0 = omega arith in f) ∙ sym (top_push c x))
 
-pub amounts_push : (shape : ShapeValue) (lane : ℕ) (row : RowValue) (c : List (ℕ × RowValue)) (x : ℕ × RowValue) → amounts_with_row shape lane row (c ++ x ∷ []) ≡ amounts_with_row shape lane row c ++ measure_of shape lane x.1 ∷ []
+pub amounts_push : (shape : ShapeValue) (lane : ℕ) (row : RowValue) (c : List (ℕ × RowValue)) (x : ℕ × RowValue)
+    → amounts_with_row shape lane row (c ++ x ∷ []) ≡ amounts_with_row shape lane row c ++ measure_of shape lane x.1 ∷ []
 amounts_push shape lane row c x =
     ap (λ (rs : List RowValue). map (λ (r : RowValue). measure_of shape lane r) (row ∷ rs)) (map_push (λ (y : ℕ × RowValue). y.1) c x)
     ∙ map_push (λ (r : RowValue). measure_of shape lane r) (row ∷ map (λ (y : ℕ × RowValue). y.1) c) x.1
 
-pub amounts_first : (shape : ShapeValue) (lane : ℕ) (row : RowValue) (c : List (ℕ × RowValue)) → c ≡ [] → amounts_with_row shape lane row c ≡ [] ++ measure_of shape lane row ∷ []
+pub amounts_first : (shape : ShapeValue) (lane : ℕ) (row : RowValue) (c : List (ℕ × RowValue)) → c ≡ []
+    → amounts_with_row shape lane row c ≡ [] ++ measure_of shape lane row ∷ []
 amounts_first shape lane row c e = ap (amounts_with_row shape lane row) e
 
 amounts_long : (shape : ShapeValue) (lane : ℕ) (row : RowValue) (c : List (ℕ × RowValue)) → length (amounts_with_row shape lane row c) ≡ suc (length c)
 amounts_long shape lane row c =
-    omega (arith, Rattle.std.proofs.lemmas.List.length-map {A = RowValue} {B = ℕ} (row ∷ map (λ (y : ℕ × RowValue). y.1) c) (λ r. measure_of shape lane r), Rattle.std.proofs.lemmas.List.length-map {A = ℕ × RowValue} {B = RowValue} c (λ y. y.1))
+    omega (arith, Rattle.std.proofs.lemmas.List.length-map {A = RowValue} {B = ℕ} (row ∷ map (λ (y : ℕ × RowValue). y.1) c) (λ r. measure_of shape lane r),
+        Rattle.std.proofs.lemmas.List.length-map {A = ℕ × RowValue} {B = RowValue} c (λ y. y.1))
 
 chain_few : (sh : Layout) (s : Spot) (mine : List Own) → length (mine_chain sh s mine) ≤ length mine
 chain_few sh s [] = omega (arith, ap (length {A = ℕ × RowValue}) (chain_none sh s))
 chain_few sh s (x ∷ xs) =
-    omega (arith, ap (length {A = ℕ × RowValue}) (chain_cons sh s x xs), length-append (mine_chain sh s xs) (cond (same_path (sh.path x.row s.lane) s.path) ((x.offset, x.row) ∷ []) []), one (same_path (sh.path x.row s.lane) s.path), chain_few sh s xs)
+    omega (arith, ap (length {A = ℕ × RowValue}) (chain_cons sh s x xs),
+        length-append (mine_chain sh s xs) (cond (same_path (sh.path x.row s.lane) s.path) ((x.offset, x.row) ∷ []) []),
+        one (same_path (sh.path x.row s.lane) s.path), chain_few sh s xs)
   where
     one : (b : Bool) → length (cond {A = List (ℕ × RowValue)} b ((x.offset, x.row) ∷ []) []) ≤ 1
     one true = omega arith
     one false = omega arith
 
-pub quad_few : (shape : ShapeValue) (lane : ℕ) (row : RowValue) (s : Spot) (mine : List Own) (i : ℕ) (q : QuadValue) → q ≡ quad_of (amounts_with_row shape lane row (mine_chain (layout shape) s (drop i mine))) → length mine ≤ 65536 → q.count ≤ 65537
+pub quad_few : (shape : ShapeValue) (lane : ℕ) (row : RowValue) (s : Spot) (mine : List Own) (i : ℕ) (q : QuadValue)
+    → q ≡ quad_of (amounts_with_row shape lane row (mine_chain (layout shape) s (drop i mine))) → length mine ≤ 65536 → q.count ≤ 65537
 quad_few shape lane row s mine i q e few =
     let c = mine_chain (layout shape) s (drop i mine) in
-    omega (arith, ap (λ (x : QuadValue). x.count) e, amounts_long shape lane row c, chain_few (layout shape) s (drop i mine), few, Rattle.std.proofs.Common.length-drop i mine)
+    omega (arith, ap (λ (x : QuadValue). x.count) e, amounts_long shape lane row c, chain_few (layout shape) s (drop i mine), few,
+        Rattle.std.proofs.Common.length-drop i mine)
 
 -- a quad of own measures is lawful
 low_push : (xs : List ℕ) (y : ℕ) → AreLow xs → y < 2 ^ 32 → AreLow (xs ++ y ∷ [])
@@ -116,34 +141,45 @@ low_push [] y low lt = (lt, tt)
 low_push (x ∷ xs) y low lt = (low.0, low_push xs y low.1 lt)
 
 rest_own : (shape : ShapeValue) (x : Own) (xs : List Own) → AreOwn shape (x ∷ xs) → AreOwn shape xs
-rest_own shape x xs own = record { few = (let h = own.few in omega (arith, h)); fits = λ i y at. own.fits (suc i) y at; offset = λ i y at. own.offset (suc i) y at }
+rest_own shape x xs own =
+    record { few = (let h = own.few in omega (arith, h)); fits = λ i y at. own.fits (suc i) y at; offset = λ i y at. own.offset (suc i) y at }
 
-pub amounts_low : (shape : ShapeValue) (lane : ℕ) (row : RowValue) (s : Spot) (mine : List Own) → IsShape shape → lane < length shape.lanes → Fits shape.schema row → AreOwn shape mine → AreLow (amounts_with_row shape lane row (mine_chain (layout shape) s mine))
+pub amounts_low : (shape : ShapeValue) (lane : ℕ) (row : RowValue) (s : Spot) (mine : List Own) → IsShape shape → lane < length shape.lanes
+    → Fits shape.schema row → AreOwn shape mine → AreLow (amounts_with_row shape lane row (mine_chain (layout shape) s mine))
 amounts_low shape lane row s [] is lt fits own =
     subst AreLow (sym (amounts_first shape lane row (mine_chain (layout shape) s []) (chain_none (layout shape) s))) (measure_low shape lane row is lt fits, tt)
 amounts_low shape lane row s (x ∷ xs) is lt fits own = elim (cases_Bool (same_path (path_in shape x.row s.lane) s.path)) [
   | inl e ↦
-      let whole : mine_chain (layout shape) s (x ∷ xs) ≡ mine_chain (layout shape) s xs ++ (x.offset, x.row) ∷ [] = chain_cons (layout shape) s x xs ∙ ap (λ (b : Bool). mine_chain (layout shape) s xs ++ cond b ((x.offset, x.row) ∷ []) []) e in
+      let whole : mine_chain (layout shape) s (x ∷ xs) ≡ mine_chain (layout shape) s xs ++ (x.offset, x.row) ∷ [] = chain_cons (layout shape) s x xs
+          ∙ ap (λ (b : Bool). mine_chain (layout shape) s xs ++ cond b ((x.offset, x.row) ∷ []) []) e in
       subst AreLow (sym (ap (amounts_with_row shape lane row) whole ∙ amounts_push shape lane row (mine_chain (layout shape) s xs) (x.offset, x.row)))
-      (low_push (amounts_with_row shape lane row (mine_chain (layout shape) s xs)) (measure_of shape lane x.row) (amounts_low shape lane row s xs is lt fits (rest_own shape x xs own)) (measure_low shape lane x.row is lt (own.fits 0 x refl)))
+      (low_push (amounts_with_row shape lane row (mine_chain (layout shape) s xs)) (measure_of shape lane x.row)
+          (amounts_low shape lane row s xs is lt fits (rest_own shape x xs own)) (measure_low shape lane x.row is lt (own.fits 0 x refl)))
   | inr e ↦
-      let whole : mine_chain (layout shape) s (x ∷ xs) ≡ mine_chain (layout shape) s xs = chain_cons (layout shape) s x xs ∙ (ap (λ (b : Bool). mine_chain (layout shape) s xs ++ cond b ((x.offset, x.row) ∷ []) []) e ∙ Rattle.std.proofs.Common.append-nil (mine_chain (layout shape) s xs)) in
+      let whole : mine_chain (layout shape) s (x ∷ xs) ≡ mine_chain (layout shape) s xs = chain_cons (layout shape) s x xs
+          ∙ (ap (λ (b : Bool). mine_chain (layout shape) s xs ++ cond b ((x.offset, x.row) ∷ []) []) e
+          ∙ Rattle.std.proofs.Common.append-nil (mine_chain (layout shape) s xs)) in
       subst AreLow (sym (ap (amounts_with_row shape lane row) whole)) (amounts_low shape lane row s xs is lt fits (rest_own shape x xs own))
 ]
 
-pub quad_lawful : (shape : ShapeValue) (lane : ℕ) (row : RowValue) (s : Spot) (mine : List Own) (q : QuadValue) → IsShape shape → lane < length shape.lanes → Fits shape.schema row → AreOwn shape mine → q ≡ quad_of (amounts_with_row shape lane row (mine_chain (layout shape) s mine)) → IsQuad q
-quad_lawful shape lane row s mine q is lt fits own e = subst IsQuad (sym e) (quad_is_lawful (amounts_with_row shape lane row (mine_chain (layout shape) s mine)) (amounts_low shape lane row s mine is lt fits own))
+pub quad_lawful : (shape : ShapeValue) (lane : ℕ) (row : RowValue) (s : Spot) (mine : List Own) (q : QuadValue) → IsShape shape → lane < length shape.lanes
+    → Fits shape.schema row → AreOwn shape mine → q ≡ quad_of (amounts_with_row shape lane row (mine_chain (layout shape) s mine)) → IsQuad q
+quad_lawful shape lane row s mine q is lt fits own e =
+    subst IsQuad (sym e)
+    (quad_is_lawful (amounts_with_row shape lane row (mine_chain (layout shape) s mine)) (amounts_low shape lane row s mine is lt fits own))
 
 -- links are low
 pub top_low : (sh : Layout) (s : Spot) (mine : List Own) (shape : ShapeValue) → AreOwn shape mine → link_to_newest (mine_chain sh s mine) ≤ 65536
 top_low sh s [] shape own = omega (arith, ap link_to_newest (chain_none sh s))
 top_low sh s (x ∷ xs) shape own = elim (cases_Bool (same_path (sh.path x.row s.lane) s.path)) [
   | inl e ↦
-      let whole : mine_chain sh s (x ∷ xs) ≡ mine_chain sh s xs ++ (x.offset, x.row) ∷ [] = chain_cons sh s x xs ∙ ap (λ (b : Bool). mine_chain sh s xs ++ cond b ((x.offset, x.row) ∷ []) []) e in
+      let whole : mine_chain sh s (x ∷ xs) ≡ mine_chain sh s xs ++ (x.offset, x.row) ∷ [] = chain_cons sh s x xs
+          ∙ ap (λ (b : Bool). mine_chain sh s xs ++ cond b ((x.offset, x.row) ∷ []) []) e in
       let low = own.offset 0 x refl in
       omega (arith, ap link_to_newest whole, pushed (mine_chain sh s xs) (top_low sh s xs shape (rest_own shape x xs own)) low)
   | inr e ↦
-      let whole : mine_chain sh s (x ∷ xs) ≡ mine_chain sh s xs = chain_cons sh s x xs ∙ (ap (λ (b : Bool). mine_chain sh s xs ++ cond b ((x.offset, x.row) ∷ []) []) e ∙ Rattle.std.proofs.Common.append-nil (mine_chain sh s xs)) in
+      let whole : mine_chain sh s (x ∷ xs) ≡ mine_chain sh s xs = chain_cons sh s x xs
+          ∙ (ap (λ (b : Bool). mine_chain sh s xs ++ cond b ((x.offset, x.row) ∷ []) []) e ∙ Rattle.std.proofs.Common.append-nil (mine_chain sh s xs)) in
       omega (arith, ap link_to_newest whole, top_low sh s xs shape (rest_own shape x xs own))
 ]
   where
@@ -157,24 +193,30 @@ cell_word_more m previous q zero le = absurd (omega arith)
 cell_word_more m previous q (suc zero) le = absurd (omega arith)
 cell_word_more m previous q (suc (suc j)) le = refl
 
-word_is : (shape : ShapeValue) (lane j : ℕ) (c : List (ℕ × RowValue)) (row : RowValue) (m : Bool) (previous : ℕ) (q : QuadValue) → m ≡ is_measured shape lane → previous ≡ link_to_newest c → q ≡ quad_of (amounts_with_row shape lane row c) → cell_word_of m previous q j ≡ version_word (layout shape) lane j c row
+word_is : (shape : ShapeValue) (lane j : ℕ) (c : List (ℕ × RowValue)) (row : RowValue) (m : Bool) (previous : ℕ) (q : QuadValue) → m ≡ is_measured shape lane
+    → previous ≡ link_to_newest c → q ≡ quad_of (amounts_with_row shape lane row c) → cell_word_of m previous q j ≡ version_word (layout shape) lane j c row
 unfolding version_word
 word_is shape lane zero c row m previous q me pe qe =
     let count : q.count ≡ length c + 1 = omega (arith, ap (λ (x : QuadValue). x.count) qe, amounts_long shape lane row c) in
     ap (λ (b : Bool). previous + 2 ^ 32 * cond b q.count 0) me ∙ ap₂ (λ (a n : ℕ). a + 2 ^ 32 * cond (is_measured shape lane) n 0) pe count
 word_is shape lane (suc j) c row m previous q me pe qe = ap (measure_word j) qe
 
-pub version_is_word : (shape : ShapeValue) (b : Book) (row : RowValue) (lane j word : ℕ) (q : List ℕ) (m : Bool) (previous : ℕ) (quad : QuadValue) → path_in shape row lane ≡ Some q → m ≡ is_measured shape lane → previous ≡ link_to_newest (mine_chain (layout shape) (spot lane q) b.mine)
+pub version_is_word : (shape : ShapeValue) (b : Book) (row : RowValue) (lane j word : ℕ) (q : List ℕ) (m : Bool) (previous : ℕ) (quad : QuadValue)
+    → path_in shape row lane ≡ Some q → m ≡ is_measured shape lane → previous ≡ link_to_newest (mine_chain (layout shape) (spot lane q) b.mine)
     → quad ≡ quad_of (amounts_with_row shape lane row (mine_chain (layout shape) (spot lane q) b.mine)) → word ≡ cell_word_of m previous quad j
     → word ≡ own_lane_word (layout shape) b row lane j (path_in shape row lane)
 version_is_word shape b row lane j word q m previous quad leads me pe qe is =
-    is ∙ (word_is shape lane j (mine_chain (layout shape) (spot lane q) b.mine) row m previous quad me pe qe ∙ ap (own_lane_word (layout shape) b row lane j) (sym leads))
+    is ∙ (word_is shape lane j (mine_chain (layout shape) (spot lane q) b.mine) row m previous quad me pe qe
+        ∙ ap (own_lane_word (layout shape) b row lane j) (sym leads))
 
-pub version_none : (shape : ShapeValue) (b : Book) (row : RowValue) (lane j : ℕ) → path_in shape row lane ≡ None → 0 ≡ own_lane_word (layout shape) b row lane j (path_in shape row lane)
+pub version_none : (shape : ShapeValue) (b : Book) (row : RowValue) (lane j : ℕ) → path_in shape row lane ≡ None
+    → 0 ≡ own_lane_word (layout shape) b row lane j (path_in shape row lane)
 version_none shape b row lane j none = ap (own_lane_word (layout shape) b row lane j) (sym none)
 
-pub own_plain : (shape : ShapeValue) (b : Book) (row : RowValue) (i : ℕ) → IsPlainUse shape i → own_word (layout shape) b row (use_at shape i) ≡ get_or (Rattle.cf_row.specs.Words.spelled (Rattle.cf_words.specs.Words.entry b.writer row)) i 0
+pub own_plain : (shape : ShapeValue) (b : Book) (row : RowValue) (i : ℕ) → IsPlainUse shape i
+    → own_word (layout shape) b row (use_at shape i) ≡ get_or (Rattle.cf_row.specs.Words.spelled (Rattle.cf_words.specs.Words.entry b.writer row)) i 0
 own_plain shape b row i is = ap (own_word (layout shape) b row) is.1
 
-pub own_version : (shape : ShapeValue) (b : Book) (row : RowValue) (i l j : ℕ) → IsCellUse shape i l j → own_word (layout shape) b row (use_at shape i) ≡ own_lane_word (layout shape) b row l j (path_in shape row l)
+pub own_version : (shape : ShapeValue) (b : Book) (row : RowValue) (i l j : ℕ) → IsCellUse shape i l j
+    → own_word (layout shape) b row (use_at shape i) ≡ own_lane_word (layout shape) b row l j (path_in shape row l)
 own_version shape b row i l j is = ap (own_word (layout shape) b row) is.1

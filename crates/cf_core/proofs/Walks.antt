@@ -27,23 +27,29 @@ use Rattle.cf_core.proofs.Inverse.{acts_of, head_load_of, cell_load_of}
 pub known_is : (h : WorldValue) (k node : ℕ) (p : Pass) (s : Spot) → IsLawfulWorld h → IsLivePass h k p → Knows p s node → IsNode h (s, node)
 known_is h k node p s is live known = node_is h k known.0 p (s, node) is live known.1
 
-pub head_real : (h : WorldValue) (k node d w : ℕ) (p : Pass) (s : Spot) → IsLawfulWorld h → IsLivePass h k p → Knows p s node → d < 16 → w < h.shape.writers → IsReal (layout h.shape).sizes (head_slot (layout h.shape).sizes node d w)
+pub head_real : (h : WorldValue) (k node d w : ℕ) (p : Pass) (s : Spot) → IsLawfulWorld h → IsLivePass h k p → Knows p s node → d < 16 → w < h.shape.writers
+    → IsReal (layout h.shape).sizes (head_slot (layout h.shape).sizes node d w)
 head_real h k node d w p s is live known low wl = ((known_is h k node p s is live known).0, omega (arith, mul-add-lt d h.shape.writers w 16 low wl))
 
-pub head_there : (h : WorldValue) (k node d w : ℕ) (p : Pass) (s : Spot) → IsLawfulWorld h → IsLivePass h k p → Knows p s node → d < 16 → w < h.shape.writers → place_of h.shape (head_word node d w) < length h.words
+pub head_there : (h : WorldValue) (k node d w : ℕ) (p : Pass) (s : Spot) → IsLawfulWorld h → IsLivePass h k p → Knows p s node → d < 16 → w < h.shape.writers
+    → place_of h.shape (head_word node d w) < length h.words
 head_there h k node d w p s is live known low wl = word_there h (head_slot (layout h.shape).sizes node d w) is (head_real h k node d w p s is live known low wl)
 
-pub head_does : (h : WorldValue) (k at node d w found : ℕ) (p after : Pass) (s leaf : Spot) → IsLivePass h k p → Knows p s node → IsLeaf h s → d < 16 → w < h.shape.writers → at ≡ place_of h.shape (head_word node d w) → found ≡ get_or h.words at 0
+pub head_does : (h : WorldValue) (k at node d w found : ℕ) (p after : Pass) (s leaf : Spot) → IsLivePass h k p → Knows p s node → IsLeaf h s → d < 16
+    → w < h.shape.writers → at ≡ place_of h.shape (head_word node d w) → found ≡ get_or h.words at 0
     → leaf ≡ spot s.lane (d ∷ s.path) → after ≡ pass_with_head at w leaf p found
     → IsEvent (layout h.shape) (world_of h) k (acts (load_head node d w)) (record { words = set h.words at found; passes = set h.passes k after })
 head_does h k at node d w found p after s leaf live known is_leaf low wl e v below is =
     let sh = layout h.shape in
     let t = head_slot sh.sizes node d w in
     let word : found ≡ word_at sh h.words t = v ∙ ap (λ (n : ℕ). get_or h.words n 0) e in
-    does_step sh (world_of h) k p (load_head node d w) t (λ n. n) (λ n es. pass_with_head (place sh.sizes t) w (spot s.lane (d ∷ s.path)) p n) at found after live (loads_head node d w s.lane s.path known is_leaf low wl) e word
+    does_step sh (world_of h) k p (load_head node d w) t (λ n. n)
+        (λ n es. pass_with_head (place sh.sizes t) w (spot s.lane (d ∷ s.path)) p n) at found after live
+        (loads_head node d w s.lane s.path known is_leaf low wl) e word
     (is ∙ (ap (λ (r : Spot). pass_with_head at w r p found) below ∙ ap₂ (λ (a b : ℕ). pass_with_head a w (spot s.lane (d ∷ s.path)) p b) e word))
 
-pub head_only : (h : WorldValue) (k node d w : ℕ) (p : Pass) (s : Spot) (y : World) → IsLawfulWorld h → IsLivePass h k p → Knows p s node → IsEvent (layout h.shape) (world_of h) k (acts (load_head node d w)) y → IsLeaf h s × (d < 16) × (w < h.shape.writers)
+pub head_only : (h : WorldValue) (k node d w : ℕ) (p : Pass) (s : Spot) (y : World) → IsLawfulWorld h → IsLivePass h k p → Knows p s node
+    → IsEvent (layout h.shape) (world_of h) k (acts (load_head node d w)) y → IsLeaf h s × (d < 16) × (w < h.shape.writers)
 head_only h k node d w p s y is live known does =
     let sh = layout h.shape in
     let A = acts_of sh (world_of h) k (load_head node d w) y does in
@@ -53,7 +59,8 @@ head_only h k node d w p s y is live known does =
     let one : spot r.lane r.above ≡ s = known_unique sh is.law.base p (spot r.lane r.above) s node (is.law.stands.knows k p live.0) there known in
     (subst (IsLeaf h) one r.leaf, r.low, r.writer)
 
-pub head_none : (h : WorldValue) (k node d w : ℕ) (p : Pass) (y : World) → IsLivePass h k p → NoneKnown p node → IsEvent (layout h.shape) (world_of h) k (acts (load_head node d w)) y → ⊥
+pub head_none : (h : WorldValue) (k node d w : ℕ) (p : Pass) (y : World) → IsLivePass h k p → NoneKnown p node
+    → IsEvent (layout h.shape) (world_of h) k (acts (load_head node d w)) y → ⊥
 head_none h k node d w p y live none does =
     let sh = layout h.shape in
     let A = acts_of sh (world_of h) k (load_head node d w) y does in
@@ -68,10 +75,12 @@ cell_at h lane i = word_count h.shape.schema + 1 + cells_before h.shape lane + i
 cell_within : (h : WorldValue) (lane i : ℕ) → HasCell h.shape lane i → suc (cell_at h lane i) < ticket_words h.shape
 cell_within h lane i has = let fits = before_fits h.shape.lanes lane has.0 in let low = has.1 in omega (arith, fits, low)
 
-pub cell_there : (h : WorldValue) (offset lane i : ℕ) → IsLawfulWorld h → offset < h.shape.capacity → HasCell h.shape lane i → place_of h.shape (version_word offset lane i) < length h.words
+pub cell_there : (h : WorldValue) (offset lane i : ℕ) → IsLawfulWorld h → offset < h.shape.capacity → HasCell h.shape lane i
+    → place_of h.shape (version_word offset lane i) < length h.words
 cell_there h offset lane i is low has = word_there h (cell offset (cell_at h lane i)) is (low, (let w = cell_within h lane i has in omega (arith, w)))
 
-pub cell_load_does : (h : WorldValue) (k at offset lane i found : ℕ) (p after : Pass) → IsLivePass h k p → offset < h.shape.capacity → HasCell h.shape lane i → MayRead p offset lane → at ≡ place_of h.shape (version_word offset lane i) → found ≡ get_or h.words at 0
+pub cell_load_does : (h : WorldValue) (k at offset lane i found : ℕ) (p after : Pass) → IsLivePass h k p → offset < h.shape.capacity → HasCell h.shape lane i
+    → MayRead p offset lane → at ≡ place_of h.shape (version_word offset lane i) → found ≡ get_or h.words at 0
     → after ≡ pass_with_cell at offset lane i p found
     → IsEvent (layout h.shape) (world_of h) k (acts (load_cell offset lane i)) (record { words = set h.words at found; passes = set h.passes k after })
 cell_load_does h k at offset lane i found p after live low has may e v is =
@@ -83,7 +92,8 @@ cell_load_does h k at offset lane i found p after live low has may e v is =
     (loads_cell offset lane i j low (version_at h.shape lane i has.0 has.1) (cell_within h lane i has) may) e word
     (is ∙ ap₂ (λ (a b : ℕ). pass_with_cell a offset lane i p b) e word)
 
-pub cell_load_only : (h : WorldValue) (k offset lane i : ℕ) (p : Pass) (y : World) → IsLivePass h k p → IsEvent (layout h.shape) (world_of h) k (acts (load_cell offset lane i)) y → (offset < h.shape.capacity) × HasCell h.shape lane i × MayRead p offset lane
+pub cell_load_only : (h : WorldValue) (k offset lane i : ℕ) (p : Pass) (y : World) → IsLivePass h k p
+    → IsEvent (layout h.shape) (world_of h) k (acts (load_cell offset lane i)) y → (offset < h.shape.capacity) × HasCell h.shape lane i × MayRead p offset lane
 cell_load_only h k offset lane i p y live does =
     let sh = layout h.shape in
     let A = acts_of sh (world_of h) k (load_cell offset lane i) y does in

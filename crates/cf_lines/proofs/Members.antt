@@ -22,15 +22,18 @@ pub read_bad : (front : List Attr) (m n : ℕ) (text : List ℕ) → m ≡ suc n
 unfolding attrs_at
 read_bad front m n text e h = rw (e, h) refl
 
-pub read_last : (front : List Attr) (m n : ℕ) (text : List ℕ) (attr : Attr) → m ≡ suc n → member_at (run (classes.Except 44) text) ≡ Some attr → (length (past (classes.Except 44) text) == 0) ≡ true → read_on front m text ≡ Some (front ++ attr ∷ [])
+pub read_last : (front : List Attr) (m n : ℕ) (text : List ℕ) (attr : Attr) → m ≡ suc n → member_at (run (classes.Except 44) text) ≡ Some attr
+    → (length (past (classes.Except 44) text) == 0) ≡ true → read_on front m text ≡ Some (front ++ attr ∷ [])
 unfolding attrs_at
 read_last front m n text attr e h last = rw (e, h, last) refl
 
-joined : (front : List Attr) (attr : Attr) (o : Option (List Attr)) → option_map (λ more. front ++ more) (option_map (λ attrs. attr ∷ attrs) o) ≡ option_map (λ more. (front ++ attr ∷ []) ++ more) o
+joined : (front : List Attr) (attr : Attr) (o : Option (List Attr))
+    → option_map (λ more. front ++ more) (option_map (λ attrs. attr ∷ attrs) o) ≡ option_map (λ more. (front ++ attr ∷ []) ++ more) o
 joined front attr (Some xs) = ap Some (sym (append_assoc front (attr ∷ []) xs))
 joined front attr None = refl
 
-pub read_more : (front : List Attr) (m n : ℕ) (text : List ℕ) (attr : Attr) → m ≡ suc n → member_at (run (classes.Except 44) text) ≡ Some attr → (length (past (classes.Except 44) text) == 0) ≡ false → read_on front m text ≡ read_on (front ++ attr ∷ []) n (drop 1 (past (classes.Except 44) text))
+pub read_more : (front : List Attr) (m n : ℕ) (text : List ℕ) (attr : Attr) → m ≡ suc n → member_at (run (classes.Except 44) text) ≡ Some attr
+    → (length (past (classes.Except 44) text) == 0) ≡ false → read_on front m text ≡ read_on (front ++ attr ∷ []) n (drop 1 (past (classes.Except 44) text))
 unfolding attrs_at
 read_more front m n text attr e h more = rw (e, h, more) (joined front attr (attrs_at n (drop 1 (past (classes.Except 44) text))))
 
@@ -70,7 +73,8 @@ name_byte_low b h = elim (or_cases (is_between 97 122 b || is_between 48 57 b) (
 low_at : (bytes : List ℕ) (k d : ℕ) → list_all (passes classes.Name) bytes ≡ true → k < length bytes → get_or bytes k d < 128
 low_at [] k d h lt = absurd (omega (arith, lt))
 low_at (b ∷ bytes) zero d h lt = let both = and_parts (passes classes.Name b) (list_all (passes classes.Name) bytes) h in name_byte_low b both.0
-low_at (b ∷ bytes) (suc k) d h lt = let both = and_parts (passes classes.Name b) (list_all (passes classes.Name) bytes) h in low_at bytes k d both.1 (omega (arith, lt))
+low_at (b ∷ bytes) (suc k) d h lt = let both = and_parts (passes classes.Name b) (list_all (passes classes.Name) bytes) h in
+    low_at bytes k d both.1 (omega (arith, lt))
 
 pub all_low : (bytes : List ℕ) → list_all (passes classes.Name) bytes ≡ true → All (λ b. b < 128) bytes
 all_low bytes h = λ k d lt. low_at bytes k d h lt

@@ -80,7 +80,8 @@ pub record IsKindText (text : List ℕ) (kind : Kind) : Type 0 where
   pub whole : text ≡ kind_text kind
   pub sized : has_good_size kind ≡ true
 
-kind_step : (text word : List ℕ) (this kind : Kind) (other : Option Kind) → word ≡ kind_text this → has_good_size this ≡ true → cond (bytes_eq text word) (Some this) other ≡ Some kind → (other ≡ Some kind → IsKindText text kind) → IsKindText text kind
+kind_step : (text word : List ℕ) (this kind : Kind) (other : Option Kind) → word ≡ kind_text this → has_good_size this ≡ true
+    → cond (bytes_eq text word) (Some this) other ≡ Some kind → (other ≡ Some kind → IsKindText text kind) → IsKindText text kind
 kind_step text word this kind other w good h more =
     elim (bytes_eq text word) as (λ b. bytes_eq text word ≡ b → cond b (Some this) other ≡ Some kind → IsKindText text kind) [
       | true ↦ λ e k. let same : this ≡ kind = cc in subst (IsKindText text) same (record { whole = (bytes_eq-Decides text word).0 e ∙ w; sized = good })
@@ -90,7 +91,8 @@ kind_step text word this kind other w good h more =
 string_found : (text : List ℕ) (kind : Kind) → option_map Bytes (option_and_then size_at (strip_at (codes "b") text)) ≡ Some kind → IsKindText text kind
 string_found text kind h = by (strip_at (codes "b") text) refl h
   where
-    sized_by : (digits : List ℕ) → strip_at (codes "b") text ≡ Some digits → (o : Option ℕ) → size_at digits ≡ o → option_map Bytes o ≡ Some kind → IsKindText text kind
+    sized_by : (digits : List ℕ) → strip_at (codes "b") text ≡ Some digits → (o : Option ℕ) → size_at digits ≡ o → option_map Bytes o ≡ Some kind
+        → IsKindText text kind
     sized_by digits e None o k = cc
     sized_by digits e (Some n) o k =
         let is = size_found digits n o in
@@ -106,7 +108,10 @@ string_found text kind h = by (strip_at (codes "b") text) refl h
 
 kind_found : (text : List ℕ) (kind : Kind) → kind_named text ≡ Some kind → IsKindText text kind
 kind_found text kind h =
-    kind_step text (codes "u8") U8 kind _ refl refl h (λ h1. kind_step text (codes "u16") U16 kind _ refl refl h1 (λ h2. kind_step text (codes "u32") U32 kind _ refl refl h2 (λ h3. kind_step text (codes "u64") U64 kind _ refl refl h3 (λ h4. string_found text kind h4))))
+    kind_step text (codes "u8") U8 kind _ refl refl h
+        (λ h1. kind_step text (codes "u16") U16 kind _ refl refl h1
+        (λ h2. kind_step text (codes "u32") U32 kind _ refl refl h2
+        (λ h3. kind_step text (codes "u64") U64 kind _ refl refl h3 (λ h4. string_found text kind h4))))
 
 -- a byte of a name is none of the separators, and so of a kind
 
@@ -134,11 +139,13 @@ name_byte b other h which = rw (ne_eqb b other (apart which)) refl
     apart (inl e) same = clash b (inl (same ∙ e)) range
     apart (inr e) same = clash b (inr (same ∙ e)) range
 
-name_plain : (name : List ℕ) (other : ℕ) → list_all (passes classes.Name) name ≡ true → (other ≡ 44) ⊎ (other ≡ 58) → list_all (passes (classes.Except other)) name ≡ true
+name_plain : (name : List ℕ) (other : ℕ) → list_all (passes classes.Name) name ≡ true → (other ≡ 44) ⊎ (other ≡ 58)
+    → list_all (passes (classes.Except other)) name ≡ true
 name_plain [] other h which = refl
 name_plain (b ∷ name) other h which =
     let both = and_parts (passes classes.Name b) (list_all (passes classes.Name) name) h in
-    and_from (passes (classes.Except other) b) (list_all (passes (classes.Except other)) name) (name_byte b other both.0 which) (name_plain name other both.1 which)
+    and_from (passes (classes.Except other) b) (list_all (passes (classes.Except other)) name) (name_byte b other both.0 which)
+        (name_plain name other both.1 which)
 
 kind_plain : (kind : Kind) → list_all (passes (classes.Except 44)) (kind_text kind) ≡ true
 kind_plain U8 = refl
@@ -166,7 +173,8 @@ member_plain attr h =
 member_only : (attr : Attr) → is_spelled attr ≡ true → has_good_size attr.kind ≡ true → member_at (member_text attr) ≡ Some attr
 unfolding member_at
 member_only attr h good =
-    let is : IsRun (classes.Except 58) (member_text attr) attr.name (58 ∷ kind_text attr.kind) = record { whole = refl; within = name_plain attr.name 58 (name_all attr.name h) (inr refl); ends = refl } in
+    let is : IsRun (classes.Except 58) (member_text attr) attr.name (58 ∷ kind_text attr.kind) =
+        record { whole = refl; within = name_plain attr.name 58 (name_all attr.name h) (inr refl); ends = refl } in
     let cut = run_only (classes.Except 58) (member_text attr) attr.name (58 ∷ kind_text attr.kind) is in
     rw (← cut.0, ← cut.1, kind_only attr.kind good, h) refl
 
@@ -183,7 +191,9 @@ member_found member attr h =
     let found = cond_some (is_name 16 (run (classes.Except 58) member)) (record { name = run (classes.Except 58) member; kind = kind }) attr hk in
     let is = kind_found text kind ek in
     let cut = run_is (classes.Except 58) member in
-    let whole : member ≡ run (classes.Except 58) member ++ 58 ∷ kind_text kind = cut.whole ∙ ap (λ rest. run (classes.Except 58) member ++ rest) (strip_found (codes ":") (past (classes.Except 58) member) text et ∙ ap (λ xs. 58 ∷ xs) is.whole) in
+    let whole : member ≡ run (classes.Except 58) member ++ 58 ∷ kind_text kind = cut.whole
+        ∙ ap (λ rest. run (classes.Except 58) member ++ rest)
+        (strip_found (codes ":") (past (classes.Except 58) member) text et ∙ ap (λ xs. 58 ∷ xs) is.whole) in
     subst (IsMember member) found.1 (record { whole = whole; spelled = found.0; sized = is.sized })))
 
 -- lists
@@ -194,21 +204,24 @@ pub record IsList (list : List ℕ) (attrs : List Attr) : Type 0 where
   pub spelled : list_all is_spelled attrs ≡ true
   pub sized : list_all (λ attr. has_good_size attr.kind) attrs ≡ true
 
-attrs_only : (attrs : List Attr) (n : ℕ) → 1 ≤ length attrs → length attrs ≤ n → list_all is_spelled attrs ≡ true → list_all (λ attr. has_good_size attr.kind) attrs ≡ true → attrs_at n (join_with_byte 44 (map member_text attrs)) ≡ Some attrs
+attrs_only : (attrs : List Attr) (n : ℕ) → 1 ≤ length attrs → length attrs ≤ n → list_all is_spelled attrs ≡ true
+    → list_all (λ attr. has_good_size attr.kind) attrs ≡ true → attrs_at n (join_with_byte 44 (map member_text attrs)) ≡ Some attrs
 unfolding attrs_at
 attrs_only [] n some few spelled sized = absurd (omega (arith, some))
 attrs_only (attr ∷ attrs) zero some few spelled sized = absurd (omega (arith, few))
 attrs_only (attr ∷ []) (suc n) some few spelled sized =
     let good = and_parts (is_spelled attr) true spelled in
     let fit = and_parts (has_good_size attr.kind) true sized in
-    let is : IsRun (classes.Except 44) (member_text attr) (member_text attr) [] = record { whole = sym (append-nil (member_text attr)); within = member_plain attr good.0; ends = refl } in
+    let is : IsRun (classes.Except 44) (member_text attr) (member_text attr) [] =
+        record { whole = sym (append-nil (member_text attr)); within = member_plain attr good.0; ends = refl } in
     let cut = run_only (classes.Except 44) (member_text attr) (member_text attr) [] is in
     rw (← cut.0, ← cut.1, member_only attr good.0 fit.0) refl
 attrs_only (attr ∷ (next ∷ more)) (suc n) some few spelled sized =
     let good = and_parts (is_spelled attr) (list_all is_spelled (next ∷ more)) spelled in
     let fit = and_parts (has_good_size attr.kind) (list_all (λ attr. has_good_size attr.kind) (next ∷ more)) sized in
     let rest : List ℕ = join_with_byte 44 (map member_text (next ∷ more)) in
-    let is : IsRun (classes.Except 44) (member_text attr ++ 44 ∷ rest) (member_text attr) (44 ∷ rest) = record { whole = refl; within = member_plain attr good.0; ends = refl } in
+    let is : IsRun (classes.Except 44) (member_text attr ++ 44 ∷ rest) (member_text attr) (44 ∷ rest) =
+        record { whole = refl; within = member_plain attr good.0; ends = refl } in
     let cut = run_only (classes.Except 44) (member_text attr ++ 44 ∷ rest) (member_text attr) (44 ∷ rest) is in
     let later : attrs_at n rest ≡ Some (next ∷ more) = attrs_only (next ∷ more) n (omega arith) (omega (arith, few)) good.1 fit.1 in
     rw (← cut.0, ← cut.1, member_only attr good.0 fit.0, some_len 44 rest, later) refl
@@ -222,24 +235,30 @@ comma (b ∷ bs) h some = by (b == 44) refl h
     by true t k = ap (λ x. x ∷ bs) (eqb-true b 44 t)
     by false t k = absurd (omega (arith, k))
 
-joined : (front : List ℕ) (attrs : List Attr) → 1 ≤ length attrs → front ++ 44 ∷ join_with_byte 44 (map member_text attrs) ≡ join_with_byte 44 (front ∷ map member_text attrs)
+joined : (front : List ℕ) (attrs : List Attr) → 1 ≤ length attrs
+    → front ++ 44 ∷ join_with_byte 44 (map member_text attrs) ≡ join_with_byte 44 (front ∷ map member_text attrs)
 joined front [] some = absurd (omega (arith, some))
 joined front (attr ∷ attrs) some = refl
 
 attrs_found : (n : ℕ) (list : List ℕ) (attrs : List Attr) → attrs_at n list ≡ Some attrs → IsList list attrs
 unfolding attrs_at
 attrs_found zero list attrs h = cc
-attrs_found (suc n) list attrs h = option_and_then_some _ (member_at (run (classes.Except 44) list)) attrs h (λ attr e k. by attr e (attrs_found n (drop 1 (past (classes.Except 44) list))) (length (past (classes.Except 44) list) == 0) refl k)
+attrs_found (suc n) list attrs h =
+    option_and_then_some _ (member_at (run (classes.Except 44) list)) attrs h
+    (λ attr e k. by attr e (attrs_found n (drop 1 (past (classes.Except 44) list))) (length (past (classes.Except 44) list) == 0) refl k)
   where
     cut : IsRun (classes.Except 44) list (run (classes.Except 44) list) (past (classes.Except 44) list)
     cut = run_is (classes.Except 44) list
 
-    more : (attr : Attr) → IsMember (run (classes.Except 44) list) attr → (length (past (classes.Except 44) list) == 0) ≡ false → (attrs : List Attr) → IsList (drop 1 (past (classes.Except 44) list)) attrs → IsList list (attr ∷ attrs)
+    more : (attr : Attr) → IsMember (run (classes.Except 44) list) attr → (length (past (classes.Except 44) list) == 0) ≡ false → (attrs : List Attr)
+        → IsList (drop 1 (past (classes.Except 44) list)) attrs → IsList list (attr ∷ attrs)
     more attr is t attrs l =
         let c = cut in
         record {
           some = omega arith;
-          written = c.whole ∙ ap (λ xs. xs ++ past (classes.Except 44) list) is.whole ∙ ap (λ xs. member_text attr ++ xs) (comma (past (classes.Except 44) list) c.ends t ∙ ap (λ xs. 44 ∷ xs) l.written) ∙ joined (member_text attr) attrs l.some;
+          written = c.whole ∙ ap (λ xs. xs ++ past (classes.Except 44) list) is.whole
+              ∙ ap (λ xs. member_text attr ++ xs) (comma (past (classes.Except 44) list) c.ends t ∙ ap (λ xs. 44 ∷ xs) l.written)
+              ∙ joined (member_text attr) attrs l.some;
           spelled = and_from (is_spelled attr) (list_all is_spelled attrs) is.spelled l.spelled;
           sized = and_from (has_good_size attr.kind) (list_all (λ attr. has_good_size attr.kind) attrs) is.sized l.sized;
         }
@@ -249,18 +268,26 @@ attrs_found (suc n) list attrs h = option_and_then_some _ (member_at (run (class
         let c = cut in
         record {
           some = omega arith;
-          written = c.whole ∙ ap (λ xs. run (classes.Except 44) list ++ xs) (empty_is (past (classes.Except 44) list) t) ∙ append-nil (run (classes.Except 44) list) ∙ is.whole;
+          written = c.whole ∙ ap (λ xs. run (classes.Except 44) list ++ xs) (empty_is (past (classes.Except 44) list) t)
+              ∙ append-nil (run (classes.Except 44) list) ∙ is.whole;
           spelled = and_from (is_spelled attr) true is.spelled refl;
           sized = and_from (has_good_size attr.kind) true is.sized refl;
         }
 
-    joined_by : (attr : Attr) → IsMember (run (classes.Except 44) list) attr → (length (past (classes.Except 44) list) == 0) ≡ false → (o : Option (List Attr)) → ((found : List Attr) → o ≡ Some found → IsList (drop 1 (past (classes.Except 44) list)) found) → option_map (λ others. attr ∷ others) o ≡ Some attrs → IsList list attrs
+    joined_by : (attr : Attr) → IsMember (run (classes.Except 44) list) attr → (length (past (classes.Except 44) list) == 0) ≡ false
+        → (o : Option (List Attr)) → ((found : List Attr) → o ≡ Some found → IsList (drop 1 (past (classes.Except 44) list)) found)
+        → option_map (λ others. attr ∷ others) o ≡ Some attrs → IsList list attrs
     joined_by attr is t None later k = cc
     joined_by attr is t (Some others) later k = let same : attr ∷ others ≡ attrs = cc in subst (IsList list) same (more attr is t others (later others refl))
 
-    by : (attr : Attr) → member_at (run (classes.Except 44) list) ≡ Some attr → ((found : List Attr) → attrs_at n (drop 1 (past (classes.Except 44) list)) ≡ Some found → IsList (drop 1 (past (classes.Except 44) list)) found) → (t : Bool) → (length (past (classes.Except 44) list) == 0) ≡ t → cond t (Some (attr ∷ [])) (option_map (λ others. attr ∷ others) (attrs_at n (drop 1 (past (classes.Except 44) list)))) ≡ Some attrs → IsList list attrs
+    by : (attr : Attr) → member_at (run (classes.Except 44) list) ≡ Some attr
+        → ((found : List Attr) → attrs_at n (drop 1 (past (classes.Except 44) list)) ≡ Some found → IsList (drop 1 (past (classes.Except 44) list)) found)
+        → (t : Bool) → (length (past (classes.Except 44) list) == 0) ≡ t
+        → cond t (Some (attr ∷ [])) (option_map (λ others. attr ∷ others) (attrs_at n (drop 1 (past (classes.Except 44) list)))) ≡ Some attrs
+        → IsList list attrs
     by attr e later true t k = let same : attr ∷ [] ≡ attrs = cc in subst (IsList list) same (alone attr (member_found (run (classes.Except 44) list) attr e) t)
-    by attr e later false t k = joined_by attr (member_found (run (classes.Except 44) list) attr e) t (attrs_at n (drop 1 (past (classes.Except 44) list))) later k
+    by attr e later false t k =
+        joined_by attr (member_found (run (classes.Except 44) list) attr e) t (attrs_at n (drop 1 (past (classes.Except 44) list))) later k
 
 -- schemas
 
@@ -276,7 +303,8 @@ schema_only list attrs h =
 
 schema_parts : (attrs : List Attr) → is_schema attrs ≡ true → IsSchema attrs
 schema_parts attrs h =
-    let last = and_parts ((nat_le (length attrs) 24 && not (has_name_twice attrs)) && list_any is_time_stamp attrs) (list_all (λ attr. has_good_size attr.kind) attrs) h in
+    let last = and_parts ((nat_le (length attrs) 24 && not (has_name_twice attrs)) && list_any is_time_stamp attrs)
+        (list_all (λ attr. has_good_size attr.kind) attrs) h in
     let third = and_parts (nat_le (length attrs) 24 && not (has_name_twice attrs)) (list_any is_time_stamp attrs) last.0 in
     let second = and_parts (nat_le (length attrs) 24) (not (has_name_twice attrs)) third.0 in
     record { few = leb-true (length attrs) 24 second.0; apart = flip (has_name_twice attrs) second.1; stamped = third.1; sized = last.1 }

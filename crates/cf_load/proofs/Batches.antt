@@ -53,7 +53,8 @@ pub first_book : (p : Pass) → Rests p → Holds p 0 (book_of p)
 first_book p rests = ap (λ (bs : List Book). slice_get bs 0) rests.one
 
 -- a pass's book is among those of all
-pub book_in : (passes : List PassValue) (k : ℕ) (h : PassValue) (b : Book) → slice_get passes k ≡ Some h → Holds h.view 0 b → (i : ℕ) × (slice_get (books_of passes) i ≡ Some b)
+pub book_in : (passes : List PassValue) (k : ℕ) (h : PassValue) (b : Book) → slice_get passes k ≡ Some h → Holds h.view 0 b → (i : ℕ)
+    × (slice_get (books_of passes) i ≡ Some b)
 unfolding books_of
 book_in [] k h b at holds = absurd (cc at)
 book_in (x ∷ xs) zero h b at holds =
@@ -64,14 +65,16 @@ book_in (x ∷ xs) (suc k) h b at holds =
     (length (x.view).books + r.0, get_back (x.view).books (books_of xs) r.0 b r.1)
 
 -- what stands beside an element of the first list
-pub zip_at : {A B : Type 0} (R : A → B → Type 0) (xs : List A) (ys : List B) (k : ℕ) (x : A) → AllZip R xs ys → slice_get xs k ≡ Some x → (y : B) × (slice_get ys k ≡ Some y) × R x y
+pub zip_at : {A B : Type 0} (R : A → B → Type 0) (xs : List A) (ys : List B) (k : ℕ) (x : A) → AllZip R xs ys → slice_get xs k ≡ Some x → (y : B)
+    × (slice_get ys k ≡ Some y) × R x y
 zip_at R [] ys k x all at = absurd (cc at)
 zip_at R (a ∷ xs) [] k x all at = absurd all
 zip_at R (a ∷ xs) (b ∷ ys) zero x all at = (let e : a ≡ x = cc at in (b, refl, subst (λ c. R c b) e all.0))
 zip_at R (a ∷ xs) (b ∷ ys) (suc k) x all at = zip_at R xs ys k x all.1 at
 
 -- what stands beside an element of the second list
-pub zip_back : {A B : Type 0} (R : A → B → Type 0) (xs : List A) (ys : List B) (k : ℕ) (y : B) → AllZip R xs ys → slice_get ys k ≡ Some y → (x : A) × (slice_get xs k ≡ Some x) × R x y
+pub zip_back : {A B : Type 0} (R : A → B → Type 0) (xs : List A) (ys : List B) (k : ℕ) (y : B) → AllZip R xs ys → slice_get ys k ≡ Some y → (x : A)
+    × (slice_get xs k ≡ Some x) × R x y
 zip_back R [] [] k y all at = absurd (cc at)
 zip_back R [] (b ∷ ys) k y all at = absurd all
 zip_back R (a ∷ xs) [] k y all at = absurd all
@@ -86,12 +89,14 @@ zip_long R (a ∷ xs) [] all = absurd all
 zip_long R (a ∷ xs) (b ∷ ys) all = ap suc (zip_long R xs ys all.1)
 
 -- each entry that was seen is of a writer
-pub fit_exist : (writers : ℕ) (es : List Entry) → ((o : ℕ) (e : Entry) → slice_get es o ≡ Some e → e.writer < writers) → AllByRecursion (λ e. e.writer < writers) es
+pub fit_exist : (writers : ℕ) (es : List Entry) → ((o : ℕ) (e : Entry) → slice_get es o ≡ Some e → e.writer < writers)
+    → AllByRecursion (λ e. e.writer < writers) es
 fit_exist writers [] each = tt
 fit_exist writers (e ∷ es) each = (each 0 e refl, fit_exist writers es (λ o x at. each (suc o) x at))
 
 -- a pass that was dealt is ready to write
-pub ready_one : (log : LogValue) (first : ℕ) (rows : List RowValue) (m r : PassValue) (passes : List PassValue) → HasLoaded log first rows m → AreDealt log m passes r → (k : ℕ) (h : PassValue) → slice_get passes k ≡ Some h → IsReady log h
+pub ready_one : (log : LogValue) (first : ℕ) (rows : List RowValue) (m r : PassValue) (passes : List PassValue) → HasLoaded log first rows m
+    → AreDealt log m passes r → (k : ℕ) (h : PassValue) → slice_get passes k ≡ Some h → IsReady log h
 ready_one log first rows m r passes has dealt k h at =
     let d = dealt.each k h at in
     let book : book_of h.view ≡ d.book = ap (λ (p : Pass). book_of p) d.view in record {
@@ -103,11 +108,13 @@ ready_one log first rows m r passes has dealt k h at =
     }
 
 -- all passes that were dealt are ready to write
-pub ready_passes : (log : LogValue) (first : ℕ) (rows : List RowValue) (m r : PassValue) (passes : List PassValue) → HasLoaded log first rows m → AreDealt log m passes r → All (IsReady log) passes
+pub ready_passes : (log : LogValue) (first : ℕ) (rows : List RowValue) (m r : PassValue) (passes : List PassValue) → HasLoaded log first rows m
+    → AreDealt log m passes r → All (IsReady log) passes
 ready_passes log first rows m r passes has dealt k d lt = ready_one log first rows m r passes has dealt k (get_or passes k d) (slice_get-get_or passes k d lt)
 
 -- passes that wrote may come home
-pub homeward : (whole : Bool) (log : LogValue) (first : ℕ) (batch : List RowValue) (passes after : List PassValue) → All (IsReady log) passes → AreAll log passes → AllZip (Wrote whole log first batch) passes after → AreAll log after
+pub homeward : (whole : Bool) (log : LogValue) (first : ℕ) (batch : List RowValue) (passes after : List PassValue) → All (IsReady log) passes
+    → AreAll log passes → AllZip (Wrote whole log first batch) passes after → AreAll log after
 homeward whole log first batch passes after ready all wrote = record {
   of = λ k a at. of k a at;
   rest = λ k a at j b holds. rest k a at j b holds;
@@ -125,7 +132,8 @@ homeward whole log first batch passes after ready all wrote = record {
         let z = zip_back (Wrote whole log first batch) passes after k a wrote at in
         ap (λ (c : Book). c.flight) (only_book a.view (z.2).rest j b holds) ∙ (z.2).rest.free
 
-    writers : (w : ℕ) → w < (log.shape).writers → (k : ℕ) × (h : PassValue) × (j : ℕ) × (b : Book) × (slice_get after k ≡ Some h) × Holds h.view j b × (b.writer ≡ w)
+    writers : (w : ℕ) → w < (log.shape).writers → (k : ℕ) × (h : PassValue) × (j : ℕ) × (b : Book) × (slice_get after k ≡ Some h) × Holds h.view j b
+        × (b.writer ≡ w)
     writers w lt =
         let r = all.writers w lt in
         let k : ℕ = r.0 in
@@ -138,7 +146,9 @@ homeward whole log first batch passes after ready all wrote = record {
         (k, z.0, 0, book_of (z.0).view, z.1, first_book (z.0).view (z.2).rest, (z.2).writer ∙ mine)
 
 -- passes that were told nothing tell nothing
-pub quiet : (whole : Bool) (log : LogValue) (first : ℕ) (batch : List RowValue) (hs gs : List PassValue) (ts : List ℕ) → AllZip (Wrote whole log first batch) hs gs → ((k : ℕ) (h : PassValue) → slice_get hs k ≡ Some h → ((h.view).tails ≡ []) × ((h.view).told ≡ [])) → told_by ts gs ≡ ts
+pub quiet : (whole : Bool) (log : LogValue) (first : ℕ) (batch : List RowValue) (hs gs : List PassValue) (ts : List ℕ)
+    → AllZip (Wrote whole log first batch) hs gs → ((k : ℕ) (h : PassValue) → slice_get hs k ≡ Some h → ((h.view).tails ≡ []) × ((h.view).told ≡ []))
+    → told_by ts gs ≡ ts
 unfolding told_by
 quiet whole log first batch [] [] ts all each = refl
 quiet whole log first batch [] (a ∷ gs) ts all each = absurd all
@@ -151,9 +161,11 @@ quiet whole log first batch (h ∷ hs) (a ∷ gs) ts all each =
     ap (λ (us : List ℕ). told_by us gs) none ∙ quiet whole log first batch hs gs ts all.1 (λ k x at. each (suc k) x at)
 
 -- passes that were dealt and then wrote tell a root nothing
-pub told_home : (whole : Bool) (log : LogValue) (first : ℕ) (batch : List RowValue) (m r : PassValue) (passes after : List PassValue) → AreDealt log m passes r → AllZip (Wrote whole log first batch) passes after → (told : List ℕ) → told_by told after ≡ told
+pub told_home : (whole : Bool) (log : LogValue) (first : ℕ) (batch : List RowValue) (m r : PassValue) (passes after : List PassValue)
+    → AreDealt log m passes r → AllZip (Wrote whole log first batch) passes after → (told : List ℕ) → told_by told after ≡ told
 told_home whole log first batch m r passes after dealt wrote told =
-    quiet whole log first batch passes after told wrote (λ k h at. (let d = dealt.each k h at in (ap (λ (p : Pass). p.tails) d.view, ap (λ (p : Pass). p.told) d.view)))
+    quiet whole log first batch passes after told wrote
+        (λ k h at. (let d = dealt.each k h at in (ap (λ (p : Pass). p.tails) d.view, ap (λ (p : Pass). p.told) d.view)))
 
 -- no part of an empty list has anything
 pub nothing : (X : Type 0) (j : ℕ) → take 4096 (drop {A = X} j []) ≡ []
@@ -167,7 +179,8 @@ opened log first m of is = record {
   is = subst (λ (p : Pass). IsLogFrom first [] (log.shape).writers p.seen) (sym is) none;
   own = λ w lt. ap (λ (p : Pass). written_by w p.seen) is;
   nodes = subst (λ (p : Pass). HasNodes log.shape [] p) (sym is) (record {
-    needed = λ k j b s held used. absurd (let e = new_book k b held in let f : slice_get {X = Spot} [] j ≡ Some s = ap (λ (c : Book). slice_get c.used j) e ∙ used in cc f);
+    needed = λ k j b s held used. absurd
+        (let e = new_book k b held in let f : slice_get {X = Spot} [] j ≡ Some s = ap (λ (c : Book). slice_get c.used j) e ∙ used in cc f);
     room = λ k b held. (let e = ap (λ (c : Book). length c.used) (new_book k b held) in omega (arith, e));
     paths = λ o l d e xs q x at path. absurd (cc at);
   });
@@ -175,7 +188,8 @@ opened log first m of is = record {
   where
     new_book : (k : ℕ) (b : Book) → slice_get (tabulated no_book (log.shape).writers) k ≡ Some b → no_book k ≡ b
     new_book k b at =
-        let lt : k < (log.shape).writers = omega (arith, slice_get_within (tabulated no_book (log.shape).writers) k b at, table_length no_book (log.shape).writers) in
+        let lt : k < (log.shape).writers =
+            omega (arith, slice_get_within (tabulated no_book (log.shape).writers) k b at, table_length no_book (log.shape).writers) in
         let f : Some (no_book k) ≡ Some b = sym (table_at no_book (log.shape).writers k lt) ∙ at in cc f
 
     none : IsLogFrom first [] (log.shape).writers []
@@ -193,7 +207,8 @@ pub needed_right : (shape : ShapeValue) (rows more : List RowValue) (s : Spot) �
 needed_right shape rows more s n = (let h = has_right rows more n.row (n.place, n.at) in record { place = h.0; row = n.row; at = h.1; on = n.on })
 
 -- a writer that ran out while some rows need one more node did so while more rows do
-pub run_out_more : (shape : ShapeValue) (first : ℕ) (rows more : List RowValue) (w : ℕ) (p : Pass) → HasRunOut shape first rows w p → HasRunOut shape first (rows ++ more) w p
+pub run_out_more : (shape : ShapeValue) (first : ℕ) (rows more : List RowValue) (w : ℕ) (p : Pass) → HasRunOut shape first rows w p
+    → HasRunOut shape first (rows ++ more) w p
 run_out_more shape first rows more w p r = record {
   place = r.place;
   book = r.book;
@@ -208,7 +223,8 @@ run_out_more shape first rows more w p r = record {
 }
 
 -- each of the books of passes at rest is a pass's one book
-pub book_from : (after : List PassValue) → ((i : ℕ) (a : PassValue) → slice_get after i ≡ Some a → Rests a.view) → (k : ℕ) (b : Book) → slice_get (books_of after) k ≡ Some b → (i : ℕ) × (a : PassValue) × (slice_get after i ≡ Some a) × (b ≡ book_of a.view)
+pub book_from : (after : List PassValue) → ((i : ℕ) (a : PassValue) → slice_get after i ≡ Some a → Rests a.view) → (k : ℕ) (b : Book)
+    → slice_get (books_of after) k ≡ Some b → (i : ℕ) × (a : PassValue) × (slice_get after i ≡ Some a) × (b ≡ book_of a.view)
 unfolding books_of
 book_from [] rest k b at = absurd (cc at)
 book_from (x ∷ xs) rest k b at = elim (in_either (x.view).books (books_of xs) k b at) [
@@ -217,7 +233,9 @@ book_from (x ∷ xs) rest k b at = elim (in_either (x.view).books (books_of xs) 
 ]
 
 -- The passes that wrote came home.
-module _ (whole : Bool) (log : LogValue) (first : ℕ) (rows batch : List RowValue) (m r n : PassValue) (passes after : List PassValue) (has : HasLoaded log first rows m) (dealt : AreDealt log m passes r) (wrote : AllZip (Wrote whole log (first + length rows) batch) passes after) (g : HasGathered log.shape r after n) where
+module _ (whole : Bool) (log : LogValue) (first : ℕ) (rows batch : List RowValue) (m r n : PassValue) (passes after : List PassValue)
+    (has : HasLoaded log first rows m) (dealt : AreDealt log m passes r) (wrote : AllZip (Wrote whole log (first + length rows) batch) passes after)
+    (g : HasGathered log.shape r after n) where
   -- what was seen before, what came, and how many writers there are
   abbrev pub seen : List Entry
   seen = (m.view).seen
@@ -240,7 +258,9 @@ module _ (whole : Bool) (log : LogValue) (first : ℕ) (rows batch : List RowVal
   new_exist = all_drop (λ e. e.writer < W) (length seen) (n.view).seen (fit_exist W (n.view).seen (λ o e at. (g.fit o e at).1))
 
   -- what a pass wrote whose writer had this book
-  pub wrote_part : (w k : ℕ) (h a : PassValue) (b : Book) → Holds m.view k b → b.writer ≡ w → slice_get passes k ≡ Some h → slice_get after k ≡ Some a → Wrote whole log (first + length rows) batch h a → length rows + length batch ≤ (log.shape).capacity → WrotePart whole W (first + length rows) batch new w
+  pub wrote_part : (w k : ℕ) (h a : PassValue) (b : Book) → Holds m.view k b → b.writer ≡ w → slice_get passes k ≡ Some h → slice_get after k ≡ Some a
+      → Wrote whole log (first + length rows) batch h a → length rows + length batch ≤ (log.shape).capacity
+      → WrotePart whole W (first + length rows) batch new w
   wrote_part w k h a b held own at there wr room = record {
     left = wr.left;
     split = ap (λ rs. rs ++ wr.left) wrote_done ∙ (wr.split ∙ ap (λ v. rows_of W v (first + length rows) batch) writer);
@@ -272,7 +292,9 @@ module _ (whole : Bool) (log : LogValue) (first : ℕ) (rows batch : List RowVal
       before = ap rows_of_book same ∙ (ap (map (λ (o : Own). o.row)) (has.settled.all k b held) ∙ (mine_rows b.writer 0 seen ∙ ap (λ v. written_by v seen) own))
 
       now : rows_of_book (book_of a.view) ≡ written_by w seen ++ written_by w new
-      now = ap (map (λ (o : Own). o.row)) (g.settled.all place.0 (book_of a.view) holds) ∙ (mine_rows (book_of a.view).writer 0 (n.view).seen ∙ (ap (λ v. written_by v (n.view).seen) (wr.writer ∙ writer) ∙ (ap (written_by w) goes_on ∙ written_append w seen new)))
+      now = ap (map (λ (o : Own). o.row)) (g.settled.all place.0 (book_of a.view) holds)
+          ∙ (mine_rows (book_of a.view).writer 0 (n.view).seen
+          ∙ (ap (λ v. written_by v (n.view).seen) (wr.writer ∙ writer) ∙ (ap (written_by w) goes_on ∙ written_append w seen new)))
 
       wrote_done : written_by w new ≡ wr.done
       wrote_done = append_cancel_left (written_by w seen) _ _ (sym now ∙ (wr.rows ∙ ap (λ rs. rs ++ wr.done) before))
@@ -292,7 +314,8 @@ module _ (whole : Bool) (log : LogValue) (first : ℕ) (rows batch : List RowVal
   -- the root is still the log's
   pub home_again : IsOf n log
   home_again =
-      let root : IsOf r log = still_one log m r has.of (dealt.root ∙ ap (λ (p : Pass). record m { view = p }) (ap (λ (h : PassValue). h.view) (sym dealt.root))) in
+      let root : IsOf r log =
+          still_one log m r has.of (dealt.root ∙ ap (λ (p : Pass). record m { view = p }) (ap (λ (h : PassValue). h.view) (sym dealt.root))) in
       still_one log r n root g.same
 
   -- a book that came home is that of a pass
@@ -302,7 +325,8 @@ module _ (whole : Bool) (log : LogValue) (first : ℕ) (rows batch : List RowVal
       book_from after (λ i a at. ((zip_back (Wrote whole log (first + length rows) batch) passes after i a wrote at).2).rest) k b there
 
   -- what its used nodes are for
-  pub used_by : (i : ℕ) (a : PassValue) (j : ℕ) (s : Spot) → slice_get after i ≡ Some a → slice_get (book_of a.view).used j ≡ Some s → IsNeeded log.shape (rows ++ batch) s
+  pub used_by : (i : ℕ) (a : PassValue) (j : ℕ) (s : Spot) → slice_get after i ≡ Some a → slice_get (book_of a.view).used j ≡ Some s
+      → IsNeeded log.shape (rows ++ batch) s
   used_by i a j s at used =
       let z = zip_back (Wrote whole log (first + length rows) batch) passes after i a wrote at in
       let d = dealt.each i z.0 z.1 in
@@ -322,14 +346,19 @@ module _ (whole : Bool) (log : LogValue) (first : ℕ) (rows batch : List RowVal
 
 -- Passes were dealt, each wrote of its rows of the batch what it could, and all came home: where there is room for all rows, all
 -- are in the log.
-pub batch_loaded : (log : LogValue) (first : ℕ) (rows batch : List RowValue) (b : ℕ) (m r n : PassValue) (passes after : List PassValue) → IsShape log.shape → HasLoaded log first rows m → length rows ≡ 4096 * b → length batch ≤ 4096 → length rows + length batch ≤ (log.shape).capacity → AreDealt log m passes r → AllZip (Wrote true log (first + length rows) batch) passes after → HasGathered log.shape r after n → HasLoaded log first (rows ++ batch) n
+pub batch_loaded : (log : LogValue) (first : ℕ) (rows batch : List RowValue) (b : ℕ) (m r n : PassValue) (passes after : List PassValue) → IsShape log.shape
+    → HasLoaded log first rows m → length rows ≡ 4096 * b → length batch ≤ 4096 → length rows + length batch ≤ (log.shape).capacity → AreDealt log m passes r
+    → AllZip (Wrote true log (first + length rows) batch) passes after → HasGathered log.shape r after n → HasLoaded log first (rows ++ batch) n
 batch_loaded log first rows batch b m r n passes after shape has long few room dealt wrote g =
     let W = (log.shape).writers in
     let some : 0 < W = shape.writers.0 in
     let more : List Entry = drop (length (m.view).seen) (n.view).seen in
     let exist = new_exist true log first rows batch m r n passes after has dealt wrote g in
-    let own : (w : ℕ) → w < W → written_by w more ≡ rows_of W w (first + length rows) batch = all_written W (first + length rows) batch more some exist (part_of true log first rows batch m r n passes after has dealt wrote g room) in
-    let is : IsLogFrom first (rows ++ batch) W ((m.view).seen ++ more) = log_more first rows batch W b (m.view).seen more some has.is long few exist (λ w lt. own w lt ∙ ap (λ k. rows_of W w (first + k) batch) long) in record {
+    let own : (w : ℕ) → w < W → written_by w more ≡ rows_of W w (first + length rows) batch =
+        all_written W (first + length rows) batch more some exist (part_of true log first rows batch m r n passes after has dealt wrote g room) in
+    let is : IsLogFrom first (rows ++ batch) W ((m.view).seen ++ more) =
+        log_more first rows batch W b (m.view).seen more some has.is long few exist (λ w lt. own w lt ∙ ap (λ k. rows_of W w (first + k) batch) long) in
+        record {
       of = home_again true log first rows batch m r n passes after has dealt wrote g;
       settled = g.settled;
       is = subst (IsLogFrom first (rows ++ batch) W) (sym (goes_on true log first rows batch m r n passes after has dealt wrote g)) is;
@@ -339,7 +368,8 @@ batch_loaded log first rows batch b m r n passes after shape has long few room d
     }
 
 -- a root whose books were dealt is the log's, holds none, and has seen as much
-pub root_away : (log : LogValue) (m r : PassValue) (passes : List PassValue) → IsOf m log → AreDealt log m passes r → IsOf r log × ((r.view).books ≡ []) × ((r.view).seen ≡ (m.view).seen)
+pub root_away : (log : LogValue) (m r : PassValue) (passes : List PassValue) → IsOf m log → AreDealt log m passes r → IsOf r log × ((r.view).books ≡ [])
+    × ((r.view).seen ≡ (m.view).seen)
 root_away log m r passes of dealt = (
   record { table = ap (λ (h : PassValue). h.table) dealt.root ∙ of.table; nodes = ap (λ (h : PassValue). h.nodes) dealt.root ∙ of.nodes },
   ap (λ (h : PassValue). (h.view).books) dealt.root,
@@ -347,15 +377,19 @@ root_away log m r passes of dealt = (
 )
 
 -- what the root had seen when its books were dealt, it has seen when they are home
-pub seen_grows : (log : LogValue) (m r n : PassValue) (passes after : List PassValue) → AreDealt log m passes r → HasGathered log.shape r after n → Begins (m.view).seen (n.view).seen
+pub seen_grows : (log : LogValue) (m r n : PassValue) (passes after : List PassValue) → AreDealt log m passes r → HasGathered log.shape r after n
+    → Begins (m.view).seen (n.view).seen
 seen_grows log m r n passes after dealt g = subst (λ (es : List Entry). Begins es (n.view).seen) (ap (λ (h : PassValue). (h.view).seen) dealt.root) g.own
 
 -- a root is told nothing by passes that wrote
-pub told_same : (whole : Bool) (log : LogValue) (first : ℕ) (batch : List RowValue) (m r n : PassValue) (passes after : List PassValue) → AreDealt log m passes r → AllZip (Wrote whole log first batch) passes after → HasGathered log.shape r after n → (n.view).told ≡ (m.view).told
-told_same whole log first batch m r n passes after dealt wrote g = g.told ∙ (told_home whole log first batch m r passes after dealt wrote (r.view).told ∙ ap (λ (h : PassValue). (h.view).told) dealt.root)
+pub told_same : (whole : Bool) (log : LogValue) (first : ℕ) (batch : List RowValue) (m r n : PassValue) (passes after : List PassValue)
+    → AreDealt log m passes r → AllZip (Wrote whole log first batch) passes after → HasGathered log.shape r after n → (n.view).told ≡ (m.view).told
+told_same whole log first batch m r n passes after dealt wrote g = g.told
+    ∙ (told_home whole log first batch m r passes after dealt wrote (r.view).told ∙ ap (λ (h : PassValue). (h.view).told) dealt.root)
 
 -- a root that has its books and has seen the same is settled
-pub settled_still : (shape : ShapeValue) (m n : PassValue) → HoldsAllBooks shape m.view → (n.view).books ≡ (m.view).books → (n.view).seen ≡ (m.view).seen → HoldsAllBooks shape n.view
+pub settled_still : (shape : ShapeValue) (m n : PassValue) → HoldsAllBooks shape m.view → (n.view).books ≡ (m.view).books → (n.view).seen ≡ (m.view).seen
+    → HoldsAllBooks shape n.view
 settled_still shape m n settled books seen_is = record {
   home = λ w lt. (let h = settled.home w lt in (h.0, h.1, ap (λ (bs : List Book). slice_get bs h.0) books ∙ h.2, h.3, h.4));
   rest = λ k b at. settled.rest k b (ap (λ (bs : List Book). slice_get bs k) (sym books) ∙ at);
@@ -364,7 +398,8 @@ settled_still shape m n settled books seen_is = record {
 }
 
 -- and still holds what was loaded
-pub still_loaded : (log : LogValue) (first : ℕ) (rows : List RowValue) (m n : PassValue) → HasLoaded log first rows m → IsOf n log → (n.view).books ≡ (m.view).books → (n.view).seen ≡ (m.view).seen → HasLoaded log first rows n
+pub still_loaded : (log : LogValue) (first : ℕ) (rows : List RowValue) (m n : PassValue) → HasLoaded log first rows m → IsOf n log
+    → (n.view).books ≡ (m.view).books → (n.view).seen ≡ (m.view).seen → HasLoaded log first rows n
 still_loaded log first rows m n has of books seen_is = record {
   of = of;
   settled = settled_still log.shape m n has.settled books seen_is;
@@ -373,18 +408,24 @@ still_loaded log first rows m n has of books seen_is = record {
   nodes = record {
     needed = λ k j b s at used. has.nodes.needed k j b s (ap (λ (bs : List Book). slice_get bs k) (sym books) ∙ at) used;
     room = λ k b at. has.nodes.room k b (ap (λ (bs : List Book). slice_get bs k) (sym books) ∙ at);
-    paths = λ o l d e xs q x at path. (let h = has.nodes.paths o l d e xs q x (ap (λ (es : List Entry). slice_get es o) (sym seen_is) ∙ at) path in (h.0, h.1, h.2, ap (λ (bs : List Book). slice_get bs h.0) books ∙ h.3, h.4));
+    paths = λ o l d e xs q x at path.
+        (let h = has.nodes.paths o l d e xs q x (ap (λ (es : List Entry). slice_get es o) (sym seen_is) ∙ at) path in
+        (h.0, h.1, h.2, ap (λ (bs : List Book). slice_get bs h.0) books ∙ h.3, h.4));
   };
 }
 
 -- A writer ran out of nodes in that batch: the rows before it and its own need more different ones than it has, and each writer's
 -- entries are the first of its rows.
-pub batch_out : (whole : Bool) (log : LogValue) (first : ℕ) (rows batch : List RowValue) (w : ℕ) (m r n : PassValue) (passes after : List PassValue) → IsShape log.shape → HasLoaded log first rows m → length rows + length batch ≤ (log.shape).capacity
-    → AreDealt log m passes r → AllZip (Wrote whole log (first + length rows) batch) passes after → RanOut log (first + length rows) batch w passes after → HasGathered log.shape r after n → IsShort log first (rows ++ batch) w n
+pub batch_out : (whole : Bool) (log : LogValue) (first : ℕ) (rows batch : List RowValue) (w : ℕ) (m r n : PassValue) (passes after : List PassValue)
+    → IsShape log.shape → HasLoaded log first rows m → length rows + length batch ≤ (log.shape).capacity
+    → AreDealt log m passes r → AllZip (Wrote whole log (first + length rows) batch) passes after → RanOut log (first + length rows) batch w passes after
+        → HasGathered log.shape r after n → IsShort log first (rows ++ batch) w n
 batch_out whole log first rows batch w m r n passes after shape has room dealt wrote out g = record {
   exists = exists;
-  many = too_many log.shape (rows ++ batch) mine shape (λ j s used. used_by whole log first rows batch m r n passes after has dealt wrote g out.place out.pass j s out.at used) all_used;
-  out = record { place = book.0; book = mine; held = held; writer_is = runs.writer_is; out = all_used; next = runs.next; left = runs.left; split = split; wants = runs.wants };
+  many = too_many log.shape (rows ++ batch) mine shape
+      (λ j s used. used_by whole log first rows batch m r n passes after has dealt wrote g out.place out.pass j s out.at used) all_used;
+  out = record { place = book.0; book = mine; held = held; writer_is = runs.writer_is; out = all_used; next = runs.next; left = runs.left; split = split;
+      wants = runs.wants };
   of = home_again whole log first rows batch m r n passes after has dealt wrote g;
   settled = g.settled;
   fronts = fronts;
@@ -400,7 +441,8 @@ batch_out whole log first rows batch w m r n passes after shape has room dealt w
     mine = book_of out.pass.view
 
     book : (i : ℕ) × (slice_get (books_of after) i ≡ Some mine)
-    book = book_in after out.place out.pass mine out.at (first_book out.pass.view ((zip_back (Wrote whole log (first + length rows) batch) passes after out.place out.pass wrote out.at).2).rest)
+    book = book_in after out.place out.pass mine out.at
+        (first_book out.pass.view ((zip_back (Wrote whole log (first + length rows) batch) passes after out.place out.pass wrote out.at).2).rest)
 
     held : Holds n.view book.0 mine
     held = ap (λ (bs : List Book). slice_get bs book.0) g.books ∙ book.1
@@ -424,10 +466,12 @@ batch_out whole log first rows batch w m r n passes after shape has room dealt w
         let same : book_of out.old.view ≡ d.book = ap (λ (p : Pass). book_of p) d.view in
         let own : (d.book).writer ≡ w = ap (λ (b : Book). b.writer) (sym same) ∙ runs.was in
         ap rows_of_book same
-        ∙ (ap (map (λ (o : Own). o.row)) (has.settled.all out.from d.book d.at) ∙ (mine_rows (d.book).writer 0 (m.view).seen ∙ (ap (λ v. written_by v (m.view).seen) own ∙ has.own w exists)))
+        ∙ (ap (map (λ (o : Own). o.row)) (has.settled.all out.from d.book d.at)
+            ∙ (mine_rows (d.book).writer 0 (m.view).seen ∙ (ap (λ v. written_by v (m.view).seen) own ∙ has.own w exists)))
 
     now : rows_of_book mine ≡ written_by w (n.view).seen
-    now = ap (map (λ (o : Own). o.row)) (g.settled.all book.0 mine held) ∙ (mine_rows mine.writer 0 (n.view).seen ∙ ap (λ v. written_by v (n.view).seen) runs.writer_is)
+    now = ap (map (λ (o : Own). o.row)) (g.settled.all book.0 mine held)
+        ∙ (mine_rows mine.writer 0 (n.view).seen ∙ ap (λ v. written_by v (n.view).seen) runs.writer_is)
 
     split : written_by w (n.view).seen ++ runs.next ∷ runs.left ≡ rows_of W w first (rows ++ batch)
     split =
@@ -440,9 +484,12 @@ batch_out whole log first rows batch w m r n passes after shape has room dealt w
         let p = part_of whole log first rows batch m r n passes after has dealt wrote g room v lt in
         let new : List Entry = drop (length (m.view).seen) (n.view).seen in
         let written : written_by v (n.view).seen ≡ rows_of W v first rows ++ written_by v new =
-        ap (written_by v) (goes_on whole log first rows batch m r n passes after has dealt wrote g) ∙ (written_append v (m.view).seen new ∙ ap (λ (rs : List RowValue). rs ++ written_by v new) (has.own v lt)) in (
+        ap (written_by v) (goes_on whole log first rows batch m r n passes after has dealt wrote g)
+            ∙ (written_append v (m.view).seen new ∙ ap (λ (rs : List RowValue). rs ++ written_by v new) (has.own v lt)) in (
           p.left,
-          ap (λ (rs : List RowValue). rs ++ p.left) written ∙ (append_assoc (rows_of W v first rows) (written_by v new) p.left ∙ (ap (λ (rs : List RowValue). rows_of W v first rows ++ rs) p.split ∙ sym (rows_append W v first rows batch))),
+          ap (λ (rs : List RowValue). rs ++ p.left) written
+              ∙ (append_assoc (rows_of W v first rows) (written_by v new) p.left
+              ∙ (ap (λ (rs : List RowValue). rows_of W v first rows ++ rs) p.split ∙ sym (rows_append W v first rows batch))),
         )
 
 -- a node more makes them no fewer
@@ -459,15 +506,20 @@ no_fewer shape nodes (x ∷ xs) = (let r = no_fewer shape (add_node nodes x) xs 
 -- more rows need no fewer nodes
 pub distinct_more : (shape : ShapeValue) (rows more : List RowValue) → distinct shape rows ≤ distinct shape (rows ++ more)
 distinct_more shape rows more =
-    let parts : nodes_of shape (rows ++ more) ≡ fold add_node (nodes_of shape rows) (flat_map (nodes_for shape) more) = ap (fold add_node []) (flat_map-append (nodes_for shape) rows more) ∙ fold-append add_node [] (flat_map (nodes_for shape) rows) (flat_map (nodes_for shape) more) in
+    let parts : nodes_of shape (rows ++ more) ≡ fold add_node (nodes_of shape rows) (flat_map (nodes_for shape) more) =
+        ap (fold add_node []) (flat_map-append (nodes_for shape) rows more)
+        ∙ fold-append add_node [] (flat_map (nodes_for shape) rows) (flat_map (nodes_for shape) more) in
     rw parts (no_fewer shape (nodes_of shape rows) (flat_map (nodes_for shape) more))
 
 -- the reader came home too
-pub short_kept : (log : LogValue) (first : ℕ) (rows : List RowValue) (w : ℕ) (n o : PassValue) → IsShort log first rows w n → IsOf o log → (o.view).books ≡ (n.view).books → (o.view).seen ≡ (n.view).seen → IsShort log first rows w o
+pub short_kept : (log : LogValue) (first : ℕ) (rows : List RowValue) (w : ℕ) (n o : PassValue) → IsShort log first rows w n → IsOf o log
+    → (o.view).books ≡ (n.view).books → (o.view).seen ≡ (n.view).seen → IsShort log first rows w o
 short_kept log first rows w n o lacks of books seen_is = record {
   exists = lacks.exists;
   many = lacks.many;
-  out = record { place = lacks.out.place; book = lacks.out.book; held = ap (λ (bs : List Book). slice_get bs lacks.out.place) books ∙ lacks.out.held; writer_is = lacks.out.writer_is; out = lacks.out.out; next = lacks.out.next; left = lacks.out.left; split = ap (λ (es : List Entry). written_by w es ++ lacks.out.next ∷ lacks.out.left) seen_is ∙ lacks.out.split; wants = lacks.out.wants };
+  out = record { place = lacks.out.place; book = lacks.out.book; held = ap (λ (bs : List Book). slice_get bs lacks.out.place) books ∙ lacks.out.held;
+      writer_is = lacks.out.writer_is; out = lacks.out.out; next = lacks.out.next; left = lacks.out.left; split =
+      ap (λ (es : List Entry). written_by w es ++ lacks.out.next ∷ lacks.out.left) seen_is ∙ lacks.out.split; wants = lacks.out.wants };
   of = of;
   settled = settled_still log.shape n o lacks.settled books seen_is;
   fronts = λ v lt. (let f = lacks.fronts v lt in (f.0, ap (λ (es : List Entry). written_by v es ++ f.0) seen_is ∙ f.1));

@@ -26,10 +26,12 @@ use Rattle.cf_load.proofs.Written.{part_after, part_before, rows_append, written
 
 -- a part of what lies behind a list
 part_behind : {X : Type 0} (m i j : ℕ) (xs ys : List X) → i ≡ length xs + j → take m (drop i (xs ++ ys)) ≡ take m (drop j ys)
-part_behind m i j xs ys at = ap (λ (k : ℕ). take m (drop k (xs ++ ys))) at ∙ ap (take m) (sym (drop-drop j (length xs) (xs ++ ys)) ∙ ap (drop j) (drop_at xs ys (length xs) refl))
+part_behind m i j xs ys at = ap (λ (k : ℕ). take m (drop k (xs ++ ys))) at
+    ∙ ap (take m) (sym (drop-drop j (length xs) (xs ++ ys)) ∙ ap (drop j) (drop_at xs ys (length xs) refl))
 
 -- a log of some whole batches, and then a log of the rows behind them
-pub log_join : (first b : ℕ) (xs ys : List RowValue) (writers : ℕ) (es fs : List Entry) → IsLogFrom first xs writers es → IsLogFrom (first + length xs) ys writers fs → length xs ≡ 4096 * b → IsLogFrom first (xs ++ ys) writers (es ++ fs)
+pub log_join : (first b : ℕ) (xs ys : List RowValue) (writers : ℕ) (es fs : List Entry) → IsLogFrom first xs writers es
+    → IsLogFrom (first + length xs) ys writers fs → length xs ≡ 4096 * b → IsLogFrom first (xs ++ ys) writers (es ++ fs)
 log_join first b xs ys writers es fs one two long = record {
   size = length-append es fs ∙ (ap₂ (λ i j. i + j) one.size two.size ∙ sym (length-append xs ys));
   exist = all_append (λ e. e.writer < writers) es fs one.exist two.exist;
@@ -43,7 +45,9 @@ log_join first b xs ys writers es fs one two long = record {
         let at : 4096 * c ≡ length xs + j = omega (arith, since, long) in
         let number : first + length xs + j ≡ first + 4096 * c = omega (arith, at) in
         ap (written_by w) (part_behind 4096 (4096 * c) j es fs (omega (arith, at, one.size)))
-        ∙ (two.own (c - b) w lt ∙ (ap (λ (n : ℕ). rows_of writers w n (take 4096 (drop j ys))) number ∙ ap (rows_of writers w (first + 4096 * c)) (sym (part_behind 4096 (4096 * c) j xs ys at))))
+        ∙ (two.own (c - b) w lt
+            ∙ (ap (λ (n : ℕ). rows_of writers w n (take 4096 (drop j ys))) number
+            ∙ ap (rows_of writers w (first + 4096 * c)) (sym (part_behind 4096 (4096 * c) j xs ys at))))
   ];
 }
 
@@ -60,23 +64,28 @@ module _ (n writers : ℕ) where
   abbrev pub HaveBlocks : ℕ → List Segment → List RowValue → Type 0
   HaveBlocks first segments rows =
       (k : ℕ) (segment : Segment) → slice_get segments k ≡ Some segment
-      → IsLogFrom (first + n * k) (block n k rows) writers (seen_of segment) × ((w : ℕ) → w < writers → written_by w (seen_of segment) ≡ rows_of writers w (first + n * k) (block n k rows))
+      → IsLogFrom (first + n * k) (block n k rows) writers (seen_of segment)
+          × ((w : ℕ) → w < writers → written_by w (seen_of segment) ≡ rows_of writers w (first + n * k) (block n k rows))
 
   -- behind the first segment stand those of the rows behind its block
-  later : (first : ℕ) (segment : Segment) (segments : List Segment) (rows : List RowValue) → HaveBlocks first (segment ∷ segments) rows → HaveBlocks (first + n) segments (drop n rows)
+  later : (first : ℕ) (segment : Segment) (segments : List Segment) (rows : List RowValue) → HaveBlocks first (segment ∷ segments) rows
+      → HaveBlocks (first + n) segments (drop n rows)
   later first segment segments rows have k g at =
       let step = mul-suc n k in
       let number : first + n * suc k ≡ first + n + n * k = omega (arith, step) in
       let made = have (suc k) g at in (
-        subst (λ (i : ℕ). IsLogFrom i (block n k (drop n rows)) writers (seen_of g)) number (subst (λ (rs : List RowValue). IsLogFrom (first + n * suc k) rs writers (seen_of g)) (next_block n k rows) made.0),
-        λ w lt. made.1 w lt ∙ (ap (rows_of writers w (first + n * suc k)) (next_block n k rows) ∙ ap (λ (i : ℕ). rows_of writers w i (block n k (drop n rows))) number),
+        subst (λ (i : ℕ). IsLogFrom i (block n k (drop n rows)) writers (seen_of g)) number
+            (subst (λ (rs : List RowValue). IsLogFrom (first + n * suc k) rs writers (seen_of g)) (next_block n k rows) made.0),
+        λ w lt. made.1 w lt
+            ∙ (ap (rows_of writers w (first + n * suc k)) (next_block n k rows) ∙ ap (λ (i : ℕ). rows_of writers w i (block n k (drop n rows))) number),
       )
 
   -- the first segment's own rows
   front_long : (m : ℕ) (rows : List RowValue) → n * suc m ≤ length rows → length (take n rows) ≡ n
   front_long m rows full = (let step = mul-suc n m in let long = length-take n rows in omega (arith, full, step, long))
 
-  back_full : (m : ℕ) (rows : List RowValue) → n * suc m ≤ length rows → length rows ≤ n * suc m + n → (n * m ≤ length (drop n rows)) × (length (drop n rows) ≤ n * m + n)
+  back_full : (m : ℕ) (rows : List RowValue) → n * suc m ≤ length rows → length rows ≤ n * suc m + n → (n * m ≤ length (drop n rows))
+      × (length (drop n rows) ≤ n * m + n)
   back_full m rows full room =
       let step = mul-suc n m in
       let all = ap length (take-append-drop n rows) in
@@ -85,7 +94,8 @@ module _ (n writers : ℕ) where
       (omega (arith, full, step, all, sum, front), omega (arith, room, step, all, sum, front))
 
   -- the entries of segments that hold the rows block by block are a log of them
-  pub chain_log : (first : ℕ) (closed : List Segment) (current : Segment) (rows : List RowValue) → (0 < length closed → n % 4096 ≡ 0) → HaveBlocks first (closed ++ current ∷ []) rows → n * length closed ≤ length rows → length rows ≤ n * length closed + n
+  pub chain_log : (first : ℕ) (closed : List Segment) (current : Segment) (rows : List RowValue) → (0 < length closed → n % 4096 ≡ 0)
+      → HaveBlocks first (closed ++ current ∷ []) rows → n * length closed ≤ length rows → length rows ≤ n * length closed + n
       → IsLogFrom first rows writers (flat_map seen_of (closed ++ current ∷ []))
   chain_log first [] current rows whole have full room =
       let none = mul-zero n in
@@ -101,7 +111,8 @@ module _ (n writers : ℕ) where
       let rest_full = back_full (length cs) rows full room in
       let batches : length (take n rows) ≡ 4096 * (n / 4096) = omega (arith, n_whole, long) in
       let one : IsLogFrom first (take n rows) writers (seen_of c) =
-      subst (λ (rs : List RowValue). IsLogFrom first rs writers (seen_of c)) (first_block n rows) (subst (λ (i : ℕ). IsLogFrom i (block n 0 rows) writers (seen_of c)) at (have 0 c refl).0) in
+      subst (λ (rs : List RowValue). IsLogFrom first rs writers (seen_of c)) (first_block n rows)
+          (subst (λ (i : ℕ). IsLogFrom i (block n 0 rows) writers (seen_of c)) at (have 0 c refl).0) in
       let rest : IsLogFrom (first + n) (drop n rows) writers (flat_map seen_of (cs ++ current ∷ [])) =
       chain_log (first + n) cs current (drop n rows) (λ some. n_whole) (later first c (cs ++ current ∷ []) rows have) rest_full.0 rest_full.1 in
       subst (λ (rs : List RowValue). IsLogFrom first rs writers (seen_of c ++ flat_map seen_of (cs ++ current ∷ []))) (take-append-drop n rows)
@@ -109,19 +120,22 @@ module _ (n writers : ℕ) where
       (subst (λ (i : ℕ). IsLogFrom (first + i) (drop n rows) writers (flat_map seen_of (cs ++ current ∷ []))) (sym long) rest) batches)
 
   -- and each writer's are its rows
-  pub chain_own : (first : ℕ) (closed : List Segment) (current : Segment) (rows : List RowValue) → HaveBlocks first (closed ++ current ∷ []) rows → n * length closed ≤ length rows → length rows ≤ n * length closed + n
+  pub chain_own : (first : ℕ) (closed : List Segment) (current : Segment) (rows : List RowValue) → HaveBlocks first (closed ++ current ∷ []) rows
+      → n * length closed ≤ length rows → length rows ≤ n * length closed + n
       → (w : ℕ) → w < writers → written_by w (flat_map seen_of (closed ++ current ∷ [])) ≡ rows_of writers w first rows
   chain_own first [] current rows have full room w lt =
       let none = mul-zero n in
       let at : first + n * 0 ≡ first = omega (arith, none) in
       ap (written_by w) (append-nil (seen_of current))
-      ∙ ((have 0 current refl).1 w lt ∙ (ap (λ (i : ℕ). rows_of writers w i (block n 0 rows)) at ∙ ap (rows_of writers w first) (whole_block n rows (omega (arith, room, none)))))
+      ∙ ((have 0 current refl).1 w lt
+          ∙ (ap (λ (i : ℕ). rows_of writers w i (block n 0 rows)) at ∙ ap (rows_of writers w first) (whole_block n rows (omega (arith, room, none)))))
   chain_own first (c ∷ cs) current rows have full room w lt =
       let none = mul-zero n in
       let at : first + n * 0 ≡ first = omega (arith, none) in
       let long : length (take n rows) ≡ n = front_long (length cs) rows full in
       let rest_full = back_full (length cs) rows full room in
-      let one : written_by w (seen_of c) ≡ rows_of writers w first (take n rows) = (have 0 c refl).1 w lt ∙ (ap (λ (i : ℕ). rows_of writers w i (block n 0 rows)) at ∙ ap (rows_of writers w first) (first_block n rows)) in
+      let one : written_by w (seen_of c) ≡ rows_of writers w first (take n rows) = (have 0 c refl).1 w lt
+          ∙ (ap (λ (i : ℕ). rows_of writers w i (block n 0 rows)) at ∙ ap (rows_of writers w first) (first_block n rows)) in
       let rest : written_by w (flat_map seen_of (cs ++ current ∷ [])) ≡ rows_of writers w (first + n) (drop n rows) =
       chain_own (first + n) cs current (drop n rows) (later first c (cs ++ current ∷ []) rows have) rest_full.0 rest_full.1 w lt in
       written_append w (seen_of c) (flat_map seen_of (cs ++ current ∷ []))
@@ -136,8 +150,10 @@ have_blocks s rows holds k g at =
     let number : n * k ≡ 0 + n * k = omega arith in
     let is = holds.each k g at in
     let shape : (g.log).shape ≡ s.shape = (holds.are.each k g at).shape_is in (
-      subst (λ (i : ℕ). IsLogFrom i (block n k rows) (s.shape).writers (seen_of g)) number (subst (λ (h : ShapeValue). IsLogFrom (n * k) (block n k rows) h.writers (seen_of g)) shape is.is),
-      λ w lt. subst (λ (h : ShapeValue). written_by w (seen_of g) ≡ rows_of h.writers w (n * k) (block n k rows)) shape (is.own w (subst (λ (h : ShapeValue). w < h.writers) (sym shape) lt))
+      subst (λ (i : ℕ). IsLogFrom i (block n k rows) (s.shape).writers (seen_of g)) number
+          (subst (λ (h : ShapeValue). IsLogFrom (n * k) (block n k rows) h.writers (seen_of g)) shape is.is),
+      λ w lt. subst (λ (h : ShapeValue). written_by w (seen_of g) ≡ rows_of h.writers w (n * k) (block n k rows)) shape
+          (is.own w (subst (λ (h : ShapeValue). w < h.writers) (sym shape) lt))
           ∙ ap (λ (i : ℕ). rows_of (s.shape).writers w i (block n k rows)) number,
     )
 
@@ -155,7 +171,8 @@ rows_are_log s rows holds =
     )
 
 -- one more segment's tails
-pub told_push : (n base : ℕ) (segments : List Segment) (segment : Segment) → told_from n base (segments ++ segment ∷ []) ≡ told_from n base segments ++ map (λ tail. base + n * length segments + tail) (segment.root.view).told
+pub told_push : (n base : ℕ) (segments : List Segment) (segment : Segment)
+    → told_from n base (segments ++ segment ∷ []) ≡ told_from n base segments ++ map (λ tail. base + n * length segments + tail) (segment.root.view).told
 told_push n base [] segment =
     let none = mul-zero n in
     let at : base ≡ base + n * 0 = omega (arith, none) in
@@ -202,11 +219,14 @@ module _ (shape : ShapeValue) (segment : Segment) (new : IsOpened shape segment)
     room = omega arith;
   })
     where
-      only : (k : ℕ) (g : Segment) → slice_get (segment ∷ []) k ≡ Some g → HasLoaded g.log ((segment.log).shape.capacity * k) (block (segment.log).shape.capacity k []) g.root
+      only : (k : ℕ) (g : Segment) → slice_get (segment ∷ []) k ≡ Some g
+          → HasLoaded g.log ((segment.log).shape.capacity * k) (block (segment.log).shape.capacity k []) g.root
       only zero g at =
           let n = (segment.log).shape.capacity in
           let e : segment ≡ g = cc at in
-          subst (λ (h : Segment). HasLoaded h.log (n * 0) (block n 0 []) h.root) e (subst (λ (rs : List RowValue). HasLoaded segment.log (n * 0) rs segment.root) (sym (part_after n (n * 0) [] (omega arith))) (opened_empty (n * 0)))
+          subst (λ (h : Segment). HasLoaded h.log (n * 0) (block n 0 []) h.root) e
+              (subst (λ (rs : List RowValue). HasLoaded segment.log (n * 0) rs segment.root) (sym (part_after n (n * 0) [] (omega arith)))
+              (opened_empty (n * 0)))
       only (suc k) g at = absurd (cc at)
 
   pub open_told : (most : ℕ) → told_of (segments_of most [] segment) ≡ []
@@ -238,12 +258,15 @@ module _ (most : ℕ) (closed : List Segment) (current next : Segment) (new : Is
         | inr other ↦ is.each k g (sym (get_push_other before next k other) ∙ at)
       ]
 
-  turn_holds : (rows : List RowValue) → HoldsRows (segments_of most closed current) rows → length rows ≡ shape.capacity * length closed + shape.capacity → HoldsRows (record { shape = shape; most = most; closed = closed ++ current ∷ []; current = next }) rows
+  turn_holds : (rows : List RowValue) → HoldsRows (segments_of most closed current) rows → length rows ≡ shape.capacity * length closed + shape.capacity
+      → HoldsRows (record { shape = shape; most = most; closed = closed ++ current ∷ []; current = next }) rows
   turn_holds rows holds long =
       let n = shape.capacity in
       let more = length-append closed (current ∷ []) in
-      let step : n * length before ≡ n * length closed + n = ap (λ (k : ℕ). n * k) (let e : length before ≡ suc (length closed) = omega (arith, more) in e) ∙ mul-suc n (length closed) in record {
-        are = subst (λ (h : ShapeValue). IsSegments (record { shape = h; most = most; closed = closed ++ current ∷ []; current = next })) new.is.shape_is (turn_lawful holds.are);
+      let step : n * length before ≡ n * length closed + n = ap (λ (k : ℕ). n * k) (let e : length before ≡ suc (length closed) = omega (arith, more) in e)
+          ∙ mul-suc n (length closed) in record {
+        are = subst (λ (h : ShapeValue). IsSegments (record { shape = h; most = most; closed = closed ++ current ∷ []; current = next })) new.is.shape_is
+            (turn_lawful holds.are);
         each = λ k g at. one k g at;
         full = omega (arith, long, step);
         room = omega (arith, long, step);
@@ -254,19 +277,25 @@ module _ (most : ℕ) (closed : List Segment) (current next : Segment) (new : Is
         | inl last ↦
             let n = shape.capacity in
             let more = length-append closed (current ∷ []) in
-            let step : n * k ≡ n * length closed + n = ap (λ (i : ℕ). n * i) (let e : k ≡ suc (length closed) = omega (arith, last, more) in e) ∙ mul-suc n (length closed) in
+            let step : n * k ≡ n * length closed + n = ap (λ (i : ℕ). n * i) (let e : k ≡ suc (length closed) = omega (arith, last, more) in e)
+                ∙ mul-suc n (length closed) in
             subst (λ (h : Segment). HasLoaded h.log (n * k) (block n k rows) h.root) (is_last k g at last)
-            (subst (λ (rs : List RowValue). HasLoaded next.log (n * k) rs next.root) (sym (part_after n (n * k) rows (omega (arith, long, step)))) (opened_empty shape next new (n * k)))
+            (subst (λ (rs : List RowValue). HasLoaded next.log (n * k) rs next.root) (sym (part_after n (n * k) rows (omega (arith, long, step))))
+                (opened_empty shape next new (n * k)))
         | inr other ↦ holds.each k g (sym (get_push_other before next k other) ∙ at)
       ]
 
   pub has_turned : HasTurned (segments_of most closed current) (segments_of most (closed ++ current ∷ []) next)
-  has_turned = subst (λ (h : ShapeValue). HasTurned (segments_of most closed current) (record { shape = h; most = most; closed = closed ++ current ∷ []; current = next })) (sym new.is.shape_is) (record {
+  has_turned = subst
+      (λ (h : ShapeValue). HasTurned (segments_of most closed current) (record { shape = h; most = most; closed = closed ++ current ∷ []; current = next }))
+      (sym new.is.shape_is) (record {
     same = refl;
     empty = opened_seen shape next new;
-    entries = flat_map-append seen_of before (next ∷ []) ∙ (ap (λ (es : List Entry). flat_map seen_of before ++ (es ++ [])) (opened_seen shape next new) ∙ append-nil (flat_map seen_of before));
+    entries = flat_map-append seen_of before (next ∷ [])
+        ∙ (ap (λ (es : List Entry). flat_map seen_of before ++ (es ++ [])) (opened_seen shape next new) ∙ append-nil (flat_map seen_of before));
     told = told_push shape.capacity 0 before next
-        ∙ (ap (λ (ts : List ℕ). told_from shape.capacity 0 before ++ map (λ tail. 0 + shape.capacity * length before + tail) ts) (opened_told shape next new) ∙ append-nil (told_from shape.capacity 0 before));
+        ∙ (ap (λ (ts : List ℕ). told_from shape.capacity 0 before ++ map (λ tail. 0 + shape.capacity * length before + tail) ts) (opened_told shape next new)
+            ∙ append-nil (told_from shape.capacity 0 before));
     holds = turn_holds;
   })
 
@@ -274,12 +303,15 @@ module _ (most : ℕ) (closed : List Segment) (current next : Segment) (new : Is
 looked_segment : (shape : ShapeValue) (old new : Segment) → IsSegment shape old → HasLooked old new → IsSegment shape new
 looked_segment shape old new is looked = record {
   shape_is = ap (λ (l : LogValue). l.shape) looked.log ∙ is.shape_is;
-  of = subst (IsOf new.root) (sym looked.log) (record { table = ap (λ (h : PassValue). h.table) looked.root ∙ is.of.table; nodes = ap (λ (h : PassValue). h.nodes) looked.root ∙ is.of.nodes });
-  settled = settled_still shape old.root new.root is.settled (ap (λ (h : PassValue). (h.view).books) looked.root) (ap (λ (h : PassValue). (h.view).seen) looked.root);
+  of = subst (IsOf new.root) (sym looked.log)
+      (record { table = ap (λ (h : PassValue). h.table) looked.root ∙ is.of.table; nodes = ap (λ (h : PassValue). h.nodes) looked.root ∙ is.of.nodes });
+  settled = settled_still shape old.root new.root is.settled (ap (λ (h : PassValue). (h.view).books) looked.root)
+      (ap (λ (h : PassValue). (h.view).seen) looked.root);
 }
 
 -- all segments were looked at
-pub looked_lawful : (most : ℕ) (closed others : List Segment) (current other : Segment) → IsSegments (segments_of most closed current) → AllZip HasLooked closed others → HasLooked current other → IsSegments (segments_of most others other)
+pub looked_lawful : (most : ℕ) (closed others : List Segment) (current other : Segment) → IsSegments (segments_of most closed current)
+    → AllZip HasLooked closed others → HasLooked current other → IsSegments (segments_of most others other)
 looked_lawful most closed others current other is zip last =
     let same : (other.log).shape ≡ (current.log).shape = ap (λ (l : LogValue). l.shape) last.log in
     let long = zip_long HasLooked closed others zip in
@@ -287,7 +319,9 @@ looked_lawful most closed others current other is zip last =
     subst (λ (h : ShapeValue). IsSegments (record { shape = h; most = most; closed = others; current = other })) (sym same) (record {
       sizes = is.sizes;
       few = omega (arith, few, long);
-      each = λ k g at. (let z = zip_back HasLooked (closed ++ current ∷ []) (others ++ other ∷ []) k g (zip_append HasLooked closed (current ∷ []) others (other ∷ []) zip (last, tt)) at in
+      each = λ k g at.
+          (let z = zip_back HasLooked (closed ++ current ∷ []) (others ++ other ∷ []) k g
+          (zip_append HasLooked closed (current ∷ []) others (other ∷ []) zip (last, tt)) at in
           looked_segment (current.log).shape z.0 g (is.each k z.0 z.1) z.2);
     })
 
@@ -295,7 +329,8 @@ pub looked_none : (segment : Segment) → HasLooked segment segment
 looked_none segment = record { log = refl; root = refl }
 
 -- all were looked at
-pub have_looked : (most : ℕ) (closed others : List Segment) (current other : Segment) → AllZip HasLooked closed others → HasLooked current other → HaveLooked (segments_of most closed current) (segments_of most others other)
+pub have_looked : (most : ℕ) (closed others : List Segment) (current other : Segment) → AllZip HasLooked closed others → HasLooked current other
+    → HaveLooked (segments_of most closed current) (segments_of most others other)
 have_looked most closed others current other zip last = record {
   same = ap (λ (h : ShapeValue). record { shape = h; most = most; closed = others; current = other }) (ap (λ (l : LogValue). l.shape) last.log);
   closed = zip;
@@ -318,7 +353,9 @@ closed_are s is k d lt = is.each k (get_or s.closed k d) (has_left s.closed (s.c
 
 -- a look changes no seal
 looked_sealed : (old new : Segment) → HasLooked old new → sealed new ≡ sealed old
-looked_sealed old new looked = ap₂ (λ (es : List Entry) (ts : List ℕ). record { entries = es; told = ts }) (ap (λ (h : PassValue). (h.view).seen) looked.root) (ap (λ (h : PassValue). (h.view).told) looked.root)
+looked_sealed old new looked =
+    ap₂ (λ (es : List Entry) (ts : List ℕ). record { entries = es; told = ts }) (ap (λ (h : PassValue). (h.view).seen) looked.root)
+    (ap (λ (h : PassValue). (h.view).told) looked.root)
 
 pub all_sealed : (s t : SegmentsValue) → HaveLooked s t → map sealed t.closed ++ sealed t.current ∷ [] ≡ map sealed (all_of s)
 all_sealed s t looked =
@@ -350,7 +387,8 @@ base_whole s is = elim (cases_lt 0 (length s.closed)) [
       let few = is.few in
       let whole : n % 4096 ≡ 0 = is.sizes.whole (omega (arith, some, few)) in
       let size : n ≡ 4096 * (n / 4096) = omega (arith, whole) in
-      let all : n * length s.closed ≡ 4096 * (n / 4096 * length s.closed) = ap (λ (k : ℕ). k * length s.closed) size ∙ mul_assoc 4096 (n / 4096) (length s.closed) in
+      let all : n * length s.closed ≡ 4096 * (n / 4096 * length s.closed) = ap (λ (k : ℕ). k * length s.closed) size
+          ∙ mul_assoc 4096 (n / 4096) (length s.closed) in
       omega (arith, all)
   | inr none ↦
       let zero_long : length s.closed ≡ 0 = omega (arith, none) in

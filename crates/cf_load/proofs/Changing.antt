@@ -32,7 +32,9 @@ module _ {X : Type 0} (R : X → X → Type 0) where
   pub changed_more : (i : ℕ) (xs ys : List X) (d z : X) → i < length ys → Changed i xs ys → R (get_or ys i d) z → Changed (i + 1) xs (set ys i z)
   changed_more i xs ys d z low changed made = record {
     front = subst (λ (zs : List X). AllZip R zs (take (i + 1) (set ys i z))) (sym (take_more xs i d (changed_long i xs ys low changed)))
-        (subst (λ (zs : List X). AllZip R (take i xs ++ get_or xs i d ∷ []) zs) (sym now) (zip_append R (take i xs) (get_or xs i d ∷ []) (take i ys) (z ∷ []) changed.front (subst (λ (x : X). R x z) (changed_at i xs ys d changed) made, tt)));
+        (subst (λ (zs : List X). AllZip R (take i xs ++ get_or xs i d ∷ []) zs) (sym now)
+            (zip_append R (take i xs) (get_or xs i d ∷ []) (take i ys) (z ∷ []) changed.front
+            (subst (λ (x : X). R x z) (changed_at i xs ys d changed) made, tt)));
     rest = drop-set-lt (i + 1) ys i z (omega arith) ∙ (sym (drop-drop 1 i ys) ∙ (ap (drop 1) changed.rest ∙ drop-drop 1 i xs));
   }
     where
@@ -50,7 +52,8 @@ module _ {X : Type 0} (R : X → X → Type 0) where
   pub changed_some : ((x : X) → R x x) → (i : ℕ) (xs ys : List X) → Changed i xs ys → AllZip R xs ys
   changed_some none i xs ys changed =
       subst (λ (zs : List X). AllZip R zs ys) (take-append-drop i xs)
-      (subst (AllZip R (take i xs ++ drop i xs)) (take-append-drop i ys) (zip_append R (take i xs) (drop i xs) (take i ys) (drop i ys) changed.front (subst (AllZip R (drop i xs)) (sym changed.rest) (each (drop i xs)))))
+      (subst (AllZip R (take i xs ++ drop i xs)) (take-append-drop i ys)
+          (zip_append R (take i xs) (drop i xs) (take i ys) (drop i ys) changed.front (subst (AllZip R (drop i xs)) (sym changed.rest) (each (drop i xs)))))
     where
       each : (zs : List X) → AllZip R zs zs
       each [] = tt

@@ -47,10 +47,14 @@ first_last (f ∷ fs) g h same = (record { log = refl; root = refl }, first_last
 
 -- they go on
 pub filled_goes : (s : SegmentsValue) (root : PassValue) → root ≡ record s.current.root { view = root.view } → SegmentsGoOn s (filled s root)
-filled_goes s root same = record { shape = refl; most = refl; first = first_last s.closed s.current (record { log = s.current.log; root = root }) (record { log = refl; root = same }) }
+filled_goes s root same =
+    record { shape = refl; most = refl; first =
+    first_last s.closed s.current (record { log = s.current.log; root = root }) (record { log = refl; root = same }) }
 
 -- what the current root was told of comes at the end
-pub filled_told : (s : SegmentsValue) (root : PassValue) (more : List ℕ) → map (λ tail. base_of s + tail) (root.view).told ≡ map (λ tail. base_of s + tail) (s.current.root.view).told ++ more → told_of (filled s root) ≡ told_of s ++ more
+pub filled_told : (s : SegmentsValue) (root : PassValue) (more : List ℕ)
+    → map (λ tail. base_of s + tail) (root.view).told ≡ map (λ tail. base_of s + tail) (s.current.root.view).told ++ more
+    → told_of (filled s root) ≡ told_of s ++ more
 filled_told s root more is =
     let n = (s.shape).capacity in
     let first : List ℕ = told_from n 0 s.closed in
@@ -79,7 +83,8 @@ module _ (s : SegmentsValue) (root : PassValue) where
   pub filled_lawful : IsSegments s → IsOf root s.current.log → HoldsAllBooks (s.current.log).shape root.view → IsSegments (filled s root)
   filled_lawful is of settled =
       let same : (s.current.log).shape ≡ s.shape = (is.each (length s.closed) s.current (get_push_same s.closed s.current)).shape_is in
-      let mine : IsSegment s.shape now = record { shape_is = same; of = of; settled = subst (λ (h : ShapeValue). HoldsAllBooks h root.view) same settled } in record {
+      let mine : IsSegment s.shape now = record { shape_is = same; of = of; settled = subst (λ (h : ShapeValue). HoldsAllBooks h root.view) same settled } in
+          record {
         sizes = is.sizes;
         few = is.few;
         each = λ k g at. elim (cases_eq k (length s.closed)) [
@@ -98,22 +103,26 @@ module _ (s : SegmentsValue) (before : List RowValue) (holds : HoldsRows s befor
 
   -- they are all behind the base
   own_is : own_rows ≡ drop (base_of s) before
-  own_is = (let room = holds.room in let rest = length-drop (base_of s) before in take_all (s.shape).capacity (drop (base_of s) before) (omega (arith, room, rest)))
+  own_is = (let room = holds.room in let rest = length-drop (base_of s) before in
+      take_all (s.shape).capacity (drop (base_of s) before) (omega (arith, room, rest)))
 
   pub own_long : base_of s + length own_rows ≡ length before
   own_long = (let same = ap length own_is in let rest = length-drop (base_of s) before in let full = holds.full in omega (arith, same, rest, full))
 
   -- with more behind them
-  own_more : (rows : List RowValue) → length before + length rows ≤ base_of s + (s.shape).capacity → block (s.shape).capacity (length s.closed) (before ++ rows) ≡ own_rows ++ rows
+  own_more : (rows : List RowValue) → length before + length rows ≤ base_of s + (s.shape).capacity
+      → block (s.shape).capacity (length s.closed) (before ++ rows) ≡ own_rows ++ rows
   own_more rows room =
       let full = holds.full in
       let rest = length-drop (base_of s) before in
       let all = length-append (drop (base_of s) before) rows in
       ap (take (s.shape).capacity) (drop-append-le (base_of s) before rows full)
-      ∙ (take_all (s.shape).capacity (drop (base_of s) before ++ rows) (omega (arith, room, full, rest, all)) ∙ ap (λ (rs : List RowValue). rs ++ rows) (sym own_is))
+      ∙ (take_all (s.shape).capacity (drop (base_of s) before ++ rows) (omega (arith, room, full, rest, all))
+          ∙ ap (λ (rs : List RowValue). rs ++ rows) (sym own_is))
 
   -- the current segment has loaded rows more
-  pub filled_holds : (root : PassValue) (rows : List RowValue) → length before + length rows ≤ base_of s + (s.shape).capacity → HasLoaded s.current.log (base_of s) (own_rows ++ rows) root → HoldsRows (filled s root) (before ++ rows)
+  pub filled_holds : (root : PassValue) (rows : List RowValue) → length before + length rows ≤ base_of s + (s.shape).capacity
+      → HasLoaded s.current.log (base_of s) (own_rows ++ rows) root → HoldsRows (filled s root) (before ++ rows)
   filled_holds root rows room has =
       let n = (s.shape).capacity in
       let full = holds.full in
@@ -125,10 +134,12 @@ module _ (s : SegmentsValue) (before : List RowValue) (holds : HoldsRows s befor
               (subst (λ (i : ℕ). HasLoaded s.current.log (n * i) (block n i (before ++ rows)) root) (sym last)
               (subst (λ (rs : List RowValue). HasLoaded s.current.log (base_of s) rs root) (sym (own_more rows room)) has))
           | inr other ↦
-              let low : k < length s.closed = slice_get_within s.closed k g (sym (get_push_other s.closed (record { log = s.current.log; root = root }) k other) ∙ at) in
+              let low : k < length s.closed =
+                  slice_get_within s.closed k g (sym (get_push_other s.closed (record { log = s.current.log; root = root }) k other) ∙ at) in
               let far : n * suc k ≤ n * length s.closed = mul-le-mul_left n (let e : suc k ≤ length s.closed = omega (arith, low) in e) in
               let step = mul-suc n k in
-              subst (λ (rs : List RowValue). HasLoaded g.log (n * k) rs g.root) (sym (part_before n (n * k) before rows (omega (arith, far, step, full)))) (holds.each k g (is_other s root k g at other))
+              subst (λ (rs : List RowValue). HasLoaded g.log (n * k) rs g.root) (sym (part_before n (n * k) before rows (omega (arith, far, step, full))))
+                  (holds.each k g (is_other s root k g at other))
         ];
         full = omega (arith, full, sum);
         room = omega (arith, room, sum);
@@ -138,24 +149,30 @@ module _ (s : SegmentsValue) (before : List RowValue) (holds : HoldsRows s befor
   pub filled_none : (root : PassValue) → HasLoaded s.current.log (base_of s) own_rows root → HoldsRows (filled s root) before
   filled_none root has =
       let room = holds.room in
-      subst (HoldsRows (filled s root)) (append-nil before) (filled_holds root [] (omega (arith, room)) (subst (λ (rs : List RowValue). HasLoaded s.current.log (base_of s) rs root) (sym (append-nil own_rows)) has))
+      subst (HoldsRows (filled s root)) (append-nil before)
+          (filled_holds root [] (omega (arith, room))
+          (subst (λ (rs : List RowValue). HasLoaded s.current.log (base_of s) rs root) (sym (append-nil own_rows)) has))
 
   -- or a writer ran out of nodes
-  pub filled_short : (root : PassValue) (rows : List RowValue) (w : ℕ) → length before + length rows ≤ base_of s + (s.shape).capacity → IsShort s.current.log (base_of s) (own_rows ++ rows) w root → LacksNodes (filled s root) (before ++ rows) w
+  pub filled_short : (root : PassValue) (rows : List RowValue) (w : ℕ) → length before + length rows ≤ base_of s + (s.shape).capacity
+      → IsShort s.current.log (base_of s) (own_rows ++ rows) w root → LacksNodes (filled s root) (before ++ rows) w
   filled_short root rows w room short =
       let same : (s.current.log).shape ≡ s.shape = (holds.are.each (length s.closed) s.current (get_push_same s.closed s.current)).shape_is in record {
         are = filled_lawful s root holds.are short.of short.settled;
         exists = subst (λ (h : ShapeValue). w < h.writers) same short.exists;
         place = length s.closed;
-        many = subst (λ (rs : List RowValue). (s.shape).nodes < distinct s.shape rs) (sym (own_more rows room)) (subst (λ (h : ShapeValue). h.nodes < distinct h (own_rows ++ rows)) same short.many);
-        out = subst (λ (rs : List RowValue). HasRunOut s.shape (base_of s) rs w root.view) (sym (own_more rows room)) (subst (λ (h : ShapeValue). HasRunOut h (base_of s) (own_rows ++ rows) w root.view) same short.out);
+        many = subst (λ (rs : List RowValue). (s.shape).nodes < distinct s.shape rs) (sym (own_more rows room))
+            (subst (λ (h : ShapeValue). h.nodes < distinct h (own_rows ++ rows)) same short.many);
+        out = subst (λ (rs : List RowValue). HasRunOut s.shape (base_of s) rs w root.view) (sym (own_more rows room))
+            (subst (λ (h : ShapeValue). HasRunOut h (base_of s) (own_rows ++ rows) w root.view) same short.out);
         fronts = λ v lt. fronts v lt;
       }
     where
       W : ℕ
       W = (s.shape).writers
 
-      fronts : (v : ℕ) → v < (s.shape).writers → (left : List RowValue) × (written_by v (entries_of (filled s root)) ++ left ≡ rows_of (s.shape).writers v 0 (before ++ rows))
+      fronts : (v : ℕ) → v < (s.shape).writers → (left : List RowValue)
+          × (written_by v (entries_of (filled s root)) ++ left ≡ rows_of (s.shape).writers v 0 (before ++ rows))
       fronts v lt =
           let writers = (s.shape).writers in
           let base = base_of s in
@@ -164,27 +181,37 @@ module _ (s : SegmentsValue) (before : List RowValue) (holds : HoldsRows s befor
           let shape_is : (s.current.log).shape ≡ s.shape = (holds.are.each (length s.closed) s.current (get_push_same s.closed s.current)).shape_is in
           let full = holds.full in
           let part : front ++ own_rows ≡ before = ap (λ (rs : List RowValue). front ++ rs) own_is ∙ take-append-drop base before in
-          let long : length front ≡ base = (let sum = ap length part in let pair = length-append front own_rows in let own = own_long in omega (arith, sum, pair, own)) in
+          let long : length front ≡ base =
+              (let sum = ap length part in let pair = length-append front own_rows in let own = own_long in omega (arith, sum, pair, own)) in
           let own : written_by v (seen_of s.current) ≡ rows_of writers v base own_rows =
-          subst (λ (h : ShapeValue). written_by v (seen_of s.current) ≡ rows_of h.writers v base own_rows) shape_is (current_has.own v (subst (λ (h : ShapeValue). v < h.writers) (sym shape_is) lt)) in
+          subst (λ (h : ShapeValue). written_by v (seen_of s.current) ≡ rows_of h.writers v base own_rows) shape_is
+              (current_has.own v (subst (λ (h : ShapeValue). v < h.writers) (sym shape_is) lt)) in
           let split : (more : List RowValue) → rows_of writers v 0 (front ++ more) ≡ rows_of writers v 0 front ++ rows_of writers v base more =
-          λ more. rows_append writers v 0 front more ∙ ap (λ (i : ℕ). rows_of writers v 0 front ++ rows_of writers v i more) (let e : 0 + length front ≡ base = omega (arith, long) in e) in
+          λ more. rows_append writers v 0 front more
+              ∙ ap (λ (i : ℕ). rows_of writers v 0 front ++ rows_of writers v i more) (let e : 0 + length front ≡ base = omega (arith, long) in e) in
           let all : written_by v closed ++ written_by v (seen_of s.current) ≡ rows_of writers v 0 front ++ written_by v (seen_of s.current) =
           sym (written_append v closed (seen_of s.current))
-          ∙ (ap (written_by v) (sym (entries_split s)) ∙ ((rows_are_log s before holds).1 v lt ∙ (ap (rows_of writers v 0) (sym part) ∙ (split own_rows ∙ ap (λ (rs : List RowValue). rows_of writers v 0 front ++ rs) (sym own))))) in
-          let before_is : written_by v closed ≡ rows_of writers v 0 front = cancel_right (written_by v closed) (rows_of writers v 0 front) (written_by v (seen_of s.current)) all in
+          ∙ (ap (written_by v) (sym (entries_split s))
+              ∙ ((rows_are_log s before holds).1 v lt
+              ∙ (ap (rows_of writers v 0) (sym part) ∙ (split own_rows ∙ ap (λ (rs : List RowValue). rows_of writers v 0 front ++ rs) (sym own))))) in
+          let before_is : written_by v closed ≡ rows_of writers v 0 front =
+              cancel_right (written_by v closed) (rows_of writers v 0 front) (written_by v (seen_of s.current)) all in
           let f = short.fronts v (subst (λ (h : ShapeValue). v < h.writers) (sym shape_is) lt) in
-          let tail : written_by v (root.view).seen ++ f.0 ≡ rows_of writers v base (own_rows ++ rows) = subst (λ (h : ShapeValue). written_by v (root.view).seen ++ f.0 ≡ rows_of h.writers v base (own_rows ++ rows)) shape_is f.1 in (
+          let tail : written_by v (root.view).seen ++ f.0 ≡ rows_of writers v base (own_rows ++ rows) =
+              subst (λ (h : ShapeValue). written_by v (root.view).seen ++ f.0 ≡ rows_of h.writers v base (own_rows ++ rows)) shape_is f.1 in (
             f.0,
             ap (λ (es : List Entry). written_by v es ++ f.0) (entries_split (filled s root))
-                ∙ (ap (λ (rs : List RowValue). rs ++ f.0) (written_append v closed (root.view).seen ∙ ap (λ (rs : List RowValue). rs ++ written_by v (root.view).seen) before_is)
+                ∙ (ap (λ (rs : List RowValue). rs ++ f.0)
+                    (written_append v closed (root.view).seen ∙ ap (λ (rs : List RowValue). rs ++ written_by v (root.view).seen) before_is)
                 ∙ (append_assoc (rows_of writers v 0 front) (written_by v (root.view).seen) f.0
                 ∙ (ap (λ (rs : List RowValue). rows_of writers v 0 front ++ rs) tail
-                ∙ (sym (split (own_rows ++ rows)) ∙ ap (rows_of writers v 0) (sym (append_assoc front own_rows rows) ∙ ap (λ (rs : List RowValue). rs ++ rows) part))))),
+                ∙ (sym (split (own_rows ++ rows))
+                    ∙ ap (rows_of writers v 0) (sym (append_assoc front own_rows rows) ∙ ap (λ (rs : List RowValue). rs ++ rows) part))))),
           )
 
   -- what is left after a fault
-  pub filled_stopped : (root : PassValue) (rows : List RowValue) (fault : LoadFault) → length before + length rows ≤ base_of s + (s.shape).capacity → HasStopped s.current.log (base_of s) own_rows rows root fault → HaveStopped before rows (filled s root) fault
+  pub filled_stopped : (root : PassValue) (rows : List RowValue) (fault : LoadFault) → length before + length rows ≤ base_of s + (s.shape).capacity
+      → HasStopped s.current.log (base_of s) own_rows rows root fault → HaveStopped before rows (filled s root) fault
   filled_stopped root rows Full room stopped = stopped
   filled_stopped root rows (NodesFull w) room stopped = filled_short root rows w room stopped
   filled_stopped root rows Memory room stopped = elim stopped [
@@ -193,14 +220,17 @@ module _ (s : SegmentsValue) (before : List RowValue) (holds : HoldsRows s befor
   ]
 
   -- what the current segment's log answered, said of all segments
-  pub filled_result : {T : Type 0} (root : PassValue) (rows : List RowValue) (result : Result T LoadFault) → length before + length rows ≤ base_of s + (s.shape).capacity
-      → MatchResult result (λ x. HasLoaded s.current.log (base_of s) (own_rows ++ rows) root) (HasStopped s.current.log (base_of s) own_rows rows root) → MatchResult result (λ x. HoldsRows (filled s root) (before ++ rows)) (HaveStopped before rows (filled s root))
+  pub filled_result : {T : Type 0} (root : PassValue) (rows : List RowValue) (result : Result T LoadFault)
+      → length before + length rows ≤ base_of s + (s.shape).capacity
+      → MatchResult result (λ x. HasLoaded s.current.log (base_of s) (own_rows ++ rows) root) (HasStopped s.current.log (base_of s) own_rows rows root)
+          → MatchResult result (λ x. HoldsRows (filled s root) (before ++ rows)) (HaveStopped before rows (filled s root))
   filled_result root rows (Ok x) room made = filled_holds root rows room made
   filled_result root rows (Err fault) room made = filled_stopped root rows fault room made
 
 -- whatever was answered, the books are home
 pub home_after : {T : Type 0} (log : LogValue) (first : ℕ) (before rows : List RowValue) (root : PassValue) (result : Result T LoadFault)
-    → MatchResult result (λ x. HasLoaded log first (before ++ rows) root) (HasStopped log first before rows root) → IsOf root log × HoldsAllBooks log.shape root.view
+    → MatchResult result (λ x. HasLoaded log first (before ++ rows) root) (HasStopped log first before rows root) → IsOf root log
+        × HoldsAllBooks log.shape root.view
 home_after log first before rows root (Ok x) made = (made.of, made.settled)
 home_after log first before rows root (Err Full) made = absurd made
 home_after log first before rows root (Err (NodesFull w)) made = (made.of, made.settled)
@@ -228,4 +258,5 @@ module _ (s t : SegmentsValue) (keeps : KeepsAll s t) (before : List RowValue) (
   still_long = (let long = own_long t before still in let same = kept_base s t keeps in omega (arith, long, same, base_is))
 
   pub still_has : HasLoaded t.current.log base (own_rows t before still) t.current.root
-  still_has = subst (λ (i : ℕ). HasLoaded t.current.log i (own_rows t before still) t.current.root) (kept_base s t keeps ∙ sym base_is) (current_has t before still)
+  still_has = subst (λ (i : ℕ). HasLoaded t.current.log i (own_rows t before still) t.current.root) (kept_base s t keeps ∙ sym base_is)
+      (current_has t before still)

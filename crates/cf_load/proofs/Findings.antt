@@ -22,11 +22,13 @@ module _ (shape : ShapeValue) (ask : Ask) (entries : List Entry) (count : ℕ) (
       let long = length-map entries (λ (e : Entry). e.row) in
       let behind = length-map more (λ (e : Entry). e.row) in
       let same = found.count_is in
-      rw (found.finding_is) (subst (λ (n : ℕ). CanJoin n (finding_in shape ask (rows_in entries)) (finding_in shape ask (rows_in more))) (long ∙ sym found.count_is)
+      rw (found.finding_is)
+          (subst (λ (n : ℕ). CanJoin n (finding_in shape ask (rows_in entries)) (finding_in shape ask (rows_in more))) (long ∙ sym found.count_is)
       (findings_can_join shape ask (rows_in entries) (rows_in more) (omega (arith, few, same, long, behind))))
 
   -- and joined it is what it finds in both
-  pub found_behind : (more : List Entry) → HasFound shape ask (entries ++ more) (count + length more) (joined count finding (finding_in shape ask (rows_in more)))
+  pub found_behind : (more : List Entry)
+      → HasFound shape ask (entries ++ more) (count + length more) (joined count finding (finding_in shape ask (rows_in more)))
   found_behind more =
       let long = length-map entries (λ (e : Entry). e.row) in record {
         count_is = ap (λ (n : ℕ). n + length more) found.count_is ∙ sym (length-append entries more);
@@ -36,7 +38,9 @@ module _ (shape : ShapeValue) (ask : Ask) (entries : List Entry) (count : ℕ) (
 
   -- the answer that it tells
   pub found_tells : (body : Body) → body ≡ body_of ask finding → ◌≡◌ {A = Answer} (record { tail = count; body = body }) (answer_on shape entries ask)
-  found_tells body is = ap₂ (λ (n : ℕ) (b : Body). record { tail = n; body = b }) found.count_is (is ∙ (ap (body_of ask) found.finding_is ∙ findings_tell shape ask (rows_in entries)))
+  found_tells body is =
+      ap₂ (λ (n : ℕ) (b : Body). record { tail = n; body = b }) found.count_is
+      (is ∙ (ap (body_of ask) found.finding_is ∙ findings_tell shape ask (rows_in entries)))
 
 -- what begins a list of entries begins it behind others too
 pub begins_behind : (before xs ys : List Entry) → Begins xs ys → Begins (before ++ xs) (before ++ ys)

@@ -37,11 +37,14 @@ settled_kept shape m n keeps settled = record {
 }
 
 -- one more of what is made of each
-pub made_more : {X Y : Type 0} (f : X → Y) (xs : List X) (ys zs : List Y) (i : ℕ) (d : X) (y : Y) → ys ≡ map f (take i xs) → i < length xs → y ≡ f (get_or xs i d) → zs ≡ ys ++ y ∷ [] → zs ≡ map f (take (i + 1) xs)
-made_more f xs ys zs i d y is lt one more = more ∙ (ap₂ (λ made a. made ++ a ∷ []) is one ∙ (sym (map_push f (take i xs) (get_or xs i d)) ∙ ap (map f) (sym (take_more xs i d lt))))
+pub made_more : {X Y : Type 0} (f : X → Y) (xs : List X) (ys zs : List Y) (i : ℕ) (d : X) (y : Y) → ys ≡ map f (take i xs) → i < length xs
+    → y ≡ f (get_or xs i d) → zs ≡ ys ++ y ∷ [] → zs ≡ map f (take (i + 1) xs)
+made_more f xs ys zs i d y is lt one more = more
+    ∙ (ap₂ (λ made a. made ++ a ∷ []) is one ∙ (sym (map_push f (take i xs) (get_or xs i d)) ∙ ap (map f) (sym (take_more xs i d lt))))
 
 -- what was loaded is still there
 pub still_holds : (log : LogValue) (first : ℕ) (rows : List RowValue) (m n : PassValue) → HasLoaded log first rows m → Keeps m n → HasLoaded log first rows n
 still_holds log first rows m n has keeps =
-    let of : IsOf n log = record { table = ap (λ (h : PassValue). h.table) keeps.same ∙ has.of.table; nodes = ap (λ (h : PassValue). h.nodes) keeps.same ∙ has.of.nodes } in
+    let of : IsOf n log =
+        record { table = ap (λ (h : PassValue). h.table) keeps.same ∙ has.of.table; nodes = ap (λ (h : PassValue). h.nodes) keeps.same ∙ has.of.nodes } in
     still_loaded log first rows m n has of keeps.books keeps.seen

@@ -22,12 +22,15 @@ kept_same old new keeps = record { log = keeps.log; root = keeps.root.same }
 pub kept_segment : (shape : ShapeValue) (old new : Segment) → IsSegment shape old → KeepsSegment old new → IsSegment shape new
 kept_segment shape old new is keeps = record {
   shape_is = ap (λ (l : LogValue). l.shape) keeps.log ∙ is.shape_is;
-  of = subst (IsOf new.root) (sym keeps.log) (record { table = ap (λ (h : PassValue). h.table) keeps.root.same ∙ is.of.table; nodes = ap (λ (h : PassValue). h.nodes) keeps.root.same ∙ is.of.nodes });
+  of = subst (IsOf new.root) (sym keeps.log)
+      (record { table = ap (λ (h : PassValue). h.table) keeps.root.same ∙ is.of.table; nodes = ap (λ (h : PassValue). h.nodes) keeps.root.same ∙ is.of.nodes });
   settled = settled_kept shape old.root new.root keeps.root is.settled;
 }
 
-pub kept_loaded : (first : ℕ) (rows : List RowValue) (old new : Segment) → HasLoaded old.log first rows old.root → KeepsSegment old new → HasLoaded new.log first rows new.root
-kept_loaded first rows old new has keeps = subst (λ (l : LogValue). HasLoaded l first rows new.root) (sym keeps.log) (still_holds old.log first rows old.root new.root has keeps.root)
+pub kept_loaded : (first : ℕ) (rows : List RowValue) (old new : Segment) → HasLoaded old.log first rows old.root → KeepsSegment old new
+    → HasLoaded new.log first rows new.root
+kept_loaded first rows old new has keeps =
+    subst (λ (l : LogValue). HasLoaded l first rows new.root) (sym keeps.log) (still_holds old.log first rows old.root new.root has keeps.root)
 
 pub segment_none : (g : Segment) → KeepsSegment g g
 segment_none g = record { log = refl; root = keeps_none g.root }
@@ -58,7 +61,8 @@ pub segments_told : (n base : ℕ) (gs hs : List Segment) → AllZip KeepsSegmen
 segments_told n base [] [] all = refl
 segments_told n base [] (h ∷ hs) all = absurd all
 segments_told n base (g ∷ gs) [] all = absurd all
-segments_told n base (g ∷ gs) (h ∷ hs) all = ap₂ (λ (ts us : List ℕ). map (λ tail. base + tail) ts ++ us) (all.0).root.told (segments_told n (base + n) gs hs all.1)
+segments_told n base (g ∷ gs) (h ∷ hs) all =
+    ap₂ (λ (ts us : List ℕ). map (λ tail. base + tail) ts ++ us) (all.0).root.told (segments_told n (base + n) gs hs all.1)
 
 pub segments_first : (gs hs : List Segment) → AllZip KeepsSegment gs hs → AreFirst gs hs
 segments_first [] hs all = tt
@@ -89,7 +93,8 @@ module _ (s t : SegmentsValue) (keeps : KeepsAll s t) where
   kept_lawful is = (let few = is.few in let long = zip_long KeepsSegment s.closed t.closed keeps.closed in record {
     sizes = subst (λ (u : SegmentsValue). AllowsSegments u.shape u.most) (sym keeps.same) is.sizes;
     few = omega (arith, few, long, kept_most);
-    each = λ k g at. subst (λ (h : ShapeValue). IsSegment h g) (sym kept_shape) (let z = zip_back KeepsSegment (all_of s) (all_of t) k g kept_each at in kept_segment s.shape z.0 g (is.each k z.0 z.1) z.2);
+    each = λ k g at. subst (λ (h : ShapeValue). IsSegment h g) (sym kept_shape)
+        (let z = zip_back KeepsSegment (all_of s) (all_of t) k g kept_each at in kept_segment s.shape z.0 g (is.each k z.0 z.1) z.2);
   })
 
   pub kept_holds : (rows : List RowValue) → HoldsRows s rows → HoldsRows t rows
@@ -148,11 +153,14 @@ goes_turned s t turned = record {
 }
 
 -- after an ask of a segment's root, also one that was refused
-pub asked_segment : (shape : ShapeValue) (g : Segment) (n : PassValue) → IsSegment shape g → HasAsked (g.log).shape g.root n → KeepsSegment g (record { log = g.log; root = n })
-asked_segment shape g n is asked = record { log = refl; root = keeps_asked shape g.root n (subst (λ (h : ShapeValue). HasAsked h g.root n) is.shape_is asked) is.settled }
+pub asked_segment : (shape : ShapeValue) (g : Segment) (n : PassValue) → IsSegment shape g → HasAsked (g.log).shape g.root n
+    → KeepsSegment g (record { log = g.log; root = n })
+asked_segment shape g n is asked =
+    record { log = refl; root = keeps_asked shape g.root n (subst (λ (h : ShapeValue). HasAsked h g.root n) is.shape_is asked) is.settled }
 
 -- and of the current one's, where the closed ones were kept
-pub kept_current : (most : ℕ) (closed others : List Segment) (current : Segment) (n : PassValue) → AllZip KeepsSegment closed others → KeepsSegment current (record { log = current.log; root = n })
+pub kept_current : (most : ℕ) (closed others : List Segment) (current : Segment) (n : PassValue) → AllZip KeepsSegment closed others
+    → KeepsSegment current (record { log = current.log; root = n })
     → KeepsAll (segments_of most closed current) (segments_of most others (record { log = current.log; root = n }))
 kept_current most closed others current n zip last = record { same = refl; closed = zip; current = last }
 

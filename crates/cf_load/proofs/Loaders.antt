@@ -42,7 +42,8 @@ same_suits : (shape : ShapeValue) (plan other : LivePlan) → IsSamePlan plan ot
 same_suits shape plan other same suits = record {
   asks = subst (All (Suits shape)) (sym same.asks) suits.asks;
   triggers = subst (All (SuitsTrigger shape)) (sym same.triggers) suits.triggers;
-  lives = subst (λ (asks : List Ask). All (λ place. place < length asks) other.lives.items) (sym same.asks) (subst (All (λ place. place < length plan.asks.items)) (sym same.lives) suits.lives);
+  lives = subst (λ (asks : List Ask). All (λ place. place < length asks) other.lives.items) (sym same.asks)
+      (subst (All (λ place. place < length plan.asks.items)) (sym same.lives) suits.lives);
 }
 
 -- segments that go on have room for as many rows
@@ -62,11 +63,13 @@ starts s plan loader suits fresh has = record {
   few = omega arith;
   fit = All-nil (Fits (s.shape).schema);
   loaded = has;
-  answered = subst (HasAnswered s.shape loader.plan.asks.items loader.plan.lives.items loader.plan.rounds 0 (entries_of s)) (sym fresh.lives) (answered_none s.shape loader.plan.asks.items loader.plan.lives.items loader.plan.rounds (entries_of s));
+  answered = subst (HasAnswered s.shape loader.plan.asks.items loader.plan.lives.items loader.plan.rounds 0 (entries_of s)) (sym fresh.lives)
+      (answered_none s.shape loader.plan.asks.items loader.plan.lives.items loader.plan.rounds (entries_of s));
 }
 
 -- a batch is loaded, and its answers come after those before
-pub goes_on : (before rows : List RowValue) (old new : LoaderValue) (b : ℕ) (s t : SegmentsValue) (more : List Live) → IsLoading s before old → HoldsRows t (before ++ rows) → SegmentsGoOn s t → base_of t ≤ length before → length before ≡ 4096 * b → 0 < length rows → length rows ≤ 4096
+pub goes_on : (before rows : List RowValue) (old new : LoaderValue) (b : ℕ) (s t : SegmentsValue) (more : List Live) → IsLoading s before old
+    → HoldsRows t (before ++ rows) → SegmentsGoOn s t → base_of t ≤ length before → length before ≡ 4096 * b → 0 < length rows → length rows ≤ 4096
     → length before + length rows ≤ room_of s → All (Fits (s.shape).schema) rows → AsksBeside s.shape old.plan b (entries_of s) (entries_of t) more
     → told_of t ≡ told_of s ++ tails_of more → new ≡ record old { count = old.count + length rows; lives = old.lives ++ more }
     → IsBatched before rows old new s t
@@ -84,8 +87,11 @@ goes_on before rows old new b s t more is has same within long some few room fit
     few = (let l = length-append before rows in let most = same_room s t same in omega (arith, l, room, most));
     fit = subst (λ (h : ShapeValue). All (Fits h.schema) (before ++ rows)) (sym same.shape) (All-append (Fits (s.shape).schema) before rows is.fit fits);
     loaded = has;
-    answered = subst (λ (h : ShapeValue). HasAnswered h old.plan.asks.items old.plan.lives.items old.plan.rounds (length (before ++ rows)) (entries_of t) (old.lives ++ more)) (sym same.shape)
-        (answered_beside s.shape before rows old.plan b (entries_of s) (entries_of t) old.lives more (entries_long s before is.loaded) (entries_long t (before ++ rows) has) long some few is.answered beside);
+    answered = subst
+        (λ (h : ShapeValue). HasAnswered h old.plan.asks.items old.plan.lives.items old.plan.rounds (length (before ++ rows)) (entries_of t)
+        (old.lives ++ more)) (sym same.shape)
+        (answered_beside s.shape before rows old.plan b (entries_of s) (entries_of t) old.lives more (entries_long s before is.loaded)
+            (entries_long t (before ++ rows) has) long some few is.answered beside);
   });
 }
 
@@ -100,7 +106,10 @@ block_more n k xs ys = elim (cases_lt (length xs) (n * k)) [
             let l : ℕ = length (drop (n * k) xs) in
             let sum : n ≡ l + (n - l) = omega (arith, short) in (
               take (n - l) ys,
-              ap (take n) at ∙ (ap (λ (i : ℕ). take i (drop (n * k) xs ++ ys)) sum ∙ (take-append-add (drop (n * k) xs) ys (n - l) ∙ ap (λ (rs : List RowValue). rs ++ take (n - l) ys) (sym (take_all n (drop (n * k) xs) (omega (arith, short)))))),
+              ap (take n) at
+                  ∙ (ap (λ (i : ℕ). take i (drop (n * k) xs ++ ys)) sum
+                  ∙ (take-append-add (drop (n * k) xs) ys (n - l)
+                  ∙ ap (λ (rs : List RowValue). rs ++ take (n - l) ys) (sym (take_all n (drop (n * k) xs) (omega (arith, short)))))),
             )
         | inr long ↦ ([], ap (take n) at ∙ (take-append-le n (drop (n * k) xs) ys (omega (arith, long)) ∙ sym (append-nil (block n k xs))))
       ]
@@ -118,15 +127,18 @@ lacks_more s rows more w lacks =
       exists = lacks.exists;
       place = lacks.place;
       many = subst (λ (rs : List RowValue). (s.shape).nodes < distinct s.shape rs) (sym b.1) (omega (arith, many, d));
-      out = subst (λ (rs : List RowValue). HasRunOut s.shape (base_of s) rs w s.current.root.view) (sym last.1) (run_out_more s.shape (base_of s) (block n (length s.closed) rows) last.0 w s.current.root.view lacks.out);
+      out = subst (λ (rs : List RowValue). HasRunOut s.shape (base_of s) rs w s.current.root.view) (sym last.1)
+          (run_out_more s.shape (base_of s) (block n (length s.closed) rows) last.0 w s.current.root.view lacks.out);
       fronts = λ v lt. (let f = lacks.fronts v lt in let W = (s.shape).writers in (
         f.0 ++ rows_of W v (0 + length rows) more,
-        sym (append_assoc (written_by v (entries_of s)) f.0 (rows_of W v (0 + length rows) more)) ∙ (ap (λ (rs : List RowValue). rs ++ rows_of W v (0 + length rows) more) f.1 ∙ sym (rows_append W v 0 rows more)),
+        sym (append_assoc (written_by v (entries_of s)) f.0 (rows_of W v (0 + length rows) more))
+            ∙ (ap (λ (rs : List RowValue). rs ++ rows_of W v (0 + length rows) more) f.1 ∙ sym (rows_append W v 0 rows more)),
       ));
     }
 
 -- each block of the rows that segments hold needs no more nodes than all writers of a segment have
-pub blocks_few : (s : SegmentsValue) (rows : List RowValue) → IsShape s.shape → All (Fits (s.shape).schema) rows → HoldsRows s rows → (k : ℕ) → distinct s.shape (block (s.shape).capacity k rows) ≤ (s.shape).writers * (s.shape).nodes
+pub blocks_few : (s : SegmentsValue) (rows : List RowValue) → IsShape s.shape → All (Fits (s.shape).schema) rows → HoldsRows s rows → (k : ℕ)
+    → distinct s.shape (block (s.shape).capacity k rows) ≤ (s.shape).writers * (s.shape).nodes
 blocks_few s rows lawful fits holds k =
     let n = (s.shape).capacity in
     elim (cases_lt k (length (all_of s))) [
@@ -134,20 +146,25 @@ blocks_few s rows lawful fits holds k =
           let g : Segment = get_or (all_of s) k s.current in
           let at : slice_get (all_of s) k ≡ Some g = slice_get-get_or (all_of s) k s.current there in
           let same : (g.log).shape ≡ s.shape = (holds.are.each k g at).shape_is in
-          let fit : All (Fits (s.shape).schema) (block n k rows) = All-take (Fits (s.shape).schema) n (drop (n * k) rows) (All-drop (Fits (s.shape).schema) (n * k) rows fits) in
+          let fit : All (Fits (s.shape).schema) (block n k rows) =
+              All-take (Fits (s.shape).schema) n (drop (n * k) rows) (All-drop (Fits (s.shape).schema) (n * k) rows fits) in
           subst (λ (h : ShapeValue). distinct h (block n k rows) ≤ h.writers * h.nodes) same
-          (loaded_few g.log (n * k) (block n k rows) g.root (subst IsShape (sym same) lawful) (subst (λ (h : ShapeValue). All (Fits h.schema) (block n k rows)) (sym same) fit) (holds.each k g at))
+          (loaded_few g.log (n * k) (block n k rows) g.root (subst IsShape (sym same) lawful)
+              (subst (λ (h : ShapeValue). All (Fits h.schema) (block n k rows)) (sym same) fit) (holds.each k g at))
       | inr past ↦
           let more = length-append s.closed (s.current ∷ []) in
           let far : n * suc (length s.closed) ≤ n * k = mul-le-mul_left n (let e : suc (length s.closed) ≤ k = omega (arith, past, more) in e) in
           let step = mul-suc n (length s.closed) in
           let room = holds.room in
-          subst (λ (rs : List RowValue). distinct s.shape rs ≤ (s.shape).writers * (s.shape).nodes) (sym (part_after n (n * k) rows (omega (arith, far, step, room)))) (omega arith)
+          subst (λ (rs : List RowValue). distinct s.shape rs ≤ (s.shape).writers * (s.shape).nodes)
+              (sym (part_after n (n * k) rows (omega (arith, far, step, room)))) (omega arith)
     ]
 
 -- what the loader's answers say of all entries
-pub finishes : (rows : List RowValue) (loader : LoaderValue) (s t : SegmentsValue) (answered : LoadedValue) → IsShape s.shape → IsLoading s rows loader → KeepsAll s t
-    → answered.finals ≡ map (answer_on s.shape (entries_of s)) loader.plan.asks.items → answered.alerts ≡ map (marks_on s.shape (entries_of s)) loader.plan.triggers.items → answered.lives ≡ loader.lives
+pub finishes : (rows : List RowValue) (loader : LoaderValue) (s t : SegmentsValue) (answered : LoadedValue) → IsShape s.shape → IsLoading s rows loader
+    → KeepsAll s t
+    → answered.finals ≡ map (answer_on s.shape (entries_of s)) loader.plan.asks.items
+        → answered.alerts ≡ map (marks_on s.shape (entries_of s)) loader.plan.triggers.items → answered.lives ≡ loader.lives
     → IsFinished rows loader s t answered
 finishes rows loader s t answered shape is keeps finals alerts lives =
     let same : entries_of t ≡ entries_of s = kept_entries s t keeps in record {
@@ -157,20 +174,26 @@ finishes rows loader s t answered shape is keeps finals alerts lives =
       finals = finals ∙ ap (λ (es : List Entry). map (answer_on s.shape es) loader.plan.asks.items) (sym same);
       alerts = alerts ∙ ap (λ (es : List Entry). map (marks_on s.shape es) loader.plan.triggers.items) (sym same);
       lives_are = lives;
-      lives = subst (λ (es : List Entry). HasAnswered s.shape loader.plan.asks.items loader.plan.lives.items loader.plan.rounds (length rows) es answered.lives) (sym same)
+      lives = subst
+          (λ (es : List Entry). HasAnswered s.shape loader.plan.asks.items loader.plan.lives.items loader.plan.rounds (length rows) es answered.lives)
+          (sym same)
           (subst (HasAnswered s.shape loader.plan.asks.items loader.plan.lives.items loader.plan.rounds (length rows) (entries_of s)) (sym lives) is.answered);
       few_nodes = blocks_few s rows shape is.fit is.loaded;
     }
 
 -- and what is left where memory is wanted
-pub finishes_if : (rows : List RowValue) (loader : LoaderValue) (s t : SegmentsValue) (result : Result LoadedValue AllocError) → IsShape s.shape → IsLoading s rows loader → KeepsAll s t
-    → IfOk result (λ (answered : LoadedValue). answered.finals ≡ map (answer_on s.shape (entries_of s)) loader.plan.asks.items) → IfOk result (λ (answered : LoadedValue). answered.alerts ≡ map (marks_on s.shape (entries_of s)) loader.plan.triggers.items)
-    → IfOk result (λ (answered : LoadedValue). answered.lives ≡ loader.lives) → MatchResult result (IsFinished rows loader s t) (λ x. KeepsAll s t × HoldsRows t rows)
+pub finishes_if : (rows : List RowValue) (loader : LoaderValue) (s t : SegmentsValue) (result : Result LoadedValue AllocError) → IsShape s.shape
+    → IsLoading s rows loader → KeepsAll s t
+    → IfOk result (λ (answered : LoadedValue). answered.finals ≡ map (answer_on s.shape (entries_of s)) loader.plan.asks.items)
+        → IfOk result (λ (answered : LoadedValue). answered.alerts ≡ map (marks_on s.shape (entries_of s)) loader.plan.triggers.items)
+    → IfOk result (λ (answered : LoadedValue). answered.lives ≡ loader.lives)
+        → MatchResult result (IsFinished rows loader s t) (λ x. KeepsAll s t × HoldsRows t rows)
 finishes_if rows loader s t (Ok answered) shape is keeps finals alerts lives = finishes rows loader s t answered shape is keeps finals alerts lives
 finishes_if rows loader s t (Err e) shape is keeps finals alerts lives = (keeps, kept_holds s t keeps rows is.loaded)
 
 -- the part of a list from some place on, to its end or as many as a batch has
-pub part_is : {X : Type 0} (xs : List X) (from to : ℕ) → from ≤ length xs → to ≡ min (length xs) (from + 4096) → take (to - from) (drop from xs) ≡ take 4096 (drop from xs)
+pub part_is : {X : Type 0} (xs : List X) (from to : ℕ) → from ≤ length xs → to ≡ min (length xs) (from + 4096)
+    → take (to - from) (drop from xs) ≡ take 4096 (drop from xs)
 part_is xs from to low is =
     let rest = length-drop from xs in
     elim (cases_lt (length xs) (from + 4096)) [
@@ -185,8 +208,10 @@ more_of rows part b is =
     ap (λ (rs : List RowValue). take (4096 * b) rows ++ rs) is ∙ (sym (take-add (4096 * b) 4096 rows) ∙ ap (λ i. take i rows) e)
 
 -- a fault in one of the batches of some rows
-pub some_of : (rows before part : List RowValue) (s t : SegmentsValue) (i j : ℕ) (fault : LoadFault) → before ≡ take i rows → before ++ part ≡ take j rows → length rows ≤ room_of s → IsRefused before part s t fault → HasSome rows t fault
-some_of rows before part s t i j Full front both few left = absurd (let l = length-append before part in let k = ap length both in let u = length-take j rows in omega (arith, left.0, l, k, u, few))
+pub some_of : (rows before part : List RowValue) (s t : SegmentsValue) (i j : ℕ) (fault : LoadFault) → before ≡ take i rows → before ++ part ≡ take j rows
+    → length rows ≤ room_of s → IsRefused before part s t fault → HasSome rows t fault
+some_of rows before part s t i j Full front both few left =
+    absurd (let l = length-append before part in let k = ap length both in let u = length-take j rows in omega (arith, left.0, l, k, u, few))
 some_of rows before part s t i j (NodesFull w) front both few left =
     let more = lacks_more t (before ++ part) (drop j rows) w left.2 in
     subst (λ (rs : List RowValue). LacksNodes t rs w) (ap (λ (rs : List RowValue). rs ++ drop j rows) both ∙ take-append-drop j rows) more
@@ -202,7 +227,8 @@ refused_goes before part s t (NodesFull w) left = left.1
 refused_goes before part s t Memory left = left.1
 
 -- all batches of a load, and then the answers
-pub loads : (rows : List RowValue) (plan : LivePlan) (loader : LoaderValue) (s t u : SegmentsValue) (answered : LoadedValue) → IsSamePlan plan loader.plan → IsLoading t rows loader → SegmentsGoOn s t → told_of t ≡ told_of s ++ tails_of loader.lives
+pub loads : (rows : List RowValue) (plan : LivePlan) (loader : LoaderValue) (s t u : SegmentsValue) (answered : LoadedValue) → IsSamePlan plan loader.plan
+    → IsLoading t rows loader → SegmentsGoOn s t → told_of t ≡ told_of s ++ tails_of loader.lives
     → IsFinished rows loader t u answered → IsLoaded rows plan s u answered
 loads rows plan loader s t u answered same is goes told made = record {
   few = (let few = is.few in let most = same_room s t goes in omega (arith, few, most));
@@ -213,13 +239,15 @@ loads rows plan loader s t u answered same is goes told made = record {
   lives = subst (λ (h : ShapeValue). HasAnswered h plan.asks.items plan.lives.items plan.rounds (length rows) (entries_of u) answered.lives) goes.shape
       (subst (λ (k : ℕ). HasAnswered t.shape plan.asks.items plan.lives.items k (length rows) (entries_of u) answered.lives) same.rounds
       (subst (λ (ls : List ℕ). HasAnswered t.shape plan.asks.items ls loader.plan.rounds (length rows) (entries_of u) answered.lives) same.lives
-      (subst (λ (asks : List Ask). HasAnswered t.shape asks loader.plan.lives.items loader.plan.rounds (length rows) (entries_of u) answered.lives) same.asks made.lives)));
+      (subst (λ (asks : List Ask). HasAnswered t.shape asks loader.plan.lives.items loader.plan.rounds (length rows)
+          (entries_of u) answered.lives) same.asks made.lives)));
   told = made.told ∙ (told ∙ ap (λ (ls : List Live). told_of s ++ tails_of ls) (sym made.lives_are));
   few_nodes = subst (λ (h : ShapeValue). (k : ℕ) → distinct h (block h.capacity k rows) ≤ h.writers * h.nodes) goes.shape made.few_nodes;
 }
 
 -- a batch has room in the current segment, where one of its rows has
-pub batch_room : (s : SegmentsValue) (count k : ℕ) → IsSegments s → count % 4096 ≡ 0 → k ≤ 4096 → count < base_of s + (s.shape).capacity → count + k ≤ room_of s → count + k ≤ base_of s + (s.shape).capacity
+pub batch_room : (s : SegmentsValue) (count k : ℕ) → IsSegments s → count % 4096 ≡ 0 → k ≤ 4096 → count < base_of s + (s.shape).capacity
+    → count + k ≤ room_of s → count + k ≤ base_of s + (s.shape).capacity
 batch_room s count k is begins few some room = elim (cases_lt 1 s.most) [
   | inl many ↦ (let whole = is.sizes.whole many in let base = base_whole s is in omega (arith, begins, few, some, whole, base))
   | inr one ↦
@@ -230,7 +258,8 @@ batch_room s count k is begins few some room = elim (cases_lt 1 s.most) [
 ]
 
 -- what a batch leaves that was refused beside its rows
-pub refused : (before rows : List RowValue) (s t : SegmentsValue) (fault : LoadFault) → length before + length rows ≤ room_of s → SegmentsGoOn s t → HaveStopped before rows t fault → IsRefused before rows s t fault
+pub refused : (before rows : List RowValue) (s t : SegmentsValue) (fault : LoadFault) → length before + length rows ≤ room_of s → SegmentsGoOn s t
+    → HaveStopped before rows t fault → IsRefused before rows s t fault
 refused before rows s t Full room goes stopped = absurd stopped
 refused before rows s t (NodesFull w) room goes stopped = (room, goes, stopped)
 refused before rows s t Memory room goes stopped = (room, goes, stopped)

@@ -12,15 +12,19 @@ use Rattle.cf_load.specs.Planned.{tails_of}
 use Rattle.cf_load.proofs.Tails.{answered_more}
 
 -- the live answers beside it come after those before
-pub answered_beside : (shape : ShapeValue) (rows batch : List RowValue) (plan : LivePlan) (b : ℕ) (seen now : List Entry) (answers more : List Live) → length seen ≡ length rows → length now ≡ length (rows ++ batch) → length rows ≡ 4096 * b → 0 < length batch → length batch ≤ 4096
+pub answered_beside : (shape : ShapeValue) (rows batch : List RowValue) (plan : LivePlan) (b : ℕ) (seen now : List Entry) (answers more : List Live)
+    → length seen ≡ length rows → length now ≡ length (rows ++ batch) → length rows ≡ 4096 * b → 0 < length batch → length batch ≤ 4096
     → HasAnswered shape plan.asks.items plan.lives.items plan.rounds (length rows) seen answers → AsksBeside shape plan b seen now more
     → HasAnswered shape plan.asks.items plan.lives.items plan.rounds (length (rows ++ batch)) now (answers ++ more)
 answered_beside shape rows batch plan b seen now answers more before after long some few has beside =
     let sum : length rows + length batch ≡ length (rows ++ batch) = sym (length-append rows batch) in
     subst (λ c. HasAnswered shape plan.asks.items plan.lives.items plan.rounds c now (answers ++ more)) sum
-    (answered_more shape plan.asks.items plan.lives.items plan.rounds (length rows) b (length batch) seen beside.read now answers more has long before beside.asks beside.begins
+    (answered_more shape plan.asks.items plan.lives.items plan.rounds (length rows) b
+        (length batch) seen beside.read now answers more has long before beside.asks beside.begins
     (begins_then seen beside.read now beside.asks.longer beside.begins) (after ∙ sym sum) some few)
 
-pub told_more : (told old now : List ℕ) (answers more : List Live) → old ≡ told ++ tails_of answers → now ≡ old ++ tails_of more → now ≡ told ++ tails_of (answers ++ more)
+pub told_more : (told old now : List ℕ) (answers more : List Live) → old ≡ told ++ tails_of answers → now ≡ old ++ tails_of more
+    → now ≡ told ++ tails_of (answers ++ more)
 told_more told old now answers more is then =
-    then ∙ (ap (λ ts. ts ++ tails_of more) is ∙ (append_assoc told (tails_of answers) (tails_of more) ∙ ap (λ ts. told ++ ts) (sym (map-append (λ (live : Live). live.answer.tail) answers more))))
+    then ∙ (ap (λ ts. ts ++ tails_of more) is
+        ∙ (append_assoc told (tails_of answers) (tails_of more) ∙ ap (λ ts. told ++ ts) (sym (map-append (λ (live : Live). live.answer.tail) answers more))))

@@ -40,7 +40,9 @@ same_is x y h =
     ∙ (ap (λ (n : ℕ). record { lane = y.lane; level = n; front = x.front }) level ∙ ap (λ (n : ℕ). record { lane = y.lane; level = y.level; front = n }) front)
 
 same_self : (x : Node) → same_node x x ≡ true
-same_self x = and_from ((x.lane == x.lane) && (x.level == x.level)) (x.front == x.front) (and_from (x.lane == x.lane) (x.level == x.level) (eq-eqb x.lane x.lane refl) (eq-eqb x.level x.level refl)) (eq-eqb x.front x.front refl)
+same_self x =
+    and_from ((x.lane == x.lane) && (x.level == x.level)) (x.front == x.front)
+    (and_from (x.lane == x.lane) (x.level == x.level) (eq-eqb x.lane x.lane refl) (eq-eqb x.level x.level refl)) (eq-eqb x.front x.front refl)
 
 -- the list has a node of these numbers just where it has the node
 any_has : (x : Node) (nodes : List Node) → list_any (same_node x) nodes ≡ true → Has nodes x
@@ -62,7 +64,8 @@ has_any x (y ∷ ys) (suc k) h = elim (cases_Bool (same_node x y)) [
 added : (nodes : List Node) (x : Node) → (Has nodes x × (add_node nodes x ≡ nodes)) ⊎ ((Has nodes x → ⊥) × (add_node nodes x ≡ x ∷ nodes))
 added nodes x = elim (cases_Bool (list_any (same_node x) nodes)) [
   | inl e ↦ inl (any_has x nodes e, ap (λ (b : Bool). cond {A = List Node} b nodes (x ∷ nodes)) e)
-  | inr e ↦ inr ((λ h. absurd (let f : true ≡ false = sym (has_any x nodes h.0 h.1) ∙ e in cc f)), ap (λ (b : Bool). cond {A = List Node} b nodes (x ∷ nodes)) e)
+  | inr e ↦ inr
+      ((λ h. absurd (let f : true ≡ false = sym (has_any x nodes h.0 h.1) ∙ e in cc f)), ap (λ (b : Bool). cond {A = List Node} b nodes (x ∷ nodes)) e)
 ]
 
 has_added : (nodes : List Node) (x n : Node) → Has nodes n → Has (add_node nodes x) n
@@ -106,7 +109,8 @@ fold_old (x ∷ xs) nodes n h = fold_old xs (add_node nodes x) n (has_added node
 
 fold_new : (xs nodes : List Node) (k : ℕ) (n : Node) → slice_get xs k ≡ Some n → Has (fold add_node nodes xs) n
 fold_new [] nodes k n at = absurd (cc at)
-fold_new (x ∷ xs) nodes zero n at = (let e : x ≡ n = cc at in fold_old xs (add_node nodes x) n (subst (λ (m : Node). Has (add_node nodes x) m) e (added_has nodes x)))
+fold_new (x ∷ xs) nodes zero n at =
+    (let e : x ≡ n = cc at in fold_old xs (add_node nodes x) n (subst (λ (m : Node). Has (add_node nodes x) m) e (added_has nodes x)))
 fold_new (x ∷ xs) nodes (suc k) n at = fold_new xs (add_node nodes x) k n at
 
 pub fold_from : (xs nodes : List Node) (n : Node) → Has (fold add_node nodes xs) n → Has nodes n ⊎ Has xs n
@@ -127,14 +131,16 @@ pub nothing_apart : AreApart {A = Node} []
 nothing_apart i j x a b = absurd (cc a)
 
 -- a needed spot is that of one of the rows' nodes
-needed_node : (shape : ShapeValue) (rows : List RowValue) (s : Spot) → IsShape shape → IsNeeded shape rows s → (n : Node) × Has (nodes_of shape rows) n × (s ≡ spot_at n)
+needed_node : (shape : ShapeValue) (rows : List RowValue) (s : Spot) → IsShape shape → IsNeeded shape rows s → (n : Node) × Has (nodes_of shape rows) n
+    × (s ≡ spot_at n)
 needed_node shape rows s is needed =
     let r = on_path_node shape needed.row s is needed.on in
     let all = has_flat (nodes_for shape) rows needed.place needed.row r.0 needed.at r.1.0 in
     (r.0, fold_new (flat_map (nodes_for shape) rows) [] all.0 r.0 all.1, r.1.1)
 
 -- where a writer's nodes are all used and one more is needed, the rows need more different nodes than a writer has
-pub too_many : (shape : ShapeValue) (rows : List RowValue) (b : Book) → IsShape shape → ((j : ℕ) (s : Spot) → slice_get b.used j ≡ Some s → IsNeeded shape rows s) → IsOut shape rows b → shape.nodes < distinct shape rows
+pub too_many : (shape : ShapeValue) (rows : List RowValue) (b : Book) → IsShape shape
+    → ((j : ℕ) (s : Spot) → slice_get b.used j ≡ Some s → IsNeeded shape rows s) → IsOut shape rows b → shape.nodes < distinct shape rows
 too_many shape rows b is needed out =
     let few = no_more (out.at ∷ b.used) (map spot_at (nodes_of shape rows)) apart there in
     let many = length-map (nodes_of shape rows) spot_at in
@@ -180,14 +186,17 @@ node_for shape row n h =
         let key = key_of shape lane row in
         let f : ℕ → Node = λ level. record { lane = lane; level = level; front = key / 16 ^ (levels - level) } in
         elim (cases_Bool (selected_by shape lane row)) [
-          | inr e ↦ absurd (let none : nodes_in shape row lane ≡ [] = ap (λ (b : Bool). cond {A = List Node} b (path_of lane levels key) []) e in let at : slice_get {X = Node} [] there.0 ≡ Some n = sym (ap (λ (ns : List Node). slice_get ns there.0) none) ∙ there.1 in cc at)
+          | inr e ↦ absurd
+              (let none : nodes_in shape row lane ≡ [] = ap (λ (b : Bool). cond {A = List Node} b (path_of lane levels key) []) e in
+              let at : slice_get {X = Node} [] there.0 ≡ Some n = sym (ap (λ (ns : List Node). slice_get ns there.0) none) ∙ there.1 in cc at)
           | inl e ↦
               let all : nodes_in shape row lane ≡ path_of lane levels key = ap (λ (b : Bool). cond {A = List Node} b (path_of lane levels key) []) e in
               let m = from_map f (range_with_len 1 (levels - 1)) there.0 n (sym (ap (λ (ns : List Node). slice_get ns there.0) all) ∙ there.1) in
               let level = from_range 1 (levels - 1) there.0 m.0 m.1 in
               let up = level.0 in
               let down = level.1 in
-              subst (λ (x : Node). IsNodeFor shape row x) m.2 (record { low = low; takes = e; some = omega (arith, up); inner = omega (arith, up, down); front_is = refl })
+              subst (λ (x : Node). IsNodeFor shape row x) m.2
+                  (record { low = low; takes = e; some = omega (arith, up); inner = omega (arith, up, down); front_is = refl })
         ]
 
 -- then its spot leaves no choice of the node
@@ -203,14 +212,17 @@ front_small levels level key inner small =
 
 for_small : (shape : ShapeValue) (row : RowValue) (n : Node) → IsShape shape → Fits shape.schema row → IsNodeFor shape row n → n.front < 16 ^ n.level
 for_small shape row n is fits f =
-    subst (λ (k : ℕ). k < 16 ^ n.level) (sym f.front_is) (front_small (levels_of shape n.lane) n.level (key_of shape n.lane row) f.inner (key_small shape n.lane row is f.low fits))
+    subst (λ (k : ℕ). k < 16 ^ n.level) (sym f.front_is)
+        (front_small (levels_of shape n.lane) n.level (key_of shape n.lane row) f.inner (key_small shape n.lane row is f.low fits))
 
 one_spot : (x y : Node) → x.front < 16 ^ x.level → y.front < 16 ^ y.level → spot_at x ≡ spot_at y → x ≡ y
 one_spot x y low high same =
     let lane : x.lane ≡ y.lane = ap (λ (s : Spot). s.lane) same in
     let path : nibbles x.level x.front ≡ nibbles y.level y.front = ap (λ (s : Spot). s.path) same in
     let level : x.level ≡ y.level = sym (length-nibbles x.level x.front) ∙ (ap (λ (xs : List ℕ). length xs) path ∙ length-nibbles y.level y.front) in
-    let front : x.front ≡ y.front = same_from_nibbles x.level x.front y.front low (subst (λ (k : ℕ). y.front < 16 ^ k) (sym level) high) (path ∙ ap (λ (k : ℕ). nibbles k y.front) (sym level)) in
+    let front : x.front ≡ y.front =
+        same_from_nibbles x.level x.front y.front low (subst (λ (k : ℕ). y.front < 16 ^ k) (sym level) high)
+        (path ∙ ap (λ (k : ℕ). nibbles k y.front) (sym level)) in
     ap (λ (n : ℕ). record { lane = n; level = x.level; front = x.front }) lane
     ∙ (ap (λ (n : ℕ). record { lane = y.lane; level = n; front = x.front }) level ∙ ap (λ (n : ℕ). record { lane = y.lane; level = y.level; front = n }) front)
 
@@ -235,8 +247,10 @@ for_path shape row n f =
     (key % 16, rest % 16, nibbles i (key / 16), nibbles j (rest / 16), path_some shape row n.lane f.takes ∙ ap (λ (p : List ℕ). Some p) split, ends)
 
 -- Where every row was seen and the books are home, the rows need no more different nodes than all writers have.
-pub few_enough : (shape : ShapeValue) (rows : List RowValue) (p : Pass) → IsShape shape → ((i : ℕ) (row : RowValue) → slice_get rows i ≡ Some row → Fits shape.schema row) → HasNodes shape rows p
-    → ((i : ℕ) (row : RowValue) → slice_get rows i ≡ Some row → (o : ℕ) × (x : Entry) × (slice_get p.seen o ≡ Some x) × (x.row ≡ row)) → length p.books ≡ shape.writers → distinct shape rows ≤ shape.writers * shape.nodes
+pub few_enough : (shape : ShapeValue) (rows : List RowValue) (p : Pass) → IsShape shape
+    → ((i : ℕ) (row : RowValue) → slice_get rows i ≡ Some row → Fits shape.schema row) → HasNodes shape rows p
+    → ((i : ℕ) (row : RowValue) → slice_get rows i ≡ Some row → (o : ℕ) × (x : Entry) × (slice_get p.seen o ≡ Some x) × (x.row ≡ row))
+        → length p.books ≡ shape.writers → distinct shape rows ≤ shape.writers * shape.nodes
 few_enough shape rows p is fits has seen count =
     let few = no_more (map spot_at (nodes_of shape rows)) (flat_map used p.books) apart there in
     let many = length-map (nodes_of shape rows) spot_at in
@@ -248,7 +262,8 @@ few_enough shape rows p is fits has seen count =
     used b = b.used
 
     -- a row that needs the node
-    row_of : (k : ℕ) (n : Node) → slice_get (nodes_of shape rows) k ≡ Some n → (i : ℕ) × (row : RowValue) × (slice_get rows i ≡ Some row) × IsNodeFor shape row n
+    row_of : (k : ℕ) (n : Node) → slice_get (nodes_of shape rows) k ≡ Some n → (i : ℕ) × (row : RowValue) × (slice_get rows i ≡ Some row)
+        × IsNodeFor shape row n
     row_of k n at = elim (fold_from (flat_map (nodes_for shape) rows) [] n (k, at)) [
       | inl none ↦ absurd (cc none.1)
       | inr all ↦ (let r = from_flat (nodes_for shape) rows all.0 n all.1 in (r.0, r.1, r.2, node_for shape r.1 n r.3))

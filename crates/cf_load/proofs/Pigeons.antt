@@ -53,7 +53,8 @@ in_either (y ∷ xs) ys (suc k) x h = elim (in_either xs ys k x h) [
   | inr r ↦ inr r
 ]
 
-pub from_flat : {X A : Type 0} (f : X → List A) (xs : List X) (k : ℕ) (y : A) → slice_get (flat_map f xs) k ≡ Some y → (i : ℕ) × (x : X) × (slice_get xs i ≡ Some x) × Has (f x) y
+pub from_flat : {X A : Type 0} (f : X → List A) (xs : List X) (k : ℕ) (y : A) → slice_get (flat_map f xs) k ≡ Some y → (i : ℕ) × (x : X)
+    × (slice_get xs i ≡ Some x) × Has (f x) y
 from_flat f [] k y h = absurd (cc h)
 from_flat f (z ∷ xs) k y h = elim (in_either (f z) (flat_map f xs) k y h) [
   | inl l ↦ (0, z, refl, l)
@@ -61,9 +62,12 @@ from_flat f (z ∷ xs) k y h = elim (in_either (f z) (flat_map f xs) k y h) [
 ]
 
 -- parts of no more than n items
-pub flat_most : {X A : Type 0} (f : X → List A) (n : ℕ) (xs : List X) → ((i : ℕ) (x : X) → slice_get xs i ≡ Some x → length (f x) ≤ n) → length (flat_map f xs) ≤ length xs * n
+pub flat_most : {X A : Type 0} (f : X → List A) (n : ℕ) (xs : List X) → ((i : ℕ) (x : X) → slice_get xs i ≡ Some x → length (f x) ≤ n)
+    → length (flat_map f xs) ≤ length xs * n
 flat_most f n [] few = omega arith
-flat_most f n (x ∷ xs) few = (let one = few 0 x refl in let rest = flat_most f n xs (λ i y at. few (suc i) y at) in let e = length-append (f x) (flat_map f xs) in let g = suc-mul (length xs) n in omega (arith, one, rest, e, g))
+flat_most f n (x ∷ xs) few =
+    (let one = few 0 x refl in let rest = flat_most f n xs (λ i y at. few (suc i) y at) in let e = length-append (f x) (flat_map f xs) in let g =
+    suc-mul (length xs) n in omega (arith, one, rest, e, g))
 
 pub same_flat : {X A : Type 0} (f g : X → List A) (xs : List X) → ((x : X) → f x ≡ g x) → flat_map f xs ≡ flat_map g xs
 same_flat f g [] same = refl

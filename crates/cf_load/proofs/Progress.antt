@@ -31,7 +31,8 @@ left_of log batch m k i = rows_of (log.shape).writers (book_of m.view).writer k 
 
 -- each used node was used before, or is needed by these rows
 abbrev pub UsedFor : ShapeValue → List RowValue → PassValue → PassValue → Type 0
-UsedFor shape rows m n = (j : ℕ) (s : Spot) → slice_get (book_of n.view).used j ≡ Some s → ((i : ℕ) × (slice_get (book_of m.view).used i ≡ Some s)) ⊎ IsNeeded shape rows s
+UsedFor shape rows m n = (j : ℕ) (s : Spot) → slice_get (book_of n.view).used j ≡ Some s → ((i : ℕ) × (slice_get (book_of m.view).used i ≡ Some s))
+    ⊎ IsNeeded shape rows s
 
 -- The pass has appended its rows of the batch before row i, which is number k.
 pub record Goes (log : LogValue) (first : ℕ) (batch : List RowValue) (m : PassValue) (k i : ℕ) (n : PassValue) : Type 0 where
@@ -70,13 +71,16 @@ same_then : (m n p : PassValue) → n ≡ record m { view = n.view } → p ≡ r
 same_then m n p a b = b ∙ ap (λ (h : PassValue). record h { view = p.view }) a
 
 -- the next row of the batch, and those that are left behind it
-next_own : (writers w k i : ℕ) (batch : List RowValue) (row : RowValue) → i < length batch → get_or batch i row ≡ row → k % writers ≡ w → rows_of writers w k (drop i batch) ≡ row ∷ rows_of writers w (k + 1) (drop (i + 1) batch)
+next_own : (writers w k i : ℕ) (batch : List RowValue) (row : RowValue) → i < length batch → get_or batch i row ≡ row → k % writers ≡ w
+    → rows_of writers w k (drop i batch) ≡ row ∷ rows_of writers w (k + 1) (drop (i + 1) batch)
 next_own writers w k i batch row low at own = ap (rows_of writers w k) (drop-cons batch i row low) ∙ rw (eq-eqb (k % writers) w own, at, add-one i) refl
 
-next_other : (writers w k i : ℕ) (batch : List RowValue) (row : RowValue) → i < length batch → (k % writers ≡ w → ⊥) → rows_of writers w k (drop i batch) ≡ rows_of writers w (k + 1) (drop (i + 1) batch)
+next_other : (writers w k i : ℕ) (batch : List RowValue) (row : RowValue) → i < length batch → (k % writers ≡ w → ⊥)
+    → rows_of writers w k (drop i batch) ≡ rows_of writers w (k + 1) (drop (i + 1) batch)
 next_other writers w k i batch row low other = ap (rows_of writers w k) (drop-cons batch i row low) ∙ rw (ne_eqb (k % writers) w other, add-one i) refl
 
-pub goes_other : (log : LogValue) (first : ℕ) (batch : List RowValue) (m : PassValue) (k i : ℕ) (n : PassValue) (row : RowValue) → Goes log first batch m k i n → i < length batch → (k % (log.shape).writers ≡ (book_of m.view).writer → ⊥) → Goes log first batch m (k + 1) (i + 1) n
+pub goes_other : (log : LogValue) (first : ℕ) (batch : List RowValue) (m : PassValue) (k i : ℕ) (n : PassValue) (row : RowValue)
+    → Goes log first batch m k i n → i < length batch → (k % (log.shape).writers ≡ (book_of m.view).writer → ⊥) → Goes log first batch m (k + 1) (i + 1) n
 goes_other log first batch m k i n row goes low other = record {
   same = goes.same;
   ready = goes.ready;
@@ -92,9 +96,11 @@ goes_other log first batch m k i n row goes low other = record {
 }
 
 -- the row's nodes are used beside those before
-used_more : (shape : ShapeValue) (batch : List RowValue) (m n p : PassValue) (i : ℕ) (row : RowValue) (spots : List Spot) → i < length batch → get_or batch i row ≡ row → UsedFor shape batch m n → (book_of p.view).used ≡ (book_of n.view).used ++ spots
+used_more : (shape : ShapeValue) (batch : List RowValue) (m n p : PassValue) (i : ℕ) (row : RowValue) (spots : List Spot) → i < length batch
+    → get_or batch i row ≡ row → UsedFor shape batch m n → (book_of p.view).used ≡ (book_of n.view).used ++ spots
     → ((j : ℕ) (s : Spot) → slice_get spots j ≡ Some s → IsOnPath shape row s) → UsedFor shape batch m p
-used_more shape batch m n p i row spots low is used more on j s at = elim (in_either (book_of n.view).used spots j s (ap (λ (ss : List Spot). slice_get ss j) (sym more) ∙ at)) [
+used_more shape batch m n p i row spots low is used more on j s at =
+    elim (in_either (book_of n.view).used spots j s (ap (λ (ss : List Spot). slice_get ss j) (sym more) ∙ at)) [
   | inl old ↦ used old.0 s old.1
   | inr new ↦ inr (record { place = i; row = row; at = slice_get-get_or batch i row low ∙ ap (λ (r : RowValue). Some r) is; on = on new.0 s new.1 })
 ]
@@ -107,10 +113,12 @@ shorter_left : (done before rest all : List RowValue) (row : RowValue) → befor
 shorter_left done before rest all row e f = append_assoc done (row ∷ []) rest ∙ (ap (λ (rs : List RowValue). done ++ rs) (sym e) ∙ f)
 
 -- the book of a pass at whose book a row was appended
-book_is : (shape : ShapeValue) (o : ℕ) (row : RowValue) (n p : PassValue) (appended : IsAppended shape o row n p) → book_of p.view ≡ with_own o row (with_nodes appended.paths.used.spots appended.paths.used.label (book_of n.view))
+book_is : (shape : ShapeValue) (o : ℕ) (row : RowValue) (n p : PassValue) (appended : IsAppended shape o row n p)
+    → book_of p.view ≡ with_own o row (with_nodes appended.paths.used.spots appended.paths.used.label (book_of n.view))
 book_is shape o row n p appended = ap (λ (bs : List Book). get_or bs 0 (no_book 0)) appended.books
 
-pub goes_own : (log : LogValue) (first : ℕ) (batch : List RowValue) (m : PassValue) (k i : ℕ) (n p : PassValue) (o : ℕ) (row : RowValue) → Goes log first batch m k i n → i < length batch → get_or batch i row ≡ row → k % (log.shape).writers ≡ (book_of m.view).writer
+pub goes_own : (log : LogValue) (first : ℕ) (batch : List RowValue) (m : PassValue) (k i : ℕ) (n p : PassValue) (o : ℕ) (row : RowValue)
+    → Goes log first batch m k i n → i < length batch → get_or batch i row ≡ row → k % (log.shape).writers ≡ (book_of m.view).writer
     → PassGoesOn n p → Rests p.view → IsAppended log.shape o row n p → Goes log first batch m (k + 1) (i + 1) p
 goes_own log first batch m k i n p o row goes low at own on rest appended =
     let w = (book_of m.view).writer in
@@ -121,21 +129,25 @@ goes_own log first batch m k i n p o row goes low at own on rest appended =
       writer = ap (λ (b : Book). b.writer) is ∙ goes.writer;
       number = (let at = goes.number in omega (arith, at));
       done = goes.done ++ row ∷ [];
-      split = shorter_left goes.done (left_of log batch m k i) (left_of log batch m (k + 1) (i + 1)) (left_of log batch m first 0) row (next_own (log.shape).writers w k i batch row low at own) goes.split;
-      rows = longer_rows (rows_of_book (book_of m.view)) (rows_of_book (book_of n.view)) (rows_of_book (book_of p.view)) goes.done row goes.rows (ap rows_of_book is ∙ map-append (λ (own : Own). own.row) (book_of n.view).mine (ticket ∷ []));
+      split = shorter_left goes.done (left_of log batch m k i) (left_of log batch m (k + 1) (i + 1)) (left_of log batch m first 0) row
+          (next_own (log.shape).writers w k i batch row low at own) goes.split;
+      rows = longer_rows (rows_of_book (book_of m.view)) (rows_of_book (book_of n.view)) (rows_of_book (book_of p.view)) goes.done row goes.rows
+          (ap rows_of_book is ∙ map-append (λ (own : Own). own.row) (book_of n.view).mine (ticket ∷ []));
       used = used_more log.shape batch m n p i row appended.paths.used.spots low at goes.used (ap (λ (b : Book). b.used) is) appended.paths.used.on;
       longer = begins_then (m.view).seen (n.view).seen (p.view).seen goes.longer on.longer;
       tails = on.tails ∙ goes.tails;
       told = on.told ∙ goes.told;
     }
 
-pub goes_answered : (log : LogValue) (first : ℕ) (batch : List RowValue) (m : PassValue) (k i : ℕ) (n p : PassValue) (answer : Result ℕ AppendFault) (o : ℕ) (row : RowValue) → Goes log first batch m k i n → i < length batch → get_or batch i row ≡ row → k % (log.shape).writers ≡ (book_of m.view).writer
+pub goes_answered : (log : LogValue) (first : ℕ) (batch : List RowValue) (m : PassValue) (k i : ℕ) (n p : PassValue) (answer : Result ℕ AppendFault) (o : ℕ)
+    (row : RowValue) → Goes log first batch m k i n → i < length batch → get_or batch i row ≡ row → k % (log.shape).writers ≡ (book_of m.view).writer
     → PassGoesOn n p → Rests p.view → HasAppendAnswer log.shape row n p answer → answer ≡ Ok o → Goes log first batch m (k + 1) (i + 1) p
 goes_answered log first batch m k i n p answer o row goes low at own on rest answered ok =
     goes_own log first batch m k i n p o row goes low at own on rest (subst (λ (r : Result ℕ AppendFault). HasAppendAnswer log.shape row n p r) ok answered)
 
 -- the whole batch was gone through
-pub ends : (log : LogValue) (first : ℕ) (batch : List RowValue) (m : PassValue) (k i : ℕ) (n : PassValue) → Goes log first batch m k i n → length batch ≤ i → Wrote true log first batch m n
+pub ends : (log : LogValue) (first : ℕ) (batch : List RowValue) (m : PassValue) (k i : ℕ) (n : PassValue) → Goes log first batch m k i n → length batch ≤ i
+    → Wrote true log first batch m n
 ends log first batch m k i n goes far = record {
   same = goes.same;
   rest = (goes.ready).rest;
@@ -158,7 +170,8 @@ record Stopped (shape : ShapeValue) (batch : List RowValue) (m n p : PassValue) 
   pub used : UsedFor shape batch m p
 
 -- the batch stops there
-stopped_at : (whole : Bool) (log : LogValue) (first : ℕ) (batch : List RowValue) (m : PassValue) (k i : ℕ) (n p : PassValue) → Goes log first batch m k i n → PassGoesOn n p → Rests p.view → Stopped log.shape batch m n p → (whole ≡ true → (book_of p.view).over ≡ true) → Wrote whole log first batch m p
+stopped_at : (whole : Bool) (log : LogValue) (first : ℕ) (batch : List RowValue) (m : PassValue) (k i : ℕ) (n p : PassValue) → Goes log first batch m k i n
+    → PassGoesOn n p → Rests p.view → Stopped log.shape batch m n p → (whole ≡ true → (book_of p.view).over ≡ true) → Wrote whole log first batch m p
 stopped_at whole log first batch m k i n p goes on rest book over = record {
   same = same_then m n p goes.same on.same;
   rest = rest;
@@ -175,16 +188,20 @@ stopped_at whole log first batch m k i n p goes on rest book over = record {
 }
 
 -- the log was found full
-pub stops_full : (log : LogValue) (first : ℕ) (batch : List RowValue) (m : PassValue) (k i : ℕ) (n p : PassValue) (answer : Result ℕ AppendFault) (row : RowValue) → Goes log first batch m k i n → i < length batch → get_or batch i row ≡ row
+pub stops_full : (log : LogValue) (first : ℕ) (batch : List RowValue) (m : PassValue) (k i : ℕ) (n p : PassValue) (answer : Result ℕ AppendFault)
+    (row : RowValue) → Goes log first batch m k i n → i < length batch → get_or batch i row ≡ row
     → PassGoesOn n p → Rests p.view → HasAppendAnswer log.shape row n p answer → answer ≡ Err Full → Wrote true log first batch m p
-stops_full log first batch m k i n p answer row goes low at on rest answered err = elim (subst (λ (r : Result ℕ AppendFault). HasAppendAnswer log.shape row n p r) err answered) [
+stops_full log first batch m k i n p answer row goes low at on rest answered err =
+    elim (subst (λ (r : Result ℕ AppendFault). HasAppendAnswer log.shape row n p r) err answered) [
   | inl over ↦
       let is = ap (λ (h : PassValue). book_of h.view) over.is in
       stopped_at true log first batch m k i n p goes on rest
-      (record { writer = ap (λ (b : Book). b.writer) is; mine = ap (λ (b : Book). b.mine) is; used = λ j s there. goes.used j s (ap (λ (b : Book). slice_get b.used j) (sym is) ∙ there) })
+      (record { writer = ap (λ (b : Book). b.writer) is; mine = ap (λ (b : Book). b.mine) is; used =
+          λ j s there. goes.used j s (ap (λ (b : Book). slice_get b.used j) (sym is) ∙ there) })
       (λ whole. ap (λ (b : Book). b.over) is ∙ over.over)
   | inr late ↦
-      let is : book_of p.view ≡ with_mark (with_nodes late.paths.used.spots late.paths.used.label (book_of n.view)) = ap (λ (bs : List Book). get_or bs 0 (no_book 0)) late.books in
+      let is : book_of p.view ≡ with_mark (with_nodes late.paths.used.spots late.paths.used.label (book_of n.view)) =
+          ap (λ (bs : List Book). get_or bs 0 (no_book 0)) late.books in
       stopped_at true log first batch m k i n p goes on rest
       (record {
         writer = ap (λ (b : Book). b.writer) is;
@@ -195,7 +212,8 @@ stops_full log first batch m k i n p answer row goes low at on rest answered err
 ]
 
 -- the writer's nodes are used up
-pub stops_out : (log : LogValue) (first : ℕ) (batch : List RowValue) (m : PassValue) (k i : ℕ) (n p : PassValue) (answer : Result ℕ AppendFault) (row : RowValue) → Goes log first batch m k i n → i < length batch → get_or batch i row ≡ row
+pub stops_out : (log : LogValue) (first : ℕ) (batch : List RowValue) (m : PassValue) (k i : ℕ) (n p : PassValue) (answer : Result ℕ AppendFault)
+    (row : RowValue) → Goes log first batch m k i n → i < length batch → get_or batch i row ≡ row
     → PassGoesOn n p → Rests p.view → HasAppendAnswer log.shape row n p answer → answer ≡ Err NodesFull → Wrote false log first batch m p
     × ((w : ℕ) → w ≡ (book_of m.view).writer → k % (log.shape).writers ≡ (book_of m.view).writer → RunsOut log first batch w m p)
 stops_out log first batch m k i n p answer row goes low at on rest answered err =
@@ -230,14 +248,16 @@ stops_out log first batch m k i n p answer row goes low at on rest answered err 
     )
 
 -- what holds of the halves of two lists holds of the lists
-pub zip_append : {A B : Type 0} (R : A → B → Type 0) (xs more : List A) (ys others : List B) → AllZip R xs ys → AllZip R more others → AllZip R (xs ++ more) (ys ++ others)
+pub zip_append : {A B : Type 0} (R : A → B → Type 0) (xs more : List A) (ys others : List B) → AllZip R xs ys → AllZip R more others
+    → AllZip R (xs ++ more) (ys ++ others)
 zip_append R [] more [] others first second = second
 zip_append R [] more (y ∷ ys) others first second = absurd first
 zip_append R (x ∷ xs) more [] others first second = absurd first
 zip_append R (x ∷ xs) more (y ∷ ys) others first second = (first.0, zip_append R xs more ys others first.1 second)
 
 -- a batch of which no more is said
-pub less_said : (whole : Bool) (log : LogValue) (first : ℕ) (batch : List RowValue) (m n : PassValue) → Wrote whole log first batch m n → Wrote false log first batch m n
+pub less_said : (whole : Bool) (log : LogValue) (first : ℕ) (batch : List RowValue) (m n : PassValue) → Wrote whole log first batch m n
+    → Wrote false log first batch m n
 less_said whole log first batch m n w = record {
   same = w.same;
   rest = w.rest;
@@ -253,23 +273,28 @@ less_said whole log first batch m n w = record {
   told = w.told;
 }
 
-pub less_said_all : (whole : Bool) (log : LogValue) (first : ℕ) (batch : List RowValue) (ms ns : List PassValue) → AllZip (Wrote whole log first batch) ms ns → AllZip (Wrote false log first batch) ms ns
+pub less_said_all : (whole : Bool) (log : LogValue) (first : ℕ) (batch : List RowValue) (ms ns : List PassValue) → AllZip (Wrote whole log first batch) ms ns
+    → AllZip (Wrote false log first batch) ms ns
 less_said_all whole log first batch [] [] all = tt
 less_said_all whole log first batch [] (n ∷ ns) all = absurd all
 less_said_all whole log first batch (m ∷ ms) [] all = absurd all
 less_said_all whole log first batch (m ∷ ms) (n ∷ ns) all = (less_said whole log first batch m n all.0, less_said_all whole log first batch ms ns all.1)
 
 -- the halves of the passes, and which of them ran out of nodes
-pub both_wrote : (log : LogValue) (first : ℕ) (batch : List RowValue) (ms more ns others : List PassValue) (a b : Option ℕ) → AllZip (Wrote (is_none a) log first batch) ms ns → AllZip (Wrote (is_none b) log first batch) more others
+pub both_wrote : (log : LogValue) (first : ℕ) (batch : List RowValue) (ms more ns others : List PassValue) (a b : Option ℕ)
+    → AllZip (Wrote (is_none a) log first batch) ms ns → AllZip (Wrote (is_none b) log first batch) more others
     → AllZip (Wrote (is_none (option_or a b)) log first batch) (ms ++ more) (ns ++ others)
 both_wrote log first batch ms more ns others None b low high = half b low high
   where
-    half : (c : Option ℕ) → AllZip (Wrote true log first batch) ms ns → AllZip (Wrote (is_none c) log first batch) more others → AllZip (Wrote (is_none c) log first batch) (ms ++ more) (ns ++ others)
+    half : (c : Option ℕ) → AllZip (Wrote true log first batch) ms ns → AllZip (Wrote (is_none c) log first batch) more others
+        → AllZip (Wrote (is_none c) log first batch) (ms ++ more) (ns ++ others)
     half None l h = zip_append (Wrote true log first batch) ms more ns others l h
     half (Some w) l h = zip_append (Wrote false log first batch) ms more ns others (less_said_all true log first batch ms ns l) h
-both_wrote log first batch ms more ns others (Some w) b low high = zip_append (Wrote false log first batch) ms more ns others low (less_said_all (is_none b) log first batch more others high)
+both_wrote log first batch ms more ns others (Some w) b low high =
+    zip_append (Wrote false log first batch) ms more ns others low (less_said_all (is_none b) log first batch more others high)
 
-out_low : (log : LogValue) (first : ℕ) (batch : List RowValue) (w : ℕ) (ms more ns others : List PassValue) → RanOut log first batch w ms ns → RanOut log first batch w (ms ++ more) (ns ++ others)
+out_low : (log : LogValue) (first : ℕ) (batch : List RowValue) (w : ℕ) (ms more ns others : List PassValue) → RanOut log first batch w ms ns
+    → RanOut log first batch w (ms ++ more) (ns ++ others)
 out_low log first batch w ms more ns others r = record {
   from = r.from;
   old = r.old;
@@ -280,20 +305,24 @@ out_low log first batch w ms more ns others r = record {
   runs = r.runs;
 }
 
-out_high : (log : LogValue) (first : ℕ) (batch : List RowValue) (w : ℕ) (ms more ns others : List PassValue) → RanOut log first batch w more others → RanOut log first batch w (ms ++ more) (ns ++ others)
+out_high : (log : LogValue) (first : ℕ) (batch : List RowValue) (w : ℕ) (ms more ns others : List PassValue) → RanOut log first batch w more others
+    → RanOut log first batch w (ms ++ more) (ns ++ others)
 out_high log first batch w ms more ns others r =
     let was = has_right ms more r.old (r.from, r.was_at) in
     let is = has_right ns others r.pass (r.place, r.at) in
     record { from = was.0; old = r.old; was_at = was.1; place = is.0; pass = r.pass; at = is.1; runs = r.runs }
 
-pub either_out : (log : LogValue) (first : ℕ) (batch : List RowValue) (ms more ns others : List PassValue) (a b : Option ℕ) → IfSome a (λ w. RanOut log first batch w ms ns) → IfSome b (λ w. RanOut log first batch w more others)
+pub either_out : (log : LogValue) (first : ℕ) (batch : List RowValue) (ms more ns others : List PassValue) (a b : Option ℕ)
+    → IfSome a (λ w. RanOut log first batch w ms ns) → IfSome b (λ w. RanOut log first batch w more others)
     → IfSome (option_or a b) (λ w. RanOut log first batch w (ms ++ more) (ns ++ others))
 either_out log first batch ms more ns others (Some w) b low high = out_low log first batch w ms more ns others low
 either_out log first batch ms more ns others None None low high = tt
 either_out log first batch ms more ns others None (Some w) low high = out_high log first batch w ms more ns others high
 
 -- the one pass ran out
-pub first_out : (log : LogValue) (first : ℕ) (batch : List RowValue) (ms : List PassValue) (m n : PassValue) (a : Option ℕ) → 0 < length ms → m ≡ get_or ms 0 m → IfSome a (λ w. RunsOut log first batch w m n) → IfSome a (λ w. RanOut log first batch w ms (slice_set ms 0 n))
+pub first_out : (log : LogValue) (first : ℕ) (batch : List RowValue) (ms : List PassValue) (m n : PassValue) (a : Option ℕ) → 0 < length ms
+    → m ≡ get_or ms 0 m → IfSome a (λ w. RunsOut log first batch w m n) → IfSome a (λ w. RanOut log first batch w ms (slice_set ms 0 n))
 first_out log first batch [] m n a some is out = absurd (omega (arith, some))
 first_out log first batch (x ∷ ms) m n None some is out = tt
-first_out log first batch (x ∷ ms) m n (Some w) some is out = record { from = 0; old = m; was_at = ap (λ (p : PassValue). Some p) (sym is); place = 0; pass = n; at = refl; runs = out }
+first_out log first batch (x ∷ ms) m n (Some w) some is out =
+    record { from = 0; old = m; was_at = ap (λ (p : PassValue). Some p) (sym is); place = 0; pass = n; at = refl; runs = out }

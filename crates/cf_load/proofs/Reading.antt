@@ -15,7 +15,8 @@ pub get_there : {A : Type 0} (xs : List A) (i : ℕ) (d e : A) → i < length xs
 get_there xs i d e lt = let a = slice_get-get_or xs i d lt in let b = slice_get-get_or xs i e lt in cc (a, b)
 
 -- one more answer was given
-pub read_more : (shape : ShapeValue) (base : ℕ) (m n o : PassValue) (more : List Live) (live : Live) → HasRead base m n more → HasAsked shape n o → live.answer.tail ≡ base + length (o.view).seen → HasRead base m o (more ++ live ∷ [])
+pub read_more : (shape : ShapeValue) (base : ℕ) (m n o : PassValue) (more : List Live) (live : Live) → HasRead base m n more → HasAsked shape n o
+    → live.answer.tail ≡ base + length (o.view).seen → HasRead base m o (more ++ live ∷ [])
 read_more shape base m n o more live read asked tail = record {
   same = asked.same ∙ ap (λ (h : PassValue). record h { view = o.view }) read.same;
   books = asked.books ∙ read.books;
@@ -24,11 +25,13 @@ read_more shape base m n o more live read asked tail = record {
       ∙ (map_push (λ (t : ℕ). base + t) (n.view).tails (length (o.view).seen)
       ∙ (ap (λ (ts : List ℕ). ts ++ (base + length (o.view).seen) ∷ []) read.tails
       ∙ (append_assoc (map (λ t. base + t) (m.view).tails) (tails_of more) ((base + length (o.view).seen) ∷ [])
-      ∙ ap (λ (ts : List ℕ). map (λ t. base + t) (m.view).tails ++ ts) (ap (λ (t : ℕ). tails_of more ++ t ∷ []) (sym tail) ∙ sym (map_push (λ (l : Live). l.answer.tail) more live)))));
+      ∙ ap (λ (ts : List ℕ). map (λ t. base + t) (m.view).tails ++ ts)
+          (ap (λ (t : ℕ). tails_of more ++ t ∷ []) (sym tail) ∙ sym (map_push (λ (l : Live). l.answer.tail) more live)))));
 }
 
 -- the question at a live question's place
-pub ask_found : (asks : List Ask) (items lives : List ℕ) (i : ℕ) (x : Ask) → All (λ place. place < length asks) lives → items ≡ lives → i < length lives → x ≡ get_or asks (get_or items i 0) x → x ≡ get_or asks (get_or lives i 0) no_ask
+pub ask_found : (asks : List Ask) (items lives : List ℕ) (i : ℕ) (x : Ask) → All (λ place. place < length asks) lives → items ≡ lives → i < length lives
+    → x ≡ get_or asks (get_or items i 0) x → x ≡ get_or asks (get_or lives i 0) no_ask
 ask_found asks items lives i x exist same lt is =
     let there : get_or lives i 0 < length asks = exist i 0 lt in
     is ∙ (ap (λ xs. get_or asks (get_or xs i 0) x) same ∙ get_there asks (get_or lives i 0) x no_ask there)

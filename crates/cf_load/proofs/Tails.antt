@@ -24,14 +24,17 @@ map_map f g [] = refl
 map_map f g (x ∷ xs) = ap (λ ys. f (g x) ∷ ys) (map_map f g xs)
 
 -- numbers that never fall, and then more that are no less than any of them
-pub rise_append : (low : ℕ) (ns ms : List ℕ) → NeverFall ns → NeverFall ms → AllByRecursion (λ n. n ≤ low) ns → AllByRecursion (λ m. low ≤ m) ms → NeverFall (ns ++ ms)
+pub rise_append : (low : ℕ) (ns ms : List ℕ) → NeverFall ns → NeverFall ms → AllByRecursion (λ n. n ≤ low) ns → AllByRecursion (λ m. low ≤ m) ms
+    → NeverFall (ns ++ ms)
 rise_append low [] ms first then below above = then
 rise_append low (n ∷ ns) ms first then below above =
-    (all_append (λ m. n ≤ m) ns ms first.0 (all_weaker (λ m. low ≤ m) (λ m. n ≤ m) ms (λ m le. omega (arith, le, below.0)) above), rise_append low ns ms first.1 then below.1 above)
+    (all_append (λ m. n ≤ m) ns ms first.0 (all_weaker (λ m. low ≤ m) (λ m. n ≤ m) ms (λ m le. omega (arith, le, below.0)) above),
+        rise_append low ns ms first.1 then below.1 above)
 
 -- the numbers from 0 on, and one more
 pub range_more : (n : ℕ) → range_with_len 0 (n + 1) ≡ range_with_len 0 n ++ n ∷ []
-range_more n = sym (map-id (range_with_len 0 (n + 1))) ∙ (map-range_with_len_more (λ k. k) 0 n n (omega arith) ∙ ap (λ ks. ks ++ n ∷ []) (map-id (range_with_len 0 n)))
+range_more n = sym (map-id (range_with_len 0 (n + 1)))
+    ∙ (map-range_with_len_more (λ k. k) 0 n n (omega arith) ∙ ap (λ ks. ks ++ n ∷ []) (map-id (range_with_len 0 n)))
 
 -- what is made of the numbers from 0 on, and of one more
 pub flat_more : {X : Type 0} (f : ℕ → List X) (n : ℕ) → flat_map f (range_with_len 0 (n + 1)) ≡ flat_map f (range_with_len 0 n) ++ f n
@@ -51,9 +54,11 @@ module _ (meaning : Live → List Entry → Body) where
   AreMeant seen lives = AllByRecursion (λ (live : Live). live.answer.body ≡ meaning live (take live.answer.tail seen)) lives
 
   -- answers stay what they are when the log grows
-  pub meant_wider : (xs ys : List Entry) (lives : List Live) → Begins xs ys → AllByRecursion (λ (live : Live). live.answer.tail ≤ length xs) lives → AreMeant xs lives → AreMeant ys lives
+  pub meant_wider : (xs ys : List Entry) (lives : List Live) → Begins xs ys → AllByRecursion (λ (live : Live). live.answer.tail ≤ length xs) lives
+      → AreMeant xs lives → AreMeant ys lives
   meant_wider xs ys [] begins low all = tt
-  meant_wider xs ys (live ∷ lives) begins low all = (all.0 ∙ ap (meaning live) (sym (begins_take live.answer.tail xs ys low.0 begins)), meant_wider xs ys lives begins low.1 all.1)
+  meant_wider xs ys (live ∷ lives) begins low all =
+      (all.0 ∙ ap (meaning live) (sym (begins_take live.answer.tail xs ys low.0 begins)), meant_wider xs ys lives begins low.1 all.1)
 
 -- a turn, the turns of a round, and those of a batch
 abbrev pub turn_in : ℕ → ℕ → ℕ → Turn
@@ -75,26 +80,42 @@ module _ (shape : ShapeValue) (asks : List Ask) (lives : List ℕ) where
   asks_none batch seen = record { turns = refl; rise = tt; within = tt; bodies = tt; longer = take-length seen }
 
   -- what the reader did stays so when it sees more
-  pub asks_wider : (round asked batch : ℕ) (before after new : List Entry) (more : List Live) → AsksSome shape asks lives round asked batch before after more → Begins after new → AsksSome shape asks lives round asked batch before new more
+  pub asks_wider : (round asked batch : ℕ) (before after new : List Entry) (more : List Live) → AsksSome shape asks lives round asked batch before after more
+      → Begins after new → AsksSome shape asks lives round asked batch before new more
   asks_wider round asked batch before after new more some begins =
       let long = begins_long after new begins in record {
         turns = some.turns;
         rise = some.rise;
-        within = all_weaker (λ (live : Live). (length before ≤ live.answer.tail) × (live.answer.tail ≤ length after)) (λ (live : Live). (length before ≤ live.answer.tail) × (live.answer.tail ≤ length new)) more (λ live at. (at.0, omega (arith, at.1, long))) some.within;
-        bodies = meant_wider meaning_in after new more begins (all_weaker (λ (live : Live). (length before ≤ live.answer.tail) × (live.answer.tail ≤ length after)) (λ (live : Live). live.answer.tail ≤ length after) more (λ live at. at.1) some.within) some.bodies;
+        within = all_weaker (λ (live : Live). (length before ≤ live.answer.tail) × (live.answer.tail ≤ length after))
+            (λ (live : Live). (length before ≤ live.answer.tail) × (live.answer.tail ≤ length new)) more
+            (λ live at. (at.0, omega (arith, at.1, long))) some.within;
+        bodies = meant_wider meaning_in after new more begins
+            (all_weaker (λ (live : Live). (length before ≤ live.answer.tail) × (live.answer.tail ≤ length after))
+            (λ (live : Live). live.answer.tail ≤ length after) more (λ live at. at.1) some.within) some.bodies;
         longer = begins_then before after new some.longer begins;
       }
 
   -- the next live question of a round was asked, on all entries that the reader has seen by then
-  pub asks_more : (round asked batch : ℕ) (before after new : List Entry) (more : List Live) (live : Live) → AsksSome shape asks lives round asked batch before after more → asked < length lives → Begins after new
-      → live.batch ≡ batch → live.round ≡ round → live.ask ≡ get_or lives asked live.ask → live.answer.tail ≡ length new → live.answer.body ≡ eval shape (get_or asks live.ask no_ask) new
+  pub asks_more : (round asked batch : ℕ) (before after new : List Entry) (more : List Live) (live : Live)
+      → AsksSome shape asks lives round asked batch before after more → asked < length lives → Begins after new
+      → live.batch ≡ batch → live.round ≡ round → live.ask ≡ get_or lives asked live.ask → live.answer.tail ≡ length new
+          → live.answer.body ≡ eval shape (get_or asks live.ask no_ask) new
       → AsksSome shape asks lives round (asked + 1) batch before new (more ++ live ∷ [])
   asks_more round asked batch before after new more live some lt begins batch_is round_is ask_is tail_is body_is =
       let wide = asks_wider round asked batch before after new more some begins in record {
-        turns = map_push (λ (l : Live). (turn_of l).0) more live ∙ (ap₂ (λ ts (t : Turn). ts ++ t ∷ []) some.turns turn_is ∙ (append_assoc (batch_in round lives batch) (round_in batch (take asked lives) round) (turn_in batch round (get_or lives asked live.ask) ∷ []) ∙ ap (λ ts. batch_in round lives batch ++ ts) front));
-        rise = subst NeverFall (sym (map_push (λ (l : Live). l.answer.tail) more live)) (rise_append (length new) (map (λ (l : Live). l.answer.tail) more) (live.answer.tail ∷ []) some.rise (tt, tt) (all_map (λ n. n ≤ length new) (λ (l : Live). l.answer.tail) more (all_weaker (λ (l : Live). (length before ≤ l.answer.tail) × (l.answer.tail ≤ length new)) (λ (l : Live). l.answer.tail ≤ length new) more (λ l at. at.1) wide.within)) (omega (arith, tail_is), tt));
-        within = all_append (λ (l : Live). (length before ≤ l.answer.tail) × (l.answer.tail ≤ length new)) more (live ∷ []) wide.within ((omega (arith, tail_is, begins_long before new wide.longer), omega (arith, tail_is)), tt);
-        bodies = all_append (λ (l : Live). l.answer.body ≡ meaning_in l (take l.answer.tail new)) more (live ∷ []) wide.bodies (body_is ∙ ap (meaning_in live) (sym (ap (λ t. take t new) tail_is ∙ take-length new)), tt);
+        turns = map_push (λ (l : Live). (turn_of l).0) more live
+            ∙ (ap₂ (λ ts (t : Turn). ts ++ t ∷ []) some.turns turn_is
+            ∙ (append_assoc (batch_in round lives batch) (round_in batch (take asked lives) round) (turn_in batch round (get_or lives asked live.ask) ∷ [])
+            ∙ ap (λ ts. batch_in round lives batch ++ ts) front));
+        rise = subst NeverFall (sym (map_push (λ (l : Live). l.answer.tail) more live))
+            (rise_append (length new) (map (λ (l : Live). l.answer.tail) more) (live.answer.tail ∷ []) some.rise (tt, tt)
+            (all_map (λ n. n ≤ length new) (λ (l : Live). l.answer.tail) more
+            (all_weaker (λ (l : Live). (length before ≤ l.answer.tail) × (l.answer.tail ≤ length new)) (λ (l : Live). l.answer.tail ≤ length new) more
+            (λ l at. at.1) wide.within)) (omega (arith, tail_is), tt));
+        within = all_append (λ (l : Live). (length before ≤ l.answer.tail) × (l.answer.tail ≤ length new)) more (live ∷ []) wide.within
+            ((omega (arith, tail_is, begins_long before new wide.longer), omega (arith, tail_is)), tt);
+        bodies = all_append (λ (l : Live). l.answer.body ≡ meaning_in l (take l.answer.tail new)) more (live ∷ []) wide.bodies
+            (body_is ∙ ap (meaning_in live) (sym (ap (λ t. take t new) tail_is ∙ take-length new)), tt);
         longer = wide.longer;
       }
     where
@@ -102,12 +123,16 @@ module _ (shape : ShapeValue) (asks : List Ask) (lives : List ℕ) where
       turn_is = ap (λ b. turn_in b live.round live.ask) batch_is ∙ (ap (λ r. turn_in batch r live.ask) round_is ∙ ap (turn_in batch round) ask_is)
 
       front : round_in batch (take asked lives) round ++ turn_in batch round (get_or lives asked live.ask) ∷ [] ≡ round_in batch (take (asked + 1) lives) round
-      front = sym (ap (map (turn_in batch round)) (take_more lives asked live.ask lt) ∙ map_push (turn_in batch round) (take asked lives) (get_or lives asked live.ask))
+      front = sym (ap (map (turn_in batch round)) (take_more lives asked live.ask lt)
+          ∙ map_push (turn_in batch round) (take asked lives) (get_or lives asked live.ask))
 
   -- all live questions of a round were asked
-  pub asks_round : (round batch : ℕ) (before after : List Entry) (more : List Live) → AsksSome shape asks lives round (length lives) batch before after more → AsksSome shape asks lives (round + 1) 0 batch before after more
+  pub asks_round : (round batch : ℕ) (before after : List Entry) (more : List Live) → AsksSome shape asks lives round (length lives) batch before after more
+      → AsksSome shape asks lives (round + 1) 0 batch before after more
   asks_round round batch before after more some = record {
-    turns = some.turns ∙ (ap (λ ls. batch_in round lives batch ++ round_in batch ls round) (take-length lives) ∙ (sym (flat_more (round_in batch lives) round) ∙ sym (append-nil (batch_in (round + 1) lives batch))));
+    turns = some.turns
+        ∙ (ap (λ ls. batch_in round lives batch ++ round_in batch ls round) (take-length lives)
+        ∙ (sym (flat_more (round_in batch lives) round) ∙ sym (append-nil (batch_in (round + 1) lives batch))));
     rise = some.rise;
     within = some.within;
     bodies = some.bodies;
@@ -115,7 +140,8 @@ module _ (shape : ShapeValue) (asks : List Ask) (lives : List ℕ) where
   }
 
   -- all rounds were gone through
-  pub asks_all : (rounds batch : ℕ) (before after : List Entry) (more : List Live) → AsksSome shape asks lives rounds 0 batch before after more → AsksBatch shape asks lives rounds batch before after more
+  pub asks_all : (rounds batch : ℕ) (before after : List Entry) (more : List Live) → AsksSome shape asks lives rounds 0 batch before after more
+      → AsksBatch shape asks lives rounds batch before after more
   asks_all rounds batch before after more some = record {
     turns = some.turns ∙ append-nil (batch_in rounds lives batch);
     rise = some.rise;
@@ -130,19 +156,41 @@ module _ (shape : ShapeValue) (asks : List Ask) (lives : List ℕ) where
 
   -- the turns of a batch are of that batch
   pub of_batch : (rounds batch : ℕ) → AllByRecursion (λ (t : Turn). t.batch ≡ batch) (batch_in rounds lives batch)
-  of_batch rounds batch = all_flat (λ (t : Turn). t.batch ≡ batch) (round_in batch lives) (range_with_len 0 rounds) (λ round. all_map (λ (t : Turn). t.batch ≡ batch) (turn_in batch round) lives (every (λ ask. (turn_in batch round ask).batch ≡ batch) lives (λ ask. refl)))
+  of_batch rounds batch =
+      all_flat (λ (t : Turn). t.batch ≡ batch) (round_in batch lives) (range_with_len 0 rounds)
+      (λ round. all_map (λ (t : Turn). t.batch ≡ batch) (turn_in batch round) lives
+      (every (λ ask. (turn_in batch round ask).batch ≡ batch) lives (λ ask. refl)))
 
   -- The live answers beside one more batch come after those before, which stay what they are when the log grows.
-  pub answered_more : (rounds n b k : ℕ) (seen read now : List Entry) (answers more : List Live) → HasAnswered shape asks lives rounds n seen answers → n ≡ 4096 * b → length seen ≡ n → AsksBatch shape asks lives rounds b seen read more → Begins read now → Begins seen now → length now ≡ n + k → 0 < k → k ≤ 4096 → HasAnswered shape asks lives rounds (n + k) now (answers ++ more)
+  pub answered_more : (rounds n b k : ℕ) (seen read now : List Entry) (answers more : List Live) → HasAnswered shape asks lives rounds n seen answers
+      → n ≡ 4096 * b → length seen ≡ n → AsksBatch shape asks lives rounds b seen read more → Begins read now → Begins seen now → length now ≡ n + k → 0 < k
+      → k ≤ 4096 → HasAnswered shape asks lives rounds (n + k) now (answers ++ more)
   answered_more rounds n b k seen read now answers more has whole long asked begins grows now_long some few = record {
     tails = record {
-      turns = ap (map (λ (at : Turn × ℕ). at.0)) (map-append turn_of answers more) ∙ (map-append (λ (at : Turn × ℕ). at.0) (map turn_of answers) (map turn_of more) ∙ (ap₂ (λ ts us. ts ++ us) (has.tails.turns ∙ ap (λ c. turns_of c rounds lives) before) (map_map (λ (at : Turn × ℕ). at.0) turn_of more ∙ asked.turns) ∙ (sym (flat_more (batch_in rounds lives) b) ∙ ap (λ c. turns_of c rounds lives) (sym after))));
-      rise = subst NeverFall (sym tails_are) (rise_append n (map (λ (at : Turn × ℕ). at.1) (map turn_of answers)) (map (λ (l : Live). l.answer.tail) more) has.tails.rise asked.rise (all_map (λ t. t ≤ n) (λ (at : Turn × ℕ). at.1) (map turn_of answers) below) (all_map (λ t. n ≤ t) (λ (l : Live). l.answer.tail) more (all_weaker (λ (l : Live). (length seen ≤ l.answer.tail) × (l.answer.tail ≤ length read)) (λ (l : Live). n ≤ l.answer.tail) more (λ l at. omega (arith, at.0, long)) asked.within)));
-      within = subst (AllByRecursion (IsWithinBatch (n + k))) (sym (map-append turn_of answers more)) (all_append (IsWithinBatch (n + k)) (map turn_of answers) (map turn_of more) (all_weaker (IsWithinBatch n) (IsWithinBatch (n + k)) (map turn_of answers) (λ at in'. (in'.0, omega (arith, in'.1))) has.tails.within) (all_map (IsWithinBatch (n + k)) turn_of more within_now));
+      turns = ap (map (λ (at : Turn × ℕ). at.0)) (map-append turn_of answers more)
+          ∙ (map-append (λ (at : Turn × ℕ). at.0) (map turn_of answers) (map turn_of more)
+          ∙ (ap₂ (λ ts us. ts ++ us) (has.tails.turns ∙ ap (λ c. turns_of c rounds lives) before)
+          (map_map (λ (at : Turn × ℕ). at.0) turn_of more ∙ asked.turns)
+          ∙ (sym (flat_more (batch_in rounds lives) b) ∙ ap (λ c. turns_of c rounds lives) (sym after))));
+      rise = subst NeverFall (sym tails_are)
+          (rise_append n (map (λ (at : Turn × ℕ). at.1) (map turn_of answers)) (map (λ (l : Live). l.answer.tail) more) has.tails.rise asked.rise
+          (all_map (λ t. t ≤ n) (λ (at : Turn × ℕ). at.1) (map turn_of answers) below)
+          (all_map (λ t. n ≤ t) (λ (l : Live). l.answer.tail) more
+          (all_weaker (λ (l : Live). (length seen ≤ l.answer.tail) × (l.answer.tail ≤ length read)) (λ (l : Live). n ≤ l.answer.tail) more
+          (λ l at. omega (arith, at.0, long)) asked.within)));
+      within = subst (AllByRecursion (IsWithinBatch (n + k))) (sym (map-append turn_of answers more))
+          (all_append (IsWithinBatch (n + k)) (map turn_of answers) (map turn_of more)
+          (all_weaker (IsWithinBatch n) (IsWithinBatch (n + k)) (map turn_of answers) (λ at in'. (in'.0, omega (arith, in'.1))) has.tails.within)
+          (all_map (IsWithinBatch (n + k)) turn_of more within_now));
     };
     bodies = all_append (λ (l : Live). l.answer.body ≡ meaning_in l (take l.answer.tail now)) answers more
-        (meant_wider meaning_in seen now answers grows (all_unmap (λ (at : Turn × ℕ). at.1 ≤ length seen) turn_of answers (all_weaker (λ (at : Turn × ℕ). at.1 ≤ n) (λ (at : Turn × ℕ). at.1 ≤ length seen) (map turn_of answers) (λ at low. omega (arith, low, long)) below)) has.bodies)
-        (meant_wider meaning_in read now more begins (all_weaker (λ (l : Live). (length seen ≤ l.answer.tail) × (l.answer.tail ≤ length read)) (λ (l : Live). l.answer.tail ≤ length read) more (λ l at. at.1) asked.within) asked.bodies);
+        (meant_wider meaning_in seen now answers grows
+            (all_unmap (λ (at : Turn × ℕ). at.1 ≤ length seen) turn_of answers
+            (all_weaker (λ (at : Turn × ℕ). at.1 ≤ n) (λ (at : Turn × ℕ). at.1 ≤ length seen) (map turn_of answers)
+            (λ at low. omega (arith, low, long)) below)) has.bodies)
+        (meant_wider meaning_in read now more begins
+            (all_weaker (λ (l : Live). (length seen ≤ l.answer.tail) × (l.answer.tail ≤ length read)) (λ (l : Live). l.answer.tail ≤ length read) more
+            (λ l at. at.1) asked.within) asked.bodies);
   }
     where
       before : batches_of n ≡ b
@@ -151,16 +199,22 @@ module _ (shape : ShapeValue) (asks : List Ask) (lives : List ℕ) where
       after : batches_of (n + k) ≡ b + 1
       after = omega (arith, whole, some, few)
 
-      tails_are : map (λ (at : Turn × ℕ). at.1) (map turn_of (answers ++ more)) ≡ map (λ (at : Turn × ℕ). at.1) (map turn_of answers) ++ map (λ (l : Live). l.answer.tail) more
-      tails_are = ap (map (λ (at : Turn × ℕ). at.1)) (map-append turn_of answers more) ∙ (map-append (λ (at : Turn × ℕ). at.1) (map turn_of answers) (map turn_of more) ∙ ap (λ ts. map (λ (at : Turn × ℕ). at.1) (map turn_of answers) ++ ts) (map_map (λ (at : Turn × ℕ). at.1) turn_of more))
+      tails_are : map (λ (at : Turn × ℕ). at.1) (map turn_of (answers ++ more)) ≡ map (λ (at : Turn × ℕ). at.1) (map turn_of answers) ++ map
+          (λ (l : Live). l.answer.tail) more
+      tails_are = ap (map (λ (at : Turn × ℕ). at.1)) (map-append turn_of answers more)
+          ∙ (map-append (λ (at : Turn × ℕ). at.1) (map turn_of answers) (map turn_of more)
+          ∙ ap (λ ts. map (λ (at : Turn × ℕ). at.1) (map turn_of answers) ++ ts) (map_map (λ (at : Turn × ℕ). at.1) turn_of more))
 
       below : AllByRecursion (λ (at : Turn × ℕ). at.1 ≤ n) (map turn_of answers)
       below = all_weaker (IsWithinBatch n) (λ (at : Turn × ℕ). at.1 ≤ n) (map turn_of answers) (λ at in'. omega (arith, in'.1)) has.tails.within
 
       batches : AllByRecursion (λ (l : Live). l.batch ≡ b) more
-      batches = all_unmap (λ (t : Turn). t.batch ≡ b) (λ (l : Live). (turn_of l).0) more (subst (AllByRecursion (λ (t : Turn). t.batch ≡ b)) (sym asked.turns) (of_batch rounds b))
+      batches = all_unmap (λ (t : Turn). t.batch ≡ b) (λ (l : Live). (turn_of l).0) more
+          (subst (AllByRecursion (λ (t : Turn). t.batch ≡ b)) (sym asked.turns) (of_batch rounds b))
 
       within_now : AllByRecursion (λ (l : Live). IsWithinBatch (n + k) (turn_of l)) more
-      within_now = all_weaker (λ (l : Live). (l.batch ≡ b) × ((length seen ≤ l.answer.tail) × (l.answer.tail ≤ length read))) (λ (l : Live). IsWithinBatch (n + k) (turn_of l)) more
-          (λ l at. (let far = begins_long read now begins in (omega (arith, at.0, at.1.0, long, whole), omega (arith, at.0, at.1.1, far, now_long, whole, few))))
+      within_now = all_weaker (λ (l : Live). (l.batch ≡ b) × ((length seen ≤ l.answer.tail) × (l.answer.tail ≤ length read)))
+          (λ (l : Live). IsWithinBatch (n + k) (turn_of l)) more
+          (λ l at. (let far = begins_long read now begins in
+              (omega (arith, at.0, at.1.0, long, whole), omega (arith, at.0, at.1.1, far, now_long, whole, few))))
           (all_both (λ (l : Live). l.batch ≡ b) (λ (l : Live). (length seen ≤ l.answer.tail) × (l.answer.tail ≤ length read)) more batches asked.within)

@@ -30,7 +30,8 @@ one_entry w e es = elim (cases_eq e.writer w) [
 ]
 
 -- one more row counts for its writer
-pub one_row : (writers w k : ℕ) (row : RowValue) (rows : List RowValue) → length (rows_of writers w k (row ∷ rows)) ≡ more_at (k % writers) (λ v. length (rows_of writers v (k + 1) rows)) w
+pub one_row : (writers w k : ℕ) (row : RowValue) (rows : List RowValue)
+    → length (rows_of writers w k (row ∷ rows)) ≡ more_at (k % writers) (λ v. length (rows_of writers v (k + 1) rows)) w
 one_row writers w k row rows = elim (cases_eq (k % writers) w) [
   | inl own ↦ rw (eq-eqb (k % writers) w own) refl
   | inr other ↦ rw (ne_eqb (k % writers) w other) refl
@@ -59,7 +60,8 @@ written_append w (e ∷ es) fs = elim (cases_eq e.writer w) [
 ]
 
 -- a writer's rows of two parts
-pub rows_append : (writers w k : ℕ) (rows more : List RowValue) → rows_of writers w k (rows ++ more) ≡ rows_of writers w k rows ++ rows_of writers w (k + length rows) more
+pub rows_append : (writers w k : ℕ) (rows more : List RowValue)
+    → rows_of writers w k (rows ++ more) ≡ rows_of writers w k rows ++ rows_of writers w (k + length rows) more
 rows_append writers w k [] more = ap (λ (n : ℕ). rows_of writers w n more) (let e : k ≡ k + 0 = omega arith in e)
 rows_append writers w k (row ∷ rows) more =
     let next : k + 1 + length rows ≡ k + suc (length rows) = omega arith in
@@ -77,10 +79,12 @@ pub record WrotePart (whole : Bool) (writers first : ℕ) (batch : List RowValue
 
 module _ (writers first : ℕ) (batch : List RowValue) (new : List Entry) (some : 0 < writers) (exist : AllByRecursion (λ e. e.writer < writers) new) where
   -- then nothing is left: each writer wrote all its rows of the batch
-  pub all_written : ((w : ℕ) → w < writers → WrotePart true writers first batch new w) → (w : ℕ) → w < writers → written_by w new ≡ rows_of writers w first batch
+  pub all_written : ((w : ℕ) → w < writers → WrotePart true writers first batch new w) → (w : ℕ) → w < writers
+      → written_by w new ≡ rows_of writers w first batch
   all_written part w lt =
       let p = part w lt in
-      let full_part : p.left ≡ [] → written_by w new ≡ rows_of writers w first batch = λ none. sym (append-nil (written_by w new)) ∙ ap (λ rs. written_by w new ++ rs) (sym none) ∙ p.split in
+      let full_part : p.left ≡ [] → written_by w new ≡ rows_of writers w first batch = λ none. sym (append-nil (written_by w new))
+          ∙ ap (λ rs. written_by w new ++ rs) (sym none) ∙ p.split in
       elim (p.all refl) [
         | inl none ↦ full_part none
         | inr full ↦ full_part (nil_from_length p.left (nothing_left full))
@@ -91,7 +95,8 @@ module _ (writers first : ℕ) (batch : List RowValue) (new : List Entry) (some 
 
       nothing_left : length batch ≤ length new → length (part w lt).left ≡ 0
       nothing_left full =
-          let even = total_even writers (λ v. length (written_by v new)) (λ v. length (rows_of writers v first batch)) (λ v low. omega (arith, long v low)) (omega (arith, entries_counted writers new exist, rows_counted writers first batch some, full)) w lt in
+          let even = total_even writers (λ v. length (written_by v new)) (λ v. length (rows_of writers v first batch)) (λ v low. omega (arith, long v low))
+              (omega (arith, entries_counted writers new exist, rows_counted writers first batch some, full)) w lt in
           omega (arith, even, long w lt)
 
   -- and as many entries came as the batch has rows
@@ -133,12 +138,14 @@ module _ (first : ℕ) (rows batch : List RowValue) (writers b m : ℕ) (log new
       | inr until ↦
           let same : c ≡ b = omega (arith, since, until) in
           let at : m * b ≡ m * c = ap (λ d. m * d) (sym same) in
-          rw (part_there m (m * c) log new (log_long ∙ at) (omega (arith, many, few)), part_there m (m * c) rows batch (rows_long ∙ at) few) (more w lt ∙ ap (λ k. rows_of writers w (first + k) batch) at)
+          rw (part_there m (m * c) log new (log_long ∙ at) (omega (arith, many, few)), part_there m (m * c) rows batch (rows_long ∙ at) few)
+              (more w lt ∙ ap (λ k. rows_of writers w (first + k) batch) at)
     ]
   ]
 
 -- a log of some whole batches and then each writer's rows of one more are a log of all these rows
-pub log_more : (first : ℕ) (rows batch : List RowValue) (writers b : ℕ) (log new : List Entry) → 0 < writers → IsLogFrom first rows writers log → length rows ≡ 4096 * b → length batch ≤ 4096 → AllByRecursion (λ e. e.writer < writers) new
+pub log_more : (first : ℕ) (rows batch : List RowValue) (writers b : ℕ) (log new : List Entry) → 0 < writers → IsLogFrom first rows writers log
+    → length rows ≡ 4096 * b → length batch ≤ 4096 → AllByRecursion (λ e. e.writer < writers) new
     → ((w : ℕ) → w < writers → written_by w new ≡ rows_of writers w (first + 4096 * b) batch) → IsLogFrom first (rows ++ batch) writers (log ++ new)
 log_more first rows batch writers b log new some is long few exist more =
     let many : length new ≡ length batch = as_many writers (first + 4096 * b) batch new some exist more in record {

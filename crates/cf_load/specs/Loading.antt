@@ -55,7 +55,8 @@ HasStopped log first before rows n Memory = HasLoaded log first before n ⊎ Has
 -- What the reader did beside a batch: a live answer for each round and each live question, in this order, each the question's
 -- meaning on as many entries as it saw. The lengths never fall.
 pub record AsksBatch (shape : ShapeValue) (asks : List Ask) (lives : List ℕ) (rounds batch : ℕ) (before after : List Entry) (more : List Live) : Type 0 where
-  pub turns : map (λ (live : Live). (turn_of live).0) more ≡ flat_map (λ round. map (λ ask. record { batch = batch; round = round; ask = ask }) lives) (range_with_len 0 rounds)
+  pub turns : map (λ (live : Live). (turn_of live).0) more ≡ flat_map (λ round. map (λ ask. record { batch = batch; round = round; ask = ask }) lives)
+      (range_with_len 0 rounds)
   pub rise : NeverFall (map (λ (live : Live). live.answer.tail) more)
   pub within : AllByRecursion (λ live. (length before ≤ live.answer.tail) × (live.answer.tail ≤ length after)) more
   pub bodies : AllByRecursion (λ live. live.answer.body ≡ eval shape (slice_index_or asks live.ask no_ask) (take live.answer.tail after)) more
@@ -64,9 +65,11 @@ pub record AsksBatch (shape : ShapeValue) (asks : List Ask) (lives : List ℕ) (
 
 -- What the reader did so far beside a batch: live answers in all turns of some rounds, and in the first turns of the next round, as
 -- many as were asked in it.
-pub record AsksSome (shape : ShapeValue) (asks : List Ask) (lives : List ℕ) (rounds asked batch : ℕ) (before after : List Entry) (more : List Live) : Type 0 where
+pub record AsksSome (shape : ShapeValue) (asks : List Ask) (lives : List ℕ) (rounds asked batch : ℕ) (before after : List Entry)
+    (more : List Live) : Type 0 where
   pub turns : map (λ (live : Live). (turn_of live).0) more ≡
-      flat_map (λ round. map (λ ask. record { batch = batch; round = round; ask = ask }) lives) (range_with_len 0 rounds) ++ map (λ ask. record { batch = batch; round = rounds; ask = ask }) (take asked lives)
+      flat_map (λ round. map (λ ask. record { batch = batch; round = round; ask = ask }) lives) (range_with_len 0 rounds) ++ map
+          (λ ask. record { batch = batch; round = rounds; ask = ask }) (take asked lives)
   pub rise : NeverFall (map (λ (live : Live). live.answer.tail) more)
   pub within : AllByRecursion (λ live. (length before ≤ live.answer.tail) × (live.answer.tail ≤ length after)) more
   pub bodies : AllByRecursion (λ live. live.answer.body ≡ eval shape (slice_index_or asks live.ask no_ask) (take live.answer.tail after)) more

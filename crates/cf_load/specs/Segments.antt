@@ -77,7 +77,8 @@ pub record IsSegments (s : SegmentsValue) : Type 0 where
 -- Segment k has loaded just block k of the rows, and all that come before the current one are full.
 pub record HoldsRows (s : SegmentsValue) (rows : List RowValue) : Type 0 where
   pub are : IsSegments s
-  pub each : (k : ℕ) (segment : Segment) → slice_get (all_of s) k ≡ Some segment → HasLoaded segment.log ((s.shape).capacity * k) (block (s.shape).capacity k rows) segment.root
+  pub each : (k : ℕ) (segment : Segment) → slice_get (all_of s) k ≡ Some segment
+      → HasLoaded segment.log ((s.shape).capacity * k) (block (s.shape).capacity k rows) segment.root
   pub full : base_of s ≤ length rows
   pub room : length rows ≤ base_of s + (s.shape).capacity
 

@@ -30,7 +30,8 @@ pub record Wrote (whole : Bool) (log : LogValue) (first : ℕ) (batch : List Row
   pub split : done ++ left ≡ rows_of (log.shape).writers (book_of before.view).writer first batch
   pub rows : rows_of_book (book_of after.view) ≡ rows_of_book (book_of before.view) ++ done
   pub all : whole ≡ true → (left ≡ []) ⊎ ((book_of after.view).over ≡ true)
-  pub used : (j : ℕ) (s : Spot) → slice_get (book_of after.view).used j ≡ Some s → ((i : ℕ) × (slice_get (book_of before.view).used i ≡ Some s)) ⊎ IsNeeded log.shape batch s
+  pub used : (j : ℕ) (s : Spot) → slice_get (book_of after.view).used j ≡ Some s → ((i : ℕ) × (slice_get (book_of before.view).used i ≡ Some s))
+      ⊎ IsNeeded log.shape batch s
   pub longer : Begins (before.view).seen (after.view).seen
   pub tails : (after.view).tails ≡ (before.view).tails
   pub told : (after.view).told ≡ (before.view).told

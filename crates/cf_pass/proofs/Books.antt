@@ -28,5 +28,6 @@ pub tried_lost : (k node found : ℕ) (b : Book) (s : Spot) (p : Pass) → (foun
 tried_lost k node zero b s p ne = absurd (ne refl)
 tried_lost k node (suc n) b s p ne = ap (λ (m : ℕ). pass_with_node s m p) (let e : n ≡ suc n - 1 = omega arith in e)
 
-pub tried_won : (k node found : ℕ) (b : Book) (s : Spot) (p : Pass) → found ≡ 0 → pass_with_link k b s node p found ≡ pass_with_book k (book_with_node s b) (pass_with_node s node p)
+pub tried_won : (k node found : ℕ) (b : Book) (s : Spot) (p : Pass) → found ≡ 0
+    → pass_with_link k b s node p found ≡ pass_with_book k (book_with_node s b) (pass_with_node s node p)
 tried_won k node found b s p e = ap (pass_with_link k b s node p) e

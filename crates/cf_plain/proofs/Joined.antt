@@ -25,13 +25,17 @@ use Rattle.cf_plain.proofs.Grouped.{Rise, pairs, rise_ascending, any_ascending, 
 use Rattle.cf_plain.proofs.Rising.{rising_is_one}
 
 -- a test of places that are counted on
-shift : (p q : ℕ → Bool) (m : ℕ) → ((i : ℕ) → q (m + i) ≡ p i) → (a n : ℕ) → filter q (range_with_len (m + a) n) ≡ map (λ i. m + i) (filter p (range_with_len a n))
+shift : (p q : ℕ → Bool) (m : ℕ) → ((i : ℕ) → q (m + i) ≡ p i) → (a n : ℕ)
+    → filter q (range_with_len (m + a) n) ≡ map (λ i. m + i) (filter p (range_with_len a n))
 shift p q m same a zero = refl
 shift p q m same a (suc n) =
     let next : m + a + 1 ≡ m + (a + 1) = omega arith in
-    let rest : filter q (range_with_len (m + a + 1) n) ≡ map (λ i. m + i) (filter p (range_with_len (a + 1) n)) = ap (λ k. filter q (range_with_len k n)) next ∙ shift p q m same (a + 1) n in
+    let rest : filter q (range_with_len (m + a + 1) n) ≡ map (λ i. m + i) (filter p (range_with_len (a + 1) n)) = ap (λ k. filter q (range_with_len k n)) next
+        ∙ shift p q m same (a + 1) n in
     ap (λ b. cond b ((m + a) ∷ filter q (range_with_len (m + a + 1) n)) (filter q (range_with_len (m + a + 1) n))) (same a)
-    ∙ elim (p a) as (λ b. cond b ((m + a) ∷ filter q (range_with_len (m + a + 1) n)) (filter q (range_with_len (m + a + 1) n)) ≡ map (λ i. m + i) (cond b (a ∷ filter p (range_with_len (a + 1) n)) (filter p (range_with_len (a + 1) n)))) [
+    ∙ elim (p a) as
+        (λ b. cond b ((m + a) ∷ filter q (range_with_len (m + a + 1) n)) (filter q (range_with_len (m + a + 1) n)) ≡ map (λ i. m + i)
+        (cond b (a ∷ filter p (range_with_len (a + 1) n)) (filter p (range_with_len (a + 1) n)))) [
       | true ↦ ap (λ ns. (m + a) ∷ ns) rest
       | false ↦ rest
     ]
@@ -51,7 +55,8 @@ range_append a (suc m) n =
     rw (e, same) (ap (λ ns. a ∷ ns) (range_append (a + 1) m n))
 
 -- the places in rows and in those behind them
-pub places_append : (passes : RowValue → Bool) (xs ys : List RowValue) → places passes (xs ++ ys) ≡ places passes xs ++ map (λ place. length xs + place) (places passes ys)
+pub places_append : (passes : RowValue → Bool) (xs ys : List RowValue)
+    → places passes (xs ++ ys) ≡ places passes xs ++ map (λ place. length xs + place) (places passes ys)
 places_append passes xs ys =
     let m = length xs in
     let n = length ys in
@@ -62,7 +67,8 @@ places_append passes xs ys =
     ∙ filter-append test (range_with_len 0 m) (range_with_len (0 + m) n)
     ∙ ap₂ (λ (is js : List ℕ). is ++ js)
     (agree test (λ place. passes (row_at xs place)) 0 m (λ i lt. ap passes (get_or_append_left xs ys no_row i (omega (arith, lt)))))
-    (ap (λ k. filter test (range_with_len k n)) start ∙ shift (λ place. passes (row_at ys place)) test m (λ i. ap passes (get_or-append-add xs ys i no_row)) 0 n)
+    (ap (λ k. filter test (range_with_len k n)) start
+        ∙ shift (λ place. passes (row_at ys place)) test m (λ i. ap passes (get_or-append-add xs ys i no_row)) 0 n)
 
 -- the quad of numbers and of those behind them
 pub quad_append : (ns ms : List ℕ) → quad_of (ns ++ ms) ≡ both (quad_of ns) (quad_of ms)
@@ -79,8 +85,10 @@ quad_append (n ∷ ns) (m ∷ ms) =
 taken_append : (f : RowValue → ℕ) (p : RowValue → Bool) (xs ys : List RowValue) → map f (filter p (xs ++ ys)) ≡ map f (filter p xs) ++ map f (filter p ys)
 taken_append f p xs ys = ap (map f) (filter-append p xs ys) ∙ map-append f (filter p xs) (filter p ys)
 
-pub total_over_append : (shape : ShapeValue) (lane : ℕ) (p : RowValue → Bool) (xs ys : List RowValue) → total_over shape lane p (xs ++ ys) ≡ both (total_over shape lane p xs) (total_over shape lane p ys)
-total_over_append shape lane p xs ys = ap quad_of (taken_append (measure_of shape lane) p xs ys) ∙ quad_append (map (measure_of shape lane) (filter p xs)) (map (measure_of shape lane) (filter p ys))
+pub total_over_append : (shape : ShapeValue) (lane : ℕ) (p : RowValue → Bool) (xs ys : List RowValue)
+    → total_over shape lane p (xs ++ ys) ≡ both (total_over shape lane p xs) (total_over shape lane p ys)
+total_over_append shape lane p xs ys = ap quad_of (taken_append (measure_of shape lane) p xs ys)
+    ∙ quad_append (map (measure_of shape lane) (filter p xs)) (map (measure_of shape lane) (filter p ys))
 
 pub total_append : (attr : ℕ) (expr : List (List Atom)) (xs ys : List RowValue) → total attr expr (xs ++ ys) ≡ both (total attr expr xs) (total attr expr ys)
 total_append attr expr xs ys =
@@ -95,7 +103,8 @@ abbrev quads_at : ℕ → List Pair → List QuadValue
 quads_at k gs = map (λ (g : Pair). g.1) (filter (λ (g : Pair). g.0 == k) gs)
 
 quads_append : (k : ℕ) (gs hs : List Pair) → quads_at k (gs ++ hs) ≡ quads_at k gs ++ quads_at k hs
-quads_append k gs hs = ap (map (λ (g : Pair). g.1)) (filter-append (λ (g : Pair). g.0 == k) gs hs) ∙ map-append (λ (g : Pair). g.1) (filter (λ (g : Pair). g.0 == k) gs) (filter (λ (g : Pair). g.0 == k) hs)
+quads_append k gs hs = ap (map (λ (g : Pair). g.1)) (filter-append (λ (g : Pair). g.0 == k) gs hs)
+    ∙ map-append (λ (g : Pair). g.1) (filter (λ (g : Pair). g.0 == k) gs) (filter (λ (g : Pair). g.0 == k) hs)
 
 none_above : (f : ℕ → QuadValue) (k m : ℕ) (ks : List ℕ) → k ≤ m → AllByRecursion (λ n. m < n) ks → quads_at k (pairs f ks) ≡ []
 none_above f k m [] le above = refl
@@ -104,7 +113,8 @@ none_above f k m (n ∷ ks) le above = rw (ne_eqb n k (λ e. omega (arith, e, le
 quads_of_pairs : (f : ℕ → QuadValue) (k : ℕ) (ks : List ℕ) → Rise ks → quads_at k (pairs f ks) ≡ cond (list_any (λ n. k == n) ks) (f k ∷ []) []
 quads_of_pairs f k [] rise = refl
 quads_of_pairs f k (m ∷ ks) rise = elim (cases_eq m k) [
-  | inl e ↦ rw (eq-eqb m k e, eq-eqb k m (sym e)) (ap₂ (λ (c : QuadValue) (cs : List QuadValue). c ∷ cs) (ap f e) (none_above f k m ks (omega (arith, e)) rise.0))
+  | inl e ↦ rw (eq-eqb m k e, eq-eqb k m (sym e))
+      (ap₂ (λ (c : QuadValue) (cs : List QuadValue). c ∷ cs) (ap f e) (none_above f k m ks (omega (arith, e)) rise.0))
   | inr ne ↦ rw (ne_eqb m k ne, ne_eqb k m (λ e. ne (sym e))) (quads_of_pairs f k ks rise.1)
 ]
 
@@ -141,7 +151,8 @@ module _ (shape : ShapeValue) (lane : ℕ) where
   abbrev measures : ℕ → List RowValue → List ℕ
   measures k rows = map (measure_of shape lane) (filter (has_key shape lane k) rows)
 
-  any_keys : (q : ℕ) (parts : List (List RowValue)) → list_any (λ n. q == n) (map (λ (g : Pair). g.0) (all_groups parts)) ≡ list_any (λ n. q == n) (keys (all_rows parts))
+  any_keys : (q : ℕ) (parts : List (List RowValue))
+      → list_any (λ n. q == n) (map (λ (g : Pair). g.0) (all_groups parts)) ≡ list_any (λ n. q == n) (keys (all_rows parts))
   any_keys q [] = refl
   any_keys q (rows ∷ parts) =
       let any : List ℕ → Bool = λ ks. list_any (λ n. q == n) ks in
@@ -176,7 +187,8 @@ module _ (shape : ShapeValue) (lane : ℕ) where
             ∙ ap (λ (rs : List RowValue). quad_of (ns ++ map (measure_of shape lane) rs)) (sym (none_of_key shape lane k rows none))
       ]
 
-  under_all : (k : ℕ) (ns : List ℕ) (parts : List (List RowValue)) → fold both (quad_of ns) (quads_at k (all_groups parts)) ≡ quad_of (ns ++ measures k (all_rows parts))
+  under_all : (k : ℕ) (ns : List ℕ) (parts : List (List RowValue))
+      → fold both (quad_of ns) (quads_at k (all_groups parts)) ≡ quad_of (ns ++ measures k (all_rows parts))
   under_all k ns [] = ap quad_of (sym (append-nil ns))
   under_all k ns (rows ∷ parts) =
       ap (λ gs. fold both (quad_of ns) (quads_at k gs)) (flat_map-cons (groups shape lane) rows parts)
@@ -191,7 +203,8 @@ module _ (shape : ShapeValue) (lane : ℕ) where
   -- the groups of several lists of rows, merged
   pub groups_merge : (parts : List (List RowValue)) → merged (all_groups parts) ≡ groups shape lane (all_rows parts)
   groups_merge parts =
-      let each : (k : ℕ) → group_under (all_groups parts) k ≡ group_of shape lane (all_rows parts) k = λ k. ap (λ (c : QuadValue). (k, c)) (under_all k [] parts) in
+      let each : (k : ℕ) → group_under (all_groups parts) k ≡ group_of shape lane (all_rows parts) k =
+          λ k. ap (λ (c : QuadValue). (k, c)) (under_all k [] parts) in
       map_agree (group_under (all_groups parts)) (group_of shape lane (all_rows parts)) each (ascending (map (λ (g : Pair). g.0) (all_groups parts)))
       ∙ ap (map (group_of shape lane (all_rows parts))) (keys_merge parts)
 
@@ -201,7 +214,8 @@ module _ (shape : ShapeValue) (lane : ℕ) where
       ap merged (sym (of_two (groups shape lane) xs ys)) ∙ groups_merge (xs ∷ ys ∷ []) ∙ ap (groups shape lane) (of_two (λ (rows : List RowValue). rows) xs ys)
 
 -- a question's findings, joined
-pub findings_join : (shape : ShapeValue) (ask : Ask) (xs ys : List RowValue) → joined (length xs) (finding_in shape ask xs) (finding_in shape ask ys) ≡ finding_in shape ask (xs ++ ys)
+pub findings_join : (shape : ShapeValue) (ask : Ask) (xs ys : List RowValue)
+    → joined (length xs) (finding_in shape ask xs) (finding_in shape ask ys) ≡ finding_in shape ask (xs ++ ys)
 findings_join shape (asks.List expr) xs ys = ap Places (sym (places_append (counts_for shape (asks.List expr)) xs ys))
 findings_join shape (asks.Find lane low high) xs ys = ap Places (sym (places_append (counts_for shape (asks.Find lane low high)) xs ys))
 findings_join shape (asks.Between lane low high) xs ys = ap Places (sym (places_append (counts_for shape (asks.Between lane low high)) xs ys))
@@ -220,10 +234,12 @@ findings_tell shape (asks.Top lane part n) rows = refl
 findings_tell shape (asks.Total attr expr) rows = refl
 
 module _ (shape : ShapeValue) (lane : ℕ) where
-  none_of_others : (row : RowValue) (k : ℕ) (ks : List ℕ) → key_of shape lane row ≤ k → AllByRecursion (λ n. k < n) ks → sum_by (λ n. cond (has_key shape lane n row) 1 0) ks ≡ 0
+  none_of_others : (row : RowValue) (k : ℕ) (ks : List ℕ) → key_of shape lane row ≤ k → AllByRecursion (λ n. k < n) ks
+      → sum_by (λ n. cond (has_key shape lane n row) 1 0) ks ≡ 0
   none_of_others row k [] le above = refl
   none_of_others row k (n ∷ ks) le above =
-      let here : has_key shape lane n row ≡ false = rw (ne_eqb (key_of shape lane row) n (λ e. omega (arith, e, le, above.0))) (and_false (selected_by shape lane row)) in
+      let here : has_key shape lane n row ≡ false =
+          rw (ne_eqb (key_of shape lane row) n (λ e. omega (arith, e, le, above.0))) (and_false (selected_by shape lane row)) in
       let none : ◌≡◌ {A = ℕ} (cond (has_key shape lane n row) 1 0) 0 = ap (λ b. cond b 1 0) here in
       let parts = sum_by-cons (λ m. cond (has_key shape lane m row) 1 0) n ks in
       omega (arith, parts, none, none_of_others row k ks le above.1)
@@ -236,7 +252,8 @@ module _ (shape : ShapeValue) (lane : ℕ) where
       elim (cases_eq (key_of shape lane row) k) [
         | inl e ↦
             let rest = none_of_others row k ks (omega (arith, e)) rise.0 in
-            let most : cond {A = ℕ} (has_key shape lane k row) 1 0 ≤ 1 = elim (has_key shape lane k row) as (λ b. cond {A = ℕ} b 1 0 ≤ 1) [ true ↦ omega arith | false ↦ omega arith ] in
+            let most : cond {A = ℕ} (has_key shape lane k row) 1 0 ≤ 1 =
+                elim (has_key shape lane k row) as (λ b. cond {A = ℕ} b 1 0 ≤ 1) [ true ↦ omega arith | false ↦ omega arith ] in
             omega (arith, parts, rest, most)
         | inr ne ↦
             let here : has_key shape lane k row ≡ false = rw (ne_eqb (key_of shape lane row) k ne) (and_false (selected_by shape lane row)) in
@@ -248,14 +265,17 @@ module _ (shape : ShapeValue) (lane : ℕ) where
   abbrev rows_of_keys : List ℕ → List RowValue → ℕ
   rows_of_keys ks rows = sum_by (λ n. length (filter (has_key shape lane n) rows)) ks
 
-  one_more : (row : RowValue) (rows : List RowValue) (ks : List ℕ) → rows_of_keys ks (row ∷ rows) ≡ sum_by (λ n. cond (has_key shape lane n row) 1 0) ks + rows_of_keys ks rows
+  one_more : (row : RowValue) (rows : List RowValue) (ks : List ℕ)
+      → rows_of_keys ks (row ∷ rows) ≡ sum_by (λ n. cond (has_key shape lane n row) 1 0) ks + rows_of_keys ks rows
   one_more row rows [] = refl
   one_more row rows (k ∷ ks) =
       let left = sum_by-cons (λ n. length (filter (has_key shape lane n) (row ∷ rows))) k ks in
       let right = sum_by-cons (λ n. length (filter (has_key shape lane n) rows)) k ks in
       let ones = sum_by-cons (λ n. cond (has_key shape lane n row) 1 0) k ks in
       let here : length (filter (has_key shape lane k) (row ∷ rows)) ≡ cond (has_key shape lane k row) 1 0 + length (filter (has_key shape lane k) rows) =
-      elim (has_key shape lane k row) as (λ b. length (cond b (row ∷ filter (has_key shape lane k) rows) (filter (has_key shape lane k) rows)) ≡ cond b 1 0 + length (filter (has_key shape lane k) rows)) [
+      elim (has_key shape lane k row) as
+          (λ b. length (cond b (row ∷ filter (has_key shape lane k) rows) (filter (has_key shape lane k) rows)) ≡ cond b 1 0 + length
+          (filter (has_key shape lane k) rows)) [
         | true ↦ omega arith
         | false ↦ omega arith
       ] in
@@ -286,7 +306,8 @@ module _ (shape : ShapeValue) (lane : ℕ) where
 
 below : (p : ℕ → Bool) (m most a n : ℕ) → m + (a + n) ≤ most → AllByRecursion (λ place. m + place < most) (filter p (range_with_len a n))
 below p m most a zero le = tt
-below p m most a (suc n) le = elim (p a) as (λ b. AllByRecursion (λ place. m + place < most) (cond b (a ∷ filter p (range_with_len (a + 1) n)) (filter p (range_with_len (a + 1) n)))) [
+below p m most a (suc n) le =
+    elim (p a) as (λ b. AllByRecursion (λ place. m + place < most) (cond b (a ∷ filter p (range_with_len (a + 1) n)) (filter p (range_with_len (a + 1) n)))) [
   | true ↦ (omega (arith, le), below p m most (a + 1) n (omega (arith, le)))
   | false ↦ below p m most (a + 1) n (omega (arith, le))
 ]
@@ -294,20 +315,25 @@ below p m most a (suc n) le = elim (p a) as (λ b. AllByRecursion (λ place. m +
 -- the places in rows behind others can be counted on
 places_can : (passes : RowValue → Bool) (xs ys : List RowValue) → length xs + length ys ≤ 2 ^ 20 → All (λ place. length xs + place < 2 ^ 32) (places passes ys)
 places_can passes xs ys few =
-    All-from_recursion (λ place. length xs + place < 2 ^ 32) (places passes ys) (below (λ place. passes (row_at ys place)) (length xs) (2 ^ 32) 0 (length ys) (omega (arith, few)))
+    All-from_recursion (λ place. length xs + place < 2 ^ 32) (places passes ys)
+        (below (λ place. passes (row_at ys place)) (length xs) (2 ^ 32) 0 (length ys) (omega (arith, few)))
 
 taken_few : (f : RowValue → ℕ) (p : RowValue → Bool) (rows : List RowValue) → length (map f (filter p rows)) ≤ length rows
 taken_few f p rows = omega (arith, length-map (filter p rows) f, length-filter p rows, count_by-le-length p rows)
 
-totals_can : (f : RowValue → ℕ) (p : RowValue → Bool) (xs ys : List RowValue) → length xs + length ys ≤ 2 ^ 20 → length (map f (filter p xs)) + length (map f (filter p ys)) ≤ 2 ^ 20
+totals_can : (f : RowValue → ℕ) (p : RowValue → Bool) (xs ys : List RowValue) → length xs + length ys ≤ 2 ^ 20
+    → length (map f (filter p xs)) + length (map f (filter p ys)) ≤ 2 ^ 20
 totals_can f p xs ys few = omega (arith, few, taken_few f p xs, taken_few f p ys)
 
-groups_can : (shape : ShapeValue) (lane : ℕ) (xs ys : List RowValue) → length xs + length ys ≤ 2 ^ 20 → numbers_in (groups shape lane xs ++ groups shape lane ys) ≤ 2 ^ 20
+groups_can : (shape : ShapeValue) (lane : ℕ) (xs ys : List RowValue) → length xs + length ys ≤ 2 ^ 20
+    → numbers_in (groups shape lane xs ++ groups shape lane ys) ≤ 2 ^ 20
 groups_can shape lane xs ys few =
-    omega (arith, few, sum_by-append (λ (g : Pair). g.1.count) (groups shape lane xs) (groups shape lane ys), groups_are_few shape lane xs, groups_are_few shape lane ys)
+    omega (arith, few, sum_by-append (λ (g : Pair). g.1.count) (groups shape lane xs) (groups shape lane ys), groups_are_few shape lane xs,
+        groups_are_few shape lane ys)
 
 -- findings in so few rows can be joined
-pub findings_can_join : (shape : ShapeValue) (ask : Ask) (xs ys : List RowValue) → length xs + length ys ≤ 2 ^ 20 → CanJoin (length xs) (finding_in shape ask xs) (finding_in shape ask ys)
+pub findings_can_join : (shape : ShapeValue) (ask : Ask) (xs ys : List RowValue) → length xs + length ys ≤ 2 ^ 20
+    → CanJoin (length xs) (finding_in shape ask xs) (finding_in shape ask ys)
 findings_can_join shape (asks.List expr) xs ys few = places_can (counts_for shape (asks.List expr)) xs ys few
 findings_can_join shape (asks.Find lane low high) xs ys few = places_can (counts_for shape (asks.Find lane low high)) xs ys few
 findings_can_join shape (asks.Between lane low high) xs ys few = places_can (counts_for shape (asks.Between lane low high)) xs ys few

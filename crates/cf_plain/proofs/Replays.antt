@@ -30,12 +30,14 @@ module _ (shape : ShapeValue) where
   calls_of_replay held (calls.Ask ask ∷ rest) = ap (λ cs. calls.Ask ask ∷ cs) (calls_of_replay held rest)
 
   -- a legal history has the answers of its calls
-  legal_replies : (held : List Entry) (history : List (HistoryEvent Entry Ask Body)) → IsLegalFrom (eval shape) held history → map reply_of history ≡ replies_to shape held (map call_of history)
+  legal_replies : (held : List Entry) (history : List (HistoryEvent Entry Ask Body)) → IsLegalFrom (eval shape) held history
+      → map reply_of history ≡ replies_to shape held (map call_of history)
   legal_replies held [] legal = refl
   legal_replies held (Appended entry offset ∷ history) legal = rw (legal.0, legal_replies (held ++ entry ∷ []) history legal.1) refl
   legal_replies held (Asked pass told ∷ history) legal = rw (legal.0, legal.1, legal_replies held history legal.2) refl
 
-  pub replay_of_calls : (made : List Call) (answers : List Reply) → answers ≡ replies_to shape [] made → (history : List (HistoryEvent Entry Ask Body)) × IsReplayOf shape made answers history
+  pub replay_of_calls : (made : List Call) (answers : List Reply) → answers ≡ replies_to shape [] made → (history : List (HistoryEvent Entry Ask Body))
+      × IsReplayOf shape made answers history
   replay_of_calls made answers is = (
     replay [] made,
     record {
@@ -45,5 +47,6 @@ module _ (shape : ShapeValue) where
     },
   )
 
-  pub replies_of_replay : (made : List Call) (answers : List Reply) (history : List (HistoryEvent Entry Ask Body)) → IsReplayOf shape made answers history → answers ≡ replies_to shape [] made
+  pub replies_of_replay : (made : List Call) (answers : List Reply) (history : List (HistoryEvent Entry Ask Body)) → IsReplayOf shape made answers history
+      → answers ≡ replies_to shape [] made
   replies_of_replay made answers history is = sym is.replies ∙ legal_replies [] history is.legal ∙ ap (replies_to shape []) is.calls

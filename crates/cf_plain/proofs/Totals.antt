@@ -16,7 +16,8 @@ abbrev pub SameRows : List RowValue → List RowValue → Type 0
 SameRows rows others = (g : RowValue → ℕ) → sum_by g rows ≡ sum_by g others
 
 -- how often a number comes from a row that passes
-pub count_map : (f : RowValue → ℕ) (p : RowValue → Bool) (n : ℕ) (rows : List RowValue) → count_by (λ x. x == n) (map f (filter p rows)) ≡ sum_by (λ row. cond (p row) (cond (f row == n) 1 0) 0) rows
+pub count_map : (f : RowValue → ℕ) (p : RowValue → Bool) (n : ℕ) (rows : List RowValue)
+    → count_by (λ x. x == n) (map f (filter p rows)) ≡ sum_by (λ row. cond (p row) (cond (f row == n) 1 0) 0) rows
 count_map f p n [] = refl
 count_map f p n (row ∷ rows) =
     let h : RowValue → ℕ = λ r. cond (p r) (cond (f r == n) 1 0) 0 in
@@ -26,15 +27,18 @@ count_map f p n (row ∷ rows) =
       | inl passes ↦
           let here : h row ≡ cond (f row == n) 1 0 = ap (λ b. cond b (cond (f row == n) 1 0) 0) passes in
           let left : count_by (λ x. x == n) (map f (filter p (row ∷ rows))) ≡ cond (f row == n) 1 0 + count_by (λ x. x == n) (map f (filter p rows)) =
-          ap (λ b. count_by (λ x. x == n) (map f (cond b (row ∷ filter p rows) (filter p rows)))) passes ∙ sum_by-cons (λ x. cond (x == n) 1 0) (f row) (map f (filter p rows)) in
+          ap (λ b. count_by (λ x. x == n) (map f (cond b (row ∷ filter p rows) (filter p rows)))) passes
+              ∙ sum_by-cons (λ x. cond (x == n) 1 0) (f row) (map f (filter p rows)) in
           omega (arith, rest, right, here, left)
       | inr fails ↦
           let here : h row ≡ 0 = ap (λ b. cond b (cond (f row == n) 1 0) 0) fails in
-          let left : count_by (λ x. x == n) (map f (filter p (row ∷ rows))) ≡ count_by (λ x. x == n) (map f (filter p rows)) = ap (λ b. count_by (λ x. x == n) (map f (cond b (row ∷ filter p rows) (filter p rows)))) fails in
+          let left : count_by (λ x. x == n) (map f (filter p (row ∷ rows))) ≡ count_by (λ x. x == n) (map f (filter p rows)) =
+              ap (λ b. count_by (λ x. x == n) (map f (cond b (row ∷ filter p rows) (filter p rows)))) fails in
           omega (arith, rest, right, here, left)
     ]
 
-pub often : (f : RowValue → ℕ) (p : RowValue → Bool) (rows others : List RowValue) → SameRows rows others → AsOften (map f (filter p rows)) (map f (filter p others))
+pub often : (f : RowValue → ℕ) (p : RowValue → Bool) (rows others : List RowValue) → SameRows rows others
+    → AsOften (map f (filter p rows)) (map f (filter p others))
 often f p rows others same n = count_map f p n rows ∙ same (λ row. cond (p row) (cond (f row == n) 1 0) 0) ∙ sym (count_map f p n others)
 
 one : (x y : Bool) (n : ℕ) → cond x n 0 ≡ cond (x && y) n 0 + cond (x && not y) n 0
@@ -42,7 +46,9 @@ one true true n = omega arith
 one true false n = omega arith
 one false y n = refl
 
-split_sum : (g : RowValue → ℕ) (p q : RowValue → Bool) (rows : List RowValue) → sum_by (λ row. cond (p row) (g row) 0) rows ≡ sum_by (λ row. cond (p row && q row) (g row) 0) rows + sum_by (λ row. cond (p row && not (q row)) (g row) 0) rows
+split_sum : (g : RowValue → ℕ) (p q : RowValue → Bool) (rows : List RowValue)
+    → sum_by (λ row. cond (p row) (g row) 0) rows ≡ sum_by (λ row. cond (p row && q row) (g row) 0) rows + sum_by
+    (λ row. cond (p row && not (q row)) (g row) 0) rows
 split_sum g p q [] = refl
 split_sum g p q (row ∷ rows) =
     let a = sum_by-cons (λ r. cond (p r) (g r) 0) row rows in
@@ -52,12 +58,17 @@ split_sum g p q (row ∷ rows) =
     omega (arith, a, b, c, here, split_sum g p q rows)
 
 -- the quad of some rows is that of those that pass a test together with those that don't, in any order
-pub total_split : (shape : ShapeValue) (lane : ℕ) (p q : RowValue → Bool) (rows : List RowValue) → total_over shape lane p rows ≡ quad_of (map (measure_of shape lane) (filter (λ row. p row && q row) rows) ++ map (measure_of shape lane) (filter (λ row. p row && not (q row)) rows))
-total_split shape lane p q rows = quad_is_one (map (measure_of shape lane) (filter p rows)) (map (measure_of shape lane) (filter (λ row. p row && q row) rows) ++ map (measure_of shape lane) (filter (λ row. p row && not (q row)) rows)) (λ n.
+pub total_split : (shape : ShapeValue) (lane : ℕ) (p q : RowValue → Bool) (rows : List RowValue)
+    → total_over shape lane p rows ≡ quad_of
+    (map (measure_of shape lane) (filter (λ row. p row && q row) rows) ++ map (measure_of shape lane) (filter (λ row. p row && not (q row)) rows))
+total_split shape lane p q rows =
+    quad_is_one (map (measure_of shape lane) (filter p rows))
+    (map (measure_of shape lane) (filter (λ row. p row && q row) rows) ++ map (measure_of shape lane) (filter (λ row. p row && not (q row)) rows)) (λ n.
     let left = count_map (measure_of shape lane) p n rows in
     let with' = count_map (measure_of shape lane) (λ row. p row && q row) n rows in
     let without = count_map (measure_of shape lane) (λ row. p row && not (q row)) n rows in
-    let both = sum_by-append (λ x. cond (x == n) 1 0) (map (measure_of shape lane) (filter (λ row. p row && q row) rows)) (map (measure_of shape lane) (filter (λ row. p row && not (q row)) rows)) in
+    let both = sum_by-append (λ x. cond (x == n) 1 0) (map (measure_of shape lane) (filter (λ row. p row && q row) rows))
+        (map (measure_of shape lane) (filter (λ row. p row && not (q row)) rows)) in
     let parts = split_sum (λ row. cond (measure_of shape lane row == n) 1 0) p q rows in
     omega (arith, left, with', without, both, parts))
 
@@ -76,8 +87,11 @@ module _ (shape : ShapeValue) (rows others : List RowValue) (same : SameRows row
 
   pub same_groups : (lane : ℕ) → groups shape lane rows ≡ groups shape lane others
   same_groups lane =
-      map_agree (group_of shape lane rows) (group_of shape lane others) (λ k. ap (λ (q : QuadValue). (k, q)) (same_total lane (has_key shape lane k))) (keys_in shape lane rows)
-      ∙ ap (map (group_of shape lane others)) (same_keys (map (key_of shape lane) (filter (selected_by shape lane) rows)) (map (key_of shape lane) (filter (selected_by shape lane) others)) (often (key_of shape lane) (selected_by shape lane) rows others same))
+      map_agree (group_of shape lane rows) (group_of shape lane others) (λ k. ap (λ (q : QuadValue). (k, q)) (same_total lane (has_key shape lane k)))
+          (keys_in shape lane rows)
+      ∙ ap (map (group_of shape lane others))
+          (same_keys (map (key_of shape lane) (filter (selected_by shape lane) rows)) (map (key_of shape lane) (filter (selected_by shape lane) others))
+          (often (key_of shape lane) (selected_by shape lane) rows others same))
 
   pub same_length : length rows ≡ length others
   same_length = sym (length_sum rows) ∙ same (λ row. 1) ∙ length_sum others

@@ -75,15 +75,18 @@ FindingsTell = (shape : ShapeValue) (ask : Ask) (rows : List RowValue) → body_
 
 -- What it finds in rows and in those behind them, joined, is what it finds in all of them.
 abbrev pub FindingsJoin : Type 0
-FindingsJoin = (shape : ShapeValue) (ask : Ask) (xs ys : List RowValue) → joined (length xs) (finding_in shape ask xs) (finding_in shape ask ys) ≡ finding_in shape ask (xs ++ ys)
+FindingsJoin = (shape : ShapeValue) (ask : Ask) (xs ys : List RowValue)
+    → joined (length xs) (finding_in shape ask xs) (finding_in shape ask ys) ≡ finding_in shape ask (xs ++ ys)
 
 -- What it finds in rows and in those behind them, at most 2^20 in all, can be joined.
 abbrev pub FindingsCanJoin : Type 0
-FindingsCanJoin = (shape : ShapeValue) (ask : Ask) (xs ys : List RowValue) → length xs + length ys ≤ 2 ^ 20 → CanJoin (length xs) (finding_in shape ask xs) (finding_in shape ask ys)
+FindingsCanJoin = (shape : ShapeValue) (ask : Ask) (xs ys : List RowValue) → length xs + length ys ≤ 2 ^ 20
+    → CanJoin (length xs) (finding_in shape ask xs) (finding_in shape ask ys)
 
 -- The groups of several lists of rows, merged, are those of all the rows.
 abbrev pub GroupsMerge : Type 0
-GroupsMerge = (shape : ShapeValue) (lane : ℕ) (parts : List (List RowValue)) → merged (flat_map (groups shape lane) parts) ≡ groups shape lane (flat_map (λ rows. rows) parts)
+GroupsMerge = (shape : ShapeValue) (lane : ℕ) (parts : List (List RowValue))
+    → merged (flat_map (groups shape lane) parts) ≡ groups shape lane (flat_map (λ rows. rows) parts)
 
 -- They are of no more numbers than there are rows.
 abbrev pub GroupsAreFew : Type 0

@@ -21,7 +21,8 @@ sees_known n es p = elim (cases_Bool (nat_lt (length p.seen) n)) [
   | inr e ↦ ap (λ (b : Bool). (grown n es p b).known) e
 ]
 
-pub has_asked : (shape : ShapeValue) (m n : PassValue) (found : ℕ) → HasStepped shape (tail_effect m.view true) m found n → (HoldsAllBooks shape m.view → (n.view).seen ≡ (m.view).seen) → length (n.view).seen ≡ found → HasAsked shape m n
+pub has_asked : (shape : ShapeValue) (m n : PassValue) (found : ℕ) → HasStepped shape (tail_effect m.view true) m found n
+    → (HoldsAllBooks shape m.view → (n.view).seen ≡ (m.view).seen) → length (n.view).seen ≡ found → HasAsked shape m n
 has_asked shape m n found made stays long =
     let told = made.told in
     let p = m.view in
@@ -36,5 +37,6 @@ has_asked shape m n found made stays long =
       few = told.bounds.seen;
       fit = λ o e at. told.fit o e (ap (λ (es : List Entry). slice_get es o) (sym entries) ∙ at);
       first = told.mine;
-      knows = λ s node k. (k.0, ap (λ (q : Pass). slice_get q.known k.0) told.is ∙ (ap (λ (xs : List (Spot × ℕ)). slice_get xs k.0) (sees_known found told.entries p) ∙ k.1));
+      knows = λ s node k.
+          (k.0, ap (λ (q : Pass). slice_get q.known k.0) told.is ∙ (ap (λ (xs : List (Spot × ℕ)). slice_get xs k.0) (sees_known found told.entries p) ∙ k.1));
     }

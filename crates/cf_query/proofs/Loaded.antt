@@ -36,8 +36,11 @@ pub entry_fits : (shape : ShapeValue) (e : Entry) → IsFit (layout shape) e →
 entry_fits shape e fit = (both (values_fit shape.schema (e.row).values) (nat_lt (e.row).num (2 ^ 32)) fit.0).0
 
 -- an entry that was seen fits, also where words were looked at since
-pub held_fits : (shape : ShapeValue) (attrs : List Attr) (m n : PassValue) (o : ℕ) (e : Entry) → AreFit shape m.view → OnlyLooked m n → attrs ≡ shape.schema → slice_get (n.view).seen o ≡ Some e → Fits attrs e.row
-held_fits shape attrs m n o e fit looked schema at = subst (λ (kinds : List Attr). Fits kinds e.row) (sym schema) (entry_fits shape e (fit o e (sym (ap (λ (h : PassValue). slice_get (h.view).seen o) looked) ∙ at)))
+pub held_fits : (shape : ShapeValue) (attrs : List Attr) (m n : PassValue) (o : ℕ) (e : Entry) → AreFit shape m.view → OnlyLooked m n → attrs ≡ shape.schema
+    → slice_get (n.view).seen o ≡ Some e → Fits attrs e.row
+held_fits shape attrs m n o e fit looked schema at =
+    subst (λ (kinds : List Attr). Fits kinds e.row) (sym schema)
+    (entry_fits shape e (fit o e (sym (ap (λ (h : PassValue). slice_get (h.view).seen o) looked) ∙ at)))
 
 entry_by : (shape : ShapeValue) (e : Entry) → IsShape shape → IsFit (layout shape) e → IsEntry shape.schema e
 entry_by shape e is fit =
@@ -53,7 +56,8 @@ pub record IsLoaded (shape : ShapeValue) (m n : PassValue) (o i found : ℕ) : T
   pub word : found ≡ get_or (spelled (entry_at m.view o)) i 0
   pub looked : OnlyLooked m n
 
-pub loaded : (shape : ShapeValue) (m n : PassValue) (o place i found : ℕ) → IsShape shape → place ≡ min o (shape.capacity - 1) → o < length (m.view).seen → i < word_count shape.schema + 1 → HasStepped shape (word_effect shape m.view place i) m found n → IsLoaded shape m n o i found
+pub loaded : (shape : ShapeValue) (m n : PassValue) (o place i found : ℕ) → IsShape shape → place ≡ min o (shape.capacity - 1) → o < length (m.view).seen
+    → i < word_count shape.schema + 1 → HasStepped shape (word_effect shape m.view place i) m found n → IsLoaded shape m n o i found
 loaded shape m n o place i found is at lt low made =
     let told = made.told in
     let same : length (n.view).seen ≡ length (m.view).seen = ap (λ (q : Pass). length q.seen) told.is in
@@ -77,18 +81,24 @@ row_is (x ∷ xs) (suc o) e at = row_is xs o e at
 abbrev holds_at : List (List Atom) → List Entry → ℕ → Bool
 holds_at expr seen place = holds_of expr (row_at (rows_in seen) place)
 
-scanned_more : (expr : List (List Atom)) (seen : List Entry) (o : ℕ) (e : Entry) (b : Bool) (found : List ℕ) → slice_get seen o ≡ Some e → b ≡ holds_of expr e.row → found ≡ filter (holds_at expr seen) (range_with_len 0 o)
+scanned_more : (expr : List (List Atom)) (seen : List Entry) (o : ℕ) (e : Entry) (b : Bool) (found : List ℕ) → slice_get seen o ≡ Some e
+    → b ≡ holds_of expr e.row → found ≡ filter (holds_at expr seen) (range_with_len 0 o)
     → found ++ cond b (o ∷ []) [] ≡ filter (holds_at expr seen) (range_with_len 0 (o + 1))
 scanned_more expr seen o e b found at holds is =
-    ap₂ (λ (xs : List ℕ) (t : Bool). xs ++ cond t (o ∷ []) []) is (holds ∙ ap (λ (row : RowValue). holds_of expr row) (row_is seen o e at)) ∙ sym (place_more (holds_at expr seen) o)
+    ap₂ (λ (xs : List ℕ) (t : Bool). xs ++ cond t (o ∷ []) []) is (holds ∙ ap (λ (row : RowValue). holds_of expr row) (row_is seen o e at))
+        ∙ sym (place_more (holds_at expr seen) o)
 
-pub scanned_one : (expr : List (List Atom)) (seen : List Entry) (o : ℕ) (e : Entry) (b : Bool) (found after : List ℕ) → slice_get seen o ≡ Some e → b ≡ holds_of expr e.row → b ≡ true → found ≡ filter (holds_at expr seen) (range_with_len 0 o) → after ≡ found ++ o ∷ []
+pub scanned_one : (expr : List (List Atom)) (seen : List Entry) (o : ℕ) (e : Entry) (b : Bool) (found after : List ℕ) → slice_get seen o ≡ Some e
+    → b ≡ holds_of expr e.row → b ≡ true → found ≡ filter (holds_at expr seen) (range_with_len 0 o) → after ≡ found ++ o ∷ []
     → after ≡ filter (holds_at expr seen) (range_with_len 0 (o + 1))
-scanned_one expr seen o e b found after at holds passes is push = push ∙ (ap (λ (t : Bool). found ++ cond t (o ∷ []) []) (sym passes) ∙ scanned_more expr seen o e b found at holds is)
+scanned_one expr seen o e b found after at holds passes is push = push
+    ∙ (ap (λ (t : Bool). found ++ cond t (o ∷ []) []) (sym passes) ∙ scanned_more expr seen o e b found at holds is)
 
-pub scanned_none : (expr : List (List Atom)) (seen : List Entry) (o : ℕ) (e : Entry) (b : Bool) (found : List ℕ) → slice_get seen o ≡ Some e → b ≡ holds_of expr e.row → b ≡ false → found ≡ filter (holds_at expr seen) (range_with_len 0 o)
+pub scanned_none : (expr : List (List Atom)) (seen : List Entry) (o : ℕ) (e : Entry) (b : Bool) (found : List ℕ) → slice_get seen o ≡ Some e
+    → b ≡ holds_of expr e.row → b ≡ false → found ≡ filter (holds_at expr seen) (range_with_len 0 o)
     → found ≡ filter (holds_at expr seen) (range_with_len 0 (o + 1))
-scanned_none expr seen o e b found at holds fails is = sym (append-nil found) ∙ (ap (λ (t : Bool). found ++ cond t (o ∷ []) []) (sym fails) ∙ scanned_more expr seen o e b found at holds is)
+scanned_none expr seen o e b found at holds fails is = sym (append-nil found)
+    ∙ (ap (λ (t : Bool). found ++ cond t (o ∷ []) []) (sym fails) ∙ scanned_more expr seen o e b found at holds is)
 
 -- an entry that is there, by its place
 at_place : (seen : List Entry) (o : ℕ) (e : Entry) → slice_get seen o ≡ Some e → (o < length seen) × (get_or seen o e ≡ e)
@@ -102,13 +112,18 @@ module _ (attr : ℕ) (expr : List (List Atom)) (seen : List Entry) (o : ℕ) (e
   amounts_with : amounts_in attr expr (take (o + 1) seen) ≡ amounts_in attr expr (take o seen) ++ cond (holds_of expr e.row) (number_at e.row attr ∷ []) []
   amounts_with =
       let here = at_place seen o e at in
-      amounts_more attr expr seen o e here.0 ∙ ap (λ (x : Entry). amounts_in attr expr (take o seen) ++ cond (holds_of expr x.row) (number_at x.row attr ∷ []) []) here.1
+      amounts_more attr expr seen o e here.0
+          ∙ ap (λ (x : Entry). amounts_in attr expr (take o seen) ++ cond (holds_of expr x.row) (number_at x.row attr ∷ []) []) here.1
 
-  pub summed_one : (b : Bool) (before after : QuadValue) → b ≡ holds_of expr e.row → b ≡ true → before ≡ total attr expr (rows_in (take o seen)) → ((xs : List ℕ) → before ≡ quad_of xs → after ≡ quad_of (xs ++ number_at e.row attr ∷ [])) → after ≡ total attr expr (rows_in (take (o + 1) seen))
+  pub summed_one : (b : Bool) (before after : QuadValue) → b ≡ holds_of expr e.row → b ≡ true → before ≡ total attr expr (rows_in (take o seen))
+      → ((xs : List ℕ) → before ≡ quad_of xs → after ≡ quad_of (xs ++ number_at e.row attr ∷ [])) → after ≡ total attr expr (rows_in (take (o + 1) seen))
   summed_one b before after holds passes is added =
       added (amounts_in attr expr (take o seen)) is
       ∙ ap quad_of (ap (λ (t : Bool). amounts_in attr expr (take o seen) ++ cond t (number_at e.row attr ∷ []) []) (sym passes ∙ holds) ∙ sym amounts_with)
 
-  pub summed_none : (b : Bool) (before : QuadValue) → b ≡ holds_of expr e.row → b ≡ false → before ≡ total attr expr (rows_in (take o seen)) → before ≡ total attr expr (rows_in (take (o + 1) seen))
+  pub summed_none : (b : Bool) (before : QuadValue) → b ≡ holds_of expr e.row → b ≡ false → before ≡ total attr expr (rows_in (take o seen))
+      → before ≡ total attr expr (rows_in (take (o + 1) seen))
   summed_none b before holds fails is =
-      is ∙ ap quad_of (sym (append-nil (amounts_in attr expr (take o seen))) ∙ ap (λ (t : Bool). amounts_in attr expr (take o seen) ++ cond t (number_at e.row attr ∷ []) []) (sym fails ∙ holds) ∙ sym amounts_with)
+      is ∙ ap quad_of
+          (sym (append-nil (amounts_in attr expr (take o seen)))
+          ∙ ap (λ (t : Bool). amounts_in attr expr (take o seen) ++ cond t (number_at e.row attr ∷ []) []) (sym fails ∙ holds) ∙ sym amounts_with)

@@ -17,10 +17,12 @@ told_by shape entries t a =
     let le : t.tail ≤ length entries = omega (arith, long, short, tail) in
     (le, a.body ∙ ap (λ (es : List Entry). eval shape t.ask es) (sym a.begins ∙ ap (λ (n : ℕ). take n entries) (sym a.tail)))
 
-all_told : (shape : ShapeValue) (entries : List Entry) (tolds : List (AskReply Ask Body)) → AllByRecursion (IsAskAnswered shape entries) tolds → AllByRecursion (IsToldBy (eval shape) entries) tolds
+all_told : (shape : ShapeValue) (entries : List Entry) (tolds : List (AskReply Ask Body)) → AllByRecursion (IsAskAnswered shape entries) tolds
+    → AllByRecursion (IsToldBy (eval shape) entries) tolds
 all_told shape entries [] all = all
 all_told shape entries (t ∷ tolds) all = (told_by shape entries t all.0, all_told shape entries tolds all.1)
 
-pub are_told : (shape : ShapeValue) (entries : List Entry) (passes : List (List (AskReply Ask Body))) → AllByRecursion (AllByRecursion (IsAskAnswered shape entries)) passes → AreToldBy (eval shape) entries passes
+pub are_told : (shape : ShapeValue) (entries : List Entry) (passes : List (List (AskReply Ask Body)))
+    → AllByRecursion (AllByRecursion (IsAskAnswered shape entries)) passes → AreToldBy (eval shape) entries passes
 are_told shape entries [] all = all
 are_told shape entries (tolds ∷ passes) all = (all_told shape entries tolds all.0, are_told shape entries passes all.1)

@@ -40,7 +40,9 @@ asked_walked shape m n o a b =
     let view : o.view ≡ record n.view { look = (o.view).look; known = (o.view).known; cursor = (o.view).cursor } = ap (λ (h : PassValue). h.view) b.same in
     let seen : (o.view).seen ≡ (n.view).seen = ap (λ (q : Pass). q.seen) view in
     record {
-      same = b.same ∙ (ap (λ (h : PassValue). record h { view = record n.view { look = (o.view).look; known = (o.view).known; cursor = (o.view).cursor } }) a.same ∙ ap (λ (q : Pass). record m { view = q }) (sym view));
+      same = b.same
+          ∙ (ap (λ (h : PassValue). record h { view = record n.view { look = (o.view).look; known = (o.view).known; cursor = (o.view).cursor } }) a.same
+          ∙ ap (λ (q : Pass). record m { view = q }) (sym view));
       tails = ap (λ (q : Pass). q.tails) view ∙ (a.tails ∙ ap (λ (es : List Entry). (m.view).tails ++ length es ∷ []) (sym seen));
       longer = subst (λ (es : List Entry). Begins (m.view).seen es) (sym seen) a.longer;
       books = ap (λ (q : Pass). q.books) view ∙ a.books;
@@ -60,7 +62,9 @@ pub walked_looked : (m n : PassValue) → OnlyLooked m n → OnlyWalked m n
 walked_looked m n looked =
     let view : n.view ≡ record m.view { look = (n.view).look } = ap (λ (h : PassValue). h.view) looked in
     record {
-      same = looked ∙ ap₂ (λ (k : List (Spot × ℕ)) (c : Option Cursor). record m { view = record m.view { look = (n.view).look; known = k; cursor = c } }) (sym (ap (λ (q : Pass). q.known) view)) (sym (ap (λ (q : Pass). q.cursor) view));
+      same = looked
+          ∙ ap₂ (λ (k : List (Spot × ℕ)) (c : Option Cursor). record m { view = record m.view { look = (n.view).look; known = k; cursor = c } })
+          (sym (ap (λ (q : Pass). q.known) view)) (sym (ap (λ (q : Pass). q.cursor) view));
       knows = λ s node k. (k.0, ap (λ (q : Pass). slice_get q.known k.0) view ∙ k.1);
     }
 

@@ -20,4 +20,6 @@ pub record IsAskAnswered (shape : ShapeValue) (entries : List Entry) (t : AskRep
 -- history of one thread.
 abbrev pub SealsAreHistories : Type 0
 SealsAreHistories =
-    (shape : ShapeValue) (seal : SealValue) (passes : List (List (AskReply Ask Body))) → AllByRecursion (AllByRecursion (IsAskAnswered shape seal.entries)) passes → NeverGoBack passes → IsHistoryOf (eval shape) seal.entries passes (spell seal.entries passes)
+    (shape : ShapeValue) (seal : SealValue) (passes : List (List (AskReply Ask Body)))
+        → AllByRecursion (AllByRecursion (IsAskAnswered shape seal.entries)) passes → NeverGoBack passes
+        → IsHistoryOf (eval shape) seal.entries passes (spell seal.entries passes)

@@ -39,7 +39,8 @@ one_rows attrs num [] [] (y ∷ b) p q = absurd q
 one_rows attrs num [] (x ∷ a) b p q = absurd p
 one_rows attrs num (f ∷ records) [] b p q = absurd p
 one_rows attrs num (f ∷ records) (x ∷ a) [] p q = absurd q
-one_rows attrs num (f ∷ records) (x ∷ a) (y ∷ b) p q = ap₂ ◌∷◌ (same_row x y (p.0 ∙ sym q.0) (one_values attrs f x.values y.values p.1 q.1)) (one_rows attrs (num + 1) records a b p.2 q.2)
+one_rows attrs num (f ∷ records) (x ∷ a) (y ∷ b) p q =
+    ap₂ ◌∷◌ (same_row x y (p.0 ∙ sym q.0) (one_values attrs f x.values y.values p.1 q.1)) (one_rows attrs (num + 1) records a b p.2 q.2)
 
 -- a record with values has as many fields as there are attributes
 as_many : (attrs : List Attr) (fields : List (List ℕ)) (values : List Value) → HaveValues attrs fields values → length fields ≡ length attrs
@@ -51,7 +52,8 @@ as_many (a ∷ attrs) (f ∷ fields) [] have = absurd have
 as_many (a ∷ attrs) (f ∷ fields) (v ∷ values) have = let same = as_many attrs fields values have.1 in omega (arith, same)
 
 -- and a value in each column
-value_in : (attrs : List Attr) (fields : List (List ℕ)) (values : List Value) (column : ℕ) (attr : Attr) (field : List ℕ) → HaveValues attrs fields values → slice_get attrs column ≡ Some attr → slice_get fields column ≡ Some field → (value : Value) × ValueText attr.kind field value
+value_in : (attrs : List Attr) (fields : List (List ℕ)) (values : List Value) (column : ℕ) (attr : Attr) (field : List ℕ) → HaveValues attrs fields values
+    → slice_get attrs column ≡ Some attr → slice_get fields column ≡ Some field → (value : Value) × ValueText attr.kind field value
 value_in [] fields values column attr field have attr_is field_is = cc attr_is
 value_in (a ∷ attrs) [] values column attr field have attr_is field_is = cc field_is
 value_in (a ∷ attrs) (f ∷ fields) [] column attr field have attr_is field_is = absurd have
@@ -59,7 +61,8 @@ value_in (a ∷ attrs) (f ∷ fields) (v ∷ values) zero attr field have attr_i
     let same_attr : a ≡ attr = some_same a attr attr_is in
     let same_field : f ≡ field = some_same f field field_is in
     (v, rw (sym same_attr, sym same_field) have.0)
-value_in (a ∷ attrs) (f ∷ fields) (v ∷ values) (suc column) attr field have attr_is field_is = value_in attrs fields values column attr field have.1 attr_is field_is
+value_in (a ∷ attrs) (f ∷ fields) (v ∷ values) (suc column) attr field have attr_is field_is =
+    value_in attrs fields values column attr field have.1 attr_is field_is
 
 -- what is before a column of a front
 front_of : {A : Type 0} (xs : List A) (n i : ℕ) (x : A) → i < n → slice_get xs i ≡ Some x → slice_get (take n xs) i ≡ Some x
@@ -70,7 +73,8 @@ front_of {A} (y ∷ xs) (suc n) (suc i) x lt is = front_of xs n i x (omega (arit
 
 no_value_before : (attrs : List Attr) (fields : List (List ℕ)) (a b : ℕ) → HasBadField attrs fields a → HasBadField attrs fields b → a < b → ⊥
 no_value_before attrs fields a b p q lt =
-    let found = value_in (take b attrs) (take b fields) q.values a p.attr p.field q.before (front_of attrs b a p.attr lt p.attr_is) (front_of fields b a p.field lt p.field_is) in
+    let found = value_in (take b attrs) (take b fields) q.values a p.attr p.field q.before (front_of attrs b a p.attr lt p.attr_is)
+        (front_of fields b a p.field lt p.field_is) in
     p.none found.0 found.1
 
 by_order : {A : Type 0} (a b : ℕ) → (a < b → A) → (a ≡ b → A) → (b < a → A) → A
@@ -80,10 +84,12 @@ by_order {A} (suc a) zero less same more = more (omega arith)
 by_order {A} (suc a) (suc b) less same more = by_order a b (λ h. less (omega (arith, h))) (λ h. same (omega (arith, h))) (λ h. more (omega (arith, h)))
 
 one_column : (attrs : List Attr) (fields : List (List ℕ)) (a b : ℕ) → HasBadField attrs fields a → HasBadField attrs fields b → a ≡ b
-one_column attrs fields a b p q = by_order a b (λ lt. absurd (no_value_before attrs fields a b p q lt)) (λ same. same) (λ lt. absurd (no_value_before attrs fields b a q p lt))
+one_column attrs fields a b p q =
+    by_order a b (λ lt. absurd (no_value_before attrs fields a b p q lt)) (λ same. same) (λ lt. absurd (no_value_before attrs fields b a q p lt))
 
 -- a record has one fault at most
-one_record_fault : (attrs : List Attr) (fields : List (List ℕ)) (num : ℕ) (a b : RecordFault) → HasRecordFault attrs fields num a → HasRecordFault attrs fields num b → a ≡ b
+one_record_fault : (attrs : List Attr) (fields : List (List ℕ)) (num : ℕ) (a b : RecordFault) → HasRecordFault attrs fields num a
+    → HasRecordFault attrs fields num b → a ≡ b
 one_record_fault attrs fields num (BadCount k) (BadCount l) p q = ap BadCount (p.0 ∙ sym q.0)
 one_record_fault attrs fields num (BadCount k) (BadValue l column) p q = absurd (p.1 q.1)
 one_record_fault attrs fields num (BadValue k column) (BadCount l) p q = absurd (q.1 p.1)
@@ -102,7 +108,8 @@ one_record_fault attrs fields num TooManyBytes b p q = absurd p
 one_record_fault attrs fields num Memory b p q = absurd p
 
 -- and none where it has values
-no_record_fault : (attrs : List Attr) (fields : List (List ℕ)) (num : ℕ) (values : List Value) (fault : RecordFault) → HaveValues attrs fields values → HasRecordFault attrs fields num fault → ⊥
+no_record_fault : (attrs : List Attr) (fields : List (List ℕ)) (num : ℕ) (values : List Value) (fault : RecordFault) → HaveValues attrs fields values
+    → HasRecordFault attrs fields num fault → ⊥
 no_record_fault attrs fields num values (BadCount k) have q = q.1 (as_many attrs fields values have)
 no_record_fault attrs fields num values (BadValue k column) have q =
     let bad = q.2 in
@@ -114,7 +121,8 @@ no_record_fault attrs fields num values TooManyBytes have q = q
 no_record_fault attrs fields num values Memory have q = q
 
 -- rows up to a record give values of it
-row_there : (attrs : List Attr) (num : ℕ) (before : Records) (fields : List (List ℕ)) (after : Records) (rows : List RowValue) → AreRows attrs num (before ++ (fields ∷ after)) rows → (values : List Value) × HaveValues attrs fields values
+row_there : (attrs : List Attr) (num : ℕ) (before : Records) (fields : List (List ℕ)) (after : Records) (rows : List RowValue)
+    → AreRows attrs num (before ++ (fields ∷ after)) rows → (values : List Value) × HaveValues attrs fields values
 row_there attrs num [] fields after [] are = absurd are
 row_there attrs num [] fields after (row ∷ rows) are = (row.values, are.1)
 row_there attrs num (f ∷ before) fields after [] are = absurd are
@@ -124,9 +132,12 @@ row_there attrs num (f ∷ before) fields after (row ∷ rows) are = row_there a
 abbrev Cut : Records → Records → List (List ℕ) → Type 0
 Cut before before' fields' = (between : Records) × (before ≡ before' ++ (fields' ∷ between))
 
-cut : (before : Records) (fields : List (List ℕ)) (after : Records) (before' : Records) (fields' : List (List ℕ)) (after' : Records) → before ++ (fields ∷ after) ≡ before' ++ (fields' ∷ after') → ((before ≡ before') × (fields ≡ fields')) ⊎ Cut before before' fields' ⊎ Cut before' before fields
+cut : (before : Records) (fields : List (List ℕ)) (after : Records) (before' : Records) (fields' : List (List ℕ)) (after' : Records)
+    → before ++ (fields ∷ after) ≡ before' ++ (fields' ∷ after') → ((before ≡ before') × (fields ≡ fields')) ⊎ Cut before before' fields'
+    ⊎ Cut before' before fields
 cut [] fields after [] fields' after' same = inl (refl, cc same)
-cut [] fields after (b ∷ before') fields' after' same = let head : fields ≡ b = cc same in inr (inr (before', ap (λ (x : List (List ℕ)). x ∷ before') (sym head)))
+cut [] fields after (b ∷ before') fields' after' same = let head : fields ≡ b = cc same in
+    inr (inr (before', ap (λ (x : List (List ℕ)). x ∷ before') (sym head)))
 cut (a ∷ before) fields after [] fields' after' same = let head : a ≡ fields' = cc same in inr (inl (before, ap (λ (x : List (List ℕ)). x ∷ before) head))
 cut (a ∷ before) fields after (b ∷ before') fields' after' same =
     let head : a ≡ b = cc same in
@@ -157,7 +168,8 @@ module _ (attrs : List Attr) (text : List ℕ) where
       let found = row_there attrs 0 q.before q.fields q.after rows (subst (λ (rs : Records). AreRows attrs 0 rs rows) same p.rows_are) in
       no_record_fault attrs q.fields (length q.before) found.0 fault found.1 q.fault_is
 
-  later_faulty : (before : Records) (rows : List RowValue) (fields : List (List ℕ)) (num : ℕ) (before' : Records) (fault : RecordFault) → AreRows attrs 0 before rows → Cut before before' fields → HasRecordFault attrs fields num fault → ⊥
+  later_faulty : (before : Records) (rows : List RowValue) (fields : List (List ℕ)) (num : ℕ) (before' : Records) (fault : RecordFault)
+      → AreRows attrs 0 before rows → Cut before before' fields → HasRecordFault attrs fields num fault → ⊥
   later_faulty before rows fields num before' fault are later wrong =
       let found = row_there attrs 0 before' fields later.0 rows (subst (λ (rs : Records). AreRows attrs 0 rs rows) later.1 are) in
       no_record_fault attrs fields num found.0 fault found.1 wrong
@@ -166,7 +178,9 @@ module _ (attrs : List Attr) (text : List ℕ) where
   faulty_same a b p q = elim (cut p.before p.fields p.after q.before q.fields q.after (same_tail _ _ _ _ (one_read text _ _ p.read q.read))) [
     | inl both ↦
         let num : length p.before ≡ length q.before = ap (λ (rs : Records). length rs) both.0 in
-        let moved : HasRecordFault attrs p.fields (length p.before) b = subst (λ (n : ℕ). HasRecordFault attrs p.fields n b) (sym num) (subst (λ (f : List (List ℕ)). HasRecordFault attrs f (length q.before) b) (sym both.1) q.fault_is) in
+        let moved : HasRecordFault attrs p.fields (length p.before) b =
+            subst (λ (n : ℕ). HasRecordFault attrs p.fields n b) (sym num)
+            (subst (λ (f : List (List ℕ)). HasRecordFault attrs f (length q.before) b) (sym both.1) q.fault_is) in
         one_record_fault attrs p.fields (length p.before) a b p.fault_is moved
     | inr other ↦ elim other [
       | inl later ↦ absurd (later_faulty p.before p.rows q.fields (length q.before) q.before b p.rows_are later q.fault_is)
@@ -177,7 +191,8 @@ module _ (attrs : List Attr) (text : List ℕ) where
   no_header : (header : List (List ℕ)) (records : Records) → AreRead text [] → AreRead text (header ∷ records) → ⊥
   no_header header records none some = let same : [] ≡ header ∷ records = one_read text [] (header ∷ records) none some in cc same
 
-  headed : (header : List (List ℕ)) (records records' : Records) → AreRead text (header ∷ records) → AreRead text (names_of attrs ∷ records') → header ≡ names_of attrs
+  headed : (header : List (List ℕ)) (records records' : Records) → AreRead text (header ∷ records) → AreRead text (names_of attrs ∷ records')
+      → header ≡ names_of attrs
   headed header records records' p q = same_head header (names_of attrs) records records' (one_read text _ _ p q)
 
   large_small : length text < 2 ^ 24 → 2 ^ 24 ≤ length text → ⊥

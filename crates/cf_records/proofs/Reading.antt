@@ -20,7 +20,8 @@ one_list cfg s xs [] (r2 ∷ rows2) h h2 = absurd (some_none (next_record cfg s 
 one_list cfg s xs (r ∷ rows) [] h h2 = absurd (some_none (next_record cfg s [] [] xs) h.2.0 h.2.1 (rw (h2.2.0, h2.2.1) h2.3))
 one_list cfg s xs (r ∷ rows) (r2 ∷ rows2) h h2 =
     let p : h.2.0 ≡ h2.2.0 = same_read (next_record cfg s [] [] xs) h.2.0 h2.2.0 h.2.1 h2.2.1 in
-    ap₂ ◌∷◌ (h.2.2 ∙ (ap (λ (q : Read). q.0) p ∙ sym h2.2.2)) (one_list cfg h2.2.0.1 h2.2.0.2 rows rows2 (h.0, h.1, rw p at h.2.3, h.3) (h2.0, h2.1, h2.2.3, h2.3))
+    ap₂ ◌∷◌ (h.2.2 ∙ (ap (λ (q : Read). q.0) p ∙ sym h2.2.2))
+        (one_list cfg h2.2.0.1 h2.2.0.2 rows rows2 (h.0, h.1, rw p at h.2.3, h.3) (h2.0, h2.1, h2.2.3, h2.3))
 
 -- a text has one list of records
 pub one_read : (text : List ℕ) (a b : List (List (List ℕ))) → AreRead text a → AreRead text b → a ≡ b
@@ -77,7 +78,8 @@ after_end cfg s p e =
     let same : p ≡ q = next_end (ends_at_end s) p q e in
     subst (λ (r : Read). Left cfg r.1 r.2) (sym same) (no_more cfg st.StartRecord [] (at_start cfg))
 
-left_step : (cfg : Config) (s : State) (xs : List ℕ) → ((p : Read) → length p.2 < length xs → Left cfg p.1 p.2) → (o : Option Read) → next_record cfg s [] [] xs ≡ o → Left cfg s xs
+left_step : (cfg : Config) (s : State) (xs : List ℕ) → ((p : Read) → length p.2 < length xs → Left cfg p.1 p.2) → (o : Option Read)
+    → next_record cfg s [] [] xs ≡ o → Left cfg s xs
 left_step cfg s xs more None e = no_more cfg s xs e
 left_step cfg s [] more (Some p) e = one_more cfg s [] p e (after_end cfg s p e)
 left_step cfg s (c ∷ xs) more (Some p) e = one_more cfg s (c ∷ xs) p e (elim (shrinks cfg s [] [] (c ∷ xs) p e) [
@@ -89,7 +91,8 @@ left_from : (cfg : Config) (n : ℕ) (s : State) (xs : List ℕ) → length xs �
 left_from cfg zero s xs short = left_step cfg s xs (λ p less. absurd (omega (arith, short, less))) (next_record cfg s [] [] xs) refl
 left_from cfg (suc n) s xs short = left_step cfg s xs (λ p less. left_from cfg n p.1 p.2 (omega (arith, less, short))) (next_record cfg s [] [] xs) refl
 
-joined : (cfg : Config) (s s2 : State) (xs ys : List ℕ) (rows after : List (List (List ℕ))) → Reached cfg s xs rows s2 ys → AreRecords cfg s2 ys after → AreRecords cfg s xs (rows ++ after)
+joined : (cfg : Config) (s s2 : State) (xs ys : List ℕ) (rows after : List (List (List ℕ))) → Reached cfg s xs rows s2 ys → AreRecords cfg s2 ys after
+    → AreRecords cfg s xs (rows ++ after)
 unfolding Reached
 joined cfg s s2 xs ys [] after h rest = rw (h.0, h.1) rest
 joined cfg s s2 xs ys (r ∷ rows) after h rest = let more = joined cfg h.0.1 s2 h.0.2 ys rows after h.3 rest in (more.0, more.1, (h.0, h.1, h.2, more.2), more.3)
@@ -100,14 +103,16 @@ unfolding AreRead
 some_read text = left_from default_config (length (strip_bom text)) st.StartRecord (strip_bom text) (omega arith)
 
 -- what was read so far is the front of the text's records
-pub read_to_end : (text : List ℕ) (s : State) (ys : List ℕ) (records : List (List (List ℕ))) → Reached default_config st.StartRecord (strip_bom text) records s ys → (after : List (List (List ℕ))) × AreRead text (records ++ after)
+pub read_to_end : (text : List ℕ) (s : State) (ys : List ℕ) (records : List (List (List ℕ)))
+    → Reached default_config st.StartRecord (strip_bom text) records s ys → (after : List (List (List ℕ))) × AreRead text (records ++ after)
 unfolding AreRead
 read_to_end text s ys records reached =
     let left = left_from default_config (length ys) s ys (omega arith) in
     (left.0, joined default_config st.StartRecord s (strip_bom text) ys records left.0 reached left.1)
 
 -- nothing is left
-pub read_whole : (text : List ℕ) (s : State) (ys : List ℕ) (records : List (List (List ℕ))) → Reached default_config st.StartRecord (strip_bom text) records s ys → next_record default_config s [] [] ys ≡ None → AreRead text records
+pub read_whole : (text : List ℕ) (s : State) (ys : List ℕ) (records : List (List (List ℕ)))
+    → Reached default_config st.StartRecord (strip_bom text) records s ys → next_record default_config s [] [] ys ≡ None → AreRead text records
 unfolding AreRead
 read_whole text s ys records reached none = (s, ys, reached, none)
 
@@ -148,7 +153,8 @@ strip_short (a ∷ b ∷ []) = omega arith
 strip_short (a ∷ b ∷ c ∷ rest) = cond_short (is_bom a b c) rest (a ∷ b ∷ c ∷ rest) (length (a ∷ b ∷ c ∷ rest)) (omega arith) (omega arith)
 
 -- a text has no more records than bytes, but for one
-pub few_read : (text : List ℕ) (s : State) (ys : List ℕ) (records : List (List (List ℕ))) → Reached default_config st.StartRecord (strip_bom text) records s ys → length records ≤ length text + 1
+pub few_read : (text : List ℕ) (s : State) (ys : List ℕ) (records : List (List (List ℕ)))
+    → Reached default_config st.StartRecord (strip_bom text) records s ys → length records ≤ length text + 1
 few_read text s ys records reached =
     let few = few_reached default_config st.StartRecord s (strip_bom text) ys records reached in
     let short = strip_short text in

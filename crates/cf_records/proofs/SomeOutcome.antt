@@ -56,10 +56,12 @@ valued_by kind field (Some value) e = inl (value, value_found kind field value e
 abbrev IsFilled : List Attr → List (List ℕ) → Type 0
 IsFilled attrs fields = ((values : List Value) × HaveValues attrs fields values) ⊎ ((column : ℕ) × HasBadField attrs fields column)
 
-bad_first : (attr : Attr) (attrs : List Attr) (field : List ℕ) (fields : List (List ℕ)) → ((value : Value) → ValueText attr.kind field value → ⊥) → HasBadField (attr ∷ attrs) (field ∷ fields) 0
+bad_first : (attr : Attr) (attrs : List Attr) (field : List ℕ) (fields : List (List ℕ)) → ((value : Value) → ValueText attr.kind field value → ⊥)
+    → HasBadField (attr ∷ attrs) (field ∷ fields) 0
 bad_first attr attrs field fields none = record { values = []; before = tt; attr = attr; attr_is = refl; field = field; field_is = refl; none = none }
 
-bad_later : (attr : Attr) (attrs : List Attr) (field : List ℕ) (fields : List (List ℕ)) (value : Value) (column : ℕ) → ValueText attr.kind field value → HasBadField attrs fields column → HasBadField (attr ∷ attrs) (field ∷ fields) (suc column)
+bad_later : (attr : Attr) (attrs : List Attr) (field : List ℕ) (fields : List (List ℕ)) (value : Value) (column : ℕ) → ValueText attr.kind field value
+    → HasBadField attrs fields column → HasBadField (attr ∷ attrs) (field ∷ fields) (suc column)
 bad_later attr attrs field fields value column is bad = record {
   values = value ∷ bad.values;
   before = (is, bad.before);
@@ -106,7 +108,8 @@ record IsFaulty (attrs : List Attr) (num : ℕ) (records : Records) : Type 0 whe
   fault : RecordFault
   fault_is : HasRecordFault attrs fields (num + length before) fault
 
-faulty_first : (attrs : List Attr) (num : ℕ) (fields : List (List ℕ)) (records : Records) (fault : RecordFault) → HasRecordFault attrs fields num fault → IsFaulty attrs num (fields ∷ records)
+faulty_first : (attrs : List Attr) (num : ℕ) (fields : List (List ℕ)) (records : Records) (fault : RecordFault) → HasRecordFault attrs fields num fault
+    → IsFaulty attrs num (fields ∷ records)
 faulty_first attrs num fields records fault is = record {
   before = [];
   fields = fields;
@@ -118,7 +121,8 @@ faulty_first attrs num fields records fault is = record {
   fault_is = subst (λ (n : ℕ). HasRecordFault attrs fields n fault) (omega arith) is;
 }
 
-faulty_later : (attrs : List Attr) (num : ℕ) (fields : List (List ℕ)) (records : Records) (values : List Value) → HaveValues attrs fields values → IsFaulty attrs (num + 1) records → IsFaulty attrs num (fields ∷ records)
+faulty_later : (attrs : List Attr) (num : ℕ) (fields : List (List ℕ)) (records : Records) (values : List Value) → HaveValues attrs fields values
+    → IsFaulty attrs (num + 1) records → IsFaulty attrs num (fields ∷ records)
 faulty_later attrs num fields records values have bad = record {
   before = fields ∷ bad.before;
   fields = bad.fields;
@@ -156,7 +160,8 @@ has_fault attrs text BadHeader bad = absurd bad.fault_is
 has_fault attrs text TooManyBytes bad = absurd bad.fault_is
 has_fault attrs text Memory bad = absurd bad.fault_is
 
-by_judged : (attrs : List Attr) (text : List ℕ) (records : Records) → length text < 2 ^ 24 → AreRead text (names_of attrs ∷ records) → AreJudged attrs 0 records → IsSomething attrs text
+by_judged : (attrs : List Attr) (text : List ℕ) (records : Records) → length text < 2 ^ 24 → AreRead text (names_of attrs ∷ records)
+    → AreJudged attrs 0 records → IsSomething attrs text
 by_judged attrs text records small read (inl rows) = (Ok rows.0, record { small = small; records = records; read = read; rows_are = rows.1 })
 by_judged attrs text records small read (inr bad) = (
   Err bad.fault,

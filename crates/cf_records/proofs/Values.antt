@@ -19,7 +19,9 @@ pub there : {X : Type 0} (xs : List X) (i : ℕ) (x : X) → i < length xs → s
 there {X} xs i x lt none = let some = slice_get-get_or xs i x lt in cc (some, none)
 
 -- one more value
-pub one_value : (attrs : List Attr) (fields : List (List ℕ)) (values : List Value) (column : ℕ) (attr : Attr) (field : List ℕ) (value : Value) → HaveValues (take column attrs) (take column fields) values → slice_get attrs column ≡ Some attr → slice_get fields column ≡ Some field → ValueText attr.kind field value → HaveValues (take (column + 1) attrs) (take (column + 1) fields) (values ++ (value ∷ []))
+pub one_value : (attrs : List Attr) (fields : List (List ℕ)) (values : List Value) (column : ℕ) (attr : Attr) (field : List ℕ) (value : Value)
+    → HaveValues (take column attrs) (take column fields) values → slice_get attrs column ≡ Some attr → slice_get fields column ≡ Some field
+    → ValueText attr.kind field value → HaveValues (take (column + 1) attrs) (take (column + 1) fields) (values ++ (value ∷ []))
 one_value [] fields values column attr field value before attr_is field_is text = cc attr_is
 one_value (a ∷ attrs) [] values column attr field value before attr_is field_is text = cc field_is
 one_value (a ∷ attrs) (f ∷ fields) [] zero attr field value before attr_is field_is text =
@@ -33,7 +35,8 @@ one_value (a ∷ attrs) (f ∷ fields) (v ∷ values) (suc column) attr field va
     rw e (before.0, one_value attrs fields values column attr field value before.1 attr_is field_is text)
 
 -- one more name
-pub one_name : (attrs : List Attr) (fields : List (List ℕ)) (column : ℕ) (attr : Attr) → take column fields ≡ names_of (take column attrs) → slice_get attrs column ≡ Some attr → slice_get fields column ≡ Some attr.name → take (column + 1) fields ≡ names_of (take (column + 1) attrs)
+pub one_name : (attrs : List Attr) (fields : List (List ℕ)) (column : ℕ) (attr : Attr) → take column fields ≡ names_of (take column attrs)
+    → slice_get attrs column ≡ Some attr → slice_get fields column ≡ Some attr.name → take (column + 1) fields ≡ names_of (take (column + 1) attrs)
 one_name [] fields column attr same attr_is field_is = cc attr_is
 one_name (a ∷ attrs) [] column attr same attr_is field_is = cc field_is
 one_name (a ∷ attrs) (f ∷ fields) zero attr same attr_is field_is = let e : f ≡ a.name = cc (attr_is, field_is) in ap (λ (x : List ℕ). x ∷ []) e
@@ -44,9 +47,11 @@ one_name (a ∷ attrs) (f ∷ fields) (suc column) attr same attr_is field_is =
     rw e (ap₂ ◌∷◌ head (one_name attrs fields column attr tail attr_is field_is))
 
 -- another name
-pub other_name : (attrs : List Attr) (fields : List (List ℕ)) (column : ℕ) (attr : Attr) → slice_get attrs column ≡ Some attr → (slice_get fields column ≡ Some attr.name → ⊥) → fields ≢ names_of attrs
+pub other_name : (attrs : List Attr) (fields : List (List ℕ)) (column : ℕ) (attr : Attr) → slice_get attrs column ≡ Some attr
+    → (slice_get fields column ≡ Some attr.name → ⊥) → fields ≢ names_of attrs
 other_name attrs fields column attr attr_is other same =
-    let named : slice_get (names_of attrs) column ≡ option_map (λ (a : Attr). a.name) (slice_get attrs column) = slice_get-map (λ (a : Attr). a.name) attrs column in
+    let named : slice_get (names_of attrs) column ≡ option_map (λ (a : Attr). a.name) (slice_get attrs column) =
+        slice_get-map (λ (a : Attr). a.name) attrs column in
     let got : slice_get fields column ≡ slice_get (names_of attrs) column = ap (λ (xs : List (List ℕ)). slice_get xs column) same in
     other (got ∙ named ∙ ap (λ (o : Option Attr). option_map (λ (a : Attr). a.name) o) attr_is)
 

@@ -11,16 +11,20 @@ use Rattle.cf_plain.proofs.Amounts.{amounts_in, amounts_append}
 
 module _ (attr : ℕ) (expr : List (List Atom)) where
   -- entries cut into lists
-  pub amounts_concat : (chunks : List (List Entry)) → flat_map (λ (ns : List ℕ). ns) (map (amounts_in attr expr) chunks) ≡ amounts_in attr expr (flat_map (λ (es : List Entry). es) chunks)
+  pub amounts_concat : (chunks : List (List Entry))
+      → flat_map (λ (ns : List ℕ). ns) (map (amounts_in attr expr) chunks) ≡ amounts_in attr expr (flat_map (λ (es : List Entry). es) chunks)
   amounts_concat [] = refl
-  amounts_concat (chunk ∷ chunks) = ap (λ ns. amounts_in attr expr chunk ++ ns) (amounts_concat chunks) ∙ sym (amounts_append attr expr chunk (flat_map (λ (es : List Entry). es) chunks))
+  amounts_concat (chunk ∷ chunks) = ap (λ ns. amounts_in attr expr chunk ++ ns) (amounts_concat chunks)
+      ∙ sym (amounts_append attr expr chunk (flat_map (λ (es : List Entry). es) chunks))
 
 -- one more list
-pub lists_more : (lists : List (List ℕ)) (i : ℕ) → i < length lists → flat_map (λ (ns : List ℕ). ns) (take (i + 1) lists) ≡ flat_map (λ (ns : List ℕ). ns) (take i lists) ++ get_or lists i []
+pub lists_more : (lists : List (List ℕ)) (i : ℕ) → i < length lists
+    → flat_map (λ (ns : List ℕ). ns) (take (i + 1) lists) ≡ flat_map (λ (ns : List ℕ). ns) (take i lists) ++ get_or lists i []
 lists_more lists i lt =
     let own = λ (ns : List ℕ). ns in
     let last = get_or lists i [] in
-    ap (flat_map own) (take_more lists i [] lt) ∙ flat_map-append own (take i lists) (last ∷ []) ∙ ap (λ ns. flat_map own (take i lists) ++ ns) (append-nil last)
+    ap (flat_map own) (take_more lists i [] lt) ∙ flat_map-append own (take i lists) (last ∷ [])
+        ∙ ap (λ ns. flat_map own (take i lists) ++ ns) (append-nil last)
 
 -- how many numbers some lists have
 pub lists_count : (lists : List (List ℕ)) → sum_by (λ (part : QuadValue). part.count) (map quad_of lists) ≡ length (flat_map (λ (ns : List ℕ). ns) lists)

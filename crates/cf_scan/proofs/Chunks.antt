@@ -14,7 +14,8 @@ use Rattle.cf_plain.proofs.Amounts.{amounts_in, amounts_few}
 use Rattle.cf_scan.proofs.Amounts.{amounts_concat, lists_count}
 
 -- what holds of each element holds of each element of each chunk
-pub all_parts : {X : Type 0} (P : X → Type 0) (lists : List (List X)) → All P (flat_map (λ (xs : List X). xs) lists) → (k : ℕ) (d : List X) → k < length lists → All P (get_or lists k d)
+pub all_parts : {X : Type 0} (P : X → Type 0) (lists : List (List X)) → All P (flat_map (λ (xs : List X). xs) lists) → (k : ℕ) (d : List X) → k < length lists
+    → All P (get_or lists k d)
 all_parts P [] all k d lt = absurd (omega arith)
 all_parts P (xs ∷ lists) all zero d lt = (All-parts P xs (flat_map (λ ys. ys) lists) all).0
 all_parts P (xs ∷ lists) all (suc k) d lt = all_parts P lists (All-parts P xs (flat_map (λ ys. ys) lists) all).1 k d (omega (arith, lt))

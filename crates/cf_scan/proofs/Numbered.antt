@@ -22,16 +22,22 @@ module _ (places : List ℕ) where
   abbrev renumbered : Turn → Turn
   renumbered turn = record turn { ask = get_or places turn.ask 0 }
 
-  of_lives : (batch round : ℕ) (lives : List ℕ) → map renumbered (map (λ ask. record { batch = batch; round = round; ask = ask }) lives) ≡ map (λ ask. record { batch = batch; round = round; ask = ask }) (numbers_at places lives)
+  of_lives : (batch round : ℕ) (lives : List ℕ)
+      → map renumbered (map (λ ask. record { batch = batch; round = round; ask = ask }) lives) ≡ map
+      (λ ask. record { batch = batch; round = round; ask = ask }) (numbers_at places lives)
   of_lives batch round [] = refl
-  of_lives batch round (live ∷ lives) = ap (λ (ts : List Turn). record { batch = batch; round = round; ask = get_or places live 0 } ∷ ts) (of_lives batch round lives)
+  of_lives batch round (live ∷ lives) =
+      ap (λ (ts : List Turn). record { batch = batch; round = round; ask = get_or places live 0 } ∷ ts) (of_lives batch round lives)
 
-  of_rounds : (batch : ℕ) (lives rounds : List ℕ) → map renumbered (flat_map (λ round. map (λ ask. record { batch = batch; round = round; ask = ask }) lives) rounds) ≡ flat_map (λ round. map (λ ask. record { batch = batch; round = round; ask = ask }) (numbers_at places lives)) rounds
+  of_rounds : (batch : ℕ) (lives rounds : List ℕ)
+      → map renumbered (flat_map (λ round. map (λ ask. record { batch = batch; round = round; ask = ask }) lives) rounds) ≡ flat_map
+      (λ round. map (λ ask. record { batch = batch; round = round; ask = ask }) (numbers_at places lives)) rounds
   of_rounds batch lives [] = refl
   of_rounds batch lives (round ∷ rounds) =
       let first = of_lives batch round lives in
       let rest = of_rounds batch lives rounds in
-      map-append renumbered (map (λ ask. record { batch = batch; round = round; ask = ask }) lives) (flat_map (λ r. map (λ ask. record { batch = batch; round = r; ask = ask }) lives) rounds)
+      map-append renumbered (map (λ ask. record { batch = batch; round = round; ask = ask }) lives)
+          (flat_map (λ r. map (λ ask. record { batch = batch; round = r; ask = ask }) lives) rounds)
       ∙ (λ i. first i ++ rest i)
 
   of_batches : (lives rounds batches : List ℕ) → map renumbered (turns_in batches rounds lives) ≡ turns_in batches rounds (numbers_at places lives)
@@ -42,20 +48,24 @@ module _ (places : List ℕ) where
       map-append renumbered (flat_map (λ round. map (λ ask. record { batch = batch; round = round; ask = ask }) lives) rounds) (turns_in batches rounds lives)
       ∙ (λ i. first i ++ rest i)
 
-  turns_numbered : (lives : List Live) → map (λ (at : Turn × ℕ). at.0) (map turn_of (map (numbered places) lives)) ≡ map renumbered (map (λ (at : Turn × ℕ). at.0) (map turn_of lives))
+  turns_numbered : (lives : List Live)
+      → map (λ (at : Turn × ℕ). at.0) (map turn_of (map (numbered places) lives)) ≡ map renumbered (map (λ (at : Turn × ℕ). at.0) (map turn_of lives))
   turns_numbered [] = refl
   turns_numbered (live ∷ lives) = ap (λ (ts : List Turn). renumbered (turn_of live).0 ∷ ts) (turns_numbered lives)
 
-  tails_numbered : (lives : List Live) → map (λ (at : Turn × ℕ). at.1) (map turn_of (map (numbered places) lives)) ≡ map (λ (at : Turn × ℕ). at.1) (map turn_of lives)
+  tails_numbered : (lives : List Live)
+      → map (λ (at : Turn × ℕ). at.1) (map turn_of (map (numbered places) lives)) ≡ map (λ (at : Turn × ℕ). at.1) (map turn_of lives)
   tails_numbered [] = refl
   tails_numbered (live ∷ lives) = ap (λ (ts : List ℕ). live.answer.tail ∷ ts) (tails_numbered lives)
 
-  within_numbered : (n : ℕ) (lives : List Live) → AllByRecursion (IsWithinBatch n) (map turn_of lives) → AllByRecursion (IsWithinBatch n) (map turn_of (map (numbered places) lives))
+  within_numbered : (n : ℕ) (lives : List Live) → AllByRecursion (IsWithinBatch n) (map turn_of lives)
+      → AllByRecursion (IsWithinBatch n) (map turn_of (map (numbered places) lives))
   within_numbered n [] all = all
   within_numbered n (live ∷ lives) all = (all.0, within_numbered n lives all.1)
 
   -- they stand in the turns of all questions
-  pub are_tails : (n rounds : ℕ) (asked : List ℕ) (lives : List Live) → AreTails n rounds asked (map turn_of lives) → AreTails n rounds (numbers_at places asked) (map turn_of (map (numbered places) lives))
+  pub are_tails : (n rounds : ℕ) (asked : List ℕ) (lives : List Live) → AreTails n rounds asked (map turn_of lives)
+      → AreTails n rounds (numbers_at places asked) (map turn_of (map (numbered places) lives))
   are_tails n rounds asked lives are = record {
     turns = turns_numbered lives ∙ ap (map renumbered) are.turns ∙ of_batches asked (range_with_len 0 rounds) (range_with_len 0 (batches_of n));
     rise = subst NeverFall (sym (tails_numbered lives)) are.rise;
@@ -68,23 +78,29 @@ module _ (places : List ℕ) where
       → AllByRecursion (λ live. live.answer.body ≡ eval shape (get_or all live.ask no_ask) (take live.answer.tail seen)) (map (numbered places) lives)
   are_meant shape all seen [] within meant = meant
   are_meant shape all seen (live ∷ lives) within meant =
-      (meant.0 ∙ ap (λ (q : Ask). eval shape q (take live.answer.tail seen)) (get_or-map (λ place. get_or all place no_ask) places live.ask 0 no_ask within.0), are_meant shape all seen lives within.1 meant.1)
+      (meant.0 ∙ ap (λ (q : Ask). eval shape q (take live.answer.tail seen)) (get_or-map (λ place. get_or all place no_ask) places live.ask 0 no_ask within.0),
+          are_meant shape all seen lives within.1 meant.1)
 
 module _ (most : ℕ) where
   all_flat : {X : Type 0} (P : Turn → Type 0) (g : X → List Turn) (xs : List X) → ((x : X) → All P (g x)) → All P (flat_map g xs)
   all_flat P g [] each = All-nil P
   all_flat P g (x ∷ xs) each = All-append P (g x) (flat_map g xs) (each x) (all_flat P g xs each)
 
-  of_turns : (lives : List Live) → AllByRecursion (λ (turn : Turn). turn.ask < most) (map (λ (at : Turn × ℕ). at.0) (map turn_of lives)) → AllByRecursion (λ (live : Live). live.ask < most) lives
+  of_turns : (lives : List Live) → AllByRecursion (λ (turn : Turn). turn.ask < most) (map (λ (at : Turn × ℕ). at.0) (map turn_of lives))
+      → AllByRecursion (λ (live : Live). live.ask < most) lives
   of_turns [] all = tt
   of_turns (live ∷ lives) all = (all.0, of_turns lives all.1)
 
   -- the question of each live answer is one of those that were asked
-  pub are_within : (n rounds : ℕ) (asked : List ℕ) (lives : List Live) → AreTails n rounds asked (map turn_of lives) → All (λ place. place < most) asked → AllByRecursion (λ (live : Live). live.ask < most) lives
+  pub are_within : (n rounds : ℕ) (asked : List ℕ) (lives : List Live) → AreTails n rounds asked (map turn_of lives) → All (λ place. place < most) asked
+      → AllByRecursion (λ (live : Live). live.ask < most) lives
   are_within n rounds asked lives are below =
       let P = λ (turn : Turn). turn.ask < most in
       let turns : All P (turns_of (batches_of n) rounds asked) =
-      all_flat P (λ batch. flat_map (λ round. map (λ ask. record { batch = batch; round = round; ask = ask }) asked) (range_with_len 0 rounds)) (range_with_len 0 (batches_of n))
+      all_flat P (λ batch. flat_map (λ round. map (λ ask. record { batch = batch; round = round; ask = ask }) asked) (range_with_len 0 rounds))
+          (range_with_len 0 (batches_of n))
       (λ batch. all_flat P (λ round. map (λ ask. record { batch = batch; round = round; ask = ask }) asked) (range_with_len 0 rounds)
       (λ round. All-map P (λ ask. record { batch = batch; round = round; ask = ask }) asked below)) in
-      of_turns lives (recursion_from_All P (map (λ (at : Turn × ℕ). at.0) (map turn_of lives)) (All-same P (map (λ (at : Turn × ℕ). at.0) (map turn_of lives)) (turns_of (batches_of n) rounds asked) are.turns turns))
+      of_turns lives
+          (recursion_from_All P (map (λ (at : Turn × ℕ). at.0) (map turn_of lives))
+          (All-same P (map (λ (at : Turn × ℕ). at.0) (map turn_of lives)) (turns_of (batches_of n) rounds asked) are.turns turns))

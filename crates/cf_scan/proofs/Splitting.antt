@@ -19,9 +19,11 @@ module _ (p : ℕ → Bool) where
   among a (suc n) place low high passes =
       let rest = filter p (range_with_len (a + 1) n) in
       elim (cases_eq a place) [
-        | inl same ↦ subst (λ (ns : List ℕ). is_one_of ns place ≡ true) (sym (cond-true (p a) (a ∷ rest) rest (ap p same ∙ passes))) (or_left (nat_eq a place) (is_one_of rest place) (eq-eqb a place same))
+        | inl same ↦ subst (λ (ns : List ℕ). is_one_of ns place ≡ true) (sym (cond-true (p a) (a ∷ rest) rest (ap p same ∙ passes)))
+            (or_left (nat_eq a place) (is_one_of rest place) (eq-eqb a place same))
         | inr other ↦ (let found = among (a + 1) n place (omega (arith, low, other)) (omega (arith, high)) passes in
-            cond_both (p a) (a ∷ rest) rest (λ (ns : List ℕ). is_one_of ns place ≡ true) (λ _. or_right (nat_eq a place) (is_one_of rest place) found) (λ _. found))
+            cond_both (p a) (a ∷ rest) rest (λ (ns : List ℕ). is_one_of ns place ≡ true) (λ _. or_right (nat_eq a place) (is_one_of rest place) found)
+                (λ _. found))
       ]
 
   -- those that pass are within the range
@@ -29,8 +31,10 @@ module _ (p : ℕ → Bool) where
   within_range a zero = All-nil (λ place. place < a + zero)
   within_range a (suc n) =
       let rest = filter p (range_with_len (a + 1) n) in
-      let later : All (λ place. place < a + suc n) rest = All-weaker (λ place. place < a + 1 + n) (λ place. place < a + suc n) (λ place lt. omega (arith, lt)) rest (within_range (a + 1) n) in
-      cond_both (p a) (a ∷ rest) rest (λ (ns : List ℕ). All (λ place. place < a + suc n) ns) (λ _. All-cons (λ place. place < a + suc n) a rest (omega arith) later) (λ _. later)
+      let later : All (λ place. place < a + suc n) rest =
+          All-weaker (λ place. place < a + 1 + n) (λ place. place < a + suc n) (λ place lt. omega (arith, lt)) rest (within_range (a + 1) n) in
+      cond_both (p a) (a ∷ rest) rest (λ (ns : List ℕ). All (λ place. place < a + suc n) ns)
+          (λ _. All-cons (λ place. place < a + suc n) a rest (omega arith) later) (λ _. later)
 
 -- what passes has a place
 pub some_place : {X : Type 0} (p : X → Bool) (xs : List X) → list_any p xs ≡ true → position p xs ≡ None → ⊥
@@ -66,7 +70,8 @@ module _ (all : List Ask) (lives : List ℕ) where
   pub answered_last : (place : ℕ) → length all ≤ place → answered_at place ≡ all
   answered_last place past =
       let none : length all - place ≡ 0 = omega (arith, past) in
-      ap (λ n. take place all ++ asks_at all (filter (goes_by_log all lives) (range_with_len place n))) none ∙ append-nil (take place all) ∙ take_all place all past
+      ap (λ n. take place all ++ asks_at all (filter (goes_by_log all lives) (range_with_len place n))) none ∙ append-nil (take place all)
+          ∙ take_all place all past
 
   module _ (place : ℕ) (lt : place < length all) where
     pub answered_long : place ≤ length (answered_at place)
@@ -91,13 +96,16 @@ module _ (all : List Ask) (lives : List ℕ) where
     pub answered_logged : goes_by_log all lives place ≡ true → answered_at (place + 1) ≡ answered_at place
     answered_logged logged =
         let rest = filter (goes_by_log all lives) (range_with_len (place + 1) (length all - (place + 1))) in
-        more ∙ ap (λ qs. take place all ++ qs) (sym (from_here ∙ ap (λ ns. asks_at all ns) (cond-true (goes_by_log all lives place) (place ∷ rest) rest logged)))
+        more ∙ ap (λ qs. take place all ++ qs)
+            (sym (from_here ∙ ap (λ ns. asks_at all ns) (cond-true (goes_by_log all lives place) (place ∷ rest) rest logged)))
 
     -- a scan answers it
-    pub answered_scan : {Y : Type 0} (f : Ask → Y) → goes_by_log all lives place ≡ false → insert (map f (answered_at place)) place (f (get_or all place no_ask)) ≡ map f (answered_at (place + 1))
+    pub answered_scan : {Y : Type 0} (f : Ask → Y) → goes_by_log all lives place ≡ false
+        → insert (map f (answered_at place)) place (f (get_or all place no_ask)) ≡ map f (answered_at (place + 1))
     answered_scan f scanned =
         let rest = filter (goes_by_log all lives) (range_with_len (place + 1) (length all - (place + 1))) in
-        let here : logged_from place ≡ logged_from (place + 1) = from_here ∙ ap (λ ns. asks_at all ns) (cond-false (goes_by_log all lives place) (place ∷ rest) rest scanned) in
+        let here : logged_from place ≡ logged_from (place + 1) = from_here
+            ∙ ap (λ ns. asks_at all ns) (cond-false (goes_by_log all lives place) (place ∷ rest) rest scanned) in
         let size : length (take place all) ≡ place = length-take-le place all (omega (arith, lt)) in
         ap (λ qs. insert (map f (take place all ++ qs)) place (f (get_or all place no_ask))) here
         ∙ insert_between f (take place all) (logged_from (place + 1)) (get_or all place no_ask) place size
@@ -105,7 +113,9 @@ module _ (all : List Ask) (lives : List ℕ) where
 
   -- the places of the questions that go by the log are places of questions
   pub logged_exist : All (λ place. place < length all) (logged_places all lives)
-  logged_exist = All-weaker (λ place. place < 0 + length all) (λ place. place < length all) (λ place lt. omega (arith, lt)) (logged_places all lives) (within_range (goes_by_log all lives) 0 (length all))
+  logged_exist =
+      All-weaker (λ place. place < 0 + length all) (λ place. place < length all) (λ place lt. omega (arith, lt)) (logged_places all lives)
+      (within_range (goes_by_log all lives) 0 (length all))
 
   -- and there are no more of them
   pub logged_few : length (logged_places all lives) ≤ length all
@@ -120,4 +130,5 @@ module _ (all : List Ask) (lives : List ℕ) where
   live_logged exist = λ k d lt.
       let live = get_or lives k d in
       let asked : is_one_of lives live ≡ true = list_any_at (λ other. nat_eq other live) lives k d lt (eq-eqb live live refl) in
-      among (goes_by_log all lives) 0 (length all) live (omega arith) (let exists = exist k d lt in omega (arith, exists)) (or_right (not (is_scan (get_or all live no_ask))) (is_one_of lives live) asked)
+      among (goes_by_log all lives) 0 (length all) live (omega arith) (let exists = exist k d lt in omega (arith, exists))
+          (or_right (not (is_scan (get_or all live no_ask))) (is_one_of lives live) asked)

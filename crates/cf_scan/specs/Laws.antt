@@ -11,8 +11,10 @@ use Rattle.cf_plain.specs.declared.answer.Body.TheVariants as bodies
 
 -- What the list question means on entries, by any shape, which is what `scan` finds.
 abbrev pub ScansAreLists : Type 0
-ScansAreLists = (shape : ShapeValue) (expr : List (List Atom)) (entries : List Entry) → eval shape (asks.List expr) entries ≡ bodies.Places (places (holds_of expr) (rows_in entries))
+ScansAreLists = (shape : ShapeValue) (expr : List (List Atom)) (entries : List Entry)
+    → eval shape (asks.List expr) entries ≡ bodies.Places (places (holds_of expr) (rows_in entries))
 
 -- What the question for a total means on entries, by any shape, which is what `scan_total` finds.
 abbrev pub ScansAreTotals : Type 0
-ScansAreTotals = (shape : ShapeValue) (attr : ℕ) (expr : List (List Atom)) (entries : List Entry) → eval shape (asks.Total attr expr) entries ≡ bodies.Total (total attr expr (rows_in entries))
+ScansAreTotals = (shape : ShapeValue) (attr : ℕ) (expr : List (List Atom)) (entries : List Entry)
+    → eval shape (asks.Total attr expr) entries ≡ bodies.Total (total attr expr (rows_in entries))

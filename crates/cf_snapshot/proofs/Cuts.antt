@@ -42,7 +42,8 @@ module _ (hosts : ℕ) (events : List SnapEvent) where
   one_goes_on n = elim (cases_at events n) [
     | inl past ↦ same_goes_on (at_ n) (at_ (n + 1)) (state_same hosts events n past)
     | inr found ↦ elim (cases_Bool (is_lawful (at_ n) found.0)) [
-      | inl lawful ↦ subst (GoesOn (at_ n)) (sym (state_more hosts events n found.0 found.1 ∙ taken (at_ n) found.0 lawful)) (change_goes_on (at_ n) found.0 lawful)
+      | inl lawful ↦ subst (GoesOn (at_ n)) (sym (state_more hosts events n found.0 found.1 ∙ taken (at_ n) found.0 lawful))
+          (change_goes_on (at_ n) found.0 lawful)
       | inr unlawful ↦ same_goes_on (at_ n) (at_ (n + 1)) (state_more hosts events n found.0 found.1 ∙ passed_over (at_ n) found.0 unlawful)
     ]
   ]
@@ -53,7 +54,8 @@ module _ (hosts : ℕ) (events : List SnapEvent) where
       let before = all_go_on n d in
       let one = one_goes_on (n + d) in
       let e : n + d + 1 ≡ n + suc d = omega arith in
-      subst (λ m. GoesOn (at_ n) (at_ m)) e (record { tails = λ h. omega (arith, before.tails h, one.tails h); released = λ r. one.released (before.released r) })
+      subst (λ m. GoesOn (at_ n) (at_ m)) e
+          (record { tails = λ h. omega (arith, before.tails h, one.tails h); released = λ r. one.released (before.released r) })
 
   goes_to : (n m : ℕ) → n ≤ m → GoesOn (at_ n) (at_ m)
   goes_to n m le =
@@ -89,7 +91,8 @@ module _ (hosts : ℕ) (events : List SnapEvent) where
 
   -- what is fixed at the end
   at_end : 0 < hosts → (state_after hosts events).is_released ≡ true → Fixed hosts events (at_ (length events)) (length events)
-  at_end some released = fixed (at_ (length events)) (length events) (ap (λ (s : SnapValue). s.is_released) whole ∙ released) (history_at hosts events some (length events)).1
+  at_end some released =
+      fixed (at_ (length events)) (length events) (ap (λ (s : SnapValue). s.is_released) whole ∙ released) (history_at hosts events some (length events)).1
 
   last_of : (l : LastBefore hosts events (length events)) → IsLastFreeze hosts events l.at
   last_of l = record { host = l.host; freezes = l.freezes; last = λ j h above freezes. l.last j h above (happens_within j (Freeze h) freezes) freezes }
@@ -155,7 +158,8 @@ module _ (hosts : ℕ) (events : List SnapEvent) where
 
   releases : (i : ℕ) → Happens hosts events i Release → (state_after hosts events).is_released ≡ true
   releases i happens =
-      let next : state_at hosts events (i + 1) ≡ changed (state_at hosts events i) Release = state_more hosts events i Release happens.stands ∙ taken (state_at hosts events i) Release happens.lawful in
+      let next : state_at hosts events (i + 1) ≡ changed (state_at hosts events i) Release = state_more hosts events i Release happens.stands
+          ∙ taken (state_at hosts events i) Release happens.lawful in
       let within = happens_within hosts events i Release happens in
       let last = goes_to hosts events (i + 1) (length events) (omega (arith, within)) in
       ap (λ (s : SnapValue). s.is_released) (sym (whole hosts events)) ∙ last.released (ap (λ (s : SnapValue). s.is_released) next)

@@ -63,8 +63,11 @@ module _ (hosts : ℕ) (events : List SnapEvent) (n : ℕ) where
       other k same
 
   -- x goes on as y, in which what the history says of x is the same
-  goes_on : (x y : SnapValue) → NoFreezeAt hosts events n → x.is_released ≡ y.is_released → x.frozen ≡ y.frozen → (x.is_released ≡ true → x.replies ≡ y.replies) → (AllFrozen y → (AllFrozen x) × (x.tails ≡ y.tails)) → History hosts events x n → History hosts events y (n + 1)
-  goes_on x y none released frozen replies tails (inl (going, inl quiet)) = inl (sym released ∙ going, inl (record { none = λ h. ap (λ (fs : List Bool). get_or fs h false) (sym frozen) ∙ quiet.none h }))
+  goes_on : (x y : SnapValue) → NoFreezeAt hosts events n → x.is_released ≡ y.is_released → x.frozen ≡ y.frozen
+      → (x.is_released ≡ true → x.replies ≡ y.replies) → (AllFrozen y → (AllFrozen x) × (x.tails ≡ y.tails)) → History hosts events x n
+      → History hosts events y (n + 1)
+  goes_on x y none released frozen replies tails (inl (going, inl quiet)) =
+      inl (sym released ∙ going, inl (record { none = λ h. ap (λ (fs : List Bool). get_or fs h false) (sym frozen) ∙ quiet.none h }))
   goes_on x y none released frozen replies tails (inl (going, inr a)) = inl (
     sym released ∙ going,
     inr (record {
@@ -81,13 +84,16 @@ module _ (hosts : ℕ) (events : List SnapEvent) (n : ℕ) where
     all = f.all;
   })
 
-  cover_goes_on : (x : SnapValue) (h : ℕ) → slice_get events n ≡ Some (Cover h) → is_lawful x (Cover h) ≡ true → History hosts events x n → History hosts events (changed x (Cover h)) (n + 1)
+  cover_goes_on : (x : SnapValue) (h : ℕ) → slice_get events n ≡ Some (Cover h) → is_lawful x (Cover h) ≡ true → History hosts events x n
+      → History hosts events (changed x (Cover h)) (n + 1)
   cover_goes_on x h stands lawful history =
       let parts = cover_parts x h lawful in
       let lt : h < length (set x.tails h (tail_of x h + 1)) = omega (arith, parts.0, length-set x.tails h (tail_of x h + 1)) in
-      goes_on x (changed x (Cover h)) (other_event (Cover h) stands (λ k same. cc)) refl refl (λ released. refl) (λ all. absurd (both_ways (is_frozen x h) parts.1 (all h lt))) history
+      goes_on x (changed x (Cover h)) (other_event (Cover h) stands (λ k same. cc)) refl refl (λ released. refl)
+          (λ all. absurd (both_ways (is_frozen x h) parts.1 (all h lt))) history
 
-  freeze_goes_on : (x : SnapValue) (h : ℕ) → slice_get events n ≡ Some (Freeze h) → state_at hosts events n ≡ x → state_at hosts events (n + 1) ≡ changed x (Freeze h) → is_lawful x (Freeze h) ≡ true → History hosts events (changed x (Freeze h)) (n + 1)
+  freeze_goes_on : (x : SnapValue) (h : ℕ) → slice_get events n ≡ Some (Freeze h) → state_at hosts events n ≡ x
+      → state_at hosts events (n + 1) ≡ changed x (Freeze h) → is_lawful x (Freeze h) ≡ true → History hosts events (changed x (Freeze h)) (n + 1)
   freeze_goes_on x h stands is next lawful = inl (
     (freeze_parts x h lawful).1,
     inr (record {
@@ -103,7 +109,8 @@ module _ (hosts : ℕ) (events : List SnapEvent) (n : ℕ) where
     }),
   )
 
-  release_goes_on : (x : SnapValue) → 0 < hosts → slice_get events n ≡ Some Release → state_at hosts events n ≡ x → is_lawful x Release ≡ true → Sound hosts x → History hosts events x n → History hosts events (changed x Release) (n + 1)
+  release_goes_on : (x : SnapValue) → 0 < hosts → slice_get events n ≡ Some Release → state_at hosts events n ≡ x → is_lawful x Release ≡ true → Sound hosts x
+      → History hosts events x n → History hosts events (changed x Release) (n + 1)
   release_goes_on x some stands is lawful sound (inl (going, inl quiet)) =
       let lt : 0 < length x.tails = omega (arith, some, sound.lens.tails) in
       absurd (both_ways (is_frozen x 0) (quiet.none 0) ((all_known hosts x lawful sound).0 0 lt))
@@ -119,12 +126,15 @@ module _ (hosts : ℕ) (events : List SnapEvent) (n : ℕ) where
       })
   release_goes_on x some stands is lawful sound (inr f) = absurd (both_ways x.is_released (release_parts x lawful).0 f.is_released)
 
-  reply_goes_on : (x : SnapValue) (h : ℕ) → slice_get events n ≡ Some (Reply h) → is_lawful x (Reply h) ≡ true → History hosts events x n → History hosts events (changed x (Reply h)) (n + 1)
+  reply_goes_on : (x : SnapValue) (h : ℕ) → slice_get events n ≡ Some (Reply h) → is_lawful x (Reply h) ≡ true → History hosts events x n
+      → History hosts events (changed x (Reply h)) (n + 1)
   reply_goes_on x h stands lawful history =
       let none = other_event (Reply h) stands (λ k same. cc) in
-      goes_on x (changed x (Reply h)) none refl refl (λ released. absurd (both_ways x.is_released (reply_parts x h lawful).1 released)) (λ all. (all, refl)) history
+      goes_on x (changed x (Reply h)) none refl refl (λ released. absurd (both_ways x.is_released (reply_parts x h lawful).1 released))
+          (λ all. (all, refl)) history
 
-  thaw_goes_on : (x : SnapValue) (h : ℕ) → slice_get events n ≡ Some (Thaw h) → is_lawful x (Thaw h) ≡ true → History hosts events x n → History hosts events (changed x (Thaw h)) (n + 1)
+  thaw_goes_on : (x : SnapValue) (h : ℕ) → slice_get events n ≡ Some (Thaw h) → is_lawful x (Thaw h) ≡ true → History hosts events x n
+      → History hosts events (changed x (Thaw h)) (n + 1)
   thaw_goes_on x h stands lawful (inl (going, rest)) = absurd (both_ways x.is_released going (thaw_parts x h lawful))
   thaw_goes_on x h stands lawful (inr f) = inr (record {
     freeze = later hosts events n f.freeze (other_event (Thaw h) stands (λ k same. cc));
@@ -134,10 +144,12 @@ module _ (hosts : ℕ) (events : List SnapEvent) (n : ℕ) where
     all = f.all;
   })
 
-  lawful_goes_on : (x : SnapValue) (e : SnapEvent) → 0 < hosts → slice_get events n ≡ Some e → state_at hosts events n ≡ x → state_at hosts events (n + 1) ≡ changed x e → is_lawful x e ≡ true → Sound hosts x → History hosts events x n
+  lawful_goes_on : (x : SnapValue) (e : SnapEvent) → 0 < hosts → slice_get events n ≡ Some e → state_at hosts events n ≡ x
+      → state_at hosts events (n + 1) ≡ changed x e → is_lawful x e ≡ true → Sound hosts x → History hosts events x n
       → History hosts events (changed x e) (n + 1)
   lawful_goes_on x (Cover h) some stands is next lawful sound history = cover_goes_on x h stands lawful history
-  lawful_goes_on x Begin some stands is next lawful sound history = goes_on x (changed x Begin) (other_event Begin stands (λ k same. cc)) refl refl (λ released. refl) (λ all. (all, refl)) history
+  lawful_goes_on x Begin some stands is next lawful sound history =
+      goes_on x (changed x Begin) (other_event Begin stands (λ k same. cc)) refl refl (λ released. refl) (λ all. (all, refl)) history
   lawful_goes_on x (Freeze h) some stands is next lawful sound history = freeze_goes_on x h stands is next lawful
   lawful_goes_on x (Reply h) some stands is next lawful sound history = reply_goes_on x h stands lawful history
   lawful_goes_on x Release some stands is next lawful sound history = release_goes_on x some stands is lawful sound history
@@ -147,10 +159,12 @@ module _ (hosts : ℕ) (events : List SnapEvent) (n : ℕ) where
   abbrev Stands : SnapValue → Type 0
   Stands x = Sound hosts x × History hosts events x (n + 1)
 
-  one_more : 0 < hosts → Sound hosts (state_at hosts events n) → History hosts events (state_at hosts events n) n → Sound hosts (state_at hosts events (n + 1)) × History hosts events (state_at hosts events (n + 1)) (n + 1)
+  one_more : 0 < hosts → Sound hosts (state_at hosts events n) → History hosts events (state_at hosts events n) n
+      → Sound hosts (state_at hosts events (n + 1)) × History hosts events (state_at hosts events (n + 1)) (n + 1)
   one_more some sound history =
       let x = state_at hosts events n in
-      let still : NoFreezeAt hosts events n → Sound hosts x × History hosts events x (n + 1) = λ none. (sound, goes_on x x none refl refl (λ released. refl) (λ all. (all, refl)) history) in
+      let still : NoFreezeAt hosts events n → Sound hosts x × History hosts events x (n + 1) =
+          λ none. (sound, goes_on x x none refl refl (λ released. refl) (λ all. (all, refl)) history) in
       elim (cases_at events n) [
         | inl past ↦
             subst Stands (sym (state_same hosts events n past)) (still (λ h happens. omega (arith, past, slice_get_within events n (Freeze h) happens.stands)))
@@ -167,7 +181,8 @@ module _ (hosts : ℕ) (events : List SnapEvent) (n : ℕ) where
         ]
       ]
 
-pub history_at : (hosts : ℕ) (events : List SnapEvent) → 0 < hosts → (n : ℕ) → Sound hosts (state_at hosts events n) × History hosts events (state_at hosts events n) n
+pub history_at : (hosts : ℕ) (events : List SnapEvent) → 0 < hosts → (n : ℕ) → Sound hosts (state_at hosts events n)
+    × History hosts events (state_at hosts events n) n
 history_at hosts events some zero = (sound_start hosts, inl (refl, inl (record { none = none_frozen hosts })))
 history_at hosts events some (suc n) =
     let before = history_at hosts events some n in

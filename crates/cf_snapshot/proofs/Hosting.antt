@@ -42,7 +42,8 @@ unfolding mine_from
 own_long k [] below = refl
 own_long k (e ∷ es) below = ap (λ (xs : List Own). length xs) (own_first k e es (below 0 e refl)) ∙ ap suc (own_long (suc k) es (λ o x at. below (suc o) x at))
 
-own_last : (k : ℕ) (es : List Entry) (e : Entry) → AreBelow 1 (es ++ e ∷ []) → mine_from 0 k (es ++ e ∷ []) ≡ mine_from 0 k es ++ record { offset = k + length es; row = e.row } ∷ []
+own_last : (k : ℕ) (es : List Entry) (e : Entry) → AreBelow 1 (es ++ e ∷ [])
+    → mine_from 0 k (es ++ e ∷ []) ≡ mine_from 0 k es ++ record { offset = k + length es; row = e.row } ∷ []
 unfolding mine_from
 own_last k [] e below =
     let at : k ≡ k + 0 = omega arith in
@@ -79,7 +80,8 @@ one_more (x ∷ xs) (y ∷ ys) begins long =
     (r.0, ap₂ (λ (z : Entry) (zs : List Entry). z ∷ zs) first r.1)
 
 -- one finished ticket more is one entry more
-grown_one : (xs ys : List Entry) (x : Own) → AreBelow 1 xs → AreBelow 1 ys → Begins xs ys → mine_from 0 0 ys ≡ mine_from 0 0 xs ++ x ∷ [] → (x.offset ≡ length xs) × (ys ≡ xs ++ record { writer = 0; row = x.row } ∷ [])
+grown_one : (xs ys : List Entry) (x : Own) → AreBelow 1 xs → AreBelow 1 ys → Begins xs ys → mine_from 0 0 ys ≡ mine_from 0 0 xs ++ x ∷ []
+    → (x.offset ≡ length xs) × (ys ≡ xs ++ record { writer = 0; row = x.row } ∷ [])
 grown_one xs ys x low below begins mine =
     let few = own_long 0 xs low in
     let many = own_long 0 ys below in
@@ -88,7 +90,9 @@ grown_one xs ys x low below begins mine =
     let r = one_more xs ys begins (omega (arith, few, many, push, more)) in
     let e : Entry = r.0 in
     let all : AreBelow 1 (xs ++ e ∷ []) = subst (AreBelow 1) r.1 below in
-    let own : x ≡ record { offset = 0 + length xs; row = e.row } = same_last (mine_from 0 0 xs) x (record { offset = 0 + length xs; row = e.row }) (sym mine ∙ (ap (λ (es : List Entry). mine_from 0 0 es) r.1 ∙ own_last 0 xs e all)) in
+    let own : x ≡ record { offset = 0 + length xs; row = e.row } =
+        same_last (mine_from 0 0 xs) x (record { offset = 0 + length xs; row = e.row })
+        (sym mine ∙ (ap (λ (es : List Entry). mine_from 0 0 es) r.1 ∙ own_last 0 xs e all)) in
     let least : e.writer < 1 = all (length xs) e (get_push_same xs e) in
     let none : e.writer ≡ 0 = omega (arith, least) in
     let at : x.offset ≡ 0 + length xs = ap (λ (y : Own). y.offset) own in
@@ -119,17 +123,23 @@ module _ (log : LogValue) (m o : PassValue) (before : IsAlone log m) (now : IsAl
   below : AreBelow 1 (o.view).seen
   below = fit_below log.shape o.view now.one now.fit
 
-  one_seen : (x : Own) → (book_of o.view).mine ≡ (book_of m.view).mine ++ x ∷ [] → (x.offset ≡ length (m.view).seen) × ((o.view).seen ≡ (m.view).seen ++ record { writer = 0; row = x.row } ∷ [])
-  one_seen x mine = grown_one (m.view).seen (o.view).seen x low below begins (sym (all_mine log o now) ∙ (mine ∙ ap (λ (xs : List Own). xs ++ x ∷ []) (all_mine log m before)))
+  one_seen : (x : Own) → (book_of o.view).mine ≡ (book_of m.view).mine ++ x ∷ [] → (x.offset ≡ length (m.view).seen)
+      × ((o.view).seen ≡ (m.view).seen ++ record { writer = 0; row = x.row } ∷ [])
+  one_seen x mine =
+      grown_one (m.view).seen (o.view).seen x low below begins
+      (sym (all_mine log o now) ∙ (mine ∙ ap (λ (xs : List Own). xs ++ x ∷ []) (all_mine log m before)))
 
   none_seen : (book_of o.view).mine ≡ (book_of m.view).mine → (o.view).seen ≡ (m.view).seen
   none_seen mine = grown_none (m.view).seen (o.view).seen low below begins (sym (all_mine log o now) ∙ (mine ∙ all_mine log m before))
 
-  all_taken : (b : Book) → book_of o.view ≡ b → b.over ≡ true → (o.view).seen ≡ (m.view).seen → (length (m.view).seen ≡ (log.shape).capacity) × ((o.view).seen ≡ (m.view).seen)
-  all_taken b is over same = (ap (λ (es : List Entry). length es) (sym same) ∙ now.full 0 (book_of o.view) (holds_its o.view now.rest) (ap (λ (c : Book). c.over) is ∙ over), same)
+  all_taken : (b : Book) → book_of o.view ≡ b → b.over ≡ true → (o.view).seen ≡ (m.view).seen → (length (m.view).seen ≡ (log.shape).capacity)
+      × ((o.view).seen ≡ (m.view).seen)
+  all_taken b is over same =
+      (ap (λ (es : List Entry). length es) (sym same) ∙ now.full 0 (book_of o.view) (holds_its o.view now.rest) (ap (λ (c : Book). c.over) is ∙ over), same)
 
 -- A row was appended, and the read tail moved on.
-pub covered : (log : LogValue) (row : RowValue) (m n o : PassValue) (r : Result ℕ AppendFault) → IsAlone log m → PassGoesOn m n → PassGoesOn n o → HasAppendAnswer log.shape row m n r → IsAlone log o → (o.view).books ≡ (n.view).books → HasCovered log.shape row (m.view).seen (o.view).seen r
+pub covered : (log : LogValue) (row : RowValue) (m n o : PassValue) (r : Result ℕ AppendFault) → IsAlone log m → PassGoesOn m n → PassGoesOn n o
+    → HasAppendAnswer log.shape row m n r → IsAlone log o → (o.view).books ≡ (n.view).books → HasCovered log.shape row (m.view).seen (o.view).seen r
 covered log row m n o (Ok at) before on then done now books =
     let begins = begins_then (m.view).seen (n.view).seen (o.view).seen on.longer then.longer in
     let is = ap (λ (bs : List Book). get_or bs 0 (no_book 0)) (books ∙ done.books) in
@@ -151,7 +161,8 @@ covered log row m n o (Err NodesFull) before on then done now books =
     none_seen log m o before now begins (ap (λ (b : Book). b.mine) is)
 
 -- and the log has its one writer's pass as before
-pub alone_then : (log : LogValue) (row : RowValue) (m n o : PassValue) (r : Result ℕ AppendFault) → IsAlone log m → PassGoesOn m n → Rests n.view → HasAppendAnswer log.shape row m n r → PassGoesOn n o → (o.view).books ≡ (n.view).books → AreFit log.shape o.view
+pub alone_then : (log : LogValue) (row : RowValue) (m n o : PassValue) (r : Result ℕ AppendFault) → IsAlone log m → PassGoesOn m n → Rests n.view
+    → HasAppendAnswer log.shape row m n r → PassGoesOn n o → (o.view).books ≡ (n.view).books → AreFit log.shape o.view
     → ((log.shape).writers ≡ 1 → Rests o.view → HasAll o.view) → ((log.shape).writers ≡ 1 → Rests o.view → MarkedIsFull log.shape o.view) → IsAlone log o
 alone_then log row m n o r alone on rest done then books fit all full =
     let rests : Rests o.view = rests_same n.view o.view books rest in
@@ -167,25 +178,30 @@ alone_then log row m n o r alone on rest done then books fit all full =
 
 settled : (log : LogValue) (h : PassValue) → IsAlone log h → HoldsAllBooks log.shape h.view
 settled log h alone = record {
-  home = λ w lt. (let low : w < (log.shape).writers = lt in let one = alone.one in let is = alone.writer in (0, book_of h.view, holds_its h.view alone.rest, omega (arith, low, one, is), (alone.rest).free));
+  home = λ w lt.
+      (let low : w < (log.shape).writers = lt in let one = alone.one in let is = alone.writer in
+      (0, book_of h.view, holds_its h.view alone.rest, omega (arith, low, one, is), (alone.rest).free));
   rest = rests_all h.view alone.rest;
   count = ap (λ (bs : List Book). length bs) (alone.rest).one ∙ sym alone.one;
   all = alone.all;
 }
 
 -- the place of an answer, or 0, is one of the log's
-pub placed : (shape : ShapeValue) (row : RowValue) (m n : PassValue) (r : Result ℕ AppendFault) → 0 < shape.capacity → HasAppendAnswer shape row m n r → result_unwrap_or r 0 < shape.capacity
+pub placed : (shape : ShapeValue) (row : RowValue) (m n : PassValue) (r : Result ℕ AppendFault) → 0 < shape.capacity → HasAppendAnswer shape row m n r
+    → result_unwrap_or r 0 < shape.capacity
 placed shape row m n (Ok o) some done = done.room
 placed shape row m n (Err fault) some done = some
 
-pub covered_more : (shape : ShapeValue) (row : RowValue) (before entries : List Entry) (r : Result ℕ AppendFault) → shape.capacity ≤ 65536 → HasCovered shape row before entries r → IfOk r (λ o. (length before < 2 ^ 20) × (length entries ≡ length before + 1))
+pub covered_more : (shape : ShapeValue) (row : RowValue) (before entries : List Entry) (r : Result ℕ AppendFault) → shape.capacity ≤ 65536
+    → HasCovered shape row before entries r → IfOk r (λ o. (length before < 2 ^ 20) × (length entries ≡ length before + 1))
 covered_more shape row before entries (Ok o) few has =
     let room = has.1 in
     (omega (arith, room, few), ap (λ (es : List Entry). length es) has.2 ∙ length_push before (record { writer = 0; row = row }))
 covered_more shape row before entries (Err fault) few has = tt
 
 -- The nodes that were used.
-pub used_for : (shape : ShapeValue) (row : RowValue) (m n o : PassValue) (r : Result ℕ AppendFault) → HasAppendAnswer shape row m n r → (o.view).books ≡ (n.view).books → HasUsedFor shape row (book_of m.view).used (book_of o.view).used r
+pub used_for : (shape : ShapeValue) (row : RowValue) (m n o : PassValue) (r : Result ℕ AppendFault) → HasAppendAnswer shape row m n r
+    → (o.view).books ≡ (n.view).books → HasUsedFor shape row (book_of m.view).used (book_of o.view).used r
 used_for shape row m n o (Ok at) done books = record {
   spots = done.paths.used.spots;
   is = ap (λ (bs : List Book). (get_or bs 0 (no_book 0)).used) (books ∙ done.books);
@@ -194,7 +210,8 @@ used_for shape row m n o (Ok at) done books = record {
 }
 used_for shape row m n o (Err Full) (inl over) books = record {
   spots = [];
-  is = ap (λ (bs : List Book). (get_or bs 0 (no_book 0)).used) books ∙ (ap (λ (h : PassValue). (book_of h.view).used) over.is ∙ sym (append-nil (book_of m.view).used));
+  is = ap (λ (bs : List Book). (get_or bs 0 (no_book 0)).used) books
+      ∙ (ap (λ (h : PassValue). (book_of h.view).used) over.is ∙ sym (append-nil (book_of m.view).used));
   on = λ j s at. absurd (cc at);
   full = λ e. absurd (cc e);
 }
@@ -232,30 +249,36 @@ alone_still log m n alone asked =
 abbrev pub IsReply : LogValue → Ask → PassValue → PassValue → Answer → Type 0
 IsReply log question m n answer = HasAsked log.shape m n × (answer.tail ≡ length (n.view).seen) × (answer.body ≡ eval log.shape question (n.view).seen)
 
-pub asked_either : (log : LogValue) (question : Ask) (m n : PassValue) (r : Result Answer AllocError) → IfOk r (IsReply log question m n) → IfErr r (λ x. HasAsked log.shape m n) → HasAsked log.shape m n
+pub asked_either : (log : LogValue) (question : Ask) (m n : PassValue) (r : Result Answer AllocError) → IfOk r (IsReply log question m n)
+    → IfErr r (λ x. HasAsked log.shape m n) → HasAsked log.shape m n
 asked_either log question m n (Ok a) ok err = ok.0
 asked_either log question m n (Err e) ok err = err
 
-pub asked_seen : (log : LogValue) (question : Ask) (m n : PassValue) (r : Result Answer AllocError) → IfOk r (IsReply log question m n) → (n.view).seen ≡ (m.view).seen → IfOk r (λ a. (a.tail ≡ length (m.view).seen) × (a.body ≡ eval log.shape question (m.view).seen))
+pub asked_seen : (log : LogValue) (question : Ask) (m n : PassValue) (r : Result Answer AllocError) → IfOk r (IsReply log question m n)
+    → (n.view).seen ≡ (m.view).seen → IfOk r (λ a. (a.tail ≡ length (m.view).seen) × (a.body ≡ eval log.shape question (m.view).seen))
 asked_seen log question m n (Ok a) ok same = (ok.1 ∙ ap (λ (es : List Entry). length es) same, ok.2 ∙ ap (λ (es : List Entry). eval log.shape question es) same)
 asked_seen log question m n (Err e) ok same = tt
 
 -- A log was opened, and its one book dealt.
 one_book : (P : Book → Type 0) (p : Pass) (b : Book) → p.books ≡ b ∷ [] → P b → (k : ℕ) (c : Book) → Holds p k c → P c
-one_book P p b one is zero c at = (let e : Some b ≡ Some c = sym (ap (λ (bs : List Book). slice_get bs 0) one) ∙ at in let same : b ≡ c = cc e in subst P same is)
+one_book P p b one is zero c at =
+    (let e : Some b ≡ Some c = sym (ap (λ (bs : List Book). slice_get bs 0) one) ∙ at in let same : b ≡ c = cc e in subst P same is)
 one_book P p b one is (suc k) c at = (let e : None ≡ Some c = sym (ap (λ (bs : List Book). slice_get bs (suc k)) one) ∙ at in absurd (cc e))
 
 none_mine : (w : ℕ) (b : Book) (seen : List Entry) → b.mine ≡ [] → seen ≡ [] → b.mine ≡ mine_from w 0 seen
 unfolding mine_from
 none_mine w b seen mine none = mine ∙ ap (λ (es : List Entry). mine_from w 0 es) (sym none)
 
-pub opened_count : (log : LogValue) (m n : PassValue) (hs : List PassValue) → m.view ≡ root_pass log.shape → AreDealt log m hs n → length hs ≡ (log.shape).writers
+pub opened_count : (log : LogValue) (m n : PassValue) (hs : List PassValue) → m.view ≡ root_pass log.shape → AreDealt log m hs n
+    → length hs ≡ (log.shape).writers
 opened_count log m n hs is dealt = dealt.count ∙ (ap (λ (p : Pass). length p.books) is ∙ table_length no_book (log.shape).writers)
 
-pub opened_seen : (log : LogValue) (m n h : PassValue) (hs : List PassValue) → m.view ≡ root_pass log.shape → AreDealt log m hs n → slice_get hs 0 ≡ Some h → (h.view).seen ≡ []
+pub opened_seen : (log : LogValue) (m n h : PassValue) (hs : List PassValue) → m.view ≡ root_pass log.shape → AreDealt log m hs n → slice_get hs 0 ≡ Some h
+    → (h.view).seen ≡ []
 opened_seen log m n h hs is dealt at = ap (λ (p : Pass). p.seen) (dealt.each 0 h at).view ∙ ap (λ (p : Pass). p.seen) is
 
-pub opened_used : (log : LogValue) (m n h : PassValue) (hs : List PassValue) → (log.shape).writers ≡ 1 → m.view ≡ root_pass log.shape → AreDealt log m hs n → slice_get hs 0 ≡ Some h → (book_of h.view).used ≡ []
+pub opened_used : (log : LogValue) (m n h : PassValue) (hs : List PassValue) → (log.shape).writers ≡ 1 → m.view ≡ root_pass log.shape → AreDealt log m hs n
+    → slice_get hs 0 ≡ Some h → (book_of h.view).used ≡ []
 opened_used log m n h hs one is dealt at =
     let d = dealt.each 0 h at in
     let w = (log.shape).writers in
@@ -264,7 +287,8 @@ opened_used log m n h hs one is dealt at =
     let e : no_book 0 ≡ d.book = (let f : Some (no_book 0) ≡ Some d.book = sym (table_at no_book w 0 lt) ∙ there in cc f) in
     ap (λ (p : Pass). (book_of p).used) d.view ∙ ap (λ (b : Book). b.used) (sym e)
 
-pub opened : (log : LogValue) (m n h : PassValue) (hs : List PassValue) → (log.shape).writers ≡ 1 → m.view ≡ root_pass log.shape → AreDealt log m hs n → slice_get hs 0 ≡ Some h → IsAlone log h
+pub opened : (log : LogValue) (m n h : PassValue) (hs : List PassValue) → (log.shape).writers ≡ 1 → m.view ≡ root_pass log.shape → AreDealt log m hs n
+    → slice_get hs 0 ≡ Some h → IsAlone log h
 opened log m n h hs one is dealt at =
     let d = dealt.each 0 h at in
     let w = (log.shape).writers in
@@ -280,17 +304,21 @@ opened log m n h hs one is dealt at =
       writer = ap (λ (bs : List Book). (get_or bs 0 (no_book 0)).writer) books ∙ ap (λ (b : Book). b.writer) (sym e);
       all = λ k b held. none_mine b.writer b (h.view).seen (one_book (λ c. c.mine ≡ []) h.view d.book books (ap (λ (c : Book). c.mine) (sym e)) k b held) seen;
       fit = λ o x there. (let f : None ≡ Some x = ap (λ (es : List Entry). slice_get es o) (sym seen) ∙ there in absurd (cc f));
-      full = λ k b held over. (let f : true ≡ false = sym over ∙ one_book (λ c. c.over ≡ false) h.view d.book books (ap (λ (c : Book). c.over) (sym e)) k b held in absurd (cc f));
+      full = λ k b held over.
+          (let f : true ≡ false = sym over ∙ one_book (λ c. c.over ≡ false) h.view d.book books (ap (λ (c : Book). c.over) (sym e)) k b held in absurd (cc f));
     }
 
 abbrev pub host_of : ShapeValue → List Entry → List Spot → HostValue
 host_of shape entries used = record { shape = shape; entries = entries; used = used; is_frozen = false }
 
-pub empty_by : (s shape : ShapeValue) (entries : List Entry) (used : List Spot) → s ≡ shape → entries ≡ [] → used ≡ [] → host_of s entries used ≡ empty_host shape
-empty_by s shape entries used is none unused = ap₂ (λ (es : List Entry) (u : List Spot). host_of s es u) none unused ∙ ap (λ (x : ShapeValue). host_of x [] []) is
+pub empty_by : (s shape : ShapeValue) (entries : List Entry) (used : List Spot) → s ≡ shape → entries ≡ [] → used ≡ []
+    → host_of s entries used ≡ empty_host shape
+empty_by s shape entries used is none unused = ap₂ (λ (es : List Entry) (u : List Spot). host_of s es u) none unused
+    ∙ ap (λ (x : ShapeValue). host_of x [] []) is
 
 abbrev pub host_with : ShapeValue → Bool → List Entry → List Book → HostValue
 host_with shape frozen entries books = record { shape = shape; entries = entries; used = (get_or books 0 (no_book 0)).used; is_frozen = frozen }
 
-pub host_same : (shape : ShapeValue) (p q : Pass) (frozen : Bool) → q.seen ≡ p.seen → q.books ≡ p.books → host_with shape frozen q.seen q.books ≡ host_with shape frozen p.seen p.books
+pub host_same : (shape : ShapeValue) (p q : Pass) (frozen : Bool) → q.seen ≡ p.seen → q.books ≡ p.books
+    → host_with shape frozen q.seen q.books ≡ host_with shape frozen p.seen p.books
 host_same shape p q frozen seen books = ap₂ (λ (es : List Entry) (bs : List Book). host_with shape frozen es bs) seen books

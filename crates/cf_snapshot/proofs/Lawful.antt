@@ -46,7 +46,8 @@ pub passed_over : (s : SnapValue) (e : SnapEvent) → is_lawful s e ≡ false �
 passed_over s e unlawful = cond-false (is_lawful s e) (changed s e) s unlawful
 
 -- there is an event at that position
-pub state_more : (hosts : ℕ) (events : List SnapEvent) (n : ℕ) (e : SnapEvent) → slice_get events n ≡ Some e → state_at hosts events (n + 1) ≡ after (state_at hosts events n) e
+pub state_more : (hosts : ℕ) (events : List SnapEvent) (n : ℕ) (e : SnapEvent) → slice_get events n ≡ Some e
+    → state_at hosts events (n + 1) ≡ after (state_at hosts events n) e
 state_more hosts events n e stands =
     let lt = slice_get_within events n e stands in
     let is : get_or events n e ≡ e = get_or_from_slice_get events n e e stands in

@@ -38,12 +38,15 @@ one_cover hosts g s sound there free small =
       released = refl;
     })
 
-covers : (hosts g count : ℕ) (s : SnapValue) → Sound hosts s → g < hosts → is_frozen s g ≡ false → tail_of s g + count ≤ 2 ^ 20 → Grows hosts g count s (fold after s (replicate count (Cover g)))
-covers hosts g zero s sound there free small = record { sound = sound; own = omega arith; others = λ h other. refl; frozen = refl; begun = refl; released = refl }
+covers : (hosts g count : ℕ) (s : SnapValue) → Sound hosts s → g < hosts → is_frozen s g ≡ false → tail_of s g + count ≤ 2 ^ 20
+    → Grows hosts g count s (fold after s (replicate count (Cover g)))
+covers hosts g zero s sound there free small =
+    record { sound = sound; own = omega arith; others = λ h other. refl; frozen = refl; begun = refl; released = refl }
 covers hosts g (suc count) s sound there free small =
     let one = one_cover hosts g s sound there free (omega (arith, small)) in
     let own = one.own in
-    let rest = covers hosts g count (after s (Cover g)) one.sound there (ap (λ (f : List Bool). get_or f g false) one.frozen ∙ free) (omega (arith, small, own)) in
+    let rest = covers hosts g count (after s (Cover g)) one.sound there (ap (λ (f : List Bool). get_or f g false) one.frozen ∙ free)
+        (omega (arith, small, own)) in
     let later = rest.own in
     record {
       sound = rest.sound;
@@ -55,16 +58,21 @@ covers hosts g (suc count) s sound there free small =
     }
 
 -- what each number of a range carries on, all of them do
-fold_flat : (P : ℕ → SnapValue → Type 0) (f : ℕ → List SnapEvent) (a n b : ℕ) → a + n ≡ b → ((k : ℕ) (s : SnapValue) → a ≤ k → k < b → P k s → P (k + 1) (fold after s (f k))) → (s : SnapValue) → P a s → P b (fold after s (flat_map f (range_with_len a n)))
+fold_flat : (P : ℕ → SnapValue → Type 0) (f : ℕ → List SnapEvent) (a n b : ℕ) → a + n ≡ b
+    → ((k : ℕ) (s : SnapValue) → a ≤ k → k < b → P k s → P (k + 1) (fold after s (f k))) → (s : SnapValue) → P a s
+    → P b (fold after s (flat_map f (range_with_len a n)))
 fold_flat P f a zero b end step s here = let e : a ≡ b = omega (arith, end) in subst (λ k. P k s) e here
 fold_flat P f a (suc n) b end step s here =
     subst (P b) (sym (fold-append after s (f a) (flat_map f (range_with_len (a + 1) n))))
-    (fold_flat P f (a + 1) n b (omega (arith, end)) (λ k t from to. step k t (omega (arith, from)) to) (fold after s (f a)) (step a s (omega arith) (omega (arith, end)) here))
+    (fold_flat P f (a + 1) n b (omega (arith, end)) (λ k t from to. step k t (omega (arith, from)) to) (fold after s (f a))
+        (step a s (omega arith) (omega (arith, end)) here))
 
-fold_map : (P : ℕ → SnapValue → Type 0) (f : ℕ → SnapEvent) (a n b : ℕ) → a + n ≡ b → ((k : ℕ) (s : SnapValue) → a ≤ k → k < b → P k s → P (k + 1) (after s (f k))) → (s : SnapValue) → P a s → P b (fold after s (map f (range_with_len a n)))
+fold_map : (P : ℕ → SnapValue → Type 0) (f : ℕ → SnapEvent) (a n b : ℕ) → a + n ≡ b
+    → ((k : ℕ) (s : SnapValue) → a ≤ k → k < b → P k s → P (k + 1) (after s (f k))) → (s : SnapValue) → P a s → P b (fold after s (map f (range_with_len a n)))
 fold_map P f a zero b end step s here = let e : a ≡ b = omega (arith, end) in subst (λ k. P k s) e here
 fold_map P f a (suc n) b end step s here =
-    fold_map P f (a + 1) n b (omega (arith, end)) (λ k t from to. step k t (omega (arith, from)) to) (after s (f a)) (step a s (omega arith) (omega (arith, end)) here)
+    fold_map P f (a + 1) n b (omega (arith, end)) (λ k t from to. step k t (omega (arith, from)) to) (after s (f a))
+        (step a s (omega arith) (omega (arith, end)) here)
 
 -- whose turn it is, of turns that go round
 module _ (hosts turns : ℕ) (some : 0 < hosts) where
@@ -134,13 +142,15 @@ module _ (turn : ℕ) (counts : List ℕ) (turns : ℕ) (some : 0 < length count
     begun : t.has_begun ≡ s.has_begun
     released : t.is_released ≡ s.is_released
 
-  takes_turn : (g n : ℕ) (s : SnapValue) → Sound hosts s → g < hosts → is_frozen s g ≡ false → tail_of s g ≡ covered g n → Turned g n s (fold after s (turn_of_host turn counts g n))
+  takes_turn : (g n : ℕ) (s : SnapValue) → Sound hosts s → g < hosts → is_frozen s g ≡ false → tail_of s g ≡ covered g n
+      → Turned g n s (fold after s (turn_of_host turn counts g n))
   takes_turn g n s sound there free had =
       let more = covered_more g n in
       let few = covered_low g (n + 1) there in
       let grown = covers hosts g (covered g (n + 1) - covered g n) s sound there free (omega (arith, had, more, few)) in
       let own = grown.own in
-      record { sound = grown.sound; own = omega (arith, own, had, more); others = grown.others; frozen = grown.frozen; begun = grown.begun; released = grown.released }
+      record { sound = grown.sound; own = omega (arith, own, had, more); others = grown.others; frozen = grown.frozen; begun = grown.begun; released =
+          grown.released }
 
   -- so many turns went round
   record Going (n : ℕ) (s : SnapValue) : Type 0 where
@@ -176,7 +186,8 @@ module _ (turn : ℕ) (counts : List ℕ) (turns : ℕ) (some : 0 < length count
       }
 
   all_round : Going turns (fold after (at_start hosts) (turns_round turn counts turns))
-  all_round = fold_flat Going (λ j. turn_of_host turn counts (j % hosts) (j / hosts)) 0 turns turns (omega arith) (λ k s from to g. going_on k s g) (at_start hosts) going_start
+  all_round = fold_flat Going (λ j. turn_of_host turn counts (j % hosts) (j / hosts)) 0 turns turns (omega arith) (λ k s from to g. going_on k s g)
+      (at_start hosts) going_start
 
   abbrev had : ℕ → ℕ
   had host = turns_of_host hosts turns host
@@ -249,7 +260,8 @@ module _ (turn : ℕ) (counts : List ℕ) (turns : ℕ) (some : 0 < length count
           | inl same ↦ let e : had m + n + 1 ≡ had m + (n + 1) = omega arith in rw same (turned.own ∙ ap (covered m) e)
           | inr other ↦ turned.others h other ∙ p.went h in_range more (omega (arith, less, other))
         ];
-        going = λ h in_range more le. turned.others h (λ same. let e : h ≡ m = same in absurd (omega (arith, le, e))) ∙ p.going h in_range more (omega (arith, le));
+        going = λ h in_range more le. turned.others h (λ same. let e : h ≡ m = same in absurd (omega (arith, le, e)))
+            ∙ p.going h in_range more (omega (arith, le));
         frozen = λ h less. ap (λ (f : List Bool). get_or f h false) turned.frozen ∙ p.frozen h less;
         free = λ h le. ap (λ (f : List Bool). get_or f h false) turned.frozen ∙ p.free h le;
         begun = turned.begun ∙ p.begun;
@@ -270,11 +282,14 @@ module _ (turn : ℕ) (counts : List ℕ) (turns : ℕ) (some : 0 < length count
   freezing_on : (n : ℕ) (s : SnapValue) → n < hosts → Freezing n s → Freezing (n + 1) (fold after s (freeze_host turn counts turns n))
   freezing_on n s there f =
       let begin = passing_start n s there f in
-      let end = fold_flat (Passing n) (λ above. turn_of_host turn counts above (had above + n)) (n + 1) (hosts - 1 - n) hosts (omega (arith, there)) (λ k t from to p. passing_on n k t from to p) (after s (Freeze n)) begin in
+      let end = fold_flat (Passing n) (λ above. turn_of_host turn counts above (had above + n)) (n + 1) (hosts - 1 - n) hosts (omega (arith, there))
+          (λ k t from to p. passing_on n k t from to p) (after s (Freeze n)) begin in
       passed_all n hosts (fold after s (freeze_host turn counts turns n)) (omega arith) end
 
   all_frozen : (s : SnapValue) → Going turns s → Freezing hosts (fold after (after s Begin) (flat_map (freeze_host turn counts turns) (range_with_len 0 hosts)))
-  all_frozen s g = fold_flat Freezing (freeze_host turn counts turns) 0 hosts hosts (omega arith) (λ k t from to f. freezing_on k t to f) (after s Begin) (freezing_start s g)
+  all_frozen s g =
+      fold_flat Freezing (freeze_host turn counts turns) 0 hosts hosts (omega arith) (λ k t from to f. freezing_on k t to f) (after s Begin)
+      (freezing_start s g)
 
   -- the first n hosts have replied
   record Replying (n : ℕ) (s : SnapValue) : Type 0 where
@@ -321,12 +336,15 @@ module _ (turn : ℕ) (counts : List ℕ) (turns : ℕ) (some : 0 < length count
 
   is_cut : (xs : List ℕ) → length xs ≡ hosts → ((h : ℕ) → h < hosts → get_or xs h 0 ≡ in_cut turn counts turns h) → xs ≡ cut_by turn counts turns
   is_cut xs sized each = ext_get_or 0 xs (cut_by turn counts turns) (sized ∙ sym (length-map-range_with_len (in_cut turn counts turns) 0 hosts))
-      (λ h less. let there : h < hosts = omega (arith, less, sized) in each h there ∙ sym (get_or-map-range_with_len (in_cut turn counts turns) 0 hosts h h 0 there (omega arith)))
+      (λ h less. let there : h < hosts = omega (arith, less, sized) in each h there
+          ∙ sym (get_or-map-range_with_len (in_cut turn counts turns) 0 hosts h h 0 there (omega arith)))
 
   releases : (s : SnapValue) → Replying hosts s → Released (after s Release)
   releases s r =
       let sized = r.sound.lens.replied in
-      let all : list_all (λ replied. replied) s.replied ≡ true = list_all-from_AllPass (λ replied. replied) s.replied (λ k d less. get_or_default s.replied k d false less ∙ r.replied k (omega (arith, less, sized))) in
+      let all : list_all (λ replied. replied) s.replied ≡ true =
+          list_all-from_AllPass (λ replied. replied) s.replied
+          (λ k d less. get_or_default s.replied k d false less ∙ r.replied k (omega (arith, less, sized))) in
       let lawful : is_lawful s Release ≡ true = rw (r.begun, r.released, all) refl in
       let known = all_known hosts s lawful r.sound in
       subst Released (sym (taken s Release lawful)) (record { released = refl; replies = known.1 ∙ is_cut s.tails r.sound.lens.tails r.tails })
@@ -355,13 +373,16 @@ module _ (turn : ℕ) (counts : List ℕ) (turns : ℕ) (some : 0 < length count
       let first : SnapValue = fold after (at_start hosts) (turns_round turn counts turns) in
       let second : SnapValue = fold after (after first Begin) (flat_map (freeze_host turn counts turns) (range_with_len 0 hosts)) in
       let third : SnapValue = fold after second (map Reply (range_with_len 0 hosts)) in
-      let replied = fold_map Replying Reply 0 hosts hosts (omega arith) (λ k t from to r. replying_on k t to r) second (replying_start second (all_frozen first all_round)) in
+      let replied =
+          fold_map Replying Reply 0 hosts hosts (omega arith) (λ k t from to r. replying_on k t to r) second
+          (replying_start second (all_frozen first all_round)) in
       let freed = fold_map (λ n. Released) Thaw 0 hosts hosts (omega arith) (λ k t from to r. thaws k t r) (after third Release) (releases third replied) in
       let end : List SnapEvent = Release ∷ map Thaw (range_with_len 0 hosts) in
       let replies : List SnapEvent = map Reply (range_with_len 0 hosts) in
       let rest : List SnapEvent = flat_map (cover_left turn counts turns) (range_with_len 0 hosts) in
       let fourth : SnapValue = fold after (after third Release) (map Thaw (range_with_len 0 hosts)) in
-      let all = fold_flat (λ n. Released) (cover_left turn counts turns) 0 hosts hosts (omega arith) (λ k t from to r. covers_stay k (rows_at counts k - in_cut turn counts turns k) t r) fourth freed in
+      let all = fold_flat (λ n. Released) (cover_left turn counts turns) 0 hosts hosts (omega arith)
+          (λ k t from to r. covers_stay k (rows_at counts k - in_cut turn counts turns k) t r) fourth freed in
       let round = fold-append after (at_start hosts) (turns_round turn counts turns) (freezing turn counts turns ++ (releasing hosts ++ rest)) in
       let frozen = fold-append after first (freezing turn counts turns) (releasing hosts ++ rest) in
       let free = fold-append after second (releasing hosts) rest in
@@ -369,7 +390,8 @@ module _ (turn : ℕ) (counts : List ℕ) (turns : ℕ) (some : 0 < length count
       subst Released (sym (round ∙ frozen ∙ free ∙ ap (λ (s : SnapValue). fold after s rest) replied_then)) all
 
 pub plans_have_cuts : PlansHaveCuts
-plans_have_cuts turn counts turns some low = has_cut turn counts turns some low (state_after (length counts) (events_of turn counts turns)) (whole turn counts turns some low)
+plans_have_cuts turn counts turns some low =
+    has_cut turn counts turns some low (state_after (length counts) (events_of turn counts turns)) (whole turn counts turns some low)
 
 -- a cut has no more of a host than the host has
 pub cut_within : (turn : ℕ) (counts : List ℕ) (turns host : ℕ) → get_or (cut_by turn counts turns) host 0 ≤ rows_at counts host

@@ -28,7 +28,8 @@ lens_kept : (hosts : ℕ) (s : SnapValue) (e : SnapEvent) → IsOf hosts s → I
 lens_kept hosts s (Cover h) l = record { tails = length-set s.tails h (tail_of s h + 1) ∙ l.tails; frozen = l.frozen; replies = l.replies; replied = l.replied }
 lens_kept hosts s Begin l = record { tails = l.tails; frozen = l.frozen; replies = l.replies; replied = l.replied }
 lens_kept hosts s (Freeze h) l = record { tails = l.tails; frozen = length-set s.frozen h true ∙ l.frozen; replies = l.replies; replied = l.replied }
-lens_kept hosts s (Reply h) l = record { tails = l.tails; frozen = l.frozen; replies = length-set s.replies h (tail_of s h) ∙ l.replies; replied = length-set s.replied h true ∙ l.replied }
+lens_kept hosts s (Reply h) l =
+    record { tails = l.tails; frozen = l.frozen; replies = length-set s.replies h (tail_of s h) ∙ l.replies; replied = length-set s.replied h true ∙ l.replied }
 lens_kept hosts s Release l = record { tails = l.tails; frozen = l.frozen; replies = l.replies; replied = l.replied }
 lens_kept hosts s (Thaw h) l = record { tails = l.tails; frozen = length-set s.frozen h false ∙ l.frozen; replies = l.replies; replied = l.replied }
 
@@ -43,7 +44,8 @@ known_cover hosts s h k free known =
     let other : k ≢ h = λ same. both_ways (is_frozen s h) free (ap (is_frozen s) (sym same) ∙ known.0) in
     (known.0, known.1 ∙ sym (get_or-set_other s.tails h k (tail_of s h + 1) 0 other))
 
-known_reply : (hosts : ℕ) (s : SnapValue) (h k : ℕ) → h < length s.replies → is_frozen s h ≡ true → (has_replied s k ≡ true → IsKnown s k) → has_replied (changed s (Reply h)) k ≡ true → IsKnown (changed s (Reply h)) k
+known_reply : (hosts : ℕ) (s : SnapValue) (h k : ℕ) → h < length s.replies → is_frozen s h ≡ true → (has_replied s k ≡ true → IsKnown s k)
+    → has_replied (changed s (Reply h)) k ≡ true → IsKnown (changed s (Reply h)) k
 known_reply hosts s h k lt frozen known replied = elim (cases_eq k h) [
   | inl same ↦
       let now : get_or (set s.replies h (tail_of s h)) h 0 ≡ tail_of s h = get_or-set_same s.replies h (tail_of s h) 0 lt in
@@ -53,7 +55,8 @@ known_reply hosts s h k lt frozen known replied = elim (cases_eq k h) [
       (before.0, get_or-set_other s.replies h k (tail_of s h) 0 other ∙ before.1)
 ]
 
-known_kept : (hosts : ℕ) (s : SnapValue) (e : SnapEvent) → is_lawful s e ≡ true → Sound hosts s → (changed s e).is_released ≡ false → (k : ℕ) → has_replied (changed s e) k ≡ true → IsKnown (changed s e) k
+known_kept : (hosts : ℕ) (s : SnapValue) (e : SnapEvent) → is_lawful s e ≡ true → Sound hosts s → (changed s e).is_released ≡ false → (k : ℕ)
+    → has_replied (changed s e) k ≡ true → IsKnown (changed s e) k
 known_kept hosts s (Cover h) lawful sound going k replied = known_cover hosts s h k (cover_parts s h lawful).1 (sound.known going k replied)
 known_kept hosts s Begin lawful sound going k replied = sound.known going k replied
 known_kept hosts s (Freeze h) lawful sound going k replied =
@@ -80,7 +83,8 @@ none_frozen hosts h = none_of hosts h
 
 pub sound_start : (hosts : ℕ) → Sound hosts (at_start hosts)
 sound_start hosts = record {
-  lens = record { tails = length-replicate hosts 0; frozen = length-replicate hosts false; replies = length-replicate hosts 0; replied = length-replicate hosts false };
+  lens = record { tails = length-replicate hosts 0; frozen = length-replicate hosts false; replies = length-replicate hosts 0; replied =
+      length-replicate hosts false };
   known = λ going h replied. absurd (both_ways _ (none_of hosts h) replied);
 }
 
@@ -96,4 +100,5 @@ all_known hosts s lawful sound =
     let parts = release_parts s lawful in
     let l = sound.lens in
     let known : (h : ℕ) → h < hosts → IsKnown s h = λ h lt. sound.known parts.0 h (all_true s.replied h parts.1 (omega (arith, lt, l.replied))) in
-    (λ h lt. (known h (omega (arith, lt, l.tails))).0, ext_get_or 0 s.replies s.tails (l.replies ∙ sym l.tails) (λ h lt. (known h (omega (arith, lt, l.replies))).1))
+    (λ h lt. (known h (omega (arith, lt, l.tails))).0,
+        ext_get_or 0 s.replies s.tails (l.replies ∙ sym l.tails) (λ h lt. (known h (omega (arith, lt, l.replies))).1))

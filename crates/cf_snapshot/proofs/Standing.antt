@@ -11,7 +11,8 @@ use Rattle.cf_snapshot.specs.Hosts.{HostValue, HasCovered, IsEvent}
 use Rattle.cf_snapshot.proofs.Hosting.{covered_more}
 use Rattle.cf_snapshot.proofs.Lawful.{taken}
 
-pub cover_event : (m n : HostValue) → m.is_frozen ≡ false → length m.entries < 2 ^ 20 → length n.entries ≡ length m.entries + 1 → n.is_frozen ≡ m.is_frozen → IsEvent Cover (λ _. true) m n
+pub cover_event : (m n : HostValue) → m.is_frozen ≡ false → length m.entries < 2 ^ 20 → length n.entries ≡ length m.entries + 1 → n.is_frozen ≡ m.is_frozen
+    → IsEvent Cover (λ _. true) m n
 cover_event m n free low more same s h sized stands time =
     let free_too : is_frozen s h ≡ false = stands.frozen ∙ free in
     let tail = stands.tail in
@@ -27,7 +28,8 @@ cover_event m n free low more same s h sized stands time =
       },
     )
 
-pub covered_event : (m n : HostValue) (row : RowValue) (r : Result ℕ AppendFault) → (m.shape).capacity ≤ 65536 → m.is_frozen ≡ false → n.is_frozen ≡ false → HasCovered m.shape row m.entries n.entries r → IfOk r (λ _. IsEvent Cover (λ _. true) m n)
+pub covered_event : (m n : HostValue) (row : RowValue) (r : Result ℕ AppendFault) → (m.shape).capacity ≤ 65536 → m.is_frozen ≡ false → n.is_frozen ≡ false
+    → HasCovered m.shape row m.entries n.entries r → IfOk r (λ _. IsEvent Cover (λ _. true) m n)
 covered_event m n row (Ok o) few before now has =
     let more = covered_more m.shape row m.entries n.entries (Ok o) few has in
     cover_event m n before more.0 more.1 (now ∙ sym before)

@@ -41,7 +41,8 @@ pub record IsAlone (log : LogValue) (pass : PassValue) : Type 0 where
 -- How a row was covered, by the entries before and after: as the next entry, which had a place; not at all where all places are
 -- covered; and not at all where a node was wanting.
 abbrev pub HasCovered : ShapeValue → RowValue → List Entry → List Entry → Result ℕ AppendFault → Type 0
-HasCovered shape row before entries (Ok offset) = (offset ≡ length before) × (length before < shape.capacity) × (entries ≡ before ++ record { writer = 0; row = row } ∷ [])
+HasCovered shape row before entries (Ok offset) = (offset ≡ length before) × (length before < shape.capacity)
+    × (entries ≡ before ++ record { writer = 0; row = row } ∷ [])
 HasCovered shape row before entries (Err Full) = (length before ≡ shape.capacity) × (entries ≡ before)
 HasCovered shape row before entries (Err NodesFull) = entries ≡ before
 
@@ -61,4 +62,5 @@ pub record StandsFor (s : SnapValue) (h : ℕ) (host : HostValue) : Type 0 where
 -- The call is that event: in each snapshot that has the host, and is in a state for it, the event is lawful, and after it the host is
 -- what the call made of it.
 abbrev pub IsEvent : (ℕ → SnapEvent) → (SnapValue → Bool) → HostValue → HostValue → Type 0
-IsEvent event is_time m n = (s : SnapValue) (h : ℕ) → IsSnapshot s → StandsFor s h m → is_time s ≡ true → (is_lawful s (event h) ≡ true) × StandsFor (after s (event h)) h n
+IsEvent event is_time m n = (s : SnapValue) (h : ℕ) → IsSnapshot s → StandsFor s h m → is_time s ≡ true → (is_lawful s (event h) ≡ true)
+    × StandsFor (after s (event h)) h n

@@ -42,10 +42,12 @@ IsInCut hosts events cut i h = tail_of (state_at hosts events i) h < slice_index
 
 -- A record is in the cut exactly where its Cover comes before the last lawful Freeze.
 abbrev pub CutsEndAtTheLastFreeze : Type 0
-CutsEndAtTheLastFreeze = (hosts : ℕ) (events : List SnapEvent) (cut : List ℕ) (last i h : ℕ) → 0 < hosts → HasCut hosts events cut → IsLastFreeze hosts events last → Happens hosts events i (Cover h)
+CutsEndAtTheLastFreeze = (hosts : ℕ) (events : List SnapEvent) (cut : List ℕ) (last i h : ℕ) → 0 < hosts → HasCut hosts events cut
+    → IsLastFreeze hosts events last → Happens hosts events i (Cover h)
     → IsInCut hosts events cut i h ↔ (i < last)
 
 -- So, if a record's Cover comes before that of a record in the cut, of whichever host, it is in the cut too.
 abbrev pub CutsHaveAllEarlier : Type 0
-CutsHaveAllEarlier = (hosts : ℕ) (events : List SnapEvent) (cut : List ℕ) (i j h k : ℕ) → 0 < hosts → HasCut hosts events cut → Happens hosts events i (Cover h) → Happens hosts events j (Cover k)
+CutsHaveAllEarlier = (hosts : ℕ) (events : List SnapEvent) (cut : List ℕ) (i j h k : ℕ) → 0 < hosts → HasCut hosts events cut
+    → Happens hosts events i (Cover h) → Happens hosts events j (Cover k)
     → i < j → IsInCut hosts events cut j k → IsInCut hosts events cut i h

@@ -28,7 +28,8 @@ turns_of_host hosts turns host = (turns + (hosts - 1 - host)) / hosts
 -- a host is frozen, and each host above it takes one more turn
 abbrev pub freeze_host : ℕ → List ℕ → ℕ → ℕ → List SnapEvent
 freeze_host turn counts turns host =
-    Freeze host ∷ flat_map (λ above. turn_of_host turn counts above (turns_of_host (length counts) turns above + host)) (range_with_len (host + 1) (length counts - 1 - host))
+    Freeze host ∷ flat_map (λ above. turn_of_host turn counts above (turns_of_host (length counts) turns above + host))
+        (range_with_len (host + 1) (length counts - 1 - host))
 
 -- freezing begins, and the hosts are frozen one after another
 abbrev pub freezing : ℕ → List ℕ → ℕ → List SnapEvent
@@ -48,7 +49,9 @@ cover_left turn counts turns host = replicate (rows_at counts host - in_cut turn
 
 -- so many turns, the freezing, the release, and all that is left
 abbrev pub events_of : ℕ → List ℕ → ℕ → List SnapEvent
-events_of turn counts turns = turns_round turn counts turns ++ (freezing turn counts turns ++ (releasing (length counts) ++ flat_map (cover_left turn counts turns) (range_with_len 0 (length counts))))
+events_of turn counts turns =
+    turns_round turn counts turns ++
+    (freezing turn counts turns ++ (releasing (length counts) ++ flat_map (cover_left turn counts turns) (range_with_len 0 (length counts))))
 
 -- the same of all hosts
 abbrev pub cut_by : ℕ → List ℕ → ℕ → List ℕ
@@ -56,4 +59,5 @@ cut_by turn counts turns = map (in_cut turn counts turns) (range_with_len 0 (len
 
 -- each list of these events has that cut
 abbrev pub PlansHaveCuts : Type 0
-PlansHaveCuts = (turn : ℕ) (counts : List ℕ) (turns : ℕ) → 0 < length counts → All (λ count. count ≤ 2 ^ 20) counts → HasCut (length counts) (events_of turn counts turns) (cut_by turn counts turns)
+PlansHaveCuts = (turn : ℕ) (counts : List ℕ) (turns : ℕ) → 0 < length counts → All (λ count. count ≤ 2 ^ 20) counts
+    → HasCut (length counts) (events_of turn counts turns) (cut_by turn counts turns)

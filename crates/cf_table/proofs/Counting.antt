@@ -27,8 +27,10 @@ many_none k w = refl
 many_next : (k w : ℕ) (e : Entry) (es : List Entry) → many k (e ∷ es) w ≡ more_at e.writer (many (suc k) es) w
 unfolding mine_from
 many_next k w e es = elim (cases_Bool (e.writer == w)) [
-  | inl t ↦ ap (λ (b : Bool). length (cond b (record { offset = k; row = e.row } ∷ mine_from w (suc k) es) (mine_from w (suc k) es))) t ∙ sym (ap (λ (b : Bool). cond b (suc (many (suc k) es w)) (many (suc k) es w)) t)
-  | inr t ↦ ap (λ (b : Bool). length (cond b (record { offset = k; row = e.row } ∷ mine_from w (suc k) es) (mine_from w (suc k) es))) t ∙ sym (ap (λ (b : Bool). cond b (suc (many (suc k) es w)) (many (suc k) es w)) t)
+  | inl t ↦ ap (λ (b : Bool). length (cond b (record { offset = k; row = e.row } ∷ mine_from w (suc k) es) (mine_from w (suc k) es))) t
+      ∙ sym (ap (λ (b : Bool). cond b (suc (many (suc k) es w)) (many (suc k) es w)) t)
+  | inr t ↦ ap (λ (b : Bool). length (cond b (record { offset = k; row = e.row } ∷ mine_from w (suc k) es) (mine_from w (suc k) es))) t
+      ∙ sym (ap (λ (b : Bool). cond b (suc (many (suc k) es w)) (many (suc k) es w)) t)
 ]
 
 -- each writer is below n
@@ -47,7 +49,8 @@ abbrev by_writer : (ℕ → ℕ) → List Book → ℕ
 by_writer f [] = 0
 by_writer f (b ∷ bs) = f b.writer + by_writer f bs
 
-by_writer_but : (f : ℕ → ℕ) (k : ℕ) (bs : List Book) (b : Book) → slice_get bs k ≡ Some b → (by_writer f bs ≡ by_writer f (without k bs) + f b.writer) × (length bs ≡ suc (length (without k bs)))
+by_writer_but : (f : ℕ → ℕ) (k : ℕ) (bs : List Book) (b : Book) → slice_get bs k ≡ Some b → (by_writer f bs ≡ by_writer f (without k bs) + f b.writer)
+    × (length bs ≡ suc (length (without k bs)))
 unfolding without
 by_writer_but f k [] b at = absurd (cc at)
 by_writer_but f zero (x ∷ xs) b at =
@@ -58,7 +61,8 @@ by_writer_but f (suc k) (x ∷ xs) b at =
     let r = by_writer_but f k xs b at in
     let first = r.0 in (omega (arith, first), ap suc r.1)
 
-still_held : (k j : ℕ) (bs : List Book) (b c : Book) → slice_get bs k ≡ Some b → slice_get bs j ≡ Some c → (c.writer ≡ b.writer → ⊥) → (i : ℕ) × (slice_get (without k bs) i ≡ Some c)
+still_held : (k j : ℕ) (bs : List Book) (b c : Book) → slice_get bs k ≡ Some b → slice_get bs j ≡ Some c → (c.writer ≡ b.writer → ⊥) → (i : ℕ)
+    × (slice_get (without k bs) i ≡ Some c)
 unfolding without
 still_held k j [] b c at there ne = absurd (cc at)
 still_held zero zero (x ∷ xs) b c at there ne = (let e : b ≡ c = cc (at, there) in absurd (ne (ap (λ (a : Book). a.writer) (sym e))))
@@ -87,7 +91,8 @@ each_once f (suc n) bs long of =
     let all = less.0 in
     omega (arith, all, r, same)
 
-tickets_by : (es : List Entry) (bs : List Book) → ((k : ℕ) (b : Book) → slice_get bs k ≡ Some b → b.mine ≡ mine_from b.writer 0 es) → tickets_in bs ≡ by_writer (many 0 es) bs
+tickets_by : (es : List Entry) (bs : List Book) → ((k : ℕ) (b : Book) → slice_get bs k ≡ Some b → b.mine ≡ mine_from b.writer 0 es)
+    → tickets_in bs ≡ by_writer (many 0 es) bs
 unfolding tickets_in
 tickets_by es [] all = refl
 tickets_by es (b ∷ bs) all =
@@ -96,7 +101,8 @@ tickets_by es (b ∷ bs) all =
     omega (arith, first, r)
 
 -- what was seen are all tickets
-pub all_seen : (shape : ShapeValue) (p : Pass) → AtHome (layout shape) p → length p.books ≡ shape.writers → HasAll p → AreBelow shape.writers p.seen → length p.seen ≡ tickets_in p.books
+pub all_seen : (shape : ShapeValue) (p : Pass) → AtHome (layout shape) p → length p.books ≡ shape.writers → HasAll p → AreBelow shape.writers p.seen
+    → length p.seen ≡ tickets_in p.books
 all_seen shape p home count all below =
     let of : AreOf shape.writers p.books = λ w lt. (let h = home w lt in (h.0, h.1, h.2, h.3)) in
     sym (tickets_by p.seen p.books all ∙ (each_once (many 0 p.seen) shape.writers p.books count of ∙ all_counted shape.writers 0 p.seen below))
@@ -106,7 +112,8 @@ joined_seen : (p q : Pass) → length (joined_pass p q).seen ≤ length p.seen �
 joined_seen p q le = elim (cases_lt (length p.seen) (length q.seen)) [
   | inl lt ↦
       let t : nat_lt (length p.seen) (length q.seen) ≡ true = grind (arith, nat_tests) in
-      let long : length (joined_pass p q).seen ≡ length q.seen = ap (λ (b : Bool). length (grown (length q.seen) q.seen p b).seen) t ∙ ap (λ (es : List Entry). length es) (take-length q.seen) in
+      let long : length (joined_pass p q).seen ≡ length q.seen = ap (λ (b : Bool). length (grown (length q.seen) q.seen p b).seen) t
+          ∙ ap (λ (es : List Entry). length es) (take-length q.seen) in
       absurd (omega (arith, le, lt, long))
   | inr ge ↦
       let t : nat_lt (length p.seen) (length q.seen) ≡ false = grind (arith, nat_tests) in
@@ -123,25 +130,29 @@ begins_at (x ∷ xs) (y ∷ ys) zero e b at = (let f : y ≡ x = cc b in ap (λ 
 begins_at (x ∷ xs) (y ∷ ys) (suc o) e b at = begins_at xs ys o e (cc b) at
 
 -- where all tickets of all books were seen, a pass with these books has seen no more
-no_more : (shape : ShapeValue) (p q : Pass) → HoldsAllBooks shape p → q.books ≡ p.books → AreBelow shape.writers p.seen → AreBelow shape.writers q.seen → SeenFirst q → length q.seen ≤ length p.seen
+no_more : (shape : ShapeValue) (p q : Pass) → HoldsAllBooks shape p → q.books ≡ p.books → AreBelow shape.writers p.seen → AreBelow shape.writers q.seen
+    → SeenFirst q → length q.seen ≤ length p.seen
 no_more shape p q settled books own joint first =
     let few : (w : ℕ) → w < shape.writers → many 0 q.seen w ≤ many 0 p.seen w = λ w lt.
     (let h = settled.home w lt in
     let mine = ap (λ (xs : List Own). length xs) (settled.all h.0 h.1 h.2) in
-    let most = at_most (many 0 q.seen (h.1).writer) (h.1).mine (mine_from (h.1).writer 0 q.seen) (first h.0 h.1 (ap (λ (bs : List Book). slice_get bs h.0) books ∙ h.2)) refl in
+    let most = at_most (many 0 q.seen (h.1).writer) (h.1).mine (mine_from (h.1).writer 0 q.seen)
+        (first h.0 h.1 (ap (λ (bs : List Book). slice_get bs h.0) books ∙ h.2)) refl in
     subst (λ (v : ℕ). many 0 q.seen v ≤ many 0 p.seen v) h.3 (omega (arith, mine, most))) in
     let le = total_most shape.writers (many 0 q.seen) (many 0 p.seen) few in
     let more = all_counted shape.writers 0 q.seen joint in
     let less = all_counted shape.writers 0 p.seen own in omega (arith, le, more, less)
 
-pub nothing_new : (shape : ShapeValue) (p q : Pass) → HoldsAllBooks shape p → q.books ≡ p.books → Begins p.seen q.seen → AreBelow shape.writers q.seen → SeenFirst q → q.seen ≡ p.seen
+pub nothing_new : (shape : ShapeValue) (p q : Pass) → HoldsAllBooks shape p → q.books ≡ p.books → Begins p.seen q.seen → AreBelow shape.writers q.seen
+    → SeenFirst q → q.seen ≡ p.seen
 nothing_new shape p q settled books begins below first =
     let le = no_more shape p q settled books (λ o e at. below o e (begins_at p.seen q.seen o e begins at)) below first in
     let least = ap (λ (es : List Entry). length es) begins in
     let taken = length-take (length p.seen) q.seen in
     sym (all_of q.seen (length p.seen) (omega (arith, le, least, taken))) ∙ begins
 
-pub folded_stays : (shape : ShapeValue) (m : PassValue) (q : Pass) (n : PassValue) → HasFolded shape m q n → q.books ≡ [] → HoldsAllBooks shape m.view → (n.view).seen ≡ (m.view).seen
+pub folded_stays : (shape : ShapeValue) (m : PassValue) (q : Pass) (n : PassValue) → HasFolded shape m q n → q.books ≡ [] → HoldsAllBooks shape m.view
+    → (n.view).seen ≡ (m.view).seen
 folded_stays shape m q n f bare settled =
     let p = m.view in
     let j : Pass = joined_pass p q in
@@ -152,5 +163,6 @@ folded_stays shape m q n f bare settled =
     let own : AreBelow shape.writers p.seen = λ o e at. (told.fit o e (begins_at p.seen told.entries o e (told.goes_on.olds 0 p.seen refl) at)).1 in
     let joint : AreBelow shape.writers j.seen = λ o e at. (told.tells.fit o e at).1 in
     let same : j.seen ≡ p.seen = joined_seen p q (no_more shape p j settled books own joint told.tells.mine) in
-    let all : (k : ℕ) (b : Book) → Holds j k b → b.mine ≡ mine_from b.writer 0 j.seen = λ k b at. settled.all k b (held k b at) ∙ ap (mine_from b.writer 0) (sym same) in
+    let all : (k : ℕ) (b : Book) → Holds j k b → b.mine ≡ mine_from b.writer 0 j.seen = λ k b at. settled.all k b (held k b at)
+        ∙ ap (mine_from b.writer 0) (sym same) in
     home_stays shape (record m { view = j }) n false f.found f.made home all ∙ same

@@ -39,11 +39,13 @@ sees_seen n es p long le goes = elim (cases_lt (length p.seen) n) [
 ]
 
 -- after a load of the read tail just the entries below it are seen
-pub tail_entries : (shape : ShapeValue) (p q : Pass) (asked : Bool) (found : ℕ) (told : StepTells (layout shape) p (tail 1) (tail_effect p asked).after found found q) → q.seen ≡ told.entries
+pub tail_entries : (shape : ShapeValue) (p q : Pass) (asked : Bool) (found : ℕ)
+    (told : StepTells (layout shape) p (tail 1) (tail_effect p asked).after found found q) → q.seen ≡ told.entries
 tail_entries shape p q asked found told =
     ap (λ (r : Pass). r.seen) told.is ∙ sees_seen found told.entries p (told.long refl) (told.tells.ahead 1 (omega arith) refl) told.goes_on.seen
 
-pub folded : (shape : ShapeValue) (m : PassValue) (q : Pass) (n : PassValue) (found : ℕ) → HasStepped shape (tail_effect (joined_pass m.view q) false) (record m { view = joined_pass m.view q }) found n → HasFolded shape m q n
+pub folded : (shape : ShapeValue) (m : PassValue) (q : Pass) (n : PassValue) (found : ℕ)
+    → HasStepped shape (tail_effect (joined_pass m.view q) false) (record m { view = joined_pass m.view q }) found n → HasFolded shape m q n
 folded shape m q n found made =
     let p = m.view in
     let j : Pass = joined_pass p q in
@@ -62,7 +64,8 @@ folded shape m q n found made =
     }
 
 -- while all books are home the read tail stays where it is
-pub home_stays : (shape : ShapeValue) (m n : PassValue) (asked : Bool) (found : ℕ) → HasStepped shape (tail_effect m.view asked) m found n → AtHome (layout shape) m.view → HasAll m.view → (n.view).seen ≡ (m.view).seen
+pub home_stays : (shape : ShapeValue) (m n : PassValue) (asked : Bool) (found : ℕ) → HasStepped shape (tail_effect m.view asked) m found n
+    → AtHome (layout shape) m.view → HasAll m.view → (n.view).seen ≡ (m.view).seen
 home_stays shape m n asked found made home all =
     let told = made.told in
     let p = m.view in
@@ -71,5 +74,6 @@ home_stays shape m n asked found made home all =
     let long = told.long refl in
     tail_entries shape p n.view asked found told ∙ (sym (all_of told.entries (length p.seen) (omega arith)) ∙ told.goes_on.seen)
 
-pub settled_stays : (shape : ShapeValue) (m n : PassValue) (asked : Bool) (found : ℕ) → HasStepped shape (tail_effect m.view asked) m found n → HoldsAllBooks shape m.view → (n.view).seen ≡ (m.view).seen
+pub settled_stays : (shape : ShapeValue) (m n : PassValue) (asked : Bool) (found : ℕ) → HasStepped shape (tail_effect m.view asked) m found n
+    → HoldsAllBooks shape m.view → (n.view).seen ≡ (m.view).seen
 settled_stays shape m n asked found made settled = home_stays shape m n asked found made settled.home settled.all

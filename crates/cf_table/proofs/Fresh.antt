@@ -18,7 +18,8 @@ fresh_first log h hs all = all 0 h refl
 pub fresh_next : (log : LogValue) (h : PassValue) (hs : List PassValue) → AreFresh log (h ∷ hs) → AreFresh log hs
 fresh_next log h hs all k x at = all (suc k) x at
 
-pub fresh_last : (log : LogValue) (xs ys : List PassValue) (o : Option PassValue) (x : PassValue) → AreFresh log xs → xs ≡ ys ++ option_to_list o → o ≡ Some x → IsFresh log x × AreFresh log ys
+pub fresh_last : (log : LogValue) (xs ys : List PassValue) (o : Option PassValue) (x : PassValue) → AreFresh log xs → xs ≡ ys ++ option_to_list o → o ≡ Some x
+    → IsFresh log x × AreFresh log ys
 fresh_last log xs ys o x all is last =
     let end : xs ≡ ys ++ x ∷ [] = is ∙ ap (λ (q : Option PassValue). ys ++ option_to_list q) last in
     let both : AreFresh log (ys ++ x ∷ []) = subst (AreFresh log) end all in

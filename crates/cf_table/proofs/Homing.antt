@@ -64,11 +64,14 @@ homes shape m n (h ∷ hs) g =
       others = λ i x at. other i x at f.other r.own r.others;
     }
   where
-    other : (i : ℕ) (x : PassValue) → slice_get (h ∷ hs) i ≡ Some x → Begins (h.view).seen ((g.0).view).seen → Begins ((g.0).view).seen (n.view).seen → ((j : ℕ) (y : PassValue) → slice_get hs j ≡ Some y → Begins (y.view).seen (n.view).seen) → Begins (x.view).seen (n.view).seen
-    other zero x at mine on rest = let e : h ≡ x = cc at in subst (λ (y : PassValue). Begins (y.view).seen (n.view).seen) e (begins_then (h.view).seen ((g.0).view).seen (n.view).seen mine on)
+    other : (i : ℕ) (x : PassValue) → slice_get (h ∷ hs) i ≡ Some x → Begins (h.view).seen ((g.0).view).seen → Begins ((g.0).view).seen (n.view).seen
+        → ((j : ℕ) (y : PassValue) → slice_get hs j ≡ Some y → Begins (y.view).seen (n.view).seen) → Begins (x.view).seen (n.view).seen
+    other zero x at mine on rest = let e : h ≡ x = cc at in
+        subst (λ (y : PassValue). Begins (y.view).seen (n.view).seen) e (begins_then (h.view).seen ((g.0).view).seen (n.view).seen mine on)
     other (suc j) x at mine on rest = rest j x at
 
-in_books : (passes : List PassValue) (k j : ℕ) (h : PassValue) (b : Book) → slice_get passes k ≡ Some h → Holds h.view j b → (i : ℕ) × (slice_get (books_of passes) i ≡ Some b)
+in_books : (passes : List PassValue) (k j : ℕ) (h : PassValue) (b : Book) → slice_get passes k ≡ Some h → Holds h.view j b → (i : ℕ)
+    × (slice_get (books_of passes) i ≡ Some b)
 unfolding books_of
 in_books [] k j h b at holds = absurd (cc at)
 in_books (x ∷ xs) zero j h b at holds =
@@ -78,7 +81,8 @@ in_books (x ∷ xs) (suc k) j h b at holds =
     let r = in_books xs k j h b at holds in
     (length (x.view).books + r.0, get_back (x.view).books (books_of xs) r.0 b r.1)
 
-rest_of : (passes : List PassValue) → ((k : ℕ) (h : PassValue) → slice_get passes k ≡ Some h → IsAtRest h.view) → (i : ℕ) (b : Book) → slice_get (books_of passes) i ≡ Some b → b.flight ≡ None
+rest_of : (passes : List PassValue) → ((k : ℕ) (h : PassValue) → slice_get passes k ≡ Some h → IsAtRest h.view) → (i : ℕ) (b : Book)
+    → slice_get (books_of passes) i ≡ Some b → b.flight ≡ None
 unfolding books_of
 rest_of [] each i b at = absurd (cc at)
 rest_of (h ∷ hs) each i b at = elim (at_either (h.view).books (books_of hs) i b at) [
@@ -93,7 +97,8 @@ at_home log passes p all is w lt =
     let i = in_books passes r.0 r.2 r.1 r.3 r.4 r.5 in
     (i.0, r.3, ap (λ (bs : List Book). slice_get bs i.0) is ∙ i.1, r.6, all.rest r.0 r.1 r.4 r.2 r.3 r.5)
 
-pub gathered : (log : LogValue) (m n o : PassValue) (passes : List PassValue) → AreAll log passes → (m.view).books ≡ [] → length (n.view).books ≡ length passes → Gathers log.shape m passes n → HasSettled log.shape n o → HasGathered log.shape m passes o
+pub gathered : (log : LogValue) (m n o : PassValue) (passes : List PassValue) → AreAll log passes → (m.view).books ≡ []
+    → length (n.view).books ≡ length passes → Gathers log.shape m passes n → HasSettled log.shape n o → HasGathered log.shape m passes o
 gathered log m n o passes all away many g s =
     let r = homes log.shape m n passes g in
     let books : (o.view).books ≡ books_of passes = s.books ∙ (r.books ∙ ap (λ (bs : List Book). bs ++ books_of passes) away) in
@@ -118,7 +123,8 @@ gathered log m n o passes all away many g s =
       count = all_seen log.shape o.view home many_are (s.all home) (λ k e at. (s.fit k e at).1);
     }
 
-pub gathers_next : (shape : ShapeValue) (m k n : PassValue) (h : PassValue) (hs : List PassValue) → HasFolded shape m h.view k → Gathers shape k hs n → Gathers shape m (h ∷ hs) n
+pub gathers_next : (shape : ShapeValue) (m k n : PassValue) (h : PassValue) (hs : List PassValue) → HasFolded shape m h.view k → Gathers shape k hs n
+    → Gathers shape m (h ∷ hs) n
 unfolding Gathers
 gathers_next shape m k n h hs f g = (k, f, g)
 
@@ -163,7 +169,8 @@ dealt_all log m n passes settled dealt = record {
         let e : d.book ≡ b = only d.book b j (ap (λ (p : Pass). slice_get p.books j) (sym d.view) ∙ holds) in
         ap (λ (c : Book). c.flight) (sym e) ∙ settled.rest k d.book d.at
 
-    writers : (w : ℕ) → w < (log.shape).writers → (k : ℕ) × (h : PassValue) × (j : ℕ) × (b : Book) × (slice_get passes k ≡ Some h) × Holds h.view j b × (b.writer ≡ w)
+    writers : (w : ℕ) → w < (log.shape).writers → (k : ℕ) × (h : PassValue) × (j : ℕ) × (b : Book) × (slice_get passes k ≡ Some h) × Holds h.view j b
+        × (b.writer ≡ w)
     writers w lt =
         let r = settled.home w lt in
         let k = r.0 in

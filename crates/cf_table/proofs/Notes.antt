@@ -21,9 +21,12 @@ empty_book w k b e =
     let lt : k < w = omega (arith, slice_get_within (tabulated no_book w) k b e, table_length no_book w) in
     (lt, (let f : Some (no_book k) ≡ Some b = sym (table_at no_book w k lt) ∙ e in cc f))
 
-pub first_noted : (notes : List Note) (w nodes : ℕ) → notes ≡ map note_of (tabulated no_book w) → w ≤ 15 → nodes ≤ 65536 → AreNoted notes (tabulated no_book w) nodes
+pub first_noted : (notes : List Note) (w nodes : ℕ) → notes ≡ map note_of (tabulated no_book w) → w ≤ 15 → nodes ≤ 65536
+    → AreNoted notes (tabulated no_book w) nodes
 first_noted notes w nodes is few low = record {
   notes_are = is;
   few = low;
-  bounds = λ k b at. (let e = empty_book w k b at in let writer = ap (λ (c : Book). c.writer) e.1 in let used = ap (λ (c : Book). length c.used) e.1 in let lt = e.0 in (omega (arith, writer), omega (arith, used)));
+  bounds = λ k b at.
+      (let e = empty_book w k b at in let writer = ap (λ (c : Book). c.writer) e.1 in let used = ap (λ (c : Book). length c.used) e.1 in let lt = e.0 in
+      (omega (arith, writer), omega (arith, used)));
 }

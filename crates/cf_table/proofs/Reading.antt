@@ -17,7 +17,8 @@ use Rattle.cf_table.specs.Values.{PassValue}
 use Rattle.cf_table.specs.Effects.{HasStepped, word_effect, done_effect}
 use Rattle.cf_table.specs.Moves.{OnlyLooked, AreEntries}
 
-pub word_is : (shape : ShapeValue) (m n : PassValue) (o i found : ℕ) (e : Entry) → HasStepped shape (word_effect shape m.view o i) m found n → slice_get (m.view).seen o ≡ Some e → i < word_count shape.schema + 1 → found ≡ get_or (spelled e) i 0
+pub word_is : (shape : ShapeValue) (m n : PassValue) (o i found : ℕ) (e : Entry) → HasStepped shape (word_effect shape m.view o i) m found n
+    → slice_get (m.view).seen o ≡ Some e → i < word_count shape.schema + 1 → found ≡ get_or (spelled e) i 0
 word_is shape m n o i found e made at lt = (made.told.tells.entry o i refl).plains e at lt
 
 abbrev with_look : PassValue → Rattle.cf_law.specs.Passes.Look → PassValue
@@ -41,7 +42,8 @@ pub looked_none : (m : PassValue) → OnlyLooked m m
 looked_none m = refl
 
 -- one word more is read
-pub read_more : (words : List ℕ) (e : Entry) (i v : ℕ) → i < length words → ((k : ℕ) → k < i → get_or words k 0 ≡ get_or (spelled e) k 0) → v ≡ get_or (spelled e) i 0
+pub read_more : (words : List ℕ) (e : Entry) (i v : ℕ) → i < length words → ((k : ℕ) → k < i → get_or words k 0 ≡ get_or (spelled e) k 0)
+    → v ≡ get_or (spelled e) i 0
     → (k : ℕ) → k < i + 1 → get_or (set words i v) k 0 ≡ get_or (spelled e) k 0
 read_more words e i v lt before is k low = elim (cases_Bool (k == i)) [
   | inl t ↦
@@ -61,7 +63,8 @@ entry_by shape e is fit =
     record { fits = b.0; num = grind (arith, nat_tests); writer = omega (arith, few, writer) }
 
 -- what was seen is lawful
-pub entries_by : (shape : ShapeValue) (m n : PassValue) (o found : ℕ) → IsShape shape → HasStepped shape (done_effect shape m.view o) m found n → AreEntries shape.schema (n.view).seen
+pub entries_by : (shape : ShapeValue) (m n : PassValue) (o found : ℕ) → IsShape shape → HasStepped shape (done_effect shape m.view o) m found n
+    → AreEntries shape.schema (n.view).seen
 entries_by shape m n o found is made k e at =
     entry_by shape e is (made.told.tells.fit k e (ap (λ (q : Pass). slice_get q.seen k) (sym made.told.is) ∙ at))
 

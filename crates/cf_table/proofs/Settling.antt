@@ -70,7 +70,8 @@ moved_look shape m n o found made =
       longer = ap (λ (q : Pass). take (length (m.view).seen) q.seen) is ∙ Rattle.std.proofs.Math.Seq.take-length (m.view).seen;
     }
 
-pub may_advance : (shape : ShapeValue) (p : Pass) (t : ℕ) → t ≤ length p.seen → t < shape.capacity → p.look.word ≡ place_of shape (done t) → p.look.value ≡ 1 → IsLawfulStep shape p (advance t) (advance_effect p t)
+pub may_advance : (shape : ShapeValue) (p : Pass) (t : ℕ) → t ≤ length p.seen → t < shape.capacity → p.look.word ≡ place_of shape (done t) → p.look.value ≡ 1
+    → IsLawfulStep shape p (advance t) (advance_effect p t)
 may_advance shape p t le lt word one = advances t (last_word shape) le lt (omega arith) word one
 
 sees_begins : (n : ℕ) (es : List Entry) (p : Pass) → n ≤ length es → Begins p.seen es → Begins p.seen (pass_that_sees n es p).seen
@@ -83,13 +84,15 @@ sees_begins n es p within begins = elim (cases_lt (length p.seen) n) [
       ap (λ (b : Bool). take (length p.seen) (grown n es p b).seen) t ∙ Rattle.std.proofs.Math.Seq.take-length p.seen
 ]
 
-pub advance_far : (shape : ShapeValue) (p q : Pass) (t found : ℕ) → t ≤ length p.seen → (told : StepTells (layout shape) p (tail 1) (advance_effect p t).after found (cond (found == t) (suc t) found) q) → suc t ≤ length told.entries
+pub advance_far : (shape : ShapeValue) (p q : Pass) (t found : ℕ) → t ≤ length p.seen
+    → (told : StepTells (layout shape) p (tail 1) (advance_effect p t).after found (cond (found == t) (suc t) found) q) → suc t ≤ length told.entries
 advance_far shape p q t found le told =
     let long = told.long refl in
     let ahead = told.tells.ahead 1 (omega arith) refl in
     elim (cases_Bool (found == t)) [
       | inl e ↦ (let f : cond (found == t) (suc t) found ≡ suc t = ap (λ (b : Bool). cond b (suc t) found) e in omega (arith, f, long))
-      | inr e ↦ (let f : cond (found == t) (suc t) found ≡ found = ap (λ (b : Bool). cond b (suc t) found) e in let ne : found ≡ t → ⊥ = grind (arith, nat_tests) in omega (arith, f, ne, long))
+      | inr e ↦ (let f : cond (found == t) (suc t) found ≡ found = ap (λ (b : Bool). cond b (suc t) found) e in let ne : found ≡ t → ⊥ =
+          grind (arith, nat_tests) in omega (arith, f, ne, long))
     ]
 
 pub moved_advance : (shape : ShapeValue) (m n : PassValue) (t : ℕ) → t ≤ length (m.view).seen → HasSteppedUnseen shape (advance_effect m.view t) m n → Moved m n
@@ -103,7 +106,8 @@ moved_advance shape m n t le stored =
       books = ap (λ (q : Pass). q.books) is ∙ sees_books (suc t) es p;
       tails = ap (λ (q : Pass). q.tails) is ∙ more.1;
       told = ap (λ (q : Pass). q.told) is ∙ more.0;
-      longer = ap (λ (q : Pass). take (length p.seen) q.seen) is ∙ sees_begins (suc t) es p (advance_far shape p n.view t stored.found le told) told.goes_on.seen;
+      longer = ap (λ (q : Pass). take (length p.seen) q.seen) is
+          ∙ sees_begins (suc t) es p (advance_far shape p n.view t stored.found le told) told.goes_on.seen;
     }
 
 taken_at : (n : ℕ) (es : List Entry) (o : ℕ) (e : Entry) → slice_get (take n es) o ≡ Some e → slice_get es o ≡ Some e
@@ -113,27 +117,31 @@ taken_at (suc n) (x ∷ xs) zero e at = at
 taken_at (suc n) (x ∷ xs) (suc o) e at = taken_at n xs o e at
 
 -- what is seen was seen before, or is among the entries
-sees_at : (n : ℕ) (es : List Entry) (p : Pass) (o : ℕ) (e : Entry) → slice_get (pass_that_sees n es p).seen o ≡ Some e → (slice_get p.seen o ≡ Some e) ⊎ (slice_get es o ≡ Some e)
+sees_at : (n : ℕ) (es : List Entry) (p : Pass) (o : ℕ) (e : Entry) → slice_get (pass_that_sees n es p).seen o ≡ Some e → (slice_get p.seen o ≡ Some e)
+    ⊎ (slice_get es o ≡ Some e)
 sees_at n es p o e at = elim (cases_Bool (nat_lt (length p.seen) n)) [
   | inl t ↦ inr (taken_at n es o e (sym (ap (λ (b : Bool). slice_get (grown n es p b).seen o) t) ∙ at))
   | inr t ↦ inl (sym (ap (λ (b : Bool). slice_get (grown n es p b).seen o) t) ∙ at)
 ]
 
 -- while all books are home nothing new is seen
-pub advance_stays : (shape : ShapeValue) (m n : PassValue) (t : ℕ) → IsLawfulStep shape m.view (advance t) (advance_effect m.view t) → HasSteppedUnseen shape (advance_effect m.view t) m n → HoldsAllBooks shape m.view → (n.view).seen ≡ (m.view).seen
+pub advance_stays : (shape : ShapeValue) (m n : PassValue) (t : ℕ) → IsLawfulStep shape m.view (advance t) (advance_effect m.view t)
+    → HasSteppedUnseen shape (advance_effect m.view t) m n → HoldsAllBooks shape m.view → (n.view).seen ≡ (m.view).seen
 advance_stays shape m n t may stored settled =
     let p = m.view in
     let le = (advance_asks (layout shape) p t (tail 1) (advance_effect p t).change (advance_effect p t).after may).0 in
     let moved = moved_advance shape m n t le stored in
     let told = stored.made.told in
-    let below : AreBelow shape.writers (n.view).seen = λ o e at. elim (sees_at (suc t) told.entries p o e (sym (ap (λ (q : Pass). slice_get q.seen o) told.is) ∙ at)) [
+    let below : AreBelow shape.writers (n.view).seen =
+        λ o e at. elim (sees_at (suc t) told.entries p o e (sym (ap (λ (q : Pass). slice_get q.seen o) told.is) ∙ at)) [
       | inl old ↦ (told.tells.fit o e old).1
       | inr new ↦ (told.fit o e new).1
     ] in
     nothing_new shape p n.view settled moved.books moved.longer below told.mine
 
 -- The last look ended at the first ticket that isn't finished, or all places are taken.
-pub settled_by : (shape : ShapeValue) (m p n : PassValue) (o found : ℕ) → Moved m p → HasStepped shape (done_effect shape p.view o) p found n → EndsThere (layout shape) p.view (slot_of shape (done o)) (last_word shape) found → HasSettled shape m n
+pub settled_by : (shape : ShapeValue) (m p n : PassValue) (o found : ℕ) → Moved m p → HasStepped shape (done_effect shape p.view o) p found n
+    → EndsThere (layout shape) p.view (slot_of shape (done o)) (last_word shape) found → HasSettled shape m n
 settled_by shape m p n o found moved made ends =
     let told = made.told in
     let tells = told.tells in

@@ -39,11 +39,13 @@ take_effect shape p r = record { slot = tail 0; change = λ n. suc n; after = λ
 
 -- the value is stored in word i of the ticket at that offset, the one in flight
 abbrev pub store_effect : Pass → ℕ → ℕ → ℕ → StepEffect
-store_effect p offset i value = record { slot = cell offset i; change = λ n. value; after = λ n es. pass_with_book 0 (book_with_word i (book_of p) (flight_of p)) p }
+store_effect p offset i value =
+    record { slot = cell offset i; change = λ n. value; after = λ n es. pass_with_book 0 (book_with_word i (book_of p) (flight_of p)) p }
 
 -- the done word of the ticket at that offset, the one in flight, becomes 1
 abbrev pub finish_effect : ShapeValue → Pass → ℕ → StepEffect
-finish_effect shape p offset = record { slot = slot_of shape (done offset); change = λ n. 1; after = λ n es. pass_with_book 0 (book_with_record (book_of p) (flight_of p)) p }
+finish_effect shape p offset =
+    record { slot = slot_of shape (done offset); change = λ n. 1; after = λ n es. pass_with_book 0 (book_with_record (book_of p) (flight_of p)) p }
 
 -- the read tail goes from t to t + 1, or stays where it was found elsewhere
 abbrev pub advance_effect : Pass → ℕ → StepEffect

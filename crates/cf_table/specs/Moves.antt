@@ -70,7 +70,8 @@ pub record AreAll (log : LogValue) (passes : List PassValue) : Type 0 where
   pub of : (k : ℕ) (h : PassValue) → slice_get passes k ≡ Some h → IsOf h log
   pub rest : (k : ℕ) (h : PassValue) → slice_get passes k ≡ Some h → IsAtRest h.view
   pub count : length passes ≡ (log.shape).writers
-  pub writers : (w : ℕ) → w < (log.shape).writers → (k : ℕ) × (h : PassValue) × (j : ℕ) × (b : Book) × (slice_get passes k ≡ Some h) × Holds h.view j b × (b.writer ≡ w)
+  pub writers : (w : ℕ) → w < (log.shape).writers → (k : ℕ) × (h : PassValue) × (j : ℕ) × (b : Book) × (slice_get passes k ≡ Some h) × Holds h.view j b
+      × (b.writer ≡ w)
 
 -- the books of all the passes, in the order of the passes
 unfoldable pub books_of : List PassValue → List Book
@@ -97,7 +98,8 @@ MarkedIsFull shape p = (k : ℕ) (b : Book) → Holds p k b → b.over ≡ true 
 
 -- each proper prefix of the path of an entry that was seen has a used node of a held book
 abbrev pub HasPaths : ShapeValue → Pass → Type 0
-HasPaths shape p = (o l d e : ℕ) (xs q : List ℕ) (x : Entry) → slice_get p.seen o ≡ Some x → (layout shape).path x.row l ≡ Some (d ∷ (xs ++ e ∷ q)) → HasNode p (spot l (e ∷ q))
+HasPaths shape p = (o l d e : ℕ) (xs q : List ℕ) (x : Entry) → slice_get p.seen o ≡ Some x → (layout shape).path x.row l ≡ Some (d ∷ (xs ++ e ∷ q))
+    → HasNode p (spot l (e ∷ q))
 
 -- The read tail was moved up to the first ticket that isn't finished.
 pub record HasSettled (shape : ShapeValue) (before after : PassValue) : Type 0 where

@@ -55,4 +55,5 @@ pass_with_first_ticket row = new_pass (book_in_flight row [] 0 [] ∷ []) []
 
 -- writer 0's pass after node 0 was linked above the leaf, with so many words of ticket 0 filled, and the lanes in which it is linked
 abbrev pub pass_with_linked_node : RowValue → ℕ → List ℕ → Pass
-pass_with_linked_node row filled linked = record (new_pass (book_in_flight row (spot_above_leaf ∷ []) filled linked ∷ []) []) { known = (spot_above_leaf, 0) ∷ [] }
+pass_with_linked_node row filled linked =
+    record (new_pass (book_in_flight row (spot_above_leaf ∷ []) filled linked ∷ []) []) { known = (spot_above_leaf, 0) ∷ [] }

@@ -26,7 +26,8 @@ pub record IsCounting (shape : ShapeValue) (w : ℕ) (f p : PassValue) (link lef
   pub above : (o : ℕ) → has fresh o ≡ true → link ≤ o
   pub count : steps + left ≤ start + length fresh
 
-pub counting_begins : (shape : ShapeValue) (w : ℕ) (f p : PassValue) (link left start steps : ℕ) → met_of (p.view).cursor ≡ met_of (f.view).cursor → steps + left ≤ start → IsCounting shape w f p link left start steps
+pub counting_begins : (shape : ShapeValue) (w : ℕ) (f p : PassValue) (link left start steps : ℕ) → met_of (p.view).cursor ≡ met_of (f.view).cursor
+    → steps + left ≤ start → IsCounting shape w f p link left start steps
 counting_begins shape w f p link left start steps is few = record {
   fresh = [];
   went = record {
@@ -41,7 +42,8 @@ counting_begins shape w f p link left start steps is few = record {
 }
 
 -- the walk went by a place that was seen
-pub counting_known : (shape : ShapeValue) (w : ℕ) (f m n : PassValue) (link next o left rest start steps more : ℕ) → IsCounting shape w f m link left start steps → met_of (n.view).cursor ≡ (o, w) ∷ met_of (m.view).cursor → next ≤ link → left ≡ suc rest → more ≡ steps + 1
+pub counting_known : (shape : ShapeValue) (w : ℕ) (f m n : PassValue) (link next o left rest start steps more : ℕ)
+    → IsCounting shape w f m link left start steps → met_of (n.view).cursor ≡ (o, w) ∷ met_of (m.view).cursor → next ≤ link → left ≡ suc rest → more ≡ steps + 1
     → IsCounting shape w f n next rest start more
 counting_known shape w f m n link next o left rest start steps more c is le one tick =
     let before = c.count in
@@ -59,8 +61,10 @@ counting_known shape w f m n link next o left rest start steps more c is le one 
     }
 
 -- the walk went by a place past what was seen
-pub counting_new : (shape : ShapeValue) (w : ℕ) (f m n : PassValue) (link next left rest start steps more : ℕ) → IsCounting shape w f m link left start steps → met_of (n.view).cursor ≡ (link - 1, w) ∷ met_of (m.view).cursor → ((v : ℕ) → Met m.view (link - 1) v → v ≡ w)
-    → 0 < link → length (f.view).seen ≤ link - 1 → link ≤ shape.capacity → next ≤ link - 1 → left ≡ rest → more ≡ steps + 1 → IsCounting shape w f n next rest start more
+pub counting_new : (shape : ShapeValue) (w : ℕ) (f m n : PassValue) (link next left rest start steps more : ℕ) → IsCounting shape w f m link left start steps
+    → met_of (n.view).cursor ≡ (link - 1, w) ∷ met_of (m.view).cursor → ((v : ℕ) → Met m.view (link - 1) v → v ≡ w)
+    → 0 < link → length (f.view).seen ≤ link - 1 → link ≤ shape.capacity → next ≤ link - 1 → left ≡ rest → more ≡ steps + 1
+        → IsCounting shape w f n next rest start more
 counting_new shape w f m n link next left rest start steps more c is apart some past low le one tick =
     let o = link - 1 in
     let before = c.count in
@@ -94,7 +98,8 @@ counting_new shape w f m n link next left rest start steps more c is apart some 
       count = omega (arith, before, one, tick);
     }
 
-pub counting_ends : (shape : ShapeValue) (w : ℕ) (f p : PassValue) (link left before found steps : ℕ) → IsCounting shape w f p link left (before + 1 + found) steps → ChainSteps shape w f p found before steps
+pub counting_ends : (shape : ShapeValue) (w : ℕ) (f p : PassValue) (link left before found steps : ℕ)
+    → IsCounting shape w f p link left (before + 1 + found) steps → ChainSteps shape w f p found before steps
 counting_ends shape w f p link left before found steps c = (let count = c.count in record { fresh = c.fresh; went = c.went; steps = omega (arith, count) })
 
 -- how many of n numbers, from t on, stand in the list
@@ -116,7 +121,8 @@ has_other x l xs ne = ap (λ (b : Bool). cond b true (has xs l)) (eq_false x l n
 
 reached_else : (places : List ℕ) (o t n : ℕ) → ((i : ℕ) → i < n → o ≡ t + i → ⊥) → reached (o ∷ places) t n ≡ reached places t n
 reached_else places o t zero ne = refl
-reached_else places o t (suc n) ne = ap₂ (λ (a : ℕ) (b : Bool). a + cond b 1 0) (reached_else places o t n (λ i lt. ne i (omega (arith, lt)))) (has_other o (t + n) places (ne n (omega arith)))
+reached_else places o t (suc n) ne =
+    ap₂ (λ (a : ℕ) (b : Bool). a + cond b 1 0) (reached_else places o t n (λ i lt. ne i (omega (arith, lt)))) (has_other o (t + n) places (ne n (omega arith)))
 
 reached_one : (places : List ℕ) (o t n : ℕ) → has places o ≡ false → t ≤ o → o < t + n → reached (o ∷ places) t n ≡ suc (reached places t n)
 reached_one places o t zero out low lt = absurd (omega (arith, low, lt))
@@ -130,7 +136,8 @@ reached_one places o t (suc n) out low lt = elim (cases_eq o (t + n)) [
       omega (arith, a, x, y)
   | inr ne ↦
       let a = reached_one places o t n out low (omega (arith, lt, ne)) in
-      let x : ◌≡◌ {A = ℕ} (cond (has (o ∷ places) (t + n)) 1 0) (cond (has places (t + n)) 1 0) = ap (λ (b : Bool). cond {A = ℕ} b 1 0) (has_other o (t + n) places ne) in
+      let x : ◌≡◌ {A = ℕ} (cond (has (o ∷ places) (t + n)) 1 0) (cond (has places (t + n)) 1 0) =
+          ap (λ (b : Bool). cond {A = ℕ} b 1 0) (has_other o (t + n) places ne) in
       omega (arith, a, x)
 ]
 
@@ -144,7 +151,8 @@ has_both (x ∷ xs) ys l h = elim (has_more x l (xs ++ ys) h) [
   ]
 ]
 
-reached_both : (fresh places : List ℕ) (t n : ℕ) → Distinct fresh → ((o : ℕ) → has fresh o ≡ true → (t ≤ o) × (o < t + n)) → ((o : ℕ) → has fresh o ≡ true → has places o ≡ false) → reached (fresh ++ places) t n ≡ length fresh + reached places t n
+reached_both : (fresh places : List ℕ) (t n : ℕ) → Distinct fresh → ((o : ℕ) → has fresh o ≡ true → (t ≤ o) × (o < t + n))
+    → ((o : ℕ) → has fresh o ≡ true → has places o ≡ false) → reached (fresh ++ places) t n ≡ length fresh + reached places t n
 reached_both [] places t n distinct within out = omega arith
 reached_both (x ∷ xs) places t n distinct within out =
     let rest = reached_both xs places t n distinct.1 (λ o h. within o (has_rest x o xs h)) (λ o h. out o (has_rest x o xs h)) in
@@ -169,7 +177,8 @@ pub record IsCountingAll (shape : ShapeValue) (p : PassValue) (t w start found s
 pub all_begins : (shape : ShapeValue) (p : PassValue) (t start found : ℕ) → IsCountingAll shape p t 0 start found start
 all_begins shape p t start found = record { places = []; by = λ o h. absurd (has_nothing o h); count = omega arith }
 
-pub all_more : (shape : ShapeValue) (m n : PassValue) (t w next start found more all steps after : ℕ) → length (m.view).seen ≡ t → next ≡ suc w → all ≡ found + more → IsCountingAll shape m t w start found steps → ChainSteps shape w m n more steps after
+pub all_more : (shape : ShapeValue) (m n : PassValue) (t w next start found more all steps after : ℕ) → length (m.view).seen ≡ t → next ≡ suc w
+    → all ≡ found + more → IsCountingAll shape m t w start found steps → ChainSteps shape w m n more steps after
     → IsCountingAll shape n t next start all after
 all_more shape m n t w next start found more all steps after far one sum c s =
     let fresh = s.fresh in
@@ -178,7 +187,8 @@ all_more shape m n t w next start found more all steps after far one sum c s =
       | inl t ↦ (let x = c.by o t in let e = went.apart o x.0 h x.2 in let lt = x.1 in absurd (omega (arith, e, lt)))
       | inr t ↦ t
     ] in
-    let within : (o : ℕ) → has fresh o ≡ true → (t ≤ o) × (o < t + (shape.capacity - t)) = λ o h. (let a = went.within o h in (omega (arith, a.0, far), omega (arith, a.0, a.1, far))) in
+    let within : (o : ℕ) → has fresh o ≡ true → (t ≤ o) × (o < t + (shape.capacity - t)) =
+        λ o h. (let a = went.within o h in (omega (arith, a.0, far), omega (arith, a.0, a.1, far))) in
     let r = reached_both fresh c.places t (shape.capacity - t) went.distinct within out in
     let before = c.count in
     let these = s.steps in
@@ -191,5 +201,6 @@ all_more shape m n t w next start found more all steps after far one sum c s =
       count = omega (arith, r, before, these, one, sum);
     }
 
-pub all_ends : (shape : ShapeValue) (p : PassValue) (t w start found steps : ℕ) → IsCountingAll shape p t w start found steps → steps ≤ start + w + found + (shape.capacity - t)
+pub all_ends : (shape : ShapeValue) (p : PassValue) (t w start found steps : ℕ) → IsCountingAll shape p t w start found steps
+    → steps ≤ start + w + found + (shape.capacity - t)
 all_ends shape p t w start found steps c = (let count = c.count in let most = reached_most c.places t (shape.capacity - t) in omega (arith, count, most))

@@ -20,7 +20,8 @@ use Rattle.cf_shape.specs.Lanes.{ShapeValue, IsShape, no_lane, lane_at, key_by, 
 use Rattle.cf_shape.specs.Nodes.{nibbles_of_kind, nibbles_of_attr, nibbles_of_key, levels_of}
 use Rattle.cf_shape.specs.Uses.{has_measure, cell_words}
 
-lawful_at : (attrs : List Attr) (lanes : List Lane) (l : ℕ) → list_all (is_lawful_lane attrs) lanes ≡ true → l < length lanes → is_lawful_lane attrs (get_or lanes l no_lane) ≡ true
+lawful_at : (attrs : List Attr) (lanes : List Lane) (l : ℕ) → list_all (is_lawful_lane attrs) lanes ≡ true → l < length lanes
+    → is_lawful_lane attrs (get_or lanes l no_lane) ≡ true
 lawful_at attrs [] l h lt = absurd (omega (arith, lt))
 lawful_at attrs (x ∷ xs) zero h lt = (both (is_lawful_lane attrs x) (list_all (is_lawful_lane attrs) xs) h).0
 lawful_at attrs (x ∷ xs) (suc l) h lt = lawful_at attrs xs l (both (is_lawful_lane attrs x) (list_all (is_lawful_lane attrs) xs) h).1 (omega (arith, lt))
@@ -82,10 +83,12 @@ value_small U32 (Raw l b) h = omega arith
 value_small U64 (Raw l b) h = omega arith
 value_small (Bytes k) (Raw l b) h = omega arith
 
-value_fits : (attrs : List Attr) (values : List Value) (a : ℕ) (attr : Attr) → values_fit attrs values ≡ true → slice_get attrs a ≡ Some attr → is_of_kind attr.kind (get_or values a (Num 0)) ≡ true
+value_fits : (attrs : List Attr) (values : List Value) (a : ℕ) (attr : Attr) → values_fit attrs values ≡ true → slice_get attrs a ≡ Some attr
+    → is_of_kind attr.kind (get_or values a (Num 0)) ≡ true
 value_fits [] values a attr fits at = absurd (cc)
 value_fits (x ∷ xs) [] a attr fits at = absurd (cc)
-value_fits (x ∷ xs) (v ∷ vs) zero attr fits at = (let e : x ≡ attr = cc at in ap (λ (y : Attr). is_of_kind y.kind v) (sym e) ∙ (both (is_of_kind x.kind v) (values_fit xs vs) fits).0)
+value_fits (x ∷ xs) (v ∷ vs) zero attr fits at =
+    (let e : x ≡ attr = cc at in ap (λ (y : Attr). is_of_kind y.kind v) (sym e) ∙ (both (is_of_kind x.kind v) (values_fit xs vs) fits).0)
 value_fits (x ∷ xs) (v ∷ vs) (suc a) attr fits at = value_fits xs vs a attr (both (is_of_kind x.kind v) (values_fit xs vs) fits).1 at
 
 number_fits : (attrs : List Attr) (values : List Value) (a : ℕ) → values_fit attrs values ≡ true → number_of (get_or values a (Num 0)) < 2 ^ 64
@@ -95,16 +98,19 @@ number_fits (x ∷ xs) [] a fits = absurd (cc)
 number_fits (x ∷ xs) (v ∷ vs) zero fits = value_small x.kind v (both (is_of_kind x.kind v) (values_fit xs vs) fits).0
 number_fits (x ∷ xs) (v ∷ vs) (suc a) fits = number_fits xs vs a (both (is_of_kind x.kind v) (values_fit xs vs) fits).1
 
-attr_small : (attrs : List Attr) (row : RowValue) (a : ℕ) (attr : Option Attr) → values_fit attrs row.values ≡ true → slice_get attrs a ≡ attr → option_passes is_number attr ≡ true → number_at row a < 16 ^ nibbles_of_attr attr
+attr_small : (attrs : List Attr) (row : RowValue) (a : ℕ) (attr : Option Attr) → values_fit attrs row.values ≡ true → slice_get attrs a ≡ attr
+    → option_passes is_number attr ≡ true → number_at row a < 16 ^ nibbles_of_attr attr
 attr_small attrs row a None fits at lawful = absurd (cc)
 attr_small attrs row a (Some attr) fits at lawful = number_small attr.kind (value_at row a) (value_fits attrs row.values a attr fits at) lawful
 
-key_small_by : (shape : ShapeValue) (row : RowValue) (key : Key) → Fits shape.schema row → is_lawful_key shape.schema key ≡ true → key_by shape key row < 16 ^ nibbles_of_key shape.schema key
+key_small_by : (shape : ShapeValue) (row : RowValue) (key : Key) → Fits shape.schema row → is_lawful_key shape.schema key ≡ true
+    → key_by shape key row < 16 ^ nibbles_of_key shape.schema key
 key_small_by shape row (keys.Attr a) fits lawful = attr_small shape.schema row a (slice_get shape.schema a) fits refl lawful
 key_small_by shape row keys.Bucket fits lawful =
     let t = number_fits shape.schema row.values (ts_place shape.schema) fits in
     let d = div-le_self (time_of shape.schema row) shape.width in
     omega (arith, t, d)
 
-pub key_small : (shape : ShapeValue) (l : ℕ) (row : RowValue) → IsShape shape → l < length shape.lanes → Fits shape.schema row → key_of shape l row < 16 ^ levels_of shape l
+pub key_small : (shape : ShapeValue) (l : ℕ) (row : RowValue) → IsShape shape → l < length shape.lanes → Fits shape.schema row
+    → key_of shape l row < 16 ^ levels_of shape l
 key_small shape l row is lt fits = key_small_by shape row (lane_at shape l).key fits (lawful_key shape l is lt)

@@ -27,7 +27,8 @@ use Rattle.cf_walk.proofs.Tallied.{Covers, as_often, row_is}
 sum_put : (h : ℕ → ℕ) (x : ℕ) (xs : List ℕ) → sum_by h (put_into xs x) ≡ h x + sum_by h xs
 sum_put h x [] = sum_by-cons h x []
 sum_put h x (y ∷ ys) = elim (cases_lt y x) [
-  | inl lt ↦ rw (lt-leb x y lt) (let a = sum_by-cons h y (put_into ys x) in let b = sum_by-cons h y ys in let rest = sum_put h x ys in omega (arith, a, b, rest))
+  | inl lt ↦ rw (lt-leb x y lt)
+      (let a = sum_by-cons h y (put_into ys x) in let b = sum_by-cons h y ys in let rest = sum_put h x ys in omega (arith, a, b, rest))
   | inr le ↦ rw (le-leb x y le) (sum_by-cons h x (y ∷ ys))
 ]
 
@@ -43,7 +44,9 @@ sum_is_one h xs ys same = sym (sum_sort h xs) ∙ (ap (sum_by h) (sort_is_one xs
 
 count_of : (g : ℕ → ℕ) (n : ℕ) (xs : List ℕ) → count n (map g xs) ≡ sum_by (λ x. cond (g x == n) 1 0) xs
 count_of g n [] = refl
-count_of g n (x ∷ xs) = (let a = sum_by-cons (λ y. cond (y == n) 1 0) (g x) (map g xs) in let b = sum_by-cons (λ x. cond (g x == n) 1 0) x xs in let rest = count_of g n xs in omega (arith, a, b, rest))
+count_of g n (x ∷ xs) =
+    (let a = sum_by-cons (λ y. cond (y == n) 1 0) (g x) (map g xs) in let b = sum_by-cons (λ x. cond (g x == n) 1 0) x xs in let rest = count_of g n xs in
+    omega (arith, a, b, rest))
 
 often_of : (g : ℕ → ℕ) (xs ys : List ℕ) → AsOften xs ys → AsOften (map g xs) (map g ys)
 often_of g xs ys same n = count_of g n xs ∙ (sum_is_one (λ x. cond (g x == n) 1 0) xs ys same ∙ sym (count_of g n ys))
@@ -53,7 +56,8 @@ one_value : (f : RowValue → ℕ) (g : ℕ → ℕ) (r : RowValue) (n : ℕ) (b
 one_value f g r n true e = ap (λ (v : ℕ). v ∷ []) e
 one_value f g r n false e = refl
 
-values_upto : (f : RowValue → ℕ) (p : RowValue → Bool) (rows : List RowValue) (n : ℕ) → n ≤ length rows → map f (filter p (take n rows)) ≡ map (λ o. f (row_at rows o)) (filter (λ o. p (row_at rows o)) (range_with_len 0 n))
+values_upto : (f : RowValue → ℕ) (p : RowValue → Bool) (rows : List RowValue) (n : ℕ) → n ≤ length rows
+    → map f (filter p (take n rows)) ≡ map (λ o. f (row_at rows o)) (filter (λ o. p (row_at rows o)) (range_with_len 0 n))
 values_upto f p rows zero le = refl
 values_upto f p rows (suc n) le =
     let e : suc n ≡ n + 1 = omega arith in
@@ -69,21 +73,27 @@ values_upto f p rows (suc n) le =
     ∙ (ap (map g) (sym (place_more q n)) ∙ ap (λ (k : ℕ). map g (filter q (range_with_len 0 k))) (sym e)))))))
 
 values_at : (f : RowValue → ℕ) (p : RowValue → Bool) (rows : List RowValue) → map f (filter p rows) ≡ map (λ o. f (row_at rows o)) (places p rows)
-values_at f p rows = ap (λ (rs : List RowValue). map f (filter p rs)) (sym (take_all (length rows) rows (omega arith))) ∙ values_upto f p rows (length rows) (omega arith)
+values_at f p rows = ap (λ (rs : List RowValue). map f (filter p rs)) (sym (take_all (length rows) rows (omega arith)))
+    ∙ values_upto f p rows (length rows) (omega arith)
 
 -- What a chain's entries measure stands at their places.
-picked_value : (f : RowValue → ℕ) (g : ℕ → ℕ) (a b : Bool) (o : ℕ) (r : RowValue) (xs : List (ℕ × RowValue)) → f r ≡ g o → map f (map (λ (y : ℕ × RowValue). y.1) xs) ≡ map g (map (λ (y : ℕ × RowValue). y.0) xs)
-    → map f (map (λ (y : ℕ × RowValue). y.1) (cond a (cond b ((o, r) ∷ []) []) [] ++ xs)) ≡ map g (map (λ (y : ℕ × RowValue). y.0) (cond a (cond b ((o, r) ∷ []) []) [] ++ xs))
+picked_value : (f : RowValue → ℕ) (g : ℕ → ℕ) (a b : Bool) (o : ℕ) (r : RowValue) (xs : List (ℕ × RowValue)) → f r ≡ g o
+    → map f (map (λ (y : ℕ × RowValue). y.1) xs) ≡ map g (map (λ (y : ℕ × RowValue). y.0) xs)
+    → map f (map (λ (y : ℕ × RowValue). y.1) (cond a (cond b ((o, r) ∷ []) []) [] ++ xs)) ≡ map g
+        (map (λ (y : ℕ × RowValue). y.0) (cond a (cond b ((o, r) ∷ []) []) [] ++ xs))
 picked_value f g true true o r xs e rest = ap₂ (λ (v : ℕ) (vs : List ℕ). v ∷ vs) e rest
 picked_value f g true false o r xs e rest = rest
 picked_value f g false b o r xs e rest = rest
 
-picked_values : (f : RowValue → ℕ) (g : ℕ → ℕ) (sh : Layout) (w : ℕ) (s : Spot) (o : ℕ) (x : Option Entry) (xs : List (ℕ × RowValue)) → ((e : Entry) → x ≡ Some e → f e.row ≡ g o) → map f (map (λ (y : ℕ × RowValue). y.1) xs) ≡ map g (map (λ (y : ℕ × RowValue). y.0) xs)
+picked_values : (f : RowValue → ℕ) (g : ℕ → ℕ) (sh : Layout) (w : ℕ) (s : Spot) (o : ℕ) (x : Option Entry) (xs : List (ℕ × RowValue))
+    → ((e : Entry) → x ≡ Some e → f e.row ≡ g o) → map f (map (λ (y : ℕ × RowValue). y.1) xs) ≡ map g (map (λ (y : ℕ × RowValue). y.0) xs)
     → map f (map (λ (y : ℕ × RowValue). y.1) (pick_at sh w s o x ++ xs)) ≡ map g (map (λ (y : ℕ × RowValue). y.0) (pick_at sh w s o x ++ xs))
 picked_values f g sh w s o None xs is rest = rest
 picked_values f g sh w s o (Some e) xs is rest = picked_value f g _ _ o e.row xs (is e refl) rest
 
-chain_values : (f : RowValue → ℕ) (sh : Layout) (w : ℕ) (s : Spot) (seen : List Entry) (n : ℕ) → map f (map (λ (y : ℕ × RowValue). y.1) (picks sh w s seen n)) ≡ map (λ o. f (row_at (rows_in seen) o)) (map (λ (y : ℕ × RowValue). y.0) (picks sh w s seen n))
+chain_values : (f : RowValue → ℕ) (sh : Layout) (w : ℕ) (s : Spot) (seen : List Entry) (n : ℕ)
+    → map f (map (λ (y : ℕ × RowValue). y.1) (picks sh w s seen n)) ≡ map (λ o. f (row_at (rows_in seen) o))
+    (map (λ (y : ℕ × RowValue). y.0) (picks sh w s seen n))
 chain_values f sh w s seen zero = (let e = picks_zero sh w s seen in rw e refl)
 chain_values f sh w s seen (suc o) =
     let e = picks_next sh w s seen o in
@@ -93,27 +103,37 @@ chain_values f sh w s seen (suc o) =
     ∙ ap (λ (xs : List (ℕ × RowValue)). map g (map (λ (y : ℕ × RowValue). y.0) xs)) (sym e))
 
 -- and so does a leaf's
-leaf_values : (shape : ShapeValue) (lane key : ℕ) (seen : List Entry) (n : ℕ) → leaf_amounts shape lane key seen n ≡ amounts_at shape lane seen (leaf_places shape lane key seen n)
+leaf_values : (shape : ShapeValue) (lane key : ℕ) (seen : List Entry) (n : ℕ)
+    → leaf_amounts shape lane key seen n ≡ amounts_at shape lane seen (leaf_places shape lane key seen n)
 unfolding leaf_amounts leaf_places
 leaf_values shape lane key seen zero = refl
 leaf_values shape lane key seen (suc w) =
     let g = λ (o : ℕ). measure_of shape lane (row_at (rows_in seen) o) in
-    ap₂ (λ (xs ys : List ℕ). xs ++ ys) (leaf_values shape lane key seen w) (chain_values (measure_of shape lane) (layout shape) w (leaf_of shape lane key) seen (length seen))
+    ap₂ (λ (xs ys : List ℕ). xs ++ ys) (leaf_values shape lane key seen w)
+        (chain_values (measure_of shape lane) (layout shape) w (leaf_of shape lane key) seen (length seen))
     ∙ sym (map-append g (leaf_places shape lane key seen w) (chain_places shape lane key seen w))
 
 -- Ranges of keys, one after the other.
-measured_by : (shape : ShapeValue) (lane first high : ℕ) (seen : List Entry) (places : List ℕ) (found : QuadValue) (last : ℕ) → WentOver shape lane first high seen [] places last → found ≡ quad_of (amounts_at shape lane seen places) → HasMeasured shape lane first high seen found last
-measured_by shape lane first high seen places found last over is = record { from = over.from; upto = over.upto; quad = is ∙ ap (λ (xs : List ℕ). quad_of (amounts_at shape lane seen xs)) over.found }
+measured_by : (shape : ShapeValue) (lane first high : ℕ) (seen : List Entry) (places : List ℕ) (found : QuadValue) (last : ℕ)
+    → WentOver shape lane first high seen [] places last → found ≡ quad_of (amounts_at shape lane seen places)
+    → HasMeasured shape lane first high seen found last
+measured_by shape lane first high seen places found last over is =
+    record { from = over.from; upto = over.upto; quad = is ∙ ap (λ (xs : List ℕ). quad_of (amounts_at shape lane seen xs)) over.found }
 
-pub leaf_measured : (shape : ShapeValue) (lane key high : ℕ) (seen : List Entry) (found : QuadValue) → key ≤ high → found ≡ quad_of (leaf_amounts shape lane key seen shape.writers) → HasMeasured shape lane key high seen found key
+pub leaf_measured : (shape : ShapeValue) (lane key high : ℕ) (seen : List Entry) (found : QuadValue) → key ≤ high
+    → found ≡ quad_of (leaf_amounts shape lane key seen shape.writers) → HasMeasured shape lane key high seen found key
 leaf_measured shape lane key high seen found le is =
     let ps = leaf_places shape lane key seen shape.writers in
-    measured_by shape lane key high seen ps found key (leaf_over shape lane key high seen [] ps le refl) (is ∙ ap quad_of (leaf_values shape lane key seen shape.writers))
+    measured_by shape lane key high seen ps found key (leaf_over shape lane key high seen [] ps le refl)
+        (is ∙ ap quad_of (leaf_values shape lane key seen shape.writers))
 
-pub gap_measured : (shape : ShapeValue) (lane key high span : ℕ) (seen : List Entry) → key ≤ high → 0 < span → IsGap shape lane key span seen → HasMeasured shape lane key high seen (record { count = 0; sum = 0; least = 0; greatest = 0 }) (key + min (span - 1 - key % span) (high - key))
-gap_measured shape lane key high span seen le some gap = measured_by shape lane key high seen [] _ _ (gap_over shape lane key high span seen [] le some gap) refl
+pub gap_measured : (shape : ShapeValue) (lane key high span : ℕ) (seen : List Entry) → key ≤ high → 0 < span → IsGap shape lane key span seen
+    → HasMeasured shape lane key high seen (record { count = 0; sum = 0; least = 0; greatest = 0 }) (key + min (span - 1 - key % span) (high - key))
+gap_measured shape lane key high span seen le some gap =
+    measured_by shape lane key high seen [] _ _ (gap_over shape lane key high span seen [] le some gap) refl
 
-pub measured_then : (shape : ShapeValue) (lane low high first last : ℕ) (seen old : List Entry) (total quad merged : QuadValue) → old ≡ seen → HasMeasured shape lane low high seen total first → HasMeasured shape lane (first + 1) high old quad last
+pub measured_then : (shape : ShapeValue) (lane low high first last : ℕ) (seen old : List Entry) (total quad merged : QuadValue) → old ≡ seen
+    → HasMeasured shape lane low high seen total first → HasMeasured shape lane (first + 1) high old quad last
     → ((xs ys : List ℕ) → total ≡ quad_of xs → quad ≡ quad_of ys → merged ≡ quad_of (xs ++ ys)) → HasMeasured shape lane low high seen merged last
 measured_then shape lane low high first last seen old total quad merged same a b both =
     let g = λ (o : ℕ). measure_of shape lane (row_at (rows_in seen) o) in
@@ -122,7 +142,8 @@ measured_then shape lane low high first last seen old total quad merged same a b
     let x : WentOver shape lane low high seen [] xs first = record { from = a.from; upto = a.upto; found = refl } in
     let y : WentOver shape lane (first + 1) high seen xs (xs ++ ys) last = record { from = b.from; upto = b.upto; found = refl } in
     measured_by shape lane low high seen (xs ++ ys) merged last (over_then shape lane low high first last seen seen [] xs (xs ++ ys) refl x y)
-    (both (map g xs) (map g ys) a.quad (b.quad ∙ ap (λ (es : List Entry). quad_of (amounts_at shape lane es (range_places shape lane (first + 1) es (last - (first + 1) + 1)))) same)
+    (both (map g xs) (map g ys) a.quad
+        (b.quad ∙ ap (λ (es : List Entry). quad_of (amounts_at shape lane es (range_places shape lane (first + 1) es (last - (first + 1) + 1)))) same)
     ∙ ap quad_of (sym (map-append g xs ys)))
 
 -- The places found are those of rows that were seen, each once.
@@ -133,7 +154,8 @@ range_covers shape lane low last le top = record {
   bound = λ i lt. omega (arith, le, lt, top);
 }
 
-pub total_is : (shape : ShapeValue) (lane low high n : ℕ) (seen : List Entry) → IsShape shape → lane < length shape.lanes → ((o : ℕ) (e : Entry) → slice_get seen o ≡ Some e → IsFit (layout shape) e) → Covers shape lane low high n
+pub total_is : (shape : ShapeValue) (lane low high n : ℕ) (seen : List Entry) → IsShape shape → lane < length shape.lanes
+    → ((o : ℕ) (e : Entry) → slice_get seen o ≡ Some e → IsFit (layout shape) e) → Covers shape lane low high n
     → quad_of (amounts_at shape lane seen (range_places shape lane low seen n)) ≡ total_over shape lane (is_keyed_between shape lane low high) (rows_in seen)
 total_is shape lane low high n seen is there fit covers =
     let p = is_keyed_between shape lane low high in
@@ -147,12 +169,16 @@ few_passing : (p : RowValue → Bool) (rows : List RowValue) → length (filter 
 few_passing p rows = (let a = length-filter p rows in let b = count_by-le-length p rows in omega (arith, a, b))
 
 -- the quad of what was gone over is its total
-pub total_of : (shape : ShapeValue) (lane low high last : ℕ) (seen : List Entry) (found : QuadValue) → IsShape shape → lane < length shape.lanes → ((o : ℕ) (e : Entry) → slice_get seen o ≡ Some e → IsFit (layout shape) e) → high < 16 ^ levels_of shape lane
+pub total_of : (shape : ShapeValue) (lane low high last : ℕ) (seen : List Entry) (found : QuadValue) → IsShape shape → lane < length shape.lanes
+    → ((o : ℕ) (e : Entry) → slice_get seen o ≡ Some e → IsFit (layout shape) e) → high < 16 ^ levels_of shape lane
     → HasMeasured shape lane low high seen found last → found ≡ total_over shape lane (is_keyed_between shape lane low last) (rows_in seen)
-total_of shape lane low high last seen found is there fit top m = (let upto = m.upto in m.quad ∙ total_is shape lane low last (last - low + 1) seen is there fit (range_covers shape lane low last m.from (omega (arith, upto, top))))
+total_of shape lane low high last seen found is there fit top m =
+    (let upto = m.upto in m.quad
+    ∙ total_is shape lane low last (last - low + 1) seen is there fit (range_covers shape lane low last m.from (omega (arith, upto, top))))
 
 -- no more than were seen
-pub measured_few : (shape : ShapeValue) (lane low high last : ℕ) (seen : List Entry) (found : QuadValue) → IsShape shape → lane < length shape.lanes → ((o : ℕ) (e : Entry) → slice_get seen o ≡ Some e → IsFit (layout shape) e) → high < 16 ^ levels_of shape lane
+pub measured_few : (shape : ShapeValue) (lane low high last : ℕ) (seen : List Entry) (found : QuadValue) → IsShape shape → lane < length shape.lanes
+    → ((o : ℕ) (e : Entry) → slice_get seen o ≡ Some e → IsFit (layout shape) e) → high < 16 ^ levels_of shape lane
     → HasMeasured shape lane low high seen found last → found.count ≤ length seen
 measured_few shape lane low high last seen found is there fit top m =
     let p = is_keyed_between shape lane low last in
@@ -164,6 +190,8 @@ measured_few shape lane low high last seen found is there fit top m =
     omega (arith, c, long, few, rows)
 
 -- where the lane has no key of the range
-pub total_none : (shape : ShapeValue) (lane low high : ℕ) (seen : List Entry) → IsShape shape → lane < length shape.lanes → ((o : ℕ) (e : Entry) → slice_get seen o ≡ Some e → IsFit (layout shape) e) → Covers shape lane low high 0
+pub total_none : (shape : ShapeValue) (lane low high : ℕ) (seen : List Entry) → IsShape shape → lane < length shape.lanes
+    → ((o : ℕ) (e : Entry) → slice_get seen o ≡ Some e → IsFit (layout shape) e) → Covers shape lane low high 0
     → ◌≡◌ {A = QuadValue} (record { count = 0; sum = 0; least = 0; greatest = 0 }) (total_over shape lane (is_keyed_between shape lane low high) (rows_in seen))
-total_none shape lane low high seen is there fit covers = sym (ap (λ (xs : List ℕ). quad_of (amounts_at shape lane seen xs)) (range_zero shape lane low seen)) ∙ total_is shape lane low high 0 seen is there fit covers
+total_none shape lane low high seen is there fit covers = sym (ap (λ (xs : List ℕ). quad_of (amounts_at shape lane seen xs)) (range_zero shape lane low seen))
+    ∙ total_is shape lane low high 0 seen is there fit covers

@@ -28,7 +28,8 @@ pick_some sh w s o e is =
     ap (λ (x : Bool). cond x (cond test ((o, e.row) ∷ []) []) []) a ∙ ap (λ (x : Bool). cond x ((o, e.row) ∷ []) []) b
 
 -- an entry at this place is the next
-pub picks_next : (sh : Layout) (w : ℕ) (s : Spot) (seen : List Entry) (o : ℕ) → picks sh w s seen (suc o) ≡ pick_at sh w s o (slice_get seen o) ++ picks sh w s seen o
+pub picks_next : (sh : Layout) (w : ℕ) (s : Spot) (seen : List Entry) (o : ℕ)
+    → picks sh w s seen (suc o) ≡ pick_at sh w s o (slice_get seen o) ++ picks sh w s seen o
 unfolding picks
 picks_next sh w s seen o = refl
 
@@ -40,11 +41,14 @@ picks_zero sh w s seen = refl
 abbrev pub NoneBetween : Layout → ℕ → Spot → List Entry → ℕ → ℕ → Type 0
 NoneBetween sh w s seen k n = (i : ℕ) (e : Entry) → k ≤ i → i < n → slice_get seen i ≡ Some e → IsIn sh w s e → ⊥
 
-pub picks_skip : (sh : Layout) (w : ℕ) (s : Spot) (seen : List Entry) (k n : ℕ) → k ≤ n → NoneBetween sh w s seen k n → picks sh w s seen n ≡ picks sh w s seen k
+pub picks_skip : (sh : Layout) (w : ℕ) (s : Spot) (seen : List Entry) (k n : ℕ) → k ≤ n → NoneBetween sh w s seen k n
+    → picks sh w s seen n ≡ picks sh w s seen k
 picks_skip sh w s seen k zero le none = (let e : 0 ≡ k = omega (arith, le) in ap (picks sh w s seen) e)
 picks_skip sh w s seen k (suc n) le none = elim (cases_lt n k) [
   | inl past ↦ (let e : suc n ≡ k = omega (arith, le, past) in ap (picks sh w s seen) e)
-  | inr low ↦ picks_next sh w s seen n ∙ (ap (λ (xs : List (ℕ × RowValue)). xs ++ picks sh w s seen n) (here (slice_get seen n) refl low) ∙ picks_skip sh w s seen k n low (λ i e a b. none i e a (omega (arith, b))))
+  | inr low ↦ picks_next sh w s seen n
+      ∙ (ap (λ (xs : List (ℕ × RowValue)). xs ++ picks sh w s seen n) (here (slice_get seen n) refl low)
+      ∙ picks_skip sh w s seen k n low (λ i e a b. none i e a (omega (arith, b))))
 ]
   where
     here : (e : Option Entry) → slice_get seen n ≡ e → k ≤ n → pick_at sh w s n (slice_get seen n) ≡ []
@@ -53,4 +57,5 @@ picks_skip sh w s seen k (suc n) le none = elim (cases_lt n k) [
 
 -- past the end there are no more
 pub picks_past : (sh : Layout) (w : ℕ) (s : Spot) (seen : List Entry) (n : ℕ) → length seen ≤ n → picks sh w s seen n ≡ picks sh w s seen (length seen)
-picks_past sh w s seen n le = picks_skip sh w s seen (length seen) n le (λ i e a b at is. let lt = slice_get_within seen i e at in absurd (omega (arith, a, lt)))
+picks_past sh w s seen n le =
+    picks_skip sh w s seen (length seen) n le (λ i e a b at is. let lt = slice_get_within seen i e at in absurd (omega (arith, a, lt)))

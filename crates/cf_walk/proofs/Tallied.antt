@@ -31,7 +31,8 @@ use Rattle.cf_walk.proofs.Picked.{picks_next, picks_zero, pick_none, pick_some}
 -- Sums in which one number at most is not 0.
 sum_none : (h c : ℕ → ℕ) → h 0 ≡ 0 → ((n : ℕ) → h (suc n) ≡ h n + c n) → (n : ℕ) → ((i : ℕ) → i < n → c i ≡ 0) → h n ≡ 0
 sum_none h c none more zero out = none
-sum_none h c none more (suc n) out = (let a = more n in let b = sum_none h c none more n (λ i lt. out i (omega (arith, lt))) in let d = out n (omega arith) in omega (arith, a, b, d))
+sum_none h c none more (suc n) out =
+    (let a = more n in let b = sum_none h c none more n (λ i lt. out i (omega (arith, lt))) in let d = out n (omega arith) in omega (arith, a, b, d))
 
 sum_one : (h c : ℕ → ℕ) → h 0 ≡ 0 → ((n : ℕ) → h (suc n) ≡ h n + c n) → (n k : ℕ) → k < n → c k ≡ 1 → ((i : ℕ) → i < n → (i ≡ k → ⊥) → c i ≡ 0) → h n ≡ 1
 sum_one h c none more zero k lt one out = absurd (omega (arith, lt))
@@ -64,14 +65,18 @@ picked sh w s seen i = map (λ x. x.0) (pick_at sh w s i (slice_get seen i))
 abbrev chained : Layout → ℕ → Spot → List Entry → ℕ → List ℕ
 chained sh w s seen n = map (λ x. x.0) (picks sh w s seen n)
 
-picked_in : (sh : Layout) (w : ℕ) (s : Spot) (seen : List Entry) (j : ℕ) (e : Entry) → slice_get seen j ≡ Some e → IsIn sh w s e → count j (picked sh w s seen j) ≡ 1
+picked_in : (sh : Layout) (w : ℕ) (s : Spot) (seen : List Entry) (j : ℕ) (e : Entry) → slice_get seen j ≡ Some e → IsIn sh w s e
+    → count j (picked sh w s seen j) ≡ 1
 picked_in sh w s seen j e at is =
-    ap (λ (x : Option Entry). count j (map (λ x. x.0) (pick_at sh w s j x))) at ∙ (ap (λ (xs : List (ℕ × RowValue)). count j (map (λ x. x.0) xs)) (pick_some sh w s j e is) ∙ count_it j j refl)
+    ap (λ (x : Option Entry). count j (map (λ x. x.0) (pick_at sh w s j x))) at
+        ∙ (ap (λ (xs : List (ℕ × RowValue)). count j (map (λ x. x.0) xs)) (pick_some sh w s j e is) ∙ count_it j j refl)
 
-picked_out : (sh : Layout) (w : ℕ) (s : Spot) (seen : List Entry) (j : ℕ) (x : Option Entry) → slice_get seen j ≡ x → ((e : Entry) → slice_get seen j ≡ Some e → IsIn sh w s e → ⊥) → count j (picked sh w s seen j) ≡ 0
+picked_out : (sh : Layout) (w : ℕ) (s : Spot) (seen : List Entry) (j : ℕ) (x : Option Entry) → slice_get seen j ≡ x
+    → ((e : Entry) → slice_get seen j ≡ Some e → IsIn sh w s e → ⊥) → count j (picked sh w s seen j) ≡ 0
 picked_out sh w s seen j None at out = ap (λ (x : Option Entry). count j (map (λ x. x.0) (pick_at sh w s j x))) at
 picked_out sh w s seen j (Some e) at out =
-    ap (λ (x : Option Entry). count j (map (λ x. x.0) (pick_at sh w s j x))) at ∙ ap (λ (xs : List (ℕ × RowValue)). count j (map (λ x. x.0) xs)) (pick_none sh w s j e (out e at))
+    ap (λ (x : Option Entry). count j (map (λ x. x.0) (pick_at sh w s j x))) at
+        ∙ ap (λ (xs : List (ℕ × RowValue)). count j (map (λ x. x.0) xs)) (pick_none sh w s j e (out e at))
 
 flat_else : (j i : ℕ) (a b : Bool) (r : RowValue) → (i ≡ j → ⊥) → count j (map (λ (x : ℕ × RowValue). x.0) (cond a (cond b ((i, r) ∷ []) []) [])) ≡ 0
 flat_else j i false b r ne = refl
@@ -89,18 +94,22 @@ map_both : (xs ys : List (ℕ × RowValue)) → map (λ (x : ℕ × RowValue). x
 map_both [] ys = refl
 map_both (x ∷ xs) ys = ap (λ (zs : List ℕ). x.0 ∷ zs) (map_both xs ys)
 
-chain_more : (sh : Layout) (w : ℕ) (s : Spot) (seen : List Entry) (j n : ℕ) → count j (chained sh w s seen (suc n)) ≡ count j (chained sh w s seen n) + count j (picked sh w s seen n)
+chain_more : (sh : Layout) (w : ℕ) (s : Spot) (seen : List Entry) (j n : ℕ)
+    → count j (chained sh w s seen (suc n)) ≡ count j (chained sh w s seen n) + count j (picked sh w s seen n)
 chain_more sh w s seen j n =
     ap (λ (xs : List (ℕ × RowValue)). count j (map (λ x. x.0) xs)) (picks_next sh w s seen n)
     ∙ (ap (count j) (map_both (pick_at sh w s n (slice_get seen n)) (picks sh w s seen n))
     ∙ (count_both j (picked sh w s seen n) (chained sh w s seen n) ∙ omega arith))
 
-pub chain_has : (sh : Layout) (w : ℕ) (s : Spot) (seen : List Entry) (j : ℕ) (e : Entry) → slice_get seen j ≡ Some e → IsIn sh w s e → count j (chained sh w s seen (length seen)) ≡ 1
+pub chain_has : (sh : Layout) (w : ℕ) (s : Spot) (seen : List Entry) (j : ℕ) (e : Entry) → slice_get seen j ≡ Some e → IsIn sh w s e
+    → count j (chained sh w s seen (length seen)) ≡ 1
 chain_has sh w s seen j e at is =
-    sum_one (λ n. count j (chained sh w s seen n)) (λ i. count j (picked sh w s seen i)) (chain_start sh w s seen j) (chain_more sh w s seen j) (length seen) j (slice_get_within seen j e at) (picked_in sh w s seen j e at is)
+    sum_one (λ n. count j (chained sh w s seen n)) (λ i. count j (picked sh w s seen i)) (chain_start sh w s seen j) (chain_more sh w s seen j) (length seen) j
+        (slice_get_within seen j e at) (picked_in sh w s seen j e at is)
     (λ i lt ne. picked_else sh w s j i (slice_get seen i) ne)
 
-pub chain_lacks : (sh : Layout) (w : ℕ) (s : Spot) (seen : List Entry) (j : ℕ) → ((e : Entry) → slice_get seen j ≡ Some e → IsIn sh w s e → ⊥) → count j (chained sh w s seen (length seen)) ≡ 0
+pub chain_lacks : (sh : Layout) (w : ℕ) (s : Spot) (seen : List Entry) (j : ℕ) → ((e : Entry) → slice_get seen j ≡ Some e → IsIn sh w s e → ⊥)
+    → count j (chained sh w s seen (length seen)) ≡ 0
 chain_lacks sh w s seen j out =
     sum_none (λ n. count j (chained sh w s seen n)) (λ i. count j (picked sh w s seen i)) (chain_start sh w s seen j) (chain_more sh w s seen j) (length seen)
     (λ i lt. elim (cases_eq i j) [
@@ -113,22 +122,28 @@ leaf_start : (shape : ShapeValue) (lane key : ℕ) (seen : List Entry) (j : ℕ)
 unfolding leaf_places
 leaf_start shape lane key seen j = refl
 
-leaf_one : (shape : ShapeValue) (lane key : ℕ) (seen : List Entry) (j n : ℕ) → count j (leaf_places shape lane key seen (suc n)) ≡ count j (leaf_places shape lane key seen n) + count j (chain_places shape lane key seen n)
+leaf_one : (shape : ShapeValue) (lane key : ℕ) (seen : List Entry) (j n : ℕ)
+    → count j (leaf_places shape lane key seen (suc n)) ≡ count j (leaf_places shape lane key seen n) + count j (chain_places shape lane key seen n)
 unfolding leaf_places
 leaf_one shape lane key seen j n = count_both j (leaf_places shape lane key seen n) (chain_places shape lane key seen n)
 
 abbrev InLeaf : ShapeValue → ℕ → ℕ → Entry → Type 0
 InLeaf shape lane key e = path_in shape e.row lane ≡ Some (nibbles (levels_of shape lane) key)
 
-leaf_has : (shape : ShapeValue) (lane key n : ℕ) (seen : List Entry) (j : ℕ) (e : Entry) → slice_get seen j ≡ Some e → e.writer < n → InLeaf shape lane key e → count j (leaf_places shape lane key seen n) ≡ 1
+leaf_has : (shape : ShapeValue) (lane key n : ℕ) (seen : List Entry) (j : ℕ) (e : Entry) → slice_get seen j ≡ Some e → e.writer < n → InLeaf shape lane key e
+    → count j (leaf_places shape lane key seen n) ≡ 1
 leaf_has shape lane key n seen j e at lt leaf =
-    sum_one (λ k. count j (leaf_places shape lane key seen k)) (λ w. count j (chain_places shape lane key seen w)) (leaf_start shape lane key seen j) (leaf_one shape lane key seen j) n e.writer lt
+    sum_one (λ k. count j (leaf_places shape lane key seen k)) (λ w. count j (chain_places shape lane key seen w)) (leaf_start shape lane key seen j)
+        (leaf_one shape lane key seen j) n e.writer lt
     (chain_has (layout shape) e.writer (leaf_of shape lane key) seen j e at (refl, leaf))
-    (λ w lt ne. chain_lacks (layout shape) w (leaf_of shape lane key) seen j (λ x there is. let same : x ≡ e = (let f : Some x ≡ Some e = sym there ∙ at in cc f) in ne (sym (ap (λ (y : Entry). y.writer) (sym same) ∙ is.0))))
+    (λ w lt ne. chain_lacks (layout shape) w (leaf_of shape lane key) seen j
+        (λ x there is. let same : x ≡ e = (let f : Some x ≡ Some e = sym there ∙ at in cc f) in ne (sym (ap (λ (y : Entry). y.writer) (sym same) ∙ is.0))))
 
-leaf_lacks : (shape : ShapeValue) (lane key n : ℕ) (seen : List Entry) (j : ℕ) → ((e : Entry) → slice_get seen j ≡ Some e → InLeaf shape lane key e → ⊥) → count j (leaf_places shape lane key seen n) ≡ 0
+leaf_lacks : (shape : ShapeValue) (lane key n : ℕ) (seen : List Entry) (j : ℕ) → ((e : Entry) → slice_get seen j ≡ Some e → InLeaf shape lane key e → ⊥)
+    → count j (leaf_places shape lane key seen n) ≡ 0
 leaf_lacks shape lane key n seen j out =
-    sum_none (λ k. count j (leaf_places shape lane key seen k)) (λ w. count j (chain_places shape lane key seen w)) (leaf_start shape lane key seen j) (leaf_one shape lane key seen j) n
+    sum_none (λ k. count j (leaf_places shape lane key seen k)) (λ w. count j (chain_places shape lane key seen w)) (leaf_start shape lane key seen j)
+        (leaf_one shape lane key seen j) n
     (λ w lt. chain_lacks (layout shape) w (leaf_of shape lane key) seen j (λ e at is. out e at is.1))
 
 -- In a range.
@@ -136,7 +151,9 @@ range_start : (shape : ShapeValue) (lane low : ℕ) (seen : List Entry) (j : ℕ
 unfolding range_places
 range_start shape lane low seen j = refl
 
-range_one : (shape : ShapeValue) (lane low : ℕ) (seen : List Entry) (j n : ℕ) → count j (range_places shape lane low seen (suc n)) ≡ count j (range_places shape lane low seen n) + count j (leaf_places shape lane (low + n) seen shape.writers)
+range_one : (shape : ShapeValue) (lane low : ℕ) (seen : List Entry) (j n : ℕ)
+    → count j (range_places shape lane low seen (suc n)) ≡ count j (range_places shape lane low seen n) + count j
+    (leaf_places shape lane (low + n) seen shape.writers)
 unfolding range_places
 range_one shape lane low seen j n = count_both j (range_places shape lane low seen n) (leaf_places shape lane (low + n) seen shape.writers)
 
@@ -144,37 +161,48 @@ leads : (shape : ShapeValue) (lane : ℕ) (e : Entry) → selected_by shape lane
 leads shape lane e sel = ap (λ (b : Bool). cond {A = Option (List ℕ)} b (Some (nibbles (levels_of shape lane) (key_of shape lane e.row))) None) sel
 
 -- the leaf of an entry is that of its key alone
-leaf_key : (shape : ShapeValue) (lane k : ℕ) (e : Entry) → key_of shape lane e.row < 16 ^ levels_of shape lane → k < 16 ^ levels_of shape lane → InLeaf shape lane k e → (selected_by shape lane e.row ≡ true) × (key_of shape lane e.row ≡ k)
+leaf_key : (shape : ShapeValue) (lane k : ℕ) (e : Entry) → key_of shape lane e.row < 16 ^ levels_of shape lane → k < 16 ^ levels_of shape lane
+    → InLeaf shape lane k e → (selected_by shape lane e.row ≡ true) × (key_of shape lane e.row ≡ k)
 leaf_key shape lane k e small low is = elim (cases_Bool (selected_by shape lane e.row)) [
   | inl sel ↦ (
     sel,
-    let f : ◌≡◌ {A = Option (List ℕ)} (Some (nibbles (levels_of shape lane) (key_of shape lane e.row))) (Some (nibbles (levels_of shape lane) k)) = sym (leads shape lane e sel) ∙ is in
+    let f : ◌≡◌ {A = Option (List ℕ)} (Some (nibbles (levels_of shape lane) (key_of shape lane e.row))) (Some (nibbles (levels_of shape lane) k)) =
+        sym (leads shape lane e sel) ∙ is in
         let g : nibbles (levels_of shape lane) (key_of shape lane e.row) ≡ nibbles (levels_of shape lane) k = cc f in
         same_from_nibbles (levels_of shape lane) (key_of shape lane e.row) k small low g,
   )
-  | inr no' ↦ absurd (let f : ◌≡◌ {A = Option (List ℕ)} None (Some (nibbles (levels_of shape lane) k)) = sym (ap (λ (b : Bool). cond {A = Option (List ℕ)} b (Some (nibbles (levels_of shape lane) (key_of shape lane e.row))) None) no') ∙ is in cc f)
+  | inr no' ↦ absurd
+      (let f : ◌≡◌ {A = Option (List ℕ)} None (Some (nibbles (levels_of shape lane) k)) =
+      sym (ap (λ (b : Bool). cond {A = Option (List ℕ)} b (Some (nibbles (levels_of shape lane) (key_of shape lane e.row))) None) no') ∙ is in cc f)
 ]
 
 same_entry : (seen : List Entry) (j : ℕ) (x e : Entry) → slice_get seen j ≡ Some x → slice_get seen j ≡ Some e → x ≡ e
 same_entry seen j x e a b = (let f : Some x ≡ Some e = sym a ∙ b in cc f)
 
-range_has : (shape : ShapeValue) (lane low n : ℕ) (seen : List Entry) (j : ℕ) (e : Entry) → slice_get seen j ≡ Some e → e.writer < shape.writers → selected_by shape lane e.row ≡ true → key_of shape lane e.row < 16 ^ levels_of shape lane
-    → low ≤ key_of shape lane e.row → key_of shape lane e.row < low + n → ((i : ℕ) → i < n → low + i < 16 ^ levels_of shape lane) → count j (range_places shape lane low seen n) ≡ 1
+range_has : (shape : ShapeValue) (lane low n : ℕ) (seen : List Entry) (j : ℕ) (e : Entry) → slice_get seen j ≡ Some e → e.writer < shape.writers
+    → selected_by shape lane e.row ≡ true → key_of shape lane e.row < 16 ^ levels_of shape lane
+    → low ≤ key_of shape lane e.row → key_of shape lane e.row < low + n → ((i : ℕ) → i < n → low + i < 16 ^ levels_of shape lane)
+        → count j (range_places shape lane low seen n) ≡ 1
 range_has shape lane low n seen j e at writer sel small from upto bound =
     let key = key_of shape lane e.row in
     let here : low + (key - low) ≡ key = omega (arith, from) in
-    sum_one (λ m. count j (range_places shape lane low seen m)) (λ i. count j (leaf_places shape lane (low + i) seen shape.writers)) (range_start shape lane low seen j) (range_one shape lane low seen j) n (key - low) (omega (arith, from, upto))
-    (ap (λ (k : ℕ). count j (leaf_places shape lane k seen shape.writers)) here ∙ leaf_has shape lane key shape.writers seen j e at writer (leads shape lane e sel))
+    sum_one (λ m. count j (range_places shape lane low seen m)) (λ i. count j (leaf_places shape lane (low + i) seen shape.writers))
+        (range_start shape lane low seen j) (range_one shape lane low seen j) n (key - low) (omega (arith, from, upto))
+    (ap (λ (k : ℕ). count j (leaf_places shape lane k seen shape.writers)) here
+        ∙ leaf_has shape lane key shape.writers seen j e at writer (leads shape lane e sel))
     (λ i lt ne. leaf_lacks shape lane (low + i) shape.writers seen j (λ x there is.
     let same : x ≡ e = same_entry seen j x e there at in
     let k = leaf_key shape lane (low + i) e small (bound i lt) (subst (InLeaf shape lane (low + i)) same is) in
     let eq = k.1 in
     ne (omega (arith, eq, from))))
 
-range_lacks : (shape : ShapeValue) (lane low n : ℕ) (seen : List Entry) (j : ℕ) → ((e : Entry) → slice_get seen j ≡ Some e → key_of shape lane e.row < 16 ^ levels_of shape lane) → ((i : ℕ) → i < n → low + i < 16 ^ levels_of shape lane)
-    → ((e : Entry) → slice_get seen j ≡ Some e → selected_by shape lane e.row ≡ true → low ≤ key_of shape lane e.row → key_of shape lane e.row < low + n → ⊥) → count j (range_places shape lane low seen n) ≡ 0
+range_lacks : (shape : ShapeValue) (lane low n : ℕ) (seen : List Entry) (j : ℕ)
+    → ((e : Entry) → slice_get seen j ≡ Some e → key_of shape lane e.row < 16 ^ levels_of shape lane) → ((i : ℕ) → i < n → low + i < 16 ^ levels_of shape lane)
+    → ((e : Entry) → slice_get seen j ≡ Some e → selected_by shape lane e.row ≡ true → low ≤ key_of shape lane e.row → key_of shape lane e.row < low + n → ⊥)
+        → count j (range_places shape lane low seen n) ≡ 0
 range_lacks shape lane low n seen j small bound out =
-    sum_none (λ m. count j (range_places shape lane low seen m)) (λ i. count j (leaf_places shape lane (low + i) seen shape.writers)) (range_start shape lane low seen j) (range_one shape lane low seen j) n
+    sum_none (λ m. count j (range_places shape lane low seen m)) (λ i. count j (leaf_places shape lane (low + i) seen shape.writers))
+        (range_start shape lane low seen j) (range_one shape lane low seen j) n
     (λ i lt. leaf_lacks shape lane (low + i) shape.writers seen j (λ e at is.
     let k = leaf_key shape lane (low + i) e (small e at) (bound i lt) is in
     let eq = k.1 in
@@ -184,10 +212,12 @@ range_lacks shape lane low n seen j small bound out =
 kept_start : (p : ℕ → Bool) (j : ℕ) → count j (filter p (range_with_len 0 0)) ≡ 0
 kept_start p j = refl
 
-kept_more : (p : ℕ → Bool) (j n : ℕ) → count j (filter p (range_with_len 0 (suc n))) ≡ count j (filter p (range_with_len 0 n)) + count j (cond (p n) (n ∷ []) [])
+kept_more : (p : ℕ → Bool) (j n : ℕ)
+    → count j (filter p (range_with_len 0 (suc n))) ≡ count j (filter p (range_with_len 0 n)) + count j (cond (p n) (n ∷ []) [])
 kept_more p j n =
     let e : suc n ≡ n + 1 = omega arith in
-    ap (λ (k : ℕ). count j (filter p (range_with_len 0 k))) e ∙ (ap (count j) (place_more p n) ∙ count_both j (filter p (range_with_len 0 n)) (cond (p n) (n ∷ []) []))
+    ap (λ (k : ℕ). count j (filter p (range_with_len 0 k))) e
+        ∙ (ap (count j) (place_more p n) ∙ count_both j (filter p (range_with_len 0 n)) (cond (p n) (n ∷ []) []))
 
 place_else : (j i : ℕ) (b : Bool) → (i ≡ j → ⊥) → count j (cond b (i ∷ []) []) ≡ 0
 place_else j i true ne = count_else j i ne
@@ -228,7 +258,8 @@ pub record Covers (shape : ShapeValue) (lane low high n : ℕ) : Type 0 where
 pub fits_of : (shape : ShapeValue) (e : Entry) → IsFit (layout shape) e → Fits shape.schema e.row
 fits_of shape e fit = (both (values_fit shape.schema (e.row).values) (nat_lt (e.row).num (2 ^ 32)) fit.0).0
 
-pub as_often : (shape : ShapeValue) (lane low high n : ℕ) (seen : List Entry) → IsShape shape → lane < length shape.lanes → ((o : ℕ) (e : Entry) → slice_get seen o ≡ Some e → IsFit (layout shape) e) → Covers shape lane low high n
+pub as_often : (shape : ShapeValue) (lane low high n : ℕ) (seen : List Entry) → IsShape shape → lane < length shape.lanes
+    → ((o : ℕ) (e : Entry) → slice_get seen o ≡ Some e → IsFit (layout shape) e) → Covers shape lane low high n
     → AsOften (range_places shape lane low seen n) (places (is_keyed_between shape lane low high) (rows_in seen))
 as_often shape lane low high n seen is there fit covers j =
     let passes = is_keyed_between shape lane low high in
@@ -252,14 +283,16 @@ as_often shape lane low high n seen is there fit covers j =
                 range_has shape lane low n seen j e at f.1 b.0 small from (covers.inside key small from upto) covers.bound
                 ∙ sym (place_has p j (length (rows_in seen)) (omega (arith, lt, long)) (ap (is_keyed_between shape lane low high) (sym row) ∙ t))
             | inr t ↦
-                range_lacks shape lane low n seen j (λ x h. subst (λ (y : Entry). key_of shape lane y.row < 16 ^ levels_of shape lane) (same_entry seen j e x at h) small) covers.bound
+                range_lacks shape lane low n seen j
+                    (λ x h. subst (λ (y : Entry). key_of shape lane y.row < 16 ^ levels_of shape lane) (same_entry seen j e x at h) small) covers.bound
                 (λ x h s from upto.
                 let same : x ≡ e = same_entry seen j x e h at in
                 let s' : sel ≡ true = ap (λ (y : Entry). selected_by shape lane y.row) (sym same) ∙ s in
                 let k = ap (λ (y : Entry). key_of shape lane y.row) same in
                 let low' : low ≤ key = omega (arith, from, k) in
                 let high' : key ≤ high = covers.outside key low' (omega (arith, upto, k)) in
-                let t' = both_true sel (is_between low high key) s' (both_true (nat_le low key) (nat_le key high) (le-leb low key low') (le-leb key high high')) in
+                let t' = both_true sel (is_between low high key) s'
+                    (both_true (nat_le low key) (nat_le key high) (le-leb low key low') (le-leb key high high')) in
                 absurd (cc (t, t')))
                 ∙ sym (place_lacks p j (length (rows_in seen)) (λ h. ap (is_keyed_between shape lane low high) (sym row) ∙ t))
           ]
@@ -278,19 +311,23 @@ climbs_rise : (ns : List ℕ) → Rise ns → Climbs ns
 climbs_rise [] rise = tt
 climbs_rise (n ∷ ns) rise = (above_all n ns rise.0, climbs_rise ns rise.1)
 
-pub sorted_are : (passes : RowValue → Bool) (rows : List RowValue) (found sorted : List ℕ) → AsOften found (places passes rows) → IsPermutation found sorted → IsSorted nat_cmp sorted → sorted ≡ places passes rows
+pub sorted_are : (passes : RowValue → Bool) (rows : List RowValue) (found sorted : List ℕ) → AsOften found (places passes rows) → IsPermutation found sorted
+    → IsSorted nat_cmp sorted → sorted ≡ places passes rows
 sorted_are passes rows found sorted same moved up =
     let ps = places passes rows in
-    sort_leaves found sorted moved up ∙ (sort_is_one found ps same ∙ climbing_is_one (sort ps) ps (climbs_sort ps) (climbs_rise ps (places_rise passes rows)) (λ n. count_sort n ps))
+    sort_leaves found sorted moved up
+        ∙ (sort_is_one found ps same ∙ climbing_is_one (sort ps) ps (climbs_sort ps) (climbs_rise ps (places_rise passes rows)) (λ n. count_sort n ps))
 
-pub covers_some : (shape : ShapeValue) (lane low high top upto : ℕ) → top + 1 ≡ 16 ^ levels_of shape lane → upto ≡ min high top → low ≤ upto → Covers shape lane low high (upto - low + 1)
+pub covers_some : (shape : ShapeValue) (lane low high top upto : ℕ) → top + 1 ≡ 16 ^ levels_of shape lane → upto ≡ min high top → low ≤ upto
+    → Covers shape lane low high (upto - low + 1)
 covers_some shape lane low high top upto most is le = record {
   inside = λ k small from le'. omega (arith, most, is, le, small, from, le');
   outside = λ k from lt. omega (arith, is, le, from, lt);
   bound = λ i lt. omega (arith, most, is, le, lt);
 }
 
-pub covers_none : (shape : ShapeValue) (lane low high top upto : ℕ) → top + 1 ≡ 16 ^ levels_of shape lane → upto ≡ min high top → upto < low → Covers shape lane low high 0
+pub covers_none : (shape : ShapeValue) (lane low high top upto : ℕ) → top + 1 ≡ 16 ^ levels_of shape lane → upto ≡ min high top → upto < low
+    → Covers shape lane low high 0
 covers_none shape lane low high top upto most is lt = record {
   inside = λ k small from le'. absurd (omega (arith, most, is, lt, small, from, le'));
   outside = λ k from below. absurd (omega (arith, from, below));
@@ -298,11 +335,13 @@ covers_none shape lane low high top upto most is lt = record {
 }
 
 -- the same of a list that is these places, or none
-pub some_often : (shape : ShapeValue) (lane low high n : ℕ) (seen : List Entry) (items : List ℕ) → IsShape shape → lane < length shape.lanes → ((o : ℕ) (e : Entry) → slice_get seen o ≡ Some e → IsFit (layout shape) e) → Covers shape lane low high n
+pub some_often : (shape : ShapeValue) (lane low high n : ℕ) (seen : List Entry) (items : List ℕ) → IsShape shape → lane < length shape.lanes
+    → ((o : ℕ) (e : Entry) → slice_get seen o ≡ Some e → IsFit (layout shape) e) → Covers shape lane low high n
     → items ≡ range_places shape lane low seen n → AsOften items (places (is_keyed_between shape lane low high) (rows_in seen))
 some_often shape lane low high n seen items is there fit covers same j = ap (count j) same ∙ as_often shape lane low high n seen is there fit covers j
 
-pub none_often : (shape : ShapeValue) (lane low high : ℕ) (seen : List Entry) (items : List ℕ) → IsShape shape → lane < length shape.lanes → ((o : ℕ) (e : Entry) → slice_get seen o ≡ Some e → IsFit (layout shape) e) → Covers shape lane low high 0
+pub none_often : (shape : ShapeValue) (lane low high : ℕ) (seen : List Entry) (items : List ℕ) → IsShape shape → lane < length shape.lanes
+    → ((o : ℕ) (e : Entry) → slice_get seen o ≡ Some e → IsFit (layout shape) e) → Covers shape lane low high 0
     → items ≡ [] → AsOften items (places (is_keyed_between shape lane low high) (rows_in seen))
 unfolding range_places
 none_often shape lane low high seen items is there fit covers same j = ap (count j) same ∙ as_often shape lane low high 0 seen is there fit covers j

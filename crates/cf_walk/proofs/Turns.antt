@@ -37,7 +37,8 @@ node_turn : (lane level front node : ℕ) → (level ≡ 1 → ⊥) → turn_slo
 node_turn lane level front node e = ap (λ (b : Bool). cond b (root lane (front % 16)) (body node (suc (front % 16)))) (eq_false level 1 e)
 
 -- the child word may be loaded
-pub turn_child : (shape : ShapeValue) (p : Pass) (lane level front node : ℕ) → IsShape shape → IsTurn shape lane level front node p → IsChild (layout shape) p (spot lane (nibbles level front)) (turn_slot lane level front node)
+pub turn_child : (shape : ShapeValue) (p : Pass) (lane level front node : ℕ) → IsShape shape → IsTurn shape lane level front node p
+    → IsChild (layout shape) p (spot lane (nibbles level front)) (turn_slot lane level front node)
 turn_child shape p lane zero front node is turn = absurd (let h = turn.inner in omega (arith, h.0))
 turn_child shape p lane (suc zero) front node is turn =
     let at = root_turn lane 1 front node refl in
@@ -50,7 +51,8 @@ turn_child shape p lane (suc (suc j)) front node is turn =
     let some : 1 < suc (suc j) = omega arith in
     let at = node_turn lane (suc (suc j)) front node (λ e. absurd (omega (arith, e))) in
     let up : suc (suc j) - 1 ≡ suc j = omega arith in
-    let k : Knows p (spot lane (nibbles (suc j) (front / 16))) node = subst (λ (n : ℕ). Knows p (spot lane (nibbles n (front / 16))) node) up (turn.knows some) in
+    let k : Knows p (spot lane (nibbles (suc j) (front / 16))) node =
+        subst (λ (n : ℕ). Knows p (spot lane (nibbles n (front / 16))) node) up (turn.knows some) in
     let w : node < shape.writers * shape.nodes = turn.within some in
     let few : front % 16 < 16 = omega arith in
     record {
@@ -61,12 +63,14 @@ turn_child shape p lane (suc (suc j)) front node is turn =
     }
 
 -- it was loaded
-pub turned : (shape : ShapeValue) (m n : PassValue) (lane level front node found : ℕ) → IsShape shape → IsTurn shape lane level front node m.view → HasStepped shape (child_effect shape m.view (spot lane (nibbles level front)) (turn_slot lane level front node)) m found n
+pub turned : (shape : ShapeValue) (m n : PassValue) (lane level front node found : ℕ) → IsShape shape → IsTurn shape lane level front node m.view
+    → HasStepped shape (child_effect shape m.view (spot lane (nibbles level front)) (turn_slot lane level front node)) m found n
     → HasTurned shape lane level front m found n
 turned shape m n lane level front node zero is turn made =
     let told = made.told in
     record {
-      walked = walked_by m n _ _ _ made.same told.is (λ r k known. subst (λ (ks : List (Spot × ℕ)). (i : ℕ) × (slice_get ks i ≡ Some (r, k))) (sym (ap (λ (p : Pass). p.known) told.is)) known);
+      walked = walked_by m n _ _ _ made.same told.is
+          (λ r k known. subst (λ (ks : List (Spot × ℕ)). (i : ℕ) × (slice_get ks i ≡ Some (r, k))) (sym (ap (λ (p : Pass). p.known) told.is)) known);
       none = λ e. (told.tells.none (spot lane (nibbles level front)) (turn_child shape m.view lane level front node is turn) refl).0;
       within = λ some. absurd (omega (arith, some));
       knows = λ some. absurd (omega (arith, some));
@@ -78,7 +82,8 @@ turned shape m n lane level front node (suc k) is turn made =
     let first : slice_get (n.view).known 0 ≡ Some (s, k) = ap (λ (ks : List (Spot × ℕ)). slice_get ks 0) known in
     let less : suc k - 1 ≡ k = omega arith in
     record {
-      walked = walked_by m n _ _ _ made.same told.is (λ r v before. (suc before.0, ap (λ (ks : List (Spot × ℕ)). slice_get ks (suc before.0)) known ∙ before.1));
+      walked = walked_by m n _ _ _ made.same told.is
+          (λ r v before. (suc before.0, ap (λ (ks : List (Spot × ℕ)). slice_get ks (suc before.0)) known ∙ before.1));
       none = λ e. absurd (omega (arith, e));
       within = λ some. (let b = (told.bounds.known 0 k s first).0 in omega (arith, b));
       knows = λ some. (0, first ∙ ap (λ (v : ℕ). Some (s, v)) (sym less));
@@ -95,7 +100,8 @@ nibbles_split (suc i) n k =
     ∙ ap (λ (m : ℕ). k % 16 ∷ (nibbles i (k / 16) ++ nibbles n m)) (div-div-eq-div-mul k 16 (16 ^ i) ∙ ap (λ (m : ℕ). k / m) (sym (pow-succ' 16 i))))
 
 -- where no entry that was seen goes through a node, none has a key that begins as it does
-pub gap_from_none : (shape : ShapeValue) (p : Pass) (lane key level rest span : ℕ) (seen : List Entry) → rest + level ≡ levels_of shape lane → 0 < rest → span ≡ 16 ^ rest → p.seen ≡ seen
+pub gap_from_none : (shape : ShapeValue) (p : Pass) (lane key level rest span : ℕ) (seen : List Entry) → rest + level ≡ levels_of shape lane → 0 < rest
+    → span ≡ 16 ^ rest → p.seen ≡ seen
     → NoneThrough (layout shape) p (spot lane (nibbles level (key / span))) → IsGap shape lane key span seen
 gap_from_none shape p lane key level zero span seen all some is same none o k e at path begins = absurd (omega (arith, some))
 gap_from_none shape p lane key level (suc rest) span seen all some is same none o k e at path begins =
@@ -113,17 +119,20 @@ front_up levels level key some le =
     div-div-eq-div-mul key (16 ^ (levels - level)) 16 ∙ (ap (λ (v : ℕ). key / v) (sym (pow-suc 16 (levels - level))) ∙ ap (λ (v : ℕ). key / 16 ^ v) (sym e))
 
 -- the next turn
-pub turn_next : (shape : ShapeValue) (lane key level node span : ℕ) (p : Pass) → lane < length shape.lanes → 1 ≤ level → level < levels_of shape lane → span ≡ 16 ^ (levels_of shape lane - level) → (1 < level → node < shape.writers * shape.nodes)
+pub turn_next : (shape : ShapeValue) (lane key level node span : ℕ) (p : Pass) → lane < length shape.lanes → 1 ≤ level → level < levels_of shape lane
+    → span ≡ 16 ^ (levels_of shape lane - level) → (1 < level → node < shape.writers * shape.nodes)
     → (1 < level → Knows p (spot_above shape lane key (level - 1)) node) → IsTurn shape lane level (key / span) node p
 turn_next shape lane key level node span p exists some lt is within knows = record {
   exists = exists;
   inner = (some, lt);
   within = within;
-  knows = λ more. subst (λ (v : ℕ). Knows p (spot lane (nibbles (level - 1) v)) node) (sym (ap (λ (v : ℕ). key / v / 16) is ∙ front_up (levels_of shape lane) level key some (omega (arith, lt)))) (knows more);
+  knows = λ more. subst (λ (v : ℕ). Knows p (spot lane (nibbles (level - 1) v)) node)
+      (sym (ap (λ (v : ℕ). key / v / 16) is ∙ front_up (levels_of shape lane) level key some (omega (arith, lt)))) (knows more);
 }
 
 -- and where it leads
-pub turn_knows : (shape : ShapeValue) (lane key level next node span : ℕ) (p : Pass) → next ≡ suc level → span ≡ 16 ^ (levels_of shape lane - level) → Knows p (spot lane (nibbles level (key / span))) node → Knows p (spot_above shape lane key (next - 1)) node
+pub turn_knows : (shape : ShapeValue) (lane key level next node span : ℕ) (p : Pass) → next ≡ suc level → span ≡ 16 ^ (levels_of shape lane - level)
+    → Knows p (spot lane (nibbles level (key / span))) node → Knows p (spot_above shape lane key (next - 1)) node
 turn_knows shape lane key level next node span p one is knows =
     let e : level ≡ next - 1 = omega (arith, one) in
     subst (λ (v : ℕ). Knows p (spot_above shape lane key v) node) e (subst (λ (v : ℕ). Knows p (spot lane (nibbles level (key / v))) node) is knows)

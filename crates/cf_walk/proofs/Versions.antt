@@ -30,57 +30,71 @@ use Rattle.cf_walk.proofs.Walked.{walked_by, IsWalking}
 pub cell_only : (shape : ShapeValue) (m n : PassValue) (o l i found : ℕ) → HasStepped shape (cell_effect shape m.view o l i) m found n → OnlyWalked m n
 cell_only shape m n o l i found made =
     let told = made.told in
-    walked_by m n _ _ _ made.same told.is (λ r k known. subst (λ (ks : List (Spot × ℕ)). (j : ℕ) × (slice_get ks j ≡ Some (r, k))) (sym (ap (λ (p : Pass). p.known) told.is)) known)
+    walked_by m n _ _ _ made.same told.is
+        (λ r k known. subst (λ (ks : List (Spot × ℕ)). (j : ℕ) × (slice_get ks j ≡ Some (r, k))) (sym (ap (λ (p : Pass). p.known) told.is)) known)
 
 pub three_words : (shape : ShapeValue) (l : ℕ) → is_measured shape l ≡ true → cell_words (lane_at shape l) ≡ 3
 three_words shape l measured = ap (λ (b : Bool). cond {A = ℕ} b 3 1) measured
 
 -- the word of a version
-pub version_is : (shape : ShapeValue) (m n : PassValue) (lane key w o i found : ℕ) (seen : List Entry) (x : IsEntryOf shape lane key w o seen) → lane < length shape.lanes → i < cell_words (lane_at shape lane) → (m.view).seen ≡ seen → HasStepped shape (cell_effect shape m.view o lane i) m found n
+pub version_is : (shape : ShapeValue) (m n : PassValue) (lane key w o i found : ℕ) (seen : List Entry) (x : IsEntryOf shape lane key w o seen)
+    → lane < length shape.lanes → i < cell_words (lane_at shape lane) → (m.view).seen ≡ seen → HasStepped shape (cell_effect shape m.view o lane i) m found n
     → found ≡ version_word (layout shape) lane i (picks (layout shape) w (leaf_of shape lane key) seen o) (x.entry).row
 version_is shape m n lane key w o i found seen x there small same made =
     let sh = layout shape in
     let k = word_count shape.schema + 1 + cells_before shape lane + i in
     let fits = before_fits shape.lanes lane there in
     let at : slice_get (m.view).seen o ≡ Some x.entry = ap (λ (es : List Entry). slice_get es o) same ∙ x.at in
-    let told : found ≡ version_word sh lane i (picks sh (x.entry).writer (spot lane (nibbles (levels_of shape lane) key)) (m.view).seen o) (x.entry).row = (made.told.tells.entry o k refl).cells x.entry lane i (nibbles (levels_of shape lane) key) at (omega (arith, fits, small)) (version_at shape lane i there small) (x.stands).1 in
+    let told : found ≡ version_word sh lane i (picks sh (x.entry).writer (spot lane (nibbles (levels_of shape lane) key)) (m.view).seen o) (x.entry).row =
+        (made.told.tells.entry o k refl).cells x.entry lane i (nibbles (levels_of shape lane) key) at (omega (arith, fits, small))
+        (version_at shape lane i there small) (x.stands).1 in
     told ∙ ap₂ (λ (v : ℕ) (es : List Entry). version_word sh lane i (picks sh v (leaf_of shape lane key) es o) (x.entry).row) (x.stands).0 same
 
 -- the newest of a chain lies below its end
-top_at : (a b : Bool) (o : ℕ) (r : RowValue) (xs : List (ℕ × RowValue)) → link_to_newest xs ≤ o → link_to_newest (cond a (cond b ((o, r) ∷ []) []) [] ++ xs) ≤ suc o
+top_at : (a b : Bool) (o : ℕ) (r : RowValue) (xs : List (ℕ × RowValue)) → link_to_newest xs ≤ o
+    → link_to_newest (cond a (cond b ((o, r) ∷ []) []) [] ++ xs) ≤ suc o
 top_at true true o r xs le = omega arith
 top_at true false o r xs le = omega (arith, le)
 top_at false b o r xs le = omega (arith, le)
 
-top_pick : (sh : Layout) (w : ℕ) (s : Spot) (o : ℕ) (x : Option Entry) (xs : List (ℕ × RowValue)) → link_to_newest xs ≤ o → link_to_newest (pick_at sh w s o x ++ xs) ≤ suc o
+top_pick : (sh : Layout) (w : ℕ) (s : Spot) (o : ℕ) (x : Option Entry) (xs : List (ℕ × RowValue)) → link_to_newest xs ≤ o
+    → link_to_newest (pick_at sh w s o x ++ xs) ≤ suc o
 top_pick sh w s o None xs le = omega (arith, le)
 top_pick sh w s o (Some e) xs le = top_at _ _ o e.row xs le
 
 top_picks : (sh : Layout) (w : ℕ) (s : Spot) (seen : List Entry) (n : ℕ) → link_to_newest (picks sh w s seen n) ≤ n
 top_picks sh w s seen zero = (let e : link_to_newest (picks sh w s seen 0) ≡ 0 = ap link_to_newest (picks_zero sh w s seen) in omega (arith, e))
-top_picks sh w s seen (suc o) = (let e = ap link_to_newest (picks_next sh w s seen o) in let le = top_pick sh w s o (slice_get seen o) (picks sh w s seen o) (top_picks sh w s seen o) in omega (arith, e, le))
+top_picks sh w s seen (suc o) =
+    (let e = ap link_to_newest (picks_next sh w s seen o) in let le = top_pick sh w s o (slice_get seen o) (picks sh w s seen o) (top_picks sh w s seen o) in
+    omega (arith, e, le))
 
 -- what the lane measures of the entry and of those before it
 pub amounts_upto : (shape : ShapeValue) (lane key w o : ℕ) (seen : List Entry) (x : IsEntryOf shape lane key w o seen)
-    → amounts_below shape lane key seen w (o + 1) ≡ map (λ y. measure_of shape lane y) ((x.entry).row ∷ map (λ y. y.1) (picks (layout shape) w (leaf_of shape lane key) seen o))
+    → amounts_below shape lane key seen w (o + 1) ≡ map (λ y. measure_of shape lane y)
+        ((x.entry).row ∷ map (λ y. y.1) (picks (layout shape) w (leaf_of shape lane key) seen o))
 amounts_upto shape lane key w o seen x =
     let sh = layout shape in
     let s = leaf_of shape lane key in
     let next : o + 1 ≡ suc o = omega arith in
     ap (amounts_below shape lane key seen w) next
     ∙ ap (λ (xs : List (ℕ × RowValue)). map (λ y. measure_of shape lane y) (map (λ y. y.1) xs))
-    (picks_next sh w s seen o ∙ (ap (λ (e : Option Entry). pick_at sh w s o e ++ picks sh w s seen o) x.at ∙ ap (λ (xs : List (ℕ × RowValue)). xs ++ picks sh w s seen o) (pick_some sh w s o x.entry x.stands)))
+    (picks_next sh w s seen o
+        ∙ (ap (λ (e : Option Entry). pick_at sh w s o e ++ picks sh w s seen o) x.at
+        ∙ ap (λ (xs : List (ℕ × RowValue)). xs ++ picks sh w s seen o) (pick_some sh w s o x.entry x.stands)))
 
 -- the four numbers of the words
-pub quad_words : (shape : ShapeValue) (lane o first sum ends : ℕ) (c : List (ℕ × RowValue)) (r : RowValue) → is_measured shape lane ≡ true → link_to_newest c ≤ o → o < 2 ^ 32 → IsQuad (quad_of (map (λ y. measure_of shape lane y) (r ∷ map (λ y. y.1) c)))
+pub quad_words : (shape : ShapeValue) (lane o first sum ends : ℕ) (c : List (ℕ × RowValue)) (r : RowValue) → is_measured shape lane ≡ true
+    → link_to_newest c ≤ o → o < 2 ^ 32 → IsQuad (quad_of (map (λ y. measure_of shape lane y) (r ∷ map (λ y. y.1) c)))
     → first ≡ version_word (layout shape) lane 0 c r → sum ≡ version_word (layout shape) lane 1 c r → ends ≡ version_word (layout shape) lane 2 c r
-    → ◌≡◌ {A = QuadValue} (record { count = first / 4294967296; sum = sum; least = ends % 4294967296; greatest = ends / 4294967296 }) (quad_of (map (λ y. measure_of shape lane y) (r ∷ map (λ y. y.1) c)))
+    → ◌≡◌ {A = QuadValue} (record { count = first / 4294967296; sum = sum; least = ends % 4294967296; greatest = ends / 4294967296 })
+        (quad_of (map (λ y. measure_of shape lane y) (r ∷ map (λ y. y.1) c)))
 unfolding version_word
 quad_words shape lane o first sum ends c r measured le small counts a b d =
     let q = quad_of (map (λ y. measure_of shape lane y) (r ∷ map (λ y. y.1) c)) in
     let low = counts.least_is_low in
     let n : ◌≡◌ {A = ℕ} (cond (is_measured shape lane) (length c + 1) 0) (length c + 1) = ap (λ (t : Bool). cond {A = ℕ} t (length c + 1) 0) measured in
-    let long : length (map (λ y. measure_of shape lane y) (r ∷ map (λ y. y.1) c)) ≡ length c + 1 = length-map (r ∷ map (λ y. y.1) c) (λ y. measure_of shape lane y) ∙ (let e = length-map c (λ (y : ℕ × RowValue). y.1) in omega (arith, e)) in
+    let long : length (map (λ y. measure_of shape lane y) (r ∷ map (λ y. y.1) c)) ≡ length c + 1 =
+        length-map (r ∷ map (λ y. y.1) c) (λ y. measure_of shape lane y) ∙ (let e = length-map c (λ (y : ℕ × RowValue). y.1) in omega (arith, e)) in
     let count : first / 4294967296 ≡ q.count = omega (arith, a, n, le, small, long) in
     let least : ends % 4294967296 ≡ q.least = omega (arith, d, low) in
     let greatest : ends / 4294967296 ≡ q.greatest = omega (arith, d, low) in
@@ -88,33 +102,44 @@ quad_words shape lane o first sum ends c r measured le small counts a b d =
     ∙ ap (λ (x : ℕ). record { count = q.count; sum = x; least = q.least; greatest = q.greatest }) b
 
 -- what the lane measures is below 2^32
-low_at : (f : RowValue → ℕ) (a b : Bool) (o : ℕ) (r : RowValue) (xs : List (ℕ × RowValue)) → f r < 2 ^ 32 → AreLow (map f (map (λ (y : ℕ × RowValue). y.1) xs)) → AreLow (map f (map (λ (y : ℕ × RowValue). y.1) (cond a (cond b ((o, r) ∷ []) []) [] ++ xs)))
+low_at : (f : RowValue → ℕ) (a b : Bool) (o : ℕ) (r : RowValue) (xs : List (ℕ × RowValue)) → f r < 2 ^ 32
+    → AreLow (map f (map (λ (y : ℕ × RowValue). y.1) xs)) → AreLow (map f (map (λ (y : ℕ × RowValue). y.1) (cond a (cond b ((o, r) ∷ []) []) [] ++ xs)))
 low_at f true true o r xs lt all = (lt, all)
 low_at f true false o r xs lt all = all
 low_at f false b o r xs lt all = all
 
-low_pick : (shape : ShapeValue) (lane w : ℕ) (s : Spot) (o : ℕ) (x : Option Entry) (xs : List (ℕ × RowValue)) → ((e : Entry) → x ≡ Some e → measure_of shape lane e.row < 2 ^ 32) → AreLow (map (λ y. measure_of shape lane y) (map (λ (y : ℕ × RowValue). y.1) xs))
+low_pick : (shape : ShapeValue) (lane w : ℕ) (s : Spot) (o : ℕ) (x : Option Entry) (xs : List (ℕ × RowValue))
+    → ((e : Entry) → x ≡ Some e → measure_of shape lane e.row < 2 ^ 32) → AreLow (map (λ y. measure_of shape lane y) (map (λ (y : ℕ × RowValue). y.1) xs))
     → AreLow (map (λ y. measure_of shape lane y) (map (λ (y : ℕ × RowValue). y.1) (pick_at (layout shape) w s o x ++ xs)))
 low_pick shape lane w s o None xs low all = all
 low_pick shape lane w s o (Some e) xs low all = low_at (λ y. measure_of shape lane y) _ _ o e.row xs (low e refl) all
 
-pub low_picks : (shape : ShapeValue) (lane w : ℕ) (s : Spot) (seen : List Entry) (n : ℕ) → ((o : ℕ) (e : Entry) → slice_get seen o ≡ Some e → measure_of shape lane e.row < 2 ^ 32) → AreLow (map (λ y. measure_of shape lane y) (map (λ (y : ℕ × RowValue). y.1) (picks (layout shape) w s seen n)))
-low_picks shape lane w s seen zero low = subst (λ (xs : List (ℕ × RowValue)). AreLow (map (λ y. measure_of shape lane y) (map (λ (y : ℕ × RowValue). y.1) xs))) (sym (picks_zero (layout shape) w s seen)) tt
+pub low_picks : (shape : ShapeValue) (lane w : ℕ) (s : Spot) (seen : List Entry) (n : ℕ)
+    → ((o : ℕ) (e : Entry) → slice_get seen o ≡ Some e → measure_of shape lane e.row < 2 ^ 32)
+    → AreLow (map (λ y. measure_of shape lane y) (map (λ (y : ℕ × RowValue). y.1) (picks (layout shape) w s seen n)))
+low_picks shape lane w s seen zero low =
+    subst (λ (xs : List (ℕ × RowValue)). AreLow (map (λ y. measure_of shape lane y) (map (λ (y : ℕ × RowValue). y.1) xs)))
+    (sym (picks_zero (layout shape) w s seen)) tt
 low_picks shape lane w s seen (suc o) low =
-    subst (λ (xs : List (ℕ × RowValue)). AreLow (map (λ y. measure_of shape lane y) (map (λ (y : ℕ × RowValue). y.1) xs))) (sym (picks_next (layout shape) w s seen o))
+    subst (λ (xs : List (ℕ × RowValue)). AreLow (map (λ y. measure_of shape lane y) (map (λ (y : ℕ × RowValue). y.1) xs)))
+        (sym (picks_next (layout shape) w s seen o))
     (low_pick shape lane w s o (slice_get seen o) (picks (layout shape) w s seen o) (low o) (low_picks shape lane w s seen o low))
 
-fits_low : (shape : ShapeValue) (lane : ℕ) (e : Entry) → IsShape shape → lane < length shape.lanes → IsFit (layout shape) e → measure_of shape lane e.row < 2 ^ 32
+fits_low : (shape : ShapeValue) (lane : ℕ) (e : Entry) → IsShape shape → lane < length shape.lanes → IsFit (layout shape) e
+    → measure_of shape lane e.row < 2 ^ 32
 fits_low shape lane e is there fit = measure_low shape lane e.row is there (both (values_fit shape.schema (e.row).values) (nat_lt (e.row).num (2 ^ 32)) fit.0).0
 
 -- the three words of a cell of an entry that was seen
 pub record IsRead (shape : ShapeValue) (lane key w o : ℕ) (seen : List Entry) (first sum ends : ℕ) : Type 0 where
-  pub quad : ◌≡◌ {A = QuadValue} (record { count = first / 4294967296; sum = sum; least = ends % 4294967296; greatest = ends / 4294967296 }) (quad_of (amounts_below shape lane key seen w (o + 1)))
+  pub quad : ◌≡◌ {A = QuadValue} (record { count = first / 4294967296; sum = sum; least = ends % 4294967296; greatest = ends / 4294967296 })
+      (quad_of (amounts_below shape lane key seen w (o + 1)))
   pub lawful : IsQuad (record { count = first / 4294967296; sum = sum; least = ends % 4294967296; greatest = ends / 4294967296 })
 
-pub read : (shape : ShapeValue) (m a b c : PassValue) (lane key w o first sum ends : ℕ) → IsShape shape → lane < length shape.lanes → is_measured shape lane ≡ true → o < shape.capacity → IsEntryOf shape lane key w o (m.view).seen
+pub read : (shape : ShapeValue) (m a b c : PassValue) (lane key w o first sum ends : ℕ) → IsShape shape → lane < length shape.lanes
+    → is_measured shape lane ≡ true → o < shape.capacity → IsEntryOf shape lane key w o (m.view).seen
     → ((k : ℕ) (e : Entry) → slice_get (m.view).seen k ≡ Some e → IsFit (layout shape) e) → (a.view).seen ≡ (m.view).seen → (b.view).seen ≡ (m.view).seen
-    → HasStepped shape (cell_effect shape m.view o lane 0) m first a → HasStepped shape (cell_effect shape a.view o lane 1) a sum b → HasStepped shape (cell_effect shape b.view o lane 2) b ends c → IsRead shape lane key w o (m.view).seen first sum ends
+    → HasStepped shape (cell_effect shape m.view o lane 0) m first a → HasStepped shape (cell_effect shape a.view o lane 1) a sum b
+        → HasStepped shape (cell_effect shape b.view o lane 2) b ends c → IsRead shape lane key w o (m.view).seen first sum ends
 read shape m a b c lane key w o first sum ends is there measured few x fit sa sb ma mb mc =
     let seen = (m.view).seen in
     let three = three_words shape lane measured in
@@ -122,63 +147,92 @@ read shape m a b c lane key w o first sum ends is there measured few x fit sa sb
     let r = (x.entry).row in
     let capacity = is.capacity in
     let low = low_picks shape lane w (leaf_of shape lane key) seen o (λ k e at. fits_low shape lane e is there (fit k e at)) in
-    let counts : IsQuad (quad_of (map (λ y. measure_of shape lane y) (r ∷ map (λ y. y.1) before))) = quad_is_lawful (map (λ y. measure_of shape lane y) (r ∷ map (λ y. y.1) before)) (fits_low shape lane x.entry is there (fit o x.entry x.at), low) in
-    let words = quad_words shape lane o first sum ends before r measured (top_picks (layout shape) w (leaf_of shape lane key) seen o) (omega (arith, few, capacity)) counts
-    (version_is shape m a lane key w o 0 first seen x there (omega (arith, three)) refl ma) (version_is shape a b lane key w o 1 sum seen x there (omega (arith, three)) sa mb) (version_is shape b c lane key w o 2 ends seen x there (omega (arith, three)) sb mc) in
+    let counts : IsQuad (quad_of (map (λ y. measure_of shape lane y) (r ∷ map (λ y. y.1) before))) =
+        quad_is_lawful (map (λ y. measure_of shape lane y) (r ∷ map (λ y. y.1) before)) (fits_low shape lane x.entry is there (fit o x.entry x.at), low) in
+    let words = quad_words shape lane o first sum ends before r measured (top_picks (layout shape) w (leaf_of shape lane key) seen o)
+        (omega (arith, few, capacity)) counts
+    (version_is shape m a lane key w o 0 first seen x there (omega (arith, three)) refl ma)
+        (version_is shape a b lane key w o 1 sum seen x there (omega (arith, three)) sa mb)
+        (version_is shape b c lane key w o 2 ends seen x there (omega (arith, three)) sb mc) in
     record {
       quad = words ∙ ap quad_of (sym (amounts_upto shape lane key w o seen x));
       lawful = subst IsQuad (sym words) counts;
     }
 
 -- a load of a cell forgets nothing that walks went by
-walk_keeps : (o l i n : ℕ) (c : Option Cursor) (k : ℕ) (x : ℕ × ℕ) → slice_get (met_of c) k ≡ Some x → (j : ℕ) × (slice_get (met_of (cursor_after_cell o l i n c)) j ≡ Some x)
+walk_keeps : (o l i n : ℕ) (c : Option Cursor) (k : ℕ) (x : ℕ × ℕ) → slice_get (met_of c) k ≡ Some x → (j : ℕ)
+    × (slice_get (met_of (cursor_after_cell o l i n c)) j ≡ Some x)
 walk_keeps o l i n None k x at = (k, at)
 walk_keeps o l (suc i) n (Some c) k x at = (k, at)
 walk_keeps o l zero n (Some c) k x at = elim (cases_Bool (c.link == suc o)) [
-  | inr e ↦ (k, ap (λ (b : Bool). slice_get (met_of (cond b (cond (c.spot.lane == l) (Some record { writer = c.writer; spot = c.spot; link = n % 2 ^ 32; gone = o ∷ c.gone; met = (o, c.writer) ∷ c.met }) (Some c)) (Some c))) k) e ∙ at)
+  | inr e ↦ (k,
+      ap (λ (b : Bool). slice_get
+      (met_of (cond b
+      (cond (c.spot.lane == l) (Some record { writer = c.writer; spot = c.spot; link = n % 2 ^ 32; gone = o ∷ c.gone; met = (o, c.writer) ∷ c.met }) (Some c))
+      (Some c))) k) e ∙ at)
   | inl e ↦ elim (cases_Bool (c.spot.lane == l)) [
     | inr f ↦ (
       k,
-      ap (λ (b : Bool). slice_get (met_of (cond b (cond (c.spot.lane == l) (Some record { writer = c.writer; spot = c.spot; link = n % 2 ^ 32; gone = o ∷ c.gone; met = (o, c.writer) ∷ c.met }) (Some c)) (Some c))) k) e
-          ∙ (ap (λ (b : Bool). slice_get (met_of (cond b (Some record { writer = c.writer; spot = c.spot; link = n % 2 ^ 32; gone = o ∷ c.gone; met = (o, c.writer) ∷ c.met }) (Some c))) k) f ∙ at),
+      ap (λ (b : Bool). slice_get
+          (met_of (cond b
+          (cond (c.spot.lane == l) (Some record { writer = c.writer; spot = c.spot; link = n % 2 ^ 32; gone = o ∷ c.gone; met = (o, c.writer) ∷ c.met })
+          (Some c)) (Some c))) k) e
+          ∙ (ap (λ (b : Bool). slice_get
+              (met_of (cond b (Some record { writer = c.writer; spot = c.spot; link = n % 2 ^ 32; gone = o ∷ c.gone; met = (o, c.writer) ∷ c.met })
+              (Some c))) k) f ∙ at),
     )
     | inl f ↦ (
       suc k,
-      ap (λ (b : Bool). slice_get (met_of (cond b (cond (c.spot.lane == l) (Some record { writer = c.writer; spot = c.spot; link = n % 2 ^ 32; gone = o ∷ c.gone; met = (o, c.writer) ∷ c.met }) (Some c)) (Some c))) (suc k)) e
-          ∙ (ap (λ (b : Bool). slice_get (met_of (cond b (Some record { writer = c.writer; spot = c.spot; link = n % 2 ^ 32; gone = o ∷ c.gone; met = (o, c.writer) ∷ c.met }) (Some c))) (suc k)) f ∙ at),
+      ap (λ (b : Bool). slice_get
+          (met_of (cond b
+          (cond (c.spot.lane == l) (Some record { writer = c.writer; spot = c.spot; link = n % 2 ^ 32; gone = o ∷ c.gone; met = (o, c.writer) ∷ c.met })
+          (Some c)) (Some c))) (suc k)) e
+          ∙ (ap (λ (b : Bool). slice_get
+              (met_of (cond b (Some record { writer = c.writer; spot = c.spot; link = n % 2 ^ 32; gone = o ∷ c.gone; met = (o, c.writer) ∷ c.met }) (Some c)))
+              (suc k)) f ∙ at),
     )
   ]
 ]
 
-pub cell_keeps : (shape : ShapeValue) (m n : PassValue) (o l i found : ℕ) → HasStepped shape (cell_effect shape m.view o l i) m found n → (k v : ℕ) → Met m.view k v → Met n.view k v
+pub cell_keeps : (shape : ShapeValue) (m n : PassValue) (o l i found : ℕ) → HasStepped shape (cell_effect shape m.view o l i) m found n → (k v : ℕ)
+    → Met m.view k v → Met n.view k v
 cell_keeps shape m n o l i found made k v x =
     let y = walk_keeps o l i found (m.view).cursor x.0 (k, v) x.1 in
     (y.0, ap (λ (p : Pass). slice_get (met_of p.cursor) y.0) made.told.is ∙ y.1)
 
 -- no entry, no amount
-pub no_amounts : (shape : ShapeValue) (lane key w link : ℕ) (seen : List Entry) → link ≡ 0 → picks (layout shape) w (leaf_of shape lane key) seen link ≡ picks (layout shape) w (leaf_of shape lane key) seen (length seen) → ◌≡◌ {A = QuadValue} (record { count = 0; sum = 0; least = 0; greatest = 0 }) (quad_of (amounts_below shape lane key seen w (length seen)))
+pub no_amounts : (shape : ShapeValue) (lane key w link : ℕ) (seen : List Entry) → link ≡ 0
+    → picks (layout shape) w (leaf_of shape lane key) seen link ≡ picks (layout shape) w (leaf_of shape lane key) seen (length seen)
+    → ◌≡◌ {A = QuadValue} (record { count = 0; sum = 0; least = 0; greatest = 0 }) (quad_of (amounts_below shape lane key seen w (length seen)))
 no_amounts shape lane key w link seen none same =
-    ap (λ (xs : List (ℕ × RowValue)). quad_of (map (λ y. measure_of shape lane y) (map (λ y. y.1) xs))) (sym (picks_zero (layout shape) w (leaf_of shape lane key) seen) ∙ (ap (picks (layout shape) w (leaf_of shape lane key) seen) (sym none) ∙ same))
+    ap (λ (xs : List (ℕ × RowValue)). quad_of (map (λ y. measure_of shape lane y) (map (λ y. y.1) xs)))
+        (sym (picks_zero (layout shape) w (leaf_of shape lane key) seen) ∙ (ap (picks (layout shape) w (leaf_of shape lane key) seen) (sym none) ∙ same))
 
-pub same_amounts : (shape : ShapeValue) (lane key w link : ℕ) (seen : List Entry) → 0 < link → picks (layout shape) w (leaf_of shape lane key) seen link ≡ picks (layout shape) w (leaf_of shape lane key) seen (length seen) → quad_of (amounts_below shape lane key seen w (link - 1 + 1)) ≡ quad_of (amounts_below shape lane key seen w (length seen))
+pub same_amounts : (shape : ShapeValue) (lane key w link : ℕ) (seen : List Entry) → 0 < link
+    → picks (layout shape) w (leaf_of shape lane key) seen link ≡ picks (layout shape) w (leaf_of shape lane key) seen (length seen)
+    → quad_of (amounts_below shape lane key seen w (link - 1 + 1)) ≡ quad_of (amounts_below shape lane key seen w (length seen))
 same_amounts shape lane key w link seen some same =
     let e : link - 1 + 1 ≡ link = omega (arith, some) in
-    ap (λ (xs : List (ℕ × RowValue)). quad_of (map (λ y. measure_of shape lane y) (map (λ y. y.1) xs))) (ap (picks (layout shape) w (leaf_of shape lane key) seen) e ∙ same)
+    ap (λ (xs : List (ℕ × RowValue)). quad_of (map (λ y. measure_of shape lane y) (map (λ y. y.1) xs)))
+        (ap (picks (layout shape) w (leaf_of shape lane key) seen) e ∙ same)
 
-pub entry_of : (shape : ShapeValue) (lane key w link : ℕ) (seen old : List Entry) (p : Pass) → old ≡ seen → 0 < link → link ≤ length seen → IsWalking shape seen w (leaf_of shape lane key) link p → IsEntryOf shape lane key w (link - 1) old
+pub entry_of : (shape : ShapeValue) (lane key w link : ℕ) (seen old : List Entry) (p : Pass) → old ≡ seen → 0 < link → link ≤ length seen
+    → IsWalking shape seen w (leaf_of shape lane key) link p → IsEntryOf shape lane key w (link - 1) old
 entry_of shape lane key w link seen old p same some le walking =
     let next : link ≡ suc (link - 1) = omega (arith, some) in
     let e = walking.tells.names (link - 1) next (omega (arith, some, le)) in
     record { entry = e.0; at = ap (λ (es : List Entry). slice_get es (link - 1)) same ∙ e.1; stands = e.2 }
 
 -- the walk down to the newest entry that was seen, and its three words
-pub quad_steps : (shape : ShapeValue) (w : ℕ) (f m n : PassValue) (link before steps after found : ℕ) → IsCounting shape w f m link 0 (before + 1) steps → ((k v : ℕ) → Met m.view k v → Met n.view k v) → after ≤ steps + found → ChainSteps shape w f n found before after
+pub quad_steps : (shape : ShapeValue) (w : ℕ) (f m n : PassValue) (link before steps after found : ℕ) → IsCounting shape w f m link 0 (before + 1) steps
+    → ((k v : ℕ) → Met m.view k v → Met n.view k v) → after ≤ steps + found → ChainSteps shape w f n found before after
 quad_steps shape w f m n link before steps after found c keeps more =
     let count = c.count in
     let went = c.went in
     record {
       fresh = c.fresh;
-      went = record { distinct = went.distinct; within = went.within; met = λ o h. keeps o w (went.met o h); apart = went.apart; keeps = λ o v x. keeps o v (went.keeps o v x) };
+      went = record { distinct = went.distinct; within = went.within; met = λ o h. keeps o w (went.met o h); apart = went.apart; keeps =
+          λ o v x. keeps o v (went.keeps o v x) };
       steps = omega (arith, count, more);
     }
 
@@ -208,13 +262,16 @@ amounts_few shape lane key w n seen =
     omega (arith, a, b, c)
 
 -- The quads of a leaf, writer by writer.
-pub amounts_start : (shape : ShapeValue) (lane key : ℕ) (seen : List Entry) → ◌≡◌ {A = QuadValue} (record { count = 0; sum = 0; least = 0; greatest = 0 }) (quad_of (leaf_amounts shape lane key seen 0))
+pub amounts_start : (shape : ShapeValue) (lane key : ℕ) (seen : List Entry)
+    → ◌≡◌ {A = QuadValue} (record { count = 0; sum = 0; least = 0; greatest = 0 }) (quad_of (leaf_amounts shape lane key seen 0))
 unfolding leaf_amounts
 amounts_start shape lane key seen = refl
 
-pub amounts_next : (shape : ShapeValue) (lane key w next : ℕ) (seen old : List Entry) (total quad merged : QuadValue) → next ≡ suc w → old ≡ seen → total ≡ quad_of (leaf_amounts shape lane key seen w) → quad ≡ quad_of (amounts_below shape lane key old w (length old))
+pub amounts_next : (shape : ShapeValue) (lane key w next : ℕ) (seen old : List Entry) (total quad merged : QuadValue) → next ≡ suc w → old ≡ seen
+    → total ≡ quad_of (leaf_amounts shape lane key seen w) → quad ≡ quad_of (amounts_below shape lane key old w (length old))
     → ((xs ys : List ℕ) → total ≡ quad_of xs → quad ≡ quad_of ys → merged ≡ quad_of (xs ++ ys)) → merged ≡ quad_of (leaf_amounts shape lane key seen next)
 unfolding leaf_amounts
 amounts_next shape lane key w next seen old total quad merged one same a b both' =
-    both' (leaf_amounts shape lane key seen w) (amounts_below shape lane key seen w (length seen)) a (b ∙ ap (λ (es : List Entry). quad_of (amounts_below shape lane key es w (length es))) same)
+    both' (leaf_amounts shape lane key seen w) (amounts_below shape lane key seen w (length seen)) a
+        (b ∙ ap (λ (es : List Entry). quad_of (amounts_below shape lane key es w (length es))) same)
     ∙ ap (λ (k : ℕ). quad_of (leaf_amounts shape lane key seen k)) (sym one)

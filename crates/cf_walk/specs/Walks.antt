@@ -50,7 +50,8 @@ abbrev pub Distinct : List ℕ → Type 0
 Distinct [] = Unit {0}
 Distinct (x ∷ xs) = (has xs x ≡ false) × Distinct xs
 
--- These places, all different, lie past what was seen, and the walk of this writer went by them. What earlier walks went by it knows still, and none of these is another writer's.
+-- These places, all different, lie past what was seen, and the walk of this writer went by them. What earlier walks went by it knows still, and none of these
+-- is another writer's.
 pub record WentBy (shape : ShapeValue) (w : ℕ) (before after : PassValue) (fresh : List ℕ) : Type 0 where
   pub distinct : Distinct fresh
   pub within : (o : ℕ) → has fresh o ≡ true → (length (before.view).seen ≤ o) × (o < shape.capacity)
@@ -90,7 +91,8 @@ pub record HasTurned (shape : ShapeValue) (lane level front : ℕ) (before : Pas
 
 -- no entry that was seen has a key that begins as this one: the span is the number of keys that do
 abbrev pub IsGap : ShapeValue → ℕ → ℕ → ℕ → List Entry → Type 0
-IsGap shape lane key span seen = (o k : ℕ) (e : Entry) → slice_get seen o ≡ Some e → path_in shape e.row lane ≡ Some (nibbles (levels_of shape lane) k) → k / span ≡ key / span → ⊥
+IsGap shape lane key span seen = (o k : ℕ) (e : Entry) → slice_get seen o ≡ Some e → path_in shape e.row lane ≡ Some (nibbles (levels_of shape lane) k)
+    → k / span ≡ key / span → ⊥
 
 -- all keys from the first up to the last were gone over, and the places of their entries were found
 pub record WentOver (shape : ShapeValue) (lane first high : ℕ) (seen : List Entry) (before after : List ℕ) (last : ℕ) : Type 0 where

@@ -21,7 +21,8 @@ take_ticket-found-requires-clause-lawful g c =
     let is = c.num-number.ensures in
     let low = c.num-number.type_inv in
     let over = ap (λ b. b.over) (Rattle.cf_table.proofs.Mays.the_book c.make_paths.new.pass.view _ c.make_paths.ensures.used.books) in
-    may_begin c.args.log.now.shape c.make_paths.new.pass.view c.args.row.now c.requires.fits (omega (arith, is, low)) c.make_paths.ensures.rest (over ∙ (sym c.over.ensures ∙ c.if-over.false))
+    may_begin c.args.log.now.shape c.make_paths.new.pass.view c.args.row.now c.requires.fits (omega (arith, is, low)) c.make_paths.ensures.rest
+        (over ∙ (sym c.over.ensures ∙ c.if-over.false))
 
 pub returns-then-found-from-clause-answer : goal.returns-then-found-from-clause-answer
 returns-then-found-from-clause-answer g c =
@@ -32,8 +33,11 @@ returns-then-found-from-clause-answer g c =
     let past = c.if-found-from.true in
     let wide = c.from.ensures in
     let room = c.capacity.ensures.capacity ∙ ap (λ (x : ShapeValue). x.capacity) c.shape.ensures.shape in
-    let P : HasMade s row m p = record { strides = c.make_paths.ensures.strides; used = c.make_paths.ensures.used; leaves = map leaf_of c.in-Some.filed; whole = filings_leaves s row p.view c.in-Some.filed (length s.lanes) c.shape.ensures.lawful (omega arith) c.in-Some.ensures.answer } in
-    inr (late s row m p c.take_ticket-found.new.pass c.take_ticket-found.result (sym c.over.ensures ∙ c.if-over.false) P (omega (arith, past, wide, room)) c.take_ticket-found.ensures.made)
+    let P : HasMade s row m p =
+        record { strides = c.make_paths.ensures.strides; used = c.make_paths.ensures.used; leaves = map leaf_of c.in-Some.filed; whole =
+        filings_leaves s row p.view c.in-Some.filed (length s.lanes) c.shape.ensures.lawful (omega arith) c.in-Some.ensures.answer } in
+    inr (late s row m p c.take_ticket-found.new.pass c.take_ticket-found.result (sym c.over.ensures ∙ c.if-over.false) P
+        (omega (arith, past, wide, room)) c.take_ticket-found.ensures.made)
 
 pub returns-then-found-from-clause-steps : goal.returns-then-found-from-clause-steps
 returns-then-found-from-clause-steps g c =
@@ -49,7 +53,8 @@ fill_cells-requires-clause-book g c =
     let low = c.if-found-from.false in
     let wide = c.from.ensures in
     let room = c.capacity.ensures.capacity ∙ ap (λ (x : ShapeValue). x.capacity) c.shape.ensures.shape in
-    let B : HasBegun s row c.make_paths.new.pass c.take_ticket-found.new.pass c.fill.new.pass c.take_ticket-found.result = record { room = omega (arith, low, wide, room); took = c.take_ticket-found.ensures.made; is = c.fill.ensures.pass } in
+    let B : HasBegun s row c.make_paths.new.pass c.take_ticket-found.new.pass c.fill.new.pass c.take_ticket-found.result =
+        record { room = omega (arith, low, wide, room); took = c.take_ticket-found.ensures.made; is = c.fill.ensures.pass } in
     begun_book s row c.make_paths.new.pass c.take_ticket-found.new.pass c.fill.new.pass c.take_ticket-found.result B
 
 pub fill_cells-requires-clause-filled : goal.fill_cells-requires-clause-filled
@@ -59,7 +64,8 @@ fill_cells-requires-clause-filled g c =
     let low = c.if-found-from.false in
     let wide = c.from.ensures in
     let room = c.capacity.ensures.capacity ∙ ap (λ (x : ShapeValue). x.capacity) c.shape.ensures.shape in
-    let B : HasBegun s row c.make_paths.new.pass c.take_ticket-found.new.pass c.fill.new.pass c.take_ticket-found.result = record { room = omega (arith, low, wide, room); took = c.take_ticket-found.ensures.made; is = c.fill.ensures.pass } in
+    let B : HasBegun s row c.make_paths.new.pass c.take_ticket-found.new.pass c.fill.new.pass c.take_ticket-found.result =
+        record { room = omega (arith, low, wide, room); took = c.take_ticket-found.ensures.made; is = c.fill.ensures.pass } in
     begun_self s row c.make_paths.new.pass c.take_ticket-found.new.pass c.fill.new.pass c.take_ticket-found.result B
 
 pub fill_cells-requires-clause-filed : goal.fill_cells-requires-clause-filed
@@ -69,8 +75,10 @@ fill_cells-requires-clause-filed g c =
     let low = c.if-found-from.false in
     let wide = c.from.ensures in
     let room = c.capacity.ensures.capacity ∙ ap (λ (x : ShapeValue). x.capacity) c.shape.ensures.shape in
-    let B : HasBegun s row c.make_paths.new.pass c.take_ticket-found.new.pass c.fill.new.pass c.take_ticket-found.result = record { room = omega (arith, low, wide, room); took = c.take_ticket-found.ensures.made; is = c.fill.ensures.pass } in
-    begun_filings s row c.make_paths.new.pass c.take_ticket-found.new.pass c.fill.new.pass c.take_ticket-found.result c.in-Some.filed (length s.lanes) B c.in-Some.ensures.answer
+    let B : HasBegun s row c.make_paths.new.pass c.take_ticket-found.new.pass c.fill.new.pass c.take_ticket-found.result =
+        record { room = omega (arith, low, wide, room); took = c.take_ticket-found.ensures.made; is = c.fill.ensures.pass } in
+    begun_filings s row c.make_paths.new.pass c.take_ticket-found.new.pass c.fill.new.pass c.take_ticket-found.result c.in-Some.filed
+        (length s.lanes) B c.in-Some.ensures.answer
 
 pub link_all-requires-clause-writer : goal.link_all-requires-clause-writer
 link_all-requires-clause-writer g c =
@@ -107,9 +115,11 @@ link_all-requires-clause-filed g c =
     let low = c.if-found-from.false in
     let wide = c.from.ensures in
     let room = c.capacity.ensures.capacity ∙ ap (λ (x : ShapeValue). x.capacity) c.shape.ensures.shape in
-    let B : HasBegun s row c.make_paths.new.pass c.take_ticket-found.new.pass c.fill.new.pass c.take_ticket-found.result = record { room = omega (arith, low, wide, room); took = c.take_ticket-found.ensures.made; is = c.fill.ensures.pass } in
+    let B : HasBegun s row c.make_paths.new.pass c.take_ticket-found.new.pass c.fill.new.pass c.take_ticket-found.result =
+        record { room = omega (arith, low, wide, room); took = c.take_ticket-found.ensures.made; is = c.fill.ensures.pass } in
     filings_still s row c.fill.new.pass c.fill_cells.new.pass c.in-Some.filed (length s.lanes) c.fill_cells.ensures.strides
-    (begun_filings s row c.make_paths.new.pass c.take_ticket-found.new.pass c.fill.new.pass c.take_ticket-found.result c.in-Some.filed (length s.lanes) B c.in-Some.ensures.answer)
+    (begun_filings s row c.make_paths.new.pass c.take_ticket-found.new.pass c.fill.new.pass c.take_ticket-found.result c.in-Some.filed
+        (length s.lanes) B c.in-Some.ensures.answer)
 
 pub finish_record-requires-clause-lawful : goal.finish_record-requires-clause-lawful
 finish_record-requires-clause-lawful g c =
@@ -125,7 +135,9 @@ returns-clause-answer g c =
     let low = c.if-found-from.false in
     let wide = c.from.ensures in
     let room = c.capacity.ensures.capacity ∙ ap (λ (x : ShapeValue). x.capacity) c.shape.ensures.shape in
-    let P : HasMade s row m p = record { strides = c.make_paths.ensures.strides; used = c.make_paths.ensures.used; leaves = map leaf_of c.in-Some.filed; whole = filings_leaves s row p.view c.in-Some.filed (length s.lanes) c.shape.ensures.lawful (omega arith) c.in-Some.ensures.answer } in
+    let P : HasMade s row m p =
+        record { strides = c.make_paths.ensures.strides; used = c.make_paths.ensures.used; leaves = map leaf_of c.in-Some.filed; whole =
+        filings_leaves s row p.view c.in-Some.filed (length s.lanes) c.shape.ensures.lawful (omega arith) c.in-Some.ensures.answer } in
     let E : HasEnded s row p c.take_ticket-found.new.pass c.fill.new.pass c.fill_cells.new.pass c.link_all.new.pass c.finish_record.new.pass o = record {
       cells = record {
         begun = record { room = omega (arith, low, wide, room); took = c.take_ticket-found.ensures.made; is = c.fill.ensures.pass };
@@ -136,7 +148,8 @@ returns-clause-answer g c =
       linked = c.link_all.ensures.linked;
       finishes = c.finish_record.ensures.made;
     } in
-    appended s row m p c.take_ticket-found.new.pass c.fill.new.pass c.fill_cells.new.pass c.link_all.new.pass c.finish_record.new.pass c.move_tail.new.pass o (sym c.over.ensures ∙ c.if-over.false) P E c.move_tail.ensures.books c.move_tail.ensures.stops
+    appended s row m p c.take_ticket-found.new.pass c.fill.new.pass c.fill_cells.new.pass c.link_all.new.pass c.finish_record.new.pass c.move_tail.new.pass o
+        (sym c.over.ensures ∙ c.if-over.false) P E c.move_tail.ensures.books c.move_tail.ensures.stops
 
 pub returns-clause-stops : goal.returns-clause-stops
 returns-clause-stops g c =
@@ -148,7 +161,9 @@ returns-clause-stops g c =
     let low = c.if-found-from.false in
     let wide = c.from.ensures in
     let room = c.capacity.ensures.capacity ∙ ap (λ (x : ShapeValue). x.capacity) c.shape.ensures.shape in
-    let P : HasMade s row m p = record { strides = c.make_paths.ensures.strides; used = c.make_paths.ensures.used; leaves = map leaf_of c.in-Some.filed; whole = filings_leaves s row p.view c.in-Some.filed (length s.lanes) c.shape.ensures.lawful (omega arith) c.in-Some.ensures.answer } in
+    let P : HasMade s row m p =
+        record { strides = c.make_paths.ensures.strides; used = c.make_paths.ensures.used; leaves = map leaf_of c.in-Some.filed; whole =
+        filings_leaves s row p.view c.in-Some.filed (length s.lanes) c.shape.ensures.lawful (omega arith) c.in-Some.ensures.answer } in
     let E : HasEnded s row p c.take_ticket-found.new.pass c.fill.new.pass c.fill_cells.new.pass c.link_all.new.pass c.finish_record.new.pass o = record {
       cells = record {
         begun = record { room = omega (arith, low, wide, room); took = c.take_ticket-found.ensures.made; is = c.fill.ensures.pass };
@@ -167,7 +182,8 @@ returns-then-found-from-clause-goes_on g c =
     let m = c.args.pass.now in
     let p = c.make_paths.new.pass in
     let t = c.take_ticket-found.new.pass in
-    goes_by m t (strides_then m p t c.make_paths.ensures.strides (late_strides s p t c.take_ticket-found.result c.args.row.now c.take_ticket-found.ensures.made))
+    goes_by m t (strides_then m p t c.make_paths.ensures.strides
+        (late_strides s p t c.take_ticket-found.result c.args.row.now c.take_ticket-found.ensures.made))
 
 pub returns-clause-goes_on : goal.returns-clause-goes_on
 returns-clause-goes_on g c =
@@ -199,7 +215,8 @@ returns-then-found-from-clause-near g c =
     let row = c.args.row.now in
     let p = c.make_paths.new.pass in
     let t = c.take_ticket-found.new.pass in
-    remembers_still s p.view t.view c.make_paths.new.leaves (late_strides s p t c.take_ticket-found.result row c.take_ticket-found.ensures.made).knows c.make_paths.ensures.near
+    remembers_still s p.view t.view c.make_paths.new.leaves
+        (late_strides s p t c.take_ticket-found.result row c.take_ticket-found.ensures.made).knows c.make_paths.ensures.near
 
 pub returns-clause-near : goal.returns-clause-near
 returns-clause-near g c =
@@ -222,7 +239,8 @@ returns-clause-near g c =
       finishes = c.finish_record.ensures.made;
     } in
     let went = ended_strides s row p c.take_ticket-found.new.pass c.fill.new.pass c.fill_cells.new.pass c.link_all.new.pass d o E in
-    remembers_still s d.view c.move_tail.new.pass.view c.make_paths.new.leaves (knows_still d.view c.move_tail.new.pass.view c.move_tail.ensures.known) (remembers_still s p.view d.view c.make_paths.new.leaves went.knows c.make_paths.ensures.near)
+    remembers_still s d.view c.move_tail.new.pass.view c.make_paths.new.leaves (knows_still d.view c.move_tail.new.pass.view c.move_tail.ensures.known)
+        (remembers_still s p.view d.view c.make_paths.new.leaves went.knows c.make_paths.ensures.near)
 
 pub returns-clause-steps : goal.returns-clause-steps
 returns-clause-steps g c =
@@ -244,7 +262,8 @@ returns-clause-steps g c =
       finishes = c.finish_record.ensures.made;
     } in
     let before = ap (λ (es : List Entry). length es) c.make_paths.ensures.strides.seen in
-    let after = ap (λ (es : List Entry). length es) (ended_strides s row p c.take_ticket-found.new.pass c.fill.new.pass c.fill_cells.new.pass c.link_all.new.pass c.finish_record.new.pass o E).seen in
+    let after = ap (λ (es : List Entry). length es)
+        (ended_strides s row p c.take_ticket-found.new.pass c.fill.new.pass c.fill_cells.new.pass c.link_all.new.pass c.finish_record.new.pass o E).seen in
     let one = c.make_paths.ensures.steps in
     let two = c.take_ticket-found.ensures.steps in
     let three = c.fill.ensures.steps in
@@ -284,7 +303,8 @@ returns-clause-near_steps g c = λ kept.
       finishes = c.finish_record.ensures.made;
     } in
     let before = ap (λ (es : List Entry). length es) c.make_paths.ensures.strides.seen in
-    let after = ap (λ (es : List Entry). length es) (ended_strides s row p c.take_ticket-found.new.pass c.fill.new.pass c.fill_cells.new.pass c.link_all.new.pass c.finish_record.new.pass o E).seen in
+    let after = ap (λ (es : List Entry). length es)
+        (ended_strides s row p c.take_ticket-found.new.pass c.fill.new.pass c.fill_cells.new.pass c.link_all.new.pass c.finish_record.new.pass o E).seen in
     let one = c.make_paths.ensures.near_steps kept in
     let two = c.take_ticket-found.ensures.steps in
     let three = c.fill.ensures.steps in

@@ -137,7 +137,9 @@ new-requires g c =
     let two = read_books s m1 m2 o l 1 c.load_cell-sum.result c.load_cell-sum.ensures.made ∙ one in
     let m3 = c.load_cell-ends.new.pass in
     let lawful = c.shape-lawful.ensures.lawful in
-    let w : IsCell s l (mine_chain (layout s) (spot l g.path) (take N.place b.mine)) N.own.row c.load_cell-first.result c.load_cell-sum.result c.load_cell-ends.result = record {
+    let w : IsCell s l
+        (mine_chain (layout s) (spot l g.path) (take N.place b.mine)) N.own.row c.load_cell-first.result c.load_cell-sum.result c.load_cell-ends.result =
+        record {
       first_is = read_word s m m1 b g.path o l 0 c.load_cell-first.result c.load_cell-first.ensures.made r.1.0 N there (omega (arith, three));
       sum_is = read_word s m1 m2 b g.path o l 1 c.load_cell-sum.result c.load_cell-sum.ensures.made one N there (omega (arith, three));
       ends_is = read_word s m2 m3 b g.path o l 2 c.load_cell-ends.result c.load_cell-ends.ensures.made two N there (omega (arith, three));
@@ -165,7 +167,9 @@ returns-clause-quad g c =
     let two = read_books s m1 m2 o l 1 c.load_cell-sum.result c.load_cell-sum.ensures.made ∙ one in
     let m3 = c.load_cell-ends.new.pass in
     let lawful = c.shape-lawful.ensures.lawful in
-    let w : IsCell s l (mine_chain (layout s) (spot l g.path) (take N.place b.mine)) N.own.row c.load_cell-first.result c.load_cell-sum.result c.load_cell-ends.result = record {
+    let w : IsCell s l
+        (mine_chain (layout s) (spot l g.path) (take N.place b.mine)) N.own.row c.load_cell-first.result c.load_cell-sum.result c.load_cell-ends.result =
+        record {
       first_is = read_word s m m1 b g.path o l 0 c.load_cell-first.result c.load_cell-first.ensures.made r.1.0 N there (omega (arith, three));
       sum_is = read_word s m1 m2 b g.path o l 1 c.load_cell-sum.result c.load_cell-sum.ensures.made one N there (omega (arith, three));
       ends_is = read_word s m2 m3 b g.path o l 2 c.load_cell-ends.result c.load_cell-ends.ensures.made two N there (omega (arith, three));

@@ -19,4 +19,6 @@ loop-lane-init g c =
     }
 
 pub store_version-i-requires-clause-book : goal.store_version-i-requires-clause-book
-store_version-i-requires-clause-book g c = filled_book c.args.log.now.shape c.args.offset c.args.row.now (cell_from c.args.log.now.shape c.loop-lane.lane) c.args.pass.now c.loop-lane.pass c.loop-lane.invariant.filled c.requires.book
+store_version-i-requires-clause-book g c =
+    filled_book c.args.log.now.shape c.args.offset c.args.row.now
+    (cell_from c.args.log.now.shape c.loop-lane.lane) c.args.pass.now c.loop-lane.pass c.loop-lane.invariant.filled c.requires.book

@@ -22,7 +22,8 @@ loop-lane-init g c = record {
 }
 
 pub returns-in_default-clause-used : goal.returns-in_default-clause-used
-returns-in_default-clause-used g c = used_then (IsOnPath c.args.log.now.shape c.args.row.now) c.args.pass.now c.loop-lane.pass c.make_path.new.pass c.loop-lane.invariant.used c.make_path.ensures.used
+returns-in_default-clause-used g c =
+    used_then (IsOnPath c.args.log.now.shape c.args.row.now) c.args.pass.now c.loop-lane.pass c.make_path.new.pass c.loop-lane.invariant.used c.make_path.ensures.used
 
 pub returns-in_default-clause-steps : goal.returns-in_default-clause-steps
 returns-in_default-clause-steps g c =
@@ -52,14 +53,19 @@ loop-lane-preserved g c =
       strides = strides_then m n o c.loop-lane.invariant.strides went;
       used = used_then (IsOnPath s row) m n o c.loop-lane.invariant.used c.make_path.ensures.used;
       long = search rules;
-      filed = filings_more s row o.view c.loop-lane.filed k c.from.result c.in-Some.filing c.from.ensures inside (filings_still s row n o c.loop-lane.filed k went c.loop-lane.invariant.filed) c.in-Some.ensures.answer;
+      filed = filings_more s row o.view c.loop-lane.filed k c.from.result c.in-Some.filing c.from.ensures inside
+          (filings_still s row n o c.loop-lane.filed k went c.loop-lane.invariant.filed) c.in-Some.ensures.answer;
       empty = empty_more c.loop-lane.filed k c.from.result _ c.from.ensures c.loop-lane.invariant.empty;
       near = c.make_path.ensures.near;
       kept = keeps_more s row c.loop-lane.leaves c.make_path.new.leaves k c.loop-lane.invariant.kept c.make_path.ensures.others c.in-Some.ensures.kept;
       others = λ lane from. c.make_path.ensures.others lane (λ e. omega (arith, from, e)) ∙ c.loop-lane.invariant.others lane (omega (arith, from));
-      near_steps = λ all. c.make_path.ensures.near_steps (keeps_still s row c.args.leaves.now c.loop-lane.leaves k (c.loop-lane.invariant.others k (omega arith)) (all k low passes)) ∙ c.loop-lane.invariant.near_steps all;
+      near_steps = λ all. c.make_path.ensures.near_steps
+          (keeps_still s row c.args.leaves.now c.loop-lane.leaves k (c.loop-lane.invariant.others k (omega arith)) (all k low passes))
+          ∙ c.loop-lane.invariant.near_steps all;
       loads = (let least = c.loop-lane.invariant.loads in let loads = c.make_path.ensures.loads in omega (arith, least, loads));
-      steps = (let more = path_steps_more s k in let one = c.make_path.ensures.steps in let so_far = c.loop-lane.invariant.steps in let e : Rattle.std.proofs.Common.suc k ≡ k + 1 = omega arith in let f = ap (Rattle.cf_append.specs.Paths.path_steps s) e in omega (arith, more, one, so_far, f));
+      steps = (let more = path_steps_more s k in let one = c.make_path.ensures.steps in let so_far = c.loop-lane.invariant.steps in
+          let e : Rattle.std.proofs.Common.suc k ≡ k + 1 = omega arith in let f = ap (Rattle.cf_append.specs.Paths.path_steps s) e in
+          omega (arith, more, one, so_far, f));
     }
 
 pub loop-lane-preserved-then-not-selects : goal.loop-lane-preserved-then-not-selects
@@ -68,7 +74,8 @@ loop-lane-preserved-then-not-selects g c =
     let row = c.args.row.now in
     let k = c.loop-lane.lane in
     let I = c.loop-lane.invariant in
-    let passes = selected_there s c.shape-shape.result.now row k c.selects.result false c.shape-shape.ensures.shape c.selects.ensures c.if-not-selects.true in record {
+    let passes = selected_there s c.shape-shape.result.now row k c.selects.result false c.shape-shape.ensures.shape c.selects.ensures c.if-not-selects.true in
+        record {
       of = I.of;
       rest = I.rest;
       strides = I.strides;
@@ -91,4 +98,6 @@ returns-in_default-clause-near_steps g c = λ all.
     let k = c.loop-lane.lane in
     let low : k < length s.lanes = search rules in
     let passes = selected_there s c.shape-shape.result.now row k c.selects.result true c.shape-shape.ensures.shape c.selects.ensures c.if-not-selects.false in
-    c.make_path.ensures.near_steps (keeps_still s row c.args.leaves.now c.loop-lane.leaves k (c.loop-lane.invariant.others k (omega arith)) (all k low passes)) ∙ c.loop-lane.invariant.near_steps all
+    c.make_path.ensures.near_steps
+        (keeps_still s row c.args.leaves.now c.loop-lane.leaves k (c.loop-lane.invariant.others k (omega arith)) (all k low passes))
+        ∙ c.loop-lane.invariant.near_steps all

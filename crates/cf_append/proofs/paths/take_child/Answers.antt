@@ -22,16 +22,22 @@ overflow_cast-result g c =
     omega (arith, low, few)
 
 pub returns-then-found-ne0-clause-strides : goal.returns-then-found-ne0-clause-strides
-returns-then-found-ne0-clause-strides g c = load_strides c.args.log.now.shape c.args.pass.now c.load_child-found.new.pass g.to.0 g.to.1 c.load_child-found.result c.load_child-found.ensures.made
+returns-then-found-ne0-clause-strides g c =
+    load_strides c.args.log.now.shape c.args.pass.now c.load_child-found.new.pass g.to.0 g.to.1 c.load_child-found.result c.load_child-found.ensures.made
 
 pub returns-then-found-ne0-clause-used : goal.returns-then-found-ne0-clause-used
-returns-then-found-ne0-clause-used g c = used_same _ c.args.pass.now c.load_child-found.new.pass c.requires.1.1.0 (load_books c.args.log.now.shape c.args.pass.now c.load_child-found.new.pass g.to.0 g.to.1 c.load_child-found.result c.load_child-found.ensures.made)
+returns-then-found-ne0-clause-used g c =
+    used_same _ c.args.pass.now c.load_child-found.new.pass c.requires.1.1.0
+    (load_books c.args.log.now.shape c.args.pass.now c.load_child-found.new.pass g.to.0 g.to.1 c.load_child-found.result c.load_child-found.ensures.made)
 
 pub returns-then-found-ne0-clause-answer : goal.returns-then-found-ne0-clause-answer
-returns-then-found-ne0-clause-answer g c = load_node c.args.log.now.shape c.args.pass.now c.load_child-found.new.pass g.to.0 g.to.1 c.load_child-found.result c.load_child-found.ensures.made c.if-found-ne0.true
+returns-then-found-ne0-clause-answer g c =
+    load_node c.args.log.now.shape c.args.pass.now c.load_child-found.new.pass g.to.0 g.to.1 c.load_child-found.result c.load_child-found.ensures.made c.if-found-ne0.true
 
 pub returns-in_default-clause-used : goal.returns-in_default-clause-used
-returns-in_default-clause-used g c = used_same _ c.args.pass.now c.load_child-found.new.pass c.requires.1.1.0 (load_books c.args.log.now.shape c.args.pass.now c.load_child-found.new.pass g.to.0 g.to.1 c.load_child-found.result c.load_child-found.ensures.made)
+returns-in_default-clause-used g c =
+    used_same _ c.args.pass.now c.load_child-found.new.pass c.requires.1.1.0
+    (load_books c.args.log.now.shape c.args.pass.now c.load_child-found.new.pass g.to.0 g.to.1 c.load_child-found.result c.load_child-found.ensures.made)
 
 pub returns-in_default-clause-answer : goal.returns-in_default-clause-answer
 returns-in_default-clause-answer g c =
@@ -98,7 +104,8 @@ link-named-requires g c κs within =
       (
         of,
         may_link s o.view _ g.to.0 g.to.1 c.args.place c.in-Some.node (label_books s n o c.in-Some.node _ rest stored) room.0 still
-            (let at = c.requires.1.1.1.1.0 in let long = c.requires.1.1.1.1.1 in let is = c.from.ensures in omega (arith, at, long, is)) c.requires.1.1.1.1.0 room.1,
+            (let at = c.requires.1.1.1.1.0 in let long = c.requires.1.1.1.1.1 in let is = c.from.ensures in
+                omega (arith, at, long, is)) c.requires.1.1.1.1.0 room.1,
       ),
     )
 
@@ -115,7 +122,9 @@ returns-then-named-ne0-clause-strides g c =
     let m = c.args.pass.now in
     let n = c.load_child-found.new.pass in
     let o = c.label.new.pass in
-    strides_then m o c.link-named.new.pass (strides_then m n o (load_strides s m n g.to.0 g.to.1 c.load_child-found.result c.load_child-found.ensures.made) (label_strides s n o c.in-Some.node _ c.label.ensures.made))
+    strides_then m o c.link-named.new.pass
+        (strides_then m n o (load_strides s m n g.to.0 g.to.1 c.load_child-found.result c.load_child-found.ensures.made)
+        (label_strides s n o c.in-Some.node _ c.label.ensures.made))
     (link_strides s o c.link-named.new.pass g.to.0 g.to.1 c.in-Some.node c.link-named.result c.link-named.ensures.made)
 
 pub returns-then-named-ne0-clause-used : goal.returns-then-named-ne0-clause-used
@@ -125,11 +134,13 @@ returns-then-named-ne0-clause-used g c =
     let n = c.load_child-found.new.pass in
     let o = c.label.new.pass in
     let books = load_books s m n g.to.0 g.to.1 c.load_child-found.result c.load_child-found.ensures.made in
-    used_none _ m c.link-named.new.pass _ _ (link_lost s o c.link-named.new.pass g.to.0 g.to.1 c.in-Some.node c.link-named.result c.link-named.ensures.made c.if-named-ne0.true
+    used_none _ m c.link-named.new.pass _ _
+        (link_lost s o c.link-named.new.pass g.to.0 g.to.1 c.in-Some.node c.link-named.result c.link-named.ensures.made c.if-named-ne0.true
     ∙ label_books s n o c.in-Some.node _ (rests_same m n c.requires.1.1.0 books) c.label.ensures.made) (same_book m n books)
 
 pub returns-then-named-ne0-clause-answer : goal.returns-then-named-ne0-clause-answer
-returns-then-named-ne0-clause-answer g c = lost_node c.args.log.now.shape c.label.new.pass c.link-named.new.pass g.to.0 g.to.1 c.in-Some.node c.link-named.result c.link-named.ensures.made c.if-named-ne0.true
+returns-then-named-ne0-clause-answer g c =
+    lost_node c.args.log.now.shape c.label.new.pass c.link-named.new.pass g.to.0 g.to.1 c.in-Some.node c.link-named.result c.link-named.ensures.made c.if-named-ne0.true
 
 pub returns-clause-strides : goal.returns-clause-strides
 returns-clause-strides g c =
@@ -137,8 +148,11 @@ returns-clause-strides g c =
     let m = c.args.pass.now in
     let n = c.load_child-found.new.pass in
     let o = c.label.new.pass in
-    strides_then m o c.link-named.new.pass (strides_then m n o (load_strides s m n g.to.0 g.to.1 c.load_child-found.result c.load_child-found.ensures.made) (label_strides s n o c.in-Some.node _ c.label.ensures.made))
+    strides_then m o c.link-named.new.pass
+        (strides_then m n o (load_strides s m n g.to.0 g.to.1 c.load_child-found.result c.load_child-found.ensures.made)
+        (label_strides s n o c.in-Some.node _ c.label.ensures.made))
     (link_strides s o c.link-named.new.pass g.to.0 g.to.1 c.in-Some.node c.link-named.result c.link-named.ensures.made)
 
 pub returns-clause-answer : goal.returns-clause-answer
-returns-clause-answer g c = won_node c.args.log.now.shape c.label.new.pass c.link-named.new.pass g.to.0 g.to.1 c.in-Some.node c.link-named.result c.link-named.ensures.made c.if-named-ne0.false
+returns-clause-answer g c =
+    won_node c.args.log.now.shape c.label.new.pass c.link-named.new.pass g.to.0 g.to.1 c.in-Some.node c.link-named.result c.link-named.ensures.made c.if-named-ne0.false

@@ -20,7 +20,8 @@ advance-requires-clause-lawful g c =
     let low = c.loop-pass-test.true in
     let room = c.capacity-capacity.ensures.capacity ∙ ap (λ (x : ShapeValue). x.capacity) c.shape.ensures.shape in
     let known = c.covered.ensures in
-    may_advance s n.view t (omega (arith, seen, at)) (omega (arith, at, low, room, known)) (ap (λ (q : Pass). (q.look).word) look.told.is) (c.look_done.ensures.found.0 c.if-not-look_done.false)
+    may_advance s n.view t (omega (arith, seen, at)) (omega (arith, at, low, room, known)) (ap (λ (q : Pass). (q.look).word) look.told.is)
+        (c.look_done.ensures.found.0 c.if-not-look_done.false)
 
 pub loop-pass-preserved : goal.loop-pass-preserved
 loop-pass-preserved g c =
@@ -37,11 +38,14 @@ loop-pass-preserved g c =
     let count = counts_look s m n t found look in
     let same = ap (λ (l : Look). l.count) (keeps_look s n o t made) in
     let before = c.loop-pass.invariant.counts in record {
-      moved = moved_then c.args.pass.now n o (moved_then c.args.pass.now m n c.loop-pass.invariant.moved (moved_look s m n t found look)) (moved_advance s n o t (omega (arith, seen, at)) made);
+      moved = moved_then c.args.pass.now n o (moved_then c.args.pass.now m n c.loop-pass.invariant.moved (moved_look s m n t found look))
+          (moved_advance s n o t (omega (arith, seen, at)) made);
       known = known_advance s n o t made ∙ (known_look s m n t found look ∙ c.loop-pass.invariant.known);
       counts = omega (arith, count, same, before);
-      loads = let least = c.loop-pass.invariant.loads in let loads = done_loads s m n t found _ _ look c.look_done.ensures.steps in let two = c.advance.ensures.steps in omega (arith, least, loads, same, two);
-      steps = (let more = advanced s n o t (omega (arith, seen, at)) made in let one = c.look_done.ensures.steps in let two = c.advance.ensures.steps in let so_far = c.loop-pass.invariant.steps in omega (arith, seen, at, more, one, two, so_far));
+      loads = let least = c.loop-pass.invariant.loads in let loads = done_loads s m n t found _ _ look c.look_done.ensures.steps in let two =
+          c.advance.ensures.steps in omega (arith, least, loads, same, two);
+      steps = (let more = advanced s n o t (omega (arith, seen, at)) made in let one = c.look_done.ensures.steps in let two = c.advance.ensures.steps in
+          let so_far = c.loop-pass.invariant.steps in omega (arith, seen, at, more, one, two, so_far));
     }
 
 pub loop-pass-init : goal.loop-pass-init
@@ -67,7 +71,8 @@ returns-then-not-look_done-clause-alone g c =
     let at = c.covered-t.ensures in
     let low = c.loop-pass-test.true in
     let known = c.covered.ensures in
-    all_alone s m n t (n.view.look).value c.look_done.ensures.made (inr (omega (arith, low, room, known), ap (λ (o : ℕ). slot_of s (done o)) at, λ one. other (c.look_done.ensures.found.1 one)))
+    all_alone s m n t (n.view.look).value c.look_done.ensures.made
+        (inr (omega (arith, low, room, known), ap (λ (o : ℕ). slot_of s (done o)) at, λ one. other (c.look_done.ensures.found.1 one)))
   where
     other : c.look_done.result ≡ true → ⊥
     other one = (let f : true ≡ false = sym one ∙ c.if-not-look_done.true in absurd (cc f))
@@ -92,7 +97,8 @@ returns-then-not-look_done-clause-full g c =
     let at = c.covered-t.ensures in
     let low = c.loop-pass-test.true in
     let known = c.covered.ensures in
-    full_alone s m n t (n.view.look).value c.look_done.ensures.made (inr (omega (arith, low, room, known), ap (λ (o : ℕ). slot_of s (done o)) at, λ one. other (c.look_done.ensures.found.1 one)))
+    full_alone s m n t (n.view.look).value c.look_done.ensures.made
+        (inr (omega (arith, low, room, known), ap (λ (o : ℕ). slot_of s (done o)) at, λ one. other (c.look_done.ensures.found.1 one)))
   where
     other : c.look_done.result ≡ true → ⊥
     other one = (let f : true ≡ false = sym one ∙ c.if-not-look_done.true in absurd (cc f))
@@ -117,7 +123,8 @@ returns-then-not-look_done-clause-paths g c =
     let at = c.covered-t.ensures in
     let low = c.loop-pass-test.true in
     let known = c.covered.ensures in
-    paths_alone s m n t (n.view.look).value c.look_done.ensures.made (inr (omega (arith, low, room, known), ap (λ (o : ℕ). slot_of s (done o)) at, λ one. other (c.look_done.ensures.found.1 one)))
+    paths_alone s m n t (n.view.look).value c.look_done.ensures.made
+        (inr (omega (arith, low, room, known), ap (λ (o : ℕ). slot_of s (done o)) at, λ one. other (c.look_done.ensures.found.1 one)))
   where
     other : c.look_done.result ≡ true → ⊥
     other one = (let f : true ≡ false = sym one ∙ c.if-not-look_done.true in absurd (cc f))
@@ -139,27 +146,35 @@ pub returns-clause-bounds : goal.returns-clause-bounds
 returns-clause-bounds g c = c.look_done-2.ensures.made.told.bounds
 
 pub returns-then-not-look_done-clause-fit : goal.returns-then-not-look_done-clause-fit
-returns-then-not-look_done-clause-fit g c = look_fit c.args.log.now.shape c.loop-pass.pass c.look_done.new.pass c.covered-t.result (c.look_done.new.pass.view.look).value c.look_done.ensures.made
+returns-then-not-look_done-clause-fit g c =
+    look_fit c.args.log.now.shape c.loop-pass.pass c.look_done.new.pass c.covered-t.result (c.look_done.new.pass.view.look).value c.look_done.ensures.made
 
 pub returns-clause-fit : goal.returns-clause-fit
-returns-clause-fit g c = look_fit c.args.log.now.shape c.loop-pass.pass c.look_done-2.new.pass 0 (c.look_done-2.new.pass.view.look).value c.look_done-2.ensures.made
+returns-clause-fit g c =
+    look_fit c.args.log.now.shape c.loop-pass.pass c.look_done-2.new.pass 0 (c.look_done-2.new.pass.view.look).value c.look_done-2.ensures.made
 
 pub returns-then-not-look_done-clause-known : goal.returns-then-not-look_done-clause-known
-returns-then-not-look_done-clause-known g c = known_look c.args.log.now.shape c.loop-pass.pass c.look_done.new.pass c.covered-t.result (c.look_done.new.pass.view.look).value c.look_done.ensures.made ∙ c.loop-pass.invariant.known
+returns-then-not-look_done-clause-known g c =
+    known_look c.args.log.now.shape c.loop-pass.pass c.look_done.new.pass c.covered-t.result (c.look_done.new.pass.view.look).value c.look_done.ensures.made
+    ∙ c.loop-pass.invariant.known
 
 pub returns-clause-known : goal.returns-clause-known
-returns-clause-known g c = known_look c.args.log.now.shape c.loop-pass.pass c.look_done-2.new.pass 0 (c.look_done-2.new.pass.view.look).value c.look_done-2.ensures.made ∙ c.loop-pass.invariant.known
+returns-clause-known g c =
+    known_look c.args.log.now.shape c.loop-pass.pass c.look_done-2.new.pass 0 (c.look_done-2.new.pass.view.look).value c.look_done-2.ensures.made
+    ∙ c.loop-pass.invariant.known
 
 pub returns-then-not-look_done-clause-loads : goal.returns-then-not-look_done-clause-loads
 returns-then-not-look_done-clause-loads g c =
     let least = c.loop-pass.invariant.loads in
-    let loads = done_loads c.args.log.now.shape c.loop-pass.pass c.look_done.new.pass c.covered-t.result (c.look_done.new.pass.view.look).value _ _ c.look_done.ensures.made c.look_done.ensures.steps in
+    let loads = done_loads c.args.log.now.shape c.loop-pass.pass c.look_done.new.pass c.covered-t.result
+        (c.look_done.new.pass.view.look).value _ _ c.look_done.ensures.made c.look_done.ensures.steps in
     omega (arith, least, loads)
 
 pub returns-clause-loads : goal.returns-clause-loads
 returns-clause-loads g c =
     let least = c.loop-pass.invariant.loads in
-    let loads = done_loads c.args.log.now.shape c.loop-pass.pass c.look_done-2.new.pass 0 (c.look_done-2.new.pass.view.look).value _ _ c.look_done-2.ensures.made c.look_done-2.ensures.steps in
+    let loads = done_loads c.args.log.now.shape c.loop-pass.pass c.look_done-2.new.pass 0
+        (c.look_done-2.new.pass.view.look).value _ _ c.look_done-2.ensures.made c.look_done-2.ensures.steps in
     omega (arith, least, loads)
 
 pub returns-then-not-look_done-clause-goes_on : goal.returns-then-not-look_done-clause-goes_on
@@ -170,7 +185,8 @@ returns-then-not-look_done-clause-goes_on g c =
     let o = c.look_done.new.pass in
     let t = c.covered-t.result in
     let look = c.look_done.ensures.made in
-    goes_on m o (moved_then m n o c.loop-pass.invariant.moved (moved_look s n o t (o.view.look).value look)) (known_look s n o t (o.view.look).value look ∙ c.loop-pass.invariant.known)
+    goes_on m o (moved_then m n o c.loop-pass.invariant.moved (moved_look s n o t (o.view.look).value look))
+        (known_look s n o t (o.view.look).value look ∙ c.loop-pass.invariant.known)
 
 pub returns-clause-goes_on : goal.returns-clause-goes_on
 returns-clause-goes_on g c =
@@ -179,4 +195,5 @@ returns-clause-goes_on g c =
     let n = c.loop-pass.pass in
     let o = c.look_done-2.new.pass in
     let look = c.look_done-2.ensures.made in
-    goes_on m o (moved_then m n o c.loop-pass.invariant.moved (moved_look s n o 0 (o.view.look).value look)) (known_look s n o 0 (o.view.look).value look ∙ c.loop-pass.invariant.known)
+    goes_on m o (moved_then m n o c.loop-pass.invariant.moved (moved_look s n o 0 (o.view.look).value look))
+        (known_look s n o 0 (o.view.look).value look ∙ c.loop-pass.invariant.known)

@@ -13,7 +13,8 @@ append_twice-requires-clause-ready g c =
     let rest : List PassValue = into_iter_items c.next.new.self in
     let split : into_iter_items c.loop-pass.pass-iterator ≡ c.in-Some.pass ∷ rest = c.in-Some.ensures.steps.0 in
     let len : c.len.result ≡ n = search rules in
-    subst (λ (w : ℕ). IsWriters log w c.in-Some.pass) (sym len) (from_first log n c.in-Some.pass rest (subst (AreWritersFrom log n) split c.loop-pass.invariant.rest))
+    subst (λ (w : ℕ). IsWriters log w c.in-Some.pass) (sym len)
+        (from_first log n c.in-Some.pass rest (subst (AreWritersFrom log n) split c.loop-pass.invariant.rest))
 
 pub loop-pass-preserved : goal.loop-pass-preserved
 loop-pass-preserved g c =
@@ -49,6 +50,7 @@ loop-pass-init g c =
     let zero_long : length done ≡ 0 = ap (λ (xs : List PassValue). length xs) none in
     let each = ap (λ (xs : List PassValue). length xs) all in record {
       done = subst (AreWritersFrom log 0) (sym none) (none_from log 0);
-      rest = subst (λ (hs : List PassValue). AreWritersFrom log (length done) hs) (sym all) (subst (λ (k : ℕ). AreWritersFrom log k passes) (sym zero_long) c.requires.ready);
+      rest = subst (λ (hs : List PassValue). AreWritersFrom log (length done) hs) (sym all)
+          (subst (λ (k : ℕ). AreWritersFrom log k passes) (sym zero_long) c.requires.ready);
       count = omega (arith, zero_long, each);
     }

@@ -24,7 +24,8 @@ returns-in_err-batch-clause-stopped g c =
     let same : c.from_residual.result ≡ Err c.in_err-batch.field-0.0 = search rules in
     let most = same_room c.args.segments.now s c.loop-number.invariant.same in
     let few : length rows ≤ room_of s = (let few = c.requires.few in omega (arith, most, few)) in
-    rw same (some_of rows (take (4096 * b) rows) part s t (4096 * b) (4096 * (b + 1)) c.in_err-batch.field-0.0 refl both few (c.in_err-batch.ensures.batched (take (4096 * b) rows) c.loop-number.invariant.loading))
+    rw same (some_of rows (take (4096 * b) rows) part s t (4096 * b) (4096 * (b + 1)) c.in_err-batch.field-0.0 refl both few
+        (c.in_err-batch.ensures.batched (take (4096 * b) rows) c.loop-number.invariant.loading))
 
 pub loop-number-preserved : goal.loop-number-preserved
 loop-number-preserved g c =
@@ -56,4 +57,7 @@ loop-number-init g c = record {
 }
 
 pub returns-in_err-batch-clause-same : goal.returns-in_err-batch-clause-same
-returns-in_err-batch-clause-same g c = goes_then c.args.segments.now c.loop-number.segments c.batch.new.segments c.loop-number.invariant.same (refused_goes (take (4096 * c.loop-number.number) c.args.rows.now) _ c.loop-number.segments c.batch.new.segments c.in_err-batch.field-0.0 (c.in_err-batch.ensures.batched (take (4096 * c.loop-number.number) c.args.rows.now) c.loop-number.invariant.loading))
+returns-in_err-batch-clause-same g c =
+    goes_then c.args.segments.now c.loop-number.segments c.batch.new.segments c.loop-number.invariant.same
+    (refused_goes (take (4096 * c.loop-number.number) c.args.rows.now) _ c.loop-number.segments c.batch.new.segments c.in_err-batch.field-0.0
+    (c.in_err-batch.ensures.batched (take (4096 * c.loop-number.number) c.args.rows.now) c.loop-number.invariant.loading))

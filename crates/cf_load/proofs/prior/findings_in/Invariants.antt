@@ -11,5 +11,6 @@ abbrev pub invariant-loop-place : goal.invariant-loop-place
 invariant-loop-place g l = record {
   kept : AllZip KeepsSegment l.initial.segments l.segments;
   loads : CountLoads l.initial.segments l.segments l.fn.steps l.steps;
-  found : l.findings.items ≡ map (λ place. finding_in l.shape (get_or (l.plan).asks.items place no_ask) (rows_in (flat_map seen_of l.initial.segments))) (take l.place-index (l.plan).lives.items);
+  found : l.findings.items ≡ map (λ place. finding_in l.shape (get_or (l.plan).asks.items place no_ask) (rows_in (flat_map seen_of l.initial.segments)))
+      (take l.place-index (l.plan).lives.items);
 }

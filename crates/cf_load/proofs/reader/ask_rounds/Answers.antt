@@ -19,6 +19,7 @@ loop-round-init g c =
     record {
       of = c.requires.of;
       loads = omega arith;
-      asks = subst (λ (xs : List Live). AsksSome log.shape plan.asks.items plan.lives.items 0 0 c.args.batch seen seen xs) none (asks_none log.shape plan.asks.items plan.lives.items c.args.batch seen);
+      asks = subst (λ (xs : List Live). AsksSome log.shape plan.asks.items plan.lives.items 0 0 c.args.batch seen seen xs) none
+          (asks_none log.shape plan.asks.items plan.lives.items c.args.batch seen);
       read = subst (HasRead base m m) none (read_none base m);
     }

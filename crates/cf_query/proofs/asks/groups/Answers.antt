@@ -17,4 +17,7 @@ returns-clause-ok g c =
     )
 
 pub returns-in_err-groups-clause-memory : goal.returns-in_err-groups-clause-memory
-returns-in_err-groups-clause-memory g c = refused_too c.from_residual.result (asked_walked c.args.log.now.shape (g.P.Pass.held c.args.pass.now) (g.P.Pass.held c.tail-tail.new.pass) (g.P.Pass.held c.groups.new.pass) c.tail-tail.ensures.asked c.groups.ensures.walked)
+returns-in_err-groups-clause-memory g c =
+    refused_too c.from_residual.result
+    (asked_walked c.args.log.now.shape (g.P.Pass.held c.args.pass.now) (g.P.Pass.held c.tail-tail.new.pass)
+    (g.P.Pass.held c.groups.new.pass) c.tail-tail.ensures.asked c.groups.ensures.walked)

@@ -9,4 +9,5 @@ use Rattle.cf_query.proofs.findings.groups_of.Goals as goal
 pub returns-clause-found : goal.returns-clause-found
 returns-clause-found g c =
     let rows = rows_in ((g.P.Pass.held c.args.pass.now).view).seen in
-    ap (λ (gs : List (ℕ × QuadValue)). findings.Groups gs) (c.new.ensures ∙ ap (map pair_of) c.in_ok-groups.ensures.found ∙ pairs_back (groups c.args.log.now.shape c.args.lane rows))
+    ap (λ (gs : List (ℕ × QuadValue)). findings.Groups gs)
+        (c.new.ensures ∙ ap (map pair_of) c.in_ok-groups.ensures.found ∙ pairs_back (groups c.args.log.now.shape c.args.lane rows))

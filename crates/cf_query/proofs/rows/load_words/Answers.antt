@@ -30,10 +30,12 @@ loop-i-preserved g c =
     let long = v.long in
     let count = v.steps in
     let more = c.load_word.ensures.steps in
-    let all = loaded s m n o c.min-place.result i c.load_word.result c.shape.ensures.lawful place (omega (arith, far, covered)) (omega (arith, low, wide)) c.load_word.ensures.made in
+    let all = loaded s m n o c.min-place.result i c.load_word.result c.shape.ensures.lawful place (omega (arith, far, covered))
+        (omega (arith, low, wide)) c.load_word.ensures.made in
     record {
       long = length-set c.loop-i.words i c.load_word.result ∙ long;
-      read = read_more c.loop-i.words (entry_at f.view o) i c.load_word.result (omega (arith, low, long)) v.read (all.word ∙ ap (λ (e : Entry). get_or (spelled e) i 0) same);
+      read = read_more c.loop-i.words (entry_at f.view o) i c.load_word.result (omega (arith, low, long)) v.read
+          (all.word ∙ ap (λ (e : Entry). get_or (spelled e) i 0) same);
       lawful = λ some. subst (λ (e : Entry). IsEntry s.schema e) same all.lawful;
       looked = looked_then f m n v.looked all.looked;
       steps = omega (arith, count, more);
@@ -54,5 +56,6 @@ returns-clause-words g c =
       entry = e;
       at = slice_get-get_or p.seen o no_entry c.requires.covered;
       lawful = lawful;
-      spells = same_number_lists c.loop-i.words (spelled e) (long ∙ (wide ∙ sym (spelled_long c.args.log.now.shape.schema e lawful.fits))) (λ k lt. v.read k (omega (arith, long, past)));
+      spells = same_number_lists c.loop-i.words (spelled e) (long ∙ (wide ∙ sym (spelled_long c.args.log.now.shape.schema e lawful.fits)))
+          (λ k lt. v.read k (omega (arith, long, past)));
     }

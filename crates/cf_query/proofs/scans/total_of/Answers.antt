@@ -10,10 +10,16 @@ use Rattle.cf_query.proofs.scans.total_of.Goals as goal
 use Rattle.cf_query.proofs.scans.total_of.Goals.{then-holds, else-holds}
 
 pub holds-requires-clause-fits : goal.holds-requires-clause-fits
-holds-requires-clause-fits g c = held_fits c.args.log.now.shape c.schema-schema.result.now (g.P.Pass.held c.args.pass.now) (g.P.Pass.held c.loop-place.pass) c.loop-place.place c.in_ok-entry.entry c.requires.fit c.loop-place.invariant.looked (c.schema-schema.ensures ∙ ap (λ (x : ShapeValue). x.schema) c.shape.ensures.shape) c.in_ok-entry.ensures.entry
+holds-requires-clause-fits g c =
+    held_fits c.args.log.now.shape c.schema-schema.result.now (g.P.Pass.held c.args.pass.now)
+    (g.P.Pass.held c.loop-place.pass) c.loop-place.place c.in_ok-entry.entry c.requires.fit c.loop-place.invariant.looked
+    (c.schema-schema.ensures ∙ ap (λ (x : ShapeValue). x.schema) c.shape.ensures.shape) c.in_ok-entry.ensures.entry
 
 pub amount-requires-clause-fits : goal.amount-requires-clause-fits
-amount-requires-clause-fits g c = held_fits c.args.log.now.shape c.schema-schema.result.now (g.P.Pass.held c.args.pass.now) (g.P.Pass.held c.loop-place.pass) c.loop-place.place c.in_ok-entry.entry c.requires.fit c.loop-place.invariant.looked (c.schema-schema.ensures ∙ ap (λ (x : ShapeValue). x.schema) c.shape.ensures.shape) c.in_ok-entry.ensures.entry
+amount-requires-clause-fits g c =
+    held_fits c.args.log.now.shape c.schema-schema.result.now (g.P.Pass.held c.args.pass.now)
+    (g.P.Pass.held c.loop-place.pass) c.loop-place.place c.in_ok-entry.entry c.requires.fit c.loop-place.invariant.looked
+    (c.schema-schema.ensures ∙ ap (λ (x : ShapeValue). x.schema) c.shape.ensures.shape) c.in_ok-entry.ensures.entry
 
 pub add-total-requires : goal.add-total-requires
 add-total-requires g c =
@@ -38,7 +44,8 @@ loop-place-preserved g c =
     record {
       found = elim c.if-holds.branch [
         | then-holds w ↦
-            let added : (xs : List ℕ) → c.loop-place.total ≡ quad_of xs → c.if-holds.total ≡ quad_of (xs ++ number_at e.row attr ∷ []) = λ xs is. w.total-is ∙ (w.add-total.ensures.added xs is ∙ ap (λ (n : ℕ). quad_of (xs ++ n ∷ [])) w.amount.ensures) in
+            let added : (xs : List ℕ) → c.loop-place.total ≡ quad_of xs → c.if-holds.total ≡ quad_of (xs ++ number_at e.row attr ∷ []) = λ xs is. w.total-is
+                ∙ (w.add-total.ensures.added xs is ∙ ap (λ (n : ℕ). quad_of (xs ++ n ∷ [])) w.amount.ensures) in
             summed_one attr expr seen o e at c.holds.result c.loop-place.total c.if-holds.total c.holds.ensures w.if-holds.true v.found added
         | else-holds w ↦ w.total-is ∙ summed_none attr expr seen o e at c.holds.result c.loop-place.total c.holds.ensures w.if-holds.false v.found
       ];

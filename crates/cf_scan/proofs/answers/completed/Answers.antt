@@ -30,7 +30,8 @@ loop-place-preserved g c =
       | then-not-goes_by_log+in_ok-answer+in_ok-insert w ↦ λ shape is.
           (let f = answer_on shape c.args.entries.now in
           let before = c.loop-place.invariant shape is in
-          let answer : w.in_ok-answer.answer ≡ f (get_or asks place no_ask) = w.in_ok-answer.ensures shape ∙ ap f (w.index-asks-place.is ∙ get_or_default asks place w.index-asks-place.result no_ask lt) in
+          let answer : w.in_ok-answer.answer ≡ f (get_or asks place no_ask) = w.in_ok-answer.ensures shape
+              ∙ ap f (w.index-asks-place.is ∙ get_or_default asks place w.index-asks-place.result no_ask lt) in
           let scanned : goes_by_log asks lives place ≡ false = sym c.goes_by_log.ensures ∙ w.if-not-goes_by_log.true in
           rw w.all-is (w.in_ok-insert.ensures.items ∙ (λ i. insert (before i) place (answer i)) ∙ answered_scan asks lives place lt f scanned))
       | else-not-goes_by_log w ↦ λ shape is.
@@ -40,4 +41,5 @@ loop-place-preserved g c =
     ]
 
 pub returns : goal.returns
-returns g c = λ shape is. c.loop-place.invariant shape is ∙ ap (map (answer_on shape c.args.entries.now)) (answered_last c.args.asks.now c.args.lives.now c.loop-place.place (omega (arith, c.loop-place-test.false)))
+returns g c = λ shape is. c.loop-place.invariant shape is
+    ∙ ap (map (answer_on shape c.args.entries.now)) (answered_last c.args.asks.now c.args.lives.now c.loop-place.place (omega (arith, c.loop-place-test.false)))

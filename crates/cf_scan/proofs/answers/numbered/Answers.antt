@@ -18,5 +18,6 @@ loop-live-preserved c =
           ∙ append_assoc c.loop-live.all.items (numbered places c.in-Some.live ∷ []) (map (numbered places) rest)
           ∙ ap (λ (ls : List Live). c.loop-live.all.items ++ map (numbered places) ls) (sym split)
           ∙ c.loop-live.invariant.items;
-      within = All-tail (λ (live : Live). live.ask < length places) c.in-Some.live rest (subst (λ (ls : List Live). All (λ (live : Live). live.ask < length places) ls) split c.loop-live.invariant.within);
+      within = All-tail (λ (live : Live). live.ask < length places) c.in-Some.live rest
+          (subst (λ (ls : List Live). All (λ (live : Live). live.ask < length places) ls) split c.loop-live.invariant.within);
     }

@@ -10,7 +10,8 @@ use Rattle.cf_scan.proofs.splits.lives_in.Goals as goal
 pub unreachable-requires : goal.unreachable-requires
 unreachable-requires c =
     let live = get_or c.args.lives.now c.loop-live.live-index 0 in
-    some_place (λ place. nat_eq place live) c.args.places.now (c.requires.all c.loop-live.live-index 0 c.loop-live-test.true) (sym c.place_in.ensures ∙ c.in_default.is)
+    some_place (λ place. nat_eq place live) c.args.places.now (c.requires.all c.loop-live.live-index 0 c.loop-live-test.true)
+        (sym c.place_in.ensures ∙ c.in_default.is)
 
 pub loop-live-preserved : goal.loop-live-preserved
 loop-live-preserved c =

@@ -12,7 +12,8 @@ returns-clause-seen g c =
     seen_still c.args.log.now c.args.pass.now c.ask.new.pass c.requires.alone asked
 
 pub returns-clause-books : goal.returns-clause-books
-returns-clause-books g c = (asked_either c.args.log.now c.args.question.now c.args.pass.now c.ask.new.pass c.ask.result c.ask.ensures.ok c.ask.ensures.memory).books
+returns-clause-books g c =
+    (asked_either c.args.log.now c.args.question.now c.args.pass.now c.ask.new.pass c.ask.result c.ask.ensures.ok c.ask.ensures.memory).books
 
 pub returns-clause-ok : goal.returns-clause-ok
 returns-clause-ok g c =

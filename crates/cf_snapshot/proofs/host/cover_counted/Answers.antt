@@ -3,7 +3,8 @@ use Rattle.cf_snapshot.proofs.Hosting.{placed, alone_then, covered, used_for}
 use Rattle.cf_snapshot.proofs.host.cover_counted.Goals as goal
 
 pub settle-requires-clause-of : goal.settle-requires-clause-of
-settle-requires-clause-of g c = Rattle.cf_append.proofs.Answering.of_then c.args.log.now c.args.pass.now c.append-answer.new.pass c.requires.alone.of c.append-answer.ensures.goes_on.same
+settle-requires-clause-of g c =
+    Rattle.cf_append.proofs.Answering.of_then c.args.log.now c.args.pass.now c.append-answer.new.pass c.requires.alone.of c.append-answer.ensures.goes_on.same
 
 pub settle-requires-clause-place : goal.settle-requires-clause-place
 settle-requires-clause-place g c =
@@ -25,4 +26,5 @@ returns-clause-answer g c =
     covered c.args.log.now c.args.row.now c.args.pass.now c.append-answer.new.pass c.settle.new.pass c.append-answer.result c.requires.alone a.goes_on s.goes_on a.answer now s.books
 
 pub returns-clause-nodes : goal.returns-clause-nodes
-returns-clause-nodes g c = used_for c.args.log.now.shape c.args.row.now c.args.pass.now c.append-answer.new.pass c.settle.new.pass c.append-answer.result c.append-answer.ensures.answer c.settle.ensures.books
+returns-clause-nodes g c =
+    used_for c.args.log.now.shape c.args.row.now c.args.pass.now c.append-answer.new.pass c.settle.new.pass c.append-answer.result c.append-answer.ensures.answer c.settle.ensures.books

@@ -28,7 +28,10 @@ returns c is =
       row_fits = c.is_of.ensures.0 c.if-not-is_of.false;
       one = sym (ap (λ (xs : List Lane). length xs) c.lanes-lanes.ensures.lanes) ∙ c.if-lanes-ne1.false;
       levels = levels;
-      bare = none (lane_at s 0).measure (ap (λ (xs : List Lane). is_some (get_or xs 0 no_lane).measure) (sym c.lanes-lanes.ensures.lanes) ∙ (ap (λ (x : Lane). is_some x.measure) (first c.lanes-lanes.result.now c.index-lanes-0.result c.if-lanes-ne1.false) ∙ (sym c.is_some.ensures ∙ c.if-is_some.false)));
+      bare = none (lane_at s 0).measure
+          (ap (λ (xs : List Lane). is_some (get_or xs 0 no_lane).measure) (sym c.lanes-lanes.ensures.lanes)
+          ∙ (ap (λ (x : Lane). is_some x.measure) (first c.lanes-lanes.result.now c.index-lanes-0.result c.if-lanes-ne1.false)
+          ∙ (sym c.is_some.ensures ∙ c.if-is_some.false)));
       path = the_path s r levels (sym c.selects.ensures ∙ c.if-not-selects.false) (sym c.key.ensures ∙ found);
       place_is = sym c.place_root.ensures ∙ c.if-place_root-ne25.false;
       writers = sizes.0;

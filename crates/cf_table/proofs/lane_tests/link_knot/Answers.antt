@@ -14,7 +14,8 @@ link-found-requires g c κs within =
     let r = c.args.row.now in
     let m = c.args.pass.now in
     let n = c.label.new.pass in
-    (within, (still_one c.args.log.now m n c.requires.of c.label.ensures.made.made.same, links_knot s r n.view c.requires.leads (labelled_view s r m n c.requires.view c.label.ensures.made)))
+    (within, (still_one c.args.log.now m n c.requires.of c.label.ensures.made.made.same,
+        links_knot s r n.view c.requires.leads (labelled_view s r m n c.requires.view c.label.ensures.made)))
 
 pub returns-clause-view : goal.returns-clause-view
 returns-clause-view g c =
@@ -22,4 +23,5 @@ returns-clause-view g c =
     let r = c.args.row.now in
     let m = c.args.pass.now in
     let n = c.label.new.pass in
-    knotted_view s r n c.link-found.new.pass c.link-found.result (labelled_view s r m n c.requires.view c.label.ensures.made) c.if-found-ne0.false c.link-found.ensures.made
+    knotted_view s r n c.link-found.new.pass c.link-found.result
+        (labelled_view s r m n c.requires.view c.label.ensures.made) c.if-found-ne0.false c.link-found.ensures.made

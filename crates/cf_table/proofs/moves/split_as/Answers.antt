@@ -11,5 +11,6 @@ split_seat-requires g c =
     let there : 0 < word_total (sizes_of log.shape) = omega arith in (
       ap (λ (h : PassValue). h.table) c.token.view_is ∙ (c.requires.of.table ∙ sym (ap (λ (m : LogValue). m.table) c.log.view_is)),
       rw c.log.invariant.2 there,
-      rw (ap (λ (h : PassValue). h.view) c.token.view_is) (split_allowed log.table.shared.key seat.id c.args.token.now.view g.N.Parts.stays g.N.Parts.goes c.requires.lawful.0 c.requires.lawful.1),
+      rw (ap (λ (h : PassValue). h.view) c.token.view_is)
+          (split_allowed log.table.shared.key seat.id c.args.token.now.view g.N.Parts.stays g.N.Parts.goes c.requires.lawful.0 c.requires.lawful.1),
     )

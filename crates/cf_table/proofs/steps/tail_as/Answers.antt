@@ -18,6 +18,8 @@ load-found-requires g c =
     let there : 1 < word_total (sizes_of s) = omega arith in (
       ap (λ (h : PassValue). h.table) c.token.view_is ∙ (c.requires.of.table ∙ sym (ap (λ (m : LogValue). m.table) c.log.view_is)),
       rw (c.log.invariant.2, shape) there,
-      subst (λ (w : StepGiven). Allows (IsLawfulState log.table.shared.key) t.slots seat.id seat.me 1 (λ n. n) (λ found n. TellsAll w seat.me found n)) (sym c.requires.given)
-          (tail_allowed log.table.shared.key s t.slots seat.id seat.me p c.args.asked (c.log.invariant.0 ∙ shape) (ap (λ (h : PassValue). h.view) c.token.view_is) (rw c.log.invariant.0 c.log.invariant.1) c.token.invariant.0),
+      subst (λ (w : StepGiven). Allows (IsLawfulState log.table.shared.key) t.slots seat.id seat.me 1 (λ n. n) (λ found n. TellsAll w seat.me found n))
+          (sym c.requires.given)
+          (tail_allowed log.table.shared.key s t.slots seat.id seat.me p c.args.asked (c.log.invariant.0 ∙ shape)
+              (ap (λ (h : PassValue). h.view) c.token.view_is) (rw c.log.invariant.0 c.log.invariant.1) c.token.invariant.0),
     )

@@ -15,7 +15,12 @@ begin-link-requires g c κs within =
     let leaf = c.args.leaf in
     let above = c.requires.above in
     let some = some_levels s leaf.lane c.shape-lawful.ensures.lawful above.exists in
-    (search rules, (search rules, (c.requires.of, ((above.within, c.requires.writer), may_walk s (g.P.Pass.held c.args.pass.now).view leaf.lane _ leaf.node (leaf.key % 16) c.args.writer above.knows (above_long s leaf.lane leaf.key (omega (arith, some.0))) (omega arith) c.requires.writer))))
+    (search rules,
+        (search rules,
+        (c.requires.of,
+        ((above.within, c.requires.writer),
+        may_walk s (g.P.Pass.held c.args.pass.now).view leaf.lane _ leaf.node (leaf.key % 16) c.args.writer above.knows
+        (above_long s leaf.lane leaf.key (omega (arith, some.0))) (omega arith) c.requires.writer))))
 
 pub loop-link-init : goal.loop-link-init
 loop-link-init g c =
@@ -26,8 +31,10 @@ loop-link-init g c =
     let n = g.P.Pass.held c.begin-link.new.pass in
     let v = c.begin-link.result in
     let some = some_levels s leaf.lane c.shape-lawful.ensures.lawful above.exists in
-    let b : HasBegun s m n c.args.writer (leaf_of s leaf.lane leaf.key) v = begun s m n leaf.lane leaf.key leaf.node c.args.writer v (omega (arith, some.0)) c.requires.writer above c.begin-link.ensures.made in
-    let same : below s c.args.writer (leaf_of s leaf.lane leaf.key) (m.view).seen v ≡ below s c.args.writer (leaf_of s leaf.lane leaf.key) (m.view).seen (length (m.view).seen) = ap (λ (xs : List (ℕ × RowValue)). map (λ x. x.0) xs) b.all in
+    let b : HasBegun s m n c.args.writer (leaf_of s leaf.lane leaf.key) v =
+        begun s m n leaf.lane leaf.key leaf.node c.args.writer v (omega (arith, some.0)) c.requires.writer above c.begin-link.ensures.made in
+    let same : below s c.args.writer (leaf_of s leaf.lane leaf.key) (m.view).seen v ≡ below s c.args.writer (leaf_of s leaf.lane leaf.key) (m.view).seen
+        (length (m.view).seen) = ap (λ (xs : List (ℕ × RowValue)). map (λ x. x.0) xs) b.all in
     let long = ap (λ (xs : List ℕ). length xs) same in
     let count = c.begin-link.ensures.steps in
     record {
@@ -35,7 +42,8 @@ loop-link-init g c =
       walking = b.walking;
       found = ap (λ (xs : List ℕ). c.args.found.now.items ++ xs) same;
       loads = head_loads s m n _ _ _ _ v _ _ c.begin-link.ensures.made count;
-      count = counting_begins s c.args.writer m n v (length (below s c.args.writer (leaf_of s leaf.lane leaf.key) (m.view).seen v)) _ _ b.met (omega (arith, long, count));
+      count = counting_begins s c.args.writer m n v (length (below s c.args.writer (leaf_of s leaf.lane leaf.key) (m.view).seen v)) _ _ b.met
+          (omega (arith, long, count));
     }
 
 pub load_cell-link-requires-clause-lawful : goal.load_cell-link-requires-clause-lawful
@@ -59,7 +67,9 @@ loop-link-smaller g c =
     let m = g.P.Pass.held c.loop-link.pass in
     let n = g.P.Pass.held c.load_cell-link.new.pass in
     let some = c.loop-link-test.true in
-    let st = stepped_from s m n c.args.writer (leaf_of s leaf.lane leaf.key) (f.view).seen c.loop-link.link c.load_cell-link.result some c.shape-lawful.ensures.lawful c.requires.above.exists (some_cell s leaf.lane) (walked_seen f m v.walked) v.walking c.load_cell-link.ensures.made in
+    let st = stepped_from s m n c.args.writer (leaf_of s leaf.lane leaf.key)
+        (f.view).seen c.loop-link.link c.load_cell-link.result some c.shape-lawful.ensures.lawful c.requires.above.exists (some_cell s leaf.lane)
+        (walked_seen f m v.walked) v.walking c.load_cell-link.ensures.made in
     let falls = st.falls in
     omega (arith, some, falls)
 
@@ -77,7 +87,9 @@ loop-link-preserved g c =
     let link = c.loop-link.link in
     let next = c.load_cell-link.result % 4294967296 in
     let some = c.loop-link-test.true in
-    let st : HasWalkedOn s m n w spot seen (link - 1) next = stepped_from s m n w spot seen link c.load_cell-link.result some c.shape-lawful.ensures.lawful c.requires.above.exists (some_cell s leaf.lane) (walked_seen f m v.walked) v.walking c.load_cell-link.ensures.made in
+    let st : HasWalkedOn s m n w spot seen (link - 1) next =
+        stepped_from s m n w spot seen link c.load_cell-link.result some c.shape-lawful.ensures.lawful c.requires.above.exists (some_cell s leaf.lane)
+        (walked_seen f m v.walked) v.walking c.load_cell-link.ensures.made in
     let falls = st.falls in
     let more = c.load_cell-link.ensures.steps in
     let here = below_next s w spot seen link some in
@@ -93,9 +105,11 @@ loop-link-preserved g c =
           record {
             walked = walked_then f m n v.walked st.walked;
             walking = st.walking;
-            found = kept_known (c.loop-link.found).items (c.if-place-covered.found).items (below s w spot seen link) (below s w spot seen next) _ (link - 1) (ap (λ (u : Vec ℕ Global). u.items) x.found-is ∙ x.in_ok-push.ensures.items) first v.found;
+            found = kept_known (c.loop-link.found).items (c.if-place-covered.found).items (below s w spot seen link) (below s w spot seen next) _ (link - 1)
+                (ap (λ (u : Vec ℕ Global). u.items) x.found-is ∙ x.in_ok-push.ensures.items) first v.found;
             loads = omega (arith, least, loads);
-            count = counting_known s w f m n link next (link - 1) (length (below s w spot seen link)) (length (below s w spot seen next)) _ _ _ v.count st.met (omega (arith, falls)) long more;
+            count = counting_known s w f m n link next (link - 1) (length (below s w spot seen link)) (length (below s w spot seen next)) _ _ _ v.count st.met
+                (omega (arith, falls)) long more;
           }
       | else-place-covered x ↦
           let high = x.if-place-covered.false in
@@ -104,9 +118,11 @@ loop-link-preserved g c =
           record {
             walked = walked_then f m n v.walked st.walked;
             walking = st.walking;
-            found = kept_new (c.if-place-covered.found).items (below s w spot seen link) (below s w spot seen next) _ first (ap (λ (u : Vec ℕ Global). u.items ++ below s w spot seen link) x.found-is ∙ v.found);
+            found = kept_new (c.if-place-covered.found).items (below s w spot seen link) (below s w spot seen next) _ first
+                (ap (λ (u : Vec ℕ Global). u.items ++ below s w spot seen link) x.found-is ∙ v.found);
             loads = omega (arith, least, loads);
-            count = counting_new s w f m n link next (length (below s w spot seen link)) (length (below s w spot seen next)) _ _ _ v.count st.met st.apart some (omega (arith, high, covered, far)) v.walking.low falls long more;
+            count = counting_new s w f m n link next (length (below s w spot seen link)) (length (below s w spot seen next)) _ _ _ v.count st.met st.apart some
+                (omega (arith, high, covered, far)) v.walking.low falls long more;
           }
     ]
 
@@ -115,7 +131,9 @@ returns-clause-found g c =
     let s = c.args.log.now.shape in
     let leaf = c.args.leaf in
     let past = c.loop-link-test.false in
-    kept_all s c.args.writer (leaf_of s leaf.lane leaf.key) ((g.P.Pass.held c.args.pass.now).view).seen c.loop-link.link (c.loop-link.found).items _ (omega (arith, past)) c.loop-link.invariant.found
+    kept_all s c.args.writer (leaf_of s leaf.lane leaf.key) ((g.P.Pass.held c.args.pass.now).view).seen c.loop-link.link (c.loop-link.found).items _
+        (omega (arith, past)) c.loop-link.invariant.found
 
 pub returns-clause-steps : goal.returns-clause-steps
-returns-clause-steps g c = counting_ends c.args.log.now.shape c.args.writer (g.P.Pass.held c.args.pass.now) (g.P.Pass.held c.loop-link.pass) _ _ _ _ _ c.loop-link.invariant.count
+returns-clause-steps g c =
+    counting_ends c.args.log.now.shape c.args.writer (g.P.Pass.held c.args.pass.now) (g.P.Pass.held c.loop-link.pass) _ _ _ _ _ c.loop-link.invariant.count

@@ -12,10 +12,12 @@ ghost-begin g a = spot_above (a.log).now.shape (a.leaf).lane (a.leaf).key (level
 abbrev pub invariant-loop-link : goal.invariant-loop-link
 invariant-loop-link g l = record {
   walked : OnlyWalked (g.P.Pass.held l.fn.pass) (g.P.Pass.held l.pass);
-  walking : IsWalking (l.log).shape ((g.P.Pass.held l.fn.pass).view).seen l.writer (leaf_of (l.log).shape (l.leaf).lane (l.leaf).key) l.link (g.P.Pass.held l.pass).view;
+  walking : IsWalking (l.log).shape ((g.P.Pass.held l.fn.pass).view).seen l.writer (leaf_of (l.log).shape (l.leaf).lane (l.leaf).key) l.link
+      (g.P.Pass.held l.pass).view;
   found : (l.found).items ++ below (l.log).shape l.writer (leaf_of (l.log).shape (l.leaf).lane (l.leaf).key) ((g.P.Pass.held l.fn.pass).view).seen l.link
       ≡ (l.fn.found).items ++ chain_places (l.log).shape (l.leaf).lane (l.leaf).key ((g.P.Pass.held l.fn.pass).view).seen l.writer;
-  count : IsCounting (l.log).shape l.writer (g.P.Pass.held l.fn.pass) (g.P.Pass.held l.pass) l.link (length (below (l.log).shape l.writer (leaf_of (l.log).shape (l.leaf).lane (l.leaf).key) ((g.P.Pass.held l.fn.pass).view).seen l.link))
+  count : IsCounting (l.log).shape l.writer (g.P.Pass.held l.fn.pass) (g.P.Pass.held l.pass) l.link
+      (length (below (l.log).shape l.writer (leaf_of (l.log).shape (l.leaf).lane (l.leaf).key) ((g.P.Pass.held l.fn.pass).view).seen l.link))
       (l.fn.steps + 1 + length (chain_places (l.log).shape (l.leaf).lane (l.leaf).key ((g.P.Pass.held l.fn.pass).view).seen l.writer)) l.steps;
   loads : CountsLoads (g.P.Pass.held l.fn.pass) (g.P.Pass.held l.pass) l.fn.steps l.steps;
 }

@@ -7,13 +7,19 @@ use Rattle.cf_walk.proofs.Walked.{walked_none, walked_then, walked_seen, above_t
 use Rattle.cf_walk.proofs.chain.collect_leaf.Goals as goal
 
 pub loop-writer-init : goal.loop-writer-init
-loop-writer-init g c = record { loads = omega arith; walked = walked_none (g.P.Pass.held c.args.pass.now); count = all_begins c.args.log.now.shape (g.P.Pass.held c.args.pass.now) _ _ _; found = leaf_none c.args.log.now.shape c.args.leaf.lane c.args.leaf.key ((g.P.Pass.held c.args.pass.now).view).seen c.args.found.now.items }
+loop-writer-init g c =
+    record { loads = omega arith; walked = walked_none (g.P.Pass.held c.args.pass.now); count =
+    all_begins c.args.log.now.shape (g.P.Pass.held c.args.pass.now) _ _ _; found =
+    leaf_none c.args.log.now.shape c.args.leaf.lane c.args.leaf.key ((g.P.Pass.held c.args.pass.now).view).seen c.args.found.now.items }
 
 pub collect_chain-requires-clause-of : goal.collect_chain-requires-clause-of
-collect_chain-requires-clause-of g c = of_walked c.args.log.now (g.P.Pass.held c.args.pass.now) (g.P.Pass.held c.loop-writer.pass) c.loop-writer.invariant.walked c.requires.of
+collect_chain-requires-clause-of g c =
+    of_walked c.args.log.now (g.P.Pass.held c.args.pass.now) (g.P.Pass.held c.loop-writer.pass) c.loop-writer.invariant.walked c.requires.of
 
 pub collect_chain-requires-clause-above : goal.collect_chain-requires-clause-above
-collect_chain-requires-clause-above g c = above_then c.args.log.now.shape c.args.leaf.lane c.args.leaf.key c.args.leaf.node (g.P.Pass.held c.args.pass.now) (g.P.Pass.held c.loop-writer.pass) c.loop-writer.invariant.walked c.requires.above
+collect_chain-requires-clause-above g c =
+    above_then c.args.log.now.shape c.args.leaf.lane c.args.leaf.key c.args.leaf.node (g.P.Pass.held c.args.pass.now)
+    (g.P.Pass.held c.loop-writer.pass) c.loop-writer.invariant.walked c.requires.above
 
 pub loop-writer-preserved : goal.loop-writer-preserved
 loop-writer-preserved g c =
@@ -26,8 +32,12 @@ loop-writer-preserved g c =
     record {
       walked = walked_then f m n v.walked c.collect_chain.ensures.walked;
       loads = let least = v.loads in let loads = c.collect_chain.ensures.loads in omega (arith, least, loads);
-      count = all_more s m n (length (f.view).seen) c.loop-writer.writer (c.loop-writer.writer + 1) _ _ _ _ _ _ (ap (λ (es : List Entry). length es) (walked_seen f m v.walked)) (omega arith) (leaf_long s leaf.lane leaf.key c.loop-writer.writer (c.loop-writer.writer + 1) (f.view).seen (m.view).seen (omega arith) (walked_seen f m v.walked)) v.count c.in_ok-collect_chain.ensures.steps;
-      found = leaf_more s leaf.lane leaf.key c.loop-writer.writer (c.loop-writer.writer + 1) (f.view).seen (m.view).seen (c.loop-writer.found).items (c.collect_chain.new.found).items c.args.found.now.items (omega arith) (walked_seen f m v.walked) c.in_ok-collect_chain.ensures.found v.found;
+      count = all_more s m n (length (f.view).seen) c.loop-writer.writer (c.loop-writer.writer + 1) _ _ _ _ _ _
+          (ap (λ (es : List Entry). length es) (walked_seen f m v.walked)) (omega arith)
+          (leaf_long s leaf.lane leaf.key c.loop-writer.writer (c.loop-writer.writer + 1) (f.view).seen (m.view).seen (omega arith)
+          (walked_seen f m v.walked)) v.count c.in_ok-collect_chain.ensures.steps;
+      found = leaf_more s leaf.lane leaf.key c.loop-writer.writer (c.loop-writer.writer + 1) (f.view).seen (m.view).seen (c.loop-writer.found).items
+          (c.collect_chain.new.found).items c.args.found.now.items (omega arith) (walked_seen f m v.walked) c.in_ok-collect_chain.ensures.found v.found;
     }
 
 pub returns-clause-steps : goal.returns-clause-steps

@@ -9,7 +9,10 @@ use Rattle.cf_walk.proofs.Grouping.{grouped_then, all_groups}
 use Rattle.cf_walk.proofs.leaves.groups.Goals as goal
 
 pub add_group-requires-in-loop-last-clause-fit : goal.add_group-requires-in-loop-last-clause-fit
-add_group-requires-in-loop-last-clause-fit g c o e at = c.requires.fit o e (ap (λ (es : List Entry). slice_get es o) (sym (walked_seen (g.P.Pass.held c.args.pass.now) (g.P.Pass.held c.loop-last.pass) c.loop-last.invariant.walked)) ∙ at)
+add_group-requires-in-loop-last-clause-fit g c o e at =
+    c.requires.fit o e
+    (ap (λ (es : List Entry). slice_get es o)
+    (sym (walked_seen (g.P.Pass.held c.args.pass.now) (g.P.Pass.held c.loop-last.pass) c.loop-last.invariant.walked)) ∙ at)
 
 pub loop-last-preserved : goal.loop-last-preserved
 loop-last-preserved g c =
@@ -22,7 +25,8 @@ loop-last-preserved g c =
       path = c.in_ok-last-2.ensures.path;
       walked = walked_then f m n v.walked c.add_group-in-loop-last.ensures.walked;
       loads = let least = v.loads in let loads = c.add_group-in-loop-last.ensures.loads in omega (arith, least, loads);
-      grouped = grouped_then s c.args.lane 0 c.greatest_key-high.result c.loop-last.last c.in_ok-last-2.last (rows_in (f.view).seen) (rows_in (m.view).seen) [] (c.loop-last.groups).items (c.add_group-in-loop-last.new.groups).items (ap rows_in (walked_seen f m v.walked)) v.grouped c.in_ok-last-2.ensures.found;
+      grouped = grouped_then s c.args.lane 0 c.greatest_key-high.result c.loop-last.last c.in_ok-last-2.last (rows_in (f.view).seen) (rows_in (m.view).seen) []
+          (c.loop-last.groups).items (c.add_group-in-loop-last.new.groups).items (ap rows_in (walked_seen f m v.walked)) v.grouped c.in_ok-last-2.ensures.found;
     }
 
 pub returns-clause-found : goal.returns-clause-found
@@ -36,4 +40,5 @@ returns-clause-found g c =
     let test = c.loop-last-test.false in
     let upto = v.grouped.upto in
     let end' : c.loop-last.last ≡ high = omega (arith, test, upto) in
-    all_groups s l high seen (c.loop-last.groups).items c.shape.ensures.lawful c.requires.lane c.requires.fit most (subst (λ (k : ℕ). HasGrouped s l 0 high (rows_in seen) [] (c.loop-last.groups).items k) end' v.grouped)
+    all_groups s l high seen (c.loop-last.groups).items c.shape.ensures.lawful c.requires.lane c.requires.fit most
+        (subst (λ (k : ℕ). HasGrouped s l 0 high (rows_in seen) [] (c.loop-last.groups).items k) end' v.grouped)

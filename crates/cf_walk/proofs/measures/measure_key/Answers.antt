@@ -8,7 +8,9 @@ use Rattle.cf_walk.proofs.Measured.{leaf_measured, gap_measured}
 use Rattle.cf_walk.proofs.measures.measure_key.Goals as goal
 
 pub leaf_quad-requires-clause-fit : goal.leaf_quad-requires-clause-fit
-leaf_quad-requires-clause-fit g c o e at = c.requires.fit o e (ap (λ (es : List Entry). slice_get es o) (sym (walked_seen (g.P.Pass.held c.args.pass.now) (g.P.Pass.held c.reach.new.pass) c.reach.ensures.walked)) ∙ at)
+leaf_quad-requires-clause-fit g c o e at =
+    c.requires.fit o e
+    (ap (λ (es : List Entry). slice_get es o) (sym (walked_seen (g.P.Pass.held c.args.pass.now) (g.P.Pass.held c.reach.new.pass) c.reach.ensures.walked)) ∙ at)
 
 pub returns-in-Leaf-clause-quad : goal.returns-in-Leaf-clause-quad
 returns-in-Leaf-clause-quad g c =
@@ -24,4 +26,5 @@ returns-in-Gap-clause-quad g c =
     let key = c.args.range.0 in
     let high = c.args.range.1 in
     let gap = c.in-Gap.ensures.reached in
-    subst (λ (k : ℕ). HasMeasured s c.args.lane key high seen (record { count = 0; sum = 0; least = 0; greatest = 0 }) (key + k)) (sym c.min.ensures) (gap_measured s c.args.lane key high c.in-Gap.span seen c.requires.range gap.0 gap.1)
+    subst (λ (k : ℕ). HasMeasured s c.args.lane key high seen (record { count = 0; sum = 0; least = 0; greatest = 0 }) (key + k)) (sym c.min.ensures)
+        (gap_measured s c.args.lane key high c.in-Gap.span seen c.requires.range gap.0 gap.1)

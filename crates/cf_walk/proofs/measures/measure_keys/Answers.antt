@@ -6,7 +6,10 @@ use Rattle.cf_walk.proofs.Measured.{measured_then, measured_few}
 use Rattle.cf_walk.proofs.measures.measure_keys.Goals as goal
 
 pub measure_key-next-requires-clause-fit : goal.measure_key-next-requires-clause-fit
-measure_key-next-requires-clause-fit g c o e at = c.requires.fit o e (ap (λ (es : List Entry). slice_get es o) (sym (walked_seen (g.P.Pass.held c.args.pass.now) (g.P.Pass.held c.loop-last.pass) c.loop-last.invariant.walked)) ∙ at)
+measure_key-next-requires-clause-fit g c o e at =
+    c.requires.fit o e
+    (ap (λ (es : List Entry). slice_get es o)
+    (sym (walked_seen (g.P.Pass.held c.args.pass.now) (g.P.Pass.held c.loop-last.pass) c.loop-last.invariant.walked)) ∙ at)
 
 pub merge-total-requires : goal.merge-total-requires
 merge-total-requires g c =
@@ -19,9 +22,12 @@ merge-total-requires g c =
     let room = lawful.capacity in
     let few = c.requires.few in
     let same = walked_seen f m v.walked in
-    let total = measured_few s l c.args.range.0 c.args.range.1 c.loop-last.last (f.view).seen c.loop-last.total lawful c.requires.lane c.requires.fit c.requires.top v.quad in
-    let more = measured_few s l (c.loop-last.last + 1) c.args.range.1 c.measure_key-next.result.0 (f.view).seen c.measure_key-next.result.1 lawful c.requires.lane c.requires.fit c.requires.top
-    (subst (λ (es : List Entry). HasMeasured s l (c.loop-last.last + 1) c.args.range.1 es c.measure_key-next.result.1 c.measure_key-next.result.0) same c.measure_key-next.ensures.quad) in
+    let total = measured_few s l c.args.range.0 c.args.range.1 c.loop-last.last
+        (f.view).seen c.loop-last.total lawful c.requires.lane c.requires.fit c.requires.top v.quad in
+    let more = measured_few s l (c.loop-last.last + 1) c.args.range.1 c.measure_key-next.result.0
+        (f.view).seen c.measure_key-next.result.1 lawful c.requires.lane c.requires.fit c.requires.top
+    (subst (λ (es : List Entry). HasMeasured s l
+        (c.loop-last.last + 1) c.args.range.1 es c.measure_key-next.result.1 c.measure_key-next.result.0) same c.measure_key-next.ensures.quad) in
     record { few = omega (arith, total, more, few, room) }
 
 pub loop-last-preserved : goal.loop-last-preserved
@@ -34,7 +40,9 @@ loop-last-preserved g c =
     record {
       path = c.measure_key-next.ensures.path;
       walked = walked_then f m n v.walked c.measure_key-next.ensures.walked;
-      quad = measured_then s c.args.lane c.args.range.0 c.args.range.1 c.loop-last.last c.measure_key-next.result.0 (f.view).seen (m.view).seen c.loop-last.total c.measure_key-next.result.1 c.merge-total.result (walked_seen f m v.walked) v.quad c.measure_key-next.ensures.quad c.merge-total.ensures.merged;
+      quad = measured_then s c.args.lane c.args.range.0 c.args.range.1 c.loop-last.last c.measure_key-next.result.0 (f.view).seen
+          (m.view).seen c.loop-last.total c.measure_key-next.result.1 c.merge-total.result
+          (walked_seen f m v.walked) v.quad c.measure_key-next.ensures.quad c.merge-total.ensures.merged;
       loads = let least = v.loads in let loads = c.measure_key-next.ensures.loads in omega (arith, least, loads);
       steps = λ one. absurd (let a = v.quad.from in let b = v.quad.upto in let test = c.loop-last-test.true in omega (arith, one, a, b, test));
     }

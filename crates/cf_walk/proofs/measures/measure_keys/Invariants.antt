@@ -11,7 +11,9 @@ invariant-loop-last g l = record {
   path : IsPath (l.log).shape l.lane l.path (g.P.Pass.held l.pass).view;
   walked : OnlyWalked (g.P.Pass.held l.fn.pass) (g.P.Pass.held l.pass);
   quad : HasMeasured (l.log).shape l.lane (l.fn.range).0 (l.fn.range).1 ((g.P.Pass.held l.fn.pass).view).seen l.total l.last;
-  steps : (l.fn.range).0 ≡ (l.fn.range).1 → l.steps ≤ l.fn.steps + (levels_of (l.log).shape l.lane - 1) + 4 * (l.log).shape.writers + ((l.log).shape.capacity - length ((g.P.Pass.held l.fn.pass).view).seen);
+  steps : (l.fn.range).0 ≡ (l.fn.range).1
+      → l.steps ≤ l.fn.steps + (levels_of (l.log).shape l.lane - 1) + 4 * (l.log).shape.writers +
+      ((l.log).shape.capacity - length ((g.P.Pass.held l.fn.pass).view).seen);
   loads : CountsLoads (g.P.Pass.held l.fn.pass) (g.P.Pass.held l.pass) l.fn.steps l.steps;
 }
 

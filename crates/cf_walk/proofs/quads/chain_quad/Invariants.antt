@@ -14,9 +14,11 @@ ghost-begin g a = spot_above (a.log).now.shape (a.leaf).lane (a.leaf).key (level
 abbrev pub invariant-loop-link : goal.invariant-loop-link
 invariant-loop-link g l = record {
   walked : OnlyWalked (g.P.Pass.held l.fn.pass) (g.P.Pass.held l.pass);
-  walking : IsWalking (l.log).shape ((g.P.Pass.held l.fn.pass).view).seen l.writer (leaf_of (l.log).shape (l.leaf).lane (l.leaf).key) l.link (g.P.Pass.held l.pass).view;
+  walking : IsWalking (l.log).shape ((g.P.Pass.held l.fn.pass).view).seen l.writer (leaf_of (l.log).shape (l.leaf).lane (l.leaf).key) l.link
+      (g.P.Pass.held l.pass).view;
   same : picks (layout (l.log).shape) l.writer (leaf_of (l.log).shape (l.leaf).lane (l.leaf).key) ((g.P.Pass.held l.fn.pass).view).seen l.link
-      ≡ picks (layout (l.log).shape) l.writer (leaf_of (l.log).shape (l.leaf).lane (l.leaf).key) ((g.P.Pass.held l.fn.pass).view).seen (length ((g.P.Pass.held l.fn.pass).view).seen);
+      ≡ picks (layout (l.log).shape) l.writer (leaf_of (l.log).shape (l.leaf).lane (l.leaf).key) ((g.P.Pass.held l.fn.pass).view).seen
+          (length ((g.P.Pass.held l.fn.pass).view).seen);
   count : IsCounting (l.log).shape l.writer (g.P.Pass.held l.fn.pass) (g.P.Pass.held l.pass) l.link 0 (l.fn.steps + 1) l.steps;
   loads : CountsLoads (g.P.Pass.held l.fn.pass) (g.P.Pass.held l.pass) l.fn.steps l.steps;
 }

@@ -18,14 +18,19 @@ loop-writer-init g c = record {
 }
 
 pub chain_quad-quad-requires-clause-of : goal.chain_quad-quad-requires-clause-of
-chain_quad-quad-requires-clause-of g c = of_walked c.args.log.now (g.P.Pass.held c.args.pass.now) (g.P.Pass.held c.loop-writer.pass) c.loop-writer.invariant.walked c.requires.of
+chain_quad-quad-requires-clause-of g c =
+    of_walked c.args.log.now (g.P.Pass.held c.args.pass.now) (g.P.Pass.held c.loop-writer.pass) c.loop-writer.invariant.walked c.requires.of
 
 pub chain_quad-quad-requires-clause-above : goal.chain_quad-quad-requires-clause-above
-chain_quad-quad-requires-clause-above g c = above_then c.args.log.now.shape c.args.leaf.lane c.args.leaf.key c.args.leaf.node (g.P.Pass.held c.args.pass.now) (g.P.Pass.held c.loop-writer.pass) c.loop-writer.invariant.walked c.requires.above
+chain_quad-quad-requires-clause-above g c =
+    above_then c.args.log.now.shape c.args.leaf.lane c.args.leaf.key c.args.leaf.node (g.P.Pass.held c.args.pass.now)
+    (g.P.Pass.held c.loop-writer.pass) c.loop-writer.invariant.walked c.requires.above
 
 pub chain_quad-quad-requires-clause-fit : goal.chain_quad-quad-requires-clause-fit
 chain_quad-quad-requires-clause-fit g c o e at =
-    c.requires.fit o e (ap (λ (es : List Entry). slice_get es o) (sym (walked_seen (g.P.Pass.held c.args.pass.now) (g.P.Pass.held c.loop-writer.pass) c.loop-writer.invariant.walked)) ∙ at)
+    c.requires.fit o e
+        (ap (λ (es : List Entry). slice_get es o)
+        (sym (walked_seen (g.P.Pass.held c.args.pass.now) (g.P.Pass.held c.loop-writer.pass) c.loop-writer.invariant.walked)) ∙ at)
 
 pub merge-total-requires : goal.merge-total-requires
 merge-total-requires g c =
@@ -64,10 +69,12 @@ loop-writer-preserved g c =
     let sum = c.merge-total.ensures.count in
     record {
       walked = walked_then f m n v.walked c.chain_quad-quad.ensures.walked;
-      quad = amounts_next s leaf.lane leaf.key w (w + 1) (f.view).seen (m.view).seen c.loop-writer.total c.chain_quad-quad.result c.merge-total.result (omega arith) same v.quad c.chain_quad-quad.ensures.quad c.merge-total.ensures.merged;
+      quad = amounts_next s leaf.lane leaf.key w (w + 1) (f.view).seen (m.view).seen c.loop-writer.total c.chain_quad-quad.result c.merge-total.result
+          (omega arith) same v.quad c.chain_quad-quad.ensures.quad c.merge-total.ensures.merged;
       few = omega (arith, mine, most, far, few, room, before, sum);
       loads = let least = v.loads in let loads = c.chain_quad-quad.ensures.loads in omega (arith, least, loads);
-      count = all_more s m n (length (f.view).seen) w (w + 1) c.args.steps.now (3 * w) 3 (3 * (w + 1)) c.loop-writer.steps _ far (omega arith) (omega arith) v.count c.chain_quad-quad.ensures.steps;
+      count = all_more s m n (length (f.view).seen) w (w + 1) c.args.steps.now (3 * w) 3 (3 * (w + 1)) c.loop-writer.steps _ far (omega arith)
+          (omega arith) v.count c.chain_quad-quad.ensures.steps;
     }
 
 pub returns-clause-quad : goal.returns-clause-quad
@@ -87,5 +94,6 @@ returns-clause-steps g c =
     let past = c.loop-writer-test.false in
     let upto = c.loop-writer.auto.writer-end in
     let all : c.writers-writer-end.result ≡ s.writers = c.writers-writer-end.ensures.writers ∙ ap (λ (x : ShapeValue). x.writers) c.shape.ensures.shape in
-    let ends = all_ends s (g.P.Pass.held c.loop-writer.pass) (length seen) c.loop-writer.writer c.args.steps.now (3 * c.loop-writer.writer) c.loop-writer.steps c.loop-writer.invariant.count in
+    let ends = all_ends s (g.P.Pass.held c.loop-writer.pass) (length seen) c.loop-writer.writer c.args.steps.now
+        (3 * c.loop-writer.writer) c.loop-writer.steps c.loop-writer.invariant.count in
     omega (arith, past, upto, all, ends)

@@ -15,5 +15,6 @@ loop-last-preserved g c =
       walked = walked_then f m n v.walked c.collect_key-in-loop-last.ensures.walked;
       loads = let least = v.loads in let loads = c.collect_key-in-loop-last.ensures.loads in omega (arith, least, loads);
       steps = λ one. absurd (let a = v.over.from in let b = v.over.upto in let test = c.loop-last-test.true in omega (arith, one, a, b, test));
-      over = over_then s c.args.lane c.args.range.0 c.args.range.1 c.loop-last.last c.in_ok-last-2.last (f.view).seen (m.view).seen c.args.found.now.items (c.loop-last.found).items (c.collect_key-in-loop-last.new.found).items (walked_seen f m v.walked) v.over c.in_ok-last-2.ensures.found;
+      over = over_then s c.args.lane c.args.range.0 c.args.range.1 c.loop-last.last c.in_ok-last-2.last (f.view).seen (m.view).seen c.args.found.now.items
+          (c.loop-last.found).items (c.collect_key-in-loop-last.new.found).items (walked_seen f m v.walked) v.over c.in_ok-last-2.ensures.found;
     }

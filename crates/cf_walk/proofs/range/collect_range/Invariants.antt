@@ -10,7 +10,9 @@ invariant-loop-last g l = record {
   path : IsPath (l.log).shape l.lane l.path (g.P.Pass.held l.pass).view;
   walked : OnlyWalked (g.P.Pass.held l.fn.pass) (g.P.Pass.held l.pass);
   over : WentOver (l.log).shape l.lane (l.fn.range).0 (l.fn.range).1 ((g.P.Pass.held l.fn.pass).view).seen (l.fn.found).items (l.found).items l.last;
-  steps : (l.fn.range).0 ≡ (l.fn.range).1 → l.steps ≤ l.fn.steps + (levels_of (l.log).shape l.lane - 1) + (l.log).shape.writers + (length (l.found).items - length (l.fn.found).items) + ((l.log).shape.capacity - length ((g.P.Pass.held l.fn.pass).view).seen);
+  steps : (l.fn.range).0 ≡ (l.fn.range).1
+      → l.steps ≤ l.fn.steps + (levels_of (l.log).shape l.lane - 1) + (l.log).shape.writers + (length (l.found).items - length (l.fn.found).items) +
+      ((l.log).shape.capacity - length ((g.P.Pass.held l.fn.pass).view).seen);
   loads : CountsLoads (g.P.Pass.held l.fn.pass) (g.P.Pass.held l.pass) l.fn.steps l.steps;
 }
 

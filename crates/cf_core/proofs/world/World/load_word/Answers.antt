@@ -9,14 +9,16 @@ use Rattle.cf_core.proofs.world.World.load_word.Goals.{then-offset-covered-via-t
 pub put-requires-clause-lawful : goal.put-requires-clause-lawful
 put-requires-clause-lawful c =
     let words = rw c.shape.ensures.shape at c.ticket_words.ensures.words in
-    let after : c.in_ok-after.after ≡ pass_with_look c.ticket_place-place.result c.word-found.result c.in-Some.pass.now = search (rules, c.in_ok-after.ensures) in
+    let after : c.in_ok-after.after ≡ pass_with_look c.ticket_place-place.result c.word-found.result c.in-Some.pass.now =
+        search (rules, c.in_ok-after.ensures) in
     let does = load_does c.args.self.now c.args.k c.args.offset c.ticket_place-place.result c.args.i c.word-found.result c.in-Some.pass.now c.in_ok-after.after c.in-Some.ensures (omega (arith, c.if-offset-covered.false, c.covered.ensures)) (omega (arith, words, c.if-from-ticket_words.false, c.from.ensures)) (search (rules, c.ticket_place-place.ensures.at, c.from-2.ensures)) c.word-found.ensures after in
     made_lawful c.args.self.now c.args.k (acts (load_word c.args.offset c.args.i)) _ c.shape.ensures.lawful does
 
 pub returns : goal.returns
 returns c =
     let words = rw c.shape.ensures.shape at c.ticket_words.ensures.words in
-    let after : c.in_ok-after.after ≡ pass_with_look c.ticket_place-place.result c.word-found.result c.in-Some.pass.now = search (rules, c.in_ok-after.ensures) in
+    let after : c.in_ok-after.after ≡ pass_with_look c.ticket_place-place.result c.word-found.result c.in-Some.pass.now =
+        search (rules, c.in_ok-after.ensures) in
     let does = load_does c.args.self.now c.args.k c.args.offset c.ticket_place-place.result c.args.i c.word-found.result c.in-Some.pass.now c.in_ok-after.after c.in-Some.ensures (omega (arith, c.if-offset-covered.false, c.covered.ensures)) (omega (arith, words, c.if-from-ticket_words.false, c.from.ensures)) (search (rules, c.ticket_place-place.ensures.at, c.from-2.ensures)) c.word-found.ensures after in
     made c.args.self.now c.put.new.self c.args.k (acts (load_word c.args.offset c.args.i)) _ _ c.put.ensures does
 

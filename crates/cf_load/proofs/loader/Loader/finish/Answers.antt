@@ -12,4 +12,5 @@ returns c rows is =
     let loader : LoaderValue = record { plan = inside.plan; count = inside.count; lives = inside.lives.items; stopped = inside.stopped } in
     let made = c.answer_all.ensures in
     subst (λ (l : LoaderValue). MatchResult c.answer_all.result (IsFinished rows l s t) (λ x. KeepsAll s t × HoldsRows t rows)) c.self.view_is
-    (finishes_if rows loader s t c.answer_all.result c.shape-lawful.ensures.lawful (subst (λ (l : LoaderValue). IsLoading s rows l) (sym c.self.view_is) is) made.keeps made.finals made.alerts made.lives)
+    (finishes_if rows loader s t c.answer_all.result c.shape-lawful.ensures.lawful
+        (subst (λ (l : LoaderValue). IsLoading s rows l) (sym c.self.view_is) is) made.keeps made.finals made.alerts made.lives)

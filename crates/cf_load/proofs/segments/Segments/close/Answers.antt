@@ -7,7 +7,8 @@ use Rattle.cf_load.proofs.Chains.{all_sealed, closed_are, current_is}
 use Rattle.cf_load.proofs.segments.Segments.close.Goals as goal
 
 pub push_seals-requires-clause-each : goal.push_seals-requires-clause-each
-push_seals-requires-clause-each c = ((c.self.inside.current.log).shape, closed_are (segments_of c.self.inside.most c.self.inside.closed.items c.self.inside.current) c.self.invariant.0)
+push_seals-requires-clause-each c =
+    ((c.self.inside.current.log).shape, closed_are (segments_of c.self.inside.most c.self.inside.closed.items c.self.inside.current) c.self.invariant.0)
 
 pub push_seals-requires-clause-room : goal.push_seals-requires-clause-room
 push_seals-requires-clause-room c =
@@ -19,7 +20,8 @@ push_seals-requires-clause-room c =
     omega (arith, none, wide, long, same)
 
 pub seal-requires : goal.seal-requires
-seal-requires c = ((c.self.inside.current.log).shape, current_is (segments_of c.self.inside.most c.self.inside.closed.items c.self.inside.current) c.self.invariant.0)
+seal-requires c =
+    ((c.self.inside.current.log).shape, current_is (segments_of c.self.inside.most c.self.inside.closed.items c.self.inside.current) c.self.invariant.0)
 
 pub push_reserved-requires : goal.push_reserved-requires
 push_reserved-requires c =
@@ -43,6 +45,7 @@ returns c =
     let seals : c.push_reserved.new.self.items ≡ map sealed (all_of c.args.self) =
     c.push_reserved.ensures.items
     ∙ (ap (λ (x : SealValue). c.push_seals.new.seals.items ++ x ∷ []) c.seal.ensures
-    ∙ (ap (λ (xs : List SealValue). xs ++ sealed c.self.inside.current ∷ []) (c.push_seals.ensures.seals ∙ ap (λ (xs : List SealValue). xs ++ map sealed c.self.inside.closed.items) c.in-Ok.ensures.room.0)
+    ∙ (ap (λ (xs : List SealValue). xs ++ sealed c.self.inside.current ∷ [])
+        (c.push_seals.ensures.seals ∙ ap (λ (xs : List SealValue). xs ++ map sealed c.self.inside.closed.items) c.in-Ok.ensures.room.0)
     ∙ all_sealed c.args.self now looked)) in
     (c.in-Ok.ensures.entries, seals)

@@ -21,8 +21,10 @@ pub invariant_of-self : goal.invariant_of-self
 invariant_of-self c =
     let most = c.self.inside.most in
     let closed = c.self.inside.closed.items in
-    let lawful : IsSegments (segments_of most (closed ++ c.self.inside.current ∷ []) c.in_ok-next.next) = turn_lawful most closed c.self.inside.current c.in_ok-next.next (opened c) (room c) c.self.invariant.0 in
-    let now : IsSegments (segments_of most c.push_reserved.new.self.items c.replace-last.new.dest) = rw (c.push_reserved.ensures.items, c.replace-last.ensures.value, c.replace-last.ensures.after) lawful in
+    let lawful : IsSegments (segments_of most (closed ++ c.self.inside.current ∷ []) c.in_ok-next.next) =
+        turn_lawful most closed c.self.inside.current c.in_ok-next.next (opened c) (room c) c.self.invariant.0 in
+    let now : IsSegments (segments_of most c.push_reserved.new.self.items c.replace-last.new.dest) =
+        rw (c.push_reserved.ensures.items, c.replace-last.ensures.value, c.replace-last.ensures.after) lawful in
     let wide : most ≤ vec_capacity c.push_reserved.new.self = rw c.push_reserved.ensures.capacity c.self.invariant.1 in
     (now, wide)
 
@@ -30,6 +32,8 @@ pub returns-clause-turned : goal.returns-clause-turned
 returns-clause-turned c =
     let most = c.self.inside.most in
     let closed = c.self.inside.closed.items in
-    let made : HasTurned (segments_of most closed c.self.inside.current) (segments_of most (closed ++ c.self.inside.current ∷ []) c.in_ok-next.next) = has_turned most closed c.self.inside.current c.in_ok-next.next (opened c) (room c) in
-    let now : HasTurned (segments_of most closed c.self.inside.current) (segments_of most c.push_reserved.new.self.items c.replace-last.new.dest) = rw (c.push_reserved.ensures.items, c.replace-last.ensures.value, c.replace-last.ensures.after) made in
+    let made : HasTurned (segments_of most closed c.self.inside.current) (segments_of most (closed ++ c.self.inside.current ∷ []) c.in_ok-next.next) =
+        has_turned most closed c.self.inside.current c.in_ok-next.next (opened c) (room c) in
+    let now : HasTurned (segments_of most closed c.self.inside.current) (segments_of most c.push_reserved.new.self.items c.replace-last.new.dest) =
+        rw (c.push_reserved.ensures.items, c.replace-last.ensures.value, c.replace-last.ensures.after) made in
     subst (λ (s : SegmentsValue). HasTurned s (segments_of most c.push_reserved.new.self.items c.replace-last.new.dest)) c.self.view_is now

@@ -10,5 +10,7 @@ fetch_add-requires g c =
     let shape : log.shape ≡ c.args.self.now.shape = ap (λ (m : LogValue). m.shape) c.self.view_is in (
       ap (λ (h : PassValue). h.table) c.token.view_is ∙ (c.requires.of.table ∙ sym (ap (λ (m : LogValue). m.table) c.self.view_is)),
       rw (c.self.invariant.2, shape) (word_there c.args.self.now.shape g.N.Gives.given c.args.token.now.view 0 _ c.requires.lawful.0),
-      added log.table.shared.key c.args.self.now.shape g.N.Gives.given log.table.shared.table_id.slots seat.id seat.me c.args.token.now.view 0 (c.self.invariant.0 ∙ shape) (ap (λ (h : PassValue). h.view) c.token.view_is) (rw c.self.invariant.0 c.self.invariant.1) c.token.invariant.0 c.requires.lawful.0 c.requires.lawful.1,
+      added log.table.shared.key c.args.self.now.shape g.N.Gives.given log.table.shared.table_id.slots seat.id seat.me c.args.token.now.view 0
+          (c.self.invariant.0 ∙ shape) (ap (λ (h : PassValue). h.view) c.token.view_is)
+          (rw c.self.invariant.0 c.self.invariant.1) c.token.invariant.0 c.requires.lawful.0 c.requires.lawful.1,
     )

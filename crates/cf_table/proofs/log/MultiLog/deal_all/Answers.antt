@@ -24,7 +24,9 @@ deal_first-requires-clause-noted c =
     let i = c.loop-note.note-index in
     let many = as_many c.args.notes.now m c.requires.noted in
     let lt : i < length (m.view).books = (let t = c.loop-note-test.true in omega (arith, many)) in
-    noted_at c.args.notes.now m i _ c.requires.noted lt (slice_get-get_or c.args.notes.now i (record { writer = 0; over = false; used = 0 }) c.loop-note-test.true) ∙ ap note_of (sym (first_is m c.loop-note.token i lt c.loop-note.invariant.token).0)
+    noted_at c.args.notes.now m i _ c.requires.noted lt
+        (slice_get-get_or c.args.notes.now i (record { writer = 0; over = false; used = 0 }) c.loop-note-test.true)
+        ∙ ap note_of (sym (first_is m c.loop-note.token i lt c.loop-note.invariant.token).0)
 
 pub deal_first-requires-clause-bounds : goal.deal_first-requires-clause-bounds
 deal_first-requires-clause-bounds c =
@@ -55,8 +57,10 @@ loop-note-preserved c =
     let view : (c.deal_first.result).view ≡ new_pass (book_at m i ∷ []) (m.view).seen = rw (sym f.0, sym seen) c.deal_first.ensures.view in
     let l = v.len in let n = e.len in let count = v.count in let room = v.room in let cap = e.capacity in record {
       token = next_left m c.loop-note.token c.deal_first.new.token i lt v.token c.deal_first.ensures.stays ∙ ap (left_with m) next;
-      count = ap (λ (xs : List PassValue). length xs) items ∙ (let k = Rattle.std.proofs.lemmas.List.length_push c.loop-note.passes.items c.deal_first.result in omega (arith, k, count));
+      count = ap (λ (xs : List PassValue). length xs) items
+          ∙ (let k = Rattle.std.proofs.lemmas.List.length_push c.loop-note.passes.items c.deal_first.result in omega (arith, k, count));
       len = omega (arith, n, l);
       room = omega (arith, room, cap);
-      each = λ k h at. dealt_more c.args.self.now m i c.loop-note.passes.items c.deal_first.result lt count c.deal_first.ensures.of view v.each k h (ap (λ (xs : List PassValue). slice_get xs k) (sym items) ∙ at);
+      each = λ k h at. dealt_more c.args.self.now m i c.loop-note.passes.items c.deal_first.result lt count c.deal_first.ensures.of view v.each k h
+          (ap (λ (xs : List PassValue). slice_get xs k) (sym items) ∙ at);
     }

@@ -11,4 +11,5 @@ load_as-requires-clause-lawful g c =
     let s = c.args.self.now.shape in
     let p = (g.P.Pass.held c.args.pass.now).view in
     let shape : c.self.inside.shape ≡ s = ap (λ (m : LogValue). m.shape) c.self.view_is in
-    calls_done s p c.args.offset c.place_done-word.result c.requires.place (subst (λ (x : ShapeValue). c.place_done-word.result ≡ place_of x (done c.args.offset)) shape c.place_done-word.ensures)
+    calls_done s p c.args.offset c.place_done-word.result c.requires.place
+        (subst (λ (x : ShapeValue). c.place_done-word.result ≡ place_of x (done c.args.offset)) shape c.place_done-word.ensures)

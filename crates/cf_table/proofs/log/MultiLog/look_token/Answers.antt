@@ -11,4 +11,5 @@ look_as-requires-clause-lawful c =
     let s = c.args.self.now.shape in
     let p = c.args.token.now.view in
     let shape : c.self.inside.shape ≡ s = ap (λ (m : LogValue). m.shape) c.self.view_is in
-    calls_done s p c.args.offset c.place_done-word.result c.requires.place (subst (λ (x : ShapeValue). c.place_done-word.result ≡ place_of x (done c.args.offset)) shape c.place_done-word.ensures)
+    calls_done s p c.args.offset c.place_done-word.result c.requires.place
+        (subst (λ (x : ShapeValue). c.place_done-word.result ≡ place_of x (done c.args.offset)) shape c.place_done-word.ensures)

@@ -21,7 +21,8 @@ loop-i-preserved g c =
     record {
       long = length-set c.loop-i.words i c.word_token.result ∙ long;
       read = read_more c.loop-i.words g.entry i c.word_token.result (omega (arith, low, long)) v.read value;
-      looked = looked_then c.args.token.now m c.word_token.new.token v.looked (looked_word s m c.word_token.new.token c.args.offset i c.word_token.result c.word_token.ensures.made);
+      looked = looked_then c.args.token.now m c.word_token.new.token v.looked
+          (looked_word s m c.word_token.new.token c.args.offset i c.word_token.result c.word_token.ensures.made);
     }
 
 pub returns-clause-words : goal.returns-clause-words
@@ -30,4 +31,5 @@ returns-clause-words g c =
     let v = c.loop-i.invariant in
     let long = v.long in
     let past = c.loop-i-test.false in
-    same_number_lists c.loop-i.words (spelled g.entry) (long ∙ (r.1.0.1 ∙ sym (spelled_long c.args.self.now.shape.schema g.entry (r.1.1.1).fits))) (λ k lt. v.read k (omega (arith, long, past)))
+    same_number_lists c.loop-i.words (spelled g.entry) (long ∙ (r.1.0.1 ∙ sym (spelled_long c.args.self.now.shape.schema g.entry (r.1.1.1).fits)))
+        (λ k lt. v.read k (omega (arith, long, past)))

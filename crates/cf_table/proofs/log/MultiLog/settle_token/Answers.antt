@@ -28,7 +28,8 @@ advance_token-requires-clause-lawful c =
     let low = c.loop-token-test.true in
     let known = c.known.ensures in
     let seen = ap (λ (q : Pass). length q.seen) is in
-    may_advance s (c.look_token.new.token).view t (omega (arith, seen, at)) (omega (arith, low, room, known, at)) (ap (λ (q : Pass). (q.look).word) is) (ap (λ (q : Pass). (q.look).value) is ∙ c.if-look_token-ne1.false)
+    may_advance s (c.look_token.new.token).view t (omega (arith, seen, at)) (omega (arith, low, room, known, at)) (ap (λ (q : Pass). (q.look).word) is)
+        (ap (λ (q : Pass). (q.look).value) is ∙ c.if-look_token-ne1.false)
 
 pub loop-token-preserved : goal.loop-token-preserved
 loop-token-preserved c =
@@ -39,7 +40,9 @@ loop-token-preserved c =
     let t = c.known-t.result in
     let seen = ap (λ (q : Pass). length q.seen) c.look_token.ensures.made.told.is in
     let at = c.known-t.ensures in record {
-      moved = moved_then m n c.advance_token.new.token (moved_then m p n c.loop-token.invariant.moved (moved_look s p n t c.look_token.result c.look_token.ensures.made)) (moved_advance s n c.advance_token.new.token t (omega (arith, seen, at)) c.advance_token.ensures.made);
+      moved = moved_then m n c.advance_token.new.token
+          (moved_then m p n c.loop-token.invariant.moved (moved_look s p n t c.look_token.result c.look_token.ensures.made))
+          (moved_advance s n c.advance_token.new.token t (omega (arith, seen, at)) c.advance_token.ensures.made);
     }
 
 pub returns : goal.returns
@@ -48,4 +51,5 @@ returns c =
     let room : c.capacity-capacity.result ≡ s.capacity = c.capacity-capacity.ensures.capacity ∙ ap (λ (x : ShapeValue). x.capacity) c.shape.ensures.shape in
     let known = c.known.ensures in
     let past = c.loop-token-test.false in
-    settled_by s c.args.token.now c.loop-token.token c.look_token-2.new.token 0 c.look_token-2.result c.loop-token.invariant.moved c.look_token-2.ensures.made (inl (omega (arith, past, room, known)))
+    settled_by s c.args.token.now c.loop-token.token c.look_token-2.new.token 0 c.look_token-2.result c.loop-token.invariant.moved c.look_token-2.ensures.made
+        (inl (omega (arith, past, room, known)))

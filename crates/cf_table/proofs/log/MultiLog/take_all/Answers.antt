@@ -23,4 +23,8 @@ loop-pass-preserved c =
     }
 
 pub returns-clause-gathers : goal.returns-clause-gathers
-returns-clause-gathers c = c.loop-pass.invariant.more c.loop-pass.root (gathers_none c.args.self.now.shape c.loop-pass.root (into_iter_items c.loop-pass.pass-iterator) (nil_from_length (into_iter_items c.loop-pass.pass-iterator) (let none = c.in-None.ensures.steps.0 in let len = c.loop-pass.invariant.len in omega (arith, none, len))))
+returns-clause-gathers c =
+    c.loop-pass.invariant.more c.loop-pass.root
+    (gathers_none c.args.self.now.shape c.loop-pass.root (into_iter_items c.loop-pass.pass-iterator)
+    (nil_from_length (into_iter_items c.loop-pass.pass-iterator)
+    (let none = c.in-None.ensures.steps.0 in let len = c.loop-pass.invariant.len in omega (arith, none, len))))

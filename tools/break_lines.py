@@ -1,0 +1,98 @@
+#!/usr/bin/env python3
+"""Breaks long lines of definitions and proofs (.antt), which rt fmt leaves as they are.
+
+    tools/break_lines.py [--check] FILE..
+
+A line of more than 160 columns goes on below, four columns further in: before an arrow, a product, a sum or a step of an
+equation, behind a comma, a semicolon, `in` or `=`, or before an argument in parentheses, as far out as one fits. Comments are
+broken between words; a line of `use` stays. With --check nothing is written: ends with 1 if a line would be broken. Needs the
+standard library alone.
+"""
+
+import pathlib
+import re
+import sys
+
+WIDEST = 160
+INDENT = 4
+OPEN, CLOSE = "([{", ")]}"
+BEFORE = re.compile(r" (?=(→|×|⊎|↔|∙) )")
+BEHIND = re.compile(r"(?<=[,;]) (?=\S)|(?<= in) (?=\S)|(?<= =) (?=\S)")
+ARGUMENT = re.compile(r" (?=[(])")
+
+
+def depths_of(line):
+    """How many brackets are open before each column."""
+    depths, depth = [], 0
+    for letter in line:
+        depth -= letter in CLOSE
+        depths.append(depth)
+        depth += letter in OPEN
+    return depths
+
+
+def place_to_break(line, indent):
+    """The column of a space at which the line is broken best, or None."""
+    depths = depths_of(line)
+    ranked = []
+    for rank, kind in enumerate((BEFORE, BEHIND, ARGUMENT)):
+        for found in kind.finditer(line[: WIDEST + 1]):
+            at = found.start()
+            if at > indent + 12:
+                ranked.append((depths[at], rank == 2, -at))
+    return -min(ranked)[2] if ranked else None
+
+
+def broken_comment(line, indent):
+    """A comment as lines of at most 160 columns."""
+    words, lines, current = line.split(), [], " " * indent
+    for word in words:
+        if len(current) + len(word) > WIDEST:
+            lines.append(current.rstrip())
+            current = " " * indent + "-- "
+        current += word + " "
+    return [*lines, current.rstrip()]
+
+
+def broken(line):
+    """The line as lines of at most 160 columns, where that is possible."""
+    indent = len(line) - len(line.lstrip())
+    if len(line) <= WIDEST or line.lstrip().startswith(("use ", "pub use ", "--- ")):
+        return [line]
+    if line.lstrip().startswith("-- "):
+        return broken_comment(line, indent)
+    lines = []
+    while len(line) > WIDEST:
+        at = place_to_break(line, len(line) - len(line.lstrip()))
+        if at is None:
+            break
+        lines.append(line[:at].rstrip())
+        line = " " * (indent + INDENT) + line[at:].lstrip()
+    return [*lines, line]
+
+
+def laid_out(text):
+    return "\n".join(it for line in text.split("\n") for it in broken(line))
+
+
+def main():
+    check = sys.argv[1:2] == ["--check"]
+    files = [pathlib.Path(it) for it in sys.argv[1 + check :]]
+    if not files:
+        sys.exit(__doc__)
+    other = 0
+    for file in files:
+        text = file.read_text()
+        new = laid_out(text)
+        if new == text:
+            continue
+        other += 1
+        if check:
+            print(f"{file}: lines of more than {WIDEST} columns that can be broken")
+        else:
+            file.write_text(new)
+    sys.exit(1 if check and other else 0)
+
+
+if __name__ == "__main__":
+    main()
