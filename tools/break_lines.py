@@ -3,7 +3,7 @@
 
     tools/break_lines.py [--check] FILE..
 
-A line of more than 160 columns goes on below, four columns further in: before an arrow, a product, a sum or a step of an
+A line of more than 160 columns goes on below, where rt fmt then indents it: before an arrow, a product, a sum or a step of an
 equation, behind a comma, a semicolon, `in` or `=`, or before an argument in parentheses, as far out as one fits. Comments are
 broken between words; a line of `use` stays. With --check nothing is written: ends with 1 if a line would be broken. Needs the
 standard library alone.
@@ -38,6 +38,8 @@ def place_to_break(line, indent):
     for rank, kind in enumerate((BEFORE, BEHIND, ARGUMENT)):
         for found in kind.finditer(line[: WIDEST + 1]):
             at = found.start()
+            if line[at - 1] == "=" and depths[at]:
+                continue
             if at > indent + 12:
                 ranked.append((depths[at], rank == 2, -at))
     return -min(ranked)[2] if ranked else None

@@ -43,7 +43,7 @@ pub may_fill : (shape : ShapeValue) (m p : PassValue) (o i value : ℕ) (row : R
     → IsLawfulStep shape p.view (store_cell o i value) (store_effect p.view o i value)
 may_fill shape m p o i value row words is low spell at =
     may_store shape p.view (flown o row i m) (flight o row i) o i value (ap (λ (h : PassValue). (h.view).books) is) refl refl
-        (next_plain shape (flown o row i m) o i row low)
+    (next_plain shape (flown o row i m) o i row low)
     (at ∙ (ap (λ (ws : List ℕ). get_or ws i 0) spell ∙ own_plain shape (flown o row i m) i row low))
 
 pub fills : (shape : ShapeValue) (m p n : PassValue) (o i value : ℕ) (row : RowValue) → p ≡ flying o row i m
@@ -51,8 +51,8 @@ pub fills : (shape : ShapeValue) (m p n : PassValue) (o i value : ℕ) (row : Ro
 fills shape m p n o i value row is stored =
     let next : suc i ≡ i + 1 = omega arith in
     stored.made.same
-        ∙ (ap (λ (q : Pass). record p { view = q }) stored.made.told.is
-        ∙ (ap (λ (h : PassValue). record h { view = (store_effect h.view o i value).after 0 [] }) is ∙ ap (λ (k : ℕ). flying o row k m) next))
+    ∙ (ap (λ (q : Pass). record p { view = q }) stored.made.told.is
+    ∙ (ap (λ (h : PassValue). record h { view = (store_effect h.view o i value).after 0 [] }) is ∙ ap (λ (k : ℕ). flying o row k m) next))
 
 -- The ticket.
 pub fits_row : (shape : ShapeValue) (row : RowValue) → Fits shape.schema row → row.num < 2 ^ 32 → (layout shape).fits row ≡ true
@@ -70,7 +70,7 @@ began shape m n found row low made =
     let small : nat_lt found shape.capacity ≡ true = grind (arith, nat_tests) in
     let b = book_of m.view in
     made.same ∙ (ap (λ (q : Pass). record m { view = q }) made.told.is
-        ∙ ap (λ (t : Bool). with_book (cond t (book_with_flight b (fresh_flight found row)) (record b { over = true })) m) small)
+    ∙ ap (λ (t : Bool). with_book (cond t (book_with_flight b (fresh_flight found row)) (record b { over = true })) m) small)
 
 -- A pass that holds one book is at rest where no ticket of it is in flight.
 pub rests_by : (p : Pass) (b : Book) → p.books ≡ b ∷ [] → b.flight ≡ None → Rests p

@@ -106,8 +106,8 @@ pub walk_strides : (shape : ShapeValue) (m n : PassValue) (s : Spot) (node d w f
     → KeepsSeen m n
 walk_strides shape m n s node d w found made =
     strides_by m n
-        (pass_with_head (place (sizes_of shape) (head_slot (sizes_of shape) node d w)) w
-        (spot s.lane (d ∷ s.path)) m.view found) made.same made.told.is refl refl refl (λ r k h. h) (omega arith)
+    (pass_with_head (place (sizes_of shape) (head_slot (sizes_of shape) node d w)) w
+    (spot s.lane (d ∷ s.path)) m.view found) made.same made.told.is refl refl refl (λ r k h. h) (omega arith)
 
 pub walk_books : (shape : ShapeValue) (m n : PassValue) (s : Spot) (node d w found : ℕ) → HasStepped shape (walk_effect shape m.view s node d w) m found n
     → (n.view).books ≡ (m.view).books
@@ -118,7 +118,7 @@ pub walk_own : (shape : ShapeValue) (m n : PassValue) (s : Spot) (node d w found
     → Knows m.view s node → suc (length s.path) ≡ levels_of shape s.lane → d < 16 → found ≡ own_top (layout shape) (book_of m.view) (spot s.lane (d ∷ s.path))
 walk_own shape m n s node d w found made one own knows level dl =
     made.told.tells.own 0 node d s.lane s.path (book_of m.view) (ap (λ (v : ℕ). head_slot (sizes_of shape) node d v) own)
-        (ap (λ (bs : List Book). slice_get bs 0) one) knows level dl
+    (ap (λ (bs : List Book). slice_get bs 0) one) knows level dl
 
 has_nothing : (l : ℕ) → has [] l ≡ false
 unfolding has
@@ -128,7 +128,7 @@ own_plain_top : (shape : ShapeValue) (b : Book) (o : ℕ) (row : RowValue) (fill
     → own_top (layout shape) (with_flight o row filled [] b) s ≡ link_to_newest (mine_chain (layout shape) s b.mine)
 own_plain_top shape b o row filled s =
     ap (λ (linked : Bool). cond {A = ℕ} (cond {A = Bool} linked (same_path (path_in shape row s.lane) s.path) false) (suc o)
-        (link_to_newest (mine_chain (layout shape) s b.mine))) (has_nothing s.lane)
+    (link_to_newest (mine_chain (layout shape) s b.mine))) (has_nothing s.lane)
 
 plain_version : (shape : ShapeValue) (l : ℕ) (c : List (ℕ × RowValue)) (row : RowValue) → is_measured shape l ≡ false
     → version_word (layout shape) l 0 c row ≡ link_to_newest c
@@ -147,7 +147,7 @@ cell_use s l i there bare at =
 pub may_version : (shape : ShapeValue) (m n : PassValue) (o l i value : ℕ) (row : RowValue) (q : List ℕ) → HasFilled shape o row (cell_from shape l) m m
     → (n.view).books ≡ (m.view).books → l < length shape.lanes → is_measured shape l ≡ false → i ≡ cell_from shape l
     → path_in shape row l ≡ Some q → value ≡ own_top (layout shape) (book_of m.view) (spot l q)
-        → IsLawfulStep shape n.view (store_cell o i value) (store_effect n.view o i value)
+    → IsLawfulStep shape n.view (store_cell o i value) (store_effect n.view o i value)
 may_version shape m n o l i value row q F kept there bare at leads is =
     let sh = layout shape in
     let b : Book = with_flight o row F.filled [] (book_of m.view) in
@@ -180,7 +180,7 @@ filled_more shape m n z o l i value row F kept there bare at stored =
       filled = suc i;
       books = ap (λ (p : Pass). p.books) stored.made.told.is
           ∙ ap (λ (bs : List Book). set bs 0
-              (book_with_flight (get_or bs 0 (no_book 0)) (record (flight_or (get_or bs 0 (no_book 0)).flight) { filled = suc i }))) (kept ∙ F.books);
+          (book_with_flight (get_or bs 0 (no_book 0)) (record (flight_or (get_or bs 0 (no_book 0)).flight) { filled = suc i }))) (kept ∙ F.books);
       from = omega (arith, next);
       passed = λ k ge lt. absurd (omega (arith, ge, lt, next));
     }
@@ -210,7 +210,7 @@ not_linked s row (suc n) l le = elim (cases_Bool (selected_by s n row)) [
   | inl takes ↦
       let other : (n == l) ≡ false = grind (arith, nat_tests) in
       ap (λ (ls : List ℕ). has ls l) (linked_one s row n takes)
-          ∙ (has_first n (linked_to s row n) l ∙ (ap (λ (b : Bool). cond b true (has (linked_to s row n) l)) other ∙ not_linked s row n l (omega (arith, le))))
+      ∙ (has_first n (linked_to s row n) l ∙ (ap (λ (b : Bool). cond b true (has (linked_to s row n) l)) other ∙ not_linked s row n l (omega (arith, le))))
   | inr passes ↦ ap (λ (ls : List ℕ). has ls l) (linked_same s row n passes) ∙ not_linked s row n l (omega (arith, le))
 ]
 
@@ -221,14 +221,14 @@ is_linked s row (suc n) l lt takes = elim (cases_eq l n) [
       let self : (n == l) ≡ true = grind (arith, nat_tests) in
       let there : selected_by s n row ≡ true = ap (λ (k : ℕ). selected_by s k row) (sym same) ∙ takes in
       ap (λ (ls : List ℕ). has ls l) (linked_one s row n there)
-          ∙ (has_first n (linked_to s row n) l ∙ ap (λ (b : Bool). cond b true (has (linked_to s row n) l)) self)
+      ∙ (has_first n (linked_to s row n) l ∙ ap (λ (b : Bool). cond b true (has (linked_to s row n) l)) self)
   | inr other ↦
       let before = is_linked s row n l (omega (arith, lt, other)) takes in
       elim (cases_Bool (selected_by s n row)) [
         | inl one ↦
             let apart : (n == l) ≡ false = grind (arith, nat_tests) in
             ap (λ (ls : List ℕ). has ls l) (linked_one s row n one)
-                ∙ (has_first n (linked_to s row n) l ∙ (ap (λ (b : Bool). cond b true (has (linked_to s row n) l)) apart ∙ before))
+            ∙ (has_first n (linked_to s row n) l ∙ (ap (λ (b : Bool). cond b true (has (linked_to s row n) l)) apart ∙ before))
         | inr passes ↦ ap (λ (ls : List ℕ). has ls l) (linked_same s row n passes) ∙ before
       ]
 ]
@@ -253,7 +253,7 @@ pub may_top : (shape : ShapeValue) (m : PassValue) (o l node d : ℕ) (row : Row
 may_top shape m o l node d row q L leads knows =
     let b : Book = with_flight o row L.filled (linked_to shape row l) (book_of m.view) in
     may_head shape m.view b (flight_at o row L.filled (linked_to shape row l)) l node d o q L.books refl refl
-        (whole_ticket shape o row L.filled (linked_to shape row l) b.writer L.whole) (not_linked shape row l l (omega arith)) leads knows
+    (whole_ticket shape o row L.filled (linked_to shape row l) b.writer L.whole) (not_linked shape row l l (omega arith)) leads knows
 
 pub head_strides : (shape : ShapeValue) (m n : PassValue) (l node d o : ℕ) → HasSteppedUnseen shape (head_effect shape m.view l node d o) m n → KeepsSeen m n
 head_strides shape m n l node d o stored =
@@ -324,7 +324,7 @@ pub closed_books : (shape : ShapeValue) (m n z : PassValue) (o k : ℕ) (row : R
     → HasSteppedUnseen shape (finish_effect shape n.view o) n z → (z.view).books ≡ with_own o row (book_of m.view) ∷ []
 closed_books shape m n z o k row L stored =
     ap (λ (p : Pass). p.books) stored.made.told.is
-        ∙ ap (λ (bs : List Book). set bs 0 (book_with_record (get_or bs 0 (no_book 0)) (flight_or (get_or bs 0 (no_book 0)).flight))) L.books
+    ∙ ap (λ (bs : List Book). set bs 0 (book_with_record (get_or bs 0 (no_book 0)) (flight_or (get_or bs 0 (no_book 0)).flight))) L.books
 
 pub close_strides : (shape : ShapeValue) (m n : PassValue) (o : ℕ) → HasSteppedUnseen shape (finish_effect shape m.view o) m n → KeepsSeen m n
 close_strides shape m n o stored =
@@ -334,7 +334,7 @@ close_strides shape m n o stored =
 pub may_word : (shape : ShapeValue) (p : PassValue) (o l h i value : ℕ) (row : RowValue) (q : List ℕ) → HasFilled shape o row i p p → l < length shape.lanes
     → h < cell_words (lane_at shape l) → i ≡ cell_from shape l + h
     → path_in shape row l ≡ Some q → value ≡ version_word (layout shape) l h (mine_chain (layout shape) (spot l q) (book_of p.view).mine) row
-        → IsLawfulStep shape p.view (store_cell o i value) (store_effect p.view o i value)
+    → IsLawfulStep shape p.view (store_cell o i value) (store_effect p.view o i value)
 may_word shape p o l h i value row q F there low at leads is =
     let sh = layout shape in
     let b : Book = with_flight o row F.filled [] (book_of p.view) in
@@ -357,7 +357,7 @@ word_filled shape p n o i value row F stored = record {
   filled = suc i;
   books = ap (λ (q : Pass). q.books) stored.made.told.is
       ∙ ap (λ (bs : List Book). set bs 0
-          (book_with_flight (get_or bs 0 (no_book 0)) (record (flight_or (get_or bs 0 (no_book 0)).flight) { filled = suc i }))) F.books;
+      (book_with_flight (get_or bs 0 (no_book 0)) (record (flight_or (get_or bs 0 (no_book 0)).flight) { filled = suc i }))) F.books;
   from = omega arith;
   passed = λ k ge lt. absurd (omega (arith, ge, lt));
 }
@@ -382,7 +382,7 @@ pub head_chain : (shape : ShapeValue) (m n : PassValue) (o k v : ℕ) (row : Row
 head_chain shape m n o k v row q F kept is =
     is ∙ (ap (λ (c : Book). own_top (layout shape) c q) (the_book m.view (with_flight o row F.filled [] (book_of m.view)) F.books)
     ∙ (own_plain_top shape (book_of m.view) o row F.filled q
-        ∙ ap (λ (bs : List Book). link_to_newest (mine_chain (layout shape) q (get_or bs 0 (no_book 0)).mine)) (sym kept)))
+    ∙ ap (λ (bs : List Book). link_to_newest (mine_chain (layout shape) q (get_or bs 0 (no_book 0)).mine)) (sym kept)))
 
 pub book_same : (shape : ShapeValue) (m n : PassValue) → IsBookOf shape (book_of m.view) → (n.view).books ≡ (m.view).books → IsBookOf shape (book_of n.view)
 book_same shape m n own kept = subst (λ (bs : List Book). IsBookOf shape (get_or bs 0 (no_book 0))) (sym kept) own

@@ -35,12 +35,12 @@ row_nodes shape row lane level low takes some inner =
     let f : ℕ → Node = λ j. record { lane = lane; level = j; front = key / 16 ^ (levels - j) } in
     let k : ℕ = level - 1 in
     let at : slice_get (range_with_len 1 (levels - 1)) k ≡ Some level = has_range 1 (levels - 1) k (omega (arith, some, inner))
-        ∙ ap (λ (j : ℕ). Some j) (let e : 1 + k ≡ level = omega (arith, some) in e) in
+    ∙ ap (λ (j : ℕ). Some j) (let e : 1 + k ≡ level = omega (arith, some) in e) in
     let all : nodes_in shape row lane ≡ path_of lane levels key = ap (λ (b : Bool). cond {A = List Node} b (path_of lane levels key) []) takes in
     let there : Has (nodes_in shape row lane) (f level) =
-        (k, ap (λ (ns : List Node). slice_get ns k) all ∙ has_map f (range_with_len 1 (levels - 1)) k level at) in
+    (k, ap (λ (ns : List Node). slice_get ns k) all ∙ has_map f (range_with_len 1 (levels - 1)) k level at) in
     has_flat (nodes_in shape row) (range_with_len 0 (length shape.lanes)) lane lane (f level)
-        (has_range 0 (length shape.lanes) lane low ∙ ap (λ (j : ℕ). Some j) (let e : 0 + lane ≡ lane = omega arith in e)) there
+    (has_range 0 (length shape.lanes) lane low ∙ ap (λ (j : ℕ). Some j) (let e : 0 + lane ≡ lane = omega arith in e)) there
 
 pub on_path_node : (shape : ShapeValue) (row : RowValue) (s : Spot) → IsShape shape → IsOnPath shape row s → (n : Node) × IsRowNode shape row s n
 on_path_node shape row s is on =
@@ -52,12 +52,12 @@ on_path_node shape row s is on =
     let leads : path_in shape row lane ≡ Some (front ++ s.path) = on.is in
     let takes = some_path shape row lane (front ++ s.path) leads in
     let same : nibbles levels key ≡ front ++ s.path =
-        (let e : Some (nibbles levels key) ≡ Some (front ++ s.path) = sym (path_some shape row lane takes) ∙ leads in cc e) in
+    (let e : Some (nibbles levels key) ≡ Some (front ++ s.path) = sym (path_some shape row lane takes) ∙ leads in cc e) in
     let long : levels ≡ length front + level = sym (length-nibbles levels key) ∙ (ap (λ (xs : List ℕ). length xs) same ∙ length-append front s.path) in
     let ends : s.path ≡ nibbles level (key / 16 ^ length front) =
     sym (drop_front front s.path)
-        ∙ (ap (λ (xs : List ℕ). drop (length front) xs) (sym same)
-        ∙ (ap (λ (n : ℕ). drop (length front) (nibbles n key)) long ∙ drop-nibbles (length front) level key)) in
+    ∙ (ap (λ (xs : List ℕ). drop (length front) xs) (sym same)
+    ∙ (ap (λ (n : ℕ). drop (length front) (nibbles n key)) long ∙ drop-nibbles (length front) level key)) in
     let less : length front ≡ levels - level = omega (arith, long) in
     let some = on.some in
     let low = (layout_law shape is).lanes row lane (front ++ s.path) leads in (

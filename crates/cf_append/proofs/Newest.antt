@@ -41,13 +41,20 @@ newest_step : (sh : Layout) (s : Spot) (x : Own) (xs : List Own) (o : ℕ) → (
 newest_step sh s x xs o more [] is e = elim (cases_Bool (same_path (sh.path x.row s.lane) s.path)) [
   | inl here ↦
       let whole : mine_chain sh s (x ∷ xs) ≡ (x.offset, x.row) ∷ [] = chain_cons sh s x xs
-          ∙ (ap (λ (c : List (ℕ × RowValue)). c ++ here_if x (same_path (sh.path x.row s.lane) s.path)) is ∙ ap (here_if x) here) in
+      ∙ (ap (λ (c : List (ℕ × RowValue)). c ++ here_if x (same_path (sh.path x.row s.lane) s.path)) is ∙ ap (here_if x) here) in
       let first : suc x.offset ≡ suc o = ap link_to_newest (sym whole) ∙ e in
-      record { place = 0; own = x; at = refl; offset = omega (arith, first); leads = same_path_true (sh.path x.row s.lane) s.path here; chain = whole
-          ∙ ap (λ (c : List (ℕ × RowValue)). (x.offset, x.row) ∷ c) (sym (chain_nil sh s)) }
+      record {
+        place = 0;
+        own = x;
+        at = refl;
+        offset = omega (arith, first);
+        leads = same_path_true (sh.path x.row s.lane) s.path here;
+        chain = whole
+            ∙ ap (λ (c : List (ℕ × RowValue)). (x.offset, x.row) ∷ c) (sym (chain_nil sh s));
+      }
   | inr other ↦
       let whole : mine_chain sh s (x ∷ xs) ≡ [] = chain_cons sh s x xs
-          ∙ (ap (λ (c : List (ℕ × RowValue)). c ++ here_if x (same_path (sh.path x.row s.lane) s.path)) is ∙ ap (here_if x) other) in
+      ∙ (ap (λ (c : List (ℕ × RowValue)). c ++ here_if x (same_path (sh.path x.row s.lane) s.path)) is ∙ ap (here_if x) other) in
       let first : 0 ≡ suc o = ap link_to_newest (sym whole) ∙ e in
       absurd (omega (arith, first))
 ]
@@ -120,7 +127,7 @@ low_amounts shape l s (x ∷ xs) low =
     subst (λ (c : List (ℕ × RowValue)). AreLow (amounts_in_chain shape l c)) (sym (chain_cons (layout shape) s x xs))
     (subst AreLow (sym (amounts_append shape l (mine_chain (layout shape) s xs) (here_if x b)))
     (low_append (amounts_in_chain shape l (mine_chain (layout shape) s xs)) (amounts_in_chain shape l (here_if x b))
-        (low_amounts shape l s xs (λ j y at. low (suc j) y at)) (low_here shape l x b (low 0 x refl))))
+    (low_amounts shape l s xs (λ j y at. low (suc j) y at)) (low_here shape l x b (low 0 x refl))))
 
 pub take_get : (n i : ℕ) (xs : List Own) (x : Own) → slice_get (take n xs) i ≡ Some x → slice_get xs i ≡ Some x
 take_get zero i [] x at = absurd (cc at)
@@ -137,12 +144,12 @@ top_most sh s mine n low (suc o) e = (let r = newest sh s mine o e in let at = l
 pub quad_read : (shape : ShapeValue) (l : ℕ) (c : List (ℕ × RowValue)) (row : RowValue) (first sum ends : ℕ) → IsCell shape l c row first sum ends
     → is_measured shape l ≡ true → link_to_newest c < 2 ^ 32 → AreLow (measure_of shape l row ∷ amounts_in_chain shape l c)
     → record { count = first / 4294967296; sum = sum; least = ends % 4294967296; greatest = ends / 4294967296 } ≡ quad_of
-        (measure_of shape l row ∷ amounts_in_chain shape l c)
+    (measure_of shape l row ∷ amounts_in_chain shape l c)
 quad_read shape l c row first sum ends w takes small low =
     let xs = measure_of shape l row ∷ amounts_in_chain shape l c in
     let lawful = quad_is_lawful xs low in
     let many : length (amounts_in_chain shape l c) ≡ length c = length-map (map (λ (x : ℕ × RowValue). x.1) c) (λ (r : RowValue). measure_of shape l r)
-        ∙ length-map c (λ (x : ℕ × RowValue). x.1) in
+    ∙ length-map c (λ (x : ℕ × RowValue). x.1) in
     let one = w.first_is ∙ first_word shape l c row takes in
     let three = w.ends_is ∙ ends_word shape l c row in
     let least = lawful.least_is_low in
@@ -176,7 +183,7 @@ pub amounts_few : (shape : ShapeValue) (l : ℕ) (s : Spot) (b : Book) → IsBoo
 amounts_few shape l s b own =
     let c = mine_chain (layout shape) s b.mine in
     let many : length (amounts_in_chain shape l c) ≡ length c = length-map (map (λ (x : ℕ × RowValue). x.1) c) (λ (r : RowValue). measure_of shape l r)
-        ∙ length-map c (λ (x : ℕ × RowValue). x.1) in
+    ∙ length-map c (λ (x : ℕ × RowValue). x.1) in
     let few = own.few in
     omega (arith, many, few, chain_few (layout shape) s b.mine)
 
@@ -199,7 +206,7 @@ read_word shape m n b q o l h found made one N there low =
     let i = word_count shape.schema + 1 + cells_before shape l + h in
     let fits = before_fits shape.lanes l there in
     made.told.tells.own_cell 0 N.place i l h q b N.own (ap (λ (k : ℕ). cell k i) (sym N.offset)) (ap (λ (bs : List Book). slice_get bs 0) one) N.at
-        (omega (arith, fits, low)) (version_at shape l h there low) N.leads
+    (omega (arith, fits, low)) (version_at shape l h there low) N.leads
 
 pub three_words : (shape : ShapeValue) (l : ℕ) → is_measured shape l ≡ true → cell_words (lane_at shape l) ≡ 3
 three_words shape l takes = ap (λ (b : Bool). cond {A = ℕ} b 3 1) takes
@@ -208,7 +215,7 @@ pub quad_there : (shape : ShapeValue) (b : Book) (q : List ℕ) (o l first sum e
     → IsBookOf shape b → (N : IsNewest (layout shape) (spot l q) b.mine o)
     → IsCell shape l (mine_chain (layout shape) (spot l q) (take N.place b.mine)) N.own.row first sum ends
     → record { count = first / 4294967296; sum = sum; least = ends % 4294967296; greatest = ends / 4294967296 } ≡ quad_of
-        (amounts_in_chain shape l (mine_chain (layout shape) (spot l q) b.mine))
+    (amounts_in_chain shape l (mine_chain (layout shape) (spot l q) b.mine))
 quad_there shape b q o l first sum ends lawful there takes own N w =
     let sh = layout shape in
     let s = spot l q in
@@ -216,9 +223,9 @@ quad_there shape b q o l first sum ends lawful there takes own N w =
     let small = top_most sh s (take N.place b.mine) shape.capacity (λ j x at. (own.rows j x (take_get N.place j b.mine x at)).1) (link_to_newest c) refl in
     let room = lawful.capacity in
     let low : AreLow (measure_of shape l N.own.row ∷ amounts_in_chain shape l c) =
-        subst (λ (d : List (ℕ × RowValue)). AreLow (amounts_in_chain shape l d)) N.chain (all_low shape l s b lawful there own) in
+    subst (λ (d : List (ℕ × RowValue)). AreLow (amounts_in_chain shape l d)) N.chain (all_low shape l s b lawful there own) in
     quad_read shape l c N.own.row first sum ends w takes (omega (arith, small, room)) low
-        ∙ ap (λ (d : List (ℕ × RowValue)). quad_of (amounts_in_chain shape l d)) (sym N.chain)
+    ∙ ap (λ (d : List (ℕ × RowValue)). quad_of (amounts_in_chain shape l d)) (sym N.chain)
 
 pub counts_there : (shape : ShapeValue) (b : Book) (q : List ℕ) (o l first sum ends : ℕ) → IsShape shape → l < length shape.lanes → is_measured shape l ≡ true
     → IsBookOf shape b → (N : IsNewest (layout shape) (spot l q) b.mine o)
@@ -226,7 +233,7 @@ pub counts_there : (shape : ShapeValue) (b : Book) (q : List ℕ) (o l first sum
     → IsQuad (record { count = first / 4294967296; sum = sum; least = ends % 4294967296; greatest = ends / 4294967296 })
 counts_there shape b q o l first sum ends lawful there takes own N w =
     subst IsQuad (sym (quad_there shape b q o l first sum ends lawful there takes own N w))
-        (quad_is_lawful (amounts_in_chain shape l (mine_chain (layout shape) (spot l q) b.mine)) (all_low shape l (spot l q) b lawful there own))
+    (quad_is_lawful (amounts_in_chain shape l (mine_chain (layout shape) (spot l q) b.mine)) (all_low shape l (spot l q) b lawful there own))
 
 -- the words of a new cell
 pub quad_cell : (shape : ShapeValue) (l : ℕ) (c : List (ℕ × RowValue)) (row : RowValue) (q : QuadValue) (previous first ends : ℕ) → is_measured shape l ≡ true
@@ -234,7 +241,7 @@ pub quad_cell : (shape : ShapeValue) (l : ℕ) (c : List (ℕ × RowValue)) (row
     → first ≡ previous + q.count * 4294967296 → ends ≡ q.least + q.greatest * 4294967296 → IsCell shape l c row first q.sum ends
 quad_cell shape l c row q previous first ends takes at is one three =
     let many : length (amounts_in_chain shape l c) ≡ length c = length-map (map (λ (x : ℕ × RowValue). x.1) c) (λ (r : RowValue). measure_of shape l r)
-        ∙ length-map c (λ (x : ℕ × RowValue). x.1) in
+    ∙ length-map c (λ (x : ℕ × RowValue). x.1) in
     let count = ap (λ (k : QuadValue). k.count) is in
     let least = ap (λ (k : QuadValue). k.least) is in
     let greatest = ap (λ (k : QuadValue). k.greatest) is in record {

@@ -49,9 +49,9 @@ reaches_below p l (suc zero) front above more knows = absurd (omega (arith, more
 reaches_below p l (suc (suc j)) front above more knows =
     let less : suc (suc j) - 1 ≡ suc j = omega arith in
     let two : nibbles (suc (suc j) - 1) (front / 16) ≡ (front / 16) % 16 ∷ nibbles j (front / 16 / 16) = ap (λ (n : ℕ). nibbles n (front / 16)) less
-        ∙ nibbles_more j (front / 16) in
+    ∙ nibbles_more j (front / 16) in
     let all : nibbles (suc (suc j)) front ≡ front % 16 ∷ ((front / 16) % 16 ∷ nibbles j (front / 16 / 16)) = nibbles_more (suc j) front
-        ∙ ap (λ (q : List ℕ). front % 16 ∷ q) (nibbles_more j (front / 16)) in
+    ∙ ap (λ (q : List ℕ). front % 16 ∷ q) (nibbles_more j (front / 16)) in
     let known : Knows p (spot l ((front / 16) % 16 ∷ nibbles j (front / 16 / 16))) above = subst (λ (q : List ℕ). Knows p (spot l q) above) two knows in
     subst (λ (q : List ℕ). Reaches p l q (body above (suc (front % 16)))) (sym all) (above, known.0, known.1, omega arith, refl)
 
@@ -101,7 +101,7 @@ whole_path shape row lane at w =
     let many = w.many in
     path_some shape row lane w.selects ∙ ap (λ (q : List ℕ). Some q) (nibbles_before (levels_of shape lane) (key_of shape lane row) (omega (arith, many))
     ∙ (ap (λ (n : ℕ). key_of shape lane row % 16 ∷ nibbles n (key_of shape lane row / 16)) (sym w.level)
-        ∙ ap (λ (k : ℕ). key_of shape lane row % 16 ∷ nibbles at.level k) (sym w.front)))
+    ∙ ap (λ (k : ℕ). key_of shape lane row % 16 ∷ nibbles at.level k) (sym w.front)))
 
 pub whole_prefix : (shape : ShapeValue) (row : RowValue) (lane : ℕ) (at : Prefix) → lane < length shape.lanes → IsWhole shape row lane at → IsPrefix shape at
 whole_prefix shape row lane at low w =
@@ -196,8 +196,8 @@ pub filed_path : (shape : ShapeValue) (row : RowValue) (lane : ℕ) (p : Pass) (
     → path_in shape row lane ≡ Some (f.key % 16 ∷ nibbles (levels_of shape lane - 1) (f.key / 16))
 filed_path shape row lane p f many is =
     path_some shape row lane is.selects
-        ∙ (ap (λ (k : ℕ). Some (nibbles (levels_of shape lane) k)) (sym is.key)
-        ∙ ap (λ (q : List ℕ). Some q) (nibbles_before (levels_of shape lane) f.key (omega (arith, many))))
+    ∙ (ap (λ (k : ℕ). Some (nibbles (levels_of shape lane) k)) (sym is.key)
+    ∙ ap (λ (q : List ℕ). Some q) (nibbles_before (levels_of shape lane) f.key (omega (arith, many))))
 
 abbrev pub leaf_of : Option Filing → ℕ
 leaf_of (Some f) = f.leaf
@@ -207,7 +207,7 @@ filed_leaf : (shape : ShapeValue) (row : RowValue) (lane : ℕ) (p : Pass) (fili
     → IsFiledIn shape row p lane filing → IsLeafIn shape row p lane (leaf_of filing)
 filed_leaf shape row lane p (Some f) many is last q leads =
     let same : ◌≡◌ {A = Option (List ℕ)} (Some (f.key % 16 ∷ nibbles (levels_of shape lane - 1) (f.key / 16))) (Some (last ∷ q)) =
-        sym (filed_path shape row lane p f many is) ∙ leads in
+    sym (filed_path shape row lane p f many is) ∙ leads in
     let rest : nibbles (levels_of shape lane - 1) (f.key / 16) ≡ q = cc same in
     subst (λ (r : List ℕ). IsNodeOf shape p (spot lane r) f.leaf) rest is.node
 filed_leaf shape row lane p None many passes last q leads = absurd (cc (sym (path_none shape row lane passes) ∙ leads))
@@ -216,7 +216,7 @@ pub filings_leaves : (shape : ShapeValue) (row : RowValue) (p : Pass) (filed : L
     → HasFilings shape row p filed n → HasLeaves shape row p (map leaf_of filed) n
 filings_leaves shape row p filed n is le has lane low =
     subst (IsLeafIn shape row p lane) (sym (get_or-map leaf_of filed lane no_filing))
-        (filed_leaf shape row lane p (slice_index_or filed lane None) (levels_two shape lane is (omega (arith, low, le))) (has lane low))
+    (filed_leaf shape row lane p (slice_index_or filed lane None) (levels_two shape lane is (omega (arith, low, le))) (has lane low))
 
 -- the leaves that are kept
 set_here : {A : Type 0} (xs : List A) (i : ℕ) (x : A) → i < length xs → slice_get (set xs i x) i ≡ Some x
@@ -244,7 +244,7 @@ remembers_more shape p leaves lane front node low few near there =
       stands = λ l f n below kept. elim (cases_eq l lane) [
         | inl same ↦
             let at : Some x ≡ Some (Some record { front = f; node = n }) = sym (set_here leaves.kept lane x inside)
-                ∙ (ap (λ (j : ℕ). slice_get (set leaves.kept lane x) j) (sym same) ∙ kept) in
+            ∙ (ap (λ (j : ℕ). slice_get (set leaves.kept lane x) j) (sym same) ∙ kept) in
             let is : record { front = front; node = node } ≡ record { front = f; node = n } = cc at in
             subst (λ (j : ℕ). IsNodeOf shape p (spot j (nibbles (levels_of shape j - 1) f)) n) (sym same)
             (subst (λ (h : Leaf). IsNodeOf shape p (spot lane (nibbles (levels_of shape lane - 1) h.front)) h.node) is there)
@@ -261,7 +261,7 @@ pub kept_now : (shape : ShapeValue) (row : RowValue) (leaves : Leaves) (lane key
     → KeepsLeaf shape row (record leaves { kept = set leaves.kept lane (Some record { front = key / 16; node = node }) }) lane
 kept_now shape row leaves lane key node same low =
     kept_by shape row (record leaves { kept = set leaves.kept lane (Some record { front = key / 16; node = node }) }) lane key node same
-        (set_here leaves.kept lane (Some record { front = key / 16; node = node }) low)
+    (set_here leaves.kept lane (Some record { front = key / 16; node = node }) low)
 
 pub kept_other : (leaves : Leaves) (lane front node l : ℕ) → (l ≡ lane → ⊥)
     → slice_get (set leaves.kept lane (Some record { front = front; node = node })) l ≡ slice_get leaves.kept l

@@ -64,7 +64,7 @@ load_strides shape m n s t zero made =
     strides_by m n (pass_with_look (place (sizes_of shape) t) 0 m.view) made.same made.told.is refl refl refl (λ r k h. h) (omega arith)
 load_strides shape m n s t (suc k) made =
     strides_by m n (pass_with_look (place (sizes_of shape) t) (suc k) (pass_with_node s k m.view)) made.same made.told.is refl refl refl
-        (knows_more m.view s k) (omega arith)
+    (knows_more m.view s k) (omega arith)
 
 pub load_books : (shape : ShapeValue) (m n : PassValue) (s : Spot) (t : Slot) (found : ℕ) → HasStepped shape (child_effect shape m.view s t) m found n
     → (n.view).books ≡ (m.view).books
@@ -146,7 +146,7 @@ load_first shape m n s t found made k b held = made.told.mine k b held
 pub label_strides : (shape : ShapeValue) (m n : PassValue) (node value : ℕ) → HasSteppedUnseen shape (label_effect m.view node value) m n → KeepsSeen m n
 label_strides shape m n node value stored =
     strides_by m n (pass_with_book 0 (book_with_label value (book_of m.view)) m.view) stored.made.same stored.made.told.is refl refl refl (λ r k h. h)
-        (omega arith)
+    (omega arith)
 
 pub label_books : (shape : ShapeValue) (m n : PassValue) (node value : ℕ) → Rests m.view → HasSteppedUnseen shape (label_effect m.view node value) m n
     → (n.view).books ≡ book_with_label value (book_of m.view) ∷ []
@@ -158,7 +158,7 @@ pub link_strides : (shape : ShapeValue) (m n : PassValue) (s : Spot) (t : Slot) 
     → KeepsSeen m n
 link_strides shape m n s t node zero made =
     strides_by m n (pass_with_book 0 (book_with_node s (book_of m.view)) (pass_with_node s node m.view)) made.same made.told.is refl refl refl
-        (knows_more m.view s node) (omega arith)
+    (knows_more m.view s node) (omega arith)
 link_strides shape m n s t node (suc k) made =
     strides_by m n (pass_with_node s k m.view) made.same made.told.is refl refl refl (knows_more m.view s k) (omega arith)
 

@@ -84,8 +84,8 @@ begun_book shape row p t f o B =
     let bounds = B.took.told.bounds in
     let same : book_of f.view ≡ record b { flight = (book_of f.view).flight } =
     ap (λ (h : PassValue). book_of h.view) (B.is ∙ ap (λ (h : PassValue). flying o row (word_count shape.schema + 1) h) is)
-        ∙ sym (ap (λ (h : PassValue). record b { flight = (book_of h.view).flight })
-        (B.is ∙ ap (λ (h : PassValue). flying o row (word_count shape.schema + 1) h) is)) in
+    ∙ sym (ap (λ (h : PassValue). record b { flight = (book_of h.view).flight })
+    (B.is ∙ ap (λ (h : PassValue). flying o row (word_count shape.schema + 1) h) is)) in
     let mine = ap (λ (c : Book). c.mine) same in
     let writer = ap (λ (c : Book). c.writer) same in
     let low = bounds.writer 0 b held in
@@ -110,8 +110,8 @@ pub record HasCells (shape : ShapeValue) (row : RowValue) (p t f c : PassValue) 
 pub cells_linked : (shape : ShapeValue) (row : RowValue) (p t f c : PassValue) (o : ℕ) → HasCells shape row p t f c o → HasLinked shape o row 0 p c
 cells_linked shape row p t f c o C =
     linked_begin shape o row p c
-        (filled_then shape o row (word_count shape.schema + 1) (word_count shape.schema + 1 + cell_count shape.lanes) p f c
-        (begun_filled shape row p t f o C.begun) C.filled)
+    (filled_then shape o row (word_count shape.schema + 1) (word_count shape.schema + 1 + cell_count shape.lanes) p f c
+    (begun_filled shape row p t f o C.begun) C.filled)
 
 pub cells_self : (shape : ShapeValue) (row : RowValue) (p t f c : PassValue) (o : ℕ) → HasCells shape row p t f c o → HasLinked shape o row 0 c c
 cells_self shape row p t f c o C = linked_self shape o row 0 p c (cells_linked shape row p t f c o C)
@@ -140,7 +140,7 @@ ended_books shape row p t f c l d o E = closed_books shape p l d o (length shape
 pub ended_strides : (shape : ShapeValue) (row : RowValue) (p t f c l d : PassValue) (o : ℕ) → HasEnded shape row p t f c l d o → KeepsSeen p d
 ended_strides shape row p t f c l d o E =
     strides_then p f d (begun_strides shape row p t f o E.cells.begun)
-        (strides_then f c d E.cells.strides (strides_then c l d E.strides (close_strides shape l d o E.finishes)))
+    (strides_then f c d E.cells.strides (strides_then c l d E.strides (close_strides shape l d o E.finishes)))
 
 -- the book with its paths made
 made_book : (shape : ShapeValue) (row : RowValue) (m p : PassValue) (P : HasMade shape row m p)
@@ -154,7 +154,7 @@ appended shape row m p t f c l d z o fresh P E kept stops =
     let own : Own = record { offset = o; row = row } in
     let b : Book = with_own o row (with_nodes P.used.spots P.used.label (book_of m.view)) in
     let books : (z.view).books ≡ b ∷ [] = kept
-        ∙ (ended_books shape row p t f c l d o E ∙ ap (λ (x : Book). with_own o row x ∷ []) (made_book shape row m p P)) in
+    ∙ (ended_books shape row p t f c l d o E ∙ ap (λ (x : Book). with_own o row x ∷ []) (made_book shape row m p P)) in
     let took = E.cells.begun.took in
     let room = E.cells.begun.room in
     let count = (strides_then m p d P.strides (ended_strides shape row p t f c l d o E)).looks in
@@ -174,10 +174,13 @@ appended shape row m p t f c l d z o fresh P E kept stops =
           | inl lt ↦ inl lt
           | inr ge ↦
               let other : o ≡ length (z.view).seen → ⊥ =
-                  u.other 0 (length (book_of m.view).mine) b own (ap (λ (bs : List Book). slice_get bs 0) books) (get_push_same (book_of m.view).mine own) in
+              u.other 0 (length (book_of m.view).mine) b own (ap (λ (bs : List Book). slice_get bs 0) books) (get_push_same (book_of m.view).mine own) in
               let since = u.since in
-              inr (length (z.view).seen, omega (arith, ge, other),
-                  record { word = u.word; value = u.value; since = omega (arith, since, count); other = u.other })
+              inr (
+                length (z.view).seen,
+                omega (arith, ge, other),
+                record { word = u.word; value = u.value; since = omega (arith, since, count); other = u.other },
+              )
         ]
       ];
     }
@@ -195,8 +198,8 @@ late_books shape p n found row past made =
     let high : nat_lt found shape.capacity ≡ false = grind (arith, nat_tests) in
     let b = book_of p.view in
     ap (λ (q : Pass). q.books) made.told.is
-        ∙ ap (λ (t : Bool). cond t (Rattle.cf_law.specs.Steps.book_with_flight b (Rattle.cf_law.specs.Steps.fresh_flight found row))
-        (record b { over = true }) ∷ []) high
+    ∙ ap (λ (t : Bool). cond t (Rattle.cf_law.specs.Steps.book_with_flight b (Rattle.cf_law.specs.Steps.fresh_flight found row))
+    (record b { over = true }) ∷ []) high
 
 pub late : (shape : ShapeValue) (row : RowValue) (m p n : PassValue) (found : ℕ) → (book_of m.view).over ≡ false → HasMade shape row m p
     → shape.capacity ≤ found → HasStepped shape (take_effect shape p.view row) p found n → IsLate shape row m n
@@ -226,8 +229,17 @@ took_first shape p n found row made k b held = made.told.mine k b held
 pub waited : (shape : ShapeValue) (row : RowValue) (m z w : PassValue) (o : ℕ) → IsAppended shape o row m z → (w.view).books ≡ (z.view).books
     → o < length (w.view).seen → IsAppended shape o row m w
 waited shape row m z w o all kept far =
-    record { open_book = all.open_book; before = all.before; paths = all.paths; taken = all.taken; took = all.took; room = all.room; fresh = all.fresh; books =
-    kept ∙ all.books; covered = inl far }
+    record {
+      open_book = all.open_book;
+      before = all.before;
+      paths = all.paths;
+      taken = all.taken;
+      took = all.took;
+      room = all.room;
+      fresh = all.fresh;
+      books = kept ∙ all.books;
+      covered = inl far;
+    }
 
 pub appended_rests : (shape : ShapeValue) (row : RowValue) (m z : PassValue) (o : ℕ) → IsAppended shape o row m z → Rests z.view
 appended_rests shape row m z o A = rests_by z.view (with_own o row (with_nodes A.paths.used.spots A.paths.used.label (book_of m.view))) A.books refl

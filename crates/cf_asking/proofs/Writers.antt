@@ -156,7 +156,7 @@ from_push log n [] x all last (suc k) h at = absurd (cc at)
 from_push log n (y ∷ ys) x all last zero h at = all 0 h at
 from_push log n (y ∷ ys) x all last (suc k) h at =
     subst (λ (w : ℕ). IsWriters log w h) (omega arith)
-        (from_push log (n + 1) ys x (from_rest log n y ys all) (subst (λ (w : ℕ). IsWriters log w x) (omega arith) last) k h at)
+    (from_push log (n + 1) ys x (from_rest log n y ys all) (subst (λ (w : ℕ). IsWriters log w x) (omega arith) last) k h at)
 
 some_at : (hs : List PassValue) (k : ℕ) → k < length hs → (h : PassValue) × (slice_get hs k ≡ Some h)
 some_at [] k lt = absurd (omega (arith, lt))

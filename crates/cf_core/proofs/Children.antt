@@ -90,7 +90,7 @@ child_does h k at found p after s live child v is =
     let word : found ≡ word_at sh h.words t = v ∙ ap (λ (n : ℕ). get_or h.words n 0) (sym child.2) in
     subst (λ (n : ℕ). IsEvent sh (world_of h) k (acts (load_child n)) (record { words = set h.words at found; passes = set h.passes k after })) child.2
     (does_step sh (world_of h) k p (load_child (place sh.sizes t)) t (λ n. n) (λ n es. pass_with_child (place sh.sizes t) s p n) at found after live
-        (loads_child s t child.1) (sym child.2) word
+    (loads_child s t child.1) (sym child.2) word
     (is ∙ ap₂ (λ (a b : ℕ). pass_with_child a s p b) (sym child.2) word))
 
 pub child_none : (h : WorldValue) (k at : ℕ) (p : Pass) (y : World) → IsLivePass h k p → NoChildAt h p at

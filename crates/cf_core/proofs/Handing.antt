@@ -20,8 +20,8 @@ pub bare_does : (h : WorldValue) (k : ℕ) (p left right : Pass) → IsLivePass 
     → IsEvent (layout h.shape) (world_of h) k (splits None) (record { words = h.words; passes = set h.passes k left ++ right ∷ [] })
 bare_does h k p left right live l r =
     let same : ◌≡◌ {A = World} (record { words = h.words; passes = set h.passes k p ++ new_pass [] p.seen ∷ [] })
-        (record { words = h.words; passes = set h.passes k left ++ right ∷ [] }) =
-        ap₂ (λ (a b : Pass). record { words = h.words; passes = set h.passes k a ++ b ∷ [] }) (sym l) (sym r) in
+    (record { words = h.words; passes = set h.passes k left ++ right ∷ [] }) =
+    ap₂ (λ (a b : Pass). record { words = h.words; passes = set h.passes k a ++ b ∷ [] }) (sym l) (sym r) in
     subst (IsEvent (layout h.shape) (world_of h) k (splits None)) same (parts p p (new_pass [] p.seen) None live bare)
 
 pub hands_does : (h : WorldValue) (k j w : ℕ) (p left right : Pass) (b : Book) → IsLivePass h k p → Holds p j b → b.writer ≡ w
@@ -29,11 +29,11 @@ pub hands_does : (h : WorldValue) (k j w : ℕ) (p left right : Pass) (b : Book)
     → IsEvent (layout h.shape) (world_of h) k (splits (Some w)) (record { words = h.words; passes = set h.passes k left ++ right ∷ [] })
 hands_does h k j w p left right b live held writer l r =
     let same : ◌≡◌ {A = World} (record { words = h.words; passes = set h.passes k (record p { books = without j p.books }) ++ new_pass (b ∷ []) p.seen ∷ [] })
-        (record { words = h.words; passes = set h.passes k left ++ right ∷ [] }) =
+    (record { words = h.words; passes = set h.passes k left ++ right ∷ [] }) =
     ap₂ (λ (a c : Pass). record { words = h.words; passes = set h.passes k a ++ c ∷ [] }) (sym l) (sym r) in
     subst (λ (v : ℕ). IsEvent (layout h.shape) (world_of h) k (splits (Some v)) (record { words = h.words; passes = set h.passes k left ++ right ∷ [] })) writer
     (subst (IsEvent (layout h.shape) (world_of h) k (splits (Some b.writer))) same
-        (parts p (record p { books = without j p.books }) (new_pass (b ∷ []) p.seen) (Some b.writer) live (hands j b held)))
+    (parts p (record p { books = without j p.books }) (new_pass (b ∷ []) p.seen) (Some b.writer) live (hands j b held)))
 
 pub hands_none : (h : WorldValue) (k w : ℕ) (p : Pass) (y : World) → IsLivePass h k p → NoneHeld p w
     → IsEvent (layout h.shape) (world_of h) k (splits (Some w)) y → ⊥
@@ -48,8 +48,8 @@ pub joins_does : (h : WorldValue) (k j : ℕ) (p q one other : Pass) → IsLiveP
     → IsEvent (layout h.shape) (world_of h) k (joins j) (record { words = h.words; passes = set (set h.passes k one) j other })
 joins_does h k j p q one other live there ne rests a b =
     let same : ◌≡◌ {A = World} (record { words = h.words; passes = set (set h.passes k (joined_pass p q)) j spent_pass })
-        (record { words = h.words; passes = set (set h.passes k one) j other }) =
-        ap₂ (λ (x y : Pass). record { words = h.words; passes = set (set h.passes k x) j y }) (sym a) (sym b) in
+    (record { words = h.words; passes = set (set h.passes k one) j other }) =
+    ap₂ (λ (x y : Pass). record { words = h.words; passes = set (set h.passes k x) j y }) (sym a) (sym b) in
     subst (IsEvent (layout h.shape) (world_of h) k (joins j)) same (meets p q j live there ne rests)
 
 pub joins_only : (h : WorldValue) (k j : ℕ) (q : Pass) (y : World) → IsLivePass h j q → IsEvent (layout h.shape) (world_of h) k (joins j) y → (j ≡ k → ⊥)
@@ -67,8 +67,8 @@ pub part_lawful : (inside now : WorldValue) (items : List Pass) (k : ℕ) (left 
     → IsLawfulWorld (record { shape = inside.shape; words = inside.words; passes = set items k left })
 part_lawful inside now items k left right is same added lt law = record {
   shape = is.shape;
-  law = (let old : Lawful (layout inside.shape) inside.words (set inside.passes k left ++ right ∷ []) =
-      subst (λ (h : WorldValue). Lawful (layout h.shape) h.words (set h.passes k left ++ right ∷ [])) (sym same) law in
+  law = (let old : Lawful (layout inside.shape) inside.words (set inside.passes k left ++ right ∷ []) = subst
+      (λ (h : WorldValue). Lawful (layout h.shape) h.words (set h.passes k left ++ right ∷ [])) (sym same) law in
       let low : k < length inside.passes = subst (λ (h : WorldValue). k < length h.passes) (sym same) lt in
       subst (Lawful (layout inside.shape) inside.words) (sym (ap (λ (ps : List Pass). set ps k left) added ∙ pushed inside.passes k left right low)) old);
 }
@@ -76,11 +76,11 @@ part_lawful inside now items k left right is same added lt law = record {
 pub part_is : (inside now : WorldValue) (items : List Pass) (k : ℕ) (left right : Pass) → inside ≡ now → items ≡ inside.passes ++ right ∷ []
     → k < length now.passes
     → ◌≡◌ {A = WorldValue} (record { shape = inside.shape; words = inside.words; passes = set items k left })
-        (record { shape = now.shape; words = now.words; passes = set now.passes k left ++ right ∷ [] })
+    (record { shape = now.shape; words = now.words; passes = set now.passes k left ++ right ∷ [] })
 part_is inside now items k left right same added lt =
     let low : k < length inside.passes = subst (λ (h : WorldValue). k < length h.passes) (sym same) lt in
     ap (λ (ps : List Pass). record { shape = inside.shape; words = inside.words; passes = ps })
-        (ap (λ (ps : List Pass). set ps k left) added ∙ pushed inside.passes k left right low)
+    (ap (λ (ps : List Pass). set ps k left) added ∙ pushed inside.passes k left right low)
     ∙ ap (λ (h : WorldValue). record { shape = h.shape; words = h.words; passes = set h.passes k left ++ right ∷ [] }) same
 
 -- the opening

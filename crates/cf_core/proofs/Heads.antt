@@ -49,9 +49,9 @@ head_does h k at l node d offset value j p after b f live flies off whole fresh 
     let sh = layout h.shape in
     subst (λ (o : ℕ). IsEvent sh (world_of h) k (acts (store_head l node d o)) (record { words = set h.words at value; passes = set h.passes k after })) off
     (does_step sh (world_of h) k p (store_head l node d f.offset) (head_slot sh.sizes node d b.writer) (λ n. suc f.offset)
-        (λ n es. pass_with_book j (book_with_head l b f) p) at value after live
+    (λ n es. pass_with_book j (book_with_head l b f) p) at value after live
     (heads j l d node leads.0 b f flies (whole_any sh (draft f.row f.filled) (ticket_of b.writer f) refl refl whole) fresh leads.1 leads.2) e
-        (let n : value ≡ suc f.offset = omega (arith, off, v) in n) pass)
+    (let n : value ≡ suc f.offset = omega (arith, off, v) in n) pass)
 
 pub head_only : (h : WorldValue) (k l node d offset j : ℕ) (p : Pass) (b : Book) (f : Flight) (y : World) → IsLawfulWorld h → IsLivePass h k p
     → HoldsInFlight p j b f → f.offset ≡ offset → IsEvent (layout h.shape) (world_of h) k (acts (store_head l node d offset)) y

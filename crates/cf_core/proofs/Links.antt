@@ -93,7 +93,7 @@ label_does h k at node value j p after b s live free named e is =
     let act : label (free_node sh b) (label_of sh s t) ≡ label node value = ap₂ label own named.2 in
     subst (λ (a : Act). IsEvent sh (world_of h) k (acts a) (record { words = set h.words at value; passes = set h.passes k after })) act
     (does_step sh (world_of h) k p (label (free_node sh b) (label_of sh s t)) (body (free_node sh b) 0) (λ n. label_of sh s t)
-        (λ n es. pass_with_book j (book_with_label (label_of sh s t) b) p) at value after live
+    (λ n es. pass_with_book j (book_with_label (label_of sh s t) b) p) at value after live
     (labels j b s t free.0 (free.1).0 named.1) (e ∙ ap (λ (n : ℕ). place sh.sizes (body n 0)) (sym own)) (sym named.2)
     (is ∙ ap (λ (v : ℕ). pass_with_book j (book_with_label v b) p) (sym named.2)))
 
@@ -133,7 +133,7 @@ link_does h k at node found left j p after b s live free child stored v change i
     let same_label : b.label ≡ label_of sh s t = (let e = child.2 in omega (arith, stored, e)) in
     subst (λ (a : Act). IsEvent sh (world_of h) k (acts a) (record { words = set h.words at left; passes = set h.passes k after })) act
     (does_step sh (world_of h) k p (link (place sh.sizes t) (free_node sh b)) t (λ n. child_word (free_node sh b) n)
-        (λ n es. pass_with_link j b s (free_node sh b) p n) at left after live
+    (λ n es. pass_with_link j b s (free_node sh b) p n) at left after live
     (links j b s t free.0 (free.1).0 child.1 same_label) (sym child.2) (change ∙ ap₂ child_word (sym own) word)
     (is ∙ ap₂ (λ (m n : ℕ). pass_with_link j b s m p n) (sym own) word))
 

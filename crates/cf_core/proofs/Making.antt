@@ -29,11 +29,11 @@ pub does_step : (sh : Layout) (x : World) (k : ℕ) (p : Pass) (a : Act) (t : Sl
 does_step sh x k p a t f g at value after live step e v h =
     let words : set x.words at value ≡ set x.words (place sh.sizes t) (f (word_at sh x.words t)) = ap₂ (set x.words) e v in
     let pass : after ≡ g (word_at sh x.words t)
-        (entries_spelled sh (set x.words (place sh.sizes t) (f (word_at sh x.words t)))
-        (word_at sh (set x.words (place sh.sizes t) (f (word_at sh x.words t))) (tail 1))) = h
-        ∙ ap (λ (ws : List ℕ). g (word_at sh x.words t) (entries_spelled sh ws (word_at sh ws (tail 1)))) words in
+    (entries_spelled sh (set x.words (place sh.sizes t) (f (word_at sh x.words t)))
+    (word_at sh (set x.words (place sh.sizes t) (f (word_at sh x.words t))) (tail 1))) = h
+    ∙ ap (λ (ws : List ℕ). g (word_at sh x.words t) (entries_spelled sh ws (word_at sh ws (tail 1)))) words in
     let same : ◌≡◌ {A = World} (record { words = set x.words at value; passes = set x.passes k after }) _ =
-        ap₂ (λ (ws : List ℕ) (q : Pass). record { words = ws; passes = set x.passes k q }) words pass in
+    ap₂ (λ (ws : List ℕ) (q : Pass). record { words = ws; passes = set x.passes k q }) words pass in
     subst (IsEvent sh x k (acts a)) (sym same) (steps p a t f g live step)
 
 pub made_lawful : (h : WorldValue) (k : ℕ) (e : WorldEvent) (y : World) → IsLawfulWorld h → IsEvent (layout h.shape) (world_of h) k e y
@@ -69,7 +69,7 @@ look_does h k offset at i found p after live lt last e v is =
     let sh = layout h.shape in
     let word : found ≡ word_at sh h.words (cell offset i) = v ∙ ap (λ (n : ℕ). get_or h.words n 0) e in
     does_step sh (world_of h) k p (look_done offset) (cell offset i) (λ n. n) (λ n es. pass_with_look (place sh.sizes (cell offset i)) n p) at found after live
-        (looks_done offset i lt last) e word
+    (looks_done offset i lt last) e word
     (is ∙ ap₂ (λ (a b : ℕ). pass_with_look a b p) e word)
 
 pub look_only : (h : WorldValue) (k offset : ℕ) (y : World) → IsEvent (layout h.shape) (world_of h) k (acts (look_done offset)) y → offset < h.shape.capacity
@@ -83,7 +83,7 @@ load_does h k offset at i found p after live seen lt e v is =
     let sh = layout h.shape in
     let word : found ≡ word_at sh h.words (cell offset i) = v ∙ ap (λ (n : ℕ). get_or h.words n 0) e in
     does_step sh (world_of h) k p (load_word offset i) (cell offset i) (λ n. n)
-        (λ n es. pass_with_look (place sh.sizes (cell offset i)) n p) at found after live (loads_word offset i seen lt) e word
+    (λ n es. pass_with_look (place sh.sizes (cell offset i)) n p) at found after live (loads_word offset i seen lt) e word
     (is ∙ ap₂ (λ (a b : ℕ). pass_with_look a b p) e word)
 
 pub load_only : (h : WorldValue) (k offset i : ℕ) (p : Pass) (y : World) → IsLivePass h k p

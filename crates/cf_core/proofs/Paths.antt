@@ -27,7 +27,7 @@ count_take [] l lt = absurd (omega arith)
 count_take (x ∷ xs) zero lt = omega (arith, count_cons x [], count_none)
 count_take (x ∷ xs) (suc l) lt =
     let e : cell_count (take (suc l + 1) (x ∷ xs)) ≡ cell_words x + cell_count (take (l + 1) xs) =
-        ap (λ (n : ℕ). cell_count (take n (x ∷ xs))) (let f : suc l + 1 ≡ suc (l + 1) = omega arith in f) ∙ count_cons x (take (l + 1) xs) in
+    ap (λ (n : ℕ). cell_count (take n (x ∷ xs))) (let f : suc l + 1 ≡ suc (l + 1) = omega arith in f) ∙ count_cons x (take (l + 1) xs) in
     let w : cell_words (get_or (x ∷ xs) (suc l) no_lane) ≡ cell_words (get_or xs l no_lane) = refl in
     omega (arith, e, w, count_cons x (take l xs), count_take xs l (omega arith))
 

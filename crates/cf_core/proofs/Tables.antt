@@ -60,13 +60,13 @@ plain_range sh words o n le =
     let f = λ (i : ℕ). word_at sh words (cell o i) in
     let start = place sh.sizes (cell o 0) in
     let long : length (take n (drop start words)) ≡ n =
-        Rattle.std.proofs.lemmas.List.length-take-le n (drop start words) (omega (arith, Rattle.std.proofs.Common.length-drop start words)) in
+    Rattle.std.proofs.lemmas.List.length-take-le n (drop start words) (omega (arith, Rattle.std.proofs.Common.length-drop start words)) in
     ext_get_or 0 (tabulated f n) (take n (drop start words)) (table_long f n ∙ sym long)
     (λ i lt. let small : i < n = omega (arith, table_long f n) in
     table_get f n i 0 small
-        ∙ sym (get_or-take n (drop start words) i 0 small
-        ∙ (get_or-drop start words i 0
-        ∙ ap (λ (k : ℕ). get_or words k 0) (let e : start + i ≡ place sh.sizes (cell o i) = omega (arith, place_cell sh o 0, place_cell sh o i) in e))))
+    ∙ sym (get_or-take n (drop start words) i 0 small
+    ∙ (get_or-drop start words i 0
+    ∙ ap (λ (k : ℕ). get_or words k 0) (let e : start + i ≡ place sh.sizes (cell o i) = omega (arith, place_cell sh o 0, place_cell sh o i) in e))))
 
 pub plain_room : (h : WorldValue) (o : ℕ) → IsLawfulWorld h → o < h.shape.capacity
     → place (layout h.shape).sizes (cell o 0) + (word_count h.shape.schema + 1) ≤ length h.words
@@ -129,7 +129,7 @@ tail_does h k found asked p after es is live v spelled is_after =
     let word : found ≡ word_at sh h.words (tail 1) = v ∙ ap (λ (n : ℕ). get_or h.words n 0) (sym one) in
     let same : set h.words 1 found ≡ h.words = ap (set h.words 1) v ∙ set-get_or h.words 1 0 in
     let entries : entries_spelled sh (set h.words 1 found) (word_at sh (set h.words 1 found) (tail 1)) ≡ es =
-        ap (λ (ws : List ℕ). entries_spelled sh ws (word_at sh ws (tail 1))) same ∙ (ap (entries_spelled sh h.words) (sym word) ∙ sym spelled) in
+    ap (λ (ws : List ℕ). entries_spelled sh ws (word_at sh ws (tail 1))) same ∙ (ap (entries_spelled sh h.words) (sym word) ∙ sym spelled) in
     does_step sh (world_of h) k p (load_tail asked) (tail 1) (λ n. n) (λ n xs. pass_with_tail asked n xs p) 1 found after live (loads_tail asked) (sym one) word
     (is_after ∙ ap₂ (λ (n : ℕ) (xs : List Entry). pass_with_tail asked n xs p) word (sym entries))
 
@@ -140,7 +140,7 @@ sees_same n xs ys p e = ap (λ (zs : List Entry). cond (nat_lt (length p.seen) n
 pub advance_does : (h : WorldValue) (k t at i tail_found left : ℕ) (p after : Pass) (es : List Entry) → IsLawfulWorld h → IsLivePass h k p → t ≤ length p.seen
     → t < h.shape.capacity → suc i ≡ (layout h.shape).sizes.ticket_words → at ≡ place (layout h.shape).sizes (cell t i) → p.look.word ≡ at → p.look.value ≡ 1
     → tail_found ≡ get_or h.words 1 0 → left ≡ cond (tail_found == t) (t + 1) tail_found → es ≡ entries_spelled (layout h.shape) h.words (t + 1)
-        → after ≡ pass_that_sees (t + 1) es p
+    → after ≡ pass_that_sees (t + 1) es p
     → IsEvent (layout h.shape) (world_of h) k (acts (advance t)) (record { words = set h.words 1 left; passes = set h.passes k after })
 advance_does h k t at i found left p after es is live seen lt last where_is word value v change spelled is_after =
     let sh = layout h.shape in
@@ -149,17 +149,17 @@ advance_does h k t at i found left p after es is live seen lt last where_is word
     let tail_word : found ≡ word_at sh h.words (tail 1) = v ∙ ap (λ (n : ℕ). get_or h.words n 0) (sym one) in
     let next : t + 1 ≡ suc t = omega arith in
     let change' : left ≡ cond (word_at sh h.words (tail 1) == t) (suc t) (word_at sh h.words (tail 1)) = change
-        ∙ (ap (λ (n : ℕ). cond (found == t) n found) next ∙ ap (λ (n : ℕ). cond (n == t) (suc t) n) tail_word) in
+    ∙ (ap (λ (n : ℕ). cond (found == t) n found) next ∙ ap (λ (n : ℕ). cond (n == t) (suc t) n) tail_word) in
     let more : suc t ≤ left = reached found left change (let w = (is.law.stands.knows k p live.0).within in omega (arith, w, seen, v, tail_of h is)) in
     let left_word : word_at sh (set h.words 1 left) (tail 1) ≡ left = ap (λ (n : ℕ). get_or (set h.words 1 left) n 0) one
-        ∙ Rattle.std.proofs.lemmas.List.get_or-set_same h.words 1 left 0 (tail_there h is) in
+    ∙ Rattle.std.proofs.lemmas.List.get_or-set_same h.words 1 left 0 (tail_there h is) in
     let there : take (suc t) (entries_spelled sh (set h.words 1 left) (word_at sh (set h.words 1 left) (tail 1))) ≡ entries_spelled sh h.words (suc t) =
     ap (λ (n : ℕ). take (suc t) (entries_spelled sh (set h.words 1 left) n)) left_word
-        ∙ (ap (take (suc t)) (spelt_kept sh h.words left left) ∙ table_take (λ o. sh.reads (plain_at sh h.words o)) (suc t) left more) in
+    ∙ (ap (take (suc t)) (spelt_kept sh h.words left left) ∙ table_take (λ o. sh.reads (plain_at sh h.words o)) (suc t) left more) in
     let here : take (suc t) es ≡ entries_spelled sh h.words (suc t) =
     ap (take (suc t)) (spelled ∙ ap (entries_spelled sh h.words) next) ∙ table_take (λ o. sh.reads (plain_at sh h.words o)) (suc t) (suc t) (omega arith) in
     does_step sh (world_of h) k p (advance t) (tail 1) (λ n. cond (n == t) (suc t) n) (λ n xs. pass_that_sees (suc t) xs p) 1 left after live
-        (advances t i seen lt last (word ∙ where_is) value) (sym one) change'
+    (advances t i seen lt last (word ∙ where_is) value) (sym one) change'
     (is_after ∙ (ap (λ (n : ℕ). pass_that_sees n es p) next ∙ sees_same (suc t) es _ p (here ∙ sym there)))
   where
     reached : (n l : ℕ) → l ≡ cond (n == t) (t + 1) n → t ≤ n → suc t ≤ l
@@ -178,7 +178,7 @@ look_readable h k t at i p is live seen lt last where_is word value o low = elim
 
 pub advance_only : (h : WorldValue) (k t : ℕ) (p : Pass) (y : World) → IsLivePass h k p → IsEvent (layout h.shape) (world_of h) k (acts (advance t)) y
     → (t ≤ length p.seen) × (t < h.shape.capacity)
-        × ((i : ℕ) → suc i ≡ (layout h.shape).sizes.ticket_words → p.look.word ≡ place (layout h.shape).sizes (cell t i)) × (p.look.value ≡ 1)
+    × ((i : ℕ) → suc i ≡ (layout h.shape).sizes.ticket_words → p.look.word ≡ place (layout h.shape).sizes (cell t i)) × (p.look.value ≡ 1)
 advance_only h k t p y live does =
     let A = acts_of (layout h.shape) (world_of h) k (advance t) y does in
     let r = advances_of (layout h.shape) A.pass t A.slot A.change A.after A.step in

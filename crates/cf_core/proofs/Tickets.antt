@@ -46,7 +46,7 @@ ticket_does h k found row p after live fits may v is =
     let next : found + 1 ≡ suc (word_at sh h.words (tail 0)) = omega (arith, word) in
     let b = may.0 in
     does_step sh (world_of h) k p (take_ticket row) (tail 0) (λ n. suc n) (λ n es. record p { books = book_with_ticket sh row n b ∷ [] }) 0
-        (found + 1) after live (takes row b fits may.1 may.2 may.3) (sym none) next
+    (found + 1) after live (takes row b fits may.1 may.2 may.3) (sym none) next
     (is b may.1 ∙ ap (λ (n : ℕ). record p { books = book_with_ticket sh row n b ∷ [] }) word)
 
 pub ticket_only : (h : WorldValue) (k : ℕ) (row : RowValue) (p : Pass) (y : World) → IsLivePass h k p
@@ -61,18 +61,18 @@ ticket_only h k row p y live does =
 pub cell_does : (h : WorldValue) (k offset i value at j : ℕ) (p after : Pass) (b : Book) (f : Flight) → IsLivePass h k p → HoldsInFlight p j b f
     → f.offset ≡ offset → IsNext (layout h.shape) (draft f.row f.filled) i
     → value ≡ own_word (layout h.shape) b f.row (use_at h.shape i) → at ≡ place (layout h.shape).sizes (cell offset i)
-        → after ≡ pass_with_book j (book_with_word i b f) p
+    → after ≡ pass_with_book j (book_with_word i b f) p
     → IsEvent (layout h.shape) (world_of h) k (acts (store_cell offset i value)) (record { words = set h.words at value; passes = set h.passes k after })
 cell_does h k offset i value at j p after b f live flies off next own e pass =
     let sh = layout h.shape in
     let act : Rattle.cf_law.specs.Steps.Act.store_cell f.offset i (own_word sh b f.row (sh.use_of i)) ≡ store_cell offset i value =
-        ap₂ (λ (o w : ℕ). store_cell o i w) off (sym own) in
+    ap₂ (λ (o w : ℕ). store_cell o i w) off (sym own) in
     subst (λ (a : Rattle.cf_law.specs.Steps.Act). IsEvent sh (world_of h) k (acts a)
-        (record { words = set h.words at value; passes = set h.passes k after })) act
+    (record { words = set h.words at value; passes = set h.passes k after })) act
     (does_step sh (world_of h) k p (store_cell f.offset i (own_word sh b f.row (sh.use_of i))) (cell f.offset i) (λ n. own_word sh b f.row (sh.use_of i))
-        (λ n es. pass_with_book j (book_with_word i b f) p) at value after live
+    (λ n es. pass_with_book j (book_with_word i b f) p) at value after live
     (stores j i b f flies (next_any sh (draft f.row f.filled) (ticket_of b.writer f) i refl refl next))
-        (e ∙ ap (λ (o : ℕ). place sh.sizes (cell o i)) (sym off)) own pass)
+    (e ∙ ap (λ (o : ℕ). place sh.sizes (cell o i)) (sym off)) own pass)
 
 pub done_does : (h : WorldValue) (k offset i at j : ℕ) (p after : Pass) (b : Book) (f : Flight) → IsLivePass h k p → HoldsInFlight p j b f → f.offset ≡ offset
     → suc i ≡ ticket_words h.shape → IsWhole (layout h.shape) (draft f.row f.filled) → AllLinked h.shape f.row f.linked
@@ -83,7 +83,7 @@ done_does h k offset i at j p after b f live flies off last whole linked e pass 
     subst (λ (o : ℕ). IsEvent sh (world_of h) k (acts (finish_record o)) (record { words = set h.words at 1; passes = set h.passes k after })) off
     (does_step sh (world_of h) k p (finish_record f.offset) (cell f.offset i) (λ n. 1) (λ n es. pass_with_book j (book_with_record b f) p) at 1 after live
     (finishes j i b f flies last (whole_any sh (draft f.row f.filled) (ticket_of b.writer f) refl refl whole) linked)
-        (e ∙ ap (λ (o : ℕ). place sh.sizes (cell o i)) (sym off)) refl pass)
+    (e ∙ ap (λ (o : ℕ). place sh.sizes (cell o i)) (sym off)) refl pass)
 
 -- the flight is the one
 pub same_flight : (h : WorldValue) (k i j : ℕ) (p : Pass) (b c : Book) (f g : Flight) → IsLawfulWorld h → IsLivePass h k p → HoldsInFlight p i b f

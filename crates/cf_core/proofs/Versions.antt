@@ -57,7 +57,7 @@ own_are h k j p b is live held =
       few = omega (arith, ap (length {A = Own}) mine, mine_few b.writer 0 m.log, room, low);
       fits = λ i x at. (let r = mine_before b.writer 0 m.log i x (ap (λ (xs : List Own). slice_get xs i) (sym mine) ∙ at) in
           let fits = (both (values_fit h.shape.schema r.ticket.row.values) (Rattle.std.proofs.Common.nat_lt r.ticket.row.num 4294967296)
-              (L.fits r.place r.ticket r.at)).0 in
+          (L.fits r.place r.ticket r.at)).0 in
           subst (Fits h.shape.schema) (sym r.row) fits);
       offset = λ i x at. (let lt = (bounds h k p is live).offset j i b x held at in omega (arith, lt, low));
     }
@@ -83,15 +83,15 @@ pub chain_in : (sh : Layout) (s : Spot) (mine : List Own) (i : ℕ) (x : Own) �
     → same_path (sh.path x.row s.lane) s.path ≡ true → mine_chain sh s (drop i mine) ≡ mine_chain sh s (drop (i + 1) mine) ++ (x.offset, x.row) ∷ []
 chain_in sh s mine i x lt is e =
     chain_from sh s mine i x lt is
-        ∙ (chain_cons sh s x (drop (i + 1) mine) ∙ ap (λ (b : Bool). mine_chain sh s (drop (i + 1) mine) ++ cond b ((x.offset, x.row) ∷ []) []) e)
+    ∙ (chain_cons sh s x (drop (i + 1) mine) ∙ ap (λ (b : Bool). mine_chain sh s (drop (i + 1) mine) ++ cond b ((x.offset, x.row) ∷ []) []) e)
 
 pub chain_out : (sh : Layout) (s : Spot) (mine : List Own) (i : ℕ) (x : Own) → i < length mine → x ≡ get_or mine i x
     → same_path (sh.path x.row s.lane) s.path ≡ false → mine_chain sh s (drop i mine) ≡ mine_chain sh s (drop (i + 1) mine)
 chain_out sh s mine i x lt is e =
     chain_from sh s mine i x lt is
-        ∙ (chain_cons sh s x (drop (i + 1) mine)
-        ∙ (ap (λ (b : Bool). mine_chain sh s (drop (i + 1) mine) ++ cond b ((x.offset, x.row) ∷ []) []) e
-        ∙ Rattle.std.proofs.Common.append-nil (mine_chain sh s (drop (i + 1) mine))))
+    ∙ (chain_cons sh s x (drop (i + 1) mine)
+    ∙ (ap (λ (b : Bool). mine_chain sh s (drop (i + 1) mine) ++ cond b ((x.offset, x.row) ∷ []) []) e
+    ∙ Rattle.std.proofs.Common.append-nil (mine_chain sh s (drop (i + 1) mine))))
 
 top_push : (c : List (ℕ × RowValue)) (x : ℕ × RowValue) → link_to_newest (c ++ x ∷ []) ≡ cond (link_to_newest c == 0) (suc x.0) (link_to_newest c)
 top_push [] x = ap (λ (b : Bool). cond b (suc x.0) 0) (sym (eq-eqb 0 0 refl))
@@ -114,15 +114,22 @@ amounts_first shape lane row c e = ap (amounts_with_row shape lane row) e
 
 amounts_long : (shape : ShapeValue) (lane : ℕ) (row : RowValue) (c : List (ℕ × RowValue)) → length (amounts_with_row shape lane row c) ≡ suc (length c)
 amounts_long shape lane row c =
-    omega (arith, Rattle.std.proofs.lemmas.List.length-map {A = RowValue} {B = ℕ} (row ∷ map (λ (y : ℕ × RowValue). y.1) c) (λ r. measure_of shape lane r),
-        Rattle.std.proofs.lemmas.List.length-map {A = ℕ × RowValue} {B = RowValue} c (λ y. y.1))
+    omega (
+      arith,
+      Rattle.std.proofs.lemmas.List.length-map {A = RowValue} {B = ℕ} (row ∷ map (λ (y : ℕ × RowValue). y.1) c) (λ r. measure_of shape lane r),
+      Rattle.std.proofs.lemmas.List.length-map {A = ℕ × RowValue} {B = RowValue} c (λ y. y.1),
+    )
 
 chain_few : (sh : Layout) (s : Spot) (mine : List Own) → length (mine_chain sh s mine) ≤ length mine
 chain_few sh s [] = omega (arith, ap (length {A = ℕ × RowValue}) (chain_none sh s))
 chain_few sh s (x ∷ xs) =
-    omega (arith, ap (length {A = ℕ × RowValue}) (chain_cons sh s x xs),
-        length-append (mine_chain sh s xs) (cond (same_path (sh.path x.row s.lane) s.path) ((x.offset, x.row) ∷ []) []),
-        one (same_path (sh.path x.row s.lane) s.path), chain_few sh s xs)
+    omega (
+      arith,
+      ap (length {A = ℕ × RowValue}) (chain_cons sh s x xs),
+      length-append (mine_chain sh s xs) (cond (same_path (sh.path x.row s.lane) s.path) ((x.offset, x.row) ∷ []) []),
+      one (same_path (sh.path x.row s.lane) s.path),
+      chain_few sh s xs,
+    )
   where
     one : (b : Bool) → length (cond {A = List (ℕ × RowValue)} b ((x.offset, x.row) ∷ []) []) ≤ 1
     one true = omega arith
@@ -132,8 +139,14 @@ pub quad_few : (shape : ShapeValue) (lane : ℕ) (row : RowValue) (s : Spot) (mi
     → q ≡ quad_of (amounts_with_row shape lane row (mine_chain (layout shape) s (drop i mine))) → length mine ≤ 65536 → q.count ≤ 65537
 quad_few shape lane row s mine i q e few =
     let c = mine_chain (layout shape) s (drop i mine) in
-    omega (arith, ap (λ (x : QuadValue). x.count) e, amounts_long shape lane row c, chain_few (layout shape) s (drop i mine), few,
-        Rattle.std.proofs.Common.length-drop i mine)
+    omega (
+      arith,
+      ap (λ (x : QuadValue). x.count) e,
+      amounts_long shape lane row c,
+      chain_few (layout shape) s (drop i mine),
+      few,
+      Rattle.std.proofs.Common.length-drop i mine,
+    )
 
 -- a quad of own measures is lawful
 low_push : (xs : List ℕ) (y : ℕ) → AreLow xs → y < 2 ^ 32 → AreLow (xs ++ y ∷ [])
@@ -151,14 +164,14 @@ amounts_low shape lane row s [] is lt fits own =
 amounts_low shape lane row s (x ∷ xs) is lt fits own = elim (cases_Bool (same_path (path_in shape x.row s.lane) s.path)) [
   | inl e ↦
       let whole : mine_chain (layout shape) s (x ∷ xs) ≡ mine_chain (layout shape) s xs ++ (x.offset, x.row) ∷ [] = chain_cons (layout shape) s x xs
-          ∙ ap (λ (b : Bool). mine_chain (layout shape) s xs ++ cond b ((x.offset, x.row) ∷ []) []) e in
+      ∙ ap (λ (b : Bool). mine_chain (layout shape) s xs ++ cond b ((x.offset, x.row) ∷ []) []) e in
       subst AreLow (sym (ap (amounts_with_row shape lane row) whole ∙ amounts_push shape lane row (mine_chain (layout shape) s xs) (x.offset, x.row)))
       (low_push (amounts_with_row shape lane row (mine_chain (layout shape) s xs)) (measure_of shape lane x.row)
-          (amounts_low shape lane row s xs is lt fits (rest_own shape x xs own)) (measure_low shape lane x.row is lt (own.fits 0 x refl)))
+      (amounts_low shape lane row s xs is lt fits (rest_own shape x xs own)) (measure_low shape lane x.row is lt (own.fits 0 x refl)))
   | inr e ↦
       let whole : mine_chain (layout shape) s (x ∷ xs) ≡ mine_chain (layout shape) s xs = chain_cons (layout shape) s x xs
-          ∙ (ap (λ (b : Bool). mine_chain (layout shape) s xs ++ cond b ((x.offset, x.row) ∷ []) []) e
-          ∙ Rattle.std.proofs.Common.append-nil (mine_chain (layout shape) s xs)) in
+      ∙ (ap (λ (b : Bool). mine_chain (layout shape) s xs ++ cond b ((x.offset, x.row) ∷ []) []) e
+      ∙ Rattle.std.proofs.Common.append-nil (mine_chain (layout shape) s xs)) in
       subst AreLow (sym (ap (amounts_with_row shape lane row) whole)) (amounts_low shape lane row s xs is lt fits (rest_own shape x xs own))
 ]
 
@@ -174,12 +187,12 @@ top_low sh s [] shape own = omega (arith, ap link_to_newest (chain_none sh s))
 top_low sh s (x ∷ xs) shape own = elim (cases_Bool (same_path (sh.path x.row s.lane) s.path)) [
   | inl e ↦
       let whole : mine_chain sh s (x ∷ xs) ≡ mine_chain sh s xs ++ (x.offset, x.row) ∷ [] = chain_cons sh s x xs
-          ∙ ap (λ (b : Bool). mine_chain sh s xs ++ cond b ((x.offset, x.row) ∷ []) []) e in
+      ∙ ap (λ (b : Bool). mine_chain sh s xs ++ cond b ((x.offset, x.row) ∷ []) []) e in
       let low = own.offset 0 x refl in
       omega (arith, ap link_to_newest whole, pushed (mine_chain sh s xs) (top_low sh s xs shape (rest_own shape x xs own)) low)
   | inr e ↦
       let whole : mine_chain sh s (x ∷ xs) ≡ mine_chain sh s xs = chain_cons sh s x xs
-          ∙ (ap (λ (b : Bool). mine_chain sh s xs ++ cond b ((x.offset, x.row) ∷ []) []) e ∙ Rattle.std.proofs.Common.append-nil (mine_chain sh s xs)) in
+      ∙ (ap (λ (b : Bool). mine_chain sh s xs ++ cond b ((x.offset, x.row) ∷ []) []) e ∙ Rattle.std.proofs.Common.append-nil (mine_chain sh s xs)) in
       omega (arith, ap link_to_newest whole, top_low sh s xs shape (rest_own shape x xs own))
 ]
   where
@@ -207,7 +220,7 @@ pub version_is_word : (shape : ShapeValue) (b : Book) (row : RowValue) (lane j w
     → word ≡ own_lane_word (layout shape) b row lane j (path_in shape row lane)
 version_is_word shape b row lane j word q m previous quad leads me pe qe is =
     is ∙ (word_is shape lane j (mine_chain (layout shape) (spot lane q) b.mine) row m previous quad me pe qe
-        ∙ ap (own_lane_word (layout shape) b row lane j) (sym leads))
+    ∙ ap (own_lane_word (layout shape) b row lane j) (sym leads))
 
 pub version_none : (shape : ShapeValue) (b : Book) (row : RowValue) (lane j : ℕ) → path_in shape row lane ≡ None
     → 0 ≡ own_lane_word (layout shape) b row lane j (path_in shape row lane)

@@ -44,8 +44,8 @@ head_does h k at node d w found p after s leaf live known is_leaf low wl e v bel
     let t = head_slot sh.sizes node d w in
     let word : found ≡ word_at sh h.words t = v ∙ ap (λ (n : ℕ). get_or h.words n 0) e in
     does_step sh (world_of h) k p (load_head node d w) t (λ n. n)
-        (λ n es. pass_with_head (place sh.sizes t) w (spot s.lane (d ∷ s.path)) p n) at found after live
-        (loads_head node d w s.lane s.path known is_leaf low wl) e word
+    (λ n es. pass_with_head (place sh.sizes t) w (spot s.lane (d ∷ s.path)) p n) at found after live
+    (loads_head node d w s.lane s.path known is_leaf low wl) e word
     (is ∙ (ap (λ (r : Spot). pass_with_head at w r p found) below ∙ ap₂ (λ (a b : ℕ). pass_with_head a w (spot s.lane (d ∷ s.path)) p b) e word))
 
 pub head_only : (h : WorldValue) (k node d w : ℕ) (p : Pass) (s : Spot) (y : World) → IsLawfulWorld h → IsLivePass h k p → Knows p s node

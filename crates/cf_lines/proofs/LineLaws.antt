@@ -23,15 +23,15 @@ last_after [] [] some h = absurd (omega arith)
 last_after (c ∷ cs) [] some h = ap (λ xs. xs ∷ []) (sym (append-nil (c ∷ cs)))
 last_after begun (b ∷ bs) some h = lines_more begun b bs ∙
     (elim (passes (Except 10) b) as
-        (λ t. passes (Except 10) b ≡ t → drop (cond t (1 + prefix_len (passes (Except 10)) bs) 0) (b ∷ bs) ≡ []
-        → cond t (lines_after (begun ++ b ∷ []) bs) (strip_carriage_return begun ∷ lines_after [] bs) ≡
-        (begun ++ take (cond t (1 + prefix_len (passes (Except 10)) bs) 0) (b ∷ bs)) ∷ []) [
+    (λ t. passes (Except 10) b ≡ t → drop (cond t (1 + prefix_len (passes (Except 10)) bs) 0) (b ∷ bs) ≡ []
+    → cond t (lines_after (begun ++ b ∷ []) bs) (strip_carriage_return begun ∷ lines_after [] bs) ≡
+    (begun ++ take (cond t (1 + prefix_len (passes (Except 10)) bs) 0) (b ∷ bs)) ∷ []) [
       | true ↦ λ e k.
           let rest : drop (prefix_len (passes (Except 10)) bs) bs ≡ [] = rw one_more at k in
           last_after (begun ++ b ∷ []) bs
-              (let n : length (begun ++ b ∷ []) ≡ length begun + length (b ∷ []) = length-append begun (b ∷ []) in omega (arith, n)) rest
+          (let n : length (begun ++ b ∷ []) ≡ length begun + length (b ∷ []) = length-append begun (b ∷ []) in omega (arith, n)) rest
           ∙ ap (λ xs. xs ∷ []) (append_assoc begun (b ∷ []) (take (prefix_len (passes (Except 10)) bs) bs))
-              ∙ rw (one_more (prefix_len (passes (Except 10)) bs)) refl
+          ∙ rw (one_more (prefix_len (passes (Except 10)) bs)) refl
       | false ↦ λ e k. absurd (clash b bs k)
     ] refl h)
   where
@@ -50,15 +50,15 @@ ended_after : (begun bytes : List ℕ) → 0 < length (drop (prefix_len (passes 
 ended_after begun [] h = absurd (omega arith)
 ended_after begun (b ∷ bs) h = lines_more begun b bs ∙
     (elim (passes (Except 10) b) as
-        (λ t. passes (Except 10) b ≡ t → 0 < length (drop (cond t (1 + prefix_len (passes (Except 10)) bs) 0) (b ∷ bs))
-        → cond t (lines_after (begun ++ b ∷ []) bs) (strip_carriage_return begun ∷ lines_after [] bs) ≡ strip_carriage_return
-        (begun ++ take (cond t (1 + prefix_len (passes (Except 10)) bs) 0) (b ∷ bs)) ∷ lines_of
-        (drop 1 (drop (cond t (1 + prefix_len (passes (Except 10)) bs) 0) (b ∷ bs)))) [
+    (λ t. passes (Except 10) b ≡ t → 0 < length (drop (cond t (1 + prefix_len (passes (Except 10)) bs) 0) (b ∷ bs))
+    → cond t (lines_after (begun ++ b ∷ []) bs) (strip_carriage_return begun ∷ lines_after [] bs) ≡ strip_carriage_return
+    (begun ++ take (cond t (1 + prefix_len (passes (Except 10)) bs) 0) (b ∷ bs)) ∷ lines_of
+    (drop 1 (drop (cond t (1 + prefix_len (passes (Except 10)) bs) 0) (b ∷ bs)))) [
       | true ↦ λ e k.
           let rest : 0 < length (drop (prefix_len (passes (Except 10)) bs) bs) = rw one_more at k in
           ended_after (begun ++ b ∷ []) bs rest
-              ∙ ap (λ xs. strip_carriage_return xs ∷ lines_of (drop 1 (drop (prefix_len (passes (Except 10)) bs) bs)))
-              (append_assoc begun (b ∷ []) (take (prefix_len (passes (Except 10)) bs) bs)) ∙ rw (one_more (prefix_len (passes (Except 10)) bs)) refl
+          ∙ ap (λ xs. strip_carriage_return xs ∷ lines_of (drop 1 (drop (prefix_len (passes (Except 10)) bs) bs)))
+          (append_assoc begun (b ∷ []) (take (prefix_len (passes (Except 10)) bs) bs)) ∙ rw (one_more (prefix_len (passes (Except 10)) bs)) refl
       | false ↦ λ e k. ap (λ xs. strip_carriage_return xs ∷ lines_of bs) (sym (append-nil begun))
     ] refl h)
 

@@ -109,9 +109,9 @@ string_found text kind h = by (strip_at (codes "b") text) refl h
 kind_found : (text : List ℕ) (kind : Kind) → kind_named text ≡ Some kind → IsKindText text kind
 kind_found text kind h =
     kind_step text (codes "u8") U8 kind _ refl refl h
-        (λ h1. kind_step text (codes "u16") U16 kind _ refl refl h1
-        (λ h2. kind_step text (codes "u32") U32 kind _ refl refl h2
-        (λ h3. kind_step text (codes "u64") U64 kind _ refl refl h3 (λ h4. string_found text kind h4))))
+    (λ h1. kind_step text (codes "u16") U16 kind _ refl refl h1
+    (λ h2. kind_step text (codes "u32") U32 kind _ refl refl h2
+    (λ h3. kind_step text (codes "u64") U64 kind _ refl refl h3 (λ h4. string_found text kind h4))))
 
 -- a byte of a name is none of the separators, and so of a kind
 
@@ -145,7 +145,7 @@ name_plain [] other h which = refl
 name_plain (b ∷ name) other h which =
     let both = and_parts (passes classes.Name b) (list_all (passes classes.Name) name) h in
     and_from (passes (classes.Except other) b) (list_all (passes (classes.Except other)) name) (name_byte b other both.0 which)
-        (name_plain name other both.1 which)
+    (name_plain name other both.1 which)
 
 kind_plain : (kind : Kind) → list_all (passes (classes.Except 44)) (kind_text kind) ≡ true
 kind_plain U8 = refl
@@ -174,7 +174,7 @@ member_only : (attr : Attr) → is_spelled attr ≡ true → has_good_size attr.
 unfolding member_at
 member_only attr h good =
     let is : IsRun (classes.Except 58) (member_text attr) attr.name (58 ∷ kind_text attr.kind) =
-        record { whole = refl; within = name_plain attr.name 58 (name_all attr.name h) (inr refl); ends = refl } in
+    record { whole = refl; within = name_plain attr.name 58 (name_all attr.name h) (inr refl); ends = refl } in
     let cut = run_only (classes.Except 58) (member_text attr) attr.name (58 ∷ kind_text attr.kind) is in
     rw (← cut.0, ← cut.1, kind_only attr.kind good, h) refl
 
@@ -192,8 +192,8 @@ member_found member attr h =
     let is = kind_found text kind ek in
     let cut = run_is (classes.Except 58) member in
     let whole : member ≡ run (classes.Except 58) member ++ 58 ∷ kind_text kind = cut.whole
-        ∙ ap (λ rest. run (classes.Except 58) member ++ rest)
-        (strip_found (codes ":") (past (classes.Except 58) member) text et ∙ ap (λ xs. 58 ∷ xs) is.whole) in
+    ∙ ap (λ rest. run (classes.Except 58) member ++ rest)
+    (strip_found (codes ":") (past (classes.Except 58) member) text et ∙ ap (λ xs. 58 ∷ xs) is.whole) in
     subst (IsMember member) found.1 (record { whole = whole; spelled = found.0; sized = is.sized })))
 
 -- lists
@@ -213,7 +213,7 @@ attrs_only (attr ∷ []) (suc n) some few spelled sized =
     let good = and_parts (is_spelled attr) true spelled in
     let fit = and_parts (has_good_size attr.kind) true sized in
     let is : IsRun (classes.Except 44) (member_text attr) (member_text attr) [] =
-        record { whole = sym (append-nil (member_text attr)); within = member_plain attr good.0; ends = refl } in
+    record { whole = sym (append-nil (member_text attr)); within = member_plain attr good.0; ends = refl } in
     let cut = run_only (classes.Except 44) (member_text attr) (member_text attr) [] is in
     rw (← cut.0, ← cut.1, member_only attr good.0 fit.0) refl
 attrs_only (attr ∷ (next ∷ more)) (suc n) some few spelled sized =
@@ -221,7 +221,7 @@ attrs_only (attr ∷ (next ∷ more)) (suc n) some few spelled sized =
     let fit = and_parts (has_good_size attr.kind) (list_all (λ attr. has_good_size attr.kind) (next ∷ more)) sized in
     let rest : List ℕ = join_with_byte 44 (map member_text (next ∷ more)) in
     let is : IsRun (classes.Except 44) (member_text attr ++ 44 ∷ rest) (member_text attr) (44 ∷ rest) =
-        record { whole = refl; within = member_plain attr good.0; ends = refl } in
+    record { whole = refl; within = member_plain attr good.0; ends = refl } in
     let cut = run_only (classes.Except 44) (member_text attr ++ 44 ∷ rest) (member_text attr) (44 ∷ rest) is in
     let later : attrs_at n rest ≡ Some (next ∷ more) = attrs_only (next ∷ more) n (omega arith) (omega (arith, few)) good.1 fit.1 in
     rw (← cut.0, ← cut.1, member_only attr good.0 fit.0, some_len 44 rest, later) refl
@@ -304,7 +304,7 @@ schema_only list attrs h =
 schema_parts : (attrs : List Attr) → is_schema attrs ≡ true → IsSchema attrs
 schema_parts attrs h =
     let last = and_parts ((nat_le (length attrs) 24 && not (has_name_twice attrs)) && list_any is_time_stamp attrs)
-        (list_all (λ attr. has_good_size attr.kind) attrs) h in
+    (list_all (λ attr. has_good_size attr.kind) attrs) h in
     let third = and_parts (nat_le (length attrs) 24 && not (has_name_twice attrs)) (list_any is_time_stamp attrs) last.0 in
     let second = and_parts (nat_le (length attrs) 24) (not (has_name_twice attrs)) third.0 in
     record { few = leb-true (length attrs) 24 second.0; apart = flip (has_name_twice attrs) second.1; stamped = third.1; sized = last.1 }

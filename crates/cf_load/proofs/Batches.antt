@@ -165,7 +165,7 @@ pub told_home : (whole : Bool) (log : LogValue) (first : ℕ) (batch : List RowV
     → AreDealt log m passes r → AllZip (Wrote whole log first batch) passes after → (told : List ℕ) → told_by told after ≡ told
 told_home whole log first batch m r passes after dealt wrote told =
     quiet whole log first batch passes after told wrote
-        (λ k h at. (let d = dealt.each k h at in (ap (λ (p : Pass). p.tails) d.view, ap (λ (p : Pass). p.told) d.view)))
+    (λ k h at. (let d = dealt.each k h at in (ap (λ (p : Pass). p.tails) d.view, ap (λ (p : Pass). p.told) d.view)))
 
 -- no part of an empty list has anything
 pub nothing : (X : Type 0) (j : ℕ) → take 4096 (drop {A = X} j []) ≡ []
@@ -189,7 +189,7 @@ opened log first m of is = record {
     new_book : (k : ℕ) (b : Book) → slice_get (tabulated no_book (log.shape).writers) k ≡ Some b → no_book k ≡ b
     new_book k b at =
         let lt : k < (log.shape).writers =
-            omega (arith, slice_get_within (tabulated no_book (log.shape).writers) k b at, table_length no_book (log.shape).writers) in
+        omega (arith, slice_get_within (tabulated no_book (log.shape).writers) k b at, table_length no_book (log.shape).writers) in
         let f : Some (no_book k) ≡ Some b = sym (table_at no_book (log.shape).writers k lt) ∙ at in cc f
 
     none : IsLogFrom first [] (log.shape).writers []
@@ -315,7 +315,7 @@ module _ (whole : Bool) (log : LogValue) (first : ℕ) (rows batch : List RowVal
   pub home_again : IsOf n log
   home_again =
       let root : IsOf r log =
-          still_one log m r has.of (dealt.root ∙ ap (λ (p : Pass). record m { view = p }) (ap (λ (h : PassValue). h.view) (sym dealt.root))) in
+      still_one log m r has.of (dealt.root ∙ ap (λ (p : Pass). record m { view = p }) (ap (λ (h : PassValue). h.view) (sym dealt.root))) in
       still_one log r n root g.same
 
   -- a book that came home is that of a pass
@@ -355,10 +355,10 @@ batch_loaded log first rows batch b m r n passes after shape has long few room d
     let more : List Entry = drop (length (m.view).seen) (n.view).seen in
     let exist = new_exist true log first rows batch m r n passes after has dealt wrote g in
     let own : (w : ℕ) → w < W → written_by w more ≡ rows_of W w (first + length rows) batch =
-        all_written W (first + length rows) batch more some exist (part_of true log first rows batch m r n passes after has dealt wrote g room) in
+    all_written W (first + length rows) batch more some exist (part_of true log first rows batch m r n passes after has dealt wrote g room) in
     let is : IsLogFrom first (rows ++ batch) W ((m.view).seen ++ more) =
-        log_more first rows batch W b (m.view).seen more some has.is long few exist (λ w lt. own w lt ∙ ap (λ k. rows_of W w (first + k) batch) long) in
-        record {
+    log_more first rows batch W b (m.view).seen more some has.is long few exist (λ w lt. own w lt ∙ ap (λ k. rows_of W w (first + k) batch) long) in
+    record {
       of = home_again true log first rows batch m r n passes after has dealt wrote g;
       settled = g.settled;
       is = subst (IsLogFrom first (rows ++ batch) W) (sym (goes_on true log first rows batch m r n passes after has dealt wrote g)) is;
@@ -419,13 +419,22 @@ still_loaded log first rows m n has of books seen_is = record {
 pub batch_out : (whole : Bool) (log : LogValue) (first : ℕ) (rows batch : List RowValue) (w : ℕ) (m r n : PassValue) (passes after : List PassValue)
     → IsShape log.shape → HasLoaded log first rows m → length rows + length batch ≤ (log.shape).capacity
     → AreDealt log m passes r → AllZip (Wrote whole log (first + length rows) batch) passes after → RanOut log (first + length rows) batch w passes after
-        → HasGathered log.shape r after n → IsShort log first (rows ++ batch) w n
+    → HasGathered log.shape r after n → IsShort log first (rows ++ batch) w n
 batch_out whole log first rows batch w m r n passes after shape has room dealt wrote out g = record {
   exists = exists;
   many = too_many log.shape (rows ++ batch) mine shape
       (λ j s used. used_by whole log first rows batch m r n passes after has dealt wrote g out.place out.pass j s out.at used) all_used;
-  out = record { place = book.0; book = mine; held = held; writer_is = runs.writer_is; out = all_used; next = runs.next; left = runs.left; split = split;
-      wants = runs.wants };
+  out = record {
+    place = book.0;
+    book = mine;
+    held = held;
+    writer_is = runs.writer_is;
+    out = all_used;
+    next = runs.next;
+    left = runs.left;
+    split = split;
+    wants = runs.wants;
+  };
   of = home_again whole log first rows batch m r n passes after has dealt wrote g;
   settled = g.settled;
   fronts = fronts;
@@ -467,7 +476,7 @@ batch_out whole log first rows batch w m r n passes after shape has room dealt w
         let own : (d.book).writer ≡ w = ap (λ (b : Book). b.writer) (sym same) ∙ runs.was in
         ap rows_of_book same
         ∙ (ap (map (λ (o : Own). o.row)) (has.settled.all out.from d.book d.at)
-            ∙ (mine_rows (d.book).writer 0 (m.view).seen ∙ (ap (λ v. written_by v (m.view).seen) own ∙ has.own w exists)))
+        ∙ (mine_rows (d.book).writer 0 (m.view).seen ∙ (ap (λ v. written_by v (m.view).seen) own ∙ has.own w exists)))
 
     now : rows_of_book mine ≡ written_by w (n.view).seen
     now = ap (map (λ (o : Own). o.row)) (g.settled.all book.0 mine held)
@@ -485,7 +494,7 @@ batch_out whole log first rows batch w m r n passes after shape has room dealt w
         let new : List Entry = drop (length (m.view).seen) (n.view).seen in
         let written : written_by v (n.view).seen ≡ rows_of W v first rows ++ written_by v new =
         ap (written_by v) (goes_on whole log first rows batch m r n passes after has dealt wrote g)
-            ∙ (written_append v (m.view).seen new ∙ ap (λ (rs : List RowValue). rs ++ written_by v new) (has.own v lt)) in (
+        ∙ (written_append v (m.view).seen new ∙ ap (λ (rs : List RowValue). rs ++ written_by v new) (has.own v lt)) in (
           p.left,
           ap (λ (rs : List RowValue). rs ++ p.left) written
               ∙ (append_assoc (rows_of W v first rows) (written_by v new) p.left
@@ -507,8 +516,8 @@ no_fewer shape nodes (x ∷ xs) = (let r = no_fewer shape (add_node nodes x) xs 
 pub distinct_more : (shape : ShapeValue) (rows more : List RowValue) → distinct shape rows ≤ distinct shape (rows ++ more)
 distinct_more shape rows more =
     let parts : nodes_of shape (rows ++ more) ≡ fold add_node (nodes_of shape rows) (flat_map (nodes_for shape) more) =
-        ap (fold add_node []) (flat_map-append (nodes_for shape) rows more)
-        ∙ fold-append add_node [] (flat_map (nodes_for shape) rows) (flat_map (nodes_for shape) more) in
+    ap (fold add_node []) (flat_map-append (nodes_for shape) rows more)
+    ∙ fold-append add_node [] (flat_map (nodes_for shape) rows) (flat_map (nodes_for shape) more) in
     rw parts (no_fewer shape (nodes_of shape rows) (flat_map (nodes_for shape) more))
 
 -- the reader came home too
@@ -517,9 +526,18 @@ pub short_kept : (log : LogValue) (first : ℕ) (rows : List RowValue) (w : ℕ)
 short_kept log first rows w n o lacks of books seen_is = record {
   exists = lacks.exists;
   many = lacks.many;
-  out = record { place = lacks.out.place; book = lacks.out.book; held = ap (λ (bs : List Book). slice_get bs lacks.out.place) books ∙ lacks.out.held;
-      writer_is = lacks.out.writer_is; out = lacks.out.out; next = lacks.out.next; left = lacks.out.left; split =
-      ap (λ (es : List Entry). written_by w es ++ lacks.out.next ∷ lacks.out.left) seen_is ∙ lacks.out.split; wants = lacks.out.wants };
+  out = record {
+    place = lacks.out.place;
+    book = lacks.out.book;
+    held = ap (λ (bs : List Book). slice_get bs lacks.out.place) books ∙ lacks.out.held;
+    writer_is = lacks.out.writer_is;
+    out = lacks.out.out;
+    next = lacks.out.next;
+    left = lacks.out.left;
+    split =
+        ap (λ (es : List Entry). written_by w es ++ lacks.out.next ∷ lacks.out.left) seen_is ∙ lacks.out.split;
+    wants = lacks.out.wants;
+  };
   of = of;
   settled = settled_still log.shape n o lacks.settled books seen_is;
   fronts = λ v lt. (let f = lacks.fronts v lt in (f.0, ap (λ (es : List Entry). written_by v es ++ f.0) seen_is ∙ f.1));

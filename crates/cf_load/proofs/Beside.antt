@@ -38,13 +38,13 @@ outcome_by None (Err e) P H loaded memory nodes = memory refl
 pub batch_home : (log : LogValue) (first : ℕ) (rows batch : List RowValue) (b : ℕ) (m r n o : PassValue) (q : Pass) (passes after : List PassValue)
     → IsShape log.shape → HasLoaded log first rows m → length rows ≡ 4096 * b → length batch ≤ 4096 → length rows + length batch ≤ (log.shape).capacity
     → AreDealt log m passes r → AllZip (Wrote true log (first + length rows) batch) passes after → HasGathered log.shape r after n → HasFolded log.shape n q o
-        → (o.view).books ≡ (n.view).books → (HoldsAllBooks log.shape n.view → (o.view).seen ≡ (n.view).seen)
+    → (o.view).books ≡ (n.view).books → (HoldsAllBooks log.shape n.view → (o.view).seen ≡ (n.view).seen)
     → HasLoaded log first (rows ++ batch) o
 batch_home log first rows batch b m r n o q passes after shape has long few room dealt wrote gathered folded books stays =
     let loaded = batch_loaded log first rows batch b m r n passes after shape has long few room dealt wrote gathered in
     let same = folded.made.same in
     let of : IsOf o log =
-        record { table = ap (λ (h : PassValue). h.table) same ∙ loaded.of.table; nodes = ap (λ (h : PassValue). h.nodes) same ∙ loaded.of.nodes } in
+    record { table = ap (λ (h : PassValue). h.table) same ∙ loaded.of.table; nodes = ap (λ (h : PassValue). h.nodes) same ∙ loaded.of.nodes } in
     still_loaded log first (rows ++ batch) n o loaded of books (stays loaded.settled)
 
 -- what the root was told by then
@@ -53,7 +53,7 @@ pub batch_told : (whole : Bool) (log : LogValue) (first : ℕ) (batch : List Row
     → (o.view).told ≡ (m.view).told ++ q.tails
 batch_told whole log first batch m r n o q passes after dealt wrote gathered folded none =
     folded.told ∙ ap (λ ts. ts ++ q.tails)
-        (ap (λ ts. (n.view).told ++ ts) none ∙ (append-nil (n.view).told ∙ told_same whole log first batch m r n passes after dealt wrote gathered))
+    (ap (λ ts. (n.view).told ++ ts) none ∙ (append-nil (n.view).told ∙ told_same whole log first batch m r n passes after dealt wrote gathered))
 
 -- after a writer ran out of nodes
 pub out_home : (log : LogValue) (first : ℕ) (rows : List RowValue) (w : ℕ) (n o : PassValue) (q : Pass) → IsShort log first rows w n
@@ -62,5 +62,5 @@ pub out_home : (log : LogValue) (first : ℕ) (rows : List RowValue) (w : ℕ) (
 out_home log first rows w n o q lacks folded books stays =
     let same = folded.made.same in
     let of : IsOf o log =
-        record { table = ap (λ (h : PassValue). h.table) same ∙ lacks.of.table; nodes = ap (λ (h : PassValue). h.nodes) same ∙ lacks.of.nodes } in
+    record { table = ap (λ (h : PassValue). h.table) same ∙ lacks.of.table; nodes = ap (λ (h : PassValue). h.nodes) same ∙ lacks.of.nodes } in
     short_kept log first rows w n o lacks of books (stays lacks.settled)

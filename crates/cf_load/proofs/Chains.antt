@@ -46,8 +46,8 @@ log_join first b xs ys writers es fs one two long = record {
         let number : first + length xs + j ≡ first + 4096 * c = omega (arith, at) in
         ap (written_by w) (part_behind 4096 (4096 * c) j es fs (omega (arith, at, one.size)))
         ∙ (two.own (c - b) w lt
-            ∙ (ap (λ (n : ℕ). rows_of writers w n (take 4096 (drop j ys))) number
-            ∙ ap (rows_of writers w (first + 4096 * c)) (sym (part_behind 4096 (4096 * c) j xs ys at))))
+        ∙ (ap (λ (n : ℕ). rows_of writers w n (take 4096 (drop j ys))) number
+        ∙ ap (rows_of writers w (first + 4096 * c)) (sym (part_behind 4096 (4096 * c) j xs ys at))))
   ];
 }
 
@@ -65,7 +65,7 @@ module _ (n writers : ℕ) where
   HaveBlocks first segments rows =
       (k : ℕ) (segment : Segment) → slice_get segments k ≡ Some segment
       → IsLogFrom (first + n * k) (block n k rows) writers (seen_of segment)
-          × ((w : ℕ) → w < writers → written_by w (seen_of segment) ≡ rows_of writers w (first + n * k) (block n k rows))
+      × ((w : ℕ) → w < writers → written_by w (seen_of segment) ≡ rows_of writers w (first + n * k) (block n k rows))
 
   -- behind the first segment stand those of the rows behind its block
   later : (first : ℕ) (segment : Segment) (segments : List Segment) (rows : List RowValue) → HaveBlocks first (segment ∷ segments) rows
@@ -112,7 +112,7 @@ module _ (n writers : ℕ) where
       let batches : length (take n rows) ≡ 4096 * (n / 4096) = omega (arith, n_whole, long) in
       let one : IsLogFrom first (take n rows) writers (seen_of c) =
       subst (λ (rs : List RowValue). IsLogFrom first rs writers (seen_of c)) (first_block n rows)
-          (subst (λ (i : ℕ). IsLogFrom i (block n 0 rows) writers (seen_of c)) at (have 0 c refl).0) in
+      (subst (λ (i : ℕ). IsLogFrom i (block n 0 rows) writers (seen_of c)) at (have 0 c refl).0) in
       let rest : IsLogFrom (first + n) (drop n rows) writers (flat_map seen_of (cs ++ current ∷ [])) =
       chain_log (first + n) cs current (drop n rows) (λ some. n_whole) (later first c (cs ++ current ∷ []) rows have) rest_full.0 rest_full.1 in
       subst (λ (rs : List RowValue). IsLogFrom first rs writers (seen_of c ++ flat_map seen_of (cs ++ current ∷ []))) (take-append-drop n rows)
@@ -128,14 +128,14 @@ module _ (n writers : ℕ) where
       let at : first + n * 0 ≡ first = omega (arith, none) in
       ap (written_by w) (append-nil (seen_of current))
       ∙ ((have 0 current refl).1 w lt
-          ∙ (ap (λ (i : ℕ). rows_of writers w i (block n 0 rows)) at ∙ ap (rows_of writers w first) (whole_block n rows (omega (arith, room, none)))))
+      ∙ (ap (λ (i : ℕ). rows_of writers w i (block n 0 rows)) at ∙ ap (rows_of writers w first) (whole_block n rows (omega (arith, room, none)))))
   chain_own first (c ∷ cs) current rows have full room w lt =
       let none = mul-zero n in
       let at : first + n * 0 ≡ first = omega (arith, none) in
       let long : length (take n rows) ≡ n = front_long (length cs) rows full in
       let rest_full = back_full (length cs) rows full room in
       let one : written_by w (seen_of c) ≡ rows_of writers w first (take n rows) = (have 0 c refl).1 w lt
-          ∙ (ap (λ (i : ℕ). rows_of writers w i (block n 0 rows)) at ∙ ap (rows_of writers w first) (first_block n rows)) in
+      ∙ (ap (λ (i : ℕ). rows_of writers w i (block n 0 rows)) at ∙ ap (rows_of writers w first) (first_block n rows)) in
       let rest : written_by w (flat_map seen_of (cs ++ current ∷ [])) ≡ rows_of writers w (first + n) (drop n rows) =
       chain_own (first + n) cs current (drop n rows) (later first c (cs ++ current ∷ []) rows have) rest_full.0 rest_full.1 w lt in
       written_append w (seen_of c) (flat_map seen_of (cs ++ current ∷ []))
@@ -225,8 +225,8 @@ module _ (shape : ShapeValue) (segment : Segment) (new : IsOpened shape segment)
           let n = (segment.log).shape.capacity in
           let e : segment ≡ g = cc at in
           subst (λ (h : Segment). HasLoaded h.log (n * 0) (block n 0 []) h.root) e
-              (subst (λ (rs : List RowValue). HasLoaded segment.log (n * 0) rs segment.root) (sym (part_after n (n * 0) [] (omega arith)))
-              (opened_empty (n * 0)))
+          (subst (λ (rs : List RowValue). HasLoaded segment.log (n * 0) rs segment.root) (sym (part_after n (n * 0) [] (omega arith)))
+          (opened_empty (n * 0)))
       only (suc k) g at = absurd (cc at)
 
   pub open_told : (most : ℕ) → told_of (segments_of most [] segment) ≡ []
@@ -264,7 +264,7 @@ module _ (most : ℕ) (closed : List Segment) (current next : Segment) (new : Is
       let n = shape.capacity in
       let more = length-append closed (current ∷ []) in
       let step : n * length before ≡ n * length closed + n = ap (λ (k : ℕ). n * k) (let e : length before ≡ suc (length closed) = omega (arith, more) in e)
-          ∙ mul-suc n (length closed) in record {
+      ∙ mul-suc n (length closed) in record {
         are = subst (λ (h : ShapeValue). IsSegments (record { shape = h; most = most; closed = closed ++ current ∷ []; current = next })) new.is.shape_is
             (turn_lawful holds.are);
         each = λ k g at. one k g at;
@@ -278,10 +278,10 @@ module _ (most : ℕ) (closed : List Segment) (current next : Segment) (new : Is
             let n = shape.capacity in
             let more = length-append closed (current ∷ []) in
             let step : n * k ≡ n * length closed + n = ap (λ (i : ℕ). n * i) (let e : k ≡ suc (length closed) = omega (arith, last, more) in e)
-                ∙ mul-suc n (length closed) in
+            ∙ mul-suc n (length closed) in
             subst (λ (h : Segment). HasLoaded h.log (n * k) (block n k rows) h.root) (is_last k g at last)
             (subst (λ (rs : List RowValue). HasLoaded next.log (n * k) rs next.root) (sym (part_after n (n * k) rows (omega (arith, long, step))))
-                (opened_empty shape next new (n * k)))
+            (opened_empty shape next new (n * k)))
         | inr other ↦ holds.each k g (sym (get_push_other before next k other) ∙ at)
       ]
 
@@ -289,15 +289,16 @@ module _ (most : ℕ) (closed : List Segment) (current next : Segment) (new : Is
   has_turned = subst
       (λ (h : ShapeValue). HasTurned (segments_of most closed current) (record { shape = h; most = most; closed = closed ++ current ∷ []; current = next }))
       (sym new.is.shape_is) (record {
-    same = refl;
-    empty = opened_seen shape next new;
-    entries = flat_map-append seen_of before (next ∷ [])
-        ∙ (ap (λ (es : List Entry). flat_map seen_of before ++ (es ++ [])) (opened_seen shape next new) ∙ append-nil (flat_map seen_of before));
-    told = told_push shape.capacity 0 before next
-        ∙ (ap (λ (ts : List ℕ). told_from shape.capacity 0 before ++ map (λ tail. 0 + shape.capacity * length before + tail) ts) (opened_told shape next new)
+        same = refl;
+        empty = opened_seen shape next new;
+        entries = flat_map-append seen_of before (next ∷ [])
+            ∙ (ap (λ (es : List Entry). flat_map seen_of before ++ (es ++ [])) (opened_seen shape next new) ∙ append-nil (flat_map seen_of before));
+        told = told_push shape.capacity 0 before next
+            ∙ (ap (λ (ts : List ℕ). told_from shape.capacity 0 before ++ map (λ tail. 0 + shape.capacity * length before + tail) ts)
+            (opened_told shape next new)
             ∙ append-nil (told_from shape.capacity 0 before));
-    holds = turn_holds;
-  })
+        holds = turn_holds;
+      })
 
 -- a segment that was looked at
 looked_segment : (shape : ShapeValue) (old new : Segment) → IsSegment shape old → HasLooked old new → IsSegment shape new
@@ -388,7 +389,7 @@ base_whole s is = elim (cases_lt 0 (length s.closed)) [
       let whole : n % 4096 ≡ 0 = is.sizes.whole (omega (arith, some, few)) in
       let size : n ≡ 4096 * (n / 4096) = omega (arith, whole) in
       let all : n * length s.closed ≡ 4096 * (n / 4096 * length s.closed) = ap (λ (k : ℕ). k * length s.closed) size
-          ∙ mul_assoc 4096 (n / 4096) (length s.closed) in
+      ∙ mul_assoc 4096 (n / 4096) (length s.closed) in
       omega (arith, all)
   | inr none ↦
       let zero_long : length s.closed ≡ 0 = omega (arith, none) in

@@ -33,8 +33,8 @@ module _ {X : Type 0} (R : X → X → Type 0) where
   changed_more i xs ys d z low changed made = record {
     front = subst (λ (zs : List X). AllZip R zs (take (i + 1) (set ys i z))) (sym (take_more xs i d (changed_long i xs ys low changed)))
         (subst (λ (zs : List X). AllZip R (take i xs ++ get_or xs i d ∷ []) zs) (sym now)
-            (zip_append R (take i xs) (get_or xs i d ∷ []) (take i ys) (z ∷ []) changed.front
-            (subst (λ (x : X). R x z) (changed_at i xs ys d changed) made, tt)));
+        (zip_append R (take i xs) (get_or xs i d ∷ []) (take i ys) (z ∷ []) changed.front
+        (subst (λ (x : X). R x z) (changed_at i xs ys d changed) made, tt)));
     rest = drop-set-lt (i + 1) ys i z (omega arith) ∙ (sym (drop-drop 1 i ys) ∙ (ap (drop 1) changed.rest ∙ drop-drop 1 i xs));
   }
     where
@@ -53,7 +53,7 @@ module _ {X : Type 0} (R : X → X → Type 0) where
   changed_some none i xs ys changed =
       subst (λ (zs : List X). AllZip R zs ys) (take-append-drop i xs)
       (subst (AllZip R (take i xs ++ drop i xs)) (take-append-drop i ys)
-          (zip_append R (take i xs) (drop i xs) (take i ys) (drop i ys) changed.front (subst (AllZip R (drop i xs)) (sym changed.rest) (each (drop i xs)))))
+      (zip_append R (take i xs) (drop i xs) (take i ys) (drop i ys) changed.front (subst (AllZip R (drop i xs)) (sym changed.rest) (each (drop i xs)))))
     where
       each : (zs : List X) → AllZip R zs zs
       each [] = tt

@@ -55,8 +55,8 @@ loaded_few log first rows n shape fits has =
     let some : 0 < W = shape.writers.0 in
     (few_enough log.shape rows n.view shape (λ i row at. row_fits i row at) has.nodes
     (λ i row at. (let h = of_rows W ((first + i) % W) first rows i row at refl in
-        written_from ((first + i) % W) (n.view).seen row
-        (subst (λ (rs : List RowValue). Has rs row) (sym (has.own ((first + i) % W) (omega (arith, some)))) h)))
+    written_from ((first + i) % W) (n.view).seen row
+    (subst (λ (rs : List RowValue). Has rs row) (sym (has.own ((first + i) % W) (omega (arith, some)))) h)))
     has.settled.count)
   where
     row_fits : (i : ℕ) (row : RowValue) → slice_get rows i ≡ Some row → Fits (log.shape).schema row

@@ -48,8 +48,11 @@ first_last (f ∷ fs) g h same = (record { log = refl; root = refl }, first_last
 -- they go on
 pub filled_goes : (s : SegmentsValue) (root : PassValue) → root ≡ record s.current.root { view = root.view } → SegmentsGoOn s (filled s root)
 filled_goes s root same =
-    record { shape = refl; most = refl; first =
-    first_last s.closed s.current (record { log = s.current.log; root = root }) (record { log = refl; root = same }) }
+    record {
+      shape = refl;
+      most = refl;
+      first = first_last s.closed s.current (record { log = s.current.log; root = root }) (record { log = refl; root = same });
+    }
 
 -- what the current root was told of comes at the end
 pub filled_told : (s : SegmentsValue) (root : PassValue) (more : List ℕ)
@@ -84,7 +87,7 @@ module _ (s : SegmentsValue) (root : PassValue) where
   filled_lawful is of settled =
       let same : (s.current.log).shape ≡ s.shape = (is.each (length s.closed) s.current (get_push_same s.closed s.current)).shape_is in
       let mine : IsSegment s.shape now = record { shape_is = same; of = of; settled = subst (λ (h : ShapeValue). HoldsAllBooks h root.view) same settled } in
-          record {
+      record {
         sizes = is.sizes;
         few = is.few;
         each = λ k g at. elim (cases_eq k (length s.closed)) [
@@ -118,7 +121,7 @@ module _ (s : SegmentsValue) (before : List RowValue) (holds : HoldsRows s befor
       let all = length-append (drop (base_of s) before) rows in
       ap (take (s.shape).capacity) (drop-append-le (base_of s) before rows full)
       ∙ (take_all (s.shape).capacity (drop (base_of s) before ++ rows) (omega (arith, room, full, rest, all))
-          ∙ ap (λ (rs : List RowValue). rs ++ rows) (sym own_is))
+      ∙ ap (λ (rs : List RowValue). rs ++ rows) (sym own_is))
 
   -- the current segment has loaded rows more
   pub filled_holds : (root : PassValue) (rows : List RowValue) → length before + length rows ≤ base_of s + (s.shape).capacity
@@ -135,11 +138,11 @@ module _ (s : SegmentsValue) (before : List RowValue) (holds : HoldsRows s befor
               (subst (λ (rs : List RowValue). HasLoaded s.current.log (base_of s) rs root) (sym (own_more rows room)) has))
           | inr other ↦
               let low : k < length s.closed =
-                  slice_get_within s.closed k g (sym (get_push_other s.closed (record { log = s.current.log; root = root }) k other) ∙ at) in
+              slice_get_within s.closed k g (sym (get_push_other s.closed (record { log = s.current.log; root = root }) k other) ∙ at) in
               let far : n * suc k ≤ n * length s.closed = mul-le-mul_left n (let e : suc k ≤ length s.closed = omega (arith, low) in e) in
               let step = mul-suc n k in
               subst (λ (rs : List RowValue). HasLoaded g.log (n * k) rs g.root) (sym (part_before n (n * k) before rows (omega (arith, far, step, full))))
-                  (holds.each k g (is_other s root k g at other))
+              (holds.each k g (is_other s root k g at other))
         ];
         full = omega (arith, full, sum);
         room = omega (arith, room, sum);
@@ -150,8 +153,8 @@ module _ (s : SegmentsValue) (before : List RowValue) (holds : HoldsRows s befor
   filled_none root has =
       let room = holds.room in
       subst (HoldsRows (filled s root)) (append-nil before)
-          (filled_holds root [] (omega (arith, room))
-          (subst (λ (rs : List RowValue). HasLoaded s.current.log (base_of s) rs root) (sym (append-nil own_rows)) has))
+      (filled_holds root [] (omega (arith, room))
+      (subst (λ (rs : List RowValue). HasLoaded s.current.log (base_of s) rs root) (sym (append-nil own_rows)) has))
 
   -- or a writer ran out of nodes
   pub filled_short : (root : PassValue) (rows : List RowValue) (w : ℕ) → length before + length rows ≤ base_of s + (s.shape).capacity
@@ -182,31 +185,31 @@ module _ (s : SegmentsValue) (before : List RowValue) (holds : HoldsRows s befor
           let full = holds.full in
           let part : front ++ own_rows ≡ before = ap (λ (rs : List RowValue). front ++ rs) own_is ∙ take-append-drop base before in
           let long : length front ≡ base =
-              (let sum = ap length part in let pair = length-append front own_rows in let own = own_long in omega (arith, sum, pair, own)) in
+          (let sum = ap length part in let pair = length-append front own_rows in let own = own_long in omega (arith, sum, pair, own)) in
           let own : written_by v (seen_of s.current) ≡ rows_of writers v base own_rows =
           subst (λ (h : ShapeValue). written_by v (seen_of s.current) ≡ rows_of h.writers v base own_rows) shape_is
-              (current_has.own v (subst (λ (h : ShapeValue). v < h.writers) (sym shape_is) lt)) in
+          (current_has.own v (subst (λ (h : ShapeValue). v < h.writers) (sym shape_is) lt)) in
           let split : (more : List RowValue) → rows_of writers v 0 (front ++ more) ≡ rows_of writers v 0 front ++ rows_of writers v base more =
           λ more. rows_append writers v 0 front more
-              ∙ ap (λ (i : ℕ). rows_of writers v 0 front ++ rows_of writers v i more) (let e : 0 + length front ≡ base = omega (arith, long) in e) in
+          ∙ ap (λ (i : ℕ). rows_of writers v 0 front ++ rows_of writers v i more) (let e : 0 + length front ≡ base = omega (arith, long) in e) in
           let all : written_by v closed ++ written_by v (seen_of s.current) ≡ rows_of writers v 0 front ++ written_by v (seen_of s.current) =
           sym (written_append v closed (seen_of s.current))
           ∙ (ap (written_by v) (sym (entries_split s))
-              ∙ ((rows_are_log s before holds).1 v lt
-              ∙ (ap (rows_of writers v 0) (sym part) ∙ (split own_rows ∙ ap (λ (rs : List RowValue). rows_of writers v 0 front ++ rs) (sym own))))) in
+          ∙ ((rows_are_log s before holds).1 v lt
+          ∙ (ap (rows_of writers v 0) (sym part) ∙ (split own_rows ∙ ap (λ (rs : List RowValue). rows_of writers v 0 front ++ rs) (sym own))))) in
           let before_is : written_by v closed ≡ rows_of writers v 0 front =
-              cancel_right (written_by v closed) (rows_of writers v 0 front) (written_by v (seen_of s.current)) all in
+          cancel_right (written_by v closed) (rows_of writers v 0 front) (written_by v (seen_of s.current)) all in
           let f = short.fronts v (subst (λ (h : ShapeValue). v < h.writers) (sym shape_is) lt) in
           let tail : written_by v (root.view).seen ++ f.0 ≡ rows_of writers v base (own_rows ++ rows) =
-              subst (λ (h : ShapeValue). written_by v (root.view).seen ++ f.0 ≡ rows_of h.writers v base (own_rows ++ rows)) shape_is f.1 in (
+          subst (λ (h : ShapeValue). written_by v (root.view).seen ++ f.0 ≡ rows_of h.writers v base (own_rows ++ rows)) shape_is f.1 in (
             f.0,
             ap (λ (es : List Entry). written_by v es ++ f.0) (entries_split (filled s root))
                 ∙ (ap (λ (rs : List RowValue). rs ++ f.0)
-                    (written_append v closed (root.view).seen ∙ ap (λ (rs : List RowValue). rs ++ written_by v (root.view).seen) before_is)
+                (written_append v closed (root.view).seen ∙ ap (λ (rs : List RowValue). rs ++ written_by v (root.view).seen) before_is)
                 ∙ (append_assoc (rows_of writers v 0 front) (written_by v (root.view).seen) f.0
                 ∙ (ap (λ (rs : List RowValue). rows_of writers v 0 front ++ rs) tail
                 ∙ (sym (split (own_rows ++ rows))
-                    ∙ ap (rows_of writers v 0) (sym (append_assoc front own_rows rows) ∙ ap (λ (rs : List RowValue). rs ++ rows) part))))),
+                ∙ ap (rows_of writers v 0) (sym (append_assoc front own_rows rows) ∙ ap (λ (rs : List RowValue). rs ++ rows) part))))),
           )
 
   -- what is left after a fault
@@ -223,14 +226,14 @@ module _ (s : SegmentsValue) (before : List RowValue) (holds : HoldsRows s befor
   pub filled_result : {T : Type 0} (root : PassValue) (rows : List RowValue) (result : Result T LoadFault)
       → length before + length rows ≤ base_of s + (s.shape).capacity
       → MatchResult result (λ x. HasLoaded s.current.log (base_of s) (own_rows ++ rows) root) (HasStopped s.current.log (base_of s) own_rows rows root)
-          → MatchResult result (λ x. HoldsRows (filled s root) (before ++ rows)) (HaveStopped before rows (filled s root))
+      → MatchResult result (λ x. HoldsRows (filled s root) (before ++ rows)) (HaveStopped before rows (filled s root))
   filled_result root rows (Ok x) room made = filled_holds root rows room made
   filled_result root rows (Err fault) room made = filled_stopped root rows fault room made
 
 -- whatever was answered, the books are home
 pub home_after : {T : Type 0} (log : LogValue) (first : ℕ) (before rows : List RowValue) (root : PassValue) (result : Result T LoadFault)
     → MatchResult result (λ x. HasLoaded log first (before ++ rows) root) (HasStopped log first before rows root) → IsOf root log
-        × HoldsAllBooks log.shape root.view
+    × HoldsAllBooks log.shape root.view
 home_after log first before rows root (Ok x) made = (made.of, made.settled)
 home_after log first before rows root (Err Full) made = absurd made
 home_after log first before rows root (Err (NodesFull w)) made = (made.of, made.settled)

@@ -23,7 +23,7 @@ module _ (shape : ShapeValue) (ask : Ask) (entries : List Entry) (count : ℕ) (
       let behind = length-map more (λ (e : Entry). e.row) in
       let same = found.count_is in
       rw (found.finding_is)
-          (subst (λ (n : ℕ). CanJoin n (finding_in shape ask (rows_in entries)) (finding_in shape ask (rows_in more))) (long ∙ sym found.count_is)
+      (subst (λ (n : ℕ). CanJoin n (finding_in shape ask (rows_in entries)) (finding_in shape ask (rows_in more))) (long ∙ sym found.count_is)
       (findings_can_join shape ask (rows_in entries) (rows_in more) (omega (arith, few, same, long, behind))))
 
   -- and joined it is what it finds in both

@@ -46,5 +46,5 @@ made_more f xs ys zs i d y is lt one more = more
 pub still_holds : (log : LogValue) (first : ℕ) (rows : List RowValue) (m n : PassValue) → HasLoaded log first rows m → Keeps m n → HasLoaded log first rows n
 still_holds log first rows m n has keeps =
     let of : IsOf n log =
-        record { table = ap (λ (h : PassValue). h.table) keeps.same ∙ has.of.table; nodes = ap (λ (h : PassValue). h.nodes) keeps.same ∙ has.of.nodes } in
+    record { table = ap (λ (h : PassValue). h.table) keeps.same ∙ has.of.table; nodes = ap (λ (h : PassValue). h.nodes) keeps.same ∙ has.of.nodes } in
     still_loaded log first rows m n has of keeps.books keeps.seen

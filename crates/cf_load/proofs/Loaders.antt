@@ -91,7 +91,7 @@ goes_on before rows old new b s t more is has same within long some few room fit
         (λ (h : ShapeValue). HasAnswered h old.plan.asks.items old.plan.lives.items old.plan.rounds (length (before ++ rows)) (entries_of t)
         (old.lives ++ more)) (sym same.shape)
         (answered_beside s.shape before rows old.plan b (entries_of s) (entries_of t) old.lives more (entries_long s before is.loaded)
-            (entries_long t (before ++ rows) has) long some few is.answered beside);
+        (entries_long t (before ++ rows) has) long some few is.answered beside);
   });
 }
 
@@ -147,24 +147,24 @@ blocks_few s rows lawful fits holds k =
           let at : slice_get (all_of s) k ≡ Some g = slice_get-get_or (all_of s) k s.current there in
           let same : (g.log).shape ≡ s.shape = (holds.are.each k g at).shape_is in
           let fit : All (Fits (s.shape).schema) (block n k rows) =
-              All-take (Fits (s.shape).schema) n (drop (n * k) rows) (All-drop (Fits (s.shape).schema) (n * k) rows fits) in
+          All-take (Fits (s.shape).schema) n (drop (n * k) rows) (All-drop (Fits (s.shape).schema) (n * k) rows fits) in
           subst (λ (h : ShapeValue). distinct h (block n k rows) ≤ h.writers * h.nodes) same
           (loaded_few g.log (n * k) (block n k rows) g.root (subst IsShape (sym same) lawful)
-              (subst (λ (h : ShapeValue). All (Fits h.schema) (block n k rows)) (sym same) fit) (holds.each k g at))
+          (subst (λ (h : ShapeValue). All (Fits h.schema) (block n k rows)) (sym same) fit) (holds.each k g at))
       | inr past ↦
           let more = length-append s.closed (s.current ∷ []) in
           let far : n * suc (length s.closed) ≤ n * k = mul-le-mul_left n (let e : suc (length s.closed) ≤ k = omega (arith, past, more) in e) in
           let step = mul-suc n (length s.closed) in
           let room = holds.room in
           subst (λ (rs : List RowValue). distinct s.shape rs ≤ (s.shape).writers * (s.shape).nodes)
-              (sym (part_after n (n * k) rows (omega (arith, far, step, room)))) (omega arith)
+          (sym (part_after n (n * k) rows (omega (arith, far, step, room)))) (omega arith)
     ]
 
 -- what the loader's answers say of all entries
 pub finishes : (rows : List RowValue) (loader : LoaderValue) (s t : SegmentsValue) (answered : LoadedValue) → IsShape s.shape → IsLoading s rows loader
     → KeepsAll s t
     → answered.finals ≡ map (answer_on s.shape (entries_of s)) loader.plan.asks.items
-        → answered.alerts ≡ map (marks_on s.shape (entries_of s)) loader.plan.triggers.items → answered.lives ≡ loader.lives
+    → answered.alerts ≡ map (marks_on s.shape (entries_of s)) loader.plan.triggers.items → answered.lives ≡ loader.lives
     → IsFinished rows loader s t answered
 finishes rows loader s t answered shape is keeps finals alerts lives =
     let same : entries_of t ≡ entries_of s = kept_entries s t keeps in record {
@@ -185,9 +185,9 @@ finishes rows loader s t answered shape is keeps finals alerts lives =
 pub finishes_if : (rows : List RowValue) (loader : LoaderValue) (s t : SegmentsValue) (result : Result LoadedValue AllocError) → IsShape s.shape
     → IsLoading s rows loader → KeepsAll s t
     → IfOk result (λ (answered : LoadedValue). answered.finals ≡ map (answer_on s.shape (entries_of s)) loader.plan.asks.items)
-        → IfOk result (λ (answered : LoadedValue). answered.alerts ≡ map (marks_on s.shape (entries_of s)) loader.plan.triggers.items)
+    → IfOk result (λ (answered : LoadedValue). answered.alerts ≡ map (marks_on s.shape (entries_of s)) loader.plan.triggers.items)
     → IfOk result (λ (answered : LoadedValue). answered.lives ≡ loader.lives)
-        → MatchResult result (IsFinished rows loader s t) (λ x. KeepsAll s t × HoldsRows t rows)
+    → MatchResult result (IsFinished rows loader s t) (λ x. KeepsAll s t × HoldsRows t rows)
 finishes_if rows loader s t (Ok answered) shape is keeps finals alerts lives = finishes rows loader s t answered shape is keeps finals alerts lives
 finishes_if rows loader s t (Err e) shape is keeps finals alerts lives = (keeps, kept_holds s t keeps rows is.loaded)
 
@@ -240,7 +240,7 @@ loads rows plan loader s t u answered same is goes told made = record {
       (subst (λ (k : ℕ). HasAnswered t.shape plan.asks.items plan.lives.items k (length rows) (entries_of u) answered.lives) same.rounds
       (subst (λ (ls : List ℕ). HasAnswered t.shape plan.asks.items ls loader.plan.rounds (length rows) (entries_of u) answered.lives) same.lives
       (subst (λ (asks : List Ask). HasAnswered t.shape asks loader.plan.lives.items loader.plan.rounds (length rows)
-          (entries_of u) answered.lives) same.asks made.lives)));
+      (entries_of u) answered.lives) same.asks made.lives)));
   told = made.told ∙ (told ∙ ap (λ (ls : List Live). told_of s ++ tails_of ls) (sym made.lives_are));
   few_nodes = subst (λ (h : ShapeValue). (k : ℕ) → distinct h (block h.capacity k rows) ≤ h.writers * h.nodes) goes.shape made.few_nodes;
 }

@@ -20,11 +20,11 @@ answered_beside shape rows batch plan b seen now answers more before after long 
     let sum : length rows + length batch ≡ length (rows ++ batch) = sym (length-append rows batch) in
     subst (λ c. HasAnswered shape plan.asks.items plan.lives.items plan.rounds c now (answers ++ more)) sum
     (answered_more shape plan.asks.items plan.lives.items plan.rounds (length rows) b
-        (length batch) seen beside.read now answers more has long before beside.asks beside.begins
+    (length batch) seen beside.read now answers more has long before beside.asks beside.begins
     (begins_then seen beside.read now beside.asks.longer beside.begins) (after ∙ sym sum) some few)
 
 pub told_more : (told old now : List ℕ) (answers more : List Live) → old ≡ told ++ tails_of answers → now ≡ old ++ tails_of more
     → now ≡ told ++ tails_of (answers ++ more)
 told_more told old now answers more is then =
     then ∙ (ap (λ ts. ts ++ tails_of more) is
-        ∙ (append_assoc told (tails_of answers) (tails_of more) ∙ ap (λ ts. told ++ ts) (sym (map-append (λ (live : Live). live.answer.tail) answers more))))
+    ∙ (append_assoc told (tails_of answers) (tails_of more) ∙ ap (λ ts. told ++ ts) (sym (map-append (λ (live : Live). live.answer.tail) answers more))))

@@ -196,7 +196,7 @@ node_for shape row n h =
               let up = level.0 in
               let down = level.1 in
               subst (λ (x : Node). IsNodeFor shape row x) m.2
-                  (record { low = low; takes = e; some = omega (arith, up); inner = omega (arith, up, down); front_is = refl })
+              (record { low = low; takes = e; some = omega (arith, up); inner = omega (arith, up, down); front_is = refl })
         ]
 
 -- then its spot leaves no choice of the node
@@ -213,7 +213,7 @@ front_small levels level key inner small =
 for_small : (shape : ShapeValue) (row : RowValue) (n : Node) → IsShape shape → Fits shape.schema row → IsNodeFor shape row n → n.front < 16 ^ n.level
 for_small shape row n is fits f =
     subst (λ (k : ℕ). k < 16 ^ n.level) (sym f.front_is)
-        (front_small (levels_of shape n.lane) n.level (key_of shape n.lane row) f.inner (key_small shape n.lane row is f.low fits))
+    (front_small (levels_of shape n.lane) n.level (key_of shape n.lane row) f.inner (key_small shape n.lane row is f.low fits))
 
 one_spot : (x y : Node) → x.front < 16 ^ x.level → y.front < 16 ^ y.level → spot_at x ≡ spot_at y → x ≡ y
 one_spot x y low high same =
@@ -221,8 +221,8 @@ one_spot x y low high same =
     let path : nibbles x.level x.front ≡ nibbles y.level y.front = ap (λ (s : Spot). s.path) same in
     let level : x.level ≡ y.level = sym (length-nibbles x.level x.front) ∙ (ap (λ (xs : List ℕ). length xs) path ∙ length-nibbles y.level y.front) in
     let front : x.front ≡ y.front =
-        same_from_nibbles x.level x.front y.front low (subst (λ (k : ℕ). y.front < 16 ^ k) (sym level) high)
-        (path ∙ ap (λ (k : ℕ). nibbles k y.front) (sym level)) in
+    same_from_nibbles x.level x.front y.front low (subst (λ (k : ℕ). y.front < 16 ^ k) (sym level) high)
+    (path ∙ ap (λ (k : ℕ). nibbles k y.front) (sym level)) in
     ap (λ (n : ℕ). record { lane = n; level = x.level; front = x.front }) lane
     ∙ (ap (λ (n : ℕ). record { lane = y.lane; level = n; front = x.front }) level ∙ ap (λ (n : ℕ). record { lane = y.lane; level = y.level; front = n }) front)
 
@@ -250,7 +250,7 @@ for_path shape row n f =
 pub few_enough : (shape : ShapeValue) (rows : List RowValue) (p : Pass) → IsShape shape
     → ((i : ℕ) (row : RowValue) → slice_get rows i ≡ Some row → Fits shape.schema row) → HasNodes shape rows p
     → ((i : ℕ) (row : RowValue) → slice_get rows i ≡ Some row → (o : ℕ) × (x : Entry) × (slice_get p.seen o ≡ Some x) × (x.row ≡ row))
-        → length p.books ≡ shape.writers → distinct shape rows ≤ shape.writers * shape.nodes
+    → length p.books ≡ shape.writers → distinct shape rows ≤ shape.writers * shape.nodes
 few_enough shape rows p is fits has seen count =
     let few = no_more (map spot_at (nodes_of shape rows)) (flat_map used p.books) apart there in
     let many = length-map (nodes_of shape rows) spot_at in

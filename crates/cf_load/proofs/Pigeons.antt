@@ -66,8 +66,8 @@ pub flat_most : {X A : Type 0} (f : X → List A) (n : ℕ) (xs : List X) → ((
     → length (flat_map f xs) ≤ length xs * n
 flat_most f n [] few = omega arith
 flat_most f n (x ∷ xs) few =
-    (let one = few 0 x refl in let rest = flat_most f n xs (λ i y at. few (suc i) y at) in let e = length-append (f x) (flat_map f xs) in let g =
-    suc-mul (length xs) n in omega (arith, one, rest, e, g))
+    (let one = few 0 x refl in let rest = flat_most f n xs (λ i y at. few (suc i) y at) in let e = length-append (f x) (flat_map f xs) in
+    let g = suc-mul (length xs) n in omega (arith, one, rest, e, g))
 
 pub same_flat : {X A : Type 0} (f g : X → List A) (xs : List X) → ((x : X) → f x ≡ g x) → flat_map f xs ≡ flat_map g xs
 same_flat f g [] same = refl

@@ -101,9 +101,9 @@ used_more : (shape : ShapeValue) (batch : List RowValue) (m n p : PassValue) (i 
     → ((j : ℕ) (s : Spot) → slice_get spots j ≡ Some s → IsOnPath shape row s) → UsedFor shape batch m p
 used_more shape batch m n p i row spots low is used more on j s at =
     elim (in_either (book_of n.view).used spots j s (ap (λ (ss : List Spot). slice_get ss j) (sym more) ∙ at)) [
-  | inl old ↦ used old.0 s old.1
-  | inr new ↦ inr (record { place = i; row = row; at = slice_get-get_or batch i row low ∙ ap (λ (r : RowValue). Some r) is; on = on new.0 s new.1 })
-]
+      | inl old ↦ used old.0 s old.1
+      | inr new ↦ inr (record { place = i; row = row; at = slice_get-get_or batch i row low ∙ ap (λ (r : RowValue). Some r) is; on = on new.0 s new.1 })
+    ]
 
 -- one row more is done, and one less is left
 longer_rows : (old now new done : List RowValue) (row : RowValue) → now ≡ old ++ done → new ≡ now ++ row ∷ [] → new ≡ old ++ (done ++ row ∷ [])
@@ -193,23 +193,26 @@ pub stops_full : (log : LogValue) (first : ℕ) (batch : List RowValue) (m : Pas
     → PassGoesOn n p → Rests p.view → HasAppendAnswer log.shape row n p answer → answer ≡ Err Full → Wrote true log first batch m p
 stops_full log first batch m k i n p answer row goes low at on rest answered err =
     elim (subst (λ (r : Result ℕ AppendFault). HasAppendAnswer log.shape row n p r) err answered) [
-  | inl over ↦
-      let is = ap (λ (h : PassValue). book_of h.view) over.is in
-      stopped_at true log first batch m k i n p goes on rest
-      (record { writer = ap (λ (b : Book). b.writer) is; mine = ap (λ (b : Book). b.mine) is; used =
-          λ j s there. goes.used j s (ap (λ (b : Book). slice_get b.used j) (sym is) ∙ there) })
-      (λ whole. ap (λ (b : Book). b.over) is ∙ over.over)
-  | inr late ↦
-      let is : book_of p.view ≡ with_mark (with_nodes late.paths.used.spots late.paths.used.label (book_of n.view)) =
+      | inl over ↦
+          let is = ap (λ (h : PassValue). book_of h.view) over.is in
+          stopped_at true log first batch m k i n p goes on rest
+          (record {
+            writer = ap (λ (b : Book). b.writer) is;
+            mine = ap (λ (b : Book). b.mine) is;
+            used = λ j s there. goes.used j s (ap (λ (b : Book). slice_get b.used j) (sym is) ∙ there);
+          })
+          (λ whole. ap (λ (b : Book). b.over) is ∙ over.over)
+      | inr late ↦
+          let is : book_of p.view ≡ with_mark (with_nodes late.paths.used.spots late.paths.used.label (book_of n.view)) =
           ap (λ (bs : List Book). get_or bs 0 (no_book 0)) late.books in
-      stopped_at true log first batch m k i n p goes on rest
-      (record {
-        writer = ap (λ (b : Book). b.writer) is;
-        mine = ap (λ (b : Book). b.mine) is;
-        used = used_more log.shape batch m n p i row late.paths.used.spots low at goes.used (ap (λ (b : Book). b.used) is) late.paths.used.on;
-      })
-      (λ whole. ap (λ (b : Book). b.over) is)
-]
+          stopped_at true log first batch m k i n p goes on rest
+          (record {
+            writer = ap (λ (b : Book). b.writer) is;
+            mine = ap (λ (b : Book). b.mine) is;
+            used = used_more log.shape batch m n p i row late.paths.used.spots low at goes.used (ap (λ (b : Book). b.used) is) late.paths.used.on;
+          })
+          (λ whole. ap (λ (b : Book). b.over) is)
+    ]
 
 -- the writer's nodes are used up
 pub stops_out : (log : LogValue) (first : ℕ) (batch : List RowValue) (m : PassValue) (k i : ℕ) (n p : PassValue) (answer : Result ℕ AppendFault)

@@ -26,7 +26,7 @@ read_more shape base m n o more live read asked tail = record {
       ∙ (ap (λ (ts : List ℕ). ts ++ (base + length (o.view).seen) ∷ []) read.tails
       ∙ (append_assoc (map (λ t. base + t) (m.view).tails) (tails_of more) ((base + length (o.view).seen) ∷ [])
       ∙ ap (λ (ts : List ℕ). map (λ t. base + t) (m.view).tails ++ ts)
-          (ap (λ (t : ℕ). tails_of more ++ t ∷ []) (sym tail) ∙ sym (map_push (λ (l : Live). l.answer.tail) more live)))));
+      (ap (λ (t : ℕ). tails_of more ++ t ∷ []) (sym tail) ∙ sym (map_push (λ (l : Live). l.answer.tail) more live)))));
 }
 
 -- the question at a live question's place

@@ -27,9 +27,10 @@ map_map f g (x ∷ xs) = ap (λ ys. f (g x) ∷ ys) (map_map f g xs)
 pub rise_append : (low : ℕ) (ns ms : List ℕ) → NeverFall ns → NeverFall ms → AllByRecursion (λ n. n ≤ low) ns → AllByRecursion (λ m. low ≤ m) ms
     → NeverFall (ns ++ ms)
 rise_append low [] ms first then below above = then
-rise_append low (n ∷ ns) ms first then below above =
-    (all_append (λ m. n ≤ m) ns ms first.0 (all_weaker (λ m. low ≤ m) (λ m. n ≤ m) ms (λ m le. omega (arith, le, below.0)) above),
-        rise_append low ns ms first.1 then below.1 above)
+rise_append low (n ∷ ns) ms first then below above = (
+  all_append (λ m. n ≤ m) ns ms first.0 (all_weaker (λ m. low ≤ m) (λ m. n ≤ m) ms (λ m le. omega (arith, le, below.0)) above),
+  rise_append low ns ms first.1 then below.1 above,
+)
 
 -- the numbers from 0 on, and one more
 pub range_more : (n : ℕ) → range_with_len 0 (n + 1) ≡ range_with_len 0 n ++ n ∷ []
@@ -99,7 +100,7 @@ module _ (shape : ShapeValue) (asks : List Ask) (lives : List ℕ) where
   pub asks_more : (round asked batch : ℕ) (before after new : List Entry) (more : List Live) (live : Live)
       → AsksSome shape asks lives round asked batch before after more → asked < length lives → Begins after new
       → live.batch ≡ batch → live.round ≡ round → live.ask ≡ get_or lives asked live.ask → live.answer.tail ≡ length new
-          → live.answer.body ≡ eval shape (get_or asks live.ask no_ask) new
+      → live.answer.body ≡ eval shape (get_or asks live.ask no_ask) new
       → AsksSome shape asks lives round (asked + 1) batch before new (more ++ live ∷ [])
   asks_more round asked batch before after new more live some lt begins batch_is round_is ask_is tail_is body_is =
       let wide = asks_wider round asked batch before after new more some begins in record {
@@ -185,12 +186,12 @@ module _ (shape : ShapeValue) (asks : List Ask) (lives : List ℕ) where
     };
     bodies = all_append (λ (l : Live). l.answer.body ≡ meaning_in l (take l.answer.tail now)) answers more
         (meant_wider meaning_in seen now answers grows
-            (all_unmap (λ (at : Turn × ℕ). at.1 ≤ length seen) turn_of answers
-            (all_weaker (λ (at : Turn × ℕ). at.1 ≤ n) (λ (at : Turn × ℕ). at.1 ≤ length seen) (map turn_of answers)
-            (λ at low. omega (arith, low, long)) below)) has.bodies)
+        (all_unmap (λ (at : Turn × ℕ). at.1 ≤ length seen) turn_of answers
+        (all_weaker (λ (at : Turn × ℕ). at.1 ≤ n) (λ (at : Turn × ℕ). at.1 ≤ length seen) (map turn_of answers)
+        (λ at low. omega (arith, low, long)) below)) has.bodies)
         (meant_wider meaning_in read now more begins
-            (all_weaker (λ (l : Live). (length seen ≤ l.answer.tail) × (l.answer.tail ≤ length read)) (λ (l : Live). l.answer.tail ≤ length read) more
-            (λ l at. at.1) asked.within) asked.bodies);
+        (all_weaker (λ (l : Live). (length seen ≤ l.answer.tail) × (l.answer.tail ≤ length read)) (λ (l : Live). l.answer.tail ≤ length read) more
+        (λ l at. at.1) asked.within) asked.bodies);
   }
     where
       before : batches_of n ≡ b
@@ -216,5 +217,5 @@ module _ (shape : ShapeValue) (asks : List Ask) (lives : List ℕ) where
       within_now = all_weaker (λ (l : Live). (l.batch ≡ b) × ((length seen ≤ l.answer.tail) × (l.answer.tail ≤ length read)))
           (λ (l : Live). IsWithinBatch (n + k) (turn_of l)) more
           (λ l at. (let far = begins_long read now begins in
-              (omega (arith, at.0, at.1.0, long, whole), omega (arith, at.0, at.1.1, far, now_long, whole, few))))
+          (omega (arith, at.0, at.1.0, long, whole), omega (arith, at.0, at.1.1, far, now_long, whole, few))))
           (all_both (λ (l : Live). l.batch ≡ b) (λ (l : Live). (length seen ≤ l.answer.tail) × (l.answer.tail ≤ length read)) more batches asked.within)

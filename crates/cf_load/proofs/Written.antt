@@ -84,7 +84,7 @@ module _ (writers first : ℕ) (batch : List RowValue) (new : List Entry) (some 
   all_written part w lt =
       let p = part w lt in
       let full_part : p.left ≡ [] → written_by w new ≡ rows_of writers w first batch = λ none. sym (append-nil (written_by w new))
-          ∙ ap (λ rs. written_by w new ++ rs) (sym none) ∙ p.split in
+      ∙ ap (λ rs. written_by w new ++ rs) (sym none) ∙ p.split in
       elim (p.all refl) [
         | inl none ↦ full_part none
         | inr full ↦ full_part (nil_from_length p.left (nothing_left full))
@@ -96,7 +96,7 @@ module _ (writers first : ℕ) (batch : List RowValue) (new : List Entry) (some 
       nothing_left : length batch ≤ length new → length (part w lt).left ≡ 0
       nothing_left full =
           let even = total_even writers (λ v. length (written_by v new)) (λ v. length (rows_of writers v first batch)) (λ v low. omega (arith, long v low))
-              (omega (arith, entries_counted writers new exist, rows_counted writers first batch some, full)) w lt in
+          (omega (arith, entries_counted writers new exist, rows_counted writers first batch some, full)) w lt in
           omega (arith, even, long w lt)
 
   -- and as many entries came as the batch has rows
@@ -139,7 +139,7 @@ module _ (first : ℕ) (rows batch : List RowValue) (writers b m : ℕ) (log new
           let same : c ≡ b = omega (arith, since, until) in
           let at : m * b ≡ m * c = ap (λ d. m * d) (sym same) in
           rw (part_there m (m * c) log new (log_long ∙ at) (omega (arith, many, few)), part_there m (m * c) rows batch (rows_long ∙ at) few)
-              (more w lt ∙ ap (λ k. rows_of writers w (first + k) batch) at)
+          (more w lt ∙ ap (λ k. rows_of writers w (first + k) batch) at)
     ]
   ]
 

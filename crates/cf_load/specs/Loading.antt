@@ -69,7 +69,7 @@ pub record AsksSome (shape : ShapeValue) (asks : List Ask) (lives : List ℕ) (r
     (more : List Live) : Type 0 where
   pub turns : map (λ (live : Live). (turn_of live).0) more ≡
       flat_map (λ round. map (λ ask. record { batch = batch; round = round; ask = ask }) lives) (range_with_len 0 rounds) ++ map
-          (λ ask. record { batch = batch; round = rounds; ask = ask }) (take asked lives)
+      (λ ask. record { batch = batch; round = rounds; ask = ask }) (take asked lives)
   pub rise : NeverFall (map (λ (live : Live). live.answer.tail) more)
   pub within : AllByRecursion (λ live. (length before ≤ live.answer.tail) × (live.answer.tail ≤ length after)) more
   pub bodies : AllByRecursion (λ live. live.answer.body ≡ eval shape (slice_index_or asks live.ask no_ask) (take live.answer.tail after)) more

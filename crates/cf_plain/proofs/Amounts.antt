@@ -54,15 +54,20 @@ module _ (attr : ℕ) (expr : List (List Atom)) where
   pub amounts_few : (entries : List Entry) → length (amounts_in attr expr entries) ≤ length entries
   amounts_few entries =
       let rows = rows_in entries in
-      omega (arith, length-map (filter (holds_of expr) rows) (λ (row : RowValue). number_at row attr), length-filter (holds_of expr) rows,
-          count_by-le-length (holds_of expr) rows, length-map entries (λ (e : Entry). e.row))
+      omega (
+        arith,
+        length-map (filter (holds_of expr) rows) (λ (row : RowValue). number_at row attr),
+        length-filter (holds_of expr) rows,
+        count_by-le-length (holds_of expr) rows,
+        length-map entries (λ (e : Entry). e.row),
+      )
 
   pub amounts_one : (entry : Entry) → amounts_in attr expr (entry ∷ []) ≡ cond (holds_of expr entry.row) (number_at entry.row attr ∷ []) []
   amounts_one entry = one (holds_of expr entry.row) entry.row
 
   pub amounts_more : (entries : List Entry) (i : ℕ) (d : Entry) → i < length entries
       → amounts_in attr expr (take (i + 1) entries) ≡ amounts_in attr expr (take i entries) ++ cond (holds_of expr (get_or entries i d).row)
-          (number_at (get_or entries i d).row attr ∷ []) []
+      (number_at (get_or entries i d).row attr ∷ []) []
   amounts_more entries i d lt =
       ap (amounts_in attr expr) (take_more entries i d lt) ∙ amounts_append (take i entries) (get_or entries i d ∷ [])
-          ∙ ap (λ ns. amounts_in attr expr (take i entries) ++ ns) (amounts_one (get_or entries i d))
+      ∙ ap (λ ns. amounts_in attr expr (take i entries) ++ ns) (amounts_one (get_or entries i d))

@@ -11,9 +11,9 @@ above_range : (p : ℕ → Bool) (m a n : ℕ) → m < a → AllByRecursion (λ 
 above_range p m a zero lt = tt
 above_range p m a (suc n) lt =
     elim (p a) as (λ b. AllByRecursion (λ x. m < x) (cond b (a ∷ filter p (range_with_len (a + 1) n)) (filter p (range_with_len (a + 1) n)))) [
-  | true ↦ (lt, above_range p m (a + 1) n (omega (arith, lt)))
-  | false ↦ above_range p m (a + 1) n (omega (arith, lt))
-]
+      | true ↦ (lt, above_range p m (a + 1) n (omega (arith, lt)))
+      | false ↦ above_range p m (a + 1) n (omega (arith, lt))
+    ]
 
 pub rise_range : (p : ℕ → Bool) (a n : ℕ) → Rise (filter p (range_with_len a n))
 rise_range p a zero = tt
@@ -30,9 +30,9 @@ below_range : (p : ℕ → Bool) (j a n : ℕ) → j < a → list_any (λ x. j =
 below_range p j a zero lt = refl
 below_range p j a (suc n) lt =
     elim (p a) as (λ b. list_any (λ x. j == x) (cond b (a ∷ filter p (range_with_len (a + 1) n)) (filter p (range_with_len (a + 1) n))) ≡ false) [
-  | true ↦ rw (ne_eqb j a (λ e. omega (arith, e, lt))) (below_range p j (a + 1) n (omega (arith, lt)))
-  | false ↦ below_range p j (a + 1) n (omega (arith, lt))
-]
+      | true ↦ rw (ne_eqb j a (λ e. omega (arith, e, lt))) (below_range p j (a + 1) n (omega (arith, lt)))
+      | false ↦ below_range p j (a + 1) n (omega (arith, lt))
+    ]
 
 pub any_range : (p : ℕ → Bool) (j a n : ℕ) → a ≤ j → list_any (λ x. j == x) (filter p (range_with_len a n)) ≡ (nat_lt j (a + n) && p j)
 any_range p j a zero le = rw (le-ltb j (a + 0) (omega (arith, le))) refl
@@ -46,10 +46,10 @@ any_range p j a (suc n) le = elim (cases_eq j a) [
   | inr ne ↦
       let same : a + suc n ≡ a + 1 + n = omega arith in
       let rest : list_any (λ x. j == x) (filter p (range_with_len (a + 1) n)) ≡ (nat_lt j (a + 1 + n) && p j) =
-          any_range p j (a + 1) n (omega (arith, ne, le)) in
+      any_range p j (a + 1) n (omega (arith, ne, le)) in
       rw same (elim (p a) as
-          (λ b. list_any (λ x. j == x) (cond b (a ∷ filter p (range_with_len (a + 1) n)) (filter p (range_with_len (a + 1) n))) ≡
-          (nat_lt j (a + 1 + n) && p j)) [
+      (λ b. list_any (λ x. j == x) (cond b (a ∷ filter p (range_with_len (a + 1) n)) (filter p (range_with_len (a + 1) n))) ≡
+      (nat_lt j (a + 1 + n) && p j)) [
         | true ↦ rw (ne_eqb j a ne) rest
         | false ↦ rest
       ])

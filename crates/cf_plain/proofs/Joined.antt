@@ -31,11 +31,11 @@ shift p q m same a zero = refl
 shift p q m same a (suc n) =
     let next : m + a + 1 ≡ m + (a + 1) = omega arith in
     let rest : filter q (range_with_len (m + a + 1) n) ≡ map (λ i. m + i) (filter p (range_with_len (a + 1) n)) = ap (λ k. filter q (range_with_len k n)) next
-        ∙ shift p q m same (a + 1) n in
+    ∙ shift p q m same (a + 1) n in
     ap (λ b. cond b ((m + a) ∷ filter q (range_with_len (m + a + 1) n)) (filter q (range_with_len (m + a + 1) n))) (same a)
     ∙ elim (p a) as
-        (λ b. cond b ((m + a) ∷ filter q (range_with_len (m + a + 1) n)) (filter q (range_with_len (m + a + 1) n)) ≡ map (λ i. m + i)
-        (cond b (a ∷ filter p (range_with_len (a + 1) n)) (filter p (range_with_len (a + 1) n)))) [
+    (λ b. cond b ((m + a) ∷ filter q (range_with_len (m + a + 1) n)) (filter q (range_with_len (m + a + 1) n)) ≡ map (λ i. m + i)
+    (cond b (a ∷ filter p (range_with_len (a + 1) n)) (filter p (range_with_len (a + 1) n)))) [
       | true ↦ ap (λ ns. (m + a) ∷ ns) rest
       | false ↦ rest
     ]
@@ -68,7 +68,7 @@ places_append passes xs ys =
     ∙ ap₂ (λ (is js : List ℕ). is ++ js)
     (agree test (λ place. passes (row_at xs place)) 0 m (λ i lt. ap passes (get_or_append_left xs ys no_row i (omega (arith, lt)))))
     (ap (λ k. filter test (range_with_len k n)) start
-        ∙ shift (λ place. passes (row_at ys place)) test m (λ i. ap passes (get_or-append-add xs ys i no_row)) 0 n)
+    ∙ shift (λ place. passes (row_at ys place)) test m (λ i. ap passes (get_or-append-add xs ys i no_row)) 0 n)
 
 -- the quad of numbers and of those behind them
 pub quad_append : (ns ms : List ℕ) → quad_of (ns ++ ms) ≡ both (quad_of ns) (quad_of ms)
@@ -204,7 +204,7 @@ module _ (shape : ShapeValue) (lane : ℕ) where
   pub groups_merge : (parts : List (List RowValue)) → merged (all_groups parts) ≡ groups shape lane (all_rows parts)
   groups_merge parts =
       let each : (k : ℕ) → group_under (all_groups parts) k ≡ group_of shape lane (all_rows parts) k =
-          λ k. ap (λ (c : QuadValue). (k, c)) (under_all k [] parts) in
+      λ k. ap (λ (c : QuadValue). (k, c)) (under_all k [] parts) in
       map_agree (group_under (all_groups parts)) (group_of shape lane (all_rows parts)) each (ascending (map (λ (g : Pair). g.0) (all_groups parts)))
       ∙ ap (map (group_of shape lane (all_rows parts))) (keys_merge parts)
 
@@ -239,7 +239,7 @@ module _ (shape : ShapeValue) (lane : ℕ) where
   none_of_others row k [] le above = refl
   none_of_others row k (n ∷ ks) le above =
       let here : has_key shape lane n row ≡ false =
-          rw (ne_eqb (key_of shape lane row) n (λ e. omega (arith, e, le, above.0))) (and_false (selected_by shape lane row)) in
+      rw (ne_eqb (key_of shape lane row) n (λ e. omega (arith, e, le, above.0))) (and_false (selected_by shape lane row)) in
       let none : ◌≡◌ {A = ℕ} (cond (has_key shape lane n row) 1 0) 0 = ap (λ b. cond b 1 0) here in
       let parts = sum_by-cons (λ m. cond (has_key shape lane m row) 1 0) n ks in
       omega (arith, parts, none, none_of_others row k ks le above.1)
@@ -253,7 +253,7 @@ module _ (shape : ShapeValue) (lane : ℕ) where
         | inl e ↦
             let rest = none_of_others row k ks (omega (arith, e)) rise.0 in
             let most : cond {A = ℕ} (has_key shape lane k row) 1 0 ≤ 1 =
-                elim (has_key shape lane k row) as (λ b. cond {A = ℕ} b 1 0 ≤ 1) [ true ↦ omega arith | false ↦ omega arith ] in
+            elim (has_key shape lane k row) as (λ b. cond {A = ℕ} b 1 0 ≤ 1) [ true ↦ omega arith | false ↦ omega arith ] in
             omega (arith, parts, rest, most)
         | inr ne ↦
             let here : has_key shape lane k row ≡ false = rw (ne_eqb (key_of shape lane row) k ne) (and_false (selected_by shape lane row)) in
@@ -274,8 +274,8 @@ module _ (shape : ShapeValue) (lane : ℕ) where
       let ones = sum_by-cons (λ n. cond (has_key shape lane n row) 1 0) k ks in
       let here : length (filter (has_key shape lane k) (row ∷ rows)) ≡ cond (has_key shape lane k row) 1 0 + length (filter (has_key shape lane k) rows) =
       elim (has_key shape lane k row) as
-          (λ b. length (cond b (row ∷ filter (has_key shape lane k) rows) (filter (has_key shape lane k) rows)) ≡ cond b 1 0 + length
-          (filter (has_key shape lane k) rows)) [
+      (λ b. length (cond b (row ∷ filter (has_key shape lane k) rows) (filter (has_key shape lane k) rows)) ≡ cond b 1 0 + length
+      (filter (has_key shape lane k) rows)) [
         | true ↦ omega arith
         | false ↦ omega arith
       ] in
@@ -308,15 +308,15 @@ below : (p : ℕ → Bool) (m most a n : ℕ) → m + (a + n) ≤ most → AllBy
 below p m most a zero le = tt
 below p m most a (suc n) le =
     elim (p a) as (λ b. AllByRecursion (λ place. m + place < most) (cond b (a ∷ filter p (range_with_len (a + 1) n)) (filter p (range_with_len (a + 1) n)))) [
-  | true ↦ (omega (arith, le), below p m most (a + 1) n (omega (arith, le)))
-  | false ↦ below p m most (a + 1) n (omega (arith, le))
-]
+      | true ↦ (omega (arith, le), below p m most (a + 1) n (omega (arith, le)))
+      | false ↦ below p m most (a + 1) n (omega (arith, le))
+    ]
 
 -- the places in rows behind others can be counted on
 places_can : (passes : RowValue → Bool) (xs ys : List RowValue) → length xs + length ys ≤ 2 ^ 20 → All (λ place. length xs + place < 2 ^ 32) (places passes ys)
 places_can passes xs ys few =
     All-from_recursion (λ place. length xs + place < 2 ^ 32) (places passes ys)
-        (below (λ place. passes (row_at ys place)) (length xs) (2 ^ 32) 0 (length ys) (omega (arith, few)))
+    (below (λ place. passes (row_at ys place)) (length xs) (2 ^ 32) 0 (length ys) (omega (arith, few)))
 
 taken_few : (f : RowValue → ℕ) (p : RowValue → Bool) (rows : List RowValue) → length (map f (filter p rows)) ≤ length rows
 taken_few f p rows = omega (arith, length-map (filter p rows) f, length-filter p rows, count_by-le-length p rows)
@@ -328,8 +328,13 @@ totals_can f p xs ys few = omega (arith, few, taken_few f p xs, taken_few f p ys
 groups_can : (shape : ShapeValue) (lane : ℕ) (xs ys : List RowValue) → length xs + length ys ≤ 2 ^ 20
     → numbers_in (groups shape lane xs ++ groups shape lane ys) ≤ 2 ^ 20
 groups_can shape lane xs ys few =
-    omega (arith, few, sum_by-append (λ (g : Pair). g.1.count) (groups shape lane xs) (groups shape lane ys), groups_are_few shape lane xs,
-        groups_are_few shape lane ys)
+    omega (
+      arith,
+      few,
+      sum_by-append (λ (g : Pair). g.1.count) (groups shape lane xs) (groups shape lane ys),
+      groups_are_few shape lane xs,
+      groups_are_few shape lane ys,
+    )
 
 -- findings in so few rows can be joined
 pub findings_can_join : (shape : ShapeValue) (ask : Ask) (xs ys : List RowValue) → length xs + length ys ≤ 2 ^ 20

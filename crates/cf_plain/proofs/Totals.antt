@@ -28,12 +28,12 @@ count_map f p n (row ∷ rows) =
           let here : h row ≡ cond (f row == n) 1 0 = ap (λ b. cond b (cond (f row == n) 1 0) 0) passes in
           let left : count_by (λ x. x == n) (map f (filter p (row ∷ rows))) ≡ cond (f row == n) 1 0 + count_by (λ x. x == n) (map f (filter p rows)) =
           ap (λ b. count_by (λ x. x == n) (map f (cond b (row ∷ filter p rows) (filter p rows)))) passes
-              ∙ sum_by-cons (λ x. cond (x == n) 1 0) (f row) (map f (filter p rows)) in
+          ∙ sum_by-cons (λ x. cond (x == n) 1 0) (f row) (map f (filter p rows)) in
           omega (arith, rest, right, here, left)
       | inr fails ↦
           let here : h row ≡ 0 = ap (λ b. cond b (cond (f row == n) 1 0) 0) fails in
           let left : count_by (λ x. x == n) (map f (filter p (row ∷ rows))) ≡ count_by (λ x. x == n) (map f (filter p rows)) =
-              ap (λ b. count_by (λ x. x == n) (map f (cond b (row ∷ filter p rows) (filter p rows)))) fails in
+          ap (λ b. count_by (λ x. x == n) (map f (cond b (row ∷ filter p rows) (filter p rows)))) fails in
           omega (arith, rest, right, here, left)
     ]
 
@@ -68,7 +68,7 @@ total_split shape lane p q rows =
     let with' = count_map (measure_of shape lane) (λ row. p row && q row) n rows in
     let without = count_map (measure_of shape lane) (λ row. p row && not (q row)) n rows in
     let both = sum_by-append (λ x. cond (x == n) 1 0) (map (measure_of shape lane) (filter (λ row. p row && q row) rows))
-        (map (measure_of shape lane) (filter (λ row. p row && not (q row)) rows)) in
+    (map (measure_of shape lane) (filter (λ row. p row && not (q row)) rows)) in
     let parts = split_sum (λ row. cond (measure_of shape lane row == n) 1 0) p q rows in
     omega (arith, left, with', without, both, parts))
 
@@ -88,10 +88,10 @@ module _ (shape : ShapeValue) (rows others : List RowValue) (same : SameRows row
   pub same_groups : (lane : ℕ) → groups shape lane rows ≡ groups shape lane others
   same_groups lane =
       map_agree (group_of shape lane rows) (group_of shape lane others) (λ k. ap (λ (q : QuadValue). (k, q)) (same_total lane (has_key shape lane k)))
-          (keys_in shape lane rows)
+      (keys_in shape lane rows)
       ∙ ap (map (group_of shape lane others))
-          (same_keys (map (key_of shape lane) (filter (selected_by shape lane) rows)) (map (key_of shape lane) (filter (selected_by shape lane) others))
-          (often (key_of shape lane) (selected_by shape lane) rows others same))
+      (same_keys (map (key_of shape lane) (filter (selected_by shape lane) rows)) (map (key_of shape lane) (filter (selected_by shape lane) others))
+      (often (key_of shape lane) (selected_by shape lane) rows others same))
 
   pub same_length : length rows ≡ length others
   same_length = sym (length_sum rows) ∙ same (λ row. 1) ∙ length_sum others

@@ -86,7 +86,7 @@ scanned_more : (expr : List (List Atom)) (seen : List Entry) (o : ℕ) (e : Entr
     → found ++ cond b (o ∷ []) [] ≡ filter (holds_at expr seen) (range_with_len 0 (o + 1))
 scanned_more expr seen o e b found at holds is =
     ap₂ (λ (xs : List ℕ) (t : Bool). xs ++ cond t (o ∷ []) []) is (holds ∙ ap (λ (row : RowValue). holds_of expr row) (row_is seen o e at))
-        ∙ sym (place_more (holds_at expr seen) o)
+    ∙ sym (place_more (holds_at expr seen) o)
 
 pub scanned_one : (expr : List (List Atom)) (seen : List Entry) (o : ℕ) (e : Entry) (b : Bool) (found after : List ℕ) → slice_get seen o ≡ Some e
     → b ≡ holds_of expr e.row → b ≡ true → found ≡ filter (holds_at expr seen) (range_with_len 0 o) → after ≡ found ++ o ∷ []
@@ -113,7 +113,7 @@ module _ (attr : ℕ) (expr : List (List Atom)) (seen : List Entry) (o : ℕ) (e
   amounts_with =
       let here = at_place seen o e at in
       amounts_more attr expr seen o e here.0
-          ∙ ap (λ (x : Entry). amounts_in attr expr (take o seen) ++ cond (holds_of expr x.row) (number_at x.row attr ∷ []) []) here.1
+      ∙ ap (λ (x : Entry). amounts_in attr expr (take o seen) ++ cond (holds_of expr x.row) (number_at x.row attr ∷ []) []) here.1
 
   pub summed_one : (b : Bool) (before after : QuadValue) → b ≡ holds_of expr e.row → b ≡ true → before ≡ total attr expr (rows_in (take o seen))
       → ((xs : List ℕ) → before ≡ quad_of xs → after ≡ quad_of (xs ++ number_at e.row attr ∷ [])) → after ≡ total attr expr (rows_in (take (o + 1) seen))
@@ -125,5 +125,5 @@ module _ (attr : ℕ) (expr : List (List Atom)) (seen : List Entry) (o : ℕ) (e
       → before ≡ total attr expr (rows_in (take (o + 1) seen))
   summed_none b before holds fails is =
       is ∙ ap quad_of
-          (sym (append-nil (amounts_in attr expr (take o seen)))
-          ∙ ap (λ (t : Bool). amounts_in attr expr (take o seen) ++ cond t (number_at e.row attr ∷ []) []) (sym fails ∙ holds) ∙ sym amounts_with)
+      (sym (append-nil (amounts_in attr expr (take o seen)))
+      ∙ ap (λ (t : Bool). amounts_in attr expr (take o seen) ++ cond t (number_at e.row attr ∷ []) []) (sym fails ∙ holds) ∙ sym amounts_with)

@@ -21,5 +21,5 @@ pub record IsAskAnswered (shape : ShapeValue) (entries : List Entry) (t : AskRep
 abbrev pub SealsAreHistories : Type 0
 SealsAreHistories =
     (shape : ShapeValue) (seal : SealValue) (passes : List (List (AskReply Ask Body)))
-        → AllByRecursion (AllByRecursion (IsAskAnswered shape seal.entries)) passes → NeverGoBack passes
-        → IsHistoryOf (eval shape) seal.entries passes (spell seal.entries passes)
+    → AllByRecursion (AllByRecursion (IsAskAnswered shape seal.entries)) passes → NeverGoBack passes
+    → IsHistoryOf (eval shape) seal.entries passes (spell seal.entries passes)

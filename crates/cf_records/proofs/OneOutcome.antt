@@ -74,7 +74,7 @@ front_of {A} (y ∷ xs) (suc n) (suc i) x lt is = front_of xs n i x (omega (arit
 no_value_before : (attrs : List Attr) (fields : List (List ℕ)) (a b : ℕ) → HasBadField attrs fields a → HasBadField attrs fields b → a < b → ⊥
 no_value_before attrs fields a b p q lt =
     let found = value_in (take b attrs) (take b fields) q.values a p.attr p.field q.before (front_of attrs b a p.attr lt p.attr_is)
-        (front_of fields b a p.field lt p.field_is) in
+    (front_of fields b a p.field lt p.field_is) in
     p.none found.0 found.1
 
 by_order : {A : Type 0} (a b : ℕ) → (a < b → A) → (a ≡ b → A) → (b < a → A) → A
@@ -179,8 +179,8 @@ module _ (attrs : List Attr) (text : List ℕ) where
     | inl both ↦
         let num : length p.before ≡ length q.before = ap (λ (rs : Records). length rs) both.0 in
         let moved : HasRecordFault attrs p.fields (length p.before) b =
-            subst (λ (n : ℕ). HasRecordFault attrs p.fields n b) (sym num)
-            (subst (λ (f : List (List ℕ)). HasRecordFault attrs f (length q.before) b) (sym both.1) q.fault_is) in
+        subst (λ (n : ℕ). HasRecordFault attrs p.fields n b) (sym num)
+        (subst (λ (f : List (List ℕ)). HasRecordFault attrs f (length q.before) b) (sym both.1) q.fault_is) in
         one_record_fault attrs p.fields (length p.before) a b p.fault_is moved
     | inr other ↦ elim other [
       | inl later ↦ absurd (later_faulty p.before p.rows q.fields (length q.before) q.before b p.rows_are later q.fault_is)

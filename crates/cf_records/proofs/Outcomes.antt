@@ -35,9 +35,17 @@ module _ (attrs : List Attr) (text : List ℕ) (small : length text < 2 ^ 24) wh
   faulty records rows fields reader fault has are wrong =
       let rest = read_to_end text _ has.left ((names_of attrs ∷ records) ++ (fields ∷ [])) has.reached in
       let same : ((names_of attrs ∷ records) ++ (fields ∷ [])) ++ rest.0 ≡ names_of attrs ∷ (records ++ (fields ∷ rest.0)) =
-          append_assoc (names_of attrs ∷ records) (fields ∷ []) rest.0 in
-      record { small = small; before = records; fields = fields; after = rest.0; read = subst (λ (rs : Records). AreRead text rs) same rest.1; rows = rows;
-          rows_are = are; fault_is = wrong }
+      append_assoc (names_of attrs ∷ records) (fields ∷ []) rest.0 in
+      record {
+        small = small;
+        before = records;
+        fields = fields;
+        after = rest.0;
+        read = subst (λ (rs : Records). AreRead text rs) same rest.1;
+        rows = rows;
+        rows_are = are;
+        fault_is = wrong;
+      }
 
   pub first_fault : (records : Records) (rows : List RowValue) (fields : List (List ℕ)) (reader : Reader (Bor (List ℕ))) (fault : RecordFault)
       → HasRead text ((names_of attrs ∷ records) ++ (fields ∷ [])) reader → AreRows attrs 0 records rows → HasRecordFault attrs fields (length records) fault

@@ -21,7 +21,7 @@ one_list cfg s xs (r ∷ rows) [] h h2 = absurd (some_none (next_record cfg s []
 one_list cfg s xs (r ∷ rows) (r2 ∷ rows2) h h2 =
     let p : h.2.0 ≡ h2.2.0 = same_read (next_record cfg s [] [] xs) h.2.0 h2.2.0 h.2.1 h2.2.1 in
     ap₂ ◌∷◌ (h.2.2 ∙ (ap (λ (q : Read). q.0) p ∙ sym h2.2.2))
-        (one_list cfg h2.2.0.1 h2.2.0.2 rows rows2 (h.0, h.1, rw p at h.2.3, h.3) (h2.0, h2.1, h2.2.3, h2.3))
+    (one_list cfg h2.2.0.1 h2.2.0.2 rows rows2 (h.0, h.1, rw p at h.2.3, h.3) (h2.0, h2.1, h2.2.3, h2.3))
 
 -- a text has one list of records
 pub one_read : (text : List ℕ) (a b : List (List (List ℕ))) → AreRead text a → AreRead text b → a ≡ b

@@ -51,7 +51,7 @@ pub other_name : (attrs : List Attr) (fields : List (List ℕ)) (column : ℕ) (
     → (slice_get fields column ≡ Some attr.name → ⊥) → fields ≢ names_of attrs
 other_name attrs fields column attr attr_is other same =
     let named : slice_get (names_of attrs) column ≡ option_map (λ (a : Attr). a.name) (slice_get attrs column) =
-        slice_get-map (λ (a : Attr). a.name) attrs column in
+    slice_get-map (λ (a : Attr). a.name) attrs column in
     let got : slice_get fields column ≡ slice_get (names_of attrs) column = ap (λ (xs : List (List ℕ)). slice_get xs column) same in
     other (got ∙ named ∙ ap (λ (o : Option Attr). option_map (λ (a : Attr). a.name) o) attr_is)
 

@@ -24,7 +24,7 @@ lists_more lists i lt =
     let own = λ (ns : List ℕ). ns in
     let last = get_or lists i [] in
     ap (flat_map own) (take_more lists i [] lt) ∙ flat_map-append own (take i lists) (last ∷ [])
-        ∙ ap (λ ns. flat_map own (take i lists) ++ ns) (append-nil last)
+    ∙ ap (λ ns. flat_map own (take i lists) ++ ns) (append-nil last)
 
 -- how many numbers some lists have
 pub lists_count : (lists : List (List ℕ)) → sum_by (λ (part : QuadValue). part.count) (map quad_of lists) ≡ length (flat_map (λ (ns : List ℕ). ns) lists)

@@ -37,7 +37,7 @@ module _ (places : List ℕ) where
       let first = of_lives batch round lives in
       let rest = of_rounds batch lives rounds in
       map-append renumbered (map (λ ask. record { batch = batch; round = round; ask = ask }) lives)
-          (flat_map (λ r. map (λ ask. record { batch = batch; round = r; ask = ask }) lives) rounds)
+      (flat_map (λ r. map (λ ask. record { batch = batch; round = r; ask = ask }) lives) rounds)
       ∙ (λ i. first i ++ rest i)
 
   of_batches : (lives rounds batches : List ℕ) → map renumbered (turns_in batches rounds lives) ≡ turns_in batches rounds (numbers_at places lives)
@@ -77,9 +77,10 @@ module _ (places : List ℕ) where
       → AllByRecursion (λ live. live.answer.body ≡ eval shape (get_or (asks_at all places) live.ask no_ask) (take live.answer.tail seen)) lives
       → AllByRecursion (λ live. live.answer.body ≡ eval shape (get_or all live.ask no_ask) (take live.answer.tail seen)) (map (numbered places) lives)
   are_meant shape all seen [] within meant = meant
-  are_meant shape all seen (live ∷ lives) within meant =
-      (meant.0 ∙ ap (λ (q : Ask). eval shape q (take live.answer.tail seen)) (get_or-map (λ place. get_or all place no_ask) places live.ask 0 no_ask within.0),
-          are_meant shape all seen lives within.1 meant.1)
+  are_meant shape all seen (live ∷ lives) within meant = (
+    meant.0 ∙ ap (λ (q : Ask). eval shape q (take live.answer.tail seen)) (get_or-map (λ place. get_or all place no_ask) places live.ask 0 no_ask within.0),
+    are_meant shape all seen lives within.1 meant.1,
+  )
 
 module _ (most : ℕ) where
   all_flat : {X : Type 0} (P : Turn → Type 0) (g : X → List Turn) (xs : List X) → ((x : X) → All P (g x)) → All P (flat_map g xs)
@@ -98,9 +99,9 @@ module _ (most : ℕ) where
       let P = λ (turn : Turn). turn.ask < most in
       let turns : All P (turns_of (batches_of n) rounds asked) =
       all_flat P (λ batch. flat_map (λ round. map (λ ask. record { batch = batch; round = round; ask = ask }) asked) (range_with_len 0 rounds))
-          (range_with_len 0 (batches_of n))
+      (range_with_len 0 (batches_of n))
       (λ batch. all_flat P (λ round. map (λ ask. record { batch = batch; round = round; ask = ask }) asked) (range_with_len 0 rounds)
       (λ round. All-map P (λ ask. record { batch = batch; round = round; ask = ask }) asked below)) in
       of_turns lives
-          (recursion_from_All P (map (λ (at : Turn × ℕ). at.0) (map turn_of lives))
-          (All-same P (map (λ (at : Turn × ℕ). at.0) (map turn_of lives)) (turns_of (batches_of n) rounds asked) are.turns turns))
+      (recursion_from_All P (map (λ (at : Turn × ℕ). at.0) (map turn_of lives))
+      (All-same P (map (λ (at : Turn × ℕ). at.0) (map turn_of lives)) (turns_of (batches_of n) rounds asked) are.turns turns))

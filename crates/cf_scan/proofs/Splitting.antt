@@ -23,7 +23,7 @@ module _ (p : ℕ → Bool) where
             (or_left (nat_eq a place) (is_one_of rest place) (eq-eqb a place same))
         | inr other ↦ (let found = among (a + 1) n place (omega (arith, low, other)) (omega (arith, high)) passes in
             cond_both (p a) (a ∷ rest) rest (λ (ns : List ℕ). is_one_of ns place ≡ true) (λ _. or_right (nat_eq a place) (is_one_of rest place) found)
-                (λ _. found))
+            (λ _. found))
       ]
 
   -- those that pass are within the range
@@ -32,9 +32,9 @@ module _ (p : ℕ → Bool) where
   within_range a (suc n) =
       let rest = filter p (range_with_len (a + 1) n) in
       let later : All (λ place. place < a + suc n) rest =
-          All-weaker (λ place. place < a + 1 + n) (λ place. place < a + suc n) (λ place lt. omega (arith, lt)) rest (within_range (a + 1) n) in
+      All-weaker (λ place. place < a + 1 + n) (λ place. place < a + suc n) (λ place lt. omega (arith, lt)) rest (within_range (a + 1) n) in
       cond_both (p a) (a ∷ rest) rest (λ (ns : List ℕ). All (λ place. place < a + suc n) ns)
-          (λ _. All-cons (λ place. place < a + suc n) a rest (omega arith) later) (λ _. later)
+      (λ _. All-cons (λ place. place < a + suc n) a rest (omega arith) later) (λ _. later)
 
 -- what passes has a place
 pub some_place : {X : Type 0} (p : X → Bool) (xs : List X) → list_any p xs ≡ true → position p xs ≡ None → ⊥
@@ -71,7 +71,7 @@ module _ (all : List Ask) (lives : List ℕ) where
   answered_last place past =
       let none : length all - place ≡ 0 = omega (arith, past) in
       ap (λ n. take place all ++ asks_at all (filter (goes_by_log all lives) (range_with_len place n))) none ∙ append-nil (take place all)
-          ∙ take_all place all past
+      ∙ take_all place all past
 
   module _ (place : ℕ) (lt : place < length all) where
     pub answered_long : place ≤ length (answered_at place)
@@ -97,7 +97,7 @@ module _ (all : List Ask) (lives : List ℕ) where
     answered_logged logged =
         let rest = filter (goes_by_log all lives) (range_with_len (place + 1) (length all - (place + 1))) in
         more ∙ ap (λ qs. take place all ++ qs)
-            (sym (from_here ∙ ap (λ ns. asks_at all ns) (cond-true (goes_by_log all lives place) (place ∷ rest) rest logged)))
+        (sym (from_here ∙ ap (λ ns. asks_at all ns) (cond-true (goes_by_log all lives place) (place ∷ rest) rest logged)))
 
     -- a scan answers it
     pub answered_scan : {Y : Type 0} (f : Ask → Y) → goes_by_log all lives place ≡ false
@@ -105,7 +105,7 @@ module _ (all : List Ask) (lives : List ℕ) where
     answered_scan f scanned =
         let rest = filter (goes_by_log all lives) (range_with_len (place + 1) (length all - (place + 1))) in
         let here : logged_from place ≡ logged_from (place + 1) = from_here
-            ∙ ap (λ ns. asks_at all ns) (cond-false (goes_by_log all lives place) (place ∷ rest) rest scanned) in
+        ∙ ap (λ ns. asks_at all ns) (cond-false (goes_by_log all lives place) (place ∷ rest) rest scanned) in
         let size : length (take place all) ≡ place = length-take-le place all (omega (arith, lt)) in
         ap (λ qs. insert (map f (take place all ++ qs)) place (f (get_or all place no_ask))) here
         ∙ insert_between f (take place all) (logged_from (place + 1)) (get_or all place no_ask) place size
@@ -131,4 +131,4 @@ module _ (all : List Ask) (lives : List ℕ) where
       let live = get_or lives k d in
       let asked : is_one_of lives live ≡ true = list_any_at (λ other. nat_eq other live) lives k d lt (eq-eqb live live refl) in
       among (goes_by_log all lives) 0 (length all) live (omega arith) (let exists = exist k d lt in omega (arith, exists))
-          (or_right (not (is_scan (get_or all live no_ask))) (is_one_of lives live) asked)
+      (or_right (not (is_scan (get_or all live no_ask))) (is_one_of lives live) asked)

@@ -55,7 +55,7 @@ module _ (hosts : ℕ) (events : List SnapEvent) where
       let one = one_goes_on (n + d) in
       let e : n + d + 1 ≡ n + suc d = omega arith in
       subst (λ m. GoesOn (at_ n) (at_ m)) e
-          (record { tails = λ h. omega (arith, before.tails h, one.tails h); released = λ r. one.released (before.released r) })
+      (record { tails = λ h. omega (arith, before.tails h, one.tails h); released = λ r. one.released (before.released r) })
 
   goes_to : (n m : ℕ) → n ≤ m → GoesOn (at_ n) (at_ m)
   goes_to n m le =
@@ -159,7 +159,7 @@ module _ (hosts : ℕ) (events : List SnapEvent) where
   releases : (i : ℕ) → Happens hosts events i Release → (state_after hosts events).is_released ≡ true
   releases i happens =
       let next : state_at hosts events (i + 1) ≡ changed (state_at hosts events i) Release = state_more hosts events i Release happens.stands
-          ∙ taken (state_at hosts events i) Release happens.lawful in
+      ∙ taken (state_at hosts events i) Release happens.lawful in
       let within = happens_within hosts events i Release happens in
       let last = goes_to hosts events (i + 1) (length events) (omega (arith, within)) in
       ap (λ (s : SnapValue). s.is_released) (sym (whole hosts events)) ∙ last.released (ap (λ (s : SnapValue). s.is_released) next)

@@ -90,7 +90,7 @@ module _ (hosts : ℕ) (events : List SnapEvent) (n : ℕ) where
       let parts = cover_parts x h lawful in
       let lt : h < length (set x.tails h (tail_of x h + 1)) = omega (arith, parts.0, length-set x.tails h (tail_of x h + 1)) in
       goes_on x (changed x (Cover h)) (other_event (Cover h) stands (λ k same. cc)) refl refl (λ released. refl)
-          (λ all. absurd (both_ways (is_frozen x h) parts.1 (all h lt))) history
+      (λ all. absurd (both_ways (is_frozen x h) parts.1 (all h lt))) history
 
   freeze_goes_on : (x : SnapValue) (h : ℕ) → slice_get events n ≡ Some (Freeze h) → state_at hosts events n ≡ x
       → state_at hosts events (n + 1) ≡ changed x (Freeze h) → is_lawful x (Freeze h) ≡ true → History hosts events (changed x (Freeze h)) (n + 1)
@@ -131,7 +131,7 @@ module _ (hosts : ℕ) (events : List SnapEvent) (n : ℕ) where
   reply_goes_on x h stands lawful history =
       let none = other_event (Reply h) stands (λ k same. cc) in
       goes_on x (changed x (Reply h)) none refl refl (λ released. absurd (both_ways x.is_released (reply_parts x h lawful).1 released))
-          (λ all. (all, refl)) history
+      (λ all. (all, refl)) history
 
   thaw_goes_on : (x : SnapValue) (h : ℕ) → slice_get events n ≡ Some (Thaw h) → is_lawful x (Thaw h) ≡ true → History hosts events x n
       → History hosts events (changed x (Thaw h)) (n + 1)
@@ -164,7 +164,7 @@ module _ (hosts : ℕ) (events : List SnapEvent) (n : ℕ) where
   one_more some sound history =
       let x = state_at hosts events n in
       let still : NoFreezeAt hosts events n → Sound hosts x × History hosts events x (n + 1) =
-          λ none. (sound, goes_on x x none refl refl (λ released. refl) (λ all. (all, refl)) history) in
+      λ none. (sound, goes_on x x none refl refl (λ released. refl) (λ all. (all, refl)) history) in
       elim (cases_at events n) [
         | inl past ↦
             subst Stands (sym (state_same hosts events n past)) (still (λ h happens. omega (arith, past, slice_get_within events n (Freeze h) happens.stands)))

@@ -91,8 +91,8 @@ grown_one xs ys x low below begins mine =
     let e : Entry = r.0 in
     let all : AreBelow 1 (xs ++ e ∷ []) = subst (AreBelow 1) r.1 below in
     let own : x ≡ record { offset = 0 + length xs; row = e.row } =
-        same_last (mine_from 0 0 xs) x (record { offset = 0 + length xs; row = e.row })
-        (sym mine ∙ (ap (λ (es : List Entry). mine_from 0 0 es) r.1 ∙ own_last 0 xs e all)) in
+    same_last (mine_from 0 0 xs) x (record { offset = 0 + length xs; row = e.row })
+    (sym mine ∙ (ap (λ (es : List Entry). mine_from 0 0 es) r.1 ∙ own_last 0 xs e all)) in
     let least : e.writer < 1 = all (length xs) e (get_push_same xs e) in
     let none : e.writer ≡ 0 = omega (arith, least) in
     let at : x.offset ≡ 0 + length xs = ap (λ (y : Own). y.offset) own in

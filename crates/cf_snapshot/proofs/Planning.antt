@@ -46,7 +46,7 @@ covers hosts g (suc count) s sound there free small =
     let one = one_cover hosts g s sound there free (omega (arith, small)) in
     let own = one.own in
     let rest = covers hosts g count (after s (Cover g)) one.sound there (ap (λ (f : List Bool). get_or f g false) one.frozen ∙ free)
-        (omega (arith, small, own)) in
+    (omega (arith, small, own)) in
     let later = rest.own in
     record {
       sound = rest.sound;
@@ -65,14 +65,14 @@ fold_flat P f a zero b end step s here = let e : a ≡ b = omega (arith, end) in
 fold_flat P f a (suc n) b end step s here =
     subst (P b) (sym (fold-append after s (f a) (flat_map f (range_with_len (a + 1) n))))
     (fold_flat P f (a + 1) n b (omega (arith, end)) (λ k t from to. step k t (omega (arith, from)) to) (fold after s (f a))
-        (step a s (omega arith) (omega (arith, end)) here))
+    (step a s (omega arith) (omega (arith, end)) here))
 
 fold_map : (P : ℕ → SnapValue → Type 0) (f : ℕ → SnapEvent) (a n b : ℕ) → a + n ≡ b
     → ((k : ℕ) (s : SnapValue) → a ≤ k → k < b → P k s → P (k + 1) (after s (f k))) → (s : SnapValue) → P a s → P b (fold after s (map f (range_with_len a n)))
 fold_map P f a zero b end step s here = let e : a ≡ b = omega (arith, end) in subst (λ k. P k s) e here
 fold_map P f a (suc n) b end step s here =
     fold_map P f (a + 1) n b (omega (arith, end)) (λ k t from to. step k t (omega (arith, from)) to) (after s (f a))
-        (step a s (omega arith) (omega (arith, end)) here)
+    (step a s (omega arith) (omega (arith, end)) here)
 
 -- whose turn it is, of turns that go round
 module _ (hosts turns : ℕ) (some : 0 < hosts) where
@@ -149,8 +149,14 @@ module _ (turn : ℕ) (counts : List ℕ) (turns : ℕ) (some : 0 < length count
       let few = covered_low g (n + 1) there in
       let grown = covers hosts g (covered g (n + 1) - covered g n) s sound there free (omega (arith, had, more, few)) in
       let own = grown.own in
-      record { sound = grown.sound; own = omega (arith, own, had, more); others = grown.others; frozen = grown.frozen; begun = grown.begun; released =
-          grown.released }
+      record {
+        sound = grown.sound;
+        own = omega (arith, own, had, more);
+        others = grown.others;
+        frozen = grown.frozen;
+        begun = grown.begun;
+        released = grown.released;
+      }
 
   -- so many turns went round
   record Going (n : ℕ) (s : SnapValue) : Type 0 where
@@ -283,7 +289,7 @@ module _ (turn : ℕ) (counts : List ℕ) (turns : ℕ) (some : 0 < length count
   freezing_on n s there f =
       let begin = passing_start n s there f in
       let end = fold_flat (Passing n) (λ above. turn_of_host turn counts above (had above + n)) (n + 1) (hosts - 1 - n) hosts (omega (arith, there))
-          (λ k t from to p. passing_on n k t from to p) (after s (Freeze n)) begin in
+      (λ k t from to p. passing_on n k t from to p) (after s (Freeze n)) begin in
       passed_all n hosts (fold after s (freeze_host turn counts turns n)) (omega arith) end
 
   all_frozen : (s : SnapValue) → Going turns s → Freezing hosts (fold after (after s Begin) (flat_map (freeze_host turn counts turns) (range_with_len 0 hosts)))
@@ -337,14 +343,14 @@ module _ (turn : ℕ) (counts : List ℕ) (turns : ℕ) (some : 0 < length count
   is_cut : (xs : List ℕ) → length xs ≡ hosts → ((h : ℕ) → h < hosts → get_or xs h 0 ≡ in_cut turn counts turns h) → xs ≡ cut_by turn counts turns
   is_cut xs sized each = ext_get_or 0 xs (cut_by turn counts turns) (sized ∙ sym (length-map-range_with_len (in_cut turn counts turns) 0 hosts))
       (λ h less. let there : h < hosts = omega (arith, less, sized) in each h there
-          ∙ sym (get_or-map-range_with_len (in_cut turn counts turns) 0 hosts h h 0 there (omega arith)))
+      ∙ sym (get_or-map-range_with_len (in_cut turn counts turns) 0 hosts h h 0 there (omega arith)))
 
   releases : (s : SnapValue) → Replying hosts s → Released (after s Release)
   releases s r =
       let sized = r.sound.lens.replied in
       let all : list_all (λ replied. replied) s.replied ≡ true =
-          list_all-from_AllPass (λ replied. replied) s.replied
-          (λ k d less. get_or_default s.replied k d false less ∙ r.replied k (omega (arith, less, sized))) in
+      list_all-from_AllPass (λ replied. replied) s.replied
+      (λ k d less. get_or_default s.replied k d false less ∙ r.replied k (omega (arith, less, sized))) in
       let lawful : is_lawful s Release ≡ true = rw (r.begun, r.released, all) refl in
       let known = all_known hosts s lawful r.sound in
       subst Released (sym (taken s Release lawful)) (record { released = refl; replies = known.1 ∙ is_cut s.tails r.sound.lens.tails r.tails })
@@ -374,15 +380,15 @@ module _ (turn : ℕ) (counts : List ℕ) (turns : ℕ) (some : 0 < length count
       let second : SnapValue = fold after (after first Begin) (flat_map (freeze_host turn counts turns) (range_with_len 0 hosts)) in
       let third : SnapValue = fold after second (map Reply (range_with_len 0 hosts)) in
       let replied =
-          fold_map Replying Reply 0 hosts hosts (omega arith) (λ k t from to r. replying_on k t to r) second
-          (replying_start second (all_frozen first all_round)) in
+      fold_map Replying Reply 0 hosts hosts (omega arith) (λ k t from to r. replying_on k t to r) second
+      (replying_start second (all_frozen first all_round)) in
       let freed = fold_map (λ n. Released) Thaw 0 hosts hosts (omega arith) (λ k t from to r. thaws k t r) (after third Release) (releases third replied) in
       let end : List SnapEvent = Release ∷ map Thaw (range_with_len 0 hosts) in
       let replies : List SnapEvent = map Reply (range_with_len 0 hosts) in
       let rest : List SnapEvent = flat_map (cover_left turn counts turns) (range_with_len 0 hosts) in
       let fourth : SnapValue = fold after (after third Release) (map Thaw (range_with_len 0 hosts)) in
       let all = fold_flat (λ n. Released) (cover_left turn counts turns) 0 hosts hosts (omega arith)
-          (λ k t from to r. covers_stay k (rows_at counts k - in_cut turn counts turns k) t r) fourth freed in
+      (λ k t from to r. covers_stay k (rows_at counts k - in_cut turn counts turns k) t r) fourth freed in
       let round = fold-append after (at_start hosts) (turns_round turn counts turns) (freezing turn counts turns ++ (releasing hosts ++ rest)) in
       let frozen = fold-append after first (freezing turn counts turns) (releasing hosts ++ rest) in
       let free = fold-append after second (releasing hosts) rest in

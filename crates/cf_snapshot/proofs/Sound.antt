@@ -83,8 +83,12 @@ none_frozen hosts h = none_of hosts h
 
 pub sound_start : (hosts : ℕ) → Sound hosts (at_start hosts)
 sound_start hosts = record {
-  lens = record { tails = length-replicate hosts 0; frozen = length-replicate hosts false; replies = length-replicate hosts 0; replied =
-      length-replicate hosts false };
+  lens = record {
+    tails = length-replicate hosts 0;
+    frozen = length-replicate hosts false;
+    replies = length-replicate hosts 0;
+    replied = length-replicate hosts false;
+  };
   known = λ going h replied. absurd (both_ways _ (none_of hosts h) replied);
 }
 
@@ -99,6 +103,7 @@ pub all_known : (hosts : ℕ) (s : SnapValue) → is_lawful s Release ≡ true �
 all_known hosts s lawful sound =
     let parts = release_parts s lawful in
     let l = sound.lens in
-    let known : (h : ℕ) → h < hosts → IsKnown s h = λ h lt. sound.known parts.0 h (all_true s.replied h parts.1 (omega (arith, lt, l.replied))) in
-    (λ h lt. (known h (omega (arith, lt, l.tails))).0,
-        ext_get_or 0 s.replies s.tails (l.replies ∙ sym l.tails) (λ h lt. (known h (omega (arith, lt, l.replies))).1))
+    let known : (h : ℕ) → h < hosts → IsKnown s h = λ h lt. sound.known parts.0 h (all_true s.replied h parts.1 (omega (arith, lt, l.replied))) in (
+      λ h lt. (known h (omega (arith, lt, l.tails))).0,
+      ext_get_or 0 s.replies s.tails (l.replies ∙ sym l.tails) (λ h lt. (known h (omega (arith, lt, l.replies))).1),
+    )

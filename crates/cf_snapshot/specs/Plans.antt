@@ -29,7 +29,7 @@ turns_of_host hosts turns host = (turns + (hosts - 1 - host)) / hosts
 abbrev pub freeze_host : ℕ → List ℕ → ℕ → ℕ → List SnapEvent
 freeze_host turn counts turns host =
     Freeze host ∷ flat_map (λ above. turn_of_host turn counts above (turns_of_host (length counts) turns above + host))
-        (range_with_len (host + 1) (length counts - 1 - host))
+    (range_with_len (host + 1) (length counts - 1 - host))
 
 -- freezing begins, and the hosts are frozen one after another
 abbrev pub freezing : ℕ → List ℕ → ℕ → List SnapEvent

@@ -57,7 +57,7 @@ lives sh p a t f g (loads_cell o l i k lt is within may) n es = refl
 pub step_allowed : (g : StepGiven) (slots id : ℕ) (me : SeatView) (word : ℕ) (f : ℕ → ℕ) → IsShape g.shape → me.1 ≡ []
     → word ≡ place (sizes_of g.shape) g.effect.slot → AsksLawfully g me.0
     → ((s : State (Unit {0}) Pass) → IsLawfulState g.shape s
-        → f (word_at (layout g.shape) s.words g.effect.slot) ≡ g.effect.change (word_at (layout g.shape) s.words g.effect.slot))
+    → f (word_at (layout g.shape) s.words g.effect.slot) ≡ g.effect.change (word_at (layout g.shape) s.words g.effect.slot))
     → Allows (IsLawfulState g.shape) slots id me word f (λ found n. TellsAll g me found n)
 step_allowed g slots id me word f is empty at can agree =
     subst (λ (w : ℕ). Allows (IsLawfulState g.shape) slots id me w f (λ found n. TellsAll g me found n)) (sym at)
@@ -82,7 +82,7 @@ asked key shape g slots id me p word f is_key is_pass is bare ask =
     let same : g.shape ≡ key = ask.shape_is ∙ sym is_key in
     subst (λ (k : ShapeValue). Allows (IsLawfulState k) slots id me word f (λ found n. TellsAll g me found n)) same
     (step_allowed g slots id me word f (subst IsShape (sym same) is) bare
-        (ask.word_is ∙ ap (λ (k : ShapeValue). place (sizes_of k) g.effect.slot) (sym ask.shape_is)) (subst (AsksLawfully g) (sym is_pass) ask.asks)
+    (ask.word_is ∙ ap (λ (k : ShapeValue). place (sizes_of k) g.effect.slot) (sym ask.shape_is)) (subst (AsksLawfully g) (sym is_pass) ask.asks)
     (λ s lawful. ask.change_is (word_at (layout g.shape) s.words g.effect.slot)))
 
 -- a store, which doesn't tell what it found
@@ -130,12 +130,12 @@ added key shape g slots id me p word is_key is_pass is bare ask slot =
     let shaped : IsShape g.shape = subst IsShape (sym same) is in
     subst (λ (k : ShapeValue). Allows (IsLawfulState k) slots id me word (λ n. (n + 1) % 2 ^ 64) (λ found n. TellsAll g me found n)) same
     (step_allowed g slots id me word (λ n. (n + 1) % 2 ^ 64) shaped bare
-        (ask.word_is ∙ ap (λ (k : ShapeValue). place (sizes_of k) g.effect.slot) (sym ask.shape_is)) (subst (AsksLawfully g) (sym is_pass) ask.asks)
+    (ask.word_is ∙ ap (λ (k : ShapeValue). place (sizes_of k) g.effect.slot) (sym ask.shape_is)) (subst (AsksLawfully g) (sym is_pass) ask.asks)
     (λ s lawful.
     let n : ℕ = word_at (layout g.shape) s.words g.effect.slot in
     let most : n ≤ (sizes_of g.shape).tickets + (sizes_of g.shape).writers =
-        subst (λ (t : Slot). word_at (layout g.shape) s.words t ≤ (sizes_of g.shape).tickets + (sizes_of g.shape).writers) (sym slot)
-        (write_tail_most (layout g.shape) s.words s.views lawful) in
+    subst (λ (t : Slot). word_at (layout g.shape) s.words t ≤ (sizes_of g.shape).tickets + (sizes_of g.shape).writers) (sym slot)
+    (write_tail_most (layout g.shape) s.words s.views lawful) in
     let c = shaped.capacity in let w = shaped.writers in
     let no_wrap : (n + 1) % 2 ^ 64 ≡ n + 1 = mod-eq_of_lt (omega arith) in
     no_wrap ∙ ((let e : n + 1 ≡ suc n = omega arith in e) ∙ ask.change_is n)))
@@ -144,7 +144,7 @@ added key shape g slots id me p word is_key is_pass is bare ask slot =
 pub word_there : (shape : ShapeValue) (g : StepGiven) (p : Pass) (word : ℕ) (f : ℕ → ℕ) → AsksOnWord shape g p word f → word < word_total (sizes_of shape)
 word_there shape g p word f ask =
     subst (λ (w : ℕ). w < word_total (sizes_of shape)) (sym ask.word_is)
-        (place_within (sizes_of shape) g.effect.slot (subst (λ (s : ShapeValue). IsReal (sizes_of s) g.effect.slot) ask.shape_is ask.asks.real))
+    (place_within (sizes_of shape) g.effect.slot (subst (λ (s : ShapeValue). IsReal (sizes_of s) g.effect.slot) ask.shape_is ask.asks.real))
 
 -- Moves.
 pub split_allowed : (shape : ShapeValue) (id : ℕ) (p left right : Pass) (w : Option ℕ) → Rattle.cf_law.specs.Steps.Splits p w left right
@@ -155,7 +155,7 @@ pub join_allowed : (shape : ShapeValue) (id other : ℕ) (p q : Pass) → p.spen
     → Rattle.atomic_table.specs.Table.Joins (IsLawfulState shape) id p other q (joined_pass p q) spent_pass
 join_allowed shape id other p q live s lawful at ne there =
     join_lawful (layout shape) s.words s.views id other p q lawful (get_same s.views id p at)
-        (get_same s.views other q (sym (set_else s.views id other (joined_pass p q) ne) ∙ there)) ne live
+    (get_same s.views other q (sym (set_else s.views id other (joined_pass p q) ne) ∙ there)) ne live
 
 -- The read tail: what is seen may grow.
 pub tail_allowed : (key shape : ShapeValue) (slots id : ℕ) (me : SeatView) (p : Pass) (asked : Bool) → key ≡ shape → me.0 ≡ p → IsShape key → me.1 ≡ []
@@ -164,7 +164,7 @@ tail_allowed key shape slots id me p asked is_key is_pass is bare =
     subst (λ (k : ShapeValue). Allows (IsLawfulState k) slots id me 1 (λ n. n) (λ found n. TellsAll (given_tail shape p asked) me found n)) (sym is_key)
     (step_allowed (given_tail shape p asked) slots id me 1 (λ n. n) (subst IsShape is_key is) bare (sym (place_one (sizes_of shape)))
     (subst (AsksLawfully (given_tail shape p asked)) (sym is_pass)
-        (record { act = Rattle.cf_law.specs.Steps.Act.load_tail asked; lawful = loads_tail asked; real = omega arith }))
+    (record { act = Rattle.cf_law.specs.Steps.Act.load_tail asked; lawful = loads_tail asked; real = omega arith }))
     (λ s lawful. refl))
 
 pub advance_allowed : (key shape : ShapeValue) (slots id : ℕ) (me : SeatView) (p : Pass) (t : ℕ) → key ≡ shape → me.0 ≡ p → IsShape key → me.1 ≡ []
@@ -172,8 +172,8 @@ pub advance_allowed : (key shape : ShapeValue) (slots id : ℕ) (me : SeatView) 
     → Allows (IsLawfulState key) slots id me 1 (λ n. either (n == t) (t + 1) n) (λ found n. TellsSome (given_advance shape p t) me n)
 advance_allowed key shape slots id me p t is_key is_pass is bare may s lawful homes here fits =
     let k = subst
-        (λ (k : ShapeValue). Allows (IsLawfulState k) slots id me 1 (λ n. either (n == t) (t + 1) n)
-        (λ found n. TellsAll (given_advance shape p t) me found n)) (sym is_key)
+    (λ (k : ShapeValue). Allows (IsLawfulState k) slots id me 1 (λ n. either (n == t) (t + 1) n)
+    (λ found n. TellsAll (given_advance shape p t) me found n)) (sym is_key)
     (step_allowed (given_advance shape p t) slots id me 1 (λ n. either (n == t) (t + 1) n) (subst IsShape is_key is) bare (sym (place_one (sizes_of shape)))
     (subst (AsksLawfully (given_advance shape p t)) (sym is_pass) (record { act = Rattle.cf_law.specs.Steps.Act.advance t; lawful = may; real = omega arith }))
     (λ s lawful. advanced_is t (word_at (layout shape) s.words (tail 1)))) s lawful homes here fits in

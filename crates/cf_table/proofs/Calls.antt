@@ -158,7 +158,7 @@ calls_link shape p s t node word may =
 pub calls_head : (shape : ShapeValue) (p : Pass) (l node d o w word : ℕ) → node < shape.writers * shape.nodes → d < 16 → (book_of p).writer < shape.writers
     → w ≡ (book_of p).writer → word ≡ place (sizes_of shape) (head_slot (sizes_of shape) node d w)
     → IsLawfulStep shape p (store_head l node d o) (head_effect shape p l node d o)
-        → AsksOnWord shape (given shape (head_effect shape p l node d o)) p word (λ n. o + 1)
+    → AsksOnWord shape (given shape (head_effect shape p l node d o)) p word (λ n. o + 1)
 calls_head shape p l node d o w word lt dl wl own is may =
     let next : o + 1 ≡ suc o = omega arith in record {
       shape_is = refl;
@@ -180,15 +180,20 @@ pub writes_at : (w : ℕ) (over over' : Bool) (u u' : ℕ) (p : Pass) (b : Book)
     → length b.used ≡ u' → Writes w over' u' (pass_with_book 0 b p)
 writes_at w over over' u u' p b W writer marked used =
     let same = book_is w over u p W in
-    record { book = b; one = ap (λ (bs : List Book). set bs 0 b) W.one; writer_is = writer ∙ (ap (λ (c : Book). c.writer) same ∙ W.writer_is); over_is =
-        marked; used_is = used }
+    record {
+      book = b;
+      one = ap (λ (bs : List Book). set bs 0 b) W.one;
+      writer_is = writer ∙ (ap (λ (c : Book). c.writer) same ∙ W.writer_is);
+      over_is = marked;
+      used_is = used;
+    }
 
 pub writes_kept : (w : ℕ) (over : Bool) (u : ℕ) (p : Pass) (b : Book) → Writes w over u p → b.writer ≡ (book_of p).writer → b.over ≡ (book_of p).over
     → b.used ≡ (book_of p).used → Writes w over u (pass_with_book 0 b p)
 writes_kept w over u p b W writer marked used =
     let same = book_is w over u p W in
     writes_at w over over u u p b W writer (marked ∙ (ap (λ (c : Book). c.over) same ∙ W.over_is))
-        (ap (λ (xs : List Spot). length xs) (used ∙ ap (λ (c : Book). c.used) same) ∙ W.used_is)
+    (ap (λ (xs : List Spot). length xs) (used ∙ ap (λ (c : Book). c.used) same) ∙ W.used_is)
 
 abbrev pub Holding : ℕ → Bool → ℕ → PassValue → Type 0
 Holding w over u h = Writes w over u h.view × (w < 16) × (u ≤ h.nodes) × (h.nodes ≤ 65536)
@@ -230,11 +235,11 @@ linked_by shape w over u m n s t word node found H room made none =
     let is : n.view ≡ pass_with_link 0 (book_of p) s node p 0 = made.told.is ∙ ap (pass_with_link 0 (book_of p) s node p) none in
     let same = book_is w over u p H.0 in
     let used : length (book_with_node s (book_of p)).used ≡ u + 1 = length-append (book_of p).used (s ∷ [])
-        ∙ (let e = ap (λ (c : Book). length c.used) same ∙ (H.0).used_is in omega (arith, e)) in
+    ∙ (let e = ap (λ (c : Book). length c.used) same ∙ (H.0).used_is in omega (arith, e)) in
     holding w over over u (u + 1) m n H made.same
     (subst (Writes w over (u + 1)) (sym is)
-        (writes_at w over over u (u + 1) (pass_with_node s node p) (book_with_node s (book_of p))
-        (writes_same w over u p (pass_with_node s node p) H.0 refl) refl (ap (λ (c : Book). c.over) same ∙ (H.0).over_is) used))
+    (writes_at w over over u (u + 1) (pass_with_node s node p) (book_with_node s (book_of p))
+    (writes_same w over u p (pass_with_node s node p) H.0 refl) refl (ap (λ (c : Book). c.over) same ∙ (H.0).over_is) used))
     (omega arith)
 
 -- a link that found another node
@@ -243,4 +248,4 @@ pub lost_by : (shape : ShapeValue) (w : ℕ) (over : Bool) (u : ℕ) (m n : Pass
 lost_by shape w over u m n s t node zero H made some = absurd (some refl)
 lost_by shape w over u m n s t node (suc found) H made some =
     holding w over over u u m n H made.same
-        (subst (Writes w over u) (sym made.told.is) (writes_same w over u m.view (pass_with_node s found m.view) H.0 refl)) H.2
+    (subst (Writes w over u) (sym made.told.is) (writes_same w over u m.view (pass_with_node s found m.view) H.0 refl)) H.2

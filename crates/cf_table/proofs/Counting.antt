@@ -113,7 +113,7 @@ joined_seen p q le = elim (cases_lt (length p.seen) (length q.seen)) [
   | inl lt ↦
       let t : nat_lt (length p.seen) (length q.seen) ≡ true = grind (arith, nat_tests) in
       let long : length (joined_pass p q).seen ≡ length q.seen = ap (λ (b : Bool). length (grown (length q.seen) q.seen p b).seen) t
-          ∙ ap (λ (es : List Entry). length es) (take-length q.seen) in
+      ∙ ap (λ (es : List Entry). length es) (take-length q.seen) in
       absurd (omega (arith, le, lt, long))
   | inr ge ↦
       let t : nat_lt (length p.seen) (length q.seen) ≡ false = grind (arith, nat_tests) in
@@ -137,7 +137,7 @@ no_more shape p q settled books own joint first =
     (let h = settled.home w lt in
     let mine = ap (λ (xs : List Own). length xs) (settled.all h.0 h.1 h.2) in
     let most = at_most (many 0 q.seen (h.1).writer) (h.1).mine (mine_from (h.1).writer 0 q.seen)
-        (first h.0 h.1 (ap (λ (bs : List Book). slice_get bs h.0) books ∙ h.2)) refl in
+    (first h.0 h.1 (ap (λ (bs : List Book). slice_get bs h.0) books ∙ h.2)) refl in
     subst (λ (v : ℕ). many 0 q.seen v ≤ many 0 p.seen v) h.3 (omega (arith, mine, most))) in
     let le = total_most shape.writers (many 0 q.seen) (many 0 p.seen) few in
     let more = all_counted shape.writers 0 q.seen joint in
@@ -164,5 +164,5 @@ folded_stays shape m q n f bare settled =
     let joint : AreBelow shape.writers j.seen = λ o e at. (told.tells.fit o e at).1 in
     let same : j.seen ≡ p.seen = joined_seen p q (no_more shape p j settled books own joint told.tells.mine) in
     let all : (k : ℕ) (b : Book) → Holds j k b → b.mine ≡ mine_from b.writer 0 j.seen = λ k b at. settled.all k b (held k b at)
-        ∙ ap (mine_from b.writer 0) (sym same) in
+    ∙ ap (mine_from b.writer 0) (sym same) in
     home_stays shape (record m { view = j }) n false f.found f.made home all ∙ same

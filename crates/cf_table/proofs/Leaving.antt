@@ -40,8 +40,8 @@ pub noted_at : (notes : List Note) (m : PassValue) (i : ℕ) (note : Note) → A
 noted_at notes m i note noted lt at =
     let f = first_left m i lt in
     let e : Some note ≡ Some (note_of (book_at m i)) = sym at
-        ∙ (ap (λ (ns : List Note). slice_get ns i) noted.notes_are
-        ∙ (slice_get-map note_of (m.view).books i ∙ ap (λ (x : Option Book). Rattle.std.specs.Option.option_map note_of x) f.1)) in
+    ∙ (ap (λ (ns : List Note). slice_get ns i) noted.notes_are
+    ∙ (slice_get-map note_of (m.view).books i ∙ ap (λ (x : Option Book). Rattle.std.specs.Option.option_map note_of x) f.1)) in
     cc e
 
 pub as_many : (notes : List Note) (m : PassValue) → AreNoted notes (m.view).books m.nodes → length notes ≡ length (m.view).books
@@ -54,7 +54,7 @@ still_of log m t i is same = record { table = ap (λ (h : PassValue). h.table) s
 pub dealt_more : (log : LogValue) (m : PassValue) (i : ℕ) (passes : List PassValue) (h : PassValue) → i < length (m.view).books → length passes ≡ i
     → IsOf h log → h.view ≡ new_pass (book_at m i ∷ []) (m.view).seen
     → ((k : ℕ) (g : PassValue) → slice_get passes k ≡ Some g → IsDealt log m k g) → (k : ℕ) (g : PassValue) → slice_get (passes ++ h ∷ []) k ≡ Some g
-        → IsDealt log m k g
+    → IsDealt log m k g
 dealt_more log m i passes h lt long of view each k g at = elim (cases_Bool (k == i)) [
   | inl t ↦
       let e : k ≡ i = eq_from k i t in
@@ -69,7 +69,7 @@ pub next_left : (m t n : PassValue) (i : ℕ) → i < length (m.view).books → 
 next_left m t n i lt is went =
     let f = first_is m t i lt is in
     went ∙ (ap (λ (bs : List Book). record t { view = record t.view { books = bs } }) f.2
-        ∙ ap (λ (h : PassValue). record h { view = record h.view { books = drop (suc i) (m.view).books } }) is)
+    ∙ ap (λ (h : PassValue). record h { view = record h.view { books = drop (suc i) (m.view).books } }) is)
 
 pub all_left : (m : PassValue) (i : ℕ) → length (m.view).books ≤ i → left_with m i ≡ record m { view = record m.view { books = [] } }
 all_left m i le = ap (λ (bs : List Book). record m { view = record m.view { books = bs } }) (drop_of_length-le (m.view).books le)
@@ -78,7 +78,7 @@ all_left m i le = ap (λ (bs : List Book). record m { view = record m.view { boo
 pub noted_more : (notes all : List Note) (m n q : PassValue) (writer : ℕ) (over : Bool) (used : ℕ) → AreNoted notes (m.view).books m.nodes
     → Holding writer over used q → q.nodes ≡ m.nodes → n.nodes ≡ m.nodes
     → all ≡ notes ++ record { writer = writer; over = over; used = used } ∷ [] → (n.view).books ≡ (m.view).books ++ (q.view).books
-        → AreNoted all (n.view).books n.nodes
+    → AreNoted all (n.view).books n.nodes
 noted_more notes all m n q writer over used noted H same nodes is books =
     let W = H.0 in
     let b = W.book in
@@ -96,12 +96,12 @@ noted_more notes all m n q writer over used noted H same nodes is books =
     go k x at = elim (cases_Bool (k == length (m.view).books)) [
       | inl t ↦
           let here : slice_get ((m.view).books ++ (H.0).book ∷ []) k ≡ Some (H.0).book =
-              ap (slice_get ((m.view).books ++ (H.0).book ∷ [])) (eq_from k (length (m.view).books) t) ∙ get_push_same (m.view).books (H.0).book in
+          ap (slice_get ((m.view).books ++ (H.0).book ∷ [])) (eq_from k (length (m.view).books) t) ∙ get_push_same (m.view).books (H.0).book in
           let e : (H.0).book ≡ x = cc (here, at) in
           let w = ap (λ (c : Book). c.writer) e in
           let u = ap (λ (c : Book). length c.used) e in
           (omega (arith, w, (H.0).writer_is, H.1), omega (arith, u, (H.0).used_is, H.2, same, nodes))
-      | inr t ↦ (let old =
-          noted.bounds k x (sym (get_push_other (m.view).books (H.0).book k (λ f. absurd (cc (sym t ∙ eq_true k (length (m.view).books) f)))) ∙ at) in
+      | inr t ↦ (let old = noted.bounds k x
+          (sym (get_push_other (m.view).books (H.0).book k (λ f. absurd (cc (sym t ∙ eq_true k (length (m.view).books) f)))) ∙ at) in
           (old.0, omega (arith, old.1, nodes)))
     ]

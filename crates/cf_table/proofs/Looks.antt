@@ -28,7 +28,7 @@ tail_loads shape m n asked found before after made steps =
     let p = m.view in
     let es = made.told.entries in
     one_load m n before after
-        (ap (λ (q : Pass). (q.look).count) made.told.is ∙ ap (λ (k : ℕ). k + 1) (sees_or_not p found es (nat_lt (length p.seen) found))) steps
+    (ap (λ (q : Pass). (q.look).count) made.told.is ∙ ap (λ (k : ℕ). k + 1) (sees_or_not p found es (nat_lt (length p.seen) found))) steps
 
 pub word_loads : (shape : ShapeValue) (m n : PassValue) (offset i found before after : ℕ) → HasStepped shape (word_effect shape m.view offset i) m found n
     → after ≡ before + 1 → CountsLoads m n before after

@@ -32,7 +32,7 @@ pub may_take : (shape : ShapeValue) (p : Pass) (r : RowValue) (b : Book) → (la
     → IsLawfulStep shape p (take_ticket r) (take_effect shape p r)
 may_take shape p r b fits one fresh rests =
     subst (λ (c : Book). Step (layout shape) p (take_ticket r) (tail 0) (λ n. suc n) (λ n es. record p { books = book_with_ticket (layout shape) r n c ∷ [] }))
-        (sym (the_book p b one)) (takes r b fits one fresh rests)
+    (sym (the_book p b one)) (takes r b fits one fresh rests)
 
 pub may_store : (shape : ShapeValue) (p : Pass) (b : Book) (f : Flight) (o i value : ℕ) → p.books ≡ b ∷ [] → b.flight ≡ Some f → o ≡ f.offset
     → IsNext (layout shape) (ticket_of b.writer f) i → value ≡ own_word (layout shape) b f.row ((layout shape).use_of i)
@@ -40,15 +40,15 @@ pub may_store : (shape : ShapeValue) (p : Pass) (b : Book) (f : Flight) (o i val
 may_store shape p b f o i value one flies at next is =
     let sh = layout shape in
     let first : Step sh p (store_cell f.offset i (own_word sh b f.row (sh.use_of i))) (cell f.offset i) (λ n. own_word sh b f.row (sh.use_of i))
-        (λ n es. pass_with_book 0 (book_with_word i b f) p) = stores 0 i b f (holds_one p b one, flies) next in
+    (λ n es. pass_with_book 0 (book_with_word i b f) p) = stores 0 i b f (holds_one p b one, flies) next in
     let second = subst (λ (v : ℕ). Step sh p (store_cell f.offset i v) (cell f.offset i) (λ n. v) (λ n es. pass_with_book 0 (book_with_word i b f) p))
-        (sym is) first in
+    (sym is) first in
     let third = subst (λ (k : ℕ). Step sh p (store_cell k i value) (cell k i) (λ n. value) (λ n es. pass_with_book 0 (book_with_word i b f) p))
-        (sym at) second in
+    (sym at) second in
     let fourth = subst (λ (c : Book). Step sh p (store_cell o i value) (cell o i) (λ n. value) (λ n es. pass_with_book 0 (book_with_word i c f) p))
-        (sym (the_book p b one)) third in
+    (sym (the_book p b one)) third in
     subst (λ (g : Flight). Step sh p (store_cell o i value) (cell o i) (λ n. value) (λ n es. pass_with_book 0 (book_with_word i (book_of p) g) p))
-        (sym (the_flight p b f one flies)) fourth
+    (sym (the_flight p b f one flies)) fourth
 
 pub may_finish : (shape : ShapeValue) (p : Pass) (b : Book) (f : Flight) (o : ℕ) → p.books ≡ b ∷ [] → b.flight ≡ Some f → o ≡ f.offset
     → IsWhole (layout shape) (ticket_of b.writer f)
@@ -57,12 +57,12 @@ may_finish shape p b f o one flies at whole linked =
     let sh = layout shape in
     let i = word_count shape.schema + 1 + cell_count shape.lanes in
     let first : Step sh p (finish_record f.offset) (cell f.offset i) (λ n. 1) (λ n es. pass_with_book 0 (book_with_record b f) p) =
-        finishes 0 i b f (holds_one p b one, flies) (omega arith) whole linked in
+    finishes 0 i b f (holds_one p b one, flies) (omega arith) whole linked in
     let second = subst (λ (k : ℕ). Step sh p (finish_record k) (cell k i) (λ n. 1) (λ n es. pass_with_book 0 (book_with_record b f) p)) (sym at) first in
     let third = subst (λ (c : Book). Step sh p (finish_record o) (cell o i) (λ n. 1) (λ n es. pass_with_book 0 (book_with_record c f) p))
-        (sym (the_book p b one)) second in
+    (sym (the_book p b one)) second in
     subst (λ (g : Flight). Step sh p (finish_record o) (cell o i) (λ n. 1) (λ n es. pass_with_book 0 (book_with_record (book_of p) g) p))
-        (sym (the_flight p b f one flies)) third
+    (sym (the_flight p b f one flies)) third
 
 pub may_label : (shape : ShapeValue) (p : Pass) (b : Book) (s : Spot) (t : Slot) (node value : ℕ) → p.books ≡ b ∷ [] → length b.used < shape.nodes
     → IsChild (layout shape) p s t → node ≡ free_node (layout shape) b → value ≡ label_of (layout shape) s t
@@ -70,13 +70,13 @@ pub may_label : (shape : ShapeValue) (p : Pass) (b : Book) (s : Spot) (t : Slot)
 may_label shape p b s t node value one room child is at =
     let sh = layout shape in
     let first : Step sh p (label (free_node sh b) (label_of sh s t)) (body (free_node sh b) 0) (λ n. label_of sh s t)
-        (λ n es. pass_with_book 0 (book_with_label (label_of sh s t) b) p) = labels 0 b s t (holds_one p b one) room child in
+    (λ n es. pass_with_book 0 (book_with_label (label_of sh s t) b) p) = labels 0 b s t (holds_one p b one) room child in
     let second = subst
-        (λ (k : ℕ). Step sh p (label k (label_of sh s t)) (body k 0) (λ n. label_of sh s t) (λ n es. pass_with_book 0 (book_with_label (label_of sh s t) b) p))
-        (sym is) first in
+    (λ (k : ℕ). Step sh p (label k (label_of sh s t)) (body k 0) (λ n. label_of sh s t) (λ n es. pass_with_book 0 (book_with_label (label_of sh s t) b) p))
+    (sym is) first in
     let third = subst (λ (v : ℕ). Step sh p (label node v) (body node 0) (λ n. v) (λ n es. pass_with_book 0 (book_with_label v b) p)) (sym at) second in
     subst (λ (c : Book). Step sh p (label node value) (body node 0) (λ n. value) (λ n es. pass_with_book 0 (book_with_label value c) p))
-        (sym (the_book p b one)) third
+    (sym (the_book p b one)) third
 
 pub may_link : (shape : ShapeValue) (p : Pass) (b : Book) (s : Spot) (t : Slot) (word node : ℕ) → p.books ≡ b ∷ [] → length b.used < shape.nodes
     → IsChild (layout shape) p s t → b.label ≡ label_of (layout shape) s t → word ≡ place (sizes_of shape) t → node ≡ free_node (layout shape) b
@@ -84,10 +84,10 @@ pub may_link : (shape : ShapeValue) (p : Pass) (b : Book) (s : Spot) (t : Slot) 
 may_link shape p b s t word node one room child labelled_as at is =
     let sh = layout shape in
     let first : Step sh p (link (place (sizes_of shape) t) (free_node sh b)) t (λ n. child_word (free_node sh b) n)
-        (λ n es. pass_with_link 0 b s (free_node sh b) p n) = links 0 b s t (holds_one p b one) room child labelled_as in
+    (λ n es. pass_with_link 0 b s (free_node sh b) p n) = links 0 b s t (holds_one p b one) room child labelled_as in
     let second = subst
-        (λ (w : ℕ). Step sh p (link w (free_node sh b)) t (λ n. child_word (free_node sh b) n) (λ n es. pass_with_link 0 b s (free_node sh b) p n))
-        (sym at) first in
+    (λ (w : ℕ). Step sh p (link w (free_node sh b)) t (λ n. child_word (free_node sh b) n) (λ n es. pass_with_link 0 b s (free_node sh b) p n))
+    (sym at) first in
     let third = subst (λ (k : ℕ). Step sh p (link word k) t (λ n. child_word k n) (λ n es. pass_with_link 0 b s k p n)) (sym is) second in
     subst (λ (c : Book). Step sh p (link word node) t (λ n. child_word node n) (λ n es. pass_with_link 0 c s node p n)) (sym (the_book p b one)) third
 
@@ -98,15 +98,15 @@ may_head shape p b f l node d o q one flies at whole fresh leads leaf =
     let sh = layout shape in
     let g = sizes_of shape in
     let first : Step sh p (store_head l node d f.offset) (head_slot g node d b.writer) (λ n. suc f.offset)
-        (λ n es. pass_with_book 0 (book_with_head l b f) p) = heads 0 l d node q b f (holds_one p b one, flies) whole fresh leads leaf in
+    (λ n es. pass_with_book 0 (book_with_head l b f) p) = heads 0 l d node q b f (holds_one p b one, flies) whole fresh leads leaf in
     let second = subst
-        (λ (k : ℕ). Step sh p (store_head l node d k) (head_slot g node d b.writer) (λ n. suc k) (λ n es. pass_with_book 0 (book_with_head l b f) p))
-        (sym at) first in
+    (λ (k : ℕ). Step sh p (store_head l node d k) (head_slot g node d b.writer) (λ n. suc k) (λ n es. pass_with_book 0 (book_with_head l b f) p))
+    (sym at) first in
     let third = subst
-        (λ (c : Book). Step sh p (store_head l node d o) (head_slot g node d c.writer) (λ n. suc o) (λ n es. pass_with_book 0 (book_with_head l c f) p))
-        (sym (the_book p b one)) second in
+    (λ (c : Book). Step sh p (store_head l node d o) (head_slot g node d c.writer) (λ n. suc o) (λ n es. pass_with_book 0 (book_with_head l c f) p))
+    (sym (the_book p b one)) second in
     subst (λ (h : Flight). Step sh p (store_head l node d o) (head_slot g node d (book_of p).writer) (λ n. suc o)
-        (λ n es. pass_with_book 0 (book_with_head l (book_of p) h) p)) (sym (the_flight p b f one flies)) third
+    (λ n es. pass_with_book 0 (book_with_head l (book_of p) h) p)) (sym (the_flight p b f one flies)) third
 
 pub may_child : (shape : ShapeValue) (p : Pass) (s : Spot) (t : Slot) (word : ℕ) → word ≡ place (sizes_of shape) t → IsChild (layout shape) p s t
     → IsLawfulStep shape p (load_child word) (child_effect shape p s t)

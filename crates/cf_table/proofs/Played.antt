@@ -68,7 +68,7 @@ pub labels_knot : (shape : ShapeValue) (row : RowValue) (p : Pass) → HasOneLan
 labels_knot shape row p l is =
     let room = l.nodes in
     may_label shape p (book_in_flight row [] 0 []) spot_above_leaf (root 0 3) 0 801 (ap (λ (q : Pass). q.books) is) (omega (arith, room))
-        (knot_child shape row p l) (omega arith) (knot_label shape (sym l.place_is))
+    (knot_child shape row p l) (omega arith) (knot_label shape (sym l.place_is))
 
 pub labelled_view : (shape : ShapeValue) (row : RowValue) (m n : PassValue) → m.view ≡ pass_with_first_ticket row
     → HasSteppedUnseen shape (label_effect m.view 0 801) m n → n.view ≡ labelled_pass row
@@ -79,14 +79,14 @@ pub links_knot : (shape : ShapeValue) (row : RowValue) (p : Pass) → HasOneLane
 links_knot shape row p l is =
     let room = l.nodes in
     may_link shape p (record (book_in_flight row [] 0 []) { label = 801 }) spot_above_leaf (root 0 3) 25 0 (ap (λ (q : Pass). q.books) is)
-        (omega (arith, room)) (knot_child shape row p l) (knot_label shape (sym l.place_is)) (sym l.place_is) (omega arith)
+    (omega (arith, room)) (knot_child shape row p l) (knot_label shape (sym l.place_is)) (sym l.place_is) (omega arith)
 
 pub knotted_view : (shape : ShapeValue) (row : RowValue) (m n : PassValue) (found : ℕ) → m.view ≡ labelled_pass row → found ≡ 0
     → HasStepped shape (link_effect m.view spot_above_leaf (root 0 3) 0) m found n → n.view ≡ pass_with_linked_node row 0 []
 knotted_view shape row m n found is none made =
     made.told.is ∙
-        (ap (λ (q : Pass). pass_with_link 0 (book_of q) spot_above_leaf 0 q found) is
-        ∙ ap (λ (k : ℕ). pass_with_link 0 (book_of (labelled_pass row)) spot_above_leaf 0 (labelled_pass row) k) none)
+    (ap (λ (q : Pass). pass_with_link 0 (book_of q) spot_above_leaf 0 q found) is
+    ∙ ap (λ (k : ℕ). pass_with_link 0 (book_of (labelled_pass row)) spot_above_leaf 0 (labelled_pass row) k) none)
 
 -- the reader's first step
 pub finds_knot : (shape : ShapeValue) (row : RowValue) (p : Pass) → HasOneLane shape row
@@ -98,8 +98,8 @@ pub found_view : (shape : ShapeValue) (m n : PassValue) (found : ℕ) → m.view
 found_view shape m n found is one made =
     let w = place (sizes_of shape) (root 0 3) in
     ap (λ (q : Pass). q.known) made.told.is
-        ∙ (ap (λ (q : Pass). (pass_with_child w spot_above_leaf q found).known) is
-        ∙ ap (λ (k : ℕ). (pass_with_child w spot_above_leaf (new_pass [] []) k).known) one)
+    ∙ (ap (λ (q : Pass). (pass_with_child w spot_above_leaf q found).known) is
+    ∙ ap (λ (k : ℕ). (pass_with_child w spot_above_leaf (new_pass [] []) k).known) one)
 
 -- the words
 next_plain : (shape : ShapeValue) (w i : ℕ) (row : RowValue) → i < word_count shape.schema + 1 → IsNext (layout shape) (ticket_of w (flight row i [])) i
@@ -163,7 +163,7 @@ stores_cell shape row p i l last is =
     } in
     may_store shape p b (flight row i []) 0 i 0 (ap (λ (q : Pass). q.books) is) refl refl next
     (sym (ap (λ (u : Use). own_word (layout shape) b row u) stands
-        ∙ (ap (λ (o : Option (List ℕ)). own_lane_word (layout shape) b row 0 0 o) l.path ∙ no_version shape row (5 ∷ 3 ∷ []) l.bare)))
+    ∙ (ap (λ (o : Option (List ℕ)). own_lane_word (layout shape) b row 0 0 o) l.path ∙ no_version shape row (5 ∷ 3 ∷ []) l.bare)))
 
 -- the head
 whole : (shape : ShapeValue) (row : RowValue) (linked : List ℕ) → HasOneLane shape row
@@ -183,7 +183,7 @@ pub heads_row : (shape : ShapeValue) (row : RowValue) (p : Pass) → HasOneLane 
 heads_row shape row p l is =
     let n = word_count shape.schema + 2 in
     may_head shape p (book_in_flight row (spot_above_leaf ∷ []) n []) (flight row n []) 0 0 5 0 (3 ∷ []) (ap (λ (q : Pass). q.books) is) refl refl
-        (whole shape row [] l) has_none l.path
+    (whole shape row [] l) has_none l.path
     (0, ap (λ (q : Pass). slice_get q.known 0) is)
 
 pub headed_view : (shape : ShapeValue) (row : RowValue) (m n : PassValue) (k : ℕ) → m.view ≡ pass_with_linked_node row k []
@@ -219,7 +219,7 @@ pub finishes_row : (shape : ShapeValue) (row : RowValue) (p : Pass) → IsShape 
 finishes_row shape row p lawful l is =
     let n = word_count shape.schema + 2 in
     may_finish shape p (book_in_flight row (spot_above_leaf ∷ []) n (0 ∷ [])) (flight row n (0 ∷ [])) 0 (ap (λ (q : Pass). q.books) is) refl refl
-        (whole shape row (0 ∷ []) l)
+    (whole shape row (0 ∷ []) l)
     (λ lane q leads. linked lane q ((layout_law shape lawful).lanes row lane q leads))
   where
     linked : (lane : ℕ) (q : List ℕ) → lane < length shape.lanes → has (0 ∷ []) lane ≡ true

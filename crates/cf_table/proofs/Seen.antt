@@ -47,8 +47,8 @@ advance_seen shape p q t found le told =
     let ahead = told.tells.ahead 1 (omega arith) refl in
     let far : suc t ≤ cond (found == t) (suc t) found = elim (cases_Bool (found == t)) [
       | inl e ↦ (let f : cond (found == t) (suc t) found ≡ suc t = ap (λ (b : Bool). cond b (suc t) found) e in omega (arith, f))
-      | inr e ↦ (let f : cond (found == t) (suc t) found ≡ found = ap (λ (b : Bool). cond b (suc t) found) e in let ne : found ≡ t → ⊥ =
-          grind (arith, nat_tests) in omega (arith, f, ne))
+      | inr e ↦ (let f : cond (found == t) (suc t) found ≡ found = ap (λ (b : Bool). cond b (suc t) found) e in let ne : found ≡ t
+          → ⊥ = grind (arith, nat_tests) in omega (arith, f, ne))
     ] in
     ap (λ (r : Pass). length r.seen) told.is ∙ (sees_length (suc t) told.entries p (omega (arith, long, far)) ∙ omega arith)
 
@@ -64,9 +64,9 @@ pub advance_kept : (shape : ShapeValue) (t covered r : ℕ) (m n : SeatView) (p 
     → covered ≡ length m.0.seen → r ≡ max covered (t + 1) → m.0.spent ≡ false → (n.1 ≡ []) × (r ≡ length n.0.seen) × (n.0.spent ≡ false)
 advance_kept shape t covered r m n p is may some counted result live =
     let told = subst
-        (λ (q : Pass). StepTells (layout shape) q (tail 1) (advance_effect p t).after some.found
-        (cond (some.found == t) (suc t) some.found) n.0) is some.all.told in
+    (λ (q : Pass). StepTells (layout shape) q (tail 1) (advance_effect p t).after some.found
+    (cond (some.found == t) (suc t) some.found) n.0) is some.all.told in
     let more = advance_seen shape p n.0 t some.found
-        (advance_asks (layout shape) p t (tail 1) (advance_effect p t).change (advance_effect p t).after may).0 told in
+    (advance_asks (layout shape) p t (tail 1) (advance_effect p t).change (advance_effect p t).after may).0 told in
     let same : length m.0.seen ≡ length p.seen = ap (λ (q : Pass). length q.seen) is in
     (some.all.bare, omega (arith, more, same), some.all.lives ∙ live)

@@ -91,8 +91,8 @@ advance_far shape p q t found le told =
     let ahead = told.tells.ahead 1 (omega arith) refl in
     elim (cases_Bool (found == t)) [
       | inl e ↦ (let f : cond (found == t) (suc t) found ≡ suc t = ap (λ (b : Bool). cond b (suc t) found) e in omega (arith, f, long))
-      | inr e ↦ (let f : cond (found == t) (suc t) found ≡ found = ap (λ (b : Bool). cond b (suc t) found) e in let ne : found ≡ t → ⊥ =
-          grind (arith, nat_tests) in omega (arith, f, ne, long))
+      | inr e ↦ (let f : cond (found == t) (suc t) found ≡ found = ap (λ (b : Bool). cond b (suc t) found) e in let ne : found ≡ t
+          → ⊥ = grind (arith, nat_tests) in omega (arith, f, ne, long))
     ]
 
 pub moved_advance : (shape : ShapeValue) (m n : PassValue) (t : ℕ) → t ≤ length (m.view).seen → HasSteppedUnseen shape (advance_effect m.view t) m n → Moved m n
@@ -133,7 +133,7 @@ advance_stays shape m n t may stored settled =
     let moved = moved_advance shape m n t le stored in
     let told = stored.made.told in
     let below : AreBelow shape.writers (n.view).seen =
-        λ o e at. elim (sees_at (suc t) told.entries p o e (sym (ap (λ (q : Pass). slice_get q.seen o) told.is) ∙ at)) [
+    λ o e at. elim (sees_at (suc t) told.entries p o e (sym (ap (λ (q : Pass). slice_get q.seen o) told.is) ∙ at)) [
       | inl old ↦ (told.tells.fit o e old).1
       | inr new ↦ (told.fit o e new).1
     ] in

@@ -64,7 +64,7 @@ counting_known shape w f m n link next o left rest start steps more c is le one 
 pub counting_new : (shape : ShapeValue) (w : ℕ) (f m n : PassValue) (link next left rest start steps more : ℕ) → IsCounting shape w f m link left start steps
     → met_of (n.view).cursor ≡ (link - 1, w) ∷ met_of (m.view).cursor → ((v : ℕ) → Met m.view (link - 1) v → v ≡ w)
     → 0 < link → length (f.view).seen ≤ link - 1 → link ≤ shape.capacity → next ≤ link - 1 → left ≡ rest → more ≡ steps + 1
-        → IsCounting shape w f n next rest start more
+    → IsCounting shape w f n next rest start more
 counting_new shape w f m n link next left rest start steps more c is apart some past low le one tick =
     let o = link - 1 in
     let before = c.count in
@@ -137,7 +137,7 @@ reached_one places o t (suc n) out low lt = elim (cases_eq o (t + n)) [
   | inr ne ↦
       let a = reached_one places o t n out low (omega (arith, lt, ne)) in
       let x : ◌≡◌ {A = ℕ} (cond (has (o ∷ places) (t + n)) 1 0) (cond (has places (t + n)) 1 0) =
-          ap (λ (b : Bool). cond {A = ℕ} b 1 0) (has_other o (t + n) places ne) in
+      ap (λ (b : Bool). cond {A = ℕ} b 1 0) (has_other o (t + n) places ne) in
       omega (arith, a, x)
 ]
 
@@ -188,7 +188,7 @@ all_more shape m n t w next start found more all steps after far one sum c s =
       | inr t ↦ t
     ] in
     let within : (o : ℕ) → has fresh o ≡ true → (t ≤ o) × (o < t + (shape.capacity - t)) =
-        λ o h. (let a = went.within o h in (omega (arith, a.0, far), omega (arith, a.0, a.1, far))) in
+    λ o h. (let a = went.within o h in (omega (arith, a.0, far), omega (arith, a.0, a.1, far))) in
     let r = reached_both fresh c.places t (shape.capacity - t) went.distinct within out in
     let before = c.count in
     let these = s.steps in

@@ -37,7 +37,7 @@ one_group : (shape : ShapeValue) (lane k : ℕ) (rows : List RowValue)
 one_group shape lane k rows =
     ap (λ (rs : List RowValue). quad_of (map (measure_of shape lane) rs))
     (filter_agree (is_keyed_between shape lane k k) (has_key shape lane k)
-        (λ row. ap (λ (b : Bool). selected_by shape lane row && b) (between_one k (key_of shape lane row))) rows)
+    (λ row. ap (λ (b : Bool). selected_by shape lane row && b) (between_one k (key_of shape lane row))) rows)
 
 -- a test that lets more through
 filter_less : (p q : RowValue → Bool) → ((x : RowValue) → p x ≡ true → q x ≡ true) → (xs : List RowValue) → length (filter p xs) ≤ length (filter q xs)
@@ -90,9 +90,9 @@ pub none_found : (shape : ShapeValue) (lane first high last : ℕ) (seen : List 
 none_found shape lane first high last seen found before is there fit top m none =
     let from = m.from in
     let e : (total_over shape lane (is_keyed_between shape lane first last) (rows_in seen)).count ≡ 0 =
-        sym (ap (λ (q : QuadValue). q.count) (total_of shape lane first high last seen found is there fit top m)) ∙ none in
+    sym (ap (λ (q : QuadValue). q.count) (total_of shape lane first high last seen found is there fit top m)) ∙ none in
     let out = none_kept (is_grouped shape lane (rows_in seen)) first (last - first + 1)
-        (λ i lt. none_grouped shape lane first last (first + i) (rows_in seen) e (omega arith) (omega (arith, lt, from))) in
+    (λ i lt. none_grouped shape lane first last (first + i) (rows_in seen) e (omega arith) (omega (arith, lt, from))) in
     record {
       from = from;
       upto = m.upto;
@@ -103,12 +103,12 @@ none_found shape lane first high last seen found before is there fit top m none 
 pub one_found : (shape : ShapeValue) (lane first high last : ℕ) (seen : List Entry) (found : QuadValue) (before after : List Group) → IsShape shape
     → lane < length shape.lanes → ((o : ℕ) (e : Entry) → slice_get seen o ≡ Some e → IsFit (layout shape) e) → high < 16 ^ levels_of shape lane
     → HasMeasured shape lane first high seen found last → 0 < found.count → last ≡ first → after ≡ before ++ record { key = first; quad = found } ∷ []
-        → HasGrouped shape lane first high (rows_in seen) before after last
+    → HasGrouped shape lane first high (rows_in seen) before after last
 one_found shape lane first high last seen found before after is there fit top m some one push =
     let rows = rows_in seen in
     let e : found ≡ (group_of shape lane rows first).1 =
     total_of shape lane first high last seen found is there fit top m
-        ∙ (ap (λ (k : ℕ). total_over shape lane (is_keyed_between shape lane first k) rows) one ∙ one_group shape lane first rows) in
+    ∙ (ap (λ (k : ℕ). total_over shape lane (is_keyed_between shape lane first k) rows) one ∙ one_group shape lane first rows) in
     let n : last - first + 1 ≡ 1 = omega (arith, one) in
     let c : (group_of shape lane rows first).1.count ≡ found.count = ap (λ (q : QuadValue). q.count) (sym e) in
     let g : is_grouped shape lane rows first ≡ true = ap not (ne_eqb ((group_of shape lane rows first).1.count) 0 (λ f. omega (arith, f, c, some))) in
@@ -136,7 +136,7 @@ groups_more shape lane rows low n m =
     let f = group_of shape lane rows in
     ap (λ (ks : List ℕ). map f (filter p ks)) (range_more low n m)
     ∙ (ap (map f) (filter-append p (range_with_len low n) (range_with_len (low + n) m))
-        ∙ map-append f (filter p (range_with_len low n)) (filter p (range_with_len (low + n) m)))
+    ∙ map-append f (filter p (range_with_len low n)) (filter p (range_with_len (low + n) m)))
 
 pub grouped_then : (shape : ShapeValue) (lane low high first last : ℕ) (rows old : List RowValue) (before middle after : List Group) → old ≡ rows
     → HasGrouped shape lane low high rows before middle first → HasGrouped shape lane (first + 1) high old middle after last
@@ -152,7 +152,7 @@ grouped_then shape lane low high first last rows old before middle after same a 
       upto = b.upto;
       found = b.found
           ∙ (ap₂ (λ (xs ys : List Group). xs ++ ys) a.found
-              (ap (λ (rs : List RowValue). map as_group (groups_from shape lane rs (first + 1) (last - (first + 1) + 1))) same)
+          (ap (λ (rs : List RowValue). map as_group (groups_from shape lane rs (first + 1) (last - (first + 1) + 1))) same)
           ∙ (append_assoc before (map as_group xs) (map as_group (groups_from shape lane rows (first + 1) (last - (first + 1) + 1)))
           ∙ (ap (λ (gs : List Group). before ++ gs) (sym (map-append as_group xs (groups_from shape lane rows (first + 1) (last - (first + 1) + 1))))
           ∙ ap (λ (gs : List (ℕ × QuadValue)). before ++ map as_group gs)
@@ -203,5 +203,5 @@ all_groups shape lane top seen found is there fit most h =
     (λ q. any_range p q 0 n (omega arith)
     ∙ (and_all (nat_lt q (0 + n)) (p q) (λ yes'. lt-ltb q (0 + n)
     (let lt = grouped_small shape lane q (16 ^ levels_of shape lane) seen (λ o e at. key_small shape lane e.row is there (fits_of shape e (fit o e at)))
-        (keys_grouped shape lane q rows ∙ yes') in omega (arith, lt, most)))
+    (keys_grouped shape lane q rows ∙ yes') in omega (arith, lt, most)))
     ∙ (sym (keys_grouped shape lane q rows) ∙ sym (any_ascending ks q)))))

@@ -80,7 +80,7 @@ values_at f p rows = ap (λ (rs : List RowValue). map f (filter p rs)) (sym (tak
 picked_value : (f : RowValue → ℕ) (g : ℕ → ℕ) (a b : Bool) (o : ℕ) (r : RowValue) (xs : List (ℕ × RowValue)) → f r ≡ g o
     → map f (map (λ (y : ℕ × RowValue). y.1) xs) ≡ map g (map (λ (y : ℕ × RowValue). y.0) xs)
     → map f (map (λ (y : ℕ × RowValue). y.1) (cond a (cond b ((o, r) ∷ []) []) [] ++ xs)) ≡ map g
-        (map (λ (y : ℕ × RowValue). y.0) (cond a (cond b ((o, r) ∷ []) []) [] ++ xs))
+    (map (λ (y : ℕ × RowValue). y.0) (cond a (cond b ((o, r) ∷ []) []) [] ++ xs))
 picked_value f g true true o r xs e rest = ap₂ (λ (v : ℕ) (vs : List ℕ). v ∷ vs) e rest
 picked_value f g true false o r xs e rest = rest
 picked_value f g false b o r xs e rest = rest
@@ -110,7 +110,7 @@ leaf_values shape lane key seen zero = refl
 leaf_values shape lane key seen (suc w) =
     let g = λ (o : ℕ). measure_of shape lane (row_at (rows_in seen) o) in
     ap₂ (λ (xs ys : List ℕ). xs ++ ys) (leaf_values shape lane key seen w)
-        (chain_values (measure_of shape lane) (layout shape) w (leaf_of shape lane key) seen (length seen))
+    (chain_values (measure_of shape lane) (layout shape) w (leaf_of shape lane key) seen (length seen))
     ∙ sym (map-append g (leaf_places shape lane key seen w) (chain_places shape lane key seen w))
 
 -- Ranges of keys, one after the other.
@@ -125,7 +125,7 @@ pub leaf_measured : (shape : ShapeValue) (lane key high : ℕ) (seen : List Entr
 leaf_measured shape lane key high seen found le is =
     let ps = leaf_places shape lane key seen shape.writers in
     measured_by shape lane key high seen ps found key (leaf_over shape lane key high seen [] ps le refl)
-        (is ∙ ap quad_of (leaf_values shape lane key seen shape.writers))
+    (is ∙ ap quad_of (leaf_values shape lane key seen shape.writers))
 
 pub gap_measured : (shape : ShapeValue) (lane key high span : ℕ) (seen : List Entry) → key ≤ high → 0 < span → IsGap shape lane key span seen
     → HasMeasured shape lane key high seen (record { count = 0; sum = 0; least = 0; greatest = 0 }) (key + min (span - 1 - key % span) (high - key))
@@ -143,7 +143,7 @@ measured_then shape lane low high first last seen old total quad merged same a b
     let y : WentOver shape lane (first + 1) high seen xs (xs ++ ys) last = record { from = b.from; upto = b.upto; found = refl } in
     measured_by shape lane low high seen (xs ++ ys) merged last (over_then shape lane low high first last seen seen [] xs (xs ++ ys) refl x y)
     (both (map g xs) (map g ys) a.quad
-        (b.quad ∙ ap (λ (es : List Entry). quad_of (amounts_at shape lane es (range_places shape lane (first + 1) es (last - (first + 1) + 1)))) same)
+    (b.quad ∙ ap (λ (es : List Entry). quad_of (amounts_at shape lane es (range_places shape lane (first + 1) es (last - (first + 1) + 1)))) same)
     ∙ ap quad_of (sym (map-append g xs ys)))
 
 -- The places found are those of rows that were seen, each once.

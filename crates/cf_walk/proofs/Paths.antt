@@ -38,7 +38,7 @@ alike_above levels before key (suc d) i le a b same = elim (cases_eq i (suc d)) 
       let less : suc d - 1 ≡ d = omega arith in
       let above : before / 16 ^ (levels - (suc d - 1)) ≡ key / 16 ^ (levels - (suc d - 1)) = sym up ∙ (ap (λ (n : ℕ). n / 16) same ∙ up') in
       alike_above levels before key d i (omega (arith, le)) a (omega (arith, b, ne))
-          (subst (λ (n : ℕ). before / 16 ^ (levels - n) ≡ key / 16 ^ (levels - n)) less above)
+      (subst (λ (n : ℕ). before / 16 ^ (levels - n) ≡ key / 16 ^ (levels - n)) less above)
 ]
 
 -- the nodes that are on the key's path too
@@ -55,9 +55,9 @@ path_turns shape lane levels old new p all is nodes most common =
       knows = λ i a b.
           let same : old.key / 16 ^ (levels_of shape lane - i) ≡ new.key / 16 ^ (levels_of shape lane - i) =
           alike_above (levels_of shape lane) old.key new.key new.depth i (omega (arith, inner, most)) a b
-              (subst (λ (l : ℕ). old.key / 16 ^ (l - new.depth) ≡ new.key / 16 ^ (l - new.depth)) all (common (omega (arith, a, b)))) in
+          (subst (λ (l : ℕ). old.key / 16 ^ (l - new.depth) ≡ new.key / 16 ^ (l - new.depth)) all (common (omega (arith, a, b)))) in
           subst (λ (n : ℕ). Knows p (spot_above shape lane new.key i) n) (sym (node i))
-              (subst (λ (v : ℕ). Knows p (spot lane (nibbles i v)) (slice_index_or old.nodes i 0)) same (is.knows i a (omega (arith, b, most))));
+          (subst (λ (v : ℕ). Knows p (spot lane (nibbles i v)) (slice_index_or old.nodes i 0)) same (is.knows i a (omega (arith, b, most))));
     }
 
 -- one node more
@@ -74,7 +74,7 @@ path_longer shape lane level node old new p is key nodes depth next low most wit
   knows = λ i a b. elim (cases_eq i level) [
     | inl e ↦ subst (λ (n : ℕ). Knows p (spot_above shape lane new.key i) n) (sym (here i e))
         (subst (λ (k : ℕ). Knows p (spot_above shape lane new.key k) node) (sym e)
-            (subst (λ (k : ℕ). Knows p (spot_above shape lane k level) node) (sym key) knows))
+        (subst (λ (k : ℕ). Knows p (spot_above shape lane k level) node) (sym key) knows))
     | inr ne ↦ subst (λ (n : ℕ). Knows p (spot_above shape lane new.key i) n) (sym (there i ne))
         (subst (λ (k : ℕ). Knows p (spot_above shape lane k i) (slice_index_or old.nodes i 0)) (sym key) (is.knows i a (omega (arith, b, depth, next, ne))))
   ];
@@ -99,7 +99,7 @@ path_knows shape lane level key path p is same next some =
     let e : path.depth ≡ level - 1 = omega (arith, next) in
     subst (λ (k : ℕ). Knows p (spot_above shape lane key k) (slice_index_or path.nodes path.depth 0)) e
     (subst (λ (k : ℕ). Knows p (spot_above shape lane k path.depth) (slice_index_or path.nodes path.depth 0)) same
-        (is.knows path.depth (omega (arith, next, some)) (omega arith)))
+    (is.knows path.depth (omega (arith, next, some)) (omega arith)))
 
 -- a node that was found is that of the path's key
 pub path_node : (shape : ShapeValue) (lane key old level node span : ℕ) (p : Pass) → old ≡ key → span ≡ 16 ^ (levels_of shape lane - level)

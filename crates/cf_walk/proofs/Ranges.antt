@@ -15,7 +15,7 @@ chain_nothing : (shape : ShapeValue) (lane key k span w : ℕ) (seen : List Entr
 chain_nothing shape lane key k span w seen gap begins =
     ap (λ (xs : List (ℕ × RowValue)). map (λ x. x.0) xs)
     (picks_skip (layout shape) w (leaf_of shape lane k) seen 0 (length seen) (omega arith) (λ i e a b at is. gap i k e at is.1 begins)
-        ∙ picks_zero (layout shape) w (leaf_of shape lane k) seen)
+    ∙ picks_zero (layout shape) w (leaf_of shape lane k) seen)
 
 leaf_nothing : (shape : ShapeValue) (lane key k span n : ℕ) (seen : List Entry) → IsGap shape lane key span seen → k / span ≡ key / span
     → leaf_places shape lane k seen n ≡ []

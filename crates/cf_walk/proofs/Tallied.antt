@@ -69,14 +69,14 @@ picked_in : (sh : Layout) (w : ℕ) (s : Spot) (seen : List Entry) (j : ℕ) (e 
     → count j (picked sh w s seen j) ≡ 1
 picked_in sh w s seen j e at is =
     ap (λ (x : Option Entry). count j (map (λ x. x.0) (pick_at sh w s j x))) at
-        ∙ (ap (λ (xs : List (ℕ × RowValue)). count j (map (λ x. x.0) xs)) (pick_some sh w s j e is) ∙ count_it j j refl)
+    ∙ (ap (λ (xs : List (ℕ × RowValue)). count j (map (λ x. x.0) xs)) (pick_some sh w s j e is) ∙ count_it j j refl)
 
 picked_out : (sh : Layout) (w : ℕ) (s : Spot) (seen : List Entry) (j : ℕ) (x : Option Entry) → slice_get seen j ≡ x
     → ((e : Entry) → slice_get seen j ≡ Some e → IsIn sh w s e → ⊥) → count j (picked sh w s seen j) ≡ 0
 picked_out sh w s seen j None at out = ap (λ (x : Option Entry). count j (map (λ x. x.0) (pick_at sh w s j x))) at
 picked_out sh w s seen j (Some e) at out =
     ap (λ (x : Option Entry). count j (map (λ x. x.0) (pick_at sh w s j x))) at
-        ∙ ap (λ (xs : List (ℕ × RowValue)). count j (map (λ x. x.0) xs)) (pick_none sh w s j e (out e at))
+    ∙ ap (λ (xs : List (ℕ × RowValue)). count j (map (λ x. x.0) xs)) (pick_none sh w s j e (out e at))
 
 flat_else : (j i : ℕ) (a b : Bool) (r : RowValue) → (i ≡ j → ⊥) → count j (map (λ (x : ℕ × RowValue). x.0) (cond a (cond b ((i, r) ∷ []) []) [])) ≡ 0
 flat_else j i false b r ne = refl
@@ -105,7 +105,7 @@ pub chain_has : (sh : Layout) (w : ℕ) (s : Spot) (seen : List Entry) (j : ℕ)
     → count j (chained sh w s seen (length seen)) ≡ 1
 chain_has sh w s seen j e at is =
     sum_one (λ n. count j (chained sh w s seen n)) (λ i. count j (picked sh w s seen i)) (chain_start sh w s seen j) (chain_more sh w s seen j) (length seen) j
-        (slice_get_within seen j e at) (picked_in sh w s seen j e at is)
+    (slice_get_within seen j e at) (picked_in sh w s seen j e at is)
     (λ i lt ne. picked_else sh w s j i (slice_get seen i) ne)
 
 pub chain_lacks : (sh : Layout) (w : ℕ) (s : Spot) (seen : List Entry) (j : ℕ) → ((e : Entry) → slice_get seen j ≡ Some e → IsIn sh w s e → ⊥)
@@ -134,16 +134,16 @@ leaf_has : (shape : ShapeValue) (lane key n : ℕ) (seen : List Entry) (j : ℕ)
     → count j (leaf_places shape lane key seen n) ≡ 1
 leaf_has shape lane key n seen j e at lt leaf =
     sum_one (λ k. count j (leaf_places shape lane key seen k)) (λ w. count j (chain_places shape lane key seen w)) (leaf_start shape lane key seen j)
-        (leaf_one shape lane key seen j) n e.writer lt
+    (leaf_one shape lane key seen j) n e.writer lt
     (chain_has (layout shape) e.writer (leaf_of shape lane key) seen j e at (refl, leaf))
     (λ w lt ne. chain_lacks (layout shape) w (leaf_of shape lane key) seen j
-        (λ x there is. let same : x ≡ e = (let f : Some x ≡ Some e = sym there ∙ at in cc f) in ne (sym (ap (λ (y : Entry). y.writer) (sym same) ∙ is.0))))
+    (λ x there is. let same : x ≡ e = (let f : Some x ≡ Some e = sym there ∙ at in cc f) in ne (sym (ap (λ (y : Entry). y.writer) (sym same) ∙ is.0))))
 
 leaf_lacks : (shape : ShapeValue) (lane key n : ℕ) (seen : List Entry) (j : ℕ) → ((e : Entry) → slice_get seen j ≡ Some e → InLeaf shape lane key e → ⊥)
     → count j (leaf_places shape lane key seen n) ≡ 0
 leaf_lacks shape lane key n seen j out =
     sum_none (λ k. count j (leaf_places shape lane key seen k)) (λ w. count j (chain_places shape lane key seen w)) (leaf_start shape lane key seen j)
-        (leaf_one shape lane key seen j) n
+    (leaf_one shape lane key seen j) n
     (λ w lt. chain_lacks (layout shape) w (leaf_of shape lane key) seen j (λ e at is. out e at is.1))
 
 -- In a range.
@@ -172,8 +172,8 @@ leaf_key shape lane k e small low is = elim (cases_Bool (selected_by shape lane 
         same_from_nibbles (levels_of shape lane) (key_of shape lane e.row) k small low g,
   )
   | inr no' ↦ absurd
-      (let f : ◌≡◌ {A = Option (List ℕ)} None (Some (nibbles (levels_of shape lane) k)) =
-      sym (ap (λ (b : Bool). cond {A = Option (List ℕ)} b (Some (nibbles (levels_of shape lane) (key_of shape lane e.row))) None) no') ∙ is in cc f)
+      (let f : ◌≡◌ {A = Option (List ℕ)} None (Some (nibbles (levels_of shape lane) k)) = sym
+      (ap (λ (b : Bool). cond {A = Option (List ℕ)} b (Some (nibbles (levels_of shape lane) (key_of shape lane e.row))) None) no') ∙ is in cc f)
 ]
 
 same_entry : (seen : List Entry) (j : ℕ) (x e : Entry) → slice_get seen j ≡ Some x → slice_get seen j ≡ Some e → x ≡ e
@@ -182,14 +182,14 @@ same_entry seen j x e a b = (let f : Some x ≡ Some e = sym a ∙ b in cc f)
 range_has : (shape : ShapeValue) (lane low n : ℕ) (seen : List Entry) (j : ℕ) (e : Entry) → slice_get seen j ≡ Some e → e.writer < shape.writers
     → selected_by shape lane e.row ≡ true → key_of shape lane e.row < 16 ^ levels_of shape lane
     → low ≤ key_of shape lane e.row → key_of shape lane e.row < low + n → ((i : ℕ) → i < n → low + i < 16 ^ levels_of shape lane)
-        → count j (range_places shape lane low seen n) ≡ 1
+    → count j (range_places shape lane low seen n) ≡ 1
 range_has shape lane low n seen j e at writer sel small from upto bound =
     let key = key_of shape lane e.row in
     let here : low + (key - low) ≡ key = omega (arith, from) in
     sum_one (λ m. count j (range_places shape lane low seen m)) (λ i. count j (leaf_places shape lane (low + i) seen shape.writers))
-        (range_start shape lane low seen j) (range_one shape lane low seen j) n (key - low) (omega (arith, from, upto))
+    (range_start shape lane low seen j) (range_one shape lane low seen j) n (key - low) (omega (arith, from, upto))
     (ap (λ (k : ℕ). count j (leaf_places shape lane k seen shape.writers)) here
-        ∙ leaf_has shape lane key shape.writers seen j e at writer (leads shape lane e sel))
+    ∙ leaf_has shape lane key shape.writers seen j e at writer (leads shape lane e sel))
     (λ i lt ne. leaf_lacks shape lane (low + i) shape.writers seen j (λ x there is.
     let same : x ≡ e = same_entry seen j x e there at in
     let k = leaf_key shape lane (low + i) e small (bound i lt) (subst (InLeaf shape lane (low + i)) same is) in
@@ -199,10 +199,10 @@ range_has shape lane low n seen j e at writer sel small from upto bound =
 range_lacks : (shape : ShapeValue) (lane low n : ℕ) (seen : List Entry) (j : ℕ)
     → ((e : Entry) → slice_get seen j ≡ Some e → key_of shape lane e.row < 16 ^ levels_of shape lane) → ((i : ℕ) → i < n → low + i < 16 ^ levels_of shape lane)
     → ((e : Entry) → slice_get seen j ≡ Some e → selected_by shape lane e.row ≡ true → low ≤ key_of shape lane e.row → key_of shape lane e.row < low + n → ⊥)
-        → count j (range_places shape lane low seen n) ≡ 0
+    → count j (range_places shape lane low seen n) ≡ 0
 range_lacks shape lane low n seen j small bound out =
     sum_none (λ m. count j (range_places shape lane low seen m)) (λ i. count j (leaf_places shape lane (low + i) seen shape.writers))
-        (range_start shape lane low seen j) (range_one shape lane low seen j) n
+    (range_start shape lane low seen j) (range_one shape lane low seen j) n
     (λ i lt. leaf_lacks shape lane (low + i) shape.writers seen j (λ e at is.
     let k = leaf_key shape lane (low + i) e (small e at) (bound i lt) is in
     let eq = k.1 in
@@ -217,7 +217,7 @@ kept_more : (p : ℕ → Bool) (j n : ℕ)
 kept_more p j n =
     let e : suc n ≡ n + 1 = omega arith in
     ap (λ (k : ℕ). count j (filter p (range_with_len 0 k))) e
-        ∙ (ap (count j) (place_more p n) ∙ count_both j (filter p (range_with_len 0 n)) (cond (p n) (n ∷ []) []))
+    ∙ (ap (count j) (place_more p n) ∙ count_both j (filter p (range_with_len 0 n)) (cond (p n) (n ∷ []) []))
 
 place_else : (j i : ℕ) (b : Bool) → (i ≡ j → ⊥) → count j (cond b (i ∷ []) []) ≡ 0
 place_else j i true ne = count_else j i ne
@@ -284,7 +284,7 @@ as_often shape lane low high n seen is there fit covers j =
                 ∙ sym (place_has p j (length (rows_in seen)) (omega (arith, lt, long)) (ap (is_keyed_between shape lane low high) (sym row) ∙ t))
             | inr t ↦
                 range_lacks shape lane low n seen j
-                    (λ x h. subst (λ (y : Entry). key_of shape lane y.row < 16 ^ levels_of shape lane) (same_entry seen j e x at h) small) covers.bound
+                (λ x h. subst (λ (y : Entry). key_of shape lane y.row < 16 ^ levels_of shape lane) (same_entry seen j e x at h) small) covers.bound
                 (λ x h s from upto.
                 let same : x ≡ e = same_entry seen j x e h at in
                 let s' : sel ≡ true = ap (λ (y : Entry). selected_by shape lane y.row) (sym same) ∙ s in
@@ -292,7 +292,7 @@ as_often shape lane low high n seen is there fit covers j =
                 let low' : low ≤ key = omega (arith, from, k) in
                 let high' : key ≤ high = covers.outside key low' (omega (arith, upto, k)) in
                 let t' = both_true sel (is_between low high key) s'
-                    (both_true (nat_le low key) (nat_le key high) (le-leb low key low') (le-leb key high high')) in
+                (both_true (nat_le low key) (nat_le key high) (le-leb low key low') (le-leb key high high')) in
                 absurd (cc (t, t')))
                 ∙ sym (place_lacks p j (length (rows_in seen)) (λ h. ap (is_keyed_between shape lane low high) (sym row) ∙ t))
           ]
@@ -316,7 +316,7 @@ pub sorted_are : (passes : RowValue → Bool) (rows : List RowValue) (found sort
 sorted_are passes rows found sorted same moved up =
     let ps = places passes rows in
     sort_leaves found sorted moved up
-        ∙ (sort_is_one found ps same ∙ climbing_is_one (sort ps) ps (climbs_sort ps) (climbs_rise ps (places_rise passes rows)) (λ n. count_sort n ps))
+    ∙ (sort_is_one found ps same ∙ climbing_is_one (sort ps) ps (climbs_sort ps) (climbs_rise ps (places_rise passes rows)) (λ n. count_sort n ps))
 
 pub covers_some : (shape : ShapeValue) (lane low high top upto : ℕ) → top + 1 ≡ 16 ^ levels_of shape lane → upto ≡ min high top → low ≤ upto
     → Covers shape lane low high (upto - low + 1)

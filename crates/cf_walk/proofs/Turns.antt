@@ -52,7 +52,7 @@ turn_child shape p lane (suc (suc j)) front node is turn =
     let at = node_turn lane (suc (suc j)) front node (λ e. absurd (omega (arith, e))) in
     let up : suc (suc j) - 1 ≡ suc j = omega arith in
     let k : Knows p (spot lane (nibbles (suc j) (front / 16))) node =
-        subst (λ (n : ℕ). Knows p (spot lane (nibbles n (front / 16))) node) up (turn.knows some) in
+    subst (λ (n : ℕ). Knows p (spot lane (nibbles n (front / 16))) node) up (turn.knows some) in
     let w : node < shape.writers * shape.nodes = turn.within some in
     let few : front % 16 < 16 = omega arith in
     record {

@@ -31,7 +31,7 @@ pub cell_only : (shape : ShapeValue) (m n : PassValue) (o l i found : ℕ) → H
 cell_only shape m n o l i found made =
     let told = made.told in
     walked_by m n _ _ _ made.same told.is
-        (λ r k known. subst (λ (ks : List (Spot × ℕ)). (j : ℕ) × (slice_get ks j ≡ Some (r, k))) (sym (ap (λ (p : Pass). p.known) told.is)) known)
+    (λ r k known. subst (λ (ks : List (Spot × ℕ)). (j : ℕ) × (slice_get ks j ≡ Some (r, k))) (sym (ap (λ (p : Pass). p.known) told.is)) known)
 
 pub three_words : (shape : ShapeValue) (l : ℕ) → is_measured shape l ≡ true → cell_words (lane_at shape l) ≡ 3
 three_words shape l measured = ap (λ (b : Bool). cond {A = ℕ} b 3 1) measured
@@ -46,8 +46,8 @@ version_is shape m n lane key w o i found seen x there small same made =
     let fits = before_fits shape.lanes lane there in
     let at : slice_get (m.view).seen o ≡ Some x.entry = ap (λ (es : List Entry). slice_get es o) same ∙ x.at in
     let told : found ≡ version_word sh lane i (picks sh (x.entry).writer (spot lane (nibbles (levels_of shape lane) key)) (m.view).seen o) (x.entry).row =
-        (made.told.tells.entry o k refl).cells x.entry lane i (nibbles (levels_of shape lane) key) at (omega (arith, fits, small))
-        (version_at shape lane i there small) (x.stands).1 in
+    (made.told.tells.entry o k refl).cells x.entry lane i (nibbles (levels_of shape lane) key) at (omega (arith, fits, small))
+    (version_at shape lane i there small) (x.stands).1 in
     told ∙ ap₂ (λ (v : ℕ) (es : List Entry). version_word sh lane i (picks sh v (leaf_of shape lane key) es o) (x.entry).row) (x.stands).0 same
 
 -- the newest of a chain lies below its end
@@ -71,7 +71,7 @@ top_picks sh w s seen (suc o) =
 -- what the lane measures of the entry and of those before it
 pub amounts_upto : (shape : ShapeValue) (lane key w o : ℕ) (seen : List Entry) (x : IsEntryOf shape lane key w o seen)
     → amounts_below shape lane key seen w (o + 1) ≡ map (λ y. measure_of shape lane y)
-        ((x.entry).row ∷ map (λ y. y.1) (picks (layout shape) w (leaf_of shape lane key) seen o))
+    ((x.entry).row ∷ map (λ y. y.1) (picks (layout shape) w (leaf_of shape lane key) seen o))
 amounts_upto shape lane key w o seen x =
     let sh = layout shape in
     let s = leaf_of shape lane key in
@@ -79,22 +79,22 @@ amounts_upto shape lane key w o seen x =
     ap (amounts_below shape lane key seen w) next
     ∙ ap (λ (xs : List (ℕ × RowValue)). map (λ y. measure_of shape lane y) (map (λ y. y.1) xs))
     (picks_next sh w s seen o
-        ∙ (ap (λ (e : Option Entry). pick_at sh w s o e ++ picks sh w s seen o) x.at
-        ∙ ap (λ (xs : List (ℕ × RowValue)). xs ++ picks sh w s seen o) (pick_some sh w s o x.entry x.stands)))
+    ∙ (ap (λ (e : Option Entry). pick_at sh w s o e ++ picks sh w s seen o) x.at
+    ∙ ap (λ (xs : List (ℕ × RowValue)). xs ++ picks sh w s seen o) (pick_some sh w s o x.entry x.stands)))
 
 -- the four numbers of the words
 pub quad_words : (shape : ShapeValue) (lane o first sum ends : ℕ) (c : List (ℕ × RowValue)) (r : RowValue) → is_measured shape lane ≡ true
     → link_to_newest c ≤ o → o < 2 ^ 32 → IsQuad (quad_of (map (λ y. measure_of shape lane y) (r ∷ map (λ y. y.1) c)))
     → first ≡ version_word (layout shape) lane 0 c r → sum ≡ version_word (layout shape) lane 1 c r → ends ≡ version_word (layout shape) lane 2 c r
     → ◌≡◌ {A = QuadValue} (record { count = first / 4294967296; sum = sum; least = ends % 4294967296; greatest = ends / 4294967296 })
-        (quad_of (map (λ y. measure_of shape lane y) (r ∷ map (λ y. y.1) c)))
+    (quad_of (map (λ y. measure_of shape lane y) (r ∷ map (λ y. y.1) c)))
 unfolding version_word
 quad_words shape lane o first sum ends c r measured le small counts a b d =
     let q = quad_of (map (λ y. measure_of shape lane y) (r ∷ map (λ y. y.1) c)) in
     let low = counts.least_is_low in
     let n : ◌≡◌ {A = ℕ} (cond (is_measured shape lane) (length c + 1) 0) (length c + 1) = ap (λ (t : Bool). cond {A = ℕ} t (length c + 1) 0) measured in
     let long : length (map (λ y. measure_of shape lane y) (r ∷ map (λ y. y.1) c)) ≡ length c + 1 =
-        length-map (r ∷ map (λ y. y.1) c) (λ y. measure_of shape lane y) ∙ (let e = length-map c (λ (y : ℕ × RowValue). y.1) in omega (arith, e)) in
+    length-map (r ∷ map (λ y. y.1) c) (λ y. measure_of shape lane y) ∙ (let e = length-map c (λ (y : ℕ × RowValue). y.1) in omega (arith, e)) in
     let count : first / 4294967296 ≡ q.count = omega (arith, a, n, le, small, long) in
     let least : ends % 4294967296 ≡ q.least = omega (arith, d, low) in
     let greatest : ends / 4294967296 ≡ q.greatest = omega (arith, d, low) in
@@ -122,7 +122,7 @@ low_picks shape lane w s seen zero low =
     (sym (picks_zero (layout shape) w s seen)) tt
 low_picks shape lane w s seen (suc o) low =
     subst (λ (xs : List (ℕ × RowValue)). AreLow (map (λ y. measure_of shape lane y) (map (λ (y : ℕ × RowValue). y.1) xs)))
-        (sym (picks_next (layout shape) w s seen o))
+    (sym (picks_next (layout shape) w s seen o))
     (low_pick shape lane w s o (slice_get seen o) (picks (layout shape) w s seen o) (low o) (low_picks shape lane w s seen o low))
 
 fits_low : (shape : ShapeValue) (lane : ℕ) (e : Entry) → IsShape shape → lane < length shape.lanes → IsFit (layout shape) e
@@ -139,7 +139,7 @@ pub read : (shape : ShapeValue) (m a b c : PassValue) (lane key w o first sum en
     → is_measured shape lane ≡ true → o < shape.capacity → IsEntryOf shape lane key w o (m.view).seen
     → ((k : ℕ) (e : Entry) → slice_get (m.view).seen k ≡ Some e → IsFit (layout shape) e) → (a.view).seen ≡ (m.view).seen → (b.view).seen ≡ (m.view).seen
     → HasStepped shape (cell_effect shape m.view o lane 0) m first a → HasStepped shape (cell_effect shape a.view o lane 1) a sum b
-        → HasStepped shape (cell_effect shape b.view o lane 2) b ends c → IsRead shape lane key w o (m.view).seen first sum ends
+    → HasStepped shape (cell_effect shape b.view o lane 2) b ends c → IsRead shape lane key w o (m.view).seen first sum ends
 read shape m a b c lane key w o first sum ends is there measured few x fit sa sb ma mb mc =
     let seen = (m.view).seen in
     let three = three_words shape lane measured in
@@ -148,12 +148,12 @@ read shape m a b c lane key w o first sum ends is there measured few x fit sa sb
     let capacity = is.capacity in
     let low = low_picks shape lane w (leaf_of shape lane key) seen o (λ k e at. fits_low shape lane e is there (fit k e at)) in
     let counts : IsQuad (quad_of (map (λ y. measure_of shape lane y) (r ∷ map (λ y. y.1) before))) =
-        quad_is_lawful (map (λ y. measure_of shape lane y) (r ∷ map (λ y. y.1) before)) (fits_low shape lane x.entry is there (fit o x.entry x.at), low) in
+    quad_is_lawful (map (λ y. measure_of shape lane y) (r ∷ map (λ y. y.1) before)) (fits_low shape lane x.entry is there (fit o x.entry x.at), low) in
     let words = quad_words shape lane o first sum ends before r measured (top_picks (layout shape) w (leaf_of shape lane key) seen o)
-        (omega (arith, few, capacity)) counts
+    (omega (arith, few, capacity)) counts
     (version_is shape m a lane key w o 0 first seen x there (omega (arith, three)) refl ma)
-        (version_is shape a b lane key w o 1 sum seen x there (omega (arith, three)) sa mb)
-        (version_is shape b c lane key w o 2 ends seen x there (omega (arith, three)) sb mc) in
+    (version_is shape a b lane key w o 1 sum seen x there (omega (arith, three)) sa mb)
+    (version_is shape b c lane key w o 2 ends seen x there (omega (arith, three)) sb mc) in
     record {
       quad = words ∙ ap quad_of (sym (amounts_upto shape lane key w o seen x));
       lawful = subst IsQuad (sym words) counts;
@@ -165,11 +165,13 @@ walk_keeps : (o l i n : ℕ) (c : Option Cursor) (k : ℕ) (x : ℕ × ℕ) → 
 walk_keeps o l i n None k x at = (k, at)
 walk_keeps o l (suc i) n (Some c) k x at = (k, at)
 walk_keeps o l zero n (Some c) k x at = elim (cases_Bool (c.link == suc o)) [
-  | inr e ↦ (k,
-      ap (λ (b : Bool). slice_get
-      (met_of (cond b
-      (cond (c.spot.lane == l) (Some record { writer = c.writer; spot = c.spot; link = n % 2 ^ 32; gone = o ∷ c.gone; met = (o, c.writer) ∷ c.met }) (Some c))
-      (Some c))) k) e ∙ at)
+  | inr e ↦ (
+    k,
+    ap (λ (b : Bool). slice_get
+        (met_of (cond b
+        (cond (c.spot.lane == l) (Some record { writer = c.writer; spot = c.spot; link = n % 2 ^ 32; gone = o ∷ c.gone; met = (o, c.writer) ∷ c.met }) (Some c))
+        (Some c))) k) e ∙ at,
+  )
   | inl e ↦ elim (cases_Bool (c.spot.lane == l)) [
     | inr f ↦ (
       k,
@@ -178,8 +180,8 @@ walk_keeps o l zero n (Some c) k x at = elim (cases_Bool (c.link == suc o)) [
           (cond (c.spot.lane == l) (Some record { writer = c.writer; spot = c.spot; link = n % 2 ^ 32; gone = o ∷ c.gone; met = (o, c.writer) ∷ c.met })
           (Some c)) (Some c))) k) e
           ∙ (ap (λ (b : Bool). slice_get
-              (met_of (cond b (Some record { writer = c.writer; spot = c.spot; link = n % 2 ^ 32; gone = o ∷ c.gone; met = (o, c.writer) ∷ c.met })
-              (Some c))) k) f ∙ at),
+          (met_of (cond b (Some record { writer = c.writer; spot = c.spot; link = n % 2 ^ 32; gone = o ∷ c.gone; met = (o, c.writer) ∷ c.met })
+          (Some c))) k) f ∙ at),
     )
     | inl f ↦ (
       suc k,
@@ -188,8 +190,8 @@ walk_keeps o l zero n (Some c) k x at = elim (cases_Bool (c.link == suc o)) [
           (cond (c.spot.lane == l) (Some record { writer = c.writer; spot = c.spot; link = n % 2 ^ 32; gone = o ∷ c.gone; met = (o, c.writer) ∷ c.met })
           (Some c)) (Some c))) (suc k)) e
           ∙ (ap (λ (b : Bool). slice_get
-              (met_of (cond b (Some record { writer = c.writer; spot = c.spot; link = n % 2 ^ 32; gone = o ∷ c.gone; met = (o, c.writer) ∷ c.met }) (Some c)))
-              (suc k)) f ∙ at),
+          (met_of (cond b (Some record { writer = c.writer; spot = c.spot; link = n % 2 ^ 32; gone = o ∷ c.gone; met = (o, c.writer) ∷ c.met }) (Some c)))
+          (suc k)) f ∙ at),
     )
   ]
 ]
@@ -206,7 +208,7 @@ pub no_amounts : (shape : ShapeValue) (lane key w link : ℕ) (seen : List Entry
     → ◌≡◌ {A = QuadValue} (record { count = 0; sum = 0; least = 0; greatest = 0 }) (quad_of (amounts_below shape lane key seen w (length seen)))
 no_amounts shape lane key w link seen none same =
     ap (λ (xs : List (ℕ × RowValue)). quad_of (map (λ y. measure_of shape lane y) (map (λ y. y.1) xs)))
-        (sym (picks_zero (layout shape) w (leaf_of shape lane key) seen) ∙ (ap (picks (layout shape) w (leaf_of shape lane key) seen) (sym none) ∙ same))
+    (sym (picks_zero (layout shape) w (leaf_of shape lane key) seen) ∙ (ap (picks (layout shape) w (leaf_of shape lane key) seen) (sym none) ∙ same))
 
 pub same_amounts : (shape : ShapeValue) (lane key w link : ℕ) (seen : List Entry) → 0 < link
     → picks (layout shape) w (leaf_of shape lane key) seen link ≡ picks (layout shape) w (leaf_of shape lane key) seen (length seen)
@@ -214,7 +216,7 @@ pub same_amounts : (shape : ShapeValue) (lane key w link : ℕ) (seen : List Ent
 same_amounts shape lane key w link seen some same =
     let e : link - 1 + 1 ≡ link = omega (arith, some) in
     ap (λ (xs : List (ℕ × RowValue)). quad_of (map (λ y. measure_of shape lane y) (map (λ y. y.1) xs)))
-        (ap (picks (layout shape) w (leaf_of shape lane key) seen) e ∙ same)
+    (ap (picks (layout shape) w (leaf_of shape lane key) seen) e ∙ same)
 
 pub entry_of : (shape : ShapeValue) (lane key w link : ℕ) (seen old : List Entry) (p : Pass) → old ≡ seen → 0 < link → link ≤ length seen
     → IsWalking shape seen w (leaf_of shape lane key) link p → IsEntryOf shape lane key w (link - 1) old
@@ -231,8 +233,13 @@ quad_steps shape w f m n link before steps after found c keeps more =
     let went = c.went in
     record {
       fresh = c.fresh;
-      went = record { distinct = went.distinct; within = went.within; met = λ o h. keeps o w (went.met o h); apart = went.apart; keeps =
-          λ o v x. keeps o v (went.keeps o v x) };
+      went = record {
+        distinct = went.distinct;
+        within = went.within;
+        met = λ o h. keeps o w (went.met o h);
+        apart = went.apart;
+        keeps = λ o v x. keeps o v (went.keeps o v x);
+      };
       steps = omega (arith, count, more);
     }
 
@@ -273,5 +280,5 @@ pub amounts_next : (shape : ShapeValue) (lane key w next : ℕ) (seen old : List
 unfolding leaf_amounts
 amounts_next shape lane key w next seen old total quad merged one same a b both' =
     both' (leaf_amounts shape lane key seen w) (amounts_below shape lane key seen w (length seen)) a
-        (b ∙ ap (λ (es : List Entry). quad_of (amounts_below shape lane key es w (length es))) same)
+    (b ∙ ap (λ (es : List Entry). quad_of (amounts_below shape lane key es w (length es))) same)
     ∙ ap (λ (k : ℕ). quad_of (leaf_amounts shape lane key seen k)) (sym one)

@@ -103,21 +103,21 @@ pub record HasBegun (shape : ShapeValue) (m n : PassValue) (w : ℕ) (s : Spot) 
 pub begun : (shape : ShapeValue) (m n : PassValue) (lane key node w found : ℕ) → 0 < levels_of shape lane → w < shape.writers
     → IsAbove shape lane key node m.view
     → HasStepped shape (walk_effect shape m.view (spot_above shape lane key (levels_of shape lane - 1)) node (key % 16) w) m found n
-        → HasBegun shape m n w (leaf_of shape lane key) found
+    → HasBegun shape m n w (leaf_of shape lane key) found
 begun shape m n lane key node w found some wl above made =
     let told = made.told in
     let q = nibbles (levels_of shape lane - 1) (key / 16 ^ (levels_of shape lane - (levels_of shape lane - 1))) in
     let met = met_of (m.view).cursor in
     let path : nibbles (levels_of shape lane) key ≡ key % 16 ∷ q = leaf_path (levels_of shape lane) key some in
     let long : suc (length q) ≡ levels_of shape lane =
-        (let e = length-nibbles (levels_of shape lane - 1) (key / 16 ^ (levels_of shape lane - (levels_of shape lane - 1))) in omega (arith, e, some)) in
+    (let e = length-nibbles (levels_of shape lane - 1) (key / 16 ^ (levels_of shape lane - (levels_of shape lane - 1))) in omega (arith, e, some)) in
     let tells : WalkTells (layout shape) (m.view).seen (record { writer = w; spot = spot lane (key % 16 ∷ q); link = found; gone = []; met = met }) =
-        told.tells.begins node (key % 16) w lane q refl above.knows long (omega arith) wl in
+    told.tells.begins node (key % 16) w lane q refl above.knows long (omega arith) wl in
     let tells' : WalkTells (layout shape) (m.view).seen (record { writer = w; spot = leaf_of shape lane key; link = found; gone = []; met = met }) =
-        subst (λ (p : List ℕ). WalkTells (layout shape) (m.view).seen (record { writer = w; spot = spot lane p; link = found; gone = []; met = met }))
-        (sym path) tells in
+    subst (λ (p : List ℕ). WalkTells (layout shape) (m.view).seen (record { writer = w; spot = spot lane p; link = found; gone = []; met = met }))
+    (sym path) tells in
     let at : (n.view).cursor ≡ Some (record { writer = w; spot = spot lane (key % 16 ∷ q); link = found; gone = []; met = met }) =
-        ap (λ (p : Pass). p.cursor) told.is in
+    ap (λ (p : Pass). p.cursor) told.is in
     record {
       walked = walked_by m n _ _ _ made.same told.is
           (λ s k known. subst (λ (ks : List (Spot × ℕ)). (i : ℕ) × (slice_get ks i ≡ Some (s, k))) (sym (ap (λ (p : Pass). p.known) told.is)) known);
@@ -153,7 +153,7 @@ pub may_step : (shape : ShapeValue) (p : Pass) (seen : List Entry) (w o : ℕ) (
 may_step shape p seen w o s is there some walking =
     let low = walking.low in
     may_cell shape p o s.lane 0 (omega (arith, low)) there some
-        (inr (inr (record { writer = w; spot = s; link = suc o; gone = walking.gone; met = walking.met }, walking.at, refl, refl)))
+    (inr (inr (record { writer = w; spot = s; link = suc o; gone = walking.gone; met = walking.met }, walking.at, refl, refl)))
 
 pub stepped : (shape : ShapeValue) (m n : PassValue) (w : ℕ) (s : Spot) (seen : List Entry) (o found : ℕ) → IsShape shape → s.lane < length shape.lanes
     → 0 < cell_words (lane_at shape s.lane) → (m.view).seen ≡ seen → IsWalking shape seen w s (suc o) m.view
@@ -170,13 +170,13 @@ stepped shape m n w s seen o found is there some same walking made =
     let within : suc k < sh.sizes.ticket_words = omega (arith, fits, some) in
     let next = found % 2 ^ 32 in
     let tells : WalkTells sh seen (record { writer = w; spot = s; link = next; gone = o ∷ gone; met = (o, w) ∷ met }) =
-        subst (λ (es : List Entry). WalkTells sh es (record { writer = w; spot = s; link = next; gone = o ∷ gone; met = (o, w) ∷ met })) same
-        (told.tells.goes c o k refl walking.at refl use' within) in
+    subst (λ (es : List Entry). WalkTells sh es (record { writer = w; spot = s; link = next; gone = o ∷ gone; met = (o, w) ∷ met })) same
+    (told.tells.goes c o k refl walking.at refl use' within) in
     let falls : next ≤ o = told.tells.falls c o k refl walking.at refl use' within in
     let on : cursor_after_cell o s.lane 0 found (Some c) ≡ Some (record { writer = w; spot = s; link = next; gone = o ∷ gone; met = (o, w) ∷ met }) =
-        moved w s o found gone met in
+    moved w s o found gone met in
     let at : (n.view).cursor ≡ Some (record { writer = w; spot = s; link = next; gone = o ∷ gone; met = (o, w) ∷ met }) = ap (λ (p : Pass). p.cursor) told.is
-        ∙ (ap (cursor_after_cell o s.lane 0 found) walking.at ∙ on) in
+    ∙ (ap (cursor_after_cell o s.lane 0 found) walking.at ∙ on) in
     let skip : picks sh w s seen o ≡ picks sh w s seen next = walk_step sh seen w s o next gone ((o, w) ∷ met) tells walking.above falls in
     record {
       walked = walked_by m n _ _ _ made.same told.is
@@ -194,10 +194,10 @@ stepped shape m n w s seen o found is there some same walking made =
       apart = λ v x. walking.tells.apart o x.0 v refl (ap (λ (xs : List (ℕ × ℕ)). slice_get xs x.0) (sym (ap met_of walking.at)) ∙ x.1);
       known = λ lt. (let e = walking.tells.names o refl lt in
           ap (λ (xs : List (ℕ × RowValue)). map (λ x. x.0) xs)
-              (picks_next sh w s seen o
-              ∙ (ap (λ (x : Option Entry). Rattle.cf_law.specs.Readers.pick_at sh w s o x ++ picks sh w s seen o) e.1
-              ∙ (ap (λ (xs : List (ℕ × RowValue)). xs ++ picks sh w s seen o) (pick_some sh w s o e.0 e.2)
-              ∙ ap (λ (xs : List (ℕ × RowValue)). (o, (e.0).row) ∷ xs) skip))));
+          (picks_next sh w s seen o
+          ∙ (ap (λ (x : Option Entry). Rattle.cf_law.specs.Readers.pick_at sh w s o x ++ picks sh w s seen o) e.1
+          ∙ (ap (λ (xs : List (ℕ × RowValue)). xs ++ picks sh w s seen o) (pick_some sh w s o e.0 e.2)
+          ∙ ap (λ (xs : List (ℕ × RowValue)). (o, (e.0).row) ∷ xs) skip))));
       skips = λ le. picks_next sh w s seen o
           ∙ (ap (λ (x : Option Entry). Rattle.cf_law.specs.Readers.pick_at sh w s o x ++ picks sh w s seen o) (slice_get_past seen o le) ∙ skip);
       new = λ le. ap (λ (xs : List (ℕ × RowValue)). map (λ x. x.0) xs)
@@ -212,7 +212,7 @@ stepped shape m n w s seen o found is there some same walking made =
         let c : Cursor = record { writer = w; spot = s; link = suc o; gone = gone; met = met } in
         let d : Cursor = record { writer = w; spot = s; link = found % 2 ^ 32; gone = o ∷ gone; met = (o, w) ∷ met } in
         ap (λ (b : Bool). cond b (cond (s.lane == s.lane) (Some d) (Some c)) (Some c)) (eq_true (suc o) (suc o) refl)
-            ∙ ap (λ (b : Bool). cond b (Some d) (Some c)) (eq_true s.lane s.lane refl)
+        ∙ ap (λ (b : Bool). cond b (Some d) (Some c)) (eq_true s.lane s.lane refl)
 
     higher : (o next : ℕ) (gone : List ℕ) → ((i : ℕ) → has gone i ≡ true → suc o ≤ i) → next ≤ o → (i : ℕ) → (o ≡ i) ⊎ (has gone i ≡ true) → next ≤ i
     higher o next gone above le i (inl e) = omega (arith, le, e)
@@ -231,8 +231,8 @@ pub kept_all : (shape : ShapeValue) (w : ℕ) (s : Spot) (seen : List Entry) (li
     → items ++ below shape w s seen link ≡ all → items ≡ all
 kept_all shape w s seen link items all none h =
     sym (append-nil items)
-        ∙ (ap (λ (xs : List (ℕ × RowValue)). items ++ map (λ x. x.0) xs) (sym (ap (picks (layout shape) w s seen) none ∙ picks_zero (layout shape) w s seen))
-        ∙ h)
+    ∙ (ap (λ (xs : List (ℕ × RowValue)). items ++ map (λ x. x.0) xs) (sym (ap (picks (layout shape) w s seen) none ∙ picks_zero (layout shape) w s seen))
+    ∙ h)
 
 pub above_long : (shape : ShapeValue) (lane key : ℕ) → 0 < levels_of shape lane
     → suc (length (spot_above shape lane key (levels_of shape lane - 1)).path) ≡ levels_of shape lane

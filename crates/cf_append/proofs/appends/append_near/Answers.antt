@@ -22,7 +22,7 @@ take_ticket-found-requires-clause-lawful g c =
     let low = c.num-number.type_inv in
     let over = ap (λ b. b.over) (Rattle.cf_table.proofs.Mays.the_book c.make_paths.new.pass.view _ c.make_paths.ensures.used.books) in
     may_begin c.args.log.now.shape c.make_paths.new.pass.view c.args.row.now c.requires.fits (omega (arith, is, low)) c.make_paths.ensures.rest
-        (over ∙ (sym c.over.ensures ∙ c.if-over.false))
+    (over ∙ (sym c.over.ensures ∙ c.if-over.false))
 
 pub returns-then-found-from-clause-answer : goal.returns-then-found-from-clause-answer
 returns-then-found-from-clause-answer g c =
@@ -34,10 +34,14 @@ returns-then-found-from-clause-answer g c =
     let wide = c.from.ensures in
     let room = c.capacity.ensures.capacity ∙ ap (λ (x : ShapeValue). x.capacity) c.shape.ensures.shape in
     let P : HasMade s row m p =
-        record { strides = c.make_paths.ensures.strides; used = c.make_paths.ensures.used; leaves = map leaf_of c.in-Some.filed; whole =
-        filings_leaves s row p.view c.in-Some.filed (length s.lanes) c.shape.ensures.lawful (omega arith) c.in-Some.ensures.answer } in
+    record {
+      strides = c.make_paths.ensures.strides;
+      used = c.make_paths.ensures.used;
+      leaves = map leaf_of c.in-Some.filed;
+      whole = filings_leaves s row p.view c.in-Some.filed (length s.lanes) c.shape.ensures.lawful (omega arith) c.in-Some.ensures.answer;
+    } in
     inr (late s row m p c.take_ticket-found.new.pass c.take_ticket-found.result (sym c.over.ensures ∙ c.if-over.false) P
-        (omega (arith, past, wide, room)) c.take_ticket-found.ensures.made)
+    (omega (arith, past, wide, room)) c.take_ticket-found.ensures.made)
 
 pub returns-then-found-from-clause-steps : goal.returns-then-found-from-clause-steps
 returns-then-found-from-clause-steps g c =
@@ -54,7 +58,7 @@ fill_cells-requires-clause-book g c =
     let wide = c.from.ensures in
     let room = c.capacity.ensures.capacity ∙ ap (λ (x : ShapeValue). x.capacity) c.shape.ensures.shape in
     let B : HasBegun s row c.make_paths.new.pass c.take_ticket-found.new.pass c.fill.new.pass c.take_ticket-found.result =
-        record { room = omega (arith, low, wide, room); took = c.take_ticket-found.ensures.made; is = c.fill.ensures.pass } in
+    record { room = omega (arith, low, wide, room); took = c.take_ticket-found.ensures.made; is = c.fill.ensures.pass } in
     begun_book s row c.make_paths.new.pass c.take_ticket-found.new.pass c.fill.new.pass c.take_ticket-found.result B
 
 pub fill_cells-requires-clause-filled : goal.fill_cells-requires-clause-filled
@@ -65,7 +69,7 @@ fill_cells-requires-clause-filled g c =
     let wide = c.from.ensures in
     let room = c.capacity.ensures.capacity ∙ ap (λ (x : ShapeValue). x.capacity) c.shape.ensures.shape in
     let B : HasBegun s row c.make_paths.new.pass c.take_ticket-found.new.pass c.fill.new.pass c.take_ticket-found.result =
-        record { room = omega (arith, low, wide, room); took = c.take_ticket-found.ensures.made; is = c.fill.ensures.pass } in
+    record { room = omega (arith, low, wide, room); took = c.take_ticket-found.ensures.made; is = c.fill.ensures.pass } in
     begun_self s row c.make_paths.new.pass c.take_ticket-found.new.pass c.fill.new.pass c.take_ticket-found.result B
 
 pub fill_cells-requires-clause-filed : goal.fill_cells-requires-clause-filed
@@ -76,9 +80,9 @@ fill_cells-requires-clause-filed g c =
     let wide = c.from.ensures in
     let room = c.capacity.ensures.capacity ∙ ap (λ (x : ShapeValue). x.capacity) c.shape.ensures.shape in
     let B : HasBegun s row c.make_paths.new.pass c.take_ticket-found.new.pass c.fill.new.pass c.take_ticket-found.result =
-        record { room = omega (arith, low, wide, room); took = c.take_ticket-found.ensures.made; is = c.fill.ensures.pass } in
+    record { room = omega (arith, low, wide, room); took = c.take_ticket-found.ensures.made; is = c.fill.ensures.pass } in
     begun_filings s row c.make_paths.new.pass c.take_ticket-found.new.pass c.fill.new.pass c.take_ticket-found.result c.in-Some.filed
-        (length s.lanes) B c.in-Some.ensures.answer
+    (length s.lanes) B c.in-Some.ensures.answer
 
 pub link_all-requires-clause-writer : goal.link_all-requires-clause-writer
 link_all-requires-clause-writer g c =
@@ -116,10 +120,10 @@ link_all-requires-clause-filed g c =
     let wide = c.from.ensures in
     let room = c.capacity.ensures.capacity ∙ ap (λ (x : ShapeValue). x.capacity) c.shape.ensures.shape in
     let B : HasBegun s row c.make_paths.new.pass c.take_ticket-found.new.pass c.fill.new.pass c.take_ticket-found.result =
-        record { room = omega (arith, low, wide, room); took = c.take_ticket-found.ensures.made; is = c.fill.ensures.pass } in
+    record { room = omega (arith, low, wide, room); took = c.take_ticket-found.ensures.made; is = c.fill.ensures.pass } in
     filings_still s row c.fill.new.pass c.fill_cells.new.pass c.in-Some.filed (length s.lanes) c.fill_cells.ensures.strides
     (begun_filings s row c.make_paths.new.pass c.take_ticket-found.new.pass c.fill.new.pass c.take_ticket-found.result c.in-Some.filed
-        (length s.lanes) B c.in-Some.ensures.answer)
+    (length s.lanes) B c.in-Some.ensures.answer)
 
 pub finish_record-requires-clause-lawful : goal.finish_record-requires-clause-lawful
 finish_record-requires-clause-lawful g c =
@@ -136,8 +140,12 @@ returns-clause-answer g c =
     let wide = c.from.ensures in
     let room = c.capacity.ensures.capacity ∙ ap (λ (x : ShapeValue). x.capacity) c.shape.ensures.shape in
     let P : HasMade s row m p =
-        record { strides = c.make_paths.ensures.strides; used = c.make_paths.ensures.used; leaves = map leaf_of c.in-Some.filed; whole =
-        filings_leaves s row p.view c.in-Some.filed (length s.lanes) c.shape.ensures.lawful (omega arith) c.in-Some.ensures.answer } in
+    record {
+      strides = c.make_paths.ensures.strides;
+      used = c.make_paths.ensures.used;
+      leaves = map leaf_of c.in-Some.filed;
+      whole = filings_leaves s row p.view c.in-Some.filed (length s.lanes) c.shape.ensures.lawful (omega arith) c.in-Some.ensures.answer;
+    } in
     let E : HasEnded s row p c.take_ticket-found.new.pass c.fill.new.pass c.fill_cells.new.pass c.link_all.new.pass c.finish_record.new.pass o = record {
       cells = record {
         begun = record { room = omega (arith, low, wide, room); took = c.take_ticket-found.ensures.made; is = c.fill.ensures.pass };
@@ -149,7 +157,7 @@ returns-clause-answer g c =
       finishes = c.finish_record.ensures.made;
     } in
     appended s row m p c.take_ticket-found.new.pass c.fill.new.pass c.fill_cells.new.pass c.link_all.new.pass c.finish_record.new.pass c.move_tail.new.pass o
-        (sym c.over.ensures ∙ c.if-over.false) P E c.move_tail.ensures.books c.move_tail.ensures.stops
+    (sym c.over.ensures ∙ c.if-over.false) P E c.move_tail.ensures.books c.move_tail.ensures.stops
 
 pub returns-clause-stops : goal.returns-clause-stops
 returns-clause-stops g c =
@@ -162,8 +170,12 @@ returns-clause-stops g c =
     let wide = c.from.ensures in
     let room = c.capacity.ensures.capacity ∙ ap (λ (x : ShapeValue). x.capacity) c.shape.ensures.shape in
     let P : HasMade s row m p =
-        record { strides = c.make_paths.ensures.strides; used = c.make_paths.ensures.used; leaves = map leaf_of c.in-Some.filed; whole =
-        filings_leaves s row p.view c.in-Some.filed (length s.lanes) c.shape.ensures.lawful (omega arith) c.in-Some.ensures.answer } in
+    record {
+      strides = c.make_paths.ensures.strides;
+      used = c.make_paths.ensures.used;
+      leaves = map leaf_of c.in-Some.filed;
+      whole = filings_leaves s row p.view c.in-Some.filed (length s.lanes) c.shape.ensures.lawful (omega arith) c.in-Some.ensures.answer;
+    } in
     let E : HasEnded s row p c.take_ticket-found.new.pass c.fill.new.pass c.fill_cells.new.pass c.link_all.new.pass c.finish_record.new.pass o = record {
       cells = record {
         begun = record { room = omega (arith, low, wide, room); took = c.take_ticket-found.ensures.made; is = c.fill.ensures.pass };
@@ -183,7 +195,7 @@ returns-then-found-from-clause-goes_on g c =
     let p = c.make_paths.new.pass in
     let t = c.take_ticket-found.new.pass in
     goes_by m t (strides_then m p t c.make_paths.ensures.strides
-        (late_strides s p t c.take_ticket-found.result c.args.row.now c.take_ticket-found.ensures.made))
+    (late_strides s p t c.take_ticket-found.result c.args.row.now c.take_ticket-found.ensures.made))
 
 pub returns-clause-goes_on : goal.returns-clause-goes_on
 returns-clause-goes_on g c =
@@ -216,7 +228,7 @@ returns-then-found-from-clause-near g c =
     let p = c.make_paths.new.pass in
     let t = c.take_ticket-found.new.pass in
     remembers_still s p.view t.view c.make_paths.new.leaves
-        (late_strides s p t c.take_ticket-found.result row c.take_ticket-found.ensures.made).knows c.make_paths.ensures.near
+    (late_strides s p t c.take_ticket-found.result row c.take_ticket-found.ensures.made).knows c.make_paths.ensures.near
 
 pub returns-clause-near : goal.returns-clause-near
 returns-clause-near g c =
@@ -240,7 +252,7 @@ returns-clause-near g c =
     } in
     let went = ended_strides s row p c.take_ticket-found.new.pass c.fill.new.pass c.fill_cells.new.pass c.link_all.new.pass d o E in
     remembers_still s d.view c.move_tail.new.pass.view c.make_paths.new.leaves (knows_still d.view c.move_tail.new.pass.view c.move_tail.ensures.known)
-        (remembers_still s p.view d.view c.make_paths.new.leaves went.knows c.make_paths.ensures.near)
+    (remembers_still s p.view d.view c.make_paths.new.leaves went.knows c.make_paths.ensures.near)
 
 pub returns-clause-steps : goal.returns-clause-steps
 returns-clause-steps g c =
@@ -263,7 +275,7 @@ returns-clause-steps g c =
     } in
     let before = ap (λ (es : List Entry). length es) c.make_paths.ensures.strides.seen in
     let after = ap (λ (es : List Entry). length es)
-        (ended_strides s row p c.take_ticket-found.new.pass c.fill.new.pass c.fill_cells.new.pass c.link_all.new.pass c.finish_record.new.pass o E).seen in
+    (ended_strides s row p c.take_ticket-found.new.pass c.fill.new.pass c.fill_cells.new.pass c.link_all.new.pass c.finish_record.new.pass o E).seen in
     let one = c.make_paths.ensures.steps in
     let two = c.take_ticket-found.ensures.steps in
     let three = c.fill.ensures.steps in
@@ -304,7 +316,7 @@ returns-clause-near_steps g c = λ kept.
     } in
     let before = ap (λ (es : List Entry). length es) c.make_paths.ensures.strides.seen in
     let after = ap (λ (es : List Entry). length es)
-        (ended_strides s row p c.take_ticket-found.new.pass c.fill.new.pass c.fill_cells.new.pass c.link_all.new.pass c.finish_record.new.pass o E).seen in
+    (ended_strides s row p c.take_ticket-found.new.pass c.fill.new.pass c.fill_cells.new.pass c.link_all.new.pass c.finish_record.new.pass o E).seen in
     let one = c.make_paths.ensures.near_steps kept in
     let two = c.take_ticket-found.ensures.steps in
     let three = c.fill.ensures.steps in

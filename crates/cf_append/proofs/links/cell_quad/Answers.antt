@@ -138,8 +138,8 @@ new-requires g c =
     let m3 = c.load_cell-ends.new.pass in
     let lawful = c.shape-lawful.ensures.lawful in
     let w : IsCell s l
-        (mine_chain (layout s) (spot l g.path) (take N.place b.mine)) N.own.row c.load_cell-first.result c.load_cell-sum.result c.load_cell-ends.result =
-        record {
+    (mine_chain (layout s) (spot l g.path) (take N.place b.mine)) N.own.row c.load_cell-first.result c.load_cell-sum.result c.load_cell-ends.result =
+    record {
       first_is = read_word s m m1 b g.path o l 0 c.load_cell-first.result c.load_cell-first.ensures.made r.1.0 N there (omega (arith, three));
       sum_is = read_word s m1 m2 b g.path o l 1 c.load_cell-sum.result c.load_cell-sum.ensures.made one N there (omega (arith, three));
       ends_is = read_word s m2 m3 b g.path o l 2 c.load_cell-ends.result c.load_cell-ends.ensures.made two N there (omega (arith, three));
@@ -168,8 +168,8 @@ returns-clause-quad g c =
     let m3 = c.load_cell-ends.new.pass in
     let lawful = c.shape-lawful.ensures.lawful in
     let w : IsCell s l
-        (mine_chain (layout s) (spot l g.path) (take N.place b.mine)) N.own.row c.load_cell-first.result c.load_cell-sum.result c.load_cell-ends.result =
-        record {
+    (mine_chain (layout s) (spot l g.path) (take N.place b.mine)) N.own.row c.load_cell-first.result c.load_cell-sum.result c.load_cell-ends.result =
+    record {
       first_is = read_word s m m1 b g.path o l 0 c.load_cell-first.result c.load_cell-first.ensures.made r.1.0 N there (omega (arith, three));
       sum_is = read_word s m1 m2 b g.path o l 1 c.load_cell-sum.result c.load_cell-sum.ensures.made one N there (omega (arith, three));
       ends_is = read_word s m2 m3 b g.path o l 2 c.load_cell-ends.result c.load_cell-ends.ensures.made two N there (omega (arith, three));

@@ -11,7 +11,7 @@ returns-in_default-clause-linked g c =
     let s = c.args.log.now.shape in
     let m = c.args.pass.now in
     linked_skip s m m c.args.offset c.args.lane c.args._row.now c.requires.linked
-        (filed_none s c.args._row.now m.view c.args.lane c.args.filing c.in_default.is c.requires.filing)
+    (filed_none s c.args._row.now m.view c.args.lane c.args.filing c.in_default.is c.requires.filing)
 
 pub store_top-requires : goal.store_top-requires
 store_top-requires g c κs within =
@@ -21,11 +21,17 @@ store_top-requires g c κs within =
     let p = c.args.pass.now.view in
     let at = c.in-Some.at in
     let filed = filed_some s row p l c.args.filing at c.in-Some.is c.requires.filing in
-    let leads = filed_path s row l p at (levels_two s l c.shape-lawful.ensures.lawful c.requires.lane) filed in
-    (within, (c.requires.of,
-        ((filed.node.low, c.requires.writer),
-        may_top s c.args.pass.now c.args.offset l at.leaf (at.key % 16) row
-        (nibbles (levels_of s l - 1) (at.key / 16)) c.requires.linked leads filed.node.knows)))
+    let leads = filed_path s row l p at (levels_two s l c.shape-lawful.ensures.lawful c.requires.lane) filed in (
+      within,
+      (
+        c.requires.of,
+        (
+          (filed.node.low, c.requires.writer),
+          may_top s c.args.pass.now c.args.offset l at.leaf (at.key % 16) row
+              (nibbles (levels_of s l - 1) (at.key / 16)) c.requires.linked leads filed.node.knows,
+        ),
+      ),
+    )
 
 pub returns-clause-linked : goal.returns-clause-linked
 returns-clause-linked g c =
@@ -34,4 +40,4 @@ returns-clause-linked g c =
     let at = c.in-Some.at in
     let filed = filed_some s row c.args.pass.now.view c.args.lane c.args.filing at c.in-Some.is c.requires.filing in
     linked_more s c.args.pass.now c.store_top.new.pass c.args.offset c.args.lane at.leaf
-        (at.key % 16) row c.requires.linked filed.selects c.store_top.ensures.made
+    (at.key % 16) row c.requires.linked filed.selects c.store_top.ensures.made

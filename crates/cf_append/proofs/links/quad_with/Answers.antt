@@ -22,11 +22,19 @@ cell_quad-before-requires g c κs within =
     let b = book_of c.args.pass.now.view in
     let is = c.requires.previous in
     let some = c.if-previous-eq0.false in
-    let at : link_to_newest (leaf_chain s c.args.lane c.args.key b) ≡ Rattle.std.proofs.Common.suc (c.args.previous - 1) = omega (arith, is, some) in
-    (within, (c.requires.of,
-        (c.requires.one,
-        (c.requires.book,
-        ((c.requires.lane, c.requires.measured), newest (layout s) (spot c.args.lane (key_path s c.args.lane c.args.key)) b.mine (c.args.previous - 1) at)))))
+    let at : link_to_newest (leaf_chain s c.args.lane c.args.key b) ≡ Rattle.std.proofs.Common.suc (c.args.previous - 1) = omega (arith, is, some) in (
+      within,
+      (
+        c.requires.of,
+        (
+          c.requires.one,
+          (
+            c.requires.book,
+            ((c.requires.lane, c.requires.measured), newest (layout s) (spot c.args.lane (key_path s c.args.lane c.args.key)) b.mine (c.args.previous - 1) at),
+          ),
+        ),
+      ),
+    )
 
 pub merge-requires : goal.merge-requires
 merge-requires g c =
@@ -45,4 +53,4 @@ returns-clause-quad g c =
     let l = c.args.lane in
     let value = c.measure.ensures ∙ ap (λ (h : ShapeValue). measure_of h l c.args.row.now) c.shape.ensures.shape in
     c.merge.ensures.merged (measure_of s l c.args.row.now ∷ []) (amounts_in_chain s l (leaf_chain s l c.args.key b))
-        (c.add-value.ensures.added [] refl ∙ ap (λ v. quad_of (v ∷ [])) value) c.cell_quad-before.ensures.quad
+    (c.add-value.ensures.added [] refl ∙ ap (λ v. quad_of (v ∷ [])) value) c.cell_quad-before.ensures.quad

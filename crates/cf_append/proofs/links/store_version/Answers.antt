@@ -49,7 +49,7 @@ returns-clause-next g c =
     let s = c.args.log.now.shape in
     let at = c.requires.at in
     let bare : is_measured s c.args.lane ≡ false = ap (λ (h : ShapeValue). is_measured h c.args.lane) (sym c.shape-shape.ensures.shape)
-        ∙ (sym c.measures.ensures ∙ c.if-measures.false) in
+    ∙ (sym c.measures.ensures ∙ c.if-measures.false) in
     omega (arith, at, unmeasured_next s c.args.lane c.requires.lane bare)
 
 pub own_head-previous-requires : goal.own_head-previous-requires
@@ -83,7 +83,7 @@ pub store_cell-requires-clause-lawful : goal.store_cell-requires-clause-lawful
 store_cell-requires-clause-lawful g c =
     let s = c.args.log.now.shape in
     let bare : is_measured s c.args.lane ≡ false = ap (λ (h : ShapeValue). is_measured h c.args.lane) (sym c.shape-shape.ensures.shape)
-        ∙ (sym c.measures.ensures ∙ c.if-measures.false) in
+    ∙ (sym c.measures.ensures ∙ c.if-measures.false) in
     let l = c.args.lane in
     let row = c.args.row.now in
     let key = c.in-Some.at.key in
@@ -91,19 +91,19 @@ store_cell-requires-clause-lawful g c =
     let filed = filed_some s row c.args.pass.now.view l c.args.filing c.in-Some.at c.in-Some.is c.requires.filing in
     let leads = filed_path s row l c.args.pass.now.view c.in-Some.at many filed in
     may_version s c.args.pass.now c.own_head-previous.new.pass c.args.offset l c.args.i c.own_head-previous.result row
-        (key % 16 ∷ nibbles (levels_of s l - 1) (key / 16)) c.requires.filled c.own_head-previous.ensures.books c.requires.lane bare c.requires.at
+    (key % 16 ∷ nibbles (levels_of s l - 1) (key / 16)) c.requires.filled c.own_head-previous.ensures.books c.requires.lane bare c.requires.at
     leads c.own_head-previous.ensures.head
 
 pub returns-clause-strides : goal.returns-clause-strides
 returns-clause-strides g c =
     strides_then c.args.pass.now c.own_head-previous.new.pass c.store_cell.new.pass c.own_head-previous.ensures.strides
-        (store_strides c.args.log.now.shape c.own_head-previous.new.pass c.store_cell.new.pass c.args.offset c.args.i c.own_head-previous.result c.store_cell.ensures.made)
+    (store_strides c.args.log.now.shape c.own_head-previous.new.pass c.store_cell.new.pass c.args.offset c.args.i c.own_head-previous.result c.store_cell.ensures.made)
 
 pub returns-clause-filled : goal.returns-clause-filled
 returns-clause-filled g c =
     let s = c.args.log.now.shape in
     let bare : is_measured s c.args.lane ≡ false = ap (λ (h : ShapeValue). is_measured h c.args.lane) (sym c.shape-shape.ensures.shape)
-        ∙ (sym c.measures.ensures ∙ c.if-measures.false) in
+    ∙ (sym c.measures.ensures ∙ c.if-measures.false) in
     filled_more c.args.log.now.shape c.args.pass.now c.own_head-previous.new.pass c.store_cell.new.pass c.args.offset c.args.lane c.args.i c.own_head-previous.result c.args.row.now c.requires.filled c.own_head-previous.ensures.books c.requires.lane bare c.requires.at c.store_cell.ensures.made
 
 pub quad_with-quad-requires-clause-previous : goal.quad_with-quad-requires-clause-previous
@@ -115,8 +115,8 @@ quad_with-quad-requires-clause-previous g c =
     let m = c.args.pass.now in
     let n = c.own_head-previous.new.pass in
     let previous =
-        head_chain s m n c.args.offset (cell_from s l) c.own_head-previous.result row
-        (spot l (key_path s l key)) c.requires.filled c.own_head-previous.ensures.books c.own_head-previous.ensures.head in
+    head_chain s m n c.args.offset (cell_from s l) c.own_head-previous.result row
+    (spot l (key_path s l key)) c.requires.filled c.own_head-previous.ensures.books c.own_head-previous.ensures.head in
     previous
 
 pub overflow_mul-first : goal.overflow_mul-first
@@ -143,8 +143,8 @@ overflow_add-first g c =
     let m = c.args.pass.now in
     let n = c.own_head-previous.new.pass in
     let previous =
-        head_chain s m n c.args.offset (cell_from s l) c.own_head-previous.result row
-        (spot l (key_path s l key)) c.requires.filled c.own_head-previous.ensures.books c.own_head-previous.ensures.head in
+    head_chain s m n c.args.offset (cell_from s l) c.own_head-previous.result row
+    (spot l (key_path s l key)) c.requires.filled c.own_head-previous.ensures.books c.own_head-previous.ensures.head in
     let own = book_same s m n c.requires.book c.own_head-previous.ensures.books in
     let quad = c.quad_with-quad.ensures.quad in
     let count = ap (λ (q : QuadValue). q.count) quad in
@@ -173,14 +173,14 @@ store_three-requires-clause-words g c =
     let m = c.args.pass.now in
     let n = c.own_head-previous.new.pass in
     let previous =
-        head_chain s m n c.args.offset (cell_from s l) c.own_head-previous.result row
-        (spot l (key_path s l key)) c.requires.filled c.own_head-previous.ensures.books c.own_head-previous.ensures.head in
+    head_chain s m n c.args.offset (cell_from s l) c.own_head-previous.result row
+    (spot l (key_path s l key)) c.requires.filled c.own_head-previous.ensures.books c.own_head-previous.ensures.head in
     let z = c.quad_with-quad.new.pass in
     let measured : is_measured s l ≡ true = ap (λ (x : ShapeValue). is_measured x l) (sym same) ∙ (sym c.measures.ensures ∙ c.if-measures.true) in
     let kept = same_book n z c.quad_with-quad.ensures.books in
     let chain = ap (λ (b : Book). leaf_chain s l key b) (sym kept) in
     let cell = quad_cell s l (leaf_chain s l key (book_of z.view)) row c.quad_with-quad.result c.own_head-previous.result _ _ measured
-        (previous ∙ ap link_to_newest chain)
+    (previous ∙ ap link_to_newest chain)
     (c.quad_with-quad.ensures.quad ∙ ap (λ (d : List (ℕ × RowValue)). quad_of (measure_of s l row ∷ amounts_in_chain s l d)) chain)
     (ap (λ (k : ℕ). c.own_head-previous.result + k * 4294967296) c.count.ensures) (ap₂ (λ (x y : ℕ). x + y * 4294967296) c.least.ensures c.greatest.ensures) in
     record { first_is = cell.first_is; sum_is = c.sum.ensures ∙ cell.sum_is; ends_is = cell.ends_is }
@@ -190,7 +190,7 @@ overflow_add-result-then-measures g c =
     let s = c.args.log.now.shape in
     let at = c.requires.at in
     let measured : is_measured s c.args.lane ≡ true = ap (λ (x : ShapeValue). is_measured x c.args.lane) (sym c.shape-shape.ensures.shape)
-        ∙ (sym c.measures.ensures ∙ c.if-measures.true) in
+    ∙ (sym c.measures.ensures ∙ c.if-measures.true) in
     omega (arith, at, three_words s c.args.lane measured, cell_low s c.args.lane c.requires.lane, ticket_few s c.shape-shape.ensures.lawful)
 
 pub returns-then-measures-clause-next : goal.returns-then-measures-clause-next
@@ -198,5 +198,5 @@ returns-then-measures-clause-next g c =
     let s = c.args.log.now.shape in
     let at = c.requires.at in
     let measured : is_measured s c.args.lane ≡ true = ap (λ (x : ShapeValue). is_measured x c.args.lane) (sym c.shape-shape.ensures.shape)
-        ∙ (sym c.measures.ensures ∙ c.if-measures.true) in
+    ∙ (sym c.measures.ensures ∙ c.if-measures.true) in
     omega (arith, at, three_words s c.args.lane measured, cell_next s c.args.lane c.requires.lane)

@@ -11,8 +11,8 @@ append_all-requires g c =
     let log = c.in_ok-log.log in
     let made = c.in_ok-log.ensures in
     let all = dealt_fresh log c.in_ok-log.root c.deal.new.root c.in_ok-deal.field-0.items
-        (ap (λ (h : PassValue). h.view) made.root) c.in_ok-deal.ensures.dealt in
+    (ap (λ (h : PassValue). h.view) made.root) c.in_ok-deal.ensures.dealt in
     let rest : List PassValue = into_iter_items c.next.new.self in
     let one : c.in_ok-deal.field-0.items ≡ c.expect-pass.result ∷ rest = sym c.into_iter-passes.ensures.rest
-        ∙ (c.next.ensures.items ∙ ap (λ (o : Option PassValue). option_to_list o ++ rest) c.expect-pass.ensures) in
+    ∙ (c.next.ensures.items ∙ ap (λ (o : Option PassValue). option_to_list o ++ rest) c.expect-pass.ensures) in
     record { fresh = fresh_first log c.expect-pass.result rest (subst (AreFresh log) one all) }

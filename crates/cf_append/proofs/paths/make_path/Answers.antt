@@ -88,9 +88,9 @@ returns-clause-near g c =
     let level = ap (λ (k : ℕ). k - 1) (c.levels.ensures ∙ ap (λ (h : ShapeValue). levels_of h l) c.shape-shape.ensures.shape) in
     let near = remembers_still s c.args.pass.now.view q c.args.leaves.now c.make_node.ensures.strides.knows c.requires.near in
     let there = subst
-        (λ (k : ℕ). IsNodeOf s q (spot l (nibbles k (c.key-key.result / 16))) c.in-Some-make_node.leaf) level c.in-Some-make_node.ensures.answer in
+    (λ (k : ℕ). IsNodeOf s q (spot l (nibbles k (c.key-key.result / 16))) c.in-Some-make_node.leaf) level c.in-Some-make_node.ensures.answer in
     subst (Remembers s q) (sym c.keep.ensures)
-        (remembers_more s q c.args.leaves.now l (c.key-key.result / 16) c.in-Some-make_node.leaf c.requires.lane c.shape-shape.ensures.lawful.few near there)
+    (remembers_more s q c.args.leaves.now l (c.key-key.result / 16) c.in-Some-make_node.leaf c.requires.lane c.shape-shape.ensures.lawful.few near there)
 
 -- which leaves are kept
 pub returns-in-Some-clause-kept : goal.returns-in-Some-clause-kept
@@ -107,7 +107,7 @@ returns-clause-kept g c =
     let few = c.shape-shape.ensures.lawful.few in
     let long = c.requires.near.long in
     subst (λ (l : Leaves). KeepsLeaf s c.args.row.now l c.args.lane) (sym c.keep.ensures)
-        (kept_now s c.args.row.now c.args.leaves.now c.args.lane c.key-key.result c.in-Some-make_node.leaf same (omega (arith, low, few, long)))
+    (kept_now s c.args.row.now c.args.leaves.now c.args.lane c.key-key.result c.in-Some-make_node.leaf same (omega (arith, low, few, long)))
 
 pub returns-clause-others : goal.returns-clause-others
 returns-clause-others g c = λ l other.

@@ -75,7 +75,7 @@ loop-lane-preserved-then-not-selects g c =
     let k = c.loop-lane.lane in
     let I = c.loop-lane.invariant in
     let passes = selected_there s c.shape-shape.result.now row k c.selects.result false c.shape-shape.ensures.shape c.selects.ensures c.if-not-selects.true in
-        record {
+    record {
       of = I.of;
       rest = I.rest;
       strides = I.strides;
@@ -99,5 +99,5 @@ returns-in_default-clause-near_steps g c = λ all.
     let low : k < length s.lanes = search rules in
     let passes = selected_there s c.shape-shape.result.now row k c.selects.result true c.shape-shape.ensures.shape c.selects.ensures c.if-not-selects.false in
     c.make_path.ensures.near_steps
-        (keeps_still s row c.args.leaves.now c.loop-lane.leaves k (c.loop-lane.invariant.others k (omega arith)) (all k low passes))
-        ∙ c.loop-lane.invariant.near_steps all
+    (keeps_still s row c.args.leaves.now c.loop-lane.leaves k (c.loop-lane.invariant.others k (omega arith)) (all k low passes))
+    ∙ c.loop-lane.invariant.near_steps all

@@ -16,8 +16,10 @@ take_child-requires g c κs within =
           c.requires.rest,
           (
             next_child c.args.log.now.shape c.args.pass.now.view at c.args.above c.shape.ensures.lawful c.requires.prefix c.requires.more c.requires.above,
-            (c.place_child-place.ensures ∙ ap (λ (s : ShapeValue). place_of s (child c.args.above (at.front % 16))) c.shape.ensures.shape,
-                sym (length-nibbles at.level at.front)),
+            (
+              c.place_child-place.ensures ∙ ap (λ (s : ShapeValue). place_of s (child c.args.above (at.front % 16))) c.shape.ensures.shape,
+              sym (length-nibbles at.level at.front),
+            ),
           ),
         ),
       ),

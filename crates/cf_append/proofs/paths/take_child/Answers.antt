@@ -105,7 +105,7 @@ link-named-requires g c κs within =
         of,
         may_link s o.view _ g.to.0 g.to.1 c.args.place c.in-Some.node (label_books s n o c.in-Some.node _ rest stored) room.0 still
             (let at = c.requires.1.1.1.1.0 in let long = c.requires.1.1.1.1.1 in let is = c.from.ensures in
-                omega (arith, at, long, is)) c.requires.1.1.1.1.0 room.1,
+            omega (arith, at, long, is)) c.requires.1.1.1.1.0 room.1,
       ),
     )
 
@@ -123,8 +123,8 @@ returns-then-named-ne0-clause-strides g c =
     let n = c.load_child-found.new.pass in
     let o = c.label.new.pass in
     strides_then m o c.link-named.new.pass
-        (strides_then m n o (load_strides s m n g.to.0 g.to.1 c.load_child-found.result c.load_child-found.ensures.made)
-        (label_strides s n o c.in-Some.node _ c.label.ensures.made))
+    (strides_then m n o (load_strides s m n g.to.0 g.to.1 c.load_child-found.result c.load_child-found.ensures.made)
+    (label_strides s n o c.in-Some.node _ c.label.ensures.made))
     (link_strides s o c.link-named.new.pass g.to.0 g.to.1 c.in-Some.node c.link-named.result c.link-named.ensures.made)
 
 pub returns-then-named-ne0-clause-used : goal.returns-then-named-ne0-clause-used
@@ -135,7 +135,7 @@ returns-then-named-ne0-clause-used g c =
     let o = c.label.new.pass in
     let books = load_books s m n g.to.0 g.to.1 c.load_child-found.result c.load_child-found.ensures.made in
     used_none _ m c.link-named.new.pass _ _
-        (link_lost s o c.link-named.new.pass g.to.0 g.to.1 c.in-Some.node c.link-named.result c.link-named.ensures.made c.if-named-ne0.true
+    (link_lost s o c.link-named.new.pass g.to.0 g.to.1 c.in-Some.node c.link-named.result c.link-named.ensures.made c.if-named-ne0.true
     ∙ label_books s n o c.in-Some.node _ (rests_same m n c.requires.1.1.0 books) c.label.ensures.made) (same_book m n books)
 
 pub returns-then-named-ne0-clause-answer : goal.returns-then-named-ne0-clause-answer
@@ -149,8 +149,8 @@ returns-clause-strides g c =
     let n = c.load_child-found.new.pass in
     let o = c.label.new.pass in
     strides_then m o c.link-named.new.pass
-        (strides_then m n o (load_strides s m n g.to.0 g.to.1 c.load_child-found.result c.load_child-found.ensures.made)
-        (label_strides s n o c.in-Some.node _ c.label.ensures.made))
+    (strides_then m n o (load_strides s m n g.to.0 g.to.1 c.load_child-found.result c.load_child-found.ensures.made)
+    (label_strides s n o c.in-Some.node _ c.label.ensures.made))
     (link_strides s o c.link-named.new.pass g.to.0 g.to.1 c.in-Some.node c.link-named.result c.link-named.ensures.made)
 
 pub returns-clause-answer : goal.returns-clause-answer

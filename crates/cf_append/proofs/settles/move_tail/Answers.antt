@@ -21,7 +21,7 @@ advance-requires-clause-lawful g c =
     let room = c.capacity-capacity.ensures.capacity ∙ ap (λ (x : ShapeValue). x.capacity) c.shape.ensures.shape in
     let known = c.covered.ensures in
     may_advance s n.view t (omega (arith, seen, at)) (omega (arith, at, low, room, known)) (ap (λ (q : Pass). (q.look).word) look.told.is)
-        (c.look_done.ensures.found.0 c.if-not-look_done.false)
+    (c.look_done.ensures.found.0 c.if-not-look_done.false)
 
 pub loop-pass-preserved : goal.loop-pass-preserved
 loop-pass-preserved g c =
@@ -72,7 +72,7 @@ returns-then-not-look_done-clause-alone g c =
     let low = c.loop-pass-test.true in
     let known = c.covered.ensures in
     all_alone s m n t (n.view.look).value c.look_done.ensures.made
-        (inr (omega (arith, low, room, known), ap (λ (o : ℕ). slot_of s (done o)) at, λ one. other (c.look_done.ensures.found.1 one)))
+    (inr (omega (arith, low, room, known), ap (λ (o : ℕ). slot_of s (done o)) at, λ one. other (c.look_done.ensures.found.1 one)))
   where
     other : c.look_done.result ≡ true → ⊥
     other one = (let f : true ≡ false = sym one ∙ c.if-not-look_done.true in absurd (cc f))
@@ -98,7 +98,7 @@ returns-then-not-look_done-clause-full g c =
     let low = c.loop-pass-test.true in
     let known = c.covered.ensures in
     full_alone s m n t (n.view.look).value c.look_done.ensures.made
-        (inr (omega (arith, low, room, known), ap (λ (o : ℕ). slot_of s (done o)) at, λ one. other (c.look_done.ensures.found.1 one)))
+    (inr (omega (arith, low, room, known), ap (λ (o : ℕ). slot_of s (done o)) at, λ one. other (c.look_done.ensures.found.1 one)))
   where
     other : c.look_done.result ≡ true → ⊥
     other one = (let f : true ≡ false = sym one ∙ c.if-not-look_done.true in absurd (cc f))
@@ -124,7 +124,7 @@ returns-then-not-look_done-clause-paths g c =
     let low = c.loop-pass-test.true in
     let known = c.covered.ensures in
     paths_alone s m n t (n.view.look).value c.look_done.ensures.made
-        (inr (omega (arith, low, room, known), ap (λ (o : ℕ). slot_of s (done o)) at, λ one. other (c.look_done.ensures.found.1 one)))
+    (inr (omega (arith, low, room, known), ap (λ (o : ℕ). slot_of s (done o)) at, λ one. other (c.look_done.ensures.found.1 one)))
   where
     other : c.look_done.result ≡ true → ⊥
     other one = (let f : true ≡ false = sym one ∙ c.if-not-look_done.true in absurd (cc f))
@@ -167,14 +167,14 @@ pub returns-then-not-look_done-clause-loads : goal.returns-then-not-look_done-cl
 returns-then-not-look_done-clause-loads g c =
     let least = c.loop-pass.invariant.loads in
     let loads = done_loads c.args.log.now.shape c.loop-pass.pass c.look_done.new.pass c.covered-t.result
-        (c.look_done.new.pass.view.look).value _ _ c.look_done.ensures.made c.look_done.ensures.steps in
+    (c.look_done.new.pass.view.look).value _ _ c.look_done.ensures.made c.look_done.ensures.steps in
     omega (arith, least, loads)
 
 pub returns-clause-loads : goal.returns-clause-loads
 returns-clause-loads g c =
     let least = c.loop-pass.invariant.loads in
     let loads = done_loads c.args.log.now.shape c.loop-pass.pass c.look_done-2.new.pass 0
-        (c.look_done-2.new.pass.view.look).value _ _ c.look_done-2.ensures.made c.look_done-2.ensures.steps in
+    (c.look_done-2.new.pass.view.look).value _ _ c.look_done-2.ensures.made c.look_done-2.ensures.steps in
     omega (arith, least, loads)
 
 pub returns-then-not-look_done-clause-goes_on : goal.returns-then-not-look_done-clause-goes_on
@@ -186,7 +186,7 @@ returns-then-not-look_done-clause-goes_on g c =
     let t = c.covered-t.result in
     let look = c.look_done.ensures.made in
     goes_on m o (moved_then m n o c.loop-pass.invariant.moved (moved_look s n o t (o.view.look).value look))
-        (known_look s n o t (o.view.look).value look ∙ c.loop-pass.invariant.known)
+    (known_look s n o t (o.view.look).value look ∙ c.loop-pass.invariant.known)
 
 pub returns-clause-goes_on : goal.returns-clause-goes_on
 returns-clause-goes_on g c =
@@ -196,4 +196,4 @@ returns-clause-goes_on g c =
     let o = c.look_done-2.new.pass in
     let look = c.look_done-2.ensures.made in
     goes_on m o (moved_then m n o c.loop-pass.invariant.moved (moved_look s n o 0 (o.view.look).value look))
-        (known_look s n o 0 (o.view.look).value look ∙ c.loop-pass.invariant.known)
+    (known_look s n o 0 (o.view.look).value look ∙ c.loop-pass.invariant.known)

@@ -7,4 +7,4 @@ pub append_each-requires-clause-fresh : goal.append_each-requires-clause-fresh
 append_each-requires-clause-fresh g c =
     let made = c.in_ok-log.ensures in
     dealt_fresh c.in_ok-log.log c.in_ok-log.root c.deal.new.root c.in_ok-passes.passes.items
-        (ap (λ (h : PassValue). h.view) made.root) c.in_ok-passes.ensures.dealt
+    (ap (λ (h : PassValue). h.view) made.root) c.in_ok-passes.ensures.dealt

@@ -17,7 +17,7 @@ take_ticket-found-requires-clause-lawful g c =
     let low = c.num-number.type_inv in
     let over = ap (λ b. b.over) (the_book c.make_paths.new.pass.view _ c.make_paths.ensures.used.books) in
     may_begin c.args.log.now.shape c.make_paths.new.pass.view c.args.row.now c.requires.fits (omega (arith, is, low)) c.make_paths.ensures.rest
-        (over ∙ search rules)
+    (over ∙ search rules)
 
 pub fill_cells-requires-clause-book : goal.fill_cells-requires-clause-book
 fill_cells-requires-clause-book g c =
@@ -31,8 +31,11 @@ fill_cells-requires-clause-book g c =
     let room : o < s.capacity = search (rules, capacity) in
     let found : c.take_ticket-found.result ≡ o = search rules in
     let B : HasBegun s row p t f o =
-        record { room = room; took = subst (λ (k : ℕ). HasStepped s (take_effect s p.view row) p k t) found c.take_ticket-found.ensures.made; is =
-        c.fill.ensures.pass } in
+    record {
+      room = room;
+      took = subst (λ (k : ℕ). HasStepped s (take_effect s p.view row) p k t) found c.take_ticket-found.ensures.made;
+      is = c.fill.ensures.pass;
+    } in
     begun_book s row p t f o B
 
 pub fill_cells-requires-clause-filled : goal.fill_cells-requires-clause-filled
@@ -47,8 +50,11 @@ fill_cells-requires-clause-filled g c =
     let room : o < s.capacity = search (rules, capacity) in
     let found : c.take_ticket-found.result ≡ o = search rules in
     let B : HasBegun s row p t f o =
-        record { room = room; took = subst (λ (k : ℕ). HasStepped s (take_effect s p.view row) p k t) found c.take_ticket-found.ensures.made; is =
-        c.fill.ensures.pass } in
+    record {
+      room = room;
+      took = subst (λ (k : ℕ). HasStepped s (take_effect s p.view row) p k t) found c.take_ticket-found.ensures.made;
+      is = c.fill.ensures.pass;
+    } in
     begun_self s row p t f o B
 
 pub fill_cells-requires-clause-filed : goal.fill_cells-requires-clause-filed
@@ -63,8 +69,11 @@ fill_cells-requires-clause-filed g c =
     let room : o < s.capacity = search (rules, capacity) in
     let found : c.take_ticket-found.result ≡ o = search rules in
     let B : HasBegun s row p t f o =
-        record { room = room; took = subst (λ (k : ℕ). HasStepped s (take_effect s p.view row) p k t) found c.take_ticket-found.ensures.made; is =
-        c.fill.ensures.pass } in
+    record {
+      room = room;
+      took = subst (λ (k : ℕ). HasStepped s (take_effect s p.view row) p k t) found c.take_ticket-found.ensures.made;
+      is = c.fill.ensures.pass;
+    } in
     begun_filings s row p t f o c.in-Some.filed (length s.lanes) B c.in-Some.ensures.answer
 
 pub link_all-requires-clause-writer : goal.link_all-requires-clause-writer
@@ -79,8 +88,11 @@ link_all-requires-clause-writer g c =
     let room : o < s.capacity = search (rules, capacity) in
     let found : c.take_ticket-found.result ≡ o = search rules in
     let B : HasBegun s row p t f o =
-        record { room = room; took = subst (λ (k : ℕ). HasStepped s (take_effect s p.view row) p k t) found c.take_ticket-found.ensures.made; is =
-        c.fill.ensures.pass } in
+    record {
+      room = room;
+      took = subst (λ (k : ℕ). HasStepped s (take_effect s p.view row) p k t) found c.take_ticket-found.ensures.made;
+      is = c.fill.ensures.pass;
+    } in
     let C : HasCells s row p t f c.fill_cells.new.pass o = record { begun = B; strides = c.fill_cells.ensures.strides; filled = c.fill_cells.ensures.filled } in
     cells_writer s row p t f c.fill_cells.new.pass o C
 
@@ -96,8 +108,11 @@ link_all-requires-clause-linked g c =
     let room : o < s.capacity = search (rules, capacity) in
     let found : c.take_ticket-found.result ≡ o = search rules in
     let B : HasBegun s row p t f o =
-        record { room = room; took = subst (λ (k : ℕ). HasStepped s (take_effect s p.view row) p k t) found c.take_ticket-found.ensures.made; is =
-        c.fill.ensures.pass } in
+    record {
+      room = room;
+      took = subst (λ (k : ℕ). HasStepped s (take_effect s p.view row) p k t) found c.take_ticket-found.ensures.made;
+      is = c.fill.ensures.pass;
+    } in
     let C : HasCells s row p t f c.fill_cells.new.pass o = record { begun = B; strides = c.fill_cells.ensures.strides; filled = c.fill_cells.ensures.filled } in
     cells_self s row p t f c.fill_cells.new.pass o C
 
@@ -113,12 +128,15 @@ link_all-requires-clause-filed g c =
     let room : o < s.capacity = search (rules, capacity) in
     let found : c.take_ticket-found.result ≡ o = search rules in
     let B : HasBegun s row p t f o =
-        record { room = room; took = subst (λ (k : ℕ). HasStepped s (take_effect s p.view row) p k t) found c.take_ticket-found.ensures.made; is =
-        c.fill.ensures.pass } in
+    record {
+      room = room;
+      took = subst (λ (k : ℕ). HasStepped s (take_effect s p.view row) p k t) found c.take_ticket-found.ensures.made;
+      is = c.fill.ensures.pass;
+    } in
     filings_still s row f c.fill_cells.new.pass c.in-Some.filed (length s.lanes) c.fill_cells.ensures.strides
-        (begun_filings s row p t f o c.in-Some.filed (length s.lanes) B c.in-Some.ensures.answer)
+    (begun_filings s row p t f o c.in-Some.filed (length s.lanes) B c.in-Some.ensures.answer)
 
 pub returns-clause-linked : goal.returns-clause-linked
 returns-clause-linked g c =
     linked_self c.args.log.now.shape c.args.offset c.args.row.now
-        (length c.args.log.now.shape.lanes) c.fill_cells.new.pass c.link_all.new.pass c.link_all.ensures.linked
+    (length c.args.log.now.shape.lanes) c.fill_cells.new.pass c.link_all.new.pass c.link_all.ensures.linked

@@ -14,7 +14,7 @@ append_twice-requires-clause-ready g c =
     let split : into_iter_items c.loop-pass.pass-iterator ≡ c.in-Some.pass ∷ rest = c.in-Some.ensures.steps.0 in
     let len : c.len.result ≡ n = search rules in
     subst (λ (w : ℕ). IsWriters log w c.in-Some.pass) (sym len)
-        (from_first log n c.in-Some.pass rest (subst (AreWritersFrom log n) split c.loop-pass.invariant.rest))
+    (from_first log n c.in-Some.pass rest (subst (AreWritersFrom log n) split c.loop-pass.invariant.rest))
 
 pub loop-pass-preserved : goal.loop-pass-preserved
 loop-pass-preserved g c =

@@ -8,4 +8,4 @@ append_each-requires-clause-ready g c = dealt_from c.in_ok-shape.shape c.in_ok-l
 pub gather-requires-clause-all : goal.gather-requires-clause-all
 gather-requires-clause-all g c =
     all_from c.in_ok-log.log c.in_ok-done.done.items
-        (c.in_ok-done.ensures.count ∙ (c.in_ok-log.ensures.count ∙ sym c.in_ok-log.ensures.writers)) c.in_ok-done.ensures.ready
+    (c.in_ok-done.ensures.count ∙ (c.in_ok-log.ensures.count ∙ sym c.in_ok-log.ensures.writers)) c.in_ok-done.ensures.ready

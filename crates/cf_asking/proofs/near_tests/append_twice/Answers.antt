@@ -18,8 +18,8 @@ append_again-requires-clause-ready g c =
     let asked = (c.in_ok-answer.ensures.ok).0 in
     let settled = c.settle-settled.ensures in
     same_books log 0 o q
-        (same_books log 0 n o
-        (appended log 0 c.in_ok-row.row m n c.append_near-first.result c.requires.ready e.goes_on e.rest e.answer) asked.same asked.books) settled.goes_on.same settled.books
+    (same_books log 0 n o
+    (appended log 0 c.in_ok-row.row m n c.append_near-first.result c.requires.ready e.goes_on e.rest e.answer) asked.same asked.books) settled.goes_on.same settled.books
 
 pub append_again-requires-clause-near : goal.append_again-requires-clause-near
 append_again-requires-clause-near g c =
@@ -29,7 +29,7 @@ append_again-requires-clause-near g c =
     let q = c.settle-settled.new.pass in
     let asked = (c.in_ok-answer.ensures.ok).0 in
     remembers_still s o.view q.view c.append_near-first.new.leaves (c.settle-settled.ensures.goes_on).knows
-        (remembers_still s n.view o.view c.append_near-first.new.leaves asked.knows c.append_near-first.ensures.near)
+    (remembers_still s n.view o.view c.append_near-first.new.leaves asked.knows c.append_near-first.ensures.near)
 
 pub append_again-requires-clause-kept : goal.append_again-requires-clause-kept
 append_again-requires-clause-kept g c =

@@ -10,6 +10,6 @@ returns-then-not-is_in c = (
   λ t. absurd (cc t),
   λ all. (let sel : selected_by c.args.shape.now c.loop-lane.lane c.args.row.now ≡ true = sym c.selects.ensures ∙ c.if-selects.true in
       let linked = all c.loop-lane.lane (nibbles (levels_of c.args.shape.now c.loop-lane.lane) (key_of c.args.shape.now c.loop-lane.lane c.args.row.now))
-          (path_some c.args.shape.now c.args.row.now c.loop-lane.lane sel) in
+      (path_some c.args.shape.now c.args.row.now c.loop-lane.lane sel) in
       absurd (cc (c.is_in.ensures, linked, c.if-not-is_in.true))),
 )

@@ -20,7 +20,7 @@ pub returns-then-left-count : goal.returns-then-left-count
 returns-then-left-count c =
     let lane = lane_is c.args.shape.now c.lanes-lanes.result.now c.loop-lane.lane c.index-lanes-lane.result c.lanes-lanes.ensures.lanes c.loop-lane-test.true c.index-lanes-lane.is in
     let words : c.from-count.result ≡ cell_words (lane_at c.args.shape.now c.loop-lane.lane) = c.from-count.ensures
-        ∙ (c.cell_words.ensures ∙ ap cell_words (sym lane)) in
+    ∙ (c.cell_words.ensures ∙ ap cell_words (sym lane)) in
     let low : c.loop-lane.lane < length c.args.shape.now.lanes = omega (arith, c.loop-lane-test.true, ap (length {A = Lane}) c.lanes-lanes.ensures.lanes) in
     cell_use c.args.shape.now c.args.i c.loop-lane.lane c.loop-lane.left c.loop-lane.invariant (low, omega (arith, c.if-left-count.true, words))
 
@@ -28,6 +28,6 @@ pub loop-lane-preserved : goal.loop-lane-preserved
 loop-lane-preserved c =
     let lane = lane_is c.args.shape.now c.lanes-lanes.result.now c.loop-lane.lane c.index-lanes-lane.result c.lanes-lanes.ensures.lanes c.loop-lane-test.true c.index-lanes-lane.is in
     let words : c.from-count.result ≡ cell_words (lane_at c.args.shape.now c.loop-lane.lane) = c.from-count.ensures
-        ∙ (c.cell_words.ensures ∙ ap cell_words (sym lane)) in
+    ∙ (c.cell_words.ensures ∙ ap cell_words (sym lane)) in
     let low : c.loop-lane.lane < length c.args.shape.now.lanes = omega (arith, c.loop-lane-test.true, ap (length {A = Lane}) c.lanes-lanes.ensures.lanes) in
     omega (arith, c.loop-lane.invariant, c.if-left-count.false, words, cells_next c.args.shape.now c.loop-lane.lane low)

@@ -13,5 +13,5 @@ pub returns : goal.returns
 returns c =
     let none : c.args.count - c.loop-level.level ≡ 0 = omega (arith, c.loop-level-test.false) in
     sym (append-nil c.loop-level.path.items)
-        ∙ (ap (λ (xs : List ℕ). c.loop-level.path.items ++ xs) (sym (ap (λ (n : ℕ). nibbles n c.loop-level.left) none ∙ nibbles_none c.loop-level.left))
-        ∙ c.loop-level.invariant)
+    ∙ (ap (λ (xs : List ℕ). c.loop-level.path.items ++ xs) (sym (ap (λ (n : ℕ). nibbles n c.loop-level.left) none ∙ nibbles_none c.loop-level.left))
+    ∙ c.loop-level.invariant)

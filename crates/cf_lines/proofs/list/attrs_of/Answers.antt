@@ -18,7 +18,7 @@ returns-then-is_empty c =
     let found : member_at (run (classes.Except 44) c.loop-i.text.now) ≡ Some attr = ap member_at (sym c.split.ensures.run) ∙ sym c.in-Some.ensures.parts in
     let more : 24 - c.loop-i._i ≡ suc (23 - c.loop-i._i) = omega arith in
     let last : (length (past (classes.Except 44) c.loop-i.text.now) == 0) ≡ true = ap (λ rest. length rest == 0) (sym c.split.ensures.rest)
-        ∙ sym c.is_empty.ensures ∙ c.if-is_empty.true in
+    ∙ sym c.is_empty.ensures ∙ c.if-is_empty.true in
     rw (c.in_ok-push.ensures.items, c.in_ok-from_ascii.ensures)
     (sym (read_last c.loop-i.attrs.items (24 - c.loop-i._i) (23 - c.loop-i._i) c.loop-i.text.now attr more found last) ∙ c.loop-i.invariant)
 
@@ -28,7 +28,7 @@ loop-i-preserved c =
     let found : member_at (run (classes.Except 44) c.loop-i.text.now) ≡ Some attr = ap member_at (sym c.split.ensures.run) ∙ sym c.in-Some.ensures.parts in
     let more : 24 - c.loop-i._i ≡ suc (24 - (c.loop-i._i + 1)) = omega arith in
     let some : (length (past (classes.Except 44) c.loop-i.text.now) == 0) ≡ false = ap (λ rest. length rest == 0) (sym c.split.ensures.rest)
-        ∙ sym c.is_empty.ensures ∙ c.if-is_empty.false in
+    ∙ sym c.is_empty.ensures ∙ c.if-is_empty.false in
     rw (c.in_ok-push.ensures.items, c.in_ok-from_ascii.ensures, c.split_at.ensures.back, c.split.ensures.rest)
     (sym (read_more c.loop-i.attrs.items (24 - c.loop-i._i) (24 - (c.loop-i._i + 1)) c.loop-i.text.now attr more found some) ∙ c.loop-i.invariant)
 

@@ -8,7 +8,7 @@ use Rattle.cf_lines.proofs.list.schema_of.Goals as goal
 pub returns-clause-found : goal.returns-clause-found
 returns-clause-found c =
     IfOk-weaker c.read_schema.result _ _
-        (λ read e. subst (λ (o : Option (List Attr)). IfSome o (ListText c.args.list.now)) (sym e) (states_found c.args.list.now)) c.read_schema.ensures
+    (λ read e. subst (λ (o : Option (List Attr)). IfSome o (ListText c.args.list.now)) (sym e) (states_found c.args.list.now)) c.read_schema.ensures
 
 pub returns-clause-only : goal.returns-clause-only
 returns-clause-only c = λ attrs h. IfOk-weaker c.read_schema.result _ _ (λ read e. e ∙ schema_only c.args.list.now attrs h) c.read_schema.ensures

@@ -20,7 +20,7 @@ pub run_beside-out-requires-clause-ready : goal.run_beside-out-requires-clause-r
 run_beside-out-requires-clause-ready g c κs within =
     let had = c.requires.loaded in
     rw c.as_mut_slice.ensures.value
-        (ready_passes c.args.log.now c.args.prior.now.base had.0 c.args.root.now c.deal.new.root c.in-Ok.passes.items had.2 c.in-Ok.ensures.dealt)
+    (ready_passes c.args.log.now c.args.prior.now.base had.0 c.args.root.now c.deal.new.root c.in-Ok.passes.items had.2 c.in-Ok.ensures.dealt)
 
 pub gather-requires-clause-all : goal.gather-requires-clause-all
 gather-requires-clause-all g c =
@@ -29,13 +29,13 @@ gather-requires-clause-all g c =
     let v = c.in-Ok.passes in
     let after = c.run_beside-out.new.passes in
     let wrote : AllZip (Wrote (is_none c.run_beside-out.result.0) log (4096 * c.args.batch) c.args.rows.now) v.items after =
-        rw (sym c.as_mut_slice.ensures.value) c.run_beside-out.ensures.wrote in
+    rw (sym c.as_mut_slice.ensures.value) c.run_beside-out.ensures.wrote in
     let same : length after ≡ length v.items = sym (zip_long _ v.items after wrote) in
     let len : v.len ≡ length v.items = search rules in
     let all : AreAll log v.items = c.in-Ok.ensures.all had.2.settled in
     rw (written_back after v.items v.len same len)
     (homeward (is_none c.run_beside-out.result.0) log (4096 * c.args.batch) c.args.rows.now v.items after
-        (ready_passes log c.args.prior.now.base had.0 c.args.root.now c.deal.new.root v.items had.2 c.in-Ok.ensures.dealt) all wrote)
+    (ready_passes log c.args.prior.now.base had.0 c.args.root.now c.deal.new.root v.items had.2 c.in-Ok.ensures.dealt) all wrote)
 
 -- the passes that were dealt, and then wrote
 written : (g : Over) (c : goal.After-outcome g) (first : ℕ) → first ≡ 4096 * c.args.batch
@@ -72,13 +72,13 @@ home : (g : Over) (c : goal.After-outcome g) (before : List RowValue) → c.args
 home g c before long had none =
     let base = c.args.prior.now.base in
     let wrote = subst
-        (λ (o : Option ℕ). AllZip
-        (Wrote (is_none o) c.args.log.now (base + length before) c.args.rows.now) c.in-Ok.passes.items c.run_beside-out.new.passes) none
-        (written g c (base + length before) long) in
+    (λ (o : Option ℕ). AllZip
+    (Wrote (is_none o) c.args.log.now (base + length before) c.args.rows.now) c.in-Ok.passes.items c.run_beside-out.new.passes) none
+    (written g c (base + length before) long) in
     batch_home c.args.log.now base before c.args.rows.now (c.args.batch - base / 4096) c.args.root.now c.deal.new.root c.gather.new.root c.fold_back.new.root
-        (c.run_beside-out.new.reader).view c.in-Ok.passes.items c.run_beside-out.new.passes c.shape.ensures.lawful had (own_batches g c before long)
+    (c.run_beside-out.new.reader).view c.in-Ok.passes.items c.run_beside-out.new.passes c.shape.ensures.lawful had (own_batches g c before long)
     c.requires.few (room g c before long) c.in-Ok.ensures.dealt wrote
-        (gathered g c) c.fold_back.ensures.folded c.fold_back.ensures.books c.fold_back.ensures.stays
+    (gathered g c) c.fold_back.ensures.folded c.fold_back.ensures.books c.fold_back.ensures.stays
 
 lacking : (g : Over) (c : goal.After-outcome g) (before : List RowValue) → c.args.prior.now.base + length before ≡ 4096 * c.args.batch
     → HasLoaded c.args.log.now c.args.prior.now.base before c.args.root.now → (w : ℕ) → c.run_beside-out.result.0 ≡ Some w
@@ -87,7 +87,7 @@ lacking g c before long had w is =
     let log = c.args.log.now in
     let base = c.args.prior.now.base in
     let out = subst (λ (o : Option ℕ). IfSome o (λ v. RanOut log (base + length before) c.args.rows.now v c.in-Ok.passes.items c.run_beside-out.new.passes)) is
-        (ran g c (base + length before) long) in
+    (ran g c (base + length before) long) in
     out_home log base (before ++ c.args.rows.now) w c.gather.new.root c.fold_back.new.root (c.run_beside-out.new.reader).view
     (batch_out (is_none c.run_beside-out.result.0) log base before c.args.rows.now w c.args.root.now c.deal.new.root c.gather.new.root c.in-Ok.passes.items c.run_beside-out.new.passes c.shape.ensures.lawful had (room g c before long)
     c.in-Ok.ensures.dealt (written g c (base + length before) long) out (gathered g c))
@@ -96,9 +96,9 @@ lacking g c before long had w is =
 pub returns-clause-loaded : goal.returns-clause-loaded
 returns-clause-loaded g c before long had =
     rw c.outcome.ensures
-        (outcome_by c.run_beside-out.result.0 c.run_beside-out.result.1
-        (HasLoaded c.args.log.now c.args.prior.now.base (before ++ c.args.rows.now) c.fold_back.new.root)
-        (HasStopped c.args.log.now c.args.prior.now.base before c.args.rows.now c.fold_back.new.root)
+    (outcome_by c.run_beside-out.result.0 c.run_beside-out.result.1
+    (HasLoaded c.args.log.now c.args.prior.now.base (before ++ c.args.rows.now) c.fold_back.new.root)
+    (HasStopped c.args.log.now c.args.prior.now.base before c.args.rows.now c.fold_back.new.root)
     (λ none. home g c before long had none) (λ none. inr (home g c before long had none)) (λ w is. lacking g c before long had w is))
 
 pub returns-clause-told : goal.returns-clause-told
@@ -110,10 +110,10 @@ returns-clause-told g c =
     let told = (c.args.root.now.view).told in
     let none : q.told ≡ [] = read.told ∙ ap (λ (p : Pass). p.told) c.fork-reader.ensures.view in
     let tails : map (λ tail. base + tail) q.tails ≡ tails_of more.items = read.tails
-        ∙ ap (λ (p : Pass). map (λ tail. base + tail) p.tails ++ tails_of more.items) c.fork-reader.ensures.view in
+    ∙ ap (λ (p : Pass). map (λ tail. base + tail) p.tails ++ tails_of more.items) c.fork-reader.ensures.view in
     ap (map (λ (tail : ℕ). base + tail))
     (batch_told (is_none c.run_beside-out.result.0) log
-        (4096 * c.args.batch) _ c.args.root.now c.deal.new.root c.gather.new.root c.fold_back.new.root q c.in-Ok.passes.items c.run_beside-out.new.passes c.in-Ok.ensures.dealt (written g c (4096 * c.args.batch) refl) (gathered g c) c.fold_back.ensures.folded none)
+    (4096 * c.args.batch) _ c.args.root.now c.deal.new.root c.gather.new.root c.fold_back.new.root q c.in-Ok.passes.items c.run_beside-out.new.passes c.in-Ok.ensures.dealt (written g c (4096 * c.args.batch) refl) (gathered g c) c.fold_back.ensures.folded none)
     ∙ (map-append (λ (tail : ℕ). base + tail) told q.tails ∙ ap (λ ts. map (λ tail. base + tail) told ++ ts) tails)) c.run_beside-out.ensures.read))
 
 pub returns-clause-asked : goal.returns-clause-asked
@@ -125,7 +125,7 @@ returns-clause-asked g c =
     let q = (c.run_beside-out.new.reader).view in
     let had = c.requires.loaded in
     let same : (c.fork-reader.result.view).seen ≡ (c.args.root.now.view).seen = ap (λ (p : Pass). p.seen) c.fork-reader.ensures.view
-        ∙ (root_away log c.args.root.now c.deal.new.root c.in-Ok.passes.items had.2.of c.in-Ok.ensures.dealt).2 ∙ refl in
+    ∙ (root_away log c.args.root.now c.deal.new.root c.in-Ok.passes.items had.2.of c.in-Ok.ensures.dealt).2 ∙ refl in
     record {
       read = before ++ q.seen;
       asks = subst (λ (seen : List Entry). AsksBatch log.shape plan.asks.items plan.lives.items plan.rounds c.args.batch (before ++ seen)

@@ -36,7 +36,7 @@ loop-trigger-preserved g c =
     let told : c.in_ok-marks_of.field-0 ≡ marks_on t.shape (entries_of t) trigger = c.in_ok-marks_of.ensures.marks in
     let one : c.in_ok-marks_of.field-0 ≡ marks_on s.shape (entries_of s) trigger =
     told ∙ (ap (λ (h : ShapeValue). marks_on h (entries_of t) trigger) (kept_shape s t keeps)
-        ∙ ap (λ (es : List Entry). marks_on s.shape es trigger) (kept_entries s t keeps)) in record {
+    ∙ ap (λ (es : List Entry). marks_on s.shape es trigger) (kept_entries s t keeps)) in record {
       keeps = all_then s t c.marks_of.new.segments keeps c.in_ok-marks_of.ensures.keeps;
       loads = loads_then (all_of s) (all_of t)
           (all_of c.marks_of.new.segments) c.args.steps.now c.loop-trigger.steps c.marks_of.new.steps c.loop-trigger.invariant.loads c.in_ok-marks_of.ensures.loads;

@@ -22,5 +22,5 @@ returns-clause-alerts g c =
     let keeps = c.in_ok-finals.ensures.keeps in
     ap (λ (l : LoadedValue). l.alerts) c.new.ensures
     ∙ (c.in_ok-alerts.ensures.marks
-        ∙ (ap₂ (λ (h : ShapeValue) (es : List Entry). map (marks_on h es) c.deref-2.result.now) (kept_shape s t keeps) (kept_entries s t keeps)
-        ∙ ap (map (marks_on s.shape (entries_of s))) c.deref-2.ensures.value))
+    ∙ (ap₂ (λ (h : ShapeValue) (es : List Entry). map (marks_on h es) c.deref-2.result.now) (kept_shape s t keeps) (kept_entries s t keeps)
+    ∙ ap (map (marks_on s.shape (entries_of s))) c.deref-2.ensures.value))

@@ -27,8 +27,8 @@ loop-question-preserved g c =
     let question = c.question-item.result in
     let one : c.in_ok-ask.field-0 ≡ answer_on s.shape (entries_of s) question =
     c.in_ok-ask.ensures.answer
-        ∙ (ap (λ (h : ShapeValue). answer_on h (entries_of t) question) (kept_shape s t keeps)
-        ∙ ap (λ (es : List Entry). answer_on s.shape es question) (kept_entries s t keeps)) in record {
+    ∙ (ap (λ (h : ShapeValue). answer_on h (entries_of t) question) (kept_shape s t keeps)
+    ∙ ap (λ (es : List Entry). answer_on s.shape es question) (kept_entries s t keeps)) in record {
       keeps = all_then s t c.ask.new.self keeps c.in_ok-ask.ensures.kept;
       loads = loads_then (all_of s) (all_of t)
           (all_of c.ask.new.self) c.args.steps.now c.loop-question.steps c.ask.new.steps c.loop-question.invariant.loads c.in_ok-ask.ensures.loads;

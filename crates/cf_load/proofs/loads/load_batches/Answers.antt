@@ -25,7 +25,7 @@ returns-in_err-batch-clause-stopped g c =
     let most = same_room c.args.segments.now s c.loop-number.invariant.same in
     let few : length rows ≤ room_of s = (let few = c.requires.few in omega (arith, most, few)) in
     rw same (some_of rows (take (4096 * b) rows) part s t (4096 * b) (4096 * (b + 1)) c.in_err-batch.field-0.0 refl both few
-        (c.in_err-batch.ensures.batched (take (4096 * b) rows) c.loop-number.invariant.loading))
+    (c.in_err-batch.ensures.batched (take (4096 * b) rows) c.loop-number.invariant.loading))
 
 pub loop-number-preserved : goal.loop-number-preserved
 loop-number-preserved g c =

@@ -29,7 +29,7 @@ returns-clause-found g c entries found =
     let made = c.in_ok-tail.ensures.ok in
     let both = found_behind shape ask entries c.args.before.0 c.args.before.1 found seen in
     let joined_is : c.in_ok-found.found ≡ joined c.args.before.0 c.args.before.1 (finding_in shape ask (rows_in seen)) = c.in_ok-found.ensures
-        ∙ ap (joined c.args.before.0 c.args.before.1) made.2 in
+    ∙ ap (joined c.args.before.0 c.args.before.1) made.2 in
     record {
       count_is = ap (λ (n : ℕ). c.args.before.0 + n) made.1 ∙ both.count_is;
       finding_is = joined_is ∙ both.finding_is;
@@ -42,11 +42,11 @@ returns-clause-steps g c one =
     let seen : List Entry = ((g.P.Pass.held c.finding.new.pass).view).seen in
     let made = c.in_ok-tail.ensures.ok in
     subst (λ (n : ℕ). c.finding.new.steps ≤ c.args.steps.now + n) (key_cost shape ask seen c.in_ok-tail.more c.in_ok-tail.tail made.2 made.1)
-        (c.in_ok-tail.ensures.steps one)
+    (c.in_ok-tail.ensures.steps one)
 
 pub returns-clause-bucket : goal.returns-clause-bucket
 returns-clause-bucket g c one =
     let shape = c.args.log.now.shape in
     let ask = c.args.ask.now in
     subst (λ (n : ℕ). c.finding.new.steps ≤ c.args.steps.now + steps_of_bucket shape (lane_of ask) n) c.in_ok-tail.ensures.ok.1
-        (c.in_ok-tail.ensures.bucket one)
+    (c.in_ok-tail.ensures.bucket one)

@@ -37,11 +37,11 @@ loop-place-preserved g c =
     let there : i < length plan.lives.items = search rules in
     let entries : List Entry = flat_map seen_of old in
     let asked : c.index-question.result.now ≡ get_or plan.asks.items (get_or plan.lives.items i 0) no_ask =
-        ask_found plan.asks.items c.deref-place-items.result.now plan.lives.items i c.index-question.result.now c.requires.plan.lives c.deref-place-items.ensures.value there c.index-question.ensures in
+    ask_found plan.asks.items c.deref-place-items.result.now plan.lives.items i c.index-question.result.now c.requires.plan.lives c.deref-place-items.ensures.value there c.index-question.ensures in
     let one : c.in_ok-found.found ≡ finding_in shape (get_or plan.asks.items (get_or plan.lives.items i 0) no_ask) (rows_in entries) =
     c.in_ok-found.ensures.found.finding_is
     ∙ (ap (λ (es : List Entry). finding_in shape c.index-question.result.now (rows_in es)) (segments_seen old now v.kept)
-        ∙ ap (λ (a : Ask). finding_in shape a (rows_in entries)) asked) in record {
+    ∙ ap (λ (a : Ask). finding_in shape a (rows_in entries)) asked) in record {
       kept = segments_then old now c.found_in.new.segments v.kept c.in_ok-found.ensures.kept;
       loads = loads_then old now c.found_in.new.segments c.args.steps.now c.loop-place.steps c.found_in.new.steps v.loads c.in_ok-found.ensures.loads;
       found = made_more

@@ -18,7 +18,7 @@ find_behind-requires-clause-of g c =
     let now = c.loop-segment.segments in
     let low : i < length now = search rules in
     (changed_holds KeepsSegment
-        (IsSegment c.args.shape.now) i c.args.segments.now now c.segment-item.result c.requires.each low c.loop-segment.invariant.kept).of
+    (IsSegment c.args.shape.now) i c.args.segments.now now c.segment-item.result c.requires.each low c.loop-segment.invariant.kept).of
 
 pub find_behind-requires-clause-suits : goal.find_behind-requires-clause-suits
 find_behind-requires-clause-suits g c =
@@ -26,7 +26,7 @@ find_behind-requires-clause-suits g c =
     let now = c.loop-segment.segments in
     let low : i < length now = search rules in
     let is = changed_holds KeepsSegment
-        (IsSegment c.args.shape.now) i c.args.segments.now now c.segment-item.result c.requires.each low c.loop-segment.invariant.kept in
+    (IsSegment c.args.shape.now) i c.args.segments.now now c.segment-item.result c.requires.each low c.loop-segment.invariant.kept in
     subst (λ (h : ShapeValue). Suits h c.args.ask.now) (sym is.shape_is) c.requires.suits
 
 pub find_behind-requires-clause-few : goal.find_behind-requires-clause-few
@@ -52,10 +52,12 @@ find_behind-requires-clause-found g c =
     let now = c.loop-segment.segments in
     let low : i < length now = search rules in
     let is = changed_holds KeepsSegment
-        (IsSegment c.args.shape.now) i c.args.segments.now now c.segment-item.result c.requires.each low c.loop-segment.invariant.kept in
-    let entries : List Entry = flat_map seen_of (take i c.args.segments.now) in
-    (entries, subst (λ (h : ShapeValue). HasFound h c.args.ask.now entries c.loop-segment.found.0 c.loop-segment.found.1)
-        (sym is.shape_is) c.loop-segment.invariant.found)
+    (IsSegment c.args.shape.now) i c.args.segments.now now c.segment-item.result c.requires.each low c.loop-segment.invariant.kept in
+    let entries : List Entry = flat_map seen_of (take i c.args.segments.now) in (
+      entries,
+      subst (λ (h : ShapeValue). HasFound h c.args.ask.now entries c.loop-segment.found.0 c.loop-segment.found.1)
+          (sym is.shape_is) c.loop-segment.invariant.found,
+    )
 
 pub returns-in_err-found-clause-kept : goal.returns-in_err-found-clause-kept
 returns-in_err-found-clause-kept g c =
@@ -84,11 +86,11 @@ loop-segment-preserved g c =
     let entries : List Entry = flat_map seen_of (take i old) in
     let found : HasFound (get_or now i d).log.shape c.args.ask.now (entries ++ (c.find_behind.new.pass.view).seen) c.in_ok-found.found.0 c.in_ok-found.found.1 =
     c.in_ok-found.ensures.found entries
-        (subst (λ (h : ShapeValue). HasFound h c.args.ask.now entries c.loop-segment.found.0 c.loop-segment.found.1) (sym is.shape_is) v.found) in
+    (subst (λ (h : ShapeValue). HasFound h c.args.ask.now entries c.loop-segment.found.0 c.loop-segment.found.1) (sym is.shape_is) v.found) in
     let seen : (c.find_behind.new.pass.view).seen ≡ seen_of (get_or old i d) = one.root.seen ∙ ap seen_of (changed_at KeepsSegment i old now d v.kept) in
     let all : entries ++ (c.find_behind.new.pass.view).seen ≡ flat_map seen_of (take (i + 1) old) =
     ap (λ (es : List Entry). entries ++ es) seen
-        ∙ (flat_map_more seen_of [] (take i old) (get_or old i d) ∙ ap (flat_map seen_of) (sym (take_more old i d there))) in record {
+    ∙ (flat_map_more seen_of [] (take i old) (get_or old i d) ∙ ap (flat_map seen_of) (sym (take_more old i d there))) in record {
       kept = changed_more KeepsSegment i old now d _ low v.kept one;
       steps = λ asks. costs_more
           (λ segment. key_steps shape c.args.ask.now (seen_of segment)) old i c.args.steps.now c.loop-segment.steps c.find_behind.new.steps _ d there
@@ -99,14 +101,14 @@ loop-segment-preserved g c =
           (v.bucket asks) (c.in_ok-found.ensures.bucket asks)
           (ap₂ (λ (h : ShapeValue) (es : List Entry). bucket_steps h c.args.ask.now es) is.shape_is seen);
       loads = loads_more old now i d _ c.args.steps.now c.loop-segment.steps c.find_behind.new.steps low v.loads c.in_ok-found.ensures.loads;
-      few = (let few = v.few in let count = found.count_is in let before = v.found.count_is in let sum =
-          length-append entries (c.find_behind.new.pass.view).seen in let most = c.in_ok-found.ensures.asked.few in let size =
+      few = (let few = v.few in let count = found.count_is in let before = v.found.count_is in
+          let sum = length-append entries (c.find_behind.new.pass.view).seen in let most = c.in_ok-found.ensures.asked.few in let size =
           ap (λ (h : ShapeValue). h.capacity) is.shape_is in let step : shape.capacity * (i + 1) ≡ shape.capacity * i + shape.capacity =
           ap (λ (k : ℕ). shape.capacity * k) (let e : i + 1 ≡ suc i = omega arith in e) ∙ mul-suc shape.capacity i in
           omega (arith, few, count, before, sum, most, size, step));
       found = subst (λ (es : List Entry). HasFound shape c.args.ask.now es c.in_ok-found.found.0 c.in_ok-found.found.1) all
           (subst (λ (h : ShapeValue). HasFound h c.args.ask.now
-              (entries ++ (c.find_behind.new.pass.view).seen) c.in_ok-found.found.0 c.in_ok-found.found.1) is.shape_is found);
+          (entries ++ (c.find_behind.new.pass.view).seen) c.in_ok-found.found.0 c.in_ok-found.found.1) is.shape_is found);
     }
 
 pub returns-in_err-found-clause-loads : goal.returns-in_err-found-clause-loads

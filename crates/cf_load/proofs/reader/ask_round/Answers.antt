@@ -33,7 +33,7 @@ loop-turn-preserved g c =
     let there : i < length plan.lives.items = search rules in
     let place : live.ask ≡ get_or plan.lives.items i live.ask = c.index-place.ensures in
     let low : live.ask < length plan.asks.items =
-        subst (λ (k : ℕ). k < length plan.asks.items) (sym (place ∙ get_there plan.lives.items i live.ask 0 there)) (c.requires.plan.lives i 0 there) in
+    subst (λ (k : ℕ). k < length plan.asks.items) (sym (place ∙ get_there plan.lives.items i live.ask 0 there)) (c.requires.plan.lives i 0 there) in
     let asked : question ≡ get_or plan.asks.items live.ask no_ask = c.index-question.ensures ∙ get_there plan.asks.items live.ask question no_ask low in
     let found : c.index.result.now ≡ finding_in log.shape (get_or plan.asks.items live.ask no_ask) (rows_in before) =
     c.index.ensures
@@ -48,18 +48,18 @@ loop-turn-preserved g c =
     let answer : c.in_ok-answer.answer ≡ answer_on log.shape (before ++ seen) question = c.in_ok-answer.ensures.answer before has in
     let tail : live.answer.tail ≡ length (before ++ seen) = ap (λ (a : Answer). a.tail) answer in
     let body : live.answer.body ≡ eval log.shape (get_or plan.asks.items live.ask no_ask) (before ++ seen) = ap (λ (a : Answer). a.body) answer
-        ∙ ap (λ (a : Ask). eval log.shape a (before ++ seen)) asked in
+    ∙ ap (λ (a : Ask). eval log.shape a (before ++ seen)) asked in
     record {
       of = search rules;
       loads = (let now = c.loop-turn.invariant.loads in let more = c.in_ok-answer.ensures.loads in omega (arith, now, more));
       asks = subst (λ (xs : List Live). AsksSome log.shape plan.asks.items plan.lives.items c.args.at.1 (i + 1) c.args.at.0 (before ++ (start.view).seen)
           (before ++ seen) xs) (sym items)
           (asks_more log.shape plan.asks.items plan.lives.items c.args.at.1 i c.args.at.0 (before ++ (start.view).seen) (before ++ (m.view).seen)
-              (before ++ seen) c.loop-turn.answers.items live c.loop-turn.invariant.asks there
-              (begins_behind before (m.view).seen seen made.longer) refl refl place tail body);
+          (before ++ seen) c.loop-turn.answers.items live c.loop-turn.invariant.asks there
+          (begins_behind before (m.view).seen seen made.longer) refl refl place tail body);
       read = subst (HasRead prior.base start n) (sym items)
           (read_more log.shape prior.base start m n c.loop-turn.answers.items live c.loop-turn.invariant.read made
-              (tail ∙ (length-append before seen ∙ ap (λ (k : ℕ). k + length seen) (sym c.requires.prior.base_is))));
+          (tail ∙ (length-append before seen ∙ ap (λ (k : ℕ). k + length seen) (sym c.requires.prior.base_is))));
     }
 
 pub returns-clause-asks : goal.returns-clause-asks
@@ -71,6 +71,6 @@ returns-clause-asks g c =
     let i = c.loop-turn.turn in
     let whole : i ≡ length plan.lives.items = search rules in
     asks_round log.shape plan.asks.items plan.lives.items c.args.at.1 c.args.at.0 (before ++ (start.view).seen)
-        (before ++ (c.loop-turn.reader.view).seen) c.loop-turn.answers.items
+    (before ++ (c.loop-turn.reader.view).seen) c.loop-turn.answers.items
     (subst (λ k. AsksSome log.shape plan.asks.items plan.lives.items c.args.at.1 k c.args.at.0 (before ++ (start.view).seen)
-        (before ++ (c.loop-turn.reader.view).seen) c.loop-turn.answers.items) whole c.loop-turn.invariant.asks)
+    (before ++ (c.loop-turn.reader.view).seen) c.loop-turn.answers.items) whole c.loop-turn.invariant.asks)

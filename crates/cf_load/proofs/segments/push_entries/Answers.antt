@@ -14,9 +14,10 @@ entries-requires c =
     let i = c.loop-segment.segment-index in
     let now = c.loop-segment.segments in
     let low : i < length now = search rules in
-    record { of =
-        changed_holds HasLooked
-        (λ (g : Segment). IsOf g.root g.log) i c.args.segments.now now c.segment-item.result c.requires.of low c.loop-segment.invariant.looked }
+    record {
+      of = changed_holds HasLooked
+          (λ (g : Segment). IsOf g.root g.log) i c.args.segments.now now c.segment-item.result c.requires.of low c.loop-segment.invariant.looked;
+    }
 
 pub returns-in_err-more-clause-looked : goal.returns-in_err-more-clause-looked
 returns-in_err-more-clause-looked c =
@@ -24,7 +25,7 @@ returns-in_err-more-clause-looked c =
     let now = c.loop-segment.segments in
     let low : i < length now = search rules in
     changed_some HasLooked looked_none (i + 1) c.args.segments.now _
-        (changed_more HasLooked i c.args.segments.now now c.segment-item.result c.entries.new.self low c.loop-segment.invariant.looked c.in_err-more.ensures.looked)
+    (changed_more HasLooked i c.args.segments.now now c.segment-item.result c.entries.new.self low c.loop-segment.invariant.looked c.in_err-more.ensures.looked)
 
 pub returns-in_err-append-clause-looked : goal.returns-in_err-append-clause-looked
 returns-in_err-append-clause-looked c =
@@ -32,7 +33,7 @@ returns-in_err-append-clause-looked c =
     let now = c.loop-segment.segments in
     let low : i < length now = search rules in
     changed_some HasLooked looked_none (i + 1) c.args.segments.now _
-        (changed_more HasLooked i c.args.segments.now now c.segment-item.result c.entries.new.self low c.loop-segment.invariant.looked c.in_ok-more.ensures.looked)
+    (changed_more HasLooked i c.args.segments.now now c.segment-item.result c.entries.new.self low c.loop-segment.invariant.looked c.in_ok-more.ensures.looked)
 
 pub loop-segment-preserved : goal.loop-segment-preserved
 loop-segment-preserved c =
@@ -51,5 +52,5 @@ loop-segment-preserved c =
           ∙ (ap (λ (es : List Entry). (c.args.entries.now.items ++ flat_map seen_of (take i old)) ++ es) same
           ∙ (flat_map_more seen_of c.args.entries.now.items (take i old) (get_or old i d)
           ∙ ap (λ (gs : List Segment). c.args.entries.now.items ++ flat_map seen_of gs)
-              (sym (take_more old i d (changed_long HasLooked i old now low v.looked))))));
+          (sym (take_more old i d (changed_long HasLooked i old now low v.looked))))));
     }

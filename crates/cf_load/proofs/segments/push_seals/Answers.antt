@@ -15,7 +15,7 @@ loop-segment-preserved c =
     let all : All (IsSegment v.each.0) (g ∷ rest) = subst (All (IsSegment v.each.0)) split v.each.1 in
     let long = ap (λ (gs : List Segment). length gs) split in
     let one : c.push_reserved.new.self.items ≡ c.loop-segment.seals.items ++ sealed g ∷ [] = c.push_reserved.ensures.items
-        ∙ ap (λ (x : SealValue). c.loop-segment.seals.items ++ x ∷ []) c.seal.ensures in
+    ∙ ap (λ (x : SealValue). c.loop-segment.seals.items ++ x ∷ []) c.seal.ensures in
     let count = ap (λ (xs : List SealValue). length xs) one in
     let more = length_push c.loop-segment.seals.items (sealed g) in
     let room = v.room in

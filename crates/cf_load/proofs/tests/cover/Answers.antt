@@ -9,7 +9,7 @@ run_home-covered-requires-clause-ready g c κs within =
     let root = c.in_ok-log.root in
     let of : IsOf root log = search rules in
     ready_passes log 0 [] root c.deal.new.root c.in_ok-passes.passes.items
-        (opened log 0 root of (ap (λ (h : PassValue). h.view) c.in_ok-log.ensures.root)) c.in_ok-passes.ensures.dealt
+    (opened log 0 root of (ap (λ (h : PassValue). h.view) c.in_ok-log.ensures.root)) c.in_ok-passes.ensures.dealt
 
 pub run_home-covered-requires-clause-fits : goal.run_home-covered-requires-clause-fits
 run_home-covered-requires-clause-fits g c κs within =

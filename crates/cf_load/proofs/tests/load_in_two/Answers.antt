@@ -19,7 +19,7 @@ batch-answer-requires-2-clause-loading g c κs within =
     let first = c.split_at.result.0.now in
     let begun = c.in_ok-loader.ensures.loading c.in_ok-segments.ensures in
     let made : IsBatched [] first c.in_ok-loader.loader c.batch-answer.new.self c.in_ok-segments.segments c.batch-answer.new.segments =
-        rw c.expect.ensures at (c.batch-answer.ensures.batched [] begun) in
+    rw c.expect.ensures at (c.batch-answer.ensures.batched [] begun) in
     (first, made.loading)
 
 pub batch-answer-requires-2-clause-whole : goal.batch-answer-requires-2-clause-whole
@@ -27,7 +27,7 @@ batch-answer-requires-2-clause-whole g c κs within =
     let first = c.split_at.result.0.now in
     let begun = c.in_ok-loader.ensures.loading c.in_ok-segments.ensures in
     let made : IsBatched [] first c.in_ok-loader.loader c.batch-answer.new.self c.in_ok-segments.segments c.batch-answer.new.segments =
-        rw c.expect.ensures at (c.batch-answer.ensures.batched [] begun) in
+    rw c.expect.ensures at (c.batch-answer.ensures.batched [] begun) in
     let count = ap (λ (l : LoaderValue). l.count) made.loader in
     let fresh = c.in_ok-loader.ensures.fresh.count in
     let is : (c.batch-answer.new.self).count ≡ 4096 = omega (arith, count, fresh, c.split_at.ensures.front_len) in
@@ -38,11 +38,11 @@ batch-answer-requires-2-clause-fits g c κs within =
     let first = c.split_at.result.0.now in
     let begun = c.in_ok-loader.ensures.loading c.in_ok-segments.ensures in
     let made : IsBatched [] first c.in_ok-loader.loader c.batch-answer.new.self c.in_ok-segments.segments c.batch-answer.new.segments =
-        rw c.expect.ensures at (c.batch-answer.ensures.batched [] begun) in
+    rw c.expect.ensures at (c.batch-answer.ensures.batched [] begun) in
     let fit = c.all_fit.ensures.0 (search rules) in
     let fits : All (Fits (c.in_ok-segments.segments.shape).schema) c.args.rows.now = rw (sym c.shape.ensures.shape, sym c.schema.ensures) fit in
     subst (λ (h : ShapeValue). All (Fits h.schema) c.split_at.result.1.now) (sym made.same.shape)
-        (rw c.split_at.ensures.back (All-drop (Fits (c.in_ok-segments.segments.shape).schema) 4096 c.args.rows.now fits))
+    (rw c.split_at.ensures.back (All-drop (Fits (c.in_ok-segments.segments.shape).schema) 4096 c.args.rows.now fits))
 
 pub finish-requires : goal.finish-requires
 finish-requires g c =
@@ -50,7 +50,7 @@ finish-requires g c =
     let rest = c.split_at.result.1.now in
     let begun = c.in_ok-loader.ensures.loading c.in_ok-segments.ensures in
     let made : IsBatched [] first c.in_ok-loader.loader c.batch-answer.new.self c.in_ok-segments.segments c.batch-answer.new.segments =
-        rw c.expect.ensures at (c.batch-answer.ensures.batched [] begun) in
+    rw c.expect.ensures at (c.batch-answer.ensures.batched [] begun) in
     let more : IsBatched first rest c.batch-answer.new.self c.batch-answer-2.new.self c.batch-answer.new.segments c.batch-answer-2.new.segments =
-        rw c.expect-2.ensures at (c.batch-answer-2.ensures.batched first made.loading) in
+    rw c.expect-2.ensures at (c.batch-answer-2.ensures.batched first made.loading) in
     record { loading = (first ++ rest, more.loading) }

@@ -10,5 +10,5 @@ gather-requires-clause-all g c =
     let same : length after ≡ length before = search rules in
     let whole : c.args.passes.len ≡ length before = search rules in
     rw (written_back after before c.args.passes.len same whole)
-        (homeward (is_none c.run_writers.result) c.args.log.now 0 c.args.rows.now before after c.requires.ready c.requires.all
-        (rw c.as_mut_slice.ensures.value at c.run_writers.ensures.wrote))
+    (homeward (is_none c.run_writers.result) c.args.log.now 0 c.args.rows.now before after c.requires.ready c.requires.all
+    (rw c.as_mut_slice.ensures.value at c.run_writers.ensures.wrote))

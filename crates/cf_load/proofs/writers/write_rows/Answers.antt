@@ -7,8 +7,10 @@ use Rattle.cf_load.proofs.writers.write_rows.Goals.{then-number-writers+in-Ok, e
 
 pub loop-row-init : goal.loop-row-init
 loop-row-init g c =
-    record { goes = goes_first c.args.log.now c.args.first c.args.batch.now c.args.pass.now c.requires.ready; near =
-    c.new-leaves.ensures c.args.log.now.shape c.args.pass.now.view }
+    record {
+      goes = goes_first c.args.log.now c.args.first c.args.batch.now c.args.pass.now c.requires.ready;
+      near = c.new-leaves.ensures c.args.log.now.shape c.args.pass.now.view;
+    }
 
 pub returns-in-Err-Full-clause-wrote : goal.returns-in-Err-Full-clause-wrote
 returns-in-Err-Full-clause-wrote g c =
@@ -44,9 +46,7 @@ loop-row-preserved g c =
           let made = w.append_near.ensures in
           let ok : w.append_near.result ≡ Ok w.in-Ok.field-0 = search rules in
           rw (w.pass-is, w.leaves-is)
-              (record { goes =
-              goes_answered c.args.log.now c.args.first c.args.batch.now c.args.pass.now k i c.loop-row.pass w.append_near.new.pass w.append_near.result w.in-Ok.field-0 c.row-item.result c.loop-row.invariant.goes c.loop-row-test.true (sym c.row-item.is) (sym same ∙ (w.if-number-writers.true ∙ writer)) made.goes_on made.rest made.answer ok; near = made.near })
+          (record { goes = goes_answered c.args.log.now c.args.first c.args.batch.now c.args.pass.now k i c.loop-row.pass w.append_near.new.pass w.append_near.result w.in-Ok.field-0 c.row-item.result c.loop-row.invariant.goes c.loop-row-test.true (sym c.row-item.is) (sym same ∙ (w.if-number-writers.true ∙ writer)) made.goes_on made.rest made.answer ok; near = made.near })
       | else-number-writers w ↦ rw (w.pass-is, w.leaves-is)
-          (record { goes =
-          goes_other c.args.log.now c.args.first c.args.batch.now c.args.pass.now k i c.loop-row.pass c.row-item.result c.loop-row.invariant.goes c.loop-row-test.true (λ e. w.if-number-writers.false (same ∙ (e ∙ sym writer))); near = c.loop-row.invariant.near })
+          (record { goes = goes_other c.args.log.now c.args.first c.args.batch.now c.args.pass.now k i c.loop-row.pass c.row-item.result c.loop-row.invariant.goes c.loop-row-test.true (λ e. w.if-number-writers.false (same ∙ (e ∙ sym writer))); near = c.loop-row.invariant.near })
     ]

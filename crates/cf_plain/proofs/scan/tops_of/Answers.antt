@@ -11,5 +11,5 @@ returns c =
     c.new.ensures
     ∙ c.in_ok-top.ensures
     ∙ ap (λ (gs : List Group). top c.args.part c.args.most (map pair_of gs))
-        (c.deref.ensures.value ∙ c.in_ok-groups.ensures ∙ ap (map as_group) c.in_ok-grouped.ensures)
+    (c.deref.ensures.value ∙ c.in_ok-groups.ensures ∙ ap (map as_group) c.in_ok-grouped.ensures)
     ∙ ap (top c.args.part c.args.most) (pairs_back (groups c.args.shape.now c.args.lane (rows_in c.args.entries.now)))

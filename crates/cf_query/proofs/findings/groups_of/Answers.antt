@@ -10,4 +10,4 @@ pub returns-clause-found : goal.returns-clause-found
 returns-clause-found g c =
     let rows = rows_in ((g.P.Pass.held c.args.pass.now).view).seen in
     ap (λ (gs : List (ℕ × QuadValue)). findings.Groups gs)
-        (c.new.ensures ∙ ap (map pair_of) c.in_ok-groups.ensures.found ∙ pairs_back (groups c.args.log.now.shape c.args.lane rows))
+    (c.new.ensures ∙ ap (map pair_of) c.in_ok-groups.ensures.found ∙ pairs_back (groups c.args.log.now.shape c.args.lane rows))

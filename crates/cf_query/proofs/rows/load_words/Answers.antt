@@ -31,7 +31,7 @@ loop-i-preserved g c =
     let count = v.steps in
     let more = c.load_word.ensures.steps in
     let all = loaded s m n o c.min-place.result i c.load_word.result c.shape.ensures.lawful place (omega (arith, far, covered))
-        (omega (arith, low, wide)) c.load_word.ensures.made in
+    (omega (arith, low, wide)) c.load_word.ensures.made in
     record {
       long = length-set c.loop-i.words i c.load_word.result ∙ long;
       read = read_more c.loop-i.words (entry_at f.view o) i c.load_word.result (omega (arith, low, long)) v.read

@@ -45,7 +45,7 @@ loop-place-preserved g c =
       found = elim c.if-holds.branch [
         | then-holds w ↦
             let added : (xs : List ℕ) → c.loop-place.total ≡ quad_of xs → c.if-holds.total ≡ quad_of (xs ++ number_at e.row attr ∷ []) = λ xs is. w.total-is
-                ∙ (w.add-total.ensures.added xs is ∙ ap (λ (n : ℕ). quad_of (xs ++ n ∷ [])) w.amount.ensures) in
+            ∙ (w.add-total.ensures.added xs is ∙ ap (λ (n : ℕ). quad_of (xs ++ n ∷ [])) w.amount.ensures) in
             summed_one attr expr seen o e at c.holds.result c.loop-place.total c.if-holds.total c.holds.ensures w.if-holds.true v.found added
         | else-holds w ↦ w.total-is ∙ summed_none attr expr seen o e at c.holds.result c.loop-place.total c.holds.ensures w.if-holds.false v.found
       ];

@@ -14,16 +14,18 @@ as_found text records reader fields found is same on = subst (λ (b : Bool). Rea
 
 pub returns-then-not-branch-clause-answer : goal.returns-then-not-branch-clause-answer
 returns-then-not-branch-clause-answer c =
-    inr (c.requires.small,
-    as_found c.args.bytes.now [] c.read_next.new.reader (fields_of c.read_next.new.line) c.in_ok-read_next.field-0 false c.if-not-branch.true
-    (c.in_ok-read_next.ensures c.args.bytes.now [] c.reader_of-reader.ensures))
+    inr (
+      c.requires.small,
+      as_found c.args.bytes.now [] c.read_next.new.reader (fields_of c.read_next.new.line) c.in_ok-read_next.field-0 false c.if-not-branch.true
+          (c.in_ok-read_next.ensures c.args.bytes.now [] c.reader_of-reader.ensures),
+    )
 
 pub returns-then-not-is_header-clause-answer : goal.returns-then-not-is_header-clause-answer
 returns-then-not-is_header-clause-answer c =
     let fields = fields_of c.read_next.new.line in
     let on : HasRead c.args.bytes.now (fields ∷ []) c.read_next.new.reader =
-        as_found c.args.bytes.now [] c.read_next.new.reader fields c.in_ok-read_next.field-0 true c.if-not-branch.false
-        (c.in_ok-read_next.ensures c.args.bytes.now [] c.reader_of-reader.ensures) in
+    as_found c.args.bytes.now [] c.read_next.new.reader fields c.in_ok-read_next.field-0 true c.if-not-branch.false
+    (c.in_ok-read_next.ensures c.args.bytes.now [] c.reader_of-reader.ensures) in
     let named = rw c.attrs.ensures.attrs at c.is_header.ensures in
     let other : fields ≢ names_of c.args.schema.now = λ same. let is = named.1 same in cc (is, c.if-not-is_header.true) in
     inr (misnamed c.args.schema.now c.args.bytes.now c.requires.small fields c.read_next.new.reader on other)
@@ -33,12 +35,15 @@ loop-num-init c = record {
   so_far =
       let fields = fields_of c.read_next.new.line in
       let on : HasRead c.args.bytes.now (fields ∷ []) c.read_next.new.reader =
-          as_found c.args.bytes.now [] c.read_next.new.reader fields c.in_ok-read_next.field-0 true c.if-not-branch.false
-          (c.in_ok-read_next.ensures c.args.bytes.now [] c.reader_of-reader.ensures) in
+      as_found c.args.bytes.now [] c.read_next.new.reader fields c.in_ok-read_next.field-0 true c.if-not-branch.false
+      (c.in_ok-read_next.ensures c.args.bytes.now [] c.reader_of-reader.ensures) in
       let named = rw c.attrs.ensures.attrs at c.is_header.ensures in
-      let same : fields ≡ names_of c.args.schema.now = named.0 c.if-not-is_header.false in
-      ([], subst (λ (f : List (List ℕ)). HasRead c.args.bytes.now (f ∷ []) c.read_next.new.reader) same on,
-          no_rows c.args.schema.now c.new-rows.result.items c.new-rows.ensures.items, refl);
+      let same : fields ≡ names_of c.args.schema.now = named.0 c.if-not-is_header.false in (
+        [],
+        subst (λ (f : List (List ℕ)). HasRead c.args.bytes.now (f ∷ []) c.read_next.new.reader) same on,
+        no_rows c.args.schema.now c.new-rows.result.items c.new-rows.ensures.items,
+        refl,
+      );
   fit = none_fit c.args.schema.now c.new-rows.result.items c.new-rows.ensures.items;
 }
 
@@ -46,9 +51,9 @@ pub returns-then-not-branch-2-clause-answer : goal.returns-then-not-branch-2-cla
 returns-then-not-branch-2-clause-answer c =
     let far = c.loop-num.invariant.so_far in
     let read : AreRead c.args.bytes.now (names_of c.args.schema.now ∷ far.0) =
-        as_found c.args.bytes.now (names_of c.args.schema.now ∷ far.0) c.read_next-in-loop-num.new.reader
-        (fields_of c.read_next-in-loop-num.new.line) c.in_ok-read_next-2.field-0 false c.if-not-branch-2.true
-        (c.in_ok-read_next-2.ensures c.args.bytes.now (names_of c.args.schema.now ∷ far.0) far.1) in
+    as_found c.args.bytes.now (names_of c.args.schema.now ∷ far.0) c.read_next-in-loop-num.new.reader
+    (fields_of c.read_next-in-loop-num.new.line) c.in_ok-read_next-2.field-0 false c.if-not-branch-2.true
+    (c.in_ok-read_next-2.ensures c.args.bytes.now (names_of c.args.schema.now ∷ far.0) far.1) in
     record { small = c.requires.small; records = far.0; read = read; rows_are = far.2 }
 
 pub returns-in-Err-clause-answer : goal.returns-in-Err-clause-answer
@@ -56,9 +61,9 @@ returns-in-Err-clause-answer c =
     let far = c.loop-num.invariant.so_far in
     let fields = fields_of c.read_next-in-loop-num.new.line in
     let on : HasRead c.args.bytes.now ((names_of c.args.schema.now ∷ far.0) ++ (fields ∷ [])) c.read_next-in-loop-num.new.reader =
-        as_found c.args.bytes.now
-        (names_of c.args.schema.now ∷ far.0) c.read_next-in-loop-num.new.reader fields c.in_ok-read_next-2.field-0 true c.if-not-branch-2.false
-        (c.in_ok-read_next-2.ensures c.args.bytes.now (names_of c.args.schema.now ∷ far.0) far.1) in
+    as_found c.args.bytes.now
+    (names_of c.args.schema.now ∷ far.0) c.read_next-in-loop-num.new.reader fields c.in_ok-read_next-2.field-0 true c.if-not-branch-2.false
+    (c.in_ok-read_next-2.ensures c.args.bytes.now (names_of c.args.schema.now ∷ far.0) far.1) in
     elim c.in-Err.ensures.row [
       | inl memory ↦ inl memory
       | inr wrong ↦ inr
@@ -71,15 +76,17 @@ loop-num-preserved c = record {
       let far = c.loop-num.invariant.so_far in
       let fields = fields_of c.read_next-in-loop-num.new.line in
       let on : HasRead c.args.bytes.now ((names_of c.args.schema.now ∷ far.0) ++ (fields ∷ [])) c.read_next-in-loop-num.new.reader =
-          as_found c.args.bytes.now
-          (names_of c.args.schema.now ∷ far.0) c.read_next-in-loop-num.new.reader fields c.in_ok-read_next-2.field-0 true c.if-not-branch-2.false
-          (c.in_ok-read_next-2.ensures c.args.bytes.now (names_of c.args.schema.now ∷ far.0) far.1) in
+      as_found c.args.bytes.now
+      (names_of c.args.schema.now ∷ far.0) c.read_next-in-loop-num.new.reader fields c.in_ok-read_next-2.field-0 true c.if-not-branch-2.false
+      (c.in_ok-read_next-2.ensures c.args.bytes.now (names_of c.args.schema.now ∷ far.0) far.1) in
       let row = c.in-Ok.row in
       let more = rows_more c.args.schema.now 0 far.0 c.loop-num.rows.items fields row far.2
-          (let n = c.in-Ok.ensures.row.0 in let l = far.3 in omega (arith, n, l)) c.in-Ok.ensures.row.1 in
-      (far.0 ++ (fields ∷ []), on,
-          subst (λ (rs : List RowValue). AreRows c.args.schema.now 0 (far.0 ++ (fields ∷ [])) rs) (sym c.in_ok-push-in-Ok.ensures.items) more,
-          lines_more far.0 fields c.loop-num.num far.3);
+      (let n = c.in-Ok.ensures.row.0 in let l = far.3 in omega (arith, n, l)) c.in-Ok.ensures.row.1 in (
+        far.0 ++ (fields ∷ []),
+        on,
+        subst (λ (rs : List RowValue). AreRows c.args.schema.now 0 (far.0 ++ (fields ∷ [])) rs) (sym c.in_ok-push-in-Ok.ensures.items) more,
+        lines_more far.0 fields c.loop-num.num far.3,
+      );
   fit = all_fit c.args.schema.now c.loop-num.rows.items c.push.new.self.items c.in-Ok.row c.loop-num.invariant.fit c.in-Ok.ensures.fits c.in_ok-push-in-Ok.ensures.items;
 }
 

@@ -15,7 +15,7 @@ returns-then-not-is_field c =
     let attr_is : slice_get attrs column ≡ Some attr = slice_get_read attrs (length attrs) column attr refl c.loop-column-test.true c.index-attrs-column.is in
     let name_is : c.as_str.result.now ≡ attr.name = c.as_str.ensures ∙ ap (λ (a : Attr). a.name) (sym c.index-attrs-column.is) in
     let not : slice_get fields column ≡ Some attr.name → ⊥ = λ at. let is = c.is_field.ensures.1 (at ∙ ap (λ (xs : List ℕ). Some xs) (sym name_is)) in
-        cc (is, c.if-not-is_field.true) in
+    cc (is, c.if-not-is_field.true) in
     (λ e. absurd (false≢true e), λ same. absurd (other_name attrs fields column attr attr_is not same))
 
 pub loop-column-preserved : goal.loop-column-preserved

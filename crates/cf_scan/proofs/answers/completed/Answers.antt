@@ -31,7 +31,7 @@ loop-place-preserved g c =
           (let f = answer_on shape c.args.entries.now in
           let before = c.loop-place.invariant shape is in
           let answer : w.in_ok-answer.answer ≡ f (get_or asks place no_ask) = w.in_ok-answer.ensures shape
-              ∙ ap f (w.index-asks-place.is ∙ get_or_default asks place w.index-asks-place.result no_ask lt) in
+          ∙ ap f (w.index-asks-place.is ∙ get_or_default asks place w.index-asks-place.result no_ask lt) in
           let scanned : goes_by_log asks lives place ≡ false = sym c.goes_by_log.ensures ∙ w.if-not-goes_by_log.true in
           rw w.all-is (w.in_ok-insert.ensures.items ∙ (λ i. insert (before i) place (answer i)) ∙ answered_scan asks lives place lt f scanned))
       | else-not-goes_by_log w ↦ λ shape is.

@@ -11,7 +11,7 @@ pub unreachable-requires : goal.unreachable-requires
 unreachable-requires c =
     let live = get_or c.args.lives.now c.loop-live.live-index 0 in
     some_place (λ place. nat_eq place live) c.args.places.now (c.requires.all c.loop-live.live-index 0 c.loop-live-test.true)
-        (sym c.place_in.ensures ∙ c.in_default.is)
+    (sym c.place_in.ensures ∙ c.in_default.is)
 
 pub loop-live-preserved : goal.loop-live-preserved
 loop-live-preserved c =

@@ -6,9 +6,10 @@ use Rattle.cf_scan.proofs.splits.split_asks.Goals as goal
 pub asks_at-requires : goal.asks_at-requires
 asks_at-requires c =
     let asks = c.args.asks.now in
-    record { exist =
-        subst (λ (ns : List ℕ). All (λ place. place < length asks) ns) (sym (c.deref.ensures.value ∙ c.in_ok-places.ensures))
-        (logged_exist asks c.args.lives.now) }
+    record {
+      exist = subst (λ (ns : List ℕ). All (λ place. place < length asks) ns) (sym (c.deref.ensures.value ∙ c.in_ok-places.ensures))
+          (logged_exist asks c.args.lives.now);
+    }
 
 pub lives_in-requires : goal.lives_in-requires
 lives_in-requires c =

@@ -18,11 +18,11 @@ collect-requires-clause-ready g c =
     let small = chunks_of-All size entries c.requires.size.0 in
     let whole = chunks_of-concat size entries c.requires.size.0 in
     let fit : All (FitAll c.args.schema.now) (chunks_of size entries) =
-        λ k d lt. all_parts (λ (e : Entry). Fits c.args.schema.now e.row) (chunks_of size entries)
-        (subst (FitAll c.args.schema.now) (sym whole) c.requires.fit) k d lt in
+    λ k d lt. all_parts (λ (e : Entry). Fits c.args.schema.now e.row) (chunks_of size entries)
+    (subst (FitAll c.args.schema.now) (sym whole) c.requires.fit) k d lt in
     rw (c.map.ensures.base, c.map.ensures.f, c.with_min_len.ensures.base, c.par_chunks.ensures.slice, c.par_chunks.ensures.size, least)
     (λ κs out k d lt r e. let most = small k d lt in
-        ((c.requires.narrow, c.requires.suits, rw e (fit k d lt), rw e (omega (arith, most.1, c.requires.size.1))), λ y h. tt))
+    ((c.requires.narrow, c.requires.suits, rw e (fit k d lt), rw e (omega (arith, most.1, c.requires.size.1))), λ y h. tt))
 
 pub returns : goal.returns
 returns g c =

@@ -13,9 +13,9 @@ loop-part-preserved c =
           let many : length c.args.parts.now ≡ length lists = ap length e ∙ length-map lists quad_of in
           let lt : i < length lists = omega (arith, many, c.loop-part-test.true) in
           let item : c.part-item.result ≡ quad_of (get_or lists i []) = c.part-item.is ∙ ap (λ (ps : List QuadValue). get_or ps i c.part-item.result) e
-              ∙ get_or-map quad_of lists i [] c.part-item.result lt in
+          ∙ get_or-map quad_of lists i [] c.part-item.result lt in
           c.merge-total.ensures.merged (flat_map (λ (ns : List ℕ). ns) (take i lists)) (get_or lists i []) (c.loop-part.invariant.is lists e) item
-              ∙ ap quad_of (sym (lists_more lists i lt));
+          ∙ ap quad_of (sym (lists_more lists i lt));
       count =
           let more = sum_by_more (λ (part : QuadValue). part.count) c.args.parts.now i c.part-item.result c.loop-part-test.true in
           let item = ap (λ (part : QuadValue). part.count) c.part-item.is in

@@ -17,7 +17,7 @@ pub loop-host-preserved : goal.loop-host-preserved
 loop-host-preserved c =
     let f : ℕ → ℕ = in_cut c.args.turn c.args.counts.now c.args.turns in
     c.in_ok-push.ensures.items ∙ ap (λ (xs : List ℕ). xs ++ c.rows_in_cut.result ∷ []) c.loop-host.invariant
-        ∙ ap (λ (x : ℕ). map f (range_with_len 0 c.loop-host.host) ++ x ∷ []) c.rows_in_cut.ensures
+    ∙ ap (λ (x : ℕ). map f (range_with_len 0 c.loop-host.host) ++ x ∷ []) c.rows_in_cut.ensures
     ∙ sym (map-range_with_len_more f 0 c.loop-host.host c.loop-host.host (omega arith))
 
 pub returns-clause-value : goal.returns-clause-value
@@ -27,7 +27,7 @@ pub returns-clause-cut : goal.returns-clause-cut
 returns-clause-cut c =
     let counts = c.args.counts.now in
     subst (HasCut (length counts) (events_of c.args.turn counts c.args.turns)) (sym (value_of c))
-        (plans_have_cuts c.args.turn counts c.args.turns c.requires.some c.requires.few)
+    (plans_have_cuts c.args.turn counts c.args.turns c.requires.some c.requires.few)
 
 pub returns-clause-within : goal.returns-clause-within
 returns-clause-within c host =

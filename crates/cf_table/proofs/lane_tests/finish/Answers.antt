@@ -14,5 +14,7 @@ returns g c =
     let m = c.args.pass.now in
     let n = c.finish_record.new.pass in
     let made = c.finish_record.ensures.made in
-    record { home =
-        home_after log.shape log c.args.row.now m n (word_count log.shape.schema + 2) (still_one log m n c.requires.of made.made.same) c.requires.view made }
+    record {
+      home = home_after log.shape log c.args.row.now m n (word_count log.shape.schema + 2)
+          (still_one log m n c.requires.of made.made.same) c.requires.view made;
+    }

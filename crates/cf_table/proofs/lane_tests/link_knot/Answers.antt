@@ -13,9 +13,13 @@ link-found-requires g c κs within =
     let s = c.args.log.now.shape in
     let r = c.args.row.now in
     let m = c.args.pass.now in
-    let n = c.label.new.pass in
-    (within, (still_one c.args.log.now m n c.requires.of c.label.ensures.made.made.same,
-        links_knot s r n.view c.requires.leads (labelled_view s r m n c.requires.view c.label.ensures.made)))
+    let n = c.label.new.pass in (
+      within,
+      (
+        still_one c.args.log.now m n c.requires.of c.label.ensures.made.made.same,
+        links_knot s r n.view c.requires.leads (labelled_view s r m n c.requires.view c.label.ensures.made),
+      ),
+    )
 
 pub returns-clause-view : goal.returns-clause-view
 returns-clause-view g c =
@@ -24,4 +28,4 @@ returns-clause-view g c =
     let m = c.args.pass.now in
     let n = c.label.new.pass in
     knotted_view s r n c.link-found.new.pass c.link-found.result
-        (labelled_view s r m n c.requires.view c.label.ensures.made) c.if-found-ne0.false c.link-found.ensures.made
+    (labelled_view s r m n c.requires.view c.label.ensures.made) c.if-found-ne0.false c.link-found.ensures.made

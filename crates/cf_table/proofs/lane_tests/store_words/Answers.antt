@@ -9,7 +9,7 @@ store_cell-requires-clause-lawful g c =
     let low = c.loop-i-test.true in
     let long = c.requires.words.0 in
     stores_word c.args.log.now.shape c.args.row.now (c.loop-i.pass).view i (get_or c.args.words.now i 0) c.args.words.now c.loop-i.invariant.view
-        (omega (arith, low, long)) c.requires.words.1 refl
+    (omega (arith, low, long)) c.requires.words.1 refl
 
 pub loop-i-preserved : goal.loop-i-preserved
 loop-i-preserved g c =

@@ -6,10 +6,16 @@ pub load_head-head-requires : goal.load_head-head-requires
 load_head-head-requires g c κs within =
     let s = c.args.log.now.shape in
     let r = c.args.row.now in
-    let two = c.requires.leads.writers in
-    (search rules,
-        (within, (c.requires.of,
-        ((low_node s r c.requires.leads, omega arith, omega (arith, two)), walks_head s r c.args.pass.now.view c.requires.leads c.requires.known))))
+    let two = c.requires.leads.writers in (
+      search rules,
+      (
+        within,
+        (
+          c.requires.of,
+          ((low_node s r c.requires.leads, omega arith, omega (arith, two)), walks_head s r c.args.pass.now.view c.requires.leads c.requires.known),
+        ),
+      ),
+    )
 
 pub load_cell-before-requires-clause-place : goal.load_cell-before-requires-clause-place
 load_cell-before-requires-clause-place g c =
@@ -25,4 +31,4 @@ load_cell-before-requires-clause-lawful g c =
     let lawful = c.shape.ensures.lawful in
     let room = lawful.capacity in
     walks_cell s c.args.row.now c.args.pass.now c.load_head-head.new.pass c.load_head-head.result c.requires.leads
-        (omega (arith, room)) c.if-head-ne1.false c.load_head-head.ensures.made
+    (omega (arith, room)) c.if-head-ne1.false c.load_head-head.ensures.made

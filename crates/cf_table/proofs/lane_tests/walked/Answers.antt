@@ -13,7 +13,7 @@ play-requires-clause-new g c =
     let root = ap (λ (h : PassValue). h.view) c.fork-reader.ensures.root ∙ c.in_ok-log.ensures.root in
     let all = dealt_new log c.fork-reader.new.root c.deal.new.root c.in_ok-deal.field-0.items root c.in_ok-deal.ensures.dealt in
     let one : c.in_ok-deal.field-0.items ≡ c.expect-first.result ∷ rest = sym c.into_iter-passes.ensures.rest
-        ∙ (c.next.ensures.items ∙ ap (λ (o : Option PassValue). option_to_list o ++ rest) c.expect-first.ensures) in
+    ∙ (c.next.ensures.items ∙ ap (λ (o : Option PassValue). option_to_list o ++ rest) c.expect-first.ensures) in
     let two : rest ≡ c.expect-second.result ∷ last = c.next-2.ensures.items ∙ ap (λ (o : Option PassValue). option_to_list o ++ last) c.expect-second.ensures in
     (two_new log c.expect-first.result c.expect-second.result c.in_ok-deal.field-0.items rest last all one two).0
 
@@ -25,7 +25,9 @@ close-requires-clause-home g c =
     let root = ap (λ (h : PassValue). h.view) c.fork-reader.ensures.root ∙ c.in_ok-log.ensures.root in
     let all = dealt_new log c.fork-reader.new.root c.deal.new.root c.in_ok-deal.field-0.items root c.in_ok-deal.ensures.dealt in
     let one : c.in_ok-deal.field-0.items ≡ c.expect-first.result ∷ rest = sym c.into_iter-passes.ensures.rest
-        ∙ (c.next.ensures.items ∙ ap (λ (o : Option PassValue). option_to_list o ++ rest) c.expect-first.ensures) in
-    let two : rest ≡ c.expect-second.result ∷ last = c.next-2.ensures.items ∙ ap (λ (o : Option PassValue). option_to_list o ++ last) c.expect-second.ensures in
-    (c.play.ensures.home,
-        new_home log 1 c.expect-second.result (two_new log c.expect-first.result c.expect-second.result c.in_ok-deal.field-0.items rest last all one two).1)
+    ∙ (c.next.ensures.items ∙ ap (λ (o : Option PassValue). option_to_list o ++ rest) c.expect-first.ensures) in
+    let two : rest ≡ c.expect-second.result ∷ last = c.next-2.ensures.items
+    ∙ ap (λ (o : Option PassValue). option_to_list o ++ last) c.expect-second.ensures in (
+      c.play.ensures.home,
+      new_home log 1 c.expect-second.result (two_new log c.expect-first.result c.expect-second.result c.in_ok-deal.field-0.items rest last all one two).1,
+    )

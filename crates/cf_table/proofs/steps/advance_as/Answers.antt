@@ -24,7 +24,7 @@ compare_exchange-requires g c =
       subst (λ (w : StepGiven). Allows (IsLawfulState log.table.shared.key) t.slots seat.id seat.me 1 (λ n. either (n == c.args.t) (c.args.t + 1) n)
           (λ found n. TellsSome w seat.me n)) (sym c.requires.given)
           (advance_allowed log.table.shared.key s t.slots seat.id seat.me p c.args.t (c.log.invariant.0 ∙ shape)
-              (ap (λ (h : PassValue). h.view) c.token.view_is) (rw c.log.invariant.0 c.log.invariant.1) c.token.invariant.0 c.requires.lawful),
+          (ap (λ (h : PassValue). h.view) c.token.view_is) (rw c.log.invariant.0 c.log.invariant.1) c.token.invariant.0 c.requires.lawful),
     )
 
 pub overflow_add-t-2 : goal.overflow_add-t-2
@@ -44,4 +44,4 @@ invariant_of-token g c =
     let seat = c.token.inside.seat in
     let some = subst (λ (w : StepGiven). TellsSome w seat.me c.compare_exchange.new.seat.me) c.requires.given c.compare_exchange.ensures.2 in
     advance_kept s c.args.t c.token.inside.covered c.max-token-inside.result seat.me c.compare_exchange.new.seat.me p
-        (ap (λ (h : PassValue). h.view) c.token.view_is) c.requires.lawful some c.token.invariant.1 c.max-token-inside.ensures c.token.invariant.2
+    (ap (λ (h : PassValue). h.view) c.token.view_is) c.requires.lawful some c.token.invariant.1 c.max-token-inside.ensures c.token.invariant.2

@@ -21,5 +21,5 @@ load-found-requires g c =
       subst (λ (w : StepGiven). Allows (IsLawfulState log.table.shared.key) t.slots seat.id seat.me 1 (λ n. n) (λ found n. TellsAll w seat.me found n))
           (sym c.requires.given)
           (tail_allowed log.table.shared.key s t.slots seat.id seat.me p c.args.asked (c.log.invariant.0 ∙ shape)
-              (ap (λ (h : PassValue). h.view) c.token.view_is) (rw c.log.invariant.0 c.log.invariant.1) c.token.invariant.0),
+          (ap (λ (h : PassValue). h.view) c.token.view_is) (rw c.log.invariant.0 c.log.invariant.1) c.token.invariant.0),
     )

@@ -14,13 +14,20 @@ begin-link-requires g c κs within =
     let s = c.args.log.now.shape in
     let leaf = c.args.leaf in
     let above = c.requires.above in
-    let some = some_levels s leaf.lane c.shape-lawful.ensures.lawful above.exists in
-    (search rules,
-        (search rules,
-        (c.requires.of,
-        ((above.within, c.requires.writer),
-        may_walk s (g.P.Pass.held c.args.pass.now).view leaf.lane _ leaf.node (leaf.key % 16) c.args.writer above.knows
-        (above_long s leaf.lane leaf.key (omega (arith, some.0))) (omega arith) c.requires.writer))))
+    let some = some_levels s leaf.lane c.shape-lawful.ensures.lawful above.exists in (
+      search rules,
+      (
+        search rules,
+        (
+          c.requires.of,
+          (
+            (above.within, c.requires.writer),
+            may_walk s (g.P.Pass.held c.args.pass.now).view leaf.lane _ leaf.node (leaf.key % 16) c.args.writer above.knows
+                (above_long s leaf.lane leaf.key (omega (arith, some.0))) (omega arith) c.requires.writer,
+          ),
+        ),
+      ),
+    )
 
 pub loop-link-init : goal.loop-link-init
 loop-link-init g c =
@@ -32,9 +39,9 @@ loop-link-init g c =
     let v = c.begin-link.result in
     let some = some_levels s leaf.lane c.shape-lawful.ensures.lawful above.exists in
     let b : HasBegun s m n c.args.writer (leaf_of s leaf.lane leaf.key) v =
-        begun s m n leaf.lane leaf.key leaf.node c.args.writer v (omega (arith, some.0)) c.requires.writer above c.begin-link.ensures.made in
+    begun s m n leaf.lane leaf.key leaf.node c.args.writer v (omega (arith, some.0)) c.requires.writer above c.begin-link.ensures.made in
     let same : below s c.args.writer (leaf_of s leaf.lane leaf.key) (m.view).seen v ≡ below s c.args.writer (leaf_of s leaf.lane leaf.key) (m.view).seen
-        (length (m.view).seen) = ap (λ (xs : List (ℕ × RowValue)). map (λ x. x.0) xs) b.all in
+    (length (m.view).seen) = ap (λ (xs : List (ℕ × RowValue)). map (λ x. x.0) xs) b.all in
     let long = ap (λ (xs : List ℕ). length xs) same in
     let count = c.begin-link.ensures.steps in
     record {
@@ -68,8 +75,8 @@ loop-link-smaller g c =
     let n = g.P.Pass.held c.load_cell-link.new.pass in
     let some = c.loop-link-test.true in
     let st = stepped_from s m n c.args.writer (leaf_of s leaf.lane leaf.key)
-        (f.view).seen c.loop-link.link c.load_cell-link.result some c.shape-lawful.ensures.lawful c.requires.above.exists (some_cell s leaf.lane)
-        (walked_seen f m v.walked) v.walking c.load_cell-link.ensures.made in
+    (f.view).seen c.loop-link.link c.load_cell-link.result some c.shape-lawful.ensures.lawful c.requires.above.exists (some_cell s leaf.lane)
+    (walked_seen f m v.walked) v.walking c.load_cell-link.ensures.made in
     let falls = st.falls in
     omega (arith, some, falls)
 
@@ -88,8 +95,8 @@ loop-link-preserved g c =
     let next = c.load_cell-link.result % 4294967296 in
     let some = c.loop-link-test.true in
     let st : HasWalkedOn s m n w spot seen (link - 1) next =
-        stepped_from s m n w spot seen link c.load_cell-link.result some c.shape-lawful.ensures.lawful c.requires.above.exists (some_cell s leaf.lane)
-        (walked_seen f m v.walked) v.walking c.load_cell-link.ensures.made in
+    stepped_from s m n w spot seen link c.load_cell-link.result some c.shape-lawful.ensures.lawful c.requires.above.exists (some_cell s leaf.lane)
+    (walked_seen f m v.walked) v.walking c.load_cell-link.ensures.made in
     let falls = st.falls in
     let more = c.load_cell-link.ensures.steps in
     let here = below_next s w spot seen link some in
@@ -132,7 +139,7 @@ returns-clause-found g c =
     let leaf = c.args.leaf in
     let past = c.loop-link-test.false in
     kept_all s c.args.writer (leaf_of s leaf.lane leaf.key) ((g.P.Pass.held c.args.pass.now).view).seen c.loop-link.link (c.loop-link.found).items _
-        (omega (arith, past)) c.loop-link.invariant.found
+    (omega (arith, past)) c.loop-link.invariant.found
 
 pub returns-clause-steps : goal.returns-clause-steps
 returns-clause-steps g c =

@@ -8,9 +8,13 @@ use Rattle.cf_walk.proofs.chain.collect_leaf.Goals as goal
 
 pub loop-writer-init : goal.loop-writer-init
 loop-writer-init g c =
-    record { loads = omega arith; walked = walked_none (g.P.Pass.held c.args.pass.now); count =
-    all_begins c.args.log.now.shape (g.P.Pass.held c.args.pass.now) _ _ _; found =
-    leaf_none c.args.log.now.shape c.args.leaf.lane c.args.leaf.key ((g.P.Pass.held c.args.pass.now).view).seen c.args.found.now.items }
+    record {
+      loads = omega arith;
+      walked = walked_none (g.P.Pass.held c.args.pass.now);
+      count = all_begins c.args.log.now.shape (g.P.Pass.held c.args.pass.now) _ _ _;
+      found =
+          leaf_none c.args.log.now.shape c.args.leaf.lane c.args.leaf.key ((g.P.Pass.held c.args.pass.now).view).seen c.args.found.now.items;
+    }
 
 pub collect_chain-requires-clause-of : goal.collect_chain-requires-clause-of
 collect_chain-requires-clause-of g c =

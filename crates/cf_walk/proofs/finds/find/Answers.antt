@@ -24,16 +24,16 @@ returns-clause-found g c =
           some_often s l low high (c.min-high.result - low + 1) seen (c.if-low-high.found).items is c.requires.lane c.requires.fit
           (covers_some s l low high c.greatest_key.result c.min-high.result most c.min-high.ensures x.if-low-high.true)
           (ap (λ (v : Vec ℕ Global). v.items) x.found-is
-              ∙ (x.in_ok-collect_range.ensures.found
-              ∙ ap (λ (xs : List ℕ). xs ++ range_places s l low seen (c.min-high.result - low + 1)) c.new-found.ensures.items))
+          ∙ (x.in_ok-collect_range.ensures.found
+          ∙ ap (λ (xs : List ℕ). xs ++ range_places s l low seen (c.min-high.result - low + 1)) c.new-found.ensures.items))
       | else-low-high x ↦
           none_often s l low high seen (c.if-low-high.found).items is c.requires.lane c.requires.fit
           (covers_none s l low high c.greatest_key.result c.min-high.result most c.min-high.ensures x.if-low-high.false)
           (ap (λ (v : Vec ℕ Global). v.items) x.found-is ∙ c.new-found.ensures.items)
     ] in
     c.new.ensures
-        ∙ sorted_are (is_keyed_between s l low high) (rows_in seen) (c.if-low-high.found).items
-        (c.sort_unstable.new.self).items often c.sort_unstable.ensures.permutation c.sort_unstable.ensures.sorted
+    ∙ sorted_are (is_keyed_between s l low high) (rows_in seen) (c.if-low-high.found).items
+    (c.sort_unstable.new.self).items often c.sort_unstable.ensures.permutation c.sort_unstable.ensures.sorted
 
 pub returns-clause-walked : goal.returns-clause-walked
 returns-clause-walked g c =

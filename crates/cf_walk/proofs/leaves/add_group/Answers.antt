@@ -7,8 +7,8 @@ returns-in_ok-push-clause-found g c =
     let some = c.if-count-gt0.true in
     let count = c.count.ensures in
     one_found c.args.log.now.shape c.args.lane c.args.range.0 c.args.range.1 c.measure_key-last.result.0
-        ((g.P.Pass.held c.args.pass.now).view).seen c.measure_key-last.result.1 c.args.groups.now.items
-        (c.push.new.self).items c.shape-lawful.ensures.lawful c.requires.lane c.requires.fit c.requires.top
+    ((g.P.Pass.held c.args.pass.now).view).seen c.measure_key-last.result.1 c.args.groups.now.items
+    (c.push.new.self).items c.shape-lawful.ensures.lawful c.requires.lane c.requires.fit c.requires.top
     c.measure_key-last.ensures.quad (omega (arith, some, count)) (c.measure_key-last.ensures.one (omega (arith, some, count))) c.in_ok-push.ensures.items
 
 pub returns-else-count-gt0-clause-found : goal.returns-else-count-gt0-clause-found
@@ -16,5 +16,5 @@ returns-else-count-gt0-clause-found g c =
     let none = c.if-count-gt0.false in
     let count = c.count.ensures in
     none_found c.args.log.now.shape c.args.lane c.args.range.0 c.args.range.1 c.measure_key-last.result.0
-        ((g.P.Pass.held c.args.pass.now).view).seen c.measure_key-last.result.1 c.args.groups.now.items c.shape-lawful.ensures.lawful c.requires.lane c.requires.fit c.requires.top
+    ((g.P.Pass.held c.args.pass.now).view).seen c.measure_key-last.result.1 c.args.groups.now.items c.shape-lawful.ensures.lawful c.requires.lane c.requires.fit c.requires.top
     c.measure_key-last.ensures.quad (omega (arith, none, count))

@@ -27,4 +27,4 @@ returns-in-Gap-clause-quad g c =
     let high = c.args.range.1 in
     let gap = c.in-Gap.ensures.reached in
     subst (λ (k : ℕ). HasMeasured s c.args.lane key high seen (record { count = 0; sum = 0; least = 0; greatest = 0 }) (key + k)) (sym c.min.ensures)
-        (gap_measured s c.args.lane key high c.in-Gap.span seen c.requires.range gap.0 gap.1)
+    (gap_measured s c.args.lane key high c.in-Gap.span seen c.requires.range gap.0 gap.1)

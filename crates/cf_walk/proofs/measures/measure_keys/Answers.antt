@@ -23,11 +23,11 @@ merge-total-requires g c =
     let few = c.requires.few in
     let same = walked_seen f m v.walked in
     let total = measured_few s l c.args.range.0 c.args.range.1 c.loop-last.last
-        (f.view).seen c.loop-last.total lawful c.requires.lane c.requires.fit c.requires.top v.quad in
+    (f.view).seen c.loop-last.total lawful c.requires.lane c.requires.fit c.requires.top v.quad in
     let more = measured_few s l (c.loop-last.last + 1) c.args.range.1 c.measure_key-next.result.0
-        (f.view).seen c.measure_key-next.result.1 lawful c.requires.lane c.requires.fit c.requires.top
+    (f.view).seen c.measure_key-next.result.1 lawful c.requires.lane c.requires.fit c.requires.top
     (subst (λ (es : List Entry). HasMeasured s l
-        (c.loop-last.last + 1) c.args.range.1 es c.measure_key-next.result.1 c.measure_key-next.result.0) same c.measure_key-next.ensures.quad) in
+    (c.loop-last.last + 1) c.args.range.1 es c.measure_key-next.result.1 c.measure_key-next.result.0) same c.measure_key-next.ensures.quad) in
     record { few = omega (arith, total, more, few, room) }
 
 pub loop-last-preserved : goal.loop-last-preserved

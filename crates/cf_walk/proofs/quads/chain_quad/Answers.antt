@@ -15,13 +15,20 @@ begin-link-requires g c κs within =
     let s = c.args.log.now.shape in
     let leaf = c.args.leaf in
     let above = c.requires.above in
-    let some = some_levels s leaf.lane c.shape-lawful.ensures.lawful above.exists in
-    (search rules,
-        (search rules,
-        (c.requires.of,
-        ((above.within, c.requires.writer),
-        may_walk s (g.P.Pass.held c.args.pass.now).view leaf.lane _ leaf.node (leaf.key % 16) c.args.writer above.knows
-        (above_long s leaf.lane leaf.key (omega (arith, some.0))) (omega arith) c.requires.writer))))
+    let some = some_levels s leaf.lane c.shape-lawful.ensures.lawful above.exists in (
+      search rules,
+      (
+        search rules,
+        (
+          c.requires.of,
+          (
+            (above.within, c.requires.writer),
+            may_walk s (g.P.Pass.held c.args.pass.now).view leaf.lane _ leaf.node (leaf.key % 16) c.args.writer above.knows
+                (above_long s leaf.lane leaf.key (omega (arith, some.0))) (omega arith) c.requires.writer,
+          ),
+        ),
+      ),
+    )
 
 pub loop-link-init : goal.loop-link-init
 loop-link-init g c =
@@ -33,7 +40,7 @@ loop-link-init g c =
     let v = c.begin-link.result in
     let some = some_levels s leaf.lane c.shape-lawful.ensures.lawful above.exists in
     let b : HasBegun s m n c.args.writer (leaf_of s leaf.lane leaf.key) v =
-        begun s m n leaf.lane leaf.key leaf.node c.args.writer v (omega (arith, some.0)) c.requires.writer above c.begin-link.ensures.made in
+    begun s m n leaf.lane leaf.key leaf.node c.args.writer v (omega (arith, some.0)) c.requires.writer above c.begin-link.ensures.made in
     let count = c.begin-link.ensures.steps in
     record {
       walked = b.walked;
@@ -66,8 +73,8 @@ loop-link-smaller g c =
     let test = c.loop-link-test.true in
     let some : 0 < c.loop-link.link = omega (arith, test) in
     let st = stepped_from s m n c.args.writer (leaf_of s leaf.lane leaf.key)
-        (f.view).seen c.loop-link.link c.load_cell-link.result some c.shape-lawful.ensures.lawful c.requires.above.exists (some_cell s leaf.lane)
-        (walked_seen f m v.walked) v.walking c.load_cell-link.ensures.made in
+    (f.view).seen c.loop-link.link c.load_cell-link.result some c.shape-lawful.ensures.lawful c.requires.above.exists (some_cell s leaf.lane)
+    (walked_seen f m v.walked) v.walking c.load_cell-link.ensures.made in
     let falls = st.falls in
     omega (arith, some, falls)
 
@@ -90,8 +97,8 @@ loop-link-preserved g c =
     let some : 0 < link = omega (arith, test) in
     let past : length seen ≤ link - 1 = omega (arith, test, covered, wide) in
     let st : HasWalkedOn s m n w spot seen (link - 1) next =
-        stepped_from s m n w spot seen link c.load_cell-link.result some c.shape-lawful.ensures.lawful c.requires.above.exists (some_cell s leaf.lane)
-        (walked_seen f m v.walked) v.walking c.load_cell-link.ensures.made in
+    stepped_from s m n w spot seen link c.load_cell-link.result some c.shape-lawful.ensures.lawful c.requires.above.exists (some_cell s leaf.lane)
+    (walked_seen f m v.walked) v.walking c.load_cell-link.ensures.made in
     let more = c.load_cell-link.ensures.steps in
     record {
       walked = walked_then f m n v.walked st.walked;
@@ -106,14 +113,14 @@ loop-link-preserved g c =
 pub returns-then-link-eq0-clause-quad : goal.returns-then-link-eq0-clause-quad
 returns-then-link-eq0-clause-quad g c =
     no_amounts c.args.log.now.shape c.args.leaf.lane c.args.leaf.key c.args.writer c.loop-link.link
-        ((g.P.Pass.held c.args.pass.now).view).seen c.if-link-eq0.true c.loop-link.invariant.same
+    ((g.P.Pass.held c.args.pass.now).view).seen c.if-link-eq0.true c.loop-link.invariant.same
 
 pub returns-then-link-eq0-clause-steps : goal.returns-then-link-eq0-clause-steps
 returns-then-link-eq0-clause-steps g c =
     let m = g.P.Pass.held c.loop-link.pass in
     quad_steps c.args.log.now.shape c.args.writer
-        (g.P.Pass.held c.args.pass.now) m m c.loop-link.link c.args.steps.now c.loop-link.steps c.loop-link.steps 3 c.loop-link.invariant.count (λ k v x. x)
-        (omega arith)
+    (g.P.Pass.held c.args.pass.now) m m c.loop-link.link c.args.steps.now c.loop-link.steps c.loop-link.steps 3 c.loop-link.invariant.count (λ k v x. x)
+    (omega arith)
 
 pub read_quad-requires-clause-entry : goal.read_quad-requires-clause-entry
 read_quad-requires-clause-entry g c =
@@ -126,13 +133,13 @@ read_quad-requires-clause-entry g c =
     let covered = c.covered.ensures in
     let wide = c.from-covered.ensures in
     entry_of s c.args.leaf.lane c.args.leaf.key c.args.writer c.loop-link.link (f.view).seen (m.view).seen m.view (walked_seen f m v.walked)
-        (omega (arith, some)) (omega (arith, past, covered, wide)) v.walking
+    (omega (arith, some)) (omega (arith, past, covered, wide)) v.walking
 
 pub read_quad-requires-clause-fit : goal.read_quad-requires-clause-fit
 read_quad-requires-clause-fit g c o e at =
     c.requires.fit o e
-        (ap (λ (es : List Entry). slice_get es o)
-        (sym (walked_seen (g.P.Pass.held c.args.pass.now) (g.P.Pass.held c.loop-link.pass) c.loop-link.invariant.walked)) ∙ at)
+    (ap (λ (es : List Entry). slice_get es o)
+    (sym (walked_seen (g.P.Pass.held c.args.pass.now) (g.P.Pass.held c.loop-link.pass) c.loop-link.invariant.walked)) ∙ at)
 
 pub returns-clause-quad : goal.returns-clause-quad
 returns-clause-quad g c =
@@ -155,5 +162,5 @@ pub returns-clause-steps : goal.returns-clause-steps
 returns-clause-steps g c =
     let more = c.read_quad.ensures.steps in
     quad_steps c.args.log.now.shape c.args.writer (g.P.Pass.held c.args.pass.now) (g.P.Pass.held c.loop-link.pass)
-        (g.P.Pass.held c.read_quad.new.pass) c.loop-link.link c.args.steps.now c.loop-link.steps _ 3 c.loop-link.invariant.count c.read_quad.ensures.met
-        (omega (arith, more))
+    (g.P.Pass.held c.read_quad.new.pass) c.loop-link.link c.args.steps.now c.loop-link.steps _ 3 c.loop-link.invariant.count c.read_quad.ensures.met
+    (omega (arith, more))

@@ -18,7 +18,7 @@ invariant-loop-link g l = record {
       (g.P.Pass.held l.pass).view;
   same : picks (layout (l.log).shape) l.writer (leaf_of (l.log).shape (l.leaf).lane (l.leaf).key) ((g.P.Pass.held l.fn.pass).view).seen l.link
       ≡ picks (layout (l.log).shape) l.writer (leaf_of (l.log).shape (l.leaf).lane (l.leaf).key) ((g.P.Pass.held l.fn.pass).view).seen
-          (length ((g.P.Pass.held l.fn.pass).view).seen);
+      (length ((g.P.Pass.held l.fn.pass).view).seen);
   count : IsCounting (l.log).shape l.writer (g.P.Pass.held l.fn.pass) (g.P.Pass.held l.pass) l.link 0 (l.fn.steps + 1) l.steps;
   loads : CountsLoads (g.P.Pass.held l.fn.pass) (g.P.Pass.held l.pass) l.fn.steps l.steps;
 }

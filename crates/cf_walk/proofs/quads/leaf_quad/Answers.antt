@@ -29,8 +29,8 @@ chain_quad-quad-requires-clause-above g c =
 pub chain_quad-quad-requires-clause-fit : goal.chain_quad-quad-requires-clause-fit
 chain_quad-quad-requires-clause-fit g c o e at =
     c.requires.fit o e
-        (ap (λ (es : List Entry). slice_get es o)
-        (sym (walked_seen (g.P.Pass.held c.args.pass.now) (g.P.Pass.held c.loop-writer.pass) c.loop-writer.invariant.walked)) ∙ at)
+    (ap (λ (es : List Entry). slice_get es o)
+    (sym (walked_seen (g.P.Pass.held c.args.pass.now) (g.P.Pass.held c.loop-writer.pass) c.loop-writer.invariant.walked)) ∙ at)
 
 pub merge-total-requires : goal.merge-total-requires
 merge-total-requires g c =
@@ -95,5 +95,5 @@ returns-clause-steps g c =
     let upto = c.loop-writer.auto.writer-end in
     let all : c.writers-writer-end.result ≡ s.writers = c.writers-writer-end.ensures.writers ∙ ap (λ (x : ShapeValue). x.writers) c.shape.ensures.shape in
     let ends = all_ends s (g.P.Pass.held c.loop-writer.pass) (length seen) c.loop-writer.writer c.args.steps.now
-        (3 * c.loop-writer.writer) c.loop-writer.steps c.loop-writer.invariant.count in
+    (3 * c.loop-writer.writer) c.loop-writer.steps c.loop-writer.invariant.count in
     omega (arith, past, upto, all, ends)

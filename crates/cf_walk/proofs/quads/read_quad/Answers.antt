@@ -13,7 +13,7 @@ load_cell-first-requires-clause-lawful g c =
     let p = (g.P.Pass.held c.args.pass.now).view in
     let three = three_words s c.args.leaf.lane c.requires.measured in
     may_cell s p c.args.place c.args.leaf.lane 0 c.requires.place c.requires.lane (omega (arith, three))
-        (inr (inl (slice_get_within p.seen c.args.place x.entry x.at)))
+    (inr (inl (slice_get_within p.seen c.args.place x.entry x.at)))
 
 pub load_cell-sum-requires-clause-lawful : goal.load_cell-sum-requires-clause-lawful
 load_cell-sum-requires-clause-lawful g c =
@@ -24,7 +24,7 @@ load_cell-sum-requires-clause-lawful g c =
     let three = three_words s c.args.leaf.lane c.requires.measured in
     let one = walked_seen m a (cell_only s m a c.args.place c.args.leaf.lane 0 c.load_cell-first.result c.load_cell-first.ensures.made) in
     may_cell s a.view c.args.place c.args.leaf.lane 1 c.requires.place c.requires.lane (omega (arith, three))
-        (inr (inl (subst (λ (es : List Entry). c.args.place < length es) (sym one) (slice_get_within (m.view).seen c.args.place x.entry x.at))))
+    (inr (inl (subst (λ (es : List Entry). c.args.place < length es) (sym one) (slice_get_within (m.view).seen c.args.place x.entry x.at))))
 
 pub load_cell-ends-requires-clause-lawful : goal.load_cell-ends-requires-clause-lawful
 load_cell-ends-requires-clause-lawful g c =
@@ -37,7 +37,7 @@ load_cell-ends-requires-clause-lawful g c =
     let one = walked_seen m a (cell_only s m a c.args.place c.args.leaf.lane 0 c.load_cell-first.result c.load_cell-first.ensures.made) in
     let two = walked_seen a b (cell_only s a b c.args.place c.args.leaf.lane 1 c.load_cell-sum.result c.load_cell-sum.ensures.made) ∙ one in
     may_cell s b.view c.args.place c.args.leaf.lane 2 c.requires.place c.requires.lane (omega (arith, three))
-        (inr (inl (subst (λ (es : List Entry). c.args.place < length es) (sym two) (slice_get_within (m.view).seen c.args.place x.entry x.at))))
+    (inr (inl (subst (λ (es : List Entry). c.args.place < length es) (sym two) (slice_get_within (m.view).seen c.args.place x.entry x.at))))
 
 pub new-requires : goal.new-requires
 new-requires g c =
@@ -61,7 +61,7 @@ returns-clause-quad g c =
     let one = walked_seen m a (cell_only s m a c.args.place c.args.leaf.lane 0 c.load_cell-first.result c.load_cell-first.ensures.made) in
     let two = walked_seen a b (cell_only s a b c.args.place c.args.leaf.lane 1 c.load_cell-sum.result c.load_cell-sum.ensures.made) ∙ one in
     c.new.ensures
-        ∙ (read s m a b n c.args.leaf.lane c.args.leaf.key c.args._writer c.args.place c.load_cell-first.result c.load_cell-sum.result c.load_cell-ends.result c.shape-lawful.ensures.lawful c.requires.lane c.requires.measured c.requires.place c.requires.entry c.requires.fit one two
+    ∙ (read s m a b n c.args.leaf.lane c.args.leaf.key c.args._writer c.args.place c.load_cell-first.result c.load_cell-sum.result c.load_cell-ends.result c.shape-lawful.ensures.lawful c.requires.lane c.requires.measured c.requires.place c.requires.entry c.requires.fit one two
     c.load_cell-first.ensures.made c.load_cell-sum.ensures.made c.load_cell-ends.ensures.made).quad
 
 pub returns-clause-met : goal.returns-clause-met
@@ -73,4 +73,4 @@ returns-clause-met g c k v x =
     let n = g.P.Pass.held c.load_cell-ends.new.pass in
     cell_keeps s b n c.args.place c.args.leaf.lane 2 c.load_cell-ends.result c.load_cell-ends.ensures.made k v
     (cell_keeps s a b c.args.place c.args.leaf.lane 1 c.load_cell-sum.result c.load_cell-sum.ensures.made k v
-        (cell_keeps s m a c.args.place c.args.leaf.lane 0 c.load_cell-first.result c.load_cell-first.ensures.made k v x))
+    (cell_keeps s m a c.args.place c.args.leaf.lane 0 c.load_cell-first.result c.load_cell-first.ensures.made k v x))

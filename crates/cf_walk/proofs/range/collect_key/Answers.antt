@@ -12,7 +12,7 @@ returns-in_ok-collect_leaf-in-Leaf-clause-found g c =
     let same = walked_seen (g.P.Pass.held c.args.pass.now) (g.P.Pass.held c.reach.new.pass) c.reach.ensures.walked in
     leaf_over s c.args.lane c.args.range.0 c.args.range.1 seen c.args.found.now.items (c.collect_leaf.new.found).items c.requires.range
     (c.in_ok-collect_leaf-in-Leaf.ensures.found
-        ∙ ap (λ (es : List Entry). c.args.found.now.items ++ leaf_places s c.args.lane c.args.range.0 es s.writers) same)
+    ∙ ap (λ (es : List Entry). c.args.found.now.items ++ leaf_places s c.args.lane c.args.range.0 es s.writers) same)
 
 pub returns-in-Gap-clause-found : goal.returns-in-Gap-clause-found
 returns-in-Gap-clause-found g c =
@@ -22,4 +22,4 @@ returns-in-Gap-clause-found g c =
     let high = c.args.range.1 in
     let gap = c.in-Gap.ensures.reached in
     subst (λ (k : ℕ). WentOver s c.args.lane key high seen c.args.found.now.items c.args.found.now.items (key + k)) (sym c.min.ensures)
-        (gap_over s c.args.lane key high c.in-Gap.span seen c.args.found.now.items c.requires.range gap.0 gap.1)
+    (gap_over s c.args.lane key high c.in-Gap.span seen c.args.found.now.items c.requires.range gap.0 gap.1)

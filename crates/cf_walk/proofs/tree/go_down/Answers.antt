@@ -21,7 +21,7 @@ load_turn-requires g c κs within =
           c.requires.of,
           may_child s p (spot t.lane (nibbles t.level t.front)) (turn_slot t.lane t.level t.front t.node) c.turn_place-place.result
               (c.turn_place-place.ensures ∙ ap (λ (x : ShapeValue). place (sizes_of x) (turn_slot t.lane t.level t.front t.node)) c.shape.ensures.shape)
-                  (turn_child s p t.lane t.level t.front t.node c.shape.ensures.lawful c.requires.turn),
+              (turn_child s p t.lane t.level t.front t.node c.shape.ensures.lawful c.requires.turn),
         ),
       ),
     )
@@ -30,7 +30,7 @@ pub returns-clause-turned : goal.returns-clause-turned
 returns-clause-turned g c =
     let t = c.args.turn in
     turned c.args.log.now.shape (g.P.Pass.held c.args.pass.now)
-        (g.P.Pass.held c.load_turn.new.pass) t.lane t.level t.front t.node c.load_turn.result c.shape.ensures.lawful c.requires.turn c.load_turn.ensures.made
+    (g.P.Pass.held c.load_turn.new.pass) t.lane t.level t.front t.node c.load_turn.result c.shape.ensures.lawful c.requires.turn c.load_turn.ensures.made
 
 pub returns-clause-loads : goal.returns-clause-loads
 returns-clause-loads g c =

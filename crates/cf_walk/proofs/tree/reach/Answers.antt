@@ -16,11 +16,11 @@ go_down-child-requires-clause-turn g c =
     let s = c.args.log.now.shape in
     let v = c.loop-level.invariant in
     let all : c.levels-levels.result ≡ levels_of s c.args.lane = c.levels-levels.ensures
-        ∙ ap (λ (x : ShapeValue). levels_of x c.args.lane) c.shape.ensures.shape in
+    ∙ ap (λ (x : ShapeValue). levels_of x c.args.lane) c.shape.ensures.shape in
     let test = c.loop-level-test.true in
     let low = c.loop-level.auto.level in
     turn_next s c.args.lane c.args.key c.loop-level.level c.loop-level.node c.span_of-span.result (g.P.Pass.held c.loop-level.pass).view c.requires.lane
-        (omega (arith, low)) (omega (arith, test, all))
+    (omega (arith, low)) (omega (arith, test, all))
     (c.span_of-span.ensures.span ∙ ap (λ (n : ℕ). 16 ^ (n - c.loop-level.level)) all) v.within v.knows
 
 pub returns-then-child-eq0-clause-reached : goal.returns-then-child-eq0-clause-reached
@@ -28,14 +28,14 @@ returns-then-child-eq0-clause-reached g c =
     let s = c.args.log.now.shape in
     let v = c.loop-level.invariant in
     let all : c.levels-levels.result ≡ levels_of s c.args.lane = c.levels-levels.ensures
-        ∙ ap (λ (x : ShapeValue). levels_of x c.args.lane) c.shape.ensures.shape in
+    ∙ ap (λ (x : ShapeValue). levels_of x c.args.lane) c.shape.ensures.shape in
     let test = c.loop-level-test.true in
     let m = g.P.Pass.held c.loop-level.pass in (
       c.span_of-span.ensures.some,
       gap_from_none s m.view c.args.lane c.args.key c.loop-level.level (levels_of s c.args.lane - c.loop-level.level) c.span_of-span.result
           ((g.P.Pass.held c.args.pass.now).view).seen (omega (arith, test, all)) (omega (arith, test, all))
           (c.span_of-span.ensures.span ∙ ap (λ (n : ℕ). 16 ^ (n - c.loop-level.level)) all) (walked_seen (g.P.Pass.held c.args.pass.now) m v.walked)
-              (c.go_down-child.ensures.turned.none c.if-child-eq0.true),
+          (c.go_down-child.ensures.turned.none c.if-child-eq0.true),
     )
 
 pub loop-level-init : goal.loop-level-init
@@ -44,10 +44,10 @@ loop-level-init g c =
     let m = g.P.Pass.held c.args.pass.now in
     let d = c.common_depth-depth.result in
     let all : c.levels-levels.result ≡ levels_of s c.args.lane = c.levels-levels.ensures
-        ∙ ap (λ (x : ShapeValue). levels_of x c.args.lane) c.shape.ensures.shape in
+    ∙ ap (λ (x : ShapeValue). levels_of x c.args.lane) c.shape.ensures.shape in
     let p : Path = record { key = c.args.key; depth = d; nodes = c.args.path.now.nodes } in
     let is : IsPath s c.args.lane p m.view =
-        path_turns s c.args.lane c.levels-levels.result c.args.path.now p m.view all c.requires.path refl c.common_depth-depth.ensures.most c.common_depth-depth.ensures.common in
+    path_turns s c.args.lane c.levels-levels.result c.args.path.now p m.view all c.requires.path refl c.common_depth-depth.ensures.most c.common_depth-depth.ensures.common in
     record {
       path = is;
       key = refl;
@@ -64,7 +64,7 @@ loop-level-preserved g c =
     let s = c.args.log.now.shape in
     let v = c.loop-level.invariant in
     let all : c.levels-levels.result ≡ levels_of s c.args.lane = c.levels-levels.ensures
-        ∙ ap (λ (x : ShapeValue). levels_of x c.args.lane) c.shape.ensures.shape in
+    ∙ ap (λ (x : ShapeValue). levels_of x c.args.lane) c.shape.ensures.shape in
     let turned = c.go_down-child.ensures.turned in
     let some = c.if-child-eq0.false in
     let before = v.steps in
@@ -74,11 +74,11 @@ loop-level-preserved g c =
     record {
       path = path_longer s c.args.lane c.loop-level.level (c.go_down-child.result - 1) c.loop-level.path _ (g.P.Pass.held c.go_down-child.new.pass).view
           (path_then s c.args.lane c.loop-level.path (g.P.Pass.held c.loop-level.pass)
-              (g.P.Pass.held c.go_down-child.new.pass) turned.walked v.path) refl refl refl (sym v.depth) (omega (arith, test, all))
-              (some_levels s c.args.lane c.shape.ensures.lawful c.requires.lane).1
+          (g.P.Pass.held c.go_down-child.new.pass) turned.walked v.path) refl refl refl (sym v.depth) (omega (arith, test, all))
+          (some_levels s c.args.lane c.shape.ensures.lawful c.requires.lane).1
           (turned.within (omega (arith, some)))
           (path_node s c.args.lane c.args.key c.loop-level.path.key c.loop-level.level (c.go_down-child.result - 1) c.span_of-span.result
-              (g.P.Pass.held c.go_down-child.new.pass).view v.key
+          (g.P.Pass.held c.go_down-child.new.pass).view v.key
           (c.span_of-span.ensures.span ∙ ap (λ (n : ℕ). 16 ^ (n - c.loop-level.level)) all) (turned.knows (omega (arith, some))));
       key = v.key;
       depth = refl;
@@ -96,7 +96,7 @@ returns-clause-reached g c =
     let s = c.args.log.now.shape in
     let v = c.loop-level.invariant in
     let all : c.levels-levels.result ≡ levels_of s c.args.lane = c.levels-levels.ensures
-        ∙ ap (λ (x : ShapeValue). levels_of x c.args.lane) c.shape.ensures.shape in
+    ∙ ap (λ (x : ShapeValue). levels_of x c.args.lane) c.shape.ensures.shape in
     let past = c.loop-level-test.false in
     let far = c.loop-level.auto in
     let some = (some_levels s c.args.lane c.shape.ensures.lawful c.requires.lane).0 in

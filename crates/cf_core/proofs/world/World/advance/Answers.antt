@@ -28,12 +28,12 @@ entries-requires-clause-readable c =
     let seen : c.args.t ≤ length c.in-Some.pass.now.seen = omega (arith, c.if-t-covered.false, c.covered.ensures) in
     let low : c.args.t < c.args.self.now.shape.capacity = rw c.shape-shape.ensures.shape at (rw c.capacity.ensures.capacity at c.if-t-capacity.false) in
     look_readable c.args.self.now c.args.k c.args.t c.ticket_place-place.result
-        (c.ticket_words.result - 1) c.in-Some.pass.now c.read_tail.ensures.lawful c.in-Some.ensures seen low last c.ticket_place-place.ensures.at found.0 found.1
+    (c.ticket_words.result - 1) c.in-Some.pass.now c.read_tail.ensures.lawful c.in-Some.ensures seen low last c.ticket_place-place.ensures.at found.0 found.1
 
 pub advanced-requires : goal.advanced-requires
 advanced-requires c =
     let entries : c.in_ok-entries.entries.items ≡ entries_spelled (layout c.args.self.now.shape) c.args.self.now.words (c.args.t + 1) =
-        search (rules, c.in_ok-entries.ensures) in
+    search (rules, c.in_ok-entries.ensures) in
     let long = table_long (λ o. (layout c.args.self.now.shape).reads (plain_at (layout c.args.self.now.shape) c.args.self.now.words o)) (c.args.t + 1) in
     omega (arith, ap (length {A = Entry}) entries, long)
 
@@ -48,12 +48,12 @@ put-requires-clause-lawful c =
     let seen : c.args.t ≤ length c.in-Some.pass.now.seen = omega (arith, c.if-t-covered.false, c.covered.ensures) in
     let low : c.args.t < c.args.self.now.shape.capacity = rw c.shape-shape.ensures.shape at (rw c.capacity.ensures.capacity at c.if-t-capacity.false) in
     let entries : c.in_ok-entries.entries.items ≡ entries_spelled (layout c.args.self.now.shape) c.args.self.now.words (c.args.t + 1) =
-        search (rules, c.in_ok-entries.ensures) in
+    search (rules, c.in_ok-entries.ensures) in
     let after : c.in_ok-after.after ≡ pass_that_sees (c.args.t + 1) c.in_ok-entries.entries.items c.in-Some.pass.now = search (rules, c.in_ok-after.ensures) in
     let left : c.advanced-left.result ≡ cond (c.read_tail.result == c.args.t) (c.args.t + 1) c.read_tail.result = c.advanced-left.ensures
-        ∙ ap (λ (n : ℕ). cond (c.read_tail.result == n) (n + 1) c.read_tail.result) c.from.ensures in
+    ∙ ap (λ (n : ℕ). cond (c.read_tail.result == n) (n + 1) c.read_tail.result) c.from.ensures in
     let does = advance_does c.args.self.now c.args.k c.args.t c.ticket_place-place.result
-        (c.ticket_words.result - 1) c.read_tail.result c.advanced-left.result c.in-Some.pass.now c.in_ok-after.after c.in_ok-entries.entries.items c.read_tail.ensures.lawful c.in-Some.ensures seen low last c.ticket_place-place.ensures.at found.0 found.1 c.read_tail.ensures.tail left entries after in
+    (c.ticket_words.result - 1) c.read_tail.result c.advanced-left.result c.in-Some.pass.now c.in_ok-after.after c.in_ok-entries.entries.items c.read_tail.ensures.lawful c.in-Some.ensures seen low last c.ticket_place-place.ensures.at found.0 found.1 c.read_tail.ensures.tail left entries after in
     made_lawful c.args.self.now c.args.k (acts (advance c.args.t)) _ c.read_tail.ensures.lawful does
 
 pub returns : goal.returns
@@ -64,10 +64,10 @@ returns c =
     let seen : c.args.t ≤ length c.in-Some.pass.now.seen = omega (arith, c.if-t-covered.false, c.covered.ensures) in
     let low : c.args.t < c.args.self.now.shape.capacity = rw c.shape-shape.ensures.shape at (rw c.capacity.ensures.capacity at c.if-t-capacity.false) in
     let entries : c.in_ok-entries.entries.items ≡ entries_spelled (layout c.args.self.now.shape) c.args.self.now.words (c.args.t + 1) =
-        search (rules, c.in_ok-entries.ensures) in
+    search (rules, c.in_ok-entries.ensures) in
     let after : c.in_ok-after.after ≡ pass_that_sees (c.args.t + 1) c.in_ok-entries.entries.items c.in-Some.pass.now = search (rules, c.in_ok-after.ensures) in
     let left : c.advanced-left.result ≡ cond (c.read_tail.result == c.args.t) (c.args.t + 1) c.read_tail.result = c.advanced-left.ensures
-        ∙ ap (λ (n : ℕ). cond (c.read_tail.result == n) (n + 1) c.read_tail.result) c.from.ensures in
+    ∙ ap (λ (n : ℕ). cond (c.read_tail.result == n) (n + 1) c.read_tail.result) c.from.ensures in
     let does = advance_does c.args.self.now c.args.k c.args.t c.ticket_place-place.result
-        (c.ticket_words.result - 1) c.read_tail.result c.advanced-left.result c.in-Some.pass.now c.in_ok-after.after c.in_ok-entries.entries.items c.read_tail.ensures.lawful c.in-Some.ensures seen low last c.ticket_place-place.ensures.at found.0 found.1 c.read_tail.ensures.tail left entries after in
+    (c.ticket_words.result - 1) c.read_tail.result c.advanced-left.result c.in-Some.pass.now c.in_ok-after.after c.in_ok-entries.entries.items c.read_tail.ensures.lawful c.in-Some.ensures seen low last c.ticket_place-place.ensures.at found.0 found.1 c.read_tail.ensures.tail left entries after in
     made c.args.self.now c.put.new.self c.args.k (acts (advance c.args.t)) _ _ c.put.ensures does

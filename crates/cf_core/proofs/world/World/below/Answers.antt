@@ -26,6 +26,8 @@ returns c = λ x d below. c.loop-known.invariant below.0 d x
     omega (arith, w, c.loop-known-test.false, ap (length {A = Spot × ℕ}) c.known-known-items.ensures)) below.1 below.2
 
 pub returns-in-Some : goal.returns-in-Some
-returns-in-Some c =
-    (c.loop-known.known-index,
-    item_is c.args.pass.now.known c.known-known-items.result.now c.loop-known.known-index c.known-item.result c.known-known-items.ensures c.loop-known-test.true c.known-item.is, c.in-Some.ensures)
+returns-in-Some c = (
+  c.loop-known.known-index,
+  item_is c.args.pass.now.known c.known-known-items.result.now c.loop-known.known-index c.known-item.result c.known-known-items.ensures c.loop-known-test.true c.known-item.is,
+  c.in-Some.ensures,
+)

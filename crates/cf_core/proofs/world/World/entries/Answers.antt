@@ -18,4 +18,4 @@ loop-offset-preserved c =
     let items : c.push.new.self.items ≡ c.loop-offset.entries.items ++ c.in_ok-entry.field-0 ∷ [] = search (rules, c.in_ok-push.ensures.items) in
     let next : suc c.loop-offset.offset ≡ c.loop-offset.offset + 1 = omega arith in
     items ∙ (ap₂ (λ (xs : List Entry) (e : Entry). xs ++ e ∷ []) c.loop-offset.invariant entry
-        ∙ (sym (table_more f c.loop-offset.offset) ∙ ap (Rattle.cf_law.specs.Events.tabulated f) next))
+    ∙ (sym (table_more f c.loop-offset.offset) ∙ ap (Rattle.cf_law.specs.Events.tabulated f) next))

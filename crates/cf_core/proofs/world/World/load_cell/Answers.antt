@@ -34,10 +34,10 @@ returns-then-not-may_read c = (
 pub word-found-requires : goal.word-found-requires
 word-found-requires c =
     let at : c.place_cell-place.result ≡ place_of c.args.self.now.shape (version c.args.offset c.args.lane c.args.i) =
-        rw c.shape-shape.ensures.shape at c.place_cell-place.ensures in
+    rw c.shape-shape.ensures.shape at c.place_cell-place.ensures in
     let has : HasCell c.args.self.now.shape c.args.lane c.args.i = rw c.shape-shape.ensures.shape at ((c.has_cell.ensures).0 c.if-not-has_cell.false) in
     let low : c.args.offset < c.args.self.now.shape.capacity =
-        rw c.shape-shape.ensures.shape at (rw c.capacity.ensures.capacity at c.if-offset-capacity.false) in
+    rw c.shape-shape.ensures.shape at (rw c.capacity.ensures.capacity at c.if-offset-capacity.false) in
     rw at (cell_there c.args.self.now c.args.offset c.args.lane c.args.i c.shape-shape.ensures.lawful low has)
 
 pub put-requires-clause-pass : goal.put-requires-clause-pass
@@ -46,32 +46,32 @@ put-requires-clause-pass c = pass_there c.args.self.now c.args.k c.in-Some.pass.
 pub put-requires-clause-word : goal.put-requires-clause-word
 put-requires-clause-word c =
     let at : c.place_cell-place.result ≡ place_of c.args.self.now.shape (version c.args.offset c.args.lane c.args.i) =
-        rw c.shape-shape.ensures.shape at c.place_cell-place.ensures in
+    rw c.shape-shape.ensures.shape at c.place_cell-place.ensures in
     let has : HasCell c.args.self.now.shape c.args.lane c.args.i = rw c.shape-shape.ensures.shape at ((c.has_cell.ensures).0 c.if-not-has_cell.false) in
     let low : c.args.offset < c.args.self.now.shape.capacity =
-        rw c.shape-shape.ensures.shape at (rw c.capacity.ensures.capacity at c.if-offset-capacity.false) in
+    rw c.shape-shape.ensures.shape at (rw c.capacity.ensures.capacity at c.if-offset-capacity.false) in
     rw at (cell_there c.args.self.now c.args.offset c.args.lane c.args.i c.shape-shape.ensures.lawful low has)
 
 pub put-requires-clause-lawful : goal.put-requires-clause-lawful
 put-requires-clause-lawful c =
     let at : c.place_cell-place.result ≡ place_of c.args.self.now.shape (version c.args.offset c.args.lane c.args.i) =
-        rw c.shape-shape.ensures.shape at c.place_cell-place.ensures in
+    rw c.shape-shape.ensures.shape at c.place_cell-place.ensures in
     let has : HasCell c.args.self.now.shape c.args.lane c.args.i = rw c.shape-shape.ensures.shape at ((c.has_cell.ensures).0 c.if-not-has_cell.false) in
     let low : c.args.offset < c.args.self.now.shape.capacity =
-        rw c.shape-shape.ensures.shape at (rw c.capacity.ensures.capacity at c.if-offset-capacity.false) in
+    rw c.shape-shape.ensures.shape at (rw c.capacity.ensures.capacity at c.if-offset-capacity.false) in
     let after : c.in_ok-after.after ≡ pass_with_cell c.place_cell-place.result c.args.offset c.args.lane c.args.i c.in-Some.pass.now c.word-found.result =
-        search (rules, c.in_ok-after.ensures) in
+    search (rules, c.in_ok-after.ensures) in
     let does = cell_load_does c.args.self.now c.args.k c.place_cell-place.result c.args.offset c.args.lane c.args.i c.word-found.result c.in-Some.pass.now c.in_ok-after.after c.in-Some.ensures low has ((c.may_read.ensures).0 c.if-not-may_read.false) at c.word-found.ensures after in
     made_lawful c.args.self.now c.args.k (acts (load_cell c.args.offset c.args.lane c.args.i)) _ c.shape-shape.ensures.lawful does
 
 pub returns : goal.returns
 returns c =
     let at : c.place_cell-place.result ≡ place_of c.args.self.now.shape (version c.args.offset c.args.lane c.args.i) =
-        rw c.shape-shape.ensures.shape at c.place_cell-place.ensures in
+    rw c.shape-shape.ensures.shape at c.place_cell-place.ensures in
     let has : HasCell c.args.self.now.shape c.args.lane c.args.i = rw c.shape-shape.ensures.shape at ((c.has_cell.ensures).0 c.if-not-has_cell.false) in
     let low : c.args.offset < c.args.self.now.shape.capacity =
-        rw c.shape-shape.ensures.shape at (rw c.capacity.ensures.capacity at c.if-offset-capacity.false) in
+    rw c.shape-shape.ensures.shape at (rw c.capacity.ensures.capacity at c.if-offset-capacity.false) in
     let after : c.in_ok-after.after ≡ pass_with_cell c.place_cell-place.result c.args.offset c.args.lane c.args.i c.in-Some.pass.now c.word-found.result =
-        search (rules, c.in_ok-after.ensures) in
+    search (rules, c.in_ok-after.ensures) in
     let does = cell_load_does c.args.self.now c.args.k c.place_cell-place.result c.args.offset c.args.lane c.args.i c.word-found.result c.in-Some.pass.now c.in_ok-after.after c.in-Some.ensures low has ((c.may_read.ensures).0 c.if-not-may_read.false) at c.word-found.ensures after in
     made c.args.self.now c.put.new.self c.args.k (acts (load_cell c.args.offset c.args.lane c.args.i)) _ _ c.put.ensures does

@@ -13,10 +13,10 @@ put-requires-clause-lawful c =
     let lt = rw c.shape-shape.ensures.shape at (rw c.capacity.ensures.capacity at c.if-offset-capacity.false) in
     let words = rw c.shape-shape.ensures.shape at c.ticket_words.ensures.words in
     let after : c.in_ok-after.after ≡ pass_with_look c.ticket_place-place.result c.word-found.result c.in-Some.pass.now =
-        search (rules, c.in_ok-after.ensures) in
+    search (rules, c.in_ok-after.ensures) in
     let does = look_does c.args.self.now c.args.k c.args.offset c.ticket_place-place.result
-        (c.ticket_words.result - 1) c.word-found.result c.in-Some.pass.now c.in_ok-after.after c.in-Some.ensures lt
-        (omega (arith, words)) c.ticket_place-place.ensures.at c.word-found.ensures after in
+    (c.ticket_words.result - 1) c.word-found.result c.in-Some.pass.now c.in_ok-after.after c.in-Some.ensures lt
+    (omega (arith, words)) c.ticket_place-place.ensures.at c.word-found.ensures after in
     made_lawful c.args.self.now c.args.k (acts (look_done c.args.offset)) _ c.shape-shape.ensures.lawful does
 
 pub returns : goal.returns
@@ -24,8 +24,8 @@ returns c =
     let lt = rw c.shape-shape.ensures.shape at (rw c.capacity.ensures.capacity at c.if-offset-capacity.false) in
     let words = rw c.shape-shape.ensures.shape at c.ticket_words.ensures.words in
     let after : c.in_ok-after.after ≡ pass_with_look c.ticket_place-place.result c.word-found.result c.in-Some.pass.now =
-        search (rules, c.in_ok-after.ensures) in
+    search (rules, c.in_ok-after.ensures) in
     let does = look_does c.args.self.now c.args.k c.args.offset c.ticket_place-place.result
-        (c.ticket_words.result - 1) c.word-found.result c.in-Some.pass.now c.in_ok-after.after c.in-Some.ensures lt
-        (omega (arith, words)) c.ticket_place-place.ensures.at c.word-found.ensures after in
+    (c.ticket_words.result - 1) c.word-found.result c.in-Some.pass.now c.in_ok-after.after c.in-Some.ensures lt
+    (omega (arith, words)) c.ticket_place-place.ensures.at c.word-found.ensures after in
     made c.args.self.now c.put.new.self c.args.k (acts (look_done c.args.offset)) _ _ c.put.ensures does

@@ -14,7 +14,7 @@ returns-in-Some c =
     let low : c.in-Some.nibble < 16 = c.in-Some.ensures.0 in
     let e : c.place_root.result + c.in-Some.nibble ≡ c.args.place = c.in-Some.ensures.1 in
     let lane : c.loop-lane.lane < length c.args.self.now.shape.lanes =
-        omega (arith, c.loop-lane-test.true, ap (length {A = Lane}) (c.lanes.ensures.lanes ∙ ap (λ (s : ShapeValue). s.lanes) c.shape-shape.ensures.shape)) in
+    omega (arith, c.loop-lane-test.true, ap (length {A = Lane}) (c.lanes.ensures.lanes ∙ ap (λ (s : ShapeValue). s.lanes) c.shape-shape.ensures.shape)) in
     (lane, low, omega (arith, at, place_root_at c.args.self.now c.loop-lane.lane c.in-Some.nibble, e))
 
 pub loop-lane-preserved : goal.loop-lane-preserved

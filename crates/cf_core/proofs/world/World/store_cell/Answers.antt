@@ -20,10 +20,9 @@ is_next-requires c =
 pub returns-then-not-is_next : goal.returns-then-not-is_next
 returns-then-not-is_next c = (
   refl,
-  λ y does. (let o =
-      cell_only c.args.self.now c.args.k c.args.offset c.args.i c.args.value c.in-Some-flying.place c.in-Some.pass.now c.in-Some-flying.book.now c.in-Some-flying.ticket.now y c.shape-shape.ensures.lawful c.in-Some.ensures c.in-Some-flying.ensures.0 c.in-Some-flying.ensures.1 does in
+  λ y does. (let o = cell_only c.args.self.now c.args.k c.args.offset c.args.i c.args.value c.in-Some-flying.place c.in-Some.pass.now c.in-Some-flying.book.now c.in-Some-flying.ticket.now y c.shape-shape.ensures.lawful c.in-Some.ensures c.in-Some-flying.ensures.0 c.in-Some-flying.ensures.1 does in
       let found : c.is_next.result ≡ true = (c.is_next.ensures).1 (rw (c.shape-shape.ensures.shape, c.row-row.ensures, c.filled.ensures) o.0) in
-          absurd (cc (found, c.if-not-is_next.true))),
+      absurd (cc (found, c.if-not-is_next.true))),
 )
 
 pub own_word-requires-clause-fits : goal.own_word-requires-clause-fits
@@ -44,18 +43,20 @@ own_word-requires-clause-own c =
 pub own_word-requires-clause-word : goal.own_word-requires-clause-word
 own_word-requires-clause-word c =
     let next : IsNext (layout c.args.self.now.shape) (draft c.in-Some-flying.ticket.now.row c.in-Some-flying.ticket.now.filled) c.args.i =
-        rw (c.shape-shape.ensures.shape, c.row-row.ensures, c.filled.ensures) at ((c.is_next.ensures).0 c.if-not-is_next.false) in
+    rw (c.shape-shape.ensures.shape, c.row-row.ensures, c.filled.ensures) at ((c.is_next.ensures).0 c.if-not-is_next.false) in
     let low = next.within in
     rw c.shape-shape.ensures.shape (omega (arith, low))
 
 pub returns-then-branch : goal.returns-then-branch
 returns-then-branch c =
     let own : c.in_ok-own_word.field-0 ≡ own_word (layout c.args.self.now.shape) c.in-Some-flying.book.now c.in-Some-flying.ticket.now.row
-        (use_at c.args.self.now.shape c.args.i) =
-        (let raw : c.in_ok-own_word.field-0 ≡ own_word (layout c.shape-shape.result.now) c.in-Some-flying.book.now c.row-row.result.now
-        (use_at c.shape-shape.result.now c.args.i) = search (rules, c.in_ok-own_word.ensures) in rw (c.shape-shape.ensures.shape, c.row-row.ensures) at raw) in
-    (refl, λ y does.
-        (let o = cell_only c.args.self.now c.args.k c.args.offset c.args.i c.args.value c.in-Some-flying.place c.in-Some.pass.now c.in-Some-flying.book.now c.in-Some-flying.ticket.now y c.shape-shape.ensures.lawful c.in-Some.ensures c.in-Some-flying.ensures.0 c.in-Some-flying.ensures.1 does in absurd (c.if-branch.true (o.1 ∙ sym own))))
+    (use_at c.args.self.now.shape c.args.i) =
+    (let raw : c.in_ok-own_word.field-0 ≡ own_word (layout c.shape-shape.result.now) c.in-Some-flying.book.now c.row-row.result.now
+    (use_at c.shape-shape.result.now c.args.i) = search (rules, c.in_ok-own_word.ensures) in rw (c.shape-shape.ensures.shape, c.row-row.ensures) at raw) in (
+      refl,
+      λ y does.
+          (let o = cell_only c.args.self.now c.args.k c.args.offset c.args.i c.args.value c.in-Some-flying.place c.in-Some.pass.now c.in-Some-flying.book.now c.in-Some-flying.ticket.now y c.shape-shape.ensures.lawful c.in-Some.ensures c.in-Some-flying.ensures.0 c.in-Some-flying.ensures.1 does in absurd (c.if-branch.true (o.1 ∙ sym own))),
+    )
 
 pub ticket_place-at-requires-clause-offset : goal.ticket_place-at-requires-clause-offset
 ticket_place-at-requires-clause-offset c =
@@ -65,14 +66,14 @@ ticket_place-at-requires-clause-offset c =
 pub ticket_place-at-requires-clause-word : goal.ticket_place-at-requires-clause-word
 ticket_place-at-requires-clause-word c =
     let next : IsNext (layout c.args.self.now.shape) (draft c.in-Some-flying.ticket.now.row c.in-Some-flying.ticket.now.filled) c.args.i =
-        rw (c.shape-shape.ensures.shape, c.row-row.ensures, c.filled.ensures) at ((c.is_next.ensures).0 c.if-not-is_next.false) in
+    rw (c.shape-shape.ensures.shape, c.row-row.ensures, c.filled.ensures) at ((c.is_next.ensures).0 c.if-not-is_next.false) in
     let low = next.within in
     omega (arith, low, c.from.ensures)
 
 pub filled-requires-2 : goal.filled-requires-2
 filled-requires-2 c =
     let next : IsNext (layout c.args.self.now.shape) (draft c.in-Some-flying.ticket.now.row c.in-Some-flying.ticket.now.filled) c.args.i =
-        rw (c.shape-shape.ensures.shape, c.row-row.ensures, c.filled.ensures) at ((c.is_next.ensures).0 c.if-not-is_next.false) in
+    rw (c.shape-shape.ensures.shape, c.row-row.ensures, c.filled.ensures) at ((c.is_next.ensures).0 c.if-not-is_next.false) in
     let low = next.within in
     let is = c.shape-shape.ensures.lawful in
     omega (arith, low, ticket_few c.args.self.now.shape is.shape)
@@ -87,16 +88,16 @@ pub put-requires-clause-lawful : goal.put-requires-clause-lawful
 put-requires-clause-lawful c =
     let aloft = aloft_is c.args.self.now c.args.k c.in-Some-flying.place c.in-Some.pass.now c.in-Some-flying.book.now c.in-Some-flying.ticket.now c.shape-shape.ensures.lawful c.in-Some.ensures c.in-Some-flying.ensures.0 in
     let next : IsNext (layout c.args.self.now.shape) (draft c.in-Some-flying.ticket.now.row c.in-Some-flying.ticket.now.filled) c.args.i =
-        rw (c.shape-shape.ensures.shape, c.row-row.ensures, c.filled.ensures) at ((c.is_next.ensures).0 c.if-not-is_next.false) in
+    rw (c.shape-shape.ensures.shape, c.row-row.ensures, c.filled.ensures) at ((c.is_next.ensures).0 c.if-not-is_next.false) in
     let own : c.in_ok-own_word.field-0 ≡ own_word (layout c.args.self.now.shape) c.in-Some-flying.book.now c.in-Some-flying.ticket.now.row
-        (use_at c.args.self.now.shape c.args.i) =
-        (let raw : c.in_ok-own_word.field-0 ≡ own_word (layout c.shape-shape.result.now) c.in-Some-flying.book.now c.row-row.result.now
-        (use_at c.shape-shape.result.now c.args.i) = search (rules, c.in_ok-own_word.ensures) in rw (c.shape-shape.ensures.shape, c.row-row.ensures) at raw) in
+    (use_at c.args.self.now.shape c.args.i) =
+    (let raw : c.in_ok-own_word.field-0 ≡ own_word (layout c.shape-shape.result.now) c.in-Some-flying.book.now c.row-row.result.now
+    (use_at c.shape-shape.result.now c.args.i) = search (rules, c.in_ok-own_word.ensures) in rw (c.shape-shape.ensures.shape, c.row-row.ensures) at raw) in
     let value : c.args.value ≡ own_word (layout c.args.self.now.shape) c.in-Some-flying.book.now c.in-Some-flying.ticket.now.row
-        (use_at c.args.self.now.shape c.args.i) = omega (arith, own, c.if-branch.false) in
+    (use_at c.args.self.now.shape c.args.i) = omega (arith, own, c.if-branch.false) in
     let after : c.in_ok-after.after ≡ pass_with_book c.in-Some-flying.place
-        (book_with_word c.args.i c.in-Some-flying.book.now c.in-Some-flying.ticket.now) c.in-Some.pass.now =
-        search (rules, c.in_ok-after.ensures, c.in_ok-filled.ensures) in
+    (book_with_word c.args.i c.in-Some-flying.book.now c.in-Some-flying.ticket.now) c.in-Some.pass.now =
+    search (rules, c.in_ok-after.ensures, c.in_ok-filled.ensures) in
     let does = cell_does c.args.self.now c.args.k c.args.offset c.args.i c.args.value c.ticket_place-at.result c.in-Some-flying.place c.in-Some.pass.now c.in_ok-after.after c.in-Some-flying.book.now c.in-Some-flying.ticket.now c.in-Some.ensures c.in-Some-flying.ensures.0 c.in-Some-flying.ensures.1 next value (search (rules, c.ticket_place-at.ensures.at, c.from.ensures)) after in
     made_lawful c.args.self.now c.args.k (acts (store_cell c.args.offset c.args.i c.args.value)) _ c.shape-shape.ensures.lawful does
 
@@ -104,15 +105,15 @@ pub returns : goal.returns
 returns c =
     let aloft = aloft_is c.args.self.now c.args.k c.in-Some-flying.place c.in-Some.pass.now c.in-Some-flying.book.now c.in-Some-flying.ticket.now c.shape-shape.ensures.lawful c.in-Some.ensures c.in-Some-flying.ensures.0 in
     let next : IsNext (layout c.args.self.now.shape) (draft c.in-Some-flying.ticket.now.row c.in-Some-flying.ticket.now.filled) c.args.i =
-        rw (c.shape-shape.ensures.shape, c.row-row.ensures, c.filled.ensures) at ((c.is_next.ensures).0 c.if-not-is_next.false) in
+    rw (c.shape-shape.ensures.shape, c.row-row.ensures, c.filled.ensures) at ((c.is_next.ensures).0 c.if-not-is_next.false) in
     let own : c.in_ok-own_word.field-0 ≡ own_word (layout c.args.self.now.shape) c.in-Some-flying.book.now c.in-Some-flying.ticket.now.row
-        (use_at c.args.self.now.shape c.args.i) =
-        (let raw : c.in_ok-own_word.field-0 ≡ own_word (layout c.shape-shape.result.now) c.in-Some-flying.book.now c.row-row.result.now
-        (use_at c.shape-shape.result.now c.args.i) = search (rules, c.in_ok-own_word.ensures) in rw (c.shape-shape.ensures.shape, c.row-row.ensures) at raw) in
+    (use_at c.args.self.now.shape c.args.i) =
+    (let raw : c.in_ok-own_word.field-0 ≡ own_word (layout c.shape-shape.result.now) c.in-Some-flying.book.now c.row-row.result.now
+    (use_at c.shape-shape.result.now c.args.i) = search (rules, c.in_ok-own_word.ensures) in rw (c.shape-shape.ensures.shape, c.row-row.ensures) at raw) in
     let value : c.args.value ≡ own_word (layout c.args.self.now.shape) c.in-Some-flying.book.now c.in-Some-flying.ticket.now.row
-        (use_at c.args.self.now.shape c.args.i) = omega (arith, own, c.if-branch.false) in
+    (use_at c.args.self.now.shape c.args.i) = omega (arith, own, c.if-branch.false) in
     let after : c.in_ok-after.after ≡ pass_with_book c.in-Some-flying.place
-        (book_with_word c.args.i c.in-Some-flying.book.now c.in-Some-flying.ticket.now) c.in-Some.pass.now =
-        search (rules, c.in_ok-after.ensures, c.in_ok-filled.ensures) in
+    (book_with_word c.args.i c.in-Some-flying.book.now c.in-Some-flying.ticket.now) c.in-Some.pass.now =
+    search (rules, c.in_ok-after.ensures, c.in_ok-filled.ensures) in
     let does = cell_does c.args.self.now c.args.k c.args.offset c.args.i c.args.value c.ticket_place-at.result c.in-Some-flying.place c.in-Some.pass.now c.in_ok-after.after c.in-Some-flying.book.now c.in-Some-flying.ticket.now c.in-Some.ensures c.in-Some-flying.ensures.0 c.in-Some-flying.ensures.1 next value (search (rules, c.ticket_place-at.ensures.at, c.from.ensures)) after in
     made c.args.self.now c.put.new.self c.args.k (acts (store_cell c.args.offset c.args.i c.args.value)) _ _ c.put.ensures does

@@ -25,7 +25,7 @@ load-requires-clause-room g c κs within =
     let size = c.room.ensures in
     let within_all = c.if-self-rows.false in
     let room = batch_room u inside.count (length c.args.rows.now) holds.are whole c.requires.few c.in_ok-make_room.ensures.room
-        (omega (arith, most, size, within_all)) in
+    (omega (arith, most, size, within_all)) in
     omega (arith, whole, room)
 
 pub returns-in_err-more-clause-batched : goal.returns-in_err-more-clause-batched
@@ -44,7 +44,7 @@ returns-in_err-more-clause-batched g c before is =
     let holds : HoldsRows u before = c.in_ok-make_room.ensures.holds before (sym start) is.loaded in
     let same : c.from_residual-in_err-more.result ≡ Err c.in_err-more.field-0.0 = search rules in
     rw same (refused before rows s t c.in_err-more.field-0.0 room (goes_then s u t c.in_ok-make_room.ensures.same c.in_err-more.ensures.same)
-        (c.in_err-more.ensures.loaded before long holds))
+    (c.in_err-more.ensures.loaded before long holds))
 
 pub returns-in_err-append-clause-batched : goal.returns-in_err-append-clause-batched
 returns-in_err-append-clause-batched g c before is =
@@ -62,7 +62,7 @@ returns-in_err-append-clause-batched g c before is =
     let holds : HoldsRows u before = c.in_ok-make_room.ensures.holds before (sym start) is.loaded in
     let same : c.from_residual-in_err-append.result ≡ Err Memory = search rules in
     rw same (refused before rows s t Memory room (goes_then s u t c.in_ok-make_room.ensures.same c.in_ok-more.ensures.same)
-        (inr (c.in_ok-more.ensures.loaded before long holds)))
+    (inr (c.in_ok-more.ensures.loaded before long holds)))
 
 pub returns-clause-batched : goal.returns-clause-batched
 returns-clause-batched g c before is =
@@ -87,11 +87,11 @@ returns-clause-batched g c before is =
     let holds : HoldsRows u before = first.holds before (sym start) begun.loaded in
     let beside : AsksBeside s.shape old.plan b (entries_of s) (entries_of t) more =
     subst (λ (h : ShapeValue). AsksBeside h old.plan b (entries_of s) (entries_of t) more) first.same.shape
-        (subst (λ (es : List Entry). AsksBeside u.shape old.plan b es (entries_of t) more) first.entries made.asked) in
+    (subst (λ (es : List Entry). AsksBeside u.shape old.plan b es (entries_of t) more) first.entries made.asked) in
     let told : told_of t ≡ told_of s ++ tails_of more = made.told ∙ ap (λ (ts : List ℕ). ts ++ tails_of more) first.told in
     let items : c.append.new.self.items ≡ inside.lives.items ++ more = search rules in
     let now : new ≡ record old { count = old.count + length rows; lives = old.lives ++ more } =
-        ap (λ (ls : List Live). record old { count = old.count + length rows; lives = ls }) items in
+    ap (λ (ls : List Live). record old { count = old.count + length rows; lives = ls }) items in
     subst (λ (l : LoaderValue). IsBatched before rows l new s t) c.self.view_is
     (goes_on before rows old new b s t more begun (made.loaded before long holds) (goes_then s u t first.same made.same)
-        (let base = made.base in let full = holds.full in omega (arith, base, full)) long c.requires.some c.requires.few room c.requires.fits beside told now)
+    (let base = made.base in let full = holds.full in omega (arith, base, full)) long c.requires.some c.requires.few room c.requires.fits beside told now)

@@ -13,4 +13,4 @@ returns c rows is =
     let made = c.answer_all.ensures in
     subst (λ (l : LoaderValue). MatchResult c.answer_all.result (IsFinished rows l s t) (λ x. KeepsAll s t × HoldsRows t rows)) c.self.view_is
     (finishes_if rows loader s t c.answer_all.result c.shape-lawful.ensures.lawful
-        (subst (λ (l : LoaderValue). IsLoading s rows l) (sym c.self.view_is) is) made.keeps made.finals made.alerts made.lives)
+    (subst (λ (l : LoaderValue). IsLoading s rows l) (sym c.self.view_is) is) made.keeps made.finals made.alerts made.lives)

@@ -29,9 +29,11 @@ invariant_of-self g c =
     let zip : AllZip KeepsSegment old.items new = rw c.as_mut_slice.ensures.value at c.found_in.ensures.kept in
     let same : length new ≡ length old.items = sym (zip_long KeepsSegment old.items new zip) in
     let len : old.len ≡ length old.items = search rules in
-    rw (written_back new old.items old.len same len)
-        (kept_lawful (segments_of most old.items current) (segments_of most new current)
-        (kept_current most old.items new current current.root zip (segment_none current)) c.self.invariant.0, c.self.invariant.1)
+    rw (written_back new old.items old.len same len) (
+      kept_lawful (segments_of most old.items current) (segments_of most new current)
+          (kept_current most old.items new current current.root zip (segment_none current)) c.self.invariant.0,
+      c.self.invariant.1,
+    )
 
 pub answer_behind-requires-clause-of : goal.answer_behind-requires-clause-of
 answer_behind-requires-clause-of g c = (current_is (segments_of c.self.inside.most c.self.inside.closed.items c.self.inside.current) c.self.invariant.0).of
@@ -47,10 +49,12 @@ invariant_of-self-2 g c =
     let same : length new ≡ length old.items = sym (zip_long KeepsSegment old.items new zip) in
     let len : old.len ≡ length old.items = search rules in
     let one = asked_segment (current.log).shape current root
-        (current_is (segments_of most old.items current) c.self.invariant.0) c.answer_behind.ensures.asked in
-    rw (written_back new old.items old.len same len)
-        (kept_lawful (segments_of most old.items current) (segments_of most new (record { log = current.log; root = root }))
-        (kept_current most old.items new current root zip one) c.self.invariant.0, c.self.invariant.1)
+    (current_is (segments_of most old.items current) c.self.invariant.0) c.answer_behind.ensures.asked in
+    rw (written_back new old.items old.len same len) (
+      kept_lawful (segments_of most old.items current) (segments_of most new (record { log = current.log; root = root }))
+          (kept_current most old.items new current root zip one) c.self.invariant.0,
+      c.self.invariant.1,
+    )
 
 pub returns-clause-kept : goal.returns-clause-kept
 returns-clause-kept g c =
@@ -63,11 +67,11 @@ returns-clause-kept g c =
     let same : length new ≡ length old.items = sym (zip_long KeepsSegment old.items new zip) in
     let len : old.len ≡ length old.items = search rules in
     let one = asked_segment (current.log).shape current root
-        (current_is (segments_of most old.items current) c.self.invariant.0) c.answer_behind.ensures.asked in
+    (current_is (segments_of most old.items current) c.self.invariant.0) c.answer_behind.ensures.asked in
     let kept : KeepsAll (segments_of most old.items current) (segments_of most new (record { log = current.log; root = root })) =
-        kept_current most old.items new current root zip one in
+    kept_current most old.items new current root zip one in
     rw (written_back new old.items old.len same len)
-        (subst (λ (s : SegmentsValue). KeepsAll s (segments_of most new (record { log = current.log; root = root }))) c.self.view_is kept)
+    (subst (λ (s : SegmentsValue). KeepsAll s (segments_of most new (record { log = current.log; root = root }))) c.self.view_is kept)
 
 pub returns-clause-answer : goal.returns-clause-answer
 returns-clause-answer g c =
@@ -79,9 +83,9 @@ returns-clause-answer g c =
     let one = asked_segment (current.log).shape current root (current_is s c.self.invariant.0) c.answer_behind.ensures.asked in
     let entries : List Entry = flat_map seen_of old.items in
     let found : HasFound (current.log).shape c.args.ask.now entries c.in_ok-before.before.0 c.in_ok-before.before.1 =
-        rw (c.as_mut_slice.ensures.value, c.shape-shape.ensures.shape) at c.in_ok-before.ensures.found in
+    rw (c.as_mut_slice.ensures.value, c.shape-shape.ensures.shape) at c.in_ok-before.ensures.found in
     let made : IfOk c.answer_behind.result (λ answer. answer ≡ answer_on (current.log).shape (entries ++ (root.view).seen) c.args.ask.now) =
-        c.answer_behind.ensures.answer entries found in
+    c.answer_behind.ensures.answer entries found in
     let all : entries ++ (root.view).seen ≡ entries_of s = ap (λ (es : List Entry). entries ++ es) one.root.seen ∙ sym (entries_split s) in
     subst (λ (t : SegmentsValue). IfOk c.answer_behind.result (λ answer. answer ≡ answer_on t.shape (entries_of t) c.args.ask.now)) c.self.view_is
     (subst (λ (es : List Entry). IfOk c.answer_behind.result (λ answer. answer ≡ answer_on (current.log).shape es c.args.ask.now)) all made)
@@ -95,12 +99,12 @@ returns-clause-steps g c asks =
     let one = asked_segment (current.log).shape current c.answer_behind.new.pass (current_is s c.self.invariant.0) c.answer_behind.ensures.asked in
     let f : Segment → ℕ = λ segment. key_steps (current.log).shape ask (seen_of segment) in
     let first : c.found_in.new.steps ≤ c.args.steps.now + sum_by f old.items =
-        rw (c.as_mut_slice.ensures.value, c.shape-shape.ensures.shape) at (c.in_ok-before.ensures.steps asks) in
+    rw (c.as_mut_slice.ensures.value, c.shape-shape.ensures.shape) at (c.in_ok-before.ensures.steps asks) in
     subst (λ (t : SegmentsValue). IfOk c.answer_behind.result
-        (λ _. c.answer_behind.new.steps ≤ c.args.steps.now + key_steps_in t.shape ask (all_of t))) c.self.view_is
+    (λ _. c.answer_behind.new.steps ≤ c.args.steps.now + key_steps_in t.shape ask (all_of t))) c.self.view_is
     (IfOk-weaker c.answer_behind.result _ _
-        (λ answer last. costs_all f old.items current c.args.steps.now c.found_in.new.steps c.answer_behind.new.steps _ first last
-        (ap (key_steps (current.log).shape ask) one.root.seen)) (c.answer_behind.ensures.steps asks))
+    (λ answer last. costs_all f old.items current c.args.steps.now c.found_in.new.steps c.answer_behind.new.steps _ first last
+    (ap (key_steps (current.log).shape ask) one.root.seen)) (c.answer_behind.ensures.steps asks))
 
 pub returns-clause-bucket : goal.returns-clause-bucket
 returns-clause-bucket g c asks =
@@ -111,12 +115,12 @@ returns-clause-bucket g c asks =
     let one = asked_segment (current.log).shape current c.answer_behind.new.pass (current_is s c.self.invariant.0) c.answer_behind.ensures.asked in
     let f : Segment → ℕ = λ segment. bucket_steps (current.log).shape ask (seen_of segment) in
     let first : c.found_in.new.steps ≤ c.args.steps.now + sum_by f old.items =
-        rw (c.as_mut_slice.ensures.value, c.shape-shape.ensures.shape) at (c.in_ok-before.ensures.bucket asks) in
+    rw (c.as_mut_slice.ensures.value, c.shape-shape.ensures.shape) at (c.in_ok-before.ensures.bucket asks) in
     subst (λ (t : SegmentsValue). IfOk c.answer_behind.result
-        (λ _. c.answer_behind.new.steps ≤ c.args.steps.now + bucket_steps_in t.shape ask (all_of t))) c.self.view_is
+    (λ _. c.answer_behind.new.steps ≤ c.args.steps.now + bucket_steps_in t.shape ask (all_of t))) c.self.view_is
     (IfOk-weaker c.answer_behind.result _ _
-        (λ answer last. costs_all f old.items current c.args.steps.now c.found_in.new.steps c.answer_behind.new.steps _ first last
-        (ap (bucket_steps (current.log).shape ask) one.root.seen)) (c.answer_behind.ensures.bucket asks))
+    (λ answer last. costs_all f old.items current c.args.steps.now c.found_in.new.steps c.answer_behind.new.steps _ first last
+    (ap (bucket_steps (current.log).shape ask) one.root.seen)) (c.answer_behind.ensures.bucket asks))
 
 pub returns-clause-loads : goal.returns-clause-loads
 returns-clause-loads g c =

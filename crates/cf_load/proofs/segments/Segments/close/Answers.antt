@@ -46,6 +46,6 @@ returns c =
     c.push_reserved.ensures.items
     ∙ (ap (λ (x : SealValue). c.push_seals.new.seals.items ++ x ∷ []) c.seal.ensures
     ∙ (ap (λ (xs : List SealValue). xs ++ sealed c.self.inside.current ∷ [])
-        (c.push_seals.ensures.seals ∙ ap (λ (xs : List SealValue). xs ++ map sealed c.self.inside.closed.items) c.in-Ok.ensures.room.0)
+    (c.push_seals.ensures.seals ∙ ap (λ (xs : List SealValue). xs ++ map sealed c.self.inside.closed.items) c.in-Ok.ensures.room.0)
     ∙ all_sealed c.args.self now looked)) in
     (c.in-Ok.ensures.entries, seals)

@@ -31,9 +31,11 @@ load_batch-requires-clause-loaded g c κs within =
     let had = c.requires.loaded in
     let base = c.in-Ok.ensures.prior.1 in
     let long = still_long old s kept had.0 had.2 c.in-Ok.prior.base base in
-    let there = had.1 in
-    (own_rows s had.0 (still old s kept had.0 had.2 c.in-Ok.prior.base base), omega (arith, long, there),
-        still_has old s kept had.0 had.2 c.in-Ok.prior.base base)
+    let there = had.1 in (
+      own_rows s had.0 (still old s kept had.0 had.2 c.in-Ok.prior.base base),
+      omega (arith, long, there),
+      still_has old s kept had.0 had.2 c.in-Ok.prior.base base,
+    )
 
 pub load_batch-requires-clause-whole : goal.load_batch-requires-clause-whole
 load_batch-requires-clause-whole g c κs within =
@@ -55,12 +57,12 @@ kept g c = subst (KeepsAll c.args.self.now) (sym c.self.view_is) c.prior.ensures
 -- what the batch answered
 answered : (g : Over) (c : goal.After-drop-prior-2 g) (rows : List RowValue) → length rows ≡ 4096 * c.args.batch → (holds : HoldsRows c.args.self.now rows)
     → MatchResult c.load_batch.result
-        (λ x. HasLoaded c.self.inside.current.log (base_of (before_batch g c))
-        (own_rows (before_batch g c) rows
-        (still c.args.self.now (before_batch g c) (kept g c) rows holds c.in-Ok.prior.base c.in-Ok.ensures.prior.1) ++ c.args.rows.now) c.load_batch.new.root)
+    (λ x. HasLoaded c.self.inside.current.log (base_of (before_batch g c))
+    (own_rows (before_batch g c) rows
+    (still c.args.self.now (before_batch g c) (kept g c) rows holds c.in-Ok.prior.base c.in-Ok.ensures.prior.1) ++ c.args.rows.now) c.load_batch.new.root)
     (HasStopped c.self.inside.current.log (base_of (before_batch g c))
-        (own_rows (before_batch g c) rows
-        (still c.args.self.now (before_batch g c) (kept g c) rows holds c.in-Ok.prior.base c.in-Ok.ensures.prior.1)) c.args.rows.now c.load_batch.new.root)
+    (own_rows (before_batch g c) rows
+    (still c.args.self.now (before_batch g c) (kept g c) rows holds c.in-Ok.prior.base c.in-Ok.ensures.prior.1)) c.args.rows.now c.load_batch.new.root)
 answered g c rows long holds =
     let old : SegmentsValue = c.args.self.now in
     let s : SegmentsValue = before_batch g c in
@@ -68,7 +70,7 @@ answered g c rows long holds =
     let own : List RowValue = own_rows s rows (still old s (kept g c) rows holds c.in-Ok.prior.base base) in
     let there = still_long old s (kept g c) rows holds c.in-Ok.prior.base base in
     subst (λ (i : ℕ). MatchResult c.load_batch.result (λ x. HasLoaded c.self.inside.current.log i (own ++ c.args.rows.now) c.load_batch.new.root)
-        (HasStopped c.self.inside.current.log i own c.args.rows.now c.load_batch.new.root)) (base ∙ sym (kept_base old s (kept g c)))
+    (HasStopped c.self.inside.current.log i own c.args.rows.now c.load_batch.new.root)) (base ∙ sym (kept_base old s (kept g c)))
     (c.load_batch.ensures.loaded own (omega (arith, there, long)) (still_has old s (kept g c) rows holds c.in-Ok.prior.base base))
 
 pub invariant_of-self : goal.invariant_of-self
@@ -77,14 +79,14 @@ invariant_of-self g c =
     let had = c.requires.loaded in
     let own : List RowValue = own_rows s had.0 (still c.args.self.now s (kept g c) had.0 had.2 c.in-Ok.prior.base c.in-Ok.ensures.prior.1) in
     let home = home_after c.self.inside.current.log (base_of s) own c.args.rows.now c.load_batch.new.root c.load_batch.result
-        (answered g c had.0 had.1 had.2) in
+    (answered g c had.0 had.1 had.2) in
     (filled_lawful s c.load_batch.new.root c.self.invariant.0 home.0 home.1, c.self.invariant.1)
 
 pub returns-clause-same : goal.returns-clause-same
 returns-clause-same g c =
     let s : SegmentsValue = before_batch g c in
     goes_then c.args.self.now s (filled s c.load_batch.new.root) (kept_goes c.args.self.now s (kept g c))
-        (filled_goes s c.load_batch.new.root c.load_batch.ensures.same)
+    (filled_goes s c.load_batch.new.root c.load_batch.ensures.same)
 
 pub returns-clause-base : goal.returns-clause-base
 returns-clause-base g c = kept_base c.args.self.now (before_batch g c) (kept g c)
@@ -97,8 +99,8 @@ returns-clause-loaded g c rows long holds =
     let size = ap (λ (h : ShapeValue). h.capacity) (kept_shape old s (kept g c)) in
     let room = c.requires.room in
     filled_result s rows
-        (still old s (kept g c) rows holds c.in-Ok.prior.base c.in-Ok.ensures.prior.1) c.load_batch.new.root c.args.rows.now c.load_batch.result
-        (omega (arith, room, long, base, size)) (answered g c rows long holds)
+    (still old s (kept g c) rows holds c.in-Ok.prior.base c.in-Ok.ensures.prior.1) c.load_batch.new.root c.args.rows.now c.load_batch.result
+    (omega (arith, room, long, base, size)) (answered g c rows long holds)
 
 pub returns-clause-asked : goal.returns-clause-asked
 returns-clause-asked g c =
@@ -108,16 +110,16 @@ returns-clause-asked g c =
     let plan = c.args.plan.now in
     let batch = c.args.batch in
     let closed : entries_before c.in-Ok.prior ≡ flat_map seen_of s.closed = c.in-Ok.ensures.prior.2
-        ∙ sym (segments_seen old.closed s.closed (kept g c).closed) in
+    ∙ sym (segments_seen old.closed s.closed (kept g c).closed) in
     let first : entries_before c.in-Ok.prior ++ seen_of s.current ≡ entries_of old = ap (λ (es : List Entry). es ++ seen_of s.current) closed
-        ∙ (sym (entries_split s) ∙ kept_entries old s (kept g c)) in
+    ∙ (sym (entries_split s) ∙ kept_entries old s (kept g c)) in
     let last : entries_before c.in-Ok.prior ++ (c.load_batch.new.root.view).seen ≡ entries_of t =
-        ap (λ (es : List Entry). es ++ (c.load_batch.new.root.view).seen) closed ∙ sym (entries_split t) in
+    ap (λ (es : List Entry). es ++ (c.load_batch.new.root.view).seen) closed ∙ sym (entries_split t) in
     subst (λ (h : ShapeValue). IfOk c.load_batch.result (λ more. AsksBeside h plan batch (entries_of old) (entries_of t) more.items))
-        (kept_shape old s (kept g c))
+    (kept_shape old s (kept g c))
     (subst (λ (es : List Entry). IfOk c.load_batch.result (λ more. AsksBeside s.shape plan batch es (entries_of t) more.items)) first
     (subst (λ (es : List Entry). IfOk c.load_batch.result
-        (λ more. AsksBeside s.shape plan batch (entries_before c.in-Ok.prior ++ seen_of s.current) es more.items)) last c.load_batch.ensures.asked))
+    (λ more. AsksBeside s.shape plan batch (entries_before c.in-Ok.prior ++ seen_of s.current) es more.items)) last c.load_batch.ensures.asked))
 
 pub returns-clause-told : goal.returns-clause-told
 returns-clause-told g c =
@@ -127,5 +129,5 @@ returns-clause-told g c =
     let base : c.in-Ok.prior.base ≡ base_of s = c.in-Ok.ensures.prior.1 ∙ sym (kept_base old s (kept g c)) in
     IfOk-weaker c.load_batch.result _ _ (λ more told.
     filled_told s root (tails_of more.items)
-        (subst (λ (i : ℕ). map (λ tail. i + tail) (root.view).told ≡ map (λ tail. i + tail) (s.current.root.view).told ++ tails_of more.items) base told)
+    (subst (λ (i : ℕ). map (λ tail. i + tail) (root.view).told ≡ map (λ tail. i + tail) (s.current.root.view).told ++ tails_of more.items) base told)
     ∙ ap (λ (ts : List ℕ). ts ++ tails_of more.items) (kept_told old s (kept g c))) c.load_batch.ensures.told

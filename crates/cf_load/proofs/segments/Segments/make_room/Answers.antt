@@ -15,7 +15,7 @@ unreachable-requires c =
     let spent : c.turn.result ≡ Err Spent = search rules in
     let last : length s.closed + 1 ≡ s.most = c.turn.ensures.spent.0 spent in
     let many : n * suc (length s.closed) ≡ s.most * n = ap (λ (k : ℕ). n * k) (let e : suc (length s.closed) ≡ s.most = omega (arith, last) in e)
-        ∙ mul_comm n s.most in
+    ∙ mul_comm n s.most in
     let step = mul-suc n (length s.closed) in
     let size : c.capacity.result ≡ n = c.capacity.ensures.capacity ∙ ap (λ (h : ShapeValue). h.capacity) c.shape.ensures.shape in
     let base = c.base.ensures in

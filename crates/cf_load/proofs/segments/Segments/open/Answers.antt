@@ -8,4 +8,4 @@ pub returns-clause-holds : goal.returns-clause-holds
 returns-clause-holds c =
     let g = c.in_ok-current.current in
     subst (λ (gs : List Segment). HoldsRows (segments_of c.args.most gs g) []) (sym c.in_ok-closed.ensures.items)
-        (open_holds c.args.shape g c.in_ok-current.ensures c.args.most c.requires)
+    (open_holds c.args.shape g c.in_ok-current.ensures c.args.most c.requires)

@@ -27,9 +27,11 @@ invariant_of-self g c =
     let zip : AllZip KeepsSegment old.items new = rw c.as_mut_slice.ensures.value at c.findings_in.ensures.kept in
     let same : length new ≡ length old.items = sym (zip_long KeepsSegment old.items new zip) in
     let len : old.len ≡ length old.items = search rules in
-    rw (written_back new old.items old.len same len)
-        (kept_lawful (segments_of most old.items current) (segments_of most new current)
-        (kept_current most old.items new current current.root zip (segment_none current)) c.self.invariant.0, c.self.invariant.1)
+    rw (written_back new old.items old.len same len) (
+      kept_lawful (segments_of most old.items current) (segments_of most new current)
+          (kept_current most old.items new current current.root zip (segment_none current)) c.self.invariant.0,
+      c.self.invariant.1,
+    )
 
 pub invariant_of-self-2 : goal.invariant_of-self-2
 invariant_of-self-2 g c =
@@ -40,9 +42,11 @@ invariant_of-self-2 g c =
     let zip : AllZip KeepsSegment old.items new = rw c.as_mut_slice.ensures.value at c.findings_in.ensures.kept in
     let same : length new ≡ length old.items = sym (zip_long KeepsSegment old.items new zip) in
     let len : old.len ≡ length old.items = search rules in
-    rw (written_back new old.items old.len same len)
-        (kept_lawful (segments_of most old.items current) (segments_of most new current)
-        (kept_current most old.items new current current.root zip (segment_none current)) c.self.invariant.0, c.self.invariant.1)
+    rw (written_back new old.items old.len same len) (
+      kept_lawful (segments_of most old.items current) (segments_of most new current)
+          (kept_current most old.items new current current.root zip (segment_none current)) c.self.invariant.0,
+      c.self.invariant.1,
+    )
 
 pub returns-clause-prior : goal.returns-clause-prior
 returns-clause-prior g c =
@@ -62,7 +66,7 @@ returns-clause-prior g c =
     let entries : entries_before prior ≡ flat_map seen_of old.items = ap (flat_map seen_of) items ∙ segments_seen old.items new zip in
     let base : c.base-base.result ≡ base_of s = c.base-base.ensures ∙ ap base_of (sym c.self.view_is) in
     let found : c.in_ok-findings.findings.items ≡ findings_on (current.log).shape plan (flat_map seen_of old.items) =
-        rw (c.as_mut_slice.ensures.value, c.shape-shape.ensures.shape) at c.in_ok-findings.ensures.found in
+    rw (c.as_mut_slice.ensures.value, c.shape-shape.ensures.shape) at c.in_ok-findings.ensures.found in
     let few = room_few s c.self.invariant.0 in
     let is : IsPrior s.shape plan prior = record {
       base_is = base ∙ (sym (closed_long s rows holds) ∙ ap length (sym entries));
@@ -70,4 +74,4 @@ returns-clause-prior g c =
       few = omega (arith, few, base);
     } in
     subst (λ (t : SegmentsValue). IsPrior t.shape plan prior × (c.base-base.result ≡ base_of t)
-        × (entries_before prior ≡ flat_map seen_of t.closed)) c.self.view_is (is, base, entries)
+    × (entries_before prior ≡ flat_map seen_of t.closed)) c.self.view_is (is, base, entries)

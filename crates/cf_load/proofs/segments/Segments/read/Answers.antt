@@ -25,9 +25,10 @@ invariant_of-self c =
     let zip : AllZip HasLooked old.items new = rw c.as_mut_slice.ensures.value at c.read_all.ensures.closed in
     let same : length new ≡ length old.items = sym (zip_long HasLooked old.items new zip) in
     let len : old.len ≡ length old.items = search rules in
-    rw (written_back new old.items old.len same len)
-        (looked_lawful c.self.inside.most old.items new c.self.inside.current c.read_all.new.current c.self.invariant.0 zip c.read_all.ensures.current,
-        c.self.invariant.1)
+    rw (written_back new old.items old.len same len) (
+      looked_lawful c.self.inside.most old.items new c.self.inside.current c.read_all.new.current c.self.invariant.0 zip c.read_all.ensures.current,
+      c.self.invariant.1,
+    )
 
 pub invariant_of-self-2 : goal.invariant_of-self-2
 invariant_of-self-2 c =
@@ -36,6 +37,7 @@ invariant_of-self-2 c =
     let zip : AllZip HasLooked old.items new = rw c.as_mut_slice.ensures.value at c.read_all.ensures.closed in
     let same : length new ≡ length old.items = sym (zip_long HasLooked old.items new zip) in
     let len : old.len ≡ length old.items = search rules in
-    rw (written_back new old.items old.len same len)
-        (looked_lawful c.self.inside.most old.items new c.self.inside.current c.read_all.new.current c.self.invariant.0 zip c.read_all.ensures.current,
-        c.self.invariant.1)
+    rw (written_back new old.items old.len same len) (
+      looked_lawful c.self.inside.most old.items new c.self.inside.current c.read_all.new.current c.self.invariant.0 zip c.read_all.ensures.current,
+      c.self.invariant.1,
+    )

@@ -22,9 +22,9 @@ invariant_of-self c =
     let most = c.self.inside.most in
     let closed = c.self.inside.closed.items in
     let lawful : IsSegments (segments_of most (closed ++ c.self.inside.current ∷ []) c.in_ok-next.next) =
-        turn_lawful most closed c.self.inside.current c.in_ok-next.next (opened c) (room c) c.self.invariant.0 in
+    turn_lawful most closed c.self.inside.current c.in_ok-next.next (opened c) (room c) c.self.invariant.0 in
     let now : IsSegments (segments_of most c.push_reserved.new.self.items c.replace-last.new.dest) =
-        rw (c.push_reserved.ensures.items, c.replace-last.ensures.value, c.replace-last.ensures.after) lawful in
+    rw (c.push_reserved.ensures.items, c.replace-last.ensures.value, c.replace-last.ensures.after) lawful in
     let wide : most ≤ vec_capacity c.push_reserved.new.self = rw c.push_reserved.ensures.capacity c.self.invariant.1 in
     (now, wide)
 
@@ -33,7 +33,7 @@ returns-clause-turned c =
     let most = c.self.inside.most in
     let closed = c.self.inside.closed.items in
     let made : HasTurned (segments_of most closed c.self.inside.current) (segments_of most (closed ++ c.self.inside.current ∷ []) c.in_ok-next.next) =
-        has_turned most closed c.self.inside.current c.in_ok-next.next (opened c) (room c) in
+    has_turned most closed c.self.inside.current c.in_ok-next.next (opened c) (room c) in
     let now : HasTurned (segments_of most closed c.self.inside.current) (segments_of most c.push_reserved.new.self.items c.replace-last.new.dest) =
-        rw (c.push_reserved.ensures.items, c.replace-last.ensures.value, c.replace-last.ensures.after) made in
+    rw (c.push_reserved.ensures.items, c.replace-last.ensures.value, c.replace-last.ensures.after) made in
     subst (λ (s : SegmentsValue). HasTurned s (segments_of most c.push_reserved.new.self.items c.replace-last.new.dest)) c.self.view_is now

@@ -22,7 +22,7 @@ invariant_of-result c =
     let one = ap (λ (s : ShapeValue). s.writers) o.shape ∙ c.requires.one in
     let many = opened_count c.in_ok-log.log c.in_ok-log.root c.deal.new.root items view c.in_ok-passes.ensures.dealt in
     let at : slice_get items 0 ≡ Some pass = slice_get-get_or items 0 pass (omega (arith, many, one))
-        ∙ ap (λ (h : PassValue). Some h) (sym c.swap_remove-pass.ensures.value) in
+    ∙ ap (λ (h : PassValue). Some h) (sym c.swap_remove-pass.ensures.value) in
     opened c.in_ok-log.log c.in_ok-log.root c.deal.new.root pass items one view c.in_ok-passes.ensures.dealt at
 
 pub returns : goal.returns
@@ -34,7 +34,7 @@ returns c =
     let one = ap (λ (s : ShapeValue). s.writers) o.shape ∙ c.requires.one in
     let many = opened_count c.in_ok-log.log c.in_ok-log.root c.deal.new.root items view c.in_ok-passes.ensures.dealt in
     let at : slice_get items 0 ≡ Some pass = slice_get-get_or items 0 pass (omega (arith, many, one))
-        ∙ ap (λ (h : PassValue). Some h) (sym c.swap_remove-pass.ensures.value) in
+    ∙ ap (λ (h : PassValue). Some h) (sym c.swap_remove-pass.ensures.value) in
     empty_by (c.in_ok-log.log).shape c.args.shape (pass.view).seen (book_of pass.view).used o.shape
     (opened_seen c.in_ok-log.log c.in_ok-log.root c.deal.new.root pass items view c.in_ok-passes.ensures.dealt at)
     (opened_used c.in_ok-log.log c.in_ok-log.root c.deal.new.root pass items one view c.in_ok-passes.ensures.dealt at)

@@ -25,8 +25,8 @@ deal_first-requires-clause-noted c =
     let many = as_many c.args.notes.now m c.requires.noted in
     let lt : i < length (m.view).books = (let t = c.loop-note-test.true in omega (arith, many)) in
     noted_at c.args.notes.now m i _ c.requires.noted lt
-        (slice_get-get_or c.args.notes.now i (record { writer = 0; over = false; used = 0 }) c.loop-note-test.true)
-        ∙ ap note_of (sym (first_is m c.loop-note.token i lt c.loop-note.invariant.token).0)
+    (slice_get-get_or c.args.notes.now i (record { writer = 0; over = false; used = 0 }) c.loop-note-test.true)
+    ∙ ap note_of (sym (first_is m c.loop-note.token i lt c.loop-note.invariant.token).0)
 
 pub deal_first-requires-clause-bounds : goal.deal_first-requires-clause-bounds
 deal_first-requires-clause-bounds c =

@@ -14,12 +14,12 @@ store_as-requires-clause-lawful g c =
     let p = c.args.pass.now.view in
     let shape : c.self.inside.shape ≡ s = ap (λ (m : LogValue). m.shape) c.self.view_is in
     rw c.pass.view_is
-        (calls_finish s p c.args.offset c.place_done-word.result c.requires.place
-        (subst (λ (x : ShapeValue). c.place_done-word.result ≡ place_of x (done c.args.offset)) shape c.place_done-word.ensures) c.requires.lawful)
+    (calls_finish s p c.args.offset c.place_done-word.result c.requires.place
+    (subst (λ (x : ShapeValue). c.place_done-word.result ≡ place_of x (done c.args.offset)) shape c.place_done-word.ensures) c.requires.lawful)
 
 pub invariant_of-pass : goal.invariant_of-pass
 invariant_of-pass g c =
     let w = c.pass.inside in
     let m = w.token in
     kept_by c.args.self.now.shape (finish_effect c.args.self.now.shape m.view c.args.offset) w.writer w.over w.used
-        (book_with_record (book_of m.view) (flight_of m.view)) m c.store_as.new.token c.pass.invariant c.store_as.ensures.made (λ found es. refl) refl refl refl
+    (book_with_record (book_of m.view) (flight_of m.view)) m c.store_as.new.token c.pass.invariant c.store_as.ensures.made (λ found es. refl) refl refl refl

@@ -9,4 +9,4 @@ returns c =
     let s = c.args.self.now.shape in
     folded s c.args.token.now c.args.other.view c.load_tail_token.new.token c.load_tail_token.result
     (subst (λ (h : PassValue). HasStepped s
-        (tail_effect h.view false) h c.load_tail_token.result c.load_tail_token.new.token) c.join_token.ensures c.load_tail_token.ensures.made)
+    (tail_effect h.view false) h c.load_tail_token.result c.load_tail_token.new.token) c.join_token.ensures c.load_tail_token.ensures.made)

@@ -14,12 +14,12 @@ store_as-requires-clause-lawful g c =
     let p = c.args.pass.now.view in
     let shape : c.self.inside.shape ≡ s = ap (λ (m : LogValue). m.shape) c.self.view_is in
     rw c.pass.view_is
-        (calls_label s p c.args.node c.args.value c.place_label-word.result c.requires.place
-        (subst (λ (x : ShapeValue). c.place_label-word.result ≡ place_of x (label_word c.args.node)) shape c.place_label-word.ensures) c.requires.lawful)
+    (calls_label s p c.args.node c.args.value c.place_label-word.result c.requires.place
+    (subst (λ (x : ShapeValue). c.place_label-word.result ≡ place_of x (label_word c.args.node)) shape c.place_label-word.ensures) c.requires.lawful)
 
 pub invariant_of-pass : goal.invariant_of-pass
 invariant_of-pass g c =
     let w = c.pass.inside in
     let m = w.token in
     kept_by c.args.self.now.shape (label_effect m.view c.args.node c.args.value) w.writer w.over w.used
-        (book_with_label c.args.value (book_of m.view)) m c.store_as.new.token c.pass.invariant c.store_as.ensures.made (λ found es. refl) refl refl refl
+    (book_with_label c.args.value (book_of m.view)) m c.store_as.new.token c.pass.invariant c.store_as.ensures.made (λ found es. refl) refl refl refl

@@ -12,4 +12,4 @@ load_as-requires-clause-lawful g c =
     let p = (g.P.Pass.held c.args.pass.now).view in
     let shape : c.self.inside.shape ≡ s = ap (λ (m : LogValue). m.shape) c.self.view_is in
     calls_done s p c.args.offset c.place_done-word.result c.requires.place
-        (subst (λ (x : ShapeValue). c.place_done-word.result ≡ place_of x (done c.args.offset)) shape c.place_done-word.ensures)
+    (subst (λ (x : ShapeValue). c.place_done-word.result ≡ place_of x (done c.args.offset)) shape c.place_done-word.ensures)

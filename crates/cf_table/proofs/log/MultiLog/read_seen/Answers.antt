@@ -17,6 +17,8 @@ read_entry-requires c =
     let lt : o < length (n.view).seen = (let e = ap (λ (h : PassValue). length (h.view).seen) v.looked in omega (arith, low, known, e)) in
     let at : slice_get (n.view).seen o ≡ Some (get_or (n.view).seen o no_entry) = slice_get-get_or (n.view).seen o no_entry lt in (
       record { table = ap (λ (h : PassValue). h.table) v.looked ∙ c.requires.of.table; nodes = ap (λ (h : PassValue). h.nodes) v.looked ∙ c.requires.of.nodes },
-      ((omega (arith, low, known, few), ap (λ (ws : List ℕ). length ws) c.deref_mut.ensures.value ∙ v.long),
-          (at, c.requires.lawful o _ (ap (λ xs. slice_get xs o) (sym same) ∙ at))),
+      (
+        (omega (arith, low, known, few), ap (λ (ws : List ℕ). length ws) c.deref_mut.ensures.value ∙ v.long),
+        (at, c.requires.lawful o _ (ap (λ xs. slice_get xs o) (sym same) ∙ at)),
+      ),
     )

@@ -32,4 +32,4 @@ returns-clause-words g c =
     let long = v.long in
     let past = c.loop-i-test.false in
     same_number_lists c.loop-i.words (spelled g.entry) (long ∙ (r.1.0.1 ∙ sym (spelled_long c.args.self.now.shape.schema g.entry (r.1.1.1).fits)))
-        (λ k lt. v.read k (omega (arith, long, past)))
+    (λ k lt. v.read k (omega (arith, long, past)))

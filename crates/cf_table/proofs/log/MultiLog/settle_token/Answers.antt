@@ -29,7 +29,7 @@ advance_token-requires-clause-lawful c =
     let known = c.known.ensures in
     let seen = ap (λ (q : Pass). length q.seen) is in
     may_advance s (c.look_token.new.token).view t (omega (arith, seen, at)) (omega (arith, low, room, known, at)) (ap (λ (q : Pass). (q.look).word) is)
-        (ap (λ (q : Pass). (q.look).value) is ∙ c.if-look_token-ne1.false)
+    (ap (λ (q : Pass). (q.look).value) is ∙ c.if-look_token-ne1.false)
 
 pub loop-token-preserved : goal.loop-token-preserved
 loop-token-preserved c =
@@ -52,4 +52,4 @@ returns c =
     let known = c.known.ensures in
     let past = c.loop-token-test.false in
     settled_by s c.args.token.now c.loop-token.token c.look_token-2.new.token 0 c.look_token-2.result c.loop-token.invariant.moved c.look_token-2.ensures.made
-        (inl (omega (arith, past, room, known)))
+    (inl (omega (arith, past, room, known)))
