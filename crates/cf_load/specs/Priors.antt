@@ -8,12 +8,12 @@ use Rattle.cf_plain.specs.declared.ask.Ask.{Ask}
 use Rattle.cf_plain.specs.declared.finding.Finding.{Finding}
 use Rattle.cf_shape.specs.Lanes.{ShapeValue}
 use Rattle.cf_load.specs.declared.plan.LivePlan.{LivePlan}
-use Rattle.cf_load.specs.declared.prior.Prior.{Prior}
+use Rattle.cf_load.specs.declared.prior.FoundBefore.{FoundBefore}
 use Rattle.cf_load.specs.Planned.{findings_on}
 use Rattle.cf_load.specs.Segments.{seen_of}
 
 -- the entries before the log's first one
-abbrev pub entries_before : Prior → List Entry
+abbrev pub entries_before : FoundBefore → List Entry
 entries_before prior = flat_map seen_of prior.closed.value.items
 
 -- there are so many entries, and the question found that in them
@@ -23,7 +23,7 @@ pub record HasFound (shape : ShapeValue) (ask : Ask) (entries : List Entry) (cou
 
 -- The base and the findings are those of the entries before the log's first one, and places in the log and before have numbers of 20
 -- bits.
-pub record IsPrior (shape : ShapeValue) (plan : LivePlan) (prior : Prior) : Type 0 where
+pub record IsFoundBefore (shape : ShapeValue) (plan : LivePlan) (prior : FoundBefore) : Type 0 where
   pub base_is : prior.base ≡ length (entries_before prior)
   pub found : prior.findings.items ≡ findings_on shape plan (entries_before prior)
   pub few : prior.base + shape.capacity ≤ 2 ^ 20

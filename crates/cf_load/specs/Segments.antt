@@ -39,11 +39,15 @@ entries_of s = flat_map seen_of (all_of s)
 abbrev pub base_of : SegmentsValue → ℕ
 base_of s = (s.shape).capacity * length s.closed
 
--- The tails that the roots of some segments were told of, end to end, each counted from the first segment's first entry. Each
--- segment has room for n rows, and the first of these begins at the base.
+-- The tails that some segments were told of, end to end, each counted from the first segment's first entry. Each segment has room
+-- for n rows, and the first of these begins at the base.
+abbrev pub laid_end_to_end : ℕ → ℕ → List (List ℕ) → List ℕ
+laid_end_to_end n base [] = []
+laid_end_to_end n base (told ∷ tolds) = map (λ tail. base + tail) told ++ laid_end_to_end n (base + n) tolds
+
+-- those of which the roots of some segments were told
 abbrev pub told_from : ℕ → ℕ → List Segment → List ℕ
-told_from n base [] = []
-told_from n base (segment ∷ segments) = map (λ tail. base + tail) (segment.root.view).told ++ told_from n (base + n) segments
+told_from n base segments = laid_end_to_end n base (map (λ (segment : Segment). (segment.root.view).told) segments)
 
 -- the tails that the roots of all segments were told of
 abbrev pub told_of : SegmentsValue → List ℕ

@@ -7,10 +7,10 @@ ghost use Rattle.cf_table.specs.Values.{IsOf};
 ghost use Rattle.cf_load.specs.Loading.{AsksBatch, HasLoaded, HasStopped, AsksBeside};
 ghost use Rattle.cf_load.specs.Loads.{outcome_of};
 ghost use Rattle.cf_load.specs.Planned.{IsPlan, HasRead, tails_of};
-ghost use Rattle.cf_load.specs.Priors.{IsPrior, entries_before};
+ghost use Rattle.cf_load.specs.Priors.{IsFoundBefore, entries_before};
 ghost use Rattle.cf_load.specs.Writing.{IsReady, RanOut, Wrote};
 
-use crate::prior::Prior;
+use crate::prior::FoundBefore;
 use crate::reader::ask_counted;
 use crate::writers::run_writers;
 use crate::{LivePlan, LoadFault};
@@ -29,13 +29,13 @@ fn ask_beside<G: Gate>(
     alloc: Global,
     gate: &G,
     plan: &LivePlan,
-    prior: &Prior,
+    prior: &FoundBefore,
     batch: u32,
     reader: &mut ReaderPass,
 ) -> Result<Vec<Live>, Memory>
     requires of { IsOf reader.old log.now }
     requires plan { IsPlan log.now.shape plan.now }
-    requires prior { IsPrior log.now.shape plan.now prior.now }
+    requires prior { IsFoundBefore log.now.shape plan.now prior.now }
     ensures of { IsOf reader.new log.now }
     ensures asks { IfOk result (λ more. AsksBatch log.now.shape plan.now.asks.items plan.now.lives.items plan.now.rounds batch (entries_before prior.now ++ reader.old.view.seen) (entries_before prior.now ++ reader.new.view.seen) more.items) }
     ensures read { IfOk result (λ more. HasRead prior.now.base reader.old reader.new more.items) }
@@ -52,7 +52,7 @@ fn run_beside<R: Threads + Sync, G: Gate>(
     log: &MultiLog,
     gate: &G,
     plan: &LivePlan,
-    prior: &Prior,
+    prior: &FoundBefore,
     batch: u32,
     rows: &[Row],
     reader: &mut ReaderPass,
@@ -60,7 +60,7 @@ fn run_beside<R: Threads + Sync, G: Gate>(
 ) -> (Option<u8>, Result<Vec<Live>, Memory>)
     requires of { IsOf reader.old log.now }
     requires plan { IsPlan log.now.shape plan.now }
-    requires prior { IsPrior log.now.shape plan.now prior.now }
+    requires prior { IsFoundBefore log.now.shape plan.now prior.now }
     requires ready { All (IsReady log.now) passes.old }
     requires fits { All (Fits log.now.shape.schema) rows.now }
     requires room { 4096 * batch + length rows.now < 2 ^ 32 }
@@ -85,7 +85,7 @@ fn run_beside<R: Threads + Sync, G: Gate>(
             ensures out { IfSome result (λ writer. RanOut log.entry.now (4096 * batch) rows.entry.now writer passes.entry.now passes.exit.now) }
         { run_writers(rt, log, gate, 4096 * u64::from(batch), rows, passes) },
         &mut || -> Result<Vec<Live>, Memory>
-            requires { IsSync G.row × IsOf reader.now log.now × IsPlan log.now.shape plan.now × IsPrior log.now.shape plan.now prior.now }
+            requires { IsSync G.row × IsOf reader.now log.now × IsPlan log.now.shape plan.now × IsFoundBefore log.now.shape plan.now prior.now }
             ensures of { IsOf reader.exit.now log.entry.now }
             ensures asks { IfOk result (λ more. AsksBatch log.entry.now.shape plan.entry.now.asks.items plan.entry.now.lives.items plan.entry.now.rounds batch (entries_before prior.entry.now ++ reader.entry.now.view.seen) (entries_before prior.entry.now ++ reader.exit.now.view.seen) more.items) }
             ensures read { IfOk result (λ more. HasRead prior.entry.now.base reader.entry.now reader.exit.now more.items) }
@@ -114,14 +114,14 @@ pub(crate) fn load_batch<R: Threads + Sync, G: Gate>(
     root: &mut Root,
     rows: &[Row],
     plan: &LivePlan,
-    prior: &Prior,
+    prior: &FoundBefore,
     gate: &G,
     batch: u32,
 ) -> Result<Vec<Live>, LoadFault>
     requires loaded { (before : List RowValue) × (prior.now.base + length before ≡ 4096 * batch) × HasLoaded log.now prior.now.base before root.old }
     requires whole { prior.now.base % 4096 ≡ 0 }
     requires plan { IsPlan log.now.shape plan.now }
-    requires prior { IsPrior log.now.shape plan.now prior.now }
+    requires prior { IsFoundBefore log.now.shape plan.now prior.now }
     requires fits { All (Fits log.now.shape.schema) rows.now }
     requires few { length rows.now ≤ 4096 }
     requires room { 4096 * batch + length rows.now ≤ prior.now.base + log.now.shape.capacity }

@@ -94,7 +94,7 @@ fn answer_counted<L: Ledger>(
 }
 
 // The answers of all questions and triggers on all entries, with the live ones that came before.
-pub(crate) fn answer_all(
+pub(crate) fn answers_on_all(
     segments: &mut Segments,
     alloc: Global,
     plan: &LivePlan,

@@ -3,7 +3,6 @@
 #![tactic(auto)]
 
 mod batch;
-mod filling;
 mod finals;
 #[cfg(test)]
 mod gates;
@@ -12,6 +11,7 @@ mod loads;
 mod plan;
 mod prior;
 mod reader;
+mod segment_asks;
 mod segments;
 #[cfg(test)]
 mod tests;

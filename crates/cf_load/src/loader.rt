@@ -5,7 +5,7 @@ ghost use Rattle.cf_load.specs.Segments.{SegmentsValue, HoldsRows, KeepsAll};
 ghost use Rattle.cf_load.specs.Loaders.{IsFresh, IsLoading, IsBatched, IsRefused, IsFinished};
 ghost use Rattle.cf_load.specs.Planned.{IsPlan};
 
-use crate::finals::answer_all;
+use crate::finals::answers_on_all;
 use crate::{LivePlan, LoadFault, Segments};
 use cf_outside::Gate;
 use cf_plain::{Live, Loaded};
@@ -120,6 +120,6 @@ impl Loader {
     {
         let _lawful = segments.shape();
         let Loader { plan, lives, .. } = self;
-        answer_all(segments, alloc, &plan, lives)
+        answers_on_all(segments, alloc, &plan, lives)
     }
 }

@@ -29,7 +29,7 @@ use std::sync::ledger::Ledger;
 
 // What each live question found in the segments before the current one.
 #[derive(Drop)]
-pub(crate) struct Prior {
+pub(crate) struct FoundBefore {
     // How many entries they have.
     pub(crate) base: u32,
     // In the order in which a round asks the questions.

@@ -4,10 +4,10 @@ ghost use Rattle.cf_table.specs.Loads.{CountsLoads};
 ghost use Rattle.cf_table.specs.Values.{IsOf};
 ghost use Rattle.cf_load.specs.Loading.{AsksBatch, AsksSome};
 ghost use Rattle.cf_load.specs.Planned.{IsPlan, HasRead};
-ghost use Rattle.cf_load.specs.Priors.{IsPrior, entries_before};
+ghost use Rattle.cf_load.specs.Priors.{IsFoundBefore, entries_before};
 
 use crate::LivePlan;
-use crate::prior::{Prior, answer_behind};
+use crate::prior::{FoundBefore, answer_behind};
 use cf_outside::Gate;
 use cf_plain::Live;
 use cf_row::Memory;
@@ -22,7 +22,7 @@ fn ask_round<L: Ledger>(
     log: &MultiLog,
     alloc: Global,
     plan: &LivePlan,
-    prior: &Prior,
+    prior: &FoundBefore,
     at: (u32, u32),
     start: &Snapshot<ReaderPass>,
     reader: &mut ReaderPass,
@@ -31,7 +31,7 @@ fn ask_round<L: Ledger>(
 ) -> Result<(), Memory>
     requires of { IsOf reader.old log.now }
     requires plan { IsPlan log.now.shape plan.now }
-    requires prior { IsPrior log.now.shape plan.now prior.now }
+    requires prior { IsFoundBefore log.now.shape plan.now prior.now }
     requires asks { AsksSome log.now.shape plan.now.asks.items plan.now.lives.items at.1 0 at.0 (entries_before prior.now ++ start.now.value.view.seen) (entries_before prior.now ++ reader.old.view.seen) answers.old.items }
     requires read { HasRead prior.now.base start.now.value reader.old answers.old.items }
     ensures of { IsOf reader.new log.now }
@@ -62,14 +62,14 @@ fn ask_rounds<G: Gate, L: Ledger>(
     alloc: Global,
     gate: &G,
     plan: &LivePlan,
-    prior: &Prior,
+    prior: &FoundBefore,
     batch: u32,
     reader: &mut ReaderPass,
     steps: &mut Steps<L>,
 ) -> Result<Vec<Live>, Memory>
     requires of { IsOf reader.old log.now }
     requires plan { IsPlan log.now.shape plan.now }
-    requires prior { IsPrior log.now.shape plan.now prior.now }
+    requires prior { IsFoundBefore log.now.shape plan.now prior.now }
     ensures of { IsOf reader.new log.now }
     ensures asks { IfOk result (λ more. AsksBatch log.now.shape plan.now.asks.items plan.now.lives.items plan.now.rounds batch (entries_before prior.now ++ reader.old.view.seen) (entries_before prior.now ++ reader.new.view.seen) more.items) }
     ensures read { IfOk result (λ more. HasRead prior.now.base reader.old reader.new more.items) }
@@ -100,14 +100,14 @@ pub(crate) fn ask_counted<G: Gate, L: Ledger>(
     alloc: Global,
     gate: &G,
     plan: &LivePlan,
-    prior: &Prior,
+    prior: &FoundBefore,
     batch: u32,
     reader: &mut ReaderPass,
     blank: Blank,
 ) -> Result<Vec<Live>, Memory>
     requires of { IsOf reader.old log.now }
     requires plan { IsPlan log.now.shape plan.now }
-    requires prior { IsPrior log.now.shape plan.now prior.now }
+    requires prior { IsFoundBefore log.now.shape plan.now prior.now }
     requires blank { (blank.name ≡ L.name) × (blank.parts ≡ L.parts) × (0 < L.parts) }
     ensures of { IsOf reader.new log.now }
     ensures asks { IfOk result (λ more. AsksBatch log.now.shape plan.now.asks.items plan.now.lives.items plan.now.rounds batch (entries_before prior.now ++ reader.old.view.seen) (entries_before prior.now ++ reader.new.view.seen) more.items) }

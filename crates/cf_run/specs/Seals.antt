@@ -11,13 +11,12 @@ use Rattle.cf_report.specs.declared.text.Form.TheVariants.{Whole, Final}
 use Rattle.cf_table.specs.Moves.{SealValue}
 use Rattle.cf_load.specs.Blocks.{block}
 use Rattle.cf_load.specs.Planned.{tails_of}
+use Rattle.cf_load.specs.Segments.{laid_end_to_end}
 use Rattle.cf_run.specs.Needs.{NeedsAtMost}
 
--- the tails that the roots of segments were told of, end to end: each counts the records of all segments, of which the first of these
--- begins after so many, and each holds n
+-- the tails that the roots of segments were told of, end to end, by their seals
 abbrev pub told_in : ℕ → ℕ → List SealValue → List ℕ
-told_in n before [] = []
-told_in n before (seal ∷ seals) = map (λ tail. before + tail) seal.told ++ told_in n (before + n) seals
+told_in n before seals = laid_end_to_end n before (map (λ (seal : SealValue). seal.told) seals)
 
 -- The seals of the segments of a log with these entries, in order. Each segment but the last holds n of them, and one is opened for the
 -- first record that those before don't hold. Their roots were told of these tails.

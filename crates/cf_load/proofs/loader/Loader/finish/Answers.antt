@@ -8,9 +8,9 @@ pub returns : goal.returns
 returns c rows is =
     let inside = c.self.inside in
     let s = c.args.segments.now in
-    let t = c.answer_all.new.segments in
+    let t = c.answers_on_all.new.segments in
     let loader : LoaderValue = record { plan = inside.plan; count = inside.count; lives = inside.lives.items; stopped = inside.stopped } in
-    let made = c.answer_all.ensures in
-    subst (λ (l : LoaderValue). MatchResult c.answer_all.result (IsFinished rows l s t) (λ x. KeepsAll s t × HoldsRows t rows)) c.self.view_is
-    (finishes_if rows loader s t c.answer_all.result c.shape-lawful.ensures.lawful
+    let made = c.answers_on_all.ensures in
+    subst (λ (l : LoaderValue). MatchResult c.answers_on_all.result (IsFinished rows l s t) (λ x. KeepsAll s t × HoldsRows t rows)) c.self.view_is
+    (finishes_if rows loader s t c.answers_on_all.result c.shape-lawful.ensures.lawful
     (subst (λ (l : LoaderValue). IsLoading s rows l) (sym c.self.view_is) is) made.keeps made.finals made.alerts made.lives)

@@ -1,12 +1,12 @@
 use Rattle.std.proofs.Common.{◌≡◌, List, length, sym, ap, subst, ◌∙◌, rules, arith}
 use Rattle.std.specs.List.{AllZip, flat_map}
-use Rattle.cf_load.specs.Priors.{IsPrior, entries_before}
+use Rattle.cf_load.specs.Priors.{IsFoundBefore, entries_before}
 use Rattle.cf_load.specs.Segments.{SegmentsValue, HoldsRows, KeepsSegment, base_of, seen_of, segments_of}
 use Rattle.cf_load.specs.declared.segments.Segment.{Segment}
 use Rattle.cf_load.proofs.Batches.{zip_long}
 use Rattle.cf_load.proofs.Beside.{written_back}
 use Rattle.cf_row.specs.Row.{RowValue}
-use Rattle.cf_load.specs.declared.prior.Prior.{Prior}
+use Rattle.cf_load.specs.declared.prior.FoundBefore.{FoundBefore}
 use Rattle.cf_load.specs.Planned.{findings_on}
 use Rattle.cf_load.proofs.Chains.{closed_are, room_few}
 use Rattle.cf_load.proofs.Filled.{closed_long}
@@ -56,7 +56,7 @@ returns-clause-prior g c =
     let current = c.self.inside.current in
     let plan = c.args.plan.now in
     let s : SegmentsValue = segments_of most old.items current in
-    let prior : Prior = record { base = c.base-base.result; findings = c.in_ok-findings.findings; closed = c.of.result } in
+    let prior : FoundBefore = record { base = c.base-base.result; findings = c.in_ok-findings.findings; closed = c.of.result } in
     let zip : AllZip KeepsSegment old.items new = rw c.as_mut_slice.ensures.value at c.findings_in.ensures.kept in
     let same : length new ≡ length old.items = sym (zip_long KeepsSegment old.items new zip) in
     let len : old.len ≡ length old.items = search rules in
@@ -68,10 +68,10 @@ returns-clause-prior g c =
     let found : c.in_ok-findings.findings.items ≡ findings_on (current.log).shape plan (flat_map seen_of old.items) =
     rw (c.as_mut_slice.ensures.value, c.shape-shape.ensures.shape) at c.in_ok-findings.ensures.found in
     let few = room_few s c.self.invariant.0 in
-    let is : IsPrior s.shape plan prior = record {
+    let is : IsFoundBefore s.shape plan prior = record {
       base_is = base ∙ (sym (closed_long s rows holds) ∙ ap length (sym entries));
       found = found ∙ ap (findings_on s.shape plan) (sym entries);
       few = omega (arith, few, base);
     } in
-    subst (λ (t : SegmentsValue). IsPrior t.shape plan prior × (c.base-base.result ≡ base_of t)
+    subst (λ (t : SegmentsValue). IsFoundBefore t.shape plan prior × (c.base-base.result ≡ base_of t)
     × (entries_before prior ≡ flat_map seen_of t.closed)) c.self.view_is (is, base, entries)

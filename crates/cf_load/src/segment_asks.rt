@@ -7,14 +7,14 @@ ghost use Rattle.cf_plain.specs.Answered.{answer_on};
 ghost use Rattle.cf_load.specs.Loading.{AsksBeside};
 ghost use Rattle.cf_load.specs.Loads.{HaveStopped, room_of};
 ghost use Rattle.cf_load.specs.Planned.{IsPlan, tails_of};
-ghost use Rattle.cf_load.specs.Priors.{IsPrior, entries_before};
+ghost use Rattle.cf_load.specs.Priors.{IsFoundBefore, entries_before};
 ghost use Rattle.cf_query.specs.Walking.{AsksOne, AsksBucket};
 ghost use Rattle.cf_load.specs.Costs.{CountLoads, bucket_steps_in, key_steps_in};
 ghost use Rattle.cf_load.specs.Segments.{SegmentsGoOn, HoldsRows, KeepsAll, all_of, base_of, entries_of, seen_of, told_of};
 ghost use Rattle.cf_load.specs.declared.loads.LoadFault.TheVariants.{Memory as NoMemory};
 
 use crate::batch::load_batch;
-use crate::prior::{Prior, answer_behind, findings_in, found_in};
+use crate::prior::{FoundBefore, answer_behind, findings_in, found_in};
 use crate::{LivePlan, LoadFault, Segments, TurnFault};
 use cf_outside::Gate;
 use cf_plain::{Answer, Ask, Live};
@@ -59,18 +59,18 @@ impl Segments {
         alloc: Global,
         plan: &LivePlan,
         blank: Blank,
-    ) -> Result<Prior, Memory>
+    ) -> Result<FoundBefore, Memory>
         requires plan { IsPlan self.old.shape plan.now }
         requires full { (rows : List RowValue) × HoldsRows self.old rows }
         requires blank { (blank.name ≡ L.name) × (blank.parts ≡ L.parts) × (0 < L.parts) }
         ensures kept { KeepsAll self.old self.new }
-        ensures prior { IfOk result (λ prior. IsPrior self.old.shape plan.now prior × (prior.base ≡ base_of self.old) × (entries_before prior ≡ flat_map seen_of self.old.closed)) }
+        ensures prior { IfOk result (λ prior. IsFoundBefore self.old.shape plan.now prior × (prior.base ≡ base_of self.old) × (entries_before prior ≡ flat_map seen_of self.old.closed)) }
     {
         let mut steps = Steps::<L>::new(blank);
         let base = self.base();
         let shape = self.current.log.shape();
         let findings = findings_in(alloc, shape, self.closed.as_mut_slice(), plan, &mut steps)?;
-        Ok(Prior {
+        Ok(FoundBefore {
             base,
             findings,
             closed: Snapshot::of(&self.closed),
@@ -78,11 +78,11 @@ impl Segments {
     }
 
     // As `prior_counted`. Nobody reads how many steps it made.
-    fn prior(&mut self, alloc: Global, plan: &LivePlan) -> Result<Prior, Memory>
+    fn prior(&mut self, alloc: Global, plan: &LivePlan) -> Result<FoundBefore, Memory>
         requires plan { IsPlan self.old.shape plan.now }
         requires full { (rows : List RowValue) × HoldsRows self.old rows }
         ensures kept { KeepsAll self.old self.new }
-        ensures prior { IfOk result (λ prior. IsPrior self.old.shape plan.now prior × (prior.base ≡ base_of self.old) × (entries_before prior ≡ flat_map seen_of self.old.closed)) }
+        ensures prior { IfOk result (λ prior. IsFoundBefore self.old.shape plan.now prior × (prior.base ≡ base_of self.old) × (entries_before prior ≡ flat_map seen_of self.old.closed)) }
     {
         self.prior_counted::<Brand>(alloc, plan, Blank::new(1))
     }
