@@ -29,14 +29,14 @@ def layers_of(text):
 
 
 def sentence_of(crate):
-    """The first sentence of what a crate says of itself, up to a colon behind at least five words."""
+    """The first sentence of what a crate says of itself. A long one ends at a comma or a colon behind at least five words."""
     sources = [ROOT / "crates" / crate / "src" / it for it in ("lib.rt", "main.rt")]
     source = next(it for it in sources if it.exists())
     lines = [line[3:] for line in source.read_text().splitlines() if line.startswith("//!")]
     said = " ".join(" ".join(lines).split())
     sentence = re.match(r".*?\.(?= [A-Z]|$)", said).group()
-    front, colon, _ = sentence.partition(":")
-    return front + "." if colon and len(front.split()) >= 5 else sentence
+    front = re.match(r"(\S+ ){4,}?\S+(?=[,:] )", sentence)
+    return front.group() + "." if front and len(sentence.split()) > 14 else sentence
 
 
 def table_of(layers):
