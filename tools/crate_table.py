@@ -34,7 +34,7 @@ def sentence_of(crate):
     source = next(it for it in sources if it.exists())
     lines = [line[3:] for line in source.read_text().splitlines() if line.startswith("//!")]
     said = " ".join(" ".join(lines).split())
-    sentence = re.match(r".*?\.(?= [A-Z]|$)", said).group()
+    sentence = re.match(r".*?\.(?= [A-Z`]|$)", said).group()
     front = re.match(r"(\S+ ){4,}?\S+(?=[,:] )", sentence)
     return front.group() + "." if front and len(sentence.split()) > 14 else sentence
 
