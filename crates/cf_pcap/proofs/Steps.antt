@@ -4,6 +4,7 @@ use Rattle.std.proofs.lemmas.Bool.{cases_lt}
 use Rattle.cf_lemmas.proofs.Truths.{lt_true}
 use Rattle.cf_stream.specs.Format.{Found, Wants, Bad, Takes}
 use Rattle.cf_stream.specs.Stream.{IsStepper}
+use Rattle.cf_pcap.specs.declared.links.LinkSet.{LinkSet}
 use Rattle.cf_pcap.specs.declared.form.FileHeader.{FileHeader}
 use Rattle.cf_pcap.specs.declared.fault.PcapFault.{PcapFault}
 use Rattle.cf_pcap.specs.declared.fault.PcapFault.TheVariants.{FrameTooLong}
@@ -39,55 +40,55 @@ taken_items n m a b t u h = cc
 taken_state : (n m : ℕ) (a b : List FrameValue) (t u : State) → ◌≡◌ {A = Shown} (Takes n a t) (Takes m b u) → u ≡ t
 taken_state n m a b t u h = cc
 
-pub step_at : (s : State) (bytes : List ℕ) → step s bytes ≡ found_at s.header s.count bytes
+pub step_at : (links : LinkSet) (s : State) (bytes : List ℕ) → step links s bytes ≡ found_at links s.header s.count bytes
 unfolding step
-step_at s bytes = refl
+step_at links s bytes = refl
 
 -- Of a file header.
 
-pub head_stands : (header : FileHeader) (bytes : List ℕ) → Header bytes → IsFileHeader header bytes → head_of bytes ≡ Stands header
-head_stands header bytes (Whole other is it) h = is ∙ ap (λ (x : FileHeader). Stands x) (one_header other header bytes it h)
-head_stands header bytes (False fault is it) h = absurd (no_header header bytes fault it h)
-head_stands header bytes (Begun is short none) h = let size : 24 ≤ length bytes = h.size in absurd (omega (arith, short, size))
+pub head_stands : (links : LinkSet) (header : FileHeader) (bytes : List ℕ) → Header links bytes → IsFileHeader links header bytes → head_of links bytes ≡ Stands header
+head_stands links header bytes (Whole other is it) h = is ∙ ap (λ (x : FileHeader). Stands x) (one_header links other header bytes it h)
+head_stands links header bytes (False fault is it) h = absurd (no_header links header bytes fault it h)
+head_stands links header bytes (Begun is short none) h = let size : 24 ≤ length bytes = h.size in absurd (omega (arith, short, size))
 
-pub head_faulty : (fault : PcapFault) (bytes : List ℕ) → Header bytes → HasHeaderFault bytes fault → head_of bytes ≡ Faulty fault
-head_faulty fault bytes (Whole header is it) h = absurd (no_header header bytes fault h it)
-head_faulty fault bytes (False other is it) h = is ∙ ap (λ (x : PcapFault). Faulty x) (one_header_fault bytes other fault it h)
-head_faulty fault bytes (Begun is short none) h = absurd (none fault h)
+pub head_faulty : (links : LinkSet) (fault : PcapFault) (bytes : List ℕ) → Header links bytes → HasHeaderFault links bytes fault → head_of links bytes ≡ Faulty fault
+head_faulty links fault bytes (Whole header is it) h = absurd (no_header links header bytes fault h it)
+head_faulty links fault bytes (False other is it) h = is ∙ ap (λ (x : PcapFault). Faulty x) (one_header_fault links bytes other fault it h)
+head_faulty links fault bytes (Begun is short none) h = absurd (none fault h)
 
-pub head_short : (bytes : List ℕ) → Header bytes → length bytes < 24 → ((fault : PcapFault) → HasHeaderFault bytes fault → ⊥) → head_of bytes ≡ Short
-head_short bytes (Whole header is it) short none = let size : 24 ≤ length bytes = it.size in absurd (omega (arith, short, size))
-head_short bytes (False fault is it) short none = absurd (none fault it)
-head_short bytes (Begun is less nothing) short none = is
+pub head_short : (links : LinkSet) (bytes : List ℕ) → Header links bytes → length bytes < 24 → ((fault : PcapFault) → HasHeaderFault links bytes fault → ⊥) → head_of links bytes ≡ Short
+head_short links bytes (Whole header is it) short none = let size : 24 ≤ length bytes = it.size in absurd (omega (arith, short, size))
+head_short links bytes (False fault is it) short none = absurd (none fault it)
+head_short links bytes (Begun is less nothing) short none = is
 
-pub found_header : (header : FileHeader) (k : ℕ) (bytes : List ℕ) → IsFileHeader header bytes → found_at None k bytes ≡ Takes 24 [] (state_of (Some header) k)
-found_header header k bytes h = ap (λ (x : Head). head_found k x) (head_stands header bytes (header_of bytes) h)
+pub found_header : (links : LinkSet) (header : FileHeader) (k : ℕ) (bytes : List ℕ) → IsFileHeader links header bytes → found_at links None k bytes ≡ Takes 24 [] (state_of (Some header) k)
+found_header links header k bytes h = ap (λ (x : Head). head_found k x) (head_stands links header bytes (header_of links bytes) h)
 
-pub found_fault : (fault : PcapFault) (k : ℕ) (bytes : List ℕ) → HasHeaderFault bytes fault → found_at None k bytes ≡ Bad fault
-found_fault fault k bytes h = ap (λ (x : Head). head_found k x) (head_faulty fault bytes (header_of bytes) h)
+pub found_fault : (links : LinkSet) (fault : PcapFault) (k : ℕ) (bytes : List ℕ) → HasHeaderFault links bytes fault → found_at links None k bytes ≡ Bad fault
+found_fault links fault k bytes h = ap (λ (x : Head). head_found k x) (head_faulty links fault bytes (header_of links bytes) h)
 
-pub found_begun : (k : ℕ) (bytes : List ℕ) → length bytes < 24 → ((fault : PcapFault) → HasHeaderFault bytes fault → ⊥) → found_at None k bytes ≡ Wants
-found_begun k bytes short none = ap (λ (x : Head). head_found k x) (head_short bytes (header_of bytes) short none)
+pub found_begun : (links : LinkSet) (k : ℕ) (bytes : List ℕ) → length bytes < 24 → ((fault : PcapFault) → HasHeaderFault links bytes fault → ⊥) → found_at links None k bytes ≡ Wants
+found_begun links k bytes short none = ap (λ (x : Head). head_found k x) (head_short links bytes (header_of links bytes) short none)
 
 -- Of a record.
 
-pub found_record : (header : FileHeader) (k : ℕ) (bytes : List ℕ) → HasRecord header bytes → found_at (Some header) k bytes ≡ Takes (16 + caplen_at header bytes) (frame_at header k bytes ∷ []) (state_of (Some header) (k + 1))
-found_record header k bytes h =
+pub found_record : (links : LinkSet) (header : FileHeader) (k : ℕ) (bytes : List ℕ) → HasRecord header bytes → found_at links (Some header) k bytes ≡ Takes (16 + caplen_at header bytes) (frame_at header k bytes ∷ []) (state_of (Some header) (k + 1))
+found_record links header k bytes h =
     let short : caplen_at header bytes ≤ 262144 = h.short in
     let whole : 16 + caplen_at header bytes ≤ length bytes = h.whole in
     rw (not_below (length bytes) 16 (omega (arith, whole)), not_below 262144 (caplen_at header bytes) short, not_below (length bytes) (16 + caplen_at header bytes) whole) refl
 
-pub found_long : (header : FileHeader) (k : ℕ) (bytes : List ℕ) → HasLongRecord header bytes → found_at (Some header) k bytes ≡ Bad (FrameTooLong k)
-found_long header k bytes h = rw (not_below (length bytes) 16 h.head, lt_true 262144 (caplen_at header bytes) h.long) refl
+pub found_long : (links : LinkSet) (header : FileHeader) (k : ℕ) (bytes : List ℕ) → HasLongRecord header bytes → found_at links (Some header) k bytes ≡ Bad (FrameTooLong k)
+found_long links header k bytes h = rw (not_below (length bytes) 16 h.head, lt_true 262144 (caplen_at header bytes) h.long) refl
 
 -- what stands where a record may
-pub data Record (header : FileHeader) (bytes : List ℕ) : Type 0 where
-  IsRecord : HasRecord header bytes → Record header bytes
-  IsLong : HasLongRecord header bytes → Record header bytes
-  IsPart : (HasRecord header bytes → ⊥) → (HasLongRecord header bytes → ⊥) → ((k : ℕ) → found_at (Some header) k bytes ≡ Wants) → Record header bytes
+pub data Record (links : LinkSet) (header : FileHeader) (bytes : List ℕ) : Type 0 where
+  IsRecord : HasRecord header bytes → Record links header bytes
+  IsLong : HasLongRecord header bytes → Record links header bytes
+  IsPart : (HasRecord header bytes → ⊥) → (HasLongRecord header bytes → ⊥) → ((k : ℕ) → found_at links (Some header) k bytes ≡ Wants) → Record links header bytes
 
-pub record_of : (header : FileHeader) (bytes : List ℕ) → Record header bytes
-record_of header bytes = elim (cases_lt (length bytes) 16) [
+pub record_of : (links : LinkSet) (header : FileHeader) (bytes : List ℕ) → Record links header bytes
+record_of links header bytes = elim (cases_lt (length bytes) 16) [
   | inl few ↦ IsPart (λ h. let whole : 16 + caplen_at header bytes ≤ length bytes = h.whole in omega (arith, few, whole)) (λ h. let head : 16 ≤ length bytes = h.head in omega (arith, few, head)) (λ k. rw (lt_true (length bytes) 16 few) refl)
   | inr head ↦ elim (cases_lt 262144 (caplen_at header bytes)) [
     | inl long ↦ IsLong (record { head = head; long = long })
@@ -98,126 +99,126 @@ record_of header bytes = elim (cases_lt (length bytes) 16) [
   ]
 ]
 
-pub found_part : (header : FileHeader) (k : ℕ) (bytes : List ℕ) → Record header bytes → (HasRecord header bytes → ⊥) → (HasLongRecord header bytes → ⊥) → found_at (Some header) k bytes ≡ Wants
-found_part header k bytes (IsRecord h) part short = absurd (part h)
-found_part header k bytes (IsLong h) part short = absurd (short h)
-found_part header k bytes (IsPart never none is) part short = is k
+pub found_part : (links : LinkSet) (header : FileHeader) (k : ℕ) (bytes : List ℕ) → Record links header bytes → (HasRecord header bytes → ⊥) → (HasLongRecord header bytes → ⊥) → found_at links (Some header) k bytes ≡ Wants
+found_part links header k bytes (IsRecord h) part short = absurd (part h)
+found_part links header k bytes (IsLong h) part short = absurd (short h)
+found_part links header k bytes (IsPart never none is) part short = is k
 
 -- What is shown, by what the step finds.
 
-pub data Taken (header : Option FileHeader) (k : ℕ) (bytes : List ℕ) (n : ℕ) (items : List FrameValue) (t : State) : Type 0 where
-  TakesHeader : (new : FileHeader) → header ≡ None → IsFileHeader new bytes → n ≡ 24 → items ≡ [] → t ≡ state_of (Some new) k → Taken header k bytes n items t
-  TakesRecord : (old : FileHeader) → header ≡ Some old → HasRecord old bytes → n ≡ 16 + caplen_at old bytes → items ≡ frame_at old k bytes ∷ [] → t ≡ state_of (Some old) (k + 1) → Taken header k bytes n items t
+pub data Taken (links : LinkSet) (header : Option FileHeader) (k : ℕ) (bytes : List ℕ) (n : ℕ) (items : List FrameValue) (t : State) : Type 0 where
+  TakesHeader : (new : FileHeader) → header ≡ None → IsFileHeader links new bytes → n ≡ 24 → items ≡ [] → t ≡ state_of (Some new) k → Taken links header k bytes n items t
+  TakesRecord : (old : FileHeader) → header ≡ Some old → HasRecord old bytes → n ≡ 16 + caplen_at old bytes → items ≡ frame_at old k bytes ∷ [] → t ≡ state_of (Some old) (k + 1) → Taken links header k bytes n items t
 
-header_taken : (k : ℕ) (bytes : List ℕ) (n : ℕ) (items : List FrameValue) (t : State) → Header bytes → found_at None k bytes ≡ Takes n items t → Taken None k bytes n items t
-header_taken k bytes n items t (Whole new is it) h =
-    let same : ◌≡◌ {A = Shown} (Takes 24 [] (state_of (Some new) k)) (Takes n items t) = sym (found_header new k bytes it) ∙ h in
+header_taken : (links : LinkSet) (k : ℕ) (bytes : List ℕ) (n : ℕ) (items : List FrameValue) (t : State) → Header links bytes → found_at links None k bytes ≡ Takes n items t → Taken links None k bytes n items t
+header_taken links k bytes n items t (Whole new is it) h =
+    let same : ◌≡◌ {A = Shown} (Takes 24 [] (state_of (Some new) k)) (Takes n items t) = sym (found_header links new k bytes it) ∙ h in
     TakesHeader new refl it (taken_size 24 n [] items _ t same) (taken_items 24 n [] items _ t same) (taken_state 24 n [] items _ t same)
-header_taken k bytes n items t (False fault is it) h = absurd (bad_not_takes fault n items t (sym (found_fault fault k bytes it) ∙ h))
-header_taken k bytes n items t (Begun is short none) h = absurd (wants_not_takes n items t (sym (found_begun k bytes short none) ∙ h))
+header_taken links k bytes n items t (False fault is it) h = absurd (bad_not_takes fault n items t (sym (found_fault links fault k bytes it) ∙ h))
+header_taken links k bytes n items t (Begun is short none) h = absurd (wants_not_takes n items t (sym (found_begun links k bytes short none) ∙ h))
 
-record_taken : (header : FileHeader) (k : ℕ) (bytes : List ℕ) (n : ℕ) (items : List FrameValue) (t : State) → Record header bytes → found_at (Some header) k bytes ≡ Takes n items t → Taken (Some header) k bytes n items t
-record_taken header k bytes n items t (IsRecord it) h =
-    let same : ◌≡◌ {A = Shown} (Takes (16 + caplen_at header bytes) (frame_at header k bytes ∷ []) (state_of (Some header) (k + 1))) (Takes n items t) = sym (found_record header k bytes it) ∙ h in
+record_taken : (links : LinkSet) (header : FileHeader) (k : ℕ) (bytes : List ℕ) (n : ℕ) (items : List FrameValue) (t : State) → Record links header bytes → found_at links (Some header) k bytes ≡ Takes n items t → Taken links (Some header) k bytes n items t
+record_taken links header k bytes n items t (IsRecord it) h =
+    let same : ◌≡◌ {A = Shown} (Takes (16 + caplen_at header bytes) (frame_at header k bytes ∷ []) (state_of (Some header) (k + 1))) (Takes n items t) = sym (found_record links header k bytes it) ∙ h in
     TakesRecord header refl it (taken_size _ n _ items _ t same) (taken_items _ n _ items _ t same) (taken_state _ n _ items _ t same)
-record_taken header k bytes n items t (IsLong it) h = absurd (bad_not_takes (FrameTooLong k) n items t (sym (found_long header k bytes it) ∙ h))
-record_taken header k bytes n items t (IsPart never none is) h = absurd (wants_not_takes n items t (sym (is k) ∙ h))
+record_taken links header k bytes n items t (IsLong it) h = absurd (bad_not_takes (FrameTooLong k) n items t (sym (found_long links header k bytes it) ∙ h))
+record_taken links header k bytes n items t (IsPart never none is) h = absurd (wants_not_takes n items t (sym (is k) ∙ h))
 
-taken_at : (header : Option FileHeader) (k : ℕ) (bytes : List ℕ) (n : ℕ) (items : List FrameValue) (t : State) → found_at header k bytes ≡ Takes n items t → Taken header k bytes n items t
-taken_at None k bytes n items t h = header_taken k bytes n items t (header_of bytes) h
-taken_at (Some header) k bytes n items t h = record_taken header k bytes n items t (record_of header bytes) h
+taken_at : (links : LinkSet) (header : Option FileHeader) (k : ℕ) (bytes : List ℕ) (n : ℕ) (items : List FrameValue) (t : State) → found_at links header k bytes ≡ Takes n items t → Taken links header k bytes n items t
+taken_at links None k bytes n items t h = header_taken links k bytes n items t (header_of links bytes) h
+taken_at links (Some header) k bytes n items t h = record_taken links header k bytes n items t (record_of links header bytes) h
 
-pub taken : (s : State) (bytes : List ℕ) (n : ℕ) (items : List FrameValue) (t : State) → step s bytes ≡ Takes n items t → Taken s.header s.count bytes n items t
-taken s bytes n items t h = taken_at s.header s.count bytes n items t (sym (step_at s bytes) ∙ h)
+pub taken : (links : LinkSet) (s : State) (bytes : List ℕ) (n : ℕ) (items : List FrameValue) (t : State) → step links s bytes ≡ Takes n items t → Taken links s.header s.count bytes n items t
+taken links s bytes n items t h = taken_at links s.header s.count bytes n items t (sym (step_at links s bytes) ∙ h)
 
-pub data Broken (header : Option FileHeader) (k : ℕ) (bytes : List ℕ) (fault : PcapFault) : Type 0 where
-  InHeader : header ≡ None → HasHeaderFault bytes fault → Broken header k bytes fault
-  TooLong : (old : FileHeader) → header ≡ Some old → HasLongRecord old bytes → fault ≡ FrameTooLong k → Broken header k bytes fault
+pub data Broken (links : LinkSet) (header : Option FileHeader) (k : ℕ) (bytes : List ℕ) (fault : PcapFault) : Type 0 where
+  InHeader : header ≡ None → HasHeaderFault links bytes fault → Broken links header k bytes fault
+  TooLong : (old : FileHeader) → header ≡ Some old → HasLongRecord old bytes → fault ≡ FrameTooLong k → Broken links header k bytes fault
 
-header_broken : (k : ℕ) (bytes : List ℕ) (fault : PcapFault) → Header bytes → found_at None k bytes ≡ Bad fault → Broken None k bytes fault
-header_broken k bytes fault (Whole new is it) h = absurd (bad_not_takes fault 24 [] (state_of (Some new) k) (sym h ∙ found_header new k bytes it))
-header_broken k bytes fault (False other is it) h = InHeader refl (subst (λ (f : PcapFault). HasHeaderFault bytes f) (bad_same other fault (sym (found_fault other k bytes it) ∙ h)) it)
-header_broken k bytes fault (Begun is short none) h = absurd (wants_not_bad fault (sym (found_begun k bytes short none) ∙ h))
+header_broken : (links : LinkSet) (k : ℕ) (bytes : List ℕ) (fault : PcapFault) → Header links bytes → found_at links None k bytes ≡ Bad fault → Broken links None k bytes fault
+header_broken links k bytes fault (Whole new is it) h = absurd (bad_not_takes fault 24 [] (state_of (Some new) k) (sym h ∙ found_header links new k bytes it))
+header_broken links k bytes fault (False other is it) h = InHeader refl (subst (λ (f : PcapFault). HasHeaderFault links bytes f) (bad_same other fault (sym (found_fault links other k bytes it) ∙ h)) it)
+header_broken links k bytes fault (Begun is short none) h = absurd (wants_not_bad fault (sym (found_begun links k bytes short none) ∙ h))
 
-record_broken : (header : FileHeader) (k : ℕ) (bytes : List ℕ) (fault : PcapFault) → Record header bytes → found_at (Some header) k bytes ≡ Bad fault → Broken (Some header) k bytes fault
-record_broken header k bytes fault (IsRecord it) h = absurd (bad_not_takes fault _ _ _ (sym h ∙ found_record header k bytes it))
-record_broken header k bytes fault (IsLong it) h = TooLong header refl it (bad_same fault (FrameTooLong k) (sym h ∙ found_long header k bytes it))
-record_broken header k bytes fault (IsPart never none is) h = absurd (wants_not_bad fault (sym (is k) ∙ h))
+record_broken : (links : LinkSet) (header : FileHeader) (k : ℕ) (bytes : List ℕ) (fault : PcapFault) → Record links header bytes → found_at links (Some header) k bytes ≡ Bad fault → Broken links (Some header) k bytes fault
+record_broken links header k bytes fault (IsRecord it) h = absurd (bad_not_takes fault _ _ _ (sym h ∙ found_record links header k bytes it))
+record_broken links header k bytes fault (IsLong it) h = TooLong header refl it (bad_same fault (FrameTooLong k) (sym h ∙ found_long links header k bytes it))
+record_broken links header k bytes fault (IsPart never none is) h = absurd (wants_not_bad fault (sym (is k) ∙ h))
 
-broken_at : (header : Option FileHeader) (k : ℕ) (bytes : List ℕ) (fault : PcapFault) → found_at header k bytes ≡ Bad fault → Broken header k bytes fault
-broken_at None k bytes fault h = header_broken k bytes fault (header_of bytes) h
-broken_at (Some header) k bytes fault h = record_broken header k bytes fault (record_of header bytes) h
+broken_at : (links : LinkSet) (header : Option FileHeader) (k : ℕ) (bytes : List ℕ) (fault : PcapFault) → found_at links header k bytes ≡ Bad fault → Broken links header k bytes fault
+broken_at links None k bytes fault h = header_broken links k bytes fault (header_of links bytes) h
+broken_at links (Some header) k bytes fault h = record_broken links header k bytes fault (record_of links header bytes) h
 
-pub broken : (s : State) (bytes : List ℕ) (fault : PcapFault) → step s bytes ≡ Bad fault → Broken s.header s.count bytes fault
-broken s bytes fault h = broken_at s.header s.count bytes fault (sym (step_at s bytes) ∙ h)
+pub broken : (links : LinkSet) (s : State) (bytes : List ℕ) (fault : PcapFault) → step links s bytes ≡ Bad fault → Broken links s.header s.count bytes fault
+broken links s bytes fault h = broken_at links s.header s.count bytes fault (sym (step_at links s bytes) ∙ h)
 
-pub data Part (header : Option FileHeader) (bytes : List ℕ) : Type 0 where
-  OfHeader : header ≡ None → length bytes < 24 → ((fault : PcapFault) → HasHeaderFault bytes fault → ⊥) → Part header bytes
-  OfRecord : (old : FileHeader) → header ≡ Some old → (HasRecord old bytes → ⊥) → (HasLongRecord old bytes → ⊥) → Part header bytes
+pub data Part (links : LinkSet) (header : Option FileHeader) (bytes : List ℕ) : Type 0 where
+  OfHeader : header ≡ None → length bytes < 24 → ((fault : PcapFault) → HasHeaderFault links bytes fault → ⊥) → Part links header bytes
+  OfRecord : (old : FileHeader) → header ≡ Some old → (HasRecord old bytes → ⊥) → (HasLongRecord old bytes → ⊥) → Part links header bytes
 
-header_part : (k : ℕ) (bytes : List ℕ) → Header bytes → found_at None k bytes ≡ Wants → Part None bytes
-header_part k bytes (Whole new is it) h = absurd (wants_not_takes 24 [] (state_of (Some new) k) (sym h ∙ found_header new k bytes it))
-header_part k bytes (False fault is it) h = absurd (wants_not_bad fault (sym h ∙ found_fault fault k bytes it))
-header_part k bytes (Begun is short none) h = OfHeader refl short none
+header_part : (links : LinkSet) (k : ℕ) (bytes : List ℕ) → Header links bytes → found_at links None k bytes ≡ Wants → Part links None bytes
+header_part links k bytes (Whole new is it) h = absurd (wants_not_takes 24 [] (state_of (Some new) k) (sym h ∙ found_header links new k bytes it))
+header_part links k bytes (False fault is it) h = absurd (wants_not_bad fault (sym h ∙ found_fault links fault k bytes it))
+header_part links k bytes (Begun is short none) h = OfHeader refl short none
 
-record_part : (header : FileHeader) (k : ℕ) (bytes : List ℕ) → Record header bytes → found_at (Some header) k bytes ≡ Wants → Part (Some header) bytes
-record_part header k bytes (IsRecord it) h = absurd (wants_not_takes _ _ _ (sym h ∙ found_record header k bytes it))
-record_part header k bytes (IsLong it) h = absurd (wants_not_bad (FrameTooLong k) (sym h ∙ found_long header k bytes it))
-record_part header k bytes (IsPart never none is) h = OfRecord header refl never none
+record_part : (links : LinkSet) (header : FileHeader) (k : ℕ) (bytes : List ℕ) → Record links header bytes → found_at links (Some header) k bytes ≡ Wants → Part links (Some header) bytes
+record_part links header k bytes (IsRecord it) h = absurd (wants_not_takes _ _ _ (sym h ∙ found_record links header k bytes it))
+record_part links header k bytes (IsLong it) h = absurd (wants_not_bad (FrameTooLong k) (sym h ∙ found_long links header k bytes it))
+record_part links header k bytes (IsPart never none is) h = OfRecord header refl never none
 
-part_at : (header : Option FileHeader) (k : ℕ) (bytes : List ℕ) → found_at header k bytes ≡ Wants → Part header bytes
-part_at None k bytes h = header_part k bytes (header_of bytes) h
-part_at (Some header) k bytes h = record_part header k bytes (record_of header bytes) h
+part_at : (links : LinkSet) (header : Option FileHeader) (k : ℕ) (bytes : List ℕ) → found_at links header k bytes ≡ Wants → Part links header bytes
+part_at links None k bytes h = header_part links k bytes (header_of links bytes) h
+part_at links (Some header) k bytes h = record_part links header k bytes (record_of links header bytes) h
 
-pub part_of : (s : State) (bytes : List ℕ) → step s bytes ≡ Wants → Part s.header bytes
-part_of s bytes h = part_at s.header s.count bytes (sym (step_at s bytes) ∙ h)
+pub part_of : (links : LinkSet) (s : State) (bytes : List ℕ) → step links s bytes ≡ Wants → Part links s.header bytes
+part_of links s bytes h = part_at links s.header s.count bytes (sym (step_at links s bytes) ∙ h)
 
 -- The other way.
 
-pub step_header : (s : State) (header : FileHeader) (bytes : List ℕ) → s.header ≡ None → IsFileHeader header bytes → step s bytes ≡ Takes 24 [] (state_of (Some header) s.count)
-step_header s header bytes none h =
-    step_at s bytes ∙ subst (λ (x : Option FileHeader). found_at x s.count bytes ≡ Takes 24 [] (state_of (Some header) s.count)) (sym none) (found_header header s.count bytes h)
+pub step_header : (links : LinkSet) (s : State) (header : FileHeader) (bytes : List ℕ) → s.header ≡ None → IsFileHeader links header bytes → step links s bytes ≡ Takes 24 [] (state_of (Some header) s.count)
+step_header links s header bytes none h =
+    step_at links s bytes ∙ subst (λ (x : Option FileHeader). found_at links x s.count bytes ≡ Takes 24 [] (state_of (Some header) s.count)) (sym none) (found_header links header s.count bytes h)
 
-pub step_fault : (s : State) (fault : PcapFault) (bytes : List ℕ) → s.header ≡ None → HasHeaderFault bytes fault → step s bytes ≡ Bad fault
-step_fault s fault bytes none h = step_at s bytes ∙ subst (λ (x : Option FileHeader). found_at x s.count bytes ≡ Bad fault) (sym none) (found_fault fault s.count bytes h)
+pub step_fault : (links : LinkSet) (s : State) (fault : PcapFault) (bytes : List ℕ) → s.header ≡ None → HasHeaderFault links bytes fault → step links s bytes ≡ Bad fault
+step_fault links s fault bytes none h = step_at links s bytes ∙ subst (λ (x : Option FileHeader). found_at links x s.count bytes ≡ Bad fault) (sym none) (found_fault links fault s.count bytes h)
 
-pub step_begun : (s : State) (bytes : List ℕ) → s.header ≡ None → length bytes < 24 → ((fault : PcapFault) → HasHeaderFault bytes fault → ⊥) → step s bytes ≡ Wants
-step_begun s bytes none short h = step_at s bytes ∙ subst (λ (x : Option FileHeader). found_at x s.count bytes ≡ Wants) (sym none) (found_begun s.count bytes short h)
+pub step_begun : (links : LinkSet) (s : State) (bytes : List ℕ) → s.header ≡ None → length bytes < 24 → ((fault : PcapFault) → HasHeaderFault links bytes fault → ⊥) → step links s bytes ≡ Wants
+step_begun links s bytes none short h = step_at links s bytes ∙ subst (λ (x : Option FileHeader). found_at links x s.count bytes ≡ Wants) (sym none) (found_begun links s.count bytes short h)
 
-pub step_record : (s : State) (header : FileHeader) (bytes : List ℕ) → s.header ≡ Some header → HasRecord header bytes → step s bytes ≡ Takes (16 + caplen_at header bytes) (frame_at header s.count bytes ∷ []) (state_of (Some header) (s.count + 1))
-step_record s header bytes some h =
-    step_at s bytes ∙ subst (λ (x : Option FileHeader). found_at x s.count bytes ≡ Takes (16 + caplen_at header bytes) (frame_at header s.count bytes ∷ []) (state_of (Some header) (s.count + 1))) (sym some) (found_record header s.count bytes h)
+pub step_record : (links : LinkSet) (s : State) (header : FileHeader) (bytes : List ℕ) → s.header ≡ Some header → HasRecord header bytes → step links s bytes ≡ Takes (16 + caplen_at header bytes) (frame_at header s.count bytes ∷ []) (state_of (Some header) (s.count + 1))
+step_record links s header bytes some h =
+    step_at links s bytes ∙ subst (λ (x : Option FileHeader). found_at links x s.count bytes ≡ Takes (16 + caplen_at header bytes) (frame_at header s.count bytes ∷ []) (state_of (Some header) (s.count + 1))) (sym some) (found_record links header s.count bytes h)
 
-pub step_long : (s : State) (header : FileHeader) (bytes : List ℕ) → s.header ≡ Some header → HasLongRecord header bytes → step s bytes ≡ Bad (FrameTooLong s.count)
-step_long s header bytes some h = step_at s bytes ∙ subst (λ (x : Option FileHeader). found_at x s.count bytes ≡ Bad (FrameTooLong s.count)) (sym some) (found_long header s.count bytes h)
+pub step_long : (links : LinkSet) (s : State) (header : FileHeader) (bytes : List ℕ) → s.header ≡ Some header → HasLongRecord header bytes → step links s bytes ≡ Bad (FrameTooLong s.count)
+step_long links s header bytes some h = step_at links s bytes ∙ subst (λ (x : Option FileHeader). found_at links x s.count bytes ≡ Bad (FrameTooLong s.count)) (sym some) (found_long links header s.count bytes h)
 
-pub step_part : (s : State) (header : FileHeader) (bytes : List ℕ) → s.header ≡ Some header → (HasRecord header bytes → ⊥) → (HasLongRecord header bytes → ⊥) → step s bytes ≡ Wants
-step_part s header bytes some part short = step_at s bytes ∙ subst (λ (x : Option FileHeader). found_at x s.count bytes ≡ Wants) (sym some) (found_part header s.count bytes (record_of header bytes) part short)
+pub step_part : (links : LinkSet) (s : State) (header : FileHeader) (bytes : List ℕ) → s.header ≡ Some header → (HasRecord header bytes → ⊥) → (HasLongRecord header bytes → ⊥) → step links s bytes ≡ Wants
+step_part links s header bytes some part short = step_at links s bytes ∙ subst (λ (x : Option FileHeader). found_at links x s.count bytes ≡ Wants) (sym some) (found_part links header s.count bytes (record_of links header bytes) part short)
 
 -- What more bytes leave.
 
-bad_stays : (s : State) (bytes more : List ℕ) (fault : PcapFault) → step s bytes ≡ Bad fault → step s (bytes ++ more) ≡ Bad fault
-bad_stays s bytes more fault h = elim (broken s bytes fault h) [
-  | InHeader none it ↦ step_fault s fault (bytes ++ more) none (header_fault_first bytes more fault it)
-  | TooLong header some it is ↦ step_long s header (bytes ++ more) some (long_first header bytes more it) ∙ ap (λ (f : PcapFault). Bad f) (sym is)
+bad_stays : (links : LinkSet) (s : State) (bytes more : List ℕ) (fault : PcapFault) → step links s bytes ≡ Bad fault → step links s (bytes ++ more) ≡ Bad fault
+bad_stays links s bytes more fault h = elim (broken links s bytes fault h) [
+  | InHeader none it ↦ step_fault links s fault (bytes ++ more) none (header_fault_first links bytes more fault it)
+  | TooLong header some it is ↦ step_long links s header (bytes ++ more) some (long_first header bytes more it) ∙ ap (λ (f : PcapFault). Bad f) (sym is)
 ]
 
 same_taken : (n m : ℕ) (a b : List FrameValue) (t u : State) → n ≡ m → a ≡ b → t ≡ u → ◌≡◌ {A = Shown} (Takes n a t) (Takes m b u)
 same_taken n m a b t u p q r = cc
 
-takes_stays : (s : State) (bytes more : List ℕ) (n : ℕ) (items : List FrameValue) (t : State) → step s bytes ≡ Takes n items t → step s (bytes ++ more) ≡ Takes n items t
-takes_stays s bytes more n items t h = elim (taken s bytes n items t h) [
-  | TakesHeader new none it len given after ↦ step_header s new (bytes ++ more) none (header_first new bytes more it) ∙ same_taken 24 n [] items _ t (sym len) (sym given) (sym after)
+takes_stays : (links : LinkSet) (s : State) (bytes more : List ℕ) (n : ℕ) (items : List FrameValue) (t : State) → step links s bytes ≡ Takes n items t → step links s (bytes ++ more) ≡ Takes n items t
+takes_stays links s bytes more n items t h = elim (taken links s bytes n items t h) [
+  | TakesHeader new none it len given after ↦ step_header links s new (bytes ++ more) none (header_first links new bytes more it) ∙ same_taken 24 n [] items _ t (sym len) (sym given) (sym after)
   | TakesRecord old some it len given after ↦
       let whole : 16 + caplen_at old bytes ≤ length bytes = it.whole in
       let caplen : caplen_at old (bytes ++ more) ≡ caplen_at old bytes = caplen_first old bytes more (omega (arith, whole)) in
       let frame : frame_at old s.count (bytes ++ more) ≡ frame_at old s.count bytes = frame_first old s.count bytes more whole in
-      step_record s old (bytes ++ more) some (record_first old bytes more it)
+      step_record links s old (bytes ++ more) some (record_first old bytes more it)
       ∙ same_taken _ n _ items _ t (ap (λ c. 16 + c) caplen ∙ sym len) (ap (λ f. f ∷ []) frame ∙ sym given) (sym after)
 ]
 
-sizes : (s : State) (bytes : List ℕ) (n : ℕ) (items : List FrameValue) (t : State) → step s bytes ≡ Takes n items t → (0 < n) × (n ≤ length bytes)
-sizes s bytes n items t h = elim (taken s bytes n items t h) [
+sizes : (links : LinkSet) (s : State) (bytes : List ℕ) (n : ℕ) (items : List FrameValue) (t : State) → step links s bytes ≡ Takes n items t → (0 < n) × (n ≤ length bytes)
+sizes links s bytes n items t h = elim (taken links s bytes n items t h) [
   | TakesHeader new none it len given after ↦ let whole : 24 ≤ length bytes = it.size in (omega (arith, len), omega (arith, len, whole))
   | TakesRecord old some it len given after ↦ let whole : 16 + caplen_at old bytes ≤ length bytes = it.whole in (omega (arith, len), omega (arith, len, whole))
 ]
@@ -228,13 +229,13 @@ none_some header old p q = cc
 pub some_same : (header : Option FileHeader) (a b : FileHeader) → header ≡ Some a → header ≡ Some b → a ≡ b
 some_same header a b p q = cc
 
-late : (s : State) (bytes more : List ℕ) (n : ℕ) (items : List FrameValue) (t : State) → step s bytes ≡ Wants → step s (bytes ++ more) ≡ Takes n items t → length bytes < n
-late s bytes more n items t wants h = elim (taken s (bytes ++ more) n items t h) [
-  | TakesHeader new none it len given after ↦ elim (part_of s bytes wants) [
+late : (links : LinkSet) (s : State) (bytes more : List ℕ) (n : ℕ) (items : List FrameValue) (t : State) → step links s bytes ≡ Wants → step links s (bytes ++ more) ≡ Takes n items t → length bytes < n
+late links s bytes more n items t wants h = elim (taken links s (bytes ++ more) n items t h) [
+  | TakesHeader new none it len given after ↦ elim (part_of links s bytes wants) [
     | OfHeader same short nothing ↦ omega (arith, len, short)
     | OfRecord old some never long ↦ absurd (none_some s.header old none some)
   ]
-  | TakesRecord old some it len given after ↦ elim (part_of s bytes wants) [
+  | TakesRecord old some it len given after ↦ elim (part_of links s bytes wants) [
     | OfHeader none short nothing ↦ absurd (none_some s.header old none some)
     | OfRecord other also never long ↦ elim (cases_lt (length bytes) n) [
       | inl less ↦ less
@@ -246,41 +247,41 @@ late s bytes more n items t wants h = elim (taken s (bytes ++ more) n items t h)
   ]
 ]
 
-one : (s : State) (bytes : List ℕ) (n : ℕ) (items : List FrameValue) (t : State) → step s bytes ≡ Takes n items t → length items ≤ 1
-one s bytes n items t h = elim (taken s bytes n items t h) [
+one : (links : LinkSet) (s : State) (bytes : List ℕ) (n : ℕ) (items : List FrameValue) (t : State) → step links s bytes ≡ Takes n items t → length items ≤ 1
+one links s bytes n items t h = elim (taken links s bytes n items t h) [
   | TakesHeader new none it len given after ↦ let many : length items ≡ 0 = ap length given in omega (arith, many)
   | TakesRecord old some it len given after ↦ let many : length items ≡ 1 = ap length given in omega (arith, many)
 ]
 
-few : (s : State) (bytes : List ℕ) (n : ℕ) (items : List FrameValue) (t : State) → step s bytes ≡ Takes n items t → 16 * length items ≤ n
-few s bytes n items t h = elim (taken s bytes n items t h) [
+few : (links : LinkSet) (s : State) (bytes : List ℕ) (n : ℕ) (items : List FrameValue) (t : State) → step links s bytes ≡ Takes n items t → 16 * length items ≤ n
+few links s bytes n items t h = elim (taken links s bytes n items t h) [
   | TakesHeader new none it len given after ↦ let many : length items ≡ 0 = ap length given in omega (arith, many)
   | TakesRecord old some it len given after ↦ let many : length items ≡ 1 = ap length given in omega (arith, many, len)
 ]
 
-counts : (s : State) (bytes : List ℕ) (n : ℕ) (items : List FrameValue) (t : State) → step s bytes ≡ Takes n items t → t.count ≡ s.count + length items
-counts s bytes n items t h = elim (taken s bytes n items t h) [
+counts : (links : LinkSet) (s : State) (bytes : List ℕ) (n : ℕ) (items : List FrameValue) (t : State) → step links s bytes ≡ Takes n items t → t.count ≡ s.count + length items
+counts links s bytes n items t h = elim (taken links s bytes n items t h) [
   | TakesHeader new none it len given after ↦ let many : length items ≡ 0 = ap length given in let now : t.count ≡ s.count = ap (λ (x : State). x.count) after in omega (arith, many, now)
   | TakesRecord old some it len given after ↦ let many : length items ≡ 1 = ap length given in let now : t.count ≡ s.count + 1 = ap (λ (x : State). x.count) after in omega (arith, many, now)
 ]
 
-nothing_at : (header : Option FileHeader) (k : ℕ) → found_at header k [] ≡ Wants
-nothing_at None k = ap (λ (x : Head). head_found k x) (head_few [] (omega arith))
-nothing_at (Some header) k = refl
+nothing_at : (links : LinkSet) (header : Option FileHeader) (k : ℕ) → found_at links header k [] ≡ Wants
+nothing_at links None k = ap (λ (x : Head). head_found k x) (head_few links [] (omega arith))
+nothing_at links (Some header) k = refl
 
-nothing : (s : State) → step s [] ≡ Wants
-nothing s = step_at s [] ∙ nothing_at s.header s.count
+nothing : (links : LinkSet) (s : State) → step links s [] ≡ Wants
+nothing links s = step_at links s [] ∙ nothing_at links s.header s.count
 
 -- pcap can be read as a stream
-pub stepper : IsStepper pcap
-stepper = record {
+pub stepper : (links : LinkSet) → IsStepper (pcap links)
+stepper links = record {
   none = refl;
-  nothing = nothing;
-  bad_stays = bad_stays;
-  takes_stays = takes_stays;
-  size = sizes;
-  late = late;
-  one = one;
-  few = few;
-  counts = counts;
+  nothing = nothing links;
+  bad_stays = bad_stays links;
+  takes_stays = takes_stays links;
+  size = sizes links;
+  late = late links;
+  one = one links;
+  few = few links;
+  counts = counts links;
 }

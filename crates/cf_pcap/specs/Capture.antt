@@ -1,5 +1,5 @@
 -- Captures in the libpcap file format 2.4 (pcap savefile, pcap-savefile(5)), as whole files.
-use Rattle.std.specs.Prelude.{◌≡◌, ◌⊎◌, ℕ, ◌+◌, ◌*◌, ◌^◌, ◌%◌, ◌<◌, ◌≤◌, ◌==◌, Bool, true, false, ◌||◌, if◌then◌else◌, List, [], ◌∷◌, length, drop, slice_range, Option, Some, None}
+use Rattle.std.specs.Prelude.{◌≡◌, ◌⊎◌, ℕ, ◌+◌, ◌*◌, ◌^◌, ◌%◌, ◌<◌, ◌≤◌, ◌==◌, true, false, if◌then◌else◌, List, [], ◌∷◌, length, drop, slice_range, Option, Some, None}
 use Rattle.cf_stream.specs.Format.{seen}
 use Rattle.byteorder.specs.Endian.{little_number, big_number}
 use Rattle.cf_pcap.specs.declared.form.Order.{Order}
@@ -7,6 +7,8 @@ use Rattle.cf_pcap.specs.declared.form.Order.TheVariants.{Little, Big}
 use Rattle.cf_pcap.specs.declared.form.Precision.{Precision}
 use Rattle.cf_pcap.specs.declared.form.Precision.TheVariants.{Micro, Nano}
 use Rattle.cf_pcap.specs.declared.form.Layout.{Layout}
+use Rattle.cf_pcap.specs.declared.links.LinkSet.{LinkSet}
+use Rattle.cf_pcap.specs.Links.{is_link, longest}
 use Rattle.cf_pcap.specs.declared.form.FileHeader.{FileHeader}
 use Rattle.cf_pcap.specs.declared.fault.PcapFault.{PcapFault}
 use Rattle.cf_pcap.specs.declared.fault.PcapFault.TheVariants.{BadMagic, BadVersion, BadLink, FrameTooLong, Cut, TooManyBytes, Memory}
@@ -49,17 +51,13 @@ pub record IsVersion (layout : Layout) (bytes : List ℕ) : Type 0 where
 abbrev pub link_at : Layout → List ℕ → ℕ
 link_at layout bytes = number_in layout.order 4 (drop 20 bytes) % 2 ^ 16
 
--- LINKTYPE_ETHERNET and LINKTYPE_LINUX_SLL
-abbrev pub is_link : ℕ → Bool
-is_link link = link == 1 || link == 113
-
--- a file header of 24 bytes stands at the front, of a lawful link. The time zone, the accuracy and the snapshot length are ignored.
-pub record IsFileHeader (header : FileHeader) (bytes : List ℕ) : Type 0 where
+-- a file header of 24 bytes stands at the front, of one of these links. The time zone, the accuracy and the snapshot length are ignored.
+pub record IsFileHeader (links : LinkSet) (header : FileHeader) (bytes : List ℕ) : Type 0 where
   pub size : 24 ≤ length bytes
   pub magic : layout_of bytes ≡ Some header.layout
   pub version : IsVersion header.layout bytes
   pub link : header.link ≡ link_at header.layout bytes
-  pub lawful : is_link header.link ≡ true
+  pub lawful : is_link links header.link ≡ true
 
 -- the captured length that the record header at the front states
 abbrev pub caplen_at : FileHeader → List ℕ → ℕ
@@ -67,13 +65,13 @@ caplen_at header bytes = number_in header.layout.order 4 (drop 8 bytes)
 
 -- a lawful record stands whole at the front: a header of 16 bytes, and as many bytes as it states
 pub record HasRecord (header : FileHeader) (bytes : List ℕ) : Type 0 where
-  pub short : caplen_at header bytes ≤ 262144
+  pub short : caplen_at header bytes ≤ longest
   pub whole : 16 + caplen_at header bytes ≤ length bytes
 
 -- a record header that states more bytes than a record may hold
 pub record HasLongRecord (header : FileHeader) (bytes : List ℕ) : Type 0 where
   pub head : 16 ≤ length bytes
-  pub long : 262144 < caplen_at header bytes
+  pub long : longest < caplen_at header bytes
 
 -- the frame of the record at the front, as number k: seconds and their fraction, the captured length, the length on the
 -- wire, the link of the file, the captured bytes
@@ -95,15 +93,15 @@ AreRecordsThen header k (frame ∷ frames) bytes rest =
     × AreRecordsThen header (k + 1) frames (drop (16 + caplen_at header bytes) bytes) rest
 
 -- a file header, the records of these frames, and then the rest
-pub record IsReadTo (header : FileHeader) (bytes : List ℕ) (frames : List FrameValue) (rest : List ℕ) : Type 0 where
-  pub begin : IsFileHeader header bytes
+pub record IsReadTo (links : LinkSet) (header : FileHeader) (bytes : List ℕ) (frames : List FrameValue) (rest : List ℕ) : Type 0 where
+  pub begin : IsFileHeader links header bytes
   pub records : AreRecordsThen header 0 frames (drop 24 bytes) rest
 
--- a file below 2^32 bytes is a capture of these frames: a file header and their records, and nothing else
-pub record IsCapture (file : List ℕ) (frames : List FrameValue) : Type 0 where
+-- a file below 2^32 bytes is a capture of one of these links, and of these frames: a file header and their records, and nothing else
+pub record IsCapture (links : LinkSet) (file : List ℕ) (frames : List FrameValue) : Type 0 where
   pub size : length file < 2 ^ 32
   pub header : FileHeader
-  pub whole : IsReadTo header file frames []
+  pub whole : IsReadTo links header file frames []
 
 -- Faults. The magic is found false after 4 bytes, the version after 8, the link after 24, and a captured length after
 -- the 16 bytes of its record header.
@@ -120,37 +118,37 @@ pub record HasBadVersion (bytes : List ℕ) : Type 0 where
   pub magic : layout_of bytes ≡ Some layout
   pub version : IsVersion layout bytes → ⊥
 
--- the link is neither of the two that are read
-pub record HasBadLink (bytes : List ℕ) : Type 0 where
+-- the link is none of those that are read
+pub record HasBadLink (links : LinkSet) (bytes : List ℕ) : Type 0 where
   pub size : 24 ≤ length bytes
   pub layout : Layout
   pub magic : layout_of bytes ≡ Some layout
   pub version : IsVersion layout bytes
-  pub link : is_link (link_at layout bytes) ≡ false
+  pub link : is_link links (link_at layout bytes) ≡ false
 
 -- after k whole records
-pub record HasLongFrame (k : ℕ) (bytes : List ℕ) : Type 0 where
+pub record HasLongFrame (links : LinkSet) (k : ℕ) (bytes : List ℕ) : Type 0 where
   pub header : FileHeader
   pub frames : List FrameValue
   pub rest : List ℕ
-  pub read : IsReadTo header bytes frames rest
+  pub read : IsReadTo links header bytes frames rest
   pub number_is : k ≡ length frames
   pub long : HasLongRecord header rest
 
 -- a fault that these bytes show, whatever comes after them
-abbrev pub Shows : List ℕ → PcapFault → Type 0
-Shows bytes BadMagic = HasBadMagic bytes
-Shows bytes BadVersion = HasBadVersion bytes
-Shows bytes BadLink = HasBadLink bytes
-Shows bytes (FrameTooLong k) = HasLongFrame k bytes
-Shows bytes (Cut k) = ⊥
-Shows bytes TooManyBytes = ⊥
-Shows bytes Memory = ⊥
+abbrev pub Shows : LinkSet → List ℕ → PcapFault → Type 0
+Shows links bytes BadMagic = HasBadMagic bytes
+Shows links bytes BadVersion = HasBadVersion bytes
+Shows links bytes BadLink = HasBadLink links bytes
+Shows links bytes (FrameTooLong k) = HasLongFrame links k bytes
+Shows links bytes (Cut k) = ⊥
+Shows links bytes TooManyBytes = ⊥
+Shows links bytes Memory = ⊥
 
 -- 2^32 bytes or more, and the first 2^32 show no fault
-pub record HasTooManyBytes (file : List ℕ) : Type 0 where
+pub record HasTooManyBytes (links : LinkSet) (file : List ℕ) : Type 0 where
   pub size : 2 ^ 32 ≤ length file
-  pub first : (fault : PcapFault) → Shows (seen file) fault → ⊥
+  pub first : (fault : PcapFault) → Shows links (seen file) fault → ⊥
 
 -- fewer bytes than a file header has
 pub record EndsInHeader (k : ℕ) (file : List ℕ) : Type 0 where
@@ -158,27 +156,27 @@ pub record EndsInHeader (k : ℕ) (file : List ℕ) : Type 0 where
   pub number_is : k ≡ 0
 
 -- after k whole records something is left, which is no whole record
-pub record EndsInRecord (k : ℕ) (file : List ℕ) : Type 0 where
+pub record EndsInRecord (links : LinkSet) (k : ℕ) (file : List ℕ) : Type 0 where
   pub header : FileHeader
   pub frames : List FrameValue
   pub rest : List ℕ
-  pub read : IsReadTo header file frames rest
+  pub read : IsReadTo links header file frames rest
   pub number_is : k ≡ length frames
   pub left : 0 < length rest
   pub part : HasRecord header rest → ⊥
 
 -- a file below 2^32 bytes that shows no fault ends too early
-pub record IsCut (k : ℕ) (file : List ℕ) : Type 0 where
+pub record IsCut (links : LinkSet) (k : ℕ) (file : List ℕ) : Type 0 where
   pub size : length file < 2 ^ 32
-  pub first : (fault : PcapFault) → Shows (seen file) fault → ⊥
-  pub ends : EndsInHeader k file ⊎ EndsInRecord k file
+  pub first : (fault : PcapFault) → Shows links (seen file) fault → ⊥
+  pub ends : EndsInHeader k file ⊎ EndsInRecord links k file
 
 -- why a file is no capture. Each file is a capture of some frames or has one fault (`OneCase`).
-abbrev pub HasPcapFault : List ℕ → PcapFault → Type 0
-HasPcapFault file BadMagic = Shows (seen file) BadMagic
-HasPcapFault file BadVersion = Shows (seen file) BadVersion
-HasPcapFault file BadLink = Shows (seen file) BadLink
-HasPcapFault file (FrameTooLong k) = Shows (seen file) (FrameTooLong k)
-HasPcapFault file (Cut k) = IsCut k file
-HasPcapFault file TooManyBytes = HasTooManyBytes file
-HasPcapFault file Memory = ⊥
+abbrev pub HasPcapFault : LinkSet → List ℕ → PcapFault → Type 0
+HasPcapFault links file BadMagic = Shows links (seen file) BadMagic
+HasPcapFault links file BadVersion = Shows links (seen file) BadVersion
+HasPcapFault links file BadLink = Shows links (seen file) BadLink
+HasPcapFault links file (FrameTooLong k) = Shows links (seen file) (FrameTooLong k)
+HasPcapFault links file (Cut k) = IsCut links k file
+HasPcapFault links file TooManyBytes = HasTooManyBytes links file
+HasPcapFault links file Memory = ⊥

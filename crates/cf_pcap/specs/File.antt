@@ -3,11 +3,13 @@ use Rattle.std.specs.Prelude.{ℕ, ◌+◌, ◌==◌, ◌&&◌, nat_lt, if◌the
 use Rattle.cf_stream.specs.Format.{Found, Wants, Bad, Takes, Format}
 use Rattle.cf_pcap.specs.declared.form.Layout.{Layout}
 use Rattle.cf_pcap.specs.declared.form.FileHeader.{FileHeader}
+use Rattle.cf_pcap.specs.declared.links.LinkSet.{LinkSet}
 use Rattle.cf_pcap.specs.declared.fault.PcapFault.{PcapFault}
 use Rattle.cf_pcap.specs.declared.fault.PcapFault.TheVariants.{BadMagic, BadVersion, BadLink, FrameTooLong, Cut, TooManyBytes}
 use Rattle.cf_pcap.specs.declared.head.Head.{Head}
 use Rattle.cf_pcap.specs.declared.head.Head.TheVariants.{Short, Faulty, Stands}
-use Rattle.cf_pcap.specs.Capture.{FrameValue, number_in, layout_of, link_at, is_link, caplen_at, frame_at}
+use Rattle.cf_pcap.specs.Capture.{FrameValue, number_in, layout_of, link_at, caplen_at, frame_at}
+use Rattle.cf_pcap.specs.Links.{is_link, longest}
 
 -- how far a file was read: what its header states, once that was read, and the number of frames
 pub record State : Type 0 where
@@ -19,21 +21,21 @@ abbrev pub is_version : Layout → List ℕ → Bool
 is_version layout bytes = (number_in layout.order 2 (drop 4 bytes) == 2) && (number_in layout.order 2 (drop 6 bytes) == 4)
 
 -- what a file header shows whose version is right: its link after 24 bytes
-abbrev pub by_link : Layout → List ℕ → Head
-by_link layout bytes =
+abbrev pub by_link : LinkSet → Layout → List ℕ → Head
+by_link links layout bytes =
     if nat_lt (length bytes) 24 then Short
-    else (if is_link (link_at layout bytes) then Stands (record { layout = layout; link = link_at layout bytes }) else Faulty BadLink)
+    else (if is_link links (link_at layout bytes) then Stands (record { layout = layout; link = link_at layout bytes }) else Faulty BadLink)
 
 -- what one shows by its magic: its version after 8 bytes
-abbrev pub by_layout : Option Layout → List ℕ → Head
-by_layout None bytes = Faulty BadMagic
-by_layout (Some layout) bytes =
+abbrev pub by_layout : LinkSet → Option Layout → List ℕ → Head
+by_layout links None bytes = Faulty BadMagic
+by_layout links (Some layout) bytes =
     if nat_lt (length bytes) 8 then Short
-    else (if is_version layout bytes then by_link layout bytes else Faulty BadVersion)
+    else (if is_version layout bytes then by_link links layout bytes else Faulty BadVersion)
 
 -- what the first bytes of a file show of its header: the magic after 4 bytes
-unfoldable pub head_of : List ℕ → Head
-head_of bytes = if nat_lt (length bytes) 4 then Short else by_layout (layout_of bytes) bytes
+unfoldable pub head_of : LinkSet → List ℕ → Head
+head_of links bytes = if nat_lt (length bytes) 4 then Short else by_layout links (layout_of bytes) bytes
 
 -- a file header gives no frame
 abbrev pub head_found : ℕ → Head → Found State FrameValue PcapFault
@@ -45,24 +47,24 @@ head_found k (Stands header) = Takes 24 [] (record { header = Some header; count
 abbrev pub record_found : FileHeader → ℕ → List ℕ → Found State FrameValue PcapFault
 record_found header k bytes =
     if nat_lt (length bytes) 16 then Wants
-    else (if nat_lt 262144 (caplen_at header bytes) then Bad (FrameTooLong k)
+    else (if nat_lt longest (caplen_at header bytes) then Bad (FrameTooLong k)
     else (if nat_lt (length bytes) (16 + caplen_at header bytes) then Wants
     else Takes (16 + caplen_at header bytes) (frame_at header k bytes ∷ []) (record { header = Some header; count = k + 1 })))
 
 -- a file begins with its header
-abbrev pub found_at : Option FileHeader → ℕ → List ℕ → Found State FrameValue PcapFault
-found_at None k bytes = head_found k (head_of bytes)
-found_at (Some header) k bytes = record_found header k bytes
+abbrev pub found_at : LinkSet → Option FileHeader → ℕ → List ℕ → Found State FrameValue PcapFault
+found_at links None k bytes = head_found k (head_of links bytes)
+found_at links (Some header) k bytes = record_found header k bytes
 
 -- what the bytes at the front show in a state: no whole header or record yet, a fault, or one of these
-unfoldable pub step : State → List ℕ → Found State FrameValue PcapFault
-step s bytes = found_at s.header s.count bytes
+unfoldable pub step : LinkSet → State → List ℕ → Found State FrameValue PcapFault
+step links s bytes = found_at links s.header s.count bytes
 
--- pcap: a file header, and then records end to end
-abbrev pub pcap : Format State FrameValue PcapFault
-pcap = record {
+-- pcap with these links: a file header, and then records end to end
+abbrev pub pcap : LinkSet → Format State FrameValue PcapFault
+pcap links = record {
   start = record { header = None; count = 0 };
-  step = step;
+  step = step links;
   count = λ s. s.count;
   may_end = λ s. is_some s.header;
   cut = λ s. Cut s.count;

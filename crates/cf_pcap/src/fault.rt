@@ -14,10 +14,10 @@ pub enum PcapFault {
     /// The version isn't 2.4.
     #[error("the version isn't 2.4")]
     BadVersion,
-    /// The link is neither Ethernet (LINKTYPE_ETHERNET, 1) nor cooked frames of Linux (LINKTYPE_LINUX_SLL, 113).
-    #[error("the link is neither Ethernet nor cooked frames of Linux")]
+    /// The link is none of those that are read ([`crate::LinkSet`]).
+    #[error("the link is none of those that are read")]
     BadLink,
-    /// A record's captured length is above 262,144 bytes.
+    /// A record's captured length is above 262,144 bytes ([`crate::LONGEST`]).
     #[error("the captured length of record {0} is above 262144 bytes")]
     FrameTooLong(u32),
     /// The stream ends inside the file header or a record.

@@ -1,6 +1,6 @@
 // The byte order, the unit of time and the link of a capture, and its numbers.
 ghost use Rattle.std.specs.Prelude.{◌≡◌, ◌≤◌, length};
-ghost use Rattle.cf_pcap.specs.Capture.{number_in, tick_of as nanoseconds_of, layout_of as layout_at, is_link as is_lawful_link};
+ghost use Rattle.cf_pcap.specs.Capture.{number_in, tick_of as nanoseconds_of, layout_of as layout_at};
 
 use byteorder::{BigEndian, ByteOrder, LittleEndian};
 
@@ -9,12 +9,6 @@ const MICROSECONDS: u32 = 0xa1b2_c3d4;
 
 /// The magic of times in nanoseconds.
 const NANOSECONDS: u32 = 0xa1b2_3c4d;
-
-/// LINKTYPE_ETHERNET.
-const ETHERNET: u16 = 1;
-
-/// LINKTYPE_LINUX_SLL.
-const LINUX_SLL: u16 = 113;
 
 /// How numbers stand in the file.
 #[derive(Clone, Copy, Debug, PartialEq, Eq)]
@@ -79,13 +73,6 @@ impl Precision {
             Precision::Nano => 1,
         }
     }
-}
-
-// Whether frames of that link are read.
-pub(crate) fn is_link(link: u16) -> bool
-    ensures { result ≡ is_lawful_link link }
-{
-    link == ETHERNET || link == LINUX_SLL
 }
 
 // The layout that the magic at the front of the bytes states, if it is one.

@@ -15,7 +15,7 @@ pub struct Frame {
     pub caplen: u32,
     /// Its length on the wire, in bytes.
     pub len: u32,
-    /// The link that it was captured from: 1 for Ethernet, 113 for Linux SLL (cooked frames).
+    /// The number of the link that it was captured from ([`crate::Link`]).
     pub link: u16,
     pub bytes: Vec<u8>,
 }

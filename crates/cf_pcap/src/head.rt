@@ -2,8 +2,8 @@
 ghost use Rattle.std.specs.Prelude.{◌≡◌, ◌≤◌, length};
 ghost use Rattle.cf_pcap.specs.File.{is_version as is_version_at, by_link as head_by_link, head_of as head_at};
 
-use crate::PcapFault;
-use crate::form::{FileHeader, Layout, is_link, layout_of};
+use crate::form::{FileHeader, Layout, layout_of};
+use crate::{LinkSet, PcapFault};
 
 /// The length of the file header.
 pub(crate) const HEADER: usize = 24;
@@ -28,14 +28,14 @@ fn is_version(layout: Layout, bytes: &[u8]) -> bool
 }
 
 // What a header of this layout shows by its link.
-fn by_link(layout: Layout, bytes: &[u8]) -> Head
-    ensures { result ≡ head_by_link layout bytes.now }
+fn by_link(links: LinkSet, layout: Layout, bytes: &[u8]) -> Head
+    ensures { result ≡ head_by_link links layout bytes.now }
 {
     if bytes.len() < HEADER {
         return Head::Short;
     }
     let link = (layout.order.read_u32(&bytes[20..]) % 65536) as u16;
-    if !is_link(link) {
+    if !links.reads(link) {
         return Head::Faulty(PcapFault::BadLink);
     }
     Head::Stands(FileHeader { layout, link })
@@ -43,8 +43,8 @@ fn by_link(layout: Layout, bytes: &[u8]) -> Head
 
 // What the first bytes of a file show of its header.
 #[tactic(auto, unfolding(crate::specs::File::head_of))]
-pub(crate) fn head_of(bytes: &[u8]) -> Head
-    ensures { result ≡ head_at bytes.now }
+pub(crate) fn head_of(links: LinkSet, bytes: &[u8]) -> Head
+    ensures { result ≡ head_at links bytes.now }
 {
     if bytes.len() < 4 {
         return Head::Short;
@@ -58,5 +58,5 @@ pub(crate) fn head_of(bytes: &[u8]) -> Head
     if !is_version(layout, bytes) {
         return Head::Faulty(PcapFault::BadVersion);
     }
-    by_link(layout, bytes)
+    by_link(links, layout, bytes)
 }

@@ -6,6 +6,7 @@ mod form;
 mod frame;
 mod head;
 mod laws;
+mod links;
 mod reader;
 mod records;
 mod stage;
@@ -15,10 +16,12 @@ pub use fault::PcapFault;
 pub use form::Order;
 pub use frame::Frame;
 pub use laws::{
-    a_found_fault_stays, each_file_is_in_one_case, each_stream_gives_one_list,
-    files_are_judged_alike,
+    a_found_fault_stays, a_truncated_file_has_its_whole_records, each_file_is_in_one_case,
+    each_stream_gives_one_list, files_are_judged_alike,
 };
+pub use links::{Link, LinkSet};
 pub use reader::Pcap;
+pub use records::LONGEST;
 
 #[cfg(test)]
 mod tests;

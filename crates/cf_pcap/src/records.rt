@@ -1,18 +1,19 @@
 // The file header and the records of a capture.
 ghost use Rattle.std.specs.Prelude.{◌≡◌, ℕ, List, ◌<◌, ◌≤◌, ◌+◌, ◌*◌, ◌^◌, Some, None, drop, length, IfOk, true, false};
+ghost use Rattle.cf_pcap.specs.declared.links.LinkSet.{LinkSet};
 ghost use Rattle.cf_pcap.specs.Capture.{FrameValue, HasRecord, HasLongRecord, frame_at, caplen_at};
 ghost use Rattle.cf_pcap.specs.Reading.{state_of, AreRead, IsFaultAt};
 
 use crate::form::FileHeader;
 use crate::head::{HEADER, Head, head_of};
-use crate::{Frame, PcapFault};
+use crate::{Frame, LinkSet, PcapFault};
 use std::alloc::{AllocError, Global};
 
 /// The length of a record's header.
 pub(crate) const RECORD_HEADER: usize = 16;
 
 /// The most bytes that a record may hold of its frame: libpcap's `MAXIMUM_SNAPLEN`.
-const LONGEST: u32 = 262_144;
+pub const LONGEST: u32 = 262_144;
 
 /// What was read of some bytes: what the file header states, the frames, and how many of the bytes these take.
 #[derive(Drop)]
@@ -85,7 +86,7 @@ fn read_records(
     bytes: &[u8],
 ) -> Result<Read, AllocError>
     requires { 16 * num + length bytes.now ≤ 2 ^ 32 }
-    ensures read { IfOk result (λ read. AreRead (state_of (Some header) num) bytes.now read.frames.items (state_of read.header (num + length read.frames.items)) (drop read.used bytes.now)) }
+    ensures read { IfOk result (λ read. (links : LinkSet) → AreRead links (state_of (Some header) num) bytes.now read.frames.items (state_of read.header (num + length read.frames.items)) (drop read.used bytes.now)) }
     ensures used { IfOk result (λ read. (16 * length read.frames.items ≤ read.used) × (read.used ≤ length bytes.now)) }
 {
     let mut frames = Vec::new(alloc);
@@ -104,12 +105,12 @@ fn read_records(
 }
 
 // Reads the first bytes of a file.
-fn read_first(alloc: Global, num: u32, bytes: &[u8]) -> Result<Read, AllocError>
+fn read_first(alloc: Global, links: LinkSet, num: u32, bytes: &[u8]) -> Result<Read, AllocError>
     requires { 16 * num + length bytes.now ≤ 2 ^ 32 }
-    ensures read { IfOk result (λ read. AreRead (state_of None num) bytes.now read.frames.items (state_of read.header (num + length read.frames.items)) (drop read.used bytes.now)) }
+    ensures read { IfOk result (λ read. AreRead links (state_of None num) bytes.now read.frames.items (state_of read.header (num + length read.frames.items)) (drop read.used bytes.now)) }
     ensures used { IfOk result (λ read. (16 * length read.frames.items ≤ read.used) × (read.used ≤ length bytes.now)) }
 {
-    match head_of(bytes) {
+    match head_of(links, bytes) {
         Head::Stands(header) => {
             let mut read = read_records(alloc, header, num, bytes.split_at(HEADER).1)?;
             read.used += HEADER;
@@ -126,28 +127,34 @@ fn read_first(alloc: Global, num: u32, bytes: &[u8]) -> Result<Read, AllocError>
 // Reads the bytes that come after so many frames, of a file whose header states this, if it was read.
 pub(crate) fn go_on(
     alloc: Global,
+    links: LinkSet,
     header: Option<FileHeader>,
     num: u32,
     bytes: &[u8],
 ) -> Result<Read, AllocError>
     requires { 16 * num + length bytes.now ≤ 2 ^ 32 }
-    ensures read { IfOk result (λ read. AreRead (state_of header num) bytes.now read.frames.items (state_of read.header (num + length read.frames.items)) (drop read.used bytes.now)) }
+    ensures read { IfOk result (λ read. AreRead links (state_of header num) bytes.now read.frames.items (state_of read.header (num + length read.frames.items)) (drop read.used bytes.now)) }
     ensures used { IfOk result (λ read. (16 * length read.frames.items ≤ read.used) × (read.used ≤ length bytes.now)) }
 {
     match header {
         Some(header) => read_records(alloc, header, num, bytes),
-        None => read_first(alloc, num, bytes),
+        None => read_first(alloc, links, num, bytes),
     }
 }
 
 // The fault that the bytes at the front show.
-pub(crate) fn fault_at(header: Option<FileHeader>, num: u32, bytes: &[u8]) -> Option<PcapFault>
-    ensures { IsFaultAt (state_of header num) bytes.now result }
+pub(crate) fn fault_at(
+    links: LinkSet,
+    header: Option<FileHeader>,
+    num: u32,
+    bytes: &[u8],
+) -> Option<PcapFault>
+    ensures { IsFaultAt links (state_of header num) bytes.now result }
 {
     match header {
         Some(header) if is_too_long(header, bytes) => Some(PcapFault::FrameTooLong(num)),
         Some(_) => None,
-        None => match head_of(bytes) {
+        None => match head_of(links, bytes) {
             Head::Faulty(fault) => Some(fault),
             _ => None,
         },

@@ -131,6 +131,70 @@ fn a_cut_stream_is_cut_after_whole_records(rt: HostRuntime) -> Result<(), Fail> 
     Ok(())
 }
 
+/// What the end of so many bytes of the two frames answers where they are read as truncated.
+fn truncated_after(n: usize) -> Result<Option<u32>, PcapFault> {
+    match n {
+        0..=23 => Err(PcapFault::Cut(0)),
+        24 | 42 | 59 => Ok(None),
+        25..=41 => Ok(Some(0)),
+        _ => Ok(Some(1)),
+    }
+}
+
+/// What the end of a stream answers that is read as truncated, in pieces of that many bytes.
+fn end_truncated(
+    alloc: Global,
+    stream: &[u8],
+    size: usize,
+    out: &mut Vec<Frame>,
+) -> Result<Result<Option<u32>, PcapFault>, AllocError> {
+    let mut pcap = Pcap::new(alloc)?;
+    for piece in stream.chunks(size.max(1)) {
+        let _ = feed_again(&mut pcap, piece, out);
+    }
+    Ok(pcap.finish_truncated())
+}
+
+#[test]
+fn a_truncated_stream_has_its_whole_records(rt: HostRuntime) -> Result<(), Fail> {
+    let forms = [
+        little(),
+        big(),
+        with(little(), &[(0, 0x4d), (1, 0x3c)]),
+        with(big(), &[(2, 0xc3), (3, 0xd4)]),
+    ];
+    for stream in forms {
+        for size in [1, 7, 65536] {
+            for n in 0..60 {
+                let mut out: Vec<Frame> = Vec::new(rt.alloc());
+                let cut = stream.get(..n).unwrap_or(&[]);
+                let end = end_truncated(rt.alloc(), cut, size, &mut out)?;
+                assert_eq!(rt; end, truncated_after(n), "after {n} bytes");
+                assert_eq!(rt; out.len(), wanted_after(n).1, "after {n} bytes");
+            }
+        }
+    }
+    Ok(())
+}
+
+#[test]
+fn other_faults_stay_of_a_truncated_stream(rt: HostRuntime) -> Result<(), Fail> {
+    let table = [
+        (with(little(), &[(0, 0)]), PcapFault::BadMagic),
+        (with(little(), &[(4, 3)]), PcapFault::BadVersion),
+        (with(little(), &[(20, 6)]), PcapFault::BadLink),
+        (with(little(), &[(53, 4)]), PcapFault::FrameTooLong(1)),
+    ];
+    for (stream, fault) in table {
+        for size in [1, 7, 65536] {
+            let mut out: Vec<Frame> = Vec::new(rt.alloc());
+            let end = end_truncated(rt.alloc(), &stream, size, &mut out)?;
+            assert_eq!(rt; end, Err(fault));
+        }
+    }
+    Ok(())
+}
+
 #[test]
 fn each_field_that_counts_is_looked_at(rt: HostRuntime) -> Result<(), Fail> {
     // Bytes of the little-endian frames, others for them, and when and why that is no capture.

@@ -5,3 +5,4 @@ pub mod Passing
 pub mod Feeding
 pub mod Ruling
 pub mod Filing
+pub mod Truncating

@@ -4,6 +4,7 @@ use Rattle.std.proofs.lemmas.Bool.{cases_lt}
 use Rattle.std.proofs.lemmas.Bool.Decides.{nat_tests}
 use Rattle.std.proofs.lemmas.List.{take-append-drop}
 use Rattle.std.proofs.Math.Seq.{drop-append-add}
+use Rattle.cf_pcap.specs.declared.links.LinkSet.{LinkSet}
 use Rattle.cf_pcap.specs.declared.form.Order.{Order}
 use Rattle.cf_pcap.specs.Capture.{FrameValue, number_in}
 use Rattle.cf_pcap.proofs.Following.{number_later}
@@ -27,13 +28,13 @@ use Rattle.cf_pcapng.proofs.Steps.{Shown, step_at, found_short, found_whole, len
 
 -- What a block of an unknown type shows.
 
-content_true : (interfaces : List Interface) (order : Order) (block : List ℕ) → last_total order block ≡ length block → content_of interfaces order Other block ≡ Ok Nothing
+content_true : (links : LinkSet) (interfaces : List Interface) (order : Order) (block : List ℕ) → last_total order block ≡ length block → content_of links interfaces order Other block ≡ Ok Nothing
 unfolding content_of
-content_true interfaces order block h = let same : eqb (last_total order block) (length block) ≡ true = eq-eqb (last_total order block) (length block) h in rw same refl
+content_true links interfaces order block h = let same : eqb (last_total order block) (length block) ≡ true = eq-eqb (last_total order block) (length block) h in rw same refl
 
-content_false : (interfaces : List Interface) (order : Order) (block : List ℕ) → (last_total order block ≡ length block → ⊥) → content_of interfaces order Other block ≡ Err BadLength
+content_false : (links : LinkSet) (interfaces : List Interface) (order : Order) (block : List ℕ) → (last_total order block ≡ length block → ⊥) → content_of links interfaces order Other block ≡ Err BadLength
 unfolding content_of
-content_false interfaces order block h = let other : eqb (last_total order block) (length block) ≡ false = grind (arith, nat_tests) in rw other refl
+content_false links interfaces order block h = let other : eqb (last_total order block) (length block) ≡ false = grind (arith, nat_tests) in rw other refl
 
 -- the last field of a block whose first bytes were let go
 last_field : (order : Order) (gone bytes : List ℕ) (total left : ℕ) → length gone + left ≡ total → 4 ≤ left → left ≤ length bytes → last_total order (take total (gone ++ bytes)) ≡ number_in order 4 (drop (left - 4) bytes)
@@ -51,37 +52,37 @@ last_field order gone bytes total left is some whole =
 head_kept : (order : Option Order) (block : Passed) (gone bytes : List ℕ) → WasPassed order (Some block) gone → head_of order (gone ++ bytes) ≡ Stands block.order Other block.total
 head_kept order block gone bytes was = head_stays order gone bytes (λ h. let no : Short ≡ Stands block.order Other block.total = sym h ∙ was.0 in cc) ∙ was.0
 
-pub passed_wants : (s : State) (block : Passed) (gone bytes : List ℕ) → WasPassed s.order (Some block) gone → block.gone + length bytes < block.total → step s (gone ++ bytes) ≡ Wants
-passed_wants s block gone bytes was short =
+pub passed_wants : (links : LinkSet) (s : State) (block : Passed) (gone bytes : List ℕ) → WasPassed s.order (Some block) gone → block.gone + length bytes < block.total → step links s (gone ++ bytes) ≡ Wants
+passed_wants links s block gone bytes was short =
     let len : length (gone ++ bytes) ≡ length gone + length bytes = length-append gone bytes in
     let size : length gone ≡ block.gone = was.1 in
-    step_at s (gone ++ bytes) (Stands block.order Other block.total) (head_kept s.order block gone bytes was)
-    ∙ found_short s (gone ++ bytes) block.order Other block.total (omega (arith, len, size, short))
+    step_at links s (gone ++ bytes) (Stands block.order Other block.total) (head_kept s.order block gone bytes was)
+    ∙ found_short links s (gone ++ bytes) block.order Other block.total (omega (arith, len, size, short))
 
-pub passed_over : (s : State) (block : Passed) (gone bytes : List ℕ) (left : ℕ) → WasPassed s.order (Some block) gone → block.gone + left ≡ block.total → left ≤ length bytes → number_in block.order 4 (drop (left - 4) bytes) ≡ block.total → step s (gone ++ bytes) ≡ Takes block.total [] s
-passed_over s block gone bytes left was is whole last =
+pub passed_over : (links : LinkSet) (s : State) (block : Passed) (gone bytes : List ℕ) (left : ℕ) → WasPassed s.order (Some block) gone → block.gone + left ≡ block.total → left ≤ length bytes → number_in block.order 4 (drop (left - 4) bytes) ≡ block.total → step links s (gone ++ bytes) ≡ Takes block.total [] s
+passed_over links s block gone bytes left was is whole last =
     let len : length (gone ++ bytes) ≡ length gone + length bytes = length-append gone bytes in
     let gone_is : length gone ≡ block.gone = was.1 in
     let room : block.gone + 4 ≤ block.total = was.2 in
     let fits : block.total ≤ length (gone ++ bytes) = omega (arith, len, gone_is, is, whole) in
     let size : length (take block.total (gone ++ bytes)) ≡ block.total = length_front block.total (gone ++ bytes) fits in
     let field : last_total block.order (take block.total (gone ++ bytes)) ≡ block.total = last_field block.order gone bytes block.total left (omega (arith, gone_is, is)) (omega (arith, is, room)) whole ∙ last in
-    step_at s (gone ++ bytes) (Stands block.order Other block.total) (head_kept s.order block gone bytes was)
-    ∙ found_whole s (gone ++ bytes) block.order Other block.total fits
-    ∙ ap (λ (x : Result Content Flaw). block_found s (take block.total (gone ++ bytes)) x) (content_true s.interfaces block.order (take block.total (gone ++ bytes)) (field ∙ sym size))
+    step_at links s (gone ++ bytes) (Stands block.order Other block.total) (head_kept s.order block gone bytes was)
+    ∙ found_whole links s (gone ++ bytes) block.order Other block.total fits
+    ∙ ap (λ (x : Result Content Flaw). block_found s (take block.total (gone ++ bytes)) x) (content_true links s.interfaces block.order (take block.total (gone ++ bytes)) (field ∙ sym size))
     ∙ ap (λ n. Takes n [] s) size
 
-pub passed_flawed : (s : State) (block : Passed) (gone bytes : List ℕ) → WasPassed s.order (Some block) gone → block.total ≤ block.gone + length bytes → (number_in block.order 4 (drop (block.total - block.gone - 4) bytes) ≡ block.total → ⊥) → step s (gone ++ bytes) ≡ Bad (fault_of s.count BadLength)
-passed_flawed s block gone bytes was whole other =
+pub passed_flawed : (links : LinkSet) (s : State) (block : Passed) (gone bytes : List ℕ) → WasPassed s.order (Some block) gone → block.total ≤ block.gone + length bytes → (number_in block.order 4 (drop (block.total - block.gone - 4) bytes) ≡ block.total → ⊥) → step links s (gone ++ bytes) ≡ Bad (fault_of s.count BadLength)
+passed_flawed links s block gone bytes was whole other =
     let len : length (gone ++ bytes) ≡ length gone + length bytes = length-append gone bytes in
     let gone_is : length gone ≡ block.gone = was.1 in
     let room : block.gone + 4 ≤ block.total = was.2 in
     let fits : block.total ≤ length (gone ++ bytes) = omega (arith, len, gone_is, whole) in
     let size : length (take block.total (gone ++ bytes)) ≡ block.total = length_front block.total (gone ++ bytes) fits in
     let field : last_total block.order (take block.total (gone ++ bytes)) ≡ number_in block.order 4 (drop (block.total - block.gone - 4) bytes) = last_field block.order gone bytes block.total (block.total - block.gone) (omega (arith, gone_is, room)) (omega (arith, room)) (omega (arith, whole)) in
-    step_at s (gone ++ bytes) (Stands block.order Other block.total) (head_kept s.order block gone bytes was)
-    ∙ found_whole s (gone ++ bytes) block.order Other block.total fits
-    ∙ ap (λ (x : Result Content Flaw). block_found s (take block.total (gone ++ bytes)) x) (content_false s.interfaces block.order (take block.total (gone ++ bytes)) (λ h. other (sym field ∙ h ∙ size)))
+    step_at links s (gone ++ bytes) (Stands block.order Other block.total) (head_kept s.order block gone bytes was)
+    ∙ found_whole links s (gone ++ bytes) block.order Other block.total fits
+    ∙ ap (λ (x : Result Content Flaw). block_found s (take block.total (gone ++ bytes)) x) (content_false links s.interfaces block.order (take block.total (gone ++ bytes)) (λ h. other (sym field ∙ h ∙ size)))
 
 -- What is held of a block that has only begun.
 
@@ -89,24 +90,24 @@ not_wants : (s : State) (block : List ℕ) (found : Result Content Flaw) → blo
 not_wants s block (Ok content) h = cc
 not_wants s block (Err flaw) h = cc
 
-few_at : (s : State) (rest : List ℕ) (head : Head) → head_of s.order rest ≡ head → found_at s rest head ≡ Wants → IsPassedAt s.order rest None → length rest < 2 ^ 20
-few_at s rest Short is h none = let small : length rest < 12 = seen_size s.order rest is in omega (arith, small)
-few_at s rest (Flawed flaw) is h none = absurd (let no : ◌≡◌ {A = Shown} (Bad (fault_of s.count flaw)) Wants = h in cc)
-few_at s rest (Stands order kind total) is h none = elim (cases_lt (length rest) total) [
+few_at : (links : LinkSet) (s : State) (rest : List ℕ) (head : Head) → head_of s.order rest ≡ head → found_at links s rest head ≡ Wants → IsPassedAt s.order rest None → length rest < 2 ^ 20
+few_at links s rest Short is h none = let small : length rest < 12 = seen_size s.order rest is in omega (arith, small)
+few_at links s rest (Flawed flaw) is h none = absurd (let no : ◌≡◌ {A = Shown} (Bad (fault_of s.count flaw)) Wants = h in cc)
+few_at links s rest (Stands order kind total) is h none = elim (cases_lt (length rest) total) [
   | inl short ↦
       let it = standing s.order rest order kind total is in
       let most : total ≤ 2 ^ 20 = at_most kind total it.lawful (λ e. none order total short (is ∙ ap (λ (k : Kind). Stands order k total) e)) in
       omega (arith, short, most)
-  | inr whole ↦ absurd (not_wants s (take total rest) (content_of s.interfaces order kind (take total rest)) (sym (found_whole s rest order kind total whole) ∙ h))
+  | inr whole ↦ absurd (not_wants s (take total rest) (content_of links s.interfaces order kind (take total rest)) (sym (found_whole links s rest order kind total whole) ∙ h))
 ]
 
-pub begins_whole : (s : State) (bytes : List ℕ) (frames : List FrameValue) (t : State) (rest : List ℕ) → AreRead s bytes frames t rest None → IsPassedAt t.order rest None → Begins s bytes frames t None rest
-begins_whole s bytes frames t rest read none = record {
+pub begins_whole : (links : LinkSet) (s : State) (bytes : List ℕ) (frames : List FrameValue) (t : State) (rest : List ℕ) → AreRead links s bytes frames t rest None → IsPassedAt t.order rest None → Begins links s bytes frames t None rest
+begins_whole links s bytes frames t rest read none = record {
   gone = [];
   was = refl;
   read = read.read;
   part = read.end;
-  few = few_at t rest (head_of t.order rest) refl (sym (step_at t rest (head_of t.order rest) refl) ∙ read.end) none;
+  few = few_at links t rest (head_of t.order rest) refl (sym (step_at links t rest (head_of t.order rest) refl) ∙ read.end) none;
 }
 
 -- the first bytes of a block that is passed over show its head
@@ -125,8 +126,8 @@ room_at order rest block at =
     let least : 12 ≤ block.total = at_least Other block.total it.lawful in
     least
 
-pub begins_passed : (s : State) (bytes : List ℕ) (frames : List FrameValue) (t : State) (rest : List ℕ) (block passed : Passed) (some : ℕ) → AreRead s bytes frames t rest None → IsPassedAt t.order rest (Some block) → IsLetGo block (length rest) passed some → Begins s bytes frames t (Some passed) (drop some rest)
-begins_passed s bytes frames t rest block passed some read at go =
+pub begins_passed : (links : LinkSet) (s : State) (bytes : List ℕ) (frames : List FrameValue) (t : State) (rest : List ℕ) (block passed : Passed) (some : ℕ) → AreRead links s bytes frames t rest None → IsPassedAt t.order rest (Some block) → IsLetGo block (length rest) passed some → Begins links s bytes frames t (Some passed) (drop some rest)
+begins_passed links s bytes frames t rest block passed some read at go =
     let it = standing t.order rest block.order Other block.total at.0 in
     let size : 8 ≤ length rest = it.size in
     let none : block.gone ≡ 0 = at.1 in
@@ -142,15 +143,15 @@ begins_passed s bytes frames t rest block passed some read at go =
     let same : Stands block.order Other block.total ≡ Stands passed.order Other passed.total = ap (λ (o : Order). Stands o Other block.total) (sym go.order_is) ∙ ap (λ n. Stands passed.order Other n) (sym go.total_is) in record {
       gone = take some rest;
       was = (head_front t.order block.order block.total rest some at.0 least most ∙ same, omega (arith, front, none, gone_is), omega (arith, room, total_is));
-      read = subst (λ (xs : List ℕ). ReadsTo pcapng s bytes frames t xs) whole read.read;
-      part = ap (λ xs. step t xs) (sym whole) ∙ read.end;
+      read = subst (λ (xs : List ℕ). ReadsTo (pcapng links) s bytes frames t xs) whole read.read;
+      part = ap (λ xs. step links t xs) (sym whole) ∙ read.end;
       few = omega (arith, back, left);
     }
 
 -- What comes of a block at hand.
 
-pub goes_within : (s : State) (block passed : Passed) (some : ℕ) (gone bytes : List ℕ) → WasPassed s.order (Some block) gone → block.gone + length bytes < block.total → IsLetGo block (length bytes) passed some → Begins s (gone ++ bytes) [] s (Some passed) (drop some bytes)
-goes_within s block passed some gone bytes was short go =
+pub goes_within : (links : LinkSet) (s : State) (block passed : Passed) (some : ℕ) (gone bytes : List ℕ) → WasPassed s.order (Some block) gone → block.gone + length bytes < block.total → IsLetGo block (length bytes) passed some → Begins links s (gone ++ bytes) [] s (Some passed) (drop some bytes)
+goes_within links s block passed some gone bytes was short go =
     let most : some ≤ length bytes = go.most in
     let left : length bytes < some + 4 = go.left in
     let gone_is : passed.gone ≡ block.gone + some = go.gone_is in
@@ -164,25 +165,25 @@ goes_within s block passed some gone bytes was short go =
     let same : Stands block.order Other block.total ≡ Stands passed.order Other passed.total = ap (λ (o : Order). Stands o Other block.total) (sym go.order_is) ∙ ap (λ n. Stands passed.order Other n) (sym go.total_is) in record {
       gone = gone ++ take some bytes;
       was = (head_kept s.order block gone (take some bytes) was ∙ same, omega (arith, len, had, front, gone_is), omega (arith, room, total_is));
-      read = subst (λ (xs : List ℕ). ReadsTo pcapng s (gone ++ bytes) [] s xs) whole (reads_nothing pcapng s (gone ++ bytes));
-      part = ap (λ xs. step s xs) (sym whole) ∙ passed_wants s block gone bytes was short;
+      read = subst (λ (xs : List ℕ). ReadsTo (pcapng links) s (gone ++ bytes) [] s xs) whole (reads_nothing (pcapng links) s (gone ++ bytes));
+      part = ap (λ xs. step links s xs) (sym whole) ∙ passed_wants links s block gone bytes was short;
       few = omega (arith, back, left);
     }
 
-pub goes_wrong : (s : State) (block : Passed) (gone bytes : List ℕ) → WasPassed s.order (Some block) gone → block.total ≤ block.gone + length bytes → (number_in block.order 4 (drop (block.total - block.gone - 4) bytes) ≡ block.total → ⊥) → Breaks s (gone ++ bytes) [] s BadLength
-goes_wrong s block gone bytes was whole other = record {
+pub goes_wrong : (links : LinkSet) (s : State) (block : Passed) (gone bytes : List ℕ) → WasPassed s.order (Some block) gone → block.total ≤ block.gone + length bytes → (number_in block.order 4 (drop (block.total - block.gone - 4) bytes) ≡ block.total → ⊥) → Breaks links s (gone ++ bytes) [] s BadLength
+goes_wrong links s block gone bytes was whole other = record {
   rest = gone ++ bytes;
-  read = reads_nothing pcapng s (gone ++ bytes);
-  bad = passed_flawed s block gone bytes was whole other;
+  read = reads_nothing (pcapng links) s (gone ++ bytes);
+  bad = passed_flawed links s block gone bytes was whole other;
 }
 
-pub goes_over : (s : State) (block : Passed) (gone bytes : List ℕ) (left : ℕ) (frames : List FrameValue) (t : State) (rest : List ℕ) (flaw : Option Flaw) → WasPassed s.order (Some block) gone → block.gone + left ≡ block.total → left ≤ length bytes → number_in block.order 4 (drop (left - 4) bytes) ≡ block.total → AreRead s (drop left bytes) frames t rest flaw → AreRead s (gone ++ bytes) frames t rest flaw
-goes_over s block gone bytes left frames t rest flaw was is whole last read =
+pub goes_over : (links : LinkSet) (s : State) (block : Passed) (gone bytes : List ℕ) (left : ℕ) (frames : List FrameValue) (t : State) (rest : List ℕ) (flaw : Option Flaw) → WasPassed s.order (Some block) gone → block.gone + left ≡ block.total → left ≤ length bytes → number_in block.order 4 (drop (left - 4) bytes) ≡ block.total → AreRead links s (drop left bytes) frames t rest flaw → AreRead links s (gone ++ bytes) frames t rest flaw
+goes_over links s block gone bytes left frames t rest flaw was is whole last read =
     let had : length gone ≡ block.gone = was.1 in
     let at : block.total ≡ length gone + left = omega (arith, had, is) in
     let behind : drop block.total (gone ++ bytes) ≡ drop left bytes = ap (λ n. drop n (gone ++ bytes)) at ∙ drop-append-add gone bytes left in
-    let first : ReadsTo pcapng s (gone ++ bytes) [] s (drop left bytes) = subst (λ (xs : List ℕ). ReadsTo pcapng s (gone ++ bytes) [] s xs) behind (reads_one pcapng s (gone ++ bytes) block.total [] s (passed_over s block gone bytes left was is whole last)) in record {
-      read = reads_on pcapng s (gone ++ bytes) [] frames s (drop left bytes) t rest first read.read;
+    let first : ReadsTo (pcapng links) s (gone ++ bytes) [] s (drop left bytes) = subst (λ (xs : List ℕ). ReadsTo (pcapng links) s (gone ++ bytes) [] s xs) behind (reads_one (pcapng links) s (gone ++ bytes) block.total [] s (passed_over links s block gone bytes left was is whole last)) in record {
+      read = reads_on (pcapng links) s (gone ++ bytes) [] frames s (drop left bytes) t rest first read.read;
       end = read.end;
     }
 
@@ -191,11 +192,11 @@ not_some None h = refl
 not_some (Some flaw) h = cc
 
 -- what a reader has is no more than it had and what came
-pub sound_of : (s : State) (bytes : List ℕ) (frames : List FrameValue) (t : State) (passed : Option Passed) (held : List ℕ) (flaw : Option Flaw) → AreReadOn s bytes frames t passed held flaw → IsGoneOn s (length bytes) t passed held flaw
-sound_of s bytes frames t passed held (Some flaw) on = tt
-sound_of s bytes frames t passed held None on =
-    let fit : length frames + length (on.gone ++ held) ≤ length bytes = reads_fit pcapng stepper s bytes frames t (on.gone ++ held) on.read in
-    let count : t.count ≡ s.count + length frames = reads_count pcapng stepper s bytes frames t (on.gone ++ held) on.read in
+pub sound_of : (links : LinkSet) (s : State) (bytes : List ℕ) (frames : List FrameValue) (t : State) (passed : Option Passed) (held : List ℕ) (flaw : Option Flaw) → AreReadOn links s bytes frames t passed held flaw → IsGoneOn s (length bytes) t passed held flaw
+sound_of links s bytes frames t passed held (Some flaw) on = tt
+sound_of links s bytes frames t passed held None on =
+    let fit : length frames + length (on.gone ++ held) ≤ length bytes = reads_fit (pcapng links) (stepper links) s bytes frames t (on.gone ++ held) on.read in
+    let count : t.count ≡ s.count + length frames = reads_count (pcapng links) (stepper links) s bytes frames t (on.gone ++ held) on.read in
     let len : length (on.gone ++ held) ≡ length on.gone + length held = length-append on.gone held in
     record { fits = omega (arith, fit, count, len); room = room_of t.order passed on.gone on.was; few = on.few } where
       room_of : (order : Option Order) (passed : Option Passed) (gone : List ℕ) → WasPassed order passed gone → HasRoom passed
@@ -207,10 +208,10 @@ sound_more : (s : State) (size more : ℕ) (t : State) (passed : Option Passed) 
 sound_more s size more t passed held (Some flaw) few on = tt
 sound_more s size more t passed held None few on = let fits : t.count + length held ≤ s.count + size = on.fits in record { fits = omega (arith, fits, few); room = on.room; few = on.few }
 
-pub sound_over : (s : State) (bytes : List ℕ) (left : ℕ) (frames : List FrameValue) (t : State) (passed : Option Passed) (held : List ℕ) (flaw : Option Flaw) → AreReadOn s (drop left bytes) frames t passed held flaw → IsGoneOn s (length bytes) t passed held flaw
-sound_over s bytes left frames t passed held flaw on =
+pub sound_over : (links : LinkSet) (s : State) (bytes : List ℕ) (left : ℕ) (frames : List FrameValue) (t : State) (passed : Option Passed) (held : List ℕ) (flaw : Option Flaw) → AreReadOn links s (drop left bytes) frames t passed held flaw → IsGoneOn s (length bytes) t passed held flaw
+sound_over links s bytes left frames t passed held flaw on =
     let len : length (drop left bytes) ≡ length bytes - left = length-drop left bytes in
-    sound_more s (length (drop left bytes)) (length bytes) t passed held flaw (omega (arith, len)) (sound_of s (drop left bytes) frames t passed held flaw on)
+    sound_more s (length (drop left bytes)) (length bytes) t passed held flaw (omega (arith, len)) (sound_of links s (drop left bytes) frames t passed held flaw on)
 
 pub sound_within : (s : State) (block passed : Passed) (some : ℕ) (bytes : List ℕ) → IsLetGo block (length bytes) passed some → IsSoundOn s (length bytes) s (Some passed) (drop some bytes)
 sound_within s block passed some bytes go =

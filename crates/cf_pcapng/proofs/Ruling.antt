@@ -1,11 +1,13 @@
 -- The step of a pcapng file finds what the rules say.
 use Rattle.std.proofs.Common.{◌≡◌, ◌⊎◌, inl, inr, ℕ, ◌<◌, ◌≤◌, ◌-◌, ◌%◌, ◌^◌, ◌==◌, ◌&&◌, eqb, eq-eqb, nat_le, Bool, true, false, List, length, take, drop, slice_get, Option, Some, None, Result, Ok, Err, refl, sym, ap, subst, ◌∙◌, arith}
-use Rattle.std.proofs.lemmas.Bool.{cases_lt, cases_eq}
+use Rattle.std.proofs.lemmas.Bool.{cases_lt, cases_eq, true≢false}
 use Rattle.std.proofs.lemmas.Bool.Decides.{nat_tests}
 use Rattle.byteorder.specs.Endian.{little_number}
 use Rattle.cf_lemmas.proofs.Truths.{both}
+use Rattle.cf_pcap.specs.declared.links.LinkSet.{LinkSet}
 use Rattle.cf_pcap.specs.declared.form.Order.{Order}
 use Rattle.cf_pcap.specs.Capture.{FrameValue, number_in}
+use Rattle.cf_pcap.specs.Links.{is_link, longest}
 use Rattle.cf_stream.specs.Format.{Wants, Bad, Takes}
 use Rattle.cf_pcapng.specs.declared.fault.Flaw.{Flaw}
 use Rattle.cf_pcapng.specs.declared.fault.Flaw.TheVariants.{BadMagic, BadVersion, BadLink, FrameTooLong, BadLength, NoInterface}
@@ -17,7 +19,7 @@ use Rattle.cf_pcapng.specs.declared.interfaces.Interface.{Interface}
 use Rattle.cf_pcapng.specs.declared.content.Packet.{Packet}
 use Rattle.cf_pcapng.specs.declared.content.Content.{Content}
 use Rattle.cf_pcapng.specs.declared.content.Content.TheVariants.{NewSection, NewInterface, Captures, Nothing}
-use Rattle.cf_pcapng.specs.Blocks.{is_section, kind_of, order_at, least, is_within, is_total, total_at, sized, in_order, block_head, head_of, is_link, packet_of, enhanced_packet, enhanced_of, simple_packet, simple_of, stated, last_total, content_of, interface_at}
+use Rattle.cf_pcapng.specs.Blocks.{is_section, kind_of, order_at, least, is_within, is_total, total_at, sized, in_order, block_head, head_of, packet_of, enhanced_packet, enhanced_of, simple_packet, simple_of, stated, last_total, content_of, interface_at}
 use Rattle.cf_pcapng.specs.File.{State, fault_of, frames_of, after, block_found, step}
 use Rattle.cf_pcapng.specs.Rules.{IsSectionType, IsType, BeginsAs, IsLawfulTotal, HasHead, BreaksRule1, BreaksRule2, BreaksRule3, HeadBreaks, IsLink, PacketBreaks, IsLawfulPacket, PacketOfBreaks, PacketOfStates, BlockBreaks, BlockStates, HasBlock, HasFlaw, IsBlock, StepsByRules}
 use Rattle.cf_pcapng.proofs.Heads.{head_section, head_block, section_long, block_long, head_short, section_short, block_short, at_least, at_most}
@@ -34,14 +36,11 @@ ok_err a b h = cc
 
 -- Rules 7 to 9.
 
-link_case : (link : ℕ) → (IsLink link × (is_link link ≡ true)) ⊎ ((IsLink link → ⊥) × (is_link link ≡ false))
-link_case link = elim (cases_eq link 1) [
-  | inl one ↦ inl (inl one, let test : eqb link 1 ≡ true = eq-eqb link 1 one in rw test refl)
-  | inr other ↦ elim (cases_eq link 113) [
-    | inl sll ↦ inl (inr sll, grind (arith, nat_tests))
-    | inr none ↦ inr ((λ h. elim h [ inl a ↦ other a | inr b ↦ none b ]), grind (arith, nat_tests))
-  ]
-]
+link_case : (links : LinkSet) (link : ℕ) → IsLink links link ⊎ (is_link links link ≡ false)
+link_case links link = by_test (is_link links link) refl where
+  by_test : (b : Bool) → is_link links link ≡ b → IsLink links link ⊎ (is_link links link ≡ false)
+  by_test true is = inl is
+  by_test false is = inr is
 
 test_le : (n m : ℕ) → n ≤ m → nat_le n m ≡ true
 test_le n m h = grind (arith, nat_tests)
@@ -49,58 +48,52 @@ test_le n m h = grind (arith, nat_tests)
 test_gt : (n m : ℕ) → m < n → nat_le n m ≡ false
 test_gt n m h = grind (arith, nat_tests)
 
-packet_other : (room : ℕ) (packet : Packet) → is_link packet.link ≡ false → packet_of room packet ≡ Err BadLink
+packet_other : (links : LinkSet) (room : ℕ) (packet : Packet) → is_link links packet.link ≡ false → packet_of links room packet ≡ Err BadLink
 unfolding packet_of
-packet_other room packet h = rw h refl
+packet_other links room packet h = rw h refl
 
-packet_long : (room : ℕ) (packet : Packet) → is_link packet.link ≡ true → 262144 < packet.caplen → packet_of room packet ≡ Err FrameTooLong
+packet_long : (links : LinkSet) (room : ℕ) (packet : Packet) → is_link links packet.link ≡ true → longest < packet.caplen → packet_of links room packet ≡ Err FrameTooLong
 unfolding packet_of
-packet_long room packet h long = rw (h, test_gt packet.caplen 262144 long) refl
+packet_long links room packet h long = rw (h, test_gt packet.caplen longest long) refl
 
-packet_over : (room : ℕ) (packet : Packet) → is_link packet.link ≡ true → packet.caplen ≤ 262144 → room < packet.caplen → packet_of room packet ≡ Err BadLength
+packet_over : (links : LinkSet) (room : ℕ) (packet : Packet) → is_link links packet.link ≡ true → packet.caplen ≤ longest → room < packet.caplen → packet_of links room packet ≡ Err BadLength
 unfolding packet_of
-packet_over room packet h short over = rw (h, test_le packet.caplen 262144 short, test_gt packet.caplen room over) refl
+packet_over links room packet h short over = rw (h, test_le packet.caplen longest short, test_gt packet.caplen room over) refl
 
-packet_fits : (room : ℕ) (packet : Packet) → is_link packet.link ≡ true → packet.caplen ≤ 262144 → packet.caplen ≤ room → packet_of room packet ≡ Ok (Captures packet)
+packet_fits : (links : LinkSet) (room : ℕ) (packet : Packet) → is_link links packet.link ≡ true → packet.caplen ≤ longest → packet.caplen ≤ room → packet_of links room packet ≡ Ok (Captures packet)
 unfolding packet_of
-packet_fits room packet h short fits = rw (h, test_le packet.caplen 262144 short, test_le packet.caplen room fits) refl
+packet_fits links room packet h short fits = rw (h, test_le packet.caplen longest short, test_le packet.caplen room fits) refl
 
 -- what a packet comes to
-data PacketCase (room : ℕ) (packet : Packet) : Type 0 where
-  Broken : (flaw : Flaw) → packet_of room packet ≡ Err flaw → PacketBreaks room packet flaw → PacketCase room packet
-  Lawful : packet_of room packet ≡ Ok (Captures packet) → IsLawfulPacket room packet → PacketCase room packet
+data PacketCase (links : LinkSet) (room : ℕ) (packet : Packet) : Type 0 where
+  Broken : (flaw : Flaw) → packet_of links room packet ≡ Err flaw → PacketBreaks links room packet flaw → PacketCase links room packet
+  Lawful : packet_of links room packet ≡ Ok (Captures packet) → IsLawfulPacket links room packet → PacketCase links room packet
 
-packet_case : (room : ℕ) (packet : Packet) → PacketCase room packet
-packet_case room packet = elim (link_case packet.link) [
-  | inr other ↦ Broken BadLink (packet_other room packet other.1) other.0
-  | inl is ↦ elim (cases_lt 262144 packet.caplen) [
-    | inl long ↦ Broken FrameTooLong (packet_long room packet is.1 long) (is.0, long)
+packet_case : (links : LinkSet) (room : ℕ) (packet : Packet) → PacketCase links room packet
+packet_case links room packet = elim (link_case links packet.link) [
+  | inr other ↦ Broken BadLink (packet_other links room packet other) (λ is. true≢false (sym is ∙ other))
+  | inl is ↦ elim (cases_lt longest packet.caplen) [
+    | inl long ↦ Broken FrameTooLong (packet_long links room packet is long) (is, long)
     | inr short ↦ elim (cases_lt room packet.caplen) [
-      | inl over ↦ Broken BadLength (packet_over room packet is.1 short over) (is.0, short, over)
-      | inr fits ↦ Lawful (packet_fits room packet is.1 short fits) (record { link_is = is.0; short = short; fits = fits })
+      | inl over ↦ Broken BadLength (packet_over links room packet is short over) (is, short, over)
+      | inr fits ↦ Lawful (packet_fits links room packet is short fits) (record { link_is = is; short = short; fits = fits })
     ]
   ]
 ]
 
-link_is_true : (link : ℕ) → IsLink link → is_link link ≡ true
-link_is_true link h = elim (link_case link) [
-  | inl is ↦ is.1
-  | inr other ↦ absurd (other.0 h)
+link_is_false : (links : LinkSet) (link : ℕ) → (IsLink links link → ⊥) → is_link links link ≡ false
+link_is_false links link h = elim (link_case links link) [
+  | inl is ↦ absurd (h is)
+  | inr other ↦ other
 ]
 
-link_is_false : (link : ℕ) → (IsLink link → ⊥) → is_link link ≡ false
-link_is_false link h = elim (link_case link) [
-  | inl is ↦ absurd (h is.0)
-  | inr other ↦ other.1
-]
-
-packet_broken : (room : ℕ) (packet : Packet) (flaw : Flaw) → PacketBreaks room packet flaw → packet_of room packet ≡ Err flaw
-packet_broken room packet BadLink h = packet_other room packet (link_is_false packet.link h)
-packet_broken room packet FrameTooLong h = packet_long room packet (link_is_true packet.link h.0) h.1
-packet_broken room packet BadLength h = packet_over room packet (link_is_true packet.link h.0) h.1 h.2
-packet_broken room packet BadMagic h = absurd h
-packet_broken room packet BadVersion h = absurd h
-packet_broken room packet NoInterface h = absurd h
+packet_broken : (links : LinkSet) (room : ℕ) (packet : Packet) (flaw : Flaw) → PacketBreaks links room packet flaw → packet_of links room packet ≡ Err flaw
+packet_broken links room packet BadLink h = packet_other links room packet (link_is_false links packet.link h)
+packet_broken links room packet FrameTooLong h = packet_long links room packet h.0 h.1
+packet_broken links room packet BadLength h = packet_over links room packet h.0 h.1 h.2
+packet_broken links room packet BadMagic h = absurd h
+packet_broken links room packet BadVersion h = absurd h
+packet_broken links room packet NoInterface h = absurd h
 
 -- Rules 5 to 9.
 
@@ -109,70 +102,70 @@ data BlockCase (found : Result Content Flaw) (Breaks : Flaw → Type 0) (States 
   Breaking : (flaw : Flaw) → found ≡ Err flaw → Breaks flaw → BlockCase found Breaks States
   Stating : (content : Content) → found ≡ Ok content → States content → BlockCase found Breaks States
 
-by_packet : (interface : Interface) (room : ℕ) (packet : Interface → Packet) → PacketCase room (packet interface) → BlockCase (packet_of room (packet interface)) (PacketOfBreaks (Some interface) room packet) (PacketOfStates (Some interface) room packet)
-by_packet interface room packet (Broken flaw is h) = Breaking flaw is h
-by_packet interface room packet (Lawful is h) = Stating (Captures (packet interface)) is (h, refl)
+by_packet : (links : LinkSet) (interface : Interface) (room : ℕ) (packet : Interface → Packet) → PacketCase links room (packet interface) → BlockCase (packet_of links room (packet interface)) (PacketOfBreaks links (Some interface) room packet) (PacketOfStates links (Some interface) room packet)
+by_packet links interface room packet (Broken flaw is h) = Breaking flaw is h
+by_packet links interface room packet (Lawful is h) = Stating (Captures (packet interface)) is (h, refl)
 
-enhanced_case : (found : Option Interface) (order : Order) (block : List ℕ) → BlockCase (enhanced_of found order block) (PacketOfBreaks found (length block - 32) (λ i. enhanced_packet i order block)) (PacketOfStates found (length block - 32) (λ i. enhanced_packet i order block))
-enhanced_case None order block = Breaking NoInterface refl refl
-enhanced_case (Some interface) order block = by_packet interface (length block - 32) (λ i. enhanced_packet i order block) (packet_case (length block - 32) (enhanced_packet interface order block))
+enhanced_case : (links : LinkSet) (found : Option Interface) (order : Order) (block : List ℕ) → BlockCase (enhanced_of links found order block) (PacketOfBreaks links found (length block - 32) (λ i. enhanced_packet i order block)) (PacketOfStates links found (length block - 32) (λ i. enhanced_packet i order block))
+enhanced_case links None order block = Breaking NoInterface refl refl
+enhanced_case links (Some interface) order block = by_packet links interface (length block - 32) (λ i. enhanced_packet i order block) (packet_case links (length block - 32) (enhanced_packet interface order block))
 
-simple_case : (found : Option Interface) (order : Order) (block : List ℕ) → BlockCase (simple_of found order block) (PacketOfBreaks found (length block - 16) (λ i. simple_packet i order block)) (PacketOfStates found (length block - 16) (λ i. simple_packet i order block))
-simple_case None order block = Breaking NoInterface refl refl
-simple_case (Some interface) order block = by_packet interface (length block - 16) (λ i. simple_packet i order block) (packet_case (length block - 16) (simple_packet interface order block))
+simple_case : (links : LinkSet) (found : Option Interface) (order : Order) (block : List ℕ) → BlockCase (simple_of links found order block) (PacketOfBreaks links found (length block - 16) (λ i. simple_packet i order block)) (PacketOfStates links found (length block - 16) (λ i. simple_packet i order block))
+simple_case links None order block = Breaking NoInterface refl refl
+simple_case links (Some interface) order block = by_packet links interface (length block - 16) (λ i. simple_packet i order block) (packet_case links (length block - 16) (simple_packet interface order block))
 
-section_true : (interfaces : List Interface) (order : Order) (block : List ℕ) → number_in order 2 (drop 12 block) ≡ 1 → stated interfaces order SectionHeader block ≡ Ok (NewSection order)
-section_true interfaces order block h = let test : eqb (number_in order 2 (drop 12 block)) 1 ≡ true = eq-eqb (number_in order 2 (drop 12 block)) 1 h in rw test refl
+section_true : (links : LinkSet) (interfaces : List Interface) (order : Order) (block : List ℕ) → number_in order 2 (drop 12 block) ≡ 1 → stated links interfaces order SectionHeader block ≡ Ok (NewSection order)
+section_true links interfaces order block h = let test : eqb (number_in order 2 (drop 12 block)) 1 ≡ true = eq-eqb (number_in order 2 (drop 12 block)) 1 h in rw test refl
 
-section_false : (interfaces : List Interface) (order : Order) (block : List ℕ) → (number_in order 2 (drop 12 block) ≡ 1 → ⊥) → stated interfaces order SectionHeader block ≡ Err BadVersion
-section_false interfaces order block h = let test : eqb (number_in order 2 (drop 12 block)) 1 ≡ false = grind (arith, nat_tests) in rw test refl
+section_false : (links : LinkSet) (interfaces : List Interface) (order : Order) (block : List ℕ) → (number_in order 2 (drop 12 block) ≡ 1 → ⊥) → stated links interfaces order SectionHeader block ≡ Err BadVersion
+section_false links interfaces order block h = let test : eqb (number_in order 2 (drop 12 block)) 1 ≡ false = grind (arith, nat_tests) in rw test refl
 
-stated_case : (interfaces : List Interface) (order : Order) (kind : Kind) (block : List ℕ) → BlockCase (stated interfaces order kind block) (BlockBreaks interfaces order kind block) (BlockStates interfaces order kind block)
-stated_case interfaces order SectionHeader block = elim (cases_eq (number_in order 2 (drop 12 block)) 1) [
-  | inl one ↦ Stating (NewSection order) (section_true interfaces order block one) (one, refl)
-  | inr other ↦ Breaking BadVersion (section_false interfaces order block other) (refl, other)
+stated_case : (links : LinkSet) (interfaces : List Interface) (order : Order) (kind : Kind) (block : List ℕ) → BlockCase (stated links interfaces order kind block) (BlockBreaks links interfaces order kind block) (BlockStates links interfaces order kind block)
+stated_case links interfaces order SectionHeader block = elim (cases_eq (number_in order 2 (drop 12 block)) 1) [
+  | inl one ↦ Stating (NewSection order) (section_true links interfaces order block one) (one, refl)
+  | inr other ↦ Breaking BadVersion (section_false links interfaces order block other) (refl, other)
 ]
-stated_case interfaces order InterfaceDescription block = Stating (NewInterface (interface_at order block)) refl refl
-stated_case interfaces order EnhancedPacket block = enhanced_case (slice_get interfaces (number_in order 4 (drop 8 block))) order block
-stated_case interfaces order SimplePacket block = simple_case (slice_get interfaces 0) order block
-stated_case interfaces order Other block = Stating Nothing refl refl
+stated_case links interfaces order InterfaceDescription block = Stating (NewInterface (interface_at order block)) refl refl
+stated_case links interfaces order EnhancedPacket block = enhanced_case links (slice_get interfaces (number_in order 4 (drop 8 block))) order block
+stated_case links interfaces order SimplePacket block = simple_case links (slice_get interfaces 0) order block
+stated_case links interfaces order Other block = Stating Nothing refl refl
 
-packet_of_broken : (found : Option Interface) (room : ℕ) (packet : Interface → Packet) (flaw : Flaw) (result : Result Content Flaw) → ((is : found ≡ None) → result ≡ Err NoInterface) → ((i : Interface) → found ≡ Some i → result ≡ packet_of room (packet i)) → PacketOfBreaks found room packet flaw → result ≡ Err flaw
-packet_of_broken None room packet flaw result none some h = none refl ∙ ap (λ (f : Flaw). Err f) (sym h)
-packet_of_broken (Some interface) room packet flaw result none some h = some interface refl ∙ packet_broken room (packet interface) flaw h
+packet_of_broken : (links : LinkSet) (found : Option Interface) (room : ℕ) (packet : Interface → Packet) (flaw : Flaw) (result : Result Content Flaw) → ((is : found ≡ None) → result ≡ Err NoInterface) → ((i : Interface) → found ≡ Some i → result ≡ packet_of links room (packet i)) → PacketOfBreaks links found room packet flaw → result ≡ Err flaw
+packet_of_broken links None room packet flaw result none some h = none refl ∙ ap (λ (f : Flaw). Err f) (sym h)
+packet_of_broken links (Some interface) room packet flaw result none some h = some interface refl ∙ packet_broken links room (packet interface) flaw h
 
-packet_of_lawful : (found : Option Interface) (room : ℕ) (packet : Interface → Packet) (content : Content) (result : Result Content Flaw) → ((i : Interface) → found ≡ Some i → result ≡ packet_of room (packet i)) → PacketOfStates found room packet content → result ≡ Ok content
-packet_of_lawful None room packet content result some h = absurd h
-packet_of_lawful (Some interface) room packet content result some h =
-    some interface refl ∙ packet_fits room (packet interface) (link_is_true (packet interface).link h.0.link_is) h.0.short h.0.fits ∙ ap (λ (c : Content). Ok c) (sym h.1)
+packet_of_lawful : (links : LinkSet) (found : Option Interface) (room : ℕ) (packet : Interface → Packet) (content : Content) (result : Result Content Flaw) → ((i : Interface) → found ≡ Some i → result ≡ packet_of links room (packet i)) → PacketOfStates links found room packet content → result ≡ Ok content
+packet_of_lawful links None room packet content result some h = absurd h
+packet_of_lawful links (Some interface) room packet content result some h =
+    some interface refl ∙ packet_fits links room (packet interface) h.0.link_is h.0.short h.0.fits ∙ ap (λ (c : Content). Ok c) (sym h.1)
 
-stated_broken : (interfaces : List Interface) (order : Order) (kind : Kind) (block : List ℕ) (flaw : Flaw) → BlockBreaks interfaces order kind block flaw → stated interfaces order kind block ≡ Err flaw
-stated_broken interfaces order SectionHeader block flaw h = section_false interfaces order block h.1 ∙ ap (λ (f : Flaw). Err f) (sym h.0)
-stated_broken interfaces order InterfaceDescription block flaw h = absurd h
-stated_broken interfaces order EnhancedPacket block flaw h =
-    packet_of_broken (slice_get interfaces (number_in order 4 (drop 8 block))) (length block - 32) (λ i. enhanced_packet i order block) flaw (stated interfaces order EnhancedPacket block) (λ is. ap (λ (o : Option Interface). enhanced_of o order block) is) (λ i is. ap (λ (o : Option Interface). enhanced_of o order block) is) h
-stated_broken interfaces order SimplePacket block flaw h =
-    packet_of_broken (slice_get interfaces 0) (length block - 16) (λ i. simple_packet i order block) flaw (stated interfaces order SimplePacket block) (λ is. ap (λ (o : Option Interface). simple_of o order block) is) (λ i is. ap (λ (o : Option Interface). simple_of o order block) is) h
-stated_broken interfaces order Other block flaw h = absurd h
+stated_broken : (links : LinkSet) (interfaces : List Interface) (order : Order) (kind : Kind) (block : List ℕ) (flaw : Flaw) → BlockBreaks links interfaces order kind block flaw → stated links interfaces order kind block ≡ Err flaw
+stated_broken links interfaces order SectionHeader block flaw h = section_false links interfaces order block h.1 ∙ ap (λ (f : Flaw). Err f) (sym h.0)
+stated_broken links interfaces order InterfaceDescription block flaw h = absurd h
+stated_broken links interfaces order EnhancedPacket block flaw h =
+    packet_of_broken links (slice_get interfaces (number_in order 4 (drop 8 block))) (length block - 32) (λ i. enhanced_packet i order block) flaw (stated links interfaces order EnhancedPacket block) (λ is. ap (λ (o : Option Interface). enhanced_of links o order block) is) (λ i is. ap (λ (o : Option Interface). enhanced_of links o order block) is) h
+stated_broken links interfaces order SimplePacket block flaw h =
+    packet_of_broken links (slice_get interfaces 0) (length block - 16) (λ i. simple_packet i order block) flaw (stated links interfaces order SimplePacket block) (λ is. ap (λ (o : Option Interface). simple_of links o order block) is) (λ i is. ap (λ (o : Option Interface). simple_of links o order block) is) h
+stated_broken links interfaces order Other block flaw h = absurd h
 
-stated_lawful : (interfaces : List Interface) (order : Order) (kind : Kind) (block : List ℕ) (content : Content) → BlockStates interfaces order kind block content → stated interfaces order kind block ≡ Ok content
-stated_lawful interfaces order SectionHeader block content h = section_true interfaces order block h.0 ∙ ap (λ (c : Content). Ok c) (sym h.1)
-stated_lawful interfaces order InterfaceDescription block content h = ap (λ (c : Content). Ok c) (sym h)
-stated_lawful interfaces order EnhancedPacket block content h =
-    packet_of_lawful (slice_get interfaces (number_in order 4 (drop 8 block))) (length block - 32) (λ i. enhanced_packet i order block) content (stated interfaces order EnhancedPacket block) (λ i is. ap (λ (o : Option Interface). enhanced_of o order block) is) h
-stated_lawful interfaces order SimplePacket block content h =
-    packet_of_lawful (slice_get interfaces 0) (length block - 16) (λ i. simple_packet i order block) content (stated interfaces order SimplePacket block) (λ i is. ap (λ (o : Option Interface). simple_of o order block) is) h
-stated_lawful interfaces order Other block content h = ap (λ (c : Content). Ok c) (sym h)
+stated_lawful : (links : LinkSet) (interfaces : List Interface) (order : Order) (kind : Kind) (block : List ℕ) (content : Content) → BlockStates links interfaces order kind block content → stated links interfaces order kind block ≡ Ok content
+stated_lawful links interfaces order SectionHeader block content h = section_true links interfaces order block h.0 ∙ ap (λ (c : Content). Ok c) (sym h.1)
+stated_lawful links interfaces order InterfaceDescription block content h = ap (λ (c : Content). Ok c) (sym h)
+stated_lawful links interfaces order EnhancedPacket block content h =
+    packet_of_lawful links (slice_get interfaces (number_in order 4 (drop 8 block))) (length block - 32) (λ i. enhanced_packet i order block) content (stated links interfaces order EnhancedPacket block) (λ i is. ap (λ (o : Option Interface). enhanced_of links o order block) is) h
+stated_lawful links interfaces order SimplePacket block content h =
+    packet_of_lawful links (slice_get interfaces 0) (length block - 16) (λ i. simple_packet i order block) content (stated links interfaces order SimplePacket block) (λ i is. ap (λ (o : Option Interface). simple_of links o order block) is) h
+stated_lawful links interfaces order Other block content h = ap (λ (c : Content). Ok c) (sym h)
 
 -- Rule 4.
 
-closed : (interfaces : List Interface) (order : Order) (kind : Kind) (block : List ℕ) → last_total order block ≡ length block → content_of interfaces order kind block ≡ stated interfaces order kind block
+closed : (links : LinkSet) (interfaces : List Interface) (order : Order) (kind : Kind) (block : List ℕ) → last_total order block ≡ length block → content_of links interfaces order kind block ≡ stated links interfaces order kind block
 unfolding content_of
-closed interfaces order kind block h = let same : eqb (last_total order block) (length block) ≡ true = eq-eqb (last_total order block) (length block) h in rw same refl
+closed links interfaces order kind block h = let same : eqb (last_total order block) (length block) ≡ true = eq-eqb (last_total order block) (length block) h in rw same refl
 
-not_closed : (interfaces : List Interface) (order : Order) (kind : Kind) (block : List ℕ) → (last_total order block ≡ length block → ⊥) → content_of interfaces order kind block ≡ Err BadLength
+not_closed : (links : LinkSet) (interfaces : List Interface) (order : Order) (kind : Kind) (block : List ℕ) → (last_total order block ≡ length block → ⊥) → content_of links interfaces order kind block ≡ Err BadLength
 unfolding content_of
-not_closed interfaces order kind block h = let other : eqb (last_total order block) (length block) ≡ false = grind (arith, nat_tests) in rw other refl
+not_closed links interfaces order kind block h = let other : eqb (last_total order block) (length block) ≡ false = grind (arith, nat_tests) in rw other refl
 
 -- Rules 1 to 3.
 
@@ -329,55 +322,55 @@ head_case section bytes = elim (cases_lt (length bytes) 4) [
 -- The step.
 
 -- what the bytes at the front come to
-data StepCase (s : State) (bytes : List ℕ) : Type 0 where
-  Wanting : step s bytes ≡ Wants → StepCase s bytes
-  Flaws : (flaw : Flaw) → step s bytes ≡ Bad (fault_of s.count flaw) → HasFlaw s bytes flaw → StepCase s bytes
-  Block : (n : ℕ) (content : Content) → step s bytes ≡ Takes n (frames_of s.count content (take n bytes)) (after s content) → IsBlock s bytes n (frames_of s.count content (take n bytes)) (after s content) → StepCase s bytes
+data StepCase (links : LinkSet) (s : State) (bytes : List ℕ) : Type 0 where
+  Wanting : step links s bytes ≡ Wants → StepCase links s bytes
+  Flaws : (flaw : Flaw) → step links s bytes ≡ Bad (fault_of s.count flaw) → HasFlaw links s bytes flaw → StepCase links s bytes
+  Block : (n : ℕ) (content : Content) → step links s bytes ≡ Takes n (frames_of s.count content (take n bytes)) (after s content) → IsBlock links s bytes n (frames_of s.count content (take n bytes)) (after s content) → StepCase links s bytes
 
-step_content : (s : State) (bytes : List ℕ) (order : Order) (kind : Kind) (total : ℕ) (found : Result Content Flaw) → HasBlock s.order bytes order kind total → content_of s.interfaces order kind (take total bytes) ≡ found → step s bytes ≡ block_found s (take total bytes) found
-step_content s bytes order kind total found h is =
-    step_at s bytes (Stands order kind total) (head_stands s.order bytes order kind total h.head)
-    ∙ found_whole s bytes order kind total h.whole
+step_content : (links : LinkSet) (s : State) (bytes : List ℕ) (order : Order) (kind : Kind) (total : ℕ) (found : Result Content Flaw) → HasBlock s.order bytes order kind total → content_of links s.interfaces order kind (take total bytes) ≡ found → step links s bytes ≡ block_found s (take total bytes) found
+step_content links s bytes order kind total found h is =
+    step_at links s bytes (Stands order kind total) (head_stands s.order bytes order kind total h.head)
+    ∙ found_whole links s bytes order kind total h.whole
     ∙ ap (λ (x : Result Content Flaw). block_found s (take total bytes) x) is
 
-step_block : (s : State) (bytes : List ℕ) (order : Order) (kind : Kind) (total : ℕ) (content : Content) → HasBlock s.order bytes order kind total → last_total order (take total bytes) ≡ total → BlockStates s.interfaces order kind (take total bytes) content → step s bytes ≡ Takes total (frames_of s.count content (take total bytes)) (after s content)
-step_block s bytes order kind total content h last states =
+step_block : (links : LinkSet) (s : State) (bytes : List ℕ) (order : Order) (kind : Kind) (total : ℕ) (content : Content) → HasBlock s.order bytes order kind total → last_total order (take total bytes) ≡ total → BlockStates links s.interfaces order kind (take total bytes) content → step links s bytes ≡ Takes total (frames_of s.count content (take total bytes)) (after s content)
+step_block links s bytes order kind total content h last states =
     let size : length (take total bytes) ≡ total = length_front total bytes h.whole in
-    step_content s bytes order kind total (Ok content) h (closed s.interfaces order kind (take total bytes) (last ∙ sym size) ∙ stated_lawful s.interfaces order kind (take total bytes) content states)
+    step_content links s bytes order kind total (Ok content) h (closed links s.interfaces order kind (take total bytes) (last ∙ sym size) ∙ stated_lawful links s.interfaces order kind (take total bytes) content states)
     ∙ ap (λ n. Takes n (frames_of s.count content (take total bytes)) (after s content)) size
 
-step_flawed : (s : State) (bytes : List ℕ) (flaw : Flaw) → HasFlaw s bytes flaw → step s bytes ≡ Bad (fault_of s.count flaw)
-step_flawed s bytes flaw (inl h) = step_at s bytes (Flawed flaw) (head_flawed s.order bytes flaw h)
-step_flawed s bytes flaw (inr (inl h)) =
+step_flawed : (links : LinkSet) (s : State) (bytes : List ℕ) (flaw : Flaw) → HasFlaw links s bytes flaw → step links s bytes ≡ Bad (fault_of s.count flaw)
+step_flawed links s bytes flaw (inl h) = step_at links s bytes (Flawed flaw) (head_flawed s.order bytes flaw h)
+step_flawed links s bytes flaw (inr (inl h)) =
     let it = h.1 in
     let size : length (take it.total bytes) ≡ it.total = length_front it.total bytes it.block.whole in
-    step_content s bytes it.order it.kind it.total (Err BadLength) it.block (not_closed s.interfaces it.order it.kind (take it.total bytes) (λ e. it.last (e ∙ size)))
+    step_content links s bytes it.order it.kind it.total (Err BadLength) it.block (not_closed links s.interfaces it.order it.kind (take it.total bytes) (λ e. it.last (e ∙ size)))
     ∙ ap (λ (f : Flaw). Bad (fault_of s.count f)) (sym h.0)
-step_flawed s bytes flaw (inr (inr it)) =
+step_flawed links s bytes flaw (inr (inr it)) =
     let size : length (take it.total bytes) ≡ it.total = length_front it.total bytes it.block.whole in
-    step_content s bytes it.order it.kind it.total (Err flaw) it.block (closed s.interfaces it.order it.kind (take it.total bytes) (it.last ∙ sym size) ∙ stated_broken s.interfaces it.order it.kind (take it.total bytes) flaw it.breaks)
+    step_content links s bytes it.order it.kind it.total (Err flaw) it.block (closed links s.interfaces it.order it.kind (take it.total bytes) (it.last ∙ sym size) ∙ stated_broken links s.interfaces it.order it.kind (take it.total bytes) flaw it.breaks)
 
-by_content : (s : State) (bytes : List ℕ) (order : Order) (kind : Kind) (total : ℕ) → HasBlock s.order bytes order kind total → last_total order (take total bytes) ≡ total → BlockCase (stated s.interfaces order kind (take total bytes)) (BlockBreaks s.interfaces order kind (take total bytes)) (BlockStates s.interfaces order kind (take total bytes)) → StepCase s bytes
-by_content s bytes order kind total block last (Breaking flaw is h) =
-    let breaks : HasFlaw s bytes flaw = inr (inr (record { order = order; kind = kind; total = total; block = block; last = last; breaks = h })) in
-    Flaws flaw (step_flawed s bytes flaw breaks) breaks
-by_content s bytes order kind total block last (Stating content is h) =
-    Block total content (step_block s bytes order kind total content block last h) (record { order = order; kind = kind; content = content; block = block; last = last; states = h; frames_are = refl; after_is = refl })
+by_content : (links : LinkSet) (s : State) (bytes : List ℕ) (order : Order) (kind : Kind) (total : ℕ) → HasBlock s.order bytes order kind total → last_total order (take total bytes) ≡ total → BlockCase (stated links s.interfaces order kind (take total bytes)) (BlockBreaks links s.interfaces order kind (take total bytes)) (BlockStates links s.interfaces order kind (take total bytes)) → StepCase links s bytes
+by_content links s bytes order kind total block last (Breaking flaw is h) =
+    let breaks : HasFlaw links s bytes flaw = inr (inr (record { order = order; kind = kind; total = total; block = block; last = last; breaks = h })) in
+    Flaws flaw (step_flawed links s bytes flaw breaks) breaks
+by_content links s bytes order kind total block last (Stating content is h) =
+    Block total content (step_block links s bytes order kind total content block last h) (record { order = order; kind = kind; content = content; block = block; last = last; states = h; frames_are = refl; after_is = refl })
 
-by_block : (s : State) (bytes : List ℕ) (order : Order) (kind : Kind) (total : ℕ) → HasBlock s.order bytes order kind total → StepCase s bytes
-by_block s bytes order kind total block = elim (cases_eq (last_total order (take total bytes)) total) [
-  | inl last ↦ by_content s bytes order kind total block last (stated_case s.interfaces order kind (take total bytes))
+by_block : (links : LinkSet) (s : State) (bytes : List ℕ) (order : Order) (kind : Kind) (total : ℕ) → HasBlock s.order bytes order kind total → StepCase links s bytes
+by_block links s bytes order kind total block = elim (cases_eq (last_total order (take total bytes)) total) [
+  | inl last ↦ by_content links s bytes order kind total block last (stated_case links s.interfaces order kind (take total bytes))
   | inr other ↦
-      let breaks : HasFlaw s bytes BadLength = inr (inl (refl, record { order = order; kind = kind; total = total; block = block; last = other })) in
-      Flaws BadLength (step_flawed s bytes BadLength breaks) breaks
+      let breaks : HasFlaw links s bytes BadLength = inr (inl (refl, record { order = order; kind = kind; total = total; block = block; last = other })) in
+      Flaws BadLength (step_flawed links s bytes BadLength breaks) breaks
 ]
 
-by_head : (s : State) (bytes : List ℕ) → HeadCase s.order bytes → StepCase s bytes
-by_head s bytes (Unseen is) = Wanting (step_at s bytes Short is)
-by_head s bytes (Breaking flaw is h) = Flaws flaw (step_flawed s bytes flaw (inl h)) (inl h)
-by_head s bytes (Standing order kind total is h) = elim (cases_lt (length bytes) total) [
-  | inl short ↦ Wanting (step_at s bytes (Stands order kind total) is ∙ found_short s bytes order kind total short)
-  | inr whole ↦ by_block s bytes order kind total (record { head = h; whole = whole })
+by_head : (links : LinkSet) (s : State) (bytes : List ℕ) → HeadCase s.order bytes → StepCase links s bytes
+by_head links s bytes (Unseen is) = Wanting (step_at links s bytes Short is)
+by_head links s bytes (Breaking flaw is h) = Flaws flaw (step_flawed links s bytes flaw (inl h)) (inl h)
+by_head links s bytes (Standing order kind total is h) = elim (cases_lt (length bytes) total) [
+  | inl short ↦ Wanting (step_at links s bytes (Stands order kind total) is ∙ found_short links s bytes order kind total short)
+  | inr whole ↦ by_block links s bytes order kind total (record { head = h; whole = whole })
 ]
 
 wants_bad : (fault : NgFault) → ◌≡◌ {A = Shown} Wants (Bad fault) → ⊥
@@ -401,31 +394,31 @@ takes_frames n m a b t u h = cc
 takes_state : (n m : ℕ) (a b : List FrameValue) (t u : State) → ◌≡◌ {A = Shown} (Takes n a t) (Takes m b u) → t ≡ u
 takes_state n m a b t u h = cc
 
-bad_by_rules : (s : State) (bytes : List ℕ) (fault : NgFault) → step s bytes ≡ Bad fault → StepCase s bytes → (flaw : Flaw) × (fault ≡ fault_of s.count flaw) × HasFlaw s bytes flaw
-bad_by_rules s bytes fault h (Wanting is) = absurd (wants_bad fault (sym is ∙ h))
-bad_by_rules s bytes fault h (Flaws flaw is breaks) = (flaw, bad_same fault (fault_of s.count flaw) (sym h ∙ is), breaks)
-bad_by_rules s bytes fault h (Block n content is block) = absurd (bad_takes fault n (frames_of s.count content (take n bytes)) (after s content) (sym h ∙ is))
+bad_by_rules : (links : LinkSet) (s : State) (bytes : List ℕ) (fault : NgFault) → step links s bytes ≡ Bad fault → StepCase links s bytes → (flaw : Flaw) × (fault ≡ fault_of s.count flaw) × HasFlaw links s bytes flaw
+bad_by_rules links s bytes fault h (Wanting is) = absurd (wants_bad fault (sym is ∙ h))
+bad_by_rules links s bytes fault h (Flaws flaw is breaks) = (flaw, bad_same fault (fault_of s.count flaw) (sym h ∙ is), breaks)
+bad_by_rules links s bytes fault h (Block n content is block) = absurd (bad_takes fault n (frames_of s.count content (take n bytes)) (after s content) (sym h ∙ is))
 
-takes_by_rules : (s : State) (bytes : List ℕ) (n : ℕ) (frames : List FrameValue) (t : State) → step s bytes ≡ Takes n frames t → StepCase s bytes → IsBlock s bytes n frames t
-takes_by_rules s bytes n frames t h (Wanting is) = absurd (wants_takes n frames t (sym is ∙ h))
-takes_by_rules s bytes n frames t h (Flaws flaw is breaks) = absurd (bad_takes (fault_of s.count flaw) n frames t (sym is ∙ h))
-takes_by_rules s bytes n frames t h (Block m content is block) =
+takes_by_rules : (links : LinkSet) (s : State) (bytes : List ℕ) (n : ℕ) (frames : List FrameValue) (t : State) → step links s bytes ≡ Takes n frames t → StepCase links s bytes → IsBlock links s bytes n frames t
+takes_by_rules links s bytes n frames t h (Wanting is) = absurd (wants_takes n frames t (sym is ∙ h))
+takes_by_rules links s bytes n frames t h (Flaws flaw is breaks) = absurd (bad_takes (fault_of s.count flaw) n frames t (sym is ∙ h))
+takes_by_rules links s bytes n frames t h (Block m content is block) =
     let given : List FrameValue = frames_of s.count content (take m bytes) in
     let next : State = after s content in
-    subst (λ (k : ℕ). IsBlock s bytes k frames t) (takes_size m n given frames next t (sym is ∙ h))
-    (subst (λ (x : List FrameValue). IsBlock s bytes m x t) (takes_frames m n given frames next t (sym is ∙ h))
-    (subst (λ (x : State). IsBlock s bytes m given x) (takes_state m n given frames next t (sym is ∙ h)) block))
+    subst (λ (k : ℕ). IsBlock links s bytes k frames t) (takes_size m n given frames next t (sym is ∙ h))
+    (subst (λ (x : List FrameValue). IsBlock links s bytes m x t) (takes_frames m n given frames next t (sym is ∙ h))
+    (subst (λ (x : State). IsBlock links s bytes m given x) (takes_state m n given frames next t (sym is ∙ h)) block))
 
-block_taken : (s : State) (bytes : List ℕ) (n : ℕ) (frames : List FrameValue) (t : State) → IsBlock s bytes n frames t → step s bytes ≡ Takes n frames t
-block_taken s bytes n frames t h =
-    step_block s bytes h.order h.kind n h.content h.block h.last h.states
+block_taken : (links : LinkSet) (s : State) (bytes : List ℕ) (n : ℕ) (frames : List FrameValue) (t : State) → IsBlock links s bytes n frames t → step links s bytes ≡ Takes n frames t
+block_taken links s bytes n frames t h =
+    step_block links s bytes h.order h.kind n h.content h.block h.last h.states
     ∙ ap (λ (x : List FrameValue). Takes n x (after s h.content)) (sym h.frames_are)
     ∙ ap (λ (x : State). Takes n frames x) (sym h.after_is)
 
-pub steps_by_rules : (s : State) (bytes : List ℕ) → StepsByRules s bytes
-steps_by_rules s bytes = record {
-  bad = λ fault h. bad_by_rules s bytes fault h (by_head s bytes (head_case s.order bytes));
-  flaw = step_flawed s bytes;
-  takes = λ n frames t h. takes_by_rules s bytes n frames t h (by_head s bytes (head_case s.order bytes));
-  block = block_taken s bytes;
+pub steps_by_rules : (links : LinkSet) (s : State) (bytes : List ℕ) → StepsByRules links s bytes
+steps_by_rules links s bytes = record {
+  bad = λ fault h. bad_by_rules links s bytes fault h (by_head links s bytes (head_case s.order bytes));
+  flaw = step_flawed links s bytes;
+  takes = λ n frames t h. takes_by_rules links s bytes n frames t h (by_head links s bytes (head_case s.order bytes));
+  block = block_taken links s bytes;
 }

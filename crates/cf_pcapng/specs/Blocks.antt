@@ -2,9 +2,11 @@
 -- bytes, and what a whole block states.
 use Rattle.std.specs.Prelude.{ℕ, ◌+◌, ◌-◌, ◌*◌, ◌/◌, ◌%◌, ◌^◌, ◌==◌, ◌&&◌, min, nat_lt, nat_le, if◌then◌else◌, Bool, true, false, List, length, drop, slice_range, slice_index, slice_get, Option, Some, None, Result, Ok, Err, zero, suc}
 use Rattle.byteorder.specs.Endian.{little_number, big_number}
+use Rattle.cf_pcap.specs.declared.links.LinkSet.{LinkSet}
 use Rattle.cf_pcap.specs.declared.form.Order.{Order}
 use Rattle.cf_pcap.specs.declared.form.Order.TheVariants.{Little, Big}
 use Rattle.cf_pcap.specs.Capture.{number_in}
+use Rattle.cf_pcap.specs.Links.{is_link, longest}
 use Rattle.cf_pcapng.specs.declared.fault.Flaw.{Flaw}
 use Rattle.cf_pcapng.specs.declared.fault.Flaw.TheVariants.{BadMagic, BadVersion, BadLink, FrameTooLong, BadLength, NoInterface}
 use Rattle.cf_pcapng.specs.declared.head.Kind.{Kind}
@@ -135,14 +137,10 @@ interface_at order block = record {
   resolution = resolution_of order (slice_range block 16 (length block - 4));
 }
 
--- LINKTYPE_ETHERNET, 1, and LINKTYPE_LINUX_SLL, 113
-abbrev pub is_link : ℕ → Bool
-is_link link = if link == 1 then true else link == 113
-
 -- rules 7 to 9, of a packet in a block with room for so many bytes
-unfoldable pub packet_of : ℕ → Packet → Result Content Flaw
-packet_of room packet =
-    if is_link packet.link then (if nat_le packet.caplen 262144 then (if nat_le packet.caplen room then Ok (Captures packet) else Err BadLength) else Err FrameTooLong)
+unfoldable pub packet_of : LinkSet → ℕ → Packet → Result Content Flaw
+packet_of links room packet =
+    if is_link links packet.link then (if nat_le packet.caplen longest then (if nat_le packet.caplen room then Ok (Captures packet) else Err BadLength) else Err FrameTooLong)
     else Err BadLink
 
 -- the time of an enhanced packet: the high and the low 32 bits
@@ -160,9 +158,9 @@ enhanced_packet interface order block = record {
 }
 
 -- rule 6 is on its interface
-abbrev pub enhanced_of : Option Interface → Order → List ℕ → Result Content Flaw
-enhanced_of None order block = Err NoInterface
-enhanced_of (Some interface) order block = packet_of (length block - 32) (enhanced_packet interface order block)
+abbrev pub enhanced_of : LinkSet → Option Interface → Order → List ℕ → Result Content Flaw
+enhanced_of links None order block = Err NoInterface
+enhanced_of links (Some interface) order block = packet_of links (length block - 32) (enhanced_packet interface order block)
 
 -- the captured length of a simple packet: its bytes are cut to the snapshot length, where that isn't 0, and end with the
 -- block
@@ -180,22 +178,22 @@ simple_packet interface order block = record {
 }
 
 -- it is of the section's first interface
-abbrev pub simple_of : Option Interface → Order → List ℕ → Result Content Flaw
-simple_of None order block = Err NoInterface
-simple_of (Some interface) order block = packet_of (length block - 16) (simple_packet interface order block)
+abbrev pub simple_of : LinkSet → Option Interface → Order → List ℕ → Result Content Flaw
+simple_of links None order block = Err NoInterface
+simple_of links (Some interface) order block = packet_of links (length block - 16) (simple_packet interface order block)
 
 -- rules 5 to 9, by the kind of block, in a section with these interfaces
-abbrev pub stated : List Interface → Order → Kind → List ℕ → Result Content Flaw
-stated interfaces order SectionHeader block = if number_in order 2 (drop 12 block) == 1 then Ok (NewSection order) else Err BadVersion
-stated interfaces order InterfaceDescription block = Ok (NewInterface (interface_at order block))
-stated interfaces order EnhancedPacket block = enhanced_of (slice_get interfaces (number_in order 4 (drop 8 block))) order block
-stated interfaces order SimplePacket block = simple_of (slice_get interfaces 0) order block
-stated interfaces order Other block = Ok Nothing
+abbrev pub stated : LinkSet → List Interface → Order → Kind → List ℕ → Result Content Flaw
+stated links interfaces order SectionHeader block = if number_in order 2 (drop 12 block) == 1 then Ok (NewSection order) else Err BadVersion
+stated links interfaces order InterfaceDescription block = Ok (NewInterface (interface_at order block))
+stated links interfaces order EnhancedPacket block = enhanced_of links (slice_get interfaces (number_in order 4 (drop 8 block))) order block
+stated links interfaces order SimplePacket block = simple_of links (slice_get interfaces 0) order block
+stated links interfaces order Other block = Ok Nothing
 
 -- the total length that the last field states
 abbrev pub last_total : Order → List ℕ → ℕ
 last_total order block = number_in order 4 (drop (length block - 4) block)
 
 -- rules 4 to 9: what a whole block states, or the first rule that it breaks
-unfoldable pub content_of : List Interface → Order → Kind → List ℕ → Result Content Flaw
-content_of interfaces order kind block = if last_total order block == length block then stated interfaces order kind block else Err BadLength
+unfoldable pub content_of : LinkSet → List Interface → Order → Kind → List ℕ → Result Content Flaw
+content_of links interfaces order kind block = if last_total order block == length block then stated links interfaces order kind block else Err BadLength

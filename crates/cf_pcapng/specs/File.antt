@@ -1,5 +1,6 @@
 -- Captures in the pcapng format, as whole files.
 use Rattle.std.specs.Prelude.{ℕ, ◌+◌, nat_lt, if◌then◌else◌, is_some, List, [], ◌∷◌, ◌++◌, length, take, slice_range, Option, Some, None, Result, Ok, Err}
+use Rattle.cf_pcap.specs.declared.links.LinkSet.{LinkSet}
 use Rattle.cf_pcap.specs.declared.form.Order.{Order}
 use Rattle.cf_pcap.specs.Capture.{FrameValue}
 use Rattle.cf_stream.specs.Format.{Found, Wants, Bad, Takes, Format, IsWhole, HasFault}
@@ -57,22 +58,22 @@ block_found s block (Ok content) = Takes (length block) (frames_of s.count conte
 block_found s block (Err flaw) = Bad (fault_of s.count flaw)
 
 -- what the bytes at the front show, by their head
-abbrev pub found_at : State → List ℕ → Head → Found State FrameValue NgFault
-found_at s bytes Short = Wants
-found_at s bytes (Flawed flaw) = Bad (fault_of s.count flaw)
-found_at s bytes (Stands order kind total) =
+abbrev pub found_at : LinkSet → State → List ℕ → Head → Found State FrameValue NgFault
+found_at links s bytes Short = Wants
+found_at links s bytes (Flawed flaw) = Bad (fault_of s.count flaw)
+found_at links s bytes (Stands order kind total) =
     if nat_lt (length bytes) total then Wants
-    else block_found s (take total bytes) (content_of s.interfaces order kind (take total bytes))
+    else block_found s (take total bytes) (content_of links s.interfaces order kind (take total bytes))
 
 -- what the bytes at the front show in a state: no whole block yet, a fault, or a block with its frames and the state after it
-unfoldable pub step : State → List ℕ → Found State FrameValue NgFault
-step s bytes = found_at s bytes (head_of s.order bytes)
+unfoldable pub step : LinkSet → State → List ℕ → Found State FrameValue NgFault
+step links s bytes = found_at links s bytes (head_of s.order bytes)
 
 -- pcapng: blocks end to end, the first of them a section header
-abbrev pub pcapng : Format State FrameValue NgFault
-pcapng = record {
+abbrev pub pcapng : LinkSet → Format State FrameValue NgFault
+pcapng links = record {
   start = record { order = None; interfaces = []; count = 0 };
-  step = step;
+  step = step links;
   count = λ s. s.count;
   may_end = λ s. is_some s.order;
   cut = λ s. faults.Cut s.count;
@@ -80,9 +81,9 @@ pcapng = record {
 }
 
 -- a file is a capture of these frames
-abbrev pub IsNg : List ℕ → List FrameValue → Type 0
-IsNg file frames = IsWhole pcapng file frames
+abbrev pub IsNg : LinkSet → List ℕ → List FrameValue → Type 0
+IsNg links file frames = IsWhole (pcapng links) file frames
 
 -- why a file is no capture
-abbrev pub HasNgFault : List ℕ → NgFault → Type 0
-HasNgFault file fault = HasFault pcapng file fault
+abbrev pub HasNgFault : LinkSet → List ℕ → NgFault → Type 0
+HasNgFault links file fault = HasFault (pcapng links) file fault

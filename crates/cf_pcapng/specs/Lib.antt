@@ -5,3 +5,4 @@ pub mod Reading
 pub mod Reader
 pub mod Laws
 pub mod Rules
+pub mod Truncated

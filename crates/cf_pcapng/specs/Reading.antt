@@ -1,5 +1,6 @@
 -- What the parts of a reader do.
 use Rattle.std.specs.Prelude.{◌≡◌, ℕ, ◌+◌, ◌-◌, ◌≤◌, ◌<◌, ◌^◌, nat_lt, if◌then◌else◌, List, [], ◌++◌, length, take, drop, Option, Some, None, Result, Ok, Err}
+use Rattle.cf_pcap.specs.declared.links.LinkSet.{LinkSet}
 use Rattle.cf_pcap.specs.declared.form.Order.{Order}
 use Rattle.cf_pcap.specs.Capture.{FrameValue, number_in}
 use Rattle.cf_stream.specs.Format.{Wants, Bad, ReadsTo}
@@ -31,15 +32,15 @@ block_next total (Ok content) = next.Block total content
 block_next total (Err flaw) = next.Flawed flaw
 
 -- what stands at the front, by its head, in a section with these interfaces: no whole block yet, a flaw or a block
-abbrev pub next_at : List Interface → List ℕ → Head → Next
-next_at interfaces bytes Short = next.Wants
-next_at interfaces bytes (Flawed flaw) = next.Flawed flaw
-next_at interfaces bytes (Stands order kind total) =
-    if nat_lt (length bytes) total then next.Wants else block_next total (content_of interfaces order kind (take total bytes))
+abbrev pub next_at : LinkSet → List Interface → List ℕ → Head → Next
+next_at links interfaces bytes Short = next.Wants
+next_at links interfaces bytes (Flawed flaw) = next.Flawed flaw
+next_at links interfaces bytes (Stands order kind total) =
+    if nat_lt (length bytes) total then next.Wants else block_next total (content_of links interfaces order kind (take total bytes))
 
 -- what stands at the front in a state: no whole block yet, a flaw, or a block with its total length and what it states
-unfoldable pub next_of : State → List ℕ → Next
-next_of s bytes = next_at s.interfaces bytes (head_of s.order bytes)
+unfoldable pub next_of : LinkSet → State → List ℕ → Next
+next_of links s bytes = next_at links s.interfaces bytes (head_of s.order bytes)
 
 -- a block at the front has so many bytes, and a packet's bytes lie in it
 abbrev pub IsNextIn : ℕ → Next → Type 0
@@ -48,14 +49,14 @@ IsNextIn size (next.Flawed flaw) = Unit {0}
 IsNextIn size (next.Block total content) = (12 ≤ total) × (total ≤ size) × LiesIn total content
 
 -- what stands where the whole blocks end
-abbrev pub IsEnd : State → List ℕ → Option Flaw → Type 0
-IsEnd t rest None = pcapng.step t rest ≡ Wants
-IsEnd t rest (Some flaw) = pcapng.step t rest ≡ Bad (fault_of t.count flaw)
+abbrev pub IsEnd : LinkSet → State → List ℕ → Option Flaw → Type 0
+IsEnd links t rest None = (pcapng links).step t rest ≡ Wants
+IsEnd links t rest (Some flaw) = (pcapng links).step t rest ≡ Bad (fault_of t.count flaw)
 
 -- the blocks at the front were read, up to the begin of one or a flaw
-pub record AreRead (s : State) (bytes : List ℕ) (frames : List FrameValue) (t : State) (rest : List ℕ) (flaw : Option Flaw) : Type 0 where
-  pub read : ReadsTo pcapng s bytes frames t rest
-  pub end : IsEnd t rest flaw
+pub record AreRead (links : LinkSet) (s : State) (bytes : List ℕ) (frames : List FrameValue) (t : State) (rest : List ℕ) (flaw : Option Flaw) : Type 0 where
+  pub read : ReadsTo (pcapng links) s bytes frames t rest
+  pub end : IsEnd links t rest flaw
 
 -- bytes of a block at hand that is only passed over, which were let go
 abbrev pub WasPassed : Option Order → Option Passed → List ℕ → Type 0
@@ -64,23 +65,23 @@ WasPassed order (Some block) gone =
     (head_of order gone ≡ Stands block.order Other block.total) × (length gone ≡ block.gone) × (block.gone + 4 ≤ block.total)
 
 -- the blocks were read up to the begin of one, whose bytes were let go or are held
-pub record Begins (s : State) (bytes : List ℕ) (frames : List FrameValue) (t : State) (passed : Option Passed) (held : List ℕ) : Type 0 where
+pub record Begins (links : LinkSet) (s : State) (bytes : List ℕ) (frames : List FrameValue) (t : State) (passed : Option Passed) (held : List ℕ) : Type 0 where
   pub gone : List ℕ
   pub was : WasPassed t.order passed gone
-  pub read : ReadsTo pcapng s bytes frames t (gone ++ held)
-  pub part : pcapng.step t (gone ++ held) ≡ Wants
+  pub read : ReadsTo (pcapng links) s bytes frames t (gone ++ held)
+  pub part : (pcapng links).step t (gone ++ held) ≡ Wants
   pub few : length held < 2 ^ 20
 
 -- the blocks were read up to a flaw
-pub record Breaks (s : State) (bytes : List ℕ) (frames : List FrameValue) (t : State) (flaw : Flaw) : Type 0 where
+pub record Breaks (links : LinkSet) (s : State) (bytes : List ℕ) (frames : List FrameValue) (t : State) (flaw : Flaw) : Type 0 where
   pub rest : List ℕ
-  pub read : ReadsTo pcapng s bytes frames t rest
-  pub bad : pcapng.step t rest ≡ Bad (fault_of t.count flaw)
+  pub read : ReadsTo (pcapng links) s bytes frames t rest
+  pub bad : (pcapng links).step t rest ≡ Bad (fault_of t.count flaw)
 
 -- the blocks were read, where a block that is only passed over is let go up to its last field
-abbrev pub AreReadOn : State → List ℕ → List FrameValue → State → Option Passed → List ℕ → Option Flaw → Type 0
-AreReadOn s bytes frames t passed held None = Begins s bytes frames t passed held
-AreReadOn s bytes frames t passed held (Some flaw) = Breaks s bytes frames t flaw
+abbrev pub AreReadOn : LinkSet → State → List ℕ → List FrameValue → State → Option Passed → List ℕ → Option Flaw → Type 0
+AreReadOn links s bytes frames t passed held None = Begins links s bytes frames t passed held
+AreReadOn links s bytes frames t passed held (Some flaw) = Breaks links s bytes frames t flaw
 
 -- so many bytes of a block that is passed over are let go, of `size` that are there
 pub record IsLetGo (block : Passed) (size : ℕ) (after : Passed) (some : ℕ) : Type 0 where

@@ -1,8 +1,10 @@
 -- The rules by which blocks are judged, one by one and each in this order, as relations. `step` of File says the same.
 use Rattle.std.specs.Prelude.{◌≡◌, ◌⊎◌, ℕ, ◌-◌, ◌%◌, ◌^◌, ◌<◌, ◌≤◌, true, false, List, [], ◌∷◌, length, take, drop, slice_get, Option, Some, None, is_some}
 use Rattle.byteorder.specs.Endian.{little_number}
+use Rattle.cf_pcap.specs.declared.links.LinkSet.{LinkSet}
 use Rattle.cf_pcap.specs.declared.form.Order.{Order}
 use Rattle.cf_pcap.specs.Capture.{FrameValue, number_in}
+use Rattle.cf_pcap.specs.Links.{is_link, longest}
 use Rattle.cf_stream.specs.Format.{Bad, Takes, Part, items_of, seen}
 use Rattle.cf_pcapng.specs.declared.fault.Flaw.{Flaw}
 use Rattle.cf_pcapng.specs.declared.fault.Flaw.TheVariants.{BadMagic, BadVersion, BadLink, FrameTooLong, BadLength, NoInterface}
@@ -86,50 +88,50 @@ HeadBreaks section bytes BadLink = ⊥
 HeadBreaks section bytes FrameTooLong = ⊥
 HeadBreaks section bytes NoInterface = ⊥
 
--- LINKTYPE_ETHERNET and LINKTYPE_LINUX_SLL
-abbrev pub IsLink : ℕ → Type 0
-IsLink link = (link ≡ 1) ⊎ (link ≡ 113)
+-- one of the links that are read
+abbrev pub IsLink : LinkSet → ℕ → Type 0
+IsLink links link = is_link links link ≡ true
 
 -- rules 7 to 9, of a packet in a block with room for so many bytes
-abbrev pub PacketBreaks : ℕ → Packet → Flaw → Type 0
-PacketBreaks room packet BadLink = IsLink packet.link → ⊥
-PacketBreaks room packet FrameTooLong = IsLink packet.link × (262144 < packet.caplen)
-PacketBreaks room packet BadLength = IsLink packet.link × (packet.caplen ≤ 262144) × (room < packet.caplen)
-PacketBreaks room packet BadMagic = ⊥
-PacketBreaks room packet BadVersion = ⊥
-PacketBreaks room packet NoInterface = ⊥
+abbrev pub PacketBreaks : LinkSet → ℕ → Packet → Flaw → Type 0
+PacketBreaks links room packet BadLink = IsLink links packet.link → ⊥
+PacketBreaks links room packet FrameTooLong = IsLink links packet.link × (longest < packet.caplen)
+PacketBreaks links room packet BadLength = IsLink links packet.link × (packet.caplen ≤ longest) × (room < packet.caplen)
+PacketBreaks links room packet BadMagic = ⊥
+PacketBreaks links room packet BadVersion = ⊥
+PacketBreaks links room packet NoInterface = ⊥
 
 -- a packet that breaks none of rules 7 to 9, in a block with room for so many bytes
-pub record IsLawfulPacket (room : ℕ) (packet : Packet) : Type 0 where
-  pub link_is : IsLink packet.link
-  pub short : packet.caplen ≤ 262144
+pub record IsLawfulPacket (links : LinkSet) (room : ℕ) (packet : Packet) : Type 0 where
+  pub link_is : IsLink links packet.link
+  pub short : packet.caplen ≤ longest
   pub fits : packet.caplen ≤ room
 
 -- rule 6, and 7 to 9 of a packet of its interface
-abbrev pub PacketOfBreaks : Option Interface → ℕ → (Interface → Packet) → Flaw → Type 0
-PacketOfBreaks None room packet flaw = flaw ≡ NoInterface
-PacketOfBreaks (Some interface) room packet flaw = PacketBreaks room (packet interface) flaw
+abbrev pub PacketOfBreaks : LinkSet → Option Interface → ℕ → (Interface → Packet) → Flaw → Type 0
+PacketOfBreaks links None room packet flaw = flaw ≡ NoInterface
+PacketOfBreaks links (Some interface) room packet flaw = PacketBreaks links room (packet interface) flaw
 
 -- the block states this packet of its interface, lawful in a block with room for so many bytes; with no interface (None) it states nothing
-abbrev pub PacketOfStates : Option Interface → ℕ → (Interface → Packet) → Content → Type 0
-PacketOfStates None room packet content = ⊥
-PacketOfStates (Some interface) room packet content = IsLawfulPacket room (packet interface) × (content ≡ Captures (packet interface))
+abbrev pub PacketOfStates : LinkSet → Option Interface → ℕ → (Interface → Packet) → Content → Type 0
+PacketOfStates links None room packet content = ⊥
+PacketOfStates links (Some interface) room packet content = IsLawfulPacket links room (packet interface) × (content ≡ Captures (packet interface))
 
 -- rules 5 to 9, of a whole block in a section with these interfaces
-abbrev pub BlockBreaks : List Interface → Order → Kind → List ℕ → Flaw → Type 0
-BlockBreaks interfaces order SectionHeader block flaw = (flaw ≡ BadVersion) × (number_in order 2 (drop 12 block) ≡ 1 → ⊥)
-BlockBreaks interfaces order InterfaceDescription block flaw = ⊥
-BlockBreaks interfaces order EnhancedPacket block flaw = PacketOfBreaks (slice_get interfaces (number_in order 4 (drop 8 block))) (length block - 32) (λ i. enhanced_packet i order block) flaw
-BlockBreaks interfaces order SimplePacket block flaw = PacketOfBreaks (slice_get interfaces 0) (length block - 16) (λ i. simple_packet i order block) flaw
-BlockBreaks interfaces order Other block flaw = ⊥
+abbrev pub BlockBreaks : LinkSet → List Interface → Order → Kind → List ℕ → Flaw → Type 0
+BlockBreaks links interfaces order SectionHeader block flaw = (flaw ≡ BadVersion) × (number_in order 2 (drop 12 block) ≡ 1 → ⊥)
+BlockBreaks links interfaces order InterfaceDescription block flaw = ⊥
+BlockBreaks links interfaces order EnhancedPacket block flaw = PacketOfBreaks links (slice_get interfaces (number_in order 4 (drop 8 block))) (length block - 32) (λ i. enhanced_packet i order block) flaw
+BlockBreaks links interfaces order SimplePacket block flaw = PacketOfBreaks links (slice_get interfaces 0) (length block - 16) (λ i. simple_packet i order block) flaw
+BlockBreaks links interfaces order Other block flaw = ⊥
 
 -- what a whole block states that breaks no rule
-abbrev pub BlockStates : List Interface → Order → Kind → List ℕ → Content → Type 0
-BlockStates interfaces order SectionHeader block content = (number_in order 2 (drop 12 block) ≡ 1) × (content ≡ NewSection order)
-BlockStates interfaces order InterfaceDescription block content = content ≡ NewInterface (interface_at order block)
-BlockStates interfaces order EnhancedPacket block content = PacketOfStates (slice_get interfaces (number_in order 4 (drop 8 block))) (length block - 32) (λ i. enhanced_packet i order block) content
-BlockStates interfaces order SimplePacket block content = PacketOfStates (slice_get interfaces 0) (length block - 16) (λ i. simple_packet i order block) content
-BlockStates interfaces order Other block content = content ≡ Nothing
+abbrev pub BlockStates : LinkSet → List Interface → Order → Kind → List ℕ → Content → Type 0
+BlockStates links interfaces order SectionHeader block content = (number_in order 2 (drop 12 block) ≡ 1) × (content ≡ NewSection order)
+BlockStates links interfaces order InterfaceDescription block content = content ≡ NewInterface (interface_at order block)
+BlockStates links interfaces order EnhancedPacket block content = PacketOfStates links (slice_get interfaces (number_in order 4 (drop 8 block))) (length block - 32) (λ i. enhanced_packet i order block) content
+BlockStates links interfaces order SimplePacket block content = PacketOfStates links (slice_get interfaces 0) (length block - 16) (λ i. simple_packet i order block) content
+BlockStates links interfaces order Other block content = content ≡ Nothing
 
 -- a block stands whole at the front: so many bytes
 pub record HasBlock (section : Option Order) (bytes : List ℕ) (order : Order) (kind : Kind) (total : ℕ) : Type 0 where
@@ -145,101 +147,101 @@ pub record BreaksRule4 (section : Option Order) (bytes : List ℕ) : Type 0 wher
   pub last : last_total order (take total bytes) ≡ total → ⊥
 
 -- rules 5 to 9: the block at the front is whole, its two total lengths agree, and what it states has this flaw
-pub record BreaksRules5To9 (section : Option Order) (interfaces : List Interface) (bytes : List ℕ) (flaw : Flaw) : Type 0 where
+pub record BreaksRules5To9 (links : LinkSet) (section : Option Order) (interfaces : List Interface) (bytes : List ℕ) (flaw : Flaw) : Type 0 where
   pub order : Order
   pub kind : Kind
   pub total : ℕ
   pub block : HasBlock section bytes order kind total
   pub last : last_total order (take total bytes) ≡ total
-  pub breaks : BlockBreaks interfaces order kind (take total bytes) flaw
+  pub breaks : BlockBreaks links interfaces order kind (take total bytes) flaw
 
 -- the first rule that the block at the front breaks
-abbrev pub HasFlaw : State → List ℕ → Flaw → Type 0
-HasFlaw s bytes flaw = HeadBreaks s.order bytes flaw ⊎ (((flaw ≡ BadLength) × BreaksRule4 s.order bytes) ⊎ BreaksRules5To9 s.order s.interfaces bytes flaw)
+abbrev pub HasFlaw : LinkSet → State → List ℕ → Flaw → Type 0
+HasFlaw links s bytes flaw = HeadBreaks s.order bytes flaw ⊎ (((flaw ≡ BadLength) × BreaksRule4 s.order bytes) ⊎ BreaksRules5To9 links s.order s.interfaces bytes flaw)
 
 -- a block of n bytes at the front breaks none, and gives these frames and this state
-pub record IsBlock (s : State) (bytes : List ℕ) (n : ℕ) (frames : List FrameValue) (t : State) : Type 0 where
+pub record IsBlock (links : LinkSet) (s : State) (bytes : List ℕ) (n : ℕ) (frames : List FrameValue) (t : State) : Type 0 where
   pub order : Order
   pub kind : Kind
   pub content : Content
   pub block : HasBlock s.order bytes order kind n
   pub last : last_total order (take n bytes) ≡ n
-  pub states : BlockStates s.interfaces order kind (take n bytes) content
+  pub states : BlockStates links s.interfaces order kind (take n bytes) content
   pub frames_are : frames ≡ frames_of s.count content (take n bytes)
   pub after_is : t ≡ after s content
 
 -- what the step of a pcapng file finds is what the rules say, both ways
-pub record StepsByRules (s : State) (bytes : List ℕ) : Type 0 where
-  pub bad : (fault : NgFault) → pcapng.step s bytes ≡ Bad fault → (flaw : Flaw) × (fault ≡ fault_of s.count flaw) × HasFlaw s bytes flaw
-  pub flaw : (flaw : Flaw) → HasFlaw s bytes flaw → pcapng.step s bytes ≡ Bad (fault_of s.count flaw)
-  pub takes : (n : ℕ) (frames : List FrameValue) (t : State) → pcapng.step s bytes ≡ Takes n frames t → IsBlock s bytes n frames t
-  pub block : (n : ℕ) (frames : List FrameValue) (t : State) → IsBlock s bytes n frames t → pcapng.step s bytes ≡ Takes n frames t
+pub record StepsByRules (links : LinkSet) (s : State) (bytes : List ℕ) : Type 0 where
+  pub bad : (fault : NgFault) → (pcapng links).step s bytes ≡ Bad fault → (flaw : Flaw) × (fault ≡ fault_of s.count flaw) × HasFlaw links s bytes flaw
+  pub flaw : (flaw : Flaw) → HasFlaw links s bytes flaw → (pcapng links).step s bytes ≡ Bad (fault_of s.count flaw)
+  pub takes : (n : ℕ) (frames : List FrameValue) (t : State) → (pcapng links).step s bytes ≡ Takes n frames t → IsBlock links s bytes n frames t
+  pub block : (n : ℕ) (frames : List FrameValue) (t : State) → IsBlock links s bytes n frames t → (pcapng links).step s bytes ≡ Takes n frames t
 
 -- Whole files, in these words.
 
 -- from a state the bytes are these blocks end to end, and then the rest
-abbrev pub AreBlocksThen : State → List (Part State FrameValue) → List ℕ → State → List ℕ → Type 0
-AreBlocksThen s [] bytes t rest = (s ≡ t) × (bytes ≡ rest)
-AreBlocksThen s (part ∷ parts) bytes t rest = IsBlock s bytes part.size part.items part.after × AreBlocksThen part.after parts (drop part.size bytes) t rest
+abbrev pub AreBlocksThen : LinkSet → State → List (Part State FrameValue) → List ℕ → State → List ℕ → Type 0
+AreBlocksThen links s [] bytes t rest = (s ≡ t) × (bytes ≡ rest)
+AreBlocksThen links s (part ∷ parts) bytes t rest = IsBlock links s bytes part.size part.items part.after × AreBlocksThen links part.after parts (drop part.size bytes) t rest
 
 -- a file begins with blocks of these frames, which lead to a state, and then comes the rest
-pub record BeginsWith (file : List ℕ) (frames : List FrameValue) (last : State) (rest : List ℕ) : Type 0 where
+pub record BeginsWith (links : LinkSet) (file : List ℕ) (frames : List FrameValue) (last : State) (rest : List ℕ) : Type 0 where
   pub parts : List (Part State FrameValue)
-  pub blocks : AreBlocksThen pcapng.start parts file last rest
+  pub blocks : AreBlocksThen links (pcapng links).start parts file last rest
   pub frames_are : frames ≡ items_of parts
 
 -- a file below 2^32 bytes is blocks end to end, a section header first, and nothing else
-pub record IsFileOf (file : List ℕ) (frames : List FrameValue) : Type 0 where
+pub record IsFileOf (links : LinkSet) (file : List ℕ) (frames : List FrameValue) : Type 0 where
   pub size : length file < 2 ^ 32
   pub last : State
-  pub read : BeginsWith file frames last []
+  pub read : BeginsWith links file frames last []
   pub begun : is_some last.order ≡ true
 
 -- after blocks of k frames comes one with this flaw
-pub record ShowsFlaw (file : List ℕ) (k : ℕ) (flaw : Flaw) : Type 0 where
+pub record ShowsFlaw (links : LinkSet) (file : List ℕ) (k : ℕ) (flaw : Flaw) : Type 0 where
   pub frames : List FrameValue
   pub last : State
   pub rest : List ℕ
-  pub read : BeginsWith file frames last rest
+  pub read : BeginsWith links file frames last rest
   pub number_is : k ≡ length frames
-  pub breaks : HasFlaw last rest flaw
+  pub breaks : HasFlaw links last rest flaw
 
 -- neither a whole block nor one with a flaw
-pub record IsPart (s : State) (bytes : List ℕ) : Type 0 where
-  pub no_flaw : (flaw : Flaw) → HasFlaw s bytes flaw → ⊥
-  pub no_block : (n : ℕ) (frames : List FrameValue) (t : State) → IsBlock s bytes n frames t → ⊥
+pub record IsPart (links : LinkSet) (s : State) (bytes : List ℕ) : Type 0 where
+  pub no_flaw : (flaw : Flaw) → HasFlaw links s bytes flaw → ⊥
+  pub no_block : (n : ℕ) (frames : List FrameValue) (t : State) → IsBlock links s bytes n frames t → ⊥
 
 -- a file below 2^32 bytes ends within a block after k frames, or before its first section header
-pub record EndsWithin (file : List ℕ) (k : ℕ) : Type 0 where
+pub record EndsWithin (links : LinkSet) (file : List ℕ) (k : ℕ) : Type 0 where
   pub size : length file < 2 ^ 32
   pub frames : List FrameValue
   pub last : State
   pub rest : List ℕ
-  pub read : BeginsWith file frames last rest
+  pub read : BeginsWith links file frames last rest
   pub number_is : k ≡ length frames
-  pub part : IsPart last rest
+  pub part : IsPart links last rest
   pub left : (0 < length rest) ⊎ (is_some last.order ≡ false)
 
 -- 2^32 bytes or more, of which the first 2^32 show no flaw
-pub record IsTooLong (file : List ℕ) : Type 0 where
+pub record IsTooLong (links : LinkSet) (file : List ℕ) : Type 0 where
   pub size : 2 ^ 32 ≤ length file
-  pub first : (k : ℕ) (flaw : Flaw) → ShowsFlaw (seen file) k flaw → ⊥
+  pub first : (k : ℕ) (flaw : Flaw) → ShowsFlaw links (seen file) k flaw → ⊥
 
 -- why a file is no capture
-abbrev pub HasFaultOf : List ℕ → NgFault → Type 0
-HasFaultOf file (faults.BadMagic k) = ShowsFlaw (seen file) k BadMagic
-HasFaultOf file (faults.BadVersion k) = ShowsFlaw (seen file) k BadVersion
-HasFaultOf file (faults.BadLink k) = ShowsFlaw (seen file) k BadLink
-HasFaultOf file (faults.FrameTooLong k) = ShowsFlaw (seen file) k FrameTooLong
-HasFaultOf file (faults.Cut k) = EndsWithin file k
-HasFaultOf file faults.TooManyBytes = IsTooLong file
-HasFaultOf file (faults.BadLength k) = ShowsFlaw (seen file) k BadLength
-HasFaultOf file (faults.NoInterface k) = ShowsFlaw (seen file) k NoInterface
-HasFaultOf file faults.Memory = ⊥
+abbrev pub HasFaultOf : LinkSet → List ℕ → NgFault → Type 0
+HasFaultOf links file (faults.BadMagic k) = ShowsFlaw links (seen file) k BadMagic
+HasFaultOf links file (faults.BadVersion k) = ShowsFlaw links (seen file) k BadVersion
+HasFaultOf links file (faults.BadLink k) = ShowsFlaw links (seen file) k BadLink
+HasFaultOf links file (faults.FrameTooLong k) = ShowsFlaw links (seen file) k FrameTooLong
+HasFaultOf links file (faults.Cut k) = EndsWithin links file k
+HasFaultOf links file faults.TooManyBytes = IsTooLong links file
+HasFaultOf links file (faults.BadLength k) = ShowsFlaw links (seen file) k BadLength
+HasFaultOf links file (faults.NoInterface k) = ShowsFlaw links (seen file) k NoInterface
+HasFaultOf links file faults.Memory = ⊥
 
 -- the two ways to say what a file is, agree
-pub record FileByRules (file : List ℕ) : Type 0 where
-  pub capture : (frames : List FrameValue) → IsNg file frames → IsFileOf file frames
-  pub is_capture : (frames : List FrameValue) → IsFileOf file frames → IsNg file frames
-  pub fault : (fault : NgFault) → HasNgFault file fault → HasFaultOf file fault
-  pub is_fault : (fault : NgFault) → HasFaultOf file fault → HasNgFault file fault
+pub record FileByRules (links : LinkSet) (file : List ℕ) : Type 0 where
+  pub capture : (frames : List FrameValue) → IsNg links file frames → IsFileOf links file frames
+  pub is_capture : (frames : List FrameValue) → IsFileOf links file frames → IsNg links file frames
+  pub fault : (fault : NgFault) → HasNgFault links file fault → HasFaultOf links file fault
+  pub is_fault : (fault : NgFault) → HasFaultOf links file fault → HasNgFault links file fault

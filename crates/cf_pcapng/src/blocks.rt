@@ -7,7 +7,7 @@ use crate::content::{Content, content_of};
 use crate::fault::Flaw;
 use crate::head::{Head, head_of};
 use crate::position::Position;
-use cf_pcap::Frame;
+use cf_pcap::{Frame, LinkSet};
 use std::alloc::{AllocError, Global};
 
 /// What stands at the front of some bytes.
@@ -30,8 +30,8 @@ pub(crate) struct Read<'a> {
 }
 
 // The block at the front.
-fn next_of(position: &Position<'_>, bytes: &[u8]) -> Next
-    ensures value { result ≡ next_block (state_of position.now) bytes.now }
+fn next_of(links: LinkSet, position: &Position<'_>, bytes: &[u8]) -> Next
+    ensures value { result ≡ next_block links (state_of position.now) bytes.now }
     ensures within { IsNextIn (length bytes.now) result }
 {
     match head_of(position.order(), bytes) {
@@ -42,7 +42,7 @@ fn next_of(position: &Position<'_>, bytes: &[u8]) -> Next
                 return Next::Wants;
             }
             let block = bytes.split_at(total as usize).0;
-            match content_of(position.interfaces(), order, kind, block) {
+            match content_of(links, position.interfaces(), order, kind, block) {
                 Ok(content) => Next::Block(total, content),
                 Err(flaw) => Next::Flawed(flaw),
             }
@@ -72,17 +72,18 @@ fn stopped<'a>(
 // Reads the blocks at the front.
 pub(crate) fn read_blocks<'a>(
     alloc: Global,
+    links: LinkSet,
     mut position: Position<'a>,
     bytes: &[u8],
 ) -> Result<Read<'a>, AllocError>
     requires { position.count + length bytes.now ≤ 2 ^ 32 }
-    ensures read { IfOk result (λ read. AreRead (state_of position.entry) bytes.now read.frames.items (state_of read.position) read.rest.items read.flaw) }
+    ensures read { IfOk result (λ read. AreRead links (state_of position.entry) bytes.now read.frames.items (state_of read.position) read.rest.items read.flaw) }
     ensures had { IfOk result (λ read. read.position.listed.had ≡ position.entry.listed.had) }
 {
     let mut frames = Vec::new(alloc);
     let mut left = bytes;
     loop {
-        match next_of(&position, left) {
+        match next_of(links, &position, left) {
             Next::Block(total, content) => {
                 let (block, after) = left.split_at(total as usize);
                 position.pass(alloc, content, block, &mut frames)?;

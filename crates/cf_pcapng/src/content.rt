@@ -1,7 +1,7 @@
 // What a whole block states.
 ghost use Rattle.std.specs.Prelude.{◌≡◌, ◌≤◌, ◌+◌, ◌-◌, ◌*◌, ◌<◌, ◌^◌, length, drop, IfOk, slice_get};
 ghost use Rattle.cf_pcap.specs.Capture.{number_in};
-ghost use Rattle.cf_pcapng.specs.Blocks.{interface_at, is_link, packet_of as packet_by_rules, time_at, enhanced_of, simple_caplen as simple_caplen_of, simple_of, stated as stated_by, content_of as content_by_rules, least};
+ghost use Rattle.cf_pcapng.specs.Blocks.{interface_at, packet_of as packet_by_rules, time_at, enhanced_of, simple_caplen as simple_caplen_of, simple_of, stated as stated_by, content_of as content_by_rules, least};
 ghost use Rattle.cf_pcapng.specs.Position.{interfaces_of};
 ghost use Rattle.cf_pcapng.specs.Reading.{LiesIn};
 
@@ -10,10 +10,7 @@ use crate::head::Kind;
 use crate::interfaces::{Interface, Interfaces};
 use crate::options::resolution_of;
 use crate::times::nanoseconds_of;
-use cf_pcap::Order;
-
-/// The most bytes that a packet may hold of its frame.
-const LONGEST: u32 = 262_144;
+use cf_pcap::{LONGEST, LinkSet, Order};
 
 /// A packet of a block.
 #[derive(Clone, Copy, Debug, PartialEq, Eq)]
@@ -37,20 +34,13 @@ pub(crate) enum Content {
     Nothing,
 }
 
-// Whether frames of this link are read.
-fn is_read(link: u16) -> bool
-    ensures { result ≡ is_link link }
-{
-    link == 1 || link == 113
-}
-
 // A packet in a block with room for so many bytes.
 #[tactic(auto, unfolding(crate::specs::Blocks::packet_of))]
-fn packet_of(room: usize, packet: Packet) -> Result<Content, Flaw>
-    ensures value { result ≡ packet_by_rules room packet }
+fn packet_of(links: LinkSet, room: usize, packet: Packet) -> Result<Content, Flaw>
+    ensures value { result ≡ packet_by_rules links room packet }
     ensures fits { IfOk result (λ content. LiesIn (packet.begin + room) content) }
 {
-    if !is_read(packet.link) {
+    if !links.reads(packet.link) {
         return Err(Flaw::BadLink);
     }
     if packet.caplen > LONGEST {
@@ -72,9 +62,14 @@ fn time_of(order: Order, block: &[u8]) -> u64
     high as u64 * 4_294_967_296 + low as u64
 }
 
-fn enhanced_packet(interfaces: &Interfaces<'_>, order: Order, block: &[u8]) -> Result<Content, Flaw>
+fn enhanced_packet(
+    links: LinkSet,
+    interfaces: &Interfaces<'_>,
+    order: Order,
+    block: &[u8],
+) -> Result<Content, Flaw>
     requires { 32 ≤ length block.now }
-    ensures value { result ≡ enhanced_of (slice_get (interfaces_of interfaces.now) (number_in order 4 (drop 8 block.now))) order block.now }
+    ensures value { result ≡ enhanced_of links (slice_get (interfaces_of interfaces.now) (number_in order 4 (drop 8 block.now))) order block.now }
     ensures fits { IfOk result (LiesIn (length block.now)) }
 {
     let number = order.read_u32(&block[8..]);
@@ -88,7 +83,7 @@ fn enhanced_packet(interfaces: &Interfaces<'_>, order: Order, block: &[u8]) -> R
         link: interface.link,
         begin: 28,
     };
-    packet_of(block.len() - 32, packet)
+    packet_of(links, block.len() - 32, packet)
 }
 
 // The captured length of a simple packet.
@@ -103,10 +98,15 @@ fn simple_caplen(original: u32, snaplen: u32, room: u32) -> u32
     cut.min(room)
 }
 
-fn simple_packet(interfaces: &Interfaces<'_>, order: Order, block: &[u8]) -> Result<Content, Flaw>
+fn simple_packet(
+    links: LinkSet,
+    interfaces: &Interfaces<'_>,
+    order: Order,
+    block: &[u8],
+) -> Result<Content, Flaw>
     requires least { 16 ≤ length block.now }
     requires most { length block.now < 2 ^ 32 }
-    ensures value { result ≡ simple_of (slice_get (interfaces_of interfaces.now) 0) order block.now }
+    ensures value { result ≡ simple_of links (slice_get (interfaces_of interfaces.now) 0) order block.now }
     ensures fits { IfOk result (LiesIn (length block.now)) }
 {
     let Some(interface) = interfaces.get(0) else {
@@ -121,7 +121,7 @@ fn simple_packet(interfaces: &Interfaces<'_>, order: Order, block: &[u8]) -> Res
         link: interface.link,
         begin: 12,
     };
-    packet_of(room, packet)
+    packet_of(links, room, packet)
 }
 
 // The interface that an interface description block states.
@@ -138,6 +138,7 @@ fn interface_of(order: Order, block: &[u8]) -> Interface
 
 // What a block states whose last field is its length.
 fn stated(
+    links: LinkSet,
     interfaces: &Interfaces<'_>,
     order: Order,
     kind: Kind,
@@ -145,7 +146,7 @@ fn stated(
 ) -> Result<Content, Flaw>
     requires least { least kind ≤ length block.now }
     requires most { length block.now < 2 ^ 32 }
-    ensures value { result ≡ stated_by (interfaces_of interfaces.now) order kind block.now }
+    ensures value { result ≡ stated_by links (interfaces_of interfaces.now) order kind block.now }
     ensures fits { IfOk result (LiesIn (length block.now)) }
 {
     match kind {
@@ -156,8 +157,8 @@ fn stated(
             Ok(Content::NewSection(order))
         }
         Kind::InterfaceDescription => Ok(Content::NewInterface(interface_of(order, block))),
-        Kind::EnhancedPacket => enhanced_packet(interfaces, order, block),
-        Kind::SimplePacket => simple_packet(interfaces, order, block),
+        Kind::EnhancedPacket => enhanced_packet(links, interfaces, order, block),
+        Kind::SimplePacket => simple_packet(links, interfaces, order, block),
         Kind::Other => Ok(Content::Nothing),
     }
 }
@@ -165,6 +166,7 @@ fn stated(
 // What a whole block states, or its flaw.
 #[tactic(auto, unfolding(crate::specs::Blocks::content_of))]
 pub(crate) fn content_of(
+    links: LinkSet,
     interfaces: &Interfaces<'_>,
     order: Order,
     kind: Kind,
@@ -172,12 +174,12 @@ pub(crate) fn content_of(
 ) -> Result<Content, Flaw>
     requires least { least kind ≤ length block.now }
     requires most { length block.now < 2 ^ 32 }
-    ensures value { result ≡ content_by_rules (interfaces_of interfaces.now) order kind block.now }
+    ensures value { result ≡ content_by_rules links (interfaces_of interfaces.now) order kind block.now }
     ensures fits { IfOk result (LiesIn (length block.now)) }
 {
     let last = order.read_u32(&block[block.len() - 4..]);
     if last as usize != block.len() {
         return Err(Flaw::BadLength);
     }
-    stated(interfaces, order, kind, block)
+    stated(links, interfaces, order, kind, block)
 }

@@ -15,10 +15,10 @@ pub enum NgFault {
     /// A section's major version isn't 1.
     #[error("a section's major version isn't 1, after {0} frames")]
     BadVersion(u32),
-    /// A packet's interface has a link other than Ethernet (1) and Linux SLL (113).
-    #[error("the link of packet {0} is neither Ethernet nor cooked frames of Linux")]
+    /// A packet's interface has a link that is none of those that are read ([`cf_pcap::LinkSet`]).
+    #[error("the link of packet {0} is none of those that are read")]
     BadLink(u32),
-    /// A packet's captured length is above 262,144 bytes.
+    /// A packet's captured length is above 262,144 bytes ([`cf_pcap::LONGEST`]).
     #[error("the captured length of packet {0} is above 262144 bytes")]
     FrameTooLong(u32),
     /// The stream ends inside a block, or before its first section header.

@@ -1,17 +1,21 @@
 // The reader of a capture, which comes in pieces.
-ghost use Rattle.std.specs.Prelude.{◌≡◌, ◌≢◌, ℕ, List, [], ◌++◌, ◌<◌, ◌≤◌, ◌^◌, ◌+◌, length, take, drop, IfOk, is_ok, if◌then◌else◌, Err};
+ghost use Rattle.std.specs.Prelude.{◌≡◌, ◌≢◌, ℕ, List, [], ◌++◌, ◌<◌, ◌≤◌, ◌^◌, ◌+◌, length, take, drop, IfOk, MatchResult, is_ok, if◌then◌else◌, Err};
 ghost use Rattle.cf_pcap.specs.Capture.{FrameValue};
+ghost use Rattle.cf_pcap.specs.declared.links.LinkSet.TheVariants.{Basic};
+ghost use Rattle.cf_stream.specs.Stream.{AreGiven};
 ghost use Rattle.cf_pcapng.specs.declared.stage.Stage.TheVariants.{Running};
+ghost use Rattle.cf_pcapng.specs.File.{pcapng};
 ghost use Rattle.cf_pcapng.specs.Position.{listed, state_of};
 ghost use Rattle.cf_pcapng.specs.Reading.{HasRoom, MayGoOn};
 ghost use Rattle.cf_pcapng.specs.Reader.{IsStateOf, IsFed, IsEnded, AnswersFound, IsStageAtLimit, IsStageAfter, IsCalled, kept_at, state_after};
+ghost use Rattle.cf_pcapng.specs.Truncated.{Says, Breaks};
 
 use crate::fault::NgFault;
 use crate::interfaces::Interface;
 use crate::passed::{Given, Passed, go_on};
 use crate::position::{Position, Reached};
 use crate::stage::{Stage, answer_of};
-use cf_pcap::{Frame, Order};
+use cf_pcap::{Frame, LinkSet, Order};
 use std::alloc::{AllocError, Global};
 use std::marker::Model;
 
@@ -23,6 +27,7 @@ const LAST: usize = (1 << 32) - 1;
 #[derive(Drop)]
 pub struct PcapNg {
     alloc: Global,
+    links: LinkSet,
     stage: Stage,
     // How many bytes were taken, while the reader runs.
     total: usize,
@@ -42,9 +47,9 @@ impl Model for PcapNg {
 
     ghost Value = { PcapNgValue };
 
-    ghost view = { λ p. record { stage = p.stage; total = p.total; state = record { order = p.order; interfaces = p.interfaces.items; count = p.count }; passed = p.passed; held = p.held.items } };
+    ghost view = { λ p. record { links = p.links; stage = p.stage; total = p.total; state = record { order = p.order; interfaces = p.interfaces.items; count = p.count }; passed = p.passed; held = p.held.items } };
 
-    ghost invariant = { λ p. IsSound (record { stage = p.stage; total = p.total; state = record { order = p.order; interfaces = p.interfaces.items; count = p.count }; passed = p.passed; held = p.held.items }) };
+    ghost invariant = { λ p. IsSound (record { links = p.links; stage = p.stage; total = p.total; state = record { order = p.order; interfaces = p.interfaces.items; count = p.count }; passed = p.passed; held = p.held.items }) };
 }
 
 /// What a call that takes a piece comes to: the frames that it gives, and the reader after it.
@@ -68,15 +73,20 @@ fn joined(alloc: Global, held: &[u8], more: &[u8]) -> Result<Vec<u8>, AllocError
 }
 
 // The stage where a byte comes that makes the stream 2^32 bytes long.
-fn stage_at_limit(alloc: Global, given: &Given<'_>, byte: &[u8]) -> Result<Stage, AllocError>
+fn stage_at_limit(
+    alloc: Global,
+    links: LinkSet,
+    given: &Given<'_>,
+    byte: &[u8],
+) -> Result<Stage, AllocError>
     requires one { length byte.now ≡ 1 }
     requires block { HasRoom given.now.passed }
     requires room { given.now.position.count + length given.now.held.items + 1 ≤ 2 ^ 32 }
-    ensures { IfOk result (IsStageAtLimit (state_of given.now.position) given.now.passed given.now.held.items byte.now) }
+    ensures { IfOk result (IsStageAtLimit links (state_of given.now.position) given.now.passed given.now.held.items byte.now) }
 {
     let bytes = joined(alloc, &given.held, byte)?;
     let position = given.position.copy(alloc)?;
-    let last = go_on(alloc, position, given.passed, &bytes)?;
+    let last = go_on(alloc, links, position, given.passed, &bytes)?;
     match last.flaw {
         Some(flaw) => Ok(Stage::Stopped(flaw.after(last.position.count()))),
         None => Ok(Stage::Stopped(NgFault::TooManyBytes)),
@@ -84,9 +94,14 @@ fn stage_at_limit(alloc: Global, given: &Given<'_>, byte: &[u8]) -> Result<Stage
 }
 
 // The stage after the bytes that came early enough, where these come late.
-fn stage_after(alloc: Global, given: &Given<'_>, late: &[u8]) -> Result<Stage, AllocError>
+fn stage_after(
+    alloc: Global,
+    links: LinkSet,
+    given: &Given<'_>,
+    late: &[u8],
+) -> Result<Stage, AllocError>
     requires { MayGoOn (state_of given.now.position) given.now.passed given.now.held.items given.now.flaw }
-    ensures { IfOk result (IsStageAfter (state_of given.now.position) given.now.passed given.now.held.items given.now.flaw late.now) }
+    ensures { IfOk result (IsStageAfter links (state_of given.now.position) given.now.passed given.now.held.items given.now.flaw late.now) }
 {
     if let Some(flaw) = given.flaw {
         return Ok(Stage::Stopped(flaw.after(given.position.count())));
@@ -94,7 +109,7 @@ fn stage_after(alloc: Global, given: &Given<'_>, late: &[u8]) -> Result<Stage, A
     if late.is_empty() {
         return Ok(Stage::Running);
     }
-    stage_at_limit(alloc, given, late.split_at(1).0)
+    stage_at_limit(alloc, links, given, late.split_at(1).0)
 }
 
 // The first bytes of a piece, that many at most, and the others.
@@ -140,12 +155,22 @@ fn take_over(
 }
 
 impl PcapNg {
-    /// A reader that was fed nothing yet.
+    /// A reader of captures of Ethernet and Linux SLL that was fed nothing yet.
     pub fn new(alloc: Global) -> Result<Self, AllocError>
-        ensures { IfOk result (λ pcapng. IsStateOf pcapng []) }
+        ensures links { IfOk result (λ pcapng. pcapng.links ≡ Basic) }
+        ensures state { IfOk result (λ pcapng. IsStateOf pcapng []) }
+    {
+        PcapNg::for_links(alloc, LinkSet::Basic)
+    }
+
+    /// A reader of captures of these links that was fed nothing yet.
+    pub fn for_links(alloc: Global, links: LinkSet) -> Result<Self, AllocError>
+        ensures links { IfOk result (λ pcapng. pcapng.links ≡ links) }
+        ensures state { IfOk result (λ pcapng. IsStateOf pcapng []) }
     {
         Ok(PcapNg {
             alloc,
+            links,
             stage: Stage::Running,
             total: 0,
             order: None,
@@ -164,6 +189,7 @@ impl PcapNg {
     pub fn feed(&mut self, piece: &[u8], out: &mut Vec<Frame>) -> Result<(), NgFault>
         ensures fed { result ≢ Err NgFault.Memory → (given : List FrameValue) × (out.new.items ≡ out.old.items ++ given)
             × ((stream : List ℕ) → IsStateOf self.old stream → IsFed stream piece.now given result self.new) }
+        ensures links { self.new.links ≡ self.old.links }
         ensures stopped { AnswersFound self.old result }
         ensures memory { result ≡ Err NgFault.Memory → (self.new ≡ self.old) × (out.new.items ≡ out.old.items) }
     {
@@ -197,13 +223,13 @@ impl PcapNg {
     // What a call that takes a piece comes to.
     fn call(&self, piece: &[u8]) -> Result<Called, AllocError>
         requires { self.now.stage ≡ Running }
-        ensures { IfOk result (λ called. IsCalled self.now piece.now called.frames.items (record { stage = called.stage; total = called.total; state = state_after self.now.state.interfaces called.reached; passed = called.passed; held = called.held.items })) }
+        ensures { IfOk result (λ called. IsCalled self.now piece.now called.frames.items (record { links = self.now.links; stage = called.stage; total = called.total; state = state_after self.now.state.interfaces called.reached; passed = called.passed; held = called.held.items })) }
     {
         let (early, late) = cut(piece, LAST - self.total);
         let bytes = joined(self.alloc, &self.held, early)?;
         let position = Position::new(self.alloc, self.order, &self.interfaces, self.count);
-        let given = go_on(self.alloc, position, self.passed, &bytes)?;
-        let stage = stage_after(self.alloc, &given, late)?;
+        let given = go_on(self.alloc, self.links, position, self.passed, &bytes)?;
+        let stage = stage_after(self.alloc, self.links, &given, late)?;
         Ok(Called {
             stage,
             total: self.total + early.len(),
@@ -225,7 +251,7 @@ impl PcapNg {
 
     /// The number of frames of the stream that was fed, or its fault. It takes no memory.
     pub fn finish(self) -> Result<u32, NgFault>
-        ensures ended { (stream : List ℕ) → IsStateOf self stream → IsEnded stream result }
+        ensures ended { (stream : List ℕ) → IsStateOf self stream → IsEnded self.links stream result }
         ensures no_memory { result ≢ Err NgFault.Memory }
     {
         match self.stage {
@@ -239,6 +265,22 @@ impl PcapNg {
                 }
                 Ok(self.count)
             }
+        }
+    }
+
+    /// The same where a stream that ends within a block is one of the blocks before it: how many frames they have then, and nothing
+    /// where the stream ends well. One that ends within its first section header has its fault.
+    pub fn finish_truncated(self) -> Result<Option<u32>, NgFault>
+        ensures ended { (stream : List ℕ) (frames : List FrameValue) → IsStateOf self stream → AreGiven (pcapng self.links) stream frames
+            → MatchResult result (Says self.links stream frames) (Breaks self.links stream) }
+        ensures no_memory { result ≢ Err NgFault.Memory }
+    {
+        match self.stage {
+            Stage::Stopped(found) => Err(found),
+            Stage::Running if self.order.is_none() => Err(NgFault::Cut(self.count)),
+            Stage::Running if self.passed.is_some() => Ok(Some(self.count)),
+            Stage::Running if !self.held.is_empty() => Ok(Some(self.count)),
+            Stage::Running => Ok(None),
         }
     }
 }

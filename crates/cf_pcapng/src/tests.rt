@@ -425,6 +425,71 @@ fn a_cut_stream_is_cut_after_whole_blocks(rt: HostRuntime) -> Result<(), Fail> {
     Ok(())
 }
 
+/// What the end of a stream answers that is read as truncated, in pieces of that many bytes.
+fn end_truncated(
+    alloc: Global,
+    stream: &[u8],
+    size: usize,
+    out: &mut Vec<Frame>,
+) -> Result<Result<Option<u32>, NgFault>, AllocError> {
+    let mut pcapng = PcapNg::new(alloc)?;
+    for piece in stream.chunks(size.max(1)) {
+        let _ = feed_again(&mut pcapng, piece, out);
+    }
+    Ok(pcapng.finish_truncated())
+}
+
+/// What the end of so many bytes of two sections answers where they are read as truncated. Each section has a header of 28 bytes, an
+/// interface of 20 and packets of 36 and 20, and a block of 20 that gives none is between them.
+fn truncated_after(n: usize) -> Result<Option<u32>, NgFault> {
+    match n {
+        0..=27 => Err(NgFault::Cut(0)),
+        28 | 48 | 84 | 104 | 124 | 152 | 172 | 208 | 228 => Ok(None),
+        29..=83 => Ok(Some(0)),
+        85..=103 => Ok(Some(1)),
+        105..=207 => Ok(Some(2)),
+        _ => Ok(Some(3)),
+    }
+}
+
+#[test]
+fn a_truncated_stream_has_its_whole_blocks(rt: HostRuntime) -> Result<(), Fail> {
+    let streams = [
+        joined(rt.alloc(), &[&LITTLE, &UNKNOWN, &BIG])?,
+        joined(rt.alloc(), &[&LITTLE, &UNKNOWN, &LITTLE])?,
+    ];
+    for stream in &streams {
+        for size in [1, 7, 65536] {
+            for n in 0..229 {
+                let mut out: Vec<Frame> = Vec::new(rt.alloc());
+                let cut = part(stream, 0, n);
+                let end = end_truncated(rt.alloc(), cut, size, &mut out)?;
+                assert_eq!(rt; end, truncated_after(n), "after {n} bytes");
+            }
+        }
+    }
+    Ok(())
+}
+
+#[test]
+fn other_faults_stay_of_a_truncated_stream(rt: HostRuntime) -> Result<(), Fail> {
+    let table = [
+        (changed(LITTLE, &[(0, 0)]), NgFault::BadMagic(0)),
+        (changed(LITTLE, &[(12, 2)]), NgFault::BadVersion(0)),
+        (changed(LITTLE, &[(36, 6)]), NgFault::BadLink(0)),
+        (changed(LITTLE, &[(56, 1)]), NgFault::NoInterface(0)),
+        (changed(LITTLE, &[(88, 0x15)]), NgFault::BadLength(1)),
+    ];
+    for (stream, fault) in table {
+        for size in [1, 7, 65536] {
+            let mut out: Vec<Frame> = Vec::new(rt.alloc());
+            let end = end_truncated(rt.alloc(), &stream, size, &mut out)?;
+            assert_eq!(rt; end, Err(fault));
+        }
+    }
+    Ok(())
+}
+
 #[test]
 fn a_long_block_is_passed_over_and_not_held(rt: HostRuntime) -> Result<(), Fail> {
     // The last field of the block of 2^21 bytes, and what the end answers.

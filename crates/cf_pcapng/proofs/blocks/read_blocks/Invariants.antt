@@ -6,7 +6,7 @@ use Rattle.cf_pcapng.proofs.blocks.read_blocks.Given as goal
 
 abbrev pub invariant-loop-total : goal.invariant-loop-total
 invariant-loop-total l = record {
-  read : ReadsTo pcapng (state_of l.fn.position) l.bytes l.frames.items (state_of l.position) l.left;
+  read : ReadsTo (pcapng l.links) (state_of l.fn.position) l.bytes l.frames.items (state_of l.position) l.left;
   had : l.position.listed.had ≡ l.fn.position.listed.had;
   room : l.position.count + length l.left ≤ 2 ^ 32;
 }

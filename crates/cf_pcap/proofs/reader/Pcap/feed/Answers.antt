@@ -25,7 +25,7 @@ returns-in_err-given-clause-stopped c =
 pub invariant_of-self-2 : goal.invariant_of-self-2
 invariant_of-self-2 c =
     let inside = c.self.inside in
-    let reader : PcapValue = record { stage = inside.stage; total = inside.total; state = record { header = inside.header; count = inside.count }; held = inside.held.items } in
+    let reader : PcapValue = record { links = inside.links; stage = inside.stage; total = inside.total; state = record { header = inside.header; count = inside.count }; held = inside.held.items } in
     let given = c.in_ok-given.ensures.given in
     let sound : IsSoundAt Running reader = subst (λ (s : Stage). IsSoundAt s reader) (running_of inside.stage c.in_default.not-Stopped) c.self.invariant in
     sound_call reader c.args.piece.now c.front-taken.result.now c.late_of-late.result given.0 _ c.take_in.new.held.items c.in_ok-given.given.stage sound c.front-taken.ensures c.late_of-late.ensures given.3
@@ -33,12 +33,12 @@ invariant_of-self-2 c =
 pub returns-clause-fed : goal.returns-clause-fed
 returns-clause-fed c =
     let inside = c.self.inside in
-    let reader : PcapValue = record { stage = inside.stage; total = inside.total; state = record { header = inside.header; count = inside.count }; held = inside.held.items } in
+    let reader : PcapValue = record { links = inside.links; stage = inside.stage; total = inside.total; state = record { header = inside.header; count = inside.count }; held = inside.held.items } in
     let given = c.in_ok-given.ensures.given in
     let t = state_of c.in_ok-given.given.header c.in_ok-given.given.count in
     let stage = c.in_ok-given.given.stage in
     let taken = c.front-taken.result.now in
-    let after : PcapValue = Later stage (inside.total + length taken) t c.take_in.new.held.items in
+    let after : PcapValue = Later inside.links stage (inside.total + length taken) t c.take_in.new.held.items in
     let is : inside.stage ≡ Running = running_of inside.stage c.in_default.not-Stopped in
     let sound : IsSoundAt Running reader = subst (λ (s : Stage). IsSoundAt s reader) is c.self.invariant in
     λ _. (
@@ -58,11 +58,11 @@ returns-clause-stopped c =
 pub returns-clause-memory : goal.returns-clause-memory
 returns-clause-memory c = λ memory.
     let inside = c.self.inside in
-    let reader : PcapValue = record { stage = inside.stage; total = inside.total; state = record { header = inside.header; count = inside.count }; held = inside.held.items } in
+    let reader : PcapValue = record { links = inside.links; stage = inside.stage; total = inside.total; state = record { header = inside.header; count = inside.count }; held = inside.held.items } in
     let given = c.in_ok-given.ensures.given in
     let t = state_of c.in_ok-given.given.header c.in_ok-given.given.count in
     let stage = c.in_ok-given.given.stage in
     let taken = c.front-taken.result.now in
     let sound : IsSoundAt Running reader = subst (λ (s : Stage). IsSoundAt s reader) (running_of inside.stage c.in_default.not-Stopped) c.self.invariant in
-    let later : IsSound (Later stage (inside.total + length taken) t c.take_in.new.held.items) = sound_call reader c.args.piece.now taken c.late_of-late.result given.0 t c.take_in.new.held.items stage sound c.front-taken.ensures c.late_of-late.ensures given.3 in
-    absurd (no_memory (Later stage (inside.total + length taken) t c.take_in.new.held.items) later (sym c.answer_of.ensures ∙ memory))
+    let later : IsSound (Later inside.links stage (inside.total + length taken) t c.take_in.new.held.items) = sound_call reader c.args.piece.now taken c.late_of-late.result given.0 t c.take_in.new.held.items stage sound c.front-taken.ensures c.late_of-late.ensures given.3 in
+    absurd (no_memory (Later inside.links stage (inside.total + length taken) t c.take_in.new.held.items) later (sym c.answer_of.ensures ∙ memory))
