@@ -20,37 +20,37 @@ use Rattle.cf_headers.specs.Packet.{packet_row_of, type_at, is_tagged, has_type,
 abbrev pub HoldsBytes : List ℕ → Type 0
 HoldsBytes bytes = (i : ℕ) → get_or bytes i 0 < 256
 
-byte_at_fits : (frame : List ℕ) (place : ℕ) → HoldsBytes frame → is_of_kind U8 (byte_at frame place) ≡ true
+pub byte_at_fits : (frame : List ℕ) (place : ℕ) → HoldsBytes frame → is_of_kind U8 (byte_at frame place) ≡ true
 unfolding byte_at
 byte_at_fits frame place low = lt-ltb (get_or frame place 0) (2 ^ 8) (low place)
 
-number_low : (count : ℕ) (frame : List ℕ) (place : ℕ) → HoldsBytes frame → big_number count (drop place frame) < 256 ^ count
+pub number_low : (count : ℕ) (frame : List ℕ) (place : ℕ) → HoldsBytes frame → big_number count (drop place frame) < 256 ^ count
 number_low count frame place low = big_from-lt 0 count (drop place frame) (λ i. rw (get_or-drop place frame i 0) (low (place + i)))
 
-short_at_fits : (frame : List ℕ) (place : ℕ) → HoldsBytes frame → is_of_kind U16 (number_at 2 frame place) ≡ true
+pub u16_at_fits : (frame : List ℕ) (place : ℕ) → HoldsBytes frame → is_of_kind U16 (number_at 2 frame place) ≡ true
 unfolding number_at
-short_at_fits frame place low = lt-ltb (big_number 2 (drop place frame)) (2 ^ 16) (number_low 2 frame place low)
+u16_at_fits frame place low = lt-ltb (big_number 2 (drop place frame)) (2 ^ 16) (number_low 2 frame place low)
 
-word_at_fits : (frame : List ℕ) (place : ℕ) → HoldsBytes frame → is_of_kind U32 (number_at 4 frame place) ≡ true
+pub u32_at_fits : (frame : List ℕ) (place : ℕ) → HoldsBytes frame → is_of_kind U32 (number_at 4 frame place) ≡ true
 unfolding number_at
-word_at_fits frame place low = lt-ltb (big_number 4 (drop place frame)) (2 ^ 32) (number_low 4 frame place low)
+u32_at_fits frame place low = lt-ltb (big_number 4 (drop place frame)) (2 ^ 32) (number_low 4 frame place low)
 
-byte_fits : (read : Bool) (frame : List ℕ) (place : ℕ) → HoldsBytes frame → is_of_kind U8 (byte_if read frame place) ≡ true
+pub byte_fits : (read : Bool) (frame : List ℕ) (place : ℕ) → HoldsBytes frame → is_of_kind U8 (byte_if read frame place) ≡ true
 unfolding byte_if
 byte_fits true frame place low = byte_at_fits frame place low
 byte_fits false frame place low = refl
 
-short_fits : (read : Bool) (frame : List ℕ) (place : ℕ) → HoldsBytes frame → is_of_kind U16 (number_if read 2 frame place) ≡ true
+pub u16_fits : (read : Bool) (frame : List ℕ) (place : ℕ) → HoldsBytes frame → is_of_kind U16 (number_if read 2 frame place) ≡ true
 unfolding number_if
-short_fits true frame place low = short_at_fits frame place low
-short_fits false frame place low = refl
+u16_fits true frame place low = u16_at_fits frame place low
+u16_fits false frame place low = refl
 
-word_fits : (read : Bool) (frame : List ℕ) (place : ℕ) → HoldsBytes frame → is_of_kind U32 (number_if read 4 frame place) ≡ true
+pub u32_fits : (read : Bool) (frame : List ℕ) (place : ℕ) → HoldsBytes frame → is_of_kind U32 (number_if read 4 frame place) ≡ true
 unfolding number_if
-word_fits true frame place low = word_at_fits frame place low
-word_fits false frame place low = refl
+u32_fits true frame place low = u32_at_fits frame place low
+u32_fits false frame place low = refl
 
-kind_fits : (ipv4 : Bool) (transport : Transport) → nat_lt (kind_of ipv4 transport) (2 ^ 8) ≡ true
+pub kind_fits : (ipv4 : Bool) (transport : Transport) → nat_lt (kind_of ipv4 transport) (2 ^ 8) ≡ true
 kind_fits true Unread = refl
 kind_fits false Unread = refl
 kind_fits ipv4 (Tcp place) = refl
@@ -66,7 +66,7 @@ etype_fits : (link : ℕ) (frame : List ℕ) → HoldsBytes frame → nat_lt (et
 unfolding etype_of
 etype_fits link frame low = lt-ltb (etype_of link frame) (2 ^ 16) (type_low (is_tagged link frame) (has_type link frame) frame (type_at link) (type_at link + 4) low)
 
-tag_low : (tagged : Bool) (number : ℕ) → (if tagged then number % 2 ^ 12 else 0) < 2 ^ 16
+pub tag_low : (tagged : Bool) (number : ℕ) → (if tagged then number % 2 ^ 12 else 0) < 2 ^ 16
 tag_low true number = omega arith
 tag_low false number = omega arith
 
@@ -81,7 +81,7 @@ six_fit xs six low =
     sym (byte_string 6 (xs ++ replicate 10 0) (omega arith) size (bytes_append xs (replicate 10 0) low (zeros_low 10)))
     ∙ rw (rw six at (drop-append_seam xs (replicate 10 0))) refl
 
-address_fits : (read : Bool) (frame : List ℕ) (place : ℕ) → HoldsBytes frame → (read ≡ true → place + 6 ≤ length frame) → is_of_kind (Bytes 6) (address_if read frame place) ≡ true
+pub address_fits : (read : Bool) (frame : List ℕ) (place : ℕ) → HoldsBytes frame → (read ≡ true → place + 6 ≤ length frame) → is_of_kind (Bytes 6) (address_if read frame place) ≡ true
 unfolding address_if
 address_fits true frame place low room =
     let whole : place + 6 ≤ length frame = room refl in
@@ -94,20 +94,20 @@ address_fits false frame place low room = refl
 transport_fits : (transport : Transport) (frame : List ℕ) (vlan : ℕ) → HoldsBytes frame → nat_lt vlan (2 ^ 16) ≡ true → values_fit (drop 13 packet_attrs) (transport_values transport frame ++ Num vlan ∷ []) ≡ true
 transport_fits Unread frame vlan low tag = and_from _ _ tag refl
 transport_fits (Tcp place) frame vlan low tag =
-    and_from _ _ (short_at_fits frame place low)
-    (and_from _ _ (short_at_fits frame (place + 2) low)
-    (and_from _ _ (word_at_fits frame (place + 4) low)
-    (and_from _ _ (word_at_fits frame (place + 8) low)
+    and_from _ _ (u16_at_fits frame place low)
+    (and_from _ _ (u16_at_fits frame (place + 2) low)
+    (and_from _ _ (u32_at_fits frame (place + 4) low)
+    (and_from _ _ (u32_at_fits frame (place + 8) low)
     (and_from _ _ (byte_at_fits frame (place + 13) low)
-    (and_from _ _ (short_at_fits frame (place + 14) low)
+    (and_from _ _ (u16_at_fits frame (place + 14) low)
     (and_from _ _ tag refl))))))
 transport_fits (Udp place) frame vlan low tag =
-    and_from _ _ (short_at_fits frame place low)
-    (and_from _ _ (short_at_fits frame (place + 2) low)
+    and_from _ _ (u16_at_fits frame place low)
+    (and_from _ _ (u16_at_fits frame (place + 2) low)
     (and_from _ _ tag refl))
 
 -- where addresses are read, their bytes are there
-addresses_room : (link n : ℕ) (frame : List ℕ) → n ≤ 14 → has_addresses link frame ≡ true → n ≤ length frame
+pub addresses_room : (link n : ℕ) (frame : List ℕ) → n ≤ 14 → has_addresses link frame ≡ true → n ≤ length frame
 addresses_room link n frame few read = let h : 14 ≤ length frame = leb-true 14 (length frame) (and_parts (link == 1) (nat_le 14 (length frame)) read).1 in omega (arith, h, few)
 
 -- every field of a row of a packet is of its kind
@@ -126,9 +126,9 @@ packet_fits packet ts caplen len low =
     (and_from _ _ (etype_fits link frame low)
     (and_from _ _ (kind_fits ipv4 (transport_of link frame))
     (and_from _ _ (byte_fits ipv4 frame (place + 1) low)
-    (and_from _ _ (short_fits ipv4 frame (place + 2) low)
+    (and_from _ _ (u16_fits ipv4 frame (place + 2) low)
     (and_from _ _ (byte_fits ipv4 frame (place + 8) low)
     (and_from _ _ (byte_fits ipv4 frame (place + 9) low)
-    (and_from _ _ (word_fits ipv4 frame (place + 12) low)
-    (and_from _ _ (word_fits ipv4 frame (place + 16) low)
+    (and_from _ _ (u32_fits ipv4 frame (place + 12) low)
+    (and_from _ _ (u32_fits ipv4 frame (place + 16) low)
     (transport_fits (transport_of link frame) frame (vlan_of link frame) low (vlan_fits link frame))))))))))))))

@@ -1,2 +1,4 @@
 pub mod Fitting
 pub mod Within
+pub mod Fitting6
+pub mod Agreeing

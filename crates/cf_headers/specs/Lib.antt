@@ -1,1 +1,4 @@
 pub mod Packet
+pub mod Layers
+pub mod Ipv6
+pub mod Packet6

@@ -5,16 +5,18 @@ use Rattle.byteorder.specs.Endian.{big_number}
 use Rattle.cf_row.specs.declared.row.Value.{Value}
 use Rattle.cf_row.specs.declared.row.Value.TheVariants.{Num, Raw}
 use Rattle.cf_row.specs.Row.{RowValue}
+use Rattle.cf_pcap.specs.declared.links.Link.TheVariants.{Ethernet, LinuxCooked}
+use Rattle.cf_pcap.specs.Links.{number_of}
 use Rattle.cf_pcap.specs.Capture.{FrameValue}
 use Rattle.cf_headers.specs.declared.transport.Transport.{Transport}
 use Rattle.cf_headers.specs.declared.transport.Transport.TheVariants.{Unread, Tcp, Udp}
 
 -- Of the link and the bytes of a frame. Numbers have their highest byte first (RFC 791, appendix B).
 
--- where the type stands: after two addresses of 6 bytes, or after 14 bytes of a cooked frame (link 113). No capture that is
--- read has a link other than 1 and 113; a frame of such a link is read as if its type stood at 12, and has no addresses.
+-- where the type stands: after two addresses of 6 bytes, or after 14 bytes of a cooked frame. No capture that is
+-- read for its packets has another link; a frame of such a link is read as if its type stood at 12, and has no addresses.
 abbrev pub type_at : ℕ → ℕ
-type_at link = if link == 113 then 14 else 12
+type_at link = if link == number_of LinuxCooked then 14 else 12
 
 -- the type is there
 abbrev pub has_type : ℕ → List ℕ → Bool
@@ -22,7 +24,7 @@ has_type link frame = nat_le (type_at link + 2) (length frame)
 
 -- an Ethernet II header (link 1) is there, with two addresses
 abbrev pub has_addresses : ℕ → List ℕ → Bool
-has_addresses link frame = (link == 1) && nat_le 14 (length frame)
+has_addresses link frame = (link == number_of Ethernet) && nat_le 14 (length frame)
 
 -- the frame has a whole tag of 802.1Q: type 8100, 2 bytes whose low 12 bits are the number of the VLAN, and the type
 -- of what comes after

@@ -16,7 +16,7 @@ pub(crate) fn byte_at(frame: &[u8], at: usize) -> Value
 
 // A number of 2 bytes.
 #[tactic(auto, unfolding(crate::specs::Packet::number_at))]
-pub(crate) fn short_at(frame: &[u8], at: usize) -> Value
+pub(crate) fn u16_at(frame: &[u8], at: usize) -> Value
     requires { at + 2 ≤ length frame.now }
     ensures { result ≡ number_at 2 frame.now at }
 {
@@ -25,11 +25,20 @@ pub(crate) fn short_at(frame: &[u8], at: usize) -> Value
 
 // A number of 4 bytes.
 #[tactic(auto, unfolding(crate::specs::Packet::number_at))]
-pub(crate) fn word_at(frame: &[u8], at: usize) -> Value
+pub(crate) fn u32_at(frame: &[u8], at: usize) -> Value
     requires { at + 4 ≤ length frame.now }
     ensures { result ≡ number_at 4 frame.now at }
 {
     Value::Num(BigEndian::read_u32(&frame[at..]) as u64)
+}
+
+// A number of 8 bytes.
+#[tactic(auto, unfolding(crate::specs::Packet::number_at))]
+pub(crate) fn u64_at(frame: &[u8], at: usize) -> Value
+    requires { at + 8 ≤ length frame.now }
+    ensures { result ≡ number_at 8 frame.now at }
+{
+    Value::Num(BigEndian::read_u64(&frame[at..]))
 }
 
 // A number of 1 byte, where it is read.
@@ -47,12 +56,12 @@ pub(crate) fn byte_if(read: bool, frame: &[u8], at: usize) -> Value
 
 // A number of 2 bytes, where it is read.
 #[tactic(auto, unfolding(crate::specs::Packet::number_if))]
-pub(crate) fn short_if(read: bool, frame: &[u8], at: usize) -> Value
+pub(crate) fn u16_if(read: bool, frame: &[u8], at: usize) -> Value
     requires { IsTrue read → at + 2 ≤ length frame.now }
     ensures { result ≡ number_if read 2 frame.now at }
 {
     if read {
-        short_at(frame, at)
+        u16_at(frame, at)
     } else {
         Value::Num(0)
     }
@@ -60,12 +69,12 @@ pub(crate) fn short_if(read: bool, frame: &[u8], at: usize) -> Value
 
 // A number of 4 bytes, where it is read.
 #[tactic(auto, unfolding(crate::specs::Packet::number_if))]
-pub(crate) fn word_if(read: bool, frame: &[u8], at: usize) -> Value
+pub(crate) fn u32_if(read: bool, frame: &[u8], at: usize) -> Value
     requires { IsTrue read → at + 4 ≤ length frame.now }
     ensures { result ≡ number_if read 4 frame.now at }
 {
     if read {
-        word_at(frame, at)
+        u32_at(frame, at)
     } else {
         Value::Num(0)
     }

@@ -4,12 +4,7 @@ ghost use Rattle.byteorder.specs.Endian.{big_number};
 ghost use Rattle.cf_headers.specs.Packet.{type_at as type_at_of, has_addresses as has_addresses_of, is_tagged as is_tagged_of, network_at, etype_of, vlan_of};
 
 use byteorder::{BigEndian, ByteOrder};
-
-/// LINKTYPE_ETHERNET.
-const ETHERNET: u16 = 1;
-
-/// LINKTYPE_LINUX_SLL.
-const LINUX_SLL: u16 = 113;
+use cf_pcap::Link;
 
 /// The type of a tag.
 const TAG: u16 = 0x8100;
@@ -30,7 +25,11 @@ fn type_at(link: u16) -> usize
     ensures value { result ≡ type_at_of link }
     ensures near { result ≤ 14 }
 {
-    if link == LINUX_SLL { 14 } else { 12 }
+    if link == Link::LinuxCooked.number() {
+        14
+    } else {
+        12
+    }
 }
 
 // Whether it holds an Ethernet II header, with two addresses.
@@ -38,7 +37,7 @@ pub(crate) fn has_addresses(link: u16, frame: &[u8]) -> bool
     ensures value { result ≡ has_addresses_of link frame.now }
     ensures room { IsTrue result → 14 ≤ length frame.now }
 {
-    link == ETHERNET && frame.len() >= 14
+    link == Link::Ethernet.number() && frame.len() >= 14
 }
 
 // Whether it has a whole tag.
@@ -52,7 +51,7 @@ fn is_tagged(link: u16, frame: &[u8]) -> bool
 }
 
 // The number of 2 bytes at that place, or 0 where the frame ends before.
-fn number_or_0(frame: &[u8], at: usize) -> u16
+pub(crate) fn number_or_0(frame: &[u8], at: usize) -> u16
     requires { at ≤ 14 }
     ensures { result ≡ (if nat_le (at + 2) (length frame.now) then big_number 2 (drop at frame.now) else 0) }
 {

@@ -12,9 +12,9 @@ const LEAST: usize = 20;
 
 // Where what it carries begins, if it is read.
 pub(crate) fn transport_at(at: usize, frame: &[u8]) -> usize
-    requires { at ≤ 20 }
+    requires { at ≤ 28 }
     ensures value { result ≡ transport_at_of at frame.now }
-    ensures near { result ≤ 80 }
+    ensures near { result ≤ 88 }
 {
     let first = frame.get(at).copied().unwrap_or(0);
     at + 4 * (first % 16) as usize
@@ -23,7 +23,7 @@ pub(crate) fn transport_at(at: usize, frame: &[u8]) -> usize
 // Whether it stands there whole.
 #[tactic(auto, unfolding(crate::specs::Packet::has_ipv4))]
 pub(crate) fn has_ipv4(etype: u16, at: usize, frame: &[u8]) -> bool
-    requires { at ≤ 20 }
+    requires { at ≤ 28 }
     ensures value { result ≡ has_ipv4_of etype at frame.now }
     ensures room { IsTrue result → at + 20 ≤ length frame.now }
 {
@@ -39,7 +39,7 @@ pub(crate) fn has_ipv4(etype: u16, at: usize, frame: &[u8]) -> bool
 // Where its packet ends.
 #[tactic(auto, unfolding(crate::specs::Packet::packet_end))]
 fn packet_end(at: usize, frame: &[u8]) -> usize
-    requires near { at ≤ 20 }
+    requires near { at ≤ 28 }
     requires room { at + 20 ≤ length frame.now }
     ensures value { result ≡ packet_end_of at frame.now }
     ensures within { result ≤ length frame.now }
@@ -55,7 +55,7 @@ fn packet_end(at: usize, frame: &[u8]) -> usize
 // Whether the packet carries that protocol, and holds a header of that many bytes.
 #[tactic(auto, unfolding(crate::specs::Packet::carries))]
 pub(crate) fn carries(protocol: u8, bytes: u8, at: usize, frame: &[u8]) -> bool
-    requires near { at ≤ 20 }
+    requires near { at ≤ 28 }
     requires room { at + 20 ≤ length frame.now }
     ensures value { result ≡ carries_of protocol bytes at frame.now }
     ensures within { IsTrue result → transport_at_of at frame.now + bytes ≤ length frame.now }

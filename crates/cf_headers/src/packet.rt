@@ -4,7 +4,7 @@ ghost use Rattle.cf_row.specs.Row.{Fits};
 ghost use Rattle.cf_row.specs.Schema.{packet_attrs};
 ghost use Rattle.cf_headers.specs.Packet.{packet_row_of, address_values as address_values_of, network_values as network_values_of, transport_values as transport_values_of, IsWithin};
 
-use crate::fields::{address_if, byte_at, byte_if, short_at, short_if, word_at, word_if};
+use crate::fields::{address_if, byte_at, byte_if, u16_at, u16_if, u32_at, u32_if};
 use crate::link::{has_addresses, link_header};
 use crate::network::has_ipv4;
 use crate::transport::{Transport, kind_of, transport_of};
@@ -13,7 +13,7 @@ use cf_row::{Memory, Row, Value};
 use std::alloc::Global;
 
 // dmac and smac.
-fn address_values(link: u16, frame: &[u8]) -> [Value; 2]
+pub(crate) fn address_values(link: u16, frame: &[u8]) -> [Value; 2]
     ensures { result ≡ address_values_of link frame.now }
 {
     let read = has_addresses(link, frame);
@@ -21,23 +21,23 @@ fn address_values(link: u16, frame: &[u8]) -> [Value; 2]
 }
 
 // tos, iplen, ttl, proto, src and dst.
-fn network_values(ipv4: bool, at: usize, frame: &[u8]) -> [Value; 6]
-    requires near { at ≤ 20 }
+pub(crate) fn network_values(ipv4: bool, at: usize, frame: &[u8]) -> [Value; 6]
+    requires near { at ≤ 28 }
     requires room { IsTrue ipv4 → at + 20 ≤ length frame.now }
     ensures { result ≡ network_values_of ipv4 at frame.now }
 {
     [
         byte_if(ipv4, frame, at + 1),
-        short_if(ipv4, frame, at + 2),
+        u16_if(ipv4, frame, at + 2),
         byte_if(ipv4, frame, at + 8),
         byte_if(ipv4, frame, at + 9),
-        word_if(ipv4, frame, at + 12),
-        word_if(ipv4, frame, at + 16),
+        u32_if(ipv4, frame, at + 12),
+        u32_if(ipv4, frame, at + 16),
     ]
 }
 
 // sport, dport, seq, ack, flags and win.
-fn transport_values(transport: Transport, frame: &[u8]) -> [Value; 6]
+pub(crate) fn transport_values(transport: Transport, frame: &[u8]) -> [Value; 6]
     requires { IsWithin transport frame.now }
     ensures { result ≡ transport_values_of transport frame.now }
 {
@@ -45,16 +45,16 @@ fn transport_values(transport: Transport, frame: &[u8]) -> [Value; 6]
     match transport {
         Transport::Unread => [none, none, none, none, none, none],
         Transport::Tcp(at) => [
-            short_at(frame, at),
-            short_at(frame, at + 2),
-            word_at(frame, at + 4),
-            word_at(frame, at + 8),
+            u16_at(frame, at),
+            u16_at(frame, at + 2),
+            u32_at(frame, at + 4),
+            u32_at(frame, at + 8),
             byte_at(frame, at + 13),
-            short_at(frame, at + 14),
+            u16_at(frame, at + 14),
         ],
         Transport::Udp(at) => [
-            short_at(frame, at),
-            short_at(frame, at + 2),
+            u16_at(frame, at),
+            u16_at(frame, at + 2),
             none,
             none,
             none,

@@ -16,7 +16,7 @@ pub(crate) enum Transport {
 // The transport header after an IPv4 header at that place, if one is read.
 #[tactic(auto, unfolding(crate::specs::Packet::transport_in))]
 pub(crate) fn transport_of(ipv4: bool, at: usize, frame: &[u8]) -> Transport
-    requires near { at ≤ 20 }
+    requires near { at ≤ 28 }
     requires room { IsTrue ipv4 → at + 20 ≤ length frame.now }
     ensures value { result ≡ transport_in ipv4 at frame.now }
     ensures within { IsWithin result frame.now }

@@ -8,6 +8,8 @@ use Rattle.byteorder.specs.Numbers.{little_number-reads_back}
 use Rattle.cf_pcap.specs.declared.form.Order.TheVariants.{Little}
 use Rattle.cf_pcap.specs.declared.form.Precision.TheVariants.{Micro}
 use Rattle.cf_pcap.specs.declared.form.FileHeader.{FileHeader}
+use Rattle.cf_pcap.specs.declared.links.LinkSet.TheVariants.{Basic}
+use Rattle.cf_pcap.specs.Links.{is_link}
 use Rattle.cf_pcap.specs.Capture.{FrameValue, layout_of, caplen_at, frame_at, HasRecord, AreRecordsThen, IsFileHeader, IsCapture}
 use Rattle.cf_pcap.proofs.Following.{caplen_first, record_first, frame_first}
 use Rattle.cf_pcap.proofs.Heading.{header_first}
@@ -17,8 +19,8 @@ use Rattle.cf_make.specs.Generated.{draw_of, is_udp, captured_length, wire_lengt
 abbrev the_header : FileHeader
 the_header = record { layout = record { order = Little; precision = Micro }; link = 1 }
 
-is_header : IsFileHeader the_header file_header
-unfolding file_header layout_of
+is_header : IsFileHeader Basic the_header file_header
+unfolding file_header layout_of is_link
 is_header = record { size = omega arith; magic = refl; version = record { major = refl; minor = refl }; link = refl; lawful = refl }
 
 file_header_length : length file_header ≡ 24
@@ -181,7 +183,7 @@ records_size seed k (suc n) =
     let small = captured_few (draw_of seed k) in
     omega (arith, rest, whole, small, length-append (record_of k (draw_of seed k)) (records seed (k + 1) n))
 
-pub made_is_capture : (seed count : ℕ) → count ≤ 2 ^ 20 → IsCapture (generated_bytes seed count) (generated_frames seed count)
+pub made_is_capture : (seed count : ℕ) → count ≤ 2 ^ 20 → IsCapture Basic (generated_bytes seed count) (generated_frames seed count)
 unfolding generated_bytes generated_frames
 made_is_capture seed count most =
     let size = records_size seed 0 count in
@@ -190,7 +192,7 @@ made_is_capture seed count most =
       size = omega (arith, most, size, file_header_length, length-append file_header (records seed 0 count));
       header = the_header;
       whole = record {
-        begin = header_first the_header file_header (records seed 0 count) is_header;
+        begin = header_first Basic the_header file_header (records seed 0 count) is_header;
         records = subst (λ (xs : List ℕ). AreRecordsThen the_header 0 (frames seed 0 count) xs []) (sym next) (are_records seed 0 count (omega (arith, most)));
       };
     }

@@ -1,0 +1,137 @@
+// The row of a captured packet with its IPv6 addresses.
+ghost use Rattle.std.specs.Prelude.{◌≡◌, ◌+◌, ◌≤◌, length, IfOk, IsTrue};
+ghost use Rattle.cf_row.specs.Row.{Fits};
+ghost use Rattle.cf_packet6.specs.Schema6.{packet6_attrs};
+ghost use Rattle.cf_pcap.specs.Capture.{FrameValue};
+ghost use Rattle.cf_headers.specs.Packet.{IsWithin};
+ghost use Rattle.cf_headers.specs.Packet6.{packet6_row_of, network_values_in as network_values_of, transport_behind as transport_behind_of, address6_if as address6_if_of, Agrees};
+
+use crate::ipv6::{address6_values, has_ipv6, network6_values, transport6_of};
+use crate::layer::{link_layer, past_tag, vlan_of};
+use crate::network::has_ipv4;
+use crate::packet::{address_values, network_values, transport_values};
+use crate::transport::{Transport, kind_of, transport_of};
+use cf_pcap::Frame;
+use cf_row::{Memory, Row, Value};
+use std::alloc::Global;
+
+// tos, iplen, ttl, proto, src and dst.
+fn network_values_in(ipv6: bool, etype: u16, at: usize, frame: &[u8]) -> [Value; 6]
+    requires near { at ≤ 28 }
+    requires room { IsTrue ipv6 → at + 40 ≤ length frame.now }
+    ensures { result ≡ network_values_of ipv6 etype at frame.now }
+{
+    if ipv6 {
+        network6_values(at, frame)
+    } else {
+        network_values(has_ipv4(etype, at, frame), at, frame)
+    }
+}
+
+// The transport header behind the IPv6 or the IPv4 header.
+fn transport_behind(ipv6: bool, etype: u16, at: usize, frame: &[u8]) -> Transport
+    requires near { at ≤ 28 }
+    requires room { IsTrue ipv6 → at + 40 ≤ length frame.now }
+    ensures value { result ≡ transport_behind_of ipv6 etype at frame.now }
+    ensures within { IsWithin result frame.now }
+{
+    if ipv6 {
+        transport6_of(at, frame)
+    } else {
+        transport_of(has_ipv4(etype, at, frame), at, frame)
+    }
+}
+
+// src6, src6_low, dst6 and dst6_low.
+fn address6_if(ipv6: bool, at: usize, frame: &[u8]) -> [Value; 4]
+    requires near { at ≤ 28 }
+    requires room { IsTrue ipv6 → at + 40 ≤ length frame.now }
+    ensures { result ≡ address6_if_of ipv6 at frame.now }
+{
+    if ipv6 {
+        address6_values(at, frame)
+    } else {
+        [Value::Num(0); 4]
+    }
+}
+
+// All values of a packet's row.
+fn packet6_values(ts: u64, caplen: u32, len: u32, link: u16, bytes: &[u8]) -> [Value; 24]
+    ensures { result ≡ (packet6_row_of (record { num = 0; ts = ts; caplen = caplen; len = len; link = link; bytes = bytes.now })).values }
+{
+    let first = link_layer(link, bytes);
+    let layer = past_tag(past_tag(first, bytes), bytes);
+    let (etype, at) = (layer.etype, layer.place);
+    let ipv6 = has_ipv6(etype, at, bytes);
+    let transport = transport_behind(ipv6, etype, at, bytes);
+    let kind = kind_of(ipv6 || has_ipv4(etype, at, bytes), transport);
+    let [dmac, smac] = address_values(link, bytes);
+    let [tos, iplen, ttl, proto, src, dst] = network_values_in(ipv6, etype, at, bytes);
+    let [sport, dport, seq, ack, flags, win] = transport_values(transport, bytes);
+    let [src6, src6_low, dst6, dst6_low] = address6_if(ipv6, at, bytes);
+    [
+        Value::Num(ts),
+        Value::Num(u64::from(caplen)),
+        Value::Num(u64::from(len)),
+        dmac,
+        smac,
+        Value::Num(u64::from(etype)),
+        Value::Num(u64::from(kind)),
+        tos,
+        iplen,
+        ttl,
+        proto,
+        src,
+        dst,
+        sport,
+        dport,
+        seq,
+        ack,
+        flags,
+        win,
+        Value::Num(u64::from(vlan_of(first, bytes))),
+        src6,
+        src6_low,
+        dst6,
+        dst6_low,
+    ]
+}
+
+fn row6_of(
+    alloc: Global,
+    num: u32,
+    ts: u64,
+    caplen: u32,
+    len: u32,
+    link: u16,
+    bytes: &[u8],
+) -> Result<Row, Memory>
+    ensures row { IfOk result (λ row. row ≡ packet6_row_of (record { num = num; ts = ts; caplen = caplen; len = len; link = link; bytes = bytes.now })) }
+    ensures fits { IfOk result (Fits packet6_attrs) }
+{
+    Row::packed(alloc, num, &packet6_values(ts, caplen, len, link, bytes))
+}
+
+/// The row of a captured packet, of the packet schema with IPv6 addresses, with the packet's number. What isn't read is 0, or zero
+/// bytes. Of a [`cf_pcap::Link`] the header is read, and two tags of 802.1Q or 802.1ad where they are whole; of another link
+/// nothing. Behind an IPv6 header at most eight extension headers are passed over. A length of 0 in an IP header is taken for
+/// the captured length.
+pub fn packet6_row(alloc: Global, frame: &Frame) -> Result<Row, Memory>
+    ensures row { IfOk result (λ row. row ≡ packet6_row_of frame.now) }
+    ensures fits { IfOk result (Fits packet6_attrs) }
+{
+    row6_of(
+        alloc,
+        frame.num,
+        frame.ts,
+        frame.caplen,
+        frame.len,
+        frame.link,
+        &frame.bytes,
+    )
+}
+
+/// The row of a packet of kind 1, 2 or 3 from a basic link is the begin of its row with IPv6 addresses.
+pub fn rows_of_both_schemas_agree()
+    ensures { (packet : FrameValue) → Agrees packet }
+{}

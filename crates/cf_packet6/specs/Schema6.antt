@@ -1,0 +1,18 @@
+-- The attributes of a packet with its IPv6 addresses.
+use Rattle.std.specs.Prelude.{List, [], ◌∷◌, ◌++◌, codes}
+use Rattle.cf_row.specs.declared.schema.Attr.{Attr}
+use Rattle.cf_row.specs.declared.schema.Kind.TheVariants.{U64}
+use Rattle.cf_row.specs.Schema.{packet_attrs}
+
+-- the high and the low 64 bits of the source and the destination address (RFC 8200, section 3)
+abbrev pub address_attrs : List Attr
+address_attrs =
+    record { name = codes "src6"; kind = U64 }
+    ∷ record { name = codes "src6_low"; kind = U64 }
+    ∷ record { name = codes "dst6"; kind = U64 }
+    ∷ record { name = codes "dst6_low"; kind = U64 }
+    ∷ []
+
+-- those of a packet, and then these
+abbrev pub packet6_attrs : List Attr
+packet6_attrs = packet_attrs ++ address_attrs
