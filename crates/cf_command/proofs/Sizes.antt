@@ -7,7 +7,7 @@ use Rattle.std.proofs.lemmas.Bool.{and_parts, or_cases, leb-true, eqb-true}
 use Rattle.cf_command.specs.declared.words.LogSizes.{LogSizes}
 use Rattle.cf_command.specs.Table.{SaidValue, said_of}
 use Rattle.cf_command.specs.Table.SaidValue.{run_said, synth_said, dump_said, snapshot_said}
-use Rattle.cf_command.specs.Call.{Call, SnapshotCall, HasSizes, AreSizes, number_in, sizes_with, divided, sizes_in, call_in, call_of}
+use Rattle.cf_command.specs.Call.{SnapshotCall, HasSizes, AreSizes, number_in, is_given, sizes_with, divided, sizes_in, call_in, call_of}
 use Rattle.cf_command.specs.Call.Call.{snapshot}
 
 -- what comes of a value that there may be
@@ -78,12 +78,12 @@ by_said (synth_said texts) =
     and_then_by HasSizes _ (number_in 0 (2 ^ 64 - 1) texts.seed) tt (λ seed first.
     and_then_by HasSizes _ (number_in 0 (2 ^ 20) texts.count) tt (λ count second.
     and_then_by HasSizes _ (sizes_in texts.writers texts.capacity texts.nodes texts.segments) tt (λ sizes found. right (sizes_in texts.writers texts.capacity texts.nodes texts.segments) sizes (right_in texts.writers texts.capacity texts.nodes texts.segments) found)))
-by_said (dump_said capture) = tt
+by_said (dump_said texts) = tt
 by_said (snapshot_said texts) =
     and_then_by HasSizes _ (number_in 0 (2 ^ 32 - 1) texts.after) tt (λ turns first.
     and_then_by HasSizes _ (number_in 1 4096 texts.turn) tt (λ turn second.
     and_then_by HasSizes _ (sizes_with 1 texts.capacity texts.nodes) tt (λ sizes found.
-    by_hosts (nat_le 1 (length texts.captures) && nat_le (length texts.captures) 16) (record { setup = texts.setup; captures = texts.captures; turns = turns; turn = turn; sizes = sizes }) (right (sizes_with 1 texts.capacity texts.nodes) sizes (right_with 1 texts.capacity texts.nodes (omega arith, omega arith)) found))))
+    by_hosts (nat_le 1 (length texts.captures) && nat_le (length texts.captures) 16) (record { setup = texts.setup; captures = texts.captures; turns = turns; turn = turn; sizes = sizes; truncated = is_given texts.truncated }) (right (sizes_with 1 texts.capacity texts.nodes) sizes (right_with 1 texts.capacity texts.nodes (omega arith, omega arith)) found))))
 
 -- whatever words call for
 pub has_sizes : (words : List (List ℕ)) → HasSizes (call_of words)

@@ -1,5 +1,5 @@
 -- What the words of a command line call for.
-use Rattle.std.specs.Prelude.{◌≡◌, ℕ, ◌≤◌, ◌<◌, ◌-◌, ◌*◌, ◌%◌, ◌^◌, ◌&&◌, ◌||◌, nat_le, nat_eq, List, length, Option, Some, None, option_and_then, map, decimal, if◌then◌else◌}
+use Rattle.std.specs.Prelude.{◌≡◌, ℕ, ◌≤◌, ◌<◌, ◌-◌, ◌*◌, ◌%◌, ◌^◌, ◌&&◌, ◌||◌, Bool, nat_le, nat_eq, List, length, Option, Some, None, option_and_then, map, decimal, codes, if◌then◌else◌}
 use Rattle.std.specs.Borrow.{Bor}
 use Rattle.std.specs.Str.{bytes_eq}
 use Rattle.std.specs.Str.Parse.{digits_value}
@@ -20,6 +20,10 @@ texts words = map (λ word. word.now) words
 -- the number from `low` to `high` that a text writes out in decimal digits, with no sign and no leading zero
 unfoldable pub number_in : ℕ → ℕ → List ℕ → Option ℕ
 number_in low high text = let number = digits_value 10 text in if bytes_eq text (decimal number) && (nat_le low number && nat_le number high) then Some number else None
+
+-- an option without a value is given
+abbrev pub is_given : List ℕ → Bool
+is_given text = bytes_eq text (codes "true")
 
 -- the sizes of a log of so many writers and one segment, whose capacity and the nodes of each writer two texts write out
 abbrev pub sizes_with : ℕ → List ℕ → List ℕ → Option LogSizes
@@ -49,12 +53,13 @@ pub record AreSizes (sizes : LogSizes) : Type 0 where
   pub whole : 1 < sizes.segments → sizes.capacity % 4096 ≡ 0
 
 -- what `run` is called for: the report of a capture by a setup, both named, over a log of these sizes, each live question being
--- asked so often beside a batch
+-- asked so often beside a batch; whether the capture is read as truncated
 pub record RunCall : Type 0 where
   pub setup : List ℕ
   pub capture : List ℕ
   pub sizes : LogSizes
   pub rounds : ℕ
+  pub truncated : Bool
 
 -- what `synth` is called for: the answers of a setup, which is named, over so many packets that are drawn from a seed
 pub record SynthCall : Type 0 where
@@ -63,18 +68,21 @@ pub record SynthCall : Type 0 where
   pub count : ℕ
   pub sizes : LogSizes
 
--- what `dump` is called for: the rows of a capture, which is named
+-- what `dump` is called for: the rows of a capture, which is named; whether it is read as truncated
 pub record DumpCall : Type 0 where
   pub capture : List ℕ
+  pub truncated : Bool
 
 -- what `snapshot` is called for: the answers of a setup at one cut of several hosts, each of which has the rows of a capture, all
--- named: so many turns of so many rows are taken before the freezing, over logs of one writer and one segment of these sizes
+-- named: so many turns of so many rows are taken before the freezing, over logs of one writer and one segment of these sizes; whether
+-- captures are read as truncated
 pub record SnapshotCall : Type 0 where
   pub setup : List ℕ
   pub captures : List (List ℕ)
   pub turns : ℕ
   pub turn : ℕ
   pub sizes : LogSizes
+  pub truncated : Bool
 
 -- what a command line is called for
 pub data Call : Type 0 where
@@ -84,21 +92,20 @@ pub data Call : Type 0 where
   snapshot : (call : SnapshotCall) → Call
 
 -- a snapshot of 1 to 16 captures
-abbrev pub snapshot_over : List ℕ → ℕ → ℕ → LogSizes → List (List ℕ) → Option Call
-snapshot_over setup turns turn sizes captures =
-    if nat_le 1 (length captures) && nat_le (length captures) 16 then Some (snapshot (record { setup = setup; captures = captures; turns = turns; turn = turn; sizes = sizes })) else None
+abbrev pub snapshot_over : SnapshotCall → Option Call
+snapshot_over call = if nat_le 1 (length call.captures) && nat_le (length call.captures) 16 then Some (snapshot call) else None
 
 -- the call of what is said, where each number is in its range
 abbrev pub call_in : SaidValue → Option Call
 call_in (run_said texts) =
-    option_and_then (λ sizes. option_and_then (λ rounds. Some (run (record { setup = texts.setup; capture = texts.capture; sizes = sizes; rounds = rounds })))
+    option_and_then (λ sizes. option_and_then (λ rounds. Some (run (record { setup = texts.setup; capture = texts.capture; sizes = sizes; rounds = rounds; truncated = is_given texts.truncated })))
     (number_in 0 64 texts.live)) (sizes_in texts.writers texts.capacity texts.nodes texts.segments)
 call_in (synth_said texts) =
     option_and_then (λ seed. option_and_then (λ count. option_and_then (λ sizes. Some (synth (record { setup = texts.setup; seed = seed; count = count; sizes = sizes })))
     (sizes_in texts.writers texts.capacity texts.nodes texts.segments)) (number_in 0 (2 ^ 20) texts.count)) (number_in 0 (2 ^ 64 - 1) texts.seed)
-call_in (dump_said capture) = Some (dump (record { capture = capture }))
+call_in (dump_said texts) = Some (dump (record { capture = texts.capture; truncated = is_given texts.truncated }))
 call_in (snapshot_said texts) =
-    option_and_then (λ turns. option_and_then (λ turn. option_and_then (λ sizes. snapshot_over texts.setup turns turn sizes texts.captures)
+    option_and_then (λ turns. option_and_then (λ turn. option_and_then (λ sizes. snapshot_over (record { setup = texts.setup; captures = texts.captures; turns = turns; turn = turn; sizes = sizes; truncated = is_given texts.truncated }))
     (sizes_with 1 texts.capacity texts.nodes)) (number_in 1 4096 texts.turn)) (number_in 0 (2 ^ 32 - 1) texts.after)
 
 -- What the words call for: a command with its options, as clap takes them, each number being in its range. Other words are no
@@ -116,16 +123,17 @@ HasSizes (Some (snapshot call)) = AreSizes call.sizes
 
 -- the calls that commands were read as
 abbrev pub run_by : RunCommand → RunCall
-run_by command = record { setup = command.setup.now; capture = command.capture.now; sizes = command.sizes; rounds = command.rounds }
+run_by command = record { setup = command.setup.now; capture = command.capture.now; sizes = command.sizes; rounds = command.rounds; truncated = command.truncated }
 
 abbrev pub synth_by : SynthCommand → SynthCall
 synth_by command = record { setup = command.setup.now; seed = command.seed; count = command.count; sizes = command.sizes }
 
 abbrev pub dump_by : DumpCommand → DumpCall
-dump_by command = record { capture = command.capture.now }
+dump_by command = record { capture = command.capture.now; truncated = command.truncated }
 
 abbrev pub snapshot_by : SnapshotCommand → SnapshotCall
-snapshot_by command = record { setup = command.setup.now; captures = map (λ name. name.now) command.captures.items; turns = command.turns; turn = command.turn; sizes = command.sizes }
+snapshot_by command =
+    record { setup = command.setup.now; captures = map (λ name. name.now) command.captures.items; turns = command.turns; turn = command.turn; sizes = command.sizes; truncated = command.truncated }
 
 -- the call of a command that was read
 abbrev pub call_by : Command → Call

@@ -3,11 +3,12 @@ use Rattle.std.specs.Prelude.{◌==◌, Bool, true, List, [], ◌∷◌, Option,
 use Rattle.std.specs.Str.{bytes_eq}
 use Rattle.cf_command.specs.declared.table.RunTexts.{RunTexts}
 use Rattle.cf_command.specs.declared.table.SynthTexts.{SynthTexts}
+use Rattle.cf_command.specs.declared.table.DumpTexts.{DumpTexts}
 use Rattle.cf_command.specs.declared.table.SnapshotTexts.{SnapshotTexts}
 use Rattle.cf_command.specs.declared.table.Said.{Said}
 use Rattle.cf_command.specs.declared.table.Said.TheVariants.{Run, Synth, Dump, Snapshot}
 use Rattle.clap.specs.Words.{App, Rule, Row, Text, new_app, new_rule, with_rule, with_subcommand, subcommand_of, fault_of, first_of, all_of}
-use Rattle.clap.specs.declared.builder.action.ArgAction.TheVariants.{Append}
+use Rattle.clap.specs.declared.builder.action.ArgAction.TheVariants.{Append, SetTrue}
 
 -- an option that has to be given
 abbrev pub needed : Text → Rule
@@ -16,6 +17,10 @@ needed id = record (new_rule id) { long = Some id; required = true }
 -- an option with a default
 abbrev pub optional : Text → Text → Rule
 optional id value = record (new_rule id) { long = Some id; defaults = value ∷ [] }
+
+-- an option without a value
+abbrev pub flag : Text → Rule
+flag id = record (new_rule id) { long = Some id; action = Some SetTrue }
 
 -- a word of its own
 abbrev pub place : Text → Rule
@@ -33,21 +38,27 @@ roomed_app app = with_rule (with_rule app (optional (codes "capacity") (codes "6
 abbrev pub sized_app : App → App
 sized_app app = with_rule (roomed_app (with_rule app (optional (codes "writers") (codes "4")))) (optional (codes "segments") (codes "1"))
 
--- `run`: a setup, the sizes of the log, how often live questions are asked, and a capture
+-- with the option that reads a capture as truncated
+abbrev pub truncatable_app : App → App
+truncatable_app app = with_rule app (flag (codes "truncated"))
+
+-- `run`: a setup, the sizes of the log, how often live questions are asked, whether the capture is read as truncated, and a capture
 abbrev pub run_app : App
-run_app = with_rule (with_rule (sized_app (with_rule (new_app (codes "run")) (needed (codes "setup")))) (optional (codes "live") (codes "0"))) (place (codes "capture"))
+run_app = with_rule (truncatable_app (with_rule (sized_app (with_rule (new_app (codes "run")) (needed (codes "setup")))) (optional (codes "live") (codes "0")))) (place (codes "capture"))
 
 -- `synth`: a setup, a seed and a count, and the sizes of the log
 abbrev pub synth_app : App
 synth_app = sized_app (with_rule (with_rule (with_rule (new_app (codes "synth")) (needed (codes "setup"))) (needed (codes "seed"))) (needed (codes "count")))
 
--- `dump`: a capture
+-- `dump`: whether the capture is read as truncated, and a capture
 abbrev pub dump_app : App
-dump_app = with_rule (new_app (codes "dump")) (place (codes "capture"))
+dump_app = with_rule (truncatable_app (new_app (codes "dump"))) (place (codes "capture"))
 
--- `snapshot`: a setup, the turns before the freezing, the rows of a turn, the capacity and nodes of each log, and captures
+-- `snapshot`: a setup, the turns before the freezing, the rows of a turn, the capacity and nodes of each log, whether captures are read
+-- as truncated, and captures
 abbrev pub snapshot_app : App
-snapshot_app = with_rule (roomed_app (with_rule (with_rule (with_rule (new_app (codes "snapshot")) (needed (codes "setup"))) (needed (codes "after"))) (optional (codes "turn") (codes "1")))) (places (codes "captures"))
+snapshot_app =
+    with_rule (truncatable_app (roomed_app (with_rule (with_rule (with_rule (new_app (codes "snapshot")) (needed (codes "setup"))) (needed (codes "after"))) (optional (codes "turn") (codes "1"))))) (places (codes "captures"))
 
 -- the program, whose words begin with a command of their own
 abbrev pub bare_app : App
@@ -73,21 +84,22 @@ pub record RunSays : Type 0 where
   pub nodes : Text
   pub segments : Text
   pub live : Text
+  pub truncated : Text
   pub capture : Text
 
 -- these texts as a record, in the order in which they are looked up
-abbrev pub run_says : Text → Text → Text → Text → Text → Text → Text → RunSays
-run_says s w n m k l c = record { setup = s; writers = w; capacity = n; nodes = m; segments = k; live = l; capture = c }
+abbrev pub run_says : Text → Text → Text → Text → Text → Text → Text → Text → RunSays
+run_says s w n m k l t c = record { setup = s; writers = w; capacity = n; nodes = m; segments = k; live = l; truncated = t; capture = c }
 
 -- what was read of a `run` command
 abbrev pub says_of : RunTexts → RunSays
-says_of r = run_says r.setup.now r.writers.now r.capacity.now r.nodes.now r.segments.now r.live.now r.capture.now
+says_of r = run_says r.setup.now r.writers.now r.capacity.now r.nodes.now r.segments.now r.live.now r.truncated.now r.capture.now
 
 -- what the rows of a `run` command say
 unfoldable pub run_texts_of : List Row → Option RunSays
 run_texts_of rows =
-    option_and_then (λ s. option_and_then (λ w. option_and_then (λ n. option_and_then (λ m. option_and_then (λ k. option_and_then (λ l. option_and_then (λ c. Some (run_says s w n m k l c))
-    (first_of (codes "capture") rows)) (first_of (codes "live") rows)) (first_of (codes "segments") rows)) (first_of (codes "nodes") rows)) (first_of (codes "capacity") rows)) (first_of (codes "writers") rows)) (first_of (codes "setup") rows)
+    option_and_then (λ s. option_and_then (λ w. option_and_then (λ n. option_and_then (λ m. option_and_then (λ k. option_and_then (λ l. option_and_then (λ t. option_and_then (λ c. Some (run_says s w n m k l t c))
+    (first_of (codes "capture") rows)) (first_of (codes "truncated") rows)) (first_of (codes "live") rows)) (first_of (codes "segments") rows)) (first_of (codes "nodes") rows)) (first_of (codes "capacity") rows)) (first_of (codes "writers") rows)) (first_of (codes "setup") rows)
 
 -- the texts of a `synth` command
 pub record SynthSays : Type 0 where
@@ -113,6 +125,25 @@ synth_texts_of rows =
     option_and_then (λ s. option_and_then (λ x. option_and_then (λ c. option_and_then (λ w. option_and_then (λ n. option_and_then (λ m. option_and_then (λ k. Some (synth_says s x c w n m k))
     (first_of (codes "segments") rows)) (first_of (codes "nodes") rows)) (first_of (codes "capacity") rows)) (first_of (codes "writers") rows)) (first_of (codes "count") rows)) (first_of (codes "seed") rows)) (first_of (codes "setup") rows)
 
+-- the texts of a `dump` command
+pub record DumpSays : Type 0 where
+  pub truncated : Text
+  pub capture : Text
+
+-- these texts as a record, in the order in which they are looked up
+abbrev pub dump_says : Text → Text → DumpSays
+dump_says t c = record { truncated = t; capture = c }
+
+-- what was read of a `dump` command
+abbrev pub dump_says_of : DumpTexts → DumpSays
+dump_says_of r = dump_says r.truncated.now r.capture.now
+
+-- what the rows of a `dump` command say
+unfoldable pub dump_texts_of : List Row → Option DumpSays
+dump_texts_of rows =
+    option_and_then (λ t. option_and_then (λ c. Some (dump_says t c))
+    (first_of (codes "capture") rows)) (first_of (codes "truncated") rows)
+
 -- the texts of a `snapshot` command
 pub record SnapshotSays : Type 0 where
   pub setup : Text
@@ -120,27 +151,28 @@ pub record SnapshotSays : Type 0 where
   pub turn : Text
   pub capacity : Text
   pub nodes : Text
+  pub truncated : Text
   pub captures : List Text
 
 -- these texts as a record, in the order in which they are looked up
-abbrev pub snapshot_says : Text → Text → Text → Text → Text → List Text → SnapshotSays
-snapshot_says s a t n m cs = record { setup = s; after = a; turn = t; capacity = n; nodes = m; captures = cs }
+abbrev pub snapshot_says : Text → Text → Text → Text → Text → Text → List Text → SnapshotSays
+snapshot_says s a t n m x cs = record { setup = s; after = a; turn = t; capacity = n; nodes = m; truncated = x; captures = cs }
 
 -- what was read of a `snapshot` command
 abbrev pub snapshot_says_of : SnapshotTexts → SnapshotSays
-snapshot_says_of r = snapshot_says r.setup.now r.after.now r.turn.now r.capacity.now r.nodes.now (map (λ s. s.now) r.captures.items)
+snapshot_says_of r = snapshot_says r.setup.now r.after.now r.turn.now r.capacity.now r.nodes.now r.truncated.now (map (λ s. s.now) r.captures.items)
 
 -- what the rows of a `snapshot` command say
 unfoldable pub snapshot_texts_of : List Row → Option SnapshotSays
 snapshot_texts_of rows =
-    option_and_then (λ s. option_and_then (λ a. option_and_then (λ t. option_and_then (λ n. option_and_then (λ m. option_and_then (λ cs. Some (snapshot_says s a t n m cs))
-    (all_of (codes "captures") rows)) (first_of (codes "nodes") rows)) (first_of (codes "capacity") rows)) (first_of (codes "turn") rows)) (first_of (codes "after") rows)) (first_of (codes "setup") rows)
+    option_and_then (λ s. option_and_then (λ a. option_and_then (λ t. option_and_then (λ n. option_and_then (λ m. option_and_then (λ x. option_and_then (λ cs. Some (snapshot_says s a t n m x cs))
+    (all_of (codes "captures") rows)) (first_of (codes "truncated") rows)) (first_of (codes "nodes") rows)) (first_of (codes "capacity") rows)) (first_of (codes "turn") rows)) (first_of (codes "after") rows)) (first_of (codes "setup") rows)
 
 -- what a command line says: the texts of its command
 pub data SaidValue : Type 0 where
   run_said : (said : RunSays) → SaidValue
   synth_said : (said : SynthSays) → SaidValue
-  dump_said : (capture : Text) → SaidValue
+  dump_said : (said : DumpSays) → SaidValue
   snapshot_said : (said : SnapshotSays) → SaidValue
 
 -- what a command of that name says with these rows
@@ -148,7 +180,7 @@ abbrev pub said_in : Text × List Row → Option SaidValue
 said_in p =
     if bytes_eq p.0 (codes "run") then option_map run_said (run_texts_of p.1) else (
     if bytes_eq p.0 (codes "synth") then option_map synth_said (synth_texts_of p.1) else (
-    if bytes_eq p.0 (codes "dump") then option_map dump_said (first_of (codes "capture") p.1) else (
+    if bytes_eq p.0 (codes "dump") then option_map dump_said (dump_texts_of p.1) else (
     if bytes_eq p.0 (codes "snapshot") then option_map snapshot_said (snapshot_texts_of p.1) else None)))
 
 -- what words say, where clap takes them
@@ -159,5 +191,5 @@ said_of words = option_and_then said_in (taken words)
 abbrev pub said_by : Said → SaidValue
 said_by (Run texts) = run_said (says_of texts)
 said_by (Synth texts) = synth_said (synth_says_of texts)
-said_by (Dump capture) = dump_said capture.now
+said_by (Dump texts) = dump_said (dump_says_of texts)
 said_by (Snapshot texts) = snapshot_said (snapshot_says_of texts)

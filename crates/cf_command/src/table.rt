@@ -2,7 +2,7 @@
 ghost use Rattle.std.specs.Prelude.{◌≡◌, IfOk, option_map, option_and_then, map, false, codes};
 ghost use Rattle.clap.specs.Words.{app_of, rule_of, shape_of, subcommand_rows_of, with_rule, with_subcommand, first_of, all_of, found_of, rows_of};
 ghost use Rattle.clap.specs.declared.builder.command.Command.TheViews.{out-Command as fields_of};
-ghost use Rattle.cf_command.specs.Table.{bare_app, confluo_app, roomed_app, sized_app, needed, optional, place, places, run_app, synth_app, dump_app, snapshot_app, taken, said_of, said_by, run_texts_of, says_of, synth_texts_of, synth_says_of, snapshot_texts_of, snapshot_says_of};
+ghost use Rattle.cf_command.specs.Table.{bare_app, confluo_app, roomed_app, sized_app, truncatable_app, needed, optional, flag, place, places, run_app, synth_app, dump_app, snapshot_app, taken, said_of, said_by, run_texts_of, says_of, synth_texts_of, synth_says_of, dump_texts_of, dump_says_of, snapshot_texts_of, snapshot_says_of};
 ghost use Rattle.cf_command.specs.Table.SaidValue.{run_said, synth_said, dump_said, snapshot_said};
 
 use crate::Memory;
@@ -22,6 +22,13 @@ fn optional_option<'a>(alloc: Global, id: &'a str, value: &'a str) -> Arg<'a>
     ensures local { result.global ≡ false }
 {
     Arg::new(alloc, id).long(id).default_value(value)
+}
+
+fn bare_option<'a>(alloc: Global, id: &'a str) -> Arg<'a>
+    ensures rule { rule_of result ≡ flag id.entry.now }
+    ensures local { result.global ≡ false }
+{
+    Arg::new(alloc, id).long(id).action(ArgAction::SetTrue)
 }
 
 fn own_word<'a>(alloc: Global, id: &'a str) -> Arg<'a>
@@ -67,6 +74,15 @@ fn sized<'a>(alloc: Global, command: Command<'a>) -> Result<Command<'a>, Memory>
     and(command, optional_option(alloc, "segments", "1"))
 }
 
+// With the option that reads a capture as truncated.
+fn truncatable<'a>(alloc: Global, command: Command<'a>) -> Result<Command<'a>, Memory>
+    requires local { (fields_of command).has_globals ≡ false }
+    ensures rules { IfOk result (λ c. app_of c ≡ truncatable_app (app_of command.entry)) }
+    ensures local { IfOk result (λ c. (fields_of c).has_globals ≡ false) }
+{
+    and(command, bare_option(alloc, "truncated"))
+}
+
 fn run_command<'a>(alloc: Global) -> Result<Command<'a>, Memory>
     ensures rules { IfOk result (λ c. app_of c ≡ run_app) }
     ensures local { IfOk result (λ c. (fields_of c).has_globals ≡ false) }
@@ -75,6 +91,7 @@ fn run_command<'a>(alloc: Global) -> Result<Command<'a>, Memory>
     let command = and(command, needed_option(alloc, "setup"))?;
     let command = sized(alloc, command)?;
     let command = and(command, optional_option(alloc, "live", "0"))?;
+    let command = truncatable(alloc, command)?;
     and(command, own_word(alloc, "capture"))
 }
 
@@ -93,7 +110,8 @@ fn dump_command<'a>(alloc: Global) -> Result<Command<'a>, Memory>
     ensures rules { IfOk result (λ c. app_of c ≡ dump_app) }
     ensures local { IfOk result (λ c. (fields_of c).has_globals ≡ false) }
 {
-    and(Command::new(alloc, "dump"), own_word(alloc, "capture"))
+    let command = truncatable(alloc, Command::new(alloc, "dump"))?;
+    and(command, own_word(alloc, "capture"))
 }
 
 fn snapshot_command<'a>(alloc: Global) -> Result<Command<'a>, Memory>
@@ -105,6 +123,7 @@ fn snapshot_command<'a>(alloc: Global) -> Result<Command<'a>, Memory>
     let command = and(command, needed_option(alloc, "after"))?;
     let command = and(command, optional_option(alloc, "turn", "1"))?;
     let command = roomed(alloc, command)?;
+    let command = truncatable(alloc, command)?;
     and(command, own_words(alloc, "captures"))
 }
 
@@ -156,6 +175,8 @@ pub(crate) struct RunTexts<'a> {
     pub(crate) nodes: &'a str,
     pub(crate) segments: &'a str,
     pub(crate) live: &'a str,
+    /// `true` or `false`, as of each option without a value.
+    pub(crate) truncated: &'a str,
     pub(crate) capture: &'a str,
 }
 
@@ -175,6 +196,7 @@ fn run_texts<'a>(matches: &ArgMatches<'a>) -> Option<RunTexts<'a>>
     let nodes = text_of(matches, "nodes")?;
     let segments = text_of(matches, "segments")?;
     let live = text_of(matches, "live")?;
+    let truncated = text_of(matches, "truncated")?;
     let capture = text_of(matches, "capture")?;
     Some(RunTexts {
         setup,
@@ -183,6 +205,7 @@ fn run_texts<'a>(matches: &ArgMatches<'a>) -> Option<RunTexts<'a>>
         nodes,
         segments,
         live,
+        truncated,
         capture,
     })
 }
@@ -221,6 +244,22 @@ fn synth_texts<'a>(matches: &ArgMatches<'a>) -> Option<SynthTexts<'a>>
     })
 }
 
+/// The texts of a `dump` command.
+#[derive(Drop)]
+pub(crate) struct DumpTexts<'a> {
+    pub(crate) truncated: &'a str,
+    pub(crate) capture: &'a str,
+}
+
+#[tactic(auto, unfolding(crate::specs::Table::dump_texts_of))]
+fn dump_texts<'a>(matches: &ArgMatches<'a>) -> Option<DumpTexts<'a>>
+    ensures { option_map dump_says_of result ≡ dump_texts_of (rows_of (found_of matches.now)) }
+{
+    let truncated = text_of(matches, "truncated")?;
+    let capture = text_of(matches, "capture")?;
+    Some(DumpTexts { truncated, capture })
+}
+
 /// The texts of a `snapshot` command.
 #[derive(Drop)]
 pub(crate) struct SnapshotTexts<'a> {
@@ -229,6 +268,7 @@ pub(crate) struct SnapshotTexts<'a> {
     pub(crate) turn: &'a str,
     pub(crate) capacity: &'a str,
     pub(crate) nodes: &'a str,
+    pub(crate) truncated: &'a str,
     pub(crate) captures: Vec<&'a str>,
 }
 
@@ -270,6 +310,7 @@ fn snapshot_texts<'a>(
     let turn = text_of(matches, "turn")?;
     let capacity = text_of(matches, "capacity")?;
     let nodes = text_of(matches, "nodes")?;
+    let truncated = text_of(matches, "truncated")?;
     let captures = captures?;
     Some(SnapshotTexts {
         setup,
@@ -277,6 +318,7 @@ fn snapshot_texts<'a>(
         turn,
         capacity,
         nodes,
+        truncated,
         captures,
     })
 }
@@ -286,8 +328,7 @@ fn snapshot_texts<'a>(
 pub(crate) enum Said<'a> {
     Run(RunTexts<'a>),
     Synth(SynthTexts<'a>),
-    /// The name of the capture.
-    Dump(&'a str),
+    Dump(DumpTexts<'a>),
     Snapshot(SnapshotTexts<'a>),
 }
 
@@ -304,9 +345,9 @@ fn synth_said_by<'a>(matches: &ArgMatches<'a>) -> Option<Said<'a>>
 }
 
 fn dump_said_by<'a>(matches: &ArgMatches<'a>) -> Option<Said<'a>>
-    ensures { option_map said_by result ≡ option_map dump_said (first_of (codes "capture") (rows_of (found_of matches.now))) }
+    ensures { option_map said_by result ≡ option_map dump_said (dump_texts_of (rows_of (found_of matches.now))) }
 {
-    Some(Said::Dump(text_of(matches, "capture")?))
+    Some(Said::Dump(dump_texts(matches)?))
 }
 
 fn snapshot_said_by<'a>(alloc: Global, matches: &ArgMatches<'a>) -> Result<Option<Said<'a>>, Memory>

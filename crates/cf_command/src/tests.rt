@@ -86,6 +86,19 @@ fn words_are_read_by_the_table(rt: HostRuntime) -> Result<(), Fail> {
         ("snapshot --setup s --after 1 --writers 1 c", None),
         ("", None),
         ("run --setup s --setup t c", None),
+        ("run --truncated --setup s c", Some((4, 65536, 1024, 0))),
+        ("run --setup s c --truncated --truncated", None),
+        ("run --setup s c --truncated=true", None),
+        ("run --setup s c --truncated true", None),
+        ("--truncated run --setup s c", None),
+        ("synth --setup s --seed 1 --count 1 --truncated", None),
+        ("dump --truncated c", Some((0, 0, 0, 0))),
+        ("dump --truncated", None),
+        ("dump c --truncated d", None),
+        (
+            "snapshot --setup s --truncated --after 0 c d",
+            Some((2, 65536, 1024, 0)),
+        ),
     ] {
         assert_eq!(rt; numbers_of(alloc, text)?, answer, "of {text}");
     }
@@ -190,6 +203,38 @@ fn names_of_files_are_those_of_the_words(rt: HostRuntime) -> Result<(), Fail> {
     ];
     for (words, names) in table {
         assert_eq!(rt; names_of(alloc, words)?, Some(names));
+    }
+    Ok(())
+}
+
+// Whether words with spaces between them read captures as truncated.
+fn reading_of(alloc: Global, text: &str) -> Result<Option<bool>, Memory> {
+    let mut words = Vec::new(alloc);
+    for word in text.split(' ') {
+        words.push(word)?;
+    }
+    Ok(match command_of(alloc, &words)? {
+        Some(Command::Run(command)) => Some(command.truncated),
+        Some(Command::Synth(_)) => None,
+        Some(Command::Snapshot(command)) => Some(command.truncated),
+        Some(Command::Dump(command)) => Some(command.truncated),
+        None => None,
+    })
+}
+
+#[test]
+fn captures_are_read_as_the_option_says(rt: HostRuntime) -> Result<(), Fail> {
+    let alloc = rt.alloc();
+    for (text, reading) in [
+        ("run --setup s c", false),
+        ("run --setup s c --truncated", true),
+        ("run --truncated --setup=s c", true),
+        ("snapshot --setup s --after 1 c", false),
+        ("snapshot --setup s --truncated --after 1 c", true),
+        ("dump c", false),
+        ("dump --truncated c", true),
+    ] {
+        assert_eq!(rt; reading_of(alloc, text)?, Some(reading), "of {text}");
     }
     Ok(())
 }

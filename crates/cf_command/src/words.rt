@@ -1,12 +1,12 @@
 // What the words ask for.
 ghost use Rattle.std.specs.Prelude.{◌≡◌, ◌≤◌, ◌*◌, IfOk, IfSome, option_map};
-ghost use Rattle.cf_command.specs.Call.{call_of, call_in, call_by, sizes_in, sizes_with, divided, texts, AreSizes, IsInRange};
-ghost use Rattle.cf_command.specs.Table.{says_of, synth_says_of, snapshot_says_of};
-ghost use Rattle.cf_command.specs.Table.SaidValue.{run_said, synth_said, snapshot_said};
+ghost use Rattle.cf_command.specs.Call.{call_of, call_in, call_by, is_given, sizes_in, sizes_with, divided, texts, AreSizes, IsInRange};
+ghost use Rattle.cf_command.specs.Table.{says_of, synth_says_of, dump_says_of, snapshot_says_of};
+ghost use Rattle.cf_command.specs.Table.SaidValue.{run_said, synth_said, dump_said, snapshot_said};
 
 use crate::Memory;
 use crate::number::number_between;
-use crate::table::{RunTexts, Said, SnapshotTexts, SynthTexts, read_words};
+use crate::table::{DumpTexts, RunTexts, Said, SnapshotTexts, SynthTexts, read_words};
 use std::alloc::Global;
 
 // The records that the segments of a log hold together at most.
@@ -43,6 +43,8 @@ pub struct RunCommand<'a> {
     pub sizes: LogSizes,
     /// How often each live question is asked beside a batch.
     pub rounds: u32,
+    /// A capture that ends within a record has the records before it.
+    pub truncated: bool,
 }
 
 /// The command `synth`: the name of the setup, the seed and the number of the packets, and the sizes of the log.
@@ -59,6 +61,8 @@ pub struct SynthCommand<'a> {
 #[derive(Clone, Copy, Debug)]
 pub struct DumpCommand<'a> {
     pub capture: &'a str,
+    /// A capture that ends within a record has the records before it.
+    pub truncated: bool,
 }
 
 /// The command `snapshot`: the names of the setup and of a capture for each host, how many turns are taken before the freezing
@@ -70,6 +74,8 @@ pub struct SnapshotCommand<'a> {
     pub turns: u32,
     pub turn: u32,
     pub sizes: LogSizes,
+    /// A capture that ends within a record has the records before it.
+    pub truncated: bool,
 }
 
 /// What the words of a command line ask for.
@@ -83,6 +89,13 @@ pub enum Command<'a> {
     Dump(DumpCommand<'a>),
     /// The answers of a setup at one cut of several hosts.
     Snapshot(SnapshotCommand<'a>),
+}
+
+// An option without a value is given.
+fn is_given(text: &str) -> bool
+    ensures { result ≡ is_given text.now }
+{
+    text == "true"
 }
 
 // The sizes of a log of so many writers and one segment, where the texts write out the others, each in its range.
@@ -173,6 +186,7 @@ fn run_from<'a>(alloc: Global, said: &RunTexts<'a>) -> Result<Option<Command<'a>
         capture: said.capture,
         sizes,
         rounds: rounds as u32,
+        truncated: is_given(said.truncated),
     })))
 }
 
@@ -228,6 +242,7 @@ fn snapshot_from<'a>(alloc: Global, said: SnapshotTexts<'a>) -> Result<Option<Co
         turns: turns as u32,
         turn: turn as u32,
         sizes,
+        truncated: is_given(said.truncated),
     })))
 }
 
@@ -243,7 +258,10 @@ pub fn command_of<'a>(alloc: Global, words: &'a [&'a str]) -> Result<Option<Comm
     match said {
         Said::Run(texts) => run_from(alloc, &texts),
         Said::Synth(texts) => synth_from(alloc, &texts),
-        Said::Dump(capture) => Ok(Some(Command::Dump(DumpCommand { capture }))),
+        Said::Dump(texts) => Ok(Some(Command::Dump(DumpCommand {
+            capture: texts.capture,
+            truncated: is_given(texts.truncated),
+        }))),
         Said::Snapshot(texts) => snapshot_from(alloc, texts),
     }
 }
