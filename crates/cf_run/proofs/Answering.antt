@@ -10,7 +10,7 @@ use Rattle.cf_command.specs.Call.Call.{run, synth, dump, snapshot}
 use Rattle.cf_setup.specs.Setups.{SetupValue}
 use Rattle.cf_table.specs.Moves.{SealValue}
 use Rattle.cf_run.specs.Answers.{Yields, IsDecided, IsByCall}
-use Rattle.cf_run.specs.Due.{Work, RunAfter, SnapshotAfter, ComesTo, StopsAt, GivesLog, GivesCut, IsReportOf, AreAnswersOf, Gives, IsDue, IsLawful, drawn_work}
+use Rattle.cf_run.specs.Due.{Work, RunAfter, SnapshotAfter, ComesTo, StopsAt, GivesLog, GivesCut, IsReportOf, AreAnswersOf, WorkGives, IsDue, IsLawful, drawn_work}
 use Rattle.cf_run.specs.Due.Work.{refused}
 use Rattle.cf_run.specs.Due.CallsBy.{halted, whole}
 use Rattle.cf_run.specs.Due.CallsByAll.{one_halted, all_whole}
@@ -18,32 +18,36 @@ use Rattle.cf_run.specs.Due.HostsExceed.{some_full, some_short}
 use Rattle.cf_run.specs.Due.GivesCut.{refuses_hosts, tells_hosts}
 use Rattle.cf_run.specs.Due.Exceeds.{full, short}
 use Rattle.cf_run.specs.Due.GivesLog.{refuses, tells}
-use Rattle.cf_run.specs.Files.{Grammar, setups, captures, IsFileRefused}
-use Rattle.cf_run.specs.Files.IsFileRefused.{missing, broken}
-use Rattle.cf_run.specs.Refusals.{status_of, line_of, stop_status}
+use Rattle.cf_intake.specs.Files.{Grammar, setups, captures, IsFileRefused}
+use Rattle.cf_intake.specs.Files.IsFileRefused.{missing, broken}
+use Rattle.cf_intake.specs.Refusals.{line_of}
+use Rattle.cf_run.specs.Refusals.{status_of, stop_status}
 use Rattle.cf_run.specs.Parts.{draft_status, draft_seals}
-use Rattle.cf_run.specs.Work.{drawn_rows}
+use Rattle.cf_run.specs.Work.{drawn_rows, rows_told, ends_told}
 use Rattle.cf_run.specs.declared.draft.Draft.{Draft}
 use Rattle.cf_run.specs.declared.draft.Draft.TheVariants as drafts
 use Rattle.cf_load.specs.Planned.{tails_of}
 use Rattle.cf_run.proofs.Counted.{seals_within}
 use Rattle.cf_run.proofs.Deciding.{one_due, lawful_done}
-use Rattle.cf_run.proofs.Several.{files_refusal}
-use Rattle.cf_run.specs.declared.refusal.Refusal.{Refusal}
-use Rattle.cf_run.specs.declared.refusal.Refusal.TheVariants as refusals
-use Rattle.cf_run.specs.declared.refusal.Stop.{Stop}
-use Rattle.cf_run.specs.declared.refusal.Stop.TheVariants as stops
+use Rattle.cf_intake.proofs.Several.{files_refusal}
+use Rattle.cf_intake.specs.declared.refusal.Refusal.{Refusal}
+use Rattle.cf_intake.specs.declared.refusal.Refusal.TheVariants as refusals
+use Rattle.cf_intake.specs.declared.refusal.Stop.{Stop}
+use Rattle.cf_intake.specs.declared.refusal.Stop.TheVariants as stops
 use Rattle.cf_run.specs.declared.status.Status.{Status}
 use Rattle.cf_run.specs.declared.status.Status.TheVariants.{Done, Words, Setup, Capture, ReadFault, WriteFault, Full, Nodes, Memory, NoFile}
 
-pub decided_if : (told : Option (List File)) (call : Option Call) (before now : Option (List ℕ)) (status : Status) (text : List ℕ) (seals : List SealValue) → IsDue told call before now status text seals → IfSome told (λ files. IsDecided files call status)
+pub decided_if : (told : Option (List File)) (call : Option Call) (before now : Option (List ℕ)) (status : Status) (text : List ℕ) (seals : List SealValue)
+    → IsDue told call before now status text seals → IfSome told (λ files. IsDecided files call status)
 decided_if None call before now status text seals due = tt
-decided_if (Some files) call before now status text seals due = λ before' now' other text' seals' also. elim (one_due files call before now status text seals due before' now' other text' seals' also) [
-  | inl same ↦ inl same
-  | inr between ↦ inr (inr between)
-]
+decided_if (Some files) call before now status text seals due =
+    λ before' now' other text' seals' also. elim (one_due files call before now status text seals due before' now' other text' seals' also) [
+      | inl same ↦ inl same
+      | inr between ↦ inr (inr between)
+    ]
 
-pub complete_if : (told : Option (List File)) (call : Option Call) (before now : Option (List ℕ)) (status : Status) (text : List ℕ) (seals : List SealValue) → IsDue told call before now status text seals → IfSome told (λ files. IsLawful (Some files) call → (status ≡ Done) ⊎ Yields status)
+pub complete_if : (told : Option (List File)) (call : Option Call) (before now : Option (List ℕ)) (status : Status) (text : List ℕ) (seals : List SealValue)
+    → IsDue told call before now status text seals → IfSome told (λ files. IsLawful (Some files) call → (status ≡ Done) ⊎ Yields status)
 complete_if None call before now status text seals due = tt
 complete_if (Some files) call before now status text seals due = λ lawful. inl (lawful_done files call before now status text seals due lawful)
 
@@ -52,7 +56,8 @@ pub decided_free : (told : Option (List File)) (call : Option Call) (status : St
 decided_free None call status free = tt
 decided_free (Some files) call status free = λ before now other text seals due. inr (inl free)
 
-pub complete_free : (told : Option (List File)) (call : Option Call) (status : Status) → Yields status → IfSome told (λ files. IsLawful (Some files) call → (status ≡ Done) ⊎ Yields status)
+pub complete_free : (told : Option (List File)) (call : Option Call) (status : Status) → Yields status
+    → IfSome told (λ files. IsLawful (Some files) call → (status ≡ Done) ⊎ Yields status)
 complete_free None call status free = tt
 complete_free (Some files) call status free = λ lawful. inr free
 
@@ -73,91 +78,129 @@ steady status said no_read no_write = elim said [
 -- Which statuses a call can come to.
 
 -- a refusal of a file, of a grammar that is told by these
-file_refusal : {A : Type 0} (g : Grammar A) (told : Option (List File)) (name : List ℕ) (before now : Option (List ℕ)) (P : Refusal → Type 0) → P refusals.NoFile → ((place code : ℕ) → P (g.refusal place code)) → (why : Refusal) → IsFileRefused g told name before now why → P why
+file_refusal : {A : Type 0} (g : Grammar A) (told : Option (List File)) (name : List ℕ) (before now : Option (List ℕ)) (P : Refusal → Type 0)
+    → P refusals.NoFile → ((place code : ℕ) → P (g.refusal place code)) → (why : Refusal) → IsFileRefused g told name before now why → P why
 file_refusal {A} g told name before now P none broke why (missing file left is) = subst P (sym is) none
 file_refusal {A} g told name before now P none broke why (broken bytes place code file breaks left is) = subst P (sym is) (broke place code)
 
 -- of the seals and the status that work gives
 module _ (told : Option (List File)) (before now : Option (List ℕ)) (status : Status) (text : List ℕ) (seals : List SealValue) where
-  by_refusal : (P : Status → List SealValue → Type 0) (why : Refusal) → P (status_of why) [] → Gives (refused why) status text seals → P status seals
+  by_refusal : (P : Status → List SealValue → Type 0) (why : Refusal) → P (status_of why) [] → WorkGives (refused why) status text seals → P status seals
   by_refusal P why holds gives = subst (λ (q : List SealValue). P status q) (sym gives.2) (subst (λ (s : Status). P s []) (sym gives.0) holds)
 
-  by_log : (P : Status → List SealValue → Type 0) (sizes : LogSizes) (setup : SetupValue) (rows : List RowValue) (Tells : List ℕ → List SealValue → Type 0) → P Full [] → P Nodes [] → ((q : List SealValue) → length rows ≤ sizes.capacity * sizes.segments → Tells text q → P Done q) → GivesLog sizes setup rows Tells status text seals → P status seals
-  by_log P sizes setup rows Tells over short_of done (refuses why (full many is) gives) = by_refusal P why (subst (λ (w : Refusal). P (status_of w) []) (sym is) over) gives
-  by_log P sizes setup rows Tells over short_of done (refuses why (short few many is) gives) = by_refusal P why (subst (λ (w : Refusal). P (status_of w) []) (sym is) short_of) gives
+  by_log : (P : Status → List SealValue → Type 0) (sizes : LogSizes) (setup : SetupValue) (rows : List RowValue) (Tells : List ℕ → List SealValue → Type 0)
+      → P Full [] → P Nodes [] → ((q : List SealValue) → length rows ≤ sizes.capacity * sizes.segments → Tells text q → P Done q)
+      → GivesLog sizes setup rows Tells status text seals → P status seals
+  by_log P sizes setup rows Tells over short_of done (refuses why (full many is) gives) =
+      by_refusal P why (subst (λ (w : Refusal). P (status_of w) []) (sym is) over) gives
+  by_log P sizes setup rows Tells over short_of done (refuses why (short few many is) gives) =
+      by_refusal P why (subst (λ (w : Refusal). P (status_of w) []) (sym is) short_of) gives
   by_log P sizes setup rows Tells over short_of done (tells few nodes is told_of) = subst (λ (s : Status). P s seals) (sym is) (done seals few told_of)
 
   -- of a run
   run_by_call : (call : RunCall) (s : Status) → (s ≡ Words → ⊥) → (s ≡ Done → ⊥) → IsByCall (Some (run call)) s []
   run_by_call call s words done = (words, λ is. absurd (done is))
 
-  run_by_rows : (call : RunCall) (setup : SetupValue) (work : Work) → AreSizes call.sizes → Gives work status text seals → RunAfter told call now setup work → IsByCall (Some (run call)) status seals
+  run_by_rows : (call : RunCall) (setup : SetupValue) (work : Work) → AreSizes call.sizes → WorkGives work status text seals
+      → RunAfter told call now setup work → IsByCall (Some (run call)) status seals
   run_by_rows call setup work sized gives (halted why file is) =
       by_refusal (IsByCall (Some (run call))) why
-      (file_refusal (captures setup.packet setup.schema) told call.capture (Some []) now (λ w. IsByCall (Some (run call)) (status_of w) []) (run_by_call call NoFile (λ e. cc e) (λ e. cc e)) (λ at code. run_by_call call (Capture at code) (λ e. cc e) (λ e. cc e)) why file)
-      (subst (λ (w : Work). Gives w status text seals) is gives)
-  run_by_rows call setup work sized gives (whole rows said next) =
-      by_log (IsByCall (Some (run call))) call.sizes setup rows (IsReportOf call setup rows) (run_by_call call Full (λ e. cc e) (λ e. cc e)) (run_by_call call Nodes (λ e. cc e) (λ e. cc e))
-      (λ q few made. (λ e. cc e, λ e. seals_within call.sizes rows made.order (tails_of made.report_is.lives) q sized few made.report_is.order_is made.seals_are)) (subst (λ (w : Work). Gives w status text seals) next.0 gives)
+      (file_refusal (captures setup.packet call.truncated setup.schema) told call.capture (Some []) now (λ w. IsByCall (Some (run call)) (status_of w) [])
+      (run_by_call call NoFile (λ e. cc e) (λ e. cc e)) (λ at code. run_by_call call (Capture at code) (λ e. cc e) (λ e. cc e)) why file)
+      (subst (λ (w : Work). WorkGives w status text seals) is gives)
+  run_by_rows call setup work sized gives (whole what said next) =
+      by_log (IsByCall (Some (run call))) call.sizes setup what.rows (IsReportOf call setup what) (run_by_call call Full (λ e. cc e) (λ e. cc e))
+      (run_by_call call Nodes (λ e. cc e) (λ e. cc e))
+      (λ q few made.
+      (λ e. cc e, λ e. seals_within call.sizes what.rows made.order (tails_of made.report_is.lives) q sized few made.report_is.order_is made.seals_are))
+      (subst (λ (w : Work). WorkGives w status text seals) next.0 gives)
 
-  run_by_work : (call : RunCall) (work : Work) → AreSizes call.sizes → Gives work status text seals → ComesTo told (Some (run call)) before now work → IsByCall (Some (run call)) status seals
+  run_by_work : (call : RunCall) (work : Work) → AreSizes call.sizes → WorkGives work status text seals → ComesTo told (Some (run call)) before now work
+      → IsByCall (Some (run call)) status seals
   run_by_work call work sized gives (halted why file is) =
       by_refusal (IsByCall (Some (run call))) why
-      (file_refusal setups told call.setup before now (λ w. IsByCall (Some (run call)) (status_of w) []) (run_by_call call NoFile (λ e. cc e) (λ e. cc e)) (λ line code. run_by_call call (Setup line code) (λ e. cc e) (λ e. cc e)) why file)
-      (subst (λ (w : Work). Gives w status text seals) is gives)
+      (file_refusal setups told call.setup before now (λ w. IsByCall (Some (run call)) (status_of w) []) (run_by_call call NoFile (λ e. cc e) (λ e. cc e))
+      (λ line code. run_by_call call (Setup line code) (λ e. cc e) (λ e. cc e)) why file)
+      (subst (λ (w : Work). WorkGives w status text seals) is gives)
   run_by_work call work sized gives (whole setup said next) = run_by_rows call setup work sized gives next
 
   -- of a synth
-  synth_by_call : (call : SynthCall) (s : Status) → (s ≡ Words → ⊥) → ((at code : ℕ) → s ≡ Capture at code → ⊥) → (s ≡ Done → ⊥) → IsByCall (Some (synth call)) s []
+  synth_by_call : (call : SynthCall) (s : Status) → (s ≡ Words → ⊥) → ((at code : ℕ) → s ≡ Capture at code → ⊥) → (s ≡ Done → ⊥)
+      → IsByCall (Some (synth call)) s []
   synth_by_call call s words capture done = (words, capture, λ is. absurd (done is))
 
-  synth_by_setup : (call : SynthCall) (setup : SetupValue) (packet : Bool) → AreSizes call.sizes → Gives (drawn_work call setup packet) status text seals → IsByCall (Some (synth call)) status seals
+  synth_by_setup : (call : SynthCall) (setup : SetupValue) (packet : Bool) → AreSizes call.sizes → WorkGives (drawn_work call setup packet) status text seals
+      → IsByCall (Some (synth call)) status seals
   synth_by_setup call setup false sized gives =
-      by_refusal (IsByCall (Some (synth call))) (refusals.Setup setup.schema_line 4) (synth_by_call call (Setup setup.schema_line 4) (λ e. cc e) (λ at code e. cc e) (λ e. cc e)) gives
+      by_refusal (IsByCall (Some (synth call))) (refusals.Setup setup.schema_line 4)
+      (synth_by_call call (Setup setup.schema_line 4) (λ e. cc e) (λ at code e. cc e) (λ e. cc e)) gives
   synth_by_setup call setup true sized gives =
-      by_log (IsByCall (Some (synth call))) call.sizes setup (drawn_rows call) (AreAnswersOf call setup) (synth_by_call call Full (λ e. cc e) (λ at code e. cc e) (λ e. cc e)) (synth_by_call call Nodes (λ e. cc e) (λ at code e. cc e) (λ e. cc e))
-      (λ q few made. (λ e. cc e, λ at code e. cc e, λ e. seals_within call.sizes (drawn_rows call) made.seals_are.order [] q sized few made.seals_are.order_is made.seals_are.seals_are)) gives
+      by_log (IsByCall (Some (synth call))) call.sizes setup (drawn_rows call) (AreAnswersOf call setup)
+      (synth_by_call call Full (λ e. cc e) (λ at code e. cc e) (λ e. cc e)) (synth_by_call call Nodes (λ e. cc e) (λ at code e. cc e) (λ e. cc e))
+      (λ q few made. (
+        λ e. cc e,
+        λ at code e. cc e,
+        λ e. seals_within call.sizes (drawn_rows call) made.seals_are.order [] q sized few made.seals_are.order_is made.seals_are.seals_are,
+      )) gives
 
-  synth_by_work : (call : SynthCall) (work : Work) → AreSizes call.sizes → Gives work status text seals → ComesTo told (Some (synth call)) before now work → IsByCall (Some (synth call)) status seals
+  synth_by_work : (call : SynthCall) (work : Work) → AreSizes call.sizes → WorkGives work status text seals → ComesTo told (Some (synth call)) before now work
+      → IsByCall (Some (synth call)) status seals
   synth_by_work call work sized gives (halted why file is) =
       by_refusal (IsByCall (Some (synth call))) why
-      (file_refusal setups told call.setup before now (λ w. IsByCall (Some (synth call)) (status_of w) []) (synth_by_call call NoFile (λ e. cc e) (λ at code e. cc e) (λ e. cc e)) (λ line code. synth_by_call call (Setup line code) (λ e. cc e) (λ at other e. cc e) (λ e. cc e)) why file)
-      (subst (λ (w : Work). Gives w status text seals) is gives)
-  synth_by_work call work sized gives (whole setup said next) = synth_by_setup call setup setup.packet sized (subst (λ (w : Work). Gives w status text seals) next.0 gives)
+      (file_refusal setups told call.setup before now (λ w. IsByCall (Some (synth call)) (status_of w) [])
+      (synth_by_call call NoFile (λ e. cc e) (λ at code e. cc e) (λ e. cc e))
+      (λ line code. synth_by_call call (Setup line code) (λ e. cc e) (λ at other e. cc e) (λ e. cc e)) why file)
+      (subst (λ (w : Work). WorkGives w status text seals) is gives)
+  synth_by_work call work sized gives (whole setup said next) =
+      synth_by_setup call setup setup.packet sized (subst (λ (w : Work). WorkGives w status text seals) next.0 gives)
 
   -- of a dump
-  dump_by_work : (call : DumpCall) (work : Work) → Gives work status text seals → ComesTo told (Some (dump call)) before now work → IsByCall (Some (dump call)) status seals
+  dump_by_work : (call : DumpCall) (work : Work) → WorkGives work status text seals → ComesTo told (Some (dump call)) before now work
+      → IsByCall (Some (dump call)) status seals
   dump_by_work call work gives (halted why file is) =
       by_refusal (IsByCall (Some (dump call))) why
-      (file_refusal (captures true packet_attrs) told call.capture before now (λ w. IsByCall (Some (dump call)) (status_of w) []) (λ e. cc e, λ line code e. cc e, λ e. cc e, λ e. cc e, refl) (λ at code. (λ e. cc e, λ line other e. cc e, λ e. cc e, λ e. cc e, refl)) why file)
-      (subst (λ (w : Work). Gives w status text seals) is gives)
-  dump_by_work call work gives (whole rows said next) =
-      let made = subst (λ (w : Work). Gives w status text seals) next.0 gives in
+      (file_refusal (captures true call.truncated packet_attrs) told call.capture before now (λ w. IsByCall (Some (dump call)) (status_of w) [])
+      (λ e. cc e, λ line code e. cc e, λ e. cc e, λ e. cc e, refl) (λ at code. (λ e. cc e, λ line other e. cc e, λ e. cc e, λ e. cc e, refl)) why file)
+      (subst (λ (w : Work). WorkGives w status text seals) is gives)
+  dump_by_work call work gives (whole what said next) =
+      let made = subst (λ (w : Work). WorkGives w status text seals) next.0 gives in
       (λ e. cc (e, made.0), λ line code e. cc (e, made.0), λ e. cc (e, made.0), λ e. cc (e, made.0), made.2)
 
   -- of a snapshot
-  snapshot_by_cut : (call : SnapshotCall) (setup : SetupValue) (hosts : List (List RowValue)) → GivesCut call setup hosts status text seals → IsByCall (Some (snapshot call)) status seals
-  snapshot_by_cut call setup hosts (refuses_hosts why (some_full many is) gives) = by_refusal (IsByCall (Some (snapshot call))) why (subst (λ (w : Refusal). IsByCall (Some (snapshot call)) (status_of w) []) (sym is) (λ e. cc e, refl)) gives
-  snapshot_by_cut call setup hosts (refuses_hosts why (some_short few many is) gives) = by_refusal (IsByCall (Some (snapshot call))) why (subst (λ (w : Refusal). IsByCall (Some (snapshot call)) (status_of w) []) (sym is) (λ e. cc e, refl)) gives
-  snapshot_by_cut call setup hosts (tells_hosts room is told_of none) = (λ e. cc (e, is), none)
+  snapshot_by_cut : (call : SnapshotCall) (setup : SetupValue) (hosts : List (List RowValue)) (ends : List (Option ℕ))
+      → GivesCut call setup hosts ends status text seals
+      → IsByCall (Some (snapshot call)) status seals
+  snapshot_by_cut call setup hosts ends (refuses_hosts why (some_full many is) gives) =
+      by_refusal (IsByCall (Some (snapshot call))) why
+      (subst (λ (w : Refusal). IsByCall (Some (snapshot call)) (status_of w) []) (sym is) (λ e. cc e, refl)) gives
+  snapshot_by_cut call setup hosts ends (refuses_hosts why (some_short few many is) gives) =
+      by_refusal (IsByCall (Some (snapshot call))) why
+      (subst (λ (w : Refusal). IsByCall (Some (snapshot call)) (status_of w) []) (sym is) (λ e. cc e, refl)) gives
+  snapshot_by_cut call setup hosts ends (tells_hosts room is told_of none) = (λ e. cc (e, is), none)
 
-  snapshot_by_hosts : (call : SnapshotCall) (setup : SetupValue) (work : Work) → Gives work status text seals → SnapshotAfter told call now setup work → IsByCall (Some (snapshot call)) status seals
+  snapshot_by_hosts : (call : SnapshotCall) (setup : SetupValue) (work : Work) → WorkGives work status text seals → SnapshotAfter told call now setup work
+      → IsByCall (Some (snapshot call)) status seals
   snapshot_by_hosts call setup work gives (one_halted why files is) =
       by_refusal (IsByCall (Some (snapshot call))) why
-      (files_refusal (captures setup.packet setup.schema) told call.captures (Some []) now (λ w. IsByCall (Some (snapshot call)) (status_of w) []) (λ name start w file.
-      file_refusal (captures setup.packet setup.schema) told name start now (λ v. IsByCall (Some (snapshot call)) (status_of v) []) (λ e. cc e, refl) (λ at code. (λ e. cc e, refl)) w file) why files)
-      (subst (λ (w : Work). Gives w status text seals) is gives)
-  snapshot_by_hosts call setup work gives (all_whole hosts said next) = snapshot_by_cut call setup hosts (subst (λ (w : Work). Gives w status text seals) next.0 gives)
+      (files_refusal (captures setup.packet call.truncated setup.schema) told call.captures (Some []) now (λ w. IsByCall (Some (snapshot call)) (status_of w) [])
+      (λ name start w file.
+      file_refusal (captures setup.packet call.truncated setup.schema) told name start now (λ v. IsByCall (Some (snapshot call)) (status_of v) []) (λ e. cc e, refl)
+      (λ at code. (λ e. cc e, refl)) w file) why files)
+      (subst (λ (w : Work). WorkGives w status text seals) is gives)
+  snapshot_by_hosts call setup work gives (all_whole hosts said next) =
+      snapshot_by_cut call setup (rows_told hosts) (ends_told hosts) (subst (λ (w : Work). WorkGives w status text seals) next.0 gives)
 
-  snapshot_by_work : (call : SnapshotCall) (work : Work) → Gives work status text seals → ComesTo told (Some (snapshot call)) before now work → IsByCall (Some (snapshot call)) status seals
+  snapshot_by_work : (call : SnapshotCall) (work : Work) → WorkGives work status text seals → ComesTo told (Some (snapshot call)) before now work
+      → IsByCall (Some (snapshot call)) status seals
   snapshot_by_work call work gives (halted why file is) =
       by_refusal (IsByCall (Some (snapshot call))) why
-      (file_refusal setups told call.setup before now (λ w. IsByCall (Some (snapshot call)) (status_of w) []) (λ e. cc e, refl) (λ line code. (λ e. cc e, refl)) why file)
-      (subst (λ (w : Work). Gives w status text seals) is gives)
+      (file_refusal setups told call.setup before now (λ w. IsByCall (Some (snapshot call)) (status_of w) []) (λ e. cc e, refl)
+      (λ line code. (λ e. cc e, refl)) why file)
+      (subst (λ (w : Work). WorkGives w status text seals) is gives)
   snapshot_by_work call work gives (whole setup said next) = snapshot_by_hosts call setup work gives next
 
   pub by_due : (call : Option Call) → HasSizes call → IsDue told call before now status text seals → IsByCall call status seals
-  by_due None sized due = inl (subst (λ (w : Work). Gives w status text seals) due.comes.0 due.gives).0
+  by_due None sized due = inl (subst (λ (w : Work). WorkGives w status text seals) due.comes.0 due.gives).0
   by_due (Some (run call)) sized due = run_by_work call due.work sized due.gives due.comes
   by_due (Some (synth call)) sized due = synth_by_work call due.work sized due.gives due.comes
   by_due (Some (dump call)) sized due = dump_by_work call due.work due.gives due.comes
@@ -178,34 +221,44 @@ by_memory (Some (synth call)) status seals is none = (λ e. cc (e, is), λ at co
 by_memory (Some (dump call)) status seals is none = (λ e. cc (e, is), λ line code e. cc (e, is), λ e. cc (e, is), λ e. cc (e, is), none)
 by_memory (Some (snapshot call)) status seals is none = (λ e. cc (e, is), none)
 
-pub by_stop : (told : Option (List File)) (call : Option Call) (before now : Option (List ℕ)) (status : Status) (seals : List SealValue) (stop : Stop) → status ≡ stop_status stop → seals ≡ [] → StopsAt told call stop before now → IsByCall call status seals
+pub by_stop : (told : Option (List File)) (call : Option Call) (before now : Option (List ℕ)) (status : Status) (seals : List SealValue) (stop : Stop)
+    → status ≡ stop_status stop → seals ≡ [] → StopsAt told call stop before now → IsByCall call status seals
 by_stop told call before now status seals stops.Memory is none left = by_memory call status seals is none
 by_stop told None before now status seals stops.ReadFault is none left = absurd (cc left.0)
 by_stop told (Some (run call)) before now status seals stops.ReadFault is none left = (λ e. cc (e, is), λ e. cc (e, is))
 by_stop told (Some (synth call)) before now status seals stops.ReadFault is none left = (λ e. cc (e, is), λ at code e. cc (e, is), λ e. cc (e, is))
-by_stop told (Some (dump call)) before now status seals stops.ReadFault is none left = (λ e. cc (e, is), λ line code e. cc (e, is), λ e. cc (e, is), λ e. cc (e, is), none)
+by_stop told (Some (dump call)) before now status seals stops.ReadFault is none left =
+    (λ e. cc (e, is), λ line code e. cc (e, is), λ e. cc (e, is), λ e. cc (e, is), none)
 by_stop told (Some (snapshot call)) before now status seals stops.ReadFault is none left = (λ e. cc (e, is), none)
 
 -- words that are no command
-pub words_text : (told : Option (List File)) (call : Option Call) (before now : Option (List ℕ)) (status : Status) (text : List ℕ) (seals : List SealValue) → IsDue told call before now status text seals → call ≡ None → text ≡ line_of refusals.Words
-words_text told None before now status text seals due none = (subst (λ (w : Work). Gives w status text seals) due.comes.0 due.gives).1
+pub words_text : (told : Option (List File)) (call : Option Call) (before now : Option (List ℕ)) (status : Status) (text : List ℕ) (seals : List SealValue)
+    → IsDue told call before now status text seals → call ≡ None → text ≡ line_of refusals.Words
+words_text told None before now status text seals due none = (subst (λ (w : Work). WorkGives w status text seals) due.comes.0 due.gives).1
 words_text told (Some call) before now status text seals due none = absurd (cc none)
 
-pub words_call : (told : Option (List File)) (call : Option Call) (before now : Option (List ℕ)) (status : Status) (text : List ℕ) (seals : List SealValue) → HasSizes call → IsDue told call before now status text seals → status ≡ Words → call ≡ None
+pub words_call : (told : Option (List File)) (call : Option Call) (before now : Option (List ℕ)) (status : Status) (text : List ℕ) (seals : List SealValue)
+    → HasSizes call → IsDue told call before now status text seals → status ≡ Words → call ≡ None
 words_call told None before now status text seals sized due is = refl
-words_call told (Some (run call)) before now status text seals sized due is = absurd ((by_due told before now status text seals (Some (run call)) sized due).0 is)
-words_call told (Some (synth call)) before now status text seals sized due is = absurd ((by_due told before now status text seals (Some (synth call)) sized due).0 is)
-words_call told (Some (dump call)) before now status text seals sized due is = absurd ((by_due told before now status text seals (Some (dump call)) sized due).0 is)
-words_call told (Some (snapshot call)) before now status text seals sized due is = absurd ((by_due told before now status text seals (Some (snapshot call)) sized due).0 is)
+words_call told (Some (run call)) before now status text seals sized due is =
+    absurd ((by_due told before now status text seals (Some (run call)) sized due).0 is)
+words_call told (Some (synth call)) before now status text seals sized due is =
+    absurd ((by_due told before now status text seals (Some (synth call)) sized due).0 is)
+words_call told (Some (dump call)) before now status text seals sized due is =
+    absurd ((by_due told before now status text seals (Some (dump call)) sized due).0 is)
+words_call told (Some (snapshot call)) before now status text seals sized due is =
+    absurd ((by_due told before now status text seals (Some (snapshot call)) sized due).0 is)
 
 pub keeps_same : (held : Option (List ℕ)) → Keeps held held
 keeps_same None = tt
 keeps_same (Some bytes) = refl
 
 -- the same is due under other names
-pub due_as : (told : Option (List File)) (call : Option Call) (before now : Option (List ℕ)) (status other : Status) (text : List ℕ) (seals owed : List SealValue) → IsDue told call before now status text seals → other ≡ status → owed ≡ seals → IsDue told call before now other text owed
+pub due_as : (told : Option (List File)) (call : Option Call) (before now : Option (List ℕ)) (status other : Status) (text : List ℕ)
+    (seals owed : List SealValue) → IsDue told call before now status text seals → other ≡ status → owed ≡ seals → IsDue told call before now other text owed
 due_as told call before now status other text seals owed due is also =
-    subst (λ (s : Status). IsDue told call before now s text owed) (sym is) (subst (λ (q : List SealValue). IsDue told call before now status text q) (sym also) due)
+    subst (λ (s : Status). IsDue told call before now s text owed) (sym is)
+    (subst (λ (q : List SealValue). IsDue told call before now status text q) (sym also) due)
 
 -- a draft has none of the statuses that devices and want of memory give, and seals only where the work was done
 none_of : {A B C : Type 0} → (A → ⊥) → (B → ⊥) → (C → ⊥) → A ⊎ B ⊎ C → ⊥
@@ -228,6 +281,7 @@ draft_yields (drafts.Refused why text) yields = refusal_yields why yields
 pub never_yields : (draft : Draft) (status : Status) → status ≡ draft_status draft → Yields status → ⊥
 never_yields draft status is yields = draft_yields draft (subst Yields is yields)
 
-pub draft_unsealed : (draft : Draft) (status : Status) (seals : List SealValue) → status ≡ draft_status draft → seals ≡ draft_seals draft → (status ≡ Done → ⊥) → seals ≡ []
+pub draft_unsealed : (draft : Draft) (status : Status) (seals : List SealValue) → status ≡ draft_status draft → seals ≡ draft_seals draft
+    → (status ≡ Done → ⊥) → seals ≡ []
 draft_unsealed (drafts.Done text seals) status sealed is also undone = absurd (undone is)
 draft_unsealed (drafts.Refused why text) status sealed is also undone = also

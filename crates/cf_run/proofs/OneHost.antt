@@ -1,11 +1,10 @@
 -- The rows of hosts, one more host at a time.
-use Rattle.std.proofs.Common.{◌≡◌, ◌⊎◌, ℕ, zero, suc, ◌<◌, ◌≤◌, ◌+◌, ◌*◌, List, [], ◌∷◌, ◌++◌, length, map, take, drop, fold, replicate, get_or, All, Any, Vec, refl, sym, ap, ap₂, subst, ◌∙◌, inl, inr, arith}
+use Rattle.std.proofs.Common.{◌≡◌, ◌⊎◌, ℕ, zero, suc, ◌<◌, ◌≤◌, ◌+◌, ◌*◌, List, [], ◌∷◌, ◌++◌, length, map, take, drop, fold, replicate, get_or, All, Any, Option, None, append_assoc, refl, sym, ap, ap₂, subst, ◌∙◌, inl, inr, arith}
 use Rattle.std.specs.List.{AllByRecursion, flat_map, list_any, range_with_len}
-use Rattle.std.specs.declared.alloc.Global.{Global}
 use Rattle.std.proofs.lemmas.Bool.{cases_Bool}
-use Rattle.std.proofs.lemmas.List.{get_or-map, length-map, map-append}
+use Rattle.std.proofs.lemmas.List.{get_or-map, length-map}
 use Rattle.std.proofs.lemmas.List.Concat.{flat_map-append}
-use Rattle.std.proofs.lemmas.List.Elements.{All-append, All-cons, All-nil, All-map, All-from_get_or}
+use Rattle.std.proofs.lemmas.List.Elements.{All-map, All-from_get_or}
 use Rattle.std.proofs.lemmas.List.FromFn.{length-range_with_len}
 use Rattle.std.proofs.lemmas.List.{take-append-drop}
 use Rattle.std.proofs.lemmas.List.Sums.{fold-append}
@@ -21,7 +20,7 @@ use Rattle.cf_plain.specs.declared.ask.Ask.{Ask}
 use Rattle.cf_plain.specs.declared.answer.Body.{Body}
 use Rattle.cf_report.specs.Answered.{tolds_of}
 use Rattle.cf_report.specs.Meaning.{AreMeant, finals_on}
-use Rattle.cf_report.specs.Snapshot.{host_part, host_text}
+use Rattle.cf_report.specs.Snapshot.{host_part, host_text, host_text_at}
 use Rattle.cf_report.proofs.Legal.{finals_meant}
 use Rattle.cf_setup.specs.Setups.{SetupValue}
 use Rattle.cf_shape.specs.Lanes.{ShapeValue}
@@ -30,18 +29,26 @@ use Rattle.cf_command.specs.declared.words.LogSizes.{LogSizes}
 use Rattle.cf_snapshot.specs.Plans.{cut_by, in_cut}
 use Rattle.cf_run.specs.Due.{HasRoom}
 use Rattle.cf_run.specs.Logs.{IsUnmade, IsUnmadeAlone}
-use Rattle.cf_run.specs.Parts.{rows_each}
+use Rattle.cf_intake.specs.Parts.{rows_each}
+use Rattle.cf_intake.specs.declared.rows.Captured.{Captured}
+use Rattle.cf_run.specs.Parts.{ends_each}
 use Rattle.cf_run.proofs.Sealing.{one_more}
-use Rattle.cf_run.specs.Work.{shape_for}
+use Rattle.cf_run.specs.Work.{host_lines_at, shape_for, truncated_line}
 use Rattle.cf_run.specs.declared.log.Unmade.{Unmade}
 use Rattle.cf_run.specs.declared.log.Unmade.TheVariants.{Nodes, Memory}
 
 -- the rows of the host at a place
-pub at_host : (hosts : List (Vec RowValue Global)) (i : ℕ) (rows : Vec RowValue Global) (d : List RowValue) → i < length hosts → rows ≡ get_or hosts i rows → get_or (rows_each hosts) i d ≡ rows.items
-at_host hosts i rows d lt is = get_or-map (λ (v : Vec RowValue Global). v.items) hosts i rows d lt ∙ ap (λ (v : Vec RowValue Global). v.items) (sym is)
+pub at_host : (hosts : List Captured) (i : ℕ) (host : Captured) (d : List RowValue) → i < length hosts → host ≡ get_or hosts i host
+    → get_or (rows_each hosts) i d ≡ host.rows.items
+at_host hosts i host d lt is = get_or-map (λ (h : Captured). h.rows.items) hosts i host d lt ∙ ap (λ (h : Captured). h.rows.items) (sym is)
 
-pub as_many : (hosts : List (Vec RowValue Global)) → length (rows_each hosts) ≡ length hosts
-as_many hosts = length-map hosts (λ (v : Vec RowValue Global). v.items)
+-- within which record its capture ends, if it does
+pub end_of_host : (hosts : List Captured) (i : ℕ) (host : Captured) (d : Option ℕ) → i < length hosts → host ≡ get_or hosts i host
+    → get_or (ends_each hosts) i d ≡ host.cut
+end_of_host hosts i host d lt is = get_or-map (λ (h : Captured). h.cut) hosts i host d lt ∙ ap (λ (h : Captured). h.cut) (sym is)
+
+pub as_many : (hosts : List Captured) → length (rows_each hosts) ≡ length hosts
+as_many hosts = length-map hosts (λ (h : Captured). h.rows.items)
 
 -- what holds of the rows of the first hosts
 abbrev pub AreBelow : (List RowValue → Type 0) → List (List RowValue) → ℕ → Type 0
@@ -56,20 +63,24 @@ less_or_same (suc k) (suc i) lt = elim (less_or_same k i (omega (arith, lt))) [ 
 pub none_below : (P : List RowValue → Type 0) (hosts : List (List RowValue)) → AreBelow P hosts 0
 none_below P hosts k d lt = absurd (omega (arith, lt))
 
-pub one_below : (P : List RowValue → Type 0) (hosts : List (Vec RowValue Global)) (i : ℕ) (rows : Vec RowValue Global) → i < length hosts → rows ≡ get_or hosts i rows → P rows.items → AreBelow P (rows_each hosts) i → AreBelow P (rows_each hosts) (i + 1)
-one_below P hosts i rows lt is has below k d low = elim (less_or_same k i low) [
+pub one_below : (P : List RowValue → Type 0) (hosts : List Captured) (i : ℕ) (host : Captured) → i < length hosts
+    → host ≡ get_or hosts i host → P host.rows.items → AreBelow P (rows_each hosts) i → AreBelow P (rows_each hosts) (i + 1)
+one_below P hosts i host lt is has below k d low = elim (less_or_same k i low) [
   | inl less ↦ below k d less
-  | inr same ↦ subst (λ (j : ℕ). P (get_or (rows_each hosts) j d)) (sym same) (subst P (sym (at_host hosts i rows d lt is)) has)
+  | inr same ↦ subst (λ (j : ℕ). P (get_or (rows_each hosts) j d)) (sym same) (subst P (sym (at_host hosts i host d lt is)) has)
 ]
 
-pub all_below : (P : List RowValue → Type 0) (hosts : List (Vec RowValue Global)) (i : ℕ) → length hosts ≤ i → AreBelow P (rows_each hosts) i → All P (rows_each hosts)
+pub all_below : (P : List RowValue → Type 0) (hosts : List Captured) (i : ℕ) → length hosts ≤ i → AreBelow P (rows_each hosts) i
+    → All P (rows_each hosts)
 all_below P hosts i end below k d lt = below k d (omega (arith, lt, end, as_many hosts))
 
-pub one_of_all : (P : List RowValue → Type 0) (hosts : List (Vec RowValue Global)) (i : ℕ) (rows : Vec RowValue Global) → i < length hosts → rows ≡ get_or hosts i rows → All P (rows_each hosts) → P rows.items
-one_of_all P hosts i rows lt is all = subst P (at_host hosts i rows rows.items lt is) (all i rows.items (omega (arith, lt, as_many hosts)))
+pub one_of_all : (P : List RowValue → Type 0) (hosts : List Captured) (i : ℕ) (host : Captured) → i < length hosts
+    → host ≡ get_or hosts i host → All P (rows_each hosts) → P host.rows.items
+one_of_all P hosts i host lt is all = subst P (at_host hosts i host host.rows.items lt is) (all i host.rows.items (omega (arith, lt, as_many hosts)))
 
-pub any_host : (P : List RowValue → Type 0) (hosts : List (Vec RowValue Global)) (i : ℕ) (rows : Vec RowValue Global) → i < length hosts → rows ≡ get_or hosts i rows → P rows.items → Any P (rows_each hosts)
-any_host P hosts i rows lt is has = (i, rows.items, omega (arith, lt, as_many hosts), at_host hosts i rows rows.items lt is, has)
+pub any_host : (P : List RowValue → Type 0) (hosts : List Captured) (i : ℕ) (host : Captured) → i < length hosts
+    → host ≡ get_or hosts i host → P host.rows.items → Any P (rows_each hosts)
+any_host P hosts i host lt is has = (i, host.rows.items, omega (arith, lt, as_many hosts), at_host hosts i host host.rows.items lt is, has)
 
 -- A log of one writer.
 
@@ -90,17 +101,20 @@ one_log rows writers log one is =
     ap rows_in (orders.1 ∙ ap (λ (os : List ℕ). log_of rows 1 os) order ∙ log_of_one rows) ∙ rows_alone rows
 
 -- the part of a host is that of its rows
-pub host_told : (shape : ShapeValue) (setup : SetupValue) (rounds host : ℕ) (rows : List RowValue) (entries : List Entry) (answered : LoadedValue) → rows_in entries ≡ rows → AreMeant setup shape rounds entries answered → host_part setup host (rows_in entries) (tolds_of setup.asks answered.finals) ≡ host_text shape setup host rows
+pub host_told : (shape : ShapeValue) (setup : SetupValue) (rounds host : ℕ) (rows : List RowValue) (entries : List Entry) (answered : LoadedValue)
+    → rows_in entries ≡ rows → AreMeant setup shape rounds entries answered
+    → host_part setup host (rows_in entries) (tolds_of setup.asks answered.finals) ≡ host_text shape setup host rows
 host_told shape setup rounds host rows entries answered same meant =
     ap (λ (ts : List (AskReply Ask Body)). host_part setup host (rows_in entries) ts) (finals_meant setup shape rounds entries answered meant)
     ∙ ap (λ (rs : List RowValue). host_part setup host rs (finals_on shape setup rs)) same
 
--- one more host
-pub more_hosts : (hosts now : List (Vec RowValue Global)) (rows : Vec RowValue Global) → now ≡ hosts ++ rows ∷ [] → rows_each now ≡ rows_each hosts ++ rows.items ∷ []
-more_hosts hosts now rows grown = ap rows_each grown ∙ map-append (λ (v : Vec RowValue Global). v.items) hosts (rows ∷ [])
-
-pub all_more : (P : List RowValue → Type 0) (hosts now : List (Vec RowValue Global)) (rows : Vec RowValue Global) → now ≡ hosts ++ rows ∷ [] → All P (rows_each hosts) → P rows.items → All P (rows_each now)
-all_more P hosts now rows grown all has = subst (All P) (sym (more_hosts hosts now rows grown)) (All-append P (rows_each hosts) (rows.items ∷ []) all (All-cons P rows.items [] has (All-nil P)))
+-- and the line of its capture stands behind it
+pub host_lines : (shape : ShapeValue) (setup : SetupValue) (cut : List ℕ) (hosts : List (List RowValue)) (ends : List (Option ℕ)) (host : ℕ)
+    (before mid after : List ℕ) (end : Option ℕ) → mid ≡ before ++ host_text_at shape setup cut hosts host → after ≡ mid ++ truncated_line end
+    → end ≡ get_or ends host None → after ≡ before ++ host_lines_at shape setup cut hosts ends host
+host_lines shape setup cut hosts ends host before mid after end told ended is =
+    ended ∙ ap (λ (text : List ℕ). text ++ truncated_line end) told ∙ append_assoc before (host_text_at shape setup cut hosts host) (truncated_line end)
+    ∙ ap (λ (e : Option ℕ). before ++ (host_text_at shape setup cut hosts host ++ truncated_line e)) is
 
 -- The nodes of a host's first rows.
 
@@ -120,33 +134,46 @@ distinct_front : (shape : ShapeValue) (rows : List RowValue) (n : ℕ) → disti
 distinct_front shape rows n =
     let front : List RowValue = take n rows in
     let back : List RowValue = drop n rows in
-    let parts : nodes_of shape (front ++ back) ≡ fold add_node (nodes_of shape front) (flat_map (nodes_for shape) back) = ap (fold add_node []) (flat_map-append (nodes_for shape) front back) ∙ fold-append add_node [] (flat_map (nodes_for shape) front) (flat_map (nodes_for shape) back) in
-    subst (λ (rs : List RowValue). distinct shape front ≤ distinct shape rs) (take-append-drop n rows) (rw parts (no_fewer (nodes_of shape front) (flat_map (nodes_for shape) back)))
+    let parts : nodes_of shape (front ++ back) ≡ fold add_node (nodes_of shape front) (flat_map (nodes_for shape) back) =
+    ap (fold add_node []) (flat_map-append (nodes_for shape) front back)
+    ∙ fold-append add_node [] (flat_map (nodes_for shape) front) (flat_map (nodes_for shape) back) in
+    subst (λ (rs : List RowValue). distinct shape front ≤ distinct shape rs) (take-append-drop n rows)
+    (rw parts (no_fewer (nodes_of shape front) (flat_map (nodes_for shape) back)))
 
 -- of a log of one segment
-pub unmade_alone : (shape : ShapeValue) (rows : List RowValue) (why : Unmade) → length rows ≤ shape.capacity → IsUnmade shape rows why → IsUnmadeAlone shape rows why
+pub unmade_alone : (shape : ShapeValue) (rows : List RowValue) (why : Unmade) → length rows ≤ shape.capacity → IsUnmade shape rows why
+    → IsUnmadeAlone shape rows why
 unmade_alone shape rows Nodes few many = one_more shape shape.nodes rows few many
 unmade_alone shape rows Memory few many = tt
 
 -- where there are nodes for all rows, there are for the first
-pub never_short : (shape : ShapeValue) (rows front : List RowValue) (n : ℕ) (why : Unmade) → why ≡ Nodes → front ≡ take n rows → distinct shape rows ≤ shape.nodes → IsUnmadeAlone shape front why → ⊥
+pub never_short : (shape : ShapeValue) (rows front : List RowValue) (n : ℕ) (why : Unmade) → why ≡ Nodes → front ≡ take n rows
+    → distinct shape rows ≤ shape.nodes → IsUnmadeAlone shape front why → ⊥
 never_short shape rows front n why is of few bad =
-    let lacks : shape.nodes < distinct shape (take n rows) = subst (λ (w : Unmade). IsUnmadeAlone shape (take n rows) w) is (subst (λ (f : List RowValue). IsUnmadeAlone shape f why) of bad) in
+    let lacks : shape.nodes < distinct shape (take n rows) =
+    subst (λ (w : Unmade). IsUnmadeAlone shape (take n rows) w) is (subst (λ (f : List RowValue). IsUnmadeAlone shape f why) of bad) in
     let less = distinct_front shape rows n in
     omega (arith, few, lacks, less)
 
 -- The numbers of a cut.
 
-pub counts_few : (sizes : LogSizes) (setup : SetupValue) (hosts : List (List RowValue)) (most : ℕ) → sizes.capacity ≤ most → All (HasRoom sizes setup) hosts → All (λ n. n ≤ most) (map (λ rows. length rows) hosts)
-counts_few sizes setup hosts most cap room = All-map (λ n. n ≤ most) (λ (rows : List RowValue). length rows) hosts (λ k d lt. let few = (room k d lt).0 in omega (arith, few, cap))
+pub counts_few : (sizes : LogSizes) (setup : SetupValue) (hosts : List (List RowValue)) (most : ℕ) → sizes.capacity ≤ most → All (HasRoom sizes setup) hosts
+    → All (λ n. n ≤ most) (map (λ rows. length rows) hosts)
+counts_few sizes setup hosts most cap room =
+    All-map (λ n. n ≤ most) (λ (rows : List RowValue). length rows) hosts (λ k d lt. let few = (room k d lt).0 in omega (arith, few, cap))
 
-pub room_of : (sizes : LogSizes) (setup : SetupValue) (hosts : List (List RowValue)) → sizes.writers ≡ 1 → All (λ rows. length rows ≤ sizes.capacity) hosts → All (λ rows. distinct (shape_for setup sizes) rows ≤ sizes.writers * sizes.nodes) hosts → All (HasRoom sizes setup) hosts
+pub room_of : (sizes : LogSizes) (setup : SetupValue) (hosts : List (List RowValue)) → sizes.writers ≡ 1 → All (λ rows. length rows ≤ sizes.capacity) hosts
+    → All (λ rows. distinct (shape_for setup sizes) rows ≤ sizes.writers * sizes.nodes) hosts → All (HasRoom sizes setup) hosts
 room_of sizes setup hosts one few nodes k d lt =
-    let n : distinct (shape_for setup sizes) (get_or hosts k d) ≤ 1 * sizes.nodes = subst (λ (w : ℕ). distinct (shape_for setup sizes) (get_or hosts k d) ≤ w * sizes.nodes) one (nodes k d lt) in
+    let n : distinct (shape_for setup sizes) (get_or hosts k d) ≤ 1 * sizes.nodes =
+    subst (λ (w : ℕ). distinct (shape_for setup sizes) (get_or hosts k d) ≤ w * sizes.nodes) one (nodes k d lt) in
     (few k d lt, omega (arith, n))
 
 pub cut_length : (turn : ℕ) (counts : List ℕ) (turns : ℕ) (cut : List ℕ) → cut ≡ cut_by turn counts turns → length cut ≡ length counts
-cut_length turn counts turns cut is = ap (λ (ns : List ℕ). length ns) is ∙ length-map (range_with_len 0 (length counts)) (in_cut turn counts turns) ∙ length-range_with_len 0 (length counts)
+cut_length turn counts turns cut is = ap (λ (ns : List ℕ). length ns) is ∙ length-map (range_with_len 0 (length counts)) (in_cut turn counts turns)
+    ∙ length-range_with_len 0 (length counts)
 
-pub cut_few : (most : ℕ) (counts cut : List ℕ) → length cut ≡ length counts → All (λ n. n ≤ most) counts → ((host : ℕ) → get_or cut host 0 ≤ get_or counts host 0) → All (λ n. n ≤ most) cut
-cut_few most counts cut same few within = All-from_get_or (λ n. n ≤ most) cut 0 (λ k lt. let low = within k in let high = few k 0 (omega (arith, lt, same)) in omega (arith, low, high))
+pub cut_few : (most : ℕ) (counts cut : List ℕ) → length cut ≡ length counts → All (λ n. n ≤ most) counts
+    → ((host : ℕ) → get_or cut host 0 ≤ get_or counts host 0) → All (λ n. n ≤ most) cut
+cut_few most counts cut same few within =
+    All-from_get_or (λ n. n ≤ most) cut 0 (λ k lt. let low = within k in let high = few k 0 (omega (arith, lt, same)) in omega (arith, low, high))

@@ -6,10 +6,10 @@ use Rattle.cf_command.specs.Call.{Call}
 use Rattle.cf_command.specs.Call.Call.{run, synth, dump, snapshot}
 use Rattle.cf_outside.specs.Files.{File}
 use Rattle.cf_table.specs.Moves.{SealValue}
-use Rattle.cf_run.specs.Devices.{WritesFront}
+use Rattle.cf_intake.specs.Devices.{WritesFront}
 use Rattle.cf_run.specs.Due.{IsDue, StopsAt}
 use Rattle.cf_run.specs.Refusals.{stop_status}
-use Rattle.cf_run.specs.declared.refusal.Stop.{Stop}
+use Rattle.cf_intake.specs.declared.refusal.Stop.{Stop}
 use Rattle.cf_run.specs.declared.status.Status.{Status}
 use Rattle.cf_run.specs.declared.status.Status.TheVariants.{Done, Words, Setup, Capture, ReadFault, WriteFault, Full, Nodes, Memory, NoFile}
 
@@ -33,10 +33,13 @@ Yields status = (status ≡ Memory) ⊎ (status ≡ ReadFault) ⊎ (status ≡ W
 -- What is written, from what the sink held to what it holds, with the seals, and from what was left of the opened file to what is. The
 -- text that is due is written whole. Or the sink failed after a front of it: nothing is written before all was read. Or the work was
 -- stopped before its end, and nothing is written.
-pub data Answers (told : Option (List File)) (call : Option Call) (status : Status) (seals : List SealValue) (held now before after : Option (List ℕ)) : Type 0 where
-  wrote : (text : List ℕ) → IsDue told call before after status text seals → Appends held now text → Answers told call status seals held now before after
-  cut : (due : Status) (text : List ℕ) (owed : List SealValue) → status ≡ WriteFault → seals ≡ [] → IsDue told call before after due text owed → WritesFront held now text → Answers told call status seals held now before after
-  stopped : (stop : Stop) → status ≡ stop_status stop → seals ≡ [] → StopsAt told call stop before after → Keeps held now → Answers told call status seals held now before after
+pub data RunAnswers (told : Option (List File)) (call : Option Call) (status : Status) (seals : List SealValue)
+    (held now before after : Option (List ℕ)) : Type 0 where
+  wrote : (text : List ℕ) → IsDue told call before after status text seals → Appends held now text → RunAnswers told call status seals held now before after
+  cut : (due : Status) (text : List ℕ) (owed : List SealValue) → status ≡ WriteFault → seals ≡ [] → IsDue told call before after due text owed
+      → WritesFront held now text → RunAnswers told call status seals held now before after
+  stopped : (stop : Stop) → status ≡ stop_status stop → seals ≡ [] → StopsAt told call stop before after → Keeps held now
+      → RunAnswers told call status seals held now before after
 
 -- The threads decide between these two where the rows of some segment need more different nodes than one writer has in it, and those of
 -- none more than all: then both are called for.
@@ -45,7 +48,8 @@ AreBetween one other = ((one ≡ Done) × (other ≡ Nodes)) ⊎ ((one ≡ Nodes
 
 -- whatever the call and the files call for comes, unless memory ran out or a device failed
 abbrev pub IsDecided : List File → Option Call → Status → Type 0
-IsDecided files call status = (before after : Option (List ℕ)) (due : Status) (text : List ℕ) (seals : List SealValue) → IsDue (Some files) call before after due text seals → (status ≡ due) ⊎ Yields status ⊎ AreBetween status due
+IsDecided files call status = (before after : Option (List ℕ)) (due : Status) (text : List ℕ) (seals : List SealValue)
+    → IsDue (Some files) call before after due text seals → (status ≡ due) ⊎ Yields status ⊎ AreBetween status due
 
 -- a seal for each segment that was opened: one at least, and no more than the log may have
 abbrev pub HasSeals : LogSizes → List SealValue → Type 0
@@ -58,5 +62,6 @@ abbrev pub IsByCall : Option Call → Status → List SealValue → Type 0
 IsByCall None status seals = (status ≡ Words) ⊎ (status ≡ Memory) ⊎ (status ≡ WriteFault)
 IsByCall (Some (run call)) status seals = (status ≡ Words → ⊥) × (status ≡ Done → HasSeals call.sizes seals)
 IsByCall (Some (synth call)) status seals = (status ≡ Words → ⊥) × ((at code : ℕ) → status ≡ Capture at code → ⊥) × (status ≡ Done → HasSeals call.sizes seals)
-IsByCall (Some (dump call)) status seals = (status ≡ Words → ⊥) × ((line code : ℕ) → status ≡ Setup line code → ⊥) × (status ≡ Full → ⊥) × (status ≡ Nodes → ⊥) × (seals ≡ [])
+IsByCall (Some (dump call)) status seals = (status ≡ Words → ⊥) × ((line code : ℕ) → status ≡ Setup line code → ⊥) × (status ≡ Full → ⊥)
+    × (status ≡ Nodes → ⊥) × (seals ≡ [])
 IsByCall (Some (snapshot call)) status seals = (status ≡ Words → ⊥) × (seals ≡ [])

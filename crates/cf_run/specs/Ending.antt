@@ -4,11 +4,11 @@ use Rattle.std.specs.Io.KnownBytes.{Appends}
 use Rattle.cf_command.specs.Call.{Call}
 use Rattle.cf_outside.specs.Files.{File}
 use Rattle.cf_table.specs.Moves.{SealValue}
-use Rattle.cf_run.specs.Answers.{Answers, Yields, IsDecided, IsByCall, number_of}
-use Rattle.cf_run.specs.Devices.{WritesFront}
+use Rattle.cf_run.specs.Answers.{RunAnswers, Yields, IsDecided, IsByCall, number_of}
+use Rattle.cf_intake.specs.Devices.{WritesFront}
 use Rattle.cf_run.specs.Due.{IsLawful}
-use Rattle.cf_run.specs.Refusals.{line_of}
-use Rattle.cf_run.specs.declared.refusal.Refusal.TheVariants as refusals
+use Rattle.cf_intake.specs.Refusals.{line_of}
+use Rattle.cf_intake.specs.declared.refusal.Refusal.TheVariants as refusals
 use Rattle.cf_run.specs.declared.status.Status.{Status}
 use Rattle.cf_run.specs.declared.status.Status.TheVariants.{Done, Words, WriteFault}
 
@@ -18,7 +18,7 @@ pub record HasEnded (told : Option (List File)) (call : Option Call) (held now b
   pub status : Status
   pub seals : List SealValue
   pub number_is : number ≡ number_of status
-  pub written : Answers told call status seals held now before after
+  pub written : RunAnswers told call status seals held now before after
   pub by_command : IsByCall call status seals
   pub no_seals : (status ≡ Done → ⊥) → seals ≡ []
   pub decided : IfSome told (λ files. IsDecided files call status)

@@ -1,16 +1,29 @@
 -- A log that rows fill as they come.
-use Rattle.std.specs.Prelude.{◌≡◌, ◌⊎◌, ℕ, ◌+◌, ◌*◌, ◌<◌, ◌≤◌, ◌%◌, min, true, false, List, [], ◌++◌, length, All}
+use Rattle.std.specs.Prelude.{◌≡◌, ◌⊎◌, ℕ, ◌+◌, ◌<◌, ◌≤◌, ◌%◌, min, true, false, List, [], ◌++◌, length, All}
 use Rattle.cf_row.specs.Row.{RowValue, Fits}
-use Rattle.cf_shape.specs.Lanes.{ShapeValue}
 use Rattle.cf_load.specs.Segments.{SegmentsValue, AllowsSegments, base_of, told_of}
 use Rattle.cf_load.specs.Loaders.{LoaderValue, IsLoading}
 use Rattle.cf_load.specs.Loads.{LacksNodes, room_of}
 use Rattle.cf_load.specs.Planned.{tails_of}
-use Rattle.cf_load.specs.declared.plan.LivePlan.{LivePlan}
+use Rattle.cf_command.specs.Call.{AreSizes}
 use Rattle.cf_command.specs.declared.words.LogSizes.{LogSizes}
 use Rattle.cf_setup.specs.Setups.{SetupValue}
 use Rattle.cf_run.specs.Logs.{IsPlanOf}
 use Rattle.cf_run.specs.Work.{shape_for}
+
+-- The segments and the loader of a log, the rows that wait for the next batch, and how many rows came, up to one more than all segments
+-- have room for.
+pub record FillingValue : Type 0 where
+  pub segments : SegmentsValue
+  pub loader : LoaderValue
+  pub waiting : List RowValue
+  pub count : ℕ
+
+-- the shape, the most segments and the plan are as they were
+pub record KeepsLog (before after : FillingValue) : Type 0 where
+  pub shape : after.segments.shape ≡ before.segments.shape
+  pub most : after.segments.most ≡ before.segments.most
+  pub plan : after.loader.plan ≡ before.loader.plan
 
 -- The loader has loaded these rows, and the roots were told of the tails of its live answers. A segment was opened behind the first only
 -- for a row that it has.
@@ -45,19 +58,23 @@ pub record AwaitsBatch (s : SegmentsValue) (rows waiting : List RowValue) (loade
   pub few : length waiting < 4096
   pub loaded : IsLoadedSo s before loader
 
--- These rows came. The shape, the most segments and the plan are as they were. The rows are counted up to one more than all segments have
--- room for. While they are no more than that, they are loaded batch by batch, or their paths lack nodes. Where no more is loaded, none
--- waits.
-pub record IsFilled (shape : ShapeValue) (most : ℕ) (plan : LivePlan) (s : SegmentsValue) (loader : LoaderValue) (waiting : List RowValue) (count : ℕ) (rows : List RowValue) : Type 0 where
-  pub shape_is : s.shape ≡ shape
-  pub most_is : s.most ≡ most
-  pub allowed : AllowsSegments shape most
-  pub plan_is : loader.plan ≡ plan
-  pub count_is : count ≡ min (length rows) (most * shape.capacity + 1)
-  pub fit : All (Fits shape.schema) rows
-  pub going : loader.stopped ≡ false → length rows ≤ most * shape.capacity → AwaitsBatch s rows waiting loader
-  pub lacking : loader.stopped ≡ true → (writer : ℕ) × LacksNodes s rows writer
-  pub idle : (loader.stopped ≡ true) ⊎ (most * shape.capacity < length rows) → waiting ≡ []
+-- These rows came. They are counted up to one more than all segments have room for. While they are no more than that, they are loaded batch
+-- by batch, or their paths lack nodes. Where no more is loaded, none waits.
+pub record IsFilled (filling : FillingValue) (rows : List RowValue) : Type 0 where
+  pub allowed : AllowsSegments filling.segments.shape filling.segments.most
+  pub count_is : filling.count ≡ min (length rows) (room_of filling.segments + 1)
+  pub fit : All (Fits (filling.segments.shape).schema) rows
+  pub going : filling.loader.stopped ≡ false → length rows ≤ room_of filling.segments → AwaitsBatch filling.segments rows filling.waiting filling.loader
+  pub lacking : filling.loader.stopped ≡ true → (writer : ℕ) × LacksNodes filling.segments rows writer
+  pub idle : (filling.loader.stopped ≡ true) ⊎ (room_of filling.segments < length rows) → filling.waiting ≡ []
+
+-- some rows came
+abbrev pub IsFilling : FillingValue → Type 0
+IsFilling filling = (rows : List RowValue) × IsFilled filling rows
+
+-- these rows came behind those before
+abbrev pub Fills : FillingValue → FillingValue → List RowValue → Type 0
+Fills old new rows = (before : List RowValue) → IsFilled old before → IsFilled new (before ++ rows)
 
 -- the most rows that wait for a batch
 abbrev pub most_waiting : ℕ
@@ -69,8 +86,12 @@ abbrev pub rows_waiting : ℕ → ℕ → ℕ
 rows_waiting at_hand ahead = at_hand % 4096 + ahead
 
 -- These rows came into a log of the setup's shape and of so many segments, of which is asked what the setup asks.
-pub record IsFilledFor (setup : SetupValue) (sizes : LogSizes) (rounds : ℕ) (s : SegmentsValue) (loader : LoaderValue) (waiting : List RowValue) (count : ℕ) (rows : List RowValue) : Type 0 where
-  pub shape : s.shape ≡ shape_for setup sizes
-  pub most : s.most ≡ sizes.segments
-  pub plan : IsPlanOf setup rounds loader.plan
-  pub filled : IsFilled s.shape s.most loader.plan s loader waiting count rows
+pub record IsFilledFor (setup : SetupValue) (sizes : LogSizes) (rounds : ℕ) (filling : FillingValue) (rows : List RowValue) : Type 0 where
+  pub shape : filling.segments.shape ≡ shape_for setup sizes
+  pub most : filling.segments.most ≡ sizes.segments
+  pub plan : IsPlanOf setup rounds filling.loader.plan
+  pub filled : IsFilled filling rows
+
+-- some rows came into a log that is filled for a setup
+abbrev pub IsFillingFor : SetupValue → FillingValue → Type 0
+IsFillingFor setup filling = (sizes : LogSizes) × (rounds : ℕ) × (rows : List RowValue) × AreSizes sizes × IsFilledFor setup sizes rounds filling rows

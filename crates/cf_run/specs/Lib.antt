@@ -1,17 +1,10 @@
-pub mod Formats
 pub mod Work
-pub mod Faults
-pub mod Laws
 pub mod Refusals
-pub mod Files
-pub mod Several
 pub mod Needs
 pub mod Seals
 pub mod Logs
 pub mod Filling
 pub mod Due
 pub mod Ending
-pub mod Devices
 pub mod Answers
 pub mod Parts
-pub mod Reading

@@ -12,6 +12,10 @@ use Rattle.cf_scan.specs.Split.{asks_at, numbers_at, logged_places}
 use Rattle.cf_load.specs.Loading.{HasAnswered}
 use Rattle.cf_load.specs.Planned.{marks_on, tails_of}
 use Rattle.cf_load.specs.declared.plan.LivePlan.{LivePlan}
+use Rattle.cf_intake.specs.declared.refusal.Halt.{Halt}
+use Rattle.cf_intake.specs.declared.refusal.Halt.TheVariants.{Refused, Stopped}
+use Rattle.cf_intake.specs.declared.refusal.Refusal.TheVariants as refusals
+use Rattle.cf_intake.specs.declared.refusal.Stop.TheVariants as stops
 use Rattle.cf_run.specs.Needs.{NeedsAtMost, NeedsMore}
 use Rattle.cf_run.specs.Seals.{AreSeals}
 use Rattle.cf_run.specs.declared.log.Unmade.{Unmade}
@@ -35,7 +39,8 @@ pub record AreAnswers (shape : ShapeValue) (plan : LivePlan) (entries : List Ent
 
 -- The entries of a closed log, whose segments have the shape, the seals of its segments, and the answers to a plan: each row stands in it
 -- once, the final answers and the marks are those of the whole log, and each live answer, in its turn, that of the entries that it saw.
-pub record IsLogClosed (shape : ShapeValue) (plan : LivePlan) (rows : List RowValue) (entries : List Entry) (seals : List SealValue) (answered : LoadedValue) : Type 0 where
+pub record IsLogClosed (shape : ShapeValue) (plan : LivePlan) (rows : List RowValue) (entries : List Entry) (seals : List SealValue)
+    (answered : LoadedValue) : Type 0 where
   pub is : IsLogOf rows shape.writers entries
   pub finals : answered.finals ≡ map (answer_on shape entries) plan.asks.items
   pub alerts : answered.alerts ≡ map (marks_on shape entries) plan.triggers.items
@@ -52,3 +57,8 @@ IsUnmade shape rows Memory = Unit {0}
 abbrev pub IsUnmadeAlone : ShapeValue → List RowValue → Unmade → Type 0
 IsUnmadeAlone shape rows Nodes = shape.nodes < distinct shape rows
 IsUnmadeAlone shape rows Memory = Unit {0}
+
+-- what the work comes to then
+abbrev pub halt_of : ℕ → Unmade → Halt
+halt_of nodes Nodes = Refused (refusals.Nodes nodes)
+halt_of nodes Memory = Stopped stops.Memory

@@ -1,5 +1,5 @@
 -- The seals of the segments of the logs that were loaded.
-use Rattle.std.specs.Prelude.{◌≡◌, ◌+◌, ◌-◌, ◌*◌, ◌/◌, ℕ, max, List, [], ◌∷◌, ◌++◌, length, map, slice_get, Some}
+use Rattle.std.specs.Prelude.{◌≡◌, ◌+◌, ◌-◌, ◌*◌, ◌/◌, ℕ, max, List, [], length, map, slice_get, Some}
 use Rattle.cf_row.specs.Row.{RowValue}
 use Rattle.cf_row.specs.declared.row.Entry.{Entry}
 use Rattle.cf_history.specs.Order.{IsOrder, IsLogOf, log_of}
@@ -34,14 +34,16 @@ pub record AreSynthSeals (rows : List RowValue) (capacity writers : ℕ) (seals 
 
 -- The entries of a closed log of the rows, the seals of its segments, and the answers of its load: each row stands in it once, each
 -- answer is its question's meaning on the entries that it saw, and the roots were told of the tails of the live ones.
-pub record IsClosed (setup : SetupValue) (capacity writers nodes rounds : ℕ) (rows : List RowValue) (entries : List Entry) (seals : List SealValue) (answered : LoadedValue) : Type 0 where
+pub record IsClosed (setup : SetupValue) (capacity writers nodes rounds : ℕ) (rows : List RowValue) (entries : List Entry) (seals : List SealValue)
+    (answered : LoadedValue) : Type 0 where
   pub is : IsLogOf rows writers entries
   pub meant : AreMeant setup (shaped setup capacity writers nodes) rounds entries answered
   pub seals_are : AreSeals capacity entries (tails_of answered.lives) seals
   pub few_nodes : NeedsAtMost (shaped setup capacity writers nodes) (writers * nodes) rows
 
 -- a report of the rows, with the seals of the log that it prints
-pub record IsSealedReport (setup : SetupValue) (capacity writers nodes rounds : ℕ) (rows : List RowValue) (text : List ℕ) (seals : List SealValue) : Type 0 where
+pub record IsSealedReport (setup : SetupValue) (capacity writers nodes rounds : ℕ) (rows : List RowValue) (text : List ℕ)
+    (seals : List SealValue) : Type 0 where
   pub order : List ℕ
   pub report : IsReport setup capacity writers nodes rounds rows order text
   pub seals_are : AreSeals capacity (log_of rows writers order) (tails_of report.lives) seals

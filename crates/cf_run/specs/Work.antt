@@ -1,42 +1,14 @@
--- The rows of captures, and of packets that are drawn.
-use Rattle.std.specs.Prelude.{◌≡◌, ℕ, ◌^◌, Bool, true, false, List, map}
+-- The rows of packets that are drawn, the shape of a log, and what is written of truncated captures.
+use Rattle.std.specs.Prelude.{ℕ, List, [], ◌∷◌, ◌++◌, length, map, slice_index_or, Option, Some, None, codes, decimal}
+use Rattle.std.specs.List.{flat_map, range_with_len, sum}
 use Rattle.cf_row.specs.Row.{RowValue}
-use Rattle.cf_row.specs.declared.schema.Attr.{Attr}
-use Rattle.cf_headers.specs.Packet.{packet_row_of}
 use Rattle.cf_make.specs.Generated.{generated_frames}
-use Rattle.cf_records.specs.Records.{IsRecordFile}
-use Rattle.cf_pcap.specs.Capture.{FrameValue, IsCapture}
-use Rattle.cf_pcapng.specs.Rules.{IsFileOf}
 use Rattle.cf_command.specs.declared.words.LogSizes.{LogSizes}
 use Rattle.cf_command.specs.Call.{SynthCall}
+use Rattle.cf_report.specs.Snapshot.{cut_line, host_text_at}
 use Rattle.cf_setup.specs.Setups.{SetupValue, shaped}
 use Rattle.cf_shape.specs.Lanes.{ShapeValue}
-use Rattle.cf_run.specs.Formats.{begins_section}
-
--- the rows of captured packets
-abbrev pub packet_rows : List FrameValue → List RowValue
-packet_rows frames = map packet_row_of frames
-
--- the frames of a capture: of blocks in pcapng where it begins as such a file, of records in pcap otherwise
-abbrev pub AreFramesBy : Bool → List ℕ → List FrameValue → Type 0
-AreFramesBy true bytes frames = IsFileOf bytes frames
-AreFramesBy false bytes frames = IsCapture bytes frames
-
--- the rows of a capture of packets
-pub record ArePackets (bytes : List ℕ) (rows : List RowValue) : Type 0 where
-  pub frames : List FrameValue
-  pub frames_are : AreFramesBy (begins_section bytes) bytes frames
-  pub rows_are : rows ≡ packet_rows frames
-
--- by the schema of the setup: of packets, or of other records
-abbrev pub AreRowsBy : Bool → List Attr → List ℕ → List RowValue → Type 0
-AreRowsBy true attrs bytes rows = ArePackets bytes rows
-AreRowsBy false attrs bytes rows = IsRecordFile attrs bytes rows
-
--- a file is read no further than its longest lawful form
-abbrev pub limit_by : Bool → ℕ
-limit_by true = 2 ^ 32
-limit_by false = 2 ^ 24
+use Rattle.cf_intake.specs.Rows.{CaptureValue, packet_rows}
 
 -- the rows of the packets that are drawn for a synth
 abbrev pub drawn_rows : SynthCall → List RowValue
@@ -45,3 +17,23 @@ drawn_rows call = packet_rows (generated_frames call.seed call.count)
 -- the shape of a setup's log of these sizes
 abbrev pub shape_for : SetupValue → LogSizes → ShapeValue
 shape_for setup sizes = shaped setup sizes.capacity sizes.writers sizes.nodes
+
+-- `truncated: record K`, where a capture ends within that record, and no line where it ends well
+abbrev pub truncated_line : Option ℕ → List ℕ
+truncated_line None = []
+truncated_line (Some k) = codes "truncated: record " ++ (decimal k ++ 10 ∷ [])
+
+-- the rows of each host, and within which record its capture ends, if it does
+abbrev pub rows_told : List CaptureValue → List (List RowValue)
+rows_told hosts = map (λ host. host.rows) hosts
+
+abbrev pub ends_told : List CaptureValue → List (Option ℕ)
+ends_told hosts = map (λ host. host.cut) hosts
+
+-- the part of a host at a cut, and the line of its capture where this is truncated
+abbrev pub host_lines_at : ShapeValue → SetupValue → List ℕ → List (List RowValue) → List (Option ℕ) → ℕ → List ℕ
+host_lines_at shape setup cut hosts ends host = host_text_at shape setup cut hosts host ++ truncated_line (slice_index_or ends host None)
+
+-- The text of a cut of hosts that have these rows, and whose captures end so: the sum of the cut, and then each host, the first being host 0.
+abbrev pub hosts_text : ShapeValue → SetupValue → List ℕ → List (List RowValue) → List (Option ℕ) → List ℕ
+hosts_text shape setup cut hosts ends = cut_line (sum cut) ++ flat_map (host_lines_at shape setup cut hosts ends) (range_with_len 0 (length hosts))

@@ -40,8 +40,10 @@ pub(crate) fn complete<R: Threads + Sync>(
 ) -> Result<Loaded, Memory>
     requires fit { FitAll setup.now.schema entries.now }
     requires few { length entries.now ≤ 2 ^ 20 }
-    requires answers { (shape : ShapeValue) × (plan : LivePlan) × (rounds : ℕ) × (shape.schema ≡ setup.now.schema) × All (Suits shape) setup.now.asks × IsPlanOf setup.now rounds plan × AreAnswers shape plan entries.now answers }
-    ensures meant { (shape : ShapeValue) (plan : LivePlan) (rounds : ℕ) → IsPlanOf setup.now rounds plan → AreAnswers shape plan entries.now answers → IfOk result (AreMeant setup.now shape rounds entries.now) }
+    requires answers { (shape : ShapeValue) × (plan : LivePlan) × (rounds : ℕ)
+        × (shape.schema ≡ setup.now.schema) × All (Suits shape) setup.now.asks × IsPlanOf setup.now rounds plan × AreAnswers shape plan entries.now answers }
+    ensures meant { (shape : ShapeValue) (plan : LivePlan) (rounds : ℕ) → IsPlanOf setup.now rounds plan
+        → AreAnswers shape plan entries.now answers → IfOk result (AreMeant setup.now shape rounds entries.now) }
     ensures tails { IfOk result (λ all. tails_of all.lives ≡ tails_of answers.lives) }
 {
     answer_all(

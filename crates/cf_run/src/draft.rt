@@ -1,11 +1,12 @@
 // What is to be written.
 ghost use Rattle.std.specs.Prelude.{◌≡◌, [], MatchResult};
 ghost use Rattle.cf_run.specs.Parts.{draft_status, draft_text, draft_seals};
-ghost use Rattle.cf_run.specs.Refusals.{line_of, status_of};
-ghost use Rattle.cf_run.specs.declared.refusal.Stop.TheVariants as stops;
+ghost use Rattle.cf_intake.specs.Refusals.{line_of};
+ghost use Rattle.cf_run.specs.Refusals.{status_of};
+ghost use Rattle.cf_intake.specs.declared.refusal.Stop.TheVariants as stops;
 
 use crate::Status;
-use crate::refusal::{Refusal, Stop};
+use cf_intake::{Refusal, Stop};
 use cf_table::Seal;
 use std::alloc::Global;
 
@@ -38,7 +39,7 @@ impl Draft {
     {
         match self {
             Draft::Done { .. } => Status::Done,
-            Draft::Refused { refusal, .. } => refusal.status(),
+            Draft::Refused { refusal, .. } => Status::from(*refusal),
         }
     }
 

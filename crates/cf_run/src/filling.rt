@@ -1,10 +1,10 @@
 // A log that rows fill as they come.
-ghost use Rattle.std.specs.Prelude.{◌≡◌, ◌<◌, ◌≤◌, ◌+◌, ◌%◌, ◌++◌, ◌∷◌, List, [], All, length, true, false, IfOk, IsTrue, MatchResult};
+ghost use Rattle.std.specs.Prelude.{◌≡◌, ◌⊎◌, ◌<◌, ◌≤◌, ◌+◌, ◌%◌, ◌++◌, ◌∷◌, List, [], All, length, true, false, IfOk, IsTrue, MatchResult};
 ghost use Rattle.cf_row.specs.Row.{Fits, RowValue};
 ghost use Rattle.cf_load.specs.Loads.{room_of};
 ghost use Rattle.cf_load.specs.Planned.{IsPlan, IsSamePlan};
 ghost use Rattle.cf_load.specs.Segments.{AllowsSegments};
-ghost use Rattle.cf_run.specs.Filling.{IsFilled, AreLoaded, HasBatch, LoadsWaiting};
+ghost use Rattle.cf_run.specs.Filling.{AreLoaded, Fills, HasBatch, IsFilled, IsFilling, KeepsLog, LoadsWaiting};
 ghost use Rattle.cf_run.specs.Logs.{IsLogClosed, IsUnmade};
 
 use crate::log::Unmade;
@@ -14,6 +14,7 @@ use cf_report::Loaded;
 use cf_row::{Memory, Row};
 use cf_shape::Shape;
 use std::alloc::{AllocError, Global};
+use std::marker::Model;
 use std::mem;
 use std::thread::Threads;
 
@@ -32,6 +33,41 @@ pub(crate) struct Filling {
     count: u32,
 }
 
+impl Model for Filling {
+    ghost use Rattle.cf_run.specs.Filling.{FillingValue};
+
+    ghost Value = { FillingValue };
+
+    ghost view = { λ f. record { segments = f.segments; loader = f.loader; waiting = f.waiting.items; count = f.count } };
+}
+
+// Loads the rows that wait.
+fn load<R: Threads + Sync, G: Gate>(
+    rt: &R,
+    alloc: Global,
+    segments: &mut Segments,
+    loader: &mut Loader,
+    waiting: &mut Vec<Row>,
+    gate: &G,
+) -> Result<(), Memory>
+    requires { HasBatch segments.old waiting.old.items loader.old }
+    ensures shape { segments.new.shape ≡ segments.old.shape }
+    ensures most { segments.new.most ≡ segments.old.most }
+    ensures plan { loader.new.plan ≡ loader.old.plan }
+    ensures none { waiting.new.items ≡ [] }
+    ensures loaded { IfOk result (λ _. LoadsWaiting waiting.old.items segments.old segments.new loader.old loader.new) }
+{
+    let loaded = loader.batch(rt, alloc, segments, waiting, gate);
+    waiting.clear();
+    match loaded {
+        Ok(()) => Ok(()),
+        // This stopped the loader.
+        Err(LoadFault::NodesFull(_)) => Ok(()),
+        Err(LoadFault::Memory) => Err(AllocError),
+        Err(LoadFault::Full) => unreachable!(),
+    }
+}
+
 impl Filling {
     /// An empty log of at most so many segments of the shape, of which is asked what the plan says.
     pub(crate) fn new(
@@ -45,7 +81,7 @@ impl Filling {
         ensures shape { IfOk result (λ filling. filling.segments.shape ≡ shape) }
         ensures most { IfOk result (λ filling. filling.segments.most ≡ most) }
         ensures plan { IfOk result (λ filling. IsSamePlan plan.now filling.loader.plan) }
-        ensures none { IfOk result (λ filling. IsFilled filling.segments.shape filling.segments.most filling.loader.plan filling.segments filling.loader filling.waiting.items filling.count []) }
+        ensures none { IfOk result (λ filling. IsFilled filling []) }
     {
         let segments = Segments::open(alloc, shape, most)?;
         let loader = Loader::new(alloc, &segments, plan)?;
@@ -58,6 +94,11 @@ impl Filling {
         })
     }
 
+    /// Where the log is allocated.
+    pub(crate) fn alloc(&self) -> Global {
+        self.alloc
+    }
+
     /// Whether more rows came than the log may hold.
     pub(crate) fn is_full(&self) -> bool
         ensures full { IsTrue result → room_of self.now.segments < self.now.count }
@@ -68,42 +109,18 @@ impl Filling {
 
     /// How many rows end the next batch, behind those that wait once so many more came.
     pub(crate) fn wanted(&self, more: usize) -> usize
-        ensures { result + (length self.now.waiting.items + more) % 4096 ≡ 4096 }
+        ensures { result + (length self.now.waiting + more) % 4096 ≡ 4096 }
     {
         BATCH - (self.waiting.len() % BATCH + more % BATCH) % BATCH
-    }
-
-    // Loads the rows that wait.
-    fn load<R: Threads + Sync, G: Gate>(&mut self, rt: &R, gate: &G) -> Result<(), Memory>
-        requires { HasBatch self.old.segments self.old.waiting.items self.old.loader }
-        ensures shape { self.new.segments.shape ≡ self.old.segments.shape }
-        ensures most { self.new.segments.most ≡ self.old.segments.most }
-        ensures plan { self.new.loader.plan ≡ self.old.loader.plan }
-        ensures count { self.new.count ≡ self.old.count }
-        ensures none { self.new.waiting.items ≡ [] }
-        ensures loaded { IfOk result (λ _. LoadsWaiting self.old.waiting.items self.old.segments self.new.segments self.old.loader self.new.loader) }
-    {
-        let loaded = self
-            .loader
-            .batch(rt, self.alloc, &mut self.segments, &self.waiting, gate);
-        self.waiting.clear();
-        match loaded {
-            Ok(()) => Ok(()),
-            // This stopped the loader.
-            Err(LoadFault::NodesFull(_)) => Ok(()),
-            Err(LoadFault::Memory) => Err(AllocError),
-            Err(LoadFault::Full) => unreachable!(),
-        }
     }
 
     // Takes the next row. Where it ends a batch, the batch is loaded. Once no more is loaded, none waits.
     fn push<R: Threads + Sync, G: Gate>(&mut self, rt: &R, gate: &G, row: Row) -> Result<(), Memory>
         requires fits { Fits self.old.segments.shape.schema row }
-        requires filled { (rows : List RowValue) × IsFilled self.old.segments.shape self.old.segments.most self.old.loader.plan self.old.segments self.old.loader self.old.waiting.items self.old.count rows }
-        ensures shape { self.new.segments.shape ≡ self.old.segments.shape }
+        requires filled { IsFilling self.old }
+        ensures keeps { KeepsLog self.old self.new }
         ensures stops { self.old.loader.stopped ≡ true → self.new.loader.stopped ≡ true }
-        ensures filled { IfOk result (λ _. (rows : List RowValue) → IsFilled self.old.segments.shape self.old.segments.most self.old.loader.plan self.old.segments self.old.loader self.old.waiting.items self.old.count rows
-            → IsFilled self.old.segments.shape self.old.segments.most self.old.loader.plan self.new.segments self.new.loader self.new.waiting.items self.new.count (rows ++ row ∷ [])) }
+        ensures filled { IfOk result (λ _. Fills self.old self.new (row ∷ [])) }
     {
         let room = self.segments.room();
         if self.count > room {
@@ -119,44 +136,35 @@ impl Filling {
         if self.waiting.len() < BATCH {
             return Ok(());
         }
-        self.load(rt, gate)
+        load(
+            rt,
+            self.alloc,
+            &mut self.segments,
+            &mut self.loader,
+            &mut self.waiting,
+            gate,
+        )
     }
 
-    /// Takes the next rows. Each batch that they end is loaded.
+    /// Takes the next rows out of the list. Each batch that they end is loaded.
     pub(crate) fn take_rows<R: Threads + Sync, G: Gate>(
-        &mut self,
-        rt: &R,
-        gate: &G,
-        rows: Vec<Row>,
-    ) -> Result<(), Memory>
-        requires fit { All (Fits self.old.segments.shape.schema) rows.items }
-        requires filled { (before : List RowValue) × IsFilled self.old.segments.shape self.old.segments.most self.old.loader.plan self.old.segments self.old.loader self.old.waiting.items self.old.count before }
-        ensures stops { self.old.loader.stopped ≡ true → self.new.loader.stopped ≡ true }
-        ensures filled { IfOk result (λ _. (before : List RowValue) → IsFilled self.old.segments.shape self.old.segments.most self.old.loader.plan self.old.segments self.old.loader self.old.waiting.items self.old.count before
-            → IsFilled self.old.segments.shape self.old.segments.most self.old.loader.plan self.new.segments self.new.loader self.new.waiting.items self.new.count (before ++ rows.items)) }
-    {
-        for row in rows {
-            self.push(rt, gate, row)?;
-        }
-        Ok(())
-    }
-
-    /// Takes the next rows out of the list.
-    pub(crate) fn take_all<R: Threads + Sync, G: Gate>(
         &mut self,
         rt: &R,
         gate: &G,
         rows: &mut Vec<Row>,
     ) -> Result<(), Memory>
         requires fit { All (Fits self.old.segments.shape.schema) rows.old.items }
-        requires filled { (before : List RowValue) × IsFilled self.old.segments.shape self.old.segments.most self.old.loader.plan self.old.segments self.old.loader self.old.waiting.items self.old.count before }
+        requires filled { IsFilling self.old }
+        ensures keeps { KeepsLog self.old self.new }
         ensures stops { self.old.loader.stopped ≡ true → self.new.loader.stopped ≡ true }
-        ensures filled { IfOk result (λ _. (before : List RowValue) → IsFilled self.old.segments.shape self.old.segments.most self.old.loader.plan self.old.segments self.old.loader self.old.waiting.items self.old.count before
-            → IsFilled self.old.segments.shape self.old.segments.most self.old.loader.plan self.new.segments self.new.loader self.new.waiting.items self.new.count (before ++ rows.old.items)) }
+        ensures filled { IfOk result (λ _. Fills self.old self.new rows.old.items) }
         ensures none { rows.new.items ≡ [] }
     {
-        let rows = mem::replace(rows, Vec::new(self.alloc));
-        self.take_rows(rt, gate, rows)
+        let taken = mem::replace(rows, Vec::new(self.alloc()));
+        for row in taken {
+            self.push(rt, gate, row)?;
+        }
+        Ok(())
     }
 
     /// Takes copies of the next rows.
@@ -167,29 +175,43 @@ impl Filling {
         rows: &[Row],
     ) -> Result<(), Memory>
         requires fit { All (Fits self.old.segments.shape.schema) rows.now }
-        requires filled { (before : List RowValue) × IsFilled self.old.segments.shape self.old.segments.most self.old.loader.plan self.old.segments self.old.loader self.old.waiting.items self.old.count before }
-        ensures filled { IfOk result (λ _. (before : List RowValue) → IsFilled self.old.segments.shape self.old.segments.most self.old.loader.plan self.old.segments self.old.loader self.old.waiting.items self.old.count before
-            → IsFilled self.old.segments.shape self.old.segments.most self.old.loader.plan self.new.segments self.new.loader self.new.waiting.items self.new.count (before ++ rows.now)) }
+        requires filled { IsFilling self.old }
+        ensures keeps { KeepsLog self.old self.new }
+        ensures filled { IfOk result (λ _. Fills self.old self.new rows.now) }
     {
         for row in rows {
-            let copied = row.copy(self.alloc)?;
+            let copied = row.copy(self.alloc())?;
             self.push(rt, gate, copied)?;
         }
         Ok(())
     }
 
+    // Whether no rows wait to be loaded, or none can be.
+    fn is_done(&self) -> bool
+        ensures done { IsTrue result → (self.now.loader.stopped ≡ true) ⊎ ((self.now.loader.stopped ≡ false) × (self.now.waiting ≡ [])) }
+        ensures waits { result ≡ false → (self.now.loader.stopped ≡ false) × (0 < length self.now.waiting) }
+    {
+        self.loader.stopped() || self.waiting.is_empty()
+    }
+
     // Loads the last rows, which may be fewer than a batch.
     fn load_last<R: Threads + Sync, G: Gate>(&mut self, rt: &R, gate: &G) -> Result<(), Memory>
-        requires filled { (rows : List RowValue) × IsFilled self.old.segments.shape self.old.segments.most self.old.loader.plan self.old.segments self.old.loader self.old.waiting.items self.old.count rows }
+        requires filled { IsFilling self.old }
         requires few { self.old.count ≤ room_of self.old.segments }
-        ensures shape { self.new.segments.shape ≡ self.old.segments.shape }
-        ensures plan { self.new.loader.plan ≡ self.old.loader.plan }
-        ensures loaded { IfOk result (λ _. (rows : List RowValue) → IsFilled self.old.segments.shape self.old.segments.most self.old.loader.plan self.old.segments self.old.loader self.old.waiting.items self.old.count rows → AreLoaded self.new.segments rows self.new.loader) }
+        ensures keeps { KeepsLog self.old self.new }
+        ensures loaded { IfOk result (λ _. (rows : List RowValue) → IsFilled self.old rows → AreLoaded self.new.segments rows self.new.loader) }
     {
-        if self.loader.stopped() || self.waiting.is_empty() {
+        if self.is_done() {
             return Ok(());
         }
-        self.load(rt, gate)
+        load(
+            rt,
+            self.alloc,
+            &mut self.segments,
+            &mut self.loader,
+            &mut self.waiting,
+            gate,
+        )
     }
 
     /// Loads the last rows, asks all questions of the whole log, and closes it.
@@ -198,14 +220,13 @@ impl Filling {
         rt: &R,
         gate: &G,
     ) -> Result<(Closing, Loaded), Unmade>
-        requires filled { (rows : List RowValue) × IsFilled self.segments.shape self.segments.most self.loader.plan self.segments self.loader self.waiting.items self.count rows }
+        requires filled { IsFilling self }
         requires few { self.count ≤ room_of self.segments }
-        ensures { (rows : List RowValue) → IsFilled self.segments.shape self.segments.most self.loader.plan self.segments self.loader self.waiting.items self.count rows
-            → MatchResult result (λ made. IsLogClosed self.segments.shape self.loader.plan rows made.0.entries.items made.0.seals.items made.1) (IsUnmade self.segments.shape rows) }
+        ensures { (rows : List RowValue) → IsFilled self rows
+            → MatchResult result (λ made. IsLogClosed self.segments.shape self.loader.plan rows made.0.entries.items made.0.seals.items made.1)
+            (IsUnmade self.segments.shape rows) }
     {
-        let Ok(()) = self.load_last(rt, gate) else {
-            return Err(Unmade::Memory);
-        };
+        self.load_last(rt, gate)?;
         if self.loader.stopped() {
             return Err(Unmade::Nodes);
         }
@@ -215,9 +236,7 @@ impl Filling {
             loader,
             ..
         } = self;
-        let Ok(answers) = loader.finish(alloc, &mut segments) else {
-            return Err(Unmade::Memory);
-        };
+        let answers = loader.finish(alloc, &mut segments)?;
         match segments.close(alloc) {
             Ok(closing) => Ok((closing, answers)),
             Err(_) => Err(Unmade::Memory),

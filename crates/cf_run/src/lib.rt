@@ -6,26 +6,18 @@
 #![tactic(auto)]
 
 mod asked;
-mod devices;
 mod draft;
 mod drawn;
 mod dumping;
-mod faults;
-mod files;
+mod fill;
 mod filling;
-mod hosts;
-mod laws;
 mod log;
 #[cfg(test)]
 mod piece_tests;
-mod pieces;
 mod prepare;
 mod program;
-mod reader;
-mod refusal;
 #[cfg(test)]
 mod row_tests;
-mod rows;
 #[cfg(test)]
 mod segment_tests;
 mod snapshot;
@@ -35,8 +27,10 @@ mod status;
 #[cfg(test)]
 mod tests;
 mod top;
+mod truncated;
+#[cfg(test)]
+mod truncated_tests;
 
-pub use laws::each_file_is_in_one_case;
 pub use program::start;
 pub use status::{Outcome, Status};
 pub use top::{run, run_steadily};

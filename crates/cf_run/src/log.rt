@@ -1,24 +1,26 @@
 // The log of some rows, and what is told of it.
-ghost use Rattle.std.specs.Prelude.{◌≤◌, ℕ, List, [], IfOk, MatchResult};
+ghost use Rattle.std.specs.Prelude.{◌≡◌, ◌≤◌, ℕ, List, [], IfOk, MatchResult};
 ghost use Rattle.cf_row.specs.Row.{RowValue};
 ghost use Rattle.cf_setup.specs.Setups.{IsSetup, shaped};
 ghost use Rattle.cf_load.specs.Loads.{room_of};
 ghost use Rattle.cf_command.specs.Call.{AreSizes};
 ghost use Rattle.cf_command.specs.declared.words.LogSizes.{LogSizes};
-ghost use Rattle.cf_run.specs.Filling.{IsFilledFor};
-ghost use Rattle.cf_run.specs.Logs.{IsUnmade};
+ghost use Rattle.cf_run.specs.Filling.{IsFilledFor, IsFillingFor};
+ghost use Rattle.cf_run.specs.Logs.{IsUnmade, halt_of};
 ghost use Rattle.cf_run.specs.Seals.{IsClosed, IsSealedReport, IsSealedFinal, IsSealedIn};
+ghost use Rattle.cf_run.specs.declared.log.Unmade.TheVariants as unmade;
 
 use crate::asked::{complete, plan_of};
 use crate::draft::Product;
 use crate::filling::Filling;
 use cf_command::LogSizes;
+use cf_intake::{Halt, Refusal, Stop};
 use cf_load::Closing;
 use cf_outside::Gate;
 use cf_report::{Form, Loaded, report};
 use cf_row::Memory;
 use cf_setup::{Setup, shape_of};
-use std::alloc::Global;
+use std::alloc::{AllocError, Global};
 use std::thread::Threads;
 
 /// Why there is no log of some rows.
@@ -27,6 +29,26 @@ pub(crate) enum Unmade {
     /// The paths of those in some segment need more nodes than a writer has in it.
     Nodes,
     Memory,
+}
+
+impl From<AllocError> for Unmade {
+    ghost from_gives = { λ _ why. why ≡ unmade.Memory };
+
+    fn from(_error: AllocError) -> Unmade {
+        Unmade::Memory
+    }
+}
+
+impl Unmade {
+    /// Why the work has no result then: a writer's nodes are too few, or memory ran out.
+    pub(crate) fn halt(self, nodes: u32) -> Halt
+        ensures { result ≡ halt_of nodes self }
+    {
+        match self {
+            Unmade::Nodes => Halt::Refused(Refusal::Nodes { nodes }),
+            Unmade::Memory => Halt::Stopped(Stop::Memory),
+        }
+    }
 }
 
 /// An empty log of a setup's shape, of which is asked what the setup asks.
@@ -38,7 +60,7 @@ pub(crate) fn opened(
 ) -> Result<Filling, Memory>
     requires lawful { IsSetup setup.now }
     requires sizes { AreSizes sizes }
-    ensures { IfOk result (λ filling. IsFilledFor setup.now sizes rounds filling.segments filling.loader filling.waiting.items filling.count []) }
+    ensures { IfOk result (λ filling. IsFilledFor setup.now sizes rounds filling []) }
 {
     let shape = shape_of(alloc, setup, sizes.capacity, sizes.writers, sizes.nodes)?;
     let plan = plan_of(alloc, setup, rounds)?;
@@ -46,7 +68,7 @@ pub(crate) fn opened(
 }
 
 /// The closed log of the rows that filled it, and the answers to all that the setup asks.
-pub(crate) fn log_of<R: Threads + Sync, G: Gate>(
+pub(crate) fn closed_log<R: Threads + Sync, G: Gate>(
     rt: &R,
     alloc: Global,
     setup: &Setup,
@@ -54,16 +76,15 @@ pub(crate) fn log_of<R: Threads + Sync, G: Gate>(
     gate: &G,
 ) -> Result<(Closing, Loaded), Unmade>
     requires lawful { IsSetup setup.now }
-    requires filled { (sizes : LogSizes) × (rounds : ℕ) × (rows : List RowValue) × AreSizes sizes × IsFilledFor setup.now sizes rounds filling.segments filling.loader filling.waiting.items filling.count rows }
+    requires filled { IsFillingFor setup.now filling }
     requires few { filling.count ≤ room_of filling.segments }
-    ensures { (sizes : LogSizes) (rounds : ℕ) (rows : List RowValue) → AreSizes sizes → IsFilledFor setup.now sizes rounds filling.segments filling.loader filling.waiting.items filling.count rows
-        → MatchResult result (λ made. IsClosed setup.now sizes.capacity sizes.writers sizes.nodes rounds rows made.0.entries.items made.0.seals.items made.1) (IsUnmade (shaped setup.now sizes.capacity sizes.writers sizes.nodes) rows) }
+    ensures { (sizes : LogSizes) (rounds : ℕ) (rows : List RowValue) → AreSizes sizes → IsFilledFor setup.now sizes rounds filling rows
+        → MatchResult result (λ made. IsClosed setup.now sizes.capacity sizes.writers sizes.nodes rounds rows made.0.entries.items made.0.seals.items made.1)
+        (IsUnmade (shaped setup.now sizes.capacity sizes.writers sizes.nodes) rows) }
 {
     let (closing, answers) = filling.finish(rt, gate)?;
-    match complete(rt, alloc, setup, &closing.entries, answers) {
-        Ok(answers) => Ok((closing, answers)),
-        Err(_) => Err(Unmade::Memory),
-    }
+    let answers = complete(rt, alloc, setup, &closing.entries, answers)?;
+    Ok((closing, answers))
 }
 
 // The report of a setup in that form, over the rows that filled a log.
@@ -76,15 +97,14 @@ fn report_in<R: Threads + Sync, G: Gate>(
     form: Form,
 ) -> Result<Product, Unmade>
     requires lawful { IsSetup setup.now }
-    requires filled { (sizes : LogSizes) × (rounds : ℕ) × (rows : List RowValue) × AreSizes sizes × IsFilledFor setup.now sizes rounds filling.segments filling.loader filling.waiting.items filling.count rows }
+    requires filled { IsFillingFor setup.now filling }
     requires few { filling.count ≤ room_of filling.segments }
-    ensures { (sizes : LogSizes) (rounds : ℕ) (rows : List RowValue) → AreSizes sizes → IsFilledFor setup.now sizes rounds filling.segments filling.loader filling.waiting.items filling.count rows
-        → MatchResult result (λ made. IsSealedIn form setup.now sizes.capacity sizes.writers sizes.nodes rounds rows made.text.items made.seals.items) (IsUnmade (shaped setup.now sizes.capacity sizes.writers sizes.nodes) rows) }
+    ensures { (sizes : LogSizes) (rounds : ℕ) (rows : List RowValue) → AreSizes sizes → IsFilledFor setup.now sizes rounds filling rows
+        → MatchResult result (λ made. IsSealedIn form setup.now sizes.capacity sizes.writers sizes.nodes rounds rows made.text.items made.seals.items)
+        (IsUnmade (shaped setup.now sizes.capacity sizes.writers sizes.nodes) rows) }
 {
-    let (closing, answers) = log_of(rt, alloc, setup, filling, gate)?;
-    let Ok(text) = report(alloc, setup, &closing.entries, &answers, form) else {
-        return Err(Unmade::Memory);
-    };
+    let (closing, answers) = closed_log(rt, alloc, setup, filling, gate)?;
+    let text = report(alloc, setup, &closing.entries, &answers, form)?;
     Ok(Product {
         text,
         seals: closing.seals,
@@ -100,10 +120,11 @@ pub(crate) fn report_of<R: Threads + Sync, G: Gate>(
     gate: &G,
 ) -> Result<Product, Unmade>
     requires lawful { IsSetup setup.now }
-    requires filled { (sizes : LogSizes) × (rounds : ℕ) × (rows : List RowValue) × AreSizes sizes × IsFilledFor setup.now sizes rounds filling.segments filling.loader filling.waiting.items filling.count rows }
+    requires filled { IsFillingFor setup.now filling }
     requires few { filling.count ≤ room_of filling.segments }
-    ensures { (sizes : LogSizes) (rounds : ℕ) (rows : List RowValue) → AreSizes sizes → IsFilledFor setup.now sizes rounds filling.segments filling.loader filling.waiting.items filling.count rows
-        → MatchResult result (λ made. IsSealedReport setup.now sizes.capacity sizes.writers sizes.nodes rounds rows made.text.items made.seals.items) (IsUnmade (shaped setup.now sizes.capacity sizes.writers sizes.nodes) rows) }
+    ensures { (sizes : LogSizes) (rounds : ℕ) (rows : List RowValue) → AreSizes sizes → IsFilledFor setup.now sizes rounds filling rows
+        → MatchResult result (λ made. IsSealedReport setup.now sizes.capacity sizes.writers sizes.nodes rounds rows made.text.items made.seals.items)
+        (IsUnmade (shaped setup.now sizes.capacity sizes.writers sizes.nodes) rows) }
 {
     report_in(rt, alloc, setup, filling, gate, Form::Whole)
 }
@@ -117,10 +138,11 @@ pub(crate) fn final_of<R: Threads + Sync, G: Gate>(
     gate: &G,
 ) -> Result<Product, Unmade>
     requires lawful { IsSetup setup.now }
-    requires filled { (sizes : LogSizes) × (rounds : ℕ) × (rows : List RowValue) × AreSizes sizes × IsFilledFor setup.now sizes rounds filling.segments filling.loader filling.waiting.items filling.count rows }
+    requires filled { IsFillingFor setup.now filling }
     requires few { filling.count ≤ room_of filling.segments }
-    ensures { (sizes : LogSizes) (rows : List RowValue) → AreSizes sizes → IsFilledFor setup.now sizes 0 filling.segments filling.loader filling.waiting.items filling.count rows
-        → MatchResult result (λ made. IsSealedFinal setup.now sizes.capacity sizes.writers sizes.nodes rows made.text.items made.seals.items) (IsUnmade (shaped setup.now sizes.capacity sizes.writers sizes.nodes) rows) }
+    ensures { (sizes : LogSizes) (rows : List RowValue) → AreSizes sizes → IsFilledFor setup.now sizes 0 filling rows
+        → MatchResult result (λ made. IsSealedFinal setup.now sizes.capacity sizes.writers sizes.nodes rows made.text.items made.seals.items)
+        (IsUnmade (shaped setup.now sizes.capacity sizes.writers sizes.nodes) rows) }
 {
     report_in(rt, alloc, setup, filling, gate, Form::Final)
 }

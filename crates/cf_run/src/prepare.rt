@@ -2,19 +2,21 @@
 ghost use Rattle.std.specs.Prelude.{◌≡◌, ◌≤◌, ◌^◌, Some, None};
 ghost use Rattle.cf_command.specs.Call.{AreSizes, IsSnapshotInRange, call_of, run_by, synth_by, dump_by, snapshot_by, texts};
 ghost use Rattle.cf_command.specs.Call.Call.{run, synth, dump, snapshot};
-ghost use Rattle.cf_run.specs.Parts.{HasHaltCause, HasStopCause, Ends, IsPrepared};
+ghost use Rattle.cf_intake.specs.Causes.{HasHaltCause, HasStopCause};
+ghost use Rattle.cf_run.specs.Parts.{EndsWith, IsPrepared};
 
 use crate::draft::{Draft, Product, refused};
 use crate::drawn::fill_drawn;
 use crate::dumping::dump_of;
-use crate::files::{collect_rows, fill_rows, read_setup};
-use crate::hosts::read_hosts;
-use crate::log::{Unmade, final_of, opened, report_of};
-use crate::refusal::{Halt, Refusal, Stop};
-use crate::rows::{Format, format_of};
+use crate::fill::fill_rows;
+use crate::log::{final_of, opened, report_of};
 use crate::snapshot::{cut_text, is_some_full, load_hosts};
+use crate::truncated::with_truncated;
 use cf_command::{
     Command, DumpCommand, LogSizes, RunCommand, SnapshotCommand, SynthCommand, command_of,
+};
+use cf_intake::{
+    Format, Halt, Manner, Refusal, Stop, collect_rows, format_of, read_hosts, read_setup,
 };
 use cf_outside::{Gate, Shelf};
 use cf_row::packet_schema;
@@ -31,29 +33,27 @@ fn run_report<R: Threads + Sync, F: Shelf, G: Gate>(
 ) -> Result<Product, Halt>
     requires { AreSizes command.now.sizes }
     ensures files { F.files shelf.new ≡ F.files shelf.old }
-    ensures ends { Ends (F.files shelf.old) (Some (run (run_by command.now))) (F.rest shelf.old) (F.rest shelf.new) result }
+    ensures ends { EndsWith (F.files shelf.old) (Some (run (run_by command.now))) (F.rest shelf.old) (F.rest shelf.new) result }
     ensures cause { HasHaltCause (F.faults shelf.old) (F.faults shelf.new) result }
 {
     let setup = read_setup(alloc, shelf, command.setup)?;
     let sizes = command.sizes;
     let mut filling = opened(alloc, &setup, sizes, command.rounds)?;
-    fill_rows(
-        rt,
-        alloc,
-        shelf,
-        command.capture,
-        format_of(&setup),
-        &mut filling,
-        gate,
-    )?;
+    let manner = Manner {
+        format: format_of(&setup),
+        truncated: command.truncated,
+    };
+    let cut = fill_rows(rt, shelf, command.capture, manner, &mut filling, gate)?;
     if filling.is_full() {
         let most = sizes.most();
         return Err(Halt::Refused(Refusal::Full { most }));
     }
     match report_of(rt, alloc, &setup, filling, gate) {
-        Ok(product) => Ok(product),
-        Err(Unmade::Nodes) => Err(Halt::Refused(Refusal::Nodes { nodes: sizes.nodes })),
-        Err(Unmade::Memory) => Err(Halt::Stopped(Stop::Memory)),
+        Ok(Product { text: body, seals }) => {
+            let text = with_truncated(alloc, body, cut)?;
+            Ok(Product { text, seals })
+        }
+        Err(why) => Err(why.halt(sizes.nodes)),
     }
 }
 
@@ -68,7 +68,7 @@ fn synth_answers<R: Threads + Sync, F: Shelf, G: Gate>(
     requires sizes { AreSizes command.now.sizes }
     requires few { command.now.count ≤ 2 ^ 20 }
     ensures files { F.files shelf.new ≡ F.files shelf.old }
-    ensures ends { Ends (F.files shelf.old) (Some (synth (synth_by command.now))) (F.rest shelf.old) (F.rest shelf.new) result }
+    ensures ends { EndsWith (F.files shelf.old) (Some (synth (synth_by command.now))) (F.rest shelf.old) (F.rest shelf.new) result }
     ensures cause { HasHaltCause (F.faults shelf.old) (F.faults shelf.new) result }
 {
     let setup = read_setup(alloc, shelf, command.setup)?;
@@ -83,11 +83,10 @@ fn synth_answers<R: Threads + Sync, F: Shelf, G: Gate>(
         return Err(Halt::Refused(Refusal::Full { most }));
     }
     let mut filling = opened(alloc, &setup, sizes, 0)?;
-    fill_drawn(rt, alloc, command.seed, command.count, &mut filling, gate)?;
+    fill_drawn(rt, command.seed, command.count, &mut filling, gate)?;
     match final_of(rt, alloc, &setup, filling, gate) {
         Ok(product) => Ok(product),
-        Err(Unmade::Nodes) => Err(Halt::Refused(Refusal::Nodes { nodes: sizes.nodes })),
-        Err(Unmade::Memory) => Err(Halt::Stopped(Stop::Memory)),
+        Err(why) => Err(why.halt(sizes.nodes)),
     }
 }
 
@@ -98,12 +97,17 @@ fn dump_listing<F: Shelf>(
     shelf: &mut F,
 ) -> Result<Product, Halt>
     ensures files { F.files shelf.new ≡ F.files shelf.old }
-    ensures ends { Ends (F.files shelf.old) (Some (dump (dump_by command.now))) (F.rest shelf.old) (F.rest shelf.new) result }
+    ensures ends { EndsWith (F.files shelf.old) (Some (dump (dump_by command.now))) (F.rest shelf.old) (F.rest shelf.new) result }
     ensures cause { HasHaltCause (F.faults shelf.old) (F.faults shelf.new) result }
 {
     let schema = packet_schema(alloc)?;
-    let rows = collect_rows(alloc, shelf, command.capture, Format::Packets)?;
-    let text = dump_of(alloc, &schema, &rows)?;
+    let manner = Manner {
+        format: Format::Packets,
+        truncated: command.truncated,
+    };
+    let captured = collect_rows(alloc, shelf, command.capture, manner)?;
+    let listing = dump_of(alloc, &schema, &captured.rows)?;
+    let text = with_truncated(alloc, listing, captured.cut)?;
     let seals = Vec::new(alloc);
     Ok(Product { text, seals })
 }
@@ -118,11 +122,15 @@ fn snapshot_answers<R: Threads + Sync, F: Shelf, G: Gate>(
 ) -> Result<Product, Halt>
     requires { IsSnapshotInRange command.now }
     ensures files { F.files shelf.new ≡ F.files shelf.old }
-    ensures ends { Ends (F.files shelf.old) (Some (snapshot (snapshot_by command.now))) (F.rest shelf.old) (F.rest shelf.new) result }
+    ensures ends { EndsWith (F.files shelf.old) (Some (snapshot (snapshot_by command.now))) (F.rest shelf.old) (F.rest shelf.new) result }
     ensures cause { HasHaltCause (F.faults shelf.old) (F.faults shelf.new) result }
 {
     let setup = read_setup(alloc, shelf, command.setup)?;
-    let hosts = read_hosts(alloc, shelf, &command.captures, format_of(&setup))?;
+    let manner = Manner {
+        format: format_of(&setup),
+        truncated: command.truncated,
+    };
+    let hosts = read_hosts(alloc, shelf, &command.captures, manner)?;
     let LogSizes {
         capacity,
         nodes,
@@ -133,8 +141,7 @@ fn snapshot_answers<R: Threads + Sync, F: Shelf, G: Gate>(
     }
     match load_hosts(rt, alloc, &setup, &hosts, command.sizes, gate) {
         Ok(()) => {}
-        Err(Unmade::Nodes) => return Err(Halt::Refused(Refusal::Nodes { nodes })),
-        Err(Unmade::Memory) => return Err(Halt::Stopped(Stop::Memory)),
+        Err(why) => return Err(why.halt(nodes)),
     }
     let text = cut_text(rt, alloc, command, &setup, &hosts, gate)?;
     let seals = Vec::new(alloc);
@@ -150,7 +157,7 @@ fn product_of<R: Threads + Sync, F: Shelf, G: Gate>(
     gate: &G,
 ) -> Result<Product, Halt>
     ensures files { F.files shelf.new ≡ F.files shelf.old }
-    ensures ends { Ends (F.files shelf.old) (call_of (texts words.now)) (F.rest shelf.old) (F.rest shelf.new) result }
+    ensures ends { EndsWith (F.files shelf.old) (call_of (texts words.now)) (F.rest shelf.old) (F.rest shelf.new) result }
     ensures cause { HasHaltCause (F.faults shelf.old) (F.faults shelf.new) result }
     ensures no_words { call_of (texts words.now) ≡ None → shelf.new ≡ shelf.old }
 {

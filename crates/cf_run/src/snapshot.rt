@@ -3,19 +3,22 @@
 ghost use Rattle.std.specs.Prelude.{◌≡◌, ◌<◌, ◌≤◌, ◌*◌, ◌++◌, All, Any, false, length, map, sum, take, IfOk, IsTrue, OnOk, MatchResult, string_bytes, slice_index_or};
 ghost use Rattle.std.specs.List.{flat_map, range_with_len};
 ghost use Rattle.cf_command.specs.Call.{AreSizes, IsSnapshotInRange, snapshot_by};
-ghost use Rattle.cf_report.specs.Snapshot.{host_text, host_text_at};
+ghost use Rattle.cf_report.specs.Snapshot.{host_text};
 ghost use Rattle.cf_row.specs.Row.{Fits};
 ghost use Rattle.cf_setup.specs.Setups.{IsSetup};
 ghost use Rattle.cf_shape.specs.Nodes.{distinct};
 ghost use Rattle.cf_run.specs.Due.{HasRoom, IsSnapshotOf};
 ghost use Rattle.cf_run.specs.Logs.{IsUnmadeAlone};
-ghost use Rattle.cf_run.specs.Parts.{rows_each, AreWithin};
-ghost use Rattle.cf_run.specs.Work.{shape_for};
+ghost use Rattle.cf_intake.specs.Parts.{rows_each};
+ghost use Rattle.cf_run.specs.Parts.{AreWithin, ends_each};
+ghost use Rattle.cf_run.specs.Work.{host_lines_at, shape_for};
 ghost use Rattle.cf_run.specs.declared.log.Unmade.TheVariants.{Nodes};
 
 use crate::filling::Filling;
-use crate::log::{Unmade, log_of, opened};
+use crate::log::{Unmade, closed_log, opened};
+use crate::truncated::push_truncated;
 use cf_command::{LogSizes, SnapshotCommand};
+use cf_intake::Captured;
 use cf_load::LivePlan;
 use cf_outside::Gate;
 use cf_report::{push_cut, push_host};
@@ -26,12 +29,12 @@ use std::alloc::{AllocError, Global};
 use std::thread::Threads;
 
 /// Whether some host has more rows than that.
-pub(crate) fn is_some_full(hosts: &[Vec<Row>], capacity: u32) -> bool
+pub(crate) fn is_some_full(hosts: &[Captured], capacity: u32) -> bool
     ensures some { IsTrue result → Any (λ rows. capacity < length rows) (rows_each hosts.now) }
     ensures none { result ≡ false → All (λ rows. length rows ≤ capacity) (rows_each hosts.now) }
 {
-    for rows in hosts {
-        if rows.len() > capacity as usize {
+    for host in hosts {
+        if host.rows.len() > capacity as usize {
             return true;
         }
     }
@@ -50,23 +53,18 @@ fn load_silently<R: Threads + Sync, G: Gate>(
     requires fit { All (Fits setup.now.schema) rows.now }
     requires few { length rows.now ≤ sizes.capacity }
     requires sizes { AreSizes sizes }
-    ensures { MatchResult result (λ _. distinct (shape_for setup.now sizes) rows.now ≤ sizes.writers * sizes.nodes) (IsUnmadeAlone (shape_for setup.now sizes) rows.now) }
+    ensures { MatchResult result (λ _. distinct (shape_for setup.now sizes) rows.now ≤ sizes.writers * sizes.nodes)
+        (IsUnmadeAlone (shape_for setup.now sizes) rows.now) }
 {
-    let Ok(shape) = shape_of(alloc, setup, sizes.capacity, sizes.writers, sizes.nodes) else {
-        return Err(Unmade::Memory);
-    };
+    let shape = shape_of(alloc, setup, sizes.capacity, sizes.writers, sizes.nodes)?;
     let plan = LivePlan {
         asks: Vec::new(alloc),
         triggers: Vec::new(alloc),
         lives: Vec::new(alloc),
         rounds: 0,
     };
-    let Ok(mut filling) = Filling::new(alloc, shape, 1, &plan) else {
-        return Err(Unmade::Memory);
-    };
-    let Ok(()) = filling.take_copies(rt, gate, rows) else {
-        return Err(Unmade::Memory);
-    };
+    let mut filling = Filling::new(alloc, shape, 1, &plan)?;
+    filling.take_copies(rt, gate, rows)?;
     filling.finish(rt, gate)?;
     Ok(())
 }
@@ -76,29 +74,30 @@ pub(crate) fn load_hosts<R: Threads + Sync, G: Gate>(
     rt: &R,
     alloc: Global,
     setup: &Setup,
-    hosts: &[Vec<Row>],
+    hosts: &[Captured],
     sizes: LogSizes,
     gate: &G,
 ) -> Result<(), Unmade>
     requires fit { All (All (Fits setup.now.schema)) (rows_each hosts.now) }
     requires few { All (λ rows. length rows ≤ sizes.capacity) (rows_each hosts.now) }
     requires sizes { AreSizes sizes }
-    ensures { MatchResult result (λ _. All (λ rows. distinct (shape_for setup.now sizes) rows ≤ sizes.writers * sizes.nodes) (rows_each hosts.now)) (λ why. why ≡ Nodes → Any (λ rows. sizes.nodes < distinct (shape_for setup.now sizes) rows) (rows_each hosts.now)) }
+    ensures { MatchResult result (λ _. All (λ rows. distinct (shape_for setup.now sizes) rows ≤ sizes.writers * sizes.nodes) (rows_each hosts.now))
+        (λ why. why ≡ Nodes → Any (λ rows. sizes.nodes < distinct (shape_for setup.now sizes) rows) (rows_each hosts.now)) }
 {
-    for rows in hosts {
-        load_silently(rt, alloc, setup, rows, sizes, gate)?;
+    for host in hosts {
+        load_silently(rt, alloc, setup, &host.rows, sizes, gate)?;
     }
     Ok(())
 }
 
 // How many rows each host has.
-fn counts_of(alloc: Global, hosts: &[Vec<Row>]) -> Result<Vec<u32>, Memory>
+fn counts_of(alloc: Global, hosts: &[Captured]) -> Result<Vec<u32>, Memory>
     requires { All (λ rows. length rows ≤ 65536) (rows_each hosts.now) }
     ensures { IfOk result (λ counts. counts.items ≡ map (λ rows. length rows) (rows_each hosts.now)) }
 {
     let mut counts = Vec::new(alloc);
-    for rows in hosts {
-        counts.push(rows.len() as u32)?;
+    for host in hosts {
+        counts.push(host.rows.len() as u32)?;
     }
     Ok(counts)
 }
@@ -136,26 +135,21 @@ fn push_answers<R: Threads + Sync, G: Gate>(
     ensures told { OnOk result (string_bytes text.new ≡ string_bytes text.old ++ host_text (shape_for setup.now sizes) setup.now host rows.now) }
     ensures unmade { MatchResult result (λ _. Unit {0}) (IsUnmadeAlone (shape_for setup.now sizes) rows.now) }
 {
-    let Ok(mut filling) = opened(alloc, setup, sizes, 0) else {
-        return Err(Unmade::Memory);
-    };
-    let Ok(()) = filling.take_copies(rt, gate, rows) else {
-        return Err(Unmade::Memory);
-    };
-    let (closing, answers) = log_of(rt, alloc, setup, filling, gate)?;
-    match push_host(alloc, text, setup, host, &closing.entries, answers.finals()) {
-        Ok(()) => Ok(()),
-        Err(_) => Err(Unmade::Memory),
-    }
+    let mut filling = opened(alloc, setup, sizes, 0)?;
+    filling.take_copies(rt, gate, rows)?;
+    let (closing, answers) = closed_log(rt, alloc, setup, filling, gate)?;
+    push_host(alloc, text, setup, host, &closing.entries, answers.finals())?;
+    Ok(())
 }
 
-// Writes the part of each host, with its answers on those of its rows that are in the cut.
+// Writes the part of each host, with its answers on those of its rows that are in the cut, and the line of its capture where this is
+// truncated.
 fn push_hosts<R: Threads + Sync, G: Gate>(
     rt: &R,
     alloc: Global,
     text: &mut String,
     setup: &Setup,
-    hosts: &[Vec<Row>],
+    hosts: &[Captured],
     cut: &[u32],
     sizes: LogSizes,
     gate: &G,
@@ -168,16 +162,20 @@ fn push_hosts<R: Threads + Sync, G: Gate>(
     requires undivided { sizes.segments ≡ 1 }
     requires size { length cut.now ≡ length hosts.now }
     requires within { AreWithin cut.now (rows_each hosts.now) }
-    ensures { OnOk result (string_bytes text.new ≡ string_bytes text.old ++ flat_map (host_text_at (shape_for setup.now sizes) setup.now cut.now (rows_each hosts.now)) (range_with_len 0 (length hosts.now))) }
+    ensures { OnOk result (string_bytes text.new ≡ string_bytes text.old
+        ++ flat_map (host_lines_at (shape_for setup.now sizes) setup.now cut.now (rows_each hosts.now) (ends_each hosts.now))
+        (range_with_len 0 (length hosts.now))) }
 {
     for host in 0..hosts.len() {
-        let rows = &hosts[host][..cut[host] as usize];
+        let captured = &hosts[host];
+        let rows = &captured.rows[..cut[host] as usize];
         match push_answers(rt, alloc, text, setup, host, rows, sizes, gate) {
             Ok(()) => {}
             Err(Unmade::Memory) => return Err(AllocError),
             // There are nodes for all its rows.
             Err(Unmade::Nodes) => unreachable!(),
         }
+        push_truncated(text, captured.cut)?;
     }
     Ok(())
 }
@@ -188,7 +186,7 @@ pub(crate) fn cut_text<R: Threads + Sync, G: Gate>(
     alloc: Global,
     command: &SnapshotCommand,
     setup: &Setup,
-    hosts: &[Vec<Row>],
+    hosts: &[Captured],
     gate: &G,
 ) -> Result<Vec<u8>, Memory>
     requires lawful { IsSetup setup.now }
@@ -196,7 +194,7 @@ pub(crate) fn cut_text<R: Threads + Sync, G: Gate>(
     requires room { All (HasRoom command.now.sizes setup.now) (rows_each hosts.now) }
     requires command { IsSnapshotInRange command.now }
     requires size { length hosts.now ≡ length command.now.captures.items }
-    ensures { IfOk result (λ text. IsSnapshotOf (snapshot_by command.now) setup.now (rows_each hosts.now) text.items) }
+    ensures { IfOk result (λ text. IsSnapshotOf (snapshot_by command.now) setup.now (rows_each hosts.now) (ends_each hosts.now) text.items) }
 {
     let counts = counts_of(alloc, hosts)?;
     let cut = cut_of_turns(alloc, &counts, command.turns, command.turn)?;

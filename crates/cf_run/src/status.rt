@@ -1,7 +1,9 @@
 // How the program ends.
 ghost use Rattle.std.specs.Prelude.{◌≡◌};
 ghost use Rattle.cf_run.specs.Answers.{number_of};
+ghost use Rattle.cf_run.specs.Refusals.{status_of, stop_status};
 
+use cf_intake::{Refusal, Stop};
 use cf_table::Seal;
 
 /// How the work ended.
@@ -45,6 +47,32 @@ impl Status {
             Status::Nodes => 7,
             Status::Memory => 8,
             Status::NoFile => 9,
+        }
+    }
+}
+
+impl From<Refusal> for Status {
+    ghost from_gives = { λ refusal status. status ≡ status_of refusal };
+
+    fn from(refusal: Refusal) -> Status {
+        match refusal {
+            Refusal::Words => Status::Words,
+            Refusal::NoFile => Status::NoFile,
+            Refusal::Setup { line, code } => Status::Setup { line, code },
+            Refusal::Capture { at, code } => Status::Capture { at, code },
+            Refusal::Full { .. } => Status::Full,
+            Refusal::Nodes { .. } => Status::Nodes,
+        }
+    }
+}
+
+impl From<Stop> for Status {
+    ghost from_gives = { λ stop status. status ≡ stop_status stop };
+
+    fn from(stop: Stop) -> Status {
+        match stop {
+            Stop::ReadFault => Status::ReadFault,
+            Stop::Memory => Status::Memory,
         }
     }
 }

@@ -3,15 +3,15 @@ ghost use Rattle.std.specs.Prelude.{◌≡◌, ◌⊎◌, ◌≤◌, ℕ, List, 
 ghost use Rattle.std.specs.Io.KnownBytes.{Appends};
 ghost use Rattle.cf_command.specs.Call.{call_of, texts};
 ghost use Rattle.cf_outside.specs.Causes.{Rose};
-ghost use Rattle.cf_run.specs.Answers.{Answers, Yields, IsDecided, IsByCall};
-ghost use Rattle.cf_run.specs.Devices.{WritesFront};
+ghost use Rattle.cf_run.specs.Answers.{RunAnswers, Yields, IsDecided, IsByCall};
+ghost use Rattle.cf_intake.specs.Devices.{WritesFront};
 ghost use Rattle.cf_run.specs.Due.{IsLawful};
-ghost use Rattle.cf_run.specs.Refusals.{line_of};
-ghost use Rattle.cf_run.specs.declared.refusal.Refusal.TheVariants as refusals;
+ghost use Rattle.cf_intake.specs.Refusals.{line_of};
+ghost use Rattle.cf_intake.specs.declared.refusal.Refusal.TheVariants as refusals;
 
-use crate::devices::write_all;
 use crate::prepare::prepare;
 use crate::{Outcome, Status};
+use cf_intake::write_all;
 use cf_outside::{Gate, Shelf, Sink, SteadyShelf, SteadySink};
 use std::alloc::Global;
 use std::thread::Threads;
@@ -43,7 +43,8 @@ pub fn run<R: Threads + Sync, F: Shelf, K: Sink, G: Gate>(
     // What was written is what the words and the files call for, with the seals of the log that it tells of; or a front of it, after
     // all was read; or nothing, where the work was stopped. Where the shelf tells its files, they are its files, and else there are some
     // such files.
-    ensures written { Answers (F.files shelf.old) (call_of (texts words.now)) result.status result.seals.items (K.held sink.old) (K.held sink.new) (F.rest shelf.old) (F.rest shelf.new) }
+    ensures written { RunAnswers (F.files shelf.old) (call_of (texts words.now)) result.status result.seals.items
+        (K.held sink.old) (K.held sink.new) (F.rest shelf.old) (F.rest shelf.new) }
 
     // Which statuses a run, a synth, a dump and a snapshot can come to, and how many seals they have, whatever the shelf tells.
     ensures by_command { IsByCall (call_of (texts words.now)) result.status result.seals.items }
@@ -53,11 +54,13 @@ pub fn run<R: Threads + Sync, F: Shelf, K: Sink, G: Gate>(
 
     // What they call for comes, unless memory ran out or a device failed.
     ensures decided { IfSome (F.files shelf.old) (λ files. IsDecided files (call_of (texts words.now)) result.status) }
-    ensures complete { IfSome (F.files shelf.old) (λ files. IsLawful (Some files) (call_of (texts words.now)) → (result.status ≡ Status.Done) ⊎ Yields result.status) }
+    ensures complete { IfSome (F.files shelf.old) (λ files. IsLawful (Some files) (call_of (texts words.now))
+        → (result.status ≡ Status.Done) ⊎ Yields result.status) }
 
     // Words that are no command, whatever the shelf tells: no file is opened, and their line is written, or a front of it.
     ensures words { result.status ≡ Status.Words → (call_of (texts words.now) ≡ None) × Appends (K.held sink.old) (K.held sink.new) (line_of refusals.Words) }
-    ensures no_words_front { call_of (texts words.now) ≡ None → result.status ≡ Status.WriteFault → WritesFront (K.held sink.old) (K.held sink.new) (line_of refusals.Words) }
+    ensures no_words_front { call_of (texts words.now) ≡ None → result.status ≡ Status.WriteFault
+        → WritesFront (K.held sink.old) (K.held sink.new) (line_of refusals.Words) }
     ensures no_words_no_file { call_of (texts words.now) ≡ None → shelf.new ≡ shelf.old }
 
     // No call changes the files.
@@ -75,7 +78,7 @@ pub fn run<R: Threads + Sync, F: Shelf, K: Sink, G: Gate>(
 {
     let draft = match prepare(rt, alloc, words, shelf, gate) {
         Ok(draft) => draft,
-        Err(stop) => return unsealed(alloc, stop.status()),
+        Err(stop) => return unsealed(alloc, Status::from(stop)),
     };
     match write_all(sink, draft.text()) {
         Ok(()) => Outcome {
@@ -95,7 +98,8 @@ pub fn run_steadily<R: Threads + Sync, G: Gate>(
     sink: &mut SteadySink,
     gate: &G,
 ) -> Outcome
-    ensures written { Answers (Some shelf.old.files) (call_of (texts words.now)) result.status result.seals.items None None (Some shelf.old.rest) (Some shelf.new.rest) }
+    ensures written { RunAnswers (Some shelf.old.files) (call_of (texts words.now))
+        result.status result.seals.items None None (Some shelf.old.rest) (Some shelf.new.rest) }
     ensures by_command { IsByCall (call_of (texts words.now)) result.status result.seals.items }
     ensures words { result.status ≡ Status.Words → call_of (texts words.now) ≡ None }
     ensures no_seals { (result.status ≡ Status.Done → ⊥) → result.seals.items ≡ [] }

@@ -89,7 +89,7 @@ fn errors_of_files_have_their_texts(rt: HostRuntime) -> Result<(), Fail> {
         (PcapFault::BadVersion, "the version isn't 2.4"),
         (
             PcapFault::BadLink,
-            "the link is neither Ethernet nor cooked frames of Linux",
+            "the link is none of those that are read",
         ),
         (
             PcapFault::FrameTooLong(7),
@@ -114,7 +114,7 @@ fn errors_of_files_have_their_texts(rt: HostRuntime) -> Result<(), Fail> {
         ),
         (
             NgFault::BadLink(7),
-            "the link of packet 7 is neither Ethernet nor cooked frames of Linux",
+            "the link of packet 7 is none of those that are read",
         ),
         (
             NgFault::FrameTooLong(7),

@@ -1,23 +1,39 @@
-use Rattle.std.proofs.Common.{◌∙◌, List, ap₂}
+use Rattle.std.proofs.Common.{ℕ, ◌++◌, ◌∙◌, List, ap, ap₂}
 use Rattle.std.proofs.lemmas.Result.{err_from_is_err_and}
 use Rattle.cf_command.specs.Call.{dump_by}
 use Rattle.cf_dump.specs.Dump.{dump_text}
+use Rattle.cf_intake.specs.Parts.{captured}
 use Rattle.cf_row.specs.Row.{RowValue}
 use Rattle.cf_row.specs.declared.schema.Attr.{Attr}
+use Rattle.cf_run.specs.Work.{truncated_line}
 use Rattle.cf_run.proofs.Coming.{dump_unread, dump_gives, dump_stopped}
 use Rattle.cf_run.proofs.prepare.dump_listing.Goals as goal
 
-pub returns-in_err-rows-clause-ends : goal.returns-in_err-rows-clause-ends
-returns-in_err-rows-clause-ends g c =
-    let p = err_from_is_err_and c.from_residual-in_err-rows.result c.from_residual-in_err-rows.ensures.1 in
-    rw (p.1, p.2) (dump_unread (g.F.Shelf.files c.args.shelf.now) (dump_by c.args.command.now) (g.F.Shelf.rest c.args.shelf.now) (g.F.Shelf.rest c.collect_rows.new.shelf) _ c.in_err-rows.ensures.read)
+pub returns-in_err-captured-clause-ends : goal.returns-in_err-captured-clause-ends
+returns-in_err-captured-clause-ends g c =
+    let p = err_from_is_err_and c.from_residual-in_err-captured.result c.from_residual-in_err-captured.ensures.1 in
+    rw (p.1, p.2)
+    (dump_unread (g.F.Shelf.files c.args.shelf.now) (dump_by c.args.command.now) (g.F.Shelf.rest c.args.shelf.now)
+    (g.F.Shelf.rest c.collect_rows.new.shelf) _ c.in_err-captured.ensures.read)
+
+pub returns-in_err-listing-clause-ends : goal.returns-in_err-listing-clause-ends
+returns-in_err-listing-clause-ends g c =
+    let p = err_from_is_err_and c.from_residual-in_err-listing.result c.from_residual-in_err-listing.ensures.1 in
+    rw (p.1, p.2)
+    (dump_stopped (g.F.Shelf.files c.args.shelf.now) (dump_by c.args.command.now) (g.F.Shelf.rest c.args.shelf.now)
+    (g.F.Shelf.rest c.collect_rows.new.shelf) (captured c.in_ok-captured.captured) c.in_ok-captured.ensures.read)
 
 pub returns-in_err-text-clause-ends : goal.returns-in_err-text-clause-ends
 returns-in_err-text-clause-ends g c =
     let p = err_from_is_err_and c.from_residual-in_err-text.result c.from_residual-in_err-text.ensures.1 in
-    rw (p.1, p.2) (dump_stopped (g.F.Shelf.files c.args.shelf.now) (dump_by c.args.command.now) (g.F.Shelf.rest c.args.shelf.now) (g.F.Shelf.rest c.collect_rows.new.shelf) c.in_ok-rows.rows.items c.in_ok-rows.ensures.read)
+    rw (p.1, p.2)
+    (dump_stopped (g.F.Shelf.files c.args.shelf.now) (dump_by c.args.command.now) (g.F.Shelf.rest c.args.shelf.now)
+    (g.F.Shelf.rest c.collect_rows.new.shelf) (captured c.in_ok-captured.captured) c.in_ok-captured.ensures.read)
 
 pub returns-clause-ends : goal.returns-clause-ends
 returns-clause-ends g c =
-    dump_gives (g.F.Shelf.files c.args.shelf.now) (dump_by c.args.command.now) (g.F.Shelf.rest c.args.shelf.now) (g.F.Shelf.rest c.collect_rows.new.shelf) c.in_ok-rows.rows.items c.in_ok-rows.ensures.read c.in_ok-text.text.items _
-    (c.in_ok-text.ensures ∙ ap₂ (λ (attrs : List Attr) (rows : List RowValue). dump_text attrs rows) c.in_ok-schema.ensures c.deref.ensures.value) c.new-seals.ensures.items
+    let listed = c.in_ok-listing.ensures
+    ∙ ap₂ (λ (attrs : List Attr) (rows : List RowValue). dump_text attrs rows) c.in_ok-schema.ensures c.deref.ensures.value in
+    dump_gives (g.F.Shelf.files c.args.shelf.now) (dump_by c.args.command.now) (g.F.Shelf.rest c.args.shelf.now)
+    (g.F.Shelf.rest c.collect_rows.new.shelf) (captured c.in_ok-captured.captured) c.in_ok-captured.ensures.read c.in_ok-text.text.items _
+    (c.in_ok-text.ensures ∙ ap (λ (text : List ℕ). text ++ truncated_line c.in_ok-captured.captured.cut) listed) c.new-seals.ensures.items

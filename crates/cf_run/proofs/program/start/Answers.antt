@@ -1,4 +1,4 @@
-use Rattle.std.proofs.Common.{inl, inr, rules}
+use Rattle.std.proofs.Common.{inl}
 use Rattle.cf_run.proofs.program.start.Goals as goal
 
 pub returns-in-Ok : goal.returns-in-Ok

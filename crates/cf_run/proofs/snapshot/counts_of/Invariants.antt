@@ -1,5 +1,5 @@
 use Rattle.std.proofs.Common.{◌≡◌, length, map, take}
 use Rattle.cf_run.proofs.snapshot.counts_of.Given as goal
 
-abbrev pub invariant-loop-rows : goal.invariant-loop-rows
-invariant-loop-rows l = l.counts.items ≡ map (λ rows. length rows.items) (take l.rows-index l.hosts)
+abbrev pub invariant-loop-host : goal.invariant-loop-host
+invariant-loop-host l = l.counts.items ≡ map (λ host. length host.rows.items) (take l.host-index l.hosts)

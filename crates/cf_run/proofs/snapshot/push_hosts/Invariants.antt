@@ -1,9 +1,11 @@
 use Rattle.std.proofs.Common.{◌≡◌, ◌++◌, string_bytes}
 use Rattle.std.specs.List.{flat_map, range_with_len}
-use Rattle.cf_report.specs.Snapshot.{host_text_at}
-use Rattle.cf_run.specs.Parts.{rows_each}
-use Rattle.cf_run.specs.Work.{shape_for}
+use Rattle.cf_intake.specs.Parts.{rows_each}
+use Rattle.cf_run.specs.Parts.{ends_each}
+use Rattle.cf_run.specs.Work.{host_lines_at, shape_for}
 use Rattle.cf_run.proofs.snapshot.push_hosts.Given as goal
 
 abbrev pub invariant-loop-host : goal.invariant-loop-host
-invariant-loop-host g l = string_bytes l.text ≡ string_bytes l.fn.text ++ flat_map (host_text_at (shape_for l.setup l.sizes) l.setup l.cut (rows_each l.hosts)) (range_with_len 0 l.host)
+invariant-loop-host g l =
+    string_bytes l.text ≡ string_bytes l.fn.text ++ flat_map (host_lines_at (shape_for l.setup l.sizes) l.setup l.cut (rows_each l.hosts) (ends_each l.hosts))
+    (range_with_len 0 l.host)

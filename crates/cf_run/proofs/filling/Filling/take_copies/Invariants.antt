@@ -1,11 +1,9 @@
-use Rattle.std.proofs.Common.{◌≡◌, List, ◌++◌, take}
-use Rattle.cf_row.specs.Row.{RowValue}
-use Rattle.cf_run.specs.Filling.{IsFilled}
+use Rattle.std.proofs.Common.{take}
+use Rattle.cf_run.specs.Filling.{Fills, KeepsLog}
 use Rattle.cf_run.proofs.filling.Filling.take_copies.Given as goal
 
 abbrev pub invariant-loop-row : goal.invariant-loop-row
 invariant-loop-row g l = record {
-  shape : l.self.segments.shape ≡ l.fn.self.segments.shape;
-  filled : (before : List RowValue) → IsFilled l.fn.self.segments.shape l.fn.self.segments.most l.fn.self.loader.plan l.fn.self.segments l.fn.self.loader l.fn.self.waiting.items l.fn.self.count before
-      → IsFilled l.fn.self.segments.shape l.fn.self.segments.most l.fn.self.loader.plan l.self.segments l.self.loader l.self.waiting.items l.self.count (before ++ take l.row-index l.rows);
+  keeps : KeepsLog l.fn.self l.self;
+  filled : Fills l.fn.self l.self (take l.row-index l.rows);
 }

@@ -1,0 +1,11 @@
+pub mod Taking
+pub mod Capturing
+pub mod Streams
+pub mod Piecewise
+pub mod Writing
+pub mod Loading
+pub mod SetupSize
+pub mod PacketSchema
+pub mod OneCase
+pub mod MoreRows
+pub mod Several

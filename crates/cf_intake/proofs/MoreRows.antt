@@ -1,0 +1,49 @@
+-- The rows of one more frame.
+use Rattle.std.proofs.Common.{◌≡◌, ℕ, zero, suc, ◌<◌, ◌+◌, List, [], ◌∷◌, ◌++◌, length, map, take, get_or, sym, ap, ap₂, ◌∙◌, arith, All, subst, refl, length-append}
+use Rattle.std.proofs.lemmas.List.{map-append, get_or-append-add}
+use Rattle.std.proofs.lemmas.List.Elements.{All-append}
+use Rattle.cf_row.specs.Row.{RowValue, Fits}
+use Rattle.cf_row.specs.Schema.{packet_attrs}
+use Rattle.cf_row.specs.declared.schema.Attr.{Attr}
+use Rattle.cf_pcap.specs.Capture.{FrameValue}
+use Rattle.cf_headers.specs.Packet.{packet_row_of}
+use Rattle.cf_intake.specs.Rows.{packet_rows}
+
+take_more : {A : Type 0} (xs : List A) (i : ℕ) (x : A) → i < length xs → x ≡ get_or xs i x → take (i + 1) xs ≡ take i xs ++ (x ∷ [])
+take_more {A} [] i x lt is = absurd (omega (arith, lt))
+take_more {A} (y ∷ xs) zero x lt is = ap (λ (z : A). z ∷ []) (sym is)
+take_more {A} (y ∷ xs) (suc i) x lt is =
+    let e : suc i + 1 ≡ suc (i + 1) = omega arith in
+    rw e (ap (λ (zs : List A). y ∷ zs) (take_more xs i x (omega (arith, lt)) is))
+
+more : {A B : Type 0} (f : A → B) (xs : List A) (i : ℕ) (x : A) (y : B) (ys zs : List B) → i < length xs → x ≡ get_or xs i x → y ≡ f x
+    → ys ≡ map f (take i xs) → zs ≡ ys ++ (y ∷ []) → zs ≡ map f (take (i + 1) xs)
+more {A} {B} f xs i x y ys zs lt is row before now =
+    now ∙ ap₂ (λ (a b : List B). a ++ b) before (ap (λ (z : B). z ∷ []) row)
+    ∙ sym (map-append f (take i xs) (x ∷ [])) ∙ ap (λ (q : List A). map f q) (sym (take_more xs i x lt is))
+
+pub more_rows : (frames : List FrameValue) (i : ℕ) (frame : FrameValue) (row : RowValue) (rows now : List RowValue) → i < length frames
+    → frame ≡ get_or frames i frame → row ≡ packet_row_of frame → rows ≡ packet_rows (take i frames) → now ≡ rows ++ (row ∷ [])
+    → now ≡ packet_rows (take (i + 1) frames)
+more_rows frames i frame row rows now lt is row_is before grown = more packet_row_of frames i frame row rows now lt is row_is before grown
+
+one_fits : (attrs : List Attr) (row : RowValue) → Fits attrs row → All (Fits attrs) (row ∷ [])
+one_fits attrs row fits zero other lt = fits
+one_fits attrs row fits (suc k) other lt = absurd (omega (arith, lt))
+
+-- one more fits
+pub fits_more : (attrs : List Attr) (rows : List RowValue) (row : RowValue) → All (Fits attrs) rows → Fits attrs row → All (Fits attrs) (rows ++ row ∷ [])
+fits_more attrs rows row fit fits = All-append (Fits attrs) rows (row ∷ []) fit (one_fits attrs row fits)
+
+pub all_fit : (rows now : List RowValue) (row : RowValue) → All (Fits packet_attrs) rows → Fits packet_attrs row → now ≡ rows ++ (row ∷ [])
+    → All (Fits packet_attrs) now
+all_fit rows now row fit fits grown = subst (λ (rs : List RowValue). All (Fits packet_attrs) rs) (sym grown) (fits_more packet_attrs rows row fit fits)
+
+-- one of them fits
+pub fits_within : (attrs : List Attr) (rows before after : List RowValue) (row : RowValue) → All (Fits attrs) rows → rows ≡ before ++ row ∷ after
+    → Fits attrs row
+fits_within attrs rows before after row fit is =
+    let all : All (Fits attrs) (before ++ row ∷ after) = subst (λ (rs : List RowValue). All (Fits attrs) rs) is fit in
+    let size : length (before ++ row ∷ after) ≡ length before + length (row ∷ after) = length-append before (row ∷ after) in
+    let more : length (row ∷ after) ≡ suc (length after) = refl in
+    subst (λ (r : RowValue). Fits attrs r) (get_or-append-add before (row ∷ after) 0 row) (all (length before + 0) row (omega (arith, size, more)))

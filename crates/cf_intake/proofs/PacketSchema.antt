@@ -1,0 +1,67 @@
+-- A setup over packets has their schema.
+use Rattle.std.proofs.Common.{◌≡◌, ℕ, ◌+◌, true, List, [], ◌∷◌, Some, Result, Ok, Err, refl, sym, ap, ◌∙◌, subst}
+use Rattle.cf_row.specs.declared.schema.Attr.{Attr}
+use Rattle.std.proofs.lemmas.Bool.{false≢true}
+use Rattle.cf_row.specs.Schema.{packet_attrs}
+use Rattle.cf_setup.specs.Drafts.{DraftValue, nothing_stated}
+use Rattle.cf_setup.specs.Forms.{Form}
+use Rattle.cf_setup.specs.Forms.Form.{packet_schema, record_schema, bucket_width, new_index, new_filter, new_aggregate, new_tally, new_trigger, ask_list, ask_find, ask_buckets, ask_fired, ask_top, ask_total, ask_live}
+use Rattle.cf_setup.specs.Adds.{Adds}
+use Rattle.cf_setup.specs.Setups.{SetupValue, settled}
+use Rattle.cf_setup.specs.SetupText.{SetupText, LineSaid, AllSaid}
+use Rattle.cf_setup.specs.SetupText.SetupText.{whole, faulty, empty, large}
+use Rattle.cf_setup.specs.SetupText.LineSaid.{silent, spoken}
+
+-- where packets are stated, their schema is
+abbrev KeepsPackets : DraftValue → Type 0
+KeepsPackets stated = stated.packet ≡ true → stated.schema ≡ Some packet_attrs
+
+adds_keep : (line : ℕ) (before new : DraftValue) (form : Form) → Adds line before form new → KeepsPackets before → KeepsPackets new
+adds_keep line before new packet_schema adds kept = subst KeepsPackets (sym adds) (λ h. refl)
+adds_keep line before new (record_schema list) adds kept = subst KeepsPackets (sym adds.2) (λ h. absurd (false≢true h))
+adds_keep line before new (bucket_width number) adds kept = subst KeepsPackets (sym adds.4) kept
+adds_keep line before new (new_index name attr) adds kept = subst KeepsPackets (sym adds.2) kept
+adds_keep line before new (new_filter name expr) adds kept = subst KeepsPackets (sym adds.2) kept
+adds_keep line before new (new_aggregate name filter attr) adds kept = subst KeepsPackets (sym adds.4) kept
+adds_keep line before new (new_tally name attr measure expr) adds kept = subst KeepsPackets (sym adds.6) kept
+adds_keep line before new (new_trigger name aggregate part op number) adds kept = subst KeepsPackets (sym adds.4) kept
+adds_keep line before new (ask_list name expr) adds kept = subst KeepsPackets (sym adds.2) kept
+adds_keep line before new (ask_find name index low high) adds kept = subst KeepsPackets (sym adds.7) kept
+adds_keep line before new (ask_buckets what name lane low high) adds kept = subst KeepsPackets (sym adds.5) kept
+adds_keep line before new (ask_fired name trigger) adds kept = subst KeepsPackets (sym adds.2) kept
+adds_keep line before new (ask_top name tally part count) adds kept = subst KeepsPackets (sym adds.6) kept
+adds_keep line before new (ask_total name attr expr) adds kept = subst KeepsPackets (sym adds.4) kept
+adds_keep line before new (ask_live ask) adds kept = subst KeepsPackets (sym adds.2) kept
+
+stated_same : (a b : DraftValue) → ◌≡◌ {A = Result DraftValue ℕ} (Ok a) (Ok b) → a ≡ b
+stated_same a b h = cc
+
+said_keeps : (number : ℕ) (before new : DraftValue) (line : List ℕ) → LineSaid number before line (Ok new) → KeepsPackets before → KeepsPackets new
+said_keeps number before new line (silent none is) kept = subst KeepsPackets (sym (stated_same new before is)) kept
+said_keeps number before new line (spoken some states) kept = adds_keep number before new states.form states.adds kept
+
+all_keep : (number : ℕ) (before new : DraftValue) (lines : List (List ℕ)) → AllSaid number before lines new → KeepsPackets before → KeepsPackets new
+all_keep number before new [] said kept = subst KeepsPackets (sym said) kept
+all_keep number before new (line ∷ lines) said kept = all_keep (number + 1) said.0 new lines said.2 (said_keeps number before said.0 line said.1 kept)
+
+attrs_same : (a b : List Attr) → Some a ≡ Some b → a ≡ b
+attrs_same a b h = cc
+
+setup_same : (a b : SetupValue) → ◌≡◌ {A = Result SetupValue (ℕ × ℕ)} (Ok a) (Ok b) → a ≡ b
+setup_same a b h = cc
+
+ok_no_fault : (setup : SetupValue) (fault : ℕ × ℕ) → ◌≡◌ {A = Result SetupValue (ℕ × ℕ)} (Ok setup) (Err fault) → ⊥
+ok_no_fault setup fault h = cc
+
+packets_of : (setup : SetupValue) (stated : DraftValue) (attrs : List Attr) → setup ≡ settled stated attrs → KeepsPackets stated → stated.schema ≡ Some attrs
+    → setup.packet ≡ true → setup.schema ≡ packet_attrs
+packets_of setup stated attrs same kept schema packet =
+    ap (λ (s : SetupValue). s.schema) same ∙ attrs_same attrs packet_attrs (sym schema ∙ kept (sym (ap (λ (s : SetupValue). s.packet) same) ∙ packet))
+
+pub packet_setup_schema : (bytes : List ℕ) (setup : SetupValue) → SetupText bytes (Ok setup) → setup.packet ≡ true → setup.schema ≡ packet_attrs
+packet_setup_schema bytes setup (whole stated attrs few said schema is) packet =
+    packets_of setup stated attrs (setup_same setup (settled stated attrs) is)
+    (all_keep 1 nothing_stated stated _ said (λ h. absurd (false≢true h))) schema packet
+packet_setup_schema bytes setup (faulty front rest line before code few lines said bad is) packet = absurd (ok_no_fault setup _ is)
+packet_setup_schema bytes setup (empty stated few said schema is) packet = absurd (ok_no_fault setup _ is)
+packet_setup_schema bytes setup (large many is) packet = absurd (ok_no_fault setup _ is)

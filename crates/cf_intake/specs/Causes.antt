@@ -1,0 +1,26 @@
+-- A device's fault is told only where the device failed.
+use Rattle.std.specs.Prelude.{◌≡◌, ℕ, ◌≤◌, Result, Err}
+use Rattle.cf_outside.specs.Causes.{Rose}
+use Rattle.cf_intake.specs.declared.devices.ReadError.{ReadError}
+use Rattle.cf_intake.specs.declared.devices.ReadError.TheVariants.{Failed}
+use Rattle.cf_intake.specs.declared.refusal.Halt.{Halt}
+use Rattle.cf_intake.specs.declared.refusal.Halt.TheVariants.{Stopped}
+use Rattle.cf_intake.specs.declared.refusal.Stop.{Stop}
+use Rattle.cf_intake.specs.declared.refusal.Stop.TheVariants.{ReadFault}
+
+-- the count of faults never falls, and rose where the call answers that a device failed
+pub record HasCauseWhen {T E : Type 0} (failure : E) (before now : ℕ) (result : Result T E) : Type 0 where
+  pub later : before ≤ now
+  pub failed : result ≡ Err failure → Rose before now
+
+-- of a call that reads a file,
+abbrev pub HasReadCause : {T : Type 0} → ℕ → ℕ → Result T ReadError → Type 0
+HasReadCause before now result = HasCauseWhen Failed before now result
+
+-- of one that ends with a stop,
+abbrev pub HasStopCause : {T : Type 0} → ℕ → ℕ → Result T Stop → Type 0
+HasStopCause before now result = HasCauseWhen ReadFault before now result
+
+-- and of one that refuses or stops
+abbrev pub HasHaltCause : {T : Type 0} → ℕ → ℕ → Result T Halt → Type 0
+HasHaltCause before now result = HasCauseWhen (Stopped ReadFault) before now result

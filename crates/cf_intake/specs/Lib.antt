@@ -1,0 +1,11 @@
+pub mod Formats
+pub mod Rows
+pub mod Faults
+pub mod Laws
+pub mod Refusals
+pub mod Files
+pub mod Several
+pub mod Devices
+pub mod Parts
+pub mod Causes
+pub mod Reading

@@ -1,0 +1,52 @@
+-- What the parts of reading answer.
+use Rattle.std.specs.Prelude.{◌≡◌, ℕ, Bool, true, false, List, map}
+use Rattle.cf_row.specs.Row.{RowValue}
+use Rattle.cf_row.specs.Schema.{packet_attrs}
+use Rattle.cf_row.specs.declared.schema.Attr.{Attr}
+use Rattle.cf_setup.specs.Setups.{SetupValue, IsSetup}
+use Rattle.cf_intake.specs.declared.refusal.Halt.{Halt}
+use Rattle.cf_intake.specs.declared.refusal.Halt.TheVariants.{Refused, Stopped}
+use Rattle.cf_intake.specs.declared.refusal.Refusal.TheVariants.{Capture}
+use Rattle.cf_intake.specs.declared.refusal.Stop.TheVariants.{ReadFault, Memory}
+use Rattle.cf_intake.specs.Files.{Grammar, captures}
+use Rattle.cf_intake.specs.Rows.{CaptureValue}
+use Rattle.cf_intake.specs.declared.rows.Captured.{Captured}
+use Rattle.cf_intake.specs.declared.rows.Format.{Format}
+use Rattle.cf_intake.specs.declared.rows.Manner.{Manner}
+use Rattle.cf_intake.specs.declared.rows.Format.TheVariants.{Packets, Records}
+
+-- a lawful setup; one over packets has their schema
+pub record IsSetupRead (setup : SetupValue) : Type 0 where
+  pub lawful : IsSetup setup
+  pub schema : setup.packet ≡ true → setup.schema ≡ packet_attrs
+
+-- whether a format is that of packets
+abbrev pub is_packets : Format → Bool
+is_packets Packets = true
+is_packets (Records schema) = false
+
+-- the attributes of a format's rows
+abbrev pub attrs_in : Format → List Attr
+attrs_in Packets = packet_attrs
+attrs_in (Records schema) = schema.now
+
+-- the grammar of captures that are read so
+abbrev pub captures_by : Manner → Grammar CaptureValue
+captures_by manner = captures (is_packets manner.format) manner.truncated (attrs_in manner.format)
+
+-- the rows of each host, without where they lie in memory
+abbrev pub rows_each : List Captured → List (List RowValue)
+rows_each hosts = map (λ host. host.rows.items) hosts
+
+-- what was read of a capture
+abbrev pub captured : Captured → CaptureValue
+captured host = record { rows = host.rows.items; cut = host.cut }
+
+abbrev pub captured_each : List Captured → List CaptureValue
+captured_each hosts = map captured hosts
+
+-- why bytes are refused
+abbrev pub IsBad : (ℕ → ℕ → Type 0) → Halt → Type 0
+IsBad Breaks (Refused why) = (at : ℕ) × (code : ℕ) × (why ≡ Capture at code) × Breaks at code
+IsBad Breaks (Stopped ReadFault) = ⊥
+IsBad Breaks (Stopped Memory) = Unit {0}

@@ -1,0 +1,90 @@
+// The setup and the rows of the files that the words name.
+ghost use Rattle.std.specs.Prelude.{◌≡◌, Bool, true, false, None, All, Ok, IfOk, MatchResult};
+ghost use Rattle.cf_outside.specs.Files.{Opens};
+ghost use Rattle.cf_row.specs.Row.{Fits};
+ghost use Rattle.cf_row.specs.Schema.{packet_attrs};
+ghost use Rattle.cf_intake.specs.Files.{setups, captures, IsReadAs, Halts};
+ghost use Rattle.cf_intake.specs.Causes.{HasHaltCause};
+ghost use Rattle.cf_intake.specs.Parts.{IsSetupRead, captured, captures_by, attrs_in};
+
+use crate::devices::{ReadError, read_file};
+use crate::pieces::collect_packets;
+use crate::refusal::Halt;
+use crate::rows::{Captured, Format, Manner, records_of};
+use cf_outside::Shelf;
+use cf_row::{Row, Schema};
+use cf_setup::{Setup, parse_setup};
+use std::alloc::Global;
+
+/// A setup of more bytes is no setup.
+const SETUP_LIMIT: usize = 65537;
+
+/// A file of records is shorter.
+const RECORDS_LIMIT: usize = 1 << 24;
+
+/// The setup in the file of that name.
+pub fn read_setup<F: Shelf>(alloc: Global, shelf: &mut F, name: &str) -> Result<Setup, Halt>
+    ensures files { F.files shelf.new ≡ F.files shelf.old }
+    ensures read { MatchResult result (IsReadAs setups (F.files shelf.old) name.now (F.rest shelf.new))
+        (Halts setups (F.files shelf.old) name.now (F.rest shelf.old) (F.rest shelf.new)) }
+    ensures cause { HasHaltCause (F.faults shelf.old) (F.faults shelf.new) result }
+    ensures lawful { IfOk result IsSetupRead }
+{
+    let bytes = read_file(alloc, shelf, name, SETUP_LIMIT)?;
+    Ok(parse_setup(alloc, &bytes)?)
+}
+
+/// Opens the capture of packets of that name.
+pub fn open_packets<F: Shelf>(shelf: &mut F, name: &str) -> Result<(), Halt>
+    ensures files { F.files shelf.new ≡ F.files shelf.old }
+    ensures opened { MatchResult result (λ done. Opens (F.files shelf.old) name.now (F.rest shelf.old) (F.rest shelf.new) (Ok done))
+        (λ halt. (truncated : Bool) → Halts (captures true truncated packet_attrs) (F.files shelf.old) name.now (F.rest shelf.old) (F.rest shelf.new) halt) }
+    ensures cause { HasHaltCause (F.faults shelf.old) (F.faults shelf.new) result }
+{
+    match shelf.open(name) {
+        Ok(()) => Ok(()),
+        Err(fault) => Err(Halt::from(ReadError::from(fault))),
+    }
+}
+
+/// The rows of the file of records of that name, which is read whole.
+pub fn read_lines<F: Shelf>(
+    alloc: Global,
+    shelf: &mut F,
+    name: &str,
+    schema: &Schema,
+) -> Result<Vec<Row>, Halt>
+    ensures files { F.files shelf.new ≡ F.files shelf.old }
+    ensures read { MatchResult result (λ rows. IsReadAs (captures false false schema.now) (F.files shelf.old) name.now (F.rest shelf.new) (record { rows = rows.items; cut = None }))
+        (Halts (captures false false schema.now) (F.files shelf.old) name.now (F.rest shelf.old) (F.rest shelf.new)) }
+    ensures fit { IfOk result (λ rows. All (Fits schema.now) rows.items) }
+    ensures cause { HasHaltCause (F.faults shelf.old) (F.faults shelf.new) result }
+{
+    let bytes = read_file(alloc, shelf, name, RECORDS_LIMIT)?;
+    records_of(alloc, schema, &bytes)
+}
+
+/// All rows of the capture of that name.
+pub fn collect_rows<F: Shelf>(
+    alloc: Global,
+    shelf: &mut F,
+    name: &str,
+    manner: Manner,
+) -> Result<Captured, Halt>
+    ensures files { F.files shelf.new ≡ F.files shelf.old }
+    ensures read { MatchResult result (λ kept. IsReadAs (captures_by manner.entry) (F.files shelf.old) name.now (F.rest shelf.new) (captured kept))
+        (Halts (captures_by manner.entry) (F.files shelf.old) name.now (F.rest shelf.old) (F.rest shelf.new)) }
+    ensures fit { IfOk result (λ kept. All (Fits (attrs_in manner.entry.format)) kept.rows.items) }
+    ensures cause { HasHaltCause (F.faults shelf.old) (F.faults shelf.new) result }
+{
+    match manner.format {
+        Format::Packets => {
+            open_packets(shelf, name)?;
+            collect_packets(alloc, shelf, manner.truncated)
+        }
+        Format::Records(schema) => {
+            let rows = read_lines(alloc, shelf, name, schema)?;
+            Ok(Captured { rows, cut: None })
+        }
+    }
+}

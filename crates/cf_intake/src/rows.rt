@@ -1,0 +1,117 @@
+// The rows of the bytes of a capture.
+ghost use Rattle.std.specs.Prelude.{◌≡◌, All, IfOk, MatchResult};
+ghost use Rattle.cf_row.specs.Row.{Fits};
+ghost use Rattle.cf_row.specs.Schema.{packet_attrs};
+ghost use Rattle.cf_records.specs.Records.{IsRecordFile};
+ghost use Rattle.cf_records.specs.declared.fault.RecordFault.TheVariants as record_faults;
+ghost use Rattle.cf_intake.specs.Faults.{HasLineFault, line_code_of as line_code_of_fault, record_of_lines};
+ghost use Rattle.cf_intake.specs.Parts.{IsBad, IsSetupRead, is_packets, attrs_in};
+ghost use Rattle.cf_intake.specs.Rows.{packet_rows};
+ghost use Rattle.cf_intake.specs.declared.refusal.Halt.TheVariants.{Refused, Stopped};
+ghost use Rattle.cf_intake.specs.declared.refusal.Refusal.TheVariants as refusals;
+ghost use Rattle.cf_intake.specs.declared.refusal.Stop.TheVariants as stops;
+
+use crate::refusal::{Halt, Refusal, Stop};
+use cf_headers::packet_row;
+use cf_pcap::Frame;
+use cf_records::{RecordFault, read_records};
+use cf_row::{Memory, Row, Schema};
+use cf_setup::Setup;
+use std::alloc::Global;
+
+/// The format of a capture.
+#[derive(Clone, Copy)]
+pub enum Format<'a> {
+    /// Packets, in pcap or pcapng.
+    Packets,
+    /// Records of that schema, in CSV.
+    Records(&'a Schema),
+}
+
+/// How a capture is read.
+#[derive(Clone, Copy)]
+pub struct Manner<'a> {
+    pub format: Format<'a>,
+    /// A capture of packets that ends within a record has the records before it.
+    pub truncated: bool,
+}
+
+/// The rows of a capture.
+#[derive(Drop)]
+pub struct Captured {
+    pub rows: Vec<Row>,
+    /// The record within which a truncated capture ends.
+    pub cut: Option<u32>,
+}
+
+/// The format that a setup asks for.
+pub fn format_of<'a>(setup: &'a Setup) -> Format<'a>
+    requires { IsSetupRead setup.now }
+    ensures { (is_packets result ≡ setup.now.packet) × (attrs_in result ≡ setup.now.schema) }
+{
+    if setup.packet() {
+        Format::Packets
+    } else {
+        Format::Records(setup.schema())
+    }
+}
+
+/// A row for each frame.
+pub(crate) fn rows_of(alloc: Global, frames: &[Frame]) -> Result<Vec<Row>, Memory>
+    ensures rows { IfOk result (λ rows. rows.items ≡ packet_rows frames.now) }
+    ensures fit { IfOk result (λ rows. All (Fits packet_attrs) rows.items) }
+{
+    let mut rows = Vec::with_capacity(alloc, frames.len())?;
+    for frame in frames {
+        rows.push(packet_row(alloc, frame)?)?;
+    }
+    Ok(rows)
+}
+
+fn line_code_of(fault: RecordFault) -> u8
+    ensures { result ≡ line_code_of_fault fault }
+{
+    match fault {
+        RecordFault::NoHeader => 11,
+        RecordFault::BadHeader => 12,
+        RecordFault::BadCount(_) => 13,
+        RecordFault::BadValue(_, _) => 14,
+        RecordFault::TooManyBytes => 15,
+        RecordFault::Memory => 0,
+    }
+}
+
+fn record_of(fault: RecordFault) -> u32
+    ensures { result ≡ record_of_lines fault }
+{
+    match fault {
+        RecordFault::BadCount(num) => num,
+        RecordFault::BadValue(num, _) => num,
+        _ => 0,
+    }
+}
+
+// What a fault of a file of records comes to.
+fn refused_records(fault: RecordFault) -> Halt
+    ensures memory { fault ≡ record_faults.Memory → result ≡ Stopped stops.Memory }
+    ensures other { (fault ≡ record_faults.Memory → ⊥) → result ≡ Refused (refusals.Capture (record_of_lines fault) (line_code_of_fault fault)) }
+{
+    match fault {
+        RecordFault::Memory => Halt::Stopped(Stop::Memory),
+        _ => Halt::Refused(Refusal::Capture {
+            at: record_of(fault),
+            code: line_code_of(fault),
+        }),
+    }
+}
+
+/// The rows of a file of records.
+pub(crate) fn records_of(alloc: Global, schema: &Schema, bytes: &[u8]) -> Result<Vec<Row>, Halt>
+    ensures rows { MatchResult result (λ rows. IsRecordFile schema.now bytes.now rows.items) (IsBad (HasLineFault schema.now bytes.now)) }
+    ensures fit { IfOk result (λ rows. All (Fits schema.now) rows.items) }
+{
+    match read_records(alloc, schema, bytes) {
+        Ok(rows) => Ok(rows),
+        Err(fault) => Err(refused_records(fault)),
+    }
+}

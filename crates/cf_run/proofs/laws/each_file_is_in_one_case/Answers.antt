@@ -1,5 +1,0 @@
-use Rattle.cf_run.proofs.OneCase.{one_case}
-use Rattle.cf_run.proofs.laws.each_file_is_in_one_case.Goals as goal
-
-pub returns : goal.returns
-returns c = one_case

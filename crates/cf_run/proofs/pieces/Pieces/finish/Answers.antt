@@ -1,5 +1,0 @@
-use Rattle.cf_run.proofs.Piecewise.{ended_on}
-use Rattle.cf_run.proofs.pieces.Pieces.finish.Goals as goal
-
-pub returns-clause-taken : goal.returns-clause-taken
-returns-clause-taken c = λ before now rows on. ended_on c.args.self before now rows c.finish.result on c.requires.last c.finish.ensures
