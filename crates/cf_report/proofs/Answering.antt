@@ -31,7 +31,7 @@ low_range n k d lt = let e = get_or-range_with_len 0 n k d (omega (arith, lt, le
 low_places : (p : RowValue → Bool) (rows : List RowValue) → All (λ place. place < length rows) (filter (λ place. p (row_at rows place)) (range_with_len 0 (length rows)))
 low_places p rows = All-filter (λ place. p (row_at rows place)) (λ place. place < length rows) (range_with_len 0 (length rows)) (low_range (length rows))
 
-body_within : (shape : ShapeValue) (ask : Ask) (rows : List RowValue) → IsWithin (length rows) (eval_rows shape ask rows)
+pub body_within : (shape : ShapeValue) (ask : Ask) (rows : List RowValue) → IsWithin (length rows) (eval_rows shape ask rows)
 body_within shape (asks.List expr) rows = low_places (counts_for shape (asks.List expr)) rows
 body_within shape (asks.Find lane low high) rows = low_places (counts_for shape (asks.Find lane low high)) rows
 body_within shape (asks.Between lane low high) rows = low_places (counts_for shape (asks.Between lane low high)) rows
@@ -49,7 +49,7 @@ body_kind shape (asks.Fired trigger) rows = refl
 body_kind shape (asks.Top lane part count) rows = refl
 body_kind shape (asks.Total attr expr) rows = refl
 
-within_more : (m n : ℕ) (body : Body) → m ≤ n → IsWithin m body → IsWithin n body
+pub within_more : (m n : ℕ) (body : Body) → m ≤ n → IsWithin m body → IsWithin n body
 within_more m n (bodies.Places places) le within = λ k d lt. let low = within k d lt in omega (arith, low, le)
 within_more m n (bodies.Total quad) le within = tt
 within_more m n (bodies.Marks marks) le within = tt

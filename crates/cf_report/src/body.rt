@@ -12,7 +12,8 @@ use cf_row::{Entry, Memory};
 use std::alloc::Global;
 use std::fmt::Write;
 
-fn push_numbers(text: &mut String, nums: &[u32]) -> Result<(), Memory>
+/// Appends how many numbers there are, and each. If memory runs out, the text may end with a part of it.
+pub fn push_numbers(text: &mut String, nums: &[u32]) -> Result<(), Memory>
     ensures { OnOk result (string_bytes text.new ≡ string_bytes text.old ++ numbers_text nums.now) }
 {
     let count = nums.len();
@@ -40,7 +41,8 @@ fn push_bound(text: &mut String, count: u64, bound: u64) -> Result<(), Memory>
     }
 }
 
-fn push_quad(text: &mut String, quad: Quad) -> Result<(), Memory>
+/// Appends a quad: its count, sum, least and greatest number. If memory runs out, the text may end with a part of it.
+pub fn push_quad(text: &mut String, quad: Quad) -> Result<(), Memory>
     ensures { OnOk result (string_bytes text.new ≡ string_bytes text.old ++ quad_text quad) }
 {
     let count = quad.count();
@@ -51,8 +53,8 @@ fn push_quad(text: &mut String, quad: Quad) -> Result<(), Memory>
     push_bound(text, count, quad.greatest())
 }
 
-/// How many marks there are, and each.
-pub(crate) fn push_marks(text: &mut String, marks: &[Fired]) -> Result<(), Memory>
+/// Appends how many marks there are, and each. If memory runs out, the text may end with a part of it.
+pub fn push_marks(text: &mut String, marks: &[Fired]) -> Result<(), Memory>
     ensures { OnOk result (string_bytes text.new ≡ string_bytes text.old ++ marks_text marks.now) }
 {
     let count = marks.len();
@@ -72,7 +74,7 @@ fn push_each_mark(text: &mut String, marks: &[Fired]) -> Result<(), Memory>
 }
 
 /// The word of a question's kind.
-pub(crate) fn word(ask: &Ask) -> &str
+pub fn word(ask: &Ask) -> &str
     ensures { result.now ≡ word_of ask.now }
 {
     match ask {

@@ -13,10 +13,12 @@ mod snapshot;
 mod tests;
 mod text;
 
+pub use body::{push_marks, push_numbers, push_quad, word};
 pub use cf_plain::{Live, Loaded};
 pub use condition::is_answering;
 pub use laws::{
     final_part_has_no_sizes, final_part_is_one, meant_answers_make_reports, reports_are_histories,
 };
+pub use lines::{name_at, push_alerts};
 pub use snapshot::{push_cut, push_host};
 pub use text::{Form, report};

@@ -13,7 +13,7 @@ use std::alloc::Global;
 use std::fmt::Write;
 
 /// The name at a place.
-pub(crate) fn name_at(names: &[Name], place: usize) -> &str
+pub fn name_at(names: &[Name], place: usize) -> &str
     requires { place < length names.now }
     ensures { result.now ≡ slice_index_or names.now place [] }
 {
@@ -88,8 +88,8 @@ fn marks_at(alerts: &[Marks], place: usize) -> &[Fired]
     alerts[place].as_slice()
 }
 
-/// A line for each mark of each trigger.
-pub(crate) fn push_alerts(text: &mut String, setup: &Setup, alerts: &[Marks]) -> Result<(), Memory>
+/// Appends a line for each mark of each trigger of the setup, in its order. If memory runs out, the text may end with a part of it.
+pub fn push_alerts(text: &mut String, setup: &Setup, alerts: &[Marks]) -> Result<(), Memory>
     requires answered { length alerts.now ≡ length setup.now.triggers }
     ensures { OnOk result (string_bytes text.new ≡ string_bytes text.old ++ flat_map (alert_lines_at setup.now alerts.now) (range_with_len 0 (length setup.now.triggers))) }
 {

@@ -1,9 +1,9 @@
 -- A window as its caller holds it, and what its calls do.
-use Rattle.std.specs.Prelude.{◌≡◌, ℕ, ◌+◌, ◌*◌, ◌^◌, ◌<◌, ◌≤◌, ◌-◌, Bool, true, false, List, [], Some, slice_get, slice_index_or, length, map, All}
+use Rattle.std.specs.Prelude.{◌≡◌, ℕ, ◌+◌, ◌*◌, ◌^◌, ◌<◌, ◌≤◌, ◌-◌, Bool, true, false, List, [], Some, slice_get, slice_index_or, length, drop, map, All}
 use Rattle.cf_row.specs.Row.{RowValue}
 use Rattle.cf_shape.specs.Lanes.{ShapeValue}
 use Rattle.cf_window.specs.Segments.{SegmentValue}
-use Rattle.cf_window.specs.Windows.{after_row, drops, goes_in, is_small, rows_in_all, with_last}
+use Rattle.cf_window.specs.Windows.{after_row, drops, goes_in, is_refused, is_small, rows_in_all, with_last}
 use Rattle.cf_window.specs.declared.window.Pushed.{Pushed}
 use Rattle.cf_window.specs.declared.window.Pushed.TheVariants.{Full, Gone, NeedsDrop, NoNodes}
 
@@ -43,6 +43,7 @@ HasPushed old row new Gone =
     (count_of old < 2 ^ 32 - 1)
     × (drops old.shape old.most old.segments row ≡ false)
     × (new ≡ record old { segments = after_row old.shape old.most old.segments row; is_spent = false })
+    × (is_refused old.shape old.segments row ≡ false)
 HasPushed old row new NeedsDrop =
     (count_of old < 2 ^ 32 - 1)
     × (drops old.shape old.most old.segments row ≡ true)
@@ -74,4 +75,12 @@ replaced old row = record old {
   from = old.from + length (slice_index_or old.segments 0 []);
   segments = after_row old.shape old.most old.segments row;
   is_spent = false;
+}
+
+-- the window without its oldest segment, whose last one takes no row then
+abbrev pub without_oldest : WindowValue → WindowValue
+without_oldest old = record old {
+  from = old.from + length (slice_index_or old.segments 0 []);
+  segments = drop 1 old.segments;
+  is_spent = true;
 }

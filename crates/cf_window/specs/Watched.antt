@@ -1,10 +1,7 @@
--- How reads cut a stream, and what is written for some such cut.
+-- How reads cut a stream.
 use Rattle.std.specs.Prelude.{◌≡◌, ℕ, ◌<◌, ◌≤◌, List, length, take, All}
 use Rattle.std.specs.List.{flat_map}
 use Rattle.cf_row.specs.Row.{RowValue}
-use Rattle.cf_setup.specs.Setups.{SetupValue}
-use Rattle.cf_shape.specs.Lanes.{ShapeValue}
-use Rattle.cf_window.specs.Rounds.{watch_text}
 use Rattle.cf_window.specs.Windows.{rows_in_all}
 
 -- the bytes of all pieces
@@ -22,11 +19,3 @@ pub record AreCut (bytes : List ℕ) (pieces : List (List ℕ)) : Type 0 where
 pub record AreEnded (Given : List ℕ → List RowValue → Type 0) (pieces : List (List ℕ)) (reads : List (List RowValue)) : Type 0 where
   pub count : length reads ≡ length pieces
   pub each : (k : ℕ) → k ≤ length pieces → Given (bytes_in_all (take k pieces)) (rows_in_all (take k reads))
-
--- The text is that of the bytes, for some way in which reads cut them.
-pub record IsWatched (Given : List ℕ → List RowValue → Type 0) (shape : ShapeValue) (setup : SetupValue) (most every : ℕ) (bytes text : List ℕ) : Type 0 where
-  pub pieces : List (List ℕ)
-  pub reads : List (List RowValue)
-  pub cut : AreCut bytes pieces
-  pub ended : AreEnded Given pieces reads
-  pub text_is : text ≡ watch_text shape setup most every reads

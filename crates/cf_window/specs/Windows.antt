@@ -21,6 +21,10 @@ last_of segments = slice_index_or segments (length segments - 1) []
 abbrev pub goes_in : ShapeValue → List (List RowValue) → RowValue → Bool
 goes_in shape segments row = nat_lt 0 (length segments) && takes shape (last_of segments) row
 
+-- no segment takes the record, neither the last one nor a new one
+abbrev pub is_refused : ShapeValue → List (List RowValue) → RowValue → Bool
+is_refused shape segments row = not (goes_in shape segments row) && not (is_small shape row)
+
 -- the record behind those of the last segment
 abbrev pub with_last : List (List RowValue) → RowValue → List (List RowValue)
 with_last segments row = take (length segments - 1) segments ++ (last_of segments ++ row ∷ []) ∷ []

@@ -5,7 +5,7 @@ ghost use Rattle.cf_shape.specs.Lanes.{ShapeValue};
 ghost use Rattle.cf_shape.specs.Nodes.{nodes_for};
 ghost use Rattle.cf_plain.specs.Asks.{Suits, SuitsTrigger, eval_rows, marks_over};
 ghost use Rattle.cf_plain.specs.Segments.{finding_in};
-ghost use Rattle.cf_window.specs.Held.{ComesThen, HasPushed, IsOfShape, IsOpenLast, IsWindow, count_of, replaced, rows_each, with_taken};
+ghost use Rattle.cf_window.specs.Held.{ComesThen, HasPushed, IsOfShape, IsOpenLast, IsWindow, count_of, replaced, rows_each, with_taken, without_oldest};
 ghost use Rattle.cf_window.specs.Windows.{drops, goes_in, is_small, rows_in_all};
 
 use crate::find::find_in;
@@ -187,7 +187,8 @@ impl Window {
         self.from += oldest.count();
     }
 
-    /// The oldest segment is dropped, and then the row comes, for which a push has told that it needs that.
+    /// The oldest segment is dropped, and then the row comes, for which a push has told that it needs that. If memory runs out, the
+    /// oldest segment is gone and the row has not come.
     pub fn replace_oldest(&mut self, alloc: Global, row: &Row) -> Result<(), Memory>
         requires fits { Fits self.old.shape.schema row.now }
         requires room { count_of self.old < 2 ^ 32 - 1 }
@@ -195,6 +196,7 @@ impl Window {
         requires small { is_small self.old.shape row.now ≡ true }
         ensures same { (self.new.shape ≡ self.old.shape) × (self.new.most ≡ self.old.most) }
         ensures replaced { OnOk result (self.new ≡ replaced self.old row.now) }
+        ensures dropped { OnErr result (self.new ≡ without_oldest self.old) }
     {
         let _some = self.most;
         self.drop_oldest();

@@ -1,0 +1,13 @@
+-- Laws of rounds.
+use Rattle.std.specs.Prelude.{◌≡◌, ℕ, ◌<◌, Bool, false, List, [], slice_get, Some}
+use Rattle.cf_plain.specs.declared.answer.Fired.{Fired}
+use Rattle.cf_setup.specs.Setups.{SetupValue}
+use Rattle.cf_shape.specs.Lanes.{ShapeValue}
+use Rattle.cf_watch.specs.New.{has_bucket_of, newly}
+use Rattle.cf_rounds.specs.Lines.{Said, View, with_view}
+
+-- A round on the window of the round before writes nothing.
+abbrev pub AgainSaysNothing : Type 0
+AgainSaysNothing =
+    (shape : ShapeValue) (setup : SetupValue) (every : ℕ) (said : Said) (view : View) →
+    with_view shape setup every (with_view shape setup every said view) view ≡ with_view shape setup every said view
