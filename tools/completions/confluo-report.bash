@@ -16,7 +16,7 @@ _confluo_report() {
         merge) options="--setup --tagged" ;;
         plot) options="--setup --tagged --out --width --dotted" ;;
         packets) options="--ask --out --into" ;;
-        ask) options="--setup-only --report --most --schema" ;;
+        ask) options="--setup-only --report --most --schema --truncated" ;;
         *) options="" ;;
     esac
     case $before in

@@ -35,3 +35,4 @@ complete -c confluo-report -n "__fish_seen_subcommand_from packets" -l into -r -
 complete -c confluo-report -n "__fish_seen_subcommand_from ask" -l setup-only -d "Print the setup and run nothing"
 complete -c confluo-report -n "__fish_seen_subcommand_from ask" -l report -d "Print the bare report"
 complete -c confluo-report -n "__fish_seen_subcommand_from ask" -l schema -x -d "The schema of CSV files"
+complete -c confluo-report -n "__fish_seen_subcommand_from ask" -l truncated -d "Also about captures that are cut off"

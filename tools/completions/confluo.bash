@@ -8,9 +8,10 @@ _confluo() {
         return
     fi
     case ${COMP_WORDS[1]} in
-        run) options="--setup --writers --capacity --segments --nodes --live" ;;
+        run) options="--setup --writers --capacity --segments --nodes --live --truncated" ;;
         synth) options="--setup --seed --count --writers --capacity --segments --nodes" ;;
-        snapshot) options="--setup --after --turn --capacity --nodes" ;;
+        snapshot) options="--setup --after --turn --capacity --nodes --truncated" ;;
+        dump) options="--truncated" ;;
         *) options="" ;;
     esac
     case $before in

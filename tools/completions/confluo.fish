@@ -16,6 +16,7 @@ complete -c confluo -n $sized -l nodes -x -a "1024 8192 65536" -d "Tree nodes of
 complete -c confluo -n $loading -l writers -x -a "1 2 4 8 15" -d "Threads that load"
 complete -c confluo -n $loading -l segments -x -a "1 2 4 16" -d "Segments of the log"
 complete -c confluo -n "__fish_seen_subcommand_from run" -l live -x -d "Rounds beside a batch, 0 to 64"
+complete -c confluo -n "__fish_seen_subcommand_from run dump snapshot" -l truncated -d "Up to the last whole packet"
 complete -c confluo -n "__fish_seen_subcommand_from synth" -l seed -x -d "The seed"
 complete -c confluo -n "__fish_seen_subcommand_from synth" -l count -x -d "How many packets"
 complete -c confluo -n "__fish_seen_subcommand_from snapshot" -l after -x -d "Turns before the cut"

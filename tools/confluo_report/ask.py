@@ -11,13 +11,13 @@ from dataclasses import dataclass
 from typing import Iterator, Sequence
 
 from . import program
-from .details import details_of
+from .details import Details, details_of
 from .errors import Complaint
 from .explain import Case, explain
 from .merge import Joined, Merged, Named, merge, merged_lines
 from .nodes import BLOCK, MOST_CAPACITY, MOST_NODES, MOST_RECORDS, Sizes
 from .questions import Query, is_question, name_of, parse_question, write_setup
-from .reports import Body, Fired, Pair, lines_of, parse_report, refusal_of
+from .reports import Body, Fired, Pair, Report, lines_of, parse_report, refusal_of
 from .setups import Setup, SetupFault, parse_setup
 from .show import Viewer, body_lines, count_text
 from .tables import Style
@@ -33,6 +33,7 @@ class Job:
     captures: list[str]
     queries: list[Query]
     schema: str = "packet"
+    may_be_cut: bool = False
 
     @property
     def is_several(self) -> bool:
@@ -43,7 +44,7 @@ class Job:
         return write_setup(self.queries, self.schema, self.is_several)
 
 
-def job_of(words: Sequence[str], schema: str, needs_capture: bool) -> Job:
+def job_of(words: Sequence[str], schema: str, needs_capture: bool, may_be_cut: bool = False) -> Job:
     """Sorts the words into captures and questions."""
     texts = [it for it in words if is_question(it)]
     captures = [it for it in words if not is_question(it)]
@@ -58,7 +59,7 @@ def job_of(words: Sequence[str], schema: str, needs_capture: bool) -> Job:
         raise Complaint("there is no capture to ask about")
     if captures.count("-") > 1:
         raise Complaint("standard input is given twice")
-    return Job(captures, [parse_question(it) for it in texts], schema)
+    return Job(captures, [parse_question(it) for it in texts], schema, may_be_cut)
 
 
 def lawful(job: Job, text: str) -> Setup:
@@ -89,13 +90,13 @@ def _raised(sizes: Sizes, kind: str) -> Sizes | None:
     return None
 
 
-def run_raising(setup_path: str, capture: str) -> str:
+def run_raising(setup_path: str, capture: str, may_be_cut: bool = False) -> str:
     """The report; segments and nodes are raised as long as a refusal asks for it."""
     sizes: Sizes | None = Sizes(MOST_CAPACITY, 1, FIRST_NODES)
     ran = program.Ran(0, "")
     while sizes:
         words = ["run", "--setup", setup_path, *sizes.options().split()]
-        ran = program.run_over(words, capture)
+        ran = program.run_over(words + ["--truncated"] * may_be_cut, capture)
         if ran.status == 0:
             return ran.text
         refusal = refusal_of(ran.text)
@@ -103,9 +104,9 @@ def run_raising(setup_path: str, capture: str) -> str:
     raise Complaint(_refused(ran, setup_path, capture))
 
 
-def _named(setup_path: str, name: str, capture: str) -> Named:
+def _named(setup_path: str, name: str, capture: str, may_be_cut: bool) -> Named:
     try:
-        return Named(name, parse_report(run_raising(setup_path, capture), name))
+        return Named(name, parse_report(run_raising(setup_path, capture, may_be_cut), name))
     except Complaint as complaint:
         if name != "-":
             raise
@@ -139,7 +140,7 @@ def answers(job: Job, style: Style, most: int, as_report: bool = False) -> list[
     text = job.setup_text()
     setup = lawful(job, text)
     with _files(job, text) as (setup_path, captures):
-        named = [_named(setup_path, name, it) for name, it in zip(job.captures, captures)]
+        named = [_named(setup_path, name, it, job.may_be_cut) for name, it in zip(job.captures, captures)]
         if as_report and not job.is_several:
             return list(lines_of(named[0].report))
         asked = {name_of(at): it.count for at, it in enumerate(job.queries) if it.verb == "top"}
@@ -147,12 +148,14 @@ def answers(job: Job, style: Style, most: int, as_report: bool = False) -> list[
         if as_report:
             return merged_lines(merged)
         viewers = [
-            Viewer(setup, details_of(it.report.asks, it.report.records, setup, path, most), style, most)
-            if _has_found(job)
-            else Viewer(setup, {}, style, most)
+            Viewer(setup, _details(it.report, setup, path, most) if _has_found(job) else {}, style, most)
             for it, path in zip(named, captures)
         ]
     return _shown(job, merged, viewers)
+
+
+def _details(report: Report, setup: Setup, path: str, most: int) -> Details:
+    return details_of(report.asks, report.records, setup, path, most, report.truncated)
 
 
 def _has_found(job: Job) -> bool:
@@ -163,6 +166,8 @@ def _shown(job: Job, merged: Merged, viewers: Sequence[Viewer]) -> list[str]:
     viewer = viewers[0]
     of = f" of {len(job.captures)} captures" if job.is_several else ""
     lines = [f"{grouped(merged.records)} {viewer.things}{of}"]
+    for name, whole in merged.truncated:
+        lines.append(f"{name} is cut off after {grouped(whole)} {viewer.things}: what came then is missing")
     for query, joined in zip(job.queries, merged.asks):
         lines += ["", _title(viewer, query, joined)]
         if joined.kind == "fired" and job.is_several:

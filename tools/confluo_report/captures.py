@@ -20,6 +20,7 @@ MOST_BYTES = 2**32
 MOST_CAPTURED = 262144
 MOST_BLOCK = 2**20
 SECTION, INTERFACE, SIMPLE, ENHANCED = 0x0A0D0D0A, 1, 3, 6
+CUT = (5, 25)
 LEAST = {SECTION: 28, INTERFACE: 20, SIMPLE: 16, ENHANCED: 32}
 LINKS = (1, 113)
 MAGICS = {
@@ -53,6 +54,17 @@ class Frame:
     length: int
     data: bytes
     link: int
+
+
+@dataclass
+class Reading:
+    """How a capture is read: whether a file that is cut off may be.
+
+    `cut` is, once all is read, the number of whole records of a file that is cut off.
+    """
+
+    may_be_cut: bool = False
+    cut: int | None = None
 
 
 @dataclass(frozen=True)
@@ -301,18 +313,32 @@ class _Blocks:
         return Frame(self.number, 0, length, block[12 : 12 + count], link)
 
 
-def pieces(file: BinaryIO) -> Iterator[Piece]:
+def pieces(file: BinaryIO, reading: Reading | None = None) -> Iterator[Piece]:
     """All bytes of a capture piece by piece; a CaptureFault where it breaks a rule."""
+    reading = reading or Reading()
     source = _Source(file, b"")
     head = source.read(4)
     if head == b"\n\r\r\n":
-        return _Blocks(source, head).pieces()
-    return _classic(source, head)
+        return _up_to_a_cut(_Blocks(source, head).pieces(), reading)
+    return _up_to_a_cut(_classic(source, head), reading)
 
 
-def frames(file: BinaryIO) -> Iterator[Frame]:
+def _up_to_a_cut(read: Iterator[Piece], reading: Reading) -> Iterator[Piece]:
+    """The pieces; a file that is cut off behind its header ends there where it may be cut."""
+    has_header = False
+    try:
+        for it in read:
+            has_header = True
+            yield it
+    except CaptureFault as fault:
+        if not (reading.may_be_cut and has_header and fault.code in CUT):
+            raise
+        reading.cut = fault.record
+
+
+def frames(file: BinaryIO, reading: Reading | None = None) -> Iterator[Frame]:
     """The packets of a capture."""
-    return (it.frame for it in pieces(file) if it.frame is not None)
+    return (it.frame for it in pieces(file, reading) if it.frame is not None)
 
 
 def packer_of(path: str) -> str | None:

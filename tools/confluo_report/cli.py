@@ -81,7 +81,8 @@ def _show(words: Words) -> int:
     if words.capture and isinstance(read, Snapshot):
         raise Complaint("a snapshot is shown without its captures: --capture is for a report")
     if words.capture:
-        details = details_of(asks_of(read), read.records, setup, words.capture, words.most)
+        cut = read.truncated
+        details = details_of(asks_of(read), read.records, setup, words.capture, words.most, cut)
     viewer = Viewer(setup, details, style, words.most)
     lines = report_lines(viewer, read) if isinstance(read, Report) else snapshot_lines(viewer, read)
     if setup is None:
@@ -169,7 +170,7 @@ def _packets(words: Words) -> int:
 
 
 def _ask(words: Words) -> int:
-    job = asking.job_of(words.words, words.schema, not words.setup_only)
+    job = asking.job_of(words.words, words.schema, not words.setup_only, words.truncated)
     if words.setup_only:
         text = write_setup(job.queries, job.schema)
         asking.lawful(job, text)
@@ -334,6 +335,7 @@ def _add_ask(commands: argparse._SubParsersAction) -> Callable[[Words], int]:
     parser.add_argument(
         "--schema", default="packet", metavar="S", help="of CSV files: 'records ts:u64,src:u32,len:u16'"
     )
+    parser.add_argument("--truncated", action="store_true", help="also about captures that are cut off")
     parser.add_argument(
         "words",
         metavar="CAPTURE|QUESTION",

@@ -23,13 +23,14 @@ DEFAULTS = {"writers": 4, "capacity": 65536, "segments": 1, "nodes": 1024, "live
 
 @dataclass(frozen=True)
 class Form:
-    """A command's options, those that it needs, and how many captures it takes."""
+    """A command's options, those that it needs, how many captures it takes, and options without a value."""
 
     options: tuple[str, ...]
     needed: tuple[str, ...]
     least: int
     most: int
     example: str
+    flags: tuple[str, ...] = ("truncated",)
 
 
 FORMS = {
@@ -46,6 +47,7 @@ FORMS = {
         0,
         0,
         "confluo synth --setup questions.setup --seed 1 --count 1000",
+        (),
     ),
     "dump": Form((), (), 1, 1, "confluo dump capture.pcap"),
     "snapshot": Form(
@@ -65,6 +67,11 @@ class Command:
     name: str
     options: dict[str, str] = field(default_factory=dict)
     captures: list[str] = field(default_factory=list)
+
+    @property
+    def may_be_cut(self) -> bool:
+        """Whether a capture that is cut off is answered about."""
+        return "truncated" in self.options
 
     def number(self, option: str) -> int:
         """The option's number, or its default."""
@@ -99,12 +106,14 @@ def _gather(form: Form, words: list[str], command: Command) -> None:
             command.captures.append(word)
             continue
         name, equals, value = word.removeprefix("--").partition("=")
-        if not word.startswith("--") or name not in form.options:
-            known = ", ".join(f"--{it}" for it in form.options) or "none"
+        if not word.startswith("--") or name not in (*form.options, *form.flags):
+            known = ", ".join(f"--{it}" for it in (*form.options, *form.flags))
             raise WordsFault(f"`{word}` is no option of `{command.name}`; it has {known}", form.example)
         if name in command.options:
             raise WordsFault(f"--{name} is given twice", form.example)
-        if not equals:
+        if name in form.flags and equals:
+            raise WordsFault(f"--{name} takes no value", f"{form.example} --{name}")
+        if not equals and name not in form.flags:
             if not rest or rest[0].startswith("-"):
                 raise WordsFault(f"--{name} has no value behind it", form.example)
             value = rest.pop(0)
@@ -128,7 +137,7 @@ def _must_be_complete(form: Form, command: Command) -> None:
 
 def _must_be_in_range(form: Form, command: Command) -> None:
     for name, text in command.options.items():
-        if name == "setup":
+        if name not in OPTIONS:
             continue
         low, high = OPTIONS[name]
         lawful = text.isascii() and text.isdigit() and (text == "0" or text[0] != "0")

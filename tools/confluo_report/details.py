@@ -67,16 +67,23 @@ def _packet(line: str) -> Packet:
     return Packet(int(number), values)
 
 
-def dumped(capture: str, wanted: Iterable[int], records: int) -> dict[int, Packet]:
-    """The packets of these numbers by `confluo dump`, of a capture that must have that many."""
-    ran = program.run_over(["dump"], capture)
+def dumped(
+    capture: str, wanted: Iterable[int], records: int, truncated: int | None = None
+) -> dict[int, Packet]:
+    """The packets of these numbers by `confluo dump`, of a capture that must have that many.
+
+    `truncated` is what the report says of a capture that is cut off.
+    """
+    ran = program.run_over(["dump", *["--truncated"] * (truncated is not None)], capture)
     if ran.status != 0:
         raise Complaint(
             f"{capture}: `confluo dump` refuses it with status {ran.status}: {ran.text.strip()}\n"
             f"`confluo-report explain --capture {capture}` says what that means"
         )
     head, *lines = ran.text.splitlines()
+    cut = lines.pop() if lines and lines[-1].startswith("truncated: ") else None
     _must_be_as_many(capture, len(lines), records)
+    _must_be_cut(capture, cut is not None, truncated)
     return {it: _packet(lines[it]) for it in set(wanted) if it < len(lines)}
 
 
@@ -85,6 +92,12 @@ def _must_be_as_many(capture: str, there: int, records: int) -> None:
         raise Complaint(
             f"{capture} is not the capture of the report: it has {there} records, and the report {records}"
         )
+
+
+def _must_be_cut(capture: str, is_cut: bool, truncated: int | None) -> None:
+    if is_cut != (truncated is not None):
+        ends = "is cut off" if is_cut else "ends well"
+        raise Complaint(f"{capture} is not the capture of the report: it {ends}, unlike the report's")
 
 
 def _meant(setup: Setup, question: Question) -> Callable[[Sequence[Value]], bool]:
@@ -119,12 +132,19 @@ def _must_be_found(
                 )
 
 
-def details_of(asks: Sequence[Ask], records: int, setup: Setup | None, capture: str, most: int) -> Details:
+def details_of(
+    asks: Sequence[Ask],
+    records: int,
+    setup: Setup | None,
+    capture: str,
+    most: int,
+    truncated: int | None = None,
+) -> Details:
     """The lines of the first records that each question found."""
     wanted = {row for ask in asks if isinstance(ask.body, Found) for row in ask.body.rows[: most or None]}
     if setup and not setup.is_packet:
         return _record_lines(asks, records, setup, capture, wanted)
-    packets = dumped(capture, wanted, records)
+    packets = dumped(capture, wanted, records, truncated)
     if setup:
         _must_be_found(setup, asks, {at: it.row() for at, it in packets.items()}, capture)
     return {at: it.text() for at, it in packets.items()}

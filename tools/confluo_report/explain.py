@@ -6,7 +6,7 @@ import os
 import pathlib
 from dataclasses import dataclass, field
 
-from .captures import CaptureFault
+from .captures import CaptureFault, Reading
 from .commands import Command, WordsFault, parse_words
 from .errors import Complaint
 from .explain_capture import explain_capture
@@ -27,6 +27,7 @@ class Case:
     setup: str | None = None
     captures: list[str] = field(default_factory=list)
     words: list[str] | None = None
+    was_cut: bool = False
 
     def command(self) -> Command | None:
         """The command, where its words are given and lawful."""
@@ -43,6 +44,11 @@ class Case:
         if command:
             self.setup = self.setup or command.options.get("setup")
             self.captures = self.captures or command.captures
+
+    def reading(self) -> Reading:
+        """How the run read packets, as far as its words say it."""
+        command = self.command()
+        return Reading(bool(command and command.may_be_cut))
 
     def parsed(self) -> Setup | None:
         """The setup, where it is given and lawful."""
@@ -80,10 +86,12 @@ def explain_words(case: Case) -> list[str]:
 def _usage() -> list[str]:
     return [
         "",
-        "    confluo run --setup FILE [--writers W] [--capacity N] [--segments G] [--nodes M] [--live R] CAPTURE",
+        "    confluo run --setup FILE [--writers W] [--capacity N] [--segments G] [--nodes M] [--live R]",
+        "        [--truncated] CAPTURE",
         "    confluo synth --setup FILE --seed S --count C [--writers W] [--capacity N] [--segments G] [--nodes M]",
-        "    confluo dump CAPTURE",
-        "    confluo snapshot --setup FILE --after A [--turn T] [--capacity N] [--nodes M] CAPTURE ..",
+        "    confluo dump [--truncated] CAPTURE",
+        "    confluo snapshot --setup FILE --after A [--turn T] [--capacity N] [--nodes M]",
+        "        [--truncated] CAPTURE ..",
     ]
 
 
@@ -143,14 +151,19 @@ def explain_memory(case: Case) -> list[str]:
 
 
 def _need(case: Case, capacity: int) -> Need | None:
-    """What the capture needs, where it and the setup are given."""
+    """What the capture needs, where it and the setup are given.
+
+    A run that got as far as to count was not refused for a cut, so it had --truncated if there is one.
+    """
     setup = case.parsed()
     if setup is None or not case.captures:
         return None
     needs = []
     for path in case.captures:
+        reading = Reading(may_be_cut=True)
         try:
-            needs.append(need_of(setup, rows_of(setup, path), capacity))
+            needs.append(need_of(setup, rows_of(setup, path, reading), capacity))
+            case.was_cut = case.was_cut or reading.cut is not None
         except CaptureFault as fault:
             raise Complaint(
                 f"{path} is not the capture of that run: it is refused with code {fault.code}"
@@ -165,7 +178,8 @@ def _again(case: Case, options: str) -> list[str]:
     command = case.command()
     if command and command.name != "dump":
         name = command.name
-    return ["", f"    confluo {name} --setup {setup} {options} {capture}"]
+    truncated = "--truncated " if case.was_cut else ""
+    return ["", f"    confluo {name} --setup {setup} {options} {truncated}{capture}"]
 
 
 def explain_full(refusal: Refusal, case: Case) -> list[str]:
@@ -247,14 +261,15 @@ def explain(refusal: Refusal | None, status: int | None, case: Case) -> list[str
 def _explain_capture(refusal: Refusal, case: Case) -> list[str]:
     if len(case.captures) > 1:
         return _explain_one_of(refusal, case)
-    return explain_capture(refusal, case.captures[0] if case.captures else None, case.parsed())
+    capture = case.captures[0] if case.captures else None
+    return explain_capture(refusal, capture, case.parsed(), case.reading())
 
 
 def _explain_one_of(refusal: Refusal, case: Case) -> list[str]:
     """Of several captures the first with that fault is meant."""
     for path in case.captures:
         try:
-            return explain_capture(refusal, path, case.parsed())
+            return explain_capture(refusal, path, case.parsed(), case.reading())
         except Complaint:
             continue
     raise Complaint("none of these captures is the one that was refused")

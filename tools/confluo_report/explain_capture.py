@@ -6,7 +6,7 @@ import contextlib
 import shlex
 from typing import Iterable
 
-from .captures import CaptureFault, frames, opened, packer_of
+from .captures import CUT, CaptureFault, Reading, frames, opened, packer_of
 from .errors import Complaint
 from .recordfiles import record_rows
 from .reports import Refusal
@@ -17,7 +17,7 @@ REASONS = {
     2: "the version of pcap is another than 2.4",
     3: "the packets are of a link type that is not read; Ethernet (1) and Linux cooked (113) are",
     4: "a packet states more than 262144 captured bytes; most likely the file is damaged there",
-    5: "the file ends within a packet: it is still being written, or the disk was full",
+    5: "the file ends within a packet or its header: it is still being written, or the disk was full",
     6: "the file has 4 GiB or more",
     11: "the CSV file has no record at all, not even the names",
     12: "the first line is not the names of `schema records` in their order",
@@ -36,10 +36,18 @@ REASONS = {
 IN_CSV = (11, 12, 13, 14, 15)
 
 
-def _keep(path: str, count: int) -> tuple[str, list[str]]:
+def _keep(code: int, path: str, count: int) -> tuple[str, list[str]]:
     """How the packets before the fault are kept."""
     if count == 0:
         return "No packet is whole before the fault: capture anew.", []
+    if code in CUT:
+        return (
+            f"--truncated answers about the {count} packets before the fault; editcap keeps them:",
+            [
+                f"confluo run --setup questions.setup --truncated {path}",
+                f"editcap -r -F pcap {path} mended.pcap 1-{count}",
+            ],
+        )
     return (
         f"This keeps the {count} packets before the fault:",
         [f"editcap -r -F pcap {path} mended.pcap 1-{count}"],
@@ -75,7 +83,7 @@ def mending(code: int, record: int, path: str, packer: str | None) -> tuple[str,
             [f"tshark -r {path} -Y 'frame.interface_id == 0' -F pcap -w mended.pcap"],
         )
     if code in (4, 5, 24, 25, 27, 28):
-        return _keep(path, record)
+        return _keep(code, path, record)
     if code in (6, 26):
         return "Cut it, and merge the reports:", [
             f"editcap -F pcap -c 1000000 {path} part.pcap",
@@ -104,7 +112,9 @@ def _csv_mending(code: int, names: str, record: int, path: str) -> tuple[str, li
     }[code]
 
 
-def find_fault(path: str, setup: Setup | None, as_is: bool = False) -> CaptureFault | None:
+def find_fault(
+    path: str, setup: Setup | None, as_is: bool = False, reading: Reading | None = None
+) -> CaptureFault | None:
     """The capture's first fault; with `as_is` a packed file is not unpacked."""
     try:
         with contextlib.ExitStack() as stack:
@@ -112,7 +122,7 @@ def find_fault(path: str, setup: Setup | None, as_is: bool = False) -> CaptureFa
             if setup and not setup.is_packet:
                 _exhaust(record_rows(setup.schema, file.read(2**24 + 1)))
             else:
-                _exhaust(frames(file))
+                _exhaust(frames(file, reading))
     except CaptureFault as fault:
         return fault
     return None
@@ -123,7 +133,9 @@ def _exhaust(rows: Iterable[object]) -> None:
         pass
 
 
-def explain_capture(refusal: Refusal, path: str | None, setup: Setup | None) -> list[str]:
+def explain_capture(
+    refusal: Refusal, path: str | None, setup: Setup | None, reading: Reading | None = None
+) -> list[str]:
     """The refusal in words, with the capture where it is given."""
     reason = REASONS.get(refusal.code)
     if reason is None:
@@ -132,7 +144,7 @@ def explain_capture(refusal: Refusal, path: str | None, setup: Setup | None) -> 
     shown = shlex.quote(path) if path else "capture.pcap"
     lines = [f"{path or 'The capture'}: {reason} (code {refusal.code})."]
     if path:
-        lines += _place_lines(refusal, path, setup, what)
+        lines += _place_lines(refusal, path, setup, what, reading)
     packer = packer_of(path) if path else None
     if refusal.code in IN_CSV:
         names = ",".join(it.name for it in setup.schema) if setup else "ts,src,len"
@@ -142,10 +154,12 @@ def explain_capture(refusal: Refusal, path: str | None, setup: Setup | None) -> 
     return lines + [advice, *["", *[f"    {it}" for it in commands]][: 1 + len(commands)]]
 
 
-def _place_lines(refusal: Refusal, path: str, setup: Setup | None, what: str) -> list[str]:
+def _place_lines(
+    refusal: Refusal, path: str, setup: Setup | None, what: str, reading: Reading | None
+) -> list[str]:
     if refusal.code in IN_CSV and not setup:
         raise Complaint("the refusal is of a CSV file: give its setup too, with --setup FILE")
-    fault = find_fault(path, setup, as_is=refusal.code == 1)
+    fault = find_fault(path, setup, refusal.code == 1, reading)
     if fault is None:
         raise Complaint(f"{path} is not the capture that was refused: nothing is wrong with it")
     if (fault.code, fault.record) != (refusal.code, refusal.place):

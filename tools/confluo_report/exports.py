@@ -7,7 +7,7 @@ import io
 import json
 from typing import Any, Iterator, Sequence
 
-from .reports import Ask, Body, Fired, Found, Live, Pair, Quad, Report, Snapshot
+from .reports import Ask, Body, Fired, Found, Host, Live, Pair, Quad, Report, Snapshot
 from .setups import Question, Setup
 from .values import clock, value_text
 
@@ -65,7 +65,12 @@ def report_object(read: Report | Snapshot, setup: Setup | None = None) -> dict[s
     """The object that docs/report.schema.json describes; with a setup also times and addresses."""
     if isinstance(read, Snapshot):
         hosts = [
-            {"number": it.number, "records": it.records, "asks": [_ask(ask, setup) for ask in it.asks]}
+            {
+                "number": it.number,
+                "records": it.records,
+                "asks": [_ask(ask, setup) for ask in it.asks],
+                **_truncated(it),
+            }
             for it in read.hosts
         ]
         return {"format": FORMAT, "kind": "snapshot", "cut": read.cut, "hosts": hosts}
@@ -82,7 +87,12 @@ def report_object(read: Report | Snapshot, setup: Setup | None = None) -> dict[s
         "alerts": alerts,
         "lives": [_live(it, setup) for it in read.lives],
         "order": order,
+        **_truncated(read),
     }
+
+
+def _truncated(read: Report | Host) -> dict[str, Any]:
+    return {} if read.truncated is None else {"truncated": read.truncated}
 
 
 def json_text(read: Report | Snapshot, setup: Setup | None = None, indent: int | None = None) -> str:
@@ -116,6 +126,8 @@ def _rows(read: Report | Snapshot) -> Iterator[tuple[Cell, ...]]:
             yield ("host", host.number, "", "", "", "", "", host.records)
             for ask in host.asks:
                 yield from _body_rows(("ask", host.number, ask.name, ask.body.kind, ""), ask.body)
+            if host.truncated is not None:
+                yield ("truncated", host.number, "", "", "", "", "", host.truncated)
         return
     yield ("records", "", "", "", "", "", "", read.records)
     for ask in read.asks:
@@ -130,6 +142,8 @@ def _rows(read: Report | Snapshot) -> Iterator[tuple[Cell, ...]]:
         yield ("order", "", "", "", "", "", "", len(read.order))
         for place, stretch in enumerate(read.order):
             yield ("order", "", "", "", "", place, stretch.writer, stretch.count)
+    if read.truncated is not None:
+        yield ("truncated", "", "", "", "", "", "", read.truncated)
 
 
 def csv_text(read: Report | Snapshot) -> str:

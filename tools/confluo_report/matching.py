@@ -63,6 +63,8 @@ def must_match(read: Report | Snapshot, setup: Setup, source: str) -> None:
     _must_have_asks(read.asks, setup, source)
     _must_fit(read.asks, setup, source)
     _must_have_alerts(read, setup, source)
+    if read.truncated is not None and not setup.is_packet:
+        raise Complaint(f"{source} is no report of this setup: a CSV file is never read as cut off")
     strange = [it.name for it in read.lives if it.name not in setup.lives]
     if strange:
         raise Complaint(f"{source} is no report of this setup: `{strange[0]}` is not live in it")

@@ -43,6 +43,7 @@ class Merged:
     records: int
     asks: tuple[Joined, ...]
     alerts: tuple[tuple[str, Alert], ...]
+    truncated: tuple[tuple[str, int], ...] = ()
 
 
 def split_reports(text: str, source: str, tagged: bool = False) -> list[Named]:
@@ -160,7 +161,8 @@ def merge(named: Sequence[Named], setup: Setup | None, asked: dict[str, int] | N
             must_match(it.report, setup, it.name)
     asks = tuple(_joined(named, at, setup, asked or {}) for at in range(len(shape)))
     alerts = tuple((it.name, alert) for it in named for alert in it.report.alerts)
-    return Merged(sum(it.report.records for it in named), asks, alerts)
+    truncated = tuple((it.name, it.report.truncated) for it in named if it.report.truncated is not None)
+    return Merged(sum(it.report.records for it in named), asks, alerts, truncated)
 
 
 def _joined(named: Sequence[Named], at: int, setup: Setup | None, asked: dict[str, int]) -> Joined:
@@ -187,4 +189,5 @@ def merged_lines(merged: Merged) -> list[str]:
             lines += (f"ask {it.name} {body_text(body)} ({name})" for name, body in it.parts)
         else:
             lines.append(f"ask {it.name} {body_text(it.body)}" + (f" ({it.note})" if it.note else ""))
-    return lines + [f"alert {it.trigger} {it.bucket} {it.value} ({name})" for name, it in merged.alerts]
+    lines += [f"alert {it.trigger} {it.bucket} {it.value} ({name})" for name, it in merged.alerts]
+    return lines + [f"truncated: record {whole} ({name})" for name, whole in merged.truncated]

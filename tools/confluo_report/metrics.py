@@ -28,6 +28,7 @@ HELP = {
     "confluo_alerts": "In how many time buckets the trigger fires.",
     "confluo_alert_value": "The value in a time bucket in which the trigger fires.",
     "confluo_order_records": "Consecutive records of one writer in the log.",
+    "confluo_truncated_records": "Whole records of a capture that is cut off; absent of one that ends well.",
 }
 STAGES = {"live": "Asked while records were loaded: ", "new": "New in the live answer: "}
 
@@ -92,6 +93,8 @@ def _add_body(families: Families, stage: str, body: Body, brief: bool, **labels:
 
 def _add_report(families: Families, report: Report, triggers: Iterable[str], brief: bool) -> None:
     families.add("confluo_records", report.records)
+    if report.truncated is not None:
+        families.add("confluo_truncated_records", report.truncated)
     for ask in report.asks:
         _add_body(families, "", ask.body, brief, ask=ask.name)
     counts = dict.fromkeys(triggers, 0)
@@ -116,6 +119,8 @@ def _add_snapshot(families: Families, snapshot: Snapshot, brief: bool) -> None:
     families.add("confluo_cut_records", snapshot.cut)
     for host in snapshot.hosts:
         families.add("confluo_host_records", host.records, host=host.number)
+        if host.truncated is not None:
+            families.add("confluo_truncated_records", host.truncated, host=host.number)
         for ask in host.asks:
             _add_body(families, "", ask.body, brief, ask=ask.name, host=host.number)
 

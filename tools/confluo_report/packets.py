@@ -9,7 +9,7 @@ import tempfile
 from dataclasses import dataclass
 from typing import BinaryIO
 
-from .captures import CaptureFault, opened, pieces
+from .captures import CaptureFault, Reading, opened, pieces
 from .errors import Complaint
 from .reports import Found, Report
 
@@ -35,11 +35,11 @@ def rows_found(report: Report, name: str, source: str) -> set[int]:
     raise Complaint(f"{source} has no line of `{name}`; it has {names}")
 
 
-def _copy(capture: str, wanted: set[int], out: BinaryIO) -> Copied:
+def _copy(capture: str, wanted: set[int], out: BinaryIO, reading: Reading) -> Copied:
     """Writes all that is no packet, and the packets with these numbers."""
     packets = records = 0
     with opened(capture) as file:
-        for piece in pieces(file):
+        for piece in pieces(file, reading):
             if piece.frame is None:
                 out.write(piece.raw)
                 continue
@@ -53,14 +53,17 @@ def _copy(capture: str, wanted: set[int], out: BinaryIO) -> Copied:
 def copy_packets(report: Report, name: str, capture: str, out: str, source: str) -> Copied:
     """The file `out` has the found packets, or is as before; `-` is standard output."""
     wanted = rows_found(report, name, source)
+    reading = Reading(report.truncated is not None)
     with tempfile.TemporaryFile() if out == "-" else _new_file(out) as file:
         try:
-            copied = _copy(capture, wanted, file)
+            copied = _copy(capture, wanted, file, reading)
             if copied.records != report.records:
                 raise Complaint(
                     f"{capture} is not the capture of {source}: it has {copied.records} records, "
                     f"and the report {report.records}"
                 )
+            if reading.cut != report.truncated:
+                raise Complaint(f"{capture} is not the capture of {source}: it is not cut off")
         except (Complaint, CaptureFault) as fault:
             if out != "-":
                 os.unlink(file.name)

@@ -101,13 +101,17 @@ class Stretch:
 
 @dataclass(frozen=True)
 class Report:
-    """What `run` prints, or `synth`, whose report has no order."""
+    """What `run` prints, or `synth`, whose report has no order.
+
+    `truncated` is the number of whole records of a capture that is cut off.
+    """
 
     records: int
     asks: tuple[Ask, ...]
     alerts: tuple[Alert, ...]
     lives: tuple[Live, ...] = ()
     order: tuple[Stretch, ...] | None = None
+    truncated: int | None = None
 
 
 @dataclass(frozen=True)
@@ -117,6 +121,7 @@ class Host:
     number: int
     records: int
     asks: tuple[Ask, ...]
+    truncated: int | None = None
 
 
 @dataclass(frozen=True)
@@ -153,6 +158,7 @@ FORMS = {
     "order": re.compile(rf"order((?: {NUMBER}\*{NUMBER})*)"),
     "cut": re.compile(rf"cut ({NUMBER})"),
     "host": re.compile(rf"host ({NUMBER}) @({NUMBER})"),
+    "truncated:": re.compile(rf"truncated: record ({NUMBER})"),
 }
 QUAD = re.compile(
     rf"(measure|total) count ({NUMBER}) sum ({NUMBER}) least ({NUMBER}|-) greatest ({NUMBER}|-)"
@@ -217,6 +223,7 @@ def _shown_form(word: str) -> str:
         "order": "`order W*K ..`",
         "cut": "`cut K`",
         "host": "`host H @C`",
+        "truncated:": "`truncated: record K`",
     }[word]
 
 
@@ -333,6 +340,16 @@ def _order(lines: _Lines, records: int) -> tuple[Stretch, ...] | None:
     return order
 
 
+def _truncated(lines: _Lines, least: int, most: int | None, wanted: str) -> int | None:
+    """The whole records of a capture that is cut off, where its line is next."""
+    if lines.word() != "truncated:":
+        return None
+    whole = int(lines.take("truncated:")[0])
+    if whole < least or most is not None and whole > most:
+        lines.fail(wanted, back=1)
+    return whole
+
+
 def _must_end(lines: _Lines, wanted: str) -> None:
     if lines.at < len(lines.lines):
         lines.fail(wanted)
@@ -348,8 +365,9 @@ def _report(lines: _Lines) -> Report:
     order = _order(lines, records)
     if lives and order is None:
         lines.fail("a further `live` line, or `order W*K ..`")
-    _must_end(lines, "a further line of a report, in the order records, ask, alert, live, order")
-    return Report(records, asks, alerts, lives, order)
+    truncated = _truncated(lines, records, records, f"`truncated: record {records}`, the report's records")
+    _must_end(lines, "a further line of a report, in the order records, ask, alert, live, order, truncated")
+    return Report(records, asks, alerts, lives, order, truncated)
 
 
 def _snapshot(lines: _Lines) -> Snapshot:
@@ -359,8 +377,10 @@ def _snapshot(lines: _Lines) -> Snapshot:
         number, count = map(int, lines.take("host"))
         if number != len(hosts):
             lines.fail(f"host {len(hosts)}", back=1)
-        hosts.append(Host(number, count, _asks(lines, count)))
-    _must_end(lines, "`host H @C` or `ask NAME KIND ..`")
+        asks = _asks(lines, count)
+        wanted = f"`truncated: record K` of at least the host's {count} records in the cut"
+        hosts.append(Host(number, count, asks, _truncated(lines, count, None, wanted)))
+    _must_end(lines, "`host H @C`, `ask NAME KIND ..` or `truncated: record K`")
     if not hosts or sum(it.records for it in hosts) != cut:
         lines.fail(f"hosts that have {cut} records in the cut together")
     return Snapshot(cut, tuple(hosts))
@@ -424,6 +444,7 @@ def lines_of(read: Report | Snapshot) -> Iterator[str]:
         for host in read.hosts:
             yield f"host {host.number} @{host.records}"
             yield from (f"ask {it.name} {body_text(it.body)}" for it in host.asks)
+            yield from _truncated_lines(host)
         return
     yield f"records {read.records}"
     yield from (f"ask {it.name} {body_text(it.body)}" for it in read.asks)
@@ -434,3 +455,9 @@ def lines_of(read: Report | Snapshot) -> Iterator[str]:
             yield f"new {live.name} @{live.prefix} {body_text(live.new)}"
     if read.order is not None:
         yield "order" + "".join(f" {it.writer}*{it.count}" for it in read.order)
+    yield from _truncated_lines(read)
+
+
+def _truncated_lines(read: Report | Host) -> Iterator[str]:
+    if read.truncated is not None:
+        yield f"truncated: record {read.truncated}"

@@ -4,7 +4,7 @@ from __future__ import annotations
 
 from typing import Iterator
 
-from .captures import frames, opened
+from .captures import Reading, frames, opened
 from .expressions import Value
 from .frames import packet_row
 from .recordfiles import record_rows
@@ -13,11 +13,11 @@ from .setups import Setup
 Row = tuple[Value, ...]
 
 
-def rows_of(setup: Setup, path: str) -> Iterator[Row]:
+def rows_of(setup: Setup, path: str, reading: Reading | None = None) -> Iterator[Row]:
     """The rows in order; a CaptureFault at the first fault."""
     with opened(path) as file:
         if setup.is_packet:
-            yield from map(packet_row, frames(file))
+            yield from map(packet_row, frames(file, reading))
         else:
             yield from record_rows(setup.schema, file.read())
 

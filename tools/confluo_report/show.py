@@ -6,7 +6,7 @@ from dataclasses import dataclass, field
 from typing import Sequence
 
 from .details import Details
-from .reports import Alert, Ask, Body, Fired, Found, Live, Pair, Quad, Report, Snapshot, Top
+from .reports import Alert, Ask, Body, Fired, Found, Host, Live, Pair, Quad, Report, Snapshot, Top
 from .setups import Lane, Question, Setup, Trigger
 from .tables import MOST, Style, marks, table
 from .values import clock, grouped, unit, units, value_text
@@ -225,18 +225,27 @@ def _order(report: Report) -> list[str]:
 
 def report_lines(viewer: Viewer, report: Report) -> list[str]:
     """The whole report."""
-    lines = [f"{grouped(report.records)} {viewer.things}"]
+    lines = [f"{grouped(report.records)} {viewer.things}{_cut_text(viewer, report)}"]
     for ask in report.asks:
         lines += ask_lines(viewer, ask.name, ask.body)
     lines += _alerts(viewer, report.alerts)
     return lines + _lives(viewer, report.lives) + _order(report)
 
 
+def _cut_text(viewer: Viewer, read: Report | Host) -> str:
+    """That the capture is cut off, where it is."""
+    if read.truncated is None:
+        return ""
+    after = "" if read.truncated == read.records else f" after {grouped(read.truncated)}"
+    return f"; the capture is cut off{after}: what came then is missing"
+
+
 def snapshot_lines(viewer: Viewer, snapshot: Snapshot) -> list[str]:
     """The whole snapshot."""
     lines = [f"{grouped(snapshot.cut)} {viewer.things} of {len(snapshot.hosts)} hosts at the cut"]
     for host in snapshot.hosts:
-        lines += ["", f"Host {host.number}: the first {grouped(host.records)} {viewer.things}"]
+        first = f"Host {host.number}: the first {grouped(host.records)} {viewer.things}"
+        lines += ["", first + _cut_text(viewer, host)]
         for ask in host.asks:
             lines += ask_lines(viewer, ask.name, ask.body)
     return lines

@@ -25,6 +25,7 @@ SETUPS = (
     (PACKET + "index 9i src\n", 2, 3, 6),
     (PACKET + "ask q foo x\n", 2, 3, 6),
     ("schema foo\n", 1, 3, 7),
+    ("schema packet6\n", 1, 3, 7),
     (LANES + "trigger u a most > 5\n", 8, 3, 12),
     (LANES + "trigger u a sum => 5\n", 8, 3, 16),
     ("schema records a:u9\n", 1, 4, 15),

@@ -10,6 +10,7 @@ import subprocess
 import sys
 import unittest
 from dataclasses import dataclass
+from typing import Callable, TypeVar
 from unittest import mock
 
 sys.dont_write_bytecode = True
@@ -22,9 +23,24 @@ from confluo_report import cli, program  # noqa: E402
 
 EXAMPLES = ROOT / "examples"
 INCIDENTS = EXAMPLES / "incidents"
+T = TypeVar("T")
 SMALL = ("--writers", "1", "--capacity", "64", "--nodes", "64")
 NO_PROGRAM = "the program confluo is not built: make run builds it, CONFLUO=FILE names another"
 needs_program = unittest.skipUnless(program.find_program(), NO_PROGRAM)
+
+EXAMPLE = EXAMPLES / "two_frames.pcap"
+
+
+def needs_words(*words: str) -> Callable[[T], T]:
+    """Skips where there is no program, or one that refuses these words of a dump."""
+    found = program.find_program()
+    if not found:
+        return unittest.skip(NO_PROGRAM)
+    ran = subprocess.run([found, "dump", *words, EXAMPLE], stdin=subprocess.DEVNULL, capture_output=True)
+    return unittest.skipIf(ran.returncode == 1, f"this confluo refuses {' '.join(words)}")
+
+
+needs_truncated = needs_words("--truncated")
 
 REPORT = """\
 records 4
@@ -47,6 +63,8 @@ new g @4 fired 1: 2=100
 order 1*1 0*2 1*1
 """
 SNAPSHOT = "cut 2\nhost 0 @1\nask big list 0:\nhost 1 @1\nask big list 1: 0\n"
+CUT_REPORT = REPORT + "truncated: record 4\n"
+CUT_SNAPSHOT = SNAPSHOT.replace("host 1", "truncated: record 7\nhost 1") + "truncated: record 1\n"
 
 
 @dataclass(frozen=True)

@@ -6,10 +6,10 @@ import pathlib
 import tempfile
 import unittest
 
-from cases import CAPTURES, CSVS, RECORDS
-from support import EXAMPLES, INCIDENTS, needs_program, confluo
+from cases import BLOCKS, CAPTURES, CSVS, RECORDS, WHOLE
+from support import EXAMPLES, INCIDENTS, confluo, enhanced, frame, interface, needs_program, pcap, section
 
-from confluo_report.captures import CaptureFault, frames
+from confluo_report.captures import CaptureFault, Reading, frames
 from confluo_report.explain_capture import find_fault
 from confluo_report.frames import packet_row
 from confluo_report.nodes import Sizes, need_of, sizes_for
@@ -51,6 +51,43 @@ class Captures(unittest.TestCase):
                 list(frames(io.BytesIO(data)))
             fault = caught.exception
             self.assertEqual((fault.record, fault.code, fault.at), (record, code, at))
+
+    def test_a_file_that_is_cut_off_ends_with_its_last_whole_record(self) -> None:
+        for data, header in ((WHOLE, 24), (BLOCKS + enhanced(frame()) + enhanced(frame()), 28)):
+            ends = [it for it in range(len(data) + 1) if not self.cut_of(data[:it])[1]]
+            for at in range(len(data) + 1):
+                count, code = self.cut_of(data[:at])
+                reading = Reading(may_be_cut=True)
+                if at < header:
+                    with self.assertRaises(CaptureFault):
+                        list(frames(io.BytesIO(data[:at]), reading))
+                    continue
+                self.assertEqual(len(list(frames(io.BytesIO(data[:at]), reading))), count)
+                self.assertEqual(reading.cut, None if at in ends else count)
+        for bad, record, code, _ in CAPTURES:
+            if code in (5, 25):
+                continue
+            with self.assertRaises(CaptureFault) as caught:
+                list(frames(io.BytesIO(bad), Reading(may_be_cut=True)))
+            self.assertEqual((caught.exception.record, caught.exception.code), (record, code))
+
+    @staticmethod
+    def cut_of(data: bytes) -> tuple[int, int]:
+        """The number of whole records, and the code of the fault behind them, if there is one."""
+        found = []
+        try:
+            for it in frames(io.BytesIO(data)):
+                found.append(it)
+        except CaptureFault as fault:
+            return fault.record, fault.code
+        return len(found), 0
+
+    def test_links(self) -> None:
+        for link in (*range(300), 65535):
+            data = pcap([(1, frame())], link=link)
+            self.assertEqual(self.cut_of(data)[1], 0 if link in (1, 113) else 3)
+            blocks = section() + interface(link) + enhanced(frame())
+            self.assertEqual(self.cut_of(blocks)[1], 0 if link in (1, 113) else 23)
 
     def test_rows_are_those_of_the_stored_dumps(self) -> None:
         for dump in (EXAMPLES / "formats").glob("*.dump"):

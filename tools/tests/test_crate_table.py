@@ -13,10 +13,14 @@ PAGE = "# Page\n\n" + crate_table.HEAD + "| old | row |\n\nText.\n"
 class CrateTable(unittest.TestCase):
     def test_layers_are_the_comments_of_the_list(self):
         layers = crate_table.layers_of(LIST)
-        self.assertEqual(layers, [("base", [("low", []), ("high", ["low"])]), ("top", [("program", ["high", "low"])])])
+        self.assertEqual(
+            layers, [("base", [("low", []), ("high", ["low"])]), ("top", [("program", ["high", "low"])])]
+        )
 
     def test_the_table_takes_the_place_of_the_old_one(self):
-        self.assertEqual(crate_table.page_with(crate_table.HEAD + "| a | b |\n", PAGE), PAGE.replace("old | row", "a | b"))
+        self.assertEqual(
+            crate_table.page_with(crate_table.HEAD + "| a | b |\n", PAGE), PAGE.replace("old | row", "a | b")
+        )
 
     def test_a_crate_before_one_that_it_needs_is_found(self):
         found = list(crate_table.out_of_order([("base", [("high", ["low"]), ("low", [])])]))

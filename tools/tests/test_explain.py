@@ -36,7 +36,11 @@ WORDS = (
     ("run --setup s --segments 17 c", "above 1048576"),
     ("synth --setup s --seed 1", "--count is missing"),
     ("synth --setup s --seed 1 --count 1 c", "takes no capture"),
-    ("dump --setup s c", "it has none"),
+    ("dump --setup s c", "it has --truncated"),
+    ("dump --schema packet c", "no option of `dump`"),
+    ("dump --truncated=1 c", "takes no value"),
+    ("run --truncated --setup s --truncated c", "given twice"),
+    ("synth --setup s --seed 1 --count 1 --truncated", "no option of `synth`"),
     ("snapshot --setup s c", "--after is missing"),
     ("snapshot --setup s --after 1 --turn 0 c", "from 1 to 4096"),
     ("snapshot --setup s --after 1" + " c" * 17, "at most 16 captures"),
@@ -46,6 +50,9 @@ LAWFUL = (
     "run c --setup s --live 3",
     "dump c",
     "snapshot --after 0 --setup s c c",
+    "run --truncated --setup s c",
+    "dump --truncated c",
+    "snapshot --after 0 --setup s c c --truncated",
 )
 
 

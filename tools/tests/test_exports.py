@@ -13,12 +13,13 @@ import tempfile
 import unittest
 from unittest import mock
 
-from support import EXAMPLES, REPORT, ROOT, SNAPSHOT, tool
+from support import CUT_REPORT, CUT_SNAPSHOT, EXAMPLES, REPORT, ROOT, SNAPSHOT, tool
 
 from confluo_report.errors import Complaint
 from confluo_report.metrics import label_of, write_at_once
 
-TEXTS = [it.read_text() for it in sorted(EXAMPLES.rglob("*.report"))] + [REPORT, SNAPSHOT]
+TEXTS = [it.read_text() for it in sorted(EXAMPLES.rglob("*.report"))]
+TEXTS += [REPORT, SNAPSHOT, CUT_REPORT, CUT_SNAPSHOT]
 SETUP = EXAMPLES / "incidents" / "full_link.setup"
 FULL_LINK = (EXAMPLES / "incidents" / "full_link.report").read_text()
 
@@ -55,6 +56,7 @@ def from_json(read: dict) -> str:
         for host in read["hosts"]:
             lines.append(f"host {host['number']} @{host['records']}")
             lines += [f"ask {it['name']} {text_of_object(it)}" for it in host["asks"]]
+            lines += [f"truncated: record {host['truncated']}"] if "truncated" in host else []
         return "\n".join(lines) + "\n"
     lines.append(f"records {read['records']}")
     lines += [f"ask {it['name']} {text_of_object(it)}" for it in read["asks"]]
@@ -65,6 +67,7 @@ def from_json(read: dict) -> str:
             lines.append(f"new {it['name']} @{it['prefix']} {marks_text(it['new'])}")
     if read["order"] is not None:
         lines.append("order" + "".join(f" {it['writer']}*{it['count']}" for it in read["order"]))
+    lines += [f"truncated: record {read['truncated']}"] if "truncated" in read else []
     return "\n".join(lines) + "\n"
 
 
@@ -85,6 +88,8 @@ def from_csv(text: str) -> str:
         it, used = rows[0], 1
         if it["part"] in ("records", "cut"):
             lines.append(f"{it['part']} {it['value']}")
+        elif it["part"] == "truncated":
+            lines.append(f"truncated: record {it['value']}")
         elif it["part"] == "host":
             lines.append(f"host {it['host']} @{it['value']}")
         elif it["part"] == "alert":
@@ -160,6 +165,15 @@ class Exports(unittest.TestCase):
         self.assertEqual(new, [("1", "1", 71), ("3", "2", 100)])
         order = [(int(it["writer"]), value) for it, value in found["confluo_order_records"]]
         self.assertEqual(order, [(1, 1), (0, 2), (1, 1)])
+
+    def test_a_capture_that_is_cut_off_has_a_metric(self) -> None:
+        for text, wanted in (
+            (CUT_REPORT, [({}, 4)]),
+            (CUT_SNAPSHOT, [({"host": "0"}, 7), ({"host": "1"}, 1)]),
+        ):
+            found = samples_of(tool("prometheus", "--brief", stdin=text).out)
+            self.assertEqual(found["confluo_truncated_records"], wanted)
+        self.assertNotIn("truncated", tool("prometheus", stdin=REPORT).out)
 
     def test_no_two_samples_are_the_same(self) -> None:
         for text in TEXTS:

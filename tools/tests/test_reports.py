@@ -3,7 +3,7 @@
 import re
 import unittest
 
-from support import EXAMPLES, REPORT, SNAPSHOT, needs_program, confluo, tool, SMALL
+from support import CUT_REPORT, CUT_SNAPSHOT, EXAMPLES, REPORT, SNAPSHOT, needs_program, confluo, tool, SMALL
 
 from confluo_report.errors import Complaint
 from confluo_report.reports import Report, Snapshot, lines_of, parse, parse_report, refusal_of
@@ -39,6 +39,11 @@ BAD = (
     ("records 4\norder 0*3\n", "an order of 4 records"),
     ("records 4\norder 0*2 0*2\n", "longest runs"),
     ("records 4\norder 0*4\nask a list 0:\n", "line 3"),
+    ("records 4\ntruncated: record 3\n", "`truncated: record 4`"),
+    ("records 4\ntruncated: record 4\norder 0*4\n", "line 3"),
+    ("records 4\ntruncated: 4\n", "line 2"),
+    ("records 4\ntruncated: record 4\ntruncated: record 4\n", "line 3"),
+    ("cut 2\nhost 0 @2\ntruncated: record 1\n", "at least the host's 2"),
     ("cut 2\n", "ends after line 1"),
     ("cut 2\nhost 1 @2\n", "host 0"),
     ("cut 3\nhost 0 @2\n", "3 records"),
@@ -48,7 +53,8 @@ BAD = (
 
 class Reports(unittest.TestCase):
     def test_stored_reports_come_back_to_the_byte(self) -> None:
-        texts = [it.read_text() for it in EXAMPLES.rglob("*.report")] + [REPORT, SNAPSHOT]
+        texts = [it.read_text() for it in EXAMPLES.rglob("*.report")]
+        texts += [REPORT, SNAPSHOT, CUT_REPORT, CUT_SNAPSHOT]
         self.assertGreater(len(texts), 9)
         for text in texts:
             self.assertEqual("".join(f"{it}\n" for it in lines_of(parse(text))), text)
