@@ -7,11 +7,12 @@ Run it from anywhere after `make run` has built the program:
 
 It draws CASES cases (1,000 where it is not said): files with flipped bits, cut, inserted, repeated and overwritten bytes, and
 lengths and counts set to extremes. Each is given to the program. It fails on a signal, on a status above 9, on a text that is
-not the status's, on a run of over 10 seconds, and where a reading of the classic capture format that is written down here
-finds another fault or another number of records. It is no part of the gate.
+not the status's, on a run of over 10 seconds, and where a dump, of either capture format, is not the one that plain.py reads
+there. `dump --schema packet6` and `--truncated` are drawn too if the program takes them. It is no part of the gate.
 """
 
 import concurrent.futures
+import functools
 import os
 import pathlib
 import random
@@ -20,6 +21,10 @@ import struct
 import subprocess
 import sys
 import tempfile
+
+sys.dont_write_bytecode = True
+
+import plain  # noqa: E402
 
 PROGRAM = pathlib.Path(os.environ.get("CONFLUO", pathlib.Path(__file__).parent.parent / "crates/confluo/out/confluo"))
 SECONDS = 10
@@ -33,6 +38,7 @@ SETUPS = [
     b"schema packet\ntally s src len *\ntally p dport ttl proto==6\nask h top s sum 3\nask g top p count 1000\nask w total len len>60\nlive h\nlive w\n",
     b"schema packet\nwidth 9223372036854775808\nfilter f *\naggregate a f ttl\nask m measure a 0 1\nlive m\n",
 ]
+WIDE = sorted(plain.LINKS["packet6"])
 RECORD_SETUPS = [
     b"schema records ts:u64,dport:u16,len:u32,proto:u8\nindex d dport\nask a find d 0 65535\nask f list dport==80 && len>100 || proto==17\n",
     b"schema records ts:u64,mac:b6,src:u32\nindex s src\nask a list mac==0x020000000001\nask b find s 10.0.0.0 0xffffffff\nlive b\n",
@@ -59,6 +65,8 @@ def frame(draw):
     link = bytes([2, 0, 0, 0, 0, 1, 2, 0, 0, 0, 0, 2])
     if draw.random() < 0.3:
         link += b"\x81\x00" + struct.pack(">H", draw.randrange(65536))
+    if draw.random() < 0.3:
+        return frame6(draw, link)
     kind = draw.choice([b"\x08\x00", b"\x08\x00", b"\x08\x00", b"\x08\x06", b"\x86\xdd", b"\x81\x00"])
     header = struct.pack(">BBHHHBBHII", draw.choice([0x45, 0x46, 0x4F, 0x65, 0x44]), 0, draw.choice([0, 20, 40, 60, 1500]), 0,
                          draw.choice([0, 0, 0x4000, 1, 0x2000]), 64, draw.choice([6, 17, 1]), 0, 0x0A000000 + draw.randrange(16), 0x0A000100)
@@ -66,10 +74,27 @@ def frame(draw):
     return bytes_[: draw.randrange(len(bytes_) + 1)] if draw.random() < 0.2 else bytes_
 
 
+def frame6(draw, link):
+    """A frame of IPv6 with up to nine headers before its transport, whole or cut."""
+    kinds = [draw.choice([0, 43, 44, 51, 60, 0, 60]) for _ in range(draw.choice([0, 0, 1, 2, 7, 8, 9]))]
+    kinds.append(draw.choice([6, 17, 58, 59]))
+    headers = b""
+    for kind, following in zip(kinds, kinds[1:]):
+        units = draw.choice([0, 0, 0, 1, 2])
+        size = 8 if kind == 44 else 4 * (units + 2) if kind == 51 else 8 * (units + 1)
+        offset = draw.choice([0, 0, 0, 8, 1]) if kind == 44 else 0
+        headers += (struct.pack(">BBH", following, units, offset) + bytes(4)).ljust(size, b"\0")
+    data = headers + draw.randbytes(draw.choice([0, 7, 8, 19, 20, 40]))
+    length = draw.choice([len(data), len(data), len(data), 0, max(len(data) - 1, 0), 65535])
+    header = struct.pack(">IHBB", 6 << 28 | draw.randrange(2**28), length, kinds[0], 64) + draw.randbytes(32)
+    bytes_ = link + b"\x86\xdd" + header + data
+    return bytes_[: draw.randrange(len(bytes_) + 1)] if draw.random() < 0.2 else bytes_
+
+
 def pcap(draw):
     """A file in the classic libpcap format 2.4, in one of its four forms."""
     order, magic = draw.choice("<>"), draw.choice([0xA1B2C3D4, 0xA1B23C4D])
-    parts = [struct.pack(order + "IHHIIII", magic, 2, 4, 0, 0, 65535, draw.choice([1, 1, 1, 113]))]
+    parts = [struct.pack(order + "IHHIIII", magic, 2, 4, 0, 0, 65535, draw.choice([1, 1, 1, 113, draw.choice(WIDE)]))]
     for num in range(draw.choice([0, 1, 2, 5, 30])):
         data = frame(draw)
         parts.append(struct.pack(order + "IIII", num // 3, draw.randrange(2**20), len(data), len(data) + draw.randrange(100)) + data)
@@ -93,7 +118,7 @@ def pcapng(draw):
             options = b""
             if draw.random() < 0.5:
                 options = struct.pack(order + "HHB3xHH", 9, 1, draw.choice([0, 3, 6, 9, 0x8A, 29, 127]), 0, 0)
-            parts.append(block(order, 1, struct.pack(order + "HHI", draw.choice([1, 1, 113]), 0, draw.choice([0, 64])) + options))
+            parts.append(block(order, 1, struct.pack(order + "HHI", draw.choice([1, 1, 113, draw.choice(WIDE)]), 0, draw.choice([0, 64])) + options))
         for _ in range(draw.choice([0, 1, 4, 20])):
             data = frame(draw)
             case = draw.random()
@@ -133,49 +158,38 @@ def damaged(draw, data):
     return bytes(data)
 
 
-def classic(data):
-    """The number of records of a classic capture, or the place and code of its first fault."""
-    if len(data) < 4:
-        return 0, 5
-    orders = {struct.pack(order + "I", magic): order for order in "<>" for magic in (0xA1B2C3D4, 0xA1B23C4D)}
-    order = orders.get(data[:4])
-    if order is None:
-        return 0, 1
-    if len(data) < 8:
-        return 0, 5
-    if struct.unpack(order + "HH", data[4:8]) != (2, 4):
-        return 0, 2
-    if len(data) < 24:
-        return 0, 5
-    if struct.unpack(order + "I", data[20:24])[0] & 0xFFFF not in (1, 113):
-        return 0, 3
-    at, count = 24, 0
-    while at < len(data):
-        if len(data) - at < 16:
-            return count, 5
-        length = struct.unpack(order + "I", data[at + 8 : at + 12])[0]
-        if length > 262144:
-            return count, 4
-        if len(data) - at - 16 < length:
-            return count, 5
-        at, count = at + 16 + length, count + 1
-    return count, None
+@functools.cache
+def is_taken(*words):
+    """Whether the program takes these words of a dump."""
+    with tempfile.NamedTemporaryFile() as file:
+        ran = subprocess.run([PROGRAM, "dump", *words, file.name], stdout=subprocess.DEVNULL)
+    return ran.returncode != 1
+
+
+def dump_of(draw, capture):
+    """A dump of the capture, and the status and text that it must have."""
+    schema = draw.choice(["packet", "packet6"])
+    truncated = draw.random() < 0.5
+    if schema == "packet6" and not is_taken("--schema", "packet6"):
+        schema = "packet"
+    truncated = truncated and is_taken("--truncated")
+    words = ["dump"] + (["--schema", schema] if schema != "packet" else []) + ["--truncated"] * truncated
+    status, text = plain.dump(capture, schema, truncated)
+    return [*words, "c"], b"", capture, (status, text.encode())
 
 
 def case_of(draw):
-    """The command and the files of a case, with the status and text that a dump of a classic capture must have."""
+    """The command and the files of a case, with the status and text that a dump must have."""
     source = draw.randrange(10)
     if source < 4:
         capture = damaged(draw, pcap(draw))
-        if capture[:4] == b"\x0a\x0d\x0d\x0a":
-            return ["dump", "c"], b"", capture, None
-        count, code = classic(capture)
         if draw.random() < 0.5:
-            expected = (0, b"records %d\n" % count) if code is None else (3, b"capture: record %d code %d\n" % (count, code))
-            return ["dump", "c"], b"", capture, expected
+            return dump_of(draw, capture)
         setup = draw.choice(SETUPS)
     elif source < 7:
         capture, setup = damaged(draw, pcapng(draw)), draw.choice(SETUPS)
+        if draw.random() < 0.5:
+            return dump_of(draw, capture)
     elif source < 8:
         capture, setup = pcap(draw), damaged(draw, draw.choice(SETUPS + RECORD_SETUPS))
     else:
@@ -213,8 +227,8 @@ def fault_of(seed):
             return f"seed {seed}: no report: {words}", status
     elif not re.fullmatch(TEXTS[status], text):
         return f"seed {seed}: status {status} with {text[:80]!r}: {words}", status
-    if expected and (status != expected[0] or not text.startswith(expected[1])):
-        return f"seed {seed}: status {status} with {text[:80]!r} in place of {expected}: {words}", status
+    if expected and (status, text) != expected:
+        return f"seed {seed}: status {status} with {text[:80]!r} in place of {expected[0]} {expected[1][:80]!r}: {words}", status
     return None, status
 
 
