@@ -19,6 +19,8 @@ import make_captures
 
 HERE = pathlib.Path(__file__).resolve().parent
 SNAPSHOTS = {"lost": ("240", ["lost_before", "lost_behind"])}
+# what a run needs beside its setup
+OPTIONS = {"cut_off": ["--truncated"]}
 SHARED = {it for _, captures in SNAPSHOTS.values() for it in captures}
 CAPTURE_OF = {name: name for name in make_captures.CAPTURES if name not in SHARED} | {"port_scan_stranger": "port_scan"}
 
@@ -36,7 +38,8 @@ def printed(words):
 
 def report_of(program, name, writers):
     """The report of a capture."""
-    return printed([program, "run", "--setup", str(HERE / f"{name}.setup"), "--writers", str(writers), str(HERE / f"{CAPTURE_OF[name]}.pcap")])
+    words = ["run", "--setup", str(HERE / f"{name}.setup"), "--writers", str(writers), *OPTIONS.get(name, [])]
+    return printed([program, *words, str(HERE / f"{CAPTURE_OF[name]}.pcap")])
 
 
 def snapshot_of(program, name):

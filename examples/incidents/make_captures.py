@@ -4,8 +4,8 @@
     examples/incidents/make_captures.py [FOLDER]
 
 FOLDER is where the files go; the folder of this script where it is not said. All addresses are of the ranges that are set
-aside for documentation (RFC 5737), and the addresses of the link are locally administered. Of each frame the first 96 bytes
-are kept, as `tcpdump -s 96` does; payloads are zeros.
+aside for documentation (RFC 5737), and the addresses of the link are locally administered. Of each frame the first
+96 bytes are kept, as `tcpdump -s 96` does; payloads are zeros.
 """
 
 import pathlib
@@ -234,6 +234,21 @@ def lost(behind):
     return capture.bytes()
 
 
+def cut_off():
+    """Eight seconds of a backup whose server runs full. The host that captured ran full too: the last packet is cut off."""
+    there, back = ("192.0.2.15", 58500, "198.51.100.70", 873), ("198.51.100.70", 873, "192.0.2.15", 58500)
+    capture = Capture(1700830800)
+    for k in range(24):
+        capture.segment(k * 250_000 + 20_000, *there, ACK, 1460, seq=1 + 1460 * k, ack=1)
+        window = max(0, 29200 - 1460 * k) if k > 2 else 64240
+        capture.segment(k * 250_000 + 60_000, *back, ACK, seq=1, ack=1461 + 1460 * k, window=window)
+    for k in range(3):
+        capture.segment(6_200_000 + k * 600_000, *there, ACK, seq=1460 * 24, ack=1)
+        capture.segment(6_240_000 + k * 600_000, *back, ACK, seq=1, ack=1 + 1460 * 24, window=0)
+    capture.segment(8_100_000, *back, RST, seq=1, window=0)
+    return capture.bytes()[:-20]
+
+
 CAPTURES = {
     "syn_flood": syn_flood,
     "port_scan": port_scan,
@@ -244,6 +259,7 @@ CAPTURES = {
     "broken_uploads": broken_uploads,
     "lost_before": lambda: lost(False),
     "lost_behind": lambda: lost(True),
+    "cut_off": cut_off,
 }
 
 
