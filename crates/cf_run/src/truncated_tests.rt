@@ -93,7 +93,7 @@ fn a_snapshot_tells_which_host_is_truncated(rt: HostRuntime) -> Result<(), Fail>
         ),
         (
             &["--truncated", "--after", "0", "t", "c"],
-            b"cut 0\nhost 0 @0\nask big list 0:\ntruncated: record 1\nhost 1 @0\nask big list 0:\n",
+            b"cut 1\nhost 0 @0\nask big list 0:\ntruncated: record 1\nhost 1 @1\nask big list 0:\n",
         ),
         (&["--after", "0", "t", "c"], b"capture: record 1 code 5\n"),
     ];
