@@ -35,9 +35,17 @@ Right (Some sizes) = AreSizes sizes
 
 right_with : (writers : ℕ) (capacity nodes : List ℕ) → (1 ≤ writers) × (writers ≤ 15) → Right (sizes_with writers capacity nodes)
 right_with writers capacity nodes within =
-    and_then_by Right (λ c. option_and_then (λ n. Some (record { writers = writers; capacity = c; nodes = n; segments = 1 })) (number_in 0 65536 nodes)) (number_in 1 65536 capacity) tt (λ c found.
+    and_then_by Right (λ c. option_and_then (λ n. Some (record { writers = writers; capacity = c; nodes = n; segments = 1 })) (number_in 0 65536 nodes))
+    (number_in 1 65536 capacity) tt (λ c found.
     and_then_by Right (λ n. Some (record { writers = writers; capacity = c; nodes = n; segments = 1 })) (number_in 0 65536 nodes) tt (λ n also.
-    record { writers = within; capacity = in_range 1 65536 c capacity found; nodes = (in_range 0 65536 n nodes also).1; segments = (omega arith, omega arith); most = (let high = (in_range 1 65536 c capacity found).1 in omega (arith, high)); whole = λ several. absurd (omega (arith, several)) }))
+    record {
+      writers = within;
+      capacity = in_range 1 65536 c capacity found;
+      nodes = (in_range 0 65536 n nodes also).1;
+      segments = (omega arith, omega arith);
+      most = (let high = (in_range 1 65536 c capacity found).1 in omega (arith, high));
+      whole = λ several. absurd (omega (arith, several));
+    }))
 
 right : (found : Option LogSizes) (sizes : LogSizes) → Right found → found ≡ Some sizes → AreSizes sizes
 right found sizes are is = subst Right is are
@@ -55,16 +63,25 @@ divided_by false sizes are = tt
 
 right_divided : (sizes : LogSizes) (segments : ℕ) → AreSizes sizes → (1 ≤ segments) × (segments ≤ 256) → Right (divided sizes segments)
 right_divided sizes segments are within =
-    divided_by (nat_le (sizes.capacity * segments) (2 ^ 20) && (nat_le segments 1 || nat_eq (sizes.capacity % 4096) 0)) (record sizes { segments = segments }) (λ both.
+    divided_by (nat_le (sizes.capacity * segments) (2 ^ 20) && (nat_le segments 1 || nat_eq (sizes.capacity % 4096) 0)) (record sizes { segments = segments })
+    (λ both.
     let parts = and_parts (nat_le (sizes.capacity * segments) (2 ^ 20)) (nat_le segments 1 || nat_eq (sizes.capacity % 4096) 0) both in
-    record { writers = are.writers; capacity = are.capacity; nodes = are.nodes; segments = within; most = leb-true (sizes.capacity * segments) (2 ^ 20) parts.0; whole = several_whole sizes.capacity segments parts.1 })
+    record {
+      writers = are.writers;
+      capacity = are.capacity;
+      nodes = are.nodes;
+      segments = within;
+      most = leb-true (sizes.capacity * segments) (2 ^ 20) parts.0;
+      whole = several_whole sizes.capacity segments parts.1;
+    })
 
 right_in : (writers capacity nodes segments : List ℕ) → Right (sizes_in writers capacity nodes segments)
 right_in writers capacity nodes segments =
     and_then_by Right _ (number_in 1 15 writers) tt (λ w first.
     and_then_by Right _ (sizes_with w capacity nodes) tt (λ sizes second.
     and_then_by Right (divided sizes) (number_in 1 256 segments) tt (λ k third.
-    right_divided sizes k (right (sizes_with w capacity nodes) sizes (right_with w capacity nodes (in_range 1 15 w writers first)) second) (in_range 1 256 k segments third))))
+    right_divided sizes k (right (sizes_with w capacity nodes) sizes (right_with w capacity nodes (in_range 1 15 w writers first)) second)
+    (in_range 1 256 k segments third))))
 
 by_hosts : (b : Bool) (call : SnapshotCall) → AreSizes call.sizes → HasSizes (if b then Some (snapshot call) else None)
 by_hosts true call are = are
@@ -73,17 +90,23 @@ by_hosts false call are = tt
 by_said : (said : SaidValue) → HasSizes (call_in said)
 by_said (run_said texts) =
     and_then_by HasSizes _ (sizes_in texts.writers texts.capacity texts.nodes texts.segments) tt (λ sizes found.
-    and_then_by HasSizes _ (number_in 0 64 texts.live) tt (λ rounds also. right (sizes_in texts.writers texts.capacity texts.nodes texts.segments) sizes (right_in texts.writers texts.capacity texts.nodes texts.segments) found))
+    and_then_by HasSizes _ (number_in 0 64 texts.live) tt
+    (λ rounds also. right (sizes_in texts.writers texts.capacity texts.nodes texts.segments) sizes
+    (right_in texts.writers texts.capacity texts.nodes texts.segments) found))
 by_said (synth_said texts) =
     and_then_by HasSizes _ (number_in 0 (2 ^ 64 - 1) texts.seed) tt (λ seed first.
     and_then_by HasSizes _ (number_in 0 (2 ^ 20) texts.count) tt (λ count second.
-    and_then_by HasSizes _ (sizes_in texts.writers texts.capacity texts.nodes texts.segments) tt (λ sizes found. right (sizes_in texts.writers texts.capacity texts.nodes texts.segments) sizes (right_in texts.writers texts.capacity texts.nodes texts.segments) found)))
+    and_then_by HasSizes _ (sizes_in texts.writers texts.capacity texts.nodes texts.segments) tt
+    (λ sizes found. right (sizes_in texts.writers texts.capacity texts.nodes texts.segments) sizes
+    (right_in texts.writers texts.capacity texts.nodes texts.segments) found)))
 by_said (dump_said texts) = tt
 by_said (snapshot_said texts) =
     and_then_by HasSizes _ (number_in 0 (2 ^ 32 - 1) texts.after) tt (λ turns first.
     and_then_by HasSizes _ (number_in 1 4096 texts.turn) tt (λ turn second.
     and_then_by HasSizes _ (sizes_with 1 texts.capacity texts.nodes) tt (λ sizes found.
-    by_hosts (nat_le 1 (length texts.captures) && nat_le (length texts.captures) 16) (record { setup = texts.setup; captures = texts.captures; turns = turns; turn = turn; sizes = sizes; truncated = is_given texts.truncated }) (right (sizes_with 1 texts.capacity texts.nodes) sizes (right_with 1 texts.capacity texts.nodes (omega arith, omega arith)) found))))
+    by_hosts (nat_le 1 (length texts.captures) && nat_le (length texts.captures) 16)
+    (record { setup = texts.setup; captures = texts.captures; turns = turns; turn = turn; sizes = sizes; truncated = is_given texts.truncated })
+    (right (sizes_with 1 texts.capacity texts.nodes) sizes (right_with 1 texts.capacity texts.nodes (omega arith, omega arith)) found))))
 
 -- whatever words call for
 pub has_sizes : (words : List (List ℕ)) → HasSizes (call_of words)

@@ -31,12 +31,14 @@ pub taken-refused : (words : List Text) (e : ErrorKind) → IsAmong e (fault_of 
 unfolding taken
 taken-refused words e h = if-some (fault_of confluo_app words) (subcommand_of confluo_app words) e h
 
-pub taken-ok : (a : App) (words : List Text) (r : Option (Text × List Row)) → a ≡ confluo_app → (is_simple_and_free a ≡ true → fault_of a words ≡ []) → (is_simple a ≡ true → r ≡ subcommand_of a words) → r ≡ taken words
+pub taken-ok : (a : App) (words : List Text) (r : Option (Text × List Row)) → a ≡ confluo_app → (is_simple_and_free a ≡ true → fault_of a words ≡ [])
+    → (is_simple a ≡ true → r ≡ subcommand_of a words) → r ≡ taken words
 taken-ok a words r e f g =
     let P : App → Type 0 = λ x. (is_simple_and_free x ≡ true → fault_of x words ≡ []) → (is_simple x ≡ true → r ≡ subcommand_of x words) → r ≡ taken words in
     subst P (sym e) (λ f g. g confluo-simple ∙ sym (taken-free words (f confluo-simple-free))) f g
 
-pub taken-err : (a : App) (words : List Text) (k : ErrorKind) → a ≡ confluo_app → ¬ (k ≡ kind.OutOfMemory) → (is_simple_and_free a ≡ true → (k ≡ kind.OutOfMemory) ⊎ IsAmong k (fault_of a words)) → None ≡ taken words
+pub taken-err : (a : App) (words : List Text) (k : ErrorKind) → a ≡ confluo_app → ¬ (k ≡ kind.OutOfMemory)
+    → (is_simple_and_free a ≡ true → (k ≡ kind.OutOfMemory) ⊎ IsAmong k (fault_of a words)) → None ≡ taken words
 taken-err a words k e other f =
     let P : App → Type 0 = λ x. (is_simple_and_free x ≡ true → (k ≡ kind.OutOfMemory) ⊎ IsAmong k (fault_of x words)) → None ≡ taken words in
     subst P (sym e) (λ f. elim (f confluo-simple-free) [ inl m ↦ absurd (other m) | inr h ↦ sym (taken-refused words k h) ]) f

@@ -19,7 +19,8 @@ texts words = map (λ word. word.now) words
 
 -- the number from `low` to `high` that a text writes out in decimal digits, with no sign and no leading zero
 unfoldable pub number_in : ℕ → ℕ → List ℕ → Option ℕ
-number_in low high text = let number = digits_value 10 text in if bytes_eq text (decimal number) && (nat_le low number && nat_le number high) then Some number else None
+number_in low high text = let number = digits_value 10 text in
+    if bytes_eq text (decimal number) && (nat_le low number && nat_le number high) then Some number else None
 
 -- an option without a value is given
 abbrev pub is_given : List ℕ → Bool
@@ -35,7 +36,8 @@ sizes_with writers capacity nodes =
 -- 4,096 records does
 abbrev pub divided : LogSizes → ℕ → Option LogSizes
 divided sizes segments =
-    if nat_le (sizes.capacity * segments) (2 ^ 20) && (nat_le segments 1 || nat_eq (sizes.capacity % 4096) 0) then Some (record sizes { segments = segments }) else None
+    if nat_le (sizes.capacity * segments) (2 ^ 20) && (nat_le segments 1 || nat_eq (sizes.capacity % 4096) 0) then Some
+    (record sizes { segments = segments }) else None
 
 -- the same where texts write out the numbers of writers and of segments too
 abbrev pub sizes_in : List ℕ → List ℕ → List ℕ → List ℕ → Option LogSizes
@@ -98,14 +100,21 @@ snapshot_over call = if nat_le 1 (length call.captures) && nat_le (length call.c
 -- the call of what is said, where each number is in its range
 abbrev pub call_in : SaidValue → Option Call
 call_in (run_said texts) =
-    option_and_then (λ sizes. option_and_then (λ rounds. Some (run (record { setup = texts.setup; capture = texts.capture; sizes = sizes; rounds = rounds; truncated = is_given texts.truncated })))
+    option_and_then
+    (λ sizes. option_and_then
+    (λ rounds. Some (run (record { setup = texts.setup; capture = texts.capture; sizes = sizes; rounds = rounds; truncated = is_given texts.truncated })))
     (number_in 0 64 texts.live)) (sizes_in texts.writers texts.capacity texts.nodes texts.segments)
 call_in (synth_said texts) =
-    option_and_then (λ seed. option_and_then (λ count. option_and_then (λ sizes. Some (synth (record { setup = texts.setup; seed = seed; count = count; sizes = sizes })))
+    option_and_then
+    (λ seed. option_and_then (λ count. option_and_then (λ sizes. Some (synth (record { setup = texts.setup; seed = seed; count = count; sizes = sizes })))
     (sizes_in texts.writers texts.capacity texts.nodes texts.segments)) (number_in 0 (2 ^ 20) texts.count)) (number_in 0 (2 ^ 64 - 1) texts.seed)
 call_in (dump_said texts) = Some (dump (record { capture = texts.capture; truncated = is_given texts.truncated }))
 call_in (snapshot_said texts) =
-    option_and_then (λ turns. option_and_then (λ turn. option_and_then (λ sizes. snapshot_over (record { setup = texts.setup; captures = texts.captures; turns = turns; turn = turn; sizes = sizes; truncated = is_given texts.truncated }))
+    option_and_then
+    (λ turns. option_and_then
+    (λ turn. option_and_then
+    (λ sizes. snapshot_over
+    (record { setup = texts.setup; captures = texts.captures; turns = turns; turn = turn; sizes = sizes; truncated = is_given texts.truncated }))
     (sizes_with 1 texts.capacity texts.nodes)) (number_in 1 4096 texts.turn)) (number_in 0 (2 ^ 32 - 1) texts.after)
 
 -- What the words call for: a command with its options, as clap takes them, each number being in its range. Other words are no
@@ -123,7 +132,8 @@ HasSizes (Some (snapshot call)) = AreSizes call.sizes
 
 -- the calls that commands were read as
 abbrev pub run_by : RunCommand → RunCall
-run_by command = record { setup = command.setup.now; capture = command.capture.now; sizes = command.sizes; rounds = command.rounds; truncated = command.truncated }
+run_by command =
+    record { setup = command.setup.now; capture = command.capture.now; sizes = command.sizes; rounds = command.rounds; truncated = command.truncated }
 
 abbrev pub synth_by : SynthCommand → SynthCall
 synth_by command = record { setup = command.setup.now; seed = command.seed; count = command.count; sizes = command.sizes }
@@ -133,7 +143,14 @@ dump_by command = record { capture = command.capture.now; truncated = command.tr
 
 abbrev pub snapshot_by : SnapshotCommand → SnapshotCall
 snapshot_by command =
-    record { setup = command.setup.now; captures = map (λ name. name.now) command.captures.items; turns = command.turns; turn = command.turn; sizes = command.sizes; truncated = command.truncated }
+    record {
+      setup = command.setup.now;
+      captures = map (λ name. name.now) command.captures.items;
+      turns = command.turns;
+      turn = command.turn;
+      sizes = command.sizes;
+      truncated = command.truncated;
+    }
 
 -- the call of a command that was read
 abbrev pub call_by : Command → Call

@@ -44,7 +44,9 @@ truncatable_app app = with_rule app (flag (codes "truncated"))
 
 -- `run`: a setup, the sizes of the log, how often live questions are asked, whether the capture is read as truncated, and a capture
 abbrev pub run_app : App
-run_app = with_rule (truncatable_app (with_rule (sized_app (with_rule (new_app (codes "run")) (needed (codes "setup")))) (optional (codes "live") (codes "0")))) (place (codes "capture"))
+run_app = with_rule
+    (truncatable_app (with_rule (sized_app (with_rule (new_app (codes "run")) (needed (codes "setup")))) (optional (codes "live") (codes "0"))))
+    (place (codes "capture"))
 
 -- `synth`: a setup, a seed and a count, and the sizes of the log
 abbrev pub synth_app : App
@@ -58,7 +60,9 @@ dump_app = with_rule (truncatable_app (new_app (codes "dump"))) (place (codes "c
 -- as truncated, and captures
 abbrev pub snapshot_app : App
 snapshot_app =
-    with_rule (truncatable_app (roomed_app (with_rule (with_rule (with_rule (new_app (codes "snapshot")) (needed (codes "setup"))) (needed (codes "after"))) (optional (codes "turn") (codes "1"))))) (places (codes "captures"))
+    with_rule (truncatable_app
+    (roomed_app (with_rule (with_rule (with_rule (new_app (codes "snapshot")) (needed (codes "setup"))) (needed (codes "after")))
+    (optional (codes "turn") (codes "1"))))) (places (codes "captures"))
 
 -- the program, whose words begin with a command of their own
 abbrev pub bare_app : App
@@ -98,8 +102,12 @@ says_of r = run_says r.setup.now r.writers.now r.capacity.now r.nodes.now r.segm
 -- what the rows of a `run` command say
 unfoldable pub run_texts_of : List Row → Option RunSays
 run_texts_of rows =
-    option_and_then (λ s. option_and_then (λ w. option_and_then (λ n. option_and_then (λ m. option_and_then (λ k. option_and_then (λ l. option_and_then (λ t. option_and_then (λ c. Some (run_says s w n m k l t c))
-    (first_of (codes "capture") rows)) (first_of (codes "truncated") rows)) (first_of (codes "live") rows)) (first_of (codes "segments") rows)) (first_of (codes "nodes") rows)) (first_of (codes "capacity") rows)) (first_of (codes "writers") rows)) (first_of (codes "setup") rows)
+    option_and_then
+    (λ s. option_and_then
+    (λ w. option_and_then
+    (λ n. option_and_then (λ m. option_and_then (λ k. option_and_then (λ l. option_and_then (λ t. option_and_then (λ c. Some (run_says s w n m k l t c))
+    (first_of (codes "capture") rows)) (first_of (codes "truncated") rows)) (first_of (codes "live") rows)) (first_of (codes "segments") rows))
+    (first_of (codes "nodes") rows)) (first_of (codes "capacity") rows)) (first_of (codes "writers") rows)) (first_of (codes "setup") rows)
 
 -- the texts of a `synth` command
 pub record SynthSays : Type 0 where
@@ -122,8 +130,11 @@ synth_says_of r = synth_says r.setup.now r.seed.now r.count.now r.writers.now r.
 -- what the rows of a `synth` command say
 unfoldable pub synth_texts_of : List Row → Option SynthSays
 synth_texts_of rows =
-    option_and_then (λ s. option_and_then (λ x. option_and_then (λ c. option_and_then (λ w. option_and_then (λ n. option_and_then (λ m. option_and_then (λ k. Some (synth_says s x c w n m k))
-    (first_of (codes "segments") rows)) (first_of (codes "nodes") rows)) (first_of (codes "capacity") rows)) (first_of (codes "writers") rows)) (first_of (codes "count") rows)) (first_of (codes "seed") rows)) (first_of (codes "setup") rows)
+    option_and_then
+    (λ s. option_and_then
+    (λ x. option_and_then (λ c. option_and_then (λ w. option_and_then (λ n. option_and_then (λ m. option_and_then (λ k. Some (synth_says s x c w n m k))
+    (first_of (codes "segments") rows)) (first_of (codes "nodes") rows)) (first_of (codes "capacity") rows)) (first_of (codes "writers") rows))
+    (first_of (codes "count") rows)) (first_of (codes "seed") rows)) (first_of (codes "setup") rows)
 
 -- the texts of a `dump` command
 pub record DumpSays : Type 0 where
@@ -165,8 +176,12 @@ snapshot_says_of r = snapshot_says r.setup.now r.after.now r.turn.now r.capacity
 -- what the rows of a `snapshot` command say
 unfoldable pub snapshot_texts_of : List Row → Option SnapshotSays
 snapshot_texts_of rows =
-    option_and_then (λ s. option_and_then (λ a. option_and_then (λ t. option_and_then (λ n. option_and_then (λ m. option_and_then (λ x. option_and_then (λ cs. Some (snapshot_says s a t n m x cs))
-    (all_of (codes "captures") rows)) (first_of (codes "truncated") rows)) (first_of (codes "nodes") rows)) (first_of (codes "capacity") rows)) (first_of (codes "turn") rows)) (first_of (codes "after") rows)) (first_of (codes "setup") rows)
+    option_and_then
+    (λ s. option_and_then
+    (λ a. option_and_then
+    (λ t. option_and_then (λ n. option_and_then (λ m. option_and_then (λ x. option_and_then (λ cs. Some (snapshot_says s a t n m x cs))
+    (all_of (codes "captures") rows)) (first_of (codes "truncated") rows)) (first_of (codes "nodes") rows)) (first_of (codes "capacity") rows))
+    (first_of (codes "turn") rows)) (first_of (codes "after") rows)) (first_of (codes "setup") rows)
 
 -- what a command line says: the texts of its command
 pub data SaidValue : Type 0 where

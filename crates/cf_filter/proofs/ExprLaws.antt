@@ -24,7 +24,8 @@ use Rattle.cf_filter.proofs.RangeLaws.{bounds_only}
 
 -- the ends of a range
 
-ends_hold : (kind : Kind) (op : Op) (text here : List ℕ) → IsAfterSpaces text here → (r : Result (Value × Value) Offence) → BoundsRead kind op (run classes.Value here) r → EndsRead kind op text (ends_or here r)
+ends_hold : (kind : Kind) (op : Op) (text here : List ℕ) → IsAfterSpaces text here → (r : Result (Value × Value) Offence)
+    → BoundsRead kind op (run classes.Value here) r → EndsRead kind op text (ends_or here r)
 ends_hold kind op text here sp (Ok x) h = (here, run classes.Value here, sp, run_is classes.Value here, h)
 ends_hold kind op text here sp (Err offence) h = (here, run classes.Value here, past classes.Value here, sp, run_is classes.Value here, refl, h)
 
@@ -46,7 +47,10 @@ ends_same kind op text (Err stop) h =
 ends_only : (kind : Kind) (op : Op) (text : List ℕ) → Only (EndsRead kind op text) (bounds_from kind op text)
 ends_only kind op text =
     let law = bounds_only kind op (run classes.Value (unspaced text)) in
-    record { holds = ends_hold kind op text (unspaced text) (spaces_is text) (bounds_at kind op (run classes.Value (unspaced text))) law.holds; only = ends_same kind op text }
+    record {
+      holds = ends_hold kind op text (unspaced text) (spaces_is text) (bounds_at kind op (run classes.Value (unspaced text))) law.holds;
+      only = ends_same kind op text;
+    }
 
 -- atoms
 
@@ -60,14 +64,17 @@ atom_only attrs text =
 
 -- conjunctions
 
-joined_only : (atom : Atom) (link : Link) (Later : Result (List (List Atom)) Stop → Type 0) (later : Result (List (List Atom)) Stop) → Only Later later → Only (JoinedRead atom link Later) (joined_by atom link later)
+joined_only : (atom : Atom) (link : Link) (Later : Result (List (List Atom)) Stop → Type 0) (later : Result (List (List Atom)) Stop) → Only Later later
+    → Only (JoinedRead atom link Later) (joined_by atom link later)
 joined_only atom End Later later h = record { holds = refl; only = λ r e. e }
 joined_only atom And Later later h = record { holds = (later, h.holds, refl); only = λ r k. k.2 ∙ ap (seen_by (with_atom atom)) (h.only k.0 k.1) }
-joined_only atom Or Later later h = record { holds = (later, h.holds, refl); only = λ r k. k.2 ∙ ap (seen_by (λ others. (atom ∷ []) ∷ others)) (h.only k.0 k.1) }
+joined_only atom Or Later later h =
+    record { holds = (later, h.holds, refl); only = λ r k. k.2 ∙ ap (seen_by (λ others. (atom ∷ []) ∷ others)) (h.only k.0 k.1) }
 
 pub conjunctions_only : (attrs : List Attr) (n : ℕ) (text : List ℕ) → Only (ConjunctionsRead attrs n text) (conjunctions_at attrs n text)
 unfolding conjunctions_at
-conjunctions_only attrs zero text = record { holds = (unspaced text, spaces_is text, refl); only = λ r h. h.2 ∙ ap (λ here. Err (stop_at TooLong here)) (spaces_only text h.0 h.1) }
+conjunctions_only attrs zero text =
+    record { holds = (unspaced text, spaces_is text, refl); only = λ r h. h.2 ∙ ap (λ here. Err (stop_at TooLong here)) (spaces_only text h.0 h.1) }
 conjunctions_only attrs (suc n) text =
     then_only (AtomRead attrs text) _ (atom_at attrs text) _ (atom_only attrs text) (λ atom.
     then_only (LinkRead atom.1) _ (link_at atom.1) _ (link_only atom.1) (λ link.
@@ -75,7 +82,8 @@ conjunctions_only attrs (suc n) text =
 
 -- a star alone
 
-star_holds : (text here : List ℕ) → IsAfterSpaces text here → (b : Bool) → (length here == 0) ≡ b → StarRead text (cond b (Ok ([] ∷ [])) (Err (stop_at Syntax here)))
+star_holds : (text here : List ℕ) → IsAfterSpaces text here → (b : Bool) → (length here == 0) ≡ b
+    → StarRead text (cond b (Ok ([] ∷ [])) (Err (stop_at Syntax here)))
 star_holds text here sp true b = (subst (λ (t : List ℕ). IsAfterSpaces text t) (empty_is here b) sp, refl)
 star_holds text here sp false b = (here, sp, λ e. false≢true (sym b ∙ ap (λ t. length t == 0) e), refl)
 
@@ -90,8 +98,11 @@ star_same text (Err stop) h = ap Err h.3 ∙ sym (star_err h.0 h.2) ∙ ap star_
 -- expressions
 
 expr_holds : (attrs : List Attr) (text : List ℕ) (o : Option (List ℕ)) → strip_at (codes "*") (unspaced text) ≡ o → ExprRead attrs text (expr_in attrs text o)
-expr_holds attrs text (Some rest) e = star rest (subst (λ (t : List ℕ). IsAfterSpaces text t) (strip_found (codes "*") (unspaced text) rest e) (spaces_is text)) (star_holds rest (unspaced rest) (spaces_is rest) (length (unspaced rest) == 0) refl)
-expr_holds attrs text None e = let law = conjunctions_only attrs 32 text in conjunctions (unspaced text) (spaces_is text) (λ rest f. strip_none (codes "*") (unspaced text) rest e f) law.holds
+expr_holds attrs text (Some rest) e =
+    star rest (subst (λ (t : List ℕ). IsAfterSpaces text t) (strip_found (codes "*") (unspaced text) rest e) (spaces_is text))
+    (star_holds rest (unspaced rest) (spaces_is rest) (length (unspaced rest) == 0) refl)
+expr_holds attrs text None e = let law = conjunctions_only attrs 32 text in
+    conjunctions (unspaced text) (spaces_is text) (λ rest f. strip_none (codes "*") (unspaced text) rest e f) law.holds
 
 no_star : (here : List ℕ) → ((rest : List ℕ) → here ≡ codes "*" ++ rest → ⊥) → strip_at (codes "*") here ≡ None
 no_star here h = by (strip_at (codes "*") here) refl
@@ -102,7 +113,8 @@ no_star here h = by (strip_at (codes "*") here) refl
 
 expr_same : (attrs : List Attr) (text : List ℕ) (r : Result (List (List Atom)) Stop) → ExprRead attrs text r → r ≡ expr_at attrs text
 expr_same attrs text r (star rest sp h) =
-    let found : strip_at (codes "*") (unspaced text) ≡ Some rest = ap (strip_at (codes "*")) (sym (spaces_only text (codes "*" ++ rest) sp)) ∙ strip_front (codes "*") rest in
+    let found : strip_at (codes "*") (unspaced text) ≡ Some rest = ap (strip_at (codes "*")) (sym (spaces_only text (codes "*" ++ rest) sp))
+    ∙ strip_front (codes "*") rest in
     star_same rest r h ∙ ap (expr_in attrs text) (sym found)
 expr_same attrs text r (conjunctions here sp none h) =
     let missed : strip_at (codes "*") (unspaced text) ≡ None = ap (strip_at (codes "*")) (sym (spaces_only text here sp)) ∙ no_star here none in

@@ -38,7 +38,8 @@ use Rattle.cf_filter.proofs.ValueLaws.{run_all}
 digit_small : (b : ℕ) → digit_of b ≤ 15
 digit_small b = by (is_digit b) refl (is_between 65 70 b) refl (is_between 97 102 b) refl
   where
-    by : (d : Bool) → is_digit b ≡ d → (c : Bool) → is_between 65 70 b ≡ c → (s : Bool) → is_between 97 102 b ≡ s → cond d (b - 48) (cond c (b - 55) (cond s (b - 87) 0)) ≤ 15
+    by : (d : Bool) → is_digit b ≡ d → (c : Bool) → is_between 65 70 b ≡ c → (s : Bool) → is_between 97 102 b ≡ s
+        → cond d (b - 48) (cond c (b - 55) (cond s (b - 87) 0)) ≤ 15
     by true d c e s f = let both = and_parts (nat_le 48 b) (nat_le b 57) d in let high = leb-true b 57 both.1 in omega (arith, high)
     by false d true e s f = let both = and_parts (nat_le 65 b) (nat_le b 70) e in let high = leb-true b 70 both.1 in omega (arith, high)
     by false d false e true f = let both = and_parts (nat_le 97 b) (nat_le b 102) f in let high = leb-true b 102 both.1 in omega (arith, high)
@@ -57,7 +58,8 @@ pair_past len digits i size past = rw (le-ltb (2 * i + 1) (length digits) (omega
 pairs_length : (n : ℕ) (digits : List ℕ) → length (pairs n digits) ≡ n
 unfolding pairs
 pairs_length zero digits = refl
-pairs_length (suc n) digits = let more : length (pairs n digits) ≡ n = pairs_length n digits in length-append (pairs n digits) (pair_at digits n ∷ []) ∙ omega (arith, more)
+pairs_length (suc n) digits = let more : length (pairs n digits) ≡ n = pairs_length n digits in length-append (pairs n digits) (pair_at digits n ∷ [])
+    ∙ omega (arith, more)
 
 pairs_low : (n : ℕ) (digits : List ℕ) → list_all (λ byte. nat_lt byte 256) (pairs n digits) ≡ true
 unfolding pairs
@@ -71,7 +73,8 @@ unfolding pairs
 pairs_zero len zero digits size = ap (list_all (λ byte. byte == 0)) (drop_of_length-le {A = ℕ} [] (omega arith))
 pairs_zero len (suc n) digits size = by (pairs_zero len n digits size) (nat_le len n) refl
   where
-    by : list_all (λ byte. byte == 0) (drop len (pairs n digits)) ≡ true → (t : Bool) → nat_le len n ≡ t → list_all (λ byte. byte == 0) (drop len (pairs n digits ++ pair_at digits n ∷ [])) ≡ true
+    by : list_all (λ byte. byte == 0) (drop len (pairs n digits)) ≡ true → (t : Bool) → nat_le len n ≡ t
+        → list_all (λ byte. byte == 0) (drop len (pairs n digits ++ pair_at digits n ∷ [])) ≡ true
     by before_zero true t =
         let past = leb-true len n t in
         let size_of = pairs_length n digits in
@@ -86,7 +89,8 @@ pairs_zero len (suc n) digits size = by (pairs_zero len n digits size) (nat_le l
         ap (list_all (λ byte. byte == 0)) (drop_of_length-le (pairs n digits ++ pair_at digits n ∷ []) (omega (arith, before, size_of, whole)))
 
 pairs_are : (len : ℕ) (digits : List ℕ) → len ≤ 16 → length digits ≡ 2 * len → is_byte_string len (pairs 16 digits) ≡ true
-pairs_are len digits few size = rw (le-leb len 16 few, eq-eqb (length (pairs 16 digits)) 16 (pairs_length 16 digits), pairs_low 16 digits) (pairs_zero len 16 digits size)
+pairs_are len digits few size =
+    rw (le-leb len 16 few, eq-eqb (length (pairs 16 digits)) 16 (pairs_length 16 digits), pairs_low 16 digits) (pairs_zero len 16 digits size)
 
 -- values and ranges
 
@@ -124,8 +128,10 @@ pub record AreOfKind (kind : Kind) (range : Value × Value) : Type 0 where
 net_fits : (kind : Kind) (address bits : ℕ) → kind ≡ U32 → address < 2 ^ 32 → bits ≤ 32 → AreOfKind kind (net_from address bits)
 net_fits kind address bits k small few =
     let high = net_high address bits small few in record {
-      low = ap (λ kind. is_of_kind kind (Num (address - address % 2 ^ (32 - bits)))) k ∙ lt-ltb (address - address % 2 ^ (32 - bits)) (2 ^ 32) (omega (arith, small));
-      high = ap (λ kind. is_of_kind kind (Num ((address - address % 2 ^ (32 - bits)) + (2 ^ (32 - bits) - 1)))) k ∙ lt-ltb ((address - address % 2 ^ (32 - bits)) + (2 ^ (32 - bits) - 1)) (2 ^ 32) high;
+      low = ap (λ kind. is_of_kind kind (Num (address - address % 2 ^ (32 - bits)))) k
+          ∙ lt-ltb (address - address % 2 ^ (32 - bits)) (2 ^ 32) (omega (arith, small));
+      high = ap (λ kind. is_of_kind kind (Num ((address - address % 2 ^ (32 - bits)) + (2 ^ (32 - bits) - 1)))) k
+          ∙ lt-ltb ((address - address % 2 ^ (32 - bits)) + (2 ^ (32 - bits) - 1)) (2 ^ 32) high;
     }
 
 address_below : (a b c d : List ℕ) → AreBytes a b c d → address_of a b c d < 2 ^ 32
@@ -159,7 +165,8 @@ pub record Stands (attrs : List Attr) (place : ℕ) (kind : Kind) : Type 0 where
 abbrev placed : ℕ → Kind → ℕ × Kind
 placed place kind = (place, kind)
 
-attr_stands : (attrs : List Attr) (i : ℕ) (name : List ℕ) (found : ℕ × Kind) → attr_from i attrs name ≡ Some found → (j : ℕ) × (found.0 ≡ i + j) × Stands attrs j found.1
+attr_stands : (attrs : List Attr) (i : ℕ) (name : List ℕ) (found : ℕ × Kind) → attr_from i attrs name ≡ Some found → (j : ℕ) × (found.0 ≡ i + j)
+    × Stands attrs j found.1
 attr_stands [] i name found e = cc
 attr_stands (attr ∷ attrs) i name found e = by (bytes_eq attr.name name) e (attr_stands attrs (i + 1) name found)
   where
@@ -186,7 +193,8 @@ or_true : (b : Bool) → (b || true) ≡ true
 or_true true = refl
 or_true false = refl
 
-atom_good : (attrs : List Attr) (kind : Kind) (atom : Atom) → Stands attrs atom.attr kind → suits_kind kind atom.op ≡ true → is_of_kind kind atom.low ≡ true → is_of_kind kind atom.high ≡ true → atom_suits attrs atom ≡ true
+atom_good : (attrs : List Attr) (kind : Kind) (atom : Atom) → Stands attrs atom.attr kind → suits_kind kind atom.op ≡ true → is_of_kind kind atom.low ≡ true
+    → is_of_kind kind atom.high ≡ true → atom_suits attrs atom ≡ true
 atom_good attrs kind atom stands suits low high =
     ap (atom_suits_attr atom) stands.here
     ∙ ap (λ kind. (suits_kind kind atom.op && is_of_kind kind atom.low) && (not (is_within atom.op) || is_of_kind kind atom.high)) stands.kind_is
@@ -208,7 +216,8 @@ atom_fits attrs text found h =
     let is : atom_rest (record { attr = name.0.0; op = op.0; low = range.0.0; high = range.0.1 }) range.1 ≡ found = same then_ends.2 in
     let fit = bounds_fit name.0.1 op.0 ends_read.1 range.0 ends_read.4 in
     subst (λ (x : Atom × List ℕ). atom_suits attrs x.0 ≡ true) is
-    (atom_good attrs name.0.1 (record { attr = name.0.0; op = op.0; low = range.0.0; high = range.0.1 }) (named_stands attrs name_read.1 name.0 name_read.5) op_read.3 fit.low fit.high)
+    (atom_good attrs name.0.1 (record { attr = name.0.0; op = op.0; low = range.0.0; high = range.0.1 })
+    (named_stands attrs name_read.1 name.0 name_read.5) op_read.3 fit.low fit.high)
   where
     same : {p q : Atom × List ℕ} → ◌≡◌ {A = Result (Atom × List ℕ) Stop} (Ok p) (Ok q) → q ≡ p
     same e = cc
@@ -222,18 +231,21 @@ pub record IsGood (attrs : List Attr) (n : ℕ) (expr : List (List Atom)) : Type
 alone_good : (attrs : List Attr) (n : ℕ) (atom : Atom) → atom_suits attrs atom ≡ true → IsGood attrs (suc n) ((atom ∷ []) ∷ [])
 alone_good attrs n atom good = record { few = omega arith; suit = rw good refl }
 
-with_good : (attrs : List Attr) (n : ℕ) (atom : Atom) (others : List (List Atom)) → atom_suits attrs atom ≡ true → IsGood attrs n others → IsGood attrs (suc n) (with_atom atom others)
+with_good : (attrs : List Attr) (n : ℕ) (atom : Atom) (others : List (List Atom)) → atom_suits attrs atom ≡ true → IsGood attrs n others
+    → IsGood attrs (suc n) (with_atom atom others)
 with_good attrs n atom [] good h = alone_good attrs n atom good
 with_good attrs n atom (atoms ∷ others) good h = let few = h.few in record { few = omega (arith, few); suit = rw good h.suit }
 
-before_good : (attrs : List Attr) (n : ℕ) (atom : Atom) (others : List (List Atom)) → atom_suits attrs atom ≡ true → IsGood attrs n others → IsGood attrs (suc n) ((atom ∷ []) ∷ others)
+before_good : (attrs : List Attr) (n : ℕ) (atom : Atom) (others : List (List Atom)) → atom_suits attrs atom ≡ true → IsGood attrs n others
+    → IsGood attrs (suc n) ((atom ∷ []) ∷ others)
 before_good attrs n atom others good h = let few = h.few in record { few = omega (arith, few); suit = rw good h.suit }
 
 ok_same : {x y : List (List Atom)} → ◌≡◌ {A = Result (List (List Atom)) Stop} (Ok x) (Ok y) → y ≡ x
 ok_same e = cc
 
 joined_good : (attrs : List Attr) (n : ℕ) (atom : Atom) (link : Link) (Later : Result (List (List Atom)) Stop → Type 0) (expr : List (List Atom))
-    → atom_suits attrs atom ≡ true → ((xs : List (List Atom)) → Later (Ok xs) → IsGood attrs n xs) → JoinedRead atom link Later (Ok expr) → IsGood attrs (suc n) expr
+    → atom_suits attrs atom ≡ true → ((xs : List (List Atom)) → Later (Ok xs) → IsGood attrs n xs) → JoinedRead atom link Later (Ok expr)
+    → IsGood attrs (suc n) expr
 joined_good attrs n atom End Later expr good later h = subst (IsGood attrs (suc n)) (ok_same h) (alone_good attrs n atom good)
 joined_good attrs n atom And Later expr good later h = by h.0 h.1 h.2
   where
@@ -255,7 +267,8 @@ conjunctions_good attrs (suc n) text expr h =
     let atom = h.0 in
     let then_link = h.2 in
     let link = then_link.0 in
-    joined_good attrs n atom.0 link.0 (ConjunctionsRead attrs n link.1) expr (atom_fits attrs text atom h.1) (λ xs l. conjunctions_good attrs n link.1 xs l) then_link.2
+    joined_good attrs n atom.0 link.0 (ConjunctionsRead attrs n link.1) expr (atom_fits attrs text atom h.1)
+    (λ xs l. conjunctions_good attrs n link.1 xs l) then_link.2
 
 good_schema : (attrs : List Attr) (expr : List (List Atom)) → IsGood attrs 32 expr → IsOfSchema attrs expr
 good_schema attrs expr h = rw (le-leb (atom_count expr) 32 h.few) h.suit

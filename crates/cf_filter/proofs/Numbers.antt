@@ -15,9 +15,11 @@ number_grows base n [] h = omega arith
 number_grows base n (b ∷ bs) h = omega (arith, times_grows base n h, number_grows base (n * base + digit_of b) bs h)
 
 -- one more pair of digits, written at its place
-pub pairs_more : (digits bytes : List ℕ) (i v : ℕ) → i < length bytes → take i bytes ≡ pairs i digits → v ≡ pair_at digits i → take (i + 1) (set bytes i v) ≡ pairs (i + 1) digits
+pub pairs_more : (digits bytes : List ℕ) (i v : ℕ) → i < length bytes → take i bytes ≡ pairs i digits → v ≡ pair_at digits i
+    → take (i + 1) (set bytes i v) ≡ pairs (i + 1) digits
 unfolding pairs
-pairs_more digits bytes i v h front e = take_more_set bytes i v h ∙ ap (λ xs. xs ++ v ∷ []) front ∙ ap (λ x. pairs i digits ++ x ∷ []) e ∙ ap (λ n. pairs n digits) (sym (add-one i))
+pairs_more digits bytes i v h front e = take_more_set bytes i v h ∙ ap (λ xs. xs ++ v ∷ []) front ∙ ap (λ x. pairs i digits ++ x ∷ []) e
+    ∙ ap (λ n. pairs n digits) (sym (add-one i))
 
 pub pairs_all : (digits bytes : List ℕ) → length bytes ≡ 16 → take 16 bytes ≡ pairs 16 digits → bytes ≡ pairs 16 digits
 pairs_all digits bytes h e = sym (take_all 16 bytes (omega arith)) ∙ e

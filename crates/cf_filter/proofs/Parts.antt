@@ -34,28 +34,33 @@ module _ {A B : Type 0} where
   next_holds First Next x (Ok y) h k = (x, h, k)
   next_holds First Next x (Err stop) h k = inr (x, h, k)
 
-  then_holds : (First : Result A Stop → Type 0) (Next : A → Result B Stop → Type 0) (f : Result A Stop) (g : A → Result B Stop) → First f → ((x : A) → Next x (g x)) → Then First Next (f >>= g)
+  then_holds : (First : Result A Stop → Type 0) (Next : A → Result B Stop → Type 0) (f : Result A Stop) (g : A → Result B Stop) → First f
+      → ((x : A) → Next x (g x)) → Then First Next (f >>= g)
   then_holds First Next (Ok x) g h k = next_holds First Next x (g x) h (k x)
   then_holds First Next (Err stop) g h k = inl h
 
-  then_same : (First : Result A Stop → Type 0) (Next : A → Result B Stop → Type 0) (f : Result A Stop) (g : A → Result B Stop) → Only First f → ((x : A) → Only (Next x) (g x)) → (r : Result B Stop) → Then First Next r → r ≡ (f >>= g)
+  then_same : (First : Result A Stop → Type 0) (Next : A → Result B Stop → Type 0) (f : Result A Stop) (g : A → Result B Stop) → Only First f
+      → ((x : A) → Only (Next x) (g x)) → (r : Result B Stop) → Then First Next r → r ≡ (f >>= g)
   then_same First Next f g h k (Ok y) t = let next = k t.0 in next.only (Ok y) t.2 ∙ sym (bind_ok f g t.0 (h.only (Ok t.0) t.1))
   then_same First Next f g h k (Err stop) (inl t) = sym (bind_err f g stop (h.only (Err stop) t))
   then_same First Next f g h k (Err stop) (inr t) = let next = k t.0 in next.only (Err stop) t.2 ∙ sym (bind_ok f g t.0 (h.only (Ok t.0) t.1))
 
-  pub then_only : (First : Result A Stop → Type 0) (Next : A → Result B Stop → Type 0) (f : Result A Stop) (g : A → Result B Stop) → Only First f → ((x : A) → Only (Next x) (g x)) → Only (Then First Next) (f >>= g)
+  pub then_only : (First : Result A Stop → Type 0) (Next : A → Result B Stop → Type 0) (f : Result A Stop) (g : A → Result B Stop) → Only First f
+      → ((x : A) → Only (Next x) (g x)) → Only (Then First Next) (f >>= g)
   then_only First Next f g h k = record { holds = then_holds First Next f g h.holds (λ x. let next = k x in next.holds); only = then_same First Next f g h k }
 
 -- names
 
-name_holds : (attrs : List Attr) (text here : List ℕ) → IsAfterSpaces text here → (b : Bool) → begins_with Letter here ≡ b → (o : Option (ℕ × Kind)) → attr_named attrs (run Name here) ≡ o → NameRead attrs text (cond b (known_or here o) (Err (stop_at Syntax here)))
+name_holds : (attrs : List Attr) (text here : List ℕ) → IsAfterSpaces text here → (b : Bool) → begins_with Letter here ≡ b → (o : Option (ℕ × Kind))
+    → attr_named attrs (run Name here) ≡ o → NameRead attrs text (cond b (known_or here o) (Err (stop_at Syntax here)))
 name_holds attrs text here sp true b (Some a) o = (here, run Name here, sp, b, run_is Name here, o)
 name_holds attrs text here sp true b None o = (here, sp, refl, (run Name here, past Name here, b, run_is Name here, o))
 name_holds attrs text here sp false b o e = (here, sp, refl, b)
 
 name_err : (attrs : List Attr) (here : List ℕ) (offence : Offence) → NameFault attrs here offence → name_in attrs here ≡ Err (stop_at offence here)
 name_err attrs here Syntax b = rw b refl
-name_err attrs here UnknownName h = let r = run_only Name here h.0 h.1 h.3 in let none : attr_named attrs (run Name here) ≡ None = ap (attr_named attrs) (sym r.0) ∙ h.4 in rw (h.2, none) refl
+name_err attrs here UnknownName h = let r = run_only Name here h.0 h.1 h.3 in let none : attr_named attrs (run Name here) ≡ None =
+    ap (attr_named attrs) (sym r.0) ∙ h.4 in rw (h.2, none) refl
 name_err attrs here BadOperator h = absurd h
 name_err attrs here ValueRange h = absurd h
 name_err attrs here TooLong h = absurd h
@@ -97,7 +102,8 @@ op_text_some Gt = refl
 op_text_some Ge = refl
 op_text_some Within = refl
 
-op_step : (word : List ℕ) (op found : Op) (other : Option Op) → cond (bytes_eq word (op_text op)) (Some op) other ≡ Some found → (other ≡ Some found → word ≡ op_text found) → word ≡ op_text found
+op_step : (word : List ℕ) (op found : Op) (other : Option Op) → cond (bytes_eq word (op_text op)) (Some op) other ≡ Some found
+    → (other ≡ Some found → word ≡ op_text found) → word ≡ op_text found
 op_step word op found other h more =
     elim (bytes_eq word (op_text op)) as (λ b. bytes_eq word (op_text op) ≡ b → cond b (Some op) other ≡ Some found → word ≡ op_text found) [
       | true ↦ λ e k. let same : op ≡ found = cc in (bytes_eq-Decides word (op_text op)).0 e ∙ ap op_text same
@@ -106,7 +112,10 @@ op_step word op found other h more =
 
 op_found : (word : List ℕ) (op : Op) → op_named word ≡ Some op → word ≡ op_text op
 op_found word op h =
-    op_step word Eq op _ h (λ h1. op_step word Ne op _ h1 (λ h2. op_step word Lt op _ h2 (λ h3. op_step word Le op _ h3 (λ h4. op_step word Gt op _ h4 (λ h5. op_step word Ge op _ h5 (λ h6. op_step word Within op None h6 (λ h7. cc)))))))
+    op_step word Eq op _ h
+    (λ h1. op_step word Ne op _ h1
+    (λ h2. op_step word Lt op _ h2
+    (λ h3. op_step word Le op _ h3 (λ h4. op_step word Gt op _ h4 (λ h5. op_step word Ge op _ h5 (λ h6. op_step word Within op None h6 (λ h7. cc)))))))
 
 pub some_len : (x : ℕ) (xs : List ℕ) → (length (x ∷ xs) == 0) ≡ false
 some_len x xs = ne_eqb (length (x ∷ xs)) 0 (λ e. omega (arith, e))
@@ -130,7 +139,12 @@ not_letter x h = elim (passes Letter x) as (λ b. passes Letter x ≡ b → pass
     clash : (nat_le 97 x ≡ true) × (nat_le x 122 ≡ true) → ⊥
     clash k = let low = leb-true 97 x k.0 in elim (or_cases ((x == 61 || x == 33) || x == 60) (x == 62) h) [
       | inl p ↦ elim (or_cases (x == 61 || x == 33) (x == 60) p) [
-        | inl q ↦ elim (or_cases (x == 61) (x == 33) q) [ inl r ↦ let e = eqb-true x 61 r in omega (arith, low, e) | inr r ↦ let e = eqb-true x 33 r in omega (arith, low, e) ]
+        | inl q ↦ elim
+            (or_cases (x == 61) (x == 33) q) [
+              | inl r ↦ let e = eqb-true x 61 r in omega (arith, low, e)
+              | inr r ↦ let e = eqb-true x 33 r in
+                  omega (arith, low, e)
+            ]
         | inr q ↦ let e = eqb-true x 60 q in omega (arith, low, e)
       ]
       | inr p ↦ let e = eqb-true x 62 p in omega (arith, low, e)
@@ -145,13 +159,20 @@ word_rest word rest = (word, rest)
 
 token_is : (here word rest : List ℕ) → IsOpWord here word rest → (token_at here ≡ word_rest word rest) × ((length word == 0) ≡ false)
 token_is here word rest (name b r) =
-    let e = run_only Name here word rest r in
-    (rw b (ap (λ w. word_rest w (past Name here)) (sym e.0) ∙ ap (word_rest word) (sym e.1)), ap (λ w. length w == 0) e.0 ∙ begins_run Name here true (letter_name here b))
+    let e = run_only Name here word rest r in (
+      rw b (ap (λ w. word_rest w (past Name here)) (sym e.0) ∙ ap (word_rest word) (sym e.1)),
+      ap (λ w. length w == 0) e.0
+          ∙ begins_run Name here true (letter_name here b),
+    )
 token_is here word rest (sign b r) =
-    let e = run_only Operator here word rest r in
-    (rw (sign_no_letter here b) (ap (λ w. word_rest w (past Operator here)) (sym e.0) ∙ ap (word_rest word) (sym e.1)), ap (λ w. length w == 0) e.0 ∙ begins_run Operator here true b)
+    let e = run_only Operator here word rest r in (
+      rw (sign_no_letter here b) (ap (λ w. word_rest w (past Operator here)) (sym e.0) ∙ ap (word_rest word) (sym e.1)),
+      ap (λ w. length w == 0) e.0
+          ∙ begins_run Operator here true b,
+    )
 
-suits_holds : (kind : Kind) (text here word rest : List ℕ) (op : Op) → IsAfterSpaces text here → IsOpWord here word rest → word ≡ op_text op → (s : Bool) → suits_kind kind op ≡ s → OpRead kind text (cond s (Ok (op, rest)) (Err (stop_at BadOperator here)))
+suits_holds : (kind : Kind) (text here word rest : List ℕ) (op : Op) → IsAfterSpaces text here → IsOpWord here word rest → word ≡ op_text op → (s : Bool)
+    → suits_kind kind op ≡ s → OpRead kind text (cond s (Ok (op, rest)) (Err (stop_at BadOperator here)))
 suits_holds kind text here word rest op sp is e true s = (here, sp, subst (λ (w : List ℕ). IsOpWord here w rest) e is, s)
 suits_holds kind text here word rest op sp is e false s = (
   here,
@@ -170,19 +191,24 @@ suits_holds kind text here word rest op sp is e false s = (
     one : (other : Op) → word ≡ op_text other → other ≡ op
     one other f = let both : Some other ≡ Some op = sym (op_front other) ∙ ap op_named (sym f) ∙ ap op_named e ∙ op_front op in cc
 
-word_holds : (kind : Kind) (text here word rest : List ℕ) → IsAfterSpaces text here → IsOpWord here word rest → (o : Option Op) → op_named word ≡ o → OpRead kind text (suited_or kind here rest o)
-word_holds kind text here word rest sp is None o = (here, sp, refl, (word, rest, is, λ op f t. let some : op_named word ≡ Some op = ap op_named f ∙ op_front op in cc))
+word_holds : (kind : Kind) (text here word rest : List ℕ) → IsAfterSpaces text here → IsOpWord here word rest → (o : Option Op) → op_named word ≡ o
+    → OpRead kind text (suited_or kind here rest o)
+word_holds kind text here word rest sp is None o =
+    (here, sp, refl, (word, rest, is, λ op f t. let some : op_named word ≡ Some op = ap op_named f ∙ op_front op in cc))
 word_holds kind text here word rest sp is (Some op) o = suits_holds kind text here word rest op sp is (op_found word op o) (suits_kind kind op) refl
 
-op_word_holds : (kind : Kind) (text here word rest : List ℕ) → IsAfterSpaces text here → IsOpWord here word rest → OpRead kind text (op_in kind here (word_rest word rest))
+op_word_holds : (kind : Kind) (text here word rest : List ℕ) → IsAfterSpaces text here → IsOpWord here word rest
+    → OpRead kind text (op_in kind here (word_rest word rest))
 op_word_holds kind text here word rest sp is = let t = token_is here word rest is in rw t.1 (word_holds kind text here word rest sp is (op_named word) refl)
 
-op_holds : (kind : Kind) (text here : List ℕ) → IsAfterSpaces text here → (l s : Bool) → begins_with Letter here ≡ l → begins_with Operator here ≡ s → OpRead kind text (op_in kind here (token_at here))
+op_holds : (kind : Kind) (text here : List ℕ) → IsAfterSpaces text here → (l s : Bool) → begins_with Letter here ≡ l → begins_with Operator here ≡ s
+    → OpRead kind text (op_in kind here (token_at here))
 op_holds kind text here sp true s l e = rw l (op_word_holds kind text here (run Name here) (past Name here) sp (name l (run_is Name here)))
 op_holds kind text here sp false true l e = rw l (op_word_holds kind text here (run Operator here) (past Operator here) sp (sign e (run_is Operator here)))
 op_holds kind text here sp false false l e = rw (l, begins_run Operator here false e) (here, sp, refl, (l, e))
 
-suits_no : (kind : Kind) (here rest : List ℕ) (op : Op) (s : Bool) → suits_kind kind op ≡ s → (s ≡ true → ⊥) → cond {A = Result (Op × List ℕ) Stop} s (Ok (op, rest)) (Err (stop_at BadOperator here)) ≡ Err (stop_at BadOperator here)
+suits_no : (kind : Kind) (here rest : List ℕ) (op : Op) (s : Bool) → suits_kind kind op ≡ s → (s ≡ true → ⊥)
+    → cond {A = Result (Op × List ℕ) Stop} s (Ok (op, rest)) (Err (stop_at BadOperator here)) ≡ Err (stop_at BadOperator here)
 suits_no kind here rest op true s h = absurd (h refl)
 suits_no kind here rest op false s h = refl
 
@@ -205,7 +231,8 @@ op_same kind text (Ok found) h =
     let t = token_is h.0 (op_text found.0) found.1 h.2 in
     let read : op_in kind h.0 (word_rest (op_text found.0) found.1) ≡ Ok (found.0, found.1) = rw (op_text_some found.0, op_front found.0, h.3) refl in
     sym read ∙ ap (op_in kind h.0) (sym t.0) ∙ ap (λ here. op_in kind here (token_at here)) (spaces_only text h.0 h.1)
-op_same kind text (Err stop) h = ap Err (stop_same stop h.0 h.2) ∙ sym (op_err kind h.0 stop.offence h.3) ∙ ap (λ here. op_in kind here (token_at here)) (spaces_only text h.0 h.1)
+op_same kind text (Err stop) h = ap Err (stop_same stop h.0 h.2) ∙ sym (op_err kind h.0 stop.offence h.3)
+    ∙ ap (λ here. op_in kind here (token_at here)) (spaces_only text h.0 h.1)
 
 pub op_only : (kind : Kind) (text : List ℕ) → Only (OpRead kind text) (op_at kind text)
 op_only kind text = record {
@@ -215,7 +242,8 @@ op_only kind text = record {
 
 -- connectives
 
-no_link : (here : List ℕ) → (length here == 0) ≡ false → strip_at (codes "&&") here ≡ None → strip_at (codes "||") here ≡ None → (link : Link) (rest : List ℕ) → LinkText link here rest → ⊥
+no_link : (here : List ℕ) → (length here == 0) ≡ false → strip_at (codes "&&") here ≡ None → strip_at (codes "||") here ≡ None → (link : Link) (rest : List ℕ)
+    → LinkText link here rest → ⊥
 no_link here some a o End rest h = let e : (length here == 0) ≡ true = ap (λ xs. length xs == 0) h.0 in false≢true (sym some ∙ e)
 no_link here some a o And rest h = strip_none (codes "&&") here rest a h
 no_link here some a o Or rest h = strip_none (codes "||") here rest o h
@@ -224,15 +252,18 @@ pub empty_is : (here : List ℕ) → (length here == 0) ≡ true → here ≡ []
 empty_is [] h = refl
 empty_is (x ∷ xs) h = absurd (false≢true (sym (some_len x xs) ∙ h))
 
-or_holds : (text here : List ℕ) → IsAfterSpaces text here → (length here == 0) ≡ false → strip_at (codes "&&") here ≡ None → (o : Option (List ℕ)) → strip_at (codes "||") here ≡ o → LinkRead text (or_at here o)
+or_holds : (text here : List ℕ) → IsAfterSpaces text here → (length here == 0) ≡ false → strip_at (codes "&&") here ≡ None → (o : Option (List ℕ))
+    → strip_at (codes "||") here ≡ o → LinkRead text (or_at here o)
 or_holds text here sp some a None o = (here, sp, refl, no_link here some a o)
 or_holds text here sp some a (Some rest) o = (here, sp, strip_found (codes "||") here rest o)
 
-and_holds : (text here : List ℕ) → IsAfterSpaces text here → (length here == 0) ≡ false → (a : Option (List ℕ)) → strip_at (codes "&&") here ≡ a → LinkRead text (and_at here a)
+and_holds : (text here : List ℕ) → IsAfterSpaces text here → (length here == 0) ≡ false → (a : Option (List ℕ)) → strip_at (codes "&&") here ≡ a
+    → LinkRead text (and_at here a)
 and_holds text here sp some None a = or_holds text here sp some a (strip_at (codes "||") here) refl
 and_holds text here sp some (Some rest) a = (here, sp, strip_found (codes "&&") here rest a)
 
-link_holds : (text here : List ℕ) → IsAfterSpaces text here → (b : Bool) → (length here == 0) ≡ b → LinkRead text (cond b (Ok (End, here)) (and_at here (strip_at (codes "&&") here)))
+link_holds : (text here : List ℕ) → IsAfterSpaces text here → (b : Bool) → (length here == 0) ≡ b
+    → LinkRead text (cond b (Ok (End, here)) (and_at here (strip_at (codes "&&") here)))
 link_holds text here sp true b = (here, sp, (empty_is here b, empty_is here b))
 link_holds text here sp false b = and_holds text here sp b (strip_at (codes "&&") here) refl
 
@@ -244,7 +275,8 @@ link_text Or here rest h = ap link_in h ∙ rw (some_len 124 (124 ∷ rest)) ref
 link_err : (here : List ℕ) → ((link : Link) (rest : List ℕ) → LinkText link here rest → ⊥) → link_in here ≡ Err (stop_at Syntax here)
 link_err here none = by (length here == 0) refl (strip_at (codes "&&") here) refl (strip_at (codes "||") here) refl
   where
-    by : (b : Bool) → (length here == 0) ≡ b → (a : Option (List ℕ)) → strip_at (codes "&&") here ≡ a → (o : Option (List ℕ)) → strip_at (codes "||") here ≡ o → link_in here ≡ Err (stop_at Syntax here)
+    by : (b : Bool) → (length here == 0) ≡ b → (a : Option (List ℕ)) → strip_at (codes "&&") here ≡ a → (o : Option (List ℕ)) → strip_at (codes "||") here ≡ o
+        → link_in here ≡ Err (stop_at Syntax here)
     by true b a e o f = absurd (none End [] (empty_is here b, refl))
     by false b (Some rest) e o f = absurd (none And rest (strip_found (codes "&&") here rest e))
     by false b None e (Some rest) f = absurd (none Or rest (strip_found (codes "||") here rest f))

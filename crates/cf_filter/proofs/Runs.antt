@@ -35,12 +35,19 @@ run_stops p (x ∷ xs) = elim (p x) as (λ b. p x ≡ b → prefix_len p (drop (
 ] refl
 
 pub run_is : (class : Class) (text : List ℕ) → IsRun class text (run class text) (past class text)
-run_is class text = record { whole = sym (take-append-drop (prefix_len (passes class) text) text); within = run_passes (passes class) text; ends = run_stops (passes class) text }
+run_is class text =
+    record {
+      whole = sym (take-append-drop (prefix_len (passes class) text) text);
+      within = run_passes (passes class) text;
+      ends = run_stops (passes class) text;
+    }
 
 pub run_only : (class : Class) (text word rest : List ℕ) → IsRun class text word rest → (word ≡ run class text) × (rest ≡ past class text)
 run_only class text word rest h =
-    let n : prefix_len (passes class) text ≡ length word = ap (prefix_len (passes class)) h.whole ∙ run_front (passes class) word rest h.within h.ends in
-    (sym (rw n (ap (take (length word)) h.whole ∙ take_at word rest (length word) refl)), sym (rw n (ap (drop (length word)) h.whole ∙ drop_at word rest (length word) refl)))
+    let n : prefix_len (passes class) text ≡ length word = ap (prefix_len (passes class)) h.whole ∙ run_front (passes class) word rest h.within h.ends in (
+      sym (rw n (ap (take (length word)) h.whole ∙ take_at word rest (length word) refl)),
+      sym (rw n (ap (drop (length word)) h.whole ∙ drop_at word rest (length word) refl)),
+    )
 
 pub spaces_is : (text : List ℕ) → IsAfterSpaces text (unspaced text)
 spaces_is text = (run Space text, run_is Space text)

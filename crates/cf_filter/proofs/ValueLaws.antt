@@ -29,23 +29,30 @@ all_fails p [] y ys h = rw h refl
 all_fails p (x ∷ xs) y ys h = and_right (p x) (list_all p (xs ++ y ∷ ys)) (all_fails p xs y ys h)
 
 not_run : (class : Class) (low high : ℕ) (xs : List ℕ) (y : ℕ) (ys : List ℕ) → passes class y ≡ false → is_run_of class low high (xs ++ y ∷ ys) ≡ false
-not_run class low high xs y ys h = and_right (nat_le low (length (xs ++ y ∷ ys)) && nat_le (length (xs ++ y ∷ ys)) high) (list_all (passes class) (xs ++ y ∷ ys)) (all_fails (passes class) xs y ys h)
+not_run class low high xs y ys h =
+    and_right (nat_le low (length (xs ++ y ∷ ys)) && nat_le (length (xs ++ y ∷ ys)) high) (list_all (passes class) (xs ++ y ∷ ys))
+    (all_fails (passes class) xs y ys h)
 
-pub run_all : (class : Class) (low high : ℕ) (text : List ℕ) → is_run_of class low high text ≡ true → (low ≤ length text) × (length text ≤ high) × (list_all (passes class) text ≡ true)
+pub run_all : (class : Class) (low high : ℕ) (text : List ℕ) → is_run_of class low high text ≡ true → (low ≤ length text) × (length text ≤ high)
+    × (list_all (passes class) text ≡ true)
 run_all class low high text h =
     let both = and_parts (nat_le low (length text) && nat_le (length text) high) (list_all (passes class) text) h in
     let sizes = and_parts (nat_le low (length text)) (nat_le (length text) high) both.0 in
     (leb-true low (length text) sizes.0, leb-true (length text) high sizes.1, both.1)
 
-run_from : (class : Class) (low high : ℕ) (text : List ℕ) → low ≤ length text → length text ≤ high → list_all (passes class) text ≡ true → is_run_of class low high text ≡ true
-run_from class low high text a b h = and_from (nat_le low (length text) && nat_le (length text) high) (list_all (passes class) text) (and_from (nat_le low (length text)) (nat_le (length text) high) (le-leb low (length text) a) (le-leb (length text) high b)) h
+run_from : (class : Class) (low high : ℕ) (text : List ℕ) → low ≤ length text → length text ≤ high → list_all (passes class) text ≡ true
+    → is_run_of class low high text ≡ true
+run_from class low high text a b h =
+    and_from (nat_le low (length text) && nat_le (length text) high) (list_all (passes class) text)
+    (and_from (nat_le low (length text)) (nat_le (length text) high) (le-leb low (length text) a) (le-leb (length text) high b)) h
 
 -- dotted texts
 
 abbrev pub part_rest : List ℕ → List ℕ → List ℕ × List ℕ
 part_rest a b = (a, b)
 
-part_front : (part rest : List ℕ) → is_run_of classes.Digit 1 3 part ≡ true → prefix_len (passes classes.Digit) rest ≡ 0 → part_at (part ++ rest) ≡ Some (part_rest part rest)
+part_front : (part rest : List ℕ) → is_run_of classes.Digit 1 3 part ≡ true → prefix_len (passes classes.Digit) rest ≡ 0
+    → part_at (part ++ rest) ≡ Some (part_rest part rest)
 part_front part rest h stop =
     let all = run_all classes.Digit 1 3 part h in
     let n : prefix_len (passes classes.Digit) (part ++ rest) ≡ length part = run_front (passes classes.Digit) part rest all.2 stop in
@@ -57,7 +64,8 @@ part_end part h = ap part_at (sym (append-nil part)) ∙ part_front part [] h re
 abbrev four : List ℕ → List ℕ → List ℕ → List ℕ → List ℕ × List ℕ × List ℕ × List ℕ
 four a b c d = (a, b, c, d)
 
-parts_front : (a b c d : List ℕ) → is_run_of classes.Digit 1 3 a ≡ true → is_run_of classes.Digit 1 3 b ≡ true → is_run_of classes.Digit 1 3 c ≡ true → is_run_of classes.Digit 1 3 d ≡ true → parts_at (a ++ 46 ∷ (b ++ 46 ∷ (c ++ 46 ∷ d))) ≡ Some (four a b c d)
+parts_front : (a b c d : List ℕ) → is_run_of classes.Digit 1 3 a ≡ true → is_run_of classes.Digit 1 3 b ≡ true → is_run_of classes.Digit 1 3 c ≡ true
+    → is_run_of classes.Digit 1 3 d ≡ true → parts_at (a ++ 46 ∷ (b ++ 46 ∷ (c ++ 46 ∷ d))) ≡ Some (four a b c d)
 unfolding parts_at
 parts_front a b c d p q r s =
     rw (part_front a (46 ∷ (b ++ 46 ∷ (c ++ 46 ∷ d))) p refl, part_front b (46 ∷ (c ++ 46 ∷ d)) q refl, part_front c (46 ∷ d) r refl, part_end d s) refl
@@ -67,11 +75,15 @@ parts_only text a b c d h = ap parts_at h.whole ∙ parts_front a b c d h.first 
 
 part_found : (text part rest : List ℕ) → part_at text ≡ Some (part_rest part rest) → (is_run_of classes.Digit 1 3 part ≡ true) × (text ≡ part ++ rest)
 part_found text part rest h =
-    let found = cond_some (is_run_of classes.Digit 1 3 (run classes.Digit text)) (part_rest (run classes.Digit text) (past classes.Digit text)) (part_rest part rest) h in
+    let found = cond_some (is_run_of classes.Digit 1 3 (run classes.Digit text)) (part_rest (run classes.Digit text) (past classes.Digit text))
+    (part_rest part rest) h in
     let first : run classes.Digit text ≡ part = ap (λ x. x.0) found.1 in
     let second : past classes.Digit text ≡ rest = ap (λ x. x.1) found.1 in
-    let whole = run_is classes.Digit text in
-    (subst (λ (xs : List ℕ). is_run_of classes.Digit 1 3 xs ≡ true) first found.0, whole.whole ∙ ap (λ xs. xs ++ past classes.Digit text) first ∙ ap (λ xs. part ++ xs) second)
+    let whole = run_is classes.Digit text in (
+      subst (λ (xs : List ℕ). is_run_of classes.Digit 1 3 xs ≡ true) first found.0,
+      whole.whole ∙ ap (λ xs. xs ++ past classes.Digit text) first
+          ∙ ap (λ xs. part ++ xs) second,
+    )
 
 empty_is : (here : List ℕ) → (length here == 0) ≡ true → here ≡ []
 empty_is [] h = refl
@@ -138,12 +150,19 @@ form_only text Dotted h =
 pub form_found : (text : List ℕ) (form : Spelling) → form_at text ≡ Some form → HasForm text form
 form_found text form h = by (is_run_of classes.Digit 1 20 text) refl (hex_digits text) refl (parts_at text) refl h
   where
-    in_hex : (digits : List ℕ) → hex_digits text ≡ Some digits → (b : Bool) → is_run_of classes.Hex 1 32 digits ≡ b → (o : Option (List ℕ × List ℕ × List ℕ × List ℕ)) → parts_at text ≡ o → cond b (Some Hex) (cond (is_some o) (Some Dotted) None) ≡ Some form → HasForm text form
-    in_hex digits e true b o f k = let same : Hex ≡ form = cc in subst (λ (x : Spelling). HasForm text x) same (digits, strip_found (codes "0x") text digits e, b)
-    in_hex digits e false b (Some p) f k = let same : Dotted ≡ form = cc in subst (λ (x : Spelling). HasForm text x) same (p.0, p.1, p.2, p.3, parts_found text p f)
+    in_hex : (digits : List ℕ) → hex_digits text ≡ Some digits → (b : Bool) → is_run_of classes.Hex 1 32 digits ≡ b
+        → (o : Option (List ℕ × List ℕ × List ℕ × List ℕ)) → parts_at text ≡ o → cond b (Some Hex) (cond (is_some o) (Some Dotted) None) ≡ Some form
+        → HasForm text form
+    in_hex digits e true b o f k = let same : Hex ≡ form = cc in
+        subst (λ (x : Spelling). HasForm text x) same (digits, strip_found (codes "0x") text digits e, b)
+    in_hex digits e false b (Some p) f k = let same : Dotted ≡ form = cc in
+        subst (λ (x : Spelling). HasForm text x) same (p.0, p.1, p.2, p.3, parts_found text p f)
     in_hex digits e false b None f k = cc
 
-    by : (d : Bool) → is_run_of classes.Digit 1 20 text ≡ d → (x : Option (List ℕ)) → hex_digits text ≡ x → (o : Option (List ℕ × List ℕ × List ℕ × List ℕ)) → parts_at text ≡ o → cond d (Some Decimal) (cond (option_map_or (is_run_of classes.Hex 1 32) x false) (Some Hex) (cond (is_some o) (Some Dotted) None)) ≡ Some form → HasForm text form
+    by : (d : Bool) → is_run_of classes.Digit 1 20 text ≡ d → (x : Option (List ℕ)) → hex_digits text ≡ x → (o : Option (List ℕ × List ℕ × List ℕ × List ℕ))
+        → parts_at text ≡ o
+        → cond d (Some Decimal) (cond (option_map_or (is_run_of classes.Hex 1 32) x false) (Some Hex) (cond (is_some o) (Some Dotted) None)) ≡ Some form
+        → HasForm text form
     by true d x e o f k = let same : Decimal ≡ form = cc in subst (λ (y : Spelling). HasForm text y) same d
     by false d (Some digits) e o f k = in_hex digits e (is_run_of classes.Hex 1 32 digits) refl o f k
     by false d None e (Some p) f k = let same : Dotted ≡ form = cc in subst (λ (y : Spelling). HasForm text y) same (p.0, p.1, p.2, p.3, parts_found text p f)
@@ -159,7 +178,8 @@ unfolding address_at
 address_only text a b c d p q = rw (parts_only text a b c d p, byte_some a q.first, byte_some b q.second, byte_some c q.third, byte_some d q.fourth) refl
 
 byte_found : (digits : List ℕ) (n : ℕ) → byte_at digits ≡ Some n → (number_at 10 digits ≤ 255) × (number_at 10 digits ≡ n)
-byte_found digits n h = let found = cond_some (nat_le (number_at 10 digits) 255) (number_at 10 digits) n h in (leb-true (number_at 10 digits) 255 found.0, found.1)
+byte_found digits n h = let found = cond_some (nat_le (number_at 10 digits) 255) (number_at 10 digits) n h in
+    (leb-true (number_at 10 digits) 255 found.0, found.1)
 
 pub record IsAddress (text : List ℕ) (n : ℕ) : Type 0 where
   pub a : List ℕ
@@ -183,22 +203,33 @@ address_found text n h =
     let fc = byte_found p.2 c ec in
     let fd = byte_found p.3 d ed in
     let whole : ((a * 256 + b) * 256 + c) * 256 + d ≡ n = cc in
-    record { a = p.0; b = p.1; c = p.2; d = p.3; parts = parts_found text p ep; small = record { first = fa.0; second = fb.0; third = fc.0; fourth = fd.0 }; number = sym (rw (fa.1, fb.1, fc.1, fd.1) whole) })))))
+    record {
+      a = p.0;
+      b = p.1;
+      c = p.2;
+      d = p.3;
+      parts = parts_found text p ep;
+      small = record { first = fa.0; second = fb.0; third = fc.0; fourth = fd.0 };
+      number = sym (rw (fa.1, fb.1, fc.1, fd.1) whole);
+    })))))
 
 fits_value : (kind : Kind) (n : ℕ) (value : Value) → value ≡ Num n → is_of_kind kind value ≡ true → of_kind kind n ≡ Some value
 fits_value kind n value e h = let fits : is_of_kind kind (Num n) ≡ true = ap (is_of_kind kind) (sym e) ∙ h in rw fits (ap Some (sym e))
 
-decimal_lawful : (kind : Kind) (text : List ℕ) (value : Value) → value ≡ Num (number_at 10 text) → is_of_kind kind value ≡ true → lawful kind Decimal text ≡ Some value
+decimal_lawful : (kind : Kind) (text : List ℕ) (value : Value) → value ≡ Num (number_at 10 text) → is_of_kind kind value ≡ true
+    → lawful kind Decimal text ≡ Some value
 decimal_lawful U8 text value e h = fits_value U8 (number_at 10 text) value e h
 decimal_lawful U16 text value e h = fits_value U16 (number_at 10 text) value e h
 decimal_lawful U32 text value e h = fits_value U32 (number_at 10 text) value e h
 decimal_lawful U64 text value e h = fits_value U64 (number_at 10 text) value e h
 decimal_lawful (Bytes len) text value e h = absurd (false≢true (ap (is_of_kind (Bytes len)) (sym e) ∙ h))
 
-hex_front : (kind : Kind) (digits : List ℕ) (value : Value) → length digits ≤ 16 → value ≡ Num (number_at 16 digits) → is_of_kind kind value ≡ true → hex_number kind (Some digits) ≡ Some value
+hex_front : (kind : Kind) (digits : List ℕ) (value : Value) → length digits ≤ 16 → value ≡ Num (number_at 16 digits) → is_of_kind kind value ≡ true
+    → hex_number kind (Some digits) ≡ Some value
 hex_front kind digits value few e h = rw (le-leb (length digits) 16 few) (fits_value kind (number_at 16 digits) value e h)
 
-hex_lawful : (kind : Kind) (text digits : List ℕ) (value : Value) → hex_digits text ≡ Some digits → length digits ≤ 16 → value ≡ Num (number_at 16 digits) → is_of_kind kind value ≡ true → lawful kind Hex text ≡ Some value
+hex_lawful : (kind : Kind) (text digits : List ℕ) (value : Value) → hex_digits text ≡ Some digits → length digits ≤ 16 → value ≡ Num (number_at 16 digits)
+    → is_of_kind kind value ≡ true → lawful kind Hex text ≡ Some value
 hex_lawful U8 text digits value d few e h = ap (hex_number U8) d ∙ hex_front U8 digits value few e h
 hex_lawful U16 text digits value d few e h = ap (hex_number U16) d ∙ hex_front U16 digits value few e h
 hex_lawful U32 text digits value d few e h = ap (hex_number U32) d ∙ hex_front U32 digits value few e h
@@ -211,43 +242,56 @@ digits_of text digits e = ap hex_digits e ∙ strip_front (codes "0x") digits
 -- a lawful value has a form, and is read in it
 pub value_form : (kind : Kind) (text : List ℕ) (value : Value) → ValueText kind text value → IsForm text
 value_form kind text value (decimal run v fits) = (Decimal, run)
-value_form kind text value (hexadecimal digits whole run v fits) = let all = run_all classes.Hex 1 16 digits run in (Hex, (digits, whole, run_from classes.Hex 1 32 digits all.0 (omega arith) all.2))
+value_form kind text value (hexadecimal digits whole run v fits) = let all = run_all classes.Hex 1 16 digits run in
+    (Hex, (digits, whole, run_from classes.Hex 1 32 digits all.0 (omega arith) all.2))
 value_form kind text value (dotted a b c d parts small k v) = (Dotted, (a, b, c, d, parts))
 value_form kind text value (bytes len digits k whole run size v) = (Hex, (digits, whole, run))
 
-pub value_lawful : (kind : Kind) (text : List ℕ) (value : Value) (h : ValueText kind text value) → let form = value_form kind text value h in lawful kind form.0 text ≡ Some value
+pub value_lawful : (kind : Kind) (text : List ℕ) (value : Value) (h : ValueText kind text value) → let form = value_form kind text value h in
+    lawful kind form.0 text ≡ Some value
 unfolding value_form
 value_lawful kind text value (decimal run v fits) = decimal_lawful kind text value v fits
-value_lawful kind text value (hexadecimal digits whole run v fits) = let all = run_all classes.Hex 1 16 digits run in hex_lawful kind text digits value (digits_of text digits whole) all.1 v fits
+value_lawful kind text value (hexadecimal digits whole run v fits) = let all = run_all classes.Hex 1 16 digits run in
+    hex_lawful kind text digits value (digits_of text digits whole) all.1 v fits
 value_lawful kind text value (dotted a b c d parts small k v) = ap (λ k. lawful k Dotted text) k ∙ rw (address_only text a b c d parts small) (ap Some (sym v))
-value_lawful kind text value (bytes len digits k whole run size v) = ap (λ k. lawful k Hex text) k ∙ rw (digits_of text digits whole, eq-eqb (length digits) (2 * len) size) (ap Some (sym v))
+value_lawful kind text value (bytes len digits k whole run size v) = ap (λ k. lawful k Hex text) k
+    ∙ rw (digits_of text digits whole, eq-eqb (length digits) (2 * len) size) (ap Some (sym v))
 
 pub value_only : (kind : Kind) (text : List ℕ) (value : Value) → ValueText kind text value → value_at kind text ≡ Some value
-value_only kind text value h = let form = value_form kind text value h in ap (option_and_then (λ f. lawful kind f text)) (form_only text form.0 form.1) ∙ value_lawful kind text value h
+value_only kind text value h = let form = value_form kind text value h in ap (option_and_then (λ f. lawful kind f text)) (form_only text form.0 form.1)
+    ∙ value_lawful kind text value h
 
 -- what is read in a form is a lawful value
 
 of_kind_found : (kind : Kind) (n : ℕ) (value : Value) → of_kind kind n ≡ Some value → (value ≡ Num n) × (is_of_kind kind value ≡ true)
-of_kind_found kind n value h = let found = cond_some (is_of_kind kind (Num n)) (Num n) value h in (sym found.1, subst (λ (v : Value). is_of_kind kind v ≡ true) found.1 found.0)
+of_kind_found kind n value h = let found = cond_some (is_of_kind kind (Num n)) (Num n) value h in
+    (sym found.1, subst (λ (v : Value). is_of_kind kind v ≡ true) found.1 found.0)
 
-hex_found : (kind : Kind) (text : List ℕ) (value : Value) (digits : List ℕ) → text ≡ codes "0x" ++ digits → is_run_of classes.Hex 1 32 digits ≡ true → hex_number kind (Some digits) ≡ Some value → ValueText kind text value
+hex_found : (kind : Kind) (text : List ℕ) (value : Value) (digits : List ℕ) → text ≡ codes "0x" ++ digits → is_run_of classes.Hex 1 32 digits ≡ true
+    → hex_number kind (Some digits) ≡ Some value → ValueText kind text value
 hex_found kind text value digits whole run h = by (nat_le (length digits) 16) refl h
   where
     by : (b : Bool) → nat_le (length digits) 16 ≡ b → cond b (of_kind kind (number_at 16 digits)) None ≡ Some value → ValueText kind text value
-    by true b k = let all = run_all classes.Hex 1 32 digits run in let found = of_kind_found kind (number_at 16 digits) value k in hexadecimal digits whole (run_from classes.Hex 1 16 digits all.0 (leb-true (length digits) 16 b) all.2) found.0 found.1
+    by true b k = let all = run_all classes.Hex 1 32 digits run in let found = of_kind_found kind (number_at 16 digits) value k in
+        hexadecimal digits whole (run_from classes.Hex 1 16 digits all.0 (leb-true (length digits) 16 b) all.2) found.0 found.1
     by false b k = cc
 
-decimal_found : (kind : Kind) (text : List ℕ) (value : Value) → is_run_of classes.Digit 1 20 text ≡ true → of_kind kind (number_at 10 text) ≡ Some value → ValueText kind text value
+decimal_found : (kind : Kind) (text : List ℕ) (value : Value) → is_run_of classes.Digit 1 20 text ≡ true → of_kind kind (number_at 10 text) ≡ Some value
+    → ValueText kind text value
 decimal_found kind text value run h = let found = of_kind_found kind (number_at 10 text) value h in decimal run found.0 found.1
 
 dotted_found : (text : List ℕ) (value : Value) (o : Option ℕ) → address_at text ≡ o → option_map Num o ≡ Some value → ValueText U32 text value
-dotted_found text value (Some n) e h = let found = address_found text n e in let same : Num n ≡ value = cc in dotted found.a found.b found.c found.d found.parts found.small refl (sym same ∙ ap Num found.number)
+dotted_found text value (Some n) e h = let found = address_found text n e in let same : Num n ≡ value = cc in
+    dotted found.a found.b found.c found.d found.parts found.small refl (sym same ∙ ap Num found.number)
 dotted_found text value None e h = cc
 
-raw_found : (len : ℕ) (text : List ℕ) (value : Value) (digits : List ℕ) → text ≡ codes "0x" ++ digits → is_run_of classes.Hex 1 32 digits ≡ true → raw_of len (Some digits) ≡ Some value → ValueText (Bytes len) text value
-raw_found len text value digits whole run h = let found = cond_some (length digits == 2 * len) (Raw len (pairs 16 digits)) value h in bytes len digits refl whole run (eqb-true (length digits) (2 * len) found.0) (sym found.1)
+raw_found : (len : ℕ) (text : List ℕ) (value : Value) (digits : List ℕ) → text ≡ codes "0x" ++ digits → is_run_of classes.Hex 1 32 digits ≡ true
+    → raw_of len (Some digits) ≡ Some value → ValueText (Bytes len) text value
+raw_found len text value digits whole run h = let found = cond_some (length digits == 2 * len) (Raw len (pairs 16 digits)) value h in
+    bytes len digits refl whole run (eqb-true (length digits) (2 * len) found.0) (sym found.1)
 
-pub lawful_found : (kind : Kind) (form : Spelling) (text : List ℕ) (value : Value) → HasForm text form → lawful kind form text ≡ Some value → ValueText kind text value
+pub lawful_found : (kind : Kind) (form : Spelling) (text : List ℕ) (value : Value) → HasForm text form → lawful kind form text ≡ Some value
+    → ValueText kind text value
 lawful_found U8 Decimal text value h e = decimal_found U8 text value h e
 lawful_found U16 Decimal text value h e = decimal_found U16 text value h e
 lawful_found U32 Decimal text value h e = decimal_found U32 text value h e
@@ -269,7 +313,8 @@ value_found kind text value h = option_and_then_some _ (form_at text) value h (�
 
 -- what a text is of where a value is wanted
 
-pub judged_same : {A : Type 0} (form : Type 0) (good : A → Type 0) → ((x y : A) → good x → good y → x ≡ y) → ((x : A) → good x → form) → (r s : Result A Offence) → Judged form good r → Judged form good s → r ≡ s
+pub judged_same : {A : Type 0} (form : Type 0) (good : A → Type 0) → ((x y : A) → good x → good y → x ≡ y) → ((x : A) → good x → form)
+    → (r s : Result A Offence) → Judged form good r → Judged form good s → r ≡ s
 judged_same form good one has (Ok x) (Ok y) h k = ap Ok (one x y h k)
 judged_same form good one has (Ok x) (Err Syntax) h k = absurd (k (has x h))
 judged_same form good one has (Ok x) (Err ValueRange) h k = absurd (k.1 x h)
@@ -300,7 +345,8 @@ pub form_one : (text : List ℕ) (f g : Spelling) → HasForm text f → HasForm
 form_one text f g h k = let both : Some f ≡ Some g = sym (form_only text f h) ∙ form_only text g k in cc
 
 -- what isn't read in the text's form is no value of the kind
-pub unlawful : (kind : Kind) (text : List ℕ) (form : Spelling) → HasForm text form → lawful kind form text ≡ None → (value : Value) → ValueText kind text value → ⊥
+pub unlawful : (kind : Kind) (text : List ℕ) (form : Spelling) → HasForm text form → lawful kind form text ≡ None → (value : Value)
+    → ValueText kind text value → ⊥
 unlawful kind text form h e value v =
     let other = value_form kind text value v in
     let same : other.0 ≡ form = form_one text other.0 form other.1 h in

@@ -37,19 +37,26 @@ address_of a b c d = ((number_at 10 a * 256 + number_at 10 b) * 256 + number_at 
 -- the lawful values of a kind, as texts
 pub data ValueText (kind : Kind) (text : List ℕ) (value : Value) : Type 0 where
   decimal : is_run_of classes.Digit 1 20 text ≡ true → value ≡ Num (number_at 10 text) → is_of_kind kind value ≡ true → ValueText kind text value
-  hexadecimal : (digits : List ℕ) → text ≡ codes "0x" ++ digits → is_run_of classes.Hex 1 16 digits ≡ true → value ≡ Num (number_at 16 digits) → is_of_kind kind value ≡ true → ValueText kind text value
+  hexadecimal : (digits : List ℕ) → text ≡ codes "0x" ++ digits → is_run_of classes.Hex 1 16 digits ≡ true → value ≡ Num (number_at 16 digits)
+      → is_of_kind kind value ≡ true → ValueText kind text value
   dotted : (a b c d : List ℕ) → AreParts text a b c d → AreBytes a b c d → kind ≡ U32 → value ≡ Num (address_of a b c d) → ValueText kind text value
-  bytes : (len : ℕ) (digits : List ℕ) → kind ≡ Bytes len → text ≡ codes "0x" ++ digits → is_run_of classes.Hex 1 32 digits ≡ true → length digits ≡ 2 * len → value ≡ Raw len (pairs 16 digits) → ValueText kind text value
+  bytes : (len : ℕ) (digits : List ℕ) → kind ≡ Bytes len → text ≡ codes "0x" ++ digits → is_run_of classes.Hex 1 32 digits ≡ true → length digits ≡ 2 * len
+      → value ≡ Raw len (pairs 16 digits) → ValueText kind text value
 
 -- a text that is cut at the first two dots, or a dotted text and a number of bits
 pub data HasRangeForm (text : List ℕ) : Type 0 where
-  ends : (low high : List ℕ) (low_form high_form : Spelling) → text ≡ low ++ codes ".." ++ high → dots_len text ≡ length low → HasForm low low_form → HasForm high high_form → HasRangeForm text
-  net : (a b c d front bits : List ℕ) → text ≡ front ++ codes "/" ++ bits → AreParts front a b c d → is_run_of classes.Digit 1 20 bits ≡ true → HasRangeForm text
+  ends : (low high : List ℕ) (low_form high_form : Spelling) → text ≡ low ++ codes ".." ++ high → dots_len text ≡ length low → HasForm low low_form
+      → HasForm high high_form → HasRangeForm text
+  net : (a b c d front bits : List ℕ) → text ≡ front ++ codes "/" ++ bits → AreParts front a b c d → is_run_of classes.Digit 1 20 bits ≡ true
+      → HasRangeForm text
 
 -- the lawful ranges of a kind
 pub data RangeText (kind : Kind) (text : List ℕ) (range : Value × Value) : Type 0 where
-  ends : (low high : List ℕ) → text ≡ low ++ codes ".." ++ high → dots_len text ≡ length low → ValueText kind low range.0 → ValueText kind high range.1 → number_of range.0 ≤ number_of range.1 → RangeText kind text range
-  net : (a b c d front bits : List ℕ) → text ≡ front ++ codes "/" ++ bits → AreParts front a b c d → AreBytes a b c d → is_run_of classes.Digit 1 20 bits ≡ true → number_at 10 bits ≤ 32 → kind ≡ U32 → range ≡ net_from (address_of a b c d) (number_at 10 bits) → RangeText kind text range
+  ends : (low high : List ℕ) → text ≡ low ++ codes ".." ++ high → dots_len text ≡ length low → ValueText kind low range.0 → ValueText kind high range.1
+      → number_of range.0 ≤ number_of range.1 → RangeText kind text range
+  net : (a b c d front bits : List ℕ) → text ≡ front ++ codes "/" ++ bits → AreParts front a b c d → AreBytes a b c d
+      → is_run_of classes.Digit 1 20 bits ≡ true → number_at 10 bits ≤ 32 → kind ≡ U32 → range ≡ net_from (address_of a b c d) (number_at 10 bits)
+      → RangeText kind text range
 
 -- in no form: Syntax; in a form, but not lawful: ValueRange
 abbrev pub Judged : {A : Type 0} → Type 0 → (A → Type 0) → Result A Offence → Type 0
@@ -90,14 +97,16 @@ Then {A} First Next (Err stop) = First (Err stop) ⊎ ((x : A) × First (Ok x) �
 -- where the attribute's name is wanted
 abbrev pub NameFault : List Attr → List ℕ → Offence → Type 0
 NameFault attrs here Syntax = begins_with classes.Letter here ≡ false
-NameFault attrs here UnknownName = (word rest : List ℕ) × (begins_with classes.Letter here ≡ true) × IsRun classes.Name here word rest × (attr_named attrs word ≡ None)
+NameFault attrs here UnknownName = (word rest : List ℕ) × (begins_with classes.Letter here ≡ true) × IsRun classes.Name here word rest
+    × (attr_named attrs word ≡ None)
 NameFault attrs here BadOperator = ⊥
 NameFault attrs here ValueRange = ⊥
 NameFault attrs here TooLong = ⊥
 
 -- an attribute's name, after spaces
 abbrev pub NameRead : List Attr → List ℕ → Result ((ℕ × Kind) × List ℕ) Stop → Type 0
-NameRead attrs text (Ok found) = (here word : List ℕ) × IsAfterSpaces text here × (begins_with classes.Letter here ≡ true) × IsRun classes.Name here word found.1 × (attr_named attrs word ≡ Some found.0)
+NameRead attrs text (Ok found) = (here word : List ℕ) × IsAfterSpaces text here × (begins_with classes.Letter here ≡ true)
+    × IsRun classes.Name here word found.1 × (attr_named attrs word ≡ Some found.0)
 NameRead attrs text (Err stop) = (here : List ℕ) × IsAfterSpaces text here × (stop.left ≡ length here) × NameFault attrs here stop.offence
 
 -- how an operator is written
@@ -131,7 +140,8 @@ OpRead kind text (Err stop) = (here : List ℕ) × IsAfterSpaces text here × (s
 -- The word where a value or a range is wanted may be empty, which is in no form.
 abbrev pub EndsRead : Kind → Op → List ℕ → Result ((Value × Value) × List ℕ) Stop → Type 0
 EndsRead kind op text (Ok found) = (here word : List ℕ) × IsAfterSpaces text here × IsRun classes.Value here word found.1 × BoundsRead kind op word (Ok found.0)
-EndsRead kind op text (Err stop) = (here word rest : List ℕ) × IsAfterSpaces text here × IsRun classes.Value here word rest × (stop.left ≡ length here) × BoundsRead kind op word (Err stop.offence)
+EndsRead kind op text (Err stop) = (here word rest : List ℕ) × IsAfterSpaces text here × IsRun classes.Value here word rest × (stop.left ≡ length here)
+    × BoundsRead kind op word (Err stop.offence)
 
 -- a name, an operator that suits its kind, and a value or a range of that kind
 abbrev pub AtomRead : List Attr → List ℕ → Result (Atom × List ℕ) Stop → Type 0
@@ -150,7 +160,8 @@ LinkText Or here rest = here ≡ codes "||" ++ rest
 -- the end of the text, or a connective
 abbrev pub LinkRead : List ℕ → Result (Link × List ℕ) Stop → Type 0
 LinkRead text (Ok found) = (here : List ℕ) × IsAfterSpaces text here × LinkText found.0 here found.1
-LinkRead text (Err stop) = (here : List ℕ) × IsAfterSpaces text here × (stop ≡ stop_at Syntax here) × ((link : Link) (rest : List ℕ) → LinkText link here rest → ⊥)
+LinkRead text (Err stop) = (here : List ℕ) × IsAfterSpaces text here × (stop ≡ stop_at Syntax here)
+    × ((link : Link) (rest : List ℕ) → LinkText link here rest → ⊥)
 
 -- and what comes after a connective
 abbrev pub JoinedRead : Atom → Link → (Result (List (List Atom)) Stop → Type 0) → Result (List (List Atom)) Stop → Type 0
@@ -174,7 +185,8 @@ StarRead text (Err stop) = (here : List ℕ) × IsAfterSpaces text here × (here
 -- what a text is, as an expression or by its first offending token
 pub data ExprRead (attrs : List Attr) (text : List ℕ) (read : Result (List (List Atom)) Stop) : Type 0 where
   star : (rest : List ℕ) → IsAfterSpaces text (codes "*" ++ rest) → StarRead rest read → ExprRead attrs text read
-  conjunctions : (here : List ℕ) → IsAfterSpaces text here → ((rest : List ℕ) → here ≡ codes "*" ++ rest → ⊥) → ConjunctionsRead attrs 32 text read → ExprRead attrs text read
+  conjunctions : (here : List ℕ) → IsAfterSpaces text here → ((rest : List ℕ) → here ≡ codes "*" ++ rest → ⊥) → ConjunctionsRead attrs 32 text read
+      → ExprRead attrs text read
 
 -- a relation that holds of just one outcome
 pub record Only {A : Type 0} (P : A → Type 0) (x : A) : Type 0 where

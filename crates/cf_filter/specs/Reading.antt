@@ -73,7 +73,8 @@ op_named word =
 
 -- the word where an operator is wanted, and what follows it
 abbrev pub token_at : List ℕ → List ℕ × List ℕ
-token_at text = if begins_with classes.Letter text then (run classes.Name text, past classes.Name text) else (run classes.Operator text, past classes.Operator text)
+token_at text =
+    if begins_with classes.Letter text then (run classes.Name text, past classes.Name text) else (run classes.Operator text, past classes.Operator text)
 
 -- it is an operator that suits the kind, or it is a bad one
 abbrev pub suited_or : Kind → List ℕ → List ℕ → Option Op → Result (Op × List ℕ) Stop

@@ -61,7 +61,8 @@ parts_at text = do
 
 -- how a text is written, if it is written as a value
 abbrev pub form_at : List ℕ → Option Spelling
-form_at text = if is_run_of classes.Digit 1 20 text then Some Decimal else (if is_hex_text text then Some Hex else (if is_some (parts_at text) then Some Dotted else None))
+form_at text =
+    if is_run_of classes.Digit 1 20 text then Some Decimal else (if is_hex_text text then Some Hex else (if is_some (parts_at text) then Some Dotted else None))
 
 -- a number of at most 255
 abbrev pub byte_at : List ℕ → Option ℕ

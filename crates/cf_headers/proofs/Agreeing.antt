@@ -22,7 +22,10 @@ use Rattle.cf_headers.specs.Packet6.{values_by, values_at, Agrees}
 not_same : (n m : ℕ) → (n ≡ m → ⊥) → (n == m) ≡ false
 not_same n m h = grind (arith, nat_tests)
 
-none_else : (a b c d e f : Bool) → has_some Basic (if a then Some LinuxCookedV2 else (if b then Some RawIp else (if c then Some Ipv4 else (if d then Some Ipv6 else (if e then Some Null else (if f then Some Loop else None)))))) ≡ true → ⊥
+none_else : (a b c d e f : Bool)
+    → has_some Basic
+    (if a then Some LinuxCookedV2 else
+    (if b then Some RawIp else (if c then Some Ipv4 else (if d then Some Ipv6 else (if e then Some Null else (if f then Some Loop else None)))))) ≡ true → ⊥
 none_else true b c d e f h = cc
 none_else false true c d e f h = cc
 none_else false false true d e f h = cc
@@ -51,7 +54,8 @@ past_none : (layer : Layer) (frame : List ℕ) → has_tag layer frame ≡ false
 unfolding past_tag
 past_none layer frame h = rw h refl
 
-past_one : (layer : Layer) (frame : List ℕ) → has_tag layer frame ≡ true → past_tag layer frame ≡ record { etype = big_number 2 (drop (layer.place + 2) frame); place = layer.place + 4 }
+past_one : (layer : Layer) (frame : List ℕ) → has_tag layer frame ≡ true
+    → past_tag layer frame ≡ record { etype = big_number 2 (drop (layer.place + 2) frame); place = layer.place + 4 }
 unfolding past_tag
 past_one layer frame h = rw h refl
 
@@ -75,7 +79,8 @@ first_at link frame = record { etype = type_or_0 frame (type_at link); place = t
 same_record : (a b m n : ℕ) → a ≡ b → m ≡ n → ◌≡◌ {A = Layer} (record { etype = a; place = m }) (record { etype = b; place = n })
 same_record a b m n p q = cc
 
-type_tagged : (link : ℕ) (frame : List ℕ) → is_tagged link frame ≡ true → (type_at link + 6 ≤ length frame) × (big_number 2 (drop (type_at link) frame) ≡ 0x8100)
+type_tagged : (link : ℕ) (frame : List ℕ) → is_tagged link frame ≡ true → (type_at link + 6 ≤ length frame)
+    × (big_number 2 (drop (type_at link) frame) ≡ 0x8100)
 unfolding is_tagged
 type_tagged link frame h =
     let parts = and_parts (nat_le (type_at link + 6) (length frame)) (big_number 2 (drop (type_at link) frame) == 0x8100) h in
@@ -102,11 +107,13 @@ place_by : (link : ℕ) (frame : List ℕ) (b : Bool) → is_tagged link frame �
 unfolding network_at
 place_by link frame b h = rw h refl
 
-vlan_by : (link : ℕ) (frame : List ℕ) (b : Bool) → is_tagged link frame ≡ b → vlan_of link frame ≡ (if b then big_number 2 (drop (type_at link + 2) frame) % 2 ^ 12 else 0)
+vlan_by : (link : ℕ) (frame : List ℕ) (b : Bool) → is_tagged link frame ≡ b
+    → vlan_of link frame ≡ (if b then big_number 2 (drop (type_at link + 2) frame) % 2 ^ 12 else 0)
 unfolding vlan_of
 vlan_by link frame b h = rw h refl
 
-same_by : (link : ℕ) (frame : List ℕ) (b : Bool) → is_tagged link frame ≡ b → link_layer link frame ≡ first_at link frame → etype_of link frame ≡ 0x0800 → Same link frame
+same_by : (link : ℕ) (frame : List ℕ) (b : Bool) → is_tagged link frame ≡ b → link_layer link frame ≡ first_at link frame → etype_of link frame ≡ 0x0800
+    → Same link frame
 same_by link frame true is first type =
     let tag : has_tag (first_at link frame) frame ≡ true = first_tagged link frame is in
     let second : Layer = record { etype = big_number 2 (drop (type_at link + 2 + 2) frame); place = type_at link + 2 + 4 } in
@@ -116,16 +123,19 @@ same_by link frame true is first type =
     let one : past_tag (link_layer link frame) frame ≡ second = ap (λ (l : Layer). past_tag l frame) first ∙ past_one (first_at link frame) frame tag in
     let two : past_tag second frame ≡ second = past_none second frame (no_tag second frame etype) in
     record {
-      layer = ap (λ (l : Layer). past_tag l frame) one ∙ two ∙ same_record second.etype 0x0800 (type_at link + 2 + 4) (network_at link frame) etype (six ∙ sym (place_by link frame true is));
+      layer = ap (λ (l : Layer). past_tag l frame) one ∙ two
+          ∙ same_record second.etype 0x0800 (type_at link + 2 + 4) (network_at link frame) etype (six ∙ sym (place_by link frame true is));
       vlan = ap (λ (l : Layer). vlan_in l frame) first ∙ vlan_one (first_at link frame) frame tag ∙ sym (vlan_by link frame true is);
     }
 same_by link frame false is first type =
     let etype : type_or_0 frame (type_at link) ≡ 0x0800 = sym (etype_plain link frame is) ∙ type in
     let none : has_tag (first_at link frame) frame ≡ false = no_tag (first_at link frame) frame etype in
-    let one : past_tag (link_layer link frame) frame ≡ first_at link frame = ap (λ (l : Layer). past_tag l frame) first ∙ past_none (first_at link frame) frame none in
+    let one : past_tag (link_layer link frame) frame ≡ first_at link frame = ap (λ (l : Layer). past_tag l frame) first
+    ∙ past_none (first_at link frame) frame none in
     let two : past_tag (first_at link frame) frame ≡ first_at link frame = past_none (first_at link frame) frame none in
     record {
-      layer = ap (λ (l : Layer). past_tag l frame) one ∙ two ∙ same_record (type_or_0 frame (type_at link)) 0x0800 (type_at link + 2) (network_at link frame) etype (sym (place_by link frame false is));
+      layer = ap (λ (l : Layer). past_tag l frame) one ∙ two
+          ∙ same_record (type_or_0 frame (type_at link)) 0x0800 (type_at link + 2) (network_at link frame) etype (sym (place_by link frame false is));
       vlan = ap (λ (l : Layer). vlan_in l frame) first ∙ vlan_none (first_at link frame) frame none ∙ sym (vlan_by link frame false is);
     }
 
@@ -178,20 +188,24 @@ abbrev wide_by : Transport → ℕ → ℕ → ℕ → ℕ → FrameValue → Li
 wide_by transport kind etype place vlan packet =
     (Num packet.ts ∷ Num packet.caplen ∷ Num packet.len ∷ [])
     ++ (address_values packet.link packet.bytes ++ (Num etype ∷ Num kind
-    ∷ (network_values (has_ipv4 etype place packet.bytes) place packet.bytes ++ (transport_values transport packet.bytes ++ (Num vlan ∷ Num 0 ∷ Num 0 ∷ Num 0 ∷ Num 0 ∷ [])))))
+    ∷ (network_values (has_ipv4 etype place packet.bytes) place packet.bytes ++
+    (transport_values transport packet.bytes ++ (Num vlan ∷ Num 0 ∷ Num 0 ∷ Num 0 ∷ Num 0 ∷ [])))))
 
-front : (transport : Transport) (kind etype place vlan : ℕ) (packet : FrameValue) → take 20 (wide_by transport kind etype place vlan packet) ≡ narrow_by transport kind etype place vlan packet
+front : (transport : Transport) (kind etype place vlan : ℕ) (packet : FrameValue)
+    → take 20 (wide_by transport kind etype place vlan packet) ≡ narrow_by transport kind etype place vlan packet
 front Unread kind etype place vlan packet = refl
 front (Tcp at) kind etype place vlan packet = refl
 front (Udp at) kind etype place vlan packet = refl
 
 abbrev narrow : ℕ → ℕ → ℕ → FrameValue → List Value
 narrow etype place vlan packet =
-    narrow_by (transport_in (has_ipv4 etype place packet.bytes) place packet.bytes) (kind_of (has_ipv4 etype place packet.bytes) (transport_in (has_ipv4 etype place packet.bytes) place packet.bytes)) etype place vlan packet
+    narrow_by (transport_in (has_ipv4 etype place packet.bytes) place packet.bytes)
+    (kind_of (has_ipv4 etype place packet.bytes) (transport_in (has_ipv4 etype place packet.bytes) place packet.bytes)) etype place vlan packet
 
 front_of : (etype place vlan : ℕ) (packet : FrameValue) → take 20 (values_by false etype place vlan packet) ≡ narrow etype place vlan packet
 front_of etype place vlan packet =
-    front (transport_in (has_ipv4 etype place packet.bytes) place packet.bytes) (kind_of (has_ipv4 etype place packet.bytes) (transport_in (has_ipv4 etype place packet.bytes) place packet.bytes)) etype place vlan packet
+    front (transport_in (has_ipv4 etype place packet.bytes) place packet.bytes)
+    (kind_of (has_ipv4 etype place packet.bytes) (transport_in (has_ipv4 etype place packet.bytes) place packet.bytes)) etype place vlan packet
 
 pub agrees : (packet : FrameValue) → Agrees packet
 agrees packet lawful kind =

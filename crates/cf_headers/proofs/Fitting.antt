@@ -57,14 +57,16 @@ kind_fits ipv4 (Tcp place) = refl
 kind_fits ipv4 (Udp place) = refl
 
 -- the type, by whether there is a tag and whether there is a type
-type_low : (tagged read : Bool) (frame : List ℕ) (place after : ℕ) → HoldsBytes frame → (if tagged then big_number 2 (drop after frame) else if read then big_number 2 (drop place frame) else 0) < 2 ^ 16
+type_low : (tagged read : Bool) (frame : List ℕ) (place after : ℕ) → HoldsBytes frame
+    → (if tagged then big_number 2 (drop after frame) else if read then big_number 2 (drop place frame) else 0) < 2 ^ 16
 type_low true read frame place after low = number_low 2 frame after low
 type_low false true frame place after low = number_low 2 frame place low
 type_low false false frame place after low = omega arith
 
 etype_fits : (link : ℕ) (frame : List ℕ) → HoldsBytes frame → nat_lt (etype_of link frame) (2 ^ 16) ≡ true
 unfolding etype_of
-etype_fits link frame low = lt-ltb (etype_of link frame) (2 ^ 16) (type_low (is_tagged link frame) (has_type link frame) frame (type_at link) (type_at link + 4) low)
+etype_fits link frame low =
+    lt-ltb (etype_of link frame) (2 ^ 16) (type_low (is_tagged link frame) (has_type link frame) frame (type_at link) (type_at link + 4) low)
 
 pub tag_low : (tagged : Bool) (number : ℕ) → (if tagged then number % 2 ^ 12 else 0) < 2 ^ 16
 tag_low true number = omega arith
@@ -81,17 +83,20 @@ six_fit xs six low =
     sym (byte_string 6 (xs ++ replicate 10 0) (omega arith) size (bytes_append xs (replicate 10 0) low (zeros_low 10)))
     ∙ rw (rw six at (drop-append_seam xs (replicate 10 0))) refl
 
-pub address_fits : (read : Bool) (frame : List ℕ) (place : ℕ) → HoldsBytes frame → (read ≡ true → place + 6 ≤ length frame) → is_of_kind (Bytes 6) (address_if read frame place) ≡ true
+pub address_fits : (read : Bool) (frame : List ℕ) (place : ℕ) → HoldsBytes frame → (read ≡ true → place + 6 ≤ length frame)
+    → is_of_kind (Bytes 6) (address_if read frame place) ≡ true
 unfolding address_if
 address_fits true frame place low room =
     let whole : place + 6 ≤ length frame = room refl in
     let count : place + 6 - place ≡ 6 = omega arith in
     let held : 6 ≤ length (drop place frame) = omega (arith, length-drop place frame, whole) in
-    rw count (six_fit (take 6 (drop place frame)) (length-take-le 6 (drop place frame) held) (bytes_take 6 (drop place frame) (bytes_drop place frame (bytes_of frame (λ i lt. low i)))))
+    rw count (six_fit (take 6 (drop place frame)) (length-take-le 6 (drop place frame) held)
+    (bytes_take 6 (drop place frame) (bytes_drop place frame (bytes_of frame (λ i lt. low i)))))
 address_fits false frame place low room = refl
 
 -- the fields of a transport header, and vlan
-transport_fits : (transport : Transport) (frame : List ℕ) (vlan : ℕ) → HoldsBytes frame → nat_lt vlan (2 ^ 16) ≡ true → values_fit (drop 13 packet_attrs) (transport_values transport frame ++ Num vlan ∷ []) ≡ true
+transport_fits : (transport : Transport) (frame : List ℕ) (vlan : ℕ) → HoldsBytes frame → nat_lt vlan (2 ^ 16) ≡ true
+    → values_fit (drop 13 packet_attrs) (transport_values transport frame ++ Num vlan ∷ []) ≡ true
 transport_fits Unread frame vlan low tag = and_from _ _ tag refl
 transport_fits (Tcp place) frame vlan low tag =
     and_from _ _ (u16_at_fits frame place low)
@@ -108,10 +113,12 @@ transport_fits (Udp place) frame vlan low tag =
 
 -- where addresses are read, their bytes are there
 pub addresses_room : (link n : ℕ) (frame : List ℕ) → n ≤ 14 → has_addresses link frame ≡ true → n ≤ length frame
-addresses_room link n frame few read = let h : 14 ≤ length frame = leb-true 14 (length frame) (and_parts (link == 1) (nat_le 14 (length frame)) read).1 in omega (arith, h, few)
+addresses_room link n frame few read = let h : 14 ≤ length frame = leb-true 14 (length frame) (and_parts (link == 1) (nat_le 14 (length frame)) read).1 in
+    omega (arith, h, few)
 
 -- every field of a row of a packet is of its kind
-pub packet_fits : (packet : FrameValue) → packet.ts < 2 ^ 64 → packet.caplen < 2 ^ 32 → packet.len < 2 ^ 32 → HoldsBytes packet.bytes → Fits packet_attrs (packet_row_of packet)
+pub packet_fits : (packet : FrameValue) → packet.ts < 2 ^ 64 → packet.caplen < 2 ^ 32 → packet.len < 2 ^ 32 → HoldsBytes packet.bytes
+    → Fits packet_attrs (packet_row_of packet)
 packet_fits packet ts caplen len low =
     let frame = packet.bytes in
     let link = packet.link in

@@ -68,7 +68,9 @@ tagged_low false x y p q = q
 
 past_low : (layer : Layer) (frame : List ℕ) → HoldsBytes frame → layer.etype < 2 ^ 16 → (past_tag layer frame).etype < 2 ^ 16
 unfolding past_tag
-past_low layer frame low h = tagged_low (has_tag layer frame) (record { etype = big_number 2 (drop (layer.place + 2) frame); place = layer.place + 4 }) layer (number_low 2 frame (layer.place + 2) low) h
+past_low layer frame low h =
+    tagged_low (has_tag layer frame) (record { etype = big_number 2 (drop (layer.place + 2) frame); place = layer.place + 4 }) layer
+    (number_low 2 frame (layer.place + 2) low) h
 
 vlan_fits : (layer : Layer) (frame : List ℕ) → nat_lt (vlan_in layer frame) (2 ^ 16) ≡ true
 unfolding vlan_in
@@ -85,13 +87,18 @@ upper_low zero n place end frame low h = h
 upper_low (suc k) n place end frame low h =
     let next : ℕ = slice_index frame place in
     let more : Upper = upper_after k next (place + extension_length n place frame) end frame in
-    upper_low_by (has_extension n place end frame) (if is_later_part n place frame then record { protocol = next; place = place + 8; begins = false } else more) (record { protocol = n; place = place; begins = true })
-    (upper_low_by (is_later_part n place frame) (record { protocol = next; place = place + 8; begins = false }) more (low place) (upper_low k next (place + extension_length n place frame) end frame low (low place)))
+    upper_low_by (has_extension n place end frame)
+    (if is_later_part n place frame then record { protocol = next; place = place + 8; begins = false } else more)
+    (record { protocol = n; place = place; begins = true })
+    (upper_low_by (is_later_part n place frame) (record { protocol = next; place = place + 8; begins = false }) more (low place)
+    (upper_low k next (place + extension_length n place frame) end frame low (low place)))
     h
 
 protocol_fits : (place : ℕ) (frame : List ℕ) → HoldsBytes frame → nat_lt (upper_of place frame).protocol (2 ^ 8) ≡ true
 unfolding upper_of
-protocol_fits place frame low = lt-ltb (upper_of place frame).protocol (2 ^ 8) (upper_low 8 (slice_index frame (place + 6)) (place + 40) (packet6_end place frame) frame low (low (place + 6)))
+protocol_fits place frame low =
+    lt-ltb (upper_of place frame).protocol (2 ^ 8)
+    (upper_low 8 (slice_index frame (place + 6)) (place + 40) (packet6_end place frame) frame low (low (place + 6)))
 
 -- Both network headers.
 
@@ -129,7 +136,8 @@ addresses_fit true place frame low =
     (and_from _ _ (u64_at_fits frame (place + 32) low) refl)))
 addresses_fit false place frame low = refl
 
-transport_fits : (transport : Transport) (frame : List ℕ) (vlan : ℕ) (rest : List Value) → HoldsBytes frame → nat_lt vlan (2 ^ 16) ≡ true → values_fit address_attrs rest ≡ true
+transport_fits : (transport : Transport) (frame : List ℕ) (vlan : ℕ) (rest : List Value) → HoldsBytes frame → nat_lt vlan (2 ^ 16) ≡ true
+    → values_fit address_attrs rest ≡ true
     → values_fit (drop 13 packet6_attrs) (transport_values transport frame ++ (Num vlan ∷ rest)) ≡ true
 transport_fits Unread frame vlan rest low tag more = and_from _ _ tag more
 transport_fits (Tcp place) frame vlan rest low tag more =
@@ -146,7 +154,8 @@ transport_fits (Udp place) frame vlan rest low tag more =
     (and_from _ _ tag more))
 
 -- every field of a row of a packet is of its kind
-pub packet6_fits : (packet : FrameValue) → packet.ts < 2 ^ 64 → packet.caplen < 2 ^ 32 → packet.len < 2 ^ 32 → HoldsBytes packet.bytes → Fits packet6_attrs (packet6_row_of packet)
+pub packet6_fits : (packet : FrameValue) → packet.ts < 2 ^ 64 → packet.caplen < 2 ^ 32 → packet.len < 2 ^ 32 → HoldsBytes packet.bytes
+    → Fits packet6_attrs (packet6_row_of packet)
 packet6_fits packet ts caplen len low =
     let frame = packet.bytes in
     let link = packet.link in
@@ -164,4 +173,5 @@ packet6_fits packet ts caplen len low =
     (and_from _ _ (lt-ltb layer.etype (2 ^ 16) etype)
     (and_from _ _ (kind_fits (ipv6 || has_ipv4 layer.etype layer.place frame) transport)
     (network_fits ipv6 layer.etype layer.place frame _ low
-    (transport_fits transport frame (vlan_in first frame) (address6_if ipv6 layer.place frame) low (vlan_fits first frame) (addresses_fit ipv6 layer.place frame low)))))))))
+    (transport_fits transport frame (vlan_in first frame) (address6_if ipv6 layer.place frame) low (vlan_fits first frame)
+    (addresses_fit ipv6 layer.place frame low)))))))))

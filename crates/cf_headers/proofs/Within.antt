@@ -28,11 +28,13 @@ kind_kept U16 (Raw len bytes) good is = absurd (cc is)
 kind_kept U32 (Raw len bytes) good is = absurd (cc is)
 kind_kept U64 (Raw len bytes) good is = absurd (cc is)
 kind_kept (Bytes zero) (Raw len bytes) good is = absurd (cc good)
-kind_kept (Bytes (suc k)) (Raw zero bytes) good is = let same = eqb-true zero (suc k) (and_parts (zero == suc k) (is_byte_string zero bytes) is).0 in absurd (omega (arith, same))
+kind_kept (Bytes (suc k)) (Raw zero bytes) good is = let same = eqb-true zero (suc k) (and_parts (zero == suc k) (is_byte_string zero bytes) is).0 in
+    absurd (omega (arith, same))
 kind_kept (Bytes (suc k)) (Raw (suc n) bytes) good is =
     and_from _ _ (eq-eqb (suc n) (suc n) refl) (and_parts (suc n == suc k) (is_byte_string (suc n) bytes) is).1
 
-all_kept : (attrs : List Attr) (vs : List Value) → list_all (λ attr. has_good_size attr.kind) attrs ≡ true → values_fit attrs vs ≡ true → list_all can_be_kept vs ≡ true
+all_kept : (attrs : List Attr) (vs : List Value) → list_all (λ attr. has_good_size attr.kind) attrs ≡ true → values_fit attrs vs ≡ true
+    → list_all can_be_kept vs ≡ true
 all_kept [] [] good fits = refl
 all_kept [] (v ∷ vs) good fits = absurd (cc fits)
 all_kept (a ∷ attrs) [] good fits = absurd (cc fits)

@@ -152,7 +152,8 @@ abbrev pub packet_row_of : FrameValue → RowValue
 packet_row_of packet = record {
   num = packet.num;
   values = (Num packet.ts ∷ Num packet.caplen ∷ Num packet.len ∷ [])
-      ++ (address_values packet.link packet.bytes ++ (Num (etype_of packet.link packet.bytes) ∷ Num (kind_of (is_ipv4 packet.link packet.bytes) (transport_of packet.link packet.bytes))
+      ++ (address_values packet.link packet.bytes ++
+      (Num (etype_of packet.link packet.bytes) ∷ Num (kind_of (is_ipv4 packet.link packet.bytes) (transport_of packet.link packet.bytes))
       ∷ (network_values (is_ipv4 packet.link packet.bytes) (network_at packet.link packet.bytes) packet.bytes
       ++ (transport_values (transport_of packet.link packet.bytes) packet.bytes ++ Num (vlan_of packet.link packet.bytes) ∷ []))));
 }

@@ -17,12 +17,16 @@ slice_get_seam : {X : Type 0} (before after : List X) (x : X) → slice_get (bef
 slice_get_seam [] after x = refl
 slice_get_seam (y ∷ before) after x = slice_get_seam before after x
 
-log_alone : (past rows : List RowValue) (before : List ℕ) → count_by (λ w. w == 0) before ≡ length past → log_after (past ++ rows) 1 before (replicate (length rows) 0) ≡ alone rows
+log_alone : (past rows : List RowValue) (before : List ℕ) → count_by (λ w. w == 0) before ≡ length past
+    → log_after (past ++ rows) 1 before (replicate (length rows) 0) ≡ alone rows
 log_alone past [] before same = refl
 log_alone past (row ∷ rows) before same =
-    let more : count_by (λ w. w == 0) (before ++ 0 ∷ []) ≡ length (past ++ row ∷ []) = sum_by-append (λ w. cond (w == 0) 1 0) before (0 ∷ []) ∙ ap (λ n. n + 1) same ∙ sym (length-append past (row ∷ [])) in
+    let more : count_by (λ w. w == 0) (before ++ 0 ∷ []) ≡ length (past ++ row ∷ []) = sum_by-append (λ w. cond (w == 0) 1 0) before (0 ∷ [])
+    ∙ ap (λ n. n + 1) same ∙ sym (length-append past (row ∷ [])) in
     let place : count_by (λ w. w == 0) before * 1 + 0 ≡ length past = omega (arith, same) in
-    let rest : log_after (past ++ row ∷ rows) 1 (before ++ 0 ∷ []) (replicate (length rows) 0) ≡ alone rows = subst (λ (xs : List RowValue). log_after xs 1 (before ++ 0 ∷ []) (replicate (length rows) 0) ≡ alone rows) (append_assoc past (row ∷ []) rows) (log_alone (past ++ row ∷ []) rows (before ++ 0 ∷ []) more) in
+    let rest : log_after (past ++ row ∷ rows) 1 (before ++ 0 ∷ []) (replicate (length rows) 0) ≡ alone rows =
+    subst (λ (xs : List RowValue). log_after xs 1 (before ++ 0 ∷ []) (replicate (length rows) 0) ≡ alone rows) (append_assoc past (row ∷ []) rows)
+    (log_alone (past ++ row ∷ []) rows (before ++ 0 ∷ []) more) in
     rw (place, slice_get_seam past rows row, rest) refl
 
 pub log_of_one : (rows : List RowValue) → log_of rows 1 (replicate (length rows) 0) ≡ alone rows
@@ -34,7 +38,8 @@ exist_one (suc n) = (omega arith, exist_one n)
 
 count_every : {X : Type 0} (p : X → Bool) (xs : List X) → AllByRecursion (λ x. p x ≡ true) xs → count_by p xs ≡ length xs
 count_every p [] every = refl
-count_every p (x ∷ xs) every = let rest : count_by p xs ≡ length xs = count_every p xs every.1 in sum_by-cons (λ y. cond (p y) 1 0) x xs ∙ rw every.0 (omega (arith, rest))
+count_every p (x ∷ xs) every = let rest : count_by p xs ≡ length xs = count_every p xs every.1 in sum_by-cons (λ y. cond (p y) 1 0) x xs
+    ∙ rw every.0 (omega (arith, rest))
 
 every_take : {X : Type 0} (P : X → Type 0) (n : ℕ) (xs : List X) → AllByRecursion P xs → AllByRecursion P (take n xs)
 every_take P zero xs every = tt
@@ -65,9 +70,11 @@ fair_part : (m j n : ℕ) → count_by (λ w. w == 0) (take m (drop j (replicate
 fair_part m j n =
     count_every (λ w. w == 0) _ (every_take (λ w. (w == 0) ≡ true) m _ (every_drop (λ w. (w == 0) ≡ true) j (replicate n 0) (every_zero n)))
     ∙ length_part m j (replicate n 0) (range_with_len 0 n) (length-replicate n 0 ∙ sym (length_numbers 0 n))
-    ∙ sym (count_every (λ k. k % 1 == 0) _ (every_take (λ k. (k % 1 == 0) ≡ true) m _ (every_drop (λ k. (k % 1 == 0) ≡ true) j (range_with_len 0 n) (every_own 0 n))))
+    ∙ sym (count_every (λ k. k % 1 == 0) _
+    (every_take (λ k. (k % 1 == 0) ≡ true) m _ (every_drop (λ k. (k % 1 == 0) ≡ true) j (range_with_len 0 n) (every_own 0 n))))
 
-fair_one : (n b writer : ℕ) → writer < 1 → count_by (λ w. w == writer) (batch b (replicate n 0)) ≡ count_by (λ k. k % 1 == writer) (batch b (range_with_len 0 n))
+fair_one : (n b writer : ℕ) → writer < 1
+    → count_by (λ w. w == writer) (batch b (replicate n 0)) ≡ count_by (λ k. k % 1 == writer) (batch b (range_with_len 0 n))
 fair_one n b zero lt = fair_part 4096 (4096 * b) n
 fair_one n b (suc writer) lt = absurd (omega (arith, lt))
 

@@ -83,7 +83,8 @@ module _ (writers w : ℕ) where
   ]
 
   -- the writer's row number j stands j rounds and d rows further on, where its next row is d rows away
-  row_at : (k r d j : ℕ) (rows : List RowValue) → k % writers ≡ r → r < writers → w < writers → d < writers → ((r + d ≡ w) ⊎ (r + d ≡ w + writers)) → slice_get (rows_of writers w k rows) j ≡ slice_get rows (j * writers + d)
+  row_at : (k r d j : ℕ) (rows : List RowValue) → k % writers ≡ r → r < writers → w < writers → d < writers → ((r + d ≡ w) ⊎ (r + d ≡ w + writers))
+      → slice_get (rows_of writers w k rows) j ≡ slice_get rows (j * writers + d)
   row_at k r d j [] is lt w_lt d_lt away = refl
   row_at k r zero zero (row ∷ rows) is lt w_lt d_lt away =
       let same : r ≡ w = elim away [ inl e ↦ omega (arith, e) | inr e ↦ absurd (omega (arith, e, lt)) ] in
@@ -93,22 +94,27 @@ module _ (writers w : ℕ) where
       let same : r ≡ w = elim away [ inl e ↦ omega (arith, e) | inr e ↦ absurd (omega (arith, e, lt)) ] in
       let place : suc j * writers + 0 ≡ suc (j * writers + (writers - 1)) = omega (arith, suc-mul j writers, d_lt) in
       rw (own_row k row rows (is ∙ same), place) (elim (cases_lt (r + 1) writers) [
-        | inl within ↦ row_at (k + 1) (r + 1) (writers - 1) j rows (next_within k writers r is within) within w_lt (omega (arith, d_lt)) (inr (omega (arith, same, d_lt)))
-        | inr past ↦ row_at (k + 1) 0 (writers - 1) j rows (next_round k writers r is (omega (arith, past, lt))) d_lt w_lt (omega (arith, d_lt)) (inl (omega (arith, same, past, lt)))
+        | inl within ↦ row_at (k + 1) (r + 1) (writers - 1) j rows (next_within k writers r is within) within w_lt (omega (arith, d_lt))
+            (inr (omega (arith, same, d_lt)))
+        | inr past ↦ row_at (k + 1) 0 (writers - 1) j rows (next_round k writers r is (omega (arith, past, lt))) d_lt w_lt (omega (arith, d_lt))
+            (inl (omega (arith, same, past, lt)))
       ])
   row_at k r (suc d) j (row ∷ rows) is lt w_lt d_lt away =
       let apart : k % writers ≡ w → ⊥ = λ own. elim away [ inl e ↦ omega (arith, e, is, own) | inr e ↦ omega (arith, e, is, own, d_lt) ] in
       let place : j * writers + suc d ≡ suc (j * writers + d) = omega arith in
       rw (other_row k row rows apart, place) (elim (cases_lt (r + 1) writers) [
-        | inl within ↦ row_at (k + 1) (r + 1) d j rows (next_within k writers r is within) within w_lt (omega (arith, d_lt)) (elim away [ inl e ↦ inl (omega (arith, e)) | inr e ↦ inr (omega (arith, e)) ])
-        | inr past ↦ row_at (k + 1) 0 d j rows (next_round k writers r is (omega (arith, past, lt))) (omega (arith, lt)) w_lt (omega (arith, d_lt)) (elim away [ inl e ↦ absurd (omega (arith, e, past, w_lt)) | inr e ↦ inl (omega (arith, e, past, lt)) ])
+        | inl within ↦ row_at (k + 1) (r + 1) d j rows (next_within k writers r is within) within w_lt (omega (arith, d_lt))
+            (elim away [ inl e ↦ inl (omega (arith, e)) | inr e ↦ inr (omega (arith, e)) ])
+        | inr past ↦ row_at (k + 1) 0 d j rows (next_round k writers r is (omega (arith, past, lt))) (omega (arith, lt)) w_lt (omega (arith, d_lt))
+            (elim away [ inl e ↦ absurd (omega (arith, e, past, w_lt)) | inr e ↦ inl (omega (arith, e, past, lt)) ])
       ])
 
   own_at : (j : ℕ) (rows : List RowValue) → 0 % writers ≡ 0 → w < writers → slice_get (rows_of writers w 0 rows) j ≡ slice_get rows (j * writers + w)
   own_at j rows none w_lt = row_at 0 0 w j rows none (omega (arith, w_lt)) w_lt w_lt (inl (omega arith))
 
   -- the number at which a part of the rows begins
-  rows_place : (m j : ℕ) (rows : List RowValue) → rows_of writers w (0 + length (take j rows)) (take m (drop j rows)) ≡ rows_of writers w j (take m (drop j rows))
+  rows_place : (m j : ℕ) (rows : List RowValue)
+      → rows_of writers w (0 + length (take j rows)) (take m (drop j rows)) ≡ rows_of writers w j (take m (drop j rows))
   rows_place m j rows = elim (cases_lt (length rows) j) [
     | inl past ↦ rw (drop_all j rows (omega (arith, past)), take_all {A = RowValue} m [] (omega arith)) refl
     | inr within ↦ let e : 0 + length (take j rows) ≡ j = omega (arith, length-take j rows, within) in rw e refl
@@ -132,7 +138,8 @@ turns_append w xs ys = sum_by-append (λ u. cond (u == w) 1 0) xs ys
 
 turns_take : (w i : ℕ) (order : List ℕ) → turns w (take i order) ≤ turns w order
 turns_take w i order =
-    let whole : turns w order ≡ turns w (take i order) + turns w (drop i order) = ap (turns w) (sym (take-append-drop i order)) ∙ turns_append w (take i order) (drop i order) in
+    let whole : turns w order ≡ turns w (take i order) + turns w (drop i order) = ap (turns w) (sym (take-append-drop i order))
+    ∙ turns_append w (take i order) (drop i order) in
     omega (arith, whole)
 
 exist_take : (n i : ℕ) (order : List ℕ) → AllByRecursion (λ v. v < n) order → AllByRecursion (λ v. v < n) (take i order)
@@ -167,33 +174,41 @@ module _ (rows : List RowValue) (writers : ℕ) (first : 0 % writers ≡ 0) wher
   place_within : (v : ℕ) (before order : List ℕ) → v < writers → Enough before (v ∷ order) → turns v before < length (rows_of writers v 0 rows)
   place_within v before order lt enough = omega (arith, enough v lt, turns_own v v order refl)
 
-  log_step : (v : ℕ) (before order : List ℕ) → v < writers → Enough before (v ∷ order) → log_after rows writers before (v ∷ order) ≡ next_entry v before ∷ log_after rows writers (before ++ v ∷ []) order
+  log_step : (v : ℕ) (before order : List ℕ) → v < writers → Enough before (v ∷ order)
+      → log_after rows writers before (v ∷ order) ≡ next_entry v before ∷ log_after rows writers (before ++ v ∷ []) order
   log_step v before order lt enough =
       let found : slice_get rows (turns v before * writers + v) ≡ Some (get_or (rows_of writers v 0 rows) (turns v before) none) =
-      sym (own_at writers v (turns v before) rows first lt) ∙ slice_get-get_or (rows_of writers v 0 rows) (turns v before) none (place_within v before order lt enough) in
+      sym (own_at writers v (turns v before) rows first lt)
+      ∙ slice_get-get_or (rows_of writers v 0 rows) (turns v before) none (place_within v before order lt enough) in
       rw found refl
 
   order_after : (before order : List ℕ) → AllByRecursion (λ v. v < writers) order → Enough before order → order_of (log_after rows writers before order) ≡ order
   order_after before [] exist enough = refl
-  order_after before (v ∷ order) exist enough = rw (log_step v before order exist.0 enough) (ap (λ vs. v ∷ vs) (order_after (before ++ v ∷ []) order exist.1 (enough_next v before order enough)))
+  order_after before (v ∷ order) exist enough =
+      rw (log_step v before order exist.0 enough) (ap (λ vs. v ∷ vs) (order_after (before ++ v ∷ []) order exist.1 (enough_next v before order enough)))
 
-  take_after : (i : ℕ) (before order : List ℕ) → AllByRecursion (λ v. v < writers) order → Enough before order → take i (log_after rows writers before order) ≡ log_after rows writers before (take i order)
+  take_after : (i : ℕ) (before order : List ℕ) → AllByRecursion (λ v. v < writers) order → Enough before order
+      → take i (log_after rows writers before order) ≡ log_after rows writers before (take i order)
   take_after zero before order exist enough = refl
   take_after (suc i) before [] exist enough = refl
   take_after (suc i) before (v ∷ order) exist enough =
       rw (log_step v before order exist.0 enough, log_step v before (take i order) exist.0 (enough_take (suc i) before (v ∷ order) enough))
       (ap (λ es. next_entry v before ∷ es) (take_after i (before ++ v ∷ []) order exist.1 (enough_next v before order enough)))
 
-  written_after : (w : ℕ) (before order : List ℕ) → w < writers → AllByRecursion (λ v. v < writers) order → Enough before order → written_by w (log_after rows writers before order) ≡ take (turns w order) (drop (turns w before) (rows_of writers w 0 rows))
+  written_after : (w : ℕ) (before order : List ℕ) → w < writers → AllByRecursion (λ v. v < writers) order → Enough before order
+      → written_by w (log_after rows writers before order) ≡ take (turns w order) (drop (turns w before) (rows_of writers w 0 rows))
   written_after w before [] lt exist enough = refl
   written_after w before (v ∷ order) lt exist enough =
-      let rest : written_by w (log_after rows writers (before ++ v ∷ []) order) ≡ take (turns w order) (drop (turns w (before ++ v ∷ [])) (rows_of writers w 0 rows)) = written_after w (before ++ v ∷ []) order lt exist.1 (enough_next v before order enough) in
+      let rest : written_by w (log_after rows writers (before ++ v ∷ []) order) ≡ take (turns w order)
+      (drop (turns w (before ++ v ∷ [])) (rows_of writers w 0 rows)) =
+      written_after w (before ++ v ∷ []) order lt exist.1 (enough_next v before order enough) in
       ap (written_by w) (log_step v before order exist.0 enough) ∙ elim (cases_eq v w) [
         | inl same ↦
             let once : turns w (before ++ v ∷ []) ≡ turns w before + 1 = omega (arith, turns_append w before (v ∷ []), turns_own v w [] same) in
             let more : turns w (v ∷ order) ≡ suc (turns w order) = omega (arith, turns_own v w order same) in
             let within : turns w before < length (rows_of writers w 0 rows) = rw same at (place_within v before order exist.0 enough) in
-            let here : get_or (rows_of writers v 0 rows) (turns v before) none ≡ get_or (rows_of writers w 0 rows) (turns w before) none = ap (λ u. get_or (rows_of writers u 0 rows) (turns u before) none) same in
+            let here : get_or (rows_of writers v 0 rows) (turns v before) none ≡ get_or (rows_of writers w 0 rows) (turns w before) none =
+            ap (λ u. get_or (rows_of writers u 0 rows) (turns u before) none) same in
             written_own w (next_entry v before) (log_after rows writers (before ++ v ∷ []) order) same
             ∙ rw (more, drop_more (rows_of writers w 0 rows) (turns w before) none within, here, rest, once) refl
         | inr other ↦
@@ -203,7 +218,9 @@ module _ (rows : List RowValue) (writers : ℕ) (first : 0 % writers ≡ 0) wher
       ]
 
 -- what holds of each batch holds of the batches together
-prefix_counts : {X Y : Type 0} (p : X → Bool) (q : Y → Bool) (m : ℕ) (xs : List X) (ys : List Y) → ((b : ℕ) → count_by p (take m (drop (m * b) xs)) ≡ count_by q (take m (drop (m * b) ys))) → (b : ℕ) → count_by p (take (m * b) xs) ≡ count_by q (take (m * b) ys)
+prefix_counts : {X Y : Type 0} (p : X → Bool) (q : Y → Bool) (m : ℕ) (xs : List X) (ys : List Y)
+    → ((b : ℕ) → count_by p (take m (drop (m * b) xs)) ≡ count_by q (take m (drop (m * b) ys))) → (b : ℕ)
+    → count_by p (take (m * b) xs) ≡ count_by q (take (m * b) ys)
 prefix_counts p q m xs ys same zero = let e : m * 0 ≡ 0 = omega arith in rw e refl
 prefix_counts p q m xs ys same (suc b) =
     let e : m * suc b ≡ m * b + m = mul-suc m b in
@@ -220,9 +237,11 @@ module _ (writers w m : ℕ) where
   SameFront log rows b = written_by w (take (m * b) log) ≡ rows_of writers w 0 (take (m * b) rows)
 
   written_front : (log : List Entry) (b : ℕ) → written_by w (take (m * suc b) log) ≡ written_by w (take (m * b) log) ++ written_by w (take m (drop (m * b) log))
-  written_front log b = ap (λ i. written_by w (take i log)) (mul-suc m b) ∙ ap (written_by w) (take-add (m * b) m log) ∙ written_append w (take (m * b) log) (take m (drop (m * b) log))
+  written_front log b = ap (λ i. written_by w (take i log)) (mul-suc m b) ∙ ap (written_by w) (take-add (m * b) m log)
+      ∙ written_append w (take (m * b) log) (take m (drop (m * b) log))
 
-  rows_front : (rows : List RowValue) (b : ℕ) → rows_of writers w 0 (take (m * suc b) rows) ≡ rows_of writers w 0 (take (m * b) rows) ++ rows_of writers w (m * b) (take m (drop (m * b) rows))
+  rows_front : (rows : List RowValue) (b : ℕ)
+      → rows_of writers w 0 (take (m * suc b) rows) ≡ rows_of writers w 0 (take (m * b) rows) ++ rows_of writers w (m * b) (take m (drop (m * b) rows))
   rows_front rows b =
       ap (λ i. rows_of writers w 0 (take i rows)) (mul-suc m b) ∙ ap (rows_of writers w 0) (take-add (m * b) m rows)
       ∙ rows_append writers w 0 (take (m * b) rows) (take m (drop (m * b) rows))
@@ -230,7 +249,8 @@ module _ (writers w m : ℕ) where
 
   front_from_batches : (log : List Entry) (rows : List RowValue) → ((b : ℕ) → SameBatch log rows b) → (b : ℕ) → SameFront log rows b
   front_from_batches log rows same zero = let e : m * 0 ≡ 0 = omega arith in rw e refl
-  front_from_batches log rows same (suc b) = written_front log b ∙ ap₂ (λ xs ys. xs ++ ys) (front_from_batches log rows same b) (same b) ∙ sym (rows_front rows b)
+  front_from_batches log rows same (suc b) = written_front log b ∙ ap₂ (λ xs ys. xs ++ ys) (front_from_batches log rows same b) (same b)
+      ∙ sym (rows_front rows b)
 
   batch_from_fronts : (log : List Entry) (rows : List RowValue) → ((b : ℕ) → SameFront log rows b) → (b : ℕ) → SameBatch log rows b
   batch_from_fronts log rows same b =
@@ -238,24 +258,31 @@ module _ (writers w m : ℕ) where
       (ap (λ xs. xs ++ written_by w (take m (drop (m * b) log))) (sym (same b)) ∙ sym (written_front log b) ∙ same (suc b) ∙ rows_front rows b)
 
   -- how many rows a writer has in a part
-  count_part : (j : ℕ) (rows : List RowValue) → count_by (λ i. i % writers == w) (take m (drop j (range_with_len 0 (length rows)))) ≡ length (rows_of writers w j (take m (drop j rows)))
+  count_part : (j : ℕ) (rows : List RowValue)
+      → count_by (λ i. i % writers == w) (take m (drop j (range_with_len 0 (length rows)))) ≡ length (rows_of writers w j (take m (drop j rows)))
   count_part j rows =
       let long : min m (length rows - j) ≡ length (take m (drop j rows)) = sym (length-take m (drop j rows) ∙ ap (min m) (length-drop j rows)) in
       ap (count_by (λ i. i % writers == w)) (numbers_part m j (length rows) ∙ ap (range_with_len j) long) ∙ count_rows writers w j (take m (drop j rows))
 
-count_front : (writers w i : ℕ) (rows : List RowValue) → count_by (λ k. k % writers == w) (take i (range_with_len 0 (length rows))) ≡ length (rows_of writers w 0 (take i rows))
+count_front : (writers w i : ℕ) (rows : List RowValue)
+    → count_by (λ k. k % writers == w) (take i (range_with_len 0 (length rows))) ≡ length (rows_of writers w 0 (take i rows))
 count_front writers w i rows =
-    ap (count_by (λ k. k % writers == w)) (range_take i 0 (length rows) ∙ ap (range_with_len 0) (sym (length-take i rows))) ∙ count_rows writers w 0 (take i rows)
+    ap (count_by (λ k. k % writers == w)) (range_take i 0 (length rows) ∙ ap (range_with_len 0) (sym (length-take i rows)))
+    ∙ count_rows writers w 0 (take i rows)
 
 module _ (rows : List RowValue) (writers m : ℕ) (first : 0 % writers ≡ 0) (reach : (n : ℕ) → n ≤ m * n) where
-  module _ (order : List ℕ) (size : length order ≡ length rows) (exist : AllByRecursion (λ v. v < writers) order) (fair : (b w : ℕ) → w < writers → turns w (take m (drop (m * b) order)) ≡ count_by (λ k. k % writers == w) (take m (drop (m * b) (range_with_len 0 (length rows))))) where
+  module _ (order : List ℕ) (size : length order ≡ length rows) (exist : AllByRecursion (λ v. v < writers) order)
+      (fair : (b w : ℕ) → w < writers
+      → turns w (take m (drop (m * b) order)) ≡ count_by (λ k. k % writers == w) (take m (drop (m * b) (range_with_len 0 (length rows))))) where
     turns_front : (b w : ℕ) → w < writers → turns w (take (m * b) order) ≡ length (rows_of writers w 0 (take (m * b) rows))
-    turns_front b w lt = prefix_counts (λ v. v == w) (λ k. k % writers == w) m order (range_with_len 0 (length rows)) (λ c. fair c w lt) b ∙ count_front writers w (m * b) rows
+    turns_front b w lt = prefix_counts (λ v. v == w) (λ k. k % writers == w) m order (range_with_len 0 (length rows)) (λ c. fair c w lt) b
+        ∙ count_front writers w (m * b) rows
 
     turns_whole : (w : ℕ) → w < writers → turns w order ≡ length (rows_of writers w 0 rows)
     turns_whole w lt =
         let far = reach (length rows) in
-        sym (ap (turns w) (take_all (m * length rows) order (omega (arith, far, size)))) ∙ turns_front (length rows) w lt ∙ ap (λ rs. length (rows_of writers w 0 rs)) (take_all (m * length rows) rows far)
+        sym (ap (turns w) (take_all (m * length rows) order (omega (arith, far, size)))) ∙ turns_front (length rows) w lt
+        ∙ ap (λ rs. length (rows_of writers w 0 rs)) (take_all (m * length rows) rows far)
 
     enough_whole : Enough rows writers first [] order
     enough_whole = λ w lt. omega (arith, turns_whole w lt)
@@ -268,15 +295,18 @@ module _ (rows : List RowValue) (writers m : ℕ) (first : 0 % writers ≡ 0) (r
         let own : rows_of writers w 0 rows ≡ rows_of writers w 0 (take (m * b) rows) ++ rows_of writers w (0 + length (take (m * b) rows)) (drop (m * b) rows) =
         ap (rows_of writers w 0) (sym (take-append-drop (m * b) rows)) ∙ rows_append writers w 0 (take (m * b) rows) (drop (m * b) rows) in
         ap (written_by w) (take_after rows writers first (m * b) [] order exist enough_whole)
-        ∙ written_after rows writers first w [] (take (m * b) order) lt (exist_take writers (m * b) order exist) (enough_take rows writers first (m * b) [] order enough_whole)
+        ∙ written_after rows writers first w [] (take (m * b) order) lt (exist_take writers (m * b) order exist)
+        (enough_take rows writers first (m * b) [] order enough_whole)
         ∙ ap₂ (λ n rs. take n rs) (turns_front b w lt) own
         ∙ take_at (rows_of writers w 0 (take (m * b) rows)) _ _ refl
 
     log_batch : (b w : ℕ) → w < writers → SameBatch writers w m (log_of rows writers order) rows b
     log_batch b w lt = batch_from_fronts writers w m (log_of rows writers order) rows (λ c. log_front c w lt) b
 
-  module _ (log : List Entry) (size : length log ≡ length rows) (exist : AllByRecursion (λ e. e.writer < writers) log) (same : (b w : ℕ) → w < writers → SameBatch writers w m log rows b) where
-    order_part : (b w : ℕ) → w < writers → turns w (take m (drop (m * b) (order_of log))) ≡ count_by (λ k. k % writers == w) (take m (drop (m * b) (range_with_len 0 (length rows))))
+  module _ (log : List Entry) (size : length log ≡ length rows) (exist : AllByRecursion (λ e. e.writer < writers) log)
+      (same : (b w : ℕ) → w < writers → SameBatch writers w m log rows b) where
+    order_part : (b w : ℕ) → w < writers
+        → turns w (take m (drop (m * b) (order_of log))) ≡ count_by (λ k. k % writers == w) (take m (drop (m * b) (range_with_len 0 (length rows))))
     order_part b w lt =
         ap (turns w) (ap (take m) (drop-map (λ (e : Entry). e.writer) (m * b) log) ∙ take-map (λ (e : Entry). e.writer) m (drop (m * b) log))
         ∙ count_written w (take m (drop (m * b) log)) ∙ ap length (same b w lt) ∙ sym (count_part writers w m (m * b) rows)
@@ -284,7 +314,8 @@ module _ (rows : List RowValue) (writers m : ℕ) (first : 0 % writers ≡ 0) (r
     written_whole : (w : ℕ) → w < writers → written_by w log ≡ rows_of writers w 0 rows
     written_whole w lt =
         let far = reach (length rows) in
-        sym (ap (written_by w) (take_all (m * length rows) log (omega (arith, far, size)))) ∙ front_from_batches writers w m log rows (λ b. same b w lt) (length rows) ∙ ap (rows_of writers w 0) (take_all (m * length rows) rows far)
+        sym (ap (written_by w) (take_all (m * length rows) log (omega (arith, far, size))))
+        ∙ front_from_batches writers w m log rows (λ b. same b w lt) (length rows) ∙ ap (rows_of writers w 0) (take_all (m * length rows) rows far)
 
     turns_of_log : (w : ℕ) → w < writers → turns w (order_of log) ≡ length (rows_of writers w 0 rows)
     turns_of_log w lt = count_written w log ∙ ap length (written_whole w lt)
@@ -299,13 +330,17 @@ module _ (rows : List RowValue) (writers m : ℕ) (first : 0 % writers ≡ 0) (r
     log_again = same_written log (log_of rows writers (order_of log)) (sym order_again) (λ w. elim (cases_lt w writers) [
       | inl lt ↦
           written_whole w lt
-          ∙ sym (written_after rows writers first w [] (order_of log) lt (exist_of writers log exist) enough_log ∙ take_all (turns w (order_of log)) (rows_of writers w 0 rows) (omega (arith, turns_of_log w lt)))
+          ∙ sym (written_after rows writers first w [] (order_of log) lt (exist_of writers log exist) enough_log
+          ∙ take_all (turns w (order_of log)) (rows_of writers w 0 rows) (omega (arith, turns_of_log w lt)))
       | inr le ↦
           written_none writers w log le exist
-          ∙ sym (written_none writers w (log_of rows writers (order_of log)) le (exist_in writers (log_of rows writers (order_of log)) (subst (AllByRecursion (λ v. v < writers)) (sym order_again) (exist_of writers log exist))))
+          ∙ sym (written_none writers w (log_of rows writers (order_of log)) le
+          (exist_in writers (log_of rows writers (order_of log))
+          (subst (AllByRecursion (λ v. v < writers)) (sym order_again) (exist_of writers log exist))))
     ])
 
-pub log_of_order : (rows : List RowValue) (writers : ℕ) (order : List ℕ) → 0 < writers → IsOrder order (length rows) writers → IsLogOf rows writers (log_of rows writers order) × (order_of (log_of rows writers order) ≡ order)
+pub log_of_order : (rows : List RowValue) (writers : ℕ) (order : List ℕ) → 0 < writers → IsOrder order (length rows) writers
+    → IsLogOf rows writers (log_of rows writers order) × (order_of (log_of rows writers order) ≡ order)
 log_of_order rows writers order some is =
     let first : 0 % writers ≡ 0 = zero_first writers some in
     let reach : (n : ℕ) → n ≤ 4096 * n = λ n. omega arith in
@@ -318,7 +353,8 @@ log_of_order rows writers order some is =
       same,
     )
 
-pub order_of_log : (rows : List RowValue) (writers : ℕ) (log : List Entry) → 0 < writers → IsLogOf rows writers log → IsOrder (order_of log) (length rows) writers × (log ≡ log_of rows writers (order_of log))
+pub order_of_log : (rows : List RowValue) (writers : ℕ) (log : List Entry) → 0 < writers → IsLogOf rows writers log
+    → IsOrder (order_of log) (length rows) writers × (log ≡ log_of rows writers (order_of log))
 order_of_log rows writers log some is =
     let first : 0 % writers ≡ 0 = zero_first writers some in
     let reach : (n : ℕ) → n ≤ 4096 * n = λ n. omega arith in (
@@ -330,5 +366,6 @@ order_of_log rows writers log some is =
       log_again rows writers 4096 first reach log is.size is.exist is.own,
     )
 
-pub log_from_order : (rows : List RowValue) (writers : ℕ) (log : List Entry) → 0 < writers → IsOrder (order_of log) (length rows) writers × (log ≡ log_of rows writers (order_of log)) → IsLogOf rows writers log
+pub log_from_order : (rows : List RowValue) (writers : ℕ) (log : List Entry) → 0 < writers → IsOrder (order_of log) (length rows) writers
+    × (log ≡ log_of rows writers (order_of log)) → IsLogOf rows writers log
 log_from_order rows writers log some is = subst (IsLogOf rows writers) (sym is.1) (log_of_order rows writers (order_of log) some is.0).0

@@ -79,7 +79,8 @@ module _ {Entry Ask Body : Type 0} where
   asks_of pass events = filter_map (asked_by pass) events
 
   -- A legal history that has the log's entries once each, in order, and each pass's questions once each, in its order.
-  pub record IsHistoryOf (eval : Ask → List Entry → Body) (log : List Entry) (passes : List (List (AskReply Ask Body))) (events : List (HistoryEvent Entry Ask Body)) : Type 0 where
+  pub record IsHistoryOf (eval : Ask → List Entry → Body) (log : List Entry) (passes : List (List (AskReply Ask Body)))
+      (events : List (HistoryEvent Entry Ask Body)) : Type 0 where
     pub legal : IsLegal eval events
     pub appends : appends_of events ≡ log
     pub asks : (pass : ℕ) → asks_of pass events ≡ slice_index_or passes pass []

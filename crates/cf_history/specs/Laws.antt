@@ -9,12 +9,14 @@ use Rattle.cf_history.specs.Order.{IsOrder, log_of, IsLogOf, order_of}
 -- A valid order gives a log in which each row stands once, and this log has that order.
 abbrev pub OrdersGiveLogs : Type 0
 OrdersGiveLogs =
-    (rows : List RowValue) (writers : ℕ) (order : List ℕ) → 0 < writers → IsOrder order (length rows) writers → IsLogOf rows writers (log_of rows writers order) × (order_of (log_of rows writers order) ≡ order)
+    (rows : List RowValue) (writers : ℕ) (order : List ℕ) → 0 < writers → IsOrder order (length rows) writers
+    → IsLogOf rows writers (log_of rows writers order) × (order_of (log_of rows writers order) ≡ order)
 
 -- Each row stands once in a log exactly where the log's order is valid and it is the log of that order.
 abbrev pub LogsHaveOrders : Type 0
 LogsHaveOrders =
-    (rows : List RowValue) (writers : ℕ) (log : List Entry) → 0 < writers → IsLogOf rows writers log ↔ (IsOrder (order_of log) (length rows) writers × (log ≡ log_of rows writers (order_of log)))
+    (rows : List RowValue) (writers : ℕ) (log : List Entry) → 0 < writers → IsLogOf rows writers log
+    ↔ (IsOrder (order_of log) (length rows) writers × (log ≡ log_of rows writers (order_of log)))
 
 -- In a spelled history a question stands after each append below its tail, and before each other append.
 abbrev pub QuestionsKeepTheirPlace : (E A B : Type 0) → Type 0

@@ -17,8 +17,10 @@ set_set (z ∷ zs) zero x y = refl
 set_set {A} (z ∷ zs) (suc k) x y = ap (λ (ws : List A). z ∷ ws) (set_set zs k x y)
 
 -- what a pass knows stays so, with the books that it holds then
-pub rebooked : (sh : Layout) (m m' : Base) (p : Pass) (bs : List Book) → Evolves m.log m'.log → Grows sh.sizes.nodes m.stocks m'.stocks → m.tails.1 ≤ length m.log → m.tails.1 ≤ m'.tails.1
-    → ((k : ℕ) (b : Book) → slice_get bs k ≡ Some b → (b.writer < sh.sizes.writers) × (b ≡ book_at m' b.writer)) → (p.spent ≡ true → bs ≡ []) → PassLaw sh m p → PassLaw sh m' (record p { books = bs })
+pub rebooked : (sh : Layout) (m m' : Base) (p : Pass) (bs : List Book) → Evolves m.log m'.log → Grows sh.sizes.nodes m.stocks m'.stocks
+    → m.tails.1 ≤ length m.log → m.tails.1 ≤ m'.tails.1
+    → ((k : ℕ) (b : Book) → slice_get bs k ≡ Some b → (b.writer < sh.sizes.writers) × (b ≡ book_at m' b.writer)) → (p.spent ≡ true → bs ≡ []) → PassLaw sh m p
+    → PassLaw sh m' (record p { books = bs })
 rebooked sh m m' p bs ev grows le more books ends law = record {
   within = omega (arith, law.within);
   seen = law.seen ∙ front_evolves m.log m'.log (length p.seen) (omega (arith, law.within)) ev;
@@ -67,8 +69,14 @@ acted sh m m' passes k p p' S at law ev grows more others back forth new = recor
         let there : slice_get passes j ≡ Some q = sym (get_set_other passes k j p' ne) ∙ e in
         let old = S.knows j q there in
         rebooked sh m m' q q.books ev grows S.law.covered more
-        (λ i b held. let h = old.books i b held in
-        (h.0, h.1 ∙ sym (others b.writer (λ h c own e. ne (S.once j k i h b.writer (record { pass = q; book = b; at = there; held = held; writer = refl }) (record { pass = p; book = c; at = at; held = own; writer = e })).0))))
+        (λ i b held. let h = old.books i b held in (
+          h.0,
+          h.1 ∙ sym
+              (others b.writer
+              (λ h c own e. ne
+              (S.once j k i h b.writer (record { pass = q; book = b; at = there; held = held; writer = refl })
+              (record { pass = p; book = c; at = at; held = own; writer = e })).0)),
+        ))
         old.ends
         old
   ];
@@ -77,14 +85,16 @@ acted sh m m' passes k p p' S at law ev grows more others back forth new = recor
 }
 
 -- what a pass knows alone changes
-pub knows_more : (sh : Layout) (m : Base) (passes : List Pass) (k : ℕ) (p p' : Pass) → Stands sh m passes → slice_get passes k ≡ Some p → p'.books ≡ p.books → PassLaw sh m p' → Stands sh m (set passes k p')
+pub knows_more : (sh : Layout) (m : Base) (passes : List Pass) (k : ℕ) (p p' : Pass) → Stands sh m passes → slice_get passes k ≡ Some p → p'.books ≡ p.books
+    → PassLaw sh m p' → Stands sh m (set passes k p')
 knows_more sh m passes k p p' S at same new =
     acted sh m m passes k p p' S at S.law (evolves_self m.log) (grows_self sh.sizes.nodes m.stocks) (omega arith) (λ w none. refl)
     (λ i c held. (c, ap (λ (bs : List Book). slice_get bs i) (sym same) ∙ held, refl))
     (λ i b held. (b, ap (λ (bs : List Book). slice_get bs i) same ∙ held, refl)) new
 
 -- one book changes
-pub booked : (sh : Layout) (m m' : Base) (passes : List Pass) (k : ℕ) (p : Pass) (j : ℕ) (b c : Book) → Stands sh m passes → slice_get passes k ≡ Some p → Holds p j b
+pub booked : (sh : Layout) (m m' : Base) (passes : List Pass) (k : ℕ) (p : Pass) (j : ℕ) (b c : Book) → Stands sh m passes → slice_get passes k ≡ Some p
+    → Holds p j b
     → BaseLaw sh m' → Evolves m.log m'.log → Grows sh.sizes.nodes m.stocks m'.stocks → m.tails.1 ≤ m'.tails.1
     → c ≡ book_at m' b.writer → ((v : ℕ) → v ≢ b.writer → book_at m' v ≡ book_at m v)
     → Stands sh m' (set passes k (pass_with_book j c p))
@@ -112,6 +122,11 @@ booked sh m m' passes k p j b c S at held law ev grows more is others =
           (subst (λ (n : ℕ). n < sh.sizes.writers) (sym writer) own.0, is ∙ ap (book_at m') (sym writer))
       | inr ne ↦
           let there : slice_get p.books i ≡ Some d = sym (get_set_other p.books j i c ne) ∙ e in
-          let h = old.books i d there in
-          (h.0, h.1 ∙ sym (others d.writer (λ g. ne (S.once k k i j b.writer (record { pass = p; book = d; at = at; held = there; writer = g }) (record { pass = p; book = b; at = at; held = held; writer = refl })).1)))
+          let h = old.books i d there in (
+            h.0,
+            h.1 ∙ sym
+                (others d.writer
+                (λ g. ne (S.once k k i j b.writer (record { pass = p; book = d; at = at; held = there; writer = g })
+                (record { pass = p; book = b; at = at; held = held; writer = refl })).1)),
+          )
     ]) (λ spent. ap (λ (bs : List Book). set bs j c) (old.ends spent)) old)

@@ -78,7 +78,8 @@ new_link sh w s t x = record {
 }
 
 -- what stands in a list with one element touched
-pub get_from_set : {A : Type 0} (xs : List A) (o i : ℕ) (t u q : A) → slice_get xs o ≡ Some t → slice_get (set xs o u) i ≡ Some q → ((i ≡ o) × (q ≡ u)) ⊎ (slice_get xs i ≡ Some q)
+pub get_from_set : {A : Type 0} (xs : List A) (o i : ℕ) (t u q : A) → slice_get xs o ≡ Some t → slice_get (set xs o u) i ≡ Some q → ((i ≡ o) × (q ≡ u))
+    ⊎ (slice_get xs i ≡ Some q)
 get_from_set xs o i t u q at h = elim (cases_eq i o) [
   | inl e ↦ inl (e, cc (h, ap (slice_get (set xs o u)) e, get_set_same xs o u t at))
   | inr ne ↦ inr (sym (get_set_other xs o i u ne) ∙ h)
@@ -149,7 +150,8 @@ change_base sh x o t u z v law at grown spells leaves full linked whole = record
     | inr e ↦ law.full i l q e h
   ];
   linked = λ i l q p a d h. elim (get_from_set x.log o i t u q at a) [
-    | inl e ↦ ap (λ (k : Ticket). has k.linked l) e.1 ∙ linked l p (ap (λ (k : Ticket). k.is_done) (sym e.1) ∙ d) (ap (λ (k : Ticket). sh.path k.row l) (sym e.1) ∙ h)
+    | inl e ↦ ap (λ (k : Ticket). has k.linked l) e.1
+        ∙ linked l p (ap (λ (k : Ticket). k.is_done) (sym e.1) ∙ d) (ap (λ (k : Ticket). sh.path k.row l) (sym e.1) ∙ h)
     | inr e ↦ law.linked i l q p e d h
   ];
   whole = λ i q a d. elim (get_from_set x.log o i t u q at a) [
@@ -174,7 +176,8 @@ change_base sh x o t u z v law at grown spells leaves full linked whole = record
 }
 
 -- A stored word.
-pub fill_base : (sh : Layout) (x : Base) (o k : ℕ) (t : Ticket) → BaseLaw sh x → CanFill sh x.log o t k → BaseLaw sh (touched sh o (ticket_with_word k t) (cell o k) (full_word sh x.log o t k) x)
+pub fill_base : (sh : Layout) (x : Base) (o k : ℕ) (t : Ticket) → BaseLaw sh x → CanFill sh x.log o t k
+    → BaseLaw sh (touched sh o (ticket_with_word k t) (cell o k) (full_word sh x.log o t k) x)
 fill_base sh x o k t law can =
     change_base sh x o t (ticket_with_word k t) (cell o k) (full_word sh x.log o t k) law can.at
     (record { becomes = record { writer = refl; row = refl; filled = omega (arith, can.from); done = λ h. h }; links = λ l h. h })
@@ -199,7 +202,8 @@ finish_base sh x o k t law at last linked whole =
     (λ d. whole)
 
 -- A head.
-pub head_base : (sh : Layout) (x : Base) (o : ℕ) (t : Ticket) (l d : ℕ) (p : List ℕ) (n : ℕ) → LayoutLaw sh → BaseLaw sh x → CanHead sh x.log x.stocks o t l d p n
+pub head_base : (sh : Layout) (x : Base) (o : ℕ) (t : Ticket) (l d : ℕ) (p : List ℕ) (n : ℕ) → LayoutLaw sh → BaseLaw sh x
+    → CanHead sh x.log x.stocks o t l d p n
     → BaseLaw sh (touched sh o (ticket_with_head l t) (head_slot sh.sizes n d t.writer) (suc o) x)
 head_base sh x o t l d p n shaped law can =
     change_base sh x o t (ticket_with_head l t) (head_slot sh.sizes n d t.writer) (suc o) law can.at
@@ -225,53 +229,54 @@ head_base sh x o t l d p n shaped law can =
 pub ticket_base : (sh : Layout) (x : Base) (w : ℕ) (r : RowValue) → BaseLaw sh x → sh.fits r ≡ true → w < sh.sizes.writers → length x.log < sh.sizes.tickets
     → ((o : ℕ) (t : Ticket) → slice_get x.log o ≡ Some t → t.writer ≡ w → t.is_done ≡ true)
     → BaseLaw sh (new_ticket sh w r x)
-ticket_base sh x w r law fit lt room none = let u = fresh_ticket w r in let len : length (x.log ++ u ∷ []) ≡ length x.log + 1 = length-append x.log (u ∷ []) in record {
-  size = length-set x.words _ _ ∙ law.size;
-  spells = ticket_keeps sh x.tails x.log x.stocks x.words w r law.size law.spells;
-  nodes = law.nodes;
-  room = omega arith;
-  flight = λ i j q s a b same less. elim (get_from_push x.log i u q a) [
-    | inl e ↦ elim (get_from_push x.log j u s b) [
-      | inl f ↦ absurd (omega (arith, e.0, f.0))
-      | inr f ↦ absurd (omega (arith, e.0, slice_get_within x.log j s f))
-    ]
-    | inr e ↦ elim (get_from_push x.log j u s b) [
-      | inl f ↦ none i q e (same ∙ ap (λ (k : Ticket). k.writer) f.1)
-      | inr f ↦ law.flight i j q s e f same less
-    ]
-  ];
-  leaves = λ i q l a h. elim (get_from_push x.log i u q a) [
-    | inl e ↦ absurd (has_nothing l (ap (λ (k : Ticket). has k.linked l) (sym e.1) ∙ h))
-    | inr e ↦ law.leaves i q l e h
-  ];
-  full = λ i l q a h. elim (get_from_push x.log i u q a) [
-    | inl e ↦ absurd (has_nothing l (ap (λ (k : Ticket). has k.linked l) (sym e.1) ∙ h))
-    | inr e ↦ law.full i l q e h
-  ];
-  linked = λ i l q p a d h. elim (get_from_push x.log i u q a) [
-    | inl e ↦ absurd (cc (ap (λ (k : Ticket). k.is_done) e.1, d))
-    | inr e ↦ law.linked i l q p e d h
-  ];
-  whole = λ i q a d. elim (get_from_push x.log i u q a) [
-    | inl e ↦ absurd (cc (ap (λ (k : Ticket). k.is_done) e.1, d))
-    | inr e ↦ law.whole i q e d
-  ];
-  marks = omega (arith, law.marks);
-  ends = λ v h. absurd (omega (arith, law.ends v h));
-  writers = λ i q a. elim (get_from_push x.log i u q a) [
-    | inl e ↦ omega (arith, ap (λ (k : Ticket). k.writer) e.1)
-    | inr e ↦ law.writers i q e
-  ];
-  fits = λ i q a. elim (get_from_push x.log i u q a) [
-    | inl e ↦ ap (λ (k : Ticket). sh.fits k.row) e.1 ∙ fit
-    | inr e ↦ law.fits i q e
-  ];
-  covered = omega (arith, law.covered);
-  done = λ i q less a. elim (get_from_push x.log i u q a) [
-    | inl e ↦ absurd (omega (arith, e.0, law.covered))
-    | inr e ↦ law.done i q less e
-  ];
-}
+ticket_base sh x w r law fit lt room none = let u = fresh_ticket w r in let len : length (x.log ++ u ∷ []) ≡ length x.log + 1 = length-append x.log (u ∷ []) in
+    record {
+      size = length-set x.words _ _ ∙ law.size;
+      spells = ticket_keeps sh x.tails x.log x.stocks x.words w r law.size law.spells;
+      nodes = law.nodes;
+      room = omega arith;
+      flight = λ i j q s a b same less. elim (get_from_push x.log i u q a) [
+        | inl e ↦ elim (get_from_push x.log j u s b) [
+          | inl f ↦ absurd (omega (arith, e.0, f.0))
+          | inr f ↦ absurd (omega (arith, e.0, slice_get_within x.log j s f))
+        ]
+        | inr e ↦ elim (get_from_push x.log j u s b) [
+          | inl f ↦ none i q e (same ∙ ap (λ (k : Ticket). k.writer) f.1)
+          | inr f ↦ law.flight i j q s e f same less
+        ]
+      ];
+      leaves = λ i q l a h. elim (get_from_push x.log i u q a) [
+        | inl e ↦ absurd (has_nothing l (ap (λ (k : Ticket). has k.linked l) (sym e.1) ∙ h))
+        | inr e ↦ law.leaves i q l e h
+      ];
+      full = λ i l q a h. elim (get_from_push x.log i u q a) [
+        | inl e ↦ absurd (has_nothing l (ap (λ (k : Ticket). has k.linked l) (sym e.1) ∙ h))
+        | inr e ↦ law.full i l q e h
+      ];
+      linked = λ i l q p a d h. elim (get_from_push x.log i u q a) [
+        | inl e ↦ absurd (cc (ap (λ (k : Ticket). k.is_done) e.1, d))
+        | inr e ↦ law.linked i l q p e d h
+      ];
+      whole = λ i q a d. elim (get_from_push x.log i u q a) [
+        | inl e ↦ absurd (cc (ap (λ (k : Ticket). k.is_done) e.1, d))
+        | inr e ↦ law.whole i q e d
+      ];
+      marks = omega (arith, law.marks);
+      ends = λ v h. absurd (omega (arith, law.ends v h));
+      writers = λ i q a. elim (get_from_push x.log i u q a) [
+        | inl e ↦ omega (arith, ap (λ (k : Ticket). k.writer) e.1)
+        | inr e ↦ law.writers i q e
+      ];
+      fits = λ i q a. elim (get_from_push x.log i u q a) [
+        | inl e ↦ ap (λ (k : Ticket). sh.fits k.row) e.1 ∙ fit
+        | inr e ↦ law.fits i q e
+      ];
+      covered = omega (arith, law.covered);
+      done = λ i q less a. elim (get_from_push x.log i u q a) [
+        | inl e ↦ absurd (omega (arith, e.0, law.covered))
+        | inr e ↦ law.done i q less e
+      ];
+    }
 
 -- An advance that moves the tail.
 pub advance_base : (sh : Layout) (x : Base) (t : Ticket) → BaseLaw sh x → slice_get x.log x.tails.1 ≡ Some t → t.is_done ≡ true → BaseLaw sh (moved sh x)
@@ -297,7 +302,8 @@ advance_base sh x t law at done = record {
 }
 
 -- A label.
-pub label_base : (sh : Layout) (x : Base) (w v : ℕ) → BaseLaw sh x → w < length x.stocks → length (stock_of x.stocks w).used < sh.sizes.nodes → BaseLaw sh (new_label sh w v x)
+pub label_base : (sh : Layout) (x : Base) (w v : ℕ) → BaseLaw sh x → w < length x.stocks → length (stock_of x.stocks w).used < sh.sizes.nodes
+    → BaseLaw sh (new_label sh w v x)
 label_base sh x w v law lt room = record {
   size = length-set x.words _ _ ∙ law.size;
   spells = label_keeps sh x.tails x.log x.stocks x.words w v law.nodes lt room law.size law.spells;
@@ -317,7 +323,8 @@ label_base sh x w v law lt room = record {
 }
 
 -- A link where the word was 0.
-pub link_base : (sh : Layout) (x : Base) (w : ℕ) (s : Spot) (t : Slot) → BaseLaw sh x → CanLink sh x.stocks w s t → base_word sh x t ≡ 0 → BaseLaw sh (new_link sh w s t x)
+pub link_base : (sh : Layout) (x : Base) (w : ℕ) (s : Spot) (t : Slot) → BaseLaw sh x → CanLink sh x.stocks w s t → base_word sh x t ≡ 0
+    → BaseLaw sh (new_link sh w s t x)
 link_base sh x w s t law can zero_word = record {
   size = length-set x.words _ _ ∙ law.size;
   spells = link_keeps sh x.tails x.log x.stocks x.words w s t law.nodes law.leaves can law.size law.spells zero_word;
@@ -337,7 +344,8 @@ link_base sh x w s t law can zero_word = record {
 }
 
 -- A mark.
-pub over_base : (sh : Layout) (x : Base) (w : ℕ) → BaseLaw sh x → w < length x.stocks → (stock_of x.stocks w).over ≡ false → length x.log ≡ sh.sizes.tickets → BaseLaw sh (new_mark sh w x)
+pub over_base : (sh : Layout) (x : Base) (w : ℕ) → BaseLaw sh x → w < length x.stocks → (stock_of x.stocks w).over ≡ false → length x.log ≡ sh.sizes.tickets
+    → BaseLaw sh (new_mark sh w x)
 over_base sh x w law lt fresh full = record {
   size = length-set x.words _ _ ∙ law.size;
   spells = over_keeps sh x.tails x.log x.stocks x.words w law.size lt law.spells;

@@ -21,11 +21,13 @@ mine_if a d k t xs = cond a (cond d (own_of k t ∷ xs) xs) xs
 flight_if : Bool → Bool → ℕ → Ticket → Option Flight → Option Flight
 flight_if a d k t x = cond a (cond d x (Some (flight_of k t))) x
 
-mine_cons : (w k : ℕ) (t : Ticket) (ts : List Ticket) (a d : Bool) → (t.writer == w) ≡ a → t.is_done ≡ d → mine_in w k (t ∷ ts) ≡ mine_if a d k t (mine_in w (suc k) ts)
+mine_cons : (w k : ℕ) (t : Ticket) (ts : List Ticket) (a d : Bool) → (t.writer == w) ≡ a → t.is_done ≡ d
+    → mine_in w k (t ∷ ts) ≡ mine_if a d k t (mine_in w (suc k) ts)
 unfolding mine_in mine_if
 mine_cons w k t ts a d e f = ap₂ (λ (x y : Bool). cond x (cond y (own_of k t ∷ mine_in w (suc k) ts) (mine_in w (suc k) ts)) (mine_in w (suc k) ts)) e f
 
-flight_cons : (w k : ℕ) (t : Ticket) (ts : List Ticket) (a d : Bool) → (t.writer == w) ≡ a → t.is_done ≡ d → flight_in w k (t ∷ ts) ≡ flight_if a d k t (flight_in w (suc k) ts)
+flight_cons : (w k : ℕ) (t : Ticket) (ts : List Ticket) (a d : Bool) → (t.writer == w) ≡ a → t.is_done ≡ d
+    → flight_in w k (t ∷ ts) ≡ flight_if a d k t (flight_in w (suc k) ts)
 unfolding flight_in flight_if
 flight_cons w k t ts a d e f = ap₂ (λ (x y : Bool). cond x (cond y (flight_in w (suc k) ts) (Some (flight_of k t))) (flight_in w (suc k) ts)) e f
 
@@ -54,13 +56,17 @@ unfolding flight_if
 flight_open k t x = refl
 
 -- the two lists with a head that is another's, finished, or in flight
-pub other_cons : (w k : ℕ) (t : Ticket) (ts : List Ticket) → (t.writer == w) ≡ false → (mine_in w k (t ∷ ts) ≡ mine_in w (suc k) ts) × (flight_in w k (t ∷ ts) ≡ flight_in w (suc k) ts)
-other_cons w k t ts e = (mine_cons w k t ts false t.is_done e refl ∙ mine_other t.is_done k t _, flight_cons w k t ts false t.is_done e refl ∙ flight_other t.is_done k t _)
+pub other_cons : (w k : ℕ) (t : Ticket) (ts : List Ticket) → (t.writer == w) ≡ false → (mine_in w k (t ∷ ts) ≡ mine_in w (suc k) ts)
+    × (flight_in w k (t ∷ ts) ≡ flight_in w (suc k) ts)
+other_cons w k t ts e =
+    (mine_cons w k t ts false t.is_done e refl ∙ mine_other t.is_done k t _, flight_cons w k t ts false t.is_done e refl ∙ flight_other t.is_done k t _)
 
-pub done_cons : (w k : ℕ) (t : Ticket) (ts : List Ticket) → (t.writer == w) ≡ true → t.is_done ≡ true → (mine_in w k (t ∷ ts) ≡ own_of k t ∷ mine_in w (suc k) ts) × (flight_in w k (t ∷ ts) ≡ flight_in w (suc k) ts)
+pub done_cons : (w k : ℕ) (t : Ticket) (ts : List Ticket) → (t.writer == w) ≡ true → t.is_done ≡ true
+    → (mine_in w k (t ∷ ts) ≡ own_of k t ∷ mine_in w (suc k) ts) × (flight_in w k (t ∷ ts) ≡ flight_in w (suc k) ts)
 done_cons w k t ts e d = (mine_cons w k t ts true true e d ∙ mine_done k t _, flight_cons w k t ts true true e d ∙ flight_done k t _)
 
-pub open_cons : (w k : ℕ) (t : Ticket) (ts : List Ticket) → (t.writer == w) ≡ true → t.is_done ≡ false → (mine_in w k (t ∷ ts) ≡ mine_in w (suc k) ts) × (flight_in w k (t ∷ ts) ≡ Some (flight_of k t))
+pub open_cons : (w k : ℕ) (t : Ticket) (ts : List Ticket) → (t.writer == w) ≡ true → t.is_done ≡ false → (mine_in w k (t ∷ ts) ≡ mine_in w (suc k) ts)
+    × (flight_in w k (t ∷ ts) ≡ Some (flight_of k t))
 open_cons w k t ts e d = (mine_cons w k t ts true false e d ∙ mine_open k t _, flight_cons w k t ts true false e d ∙ flight_open k t _)
 
 mine_nil : (w k : ℕ) → mine_in w k [] ≡ []
@@ -72,7 +78,8 @@ unfolding flight_in
 flight_nil w k = refl
 
 -- the ticket in flight stands in the log
-pub flight_found : (w k : ℕ) (log : List Ticket) (f : Flight) → flight_in w k log ≡ Some f → (j : ℕ) × (f.offset ≡ k + j) × (slice_get log j ≡ Some (ticket_of w f))
+pub flight_found : (w k : ℕ) (log : List Ticket) (f : Flight) → flight_in w k log ≡ Some f → (j : ℕ) × (f.offset ≡ k + j)
+    × (slice_get log j ≡ Some (ticket_of w f))
 flight_found w k [] f h = absurd (cc (flight_nil w k, h))
 flight_found w k (t ∷ ts) f h = elim (cases_Bool (t.writer == w)) [
   | inr e ↦ let r = flight_found w (suc k) ts f (sym (other_cons w k t ts e).1 ∙ h) in (suc r.0, omega (arith, r.1), r.2)
@@ -80,7 +87,8 @@ flight_found w k (t ∷ ts) f h = elim (cases_Bool (t.writer == w)) [
     | inl d ↦ let r = flight_found w (suc k) ts f (sym (done_cons w k t ts e d).1 ∙ h) in (suc r.0, omega (arith, r.1), r.2)
     | inr d ↦
         let same : flight_of k t ≡ f = cc ((open_cons w k t ts e d).1, h) in
-        let at : t ≡ ticket_of w (flight_of k t) = ap₂ (λ (a : ℕ) (b : Bool). record { writer = a; row = t.row; filled = t.filled; linked = t.linked; is_done = b }) (eq_from t.writer w e) d in (
+        let at : t ≡ ticket_of w (flight_of k t) =
+        ap₂ (λ (a : ℕ) (b : Bool). record { writer = a; row = t.row; filled = t.filled; linked = t.linked; is_done = b }) (eq_from t.writer w e) d in (
           0,
           omega (arith, ap (λ (g : Flight). g.offset) same),
           ap (λ (z : Ticket). Some z) at ∙ ap (λ (g : Flight). Some (ticket_of w g)) same,
@@ -99,7 +107,8 @@ none_flying w k (x ∷ xs) i t h at e = elim (cases_Bool (x.writer == w)) [
   ]
 ]
   where
-    rest : ((j : ℕ) → slice_get xs j ≡ Some t → t.is_done ≡ true) → (i : ℕ) → slice_get (x ∷ xs) i ≡ Some t → (x.writer ≡ w → x.is_done ≡ true) → t.is_done ≡ true
+    rest : ((j : ℕ) → slice_get xs j ≡ Some t → t.is_done ≡ true) → (i : ℕ) → slice_get (x ∷ xs) i ≡ Some t → (x.writer ≡ w → x.is_done ≡ true)
+        → t.is_done ≡ true
     rest r zero a head = let same : x ≡ t = cc a in subst (λ (z : Ticket). z.is_done ≡ true) same (head (ap (λ (z : Ticket). z.writer) same ∙ e))
     rest r (suc i) a head = r i a
 
@@ -116,24 +125,29 @@ set_other w v k (suc o) (x ∷ xs) t u at tw uw ne = let r = set_other w v (suc 
     elim (cases_Bool (x.writer == v)) [
       | inr e ↦ let a = other_cons v k x (set xs o u) e in let b = other_cons v k x xs e in (a.0 ∙ (r.0 ∙ sym b.0), a.1 ∙ (r.1 ∙ sym b.1))
       | inl e ↦ elim (cases_Bool x.is_done) [
-        | inl d ↦ let a = done_cons v k x (set xs o u) e d in let b = done_cons v k x xs e d in (a.0 ∙ (ap (λ (ys : List Own). own_of k x ∷ ys) r.0 ∙ sym b.0), a.1 ∙ (r.1 ∙ sym b.1))
+        | inl d ↦ let a = done_cons v k x (set xs o u) e d in let b = done_cons v k x xs e d in
+            (a.0 ∙ (ap (λ (ys : List Own). own_of k x ∷ ys) r.0 ∙ sym b.0), a.1 ∙ (r.1 ∙ sym b.1))
         | inr d ↦ let a = open_cons v k x (set xs o u) e d in let b = open_cons v k x xs e d in (a.0 ∙ (r.0 ∙ sym b.0), a.1 ∙ sym b.1)
       ]
     ]
 
-pub push_other : (w v k : ℕ) (log : List Ticket) (u : Ticket) → u.writer ≡ w → v ≢ w → (mine_in v k (log ++ u ∷ []) ≡ mine_in v k log) × (flight_in v k (log ++ u ∷ []) ≡ flight_in v k log)
-push_other w v k [] u uw ne = let a = other_cons v k u [] (eq_false u.writer v (λ e. ne (sym e ∙ uw))) in (a.0 ∙ (mine_nil v (suc k) ∙ sym (mine_nil v k)), a.1 ∙ (flight_nil v (suc k) ∙ sym (flight_nil v k)))
+pub push_other : (w v k : ℕ) (log : List Ticket) (u : Ticket) → u.writer ≡ w → v ≢ w → (mine_in v k (log ++ u ∷ []) ≡ mine_in v k log)
+    × (flight_in v k (log ++ u ∷ []) ≡ flight_in v k log)
+push_other w v k [] u uw ne = let a = other_cons v k u [] (eq_false u.writer v (λ e. ne (sym e ∙ uw))) in
+    (a.0 ∙ (mine_nil v (suc k) ∙ sym (mine_nil v k)), a.1 ∙ (flight_nil v (suc k) ∙ sym (flight_nil v k)))
 push_other w v k (x ∷ xs) u uw ne = let r = push_other w v (suc k) xs u uw ne in
     elim (cases_Bool (x.writer == v)) [
       | inr e ↦ let a = other_cons v k x (xs ++ u ∷ []) e in let b = other_cons v k x xs e in (a.0 ∙ (r.0 ∙ sym b.0), a.1 ∙ (r.1 ∙ sym b.1))
       | inl e ↦ elim (cases_Bool x.is_done) [
-        | inl d ↦ let a = done_cons v k x (xs ++ u ∷ []) e d in let b = done_cons v k x xs e d in (a.0 ∙ (ap (λ (ys : List Own). own_of k x ∷ ys) r.0 ∙ sym b.0), a.1 ∙ (r.1 ∙ sym b.1))
+        | inl d ↦ let a = done_cons v k x (xs ++ u ∷ []) e d in let b = done_cons v k x xs e d in
+            (a.0 ∙ (ap (λ (ys : List Own). own_of k x ∷ ys) r.0 ∙ sym b.0), a.1 ∙ (r.1 ∙ sym b.1))
         | inr d ↦ let a = open_cons v k x (xs ++ u ∷ []) e d in let b = open_cons v k x xs e d in (a.0 ∙ (r.0 ∙ sym b.0), a.1 ∙ sym b.1)
       ]
     ]
 
 -- The own ticket in flight changes.
-pub set_open : (w k j : ℕ) (log : List Ticket) (f : Flight) (u : Ticket) → flight_in w k log ≡ Some f → f.offset ≡ k + j → slice_get log j ≡ Some (ticket_of w f) → u.writer ≡ w → u.is_done ≡ false
+pub set_open : (w k j : ℕ) (log : List Ticket) (f : Flight) (u : Ticket) → flight_in w k log ≡ Some f → f.offset ≡ k + j
+    → slice_get log j ≡ Some (ticket_of w f) → u.writer ≡ w → u.is_done ≡ false
     → (mine_in w k (set log j u) ≡ mine_in w k log) × (flight_in w k (set log j u) ≡ Some (flight_of (k + j) u))
 set_open w k j [] f u h at there uw ud = absurd (cc there)
 set_open w k zero (x ∷ xs) f u h at there uw ud =
@@ -146,14 +160,17 @@ set_open w k (suc j) (x ∷ xs) f u h at there uw ud =
     let next : suc k + j ≡ k + suc j = omega arith in
     let fly = ap (λ (n : ℕ). Some (flight_of n u)) next in
     elim (cases_Bool (x.writer == w)) [
-      | inr e ↦ let a = other_cons w k x (set xs j u) e in let b = other_cons w k x xs e in let r = deep (sym b.1 ∙ h) in (a.0 ∙ (r.0 ∙ sym b.0), a.1 ∙ (r.1 ∙ fly))
+      | inr e ↦ let a = other_cons w k x (set xs j u) e in let b = other_cons w k x xs e in let r = deep (sym b.1 ∙ h) in
+          (a.0 ∙ (r.0 ∙ sym b.0), a.1 ∙ (r.1 ∙ fly))
       | inl e ↦ elim (cases_Bool x.is_done) [
-        | inl d ↦ let a = done_cons w k x (set xs j u) e d in let b = done_cons w k x xs e d in let r = deep (sym b.1 ∙ h) in (a.0 ∙ (ap (λ (ys : List Own). own_of k x ∷ ys) r.0 ∙ sym b.0), a.1 ∙ (r.1 ∙ fly))
+        | inl d ↦ let a = done_cons w k x (set xs j u) e d in let b = done_cons w k x xs e d in let r = deep (sym b.1 ∙ h) in
+            (a.0 ∙ (ap (λ (ys : List Own). own_of k x ∷ ys) r.0 ∙ sym b.0), a.1 ∙ (r.1 ∙ fly))
         | inr d ↦ let first : flight_of k x ≡ f = cc ((open_cons w k x xs e d).1, h) in absurd (omega (arith, at, ap (λ (g : Flight). g.offset) first))
       ]
     ]
 
-none_left : (w k : ℕ) (log : List Ticket) → ((i : ℕ) (t : Ticket) → slice_get log i ≡ Some t → t.writer ≡ w → ⊥) → (mine_in w k log ≡ []) × (flight_in w k log ≡ None)
+none_left : (w k : ℕ) (log : List Ticket) → ((i : ℕ) (t : Ticket) → slice_get log i ≡ Some t → t.writer ≡ w → ⊥) → (mine_in w k log ≡ [])
+    × (flight_in w k log ≡ None)
 none_left w k [] h = (mine_nil w k, flight_nil w k)
 none_left w k (x ∷ xs) h =
     let a = other_cons w k x xs (eq_false x.writer w (h 0 x refl)) in
@@ -161,7 +178,8 @@ none_left w k (x ∷ xs) h =
     (a.0 ∙ r.0, a.1 ∙ r.1)
 
 -- it is finished, and none of the writer's stands after it
-pub set_done : (w k j : ℕ) (log : List Ticket) (f : Flight) (u : Ticket) → flight_in w k log ≡ Some f → f.offset ≡ k + j → slice_get log j ≡ Some (ticket_of w f) → u.writer ≡ w → u.is_done ≡ true
+pub set_done : (w k j : ℕ) (log : List Ticket) (f : Flight) (u : Ticket) → flight_in w k log ≡ Some f → f.offset ≡ k + j
+    → slice_get log j ≡ Some (ticket_of w f) → u.writer ≡ w → u.is_done ≡ true
     → ((i : ℕ) (t : Ticket) → slice_get log i ≡ Some t → t.writer ≡ w → j < i → ⊥)
     → (mine_in w k (set log j u) ≡ mine_in w k log ++ own_of (k + j) u ∷ []) × (flight_in w k (set log j u) ≡ None)
 set_done w k j [] f u h at there uw ud last = absurd (cc there)
@@ -171,19 +189,24 @@ set_done w k zero (x ∷ xs) f u h at there uw ud last =
     let b = open_cons w k x xs (eq_true x.writer w (ap (λ (z : Ticket). z.writer) same)) (ap (λ (z : Ticket). z.is_done) same) in
     let r = none_left w (suc k) xs (λ i t e g. last (suc i) t e g (omega arith)) in
     let here : k ≡ k + 0 = omega arith in (
-      a.0 ∙ (ap (λ (ys : List Own). own_of k u ∷ ys) r.0 ∙ (ap (λ (n : ℕ). own_of n u ∷ []) here ∙ ap (λ (ys : List Own). ys ++ own_of (k + 0) u ∷ []) (sym (b.0 ∙ r.0)))),
+      a.0 ∙ (ap (λ (ys : List Own). own_of k u ∷ ys) r.0
+          ∙ (ap (λ (n : ℕ). own_of n u ∷ []) here ∙ ap (λ (ys : List Own). ys ++ own_of (k + 0) u ∷ []) (sym (b.0 ∙ r.0)))),
       a.1 ∙ r.1,
     )
 set_done w k (suc j) (x ∷ xs) f u h at there uw ud last =
-    let deep = λ (r : flight_in w (suc k) xs ≡ Some f). set_done w (suc k) j xs f u r (omega (arith, at)) there uw ud (λ i t e g lt. last (suc i) t e g (omega arith)) in
+    let deep = λ (r : flight_in w (suc k) xs ≡ Some f). set_done w (suc k) j xs f u r (omega (arith, at)) there uw ud
+    (λ i t e g lt. last (suc i) t e g (omega arith)) in
     let next : suc k + j ≡ k + suc j = omega arith in
     let own = λ (ys : List Own). ap (λ (n : ℕ). ys ++ own_of n u ∷ []) next in
     elim (cases_Bool (x.writer == w)) [
       | inr e ↦ let a = other_cons w k x (set xs j u) e in let b = other_cons w k x xs e in let r = deep (sym b.1 ∙ h) in
           (a.0 ∙ (r.0 ∙ (own (mine_in w (suc k) xs) ∙ ap (λ (ys : List Own). ys ++ own_of (k + suc j) u ∷ []) (sym b.0))), a.1 ∙ r.1)
       | inl e ↦ elim (cases_Bool x.is_done) [
-        | inl d ↦ let a = done_cons w k x (set xs j u) e d in let b = done_cons w k x xs e d in let r = deep (sym b.1 ∙ h) in
-            (a.0 ∙ (ap (λ (ys : List Own). own_of k x ∷ ys) (r.0 ∙ own (mine_in w (suc k) xs)) ∙ ap (λ (ys : List Own). ys ++ own_of (k + suc j) u ∷ []) (sym b.0)), a.1 ∙ r.1)
+        | inl d ↦ let a = done_cons w k x (set xs j u) e d in let b = done_cons w k x xs e d in let r = deep (sym b.1 ∙ h) in (
+          a.0 ∙ (ap (λ (ys : List Own). own_of k x ∷ ys) (r.0 ∙ own (mine_in w (suc k) xs))
+              ∙ ap (λ (ys : List Own). ys ++ own_of (k + suc j) u ∷ []) (sym b.0)),
+          a.1 ∙ r.1,
+        )
         | inr d ↦ let first : flight_of k x ≡ f = cc ((open_cons w k x xs e d).1, h) in absurd (omega (arith, at, ap (λ (g : Flight). g.offset) first))
       ]
     ]
@@ -200,7 +223,8 @@ push_own w k (x ∷ xs) r h =
     let next : suc k + length xs ≡ k + suc (length xs) = omega arith in
     let fly = ap (λ (n : ℕ). Some (fresh_flight n r)) next in
     elim (cases_Bool (x.writer == w)) [
-      | inr e ↦ let a = other_cons w k x (xs ++ fresh_ticket w r ∷ []) e in let b = other_cons w k x xs e in let q = deep (sym b.1 ∙ h) in (a.0 ∙ (q.0 ∙ sym b.0), a.1 ∙ (q.1 ∙ fly))
+      | inr e ↦ let a = other_cons w k x (xs ++ fresh_ticket w r ∷ []) e in let b = other_cons w k x xs e in let q = deep (sym b.1 ∙ h) in
+          (a.0 ∙ (q.0 ∙ sym b.0), a.1 ∙ (q.1 ∙ fly))
       | inl e ↦ elim (cases_Bool x.is_done) [
         | inl d ↦ let a = done_cons w k x (xs ++ fresh_ticket w r ∷ []) e d in let b = done_cons w k x xs e d in let q = deep (sym b.1 ∙ h) in
             (a.0 ∙ (ap (λ (ys : List Own). own_of k x ∷ ys) q.0 ∙ sym b.0), a.1 ∙ (q.1 ∙ fly))

@@ -63,7 +63,9 @@ skips_all_true sh t k (suc n) h i ge lt = let b = both (skips sh t (sh.use_of k)
 pub skips_all_intro : (sh : Layout) (t : Ticket) (k n : ℕ) → ((i : ℕ) → k ≤ i → i < k + n → Skips sh t (sh.use_of i)) → skips_all sh t k n ≡ true
 unfolding skips_all
 skips_all_intro sh t k zero h = refl
-skips_all_intro sh t k (suc n) h = both_intro (skips sh t (sh.use_of k)) _ (skips_intro sh t (sh.use_of k) (h k (omega arith) (omega arith))) (skips_all_intro sh t (suc k) n (λ i ge lt. h i (omega arith) (omega arith)))
+skips_all_intro sh t k (suc n) h =
+    both_intro (skips sh t (sh.use_of k)) _ (skips_intro sh t (sh.use_of k) (h k (omega arith) (omega arith)))
+    (skips_all_intro sh t (suc k) n (λ i ge lt. h i (omega arith) (omega arith)))
 
 -- the ticket is filled: the words from `filled` up to the done word are passed over. n is how many these are
 pub whole_is : (sh : Layout) (t : Ticket) (n : ℕ) → suc (t.filled + n) ≡ sh.sizes.ticket_words → skips_all sh t t.filled n ≡ true → IsWhole sh t
@@ -80,16 +82,19 @@ below sh t (suc n) h l q lt e = let b = both (linked_if (sh.path t.row n) (has t
   | inr ne ↦ below sh t n b.1 l q (omega arith) e
 ]
 
-pub linked_is : (sh : Layout) (t : Ticket) → LayoutLaw sh → linked_all sh t sh.sizes.lanes ≡ true → (l : ℕ) (q : List ℕ) → sh.path t.row l ≡ Some q → has t.linked l ≡ true
+pub linked_is : (sh : Layout) (t : Ticket) → LayoutLaw sh → linked_all sh t sh.sizes.lanes ≡ true → (l : ℕ) (q : List ℕ) → sh.path t.row l ≡ Some q
+    → has t.linked l ≡ true
 linked_is sh t law h l q e = below sh t sh.sizes.lanes h l q (law.lanes t.row l q e) e
 
 pub linked_only : (sh : Layout) (t : Ticket) (n : ℕ) → ((l : ℕ) (q : List ℕ) → sh.path t.row l ≡ Some q → has t.linked l ≡ true) → linked_all sh t n ≡ true
 unfolding linked_all
 linked_only sh t zero h = refl
-linked_only sh t (suc n) h = both_intro (linked_if (sh.path t.row n) (has t.linked n)) _ (linked_if_intro (sh.path t.row n) (has t.linked n) (h n)) (linked_only sh t n h)
+linked_only sh t (suc n) h =
+    both_intro (linked_if (sh.path t.row n) (has t.linked n)) _ (linked_if_intro (sh.path t.row n) (has t.linked n) (h n)) (linked_only sh t n h)
 
 -- What a place, a node or an offset names, is one.
-pub child_unique : (sh : Layout) (m : Base) (p : Pass) (s r : Spot) (t u : Slot) → PassLaw sh m p → IsChild sh p s t → IsChild sh p r u → place sh.sizes t ≡ place sh.sizes u → (s ≡ r) × (t ≡ u)
+pub child_unique : (sh : Layout) (m : Base) (p : Pass) (s r : Spot) (t u : Slot) → PassLaw sh m p → IsChild sh p s t → IsChild sh p r u
+    → place sh.sizes t ≡ place sh.sizes u → (s ≡ r) × (t ≡ u)
 child_unique sh m p s r t u knows a b same =
     let slot : t ≡ u = same_slot sh.sizes t u a.real b.real same in
     let x = reached sh.sizes.nodes m.stocks p s.lane s.path t knows.known a.reaches in
@@ -99,19 +104,22 @@ child_unique sh m p s r t u knows a b same =
 pub known_unique : (sh : Layout) (m : Base) (p : Pass) (s r : Spot) (n : ℕ) → PassLaw sh m p → Knows p s n → Knows p r n → s ≡ r
 known_unique sh m p s r n knows a b = cc (knows.known a.0 (s, n) a.1, knows.known b.0 (r, n) b.1)
 
-pub flight_unique : (sh : Layout) (m : Base) (passes : List Pass) (k : ℕ) (p : Pass) (i j : ℕ) (b c : Book) (f g : Flight) → Stands sh m passes → slice_get passes k ≡ Some p
+pub flight_unique : (sh : Layout) (m : Base) (passes : List Pass) (k : ℕ) (p : Pass) (i j : ℕ) (b c : Book) (f g : Flight) → Stands sh m passes
+    → slice_get passes k ≡ Some p
     → HoldsInFlight p i b f → HoldsInFlight p j c g → f.offset ≡ g.offset → i ≡ j
 flight_unique sh m passes k p i j b c f g S at x y same =
     let a = aloft sh m p i b f S.law (S.knows k p at) x in
     let d = aloft sh m p j c g S.law (S.knows k p at) y in
     let tickets : ticket_of b.writer f ≡ ticket_of c.writer g = cc (a.at, ap (slice_get m.log) same, d.at) in
     let w : b.writer ≡ c.writer = ap (λ (t : Ticket). t.writer) tickets in
-    (S.once k k i j c.writer (record { pass = p; book = b; at = at; held = x.0; writer = w }) (record { pass = p; book = c; at = at; held = y.0; writer = refl })).1
+    (S.once k k i j c.writer (record { pass = p; book = b; at = at; held = x.0; writer = w })
+    (record { pass = p; book = c; at = at; held = y.0; writer = refl })).1
 
 pub free_unique : (sh : Layout) (m : Base) (passes : List Pass) (k : ℕ) (p : Pass) (i j : ℕ) (b c : Book) → Stands sh m passes → slice_get passes k ≡ Some p
     → Holds p i b → Holds p j c → length b.used < sh.sizes.nodes → length c.used < sh.sizes.nodes → free_node sh b ≡ free_node sh c → i ≡ j
 free_unique sh m passes k p i j b c S at x y lb lc same =
-    let w : b.writer ≡ c.writer = sym (row_of sh.sizes.nodes b.writer (length b.used) lb) ∙ (ap (λ (n : ℕ). n / sh.sizes.nodes) same ∙ row_of sh.sizes.nodes c.writer (length c.used) lc) in
+    let w : b.writer ≡ c.writer = sym (row_of sh.sizes.nodes b.writer (length b.used) lb)
+    ∙ (ap (λ (n : ℕ). n / sh.sizes.nodes) same ∙ row_of sh.sizes.nodes c.writer (length c.used) lc) in
     (S.once k k i j c.writer (record { pass = p; book = b; at = at; held = x; writer = w }) (record { pass = p; book = c; at = at; held = y; writer = refl })).1
 
 -- Without lanes no child word is reached and no node is known, and so there is no label, link or head, and no load of a child, a head or a cell.

@@ -48,13 +48,18 @@ pub front_evolves : (log log' : List Ticket) (n : ℕ) → n ≤ length log → 
 unfolding front
 front_evolves log log' zero le ev = refl
 front_evolves [] log' (suc n) le ev = absurd (omega arith)
-front_evolves (t ∷ ts) log' (suc n) le ev = go log' (ev 0 t refl) (λ r rs e. front_evolves ts rs n (omega arith) (λ o q h. let m = ev (suc o) q h in (m.0, ap (λ (xs : List Ticket). slice_get xs (suc o)) (sym e) ∙ m.1, m.2)))
+front_evolves (t ∷ ts) log' (suc n) le ev =
+    go log' (ev 0 t refl)
+    (λ r rs e. front_evolves ts rs n (omega arith)
+    (λ o q h. let m = ev (suc o) q h in (m.0, ap (λ (xs : List Ticket). slice_get xs (suc o)) (sym e) ∙ m.1, m.2)))
   where
-    go : (log' : List Ticket) → (u : Ticket) × (slice_get log' 0 ≡ Some u) × Rattle.cf_law.proofs.Passes.Becomes t u → ((r : Ticket) (rs : List Ticket) → log' ≡ r ∷ rs → front n ts ≡ front n rs) → front (suc n) (t ∷ ts) ≡ front (suc n) log'
+    go : (log' : List Ticket) → (u : Ticket) × (slice_get log' 0 ≡ Some u) × Rattle.cf_law.proofs.Passes.Becomes t u
+        → ((r : Ticket) (rs : List Ticket) → log' ≡ r ∷ rs → front n ts ≡ front n rs) → front (suc n) (t ∷ ts) ≡ front (suc n) log'
     go [] m rest = absurd (cc (m.1))
     go (r ∷ rs) m rest =
         let same : r ≡ m.0 = cc (m.1) in
-        ap₂ (λ (w : ℕ) (x : RowValue). entry w x ∷ front n ts) (sym m.2.writer ∙ ap (λ (z : Ticket). z.writer) (sym same)) (sym m.2.row ∙ ap (λ (z : Ticket). z.row) (sym same))
+        ap₂ (λ (w : ℕ) (x : RowValue). entry w x ∷ front n ts) (sym m.2.writer ∙ ap (λ (z : Ticket). z.writer) (sym same))
+        (sym m.2.row ∙ ap (λ (z : Ticket). z.row) (sym same))
         ∙ ap (λ (es : List Entry). entry r.writer r.row ∷ es) (rest r rs refl)
 
 pub front_length : (log : List Ticket) (n : ℕ) → n ≤ length log → length (front n log) ≡ n
@@ -78,7 +83,8 @@ front_get (x ∷ log) (suc n) zero t lt at = let same : x ≡ t = cc at in ap (�
 front_get (x ∷ log) (suc n) (suc o) t lt at = front_get log n o t (omega arith) at
 
 -- what is seen at a place is the ticket there
-pub front_at : (log : List Ticket) (n o : ℕ) (e : Entry) → slice_get (front n log) o ≡ Some e → (o < n) × (t : Ticket) × (slice_get log o ≡ Some t) × (e ≡ entry t.writer t.row)
+pub front_at : (log : List Ticket) (n o : ℕ) (e : Entry) → slice_get (front n log) o ≡ Some e → (o < n) × (t : Ticket) × (slice_get log o ≡ Some t)
+    × (e ≡ entry t.writer t.row)
 unfolding front
 front_at log zero o e h = absurd (cc h)
 front_at [] (suc n) o e h = absurd (cc h)
@@ -89,28 +95,33 @@ front_at (x ∷ log) (suc n) (suc o) e h = let k = front_at log n o e h in let l
 pub word_filled : (sh : Layout) (m : Base) (o i : ℕ) (t : Ticket) → BaseLaw sh m → slice_get m.log o ≡ Some t → i < t.filled → suc i < sh.sizes.ticket_words
     → word_at sh m.words (cell o i) ≡ full_word sh m.log o t i
 word_filled sh m o i t law at filled within =
-    let r : word_at sh m.words (cell o i) ≡ ticket_word sh m.log o i (slice_get m.log o) = law.spells (cell o i) (omega (arith, slice_get_within m.log o t at, law.room), omega arith) in
+    let r : word_at sh m.words (cell o i) ≡ ticket_word sh m.log o i (slice_get m.log o) =
+    law.spells (cell o i) (omega (arith, slice_get_within m.log o t at, law.room), omega arith) in
     let full : ticket_word sh m.log o i (Some t) ≡ full_word sh m.log o t i =
-    ap (λ (b : Bool). cond b (done_word t.is_done) (cond (nat_lt i t.filled) (full_word sh m.log o t i) 0)) (eq_false (suc i) sh.sizes.ticket_words (λ e. omega arith))
+    ap (λ (b : Bool). cond b (done_word t.is_done) (cond (nat_lt i t.filled) (full_word sh m.log o t i) 0))
+    (eq_false (suc i) sh.sizes.ticket_words (λ e. omega arith))
     ∙ ap (λ (b : Bool). cond b (full_word sh m.log o t i) 0) (lt_true i t.filled filled) in
     r ∙ (ap (ticket_word sh m.log o i) at ∙ full)
 
 -- a finished ticket's words spell its entry
-pub word_spells : (sh : Layout) (m : Base) (o i : ℕ) (t : Ticket) → LayoutLaw sh → BaseLaw sh m → slice_get m.log o ≡ Some t → t.is_done ≡ true → i < sh.plain_words
+pub word_spells : (sh : Layout) (m : Base) (o i : ℕ) (t : Ticket) → LayoutLaw sh → BaseLaw sh m → slice_get m.log o ≡ Some t → t.is_done ≡ true
+    → i < sh.plain_words
     → word_at sh m.words (cell o i) ≡ get_or (sh.spelled t.row t.writer) i 0
 word_spells sh m o i t shaped law at done small =
     let p = shaped.plains i small in
     let filled : i < t.filled = elim (cases_lt i t.filled) [ inl h ↦ h | inr ge ↦ absurd (subst (Skips sh t) p.1 (law.whole o t at done i ge p.0)) ] in
     word_filled sh m o i t law at filled p.0 ∙ ap (used_word sh m.log o t) p.1
 
-pub plain_spells : (sh : Layout) (m : Base) (o : ℕ) (t : Ticket) → LayoutLaw sh → BaseLaw sh m → slice_get m.log o ≡ Some t → t.is_done ≡ true → plain_at sh m.words o ≡ sh.spelled t.row t.writer
+pub plain_spells : (sh : Layout) (m : Base) (o : ℕ) (t : Ticket) → LayoutLaw sh → BaseLaw sh m → slice_get m.log o ≡ Some t → t.is_done ≡ true
+    → plain_at sh m.words o ≡ sh.spelled t.row t.writer
 plain_spells sh m o t shaped law at done =
     let f = λ (i : ℕ). word_at sh m.words (cell o i) in
     let n = table_length f sh.plain_words in
     let long = shaped.spelled t.row t.writer (law.fits o t at) in
     same_list (plain_at sh m.words o) (sh.spelled t.row t.writer) (n ∙ sym long)
     (λ i lt. let small : i < sh.plain_words = omega (arith, n) in
-    table_at f sh.plain_words i small ∙ (ap (λ (v : ℕ). Some v) (word_spells sh m o i t shaped law at done small) ∙ sym (get_from_or (sh.spelled t.row t.writer) i 0 (omega (arith, long)))))
+    table_at f sh.plain_words i small
+    ∙ (ap (λ (v : ℕ). Some v) (word_spells sh m o i t shaped law at done small) ∙ sym (get_from_or (sh.spelled t.row t.writer) i 0 (omega (arith, long)))))
 
 -- the words below the read tail spell the entries
 pub spelt_front : (sh : Layout) (m : Base) (n : ℕ) → LayoutLaw sh → BaseLaw sh m → n ≤ m.tails.1 → entries_spelled sh m.words n ≡ front n m.log

@@ -35,7 +35,8 @@ mine_found w k (t ∷ ts) j x h = elim (cases_Bool (t.writer == w)) [
   ]
 ]
   where
-    first : (t.writer == w) ≡ true → t.is_done ≡ true → ((i : ℕ) → slice_get (mine_in w (suc k) ts) i ≡ Some x → Found w (suc k) ts x) → (j : ℕ) → slice_get (own_of k t ∷ mine_in w (suc k) ts) j ≡ Some x → Found w k (t ∷ ts) x
+    first : (t.writer == w) ≡ true → t.is_done ≡ true → ((i : ℕ) → slice_get (mine_in w (suc k) ts) i ≡ Some x → Found w (suc k) ts x) → (j : ℕ)
+        → slice_get (own_of k t ∷ mine_in w (suc k) ts) j ≡ Some x → Found w k (t ∷ ts) x
     first e d rest zero g =
         let same : own_of k t ≡ x = cc g in
         let o : k ≡ x.offset = ap (λ (y : Own). y.offset) same in (0, t, omega arith, refl, eq_from t.writer w e, d)
@@ -53,13 +54,17 @@ mine_few w k (t ∷ ts) = elim (cases_Bool (t.writer == w)) [
 ]
 
 -- a finished ticket's done word is 1
-pub done_one : (sh : Layout) (m : Base) (o i : ℕ) (t : Ticket) → BaseLaw sh m → slice_get m.log o ≡ Some t → t.is_done ≡ true → suc i ≡ sh.sizes.ticket_words → word_at sh m.words (cell o i) ≡ 1
+pub done_one : (sh : Layout) (m : Base) (o i : ℕ) (t : Ticket) → BaseLaw sh m → slice_get m.log o ≡ Some t → t.is_done ≡ true → suc i ≡ sh.sizes.ticket_words
+    → word_at sh m.words (cell o i) ≡ 1
 done_one sh m o i t law at done last =
-    let r : word_at sh m.words (cell o i) ≡ ticket_word sh m.log o i (slice_get m.log o) = law.spells (cell o i) (omega (arith, slice_get_within m.log o t at, law.room), omega arith) in
+    let r : word_at sh m.words (cell o i) ≡ ticket_word sh m.log o i (slice_get m.log o) =
+    law.spells (cell o i) (omega (arith, slice_get_within m.log o t at, law.room), omega arith) in
     r ∙ (ap (ticket_word sh m.log o i) at
-    ∙ (ap (λ (b : Bool). cond b (done_word t.is_done) (cond (nat_lt i t.filled) (full_word sh m.log o t i) 0)) (eq_true (suc i) sh.sizes.ticket_words last) ∙ ap done_word done))
+    ∙ (ap (λ (b : Bool). cond b (done_word t.is_done) (cond (nat_lt i t.filled) (full_word sh m.log o t i) 0)) (eq_true (suc i) sh.sizes.ticket_words last)
+    ∙ ap done_word done))
 
-pub own_done : (sh : Layout) (m : Base) (p : Pass) (k j i : ℕ) (b : Book) (x : Own) → BaseLaw sh m → PassLaw sh m p → Holds p k b → slice_get b.mine j ≡ Some x → suc i ≡ sh.sizes.ticket_words
+pub own_done : (sh : Layout) (m : Base) (p : Pass) (k j i : ℕ) (b : Book) (x : Own) → BaseLaw sh m → PassLaw sh m p → Holds p k b
+    → slice_get b.mine j ≡ Some x → suc i ≡ sh.sizes.ticket_words
     → word_at sh m.words (cell x.offset i) ≡ 1
 own_done sh m p k j i b x law knows held at last =
     let own = knows.books k b held in
@@ -75,14 +80,18 @@ from_cons : (w k : ℕ) (e : Entry) (es : List Entry) → mine_from w k (e ∷ e
 unfolding mine_from
 from_cons w k e es = refl
 
-front_all : (log : List Ticket) (w k : ℕ) → ((i : ℕ) (t : Ticket) → slice_get log i ≡ Some t → t.is_done ≡ true) → mine_in w k log ≡ mine_from w k (front (length log) log)
+front_all : (log : List Ticket) (w k : ℕ) → ((i : ℕ) (t : Ticket) → slice_get log i ≡ Some t → t.is_done ≡ true)
+    → mine_in w k log ≡ mine_from w k (front (length log) log)
 unfolding front mine_from
 front_all [] w k h = nothing_mine w k
 front_all (t ∷ ts) w k h =
     let rest = front_all ts w (suc k) (λ i u at. h (suc i) u at) in
     elim (cases_Bool (t.writer == w)) [
-      | inr e ↦ (other_cons w k t ts e).0 ∙ (rest ∙ sym (ap (λ (b : Bool). cond b (own_of k t ∷ mine_from w (suc k) (front (length ts) ts)) (mine_from w (suc k) (front (length ts) ts))) e))
-      | inl e ↦ (done_cons w k t ts e (h 0 t refl)).0 ∙ (ap (λ (xs : List Own). own_of k t ∷ xs) rest ∙ sym (ap (λ (b : Bool). cond b (own_of k t ∷ mine_from w (suc k) (front (length ts) ts)) (mine_from w (suc k) (front (length ts) ts))) e))
+      | inr e ↦ (other_cons w k t ts e).0
+          ∙ (rest ∙ sym (ap (λ (b : Bool). cond b (own_of k t ∷ mine_from w (suc k) (front (length ts) ts)) (mine_from w (suc k) (front (length ts) ts))) e))
+      | inl e ↦ (done_cons w k t ts e (h 0 t refl)).0
+          ∙ (ap (λ (xs : List Own). own_of k t ∷ xs) rest
+          ∙ sym (ap (λ (b : Bool). cond b (own_of k t ∷ mine_from w (suc k) (front (length ts) ts)) (mine_from w (suc k) (front (length ts) ts))) e))
     ]
 
 -- The pass that holds all books at rest, and has seen as much as is finished, has seen all, and each writer's entries there are its own.
@@ -107,12 +116,14 @@ whole sh m p i law knows home last ends =
         let own = knows.books h.0 h.1 h.2 in
         none_flying t.writer 0 m.log o t (sym (ap (λ (w : ℕ). flight_in w 0 m.log) h.3) ∙ (sym (ap (λ (c : Book). c.flight) own.1) ∙ h.4)) at refl
 
-    open_there : length p.seen < length m.log → (x : Option Ticket) → slice_get m.log (length p.seen) ≡ x → (word_at sh m.words (cell (length p.seen) i) ≡ 1 → ⊥) → ⊥
+    open_there : length p.seen < length m.log → (x : Option Ticket) → slice_get m.log (length p.seen) ≡ x
+        → (word_at sh m.words (cell (length p.seen) i) ≡ 1 → ⊥) → ⊥
     open_there lt None e far = Rattle.cf_law.proofs.Passes.no_gap m.log (length p.seen) lt e
     open_there lt (Some t) e far = far (done_one sh m (length p.seen) i t law e (every (length p.seen) t e) last)
 
 -- a finished ticket is among its writer's
-mine_has : (w k : ℕ) (log : List Ticket) (i : ℕ) (t : Ticket) → slice_get log i ≡ Some t → t.writer ≡ w → t.is_done ≡ true → (j : ℕ) × (slice_get (mine_in w k log) j ≡ Some (own_of (k + i) t))
+mine_has : (w k : ℕ) (log : List Ticket) (i : ℕ) (t : Ticket) → slice_get log i ≡ Some t → t.writer ≡ w → t.is_done ≡ true → (j : ℕ)
+    × (slice_get (mine_in w k log) j ≡ Some (own_of (k + i) t))
 mine_has w k [] i t at e d = absurd (cc at)
 mine_has w k (x ∷ xs) zero t at e d =
     let same : x ≡ t = cc at in
@@ -139,11 +150,16 @@ from_below : (w k : ℕ) (es : List Entry) (j : ℕ) (x : Own) → slice_get (mi
 from_below w k [] j x h = absurd (cc (ap (λ (ys : List Own). slice_get ys j) (from_nil w k), h))
 from_below w k (e ∷ es) j x h = elim (cases_Bool (e.writer == w)) [
   | inr f ↦
-      let r = from_below w (suc k) es j x (sym (ap (λ (b : Bool). slice_get (cond b (record { offset = k; row = e.row } ∷ mine_from w (suc k) es) (mine_from w (suc k) es)) j) f) ∙ (sym (ap (λ (ys : List Own). slice_get ys j) (from_cons w k e es)) ∙ h)) in omega (arith, r)
-  | inl f ↦ first (λ i g. from_below w (suc k) es i x g) j (sym (ap (λ (b : Bool). slice_get (cond b (record { offset = k; row = e.row } ∷ mine_from w (suc k) es) (mine_from w (suc k) es)) j) f) ∙ (sym (ap (λ (ys : List Own). slice_get ys j) (from_cons w k e es)) ∙ h))
+      let r = from_below w (suc k) es j x
+      (sym (ap (λ (b : Bool). slice_get (cond b (record { offset = k; row = e.row } ∷ mine_from w (suc k) es) (mine_from w (suc k) es)) j) f)
+      ∙ (sym (ap (λ (ys : List Own). slice_get ys j) (from_cons w k e es)) ∙ h)) in omega (arith, r)
+  | inl f ↦ first (λ i g. from_below w (suc k) es i x g) j
+      (sym (ap (λ (b : Bool). slice_get (cond b (record { offset = k; row = e.row } ∷ mine_from w (suc k) es) (mine_from w (suc k) es)) j) f)
+      ∙ (sym (ap (λ (ys : List Own). slice_get ys j) (from_cons w k e es)) ∙ h))
 ]
   where
-    first : ((i : ℕ) → slice_get (mine_from w (suc k) es) i ≡ Some x → x.offset < suc k + length es) → (j : ℕ) → slice_get (record { offset = k; row = e.row } ∷ mine_from w (suc k) es) j ≡ Some x → x.offset < k + suc (length es)
+    first : ((i : ℕ) → slice_get (mine_from w (suc k) es) i ≡ Some x → x.offset < suc k + length es) → (j : ℕ)
+        → slice_get (record { offset = k; row = e.row } ∷ mine_from w (suc k) es) j ≡ Some x → x.offset < k + suc (length es)
     first rest zero g = let same : own_row k e ≡ x = cc g in omega (arith, ap (λ (y : Own). y.offset) same)
       where
         own_row : ℕ → Entry → Own
@@ -151,7 +167,8 @@ from_below w k (e ∷ es) j x h = elim (cases_Bool (e.writer == w)) [
     first rest (suc i) g = omega (arith, rest i g)
 
 -- While all books are home, and all of theirs was seen, the read tail stays where it is.
-pub stays : (sh : Layout) (m : Base) (p : Pass) → BaseLaw sh m → PassLaw sh m p → AtHome sh p → ((k : ℕ) (b : Book) → Holds p k b → b.mine ≡ mine_from b.writer 0 p.seen) → m.tails.1 ≤ length p.seen
+pub stays : (sh : Layout) (m : Base) (p : Pass) → BaseLaw sh m → PassLaw sh m p → AtHome sh p
+    → ((k : ℕ) (b : Book) → Holds p k b → b.mine ≡ mine_from b.writer 0 p.seen) → m.tails.1 ≤ length p.seen
 stays sh m p law knows home all = elim (cases_lt (length p.seen) m.tails.1) [
   | inr ge ↦ ge
   | inl lt ↦ absurd (go lt (slice_get m.log (length p.seen)) refl)
@@ -163,5 +180,6 @@ stays sh m p law knows home all = elim (cases_lt (length p.seen) m.tails.1) [
         let b = home t.writer (law.writers (length p.seen) t e) in
         let own = knows.books b.0 b.1 b.2 in
         let has = mine_has (b.1).writer 0 m.log (length p.seen) t e (sym b.3) (law.done (length p.seen) t lt e) in
-        let there : slice_get (mine_from (b.1).writer 0 p.seen) has.0 ≡ Some (own_of (0 + length p.seen) t) = ap (λ (ys : List Own). slice_get ys has.0) (sym (all b.0 b.1 b.2) ∙ ap (λ (c : Book). c.mine) own.1) ∙ has.1 in
+        let there : slice_get (mine_from (b.1).writer 0 p.seen) has.0 ≡ Some (own_of (0 + length p.seen) t) =
+        ap (λ (ys : List Own). slice_get ys has.0) (sym (all b.0 b.1 b.2) ∙ ap (λ (c : Book). c.mine) own.1) ∙ has.1 in
         omega (arith, from_below (b.1).writer 0 p.seen has.0 (own_of (0 + length p.seen) t) there)

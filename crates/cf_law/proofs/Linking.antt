@@ -24,7 +24,8 @@ free_is : (sh : Layout) (m : Base) (b : Book) → b ≡ book_at m b.writer → f
 free_is sh m b is = ap (λ (n : ℕ). b.writer * sh.sizes.nodes + n) (sym (used_is m b is))
 
 -- A label.
-pub label_step : (sh : Layout) (m : Base) (passes : List Pass) (kk : ℕ) (p : Pass) (k : ℕ) (b : Book) (s : Spot) (t : Slot) → Stands sh m passes → slice_get passes kk ≡ Some p → Holds p k b
+pub label_step : (sh : Layout) (m : Base) (passes : List Pass) (kk : ℕ) (p : Pass) (k : ℕ) (b : Book) (s : Spot) (t : Slot) → Stands sh m passes
+    → slice_get passes kk ≡ Some p → Holds p k b
     → length b.used < sh.sizes.nodes → IsChild sh p s t
     → Next sh m (body (free_node sh b) 0) (label_of sh s t) (set passes kk (pass_with_book k (book_with_label (label_of sh s t) b) p))
 label_step sh m passes kk p k b s t S at held room child =
@@ -38,13 +39,16 @@ label_step sh m passes kk p k b s t S at held room child =
       ap (λ (n : ℕ). set m.words (place sh.sizes (body n 0)) v) free,
       booked sh m m' passes kk p k b (book_with_label v b) S at held (label_base sh m w v S.law lt (omega (arith, used_is m b own.1)))
           (evolves_self m.log) (λ n r e. label_node_at sh.sizes.nodes m.stocks w v n lt ∙ e) (omega arith)
-          (ap (book_with_label v) own.1 ∙ made_book m' w (mine_in w 0 m.log) (flight_in w 0 m.log) (record { used = (stock_of m.stocks w).used; label = v; over = (stock_of m.stocks w).over }) refl refl (sym (stock_label_same m.stocks w v lt)))
+          (ap (book_with_label v) own.1
+          ∙ made_book m' w (mine_in w 0 m.log) (flight_in w 0 m.log)
+          (record { used = (stock_of m.stocks w).used; label = v; over = (stock_of m.stocks w).over }) refl refl (sym (stock_label_same m.stocks w v lt)))
           (λ u ne. sym (made_book m' u (mine_in u 0 m.log) (flight_in u 0 m.log) (stock_of m.stocks u) refl refl (sym (stock_label_other m.stocks w v u ne)))),
       (evolves_self m.log, omega arith),
     )
 
 -- A link where the word was 0.
-pub link_won : (sh : Layout) (m : Base) (passes : List Pass) (kk : ℕ) (p : Pass) (k : ℕ) (b : Book) (s : Spot) (t : Slot) → Stands sh m passes → slice_get passes kk ≡ Some p → Holds p k b
+pub link_won : (sh : Layout) (m : Base) (passes : List Pass) (kk : ℕ) (p : Pass) (k : ℕ) (b : Book) (s : Spot) (t : Slot) → Stands sh m passes
+    → slice_get passes kk ≡ Some p → Holds p k b
     → length b.used < sh.sizes.nodes → IsChild sh p s t → b.label ≡ label_of sh s t → word_at sh m.words t ≡ 0
     → Next sh m t (suc (free_node sh b)) (set passes kk (pass_with_book k (book_with_node s b) (pass_with_node s (free_node sh b) p)))
 link_won sh m passes kk p k b s t S at held room child label zero_word =
@@ -68,12 +72,16 @@ link_won sh m passes kk p k b s t S at held room child label zero_word =
     let p1 : Pass = pass_with_book k c p in
     let S1 : Stands sh m' (set passes kk p1) = booked sh m m' passes kk p k b c S at held (link_base sh m w s t S.law can zero_word)
     (evolves_self m.log) (link_grows sh.sizes.nodes m.stocks w s lt low) (omega arith)
-    (ap (book_with_node s) own.1 ∙ made_book m' w (mine_in w 0 m.log) (flight_in w 0 m.log) (record { used = (stock_of m.stocks w).used ++ s ∷ []; label = 0; over = (stock_of m.stocks w).over }) refl refl (sym (use_book_same w s m.stocks lt)))
+    (ap (book_with_node s) own.1
+    ∙ made_book m' w (mine_in w 0 m.log) (flight_in w 0 m.log)
+    (record { used = (stock_of m.stocks w).used ++ s ∷ []; label = 0; over = (stock_of m.stocks w).over }) refl refl (sym (use_book_same w s m.stocks lt)))
     (λ u ne. sym (made_book m' u (mine_in u 0 m.log) (flight_in u 0 m.log) (stock_of m.stocks u) refl refl (sym (use_book_other w s m.stocks u ne)))) in
     let at1 : slice_get (set passes kk p1) kk ≡ Some p1 = get_set_same passes kk p1 p at in
-    let node : node_at sh.sizes.nodes (stocks_with_node w s m.stocks) (free_node sh b) ≡ Some s = ap (node_at sh.sizes.nodes (stocks_with_node w s m.stocks)) (sym free) ∙ use_node_at_here sh.sizes.nodes m.stocks w s lt low in
+    let node : node_at sh.sizes.nodes (stocks_with_node w s m.stocks) (free_node sh b) ≡ Some s =
+    ap (node_at sh.sizes.nodes (stocks_with_node w s m.stocks)) (sym free) ∙ use_node_at_here sh.sizes.nodes m.stocks w s lt low in
     let p2 : Pass = pass_with_node s (free_node sh b) p1 in
-    let S2 : Stands sh m' (set (set passes kk p1) kk p2) = knows_more sh m' (set passes kk p1) kk p1 p2 S1 at1 refl (learn_law sh m' p1 s (free_node sh b) node (S1.knows kk p1 at1)) in (
+    let S2 : Stands sh m' (set (set passes kk p1) kk p2) =
+    knows_more sh m' (set passes kk p1) kk p1 p2 S1 at1 refl (learn_law sh m' p1 s (free_node sh b) node (S1.knows kk p1 at1)) in (
       m',
       ap (λ (n : ℕ). set m.words (place sh.sizes t) (suc n)) free,
       subst (Stands sh m') (set_set passes kk p1 p2) S2,
@@ -81,9 +89,11 @@ link_won sh m passes kk p k b s t S at held room child label zero_word =
     )
 
 -- a child word found nonzero names a node of its lane and prefix
-pub child_node : (sh : Layout) (m : Base) (p : Pass) (s : Spot) (t : Slot) (n : ℕ) → BaseLaw sh m → PassLaw sh m p → IsChild sh p s t → word_at sh m.words t ≡ suc n → node_at sh.sizes.nodes m.stocks n ≡ Some s
+pub child_node : (sh : Layout) (m : Base) (p : Pass) (s : Spot) (t : Slot) (n : ℕ) → BaseLaw sh m → PassLaw sh m p → IsChild sh p s t
+    → word_at sh m.words t ≡ suc n → node_at sh.sizes.nodes m.stocks n ≡ Some s
 child_node sh m p s t n law knows child found =
-    node_from_word sh m.tails m.log m.stocks m.words s t n child.inner child.real (reached sh.sizes.nodes m.stocks p s.lane s.path t knows.known child.reaches) law.spells found
+    node_from_word sh m.tails m.log m.stocks m.words s t n child.inner child.real
+    (reached sh.sizes.nodes m.stocks p s.lane s.path t knows.known child.reaches) law.spells found
 
 link_lost : (sh : Layout) (m : Base) (passes : List Pass) (kk : ℕ) (p : Pass) (s : Spot) (t : Slot) (n : ℕ) → Stands sh m passes → slice_get passes kk ≡ Some p
     → IsChild sh p s t → word_at sh m.words t ≡ suc n
@@ -96,7 +106,8 @@ link_lost sh m passes kk p s t n S at child found =
       (evolves_self m.log, omega arith),
     )
 
-pub link_step : (sh : Layout) (m : Base) (passes : List Pass) (kk : ℕ) (p : Pass) (k : ℕ) (b : Book) (s : Spot) (t : Slot) → Stands sh m passes → slice_get passes kk ≡ Some p → Holds p k b
+pub link_step : (sh : Layout) (m : Base) (passes : List Pass) (kk : ℕ) (p : Pass) (k : ℕ) (b : Book) (s : Spot) (t : Slot) → Stands sh m passes
+    → slice_get passes kk ≡ Some p → Holds p k b
     → length b.used < sh.sizes.nodes → IsChild sh p s t → b.label ≡ label_of sh s t → (v : ℕ) → word_at sh m.words t ≡ v
     → Next sh m t (child_word (free_node sh b) v) (set passes kk (pass_with_link k b s (free_node sh b) p v))
 link_step sh m passes kk p k b s t S at held room child label zero found = link_won sh m passes kk p k b s t S at held room child label found

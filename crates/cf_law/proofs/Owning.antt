@@ -43,20 +43,48 @@ mine_before w k [] j x h = absurd (cc (ap (λ (xs : List Own). slice_get xs j) (
 mine_before w k (t ∷ ts) j x h = elim (cases_Bool (t.writer == w)) [
   | inr e ↦
       let r = mine_before w (suc k) ts j x (ap (λ (xs : List Own). slice_get xs j) (sym (other_cons w k t ts e).0) ∙ h) in
-      record { place = suc r.place; ticket = r.ticket; offset = (let o = r.offset in omega arith); row = r.row; at = r.at; writer = r.writer; done = r.done; before = (other_cons w k t (take r.place ts) e).0 ∙ (r.before ∙ ap (take j) (sym (other_cons w k t ts e).0)) }
+      record {
+        place = suc r.place;
+        ticket = r.ticket;
+        offset = (let o = r.offset in omega arith);
+        row = r.row;
+        at = r.at;
+        writer = r.writer;
+        done = r.done;
+        before = (other_cons w k t (take r.place ts) e).0 ∙ (r.before ∙ ap (take j) (sym (other_cons w k t ts e).0));
+      }
   | inl e ↦ elim (cases_Bool t.is_done) [
     | inr d ↦
         let r = mine_before w (suc k) ts j x (ap (λ (xs : List Own). slice_get xs j) (sym (open_cons w k t ts e d).0) ∙ h) in
-        record { place = suc r.place; ticket = r.ticket; offset = (let o = r.offset in omega arith); row = r.row; at = r.at; writer = r.writer; done = r.done; before = (open_cons w k t (take r.place ts) e d).0 ∙ (r.before ∙ ap (take j) (sym (open_cons w k t ts e d).0)) }
+        record {
+          place = suc r.place;
+          ticket = r.ticket;
+          offset = (let o = r.offset in omega arith);
+          row = r.row;
+          at = r.at;
+          writer = r.writer;
+          done = r.done;
+          before = (open_cons w k t (take r.place ts) e d).0 ∙ (r.before ∙ ap (take j) (sym (open_cons w k t ts e d).0));
+        }
     | inl d ↦ first e d j (λ i g. mine_before w (suc k) ts i x g) (ap (λ (xs : List Own). slice_get xs j) (sym (done_cons w k t ts e d).0) ∙ h)
   ]
 ]
   where
-    first : (t.writer == w) ≡ true → t.is_done ≡ true → (j : ℕ) → ((i : ℕ) → slice_get (mine_in w (suc k) ts) i ≡ Some x → IsMine w (suc k) i ts x) → slice_get (own_of k t ∷ mine_in w (suc k) ts) j ≡ Some x → IsMine w k j (t ∷ ts) x
+    first : (t.writer == w) ≡ true → t.is_done ≡ true → (j : ℕ) → ((i : ℕ) → slice_get (mine_in w (suc k) ts) i ≡ Some x → IsMine w (suc k) i ts x)
+        → slice_get (own_of k t ∷ mine_in w (suc k) ts) j ≡ Some x → IsMine w k j (t ∷ ts) x
     first e d zero rest g =
         let same : own_of k t ≡ x = cc g in
         let o : k ≡ x.offset = ap (λ (y : Own). y.offset) same in
-        record { place = 0; ticket = t; offset = omega arith; row = sym (ap (λ (y : Own). y.row) same); at = refl; writer = eq_from t.writer w e; done = d; before = nothing_mine w k }
+        record {
+          place = 0;
+          ticket = t;
+          offset = omega arith;
+          row = sym (ap (λ (y : Own). y.row) same);
+          at = refl;
+          writer = eq_from t.writer w e;
+          done = d;
+          before = nothing_mine w k;
+        }
     first e d (suc i) rest g =
         let r = rest i g in
         record {
@@ -67,7 +95,8 @@ mine_before w k (t ∷ ts) j x h = elim (cases_Bool (t.writer == w)) [
           at = r.at;
           writer = r.writer;
           done = r.done;
-          before = (done_cons w k t (take r.place ts) e d).0 ∙ (ap (λ (xs : List Own). own_of k t ∷ xs) r.before ∙ ap (take (suc i)) (sym (done_cons w k t ts e d).0));
+          before = (done_cons w k t (take r.place ts) e d).0
+              ∙ (ap (λ (xs : List Own). own_of k t ∷ xs) r.before ∙ ap (take (suc i)) (sym (done_cons w k t ts e d).0));
         }
 
 get_take : {A : Type 0} (n i : ℕ) (xs : List A) → i < n → slice_get (take n xs) i ≡ slice_get xs i
@@ -83,17 +112,20 @@ take_short (suc n) zero x (y ∷ ys) h = omega arith
 take_short (suc n) (suc i) x (y ∷ ys) h = let r = take_short n i x ys h in omega arith
 
 -- the chain before a finished ticket is that of what its writer had finished
-pub chain_own : (sh : Layout) (m : Base) (w j : ℕ) (s : Spot) (x : Own) → BaseLaw sh m → slice_get (mine_in w 0 m.log) j ≡ Some x → chain sh m.log w s x.offset ≡ mine_chain sh s (take j (mine_in w 0 m.log))
+pub chain_own : (sh : Layout) (m : Base) (w j : ℕ) (s : Spot) (x : Own) → BaseLaw sh m → slice_get (mine_in w 0 m.log) j ≡ Some x
+    → chain sh m.log w s x.offset ≡ mine_chain sh s (take j (mine_in w 0 m.log))
 chain_own sh m w j s x law at =
     let r = mine_before w 0 m.log j x at in
     let o : x.offset ≡ r.place = (let e = r.offset in omega arith) in
     let front : List Ticket = take r.place m.log in
-    let by_mine : mine_chain sh s (mine_in w 0 front) ≡ walk sh w s 0 front r.place = mine_walk sh w s 0 front r.place (λ i u there e. settled r.place r.ticket r.at r.writer i u there e) in
+    let by_mine : mine_chain sh s (mine_in w 0 front) ≡ walk sh w s 0 front r.place =
+    mine_walk sh w s 0 front r.place (λ i u there e. settled r.place r.ticket r.at r.writer i u there e) in
     ap (chain sh m.log w s) o
     ∙ (sym (chain_same sh front m.log w s r.place (λ i lt. ap (entry_at sh w s i) (get_take r.place i m.log lt)))
     ∙ (chain_walk sh front w s r.place ∙ (sym by_mine ∙ ap (mine_chain sh s) r.before)))
   where
-    settled : (n : ℕ) (t : Ticket) → slice_get m.log n ≡ Some t → t.writer ≡ w → (i : ℕ) (u : Ticket) → slice_get (take n m.log) i ≡ Some u → u.writer ≡ w → Settled sh s.lane n (0 + i) u
+    settled : (n : ℕ) (t : Ticket) → slice_get m.log n ≡ Some t → t.writer ≡ w → (i : ℕ) (u : Ticket) → slice_get (take n m.log) i ≡ Some u → u.writer ≡ w
+        → Settled sh s.lane n (0 + i) u
     settled n t here tw i u there e =
         let lt = take_short n i u m.log there in
         let at_log : slice_get m.log i ≡ Some u = sym (get_take n i m.log lt) ∙ there in
@@ -101,8 +133,10 @@ chain_own sh m w j s x law at =
         inl (d, omega arith, λ p leads. law.linked i s.lane u p at_log d leads)
 
 -- a word of the cell of an own finished ticket
-pub own_cell : (sh : Layout) (m : Base) (p : Pass) (k j i l h : ℕ) (q : List ℕ) (b : Book) (x : Own) → BaseLaw sh m → PassLaw sh m p → Holds p k b → slice_get b.mine j ≡ Some x → suc i < sh.sizes.ticket_words
-    → sh.use_of i ≡ version l h → sh.path x.row l ≡ Some q → word_at sh m.words (cell x.offset i) ≡ version_word sh l h (mine_chain sh (spot l q) (take j b.mine)) x.row
+pub own_cell : (sh : Layout) (m : Base) (p : Pass) (k j i l h : ℕ) (q : List ℕ) (b : Book) (x : Own) → BaseLaw sh m → PassLaw sh m p → Holds p k b
+    → slice_get b.mine j ≡ Some x → suc i < sh.sizes.ticket_words
+    → sh.use_of i ≡ version l h → sh.path x.row l ≡ Some q
+    → word_at sh m.words (cell x.offset i) ≡ version_word sh l h (mine_chain sh (spot l q) (take j b.mine)) x.row
 own_cell sh m p k j i l h q b x law knows held at within is leads =
     let own = knows.books k b held in
     let mine : b.mine ≡ mine_in b.writer 0 m.log = ap (λ (c : Book). c.mine) own.1 in
@@ -116,18 +150,21 @@ own_cell sh m p k j i l h q b x law knows held at within is leads =
     ∙ (word_filled sh m r.place i t law r.at filled within
     ∙ (ap (used_word sh m.log r.place t) is ∙ (ap (lane_word sh m.log r.place l h t) leads'
     ∙ (ap₂ (λ (n w : ℕ). version_word sh l h (chain sh m.log w (spot l q) n) t.row) (sym o) r.writer
-    ∙ (ap (λ (c : List (ℕ × RowValue)). version_word sh l h c t.row) (chain_own sh m b.writer j (spot l q) x law at' ∙ ap (λ (xs : List Own). mine_chain sh (spot l q) (take j xs)) (sym mine))
+    ∙ (ap (λ (c : List (ℕ × RowValue)). version_word sh l h c t.row)
+    (chain_own sh m b.writer j (spot l q) x law at' ∙ ap (λ (xs : List Own). mine_chain sh (spot l q) (take j xs)) (sym mine))
     ∙ ap (version_word sh l h (mine_chain sh (spot l q) (take j b.mine))) (sym r.row))))))
 
 -- at rest, a writer's whole chain is that of what it has finished
-chain_rest : (sh : Layout) (m : Base) (w : ℕ) (s : Spot) → BaseLaw sh m → flight_in w 0 m.log ≡ None → chain sh m.log w s (length m.log) ≡ mine_chain sh s (mine_in w 0 m.log)
+chain_rest : (sh : Layout) (m : Base) (w : ℕ) (s : Spot) → BaseLaw sh m → flight_in w 0 m.log ≡ None
+    → chain sh m.log w s (length m.log) ≡ mine_chain sh s (mine_in w 0 m.log)
 chain_rest sh m w s law none =
     chain_walk sh m.log w s (length m.log) ∙ sym (mine_walk sh w s 0 m.log (length m.log) (λ i u there e.
     let d = none_flying w 0 m.log i u none there e in
     inl (d, (let lt = slice_get_within m.log i u there in omega arith), λ p leads. law.linked i s.lane u p there d leads)))
 
 -- with a ticket in flight it is that, with this one before it where it is linked there
-none_past : (sh : Layout) (m : Base) (w : ℕ) (s : Spot) (o : ℕ) (t : Ticket) → BaseLaw sh m → slice_get m.log o ≡ Some t → t.is_done ≡ false → t.writer ≡ w → (i : ℕ) → o < i → entry_at sh w s i (slice_get m.log i) ≡ []
+none_past : (sh : Layout) (m : Base) (w : ℕ) (s : Spot) (o : ℕ) (t : Ticket) → BaseLaw sh m → slice_get m.log o ≡ Some t → t.is_done ≡ false → t.writer ≡ w
+    → (i : ℕ) → o < i → entry_at sh w s i (slice_get m.log i) ≡ []
 none_past sh m w s o t law at flies e i lt = go (slice_get m.log i) refl
   where
     go : (x : Option Ticket) → slice_get m.log i ≡ x → entry_at sh w s i (slice_get m.log i) ≡ []
@@ -137,7 +174,8 @@ none_past sh m w s o t law at flies e i lt = go (slice_get m.log i) refl
       | inl h ↦ absurd (none_after m.log o i t u law.flight at flies f ((links_true sh w s u h).0 ∙ sym e) lt)
     ]
 
-links_flying : (sh : Layout) (w : ℕ) (s : Spot) (f : Flight) → links sh w s (ticket_of w f) ≡ cond (has f.linked s.lane) (same_path (sh.path f.row s.lane) s.path) false
+links_flying : (sh : Layout) (w : ℕ) (s : Spot) (f : Flight)
+    → links sh w s (ticket_of w f) ≡ cond (has f.linked s.lane) (same_path (sh.path f.row s.lane) s.path) false
 unfolding links
 links_flying sh w s f = ap (λ (b : Bool). cond b (cond (has f.linked s.lane) (same_path (sh.path f.row s.lane) s.path) false) false) (eq_true w w refl)
 
@@ -156,12 +194,14 @@ own_head_is sh m p k b n d l q law knows held real known leaf = word ∙ go b.fl
     mine = ap (λ (c : Book). c.mine) own.1
 
     word : word_at sh m.words (head_slot sh.sizes n d b.writer) ≡ link_to_newest (chain sh m.log b.writer (spot l (d ∷ q)) (length m.log))
-    word = head_word sh m.tails m.log m.stocks m.words n d b.writer l q real own.0 (knows.known known.0 (spot l q, n) known.1) (lt_false (suc (length q)) (sh.levels l) (λ h. omega (arith, leaf))) law.spells
+    word = head_word sh m.tails m.log m.stocks m.words n d b.writer l q real own.0 (knows.known known.0 (spot l q, n) known.1)
+        (lt_false (suc (length q)) (sh.levels l) (λ h. omega (arith, leaf))) law.spells
 
     go : (x : Option Flight) → b.flight ≡ x → link_to_newest (chain sh m.log b.writer (spot l (d ∷ q)) (length m.log)) ≡ own_top sh b (spot l (d ∷ q))
     go None e =
         let none : flight_in b.writer 0 m.log ≡ None = sym (ap (λ (c : Book). c.flight) own.1) ∙ e in
-        ap link_to_newest (chain_rest sh m b.writer (spot l (d ∷ q)) law none ∙ ap (mine_chain sh (spot l (d ∷ q))) (sym mine)) ∙ ap (own_top_by sh b (spot l (d ∷ q))) (sym e)
+        ap link_to_newest (chain_rest sh m b.writer (spot l (d ∷ q)) law none ∙ ap (mine_chain sh (spot l (d ∷ q))) (sym mine))
+        ∙ ap (own_top_by sh b (spot l (d ∷ q))) (sym e)
     go (Some f) e =
         let A = aloft sh m p k b f law knows (held, e) in
         let lt : f.offset < length m.log = slice_get_within m.log f.offset (ticket_of b.writer f) A.at in
@@ -170,18 +210,26 @@ own_head_is sh m p k b n d l q law knows held real known leaf = word ∙ go b.fl
         let same : links sh b.writer (spot l (d ∷ q)) (ticket_of b.writer f) ≡ test = links_flying sh b.writer (spot l (d ∷ q)) f in
         elim (cases_Bool test) [
           | inl g ↦
-              let here : entry_at sh b.writer (spot l (d ∷ q)) f.offset (slice_get m.log f.offset) ≡ (f.offset, f.row) ∷ [] = ap (entry_at sh b.writer (spot l (d ∷ q)) f.offset) A.at ∙ entry_linked sh b.writer (spot l (d ∷ q)) f.offset (ticket_of b.writer f) (same ∙ g) in
+              let here : entry_at sh b.writer (spot l (d ∷ q)) f.offset (slice_get m.log f.offset) ≡ (f.offset, f.row) ∷ [] =
+              ap (entry_at sh b.writer (spot l (d ∷ q)) f.offset) A.at
+              ∙ entry_linked sh b.writer (spot l (d ∷ q)) f.offset (ticket_of b.writer f) (same ∙ g) in
               chain_top sh m.log b.writer (spot l (d ∷ q)) f.offset (length m.log) f.row lt here (λ i low small. past i low)
-              ∙ (sym (ap (λ (t : Bool). cond t (suc f.offset) (link_to_newest (mine_chain sh (spot l (d ∷ q)) b.mine))) g) ∙ ap (own_top_by sh b (spot l (d ∷ q))) (sym e))
+              ∙ (sym (ap (λ (t : Bool). cond t (suc f.offset) (link_to_newest (mine_chain sh (spot l (d ∷ q)) b.mine))) g)
+              ∙ ap (own_top_by sh b (spot l (d ∷ q))) (sym e))
           | inr g ↦
-              let here : entry_at sh b.writer (spot l (d ∷ q)) f.offset (slice_get m.log f.offset) ≡ [] = ap (entry_at sh b.writer (spot l (d ∷ q)) f.offset) A.at ∙ entry_unlinked sh b.writer (spot l (d ∷ q)) f.offset (ticket_of b.writer f) (same ∙ g) in
+              let here : entry_at sh b.writer (spot l (d ∷ q)) f.offset (slice_get m.log f.offset) ≡ [] =
+              ap (entry_at sh b.writer (spot l (d ∷ q)) f.offset) A.at
+              ∙ entry_unlinked sh b.writer (spot l (d ∷ q)) f.offset (ticket_of b.writer f) (same ∙ g) in
               let rest = chain_from sh m.log b.writer (spot l (d ∷ q)) f.offset (length m.log) (omega arith) (λ i ge small. from_here here past i ge) in
               let below = chain_mine sh m b.writer f.offset (spot l (d ∷ q)) (ticket_of b.writer f) law A.at refl refl in
               ap link_to_newest (rest ∙ (sym below ∙ ap (mine_chain sh (spot l (d ∷ q))) (sym mine)))
-              ∙ (sym (ap (λ (t : Bool). cond t (suc f.offset) (link_to_newest (mine_chain sh (spot l (d ∷ q)) b.mine))) g) ∙ ap (own_top_by sh b (spot l (d ∷ q))) (sym e))
+              ∙ (sym (ap (λ (t : Bool). cond t (suc f.offset) (link_to_newest (mine_chain sh (spot l (d ∷ q)) b.mine))) g)
+              ∙ ap (own_top_by sh b (spot l (d ∷ q))) (sym e))
         ]
       where
-        from_here : entry_at sh b.writer (spot l (d ∷ q)) f.offset (slice_get m.log f.offset) ≡ [] → ((i : ℕ) → f.offset < i → entry_at sh b.writer (spot l (d ∷ q)) i (slice_get m.log i) ≡ []) → (i : ℕ) → f.offset ≤ i → entry_at sh b.writer (spot l (d ∷ q)) i (slice_get m.log i) ≡ []
+        from_here : entry_at sh b.writer (spot l (d ∷ q)) f.offset (slice_get m.log f.offset) ≡ []
+            → ((i : ℕ) → f.offset < i → entry_at sh b.writer (spot l (d ∷ q)) i (slice_get m.log i) ≡ []) → (i : ℕ) → f.offset ≤ i
+            → entry_at sh b.writer (spot l (d ∷ q)) i (slice_get m.log i) ≡ []
         from_here here past i ge = elim (cases_eq f.offset i) [
           | inl same ↦ subst (λ (j : ℕ). entry_at sh b.writer (spot l (d ∷ q)) j (slice_get m.log j) ≡ []) same here
           | inr ne ↦ past i (omega arith)
@@ -192,7 +240,8 @@ from_nil : (w k : ℕ) → mine_from w k [] ≡ []
 unfolding mine_from
 from_nil w k = refl
 
-from_cons : (w k : ℕ) (e : Entry) (es : List Entry) → mine_from w k (e ∷ es) ≡ cond (e.writer == w) (record { offset = k; row = e.row } ∷ mine_from w (suc k) es) (mine_from w (suc k) es)
+from_cons : (w k : ℕ) (e : Entry) (es : List Entry)
+    → mine_from w k (e ∷ es) ≡ cond (e.writer == w) (record { offset = k; row = e.row } ∷ mine_from w (suc k) es) (mine_from w (suc k) es)
 unfolding mine_from
 from_cons w k e es = refl
 
@@ -212,21 +261,30 @@ front_cons n t ts = refl
 abbrev Begins : List Own → List Own → Type 0
 Begins xs ys = (rest : List Own) × (ys ≡ xs ++ rest)
 
-mine_begins : (w k n : ℕ) (log : List Ticket) → ((o : ℕ) (t : Ticket) → o < n → slice_get log o ≡ Some t → t.is_done ≡ true) → Begins (mine_from w k (front n log)) (mine_in w k log)
+mine_begins : (w k n : ℕ) (log : List Ticket) → ((o : ℕ) (t : Ticket) → o < n → slice_get log o ≡ Some t → t.is_done ≡ true)
+    → Begins (mine_from w k (front n log)) (mine_in w k log)
 mine_begins w k zero log all = (mine_in w k log, ap (λ (es : List Own). es ++ mine_in w k log) (sym (ap (mine_from w k) (front_zero log) ∙ from_nil w k)))
 mine_begins w k (suc n) [] all = (mine_in w k [], ap (λ (es : List Own). es ++ mine_in w k []) (sym (ap (mine_from w k) (front_nil (suc n)) ∙ from_nil w k)))
 mine_begins w k (suc n) (t ∷ ts) all =
     let r = mine_begins w (suc k) n ts (λ o u lt at. all (suc o) u (omega arith) at) in
-    let from : mine_from w k (front (suc n) (t ∷ ts)) ≡ cond (t.writer == w) (own_of k t ∷ mine_from w (suc k) (front n ts)) (mine_from w (suc k) (front n ts)) = ap (mine_from w k) (front_cons n t ts) ∙ from_cons w k (entry t.writer t.row) (front n ts) in (
+    let from : mine_from w k (front (suc n) (t ∷ ts)) ≡ cond (t.writer == w) (own_of k t ∷ mine_from w (suc k) (front n ts))
+    (mine_from w (suc k) (front n ts)) = ap (mine_from w k) (front_cons n t ts) ∙ from_cons w k (entry t.writer t.row) (front n ts) in (
       r.0,
       elim (cases_Bool (t.writer == w)) [
-        | inr e ↦ (other_cons w k t ts e).0 ∙ (r.1 ∙ ap (λ (xs : List Own). xs ++ r.0) (sym (from ∙ ap (λ (b : Bool). cond b (own_of k t ∷ mine_from w (suc k) (front n ts)) (mine_from w (suc k) (front n ts))) e)))
-        | inl e ↦ (done_cons w k t ts e (all 0 t (omega arith) refl)).0 ∙ (ap (λ (xs : List Own). own_of k t ∷ xs) r.1 ∙ ap (λ (xs : List Own). xs ++ r.0) (sym (from ∙ ap (λ (b : Bool). cond b (own_of k t ∷ mine_from w (suc k) (front n ts)) (mine_from w (suc k) (front n ts))) e)))
+        | inr e ↦ (other_cons w k t ts e).0
+            ∙ (r.1 ∙ ap (λ (xs : List Own). xs ++ r.0)
+            (sym (from ∙ ap (λ (b : Bool). cond b (own_of k t ∷ mine_from w (suc k) (front n ts)) (mine_from w (suc k) (front n ts))) e)))
+        | inl e ↦ (done_cons w k t ts e (all 0 t (omega arith) refl)).0
+            ∙ (ap (λ (xs : List Own). own_of k t ∷ xs) r.1
+            ∙ ap (λ (xs : List Own). xs ++ r.0)
+            (sym (from ∙ ap (λ (b : Bool). cond b (own_of k t ∷ mine_from w (suc k) (front n ts)) (mine_from w (suc k) (front n ts))) e)))
       ],
     )
 
-pub mine_seen : (sh : Layout) (m : Base) (p : Pass) (k : ℕ) (b : Book) → BaseLaw sh m → PassLaw sh m p → Holds p k b → take (length (mine_from b.writer 0 p.seen)) b.mine ≡ mine_from b.writer 0 p.seen
+pub mine_seen : (sh : Layout) (m : Base) (p : Pass) (k : ℕ) (b : Book) → BaseLaw sh m → PassLaw sh m p → Holds p k b
+    → take (length (mine_from b.writer 0 p.seen)) b.mine ≡ mine_from b.writer 0 p.seen
 mine_seen sh m p k b law knows held =
     let r = mine_begins b.writer 0 (length p.seen) m.log (λ o t lt at. law.done o t (omega (arith, knows.within)) at) in
-    let mine : b.mine ≡ mine_from b.writer 0 p.seen ++ r.0 = ap (λ (c : Book). c.mine) (knows.books k b held).1 ∙ (r.1 ∙ ap (λ (es : List Entry). mine_from b.writer 0 es ++ r.0) (sym knows.seen)) in
+    let mine : b.mine ≡ mine_from b.writer 0 p.seen ++ r.0 = ap (λ (c : Book). c.mine) (knows.books k b held).1
+    ∙ (r.1 ∙ ap (λ (es : List Entry). mine_from b.writer 0 es ++ r.0) (sym knows.seen)) in
     ap (take (length (mine_from b.writer 0 p.seen))) mine ∙ take_at (mine_from b.writer 0 p.seen) r.0 (length (mine_from b.writer 0 p.seen)) refl

@@ -47,7 +47,8 @@ pub known_grows : (sh : Layout) (bs bs' : List Stock) (x : Spot × ℕ) → Grow
 known_grows sh bs bs' x grows k = grows x.1 x.0 k
 
 -- a known child word still has its value
-pub known_holds : (sh : Layout) (ts : ℕ × ℕ) (log : List Ticket) (bs : List Stock) (words : List ℕ) (x : Spot × ℕ) (t : Slot) → NodesLaw sh bs → Spells sh ts log bs words → Known sh bs x
+pub known_holds : (sh : Layout) (ts : ℕ × ℕ) (log : List Ticket) (bs : List Stock) (words : List ℕ) (x : Spot × ℕ) (t : Slot) → NodesLaw sh bs
+    → Spells sh ts log bs words → Known sh bs x
     → IsReal sh.sizes t → IsNamedBy sh.sizes.nodes bs x.0.lane x.0.path t → get_or words (place sh.sizes t) 0 ≡ suc x.1
 known_holds sh ts log bs words x t law spells k real named = known_word sh ts log bs words x.0 t x.1 law (law.shaped x.1 x.0 k).2 real named spells k
 
@@ -61,7 +62,8 @@ leads_evolves sh log log' c (suc o) ev h = let u = ev o h.0 h.1 in let b = u.2 i
   λ k j is within. let f = h.4 k j is within in omega (arith, f, b.filled),
 )
 
-pub cursor_evolves : (sh : Layout) (log log' : List Ticket) (seen : ℕ) (c : Option Cursor) → Evolves log log' → seen ≤ length log → CursorIs sh log seen c → CursorIs sh log' seen c
+pub cursor_evolves : (sh : Layout) (log log' : List Ticket) (seen : ℕ) (c : Option Cursor) → Evolves log log' → seen ≤ length log → CursorIs sh log seen c
+    → CursorIs sh log' seen c
 cursor_evolves sh log log' seen None ev le h = h
 cursor_evolves sh log log' seen (Some c) ev le h = record {
   leads = leads_evolves sh log log' c c.link ev h.leads;
@@ -69,7 +71,8 @@ cursor_evolves sh log log' seen (Some c) ev le h = record {
   met = λ i x at. (let k = h.met i x at in let u = ev x.0 k.0 k.1 in (u.0, u.1, (u.2).writer ∙ k.2));
 }
   where
-    back : (i : ℕ) (u : Ticket) → i < seen → slice_get log' i ≡ Some u → u.writer ≡ c.writer → sh.path u.row c.spot.lane ≡ Some c.spot.path → (o : Option Ticket) → slice_get log i ≡ o
+    back : (i : ℕ) (u : Ticket) → i < seen → slice_get log' i ≡ Some u → u.writer ≡ c.writer → sh.path u.row c.spot.lane ≡ Some c.spot.path
+        → (o : Option Ticket) → slice_get log i ≡ o
         → (i < c.link) ⊎ (has c.gone i ≡ true)
     back i u lt at w p None e = absurd (no_gap log i (omega arith) e)
     back i u lt at w p (Some t) e =
@@ -90,8 +93,10 @@ pub head_word : (sh : Layout) (ts : ℕ × ℕ) (log : List Ticket) (bs : List S
 head_word sh ts log bs words n d w l p real lt at outer spells =
     let v = get_or words (place sh.sizes (head_slot sh.sizes n d w)) 0 in
     let r0 : BodyWord sh log bs n (suc (d * sh.sizes.writers + w)) v (node_at sh.sizes.nodes bs n) = spells (head_slot sh.sizes n d w) real in
-    let r1 : NodeWord sh log bs (spot l p) (d * sh.sizes.writers + w) v (is_inner sh (spot l p)) = subst (λ (o : Option Spot). BodyWord sh log bs n (suc (d * sh.sizes.writers + w)) v o) at r0 in
-    let r2 : NodeWord sh log bs (spot l p) (d * sh.sizes.writers + w) v false = subst (λ (b : Bool). NodeWord sh log bs (spot l p) (d * sh.sizes.writers + w) v b) outer r1 in
+    let r1 : NodeWord sh log bs (spot l p) (d * sh.sizes.writers + w) v (is_inner sh (spot l p)) =
+    subst (λ (o : Option Spot). BodyWord sh log bs n (suc (d * sh.sizes.writers + w)) v o) at r0 in
+    let r2 : NodeWord sh log bs (spot l p) (d * sh.sizes.writers + w) v false =
+    subst (λ (b : Bool). NodeWord sh log bs (spot l p) (d * sh.sizes.writers + w) v b) outer r1 in
     r2 ∙ ap₂ (λ (u e : ℕ). link_to_newest (chain sh log u (spot l (e ∷ p)) (length log))) (col_of sh.sizes.writers d w lt) (row_of sh.sizes.writers d w lt)
 
 -- what the law says of tickets, as far as a walk needs it
@@ -100,38 +105,47 @@ pub record WalkLaw (sh : Layout) (log : List Ticket) (seen : ℕ) : Type 0 where
   pub linked : (o l : ℕ) (t : Ticket) (p : List ℕ) → o < seen → slice_get log o ≡ Some t → sh.path t.row l ≡ Some p → has t.linked l ≡ true
   pub within : seen ≤ length log
 
-entry_leads : (sh : Layout) (log : List Ticket) (seen w : ℕ) (s : Spot) (n : ℕ) (gone : List ℕ) (met : List (ℕ × ℕ)) (k v : ℕ) → WalkLaw sh log seen → IsEntry sh log w s n v → Leads sh log (record { writer = w; spot = s; link = k; gone = gone; met = met }) v
+entry_leads : (sh : Layout) (log : List Ticket) (seen w : ℕ) (s : Spot) (n : ℕ) (gone : List ℕ) (met : List (ℕ × ℕ)) (k v : ℕ) → WalkLaw sh log seen
+    → IsEntry sh log w s n v → Leads sh log (record { writer = w; spot = s; link = k; gone = gone; met = met }) v
 entry_leads sh log seen w s n gone met k zero law h = tt
 entry_leads sh log seen w s n gone met k (suc o) law h = let x = links_true sh w s h.1 h.3 in (h.1, h.2, x.0, x.2, law.full o s.lane h.1 h.2 x.1)
 
-pub walk_begins : (sh : Layout) (log : List Ticket) (seen w : ℕ) (s : Spot) (met : List (ℕ × ℕ)) → WalkLaw sh log seen → ((i : ℕ) (x : ℕ × ℕ) → slice_get met i ≡ Some x → HasWriter log x)
+pub walk_begins : (sh : Layout) (log : List Ticket) (seen w : ℕ) (s : Spot) (met : List (ℕ × ℕ)) → WalkLaw sh log seen
+    → ((i : ℕ) (x : ℕ × ℕ) → slice_get met i ≡ Some x → HasWriter log x)
     → CursorLaw sh log seen (record { writer = w; spot = s; link = link_to_newest (chain sh log w s (length log)); gone = []; met = met })
 walk_begins sh log seen w s met law theirs = record {
-  leads = entry_leads sh log seen w s (length log) [] met (link_to_newest (chain sh log w s (length log))) (link_to_newest (chain sh log w s (length log))) law (chain_is sh log w s (length log));
-  left = λ i t lt at e p. inl (chain_has sh log w s (length log) i t at (links_intro sh w s t e (law.linked i s.lane t s.path lt at p) p) (omega (arith, law.within)));
+  leads = entry_leads sh log seen w s (length log) [] met (link_to_newest (chain sh log w s (length log))) (link_to_newest (chain sh log w s (length log))) law
+      (chain_is sh log w s (length log));
+  left = λ i t lt at e p. inl
+      (chain_has sh log w s (length log) i t at (links_intro sh w s t e (law.linked i s.lane t s.path lt at p) p) (omega (arith, law.within)));
   met = theirs;
 }
 
 -- what earlier walks went by
-pub met_law : (sh : Layout) (log : List Ticket) (seen : ℕ) (c : Option Cursor) → CursorIs sh log seen c → (i : ℕ) (x : ℕ × ℕ) → slice_get (met_of c) i ≡ Some x → HasWriter log x
+pub met_law : (sh : Layout) (log : List Ticket) (seen : ℕ) (c : Option Cursor) → CursorIs sh log seen c → (i : ℕ) (x : ℕ × ℕ)
+    → slice_get (met_of c) i ≡ Some x → HasWriter log x
 met_law sh log seen None h zero x at = absurd (cc at)
 met_law sh log seen None h (suc i) x at = absurd (cc at)
 met_law sh log seen (Some c) h i x at = h.met i x at
 
-met_more : (log : List Ticket) (o w : ℕ) (met : List (ℕ × ℕ)) → HasWriter log (o, w) → ((i : ℕ) (x : ℕ × ℕ) → slice_get met i ≡ Some x → HasWriter log x) → (i : ℕ) (x : ℕ × ℕ) → slice_get ((o, w) ∷ met) i ≡ Some x → HasWriter log x
+met_more : (log : List Ticket) (o w : ℕ) (met : List (ℕ × ℕ)) → HasWriter log (o, w) → ((i : ℕ) (x : ℕ × ℕ) → slice_get met i ≡ Some x → HasWriter log x)
+    → (i : ℕ) (x : ℕ × ℕ) → slice_get ((o, w) ∷ met) i ≡ Some x → HasWriter log x
 met_more log o w met new old zero x at = (let same : ◌≡◌ {A = ℕ × ℕ} (o, w) x = cc at in subst (HasWriter log) same new)
 met_more log o w met new old (suc i) x at = old i x at
 
 -- The cell that the link names leads it on.
 pub walk_goes : (sh : Layout) (log : List Ticket) (seen : ℕ) (c : Cursor) (o : ℕ) → WalkLaw sh log seen → c.link ≡ suc o → CursorLaw sh log seen c
-    → CursorLaw sh log seen (record { writer = c.writer; spot = c.spot; link = link_to_newest (chain sh log c.writer c.spot o); gone = o ∷ c.gone; met = (o, c.writer) ∷ c.met })
+    → CursorLaw sh log seen
+    (record { writer = c.writer; spot = c.spot; link = link_to_newest (chain sh log c.writer c.spot o); gone = o ∷ c.gone; met = (o, c.writer) ∷ c.met })
 walk_goes sh log seen c o law is h = record {
-  leads = entry_leads sh log seen c.writer c.spot o (o ∷ c.gone) ((o, c.writer) ∷ c.met) (link_to_newest (chain sh log c.writer c.spot o)) (link_to_newest (chain sh log c.writer c.spot o)) law (chain_is sh log c.writer c.spot o);
+  leads = entry_leads sh log seen c.writer c.spot o (o ∷ c.gone) ((o, c.writer) ∷ c.met) (link_to_newest (chain sh log c.writer c.spot o))
+      (link_to_newest (chain sh log c.writer c.spot o)) law (chain_is sh log c.writer c.spot o);
   left = λ i t lt at e p. elim (h.left i t lt at e p) [
     | inr g ↦ inr (has_rest o i c.gone g)
     | inl g ↦ elim (cases_eq i o) [
       | inl f ↦ inr (subst (λ (q : ℕ). has (q ∷ c.gone) i ≡ true) f (has_first i c.gone))
-      | inr ne ↦ inl (chain_has sh log c.writer c.spot o i t at (links_intro sh c.writer c.spot t e (law.linked i c.spot.lane t c.spot.path lt at p) p) (omega arith))
+      | inr ne ↦ inl
+          (chain_has sh log c.writer c.spot o i t at (links_intro sh c.writer c.spot t e (law.linked i c.spot.lane t c.spot.path lt at p) p) (omega arith))
     ]
   ];
   met = (let named = subst (Leads sh log c) is h.leads in met_more log o c.writer c.met (named.0, named.1, named.2) h.met);
@@ -146,11 +160,13 @@ previous_word sh ts log bs words c o k leads is within room small spells =
     let v = get_or words (place sh.sizes (cell o k)) 0 in
     let r0 : v ≡ ticket_word sh log o k (slice_get log o) = spells (cell o k) (room, omega arith) in
     let r1 : ticket_word sh log o k (Some t) ≡ full_word sh log o t k =
-    ap (λ (b : Bool). cond b (Rattle.cf_words.specs.Words.done_word t.is_done) (cond (nat_lt k t.filled) (full_word sh log o t k) 0)) (eq_false (suc k) sh.sizes.ticket_words (λ e. omega arith))
+    ap (λ (b : Bool). cond b (Rattle.cf_words.specs.Words.done_word t.is_done) (cond (nat_lt k t.filled) (full_word sh log o t k) 0))
+    (eq_false (suc k) sh.sizes.ticket_words (λ e. omega arith))
     ∙ ap (λ (b : Bool). cond b (full_word sh log o t k) 0) (lt_true k t.filled (leads.4 k 0 is within)) in
     let r2 : full_word sh log o t k ≡ version_word sh c.spot.lane 0 (chain sh log t.writer c.spot o) t.row =
     ap (used_word sh log o t) is ∙ ap (lane_word sh log o c.spot.lane 0 t) leads.3 in
     let r3 : chain sh log t.writer c.spot o ≡ chain sh log c.writer c.spot o = ap (λ (w : ℕ). chain sh log w c.spot o) leads.2 in
     let below : link_to_newest (chain sh log c.writer c.spot o) ≤ o = top_within sh log c.writer c.spot o in
-    ap (λ (q : ℕ). q % 2 ^ 32) (r0 ∙ (ap (ticket_word sh log o k) leads.1 ∙ (r1 ∙ (r2 ∙ ap (λ (q : List (ℕ × RowValue)). version_word sh c.spot.lane 0 q t.row) r3))))
+    ap (λ (q : ℕ). q % 2 ^ 32)
+    (r0 ∙ (ap (ticket_word sh log o k) leads.1 ∙ (r1 ∙ (r2 ∙ ap (λ (q : List (ℕ × RowValue)). version_word sh c.spot.lane 0 q t.row) r3))))
     ∙ version_low sh c.spot.lane (chain sh log c.writer c.spot o) t.row (omega arith)

@@ -69,7 +69,8 @@ opening_base sh = record { words = replicate (word_total sh.sizes) 0; tails = (0
 opening_law : (sh : Layout) → BaseLaw sh (opening_base sh)
 opening_law sh = let none = nothing_used sh.sizes.nodes sh.sizes.writers in record {
   size = length-replicate (word_total sh.sizes) 0;
-  spells = λ t real. subst (λ (v : ℕ). IsWordOf sh (0, 0) [] (replicate sh.sizes.writers empty_stock) t v) (sym (get_or-replicate (word_total sh.sizes) (place sh.sizes t) 0 0 (place_within sh.sizes t real))) (opening_word sh t);
+  spells = λ t real. subst (λ (v : ℕ). IsWordOf sh (0, 0) [] (replicate sh.sizes.writers empty_stock) t v)
+      (sym (get_or-replicate (word_total sh.sizes) (place sh.sizes t) 0 0 (place_within sh.sizes t real))) (opening_word sh t);
   nodes = record {
     writers = length-replicate sh.sizes.writers empty_stock;
     room = λ w. omega (arith, ap (λ (b : Stock). length b.used) (opening_stock sh.sizes.writers w));
@@ -121,7 +122,17 @@ pub opening_stands : (sh : Layout) → Stands sh (opening_base sh) (opening sh).
 opening_stands sh = record {
   law = opening_law sh;
   knows = knows;
-  held = λ w lt. (0, w, record { pass = new_pass (tabulated no_book sh.sizes.writers) []; book = no_book w; at = refl; held = table_at no_book sh.sizes.writers w lt; writer = refl });
+  held = λ w lt. (
+    0,
+    w,
+    record {
+      pass = new_pass (tabulated no_book sh.sizes.writers) [];
+      book = no_book w;
+      at = refl;
+      held = table_at no_book sh.sizes.writers w lt;
+      writer = refl;
+    },
+  );
   once = λ j k h i w x y. let a = place_of j h w x in let b = place_of k i w y in (a.0 ∙ sym b.0, a.1 ∙ sym b.1);
 }
   where
@@ -140,20 +151,26 @@ pub opening_lawful : (sh : Layout) → Lawful sh (opening sh).words (opening sh)
 opening_lawful sh = record { base = opening_base sh; stands = opening_stands sh; spelled = refl }
 
 -- Each event keeps the law.
-pub kept : (sh : Layout) (x : World) (k : ℕ) (e : WorldEvent) (y : World) → LayoutLaw sh → Lawful sh x.words x.passes → IsEvent sh x k e y → Lawful sh y.words y.passes
+pub kept : (sh : Layout) (x : World) (k : ℕ) (e : WorldEvent) (y : World) → LayoutLaw sh → Lawful sh x.words x.passes → IsEvent sh x k e y
+    → Lawful sh y.words y.passes
 kept sh x k e y shaped law (steps p a t f g live step) =
     let words : List ℕ = set x.words (place sh.sizes t) (f (word_at sh x.words t)) in
-    let same : words ≡ set law.base.words (place sh.sizes t) (f (word_at sh law.base.words t)) = ap (λ (ws : List ℕ). set ws (place sh.sizes t) (f (word_at sh ws t))) (sym law.spelled) in
+    let same : words ≡ set law.base.words (place sh.sizes t) (f (word_at sh law.base.words t)) =
+    ap (λ (ws : List ℕ). set ws (place sh.sizes t) (f (word_at sh ws t))) (sym law.spelled) in
     let n = step_keeps sh law.base x.passes k p a t f g shaped law.stands live.0 step words same in
     record {
       base = n.0;
-      stands = subst (λ (v : ℕ). Stands sh n.0 (set x.passes k (g v (Rattle.cf_law.specs.Events.entries_spelled sh words (word_at sh words (tail 1)))))) (ap (λ (ws : List ℕ). word_at sh ws t) law.spelled) n.2;
+      stands = subst (λ (v : ℕ). Stands sh n.0 (set x.passes k (g v (Rattle.cf_law.specs.Events.entries_spelled sh words (word_at sh words (tail 1))))))
+          (ap (λ (ws : List ℕ). word_at sh ws t) law.spelled) n.2;
       spelled = n.1 ∙ sym same;
     }
-kept sh x k e y shaped law (parts p left right w live split) = record { base = law.base; stands = split_keeps sh law.base x.passes k p left right w law.stands live.0 split; spelled = law.spelled }
-kept sh x k e y shaped law (meets p q j live other ne rest) = record { base = law.base; stands = join_keeps sh law.base x.passes k j p q law.stands live.0 other.0 ne live.1; spelled = law.spelled }
+kept sh x k e y shaped law (parts p left right w live split) =
+    record { base = law.base; stands = split_keeps sh law.base x.passes k p left right w law.stands live.0 split; spelled = law.spelled }
+kept sh x k e y shaped law (meets p q j live other ne rest) =
+    record { base = law.base; stands = join_keeps sh law.base x.passes k j p q law.stands live.0 other.0 ne live.1; spelled = law.spelled }
 
-pub runs_kept : (sh : Layout) (x : World) (es : List (ℕ × WorldEvent)) (y : World) → LayoutLaw sh → Lawful sh x.words x.passes → Runs sh x es y → Lawful sh y.words y.passes
+pub runs_kept : (sh : Layout) (x : World) (es : List (ℕ × WorldEvent)) (y : World) → LayoutLaw sh → Lawful sh x.words x.passes → Runs sh x es y
+    → Lawful sh y.words y.passes
 runs_kept sh x [] y shaped law run = subst (λ (z : World). Lawful sh z.words z.passes) (sym run) law
 runs_kept sh x (e ∷ es) y shaped law run = runs_kept sh run.0 es y shaped (kept sh x e.0 e.1 run.0 shaped law run.1) run.2
 

@@ -16,10 +16,12 @@ use Rattle.cf_law.specs.Nibbles.{nibbles}
 use Rattle.cf_law.specs.Shapes.{path_in, row_fits, layout}
 use Rattle.cf_law.proofs.Nibbles.{length-nibbles, nibble_small}
 
-path_is : (s : ShapeValue) (r : RowValue) (l : ℕ) (p : List ℕ) → path_in s r l ≡ Some p → (selected_by s l r ≡ true) × (nibbles (levels_of s l) (key_of s l r) ≡ p)
+path_is : (s : ShapeValue) (r : RowValue) (l : ℕ) (p : List ℕ) → path_in s r l ≡ Some p → (selected_by s l r ≡ true)
+    × (nibbles (levels_of s l) (key_of s l r) ≡ p)
 path_is s r l p h = elim (cases_Bool (selected_by s l r)) [
   | inl e ↦
-      let is : ◌≡◌ {A = Option (List ℕ)} (Some (nibbles (levels_of s l) (key_of s l r))) (Some p) = sym (ap (λ (b : Bool). cond {A = Option (List ℕ)} b (Some (nibbles (levels_of s l) (key_of s l r))) None) e) ∙ h in
+      let is : ◌≡◌ {A = Option (List ℕ)} (Some (nibbles (levels_of s l) (key_of s l r))) (Some p) =
+      sym (ap (λ (b : Bool). cond {A = Option (List ℕ)} b (Some (nibbles (levels_of s l) (key_of s l r))) None) e) ∙ h in
       (e, (let q : nibbles (levels_of s l) (key_of s l r) ≡ p = cc is in q))
   | inr e ↦ absurd (cc (sym (ap (λ (b : Bool). cond {A = Option (List ℕ)} b (Some (nibbles (levels_of s l) (key_of s l r))) None) e) ∙ h))
 ]
@@ -52,8 +54,13 @@ layout_law s is = record {
   some_words = omega arith;
   plains = λ i lt. (omega arith, plain_at s i lt);
   spelled = λ r w fits. spelled_long s.schema (entry w r) (fits_of s r fits).0;
-  reads = λ r w fits lt. entry_back s.schema (entry w r) (record { fits = (fits_of s r fits).0; num = (fits_of s r fits).1; writer = (let h = is.writers in omega arith) });
-  cells = λ l lt. (word_count s.schema + 1 + cells_before s l + 0, (let fits = before_fits s.lanes l lt in omega (arith, fits, some_cell s l)), version_at s l 0 lt (some_cell s l));
+  reads = λ r w fits lt. entry_back s.schema (entry w r)
+      (record { fits = (fits_of s r fits).0; num = (fits_of s r fits).1; writer = (let h = is.writers in omega arith) });
+  cells = λ l lt. (
+    word_count s.schema + 1 + cells_before s l + 0,
+    (let fits = before_fits s.lanes l lt in omega (arith, fits, some_cell s l)),
+    version_at s l 0 lt (some_cell s l),
+  );
   once = λ i k l j li lk a b. (version_is s i l j li a).2 ∙ sym (version_is s k l j lk b).2;
   few_tickets = (let h = is.capacity in omega arith);
 }

@@ -74,4 +74,5 @@ RunsAreLawful = (sh : Layout) (es : List (ℕ × WorldEvent)) (y : World) → La
 
 -- the same over lawful shapes
 abbrev pub ShapesAreLawful : Type 0
-ShapesAreLawful = (s : ShapeValue) (es : List (ℕ × WorldEvent)) (y : World) → IsShape s → Runs (layout s) (opening (layout s)) es y → Lawful (layout s) y.words y.passes
+ShapesAreLawful = (s : ShapeValue) (es : List (ℕ × WorldEvent)) (y : World) → IsShape s → Runs (layout s) (opening (layout s)) es y
+    → Lawful (layout s) y.words y.passes

@@ -51,12 +51,15 @@ front (suc n) (t ∷ log) = entry t.writer t.row ∷ front n log
 -- of these tickets, which begin at offset k, those that writer w has finished
 unfoldable pub mine_in : ℕ → ℕ → List Ticket → List Own
 mine_in w k [] = []
-mine_in w k (t ∷ ts) = cond (t.writer == w) (cond t.is_done (record { offset = k; row = t.row } ∷ mine_in w (suc k) ts) (mine_in w (suc k) ts)) (mine_in w (suc k) ts)
+mine_in w k (t ∷ ts) =
+    cond (t.writer == w) (cond t.is_done (record { offset = k; row = t.row } ∷ mine_in w (suc k) ts) (mine_in w (suc k) ts)) (mine_in w (suc k) ts)
 
 -- of these tickets, which begin at offset k, the first that writer w has not finished, or None
 unfoldable pub flight_in : ℕ → ℕ → List Ticket → Option Flight
 flight_in w k [] = None
-flight_in w k (t ∷ ts) = cond (t.writer == w) (cond t.is_done (flight_in w (suc k) ts) (Some record { offset = k; row = t.row; filled = t.filled; linked = t.linked })) (flight_in w (suc k) ts)
+flight_in w k (t ∷ ts) =
+    cond (t.writer == w) (cond t.is_done (flight_in w (suc k) ts) (Some record { offset = k; row = t.row; filled = t.filled; linked = t.linked }))
+    (flight_in w (suc k) ts)
 
 -- the book of writer w, as the tickets and its stock have it
 abbrev pub book_at : Base → ℕ → Book
@@ -76,7 +79,8 @@ Known layout bs x = node_at layout.sizes.nodes bs x.1 ≡ Some x.0
 -- a walk's link names no ticket, as 0, or as an offset plus 1 a ticket of the cursor's writer in its leaf, whose cell there is filled
 abbrev pub Leads : Layout → List Ticket → Cursor → ℕ → Type 0
 Leads layout log c zero = Unit {0}
-Leads layout log c (suc o) = (t : Ticket) × (slice_get log o ≡ Some t) × (t.writer ≡ c.writer) × (layout.path t.row c.spot.lane ≡ Some c.spot.path) × IsFilledIn layout t c.spot.lane
+Leads layout log c (suc o) = (t : Ticket) × (slice_get log o ≡ Some t) × (t.writer ≡ c.writer) × (layout.path t.row c.spot.lane ≡ Some c.spot.path)
+    × IsFilledIn layout t c.spot.lane
 
 -- the ticket at that offset is that writer's
 abbrev pub HasWriter : List Ticket → ℕ × ℕ → Type 0
@@ -87,7 +91,8 @@ pub record CursorLaw (layout : Layout) (log : List Ticket) (seen : ℕ) (cursor 
   -- the link is 0, or names a ticket of that writer and leaf, whose cell there is filled
   pub leads : Leads layout log cursor cursor.link
   -- what was seen in the chain lies below the link, or the walk went by it
-  pub left : (i : ℕ) (t : Ticket) → i < seen → slice_get log i ≡ Some t → t.writer ≡ cursor.writer → layout.path t.row cursor.spot.lane ≡ Some cursor.spot.path → (i < cursor.link) ⊎ (has cursor.gone i ≡ true)
+  pub left : (i : ℕ) (t : Ticket) → i < seen → slice_get log i ≡ Some t → t.writer ≡ cursor.writer
+      → layout.path t.row cursor.spot.lane ≡ Some cursor.spot.path → (i < cursor.link) ⊎ (has cursor.gone i ≡ true)
   -- what the walks went by are tickets of these writers
   pub met : (i : ℕ) (x : ℕ × ℕ) → slice_get cursor.met i ≡ Some x → HasWriter log x
 
@@ -107,7 +112,8 @@ pub record PassLaw (layout : Layout) (base : Base) (p : Pass) : Type 0 where
   pub olds : (k : ℕ) (old : List Entry) → slice_get p.olds k ≡ Some old → (length old ≤ length p.seen) × (old ≡ front (length old) base.log)
   pub known : (i : ℕ) (x : Spot × ℕ) → slice_get p.known i ≡ Some x → Known layout base.stocks x
   pub walk : CursorIs layout base.log (length p.seen) p.cursor
-  pub look : (o i : ℕ) → o < layout.sizes.tickets → suc i ≡ layout.sizes.ticket_words → p.look.word ≡ place layout.sizes (cell o i) → p.look.value ≡ 1 → DoneAt base.log o
+  pub look : (o i : ℕ) → o < layout.sizes.tickets → suc i ≡ layout.sizes.ticket_words → p.look.word ≡ place layout.sizes (cell o i) → p.look.value ≡ 1
+      → DoneAt base.log o
   pub books : (k : ℕ) (b : Book) → Holds p k b → (b.writer < layout.sizes.writers) × (b ≡ book_at base b.writer)
   -- a pass that was joined away holds no book
   pub ends : p.spent ≡ true → p.books ≡ []

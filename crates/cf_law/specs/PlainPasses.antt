@@ -25,14 +25,18 @@ pub record SaysOfPasses (sh : Layout) (base : Base) (passes : List Pass) : Type 
   -- an entry that was seen is that of a finished ticket below the read tail, and the words of its place spell it
   pub seen : (k o : ℕ) (p : Pass) (e : Entry) → slice_get passes k ≡ Some p → slice_get p.seen o ≡ Some e
       → (o < word_at sh base.words (tail 1)) × (t : Ticket) × (slice_get base.log o ≡ Some t) × (t.is_done ≡ true) × (e ≡ entry t.writer t.row)
-  pub spells : (k o i : ℕ) (p : Pass) (e : Entry) → slice_get passes k ≡ Some p → slice_get p.seen o ≡ Some e → i < sh.plain_words → word_at sh base.words (cell o i) ≡ get_or (sh.spelled e.row e.writer) i 0
+  pub spells : (k o i : ℕ) (p : Pass) (e : Entry) → slice_get passes k ≡ Some p → slice_get p.seen o ≡ Some e → i < sh.plain_words
+      → word_at sh base.words (cell o i) ≡ get_or (sh.spelled e.row e.writer) i 0
   -- what both sides of the last join had seen begins what is seen now
   pub olds : (k j : ℕ) (p : Pass) (old : List Entry) → slice_get passes k ≡ Some p → slice_get p.olds j ≡ Some old → take (length old) p.seen ≡ old
   -- a done word that the last look found 1 is 1
-  pub look : (k o i : ℕ) (p : Pass) → slice_get passes k ≡ Some p → o < sh.sizes.tickets → suc i ≡ sh.sizes.ticket_words → (p.look).word ≡ place sh.sizes (cell o i) → (p.look).value ≡ 1 → word_at sh base.words (cell o i) ≡ 1
+  pub look : (k o i : ℕ) (p : Pass) → slice_get passes k ≡ Some p → o < sh.sizes.tickets → suc i ≡ sh.sizes.ticket_words
+      → (p.look).word ≡ place sh.sizes (cell o i) → (p.look).value ≡ 1 → word_at sh base.words (cell o i) ≡ 1
   -- a place that a cursor names has its cell filled; what was seen of the cursor's writer and leaf stands below that place, or the walk went by it
-  pub named : (k o : ℕ) (p : Pass) (c : Cursor) → slice_get passes k ≡ Some p → p.cursor ≡ Some c → c.link ≡ suc o → (t : Ticket) × (slice_get base.log o ≡ Some t) × IsFilledIn sh t c.spot.lane
-  pub left : (k o : ℕ) (p : Pass) (c : Cursor) (e : Entry) → slice_get passes k ≡ Some p → p.cursor ≡ Some c → slice_get p.seen o ≡ Some e → IsIn sh c.writer c.spot e → (o < c.link) ⊎ (has c.gone o ≡ true)
+  pub named : (k o : ℕ) (p : Pass) (c : Cursor) → slice_get passes k ≡ Some p → p.cursor ≡ Some c → c.link ≡ suc o → (t : Ticket)
+      × (slice_get base.log o ≡ Some t) × IsFilledIn sh t c.spot.lane
+  pub left : (k o : ℕ) (p : Pass) (c : Cursor) (e : Entry) → slice_get passes k ≡ Some p → p.cursor ≡ Some c → slice_get p.seen o ≡ Some e
+      → IsIn sh c.writer c.spot e → (o < c.link) ⊎ (has c.gone o ≡ true)
 
 -- all clauses, those of the words and those of the passes, are so in every lawful world of a lawful shape
 abbrev pub LawfulSaysAllPlainly : Type 0

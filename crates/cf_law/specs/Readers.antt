@@ -32,7 +32,8 @@ unfoldable pub picks : Layout → ℕ → Spot → List Entry → ℕ → List (
 picks layout w s seen zero = []
 picks layout w s seen (suc o) = pick_at layout w s o (slice_get seen o) ++ picks layout w s seen o
 
--- a walk with this link: a named entry that was seen stands in the leaf, those of the leaf that the walk didn't go by stand before the link, and the named ticket is its writer's alone
+-- a walk with this link: a named entry that was seen stands in the leaf, those of the leaf that the walk didn't go by stand before the link, and the named
+-- ticket is its writer's alone
 pub record WalkTells (layout : Layout) (seen : List Entry) (cursor : Cursor) : Type 0 where
   pub names : (o : ℕ) → cursor.link ≡ suc o → o < length seen → (e : Entry) × (slice_get seen o ≡ Some e) × IsIn layout cursor.writer cursor.spot e
   pub left : (i : ℕ) (e : Entry) → slice_get seen i ≡ Some e → IsIn layout cursor.writer cursor.spot e → (i < cursor.link) ⊎ (has cursor.gone i ≡ true)
@@ -42,7 +43,8 @@ pub record WalkTells (layout : Layout) (seen : List Entry) (cursor : Cursor) : T
 -- what was found, v, as word k of the place o tells of the entry that was seen there
 pub record EntryTells (layout : Layout) (seen : List Entry) (o k v : ℕ) : Type 0 where
   pub plains : (e : Entry) → slice_get seen o ≡ Some e → k < layout.plain_words → v ≡ get_or (layout.spelled e.row e.writer) k 0
-  pub cells : (e : Entry) (l j : ℕ) (q : List ℕ) → slice_get seen o ≡ Some e → suc k < layout.sizes.ticket_words → layout.use_of k ≡ version l j → layout.path e.row l ≡ Some q
+  pub cells : (e : Entry) (l j : ℕ) (q : List ℕ) → slice_get seen o ≡ Some e → suc k < layout.sizes.ticket_words → layout.use_of k ≡ version l j
+      → layout.path e.row l ≡ Some q
       → v ≡ version_word layout l j (picks layout e.writer (spot l q) seen o) e.row
 
 -- the entries of the writer w, from the offset k on, as a book has them
@@ -57,7 +59,8 @@ AtHome layout p = (w : ℕ) → w < layout.sizes.writers → (k : ℕ) × (b : B
 -- a writer's head in a leaf, as its book has it: its ticket in flight where that is linked there, else the newest of what it has finished
 abbrev pub own_top_by : Layout → Book → Spot → Option Flight → ℕ
 own_top_by layout b s None = link_to_newest (mine_chain layout s b.mine)
-own_top_by layout b s (Some f) = cond (cond (has f.linked s.lane) (same_path (layout.path f.row s.lane) s.path) false) (suc f.offset) (link_to_newest (mine_chain layout s b.mine))
+own_top_by layout b s (Some f) =
+    cond (cond (has f.linked s.lane) (same_path (layout.path f.row s.lane) s.path) false) (suc f.offset) (link_to_newest (mine_chain layout s b.mine))
 
 -- the head of the book's writer in the leaf s, as the book has it: the offset of the newest ticket linked there plus 1, or 0
 abbrev pub own_top : Layout → Book → Spot → ℕ
@@ -73,12 +76,14 @@ HasNode p s = (k : ℕ) × (j : ℕ) × (b : Book) × Holds p k b × (slice_get 
 
 -- either no ticket is left, or the done word (word i) of the ticket after the last seen was found other than 1
 abbrev pub EndsThere : Layout → Pass → Slot → ℕ → ℕ → Type 0
-EndsThere layout p t i found = (layout.sizes.tickets ≤ length p.seen) ⊎ ((length p.seen < layout.sizes.tickets) × (t ≡ cell (length p.seen) i) × (found ≡ 1 → ⊥))
+EndsThere layout p t i found = (layout.sizes.tickets ≤ length p.seen)
+    ⊎ ((length p.seen < layout.sizes.tickets) × (t ≡ cell (length p.seen) i) × (found ≡ 1 → ⊥))
 
 -- What a pass knows is in range.
 pub record IsBounded (layout : Layout) (pass : Pass) : Type 0 where
   pub seen : length pass.seen ≤ layout.sizes.tickets
-  pub known : (i n : ℕ) (s : Spot) → slice_get pass.known i ≡ Some (s, n) → (n < layout.sizes.writers * layout.sizes.nodes) × (s.lane < layout.sizes.lanes) × (0 < length s.path) × (length s.path < layout.levels s.lane)
+  pub known : (i n : ℕ) (s : Spot) → slice_get pass.known i ≡ Some (s, n) → (n < layout.sizes.writers * layout.sizes.nodes) × (s.lane < layout.sizes.lanes)
+      × (0 < length s.path) × (length s.path < layout.levels s.lane)
   pub link : (c : Cursor) → pass.cursor ≡ Some c → c.link ≤ layout.sizes.tickets
   pub writer : (k : ℕ) (b : Book) → Holds pass k b → b.writer < layout.sizes.writers
   pub offset : (k j : ℕ) (b : Book) (x : Own) → Holds pass k b → slice_get b.mine j ≡ Some x → x.offset < layout.sizes.tickets
@@ -98,29 +103,40 @@ pub record Tells (layout : Layout) (pass : Pass) (slot : Slot) (found : ℕ) : T
   -- a done word is 0 or 1
   pub done : (o i : ℕ) → slot ≡ cell o i → o < layout.sizes.tickets → suc i ≡ layout.sizes.ticket_words → (found ≡ 0) ⊎ (found ≡ 1)
   -- a walk falls: the cell that the cursor names leads below its own ticket
-  pub falls : (c : Cursor) (o k : ℕ) → slot ≡ cell o k → pass.cursor ≡ Some c → c.link ≡ suc o → layout.use_of k ≡ version c.spot.lane 0 → suc k < layout.sizes.ticket_words → found % 2 ^ 32 ≤ o
-  pub begins : (node d w l : ℕ) (q : List ℕ) → slot ≡ head_slot layout.sizes node d w → Knows pass (spot l q) node → suc (length q) ≡ layout.levels l → d < 16 → w < layout.sizes.writers
+  pub falls : (c : Cursor) (o k : ℕ) → slot ≡ cell o k → pass.cursor ≡ Some c → c.link ≡ suc o → layout.use_of k ≡ version c.spot.lane 0
+      → suc k < layout.sizes.ticket_words → found % 2 ^ 32 ≤ o
+  pub begins : (node d w l : ℕ) (q : List ℕ) → slot ≡ head_slot layout.sizes node d w → Knows pass (spot l q) node → suc (length q) ≡ layout.levels l → d < 16
+      → w < layout.sizes.writers
       → WalkTells layout pass.seen (record { writer = w; spot = spot l (d ∷ q); link = found; gone = []; met = met_of pass.cursor })
-  pub goes : (c : Cursor) (o k : ℕ) → slot ≡ cell o k → pass.cursor ≡ Some c → c.link ≡ suc o → layout.use_of k ≡ version c.spot.lane 0 → suc k < layout.sizes.ticket_words
+  pub goes : (c : Cursor) (o k : ℕ) → slot ≡ cell o k → pass.cursor ≡ Some c → c.link ≡ suc o → layout.use_of k ≡ version c.spot.lane 0
+      → suc k < layout.sizes.ticket_words
       → WalkTells layout pass.seen (record { writer = c.writer; spot = c.spot; link = found % 2 ^ 32; gone = o ∷ c.gone; met = (o, c.writer) ∷ c.met })
   pub entry : (o k : ℕ) → slot ≡ cell o k → EntryTells layout pass.seen o k found
   -- an own head
-  pub own : (k node d l : ℕ) (q : List ℕ) (b : Book) → slot ≡ head_slot layout.sizes node d b.writer → Holds pass k b → Knows pass (spot l q) node → suc (length q) ≡ layout.levels l → d < 16
+  pub own : (k node d l : ℕ) (q : List ℕ) (b : Book) → slot ≡ head_slot layout.sizes node d b.writer → Holds pass k b → Knows pass (spot l q) node
+      → suc (length q) ≡ layout.levels l → d < 16
       → found ≡ own_top layout b (spot l (d ∷ q))
   -- a cell word of an own finished ticket: the version of the own tickets before it and this one
-  pub own_cell : (k j i l h : ℕ) (q : List ℕ) (b : Book) (x : Own) → slot ≡ cell x.offset i → Holds pass k b → slice_get b.mine j ≡ Some x → suc i < layout.sizes.ticket_words → layout.use_of i ≡ version l h → layout.path x.row l ≡ Some q
+  pub own_cell : (k j i l h : ℕ) (q : List ℕ) (b : Book) (x : Own) → slot ≡ cell x.offset i → Holds pass k b → slice_get b.mine j ≡ Some x
+      → suc i < layout.sizes.ticket_words → layout.use_of i ≡ version l h → layout.path x.row l ≡ Some q
       → found ≡ version_word layout l h (mine_chain layout (spot l q) (take j b.mine)) x.row
   -- a word of the own ticket in flight that is filled, a cell's word too: what the row and the own tickets before it give
-  pub own_open : (k i : ℕ) (b : Book) (f : Flight) → slot ≡ cell f.offset i → HoldsInFlight pass k b f → i < f.filled → suc i < layout.sizes.ticket_words → found ≡ own_word layout b f.row (layout.use_of i)
+  pub own_open : (k i : ℕ) (b : Book) (f : Flight) → slot ≡ cell f.offset i → HoldsInFlight pass k b f → i < f.filled → suc i < layout.sizes.ticket_words
+      → found ≡ own_word layout b f.row (layout.use_of i)
   -- an own finished ticket's done word is 1
-  pub own_done : (k j i : ℕ) (b : Book) (x : Own) → slot ≡ cell x.offset i → Holds pass k b → slice_get b.mine j ≡ Some x → suc i ≡ layout.sizes.ticket_words → found ≡ 1
+  pub own_done : (k j i : ℕ) (b : Book) (x : Own) → slot ≡ cell x.offset i → Holds pass k b → slice_get b.mine j ≡ Some x → suc i ≡ layout.sizes.ticket_words
+      → found ≡ 1
   -- of a held book's finished tickets those that were seen are the first
   pub mine : (k : ℕ) (b : Book) → Holds pass k b → take (length (mine_from b.writer 0 pass.seen)) b.mine ≡ mine_from b.writer 0 pass.seen
-  -- with all books at home, where the ticket after the last seen isn't finished, each writer's tickets are its entries, and a book is marked only where all places are taken
-  pub home : (i : ℕ) → AtHome layout pass → suc i ≡ layout.sizes.ticket_words → EndsThere layout pass slot i found → (k : ℕ) (b : Book) → Holds pass k b → b.mine ≡ mine_from b.writer 0 pass.seen
-  pub full : (i : ℕ) → AtHome layout pass → suc i ≡ layout.sizes.ticket_words → EndsThere layout pass slot i found → (k : ℕ) (b : Book) → Holds pass k b → b.over ≡ true → length pass.seen ≡ layout.sizes.tickets
+  -- with all books at home, where the ticket after the last seen isn't finished, each writer's tickets are its entries, and a book is marked only where all
+  -- places are taken
+  pub home : (i : ℕ) → AtHome layout pass → suc i ≡ layout.sizes.ticket_words → EndsThere layout pass slot i found → (k : ℕ) (b : Book) → Holds pass k b
+      → b.mine ≡ mine_from b.writer 0 pass.seen
+  pub full : (i : ℕ) → AtHome layout pass → suc i ≡ layout.sizes.ticket_words → EndsThere layout pass slot i found → (k : ℕ) (b : Book) → Holds pass k b
+      → b.over ≡ true → length pass.seen ≡ layout.sizes.tickets
   -- with all books at home the proper prefixes of the paths of what was seen have nodes
-  pub paths : AtHome layout pass → (o l d e : ℕ) (xs q : List ℕ) (x : Entry) → slice_get pass.seen o ≡ Some x → layout.path x.row l ≡ Some (d ∷ (xs ++ e ∷ q)) → HasNode pass (spot l (e ∷ q))
+  pub paths : AtHome layout pass → (o l d e : ℕ) (xs q : List ℕ) (x : Entry) → slice_get pass.seen o ≡ Some x → layout.path x.row l ≡ Some (d ∷ (xs ++ e ∷ q))
+      → HasNode pass (spot l (e ∷ q))
   -- what was seen fits
   pub fit : (o : ℕ) (e : Entry) → slice_get pass.seen o ≡ Some e → IsFit layout e
   -- and then the read tail stays

@@ -35,7 +35,10 @@ pub data Act : Type 0 where
 abbrev pub cursor_after_cell : ℕ → ℕ → ℕ → ℕ → Option Cursor → Option Cursor
 cursor_after_cell o l i n None = None
 cursor_after_cell o l (suc i) n (Some c) = Some c
-cursor_after_cell o l zero n (Some c) = cond (c.link == suc o) (cond (c.spot.lane == l) (Some record { writer = c.writer; spot = c.spot; link = n % 2 ^ 32; gone = o ∷ c.gone; met = (o, c.writer) ∷ c.met }) (Some c)) (Some c)
+cursor_after_cell o l zero n (Some c) =
+    cond (c.link == suc o)
+    (cond (c.spot.lane == l) (Some record { writer = c.writer; spot = c.spot; link = n % 2 ^ 32; gone = o ∷ c.gone; met = (o, c.writer) ∷ c.met }) (Some c))
+    (Some c)
 
 -- what the walks went by so far
 abbrev pub met_of : Option Cursor → List (ℕ × ℕ)
@@ -183,7 +186,8 @@ Knows p s n = (i : ℕ) × (slice_get p.known i ≡ Some (s, n))
 
 -- ticket o is the pass's own
 abbrev pub IsOwn : Pass → ℕ → Type 0
-IsOwn p o = (k : ℕ) × (b : Book) × Holds p k b × (((j : ℕ) × (x : Own) × (slice_get b.mine j ≡ Some x) × (x.offset ≡ o)) ⊎ ((f : Flight) × (b.flight ≡ Some f) × (f.offset ≡ o)))
+IsOwn p o = (k : ℕ) × (b : Book) × Holds p k b
+    × (((j : ℕ) × (x : Own) × (slice_get b.mine j ≡ Some x) × (x.offset ≡ o)) ⊎ ((f : Flight) × (b.flight ≡ Some f) × (f.offset ≡ o)))
 
 -- the cursor names the cell of ticket o in its own lane
 abbrev pub IsNamed : Pass → ℕ → ℕ → Type 0
@@ -193,16 +197,19 @@ IsNamed p o l = (c : Cursor) × (p.cursor ≡ Some c) × (c.link ≡ suc o) × (
 abbrev pub label_of : Layout → Spot → Slot → ℕ
 label_of layout s t = 32 * place layout.sizes t + length s.path
 
--- A lawful step of the pass p: the act, the word's slot, what it leaves there by what it finds, and the pass afterwards, by what it finds and by the entries that the words below the read tail spell.
+-- A lawful step of the pass p: the act, the word's slot, what it leaves there by what it finds, and the pass afterwards, by what it finds and by the entries
+-- that the words below the read tail spell.
 pub data Step (layout : Layout) (p : Pass) : Act → Slot → (ℕ → ℕ) → (ℕ → List Entry → Pass) → Type 0 where
   takes : (r : RowValue) (b : Book) → layout.fits r ≡ true → p.books ≡ b ∷ [] → b.over ≡ false → b.flight ≡ None
       → Step layout p (take_ticket r) (tail 0) (λ n. suc n) (λ n es. record p { books = book_with_ticket layout r n b ∷ [] })
   stores : (k i : ℕ) (b : Book) (f : Flight) → HoldsInFlight p k b f → IsNext layout (ticket_of b.writer f) i
-      → Step layout p (store_cell f.offset i (own_word layout b f.row (layout.use_of i))) (cell f.offset i) (λ n. own_word layout b f.row (layout.use_of i)) (λ n es. pass_with_book k (book_with_word i b f) p)
+      → Step layout p (store_cell f.offset i (own_word layout b f.row (layout.use_of i))) (cell f.offset i) (λ n. own_word layout b f.row (layout.use_of i))
+      (λ n es. pass_with_book k (book_with_word i b f) p)
   finishes : (k i : ℕ) (b : Book) (f : Flight) → HoldsInFlight p k b f → suc i ≡ layout.sizes.ticket_words → IsWhole layout (ticket_of b.writer f)
       → ((l : ℕ) (q : List ℕ) → layout.path f.row l ≡ Some q → has f.linked l ≡ true)
       → Step layout p (finish_record f.offset) (cell f.offset i) (λ n. 1) (λ n es. pass_with_book k (book_with_record b f) p)
-  advances : (t i : ℕ) → t ≤ length p.seen → t < layout.sizes.tickets → suc i ≡ layout.sizes.ticket_words → p.look.word ≡ place layout.sizes (cell t i) → p.look.value ≡ 1
+  advances : (t i : ℕ) → t ≤ length p.seen → t < layout.sizes.tickets → suc i ≡ layout.sizes.ticket_words → p.look.word ≡ place layout.sizes (cell t i)
+      → p.look.value ≡ 1
       → Step layout p (advance t) (tail 1) (λ n. cond (n == t) (suc t) n) (λ n es. pass_that_sees (suc t) es p)
   loads_tail : (asked : Bool) → Step layout p (load_tail asked) (tail 1) (λ n. n) (λ n es. pass_with_tail asked n es p)
   looks_done : (o i : ℕ) → o < layout.sizes.tickets → suc i ≡ layout.sizes.ticket_words
@@ -210,16 +217,22 @@ pub data Step (layout : Layout) (p : Pass) : Act → Slot → (ℕ → ℕ) → 
   loads_word : (o i : ℕ) → o < length p.seen → i < layout.sizes.ticket_words
       → Step layout p (load_word o i) (cell o i) (λ n. n) (λ n es. pass_with_look (place layout.sizes (cell o i)) n p)
   labels : (k : ℕ) (b : Book) (s : Spot) (t : Slot) → Holds p k b → length b.used < layout.sizes.nodes → IsChild layout p s t
-      → Step layout p (label (free_node layout b) (label_of layout s t)) (body (free_node layout b) 0) (λ n. label_of layout s t) (λ n es. pass_with_book k (book_with_label (label_of layout s t) b) p)
+      → Step layout p (label (free_node layout b) (label_of layout s t)) (body (free_node layout b) 0) (λ n. label_of layout s t)
+      (λ n es. pass_with_book k (book_with_label (label_of layout s t) b) p)
   links : (k : ℕ) (b : Book) (s : Spot) (t : Slot) → Holds p k b → length b.used < layout.sizes.nodes → IsChild layout p s t → b.label ≡ label_of layout s t
-      → Step layout p (link (place layout.sizes t) (free_node layout b)) t (λ n. child_word (free_node layout b) n) (λ n es. pass_with_link k b s (free_node layout b) p n)
-  heads : (k l d node : ℕ) (q : List ℕ) (b : Book) (f : Flight) → HoldsInFlight p k b f → IsWhole layout (ticket_of b.writer f) → has f.linked l ≡ false → layout.path f.row l ≡ Some (d ∷ q) → Knows p (spot l q) node
-      → Step layout p (store_head l node d f.offset) (head_slot layout.sizes node d b.writer) (λ n. suc f.offset) (λ n es. pass_with_book k (book_with_head l b f) p)
+      → Step layout p (link (place layout.sizes t) (free_node layout b)) t (λ n. child_word (free_node layout b) n)
+      (λ n es. pass_with_link k b s (free_node layout b) p n)
+  heads : (k l d node : ℕ) (q : List ℕ) (b : Book) (f : Flight) → HoldsInFlight p k b f → IsWhole layout (ticket_of b.writer f) → has f.linked l ≡ false
+      → layout.path f.row l ≡ Some (d ∷ q) → Knows p (spot l q) node
+      → Step layout p (store_head l node d f.offset) (head_slot layout.sizes node d b.writer) (λ n. suc f.offset)
+      (λ n es. pass_with_book k (book_with_head l b f) p)
   loads_child : (s : Spot) (t : Slot) → IsChild layout p s t
       → Step layout p (load_child (place layout.sizes t)) t (λ n. n) (λ n es. pass_with_child (place layout.sizes t) s p n)
   loads_head : (node d w l : ℕ) (q : List ℕ) → Knows p (spot l q) node → suc (length q) ≡ layout.levels l → d < 16 → w < layout.sizes.writers
-      → Step layout p (load_head node d w) (head_slot layout.sizes node d w) (λ n. n) (λ n es. pass_with_head (place layout.sizes (head_slot layout.sizes node d w)) w (spot l (d ∷ q)) p n)
-  loads_cell : (o l i k : ℕ) → o < layout.sizes.tickets → layout.use_of k ≡ version l i → suc k < layout.sizes.ticket_words → IsOwn p o ⊎ ((o < length p.seen) ⊎ IsNamed p o l)
+      → Step layout p (load_head node d w) (head_slot layout.sizes node d w) (λ n. n)
+      (λ n es. pass_with_head (place layout.sizes (head_slot layout.sizes node d w)) w (spot l (d ∷ q)) p n)
+  loads_cell : (o l i k : ℕ) → o < layout.sizes.tickets → layout.use_of k ≡ version l i → suc k < layout.sizes.ticket_words → IsOwn p o
+      ⊎ ((o < length p.seen) ⊎ IsNamed p o l)
       → Step layout p (load_cell o l i) (cell o k) (λ n. n) (λ n es. pass_with_cell (place layout.sizes (cell o k)) o l i p n)
 
 -- a new pass that holds these books and has seen these entries; it knows nothing else
@@ -232,7 +245,8 @@ spent_pass = record (new_pass [] []) { spent = true }
 
 -- the other's books come along, the longer `seen` stays, and then the cursor ends where it grew
 abbrev pub joined_pass : Pass → Pass → Pass
-joined_pass p q = record (pass_that_sees (length q.seen) q.seen p) { books = p.books ++ q.books; olds = p.seen ∷ (q.seen ∷ []); told = (p.told ++ q.told) ++ q.tails }
+joined_pass p q =
+    record (pass_that_sees (length q.seen) q.seen p) { books = p.books ++ q.books; olds = p.seen ∷ (q.seen ∷ []); told = (p.told ++ q.told) ++ q.tails }
 
 -- no ticket of the pass is in flight
 abbrev pub IsAtRest : Pass → Type 0

@@ -18,7 +18,9 @@ has_right (y ∷ xs) ys x h = (let r = has_right xs ys x h in (suc r.0, r.1))
 
 pub has_flat : {X A : Type 0} (f : X → List A) (xs : List X) (i : ℕ) (x : X) (y : A) → slice_get xs i ≡ Some x → Has (f x) y → Has (flat_map f xs) y
 has_flat f [] i x y at h = absurd (cc at)
-has_flat {X = X} {A = A} f (z ∷ xs) zero x y at h = (let same : z ≡ x = cc at in let there : Has (f z) y = subst (λ (u : X). Has (f u) y) (sym same) h in (there.0, has_left (f z) (flat_map f xs) there.0 y there.1))
+has_flat {X = X} {A = A} f (z ∷ xs) zero x y at h =
+    (let same : z ≡ x = cc at in let there : Has (f z) y = subst (λ (u : X). Has (f u) y) (sym same) h in
+    (there.0, has_left (f z) (flat_map f xs) there.0 y there.1))
 has_flat f (z ∷ xs) (suc i) x y at h = has_right (f z) (flat_map f xs) y (has_flat f xs i x y at h)
 
 pub has_map : {X A : Type 0} (f : X → A) (xs : List X) (k : ℕ) (x : X) → slice_get xs k ≡ Some x → slice_get (map f xs) k ≡ Some (f x)

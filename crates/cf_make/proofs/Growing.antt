@@ -23,7 +23,8 @@ stepped seed k now after h step =
     rw (add-one k) (step ∙ ap next_state h)
 
 -- the record of the state after k + 1 steps comes after records 0 to k - 1
-pub grown : (seed k after bits : ℕ) (held new : List ℕ) → held ≡ generated_bytes seed k → after ≡ state seed (k + 1) → bits ≡ after / 2 ^ 32 → new ≡ held ++ record_of k bits → new ≡ generated_bytes seed (k + 1)
+pub grown : (seed k after bits : ℕ) (held new : List ℕ) → held ≡ generated_bytes seed k → after ≡ state seed (k + 1) → bits ≡ after / 2 ^ 32
+    → new ≡ held ++ record_of k bits → new ≡ generated_bytes seed (k + 1)
 unfolding generated_bytes record_at draw_of
 grown seed k after bits held new h step draw put =
     let same : bits ≡ state seed (suc k) / 2 ^ 32 = draw ∙ ap (λ x. x / 2 ^ 32) (rw (add-one k) at step) in

@@ -85,7 +85,8 @@ captured_few draw = few (is_udp draw)
 seconds_read : (k draw : ℕ) (rest : List ℕ) → k < 2 ^ 32 → little_number 4 (record_header k draw ++ rest) ≡ 1 + k / 1000
 unfolding record_header
 seconds_read k draw rest small =
-    little_number-reads_back 4 (1 + k / 1000) (little_bytes 4 (k % 1000 * 1000) ++ (little_bytes 4 (captured_length draw) ++ (little_bytes 4 (wire_length draw) ++ rest))) (omega (arith, small))
+    little_number-reads_back 4 (1 + k / 1000)
+    (little_bytes 4 (k % 1000 * 1000) ++ (little_bytes 4 (captured_length draw) ++ (little_bytes 4 (wire_length draw) ++ rest))) (omega (arith, small))
 
 fraction_read : (k draw : ℕ) (rest : List ℕ) → little_number 4 (drop 4 (record_header k draw ++ rest)) ≡ k % 1000 * 1000
 unfolding record_header
@@ -103,7 +104,8 @@ unfolding record_header
 length_read k draw rest = little_number-reads_back 4 (wire_length draw) rest (omega arith)
 
 same_frame : (k ts ts' caplen caplen' len len' link : ℕ) (bytes bytes' : List ℕ) → ts ≡ ts' → caplen ≡ caplen' → len ≡ len' → bytes ≡ bytes'
-    → ◌≡◌ {A = FrameValue} (record { num = k; ts = ts; caplen = caplen; len = len; link = link; bytes = bytes }) (record { num = k; ts = ts'; caplen = caplen'; len = len'; link = link; bytes = bytes' })
+    → ◌≡◌ {A = FrameValue} (record { num = k; ts = ts; caplen = caplen; len = len; link = link; bytes = bytes })
+    (record { num = k; ts = ts'; caplen = caplen'; len = len'; link = link; bytes = bytes' })
 same_frame k ts ts' caplen caplen' len len' link bytes bytes' p q r s = cc
 
 -- what stands between the record's header and its end
@@ -112,7 +114,8 @@ unfolding record_of
 packet_read k draw =
     let many : 16 + captured_length draw - 16 ≡ length (packet_of k draw) = omega (arith, packet_length k draw) in
     let left : drop 16 (record_header k draw ++ packet_of k draw) ≡ packet_of k draw =
-    ap (λ n. drop n (record_header k draw ++ packet_of k draw)) (sym (record_header_length k draw)) ∙ drop-append_seam (record_header k draw) (packet_of k draw) in
+    ap (λ n. drop n (record_header k draw ++ packet_of k draw)) (sym (record_header_length k draw))
+    ∙ drop-append_seam (record_header k draw) (packet_of k draw) in
     ap (λ n. take n (drop 16 (record_header k draw ++ packet_of k draw))) many
     ∙ ap (λ xs. take (length (packet_of k draw)) xs) left
     ∙ take-length (packet_of k draw)
@@ -170,7 +173,8 @@ are_records seed k (suc n) most =
     let whole : 16 + caplen_at the_header (record_of k draw) ≤ length (record_of k draw) = (has_record k draw).whole in (
       record_first the_header (record_of k draw) rest (has_record k draw),
       sym (frame_first the_header k (record_of k draw) rest whole ∙ frame_read k draw (omega (arith, most))),
-      subst (λ (xs : List ℕ). AreRecordsThen the_header (k + 1) (frames seed (k + 1) n) xs []) (sym (after_record k draw rest)) (are_records seed (k + 1) n (omega (arith, most))),
+      subst (λ (xs : List ℕ). AreRecordsThen the_header (k + 1) (frames seed (k + 1) n) xs []) (sym (after_record k draw rest))
+          (are_records seed (k + 1) n (omega (arith, most))),
     )
 
 -- 16 bytes and 54 more at most

@@ -32,11 +32,18 @@ layout_first xs ys h = rw (number_first Little 4 xs ys h, number_first Big 4 xs 
 
 version_first : (layout : Layout) (xs ys : List ℕ) → 8 ≤ length xs → IsVersion layout xs → IsVersion layout (xs ++ ys)
 version_first layout xs ys h v =
-    record { major = number_later layout.order 2 4 xs ys (omega (arith, h)) ∙ v.major; minor = number_later layout.order 2 6 xs ys (omega (arith, h)) ∙ v.minor }
+    record {
+      major = number_later layout.order 2 4 xs ys (omega (arith, h)) ∙ v.major;
+      minor = number_later layout.order 2 6 xs ys (omega (arith, h))
+          ∙ v.minor;
+    }
 
 version_back : (layout : Layout) (xs ys : List ℕ) → 8 ≤ length xs → IsVersion layout (xs ++ ys) → IsVersion layout xs
 version_back layout xs ys h v =
-    record { major = sym (number_later layout.order 2 4 xs ys (omega (arith, h))) ∙ v.major; minor = sym (number_later layout.order 2 6 xs ys (omega (arith, h))) ∙ v.minor }
+    record {
+      major = sym (number_later layout.order 2 4 xs ys (omega (arith, h))) ∙ v.major;
+      minor = sym (number_later layout.order 2 6 xs ys (omega (arith, h))) ∙ v.minor;
+    }
 
 link_first : (layout : Layout) (xs ys : List ℕ) → 24 ≤ length xs → link_at layout (xs ++ ys) ≡ link_at layout xs
 link_first layout xs ys h = ap (λ n. n % 2 ^ 16) (number_later layout.order 4 20 xs ys (omega (arith, h)))
@@ -63,7 +70,8 @@ some_none a h = cc
 one_layout : (a b : Layout) (bytes : List ℕ) → layout_of bytes ≡ Some a → layout_of bytes ≡ Some b → a ≡ b
 one_layout a b bytes p q = some_same a b (sym p ∙ q)
 
-same_header : (layout layout' : Layout) (link link' : ℕ) → layout ≡ layout' → link ≡ link' → ◌≡◌ {A = FileHeader} (record { layout = layout; link = link }) (record { layout = layout'; link = link' })
+same_header : (layout layout' : Layout) (link link' : ℕ) → layout ≡ layout' → link ≡ link'
+    → ◌≡◌ {A = FileHeader} (record { layout = layout; link = link }) (record { layout = layout'; link = link' })
 same_header layout layout' link link' p q = cc
 
 -- a file has one header at most
@@ -74,7 +82,8 @@ one_header links a b bytes p q =
 
 -- a fault of the header stays
 pub header_fault_first : (links : LinkSet) (xs ys : List ℕ) (fault : PcapFault) → HasHeaderFault links xs fault → HasHeaderFault links (xs ++ ys) fault
-header_fault_first links xs ys BadMagic h = let size : 4 ≤ length xs = h.size in record { size = longer 4 xs ys size; magic = layout_first xs ys size ∙ h.magic }
+header_fault_first links xs ys BadMagic h = let size : 4 ≤ length xs = h.size in
+    record { size = longer 4 xs ys size; magic = layout_first xs ys size ∙ h.magic }
 header_fault_first links xs ys BadVersion h =
     let size : 8 ≤ length xs = h.size in record {
       size = longer 8 xs ys size;
@@ -96,10 +105,14 @@ header_fault_first links xs ys TooManyBytes h = absurd h
 header_fault_first links xs ys Memory h = absurd h
 
 -- no header with a fault is a header
-pub no_header : (links : LinkSet) (header : FileHeader) (bytes : List ℕ) (fault : PcapFault) → HasHeaderFault links bytes fault → IsFileHeader links header bytes → ⊥
+pub no_header : (links : LinkSet) (header : FileHeader) (bytes : List ℕ) (fault : PcapFault) → HasHeaderFault links bytes fault
+    → IsFileHeader links header bytes → ⊥
 no_header links header bytes BadMagic h is = some_none header.layout (sym is.magic ∙ h.magic)
-no_header links header bytes BadVersion h is = h.version (subst (λ (l : Layout). IsVersion l bytes) (one_layout header.layout h.layout bytes is.magic h.magic) is.version)
-no_header links header bytes BadLink h is = true≢false (sym is.lawful ∙ ap (is_link links) (is.link ∙ ap (λ layout. link_at layout bytes) (one_layout header.layout h.layout bytes is.magic h.magic)) ∙ h.link)
+no_header links header bytes BadVersion h is =
+    h.version (subst (λ (l : Layout). IsVersion l bytes) (one_layout header.layout h.layout bytes is.magic h.magic) is.version)
+no_header links header bytes BadLink h is =
+    true≢false (sym is.lawful ∙ ap (is_link links) (is.link ∙ ap (λ layout. link_at layout bytes) (one_layout header.layout h.layout bytes is.magic h.magic))
+    ∙ h.link)
 no_header links header bytes (FrameTooLong k) h is = h
 no_header links header bytes (Cut k) h is = h
 no_header links header bytes TooManyBytes h is = h
@@ -112,9 +125,11 @@ one_header_fault links bytes BadMagic BadVersion p q = absurd (some_none q.layou
 one_header_fault links bytes BadMagic BadLink p q = absurd (some_none q.layout (sym q.magic ∙ p.magic))
 one_header_fault links bytes BadVersion BadMagic p q = absurd (some_none p.layout (sym p.magic ∙ q.magic))
 one_header_fault links bytes BadVersion BadVersion p q = refl
-one_header_fault links bytes BadVersion BadLink p q = absurd (p.version (subst (λ (l : Layout). IsVersion l bytes) (one_layout q.layout p.layout bytes q.magic p.magic) q.version))
+one_header_fault links bytes BadVersion BadLink p q =
+    absurd (p.version (subst (λ (l : Layout). IsVersion l bytes) (one_layout q.layout p.layout bytes q.magic p.magic) q.version))
 one_header_fault links bytes BadLink BadMagic p q = absurd (some_none p.layout (sym p.magic ∙ q.magic))
-one_header_fault links bytes BadLink BadVersion p q = absurd (q.version (subst (λ (l : Layout). IsVersion l bytes) (one_layout p.layout q.layout bytes p.magic q.magic) p.version))
+one_header_fault links bytes BadLink BadVersion p q =
+    absurd (q.version (subst (λ (l : Layout). IsVersion l bytes) (one_layout p.layout q.layout bytes p.magic q.magic) p.version))
 one_header_fault links bytes BadLink BadLink p q = refl
 one_header_fault links bytes (FrameTooLong k) b p q = absurd p
 one_header_fault links bytes (Cut k) b p q = absurd p
@@ -143,7 +158,8 @@ shown_by_header links bytes (Cut k) h = absurd h
 shown_by_header links bytes TooManyBytes h = absurd h
 shown_by_header links bytes Memory h = absurd h
 
-pub shown : (links : LinkSet) (bytes : List ℕ) (fault : PcapFault) → Shows links bytes fault → HasHeaderFault links bytes fault ⊎ ((k : ℕ) × (fault ≡ FrameTooLong k) × HasLongFrame links k bytes)
+pub shown : (links : LinkSet) (bytes : List ℕ) (fault : PcapFault) → Shows links bytes fault → HasHeaderFault links bytes fault
+    ⊎ ((k : ℕ) × (fault ≡ FrameTooLong k) × HasLongFrame links k bytes)
 shown links bytes BadMagic h = inl h
 shown links bytes BadVersion h = inl h
 shown links bytes BadLink h = inl h
@@ -169,12 +185,14 @@ pub head_few : (links : LinkSet) (bytes : List ℕ) → length bytes < 4 → hea
 unfolding head_of
 head_few links bytes h = rw (lt_true (length bytes) 4 h) refl
 
-head_by : (links : LinkSet) (bytes : List ℕ) (layout : Option Layout) → 4 ≤ length bytes → layout_of bytes ≡ layout → head_of links bytes ≡ by_layout links layout bytes
+head_by : (links : LinkSet) (bytes : List ℕ) (layout : Option Layout) → 4 ≤ length bytes → layout_of bytes ≡ layout
+    → head_of links bytes ≡ by_layout links layout bytes
 unfolding head_of
 head_by links bytes layout h magic = rw (not_below (length bytes) 4 h) (ap (λ (l : Option Layout). by_layout links l bytes) magic)
 
 -- while fewer bytes than a header's are there
-begun : (links : LinkSet) (bytes : List ℕ) → head_of links bytes ≡ Short → length bytes < 24 → (4 ≤ length bytes → layout_of bytes ≡ None → ⊥) → (8 ≤ length bytes → (layout : Layout) → layout_of bytes ≡ Some layout → IsVersion layout bytes) → Header links bytes
+begun : (links : LinkSet) (bytes : List ℕ) → head_of links bytes ≡ Short → length bytes < 24 → (4 ≤ length bytes → layout_of bytes ≡ None → ⊥)
+    → (8 ≤ length bytes → (layout : Layout) → layout_of bytes ≡ Some layout → IsVersion layout bytes) → Header links bytes
 begun links bytes is short magic version = Begun is short (λ fault h. none fault h) where
   none : (fault : PcapFault) → HasHeaderFault links bytes fault → ⊥
   none BadMagic h = magic h.size h.magic
@@ -185,7 +203,8 @@ begun links bytes is short magic version = Begun is short (λ fault h. none faul
   none TooManyBytes h = h
   none Memory h = h
 
-version_case : (layout : Layout) (bytes : List ℕ) → (IsVersion layout bytes × (is_version layout bytes ≡ true)) ⊎ ((IsVersion layout bytes → ⊥) × (is_version layout bytes ≡ false))
+version_case : (layout : Layout) (bytes : List ℕ) → (IsVersion layout bytes × (is_version layout bytes ≡ true))
+    ⊎ ((IsVersion layout bytes → ⊥) × (is_version layout bytes ≡ false))
 version_case layout bytes = elim (cases_eq (number_in layout.order 2 (drop 4 bytes)) 2) [
   | inl major ↦ elim (cases_eq (number_in layout.order 2 (drop 6 bytes)) 4) [
     | inl minor ↦ inl (record { major = major; minor = minor }, rw (major, minor) refl)
@@ -194,24 +213,32 @@ version_case layout bytes = elim (cases_eq (number_in layout.order 2 (drop 4 byt
   | inr major ↦ inr ((λ v. major v.major), rw (not_same (number_in layout.order 2 (drop 4 bytes)) 2 major) refl)
 ]
 
-by_lawful : (links : LinkSet) (layout : Layout) (bytes : List ℕ) (lawful : Bool) → head_of links bytes ≡ by_link links layout bytes → 24 ≤ length bytes → layout_of bytes ≡ Some layout → IsVersion layout bytes → is_link links (link_at layout bytes) ≡ lawful → Header links bytes
+by_lawful : (links : LinkSet) (layout : Layout) (bytes : List ℕ) (lawful : Bool) → head_of links bytes ≡ by_link links layout bytes → 24 ≤ length bytes
+    → layout_of bytes ≡ Some layout → IsVersion layout bytes → is_link links (link_at layout bytes) ≡ lawful → Header links bytes
 by_lawful links layout bytes true is size magic version link =
-    Whole (record { layout = layout; link = link_at layout bytes }) (is ∙ rw (not_below (length bytes) 24 size, link) refl) (record { size = size; magic = magic; version = version; link = refl; lawful = link })
+    Whole (record { layout = layout; link = link_at layout bytes }) (is ∙ rw (not_below (length bytes) 24 size, link) refl)
+    (record { size = size; magic = magic; version = version; link = refl; lawful = link })
 by_lawful links layout bytes false is size magic version link =
-    False BadLink (is ∙ rw (not_below (length bytes) 24 size, link) refl) (record { size = size; layout = layout; magic = magic; version = version; link = link })
+    False BadLink (is ∙ rw (not_below (length bytes) 24 size, link) refl)
+    (record { size = size; layout = layout; magic = magic; version = version; link = link })
 
-with_version : (links : LinkSet) (layout : Layout) (bytes : List ℕ) → head_of links bytes ≡ by_link links layout bytes → 8 ≤ length bytes → layout_of bytes ≡ Some layout → IsVersion layout bytes → Header links bytes
+with_version : (links : LinkSet) (layout : Layout) (bytes : List ℕ) → head_of links bytes ≡ by_link links layout bytes → 8 ≤ length bytes
+    → layout_of bytes ≡ Some layout → IsVersion layout bytes → Header links bytes
 with_version links layout bytes is size magic version = elim (cases_lt (length bytes) 24) [
-  | inl short ↦ begun links bytes (is ∙ rw (lt_true (length bytes) 24 short) refl) short (λ _ none. some_none layout (sym magic ∙ none)) (λ _ other same. subst (λ (l : Layout). IsVersion l bytes) (one_layout layout other bytes magic same) version)
+  | inl short ↦ begun links bytes (is ∙ rw (lt_true (length bytes) 24 short) refl) short (λ _ none. some_none layout (sym magic ∙ none))
+      (λ _ other same. subst (λ (l : Layout). IsVersion l bytes) (one_layout layout other bytes magic same) version)
   | inr whole ↦ by_lawful links layout bytes (is_link links (link_at layout bytes)) is whole magic version refl
 ]
 
 with_magic : (links : LinkSet) (layout : Layout) (bytes : List ℕ) → 4 ≤ length bytes → layout_of bytes ≡ Some layout → Header links bytes
 with_magic links layout bytes size magic = elim (cases_lt (length bytes) 8) [
-  | inl short ↦ begun links bytes (head_by links bytes (Some layout) size magic ∙ rw (lt_true (length bytes) 8 short) refl) (omega (arith, short)) (λ _ none. some_none layout (sym magic ∙ none)) (λ large other is. absurd (omega (arith, short, large)))
+  | inl short ↦ begun links bytes (head_by links bytes (Some layout) size magic ∙ rw (lt_true (length bytes) 8 short) refl) (omega (arith, short))
+      (λ _ none. some_none layout (sym magic ∙ none)) (λ large other is. absurd (omega (arith, short, large)))
   | inr large ↦ elim (version_case layout bytes) [
-    | inl version ↦ with_version links layout bytes (head_by links bytes (Some layout) size magic ∙ rw (not_below (length bytes) 8 large, version.1) refl) large magic version.0
-    | inr version ↦ False BadVersion (head_by links bytes (Some layout) size magic ∙ rw (not_below (length bytes) 8 large, version.1) refl) (record { size = large; layout = layout; magic = magic; version = version.0 })
+    | inl version ↦ with_version links layout bytes
+        (head_by links bytes (Some layout) size magic ∙ rw (not_below (length bytes) 8 large, version.1) refl) large magic version.0
+    | inr version ↦ False BadVersion (head_by links bytes (Some layout) size magic ∙ rw (not_below (length bytes) 8 large, version.1) refl)
+        (record { size = large; layout = layout; magic = magic; version = version.0 })
   ]
 ]
 
@@ -221,6 +248,7 @@ by_magic links bytes (Some layout) size magic = with_magic links layout bytes si
 
 pub header_of : (links : LinkSet) (bytes : List ℕ) → Header links bytes
 header_of links bytes = elim (cases_lt (length bytes) 4) [
-  | inl short ↦ begun links bytes (head_few links bytes short) (omega (arith, short)) (λ large. absurd (omega (arith, short, large))) (λ large. absurd (omega (arith, short, large)))
+  | inl short ↦ begun links bytes (head_few links bytes short) (omega (arith, short)) (λ large. absurd (omega (arith, short, large)))
+      (λ large. absurd (omega (arith, short, large)))
   | inr size ↦ by_magic links bytes (layout_of bytes) size refl
 ]

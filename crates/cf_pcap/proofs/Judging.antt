@@ -23,17 +23,22 @@ record Leads (header : FileHeader) (k : ℕ) (frames : List FrameValue) (bytes :
   records : AreRecordsThen header k frames bytes rest
   state_is : t ≡ state_of (Some header) (k + length frames)
 
-leads_nothing : (header : FileHeader) (k : ℕ) (bytes : List ℕ) (t : State) (rest : List ℕ) → state_of (Some header) k ≡ t → bytes ≡ rest → Leads header k [] bytes t rest
+leads_nothing : (header : FileHeader) (k : ℕ) (bytes : List ℕ) (t : State) (rest : List ℕ) → state_of (Some header) k ≡ t → bytes ≡ rest
+    → Leads header k [] bytes t rest
 leads_nothing header k bytes t rest same left =
     let none : k ≡ k + length {A = FrameValue} [] = omega arith in
     record { records = left; state_is = sym same ∙ ap (λ n. state_of (Some header) n) none }
 
-leads_more : (header : FileHeader) (k : ℕ) (frames : List FrameValue) (bytes : List ℕ) (t : State) (rest : List ℕ) → HasRecord header bytes → Leads header (k + 1) frames (drop (16 + caplen_at header bytes) bytes) t rest → Leads header k (frame_at header k bytes ∷ frames) bytes t rest
+leads_more : (header : FileHeader) (k : ℕ) (frames : List FrameValue) (bytes : List ℕ) (t : State) (rest : List ℕ) → HasRecord header bytes
+    → Leads header (k + 1) frames (drop (16 + caplen_at header bytes) bytes) t rest → Leads header k (frame_at header k bytes ∷ frames) bytes t rest
 leads_more header k frames bytes t rest has more =
     let sum : k + 1 + length frames ≡ k + length (frame_at header k bytes ∷ frames) = omega arith in
     record { records = (has, refl, more.records); state_is = more.state_is ∙ ap (λ n. state_of (Some header) n) sum }
 
-leads_on : (links : LinkSet) (header : FileHeader) (k : ℕ) (bytes : List ℕ) (n : ℕ) (items more : List FrameValue) (u t : State) (rest : List ℕ) → step links (state_of (Some header) k) bytes ≡ Takes n items u → (u ≡ state_of (Some header) (k + 1) → n ≡ 16 + caplen_at header bytes → Leads header (k + 1) more (drop n bytes) t rest) → Leads header k (items ++ more) bytes t rest
+leads_on : (links : LinkSet) (header : FileHeader) (k : ℕ) (bytes : List ℕ) (n : ℕ) (items more : List FrameValue) (u t : State) (rest : List ℕ)
+    → step links (state_of (Some header) k) bytes ≡ Takes n items u
+    → (u ≡ state_of (Some header) (k + 1) → n ≡ 16 + caplen_at header bytes → Leads header (k + 1) more (drop n bytes) t rest)
+    → Leads header k (items ++ more) bytes t rest
 leads_on links header k bytes n items more u t rest h go = elim (taken links (state_of (Some header) k) bytes n items u h) [
   | TakesHeader new none it len given after ↦ absurd (none_some (Some header) header none refl)
   | TakesRecord old some it len given after ↦
@@ -41,56 +46,77 @@ leads_on links header k bytes n items more u t rest h go = elim (taken links (st
       let has : HasRecord header bytes = subst (λ (x : FileHeader). HasRecord x bytes) same it in
       let size : n ≡ 16 + caplen_at header bytes = len ∙ ap (λ (x : FileHeader). 16 + caplen_at x bytes) same in
       let frames : frame_at header k bytes ∷ [] ≡ items = ap (λ (x : FileHeader). frame_at x k bytes ∷ []) (sym same) ∙ sym given in
-      let later : Leads header (k + 1) more (drop (16 + caplen_at header bytes) bytes) t rest = subst (λ (m : ℕ). Leads header (k + 1) more (drop m bytes) t rest) size (go (after ∙ ap (λ (x : FileHeader). state_of (Some x) (k + 1)) same) size) in
+      let later : Leads header (k + 1) more (drop (16 + caplen_at header bytes) bytes) t rest =
+      subst (λ (m : ℕ). Leads header (k + 1) more (drop m bytes) t rest) size (go (after ∙ ap (λ (x : FileHeader). state_of (Some x) (k + 1)) same) size) in
       subst (λ (fs : List FrameValue). Leads header k (fs ++ more) bytes t rest) frames (leads_more header k more bytes t rest has later)
 ]
 
-records_of : (links : LinkSet) (header : FileHeader) (k : ℕ) (parts : List (Part State FrameValue)) (bytes : List ℕ) (t : State) (rest : List ℕ) → AreUnitsThen (pcap links) (state_of (Some header) k) parts bytes t rest → Leads header k (items_of parts) bytes t rest
+records_of : (links : LinkSet) (header : FileHeader) (k : ℕ) (parts : List (Part State FrameValue)) (bytes : List ℕ) (t : State) (rest : List ℕ)
+    → AreUnitsThen (pcap links) (state_of (Some header) k) parts bytes t rest → Leads header k (items_of parts) bytes t rest
 records_of links header k [] bytes t rest h = leads_nothing header k bytes t rest h.0 h.1
-records_of links header k (part ∷ parts) bytes t rest h = leads_on links header k bytes part.size part.items (items_of parts) part.after t rest h.0 (λ after _. records_of links header (k + 1) parts (drop part.size bytes) t rest (subst (λ (u : State). AreUnitsThen (pcap links) u parts (drop part.size bytes) t rest) after h.1))
+records_of links header k (part ∷ parts) bytes t rest h =
+    leads_on links header k bytes part.size part.items (items_of parts) part.after t rest h.0
+    (λ after _. records_of links header (k + 1) parts (drop part.size bytes) t rest
+    (subst (λ (u : State). AreUnitsThen (pcap links) u parts (drop part.size bytes) t rest) after h.1))
 
 -- how far the units of a file go
 data Begins (links : LinkSet) (file : List ℕ) (frames : List FrameValue) (t : State) (rest : List ℕ) : Type 0 where
   AtStart : frames ≡ [] → t ≡ (pcap links).start → file ≡ rest → Begins links file frames t rest
   Within : (header : FileHeader) → t ≡ state_of (Some header) (length frames) → IsReadTo links header file frames rest → Begins links file frames t rest
 
-within : (links : LinkSet) (file : List ℕ) (n : ℕ) (items more : List FrameValue) (u t : State) (rest : List ℕ) → step links (pcap links).start file ≡ Takes n items u → ((header : FileHeader) → u ≡ state_of (Some header) 0 → Leads header 0 more (drop n file) t rest) → Begins links file (items ++ more) t rest
+within : (links : LinkSet) (file : List ℕ) (n : ℕ) (items more : List FrameValue) (u t : State) (rest : List ℕ)
+    → step links (pcap links).start file ≡ Takes n items u → ((header : FileHeader) → u ≡ state_of (Some header) 0 → Leads header 0 more (drop n file) t rest)
+    → Begins links file (items ++ more) t rest
 within links file n items more u t rest h go = elim (taken links (pcap links).start file n items u h) [
   | TakesHeader new none it len given after ↦
       let leads : Leads new 0 more (drop 24 file) t rest = subst (λ (m : ℕ). Leads new 0 more (drop m file) t rest) len (go new after) in
       let count : 0 + length more ≡ length more = omega arith in
-      let all : Begins links file more t rest = Within new (leads.state_is ∙ ap (λ m. state_of (Some new) m) count) (record { begin = it; records = leads.records }) in
+      let all : Begins links file more t rest =
+      Within new (leads.state_is ∙ ap (λ m. state_of (Some new) m) count) (record { begin = it; records = leads.records }) in
       subst (λ (fs : List FrameValue). Begins links file (fs ++ more) t rest) (sym given) all
   | TakesRecord old some it len given after ↦ absurd (none_some None old refl some)
 ]
 
-by_parts : (links : LinkSet) (file : List ℕ) (parts : List (Part State FrameValue)) (t : State) (rest : List ℕ) → AreUnitsThen (pcap links) (pcap links).start parts file t rest → Begins links file (items_of parts) t rest
+by_parts : (links : LinkSet) (file : List ℕ) (parts : List (Part State FrameValue)) (t : State) (rest : List ℕ)
+    → AreUnitsThen (pcap links) (pcap links).start parts file t rest → Begins links file (items_of parts) t rest
 by_parts links file [] t rest h = AtStart refl (sym h.0) h.1
-by_parts links file (part ∷ parts) t rest h = within links file part.size part.items (items_of parts) part.after t rest h.0 (λ header after. records_of links header 0 parts (drop part.size file) t rest (subst (λ (u : State). AreUnitsThen (pcap links) u parts (drop part.size file) t rest) after h.1))
+by_parts links file (part ∷ parts) t rest h =
+    within links file part.size part.items (items_of parts) part.after t rest h.0
+    (λ header after. records_of links header 0 parts (drop part.size file) t rest
+    (subst (λ (u : State). AreUnitsThen (pcap links) u parts (drop part.size file) t rest) after h.1))
 
-begins : (links : LinkSet) (file : List ℕ) (frames : List FrameValue) (t : State) (rest : List ℕ) → ReadsTo (pcap links) (pcap links).start file frames t rest → Begins links file frames t rest
+begins : (links : LinkSet) (file : List ℕ) (frames : List FrameValue) (t : State) (rest : List ℕ) → ReadsTo (pcap links) (pcap links).start file frames t rest
+    → Begins links file frames t rest
 begins links file frames t rest h = subst (λ (fs : List FrameValue). Begins links file fs t rest) (sym h.items_are) (by_parts links file h.parts t rest h.units)
 
 -- From records to units.
 
-units_of : (links : LinkSet) (header : FileHeader) (k : ℕ) (frames : List FrameValue) (bytes rest : List ℕ) → AreRecordsThen header k frames bytes rest → ReadsTo (pcap links) (state_of (Some header) k) bytes frames (state_of (Some header) (k + length frames)) rest
+units_of : (links : LinkSet) (header : FileHeader) (k : ℕ) (frames : List FrameValue) (bytes rest : List ℕ) → AreRecordsThen header k frames bytes rest
+    → ReadsTo (pcap links) (state_of (Some header) k) bytes frames (state_of (Some header) (k + length frames)) rest
 units_of links header k [] bytes rest h =
     let none : k ≡ k + length {A = FrameValue} [] = omega arith in
-    subst (λ (n : ℕ). ReadsTo (pcap links) (state_of (Some header) k) bytes [] (state_of (Some header) n) rest) none (subst (λ (xs : List ℕ). ReadsTo (pcap links) (state_of (Some header) k) bytes [] (state_of (Some header) k) xs) h (reads_nothing (pcap links) (state_of (Some header) k) bytes))
+    subst (λ (n : ℕ). ReadsTo (pcap links) (state_of (Some header) k) bytes [] (state_of (Some header) n) rest) none
+    (subst (λ (xs : List ℕ). ReadsTo (pcap links) (state_of (Some header) k) bytes [] (state_of (Some header) k) xs) h
+    (reads_nothing (pcap links) (state_of (Some header) k) bytes))
 units_of links header k (frame ∷ frames) bytes rest h =
     let s : State = state_of (Some header) k in
     let u : State = state_of (Some header) (k + 1) in
     let left : List ℕ = drop (16 + caplen_at header bytes) bytes in
     let sum : k + 1 + length frames ≡ k + length (frame ∷ frames) = omega arith in
-    let takes : step links s bytes ≡ Takes (16 + caplen_at header bytes) (frame ∷ []) u = step_record links s header bytes refl h.0 ∙ ap (λ (f : FrameValue). Takes (16 + caplen_at header bytes) (f ∷ []) u) (sym h.1) in
+    let takes : step links s bytes ≡ Takes (16 + caplen_at header bytes) (frame ∷ []) u = step_record links s header bytes refl h.0
+    ∙ ap (λ (f : FrameValue). Takes (16 + caplen_at header bytes) (f ∷ []) u) (sym h.1) in
     subst (λ (n : ℕ). ReadsTo (pcap links) s bytes (frame ∷ frames) (state_of (Some header) n) rest) sum
-    (reads_on (pcap links) s bytes (frame ∷ []) frames u left (state_of (Some header) (k + 1 + length frames)) rest (reads_one (pcap links) s bytes (16 + caplen_at header bytes) (frame ∷ []) u takes) (units_of links header (k + 1) frames left rest h.2))
+    (reads_on (pcap links) s bytes (frame ∷ []) frames u left (state_of (Some header) (k + 1 + length frames)) rest
+    (reads_one (pcap links) s bytes (16 + caplen_at header bytes) (frame ∷ []) u takes) (units_of links header (k + 1) frames left rest h.2))
 
-read_of : (links : LinkSet) (header : FileHeader) (file : List ℕ) (frames : List FrameValue) (rest : List ℕ) → IsReadTo links header file frames rest → ReadsTo (pcap links) (pcap links).start file frames (state_of (Some header) (length frames)) rest
+read_of : (links : LinkSet) (header : FileHeader) (file : List ℕ) (frames : List FrameValue) (rest : List ℕ) → IsReadTo links header file frames rest
+    → ReadsTo (pcap links) (pcap links).start file frames (state_of (Some header) (length frames)) rest
 read_of links header file frames rest h =
     let sum : 0 + length frames ≡ length frames = omega arith in
     subst (λ (n : ℕ). ReadsTo (pcap links) (pcap links).start file frames (state_of (Some header) n) rest) sum
-    (reads_on (pcap links) (pcap links).start file [] frames (state_of (Some header) 0) (drop 24 file) (state_of (Some header) (0 + length frames)) rest (reads_one (pcap links) (pcap links).start file 24 [] (state_of (Some header) 0) (step_header links (pcap links).start header file refl h.begin)) (units_of links header 0 frames (drop 24 file) rest h.records))
+    (reads_on (pcap links) (pcap links).start file [] frames (state_of (Some header) 0) (drop 24 file) (state_of (Some header) (0 + length frames)) rest
+    (reads_one (pcap links) (pcap links).start file 24 [] (state_of (Some header) 0) (step_header links (pcap links).start header file refl h.begin))
+    (units_of links header 0 frames (drop 24 file) rest h.records))
 
 -- Captures.
 
@@ -104,7 +130,13 @@ capture_of links file frames whole = elim (begins links file frames whole.last [
 ]
 
 whole_of : (links : LinkSet) (file : List ℕ) (frames : List FrameValue) → IsCapture links file frames → IsWhole (pcap links) file frames
-whole_of links file frames capture = record { size = capture.size; last = state_of (Some capture.header) (length frames); read = read_of links capture.header file frames [] capture.whole; ends = refl }
+whole_of links file frames capture =
+    record {
+      size = capture.size;
+      last = state_of (Some capture.header) (length frames);
+      read = read_of links capture.header file frames [] capture.whole;
+      ends = refl;
+    }
 
 -- Faults that bytes show.
 
@@ -118,7 +150,15 @@ shows_of links bytes fault h = elim (begins links bytes h.items h.last h.rest h.
     | InHeader none it ↦ absurd (none_some h.last.header header none (ap (λ (x : State). x.header) state))
     | TooLong old some it is ↦
         let same : old ≡ header = some_same h.last.header old header some (ap (λ (x : State). x.header) state) in
-        let long : HasLongFrame links h.last.count bytes = record { header = header; frames = h.items; rest = h.rest; read = read; number_is = ap (λ (x : State). x.count) state; long = subst (λ (x : FileHeader). HasLongRecord x h.rest) same it } in
+        let long : HasLongFrame links h.last.count bytes =
+        record {
+          header = header;
+          frames = h.items;
+          rest = h.rest;
+          read = read;
+          number_is = ap (λ (x : State). x.count) state;
+          long = subst (λ (x : FileHeader). HasLongRecord x h.rest) same it;
+        } in
         subst (λ (f : PcapFault). Shows links bytes f) (sym is) long
   ]
 ]
@@ -134,7 +174,13 @@ shows_long links k bytes h = record {
 
 shows_back : (links : LinkSet) (bytes : List ℕ) (fault : PcapFault) → Shows links bytes fault → formats.Shows (pcap links) bytes fault
 shows_back links bytes fault h = elim (shown links bytes fault h) [
-  | inl header ↦ record { items = []; last = (pcap links).start; rest = bytes; read = reads_nothing (pcap links) (pcap links).start bytes; bad = step_fault links (pcap links).start fault bytes refl header }
+  | inl header ↦ record {
+    items = [];
+    last = (pcap links).start;
+    rest = bytes;
+    read = reads_nothing (pcap links) (pcap links).start bytes;
+    bad = step_fault links (pcap links).start fault bytes refl header;
+  }
   | inr long ↦ subst (λ (f : PcapFault). formats.Shows (pcap links) bytes f) (sym long.1) (shows_long links long.0 bytes long.2)
 ]
 
@@ -157,15 +203,22 @@ many_back links file h = record { size = h.size; first = λ fault shows. h.first
 
 -- Files that end too early.
 
-short_shown : (links : LinkSet) (file : List ℕ) (fault : PcapFault) → length file < 2 ^ 32 → Shows links (seen file) fault → formats.Shows (pcap links) file fault
-short_shown links file fault size h = subst (λ (xs : List ℕ). formats.Shows (pcap links) xs fault) (seen_short file (omega (arith, size))) (shows_back links (seen file) fault h)
+short_shown : (links : LinkSet) (file : List ℕ) (fault : PcapFault) → length file < 2 ^ 32 → Shows links (seen file) fault
+    → formats.Shows (pcap links) file fault
+short_shown links file fault size h =
+    subst (λ (xs : List ℕ). formats.Shows (pcap links) xs fault) (seen_short file (omega (arith, size))) (shows_back links (seen file) fault h)
 
 cut_of : (links : LinkSet) (file : List ℕ) (last : State) → formats.IsCut (pcap links) file last → IsCut links last.count file
 cut_of links file last cut =
-    let first : (fault : PcapFault) → Shows links (seen file) fault → ⊥ = λ fault h. none_shown (pcap links) file cut.items last cut.rest cut.read cut.part fault (short_shown links file fault cut.size h) in
+    let first : (fault : PcapFault) → Shows links (seen file) fault → ⊥ =
+    λ fault h. none_shown (pcap links) file cut.items last cut.rest cut.read cut.part fault (short_shown links file fault cut.size h) in
     elim (begins links file cut.items last cut.rest cut.read) [
       | AtStart none start left ↦ elim (part_of links last cut.rest cut.part) [
-        | OfHeader same short nothing ↦ record { size = cut.size; first = first; ends = inl (record { size = subst (λ (xs : List ℕ). length xs < 24) (sym left) short; number_is = ap (λ (x : State). x.count) start }) }
+        | OfHeader same short nothing ↦ record {
+          size = cut.size;
+          first = first;
+          ends = inl (record { size = subst (λ (xs : List ℕ). length xs < 24) (sym left) short; number_is = ap (λ (x : State). x.count) start });
+        }
         | OfRecord old some never long ↦ absurd (none_some last.header old (ap (λ (x : State). x.header) start) some)
       ]
       | Within header state read ↦ elim (part_of links last cut.rest cut.part) [
@@ -176,7 +229,19 @@ cut_of links file last cut =
               | inl left ↦ left
               | inr outside ↦ absurd (true_false (sym (ap (λ (x : State). is_some x.header) state) ∙ outside))
             ] in
-            record { size = cut.size; first = first; ends = inr (record { header = header; frames = cut.items; rest = cut.rest; read = read; number_is = ap (λ (x : State). x.count) state; left = left; part = λ h. never (subst (λ (x : FileHeader). HasRecord x cut.rest) same h) }) }
+            record {
+              size = cut.size;
+              first = first;
+              ends = inr (record {
+                header = header;
+                frames = cut.items;
+                rest = cut.rest;
+                read = read;
+                number_is = ap (λ (x : State). x.count) state;
+                left = left;
+                part = λ h. never (subst (λ (x : FileHeader). HasRecord x cut.rest) same h);
+              });
+            }
       ]
     ]
 
@@ -208,7 +273,9 @@ cut_back links k file cut =
               items = inside.frames;
               rest = inside.rest;
               read = read_of links inside.header file inside.frames inside.rest inside.read;
-              part = step_part links last inside.header inside.rest refl inside.part (λ long. first (FrameTooLong (length inside.frames)) (record { header = inside.header; frames = inside.frames; rest = inside.rest; read = inside.read; number_is = refl; long = long }));
+              part = step_part links last inside.header inside.rest refl inside.part
+                  (λ long. first (FrameTooLong (length inside.frames))
+                  (record { header = inside.header; frames = inside.frames; rest = inside.rest; read = inside.read; number_is = refl; long = long }));
               left = inl inside.left;
             },
           )
@@ -231,4 +298,5 @@ fault_back links file TooManyBytes h = inl (inr (refl, many_back links file h))
 fault_back links file Memory h = absurd h
 
 pub judged_alike : (links : LinkSet) (file : List ℕ) → JudgedAlike links file
-judged_alike links file = record { capture = capture_of links file; is_capture = whole_of links file; fault = fault_of links file; is_fault = fault_back links file }
+judged_alike links file =
+    record { capture = capture_of links file; is_capture = whole_of links file; fault = fault_of links file; is_fault = fault_back links file }

@@ -46,60 +46,80 @@ step_at links s bytes = refl
 
 -- Of a file header.
 
-pub head_stands : (links : LinkSet) (header : FileHeader) (bytes : List ℕ) → Header links bytes → IsFileHeader links header bytes → head_of links bytes ≡ Stands header
+pub head_stands : (links : LinkSet) (header : FileHeader) (bytes : List ℕ) → Header links bytes → IsFileHeader links header bytes
+    → head_of links bytes ≡ Stands header
 head_stands links header bytes (Whole other is it) h = is ∙ ap (λ (x : FileHeader). Stands x) (one_header links other header bytes it h)
 head_stands links header bytes (False fault is it) h = absurd (no_header links header bytes fault it h)
 head_stands links header bytes (Begun is short none) h = let size : 24 ≤ length bytes = h.size in absurd (omega (arith, short, size))
 
-pub head_faulty : (links : LinkSet) (fault : PcapFault) (bytes : List ℕ) → Header links bytes → HasHeaderFault links bytes fault → head_of links bytes ≡ Faulty fault
+pub head_faulty : (links : LinkSet) (fault : PcapFault) (bytes : List ℕ) → Header links bytes → HasHeaderFault links bytes fault
+    → head_of links bytes ≡ Faulty fault
 head_faulty links fault bytes (Whole header is it) h = absurd (no_header links header bytes fault h it)
 head_faulty links fault bytes (False other is it) h = is ∙ ap (λ (x : PcapFault). Faulty x) (one_header_fault links bytes other fault it h)
 head_faulty links fault bytes (Begun is short none) h = absurd (none fault h)
 
-pub head_short : (links : LinkSet) (bytes : List ℕ) → Header links bytes → length bytes < 24 → ((fault : PcapFault) → HasHeaderFault links bytes fault → ⊥) → head_of links bytes ≡ Short
+pub head_short : (links : LinkSet) (bytes : List ℕ) → Header links bytes → length bytes < 24 → ((fault : PcapFault) → HasHeaderFault links bytes fault → ⊥)
+    → head_of links bytes ≡ Short
 head_short links bytes (Whole header is it) short none = let size : 24 ≤ length bytes = it.size in absurd (omega (arith, short, size))
 head_short links bytes (False fault is it) short none = absurd (none fault it)
 head_short links bytes (Begun is less nothing) short none = is
 
-pub found_header : (links : LinkSet) (header : FileHeader) (k : ℕ) (bytes : List ℕ) → IsFileHeader links header bytes → found_at links None k bytes ≡ Takes 24 [] (state_of (Some header) k)
+pub found_header : (links : LinkSet) (header : FileHeader) (k : ℕ) (bytes : List ℕ) → IsFileHeader links header bytes
+    → found_at links None k bytes ≡ Takes 24 [] (state_of (Some header) k)
 found_header links header k bytes h = ap (λ (x : Head). head_found k x) (head_stands links header bytes (header_of links bytes) h)
 
 pub found_fault : (links : LinkSet) (fault : PcapFault) (k : ℕ) (bytes : List ℕ) → HasHeaderFault links bytes fault → found_at links None k bytes ≡ Bad fault
 found_fault links fault k bytes h = ap (λ (x : Head). head_found k x) (head_faulty links fault bytes (header_of links bytes) h)
 
-pub found_begun : (links : LinkSet) (k : ℕ) (bytes : List ℕ) → length bytes < 24 → ((fault : PcapFault) → HasHeaderFault links bytes fault → ⊥) → found_at links None k bytes ≡ Wants
+pub found_begun : (links : LinkSet) (k : ℕ) (bytes : List ℕ) → length bytes < 24 → ((fault : PcapFault) → HasHeaderFault links bytes fault → ⊥)
+    → found_at links None k bytes ≡ Wants
 found_begun links k bytes short none = ap (λ (x : Head). head_found k x) (head_short links bytes (header_of links bytes) short none)
 
 -- Of a record.
 
-pub found_record : (links : LinkSet) (header : FileHeader) (k : ℕ) (bytes : List ℕ) → HasRecord header bytes → found_at links (Some header) k bytes ≡ Takes (16 + caplen_at header bytes) (frame_at header k bytes ∷ []) (state_of (Some header) (k + 1))
+pub found_record : (links : LinkSet) (header : FileHeader) (k : ℕ) (bytes : List ℕ) → HasRecord header bytes
+    → found_at links (Some header) k bytes ≡ Takes (16 + caplen_at header bytes) (frame_at header k bytes ∷ []) (state_of (Some header) (k + 1))
 found_record links header k bytes h =
     let short : caplen_at header bytes ≤ 262144 = h.short in
     let whole : 16 + caplen_at header bytes ≤ length bytes = h.whole in
-    rw (not_below (length bytes) 16 (omega (arith, whole)), not_below 262144 (caplen_at header bytes) short, not_below (length bytes) (16 + caplen_at header bytes) whole) refl
+    rw (
+      not_below (length bytes) 16 (omega (arith, whole)),
+      not_below 262144 (caplen_at header bytes) short,
+      not_below (length bytes) (16 + caplen_at header bytes) whole,
+    ) refl
 
-pub found_long : (links : LinkSet) (header : FileHeader) (k : ℕ) (bytes : List ℕ) → HasLongRecord header bytes → found_at links (Some header) k bytes ≡ Bad (FrameTooLong k)
+pub found_long : (links : LinkSet) (header : FileHeader) (k : ℕ) (bytes : List ℕ) → HasLongRecord header bytes
+    → found_at links (Some header) k bytes ≡ Bad (FrameTooLong k)
 found_long links header k bytes h = rw (not_below (length bytes) 16 h.head, lt_true 262144 (caplen_at header bytes) h.long) refl
 
 -- what stands where a record may
 pub data Record (links : LinkSet) (header : FileHeader) (bytes : List ℕ) : Type 0 where
   IsRecord : HasRecord header bytes → Record links header bytes
   IsLong : HasLongRecord header bytes → Record links header bytes
-  IsPart : (HasRecord header bytes → ⊥) → (HasLongRecord header bytes → ⊥) → ((k : ℕ) → found_at links (Some header) k bytes ≡ Wants) → Record links header bytes
+  IsPart : (HasRecord header bytes → ⊥) → (HasLongRecord header bytes → ⊥) → ((k : ℕ) → found_at links (Some header) k bytes ≡ Wants)
+      → Record links header bytes
 
 pub record_of : (links : LinkSet) (header : FileHeader) (bytes : List ℕ) → Record links header bytes
 record_of links header bytes = elim (cases_lt (length bytes) 16) [
-  | inl few ↦ IsPart (λ h. let whole : 16 + caplen_at header bytes ≤ length bytes = h.whole in omega (arith, few, whole)) (λ h. let head : 16 ≤ length bytes = h.head in omega (arith, few, head)) (λ k. rw (lt_true (length bytes) 16 few) refl)
+  | inl few ↦ IsPart (λ h. let whole : 16 + caplen_at header bytes ≤ length bytes = h.whole in omega (arith, few, whole))
+      (λ h. let head : 16 ≤ length bytes = h.head in omega (arith, few, head)) (λ k. rw (lt_true (length bytes) 16 few) refl)
   | inr head ↦ elim (cases_lt 262144 (caplen_at header bytes)) [
     | inl long ↦ IsLong (record { head = head; long = long })
     | inr small ↦ elim (cases_lt (length bytes) (16 + caplen_at header bytes)) [
-      | inl part ↦ IsPart (λ h. let whole : 16 + caplen_at header bytes ≤ length bytes = h.whole in omega (arith, part, whole)) (λ h. let long : 262144 < caplen_at header bytes = h.long in omega (arith, small, long)) (λ k. rw (not_below (length bytes) 16 head, not_below 262144 (caplen_at header bytes) small, lt_true (length bytes) (16 + caplen_at header bytes) part) refl)
+      | inl part ↦ IsPart (λ h. let whole : 16 + caplen_at header bytes ≤ length bytes = h.whole in omega (arith, part, whole))
+          (λ h. let long : 262144 < caplen_at header bytes = h.long in omega (arith, small, long))
+          (λ k. rw (
+            not_below (length bytes) 16 head,
+            not_below 262144 (caplen_at header bytes) small,
+            lt_true (length bytes) (16 + caplen_at header bytes) part,
+          ) refl)
       | inr whole ↦ IsRecord (record { short = small; whole = whole })
     ]
   ]
 ]
 
-pub found_part : (links : LinkSet) (header : FileHeader) (k : ℕ) (bytes : List ℕ) → Record links header bytes → (HasRecord header bytes → ⊥) → (HasLongRecord header bytes → ⊥) → found_at links (Some header) k bytes ≡ Wants
+pub found_part : (links : LinkSet) (header : FileHeader) (k : ℕ) (bytes : List ℕ) → Record links header bytes → (HasRecord header bytes → ⊥)
+    → (HasLongRecord header bytes → ⊥) → found_at links (Some header) k bytes ≡ Wants
 found_part links header k bytes (IsRecord h) part short = absurd (part h)
 found_part links header k bytes (IsLong h) part short = absurd (short h)
 found_part links header k bytes (IsPart never none is) part short = is k
@@ -107,45 +127,56 @@ found_part links header k bytes (IsPart never none is) part short = is k
 -- What is shown, by what the step finds.
 
 pub data Taken (links : LinkSet) (header : Option FileHeader) (k : ℕ) (bytes : List ℕ) (n : ℕ) (items : List FrameValue) (t : State) : Type 0 where
-  TakesHeader : (new : FileHeader) → header ≡ None → IsFileHeader links new bytes → n ≡ 24 → items ≡ [] → t ≡ state_of (Some new) k → Taken links header k bytes n items t
-  TakesRecord : (old : FileHeader) → header ≡ Some old → HasRecord old bytes → n ≡ 16 + caplen_at old bytes → items ≡ frame_at old k bytes ∷ [] → t ≡ state_of (Some old) (k + 1) → Taken links header k bytes n items t
+  TakesHeader : (new : FileHeader) → header ≡ None → IsFileHeader links new bytes → n ≡ 24 → items ≡ [] → t ≡ state_of (Some new) k
+      → Taken links header k bytes n items t
+  TakesRecord : (old : FileHeader) → header ≡ Some old → HasRecord old bytes → n ≡ 16 + caplen_at old bytes → items ≡ frame_at old k bytes ∷ []
+      → t ≡ state_of (Some old) (k + 1) → Taken links header k bytes n items t
 
-header_taken : (links : LinkSet) (k : ℕ) (bytes : List ℕ) (n : ℕ) (items : List FrameValue) (t : State) → Header links bytes → found_at links None k bytes ≡ Takes n items t → Taken links None k bytes n items t
+header_taken : (links : LinkSet) (k : ℕ) (bytes : List ℕ) (n : ℕ) (items : List FrameValue) (t : State) → Header links bytes
+    → found_at links None k bytes ≡ Takes n items t → Taken links None k bytes n items t
 header_taken links k bytes n items t (Whole new is it) h =
     let same : ◌≡◌ {A = Shown} (Takes 24 [] (state_of (Some new) k)) (Takes n items t) = sym (found_header links new k bytes it) ∙ h in
     TakesHeader new refl it (taken_size 24 n [] items _ t same) (taken_items 24 n [] items _ t same) (taken_state 24 n [] items _ t same)
 header_taken links k bytes n items t (False fault is it) h = absurd (bad_not_takes fault n items t (sym (found_fault links fault k bytes it) ∙ h))
 header_taken links k bytes n items t (Begun is short none) h = absurd (wants_not_takes n items t (sym (found_begun links k bytes short none) ∙ h))
 
-record_taken : (links : LinkSet) (header : FileHeader) (k : ℕ) (bytes : List ℕ) (n : ℕ) (items : List FrameValue) (t : State) → Record links header bytes → found_at links (Some header) k bytes ≡ Takes n items t → Taken links (Some header) k bytes n items t
+record_taken : (links : LinkSet) (header : FileHeader) (k : ℕ) (bytes : List ℕ) (n : ℕ) (items : List FrameValue) (t : State) → Record links header bytes
+    → found_at links (Some header) k bytes ≡ Takes n items t → Taken links (Some header) k bytes n items t
 record_taken links header k bytes n items t (IsRecord it) h =
-    let same : ◌≡◌ {A = Shown} (Takes (16 + caplen_at header bytes) (frame_at header k bytes ∷ []) (state_of (Some header) (k + 1))) (Takes n items t) = sym (found_record links header k bytes it) ∙ h in
+    let same : ◌≡◌ {A = Shown} (Takes (16 + caplen_at header bytes) (frame_at header k bytes ∷ []) (state_of (Some header) (k + 1))) (Takes n items t) =
+    sym (found_record links header k bytes it) ∙ h in
     TakesRecord header refl it (taken_size _ n _ items _ t same) (taken_items _ n _ items _ t same) (taken_state _ n _ items _ t same)
 record_taken links header k bytes n items t (IsLong it) h = absurd (bad_not_takes (FrameTooLong k) n items t (sym (found_long links header k bytes it) ∙ h))
 record_taken links header k bytes n items t (IsPart never none is) h = absurd (wants_not_takes n items t (sym (is k) ∙ h))
 
-taken_at : (links : LinkSet) (header : Option FileHeader) (k : ℕ) (bytes : List ℕ) (n : ℕ) (items : List FrameValue) (t : State) → found_at links header k bytes ≡ Takes n items t → Taken links header k bytes n items t
+taken_at : (links : LinkSet) (header : Option FileHeader) (k : ℕ) (bytes : List ℕ) (n : ℕ) (items : List FrameValue) (t : State)
+    → found_at links header k bytes ≡ Takes n items t → Taken links header k bytes n items t
 taken_at links None k bytes n items t h = header_taken links k bytes n items t (header_of links bytes) h
 taken_at links (Some header) k bytes n items t h = record_taken links header k bytes n items t (record_of links header bytes) h
 
-pub taken : (links : LinkSet) (s : State) (bytes : List ℕ) (n : ℕ) (items : List FrameValue) (t : State) → step links s bytes ≡ Takes n items t → Taken links s.header s.count bytes n items t
+pub taken : (links : LinkSet) (s : State) (bytes : List ℕ) (n : ℕ) (items : List FrameValue) (t : State) → step links s bytes ≡ Takes n items t
+    → Taken links s.header s.count bytes n items t
 taken links s bytes n items t h = taken_at links s.header s.count bytes n items t (sym (step_at links s bytes) ∙ h)
 
 pub data Broken (links : LinkSet) (header : Option FileHeader) (k : ℕ) (bytes : List ℕ) (fault : PcapFault) : Type 0 where
   InHeader : header ≡ None → HasHeaderFault links bytes fault → Broken links header k bytes fault
   TooLong : (old : FileHeader) → header ≡ Some old → HasLongRecord old bytes → fault ≡ FrameTooLong k → Broken links header k bytes fault
 
-header_broken : (links : LinkSet) (k : ℕ) (bytes : List ℕ) (fault : PcapFault) → Header links bytes → found_at links None k bytes ≡ Bad fault → Broken links None k bytes fault
+header_broken : (links : LinkSet) (k : ℕ) (bytes : List ℕ) (fault : PcapFault) → Header links bytes → found_at links None k bytes ≡ Bad fault
+    → Broken links None k bytes fault
 header_broken links k bytes fault (Whole new is it) h = absurd (bad_not_takes fault 24 [] (state_of (Some new) k) (sym h ∙ found_header links new k bytes it))
-header_broken links k bytes fault (False other is it) h = InHeader refl (subst (λ (f : PcapFault). HasHeaderFault links bytes f) (bad_same other fault (sym (found_fault links other k bytes it) ∙ h)) it)
+header_broken links k bytes fault (False other is it) h =
+    InHeader refl (subst (λ (f : PcapFault). HasHeaderFault links bytes f) (bad_same other fault (sym (found_fault links other k bytes it) ∙ h)) it)
 header_broken links k bytes fault (Begun is short none) h = absurd (wants_not_bad fault (sym (found_begun links k bytes short none) ∙ h))
 
-record_broken : (links : LinkSet) (header : FileHeader) (k : ℕ) (bytes : List ℕ) (fault : PcapFault) → Record links header bytes → found_at links (Some header) k bytes ≡ Bad fault → Broken links (Some header) k bytes fault
+record_broken : (links : LinkSet) (header : FileHeader) (k : ℕ) (bytes : List ℕ) (fault : PcapFault) → Record links header bytes
+    → found_at links (Some header) k bytes ≡ Bad fault → Broken links (Some header) k bytes fault
 record_broken links header k bytes fault (IsRecord it) h = absurd (bad_not_takes fault _ _ _ (sym h ∙ found_record links header k bytes it))
 record_broken links header k bytes fault (IsLong it) h = TooLong header refl it (bad_same fault (FrameTooLong k) (sym h ∙ found_long links header k bytes it))
 record_broken links header k bytes fault (IsPart never none is) h = absurd (wants_not_bad fault (sym (is k) ∙ h))
 
-broken_at : (links : LinkSet) (header : Option FileHeader) (k : ℕ) (bytes : List ℕ) (fault : PcapFault) → found_at links header k bytes ≡ Bad fault → Broken links header k bytes fault
+broken_at : (links : LinkSet) (header : Option FileHeader) (k : ℕ) (bytes : List ℕ) (fault : PcapFault) → found_at links header k bytes ≡ Bad fault
+    → Broken links header k bytes fault
 broken_at links None k bytes fault h = header_broken links k bytes fault (header_of links bytes) h
 broken_at links (Some header) k bytes fault h = record_broken links header k bytes fault (record_of links header bytes) h
 
@@ -161,7 +192,8 @@ header_part links k bytes (Whole new is it) h = absurd (wants_not_takes 24 [] (s
 header_part links k bytes (False fault is it) h = absurd (wants_not_bad fault (sym h ∙ found_fault links fault k bytes it))
 header_part links k bytes (Begun is short none) h = OfHeader refl short none
 
-record_part : (links : LinkSet) (header : FileHeader) (k : ℕ) (bytes : List ℕ) → Record links header bytes → found_at links (Some header) k bytes ≡ Wants → Part links (Some header) bytes
+record_part : (links : LinkSet) (header : FileHeader) (k : ℕ) (bytes : List ℕ) → Record links header bytes → found_at links (Some header) k bytes ≡ Wants
+    → Part links (Some header) bytes
 record_part links header k bytes (IsRecord it) h = absurd (wants_not_takes _ _ _ (sym h ∙ found_record links header k bytes it))
 record_part links header k bytes (IsLong it) h = absurd (wants_not_bad (FrameTooLong k) (sym h ∙ found_long links header k bytes it))
 record_part links header k bytes (IsPart never none is) h = OfRecord header refl never none
@@ -175,25 +207,40 @@ part_of links s bytes h = part_at links s.header s.count bytes (sym (step_at lin
 
 -- The other way.
 
-pub step_header : (links : LinkSet) (s : State) (header : FileHeader) (bytes : List ℕ) → s.header ≡ None → IsFileHeader links header bytes → step links s bytes ≡ Takes 24 [] (state_of (Some header) s.count)
+pub step_header : (links : LinkSet) (s : State) (header : FileHeader) (bytes : List ℕ) → s.header ≡ None → IsFileHeader links header bytes
+    → step links s bytes ≡ Takes 24 [] (state_of (Some header) s.count)
 step_header links s header bytes none h =
-    step_at links s bytes ∙ subst (λ (x : Option FileHeader). found_at links x s.count bytes ≡ Takes 24 [] (state_of (Some header) s.count)) (sym none) (found_header links header s.count bytes h)
+    step_at links s bytes
+    ∙ subst (λ (x : Option FileHeader). found_at links x s.count bytes ≡ Takes 24 [] (state_of (Some header) s.count)) (sym none)
+    (found_header links header s.count bytes h)
 
-pub step_fault : (links : LinkSet) (s : State) (fault : PcapFault) (bytes : List ℕ) → s.header ≡ None → HasHeaderFault links bytes fault → step links s bytes ≡ Bad fault
-step_fault links s fault bytes none h = step_at links s bytes ∙ subst (λ (x : Option FileHeader). found_at links x s.count bytes ≡ Bad fault) (sym none) (found_fault links fault s.count bytes h)
+pub step_fault : (links : LinkSet) (s : State) (fault : PcapFault) (bytes : List ℕ) → s.header ≡ None → HasHeaderFault links bytes fault
+    → step links s bytes ≡ Bad fault
+step_fault links s fault bytes none h = step_at links s bytes
+    ∙ subst (λ (x : Option FileHeader). found_at links x s.count bytes ≡ Bad fault) (sym none) (found_fault links fault s.count bytes h)
 
-pub step_begun : (links : LinkSet) (s : State) (bytes : List ℕ) → s.header ≡ None → length bytes < 24 → ((fault : PcapFault) → HasHeaderFault links bytes fault → ⊥) → step links s bytes ≡ Wants
-step_begun links s bytes none short h = step_at links s bytes ∙ subst (λ (x : Option FileHeader). found_at links x s.count bytes ≡ Wants) (sym none) (found_begun links s.count bytes short h)
+pub step_begun : (links : LinkSet) (s : State) (bytes : List ℕ) → s.header ≡ None → length bytes < 24
+    → ((fault : PcapFault) → HasHeaderFault links bytes fault → ⊥) → step links s bytes ≡ Wants
+step_begun links s bytes none short h = step_at links s bytes
+    ∙ subst (λ (x : Option FileHeader). found_at links x s.count bytes ≡ Wants) (sym none) (found_begun links s.count bytes short h)
 
-pub step_record : (links : LinkSet) (s : State) (header : FileHeader) (bytes : List ℕ) → s.header ≡ Some header → HasRecord header bytes → step links s bytes ≡ Takes (16 + caplen_at header bytes) (frame_at header s.count bytes ∷ []) (state_of (Some header) (s.count + 1))
+pub step_record : (links : LinkSet) (s : State) (header : FileHeader) (bytes : List ℕ) → s.header ≡ Some header → HasRecord header bytes
+    → step links s bytes ≡ Takes (16 + caplen_at header bytes) (frame_at header s.count bytes ∷ []) (state_of (Some header) (s.count + 1))
 step_record links s header bytes some h =
-    step_at links s bytes ∙ subst (λ (x : Option FileHeader). found_at links x s.count bytes ≡ Takes (16 + caplen_at header bytes) (frame_at header s.count bytes ∷ []) (state_of (Some header) (s.count + 1))) (sym some) (found_record links header s.count bytes h)
+    step_at links s bytes
+    ∙ subst (λ (x : Option FileHeader). found_at links x s.count bytes ≡ Takes (16 + caplen_at header bytes) (frame_at header s.count bytes ∷ [])
+    (state_of (Some header) (s.count + 1))) (sym some) (found_record links header s.count bytes h)
 
-pub step_long : (links : LinkSet) (s : State) (header : FileHeader) (bytes : List ℕ) → s.header ≡ Some header → HasLongRecord header bytes → step links s bytes ≡ Bad (FrameTooLong s.count)
-step_long links s header bytes some h = step_at links s bytes ∙ subst (λ (x : Option FileHeader). found_at links x s.count bytes ≡ Bad (FrameTooLong s.count)) (sym some) (found_long links header s.count bytes h)
+pub step_long : (links : LinkSet) (s : State) (header : FileHeader) (bytes : List ℕ) → s.header ≡ Some header → HasLongRecord header bytes
+    → step links s bytes ≡ Bad (FrameTooLong s.count)
+step_long links s header bytes some h = step_at links s bytes
+    ∙ subst (λ (x : Option FileHeader). found_at links x s.count bytes ≡ Bad (FrameTooLong s.count)) (sym some) (found_long links header s.count bytes h)
 
-pub step_part : (links : LinkSet) (s : State) (header : FileHeader) (bytes : List ℕ) → s.header ≡ Some header → (HasRecord header bytes → ⊥) → (HasLongRecord header bytes → ⊥) → step links s bytes ≡ Wants
-step_part links s header bytes some part short = step_at links s bytes ∙ subst (λ (x : Option FileHeader). found_at links x s.count bytes ≡ Wants) (sym some) (found_part links header s.count bytes (record_of links header bytes) part short)
+pub step_part : (links : LinkSet) (s : State) (header : FileHeader) (bytes : List ℕ) → s.header ≡ Some header → (HasRecord header bytes → ⊥)
+    → (HasLongRecord header bytes → ⊥) → step links s bytes ≡ Wants
+step_part links s header bytes some part short = step_at links s bytes
+    ∙ subst (λ (x : Option FileHeader). found_at links x s.count bytes ≡ Wants) (sym some)
+    (found_part links header s.count bytes (record_of links header bytes) part short)
 
 -- What more bytes leave.
 
@@ -206,9 +253,11 @@ bad_stays links s bytes more fault h = elim (broken links s bytes fault h) [
 same_taken : (n m : ℕ) (a b : List FrameValue) (t u : State) → n ≡ m → a ≡ b → t ≡ u → ◌≡◌ {A = Shown} (Takes n a t) (Takes m b u)
 same_taken n m a b t u p q r = cc
 
-takes_stays : (links : LinkSet) (s : State) (bytes more : List ℕ) (n : ℕ) (items : List FrameValue) (t : State) → step links s bytes ≡ Takes n items t → step links s (bytes ++ more) ≡ Takes n items t
+takes_stays : (links : LinkSet) (s : State) (bytes more : List ℕ) (n : ℕ) (items : List FrameValue) (t : State) → step links s bytes ≡ Takes n items t
+    → step links s (bytes ++ more) ≡ Takes n items t
 takes_stays links s bytes more n items t h = elim (taken links s bytes n items t h) [
-  | TakesHeader new none it len given after ↦ step_header links s new (bytes ++ more) none (header_first links new bytes more it) ∙ same_taken 24 n [] items _ t (sym len) (sym given) (sym after)
+  | TakesHeader new none it len given after ↦ step_header links s new (bytes ++ more) none (header_first links new bytes more it)
+      ∙ same_taken 24 n [] items _ t (sym len) (sym given) (sym after)
   | TakesRecord old some it len given after ↦
       let whole : 16 + caplen_at old bytes ≤ length bytes = it.whole in
       let caplen : caplen_at old (bytes ++ more) ≡ caplen_at old bytes = caplen_first old bytes more (omega (arith, whole)) in
@@ -217,7 +266,8 @@ takes_stays links s bytes more n items t h = elim (taken links s bytes n items t
       ∙ same_taken _ n _ items _ t (ap (λ c. 16 + c) caplen ∙ sym len) (ap (λ f. f ∷ []) frame ∙ sym given) (sym after)
 ]
 
-sizes : (links : LinkSet) (s : State) (bytes : List ℕ) (n : ℕ) (items : List FrameValue) (t : State) → step links s bytes ≡ Takes n items t → (0 < n) × (n ≤ length bytes)
+sizes : (links : LinkSet) (s : State) (bytes : List ℕ) (n : ℕ) (items : List FrameValue) (t : State) → step links s bytes ≡ Takes n items t → (0 < n)
+    × (n ≤ length bytes)
 sizes links s bytes n items t h = elim (taken links s bytes n items t h) [
   | TakesHeader new none it len given after ↦ let whole : 24 ≤ length bytes = it.size in (omega (arith, len), omega (arith, len, whole))
   | TakesRecord old some it len given after ↦ let whole : 16 + caplen_at old bytes ≤ length bytes = it.whole in (omega (arith, len), omega (arith, len, whole))
@@ -229,7 +279,8 @@ none_some header old p q = cc
 pub some_same : (header : Option FileHeader) (a b : FileHeader) → header ≡ Some a → header ≡ Some b → a ≡ b
 some_same header a b p q = cc
 
-late : (links : LinkSet) (s : State) (bytes more : List ℕ) (n : ℕ) (items : List FrameValue) (t : State) → step links s bytes ≡ Wants → step links s (bytes ++ more) ≡ Takes n items t → length bytes < n
+late : (links : LinkSet) (s : State) (bytes more : List ℕ) (n : ℕ) (items : List FrameValue) (t : State) → step links s bytes ≡ Wants
+    → step links s (bytes ++ more) ≡ Takes n items t → length bytes < n
 late links s bytes more n items t wants h = elim (taken links s (bytes ++ more) n items t h) [
   | TakesHeader new none it len given after ↦ elim (part_of links s bytes wants) [
     | OfHeader same short nothing ↦ omega (arith, len, short)
@@ -242,7 +293,9 @@ late links s bytes more n items t wants h = elim (taken links s (bytes ++ more) 
       | inr whole ↦
           let same : caplen_at old (bytes ++ more) ≡ caplen_at old bytes = caplen_first old bytes more (omega (arith, len, whole)) in
           let small : caplen_at old (bytes ++ more) ≤ 262144 = it.short in
-          absurd (never (subst (λ (x : FileHeader). HasRecord x bytes) (some_same s.header old other some also) (record { short = omega (arith, same, small); whole = omega (arith, same, len, whole) })))
+          absurd (never
+          (subst (λ (x : FileHeader). HasRecord x bytes) (some_same s.header old other some also)
+          (record { short = omega (arith, same, small); whole = omega (arith, same, len, whole) })))
     ]
   ]
 ]
@@ -253,16 +306,20 @@ one links s bytes n items t h = elim (taken links s bytes n items t h) [
   | TakesRecord old some it len given after ↦ let many : length items ≡ 1 = ap length given in omega (arith, many)
 ]
 
-few : (links : LinkSet) (s : State) (bytes : List ℕ) (n : ℕ) (items : List FrameValue) (t : State) → step links s bytes ≡ Takes n items t → 16 * length items ≤ n
+few : (links : LinkSet) (s : State) (bytes : List ℕ) (n : ℕ) (items : List FrameValue) (t : State) → step links s bytes ≡ Takes n items t
+    → 16 * length items ≤ n
 few links s bytes n items t h = elim (taken links s bytes n items t h) [
   | TakesHeader new none it len given after ↦ let many : length items ≡ 0 = ap length given in omega (arith, many)
   | TakesRecord old some it len given after ↦ let many : length items ≡ 1 = ap length given in omega (arith, many, len)
 ]
 
-counts : (links : LinkSet) (s : State) (bytes : List ℕ) (n : ℕ) (items : List FrameValue) (t : State) → step links s bytes ≡ Takes n items t → t.count ≡ s.count + length items
+counts : (links : LinkSet) (s : State) (bytes : List ℕ) (n : ℕ) (items : List FrameValue) (t : State) → step links s bytes ≡ Takes n items t
+    → t.count ≡ s.count + length items
 counts links s bytes n items t h = elim (taken links s bytes n items t h) [
-  | TakesHeader new none it len given after ↦ let many : length items ≡ 0 = ap length given in let now : t.count ≡ s.count = ap (λ (x : State). x.count) after in omega (arith, many, now)
-  | TakesRecord old some it len given after ↦ let many : length items ≡ 1 = ap length given in let now : t.count ≡ s.count + 1 = ap (λ (x : State). x.count) after in omega (arith, many, now)
+  | TakesHeader new none it len given after ↦ let many : length items ≡ 0 = ap length given in let now : t.count ≡ s.count =
+      ap (λ (x : State). x.count) after in omega (arith, many, now)
+  | TakesRecord old some it len given after ↦ let many : length items ≡ 1 = ap length given in let now : t.count ≡ s.count + 1 =
+      ap (λ (x : State). x.count) after in omega (arith, many, now)
 ]
 
 nothing_at : (links : LinkSet) (header : Option FileHeader) (k : ℕ) → found_at links header k [] ≡ Wants

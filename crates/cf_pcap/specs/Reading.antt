@@ -39,7 +39,8 @@ kept_at Running held = held
 kept_at (Stopped fault) held = []
 
 -- bytes were read, of which the last `late` come too late for a frame; what is held then
-pub record AreTaken (links : LinkSet) (s : State) (late : ℕ) (bytes : List ℕ) (frames : List FrameValue) (t : State) (stage : Stage) (held : List ℕ) : Type 0 where
+pub record AreTaken (links : LinkSet) (s : State) (late : ℕ) (bytes : List ℕ) (frames : List FrameValue) (t : State) (stage : Stage)
+    (held : List ℕ) : Type 0 where
   pub rest : List ℕ
   pub read : AreRead links s (take (length bytes - late) bytes) frames t rest
   pub stage_is : IsStageAfter links t late (rest ++ drop (length bytes - late) bytes) stage

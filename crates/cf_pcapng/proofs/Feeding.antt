@@ -41,7 +41,8 @@ record Call (before : PcapNgValue) (stream piece early late : List ℕ) : Type 0
 
 whole_piece : (before : PcapNgValue) (stream piece early late : List ℕ) → Call before stream piece early late → early ++ late ≡ piece
 whole_piece before stream piece early late call =
-    ap (λ xs. xs ++ late) call.early_is ∙ ap (λ xs. take (2 ^ 32 - 1 - before.total) piece ++ xs) call.late_is ∙ take-append-drop (2 ^ 32 - 1 - before.total) piece
+    ap (λ xs. xs ++ late) call.early_is ∙ ap (λ xs. take (2 ^ 32 - 1 - before.total) piece ++ xs) call.late_is
+    ∙ take-append-drop (2 ^ 32 - 1 - before.total) piece
 
 early_fits : (before : PcapNgValue) (stream piece early late : List ℕ) → Call before stream piece early late → length (stream ++ early) < 2 ^ 32
 early_fits before stream piece early late call =
@@ -51,7 +52,8 @@ early_fits before stream piece early late call =
     let small : before.total < 2 ^ 32 = call.small in
     omega (arith, len, size, total, small)
 
-late_full : (before : PcapNgValue) (stream piece early : List ℕ) (byte : ℕ) (late : List ℕ) → Call before stream piece early (byte ∷ late) → length (stream ++ early) + 1 ≡ 2 ^ 32
+late_full : (before : PcapNgValue) (stream piece early : List ℕ) (byte : ℕ) (late : List ℕ) → Call before stream piece early (byte ∷ late)
+    → length (stream ++ early) + 1 ≡ 2 ^ 32
 late_full before stream piece early byte late call =
     let len : length (stream ++ early) ≡ length stream + length early = length-append stream early in
     let size : length early ≡ min (2 ^ 32 - 1 - before.total) (length piece) = ap length call.early_is ∙ length-take (2 ^ 32 - 1 - before.total) piece in
@@ -60,59 +62,96 @@ late_full before stream piece early byte late call =
     let small : before.total < 2 ^ 32 = call.small in
     omega (arith, len, size, left, total, small)
 
-total_after : (before : PcapNgValue) (stream piece early late : List ℕ) (total : ℕ) → Call before stream piece early late → total ≡ before.total + length early → total ≡ length (stream ++ early)
+total_after : (before : PcapNgValue) (stream piece early late : List ℕ) (total : ℕ) → Call before stream piece early late
+    → total ≡ before.total + length early → total ≡ length (stream ++ early)
 total_after before stream piece early late total call is =
     let len : length (stream ++ early) ≡ length stream + length early = length-append stream early in
     let same : before.total ≡ length stream = call.run.total_is in
     omega (arith, len, same, is)
 
 -- where no flaw was found, and nothing comes late
-fed_running : (before : PcapNgValue) (stream piece early : List ℕ) (given : List FrameValue) (t : State) (passed : Option Passed) (held : List ℕ) (total : ℕ) → (call : Call before stream piece early []) → Begins before.links before.state ((call.run.gone ++ before.held) ++ early) given t passed held → total ≡ before.total + length early → IsFed stream piece given (Ok tt) (Later before.links Running total t passed held)
+fed_running : (before : PcapNgValue) (stream piece early : List ℕ) (given : List FrameValue) (t : State) (passed : Option Passed) (held : List ℕ) (total : ℕ)
+    → (call : Call before stream piece early []) → Begins before.links before.state ((call.run.gone ++ before.held) ++ early) given t passed held
+    → total ≡ before.total + length early → IsFed stream piece given (Ok tt) (Later before.links Running total t passed held)
 fed_running before stream piece early given t passed held total call on is =
     let later : PcapNgValue = Later before.links Running total t passed held in
     let same : early ≡ piece = sym (append-nil early) ∙ whole_piece before stream piece early [] call in
-    let fed : IsFed stream early given (Ok tt) later = streams.fed_short (pcapng before.links) (stepper before.links) before.state (call.run.gone ++ before.held) stream early given t (on.gone ++ held) (IsStateOf later) call.run.runs (early_fits before stream piece early [] call) on.read on.part
+    let fed : IsFed stream early given (Ok tt) later =
+    streams.fed_short (pcapng before.links) (stepper before.links) before.state (call.run.gone ++ before.held) stream early given t (on.gone ++ held)
+    (IsStateOf later) call.run.runs (early_fits before stream piece early [] call) on.read on.part
     (λ runs. record { total_is = total_after before stream piece early [] total call is; gone = on.gone; was = on.was; runs = runs }) in
     subst (λ (xs : List ℕ). IsFed stream xs given (Ok tt) later) same fed
 
 -- where a flaw was found
-fed_flaw : (before : PcapNgValue) (stream piece early late : List ℕ) (given : List FrameValue) (t : State) (passed : Option Passed) (held : List ℕ) (flaw : Flaw) (total : ℕ) → (call : Call before stream piece early late) → Breaks before.links before.state ((call.run.gone ++ before.held) ++ early) given t flaw → (late ≡ []) ⊎ (2 ^ 32 ≤ length (stream ++ early) + 1) → IsFed stream piece given (Err (fault_of t.count flaw)) (Later before.links (Stopped (fault_of t.count flaw)) total t passed held)
+fed_flaw : (before : PcapNgValue) (stream piece early late : List ℕ) (given : List FrameValue) (t : State) (passed : Option Passed) (held : List ℕ)
+    (flaw : Flaw) (total : ℕ) → (call : Call before stream piece early late)
+    → Breaks before.links before.state ((call.run.gone ++ before.held) ++ early) given t flaw → (late ≡ []) ⊎ (2 ^ 32 ≤ length (stream ++ early) + 1)
+    → IsFed stream piece given (Err (fault_of t.count flaw)) (Later before.links (Stopped (fault_of t.count flaw)) total t passed held)
 fed_flaw before stream piece early late given t passed held flaw total call on last =
     let fault : NgFault = fault_of t.count flaw in
     let later : PcapNgValue = Later before.links (Stopped fault) total t passed held in
-    let fed : IsFed stream (early ++ late) given (Err fault) later = streams.fed_fault (pcapng before.links) (stepper before.links) before.state (call.run.gone ++ before.held) stream early late given t on.rest fault (IsStateOf later) call.run.runs (early_fits before stream piece early late call) last on.read on.bad (λ found. found) in
+    let fed : IsFed stream (early ++ late) given (Err fault) later =
+    streams.fed_fault (pcapng before.links) (stepper before.links) before.state (call.run.gone ++ before.held) stream early late given t on.rest fault
+    (IsStateOf later) call.run.runs (early_fits before stream piece early late call) last on.read on.bad (λ found. found) in
     subst (λ (xs : List ℕ). IsFed stream xs given (Err fault) later) (whole_piece before stream piece early late call) fed
 
 -- where a byte comes that makes the stream 2^32 bytes long
-fed_limit : (before : PcapNgValue) (stream piece early : List ℕ) (byte : ℕ) (late : List ℕ) (given : List FrameValue) (t : State) (passed : Option Passed) (held : List ℕ) (total : ℕ) (fault : NgFault) (more : List FrameValue) (u : State) (left : List ℕ) → (call : Call before stream piece early (byte ∷ late)) → (on : Begins before.links before.state ((call.run.gone ++ before.held) ++ early) given t passed held) → ReadsTo (pcapng before.links) t ((on.gone ++ held) ++ (byte ∷ [])) more u left → (step before.links u left ≡ Bad fault) ⊎ ((step before.links u left ≡ Wants) × (fault ≡ TooManyBytes)) → IsFed stream piece given (Err fault) (Later before.links (Stopped fault) total t passed held)
+fed_limit : (before : PcapNgValue) (stream piece early : List ℕ) (byte : ℕ) (late : List ℕ) (given : List FrameValue) (t : State) (passed : Option Passed)
+    (held : List ℕ) (total : ℕ) (fault : NgFault) (more : List FrameValue) (u : State) (left : List ℕ) → (call : Call before stream piece early (byte ∷ late))
+    → (on : Begins before.links before.state ((call.run.gone ++ before.held) ++ early) given t passed held)
+    → ReadsTo (pcapng before.links) t ((on.gone ++ held) ++ (byte ∷ [])) more u left → (step before.links u left ≡ Bad fault)
+    ⊎ ((step before.links u left ≡ Wants) × (fault ≡ TooManyBytes))
+    → IsFed stream piece given (Err fault) (Later before.links (Stopped fault) total t passed held)
 fed_limit before stream piece early byte late given t passed held total fault more u left call on read shown =
     let later : PcapNgValue = Later before.links (Stopped fault) total t passed held in
-    let fed : IsFed stream (early ++ (byte ∷ late)) given (Err fault) later = streams.fed_full (pcapng before.links) (stepper before.links) before.state (call.run.gone ++ before.held) stream early byte late given t (on.gone ++ held) more u left fault (IsStateOf later) call.run.runs (late_full before stream piece early byte late call) on.read on.part read shown (λ found. found) in
+    let fed : IsFed stream (early ++ (byte ∷ late)) given (Err fault) later =
+    streams.fed_full (pcapng before.links) (stepper before.links) before.state (call.run.gone ++ before.held) stream early byte late given t
+    (on.gone ++ held) more u left fault (IsStateOf later) call.run.runs (late_full before stream piece early byte late call) on.read on.part read shown
+    (λ found. found) in
     subst (λ (xs : List ℕ). IsFed stream xs given (Err fault) later) (whole_piece before stream piece early (byte ∷ late) call) fed
 
-limit_by : (before : PcapNgValue) (stream piece early : List ℕ) (byte : ℕ) (late : List ℕ) (given : List FrameValue) (t : State) (passed : Option Passed) (held : List ℕ) (total : ℕ) (fault : NgFault) (flaw : Option Flaw) (u : State) → (call : Call before stream piece early (byte ∷ late)) → (on : Begins before.links before.state ((call.run.gone ++ before.held) ++ early) given t passed held) → ShowsLate flaw u fault → (more : List FrameValue) (block : Option Passed) (rest : List ℕ) → AreReadOn before.links t (on.gone ++ (held ++ (byte ∷ []))) more u block rest flaw → IsFed stream piece given (Err fault) (Later before.links (Stopped fault) total t passed held)
+limit_by : (before : PcapNgValue) (stream piece early : List ℕ) (byte : ℕ) (late : List ℕ) (given : List FrameValue) (t : State) (passed : Option Passed)
+    (held : List ℕ) (total : ℕ) (fault : NgFault) (flaw : Option Flaw) (u : State) → (call : Call before stream piece early (byte ∷ late))
+    → (on : Begins before.links before.state ((call.run.gone ++ before.held) ++ early) given t passed held) → ShowsLate flaw u fault
+    → (more : List FrameValue) (block : Option Passed) (rest : List ℕ) → AreReadOn before.links t (on.gone ++ (held ++ (byte ∷ []))) more u block rest flaw
+    → IsFed stream piece given (Err fault) (Later before.links (Stopped fault) total t passed held)
 limit_by before stream piece early byte late given t passed held total fault None u call on shows more block rest last =
-    fed_limit before stream piece early byte late given t passed held total fault more u (last.gone ++ rest) call on (subst (λ (xs : List ℕ). ReadsTo (pcapng before.links) t xs more u (last.gone ++ rest)) (regroup on.gone held (byte ∷ [])) last.read) (inr (last.part, shows))
+    fed_limit before stream piece early byte late given t passed held total fault more u (last.gone ++ rest) call on
+    (subst (λ (xs : List ℕ). ReadsTo (pcapng before.links) t xs more u (last.gone ++ rest)) (regroup on.gone held (byte ∷ [])) last.read)
+    (inr (last.part, shows))
 limit_by before stream piece early byte late given t passed held total fault (Some flaw) u call on shows more block rest last =
-    fed_limit before stream piece early byte late given t passed held total fault more u last.rest call on (subst (λ (xs : List ℕ). ReadsTo (pcapng before.links) t xs more u last.rest) (regroup on.gone held (byte ∷ [])) last.read) (inl (last.bad ∙ ap (λ (f : NgFault). Bad f) (sym shows)))
+    fed_limit before stream piece early byte late given t passed held total fault more u last.rest call on
+    (subst (λ (xs : List ℕ). ReadsTo (pcapng before.links) t xs more u last.rest) (regroup on.gone held (byte ∷ [])) last.read)
+    (inl (last.bad ∙ ap (λ (f : NgFault). Bad f) (sym shows)))
 
-fed_late : (before : PcapNgValue) (stream piece early : List ℕ) (byte : ℕ) (late : List ℕ) (given : List FrameValue) (t : State) (passed : Option Passed) (held : List ℕ) (total : ℕ) (stage : Stage) → (call : Call before stream piece early (byte ∷ late)) → (on : Begins before.links before.state ((call.run.gone ++ before.held) ++ early) given t passed held) → IsStageAtLimit before.links t passed held (byte ∷ []) stage → IsFed stream piece given (answer_at stage) (Later before.links stage total t passed held)
+fed_late : (before : PcapNgValue) (stream piece early : List ℕ) (byte : ℕ) (late : List ℕ) (given : List FrameValue) (t : State) (passed : Option Passed)
+    (held : List ℕ) (total : ℕ) (stage : Stage) → (call : Call before stream piece early (byte ∷ late))
+    → (on : Begins before.links before.state ((call.run.gone ++ before.held) ++ early) given t passed held)
+    → IsStageAtLimit before.links t passed held (byte ∷ []) stage → IsFed stream piece given (answer_at stage) (Later before.links stage total t passed held)
 fed_late before stream piece early byte late given t passed held total stage call on at =
     let last = at.read on.gone on.was in
-    let fed : IsFed stream piece given (Err at.fault) (Later before.links (Stopped at.fault) total t passed held) = limit_by before stream piece early byte late given t passed held total at.fault at.flaw at.last call on at.shows last.0 last.1 last.2 last.3 in
+    let fed : IsFed stream piece given (Err at.fault) (Later before.links (Stopped at.fault) total t passed held) =
+    limit_by before stream piece early byte late given t passed held total at.fault at.flaw at.last call on at.shows last.0 last.1 last.2 last.3 in
     subst (λ (x : Stage). IsFed stream piece given (answer_at x) (Later before.links x total t passed held)) (sym at.stage_is) fed
 
 -- whichever of these
-fed_case : (before : PcapNgValue) (stream piece early late : List ℕ) (given : List FrameValue) (t : State) (passed : Option Passed) (held : List ℕ) (flaw : Option Flaw) (total : ℕ) (stage : Stage) → (call : Call before stream piece early late) → AreReadOn before.links before.state ((call.run.gone ++ before.held) ++ early) given t passed held flaw → IsStageAfter before.links t passed held flaw late stage → total ≡ before.total + length early → IsFed stream piece given (answer_at stage) (Later before.links stage total t passed held)
+fed_case : (before : PcapNgValue) (stream piece early late : List ℕ) (given : List FrameValue) (t : State) (passed : Option Passed) (held : List ℕ)
+    (flaw : Option Flaw) (total : ℕ) (stage : Stage) → (call : Call before stream piece early late)
+    → AreReadOn before.links before.state ((call.run.gone ++ before.held) ++ early) given t passed held flaw
+    → IsStageAfter before.links t passed held flaw late stage → total ≡ before.total + length early
+    → IsFed stream piece given (answer_at stage) (Later before.links stage total t passed held)
 fed_case before stream piece early [] given t passed held None total stage call on at is =
-    subst (λ (x : Stage). IsFed stream piece given (answer_at x) (Later before.links x total t passed held)) (sym at) (fed_running before stream piece early given t passed held total call on is)
+    subst (λ (x : Stage). IsFed stream piece given (answer_at x) (Later before.links x total t passed held)) (sym at)
+    (fed_running before stream piece early given t passed held total call on is)
 fed_case before stream piece early (byte ∷ late) given t passed held None total stage call on at is =
     fed_late before stream piece early byte late given t passed held total stage call on at
 fed_case before stream piece early [] given t passed held (Some flaw) total stage call on at is =
-    subst (λ (x : Stage). IsFed stream piece given (answer_at x) (Later before.links x total t passed held)) (sym at) (fed_flaw before stream piece early [] given t passed held flaw total call on (inl refl))
+    subst (λ (x : Stage). IsFed stream piece given (answer_at x) (Later before.links x total t passed held)) (sym at)
+    (fed_flaw before stream piece early [] given t passed held flaw total call on (inl refl))
 fed_case before stream piece early (byte ∷ late) given t passed held (Some flaw) total stage call on at is =
     let full : length (stream ++ early) + 1 ≡ 2 ^ 32 = late_full before stream piece early byte late call in
-    subst (λ (x : Stage). IsFed stream piece given (answer_at x) (Later before.links x total t passed held)) (sym at) (fed_flaw before stream piece early (byte ∷ late) given t passed held flaw total call on (inr (omega (arith, full))))
+    subst (λ (x : Stage). IsFed stream piece given (answer_at x) (Later before.links x total t passed held)) (sym at)
+    (fed_flaw before stream piece early (byte ∷ late) given t passed held flaw total call on (inr (omega (arith, full))))
 
 -- What holds of the reader after a call.
 
@@ -128,23 +167,32 @@ late_is_fault : (flaw : Option Flaw) (t : State) (fault : NgFault) → ShowsLate
 late_is_fault None t fault shows h = let no : TooManyBytes ≡ Memory = sym shows ∙ h in cc
 late_is_fault (Some flaw) t fault shows h = flaw_is_fault t.count flaw (sym shows ∙ h)
 
-sound_stopped : (links : LinkSet) (fault : NgFault) (total : ℕ) (t : State) (passed : Option Passed) (held : List ℕ) → (fault ≡ Memory → ⊥) → IsSound (Later links (Stopped fault) total t passed held)
+sound_stopped : (links : LinkSet) (fault : NgFault) (total : ℕ) (t : State) (passed : Option Passed) (held : List ℕ) → (fault ≡ Memory → ⊥)
+    → IsSound (Later links (Stopped fault) total t passed held)
 sound_stopped links fault total t passed held h = (h, refl)
 
-sound_case : (before : PcapNgValue) (early late : List ℕ) (t : State) (passed : Option Passed) (held : List ℕ) (flaw : Option Flaw) (total : ℕ) (stage : Stage) → before.state.count + length before.held ≤ before.total → total < 2 ^ 32 → IsGoneOn before.state (length (before.held ++ early)) t passed held flaw → IsStageAfter before.links t passed held flaw late stage → total ≡ before.total + length early → IsSound (Later before.links stage total t passed held)
+sound_case : (before : PcapNgValue) (early late : List ℕ) (t : State) (passed : Option Passed) (held : List ℕ) (flaw : Option Flaw) (total : ℕ)
+    (stage : Stage) → before.state.count + length before.held ≤ before.total → total < 2 ^ 32
+    → IsGoneOn before.state (length (before.held ++ early)) t passed held flaw → IsStageAfter before.links t passed held flaw late stage
+    → total ≡ before.total + length early → IsSound (Later before.links stage total t passed held)
 sound_case before early [] t passed held None total stage had small on at is =
     let fits : t.count + length held ≤ before.state.count + length (before.held ++ early) = on.fits in
     let len : length (before.held ++ early) ≡ length before.held + length early = length-append before.held early in
     subst (λ (x : Stage). IsSound (Later before.links x total t passed held)) (sym at) (small, omega (arith, fits, len, had, is), on.few, on.room)
 sound_case before early (byte ∷ late) t passed held None total stage had small on at is =
-    subst (λ (x : Stage). IsSound (Later before.links x total t passed held)) (sym at.stage_is) (sound_stopped before.links at.fault total t passed held (late_is_fault at.flaw at.last at.fault at.shows))
+    subst (λ (x : Stage). IsSound (Later before.links x total t passed held)) (sym at.stage_is)
+    (sound_stopped before.links at.fault total t passed held (late_is_fault at.flaw at.last at.fault at.shows))
 sound_case before early [] t passed held (Some flaw) total stage had small on at is =
-    subst (λ (x : Stage). IsSound (Later before.links x total t passed held)) (sym at) (sound_stopped before.links (fault_of t.count flaw) total t passed held (flaw_is_fault t.count flaw))
+    subst (λ (x : Stage). IsSound (Later before.links x total t passed held)) (sym at)
+    (sound_stopped before.links (fault_of t.count flaw) total t passed held (flaw_is_fault t.count flaw))
 sound_case before early (byte ∷ late) t passed held (Some flaw) total stage had small on at is =
-    subst (λ (x : Stage). IsSound (Later before.links x total t passed held)) (sym at) (sound_stopped before.links (fault_of t.count flaw) total t passed held (flaw_is_fault t.count flaw))
+    subst (λ (x : Stage). IsSound (Later before.links x total t passed held)) (sym at)
+    (sound_stopped before.links (fault_of t.count flaw) total t passed held (flaw_is_fault t.count flaw))
 
 -- room for one more byte
-pub may_go_on : (before : PcapNgValue) (piece early : List ℕ) (t : State) (passed : Option Passed) (held : List ℕ) (flaw : Option Flaw) → before.total < 2 ^ 32 → before.state.count + length before.held ≤ before.total → early ≡ take (2 ^ 32 - 1 - before.total) piece → IsGoneOn before.state (length (before.held ++ early)) t passed held flaw → MayGoOn t passed held flaw
+pub may_go_on : (before : PcapNgValue) (piece early : List ℕ) (t : State) (passed : Option Passed) (held : List ℕ) (flaw : Option Flaw)
+    → before.total < 2 ^ 32 → before.state.count + length before.held ≤ before.total → early ≡ take (2 ^ 32 - 1 - before.total) piece
+    → IsGoneOn before.state (length (before.held ++ early)) t passed held flaw → MayGoOn t passed held flaw
 may_go_on before piece early t passed held (Some flaw) small had early_is on = tt
 may_go_on before piece early t passed held None small had early_is on =
     let fits : t.count + length held ≤ before.state.count + length (before.held ++ early) = on.fits in
@@ -153,32 +201,44 @@ may_go_on before piece early t passed held None small had early_is on =
     (on.room, omega (arith, fits, len, size, had, small))
 
 -- a call that takes a piece
-pub called : (before : PcapNgValue) (piece early late bytes : List ℕ) (given : List FrameValue) (s t : State) (passed : Option Passed) (held kept : List ℕ) (flaw : Option Flaw) (total : ℕ) (stage : Stage) → before.stage ≡ Running → IsSound before → early ≡ take (2 ^ 32 - 1 - before.total) piece → late ≡ drop (2 ^ 32 - 1 - before.total) piece → bytes ≡ before.held ++ early → s ≡ before.state
-    → ((gone : List ℕ) → WasPassed s.order before.passed gone → AreReadOn before.links s (gone ++ bytes) given t passed held flaw) → IsGoneOn s (length bytes) t passed held flaw → IsStageAfter before.links t passed held flaw late stage → total ≡ before.total + length early → kept ≡ kept_at stage held
+pub called : (before : PcapNgValue) (piece early late bytes : List ℕ) (given : List FrameValue) (s t : State) (passed : Option Passed) (held kept : List ℕ)
+    (flaw : Option Flaw) (total : ℕ) (stage : Stage) → before.stage ≡ Running → IsSound before → early ≡ take (2 ^ 32 - 1 - before.total) piece
+    → late ≡ drop (2 ^ 32 - 1 - before.total) piece → bytes ≡ before.held ++ early → s ≡ before.state
+    → ((gone : List ℕ) → WasPassed s.order before.passed gone → AreReadOn before.links s (gone ++ bytes) given t passed held flaw)
+    → IsGoneOn s (length bytes) t passed held flaw → IsStageAfter before.links t passed held flaw late stage → total ≡ before.total + length early
+    → kept ≡ kept_at stage held
     → IsCalled before piece given (record { links = before.links; stage = stage; total = total; state = t; passed = passed; held = kept })
 called before piece early late bytes given s t passed held kept flaw total stage running sound early_is late_is bytes_is s_is read on at total_is kept_is =
     let had = subst (λ (x : Stage). IsSoundAt x before) running sound in
     let small : before.total < 2 ^ 32 = had.0 in
     let size : length early ≡ min (2 ^ 32 - 1 - before.total) (length piece) = ap length early_is ∙ length-take (2 ^ 32 - 1 - before.total) piece in
-    let reads : (gone : List ℕ) → WasPassed before.state.order before.passed gone → AreReadOn before.links before.state ((gone ++ before.held) ++ early) given t passed held flaw =
+    let reads : (gone : List ℕ) → WasPassed before.state.order before.passed gone
+    → AreReadOn before.links before.state ((gone ++ before.held) ++ early) given t passed held flaw =
     λ gone was.
-    let first : AreReadOn before.links before.state (gone ++ bytes) given t passed held flaw = subst (λ (x : State). AreReadOn before.links x (gone ++ bytes) given t passed held flaw) s_is (read gone (subst (λ (x : State). WasPassed x.order before.passed gone) (sym s_is) was)) in
-    subst (λ (xs : List ℕ). AreReadOn before.links before.state xs given t passed held flaw) (regroup gone before.held early) (subst (λ (xs : List ℕ). AreReadOn before.links before.state (gone ++ xs) given t passed held flaw) bytes_is first) in
-    let gone_on : IsGoneOn before.state (length (before.held ++ early)) t passed held flaw = subst (λ (xs : List ℕ). IsGoneOn before.state (length xs) t passed held flaw) bytes_is (subst (λ (x : State). IsGoneOn x (length bytes) t passed held flaw) s_is on) in
+    let first : AreReadOn before.links before.state (gone ++ bytes) given t passed held flaw =
+    subst (λ (x : State). AreReadOn before.links x (gone ++ bytes) given t passed held flaw) s_is
+    (read gone (subst (λ (x : State). WasPassed x.order before.passed gone) (sym s_is) was)) in
+    subst (λ (xs : List ℕ). AreReadOn before.links before.state xs given t passed held flaw) (regroup gone before.held early)
+    (subst (λ (xs : List ℕ). AreReadOn before.links before.state (gone ++ xs) given t passed held flaw) bytes_is first) in
+    let gone_on : IsGoneOn before.state (length (before.held ++ early)) t passed held flaw =
+    subst (λ (xs : List ℕ). IsGoneOn before.state (length xs) t passed held flaw) bytes_is
+    (subst (λ (x : State). IsGoneOn x (length bytes) t passed held flaw) s_is on) in
     let done : IsCalled before piece given (Later before.links stage total t passed held) = (
       sound_case before early late t passed held flaw total stage had.1 (omega (arith, small, size, total_is)) gone_on at total_is,
       λ stream run.
           let call : Call before stream piece early late = record { run = run; early_is = early_is; late_is = late_is; small = small } in
           fed_case before stream piece early late given t passed held flaw total stage call (reads run.gone run.was) at total_is,
     ) in
-    subst (λ (xs : List ℕ). IsCalled before piece given (record { links = before.links; stage = stage; total = total; state = t; passed = passed; held = xs })) (sym kept_is) done
+    subst (λ (xs : List ℕ). IsCalled before piece given (record { links = before.links; stage = stage; total = total; state = t; passed = passed; held = xs }))
+    (sym kept_is) done
 
 -- a state by its parts
 abbrev state_by : Option Order → List Interface → Bool → List Interface → ℕ → State
 state_by order had anew came count = record { order = order; interfaces = listed had anew came; count = count }
 
 -- the state that a piece brings a reader to, by the position at its end
-pub reached_is : (had : List Interface) (reached : Reached) (p : PositionValue) → had ≡ p.listed.had → reached.order ≡ p.order → reached.anew ≡ p.listed.anew → reached.came.items ≡ p.listed.came → reached.count ≡ p.count → state_of p ≡ state_after had reached
+pub reached_is : (had : List Interface) (reached : Reached) (p : PositionValue) → had ≡ p.listed.had → reached.order ≡ p.order → reached.anew ≡ p.listed.anew
+    → reached.came.items ≡ p.listed.came → reached.count ≡ p.count → state_of p ≡ state_after had reached
 reached_is had reached p had_is order anew came count =
     ap (λ x. state_by x p.listed.had p.listed.anew p.listed.came p.count) (sym order)
     ∙ ap (λ x. state_by reached.order x p.listed.anew p.listed.came p.count) (sym had_is)
@@ -187,12 +247,15 @@ reached_is had reached p had_is order anew came count =
     ∙ ap (λ x. state_by reached.order had reached.anew reached.came.items x) (sym count)
 
 -- at the begin of a file
-pub no_interfaces : (links : LinkSet) (interfaces : List Interface) → interfaces ≡ [] → record { order = None; interfaces = interfaces; count = 0 } ≡ (pcapng links).start
+pub no_interfaces : (links : LinkSet) (interfaces : List Interface) → interfaces ≡ []
+    → record { order = None; interfaces = interfaces; count = 0 } ≡ (pcapng links).start
 no_interfaces links interfaces h = ap (λ x. state_by None [] true x 0) h
 
 -- a reader's own position
-pub position_is : (s : State) (p : PositionValue) (had : List Interface) → had ≡ s.interfaces → p ≡ record { order = s.order; listed = record { had = had; anew = false; came = [] }; count = s.count } → state_of p ≡ s
-position_is s p had had_is is = ap state_of is ∙ ap (λ x. state_by s.order x false [] s.count) had_is ∙ ap (λ x. state_by s.order [] true x s.count) (append-nil s.interfaces)
+pub position_is : (s : State) (p : PositionValue) (had : List Interface) → had ≡ s.interfaces
+    → p ≡ record { order = s.order; listed = record { had = had; anew = false; came = [] }; count = s.count } → state_of p ≡ s
+position_is s p had had_is is = ap state_of is ∙ ap (λ x. state_by s.order x false [] s.count) had_is
+    ∙ ap (λ x. state_by s.order [] true x s.count) (append-nil s.interfaces)
 
 -- The other calls.
 
@@ -206,16 +269,19 @@ answers_stopped fault reader is = λ stream other state found.
     ap (λ (f : NgFault). Err f) (one_fault (pcapng reader.links) stream fault other (inl (subst (λ (s : Stage). IsAt s reader stream) is state)) (inl found))
 
 -- one that runs has found none
-pub not_found : (reader : PcapNgValue) (stream : List ℕ) (fault : NgFault) → reader.stage ≡ Running → IsStateOf reader stream → IsFound (pcapng reader.links) stream fault → ⊥
+pub not_found : (reader : PcapNgValue) (stream : List ℕ) (fault : NgFault) → reader.stage ≡ Running → IsStateOf reader stream
+    → IsFound (pcapng reader.links) stream fault → ⊥
 not_found reader stream fault is state found =
     let run : IsRunning reader stream = subst (λ (s : Stage). IsAt s reader stream) is state in
     streams.runs_none (pcapng reader.links) reader.state (run.gone ++ reader.held) stream fault run.runs found
 
 -- one that a fault has stopped takes nothing
-pub fed_stopped : (fault : NgFault) (reader : PcapNgValue) (stream piece : List ℕ) → reader.stage ≡ Stopped fault → IsStateOf reader stream → IsFed stream piece [] (Err fault) reader
+pub fed_stopped : (fault : NgFault) (reader : PcapNgValue) (stream piece : List ℕ) → reader.stage ≡ Stopped fault → IsStateOf reader stream
+    → IsFed stream piece [] (Err fault) reader
 fed_stopped fault reader stream piece is state =
     let found : IsFound (pcapng reader.links) stream fault = subst (λ (s : Stage). IsAt s reader stream) is state in
-    streams.fed_stopped (pcapng reader.links) (stepper reader.links) stream piece fault (IsStateOf reader) found (λ later. subst (λ (s : Stage). IsAt s reader (stream ++ piece)) (sym is) later)
+    streams.fed_stopped (pcapng reader.links) (stepper reader.links) stream piece fault (IsStateOf reader) found
+    (λ later. subst (λ (s : Stage). IsAt s reader (stream ++ piece)) (sym is) later)
 
 -- the reader after a call answers no want of memory
 pub no_memory : (reader : PcapNgValue) → IsSound reader → answer_at reader.stage ≡ Err Memory → ⊥
@@ -227,48 +293,63 @@ no_memory reader sound memory = at_stage reader.stage reader sound memory where
   at_stage Running reader sound h = cc
   at_stage (Stopped fault) reader sound h = sound.0 (err_same fault Memory h)
 
-pub new_runs : (reader : PcapNgValue) → reader.stage ≡ Running → reader.total ≡ 0 → reader.state ≡ (pcapng reader.links).start → reader.passed ≡ None → reader.held ≡ [] → IsStateOf reader []
+pub new_runs : (reader : PcapNgValue) → reader.stage ≡ Running → reader.total ≡ 0 → reader.state ≡ (pcapng reader.links).start → reader.passed ≡ None
+    → reader.held ≡ [] → IsStateOf reader []
 new_runs reader is total start none held =
     let run : IsRunning reader [] = record {
       total_is = total;
       gone = [];
       was = subst (λ (p : Option Passed). WasPassed reader.state.order p []) (sym none) refl;
-      runs = subst (λ (s : State). Runs (pcapng reader.links) s reader.held []) (sym start) (subst (λ (xs : List ℕ). Runs (pcapng reader.links) (pcapng reader.links).start xs []) (sym held) (streams.runs_new (pcapng reader.links) (stepper reader.links)));
+      runs = subst (λ (s : State). Runs (pcapng reader.links) s reader.held []) (sym start)
+          (subst (λ (xs : List ℕ). Runs (pcapng reader.links) (pcapng reader.links).start xs []) (sym held)
+          (streams.runs_new (pcapng reader.links) (stepper reader.links)));
     } in
     subst (λ (s : Stage). IsAt s reader []) (sym is) run
 
-pub ended_stopped : (fault : NgFault) (reader : PcapNgValue) (stream : List ℕ) → reader.stage ≡ Stopped fault → IsStateOf reader stream → IsEnded reader.links stream (Err fault)
+pub ended_stopped : (fault : NgFault) (reader : PcapNgValue) (stream : List ℕ) → reader.stage ≡ Stopped fault → IsStateOf reader stream
+    → IsEnded reader.links stream (Err fault)
 ended_stopped fault reader stream is state = streams.ended_found (pcapng reader.links) stream fault (subst (λ (s : Stage). IsAt s reader stream) is state)
 
 -- something is left of a block at hand
-pub some_left : (order : Option Order) (passed : Option Passed) (gone held : List ℕ) → WasPassed order passed gone → (is_some passed ≡ true) ⊎ (0 < length held) → 0 < length (gone ++ held)
-some_left order passed gone held was (inr some) = let len : length (gone ++ held) ≡ length gone + length held = length-append gone held in omega (arith, len, some)
+pub some_left : (order : Option Order) (passed : Option Passed) (gone held : List ℕ) → WasPassed order passed gone → (is_some passed ≡ true)
+    ⊎ (0 < length held) → 0 < length (gone ++ held)
+some_left order passed gone held was (inr some) = let len : length (gone ++ held) ≡ length gone + length held = length-append gone held in
+    omega (arith, len, some)
 some_left order None gone held was (inl h) = absurd (let none : false ≡ true = h in cc)
 some_left order (Some block) gone held was (inl h) =
     let size : 8 ≤ length gone = (standing order gone block.order Other block.total was.0).size in
     let len : length (gone ++ held) ≡ length gone + length held = length-append gone held in
     omega (arith, len, size)
 
-pub ended_within : (reader : PcapNgValue) (stream : List ℕ) (count : ℕ) → reader.stage ≡ Running → (is_some reader.passed ≡ true) ⊎ (0 < length reader.held) → count ≡ reader.state.count → IsStateOf reader stream → IsEnded reader.links stream (Err (Cut count))
+pub ended_within : (reader : PcapNgValue) (stream : List ℕ) (count : ℕ) → reader.stage ≡ Running → (is_some reader.passed ≡ true) ⊎ (0 < length reader.held)
+    → count ≡ reader.state.count → IsStateOf reader stream → IsEnded reader.links stream (Err (Cut count))
 ended_within reader stream count is left count_is state =
     let run : IsRunning reader stream = subst (λ (s : Stage). IsAt s reader stream) is state in
-    streams.ended_cut (pcapng reader.links) reader.state (run.gone ++ reader.held) stream (Cut count) run.runs (inl (some_left reader.state.order reader.passed run.gone reader.held run.was left)) (ap (λ n. Cut n) count_is)
+    streams.ended_cut (pcapng reader.links) reader.state (run.gone ++ reader.held) stream (Cut count) run.runs
+    (inl (some_left reader.state.order reader.passed run.gone reader.held run.was left)) (ap (λ n. Cut n) count_is)
 
-pub ended_outside : (reader : PcapNgValue) (stream : List ℕ) (count : ℕ) → reader.stage ≡ Running → is_some reader.state.order ≡ false → count ≡ reader.state.count → IsStateOf reader stream → IsEnded reader.links stream (Err (Cut count))
+pub ended_outside : (reader : PcapNgValue) (stream : List ℕ) (count : ℕ) → reader.stage ≡ Running → is_some reader.state.order ≡ false
+    → count ≡ reader.state.count → IsStateOf reader stream → IsEnded reader.links stream (Err (Cut count))
 ended_outside reader stream count is none count_is state =
     let run : IsRunning reader stream = subst (λ (s : Stage). IsAt s reader stream) is state in
     streams.ended_cut (pcapng reader.links) reader.state (run.gone ++ reader.held) stream (Cut count) run.runs (inr none) (ap (λ n. Cut n) count_is)
 
-none_left : (order : Option Order) (passed : Option Passed) (gone held : List ℕ) → WasPassed order passed gone → is_some passed ≡ false → held ≡ [] → gone ++ held ≡ []
+none_left : (order : Option Order) (passed : Option Passed) (gone held : List ℕ) → WasPassed order passed gone → is_some passed ≡ false → held ≡ []
+    → gone ++ held ≡ []
 none_left order None gone held was none empty = ap (λ xs. xs ++ held) was ∙ empty
 none_left order (Some block) gone held was none empty = absurd (let some : true ≡ false = none in cc)
 
-pub ended_whole : (reader : PcapNgValue) (stream : List ℕ) (count : ℕ) → reader.stage ≡ Running → is_some reader.passed ≡ false → reader.held ≡ [] → is_some reader.state.order ≡ true → count ≡ reader.state.count → IsStateOf reader stream → IsEnded reader.links stream (Ok count)
+pub ended_whole : (reader : PcapNgValue) (stream : List ℕ) (count : ℕ) → reader.stage ≡ Running → is_some reader.passed ≡ false → reader.held ≡ []
+    → is_some reader.state.order ≡ true → count ≡ reader.state.count → IsStateOf reader stream → IsEnded reader.links stream (Ok count)
 ended_whole reader stream count is none empty some count_is state =
     let run : IsRunning reader stream = subst (λ (s : Stage). IsAt s reader stream) is state in
-    streams.ended_whole (pcapng reader.links) (stepper reader.links) reader.state (run.gone ++ reader.held) stream count run.runs (none_left reader.state.order reader.passed run.gone reader.held run.was none empty) some count_is
+    streams.ended_whole (pcapng reader.links) (stepper reader.links) reader.state (run.gone ++ reader.held) stream count run.runs
+    (none_left reader.state.order reader.passed run.gone reader.held run.was none empty) some count_is
 
-pub limit_stage : (links : LinkSet) (s p : State) (passed : Option Passed) (held byte bytes : List ℕ) (frames : List FrameValue) (t : State) (block : Option Passed) (rest : List ℕ) (flaw : Option Flaw) (fault : NgFault) → bytes ≡ held ++ byte → p ≡ s → ((gone : List ℕ) → WasPassed p.order passed gone → AreReadOn links p (gone ++ bytes) frames t block rest flaw) → ShowsLate flaw t fault → IsStageAtLimit links s passed held byte (Stopped fault)
+pub limit_stage : (links : LinkSet) (s p : State) (passed : Option Passed) (held byte bytes : List ℕ) (frames : List FrameValue) (t : State)
+    (block : Option Passed) (rest : List ℕ) (flaw : Option Flaw) (fault : NgFault) → bytes ≡ held ++ byte → p ≡ s
+    → ((gone : List ℕ) → WasPassed p.order passed gone → AreReadOn links p (gone ++ bytes) frames t block rest flaw) → ShowsLate flaw t fault
+    → IsStageAtLimit links s passed held byte (Stopped fault)
 limit_stage links s p passed held byte bytes frames t block rest flaw fault bytes_is p_is read shows = record {
   fault = fault;
   stage_is = refl;
@@ -279,6 +360,8 @@ limit_stage links s p passed held byte bytes frames t block rest flaw fault byte
     frames,
     block,
     rest,
-    subst (λ (xs : List ℕ). AreReadOn links s (gone ++ xs) frames t block rest flaw) bytes_is (subst (λ (x : State). AreReadOn links x (gone ++ bytes) frames t block rest flaw) p_is (read gone (subst (λ (x : State). WasPassed x.order passed gone) (sym p_is) was))),
+    subst (λ (xs : List ℕ). AreReadOn links s (gone ++ xs) frames t block rest flaw) bytes_is
+        (subst (λ (x : State). AreReadOn links x (gone ++ bytes) frames t block rest flaw) p_is
+        (read gone (subst (λ (x : State). WasPassed x.order passed gone) (sym p_is) was))),
   );
 }

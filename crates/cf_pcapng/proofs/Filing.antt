@@ -15,23 +15,33 @@ use Rattle.cf_pcapng.specs.Laws.{OneCase}
 use Rattle.cf_pcapng.proofs.Steps.{Shown, stepper}
 use Rattle.cf_pcapng.proofs.Ruling.{steps_by_rules}
 
-blocks_of : (links : LinkSet) (s : State) (parts : List (Part State FrameValue)) (bytes : List ℕ) (t : State) (rest : List ℕ) → AreUnitsThen (pcapng links) s parts bytes t rest → AreBlocksThen links s parts bytes t rest
+blocks_of : (links : LinkSet) (s : State) (parts : List (Part State FrameValue)) (bytes : List ℕ) (t : State) (rest : List ℕ)
+    → AreUnitsThen (pcapng links) s parts bytes t rest → AreBlocksThen links s parts bytes t rest
 blocks_of links s [] bytes t rest h = h
-blocks_of links s (part ∷ parts) bytes t rest h = ((steps_by_rules links s bytes).takes part.size part.items part.after h.0, blocks_of links part.after parts (drop part.size bytes) t rest h.1)
+blocks_of links s (part ∷ parts) bytes t rest h =
+    ((steps_by_rules links s bytes).takes part.size part.items part.after h.0, blocks_of links part.after parts (drop part.size bytes) t rest h.1)
 
-units_of : (links : LinkSet) (s : State) (parts : List (Part State FrameValue)) (bytes : List ℕ) (t : State) (rest : List ℕ) → AreBlocksThen links s parts bytes t rest → AreUnitsThen (pcapng links) s parts bytes t rest
+units_of : (links : LinkSet) (s : State) (parts : List (Part State FrameValue)) (bytes : List ℕ) (t : State) (rest : List ℕ)
+    → AreBlocksThen links s parts bytes t rest → AreUnitsThen (pcapng links) s parts bytes t rest
 units_of links s [] bytes t rest h = h
-units_of links s (part ∷ parts) bytes t rest h = ((steps_by_rules links s bytes).block part.size part.items part.after h.0, units_of links part.after parts (drop part.size bytes) t rest h.1)
+units_of links s (part ∷ parts) bytes t rest h =
+    ((steps_by_rules links s bytes).block part.size part.items part.after h.0, units_of links part.after parts (drop part.size bytes) t rest h.1)
 
-begins_with : (links : LinkSet) (file : List ℕ) (frames : List FrameValue) (last : State) (rest : List ℕ) → ReadsTo (pcapng links) (pcapng links).start file frames last rest → BeginsWith links file frames last rest
-begins_with links file frames last rest h = record { parts = h.parts; blocks = blocks_of links (pcapng links).start h.parts file last rest h.units; frames_are = h.items_are }
+begins_with : (links : LinkSet) (file : List ℕ) (frames : List FrameValue) (last : State) (rest : List ℕ)
+    → ReadsTo (pcapng links) (pcapng links).start file frames last rest → BeginsWith links file frames last rest
+begins_with links file frames last rest h =
+    record { parts = h.parts; blocks = blocks_of links (pcapng links).start h.parts file last rest h.units; frames_are = h.items_are }
 
-reads_to : (links : LinkSet) (file : List ℕ) (frames : List FrameValue) (last : State) (rest : List ℕ) → BeginsWith links file frames last rest → ReadsTo (pcapng links) (pcapng links).start file frames last rest
-reads_to links file frames last rest h = record { parts = h.parts; units = units_of links (pcapng links).start h.parts file last rest h.blocks; items_are = h.frames_are }
+reads_to : (links : LinkSet) (file : List ℕ) (frames : List FrameValue) (last : State) (rest : List ℕ) → BeginsWith links file frames last rest
+    → ReadsTo (pcapng links) (pcapng links).start file frames last rest
+reads_to links file frames last rest h =
+    record { parts = h.parts; units = units_of links (pcapng links).start h.parts file last rest h.blocks; items_are = h.frames_are }
 
 -- the number of frames is that of the state
-number_of : (links : LinkSet) (file : List ℕ) (frames : List FrameValue) (last : State) (rest : List ℕ) → ReadsTo (pcapng links) (pcapng links).start file frames last rest → last.count ≡ length frames
-number_of links file frames last rest h = let all : last.count ≡ 0 + length frames = reads_count (pcapng links) (stepper links) (pcapng links).start file frames last rest h in omega (arith, all)
+number_of : (links : LinkSet) (file : List ℕ) (frames : List FrameValue) (last : State) (rest : List ℕ)
+    → ReadsTo (pcapng links) (pcapng links).start file frames last rest → last.count ≡ length frames
+number_of links file frames last rest h = let all : last.count ≡ 0 + length frames =
+    reads_count (pcapng links) (stepper links) (pcapng links).start file frames last rest h in omega (arith, all)
 
 file_of : (links : LinkSet) (file : List ℕ) (frames : List FrameValue) → IsNg links file frames → IsFileOf links file frames
 file_of links file frames h = record { size = h.size; last = h.last; read = begins_with links file frames h.last [] h.read; begun = h.ends }
@@ -52,7 +62,14 @@ flaw_of links bytes fault h =
       k = h.last.count;
       flaw = found.0;
       fault_is = found.1;
-      shows = record { frames = h.items; last = h.last; rest = h.rest; read = begins_with links bytes h.items h.last h.rest h.read; number_is = number_of links bytes h.items h.last h.rest h.read; breaks = found.2 };
+      shows = record {
+        frames = h.items;
+        last = h.last;
+        rest = h.rest;
+        read = begins_with links bytes h.items h.last h.rest h.read;
+        number_is = number_of links bytes h.items h.last h.rest h.read;
+        breaks = found.2;
+      };
     }
 
 shows_of : (links : LinkSet) (bytes : List ℕ) (k : ℕ) (flaw : Flaw) → ShowsFlaw links bytes k flaw → Shows (pcapng links) bytes (fault_of k flaw)
@@ -94,7 +111,8 @@ too_long_of : (links : LinkSet) (file : List ℕ) → HasTooManyBytes (pcapng li
 too_long_of links file h = record { size = h.size; first = λ k flaw shows. h.first (fault_of k flaw) (shows_of links (seen file) k flaw shows) }
 
 too_many_of : (links : LinkSet) (file : List ℕ) → IsTooLong links file → HasTooManyBytes (pcapng links) file
-too_many_of links file h = record { size = h.size; first = λ fault shows. let found = flaw_of links (seen file) fault shows in h.first found.k found.flaw found.shows }
+too_many_of links file h =
+    record { size = h.size; first = λ fault shows. let found = flaw_of links (seen file) fault shows in h.first found.k found.flaw found.shows }
 
 ends_of : (links : LinkSet) (file : List ℕ) (last : State) → IsCut (pcapng links) file last → EndsWithin links file last.count
 ends_of links file last h = record {
@@ -112,7 +130,18 @@ cut_of : (links : LinkSet) (file : List ℕ) (k : ℕ) → EndsWithin links file
 cut_of links file k h =
     let read : ReadsTo (pcapng links) (pcapng links).start file h.frames h.last h.rest = reads_to links file h.frames h.last h.rest h.read in
     let number : h.last.count ≡ k = number_of links file h.frames h.last h.rest read ∙ sym h.number_is in
-    inr (h.last, ap (λ n. faults.Cut n) (sym number), record { size = h.size; items = h.frames; rest = h.rest; read = read; part = wants_of links h.last h.rest (step links h.last h.rest) refl h.part; left = h.left })
+    inr (
+      h.last,
+      ap (λ n. faults.Cut n) (sym number),
+      record {
+        size = h.size;
+        items = h.frames;
+        rest = h.rest;
+        read = read;
+        part = wants_of links h.last h.rest (step links h.last h.rest) refl h.part;
+        left = h.left;
+      },
+    )
 
 fault_by_rules : (links : LinkSet) (file : List ℕ) (fault : NgFault) → HasNgFault links file fault → HasFaultOf links file fault
 fault_by_rules links file fault (inl (inl shows)) =
@@ -133,11 +162,14 @@ rules_by_fault links file (faults.NoInterface k) h = inl (inl (shows_of links (s
 rules_by_fault links file faults.Memory h = absurd h
 
 pub file_by_rules : (links : LinkSet) (file : List ℕ) → FileByRules links file
-file_by_rules links file = record { capture = file_of links file; is_capture = capture_of links file; fault = fault_by_rules links file; is_fault = rules_by_fault links file }
+file_by_rules links file =
+    record { capture = file_of links file; is_capture = capture_of links file; fault = fault_by_rules links file; is_fault = rules_by_fault links file }
 
 -- Each file is in one case.
 
-some_case : (links : LinkSet) (file : List ℕ) → FileByRules links file → ((frames : List FrameValue) × IsWhole (pcapng links) file frames) ⊎ ((fault : NgFault) × HasFault (pcapng links) file fault) → ((frames : List FrameValue) × IsFileOf links file frames) ⊎ ((fault : NgFault) × HasFaultOf links file fault)
+some_case : (links : LinkSet) (file : List ℕ) → FileByRules links file → ((frames : List FrameValue) × IsWhole (pcapng links) file frames)
+    ⊎ ((fault : NgFault) × HasFault (pcapng links) file fault) → ((frames : List FrameValue) × IsFileOf links file frames)
+    ⊎ ((fault : NgFault) × HasFaultOf links file fault)
 some_case links file by (inl h) = inl (h.0, by.capture h.0 h.1)
 some_case links file by (inr h) = inr (h.0, by.fault h.0 h.1)
 

@@ -88,7 +88,8 @@ head_by_8 order xs ys h is =
     ∙ block_head_first order xs ys h
     ∙ sym (head_block order xs (omega (arith, h)) is)
 
-block_stays : (order : Option Order) (xs ys : List ℕ) → 4 ≤ length xs → is_section xs ≡ false → (block_head order xs ≡ Short → ⊥) → block_head order (xs ++ ys) ≡ block_head order xs
+block_stays : (order : Option Order) (xs ys : List ℕ) → 4 ≤ length xs → is_section xs ≡ false → (block_head order xs ≡ Short → ⊥)
+    → block_head order (xs ++ ys) ≡ block_head order xs
 block_stays None xs ys long is seen = refl
 block_stays (Some order) xs ys long is seen = elim (cases_lt (length xs) 8) [
   | inl short ↦ absurd (seen (block_short order xs short))
@@ -134,10 +135,12 @@ stands_kind a b j k n m h = cc
 stands_total : (a b : Order) (j k : Kind) (n m : ℕ) → Stands a j n ≡ Stands b k m → n ≡ m
 stands_total a b j k n m h = cc
 
-sized_standing : (order : Option Order) (p o : Order) (j kind : Kind) (bytes : List ℕ) (total : ℕ) → 8 ≤ length bytes → (j ≡ Other → (is_section bytes ≡ false) × (order ≡ Some p)) → sized p j bytes ≡ Stands o kind total → Standing order bytes o kind total
+sized_standing : (order : Option Order) (p o : Order) (j kind : Kind) (bytes : List ℕ) (total : ℕ) → 8 ≤ length bytes
+    → (j ≡ Other → (is_section bytes ≡ false) × (order ≡ Some p)) → sized p j bytes ≡ Stands o kind total → Standing order bytes o kind total
 unfolding sized
 sized_standing order p o j kind bytes total size other h = by_test (is_total j (total_at p bytes)) refl h where
-  by_test : (b : Bool) → is_total j (total_at p bytes) ≡ b → cond b (Stands p j (total_at p bytes)) (Flawed BadLength) ≡ Stands o kind total → Standing order bytes o kind total
+  by_test : (b : Bool) → is_total j (total_at p bytes) ≡ b → cond b (Stands p j (total_at p bytes)) (Flawed BadLength) ≡ Stands o kind total
+      → Standing order bytes o kind total
   by_test true is e =
       let order_is : p ≡ o = stands_order p o j kind (total_at p bytes) total e in
       let kind_is : j ≡ kind = stands_kind p o j kind (total_at p bytes) total e in
@@ -149,24 +152,28 @@ sized_standing order p o j kind bytes total size other h = by_test (is_total j (
       }
   by_test false is e = cc
 
-in_order_standing : (order found : Option Order) (bytes : List ℕ) (o : Order) (kind : Kind) (total : ℕ) → 8 ≤ length bytes → in_order found bytes ≡ Stands o kind total → Standing order bytes o kind total
+in_order_standing : (order found : Option Order) (bytes : List ℕ) (o : Order) (kind : Kind) (total : ℕ) → 8 ≤ length bytes
+    → in_order found bytes ≡ Stands o kind total → Standing order bytes o kind total
 in_order_standing order None bytes o kind total size h = cc
 in_order_standing order (Some p) bytes o kind total size h = sized_standing order p o SectionHeader kind bytes total size (λ e. cc) h
 
-block_standing : (order : Option Order) (bytes : List ℕ) (o : Order) (kind : Kind) (total : ℕ) → is_section bytes ≡ false → block_head order bytes ≡ Stands o kind total → Standing order bytes o kind total
+block_standing : (order : Option Order) (bytes : List ℕ) (o : Order) (kind : Kind) (total : ℕ) → is_section bytes ≡ false
+    → block_head order bytes ≡ Stands o kind total → Standing order bytes o kind total
 block_standing None bytes o kind total is h = cc
 block_standing (Some p) bytes o kind total is h = elim (cases_lt (length bytes) 8) [
   | inl short ↦ let none : Short ≡ Stands o kind total = sym (block_short p bytes short) ∙ h in cc
   | inr size ↦ sized_standing (Some p) p o (kind_of (number_in p 4 bytes)) kind bytes total size (λ _. (is, refl)) (sym (block_long p bytes size) ∙ h)
 ]
 
-section_standing : (order : Option Order) (bytes : List ℕ) (o : Order) (kind : Kind) (total : ℕ) → section_head bytes ≡ Stands o kind total → Standing order bytes o kind total
+section_standing : (order : Option Order) (bytes : List ℕ) (o : Order) (kind : Kind) (total : ℕ) → section_head bytes ≡ Stands o kind total
+    → Standing order bytes o kind total
 section_standing order bytes o kind total h = elim (cases_lt (length bytes) 12) [
   | inl short ↦ let none : Short ≡ Stands o kind total = sym (section_short bytes short) ∙ h in cc
   | inr size ↦ in_order_standing order (order_at bytes) bytes o kind total (omega (arith, size)) (sym (section_long bytes size) ∙ h)
 ]
 
-pub standing : (order : Option Order) (bytes : List ℕ) (o : Order) (kind : Kind) (total : ℕ) → head_of order bytes ≡ Stands o kind total → Standing order bytes o kind total
+pub standing : (order : Option Order) (bytes : List ℕ) (o : Order) (kind : Kind) (total : ℕ) → head_of order bytes ≡ Stands o kind total
+    → Standing order bytes o kind total
 standing order bytes o kind total h = elim (cases_lt (length bytes) 4) [
   | inl short ↦ let none : Short ≡ Stands o kind total = sym (head_short order bytes short) ∙ h in cc
   | inr long ↦ by_section (is_section bytes) refl long

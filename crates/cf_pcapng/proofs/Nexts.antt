@@ -20,14 +20,17 @@ use Rattle.cf_pcapng.specs.Reading.{block_next, next_at, next_of, IsEnd, AreRead
 use Rattle.cf_pcapng.proofs.Heads.{below, not_below}
 use Rattle.cf_pcapng.proofs.Steps.{Shown, step_at, length_front}
 
-pub next_by_head : (links : LinkSet) (s : State) (bytes : List ℕ) (head : Head) → head_of s.order bytes ≡ head → next_of links s bytes ≡ next_at links s.interfaces bytes head
+pub next_by_head : (links : LinkSet) (s : State) (bytes : List ℕ) (head : Head) → head_of s.order bytes ≡ head
+    → next_of links s bytes ≡ next_at links s.interfaces bytes head
 unfolding next_of
 next_by_head links s bytes head h = ap (λ (x : Head). next_at links s.interfaces bytes x) h
 
-pub next_part : (links : LinkSet) (s : State) (bytes : List ℕ) (order : Order) (kind : Kind) (total : ℕ) → head_of s.order bytes ≡ Stands order kind total → length bytes < total → next_of links s bytes ≡ next.Wants
+pub next_part : (links : LinkSet) (s : State) (bytes : List ℕ) (order : Order) (kind : Kind) (total : ℕ) → head_of s.order bytes ≡ Stands order kind total
+    → length bytes < total → next_of links s bytes ≡ next.Wants
 next_part links s bytes order kind total h short = next_by_head links s bytes (Stands order kind total) h ∙ rw (below (length bytes) total short) refl
 
-pub next_whole : (links : LinkSet) (s : State) (bytes : List ℕ) (order : Order) (kind : Kind) (total : ℕ) → head_of s.order bytes ≡ Stands order kind total → total ≤ length bytes → next_of links s bytes ≡ block_next total (content_of links s.interfaces order kind (take total bytes))
+pub next_whole : (links : LinkSet) (s : State) (bytes : List ℕ) (order : Order) (kind : Kind) (total : ℕ) → head_of s.order bytes ≡ Stands order kind total
+    → total ≤ length bytes → next_of links s bytes ≡ block_next total (content_of links s.interfaces order kind (take total bytes))
 next_whole links s bytes order kind total h whole = next_by_head links s bytes (Stands order kind total) h ∙ rw (not_below (length bytes) total whole) refl
 
 -- what the block at the front shows
@@ -36,8 +39,10 @@ shown_by s bytes next.Wants = Wants
 shown_by s bytes (next.Flawed flaw) = Bad (fault_of s.count flaw)
 shown_by s bytes (next.Block total content) = Takes total (frames_of s.count content (take total bytes)) (after s content)
 
-by_content : (s : State) (bytes : List ℕ) (total : ℕ) (found : Result Content Flaw) → total ≤ length bytes → block_found s (take total bytes) found ≡ shown_by s bytes (block_next total found)
-by_content s bytes total (Ok content) whole = ap (λ n. Takes n (frames_of s.count content (take total bytes)) (after s content)) (length_front total bytes whole)
+by_content : (s : State) (bytes : List ℕ) (total : ℕ) (found : Result Content Flaw) → total ≤ length bytes
+    → block_found s (take total bytes) found ≡ shown_by s bytes (block_next total found)
+by_content s bytes total (Ok content) whole =
+    ap (λ n. Takes n (frames_of s.count content (take total bytes)) (after s content)) (length_front total bytes whole)
 by_content s bytes total (Err flaw) whole = refl
 
 by_head : (links : LinkSet) (s : State) (bytes : List ℕ) (head : Head) → found_at links s bytes head ≡ shown_by s bytes (next_at links s.interfaces bytes head)
@@ -58,9 +63,13 @@ pub step_of : (links : LinkSet) (s : State) (bytes : List ℕ) (found : Next) �
 step_of links s bytes found h = step_by_next links s bytes ∙ ap (λ (x : Next). shown_by s bytes x) (sym h)
 
 -- one more block is read
-pub one_more : (links : LinkSet) (s : State) (bytes : List ℕ) (frames : List FrameValue) (t : State) (left : List ℕ) (total : ℕ) (content : Content) → ReadsTo (pcapng links) s bytes frames t left → next.Block total content ≡ next_of links t left → ReadsTo (pcapng links) s bytes (frames ++ frames_of t.count content (take total left)) (after t content) (drop total left)
+pub one_more : (links : LinkSet) (s : State) (bytes : List ℕ) (frames : List FrameValue) (t : State) (left : List ℕ) (total : ℕ) (content : Content)
+    → ReadsTo (pcapng links) s bytes frames t left → next.Block total content ≡ next_of links t left
+    → ReadsTo (pcapng links) s bytes (frames ++ frames_of t.count content (take total left)) (after t content) (drop total left)
 one_more links s bytes frames t left total content read is =
-    reads_on (pcapng links) s bytes frames (frames_of t.count content (take total left)) t left (after t content) (drop total left) read (reads_one (pcapng links) t left total (frames_of t.count content (take total left)) (after t content) (step_of links t left (next.Block total content) is))
+    reads_on (pcapng links) s bytes frames (frames_of t.count content (take total left)) t left (after t content) (drop total left) read
+    (reads_one (pcapng links) t left total (frames_of t.count content (take total left)) (after t content)
+    (step_of links t left (next.Block total content) is))
 
 pub count_after : (t : State) (content : Content) → (after t content).count ≤ t.count + 1
 count_after t (NewSection order) = omega arith
@@ -69,7 +78,9 @@ count_after t (Captures packet) = omega arith
 count_after t Nothing = omega arith
 
 -- what was read, where the blocks end
-pub read_of : (links : LinkSet) (s : State) (bytes : List ℕ) (frames given : List FrameValue) (t last : State) (left rest : List ℕ) (end flaw : Option Flaw) → ReadsTo (pcapng links) s bytes frames t left → IsEnd links t left end → last ≡ t → given ≡ frames → rest ≡ left → flaw ≡ end → AreRead links s bytes given last rest flaw
+pub read_of : (links : LinkSet) (s : State) (bytes : List ℕ) (frames given : List FrameValue) (t last : State) (left rest : List ℕ) (end flaw : Option Flaw)
+    → ReadsTo (pcapng links) s bytes frames t left → IsEnd links t left end → last ≡ t → given ≡ frames → rest ≡ left → flaw ≡ end
+    → AreRead links s bytes given last rest flaw
 read_of links s bytes frames given t last left rest end flaw read is p q r e =
     let done : AreRead links s bytes frames t left end = record { read = read; end = is } in
     subst (λ (x : State). AreRead links s bytes given x rest flaw) (sym p)

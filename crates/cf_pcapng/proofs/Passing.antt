@@ -28,16 +28,20 @@ use Rattle.cf_pcapng.proofs.Steps.{Shown, step_at, found_short, found_whole, len
 
 -- What a block of an unknown type shows.
 
-content_true : (links : LinkSet) (interfaces : List Interface) (order : Order) (block : List ℕ) → last_total order block ≡ length block → content_of links interfaces order Other block ≡ Ok Nothing
+content_true : (links : LinkSet) (interfaces : List Interface) (order : Order) (block : List ℕ) → last_total order block ≡ length block
+    → content_of links interfaces order Other block ≡ Ok Nothing
 unfolding content_of
-content_true links interfaces order block h = let same : eqb (last_total order block) (length block) ≡ true = eq-eqb (last_total order block) (length block) h in rw same refl
+content_true links interfaces order block h = let same : eqb (last_total order block) (length block) ≡ true =
+    eq-eqb (last_total order block) (length block) h in rw same refl
 
-content_false : (links : LinkSet) (interfaces : List Interface) (order : Order) (block : List ℕ) → (last_total order block ≡ length block → ⊥) → content_of links interfaces order Other block ≡ Err BadLength
+content_false : (links : LinkSet) (interfaces : List Interface) (order : Order) (block : List ℕ) → (last_total order block ≡ length block → ⊥)
+    → content_of links interfaces order Other block ≡ Err BadLength
 unfolding content_of
 content_false links interfaces order block h = let other : eqb (last_total order block) (length block) ≡ false = grind (arith, nat_tests) in rw other refl
 
 -- the last field of a block whose first bytes were let go
-last_field : (order : Order) (gone bytes : List ℕ) (total left : ℕ) → length gone + left ≡ total → 4 ≤ left → left ≤ length bytes → last_total order (take total (gone ++ bytes)) ≡ number_in order 4 (drop (left - 4) bytes)
+last_field : (order : Order) (gone bytes : List ℕ) (total left : ℕ) → length gone + left ≡ total → 4 ≤ left → left ≤ length bytes
+    → last_total order (take total (gone ++ bytes)) ≡ number_in order 4 (drop (left - 4) bytes)
 last_field order gone bytes total left is some whole =
     let len : length (gone ++ bytes) ≡ length gone + length bytes = length-append gone bytes in
     let size : length (take total (gone ++ bytes)) ≡ total = length_front total (gone ++ bytes) (omega (arith, len, is, whole)) in
@@ -49,40 +53,50 @@ last_field order gone bytes total left is some whole =
     ∙ ap (λ xs. number_in order 4 xs) (drop-append-add gone bytes (left - 4))
 
 -- the head of a block whose first bytes were let go
-head_kept : (order : Option Order) (block : Passed) (gone bytes : List ℕ) → WasPassed order (Some block) gone → head_of order (gone ++ bytes) ≡ Stands block.order Other block.total
+head_kept : (order : Option Order) (block : Passed) (gone bytes : List ℕ) → WasPassed order (Some block) gone
+    → head_of order (gone ++ bytes) ≡ Stands block.order Other block.total
 head_kept order block gone bytes was = head_stays order gone bytes (λ h. let no : Short ≡ Stands block.order Other block.total = sym h ∙ was.0 in cc) ∙ was.0
 
-pub passed_wants : (links : LinkSet) (s : State) (block : Passed) (gone bytes : List ℕ) → WasPassed s.order (Some block) gone → block.gone + length bytes < block.total → step links s (gone ++ bytes) ≡ Wants
+pub passed_wants : (links : LinkSet) (s : State) (block : Passed) (gone bytes : List ℕ) → WasPassed s.order (Some block) gone
+    → block.gone + length bytes < block.total → step links s (gone ++ bytes) ≡ Wants
 passed_wants links s block gone bytes was short =
     let len : length (gone ++ bytes) ≡ length gone + length bytes = length-append gone bytes in
     let size : length gone ≡ block.gone = was.1 in
     step_at links s (gone ++ bytes) (Stands block.order Other block.total) (head_kept s.order block gone bytes was)
     ∙ found_short links s (gone ++ bytes) block.order Other block.total (omega (arith, len, size, short))
 
-pub passed_over : (links : LinkSet) (s : State) (block : Passed) (gone bytes : List ℕ) (left : ℕ) → WasPassed s.order (Some block) gone → block.gone + left ≡ block.total → left ≤ length bytes → number_in block.order 4 (drop (left - 4) bytes) ≡ block.total → step links s (gone ++ bytes) ≡ Takes block.total [] s
+pub passed_over : (links : LinkSet) (s : State) (block : Passed) (gone bytes : List ℕ) (left : ℕ) → WasPassed s.order (Some block) gone
+    → block.gone + left ≡ block.total → left ≤ length bytes → number_in block.order 4 (drop (left - 4) bytes) ≡ block.total
+    → step links s (gone ++ bytes) ≡ Takes block.total [] s
 passed_over links s block gone bytes left was is whole last =
     let len : length (gone ++ bytes) ≡ length gone + length bytes = length-append gone bytes in
     let gone_is : length gone ≡ block.gone = was.1 in
     let room : block.gone + 4 ≤ block.total = was.2 in
     let fits : block.total ≤ length (gone ++ bytes) = omega (arith, len, gone_is, is, whole) in
     let size : length (take block.total (gone ++ bytes)) ≡ block.total = length_front block.total (gone ++ bytes) fits in
-    let field : last_total block.order (take block.total (gone ++ bytes)) ≡ block.total = last_field block.order gone bytes block.total left (omega (arith, gone_is, is)) (omega (arith, is, room)) whole ∙ last in
+    let field : last_total block.order (take block.total (gone ++ bytes)) ≡ block.total =
+    last_field block.order gone bytes block.total left (omega (arith, gone_is, is)) (omega (arith, is, room)) whole ∙ last in
     step_at links s (gone ++ bytes) (Stands block.order Other block.total) (head_kept s.order block gone bytes was)
     ∙ found_whole links s (gone ++ bytes) block.order Other block.total fits
-    ∙ ap (λ (x : Result Content Flaw). block_found s (take block.total (gone ++ bytes)) x) (content_true links s.interfaces block.order (take block.total (gone ++ bytes)) (field ∙ sym size))
+    ∙ ap (λ (x : Result Content Flaw). block_found s (take block.total (gone ++ bytes)) x)
+    (content_true links s.interfaces block.order (take block.total (gone ++ bytes)) (field ∙ sym size))
     ∙ ap (λ n. Takes n [] s) size
 
-pub passed_flawed : (links : LinkSet) (s : State) (block : Passed) (gone bytes : List ℕ) → WasPassed s.order (Some block) gone → block.total ≤ block.gone + length bytes → (number_in block.order 4 (drop (block.total - block.gone - 4) bytes) ≡ block.total → ⊥) → step links s (gone ++ bytes) ≡ Bad (fault_of s.count BadLength)
+pub passed_flawed : (links : LinkSet) (s : State) (block : Passed) (gone bytes : List ℕ) → WasPassed s.order (Some block) gone
+    → block.total ≤ block.gone + length bytes → (number_in block.order 4 (drop (block.total - block.gone - 4) bytes) ≡ block.total → ⊥)
+    → step links s (gone ++ bytes) ≡ Bad (fault_of s.count BadLength)
 passed_flawed links s block gone bytes was whole other =
     let len : length (gone ++ bytes) ≡ length gone + length bytes = length-append gone bytes in
     let gone_is : length gone ≡ block.gone = was.1 in
     let room : block.gone + 4 ≤ block.total = was.2 in
     let fits : block.total ≤ length (gone ++ bytes) = omega (arith, len, gone_is, whole) in
     let size : length (take block.total (gone ++ bytes)) ≡ block.total = length_front block.total (gone ++ bytes) fits in
-    let field : last_total block.order (take block.total (gone ++ bytes)) ≡ number_in block.order 4 (drop (block.total - block.gone - 4) bytes) = last_field block.order gone bytes block.total (block.total - block.gone) (omega (arith, gone_is, room)) (omega (arith, room)) (omega (arith, whole)) in
+    let field : last_total block.order (take block.total (gone ++ bytes)) ≡ number_in block.order 4 (drop (block.total - block.gone - 4) bytes) =
+    last_field block.order gone bytes block.total (block.total - block.gone) (omega (arith, gone_is, room)) (omega (arith, room)) (omega (arith, whole)) in
     step_at links s (gone ++ bytes) (Stands block.order Other block.total) (head_kept s.order block gone bytes was)
     ∙ found_whole links s (gone ++ bytes) block.order Other block.total fits
-    ∙ ap (λ (x : Result Content Flaw). block_found s (take block.total (gone ++ bytes)) x) (content_false links s.interfaces block.order (take block.total (gone ++ bytes)) (λ h. other (sym field ∙ h ∙ size)))
+    ∙ ap (λ (x : Result Content Flaw). block_found s (take block.total (gone ++ bytes)) x)
+    (content_false links s.interfaces block.order (take block.total (gone ++ bytes)) (λ h. other (sym field ∙ h ∙ size)))
 
 -- What is held of a block that has only begun.
 
@@ -90,7 +104,8 @@ not_wants : (s : State) (block : List ℕ) (found : Result Content Flaw) → blo
 not_wants s block (Ok content) h = cc
 not_wants s block (Err flaw) h = cc
 
-few_at : (links : LinkSet) (s : State) (rest : List ℕ) (head : Head) → head_of s.order rest ≡ head → found_at links s rest head ≡ Wants → IsPassedAt s.order rest None → length rest < 2 ^ 20
+few_at : (links : LinkSet) (s : State) (rest : List ℕ) (head : Head) → head_of s.order rest ≡ head → found_at links s rest head ≡ Wants
+    → IsPassedAt s.order rest None → length rest < 2 ^ 20
 few_at links s rest Short is h none = let small : length rest < 12 = seen_size s.order rest is in omega (arith, small)
 few_at links s rest (Flawed flaw) is h none = absurd (let no : ◌≡◌ {A = Shown} (Bad (fault_of s.count flaw)) Wants = h in cc)
 few_at links s rest (Stands order kind total) is h none = elim (cases_lt (length rest) total) [
@@ -98,10 +113,12 @@ few_at links s rest (Stands order kind total) is h none = elim (cases_lt (length
       let it = standing s.order rest order kind total is in
       let most : total ≤ 2 ^ 20 = at_most kind total it.lawful (λ e. none order total short (is ∙ ap (λ (k : Kind). Stands order k total) e)) in
       omega (arith, short, most)
-  | inr whole ↦ absurd (not_wants s (take total rest) (content_of links s.interfaces order kind (take total rest)) (sym (found_whole links s rest order kind total whole) ∙ h))
+  | inr whole ↦ absurd
+      (not_wants s (take total rest) (content_of links s.interfaces order kind (take total rest)) (sym (found_whole links s rest order kind total whole) ∙ h))
 ]
 
-pub begins_whole : (links : LinkSet) (s : State) (bytes : List ℕ) (frames : List FrameValue) (t : State) (rest : List ℕ) → AreRead links s bytes frames t rest None → IsPassedAt t.order rest None → Begins links s bytes frames t None rest
+pub begins_whole : (links : LinkSet) (s : State) (bytes : List ℕ) (frames : List FrameValue) (t : State) (rest : List ℕ)
+    → AreRead links s bytes frames t rest None → IsPassedAt t.order rest None → Begins links s bytes frames t None rest
 begins_whole links s bytes frames t rest read none = record {
   gone = [];
   was = refl;
@@ -111,13 +128,15 @@ begins_whole links s bytes frames t rest read none = record {
 }
 
 -- the first bytes of a block that is passed over show its head
-head_front : (order : Option Order) (o : Order) (total : ℕ) (rest : List ℕ) (some : ℕ) → head_of order rest ≡ Stands o Other total → 8 ≤ some → some ≤ length rest → head_of order (take some rest) ≡ Stands o Other total
+head_front : (order : Option Order) (o : Order) (total : ℕ) (rest : List ℕ) (some : ℕ) → head_of order rest ≡ Stands o Other total → 8 ≤ some
+    → some ≤ length rest → head_of order (take some rest) ≡ Stands o Other total
 head_front order o total rest some is least most =
     let it = standing order rest o Other total is in
     let other = it.other refl in
     let size : length (take some rest) ≡ some = length_front some rest most in
     let whole : take some rest ++ drop some rest ≡ rest = take-append-drop some rest in
-    let no_section : is_section (take some rest) ≡ false = sym (section_first (take some rest) (drop some rest) (omega (arith, size, least))) ∙ ap is_section whole ∙ other.0 in
+    let no_section : is_section (take some rest) ≡ false = sym (section_first (take some rest) (drop some rest) (omega (arith, size, least)))
+    ∙ ap is_section whole ∙ other.0 in
     sym (head_by_8 order (take some rest) (drop some rest) (omega (arith, size, least)) no_section) ∙ ap (λ xs. head_of order xs) whole ∙ is
 
 pub room_at : (order : Option Order) (rest : List ℕ) (block : Passed) → IsPassedAt order rest (Some block) → 12 ≤ block.total
@@ -126,7 +145,9 @@ room_at order rest block at =
     let least : 12 ≤ block.total = at_least Other block.total it.lawful in
     least
 
-pub begins_passed : (links : LinkSet) (s : State) (bytes : List ℕ) (frames : List FrameValue) (t : State) (rest : List ℕ) (block passed : Passed) (some : ℕ) → AreRead links s bytes frames t rest None → IsPassedAt t.order rest (Some block) → IsLetGo block (length rest) passed some → Begins links s bytes frames t (Some passed) (drop some rest)
+pub begins_passed : (links : LinkSet) (s : State) (bytes : List ℕ) (frames : List FrameValue) (t : State) (rest : List ℕ) (block passed : Passed) (some : ℕ)
+    → AreRead links s bytes frames t rest None → IsPassedAt t.order rest (Some block) → IsLetGo block (length rest) passed some
+    → Begins links s bytes frames t (Some passed) (drop some rest)
 begins_passed links s bytes frames t rest block passed some read at go =
     let it = standing t.order rest block.order Other block.total at.0 in
     let size : 8 ≤ length rest = it.size in
@@ -140,7 +161,8 @@ begins_passed links s bytes frames t rest block passed some read at go =
     let front : length (take some rest) ≡ some = length_front some rest most in
     let back : length (drop some rest) ≡ length rest - some = length-drop some rest in
     let whole : rest ≡ take some rest ++ drop some rest = sym (take-append-drop some rest) in
-    let same : Stands block.order Other block.total ≡ Stands passed.order Other passed.total = ap (λ (o : Order). Stands o Other block.total) (sym go.order_is) ∙ ap (λ n. Stands passed.order Other n) (sym go.total_is) in record {
+    let same : Stands block.order Other block.total ≡ Stands passed.order Other passed.total =
+    ap (λ (o : Order). Stands o Other block.total) (sym go.order_is) ∙ ap (λ n. Stands passed.order Other n) (sym go.total_is) in record {
       gone = take some rest;
       was = (head_front t.order block.order block.total rest some at.0 least most ∙ same, omega (arith, front, none, gone_is), omega (arith, room, total_is));
       read = subst (λ (xs : List ℕ). ReadsTo (pcapng links) s bytes frames t xs) whole read.read;
@@ -150,7 +172,8 @@ begins_passed links s bytes frames t rest block passed some read at go =
 
 -- What comes of a block at hand.
 
-pub goes_within : (links : LinkSet) (s : State) (block passed : Passed) (some : ℕ) (gone bytes : List ℕ) → WasPassed s.order (Some block) gone → block.gone + length bytes < block.total → IsLetGo block (length bytes) passed some → Begins links s (gone ++ bytes) [] s (Some passed) (drop some bytes)
+pub goes_within : (links : LinkSet) (s : State) (block passed : Passed) (some : ℕ) (gone bytes : List ℕ) → WasPassed s.order (Some block) gone
+    → block.gone + length bytes < block.total → IsLetGo block (length bytes) passed some → Begins links s (gone ++ bytes) [] s (Some passed) (drop some bytes)
 goes_within links s block passed some gone bytes was short go =
     let most : some ≤ length bytes = go.most in
     let left : length bytes < some + 4 = go.left in
@@ -161,8 +184,10 @@ goes_within links s block passed some gone bytes was short go =
     let front : length (take some bytes) ≡ some = length_front some bytes most in
     let back : length (drop some bytes) ≡ length bytes - some = length-drop some bytes in
     let len : length (gone ++ take some bytes) ≡ length gone + length (take some bytes) = length-append gone (take some bytes) in
-    let whole : gone ++ bytes ≡ (gone ++ take some bytes) ++ drop some bytes = ap (λ xs. gone ++ xs) (sym (take-append-drop some bytes)) ∙ sym (append_assoc gone (take some bytes) (drop some bytes)) in
-    let same : Stands block.order Other block.total ≡ Stands passed.order Other passed.total = ap (λ (o : Order). Stands o Other block.total) (sym go.order_is) ∙ ap (λ n. Stands passed.order Other n) (sym go.total_is) in record {
+    let whole : gone ++ bytes ≡ (gone ++ take some bytes) ++ drop some bytes = ap (λ xs. gone ++ xs) (sym (take-append-drop some bytes))
+    ∙ sym (append_assoc gone (take some bytes) (drop some bytes)) in
+    let same : Stands block.order Other block.total ≡ Stands passed.order Other passed.total =
+    ap (λ (o : Order). Stands o Other block.total) (sym go.order_is) ∙ ap (λ n. Stands passed.order Other n) (sym go.total_is) in record {
       gone = gone ++ take some bytes;
       was = (head_kept s.order block gone (take some bytes) was ∙ same, omega (arith, len, had, front, gone_is), omega (arith, room, total_is));
       read = subst (λ (xs : List ℕ). ReadsTo (pcapng links) s (gone ++ bytes) [] s xs) whole (reads_nothing (pcapng links) s (gone ++ bytes));
@@ -170,19 +195,26 @@ goes_within links s block passed some gone bytes was short go =
       few = omega (arith, back, left);
     }
 
-pub goes_wrong : (links : LinkSet) (s : State) (block : Passed) (gone bytes : List ℕ) → WasPassed s.order (Some block) gone → block.total ≤ block.gone + length bytes → (number_in block.order 4 (drop (block.total - block.gone - 4) bytes) ≡ block.total → ⊥) → Breaks links s (gone ++ bytes) [] s BadLength
+pub goes_wrong : (links : LinkSet) (s : State) (block : Passed) (gone bytes : List ℕ) → WasPassed s.order (Some block) gone
+    → block.total ≤ block.gone + length bytes → (number_in block.order 4 (drop (block.total - block.gone - 4) bytes) ≡ block.total → ⊥)
+    → Breaks links s (gone ++ bytes) [] s BadLength
 goes_wrong links s block gone bytes was whole other = record {
   rest = gone ++ bytes;
   read = reads_nothing (pcapng links) s (gone ++ bytes);
   bad = passed_flawed links s block gone bytes was whole other;
 }
 
-pub goes_over : (links : LinkSet) (s : State) (block : Passed) (gone bytes : List ℕ) (left : ℕ) (frames : List FrameValue) (t : State) (rest : List ℕ) (flaw : Option Flaw) → WasPassed s.order (Some block) gone → block.gone + left ≡ block.total → left ≤ length bytes → number_in block.order 4 (drop (left - 4) bytes) ≡ block.total → AreRead links s (drop left bytes) frames t rest flaw → AreRead links s (gone ++ bytes) frames t rest flaw
+pub goes_over : (links : LinkSet) (s : State) (block : Passed) (gone bytes : List ℕ) (left : ℕ) (frames : List FrameValue) (t : State) (rest : List ℕ)
+    (flaw : Option Flaw) → WasPassed s.order (Some block) gone → block.gone + left ≡ block.total → left ≤ length bytes
+    → number_in block.order 4 (drop (left - 4) bytes) ≡ block.total → AreRead links s (drop left bytes) frames t rest flaw
+    → AreRead links s (gone ++ bytes) frames t rest flaw
 goes_over links s block gone bytes left frames t rest flaw was is whole last read =
     let had : length gone ≡ block.gone = was.1 in
     let at : block.total ≡ length gone + left = omega (arith, had, is) in
     let behind : drop block.total (gone ++ bytes) ≡ drop left bytes = ap (λ n. drop n (gone ++ bytes)) at ∙ drop-append-add gone bytes left in
-    let first : ReadsTo (pcapng links) s (gone ++ bytes) [] s (drop left bytes) = subst (λ (xs : List ℕ). ReadsTo (pcapng links) s (gone ++ bytes) [] s xs) behind (reads_one (pcapng links) s (gone ++ bytes) block.total [] s (passed_over links s block gone bytes left was is whole last)) in record {
+    let first : ReadsTo (pcapng links) s (gone ++ bytes) [] s (drop left bytes) =
+    subst (λ (xs : List ℕ). ReadsTo (pcapng links) s (gone ++ bytes) [] s xs) behind
+    (reads_one (pcapng links) s (gone ++ bytes) block.total [] s (passed_over links s block gone bytes left was is whole last)) in record {
       read = reads_on (pcapng links) s (gone ++ bytes) [] frames s (drop left bytes) t rest first read.read;
       end = read.end;
     }
@@ -192,7 +224,8 @@ not_some None h = refl
 not_some (Some flaw) h = cc
 
 -- what a reader has is no more than it had and what came
-pub sound_of : (links : LinkSet) (s : State) (bytes : List ℕ) (frames : List FrameValue) (t : State) (passed : Option Passed) (held : List ℕ) (flaw : Option Flaw) → AreReadOn links s bytes frames t passed held flaw → IsGoneOn s (length bytes) t passed held flaw
+pub sound_of : (links : LinkSet) (s : State) (bytes : List ℕ) (frames : List FrameValue) (t : State) (passed : Option Passed) (held : List ℕ)
+    (flaw : Option Flaw) → AreReadOn links s bytes frames t passed held flaw → IsGoneOn s (length bytes) t passed held flaw
 sound_of links s bytes frames t passed held (Some flaw) on = tt
 sound_of links s bytes frames t passed held None on =
     let fit : length frames + length (on.gone ++ held) ≤ length bytes = reads_fit (pcapng links) (stepper links) s bytes frames t (on.gone ++ held) on.read in
@@ -204,16 +237,21 @@ sound_of links s bytes frames t passed held None on =
       room_of order (Some block) gone was = was.2
 
 -- the same, where fewer bytes count
-sound_more : (s : State) (size more : ℕ) (t : State) (passed : Option Passed) (held : List ℕ) (flaw : Option Flaw) → size ≤ more → IsGoneOn s size t passed held flaw → IsGoneOn s more t passed held flaw
+sound_more : (s : State) (size more : ℕ) (t : State) (passed : Option Passed) (held : List ℕ) (flaw : Option Flaw) → size ≤ more
+    → IsGoneOn s size t passed held flaw → IsGoneOn s more t passed held flaw
 sound_more s size more t passed held (Some flaw) few on = tt
-sound_more s size more t passed held None few on = let fits : t.count + length held ≤ s.count + size = on.fits in record { fits = omega (arith, fits, few); room = on.room; few = on.few }
+sound_more s size more t passed held None few on = let fits : t.count + length held ≤ s.count + size = on.fits in
+    record { fits = omega (arith, fits, few); room = on.room; few = on.few }
 
-pub sound_over : (links : LinkSet) (s : State) (bytes : List ℕ) (left : ℕ) (frames : List FrameValue) (t : State) (passed : Option Passed) (held : List ℕ) (flaw : Option Flaw) → AreReadOn links s (drop left bytes) frames t passed held flaw → IsGoneOn s (length bytes) t passed held flaw
+pub sound_over : (links : LinkSet) (s : State) (bytes : List ℕ) (left : ℕ) (frames : List FrameValue) (t : State) (passed : Option Passed) (held : List ℕ)
+    (flaw : Option Flaw) → AreReadOn links s (drop left bytes) frames t passed held flaw → IsGoneOn s (length bytes) t passed held flaw
 sound_over links s bytes left frames t passed held flaw on =
     let len : length (drop left bytes) ≡ length bytes - left = length-drop left bytes in
-    sound_more s (length (drop left bytes)) (length bytes) t passed held flaw (omega (arith, len)) (sound_of links s (drop left bytes) frames t passed held flaw on)
+    sound_more s (length (drop left bytes)) (length bytes) t passed held flaw (omega (arith, len))
+    (sound_of links s (drop left bytes) frames t passed held flaw on)
 
-pub sound_within : (s : State) (block passed : Passed) (some : ℕ) (bytes : List ℕ) → IsLetGo block (length bytes) passed some → IsSoundOn s (length bytes) s (Some passed) (drop some bytes)
+pub sound_within : (s : State) (block passed : Passed) (some : ℕ) (bytes : List ℕ) → IsLetGo block (length bytes) passed some
+    → IsSoundOn s (length bytes) s (Some passed) (drop some bytes)
 sound_within s block passed some bytes go =
     let len : length (drop some bytes) ≡ length bytes - some = length-drop some bytes in
     let left : length bytes < some + 4 = go.left in

@@ -52,15 +52,18 @@ packet_other : (links : LinkSet) (room : ℕ) (packet : Packet) → is_link link
 unfolding packet_of
 packet_other links room packet h = rw h refl
 
-packet_long : (links : LinkSet) (room : ℕ) (packet : Packet) → is_link links packet.link ≡ true → longest < packet.caplen → packet_of links room packet ≡ Err FrameTooLong
+packet_long : (links : LinkSet) (room : ℕ) (packet : Packet) → is_link links packet.link ≡ true → longest < packet.caplen
+    → packet_of links room packet ≡ Err FrameTooLong
 unfolding packet_of
 packet_long links room packet h long = rw (h, test_gt packet.caplen longest long) refl
 
-packet_over : (links : LinkSet) (room : ℕ) (packet : Packet) → is_link links packet.link ≡ true → packet.caplen ≤ longest → room < packet.caplen → packet_of links room packet ≡ Err BadLength
+packet_over : (links : LinkSet) (room : ℕ) (packet : Packet) → is_link links packet.link ≡ true → packet.caplen ≤ longest → room < packet.caplen
+    → packet_of links room packet ≡ Err BadLength
 unfolding packet_of
 packet_over links room packet h short over = rw (h, test_le packet.caplen longest short, test_gt packet.caplen room over) refl
 
-packet_fits : (links : LinkSet) (room : ℕ) (packet : Packet) → is_link links packet.link ≡ true → packet.caplen ≤ longest → packet.caplen ≤ room → packet_of links room packet ≡ Ok (Captures packet)
+packet_fits : (links : LinkSet) (room : ℕ) (packet : Packet) → is_link links packet.link ≡ true → packet.caplen ≤ longest → packet.caplen ≤ room
+    → packet_of links room packet ≡ Ok (Captures packet)
 unfolding packet_of
 packet_fits links room packet h short fits = rw (h, test_le packet.caplen longest short, test_le packet.caplen room fits) refl
 
@@ -102,25 +105,39 @@ data BlockCase (found : Result Content Flaw) (Breaks : Flaw → Type 0) (States 
   Breaking : (flaw : Flaw) → found ≡ Err flaw → Breaks flaw → BlockCase found Breaks States
   Stating : (content : Content) → found ≡ Ok content → States content → BlockCase found Breaks States
 
-by_packet : (links : LinkSet) (interface : Interface) (room : ℕ) (packet : Interface → Packet) → PacketCase links room (packet interface) → BlockCase (packet_of links room (packet interface)) (PacketOfBreaks links (Some interface) room packet) (PacketOfStates links (Some interface) room packet)
+by_packet : (links : LinkSet) (interface : Interface) (room : ℕ) (packet : Interface → Packet) → PacketCase links room (packet interface)
+    → BlockCase (packet_of links room (packet interface)) (PacketOfBreaks links (Some interface) room packet)
+    (PacketOfStates links (Some interface) room packet)
 by_packet links interface room packet (Broken flaw is h) = Breaking flaw is h
 by_packet links interface room packet (Lawful is h) = Stating (Captures (packet interface)) is (h, refl)
 
-enhanced_case : (links : LinkSet) (found : Option Interface) (order : Order) (block : List ℕ) → BlockCase (enhanced_of links found order block) (PacketOfBreaks links found (length block - 32) (λ i. enhanced_packet i order block)) (PacketOfStates links found (length block - 32) (λ i. enhanced_packet i order block))
+enhanced_case : (links : LinkSet) (found : Option Interface) (order : Order) (block : List ℕ)
+    → BlockCase (enhanced_of links found order block) (PacketOfBreaks links found (length block - 32) (λ i. enhanced_packet i order block))
+    (PacketOfStates links found (length block - 32) (λ i. enhanced_packet i order block))
 enhanced_case links None order block = Breaking NoInterface refl refl
-enhanced_case links (Some interface) order block = by_packet links interface (length block - 32) (λ i. enhanced_packet i order block) (packet_case links (length block - 32) (enhanced_packet interface order block))
+enhanced_case links (Some interface) order block =
+    by_packet links interface (length block - 32) (λ i. enhanced_packet i order block)
+    (packet_case links (length block - 32) (enhanced_packet interface order block))
 
-simple_case : (links : LinkSet) (found : Option Interface) (order : Order) (block : List ℕ) → BlockCase (simple_of links found order block) (PacketOfBreaks links found (length block - 16) (λ i. simple_packet i order block)) (PacketOfStates links found (length block - 16) (λ i. simple_packet i order block))
+simple_case : (links : LinkSet) (found : Option Interface) (order : Order) (block : List ℕ)
+    → BlockCase (simple_of links found order block) (PacketOfBreaks links found (length block - 16) (λ i. simple_packet i order block))
+    (PacketOfStates links found (length block - 16) (λ i. simple_packet i order block))
 simple_case links None order block = Breaking NoInterface refl refl
-simple_case links (Some interface) order block = by_packet links interface (length block - 16) (λ i. simple_packet i order block) (packet_case links (length block - 16) (simple_packet interface order block))
+simple_case links (Some interface) order block =
+    by_packet links interface (length block - 16) (λ i. simple_packet i order block)
+    (packet_case links (length block - 16) (simple_packet interface order block))
 
-section_true : (links : LinkSet) (interfaces : List Interface) (order : Order) (block : List ℕ) → number_in order 2 (drop 12 block) ≡ 1 → stated links interfaces order SectionHeader block ≡ Ok (NewSection order)
-section_true links interfaces order block h = let test : eqb (number_in order 2 (drop 12 block)) 1 ≡ true = eq-eqb (number_in order 2 (drop 12 block)) 1 h in rw test refl
+section_true : (links : LinkSet) (interfaces : List Interface) (order : Order) (block : List ℕ) → number_in order 2 (drop 12 block) ≡ 1
+    → stated links interfaces order SectionHeader block ≡ Ok (NewSection order)
+section_true links interfaces order block h = let test : eqb (number_in order 2 (drop 12 block)) 1 ≡ true = eq-eqb (number_in order 2 (drop 12 block)) 1 h in
+    rw test refl
 
-section_false : (links : LinkSet) (interfaces : List Interface) (order : Order) (block : List ℕ) → (number_in order 2 (drop 12 block) ≡ 1 → ⊥) → stated links interfaces order SectionHeader block ≡ Err BadVersion
+section_false : (links : LinkSet) (interfaces : List Interface) (order : Order) (block : List ℕ) → (number_in order 2 (drop 12 block) ≡ 1 → ⊥)
+    → stated links interfaces order SectionHeader block ≡ Err BadVersion
 section_false links interfaces order block h = let test : eqb (number_in order 2 (drop 12 block)) 1 ≡ false = grind (arith, nat_tests) in rw test refl
 
-stated_case : (links : LinkSet) (interfaces : List Interface) (order : Order) (kind : Kind) (block : List ℕ) → BlockCase (stated links interfaces order kind block) (BlockBreaks links interfaces order kind block) (BlockStates links interfaces order kind block)
+stated_case : (links : LinkSet) (interfaces : List Interface) (order : Order) (kind : Kind) (block : List ℕ)
+    → BlockCase (stated links interfaces order kind block) (BlockBreaks links interfaces order kind block) (BlockStates links interfaces order kind block)
 stated_case links interfaces order SectionHeader block = elim (cases_eq (number_in order 2 (drop 12 block)) 1) [
   | inl one ↦ Stating (NewSection order) (section_true links interfaces order block one) (one, refl)
   | inr other ↦ Breaking BadVersion (section_false links interfaces order block other) (refl, other)
@@ -130,40 +147,54 @@ stated_case links interfaces order EnhancedPacket block = enhanced_case links (s
 stated_case links interfaces order SimplePacket block = simple_case links (slice_get interfaces 0) order block
 stated_case links interfaces order Other block = Stating Nothing refl refl
 
-packet_of_broken : (links : LinkSet) (found : Option Interface) (room : ℕ) (packet : Interface → Packet) (flaw : Flaw) (result : Result Content Flaw) → ((is : found ≡ None) → result ≡ Err NoInterface) → ((i : Interface) → found ≡ Some i → result ≡ packet_of links room (packet i)) → PacketOfBreaks links found room packet flaw → result ≡ Err flaw
+packet_of_broken : (links : LinkSet) (found : Option Interface) (room : ℕ) (packet : Interface → Packet) (flaw : Flaw) (result : Result Content Flaw)
+    → ((is : found ≡ None) → result ≡ Err NoInterface) → ((i : Interface) → found ≡ Some i → result ≡ packet_of links room (packet i))
+    → PacketOfBreaks links found room packet flaw → result ≡ Err flaw
 packet_of_broken links None room packet flaw result none some h = none refl ∙ ap (λ (f : Flaw). Err f) (sym h)
 packet_of_broken links (Some interface) room packet flaw result none some h = some interface refl ∙ packet_broken links room (packet interface) flaw h
 
-packet_of_lawful : (links : LinkSet) (found : Option Interface) (room : ℕ) (packet : Interface → Packet) (content : Content) (result : Result Content Flaw) → ((i : Interface) → found ≡ Some i → result ≡ packet_of links room (packet i)) → PacketOfStates links found room packet content → result ≡ Ok content
+packet_of_lawful : (links : LinkSet) (found : Option Interface) (room : ℕ) (packet : Interface → Packet) (content : Content) (result : Result Content Flaw)
+    → ((i : Interface) → found ≡ Some i → result ≡ packet_of links room (packet i)) → PacketOfStates links found room packet content → result ≡ Ok content
 packet_of_lawful links None room packet content result some h = absurd h
 packet_of_lawful links (Some interface) room packet content result some h =
     some interface refl ∙ packet_fits links room (packet interface) h.0.link_is h.0.short h.0.fits ∙ ap (λ (c : Content). Ok c) (sym h.1)
 
-stated_broken : (links : LinkSet) (interfaces : List Interface) (order : Order) (kind : Kind) (block : List ℕ) (flaw : Flaw) → BlockBreaks links interfaces order kind block flaw → stated links interfaces order kind block ≡ Err flaw
+stated_broken : (links : LinkSet) (interfaces : List Interface) (order : Order) (kind : Kind) (block : List ℕ) (flaw : Flaw)
+    → BlockBreaks links interfaces order kind block flaw → stated links interfaces order kind block ≡ Err flaw
 stated_broken links interfaces order SectionHeader block flaw h = section_false links interfaces order block h.1 ∙ ap (λ (f : Flaw). Err f) (sym h.0)
 stated_broken links interfaces order InterfaceDescription block flaw h = absurd h
 stated_broken links interfaces order EnhancedPacket block flaw h =
-    packet_of_broken links (slice_get interfaces (number_in order 4 (drop 8 block))) (length block - 32) (λ i. enhanced_packet i order block) flaw (stated links interfaces order EnhancedPacket block) (λ is. ap (λ (o : Option Interface). enhanced_of links o order block) is) (λ i is. ap (λ (o : Option Interface). enhanced_of links o order block) is) h
+    packet_of_broken links (slice_get interfaces (number_in order 4 (drop 8 block))) (length block - 32) (λ i. enhanced_packet i order block) flaw
+    (stated links interfaces order EnhancedPacket block) (λ is. ap (λ (o : Option Interface). enhanced_of links o order block) is)
+    (λ i is. ap (λ (o : Option Interface). enhanced_of links o order block) is) h
 stated_broken links interfaces order SimplePacket block flaw h =
-    packet_of_broken links (slice_get interfaces 0) (length block - 16) (λ i. simple_packet i order block) flaw (stated links interfaces order SimplePacket block) (λ is. ap (λ (o : Option Interface). simple_of links o order block) is) (λ i is. ap (λ (o : Option Interface). simple_of links o order block) is) h
+    packet_of_broken links (slice_get interfaces 0) (length block - 16) (λ i. simple_packet i order block) flaw
+    (stated links interfaces order SimplePacket block) (λ is. ap (λ (o : Option Interface). simple_of links o order block) is)
+    (λ i is. ap (λ (o : Option Interface). simple_of links o order block) is) h
 stated_broken links interfaces order Other block flaw h = absurd h
 
-stated_lawful : (links : LinkSet) (interfaces : List Interface) (order : Order) (kind : Kind) (block : List ℕ) (content : Content) → BlockStates links interfaces order kind block content → stated links interfaces order kind block ≡ Ok content
+stated_lawful : (links : LinkSet) (interfaces : List Interface) (order : Order) (kind : Kind) (block : List ℕ) (content : Content)
+    → BlockStates links interfaces order kind block content → stated links interfaces order kind block ≡ Ok content
 stated_lawful links interfaces order SectionHeader block content h = section_true links interfaces order block h.0 ∙ ap (λ (c : Content). Ok c) (sym h.1)
 stated_lawful links interfaces order InterfaceDescription block content h = ap (λ (c : Content). Ok c) (sym h)
 stated_lawful links interfaces order EnhancedPacket block content h =
-    packet_of_lawful links (slice_get interfaces (number_in order 4 (drop 8 block))) (length block - 32) (λ i. enhanced_packet i order block) content (stated links interfaces order EnhancedPacket block) (λ i is. ap (λ (o : Option Interface). enhanced_of links o order block) is) h
+    packet_of_lawful links (slice_get interfaces (number_in order 4 (drop 8 block))) (length block - 32) (λ i. enhanced_packet i order block) content
+    (stated links interfaces order EnhancedPacket block) (λ i is. ap (λ (o : Option Interface). enhanced_of links o order block) is) h
 stated_lawful links interfaces order SimplePacket block content h =
-    packet_of_lawful links (slice_get interfaces 0) (length block - 16) (λ i. simple_packet i order block) content (stated links interfaces order SimplePacket block) (λ i is. ap (λ (o : Option Interface). simple_of links o order block) is) h
+    packet_of_lawful links (slice_get interfaces 0) (length block - 16) (λ i. simple_packet i order block) content
+    (stated links interfaces order SimplePacket block) (λ i is. ap (λ (o : Option Interface). simple_of links o order block) is) h
 stated_lawful links interfaces order Other block content h = ap (λ (c : Content). Ok c) (sym h)
 
 -- Rule 4.
 
-closed : (links : LinkSet) (interfaces : List Interface) (order : Order) (kind : Kind) (block : List ℕ) → last_total order block ≡ length block → content_of links interfaces order kind block ≡ stated links interfaces order kind block
+closed : (links : LinkSet) (interfaces : List Interface) (order : Order) (kind : Kind) (block : List ℕ) → last_total order block ≡ length block
+    → content_of links interfaces order kind block ≡ stated links interfaces order kind block
 unfolding content_of
-closed links interfaces order kind block h = let same : eqb (last_total order block) (length block) ≡ true = eq-eqb (last_total order block) (length block) h in rw same refl
+closed links interfaces order kind block h = let same : eqb (last_total order block) (length block) ≡ true =
+    eq-eqb (last_total order block) (length block) h in rw same refl
 
-not_closed : (links : LinkSet) (interfaces : List Interface) (order : Order) (kind : Kind) (block : List ℕ) → (last_total order block ≡ length block → ⊥) → content_of links interfaces order kind block ≡ Err BadLength
+not_closed : (links : LinkSet) (interfaces : List Interface) (order : Order) (kind : Kind) (block : List ℕ) → (last_total order block ≡ length block → ⊥)
+    → content_of links interfaces order kind block ≡ Err BadLength
 unfolding content_of
 not_closed links interfaces order kind block h = let other : eqb (last_total order block) (length block) ≡ false = grind (arith, nat_tests) in rw other refl
 
@@ -180,7 +211,8 @@ within_true SimplePacket n h = test_le n (2 ^ 20) (h (λ e. cc))
 within_true Other n h = refl
 
 total_true : (kind : Kind) (n : ℕ) → IsLawfulTotal kind n → is_total kind n ≡ true
-total_true kind n h = all_true (n % 4 == 0) (nat_le (least kind) n) (is_within kind n) (eq-eqb (n % 4) 0 h.fours) (test_le (least kind) n h.enough) (within_true kind n h.most)
+total_true kind n h =
+    all_true (n % 4 == 0) (nat_le (least kind) n) (is_within kind n) (eq-eqb (n % 4) 0 h.fours) (test_le (least kind) n h.enough) (within_true kind n h.most)
 
 total_lawful : (kind : Kind) (n : ℕ) → is_total kind n ≡ true → IsLawfulTotal kind n
 total_lawful kind n h =
@@ -198,7 +230,8 @@ bool_case false = inr refl
 true_false : (b : Bool) → b ≡ true → b ≡ false → ⊥
 true_false b p q = cc
 
-sized_true : (order : Order) (kind : Kind) (bytes : List ℕ) → is_total kind (total_at order bytes) ≡ true → sized order kind bytes ≡ Stands order kind (total_at order bytes)
+sized_true : (order : Order) (kind : Kind) (bytes : List ℕ) → is_total kind (total_at order bytes) ≡ true
+    → sized order kind bytes ≡ Stands order kind (total_at order bytes)
 unfolding sized
 sized_true order kind bytes h = rw h refl
 
@@ -240,7 +273,8 @@ kind_is n = elim (cases_eq n 1) [
 ]
 
 -- a block that begins is judged by its total length
-begins_head : (section : Option Order) (bytes : List ℕ) (order : Order) (kind : Kind) → BeginsAs section bytes order kind → head_of section bytes ≡ sized order kind bytes
+begins_head : (section : Option Order) (bytes : List ℕ) (order : Order) (kind : Kind) → BeginsAs section bytes order kind
+    → head_of section bytes ≡ sized order kind bytes
 begins_head section bytes order kind (inl (is, h)) =
     let size : 12 ≤ length bytes = h.size in
     head_section section bytes (omega (arith, size)) (section_yes bytes h.type_is)
@@ -254,7 +288,8 @@ begins_head section bytes order kind (inr h) =
     ∙ block_long order bytes size
     ∙ ap (λ (k : Kind). sized order k bytes) (kind_true kind (number_in order 4 bytes) h.type_is)
 
-head_stands : (section : Option Order) (bytes : List ℕ) (order : Order) (kind : Kind) (total : ℕ) → HasHead section bytes order kind total → head_of section bytes ≡ Stands order kind total
+head_stands : (section : Option Order) (bytes : List ℕ) (order : Order) (kind : Kind) (total : ℕ) → HasHead section bytes order kind total
+    → head_of section bytes ≡ Stands order kind total
 head_stands section bytes order kind total h =
     begins_head section bytes order kind h.begins
     ∙ sized_true order kind bytes (total_true kind (total_at order bytes) (subst (IsLawfulTotal kind) h.total_is h.lawful))
@@ -265,7 +300,8 @@ head_flawed section bytes BadMagic (inl h) =
     head_block section bytes h.size (section_no bytes h.other) ∙ ap (λ (o : Option Order). block_head o bytes) h.outside
 head_flawed section bytes BadMagic (inr h) =
     let size : 12 ≤ length bytes = h.size in
-    head_section section bytes (omega (arith, size)) (section_yes bytes h.type_is) ∙ section_long bytes size ∙ ap (λ (o : Option Order). in_order o bytes) h.magic
+    head_section section bytes (omega (arith, size)) (section_yes bytes h.type_is) ∙ section_long bytes size
+    ∙ ap (λ (o : Option Order). in_order o bytes) h.magic
 head_flawed section bytes BadLength h =
     begins_head section bytes h.order h.kind h.begins ∙ sized_false h.order h.kind bytes (elim (bool_case (is_total h.kind (total_at h.order bytes))) [
       | inl lawful ↦ absurd (h.total (total_lawful h.kind (total_at h.order bytes) lawful))
@@ -280,15 +316,23 @@ head_flawed section bytes NoInterface h = absurd h
 data HeadCase (section : Option Order) (bytes : List ℕ) : Type 0 where
   Unseen : head_of section bytes ≡ Short → HeadCase section bytes
   Breaking : (flaw : Flaw) → head_of section bytes ≡ Flawed flaw → HeadBreaks section bytes flaw → HeadCase section bytes
-  Standing : (order : Order) (kind : Kind) (total : ℕ) → head_of section bytes ≡ Stands order kind total → HasHead section bytes order kind total → HeadCase section bytes
+  Standing : (order : Order) (kind : Kind) (total : ℕ) → head_of section bytes ≡ Stands order kind total → HasHead section bytes order kind total
+      → HeadCase section bytes
 
 by_size : (section : Option Order) (bytes : List ℕ) (order : Order) (kind : Kind) → BeginsAs section bytes order kind → HeadCase section bytes
 by_size section bytes order kind h = elim (bool_case (is_total kind (total_at order bytes))) [
   | inl lawful ↦
-      let head : HasHead section bytes order kind (total_at order bytes) = record { begins = h; total_is = refl; lawful = total_lawful kind (total_at order bytes) lawful } in
+      let head : HasHead section bytes order kind (total_at order bytes) =
+      record { begins = h; total_is = refl; lawful = total_lawful kind (total_at order bytes) lawful } in
       Standing order kind (total_at order bytes) (head_stands section bytes order kind (total_at order bytes) head) head
   | inr other ↦
-      let breaks : BreaksRule3 section bytes = record { order = order; kind = kind; begins = h; total = λ l. true_false (is_total kind (total_at order bytes)) (total_true kind (total_at order bytes) l) other } in
+      let breaks : BreaksRule3 section bytes =
+      record {
+        order = order;
+        kind = kind;
+        begins = h;
+        total = λ l. true_false (is_total kind (total_at order bytes)) (total_true kind (total_at order bytes) l) other;
+      } in
       Breaking BadLength (head_flawed section bytes BadLength breaks) breaks
 ]
 
@@ -303,8 +347,10 @@ by_section section None bytes size other h =
     let breaks : BreaksRule1 section bytes = record { size = size; outside = h; other = other } in
     Breaking BadMagic (head_flawed section bytes BadMagic (inl breaks)) (inl breaks)
 by_section section (Some order) bytes size other h = elim (cases_lt (length bytes) 8) [
-  | inl short ↦ Unseen (head_block section bytes size (section_no bytes other) ∙ ap (λ (o : Option Order). block_head o bytes) h ∙ block_short order bytes short)
-  | inr whole ↦ by_size section bytes order (kind_of (number_in order 4 bytes)) (inr (record { size = whole; other = other; within = h; type_is = kind_is (number_in order 4 bytes) }))
+  | inl short ↦ Unseen
+      (head_block section bytes size (section_no bytes other) ∙ ap (λ (o : Option Order). block_head o bytes) h ∙ block_short order bytes short)
+  | inr whole ↦ by_size section bytes order (kind_of (number_in order 4 bytes))
+      (inr (record { size = whole; other = other; within = h; type_is = kind_is (number_in order 4 bytes) }))
 ]
 
 head_case : (section : Option Order) (bytes : List ℕ) → HeadCase section bytes
@@ -325,18 +371,26 @@ head_case section bytes = elim (cases_lt (length bytes) 4) [
 data StepCase (links : LinkSet) (s : State) (bytes : List ℕ) : Type 0 where
   Wanting : step links s bytes ≡ Wants → StepCase links s bytes
   Flaws : (flaw : Flaw) → step links s bytes ≡ Bad (fault_of s.count flaw) → HasFlaw links s bytes flaw → StepCase links s bytes
-  Block : (n : ℕ) (content : Content) → step links s bytes ≡ Takes n (frames_of s.count content (take n bytes)) (after s content) → IsBlock links s bytes n (frames_of s.count content (take n bytes)) (after s content) → StepCase links s bytes
+  Block : (n : ℕ) (content : Content) → step links s bytes ≡ Takes n (frames_of s.count content (take n bytes)) (after s content)
+      → IsBlock links s bytes n (frames_of s.count content (take n bytes)) (after s content) → StepCase links s bytes
 
-step_content : (links : LinkSet) (s : State) (bytes : List ℕ) (order : Order) (kind : Kind) (total : ℕ) (found : Result Content Flaw) → HasBlock s.order bytes order kind total → content_of links s.interfaces order kind (take total bytes) ≡ found → step links s bytes ≡ block_found s (take total bytes) found
+step_content : (links : LinkSet) (s : State) (bytes : List ℕ) (order : Order) (kind : Kind) (total : ℕ) (found : Result Content Flaw)
+    → HasBlock s.order bytes order kind total → content_of links s.interfaces order kind (take total bytes) ≡ found
+    → step links s bytes ≡ block_found s (take total bytes) found
 step_content links s bytes order kind total found h is =
     step_at links s bytes (Stands order kind total) (head_stands s.order bytes order kind total h.head)
     ∙ found_whole links s bytes order kind total h.whole
     ∙ ap (λ (x : Result Content Flaw). block_found s (take total bytes) x) is
 
-step_block : (links : LinkSet) (s : State) (bytes : List ℕ) (order : Order) (kind : Kind) (total : ℕ) (content : Content) → HasBlock s.order bytes order kind total → last_total order (take total bytes) ≡ total → BlockStates links s.interfaces order kind (take total bytes) content → step links s bytes ≡ Takes total (frames_of s.count content (take total bytes)) (after s content)
+step_block : (links : LinkSet) (s : State) (bytes : List ℕ) (order : Order) (kind : Kind) (total : ℕ) (content : Content)
+    → HasBlock s.order bytes order kind total → last_total order (take total bytes) ≡ total
+    → BlockStates links s.interfaces order kind (take total bytes) content
+    → step links s bytes ≡ Takes total (frames_of s.count content (take total bytes)) (after s content)
 step_block links s bytes order kind total content h last states =
     let size : length (take total bytes) ≡ total = length_front total bytes h.whole in
-    step_content links s bytes order kind total (Ok content) h (closed links s.interfaces order kind (take total bytes) (last ∙ sym size) ∙ stated_lawful links s.interfaces order kind (take total bytes) content states)
+    step_content links s bytes order kind total (Ok content) h
+    (closed links s.interfaces order kind (take total bytes) (last ∙ sym size)
+    ∙ stated_lawful links s.interfaces order kind (take total bytes) content states)
     ∙ ap (λ n. Takes n (frames_of s.count content (take total bytes)) (after s content)) size
 
 step_flawed : (links : LinkSet) (s : State) (bytes : List ℕ) (flaw : Flaw) → HasFlaw links s bytes flaw → step links s bytes ≡ Bad (fault_of s.count flaw)
@@ -344,20 +398,28 @@ step_flawed links s bytes flaw (inl h) = step_at links s bytes (Flawed flaw) (he
 step_flawed links s bytes flaw (inr (inl h)) =
     let it = h.1 in
     let size : length (take it.total bytes) ≡ it.total = length_front it.total bytes it.block.whole in
-    step_content links s bytes it.order it.kind it.total (Err BadLength) it.block (not_closed links s.interfaces it.order it.kind (take it.total bytes) (λ e. it.last (e ∙ size)))
+    step_content links s bytes it.order it.kind it.total (Err BadLength) it.block
+    (not_closed links s.interfaces it.order it.kind (take it.total bytes) (λ e. it.last (e ∙ size)))
     ∙ ap (λ (f : Flaw). Bad (fault_of s.count f)) (sym h.0)
 step_flawed links s bytes flaw (inr (inr it)) =
     let size : length (take it.total bytes) ≡ it.total = length_front it.total bytes it.block.whole in
-    step_content links s bytes it.order it.kind it.total (Err flaw) it.block (closed links s.interfaces it.order it.kind (take it.total bytes) (it.last ∙ sym size) ∙ stated_broken links s.interfaces it.order it.kind (take it.total bytes) flaw it.breaks)
+    step_content links s bytes it.order it.kind it.total (Err flaw) it.block
+    (closed links s.interfaces it.order it.kind (take it.total bytes) (it.last ∙ sym size)
+    ∙ stated_broken links s.interfaces it.order it.kind (take it.total bytes) flaw it.breaks)
 
-by_content : (links : LinkSet) (s : State) (bytes : List ℕ) (order : Order) (kind : Kind) (total : ℕ) → HasBlock s.order bytes order kind total → last_total order (take total bytes) ≡ total → BlockCase (stated links s.interfaces order kind (take total bytes)) (BlockBreaks links s.interfaces order kind (take total bytes)) (BlockStates links s.interfaces order kind (take total bytes)) → StepCase links s bytes
+by_content : (links : LinkSet) (s : State) (bytes : List ℕ) (order : Order) (kind : Kind) (total : ℕ) → HasBlock s.order bytes order kind total
+    → last_total order (take total bytes) ≡ total
+    → BlockCase (stated links s.interfaces order kind (take total bytes)) (BlockBreaks links s.interfaces order kind (take total bytes))
+    (BlockStates links s.interfaces order kind (take total bytes)) → StepCase links s bytes
 by_content links s bytes order kind total block last (Breaking flaw is h) =
     let breaks : HasFlaw links s bytes flaw = inr (inr (record { order = order; kind = kind; total = total; block = block; last = last; breaks = h })) in
     Flaws flaw (step_flawed links s bytes flaw breaks) breaks
 by_content links s bytes order kind total block last (Stating content is h) =
-    Block total content (step_block links s bytes order kind total content block last h) (record { order = order; kind = kind; content = content; block = block; last = last; states = h; frames_are = refl; after_is = refl })
+    Block total content (step_block links s bytes order kind total content block last h)
+    (record { order = order; kind = kind; content = content; block = block; last = last; states = h; frames_are = refl; after_is = refl })
 
-by_block : (links : LinkSet) (s : State) (bytes : List ℕ) (order : Order) (kind : Kind) (total : ℕ) → HasBlock s.order bytes order kind total → StepCase links s bytes
+by_block : (links : LinkSet) (s : State) (bytes : List ℕ) (order : Order) (kind : Kind) (total : ℕ) → HasBlock s.order bytes order kind total
+    → StepCase links s bytes
 by_block links s bytes order kind total block = elim (cases_eq (last_total order (take total bytes)) total) [
   | inl last ↦ by_content links s bytes order kind total block last (stated_case links s.interfaces order kind (take total bytes))
   | inr other ↦
@@ -394,12 +456,15 @@ takes_frames n m a b t u h = cc
 takes_state : (n m : ℕ) (a b : List FrameValue) (t u : State) → ◌≡◌ {A = Shown} (Takes n a t) (Takes m b u) → t ≡ u
 takes_state n m a b t u h = cc
 
-bad_by_rules : (links : LinkSet) (s : State) (bytes : List ℕ) (fault : NgFault) → step links s bytes ≡ Bad fault → StepCase links s bytes → (flaw : Flaw) × (fault ≡ fault_of s.count flaw) × HasFlaw links s bytes flaw
+bad_by_rules : (links : LinkSet) (s : State) (bytes : List ℕ) (fault : NgFault) → step links s bytes ≡ Bad fault → StepCase links s bytes → (flaw : Flaw)
+    × (fault ≡ fault_of s.count flaw) × HasFlaw links s bytes flaw
 bad_by_rules links s bytes fault h (Wanting is) = absurd (wants_bad fault (sym is ∙ h))
 bad_by_rules links s bytes fault h (Flaws flaw is breaks) = (flaw, bad_same fault (fault_of s.count flaw) (sym h ∙ is), breaks)
-bad_by_rules links s bytes fault h (Block n content is block) = absurd (bad_takes fault n (frames_of s.count content (take n bytes)) (after s content) (sym h ∙ is))
+bad_by_rules links s bytes fault h (Block n content is block) =
+    absurd (bad_takes fault n (frames_of s.count content (take n bytes)) (after s content) (sym h ∙ is))
 
-takes_by_rules : (links : LinkSet) (s : State) (bytes : List ℕ) (n : ℕ) (frames : List FrameValue) (t : State) → step links s bytes ≡ Takes n frames t → StepCase links s bytes → IsBlock links s bytes n frames t
+takes_by_rules : (links : LinkSet) (s : State) (bytes : List ℕ) (n : ℕ) (frames : List FrameValue) (t : State) → step links s bytes ≡ Takes n frames t
+    → StepCase links s bytes → IsBlock links s bytes n frames t
 takes_by_rules links s bytes n frames t h (Wanting is) = absurd (wants_takes n frames t (sym is ∙ h))
 takes_by_rules links s bytes n frames t h (Flaws flaw is breaks) = absurd (bad_takes (fault_of s.count flaw) n frames t (sym is ∙ h))
 takes_by_rules links s bytes n frames t h (Block m content is block) =
@@ -409,7 +474,8 @@ takes_by_rules links s bytes n frames t h (Block m content is block) =
     (subst (λ (x : List FrameValue). IsBlock links s bytes m x t) (takes_frames m n given frames next t (sym is ∙ h))
     (subst (λ (x : State). IsBlock links s bytes m given x) (takes_state m n given frames next t (sym is ∙ h)) block))
 
-block_taken : (links : LinkSet) (s : State) (bytes : List ℕ) (n : ℕ) (frames : List FrameValue) (t : State) → IsBlock links s bytes n frames t → step links s bytes ≡ Takes n frames t
+block_taken : (links : LinkSet) (s : State) (bytes : List ℕ) (n : ℕ) (frames : List FrameValue) (t : State) → IsBlock links s bytes n frames t
+    → step links s bytes ≡ Takes n frames t
 block_taken links s bytes n frames t h =
     step_block links s bytes h.order h.kind n h.content h.block h.last h.states
     ∙ ap (λ (x : List FrameValue). Takes n x (after s h.content)) (sym h.frames_are)

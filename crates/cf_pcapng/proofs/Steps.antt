@@ -39,7 +39,8 @@ step_at links s bytes head h = ap (λ (x : Head). found_at links s bytes x) h
 
 -- What more bytes leave.
 
-found_stays : (links : LinkSet) (s : State) (xs ys : List ℕ) (head : Head) → (found_at links s xs head ≡ Wants → ⊥) → found_at links s (xs ++ ys) head ≡ found_at links s xs head
+found_stays : (links : LinkSet) (s : State) (xs ys : List ℕ) (head : Head) → (found_at links s xs head ≡ Wants → ⊥)
+    → found_at links s (xs ++ ys) head ≡ found_at links s xs head
 found_stays links s xs ys Short seen = refl
 found_stays links s xs ys (Flawed flaw) seen = refl
 found_stays links s xs ys (Stands order kind total) seen = elim (cases_lt (length xs) total) [
@@ -59,7 +60,8 @@ step_stays links s xs ys seen =
 bad_stays : (links : LinkSet) (s : State) (bytes more : List ℕ) (fault : NgFault) → step links s bytes ≡ Bad fault → step links s (bytes ++ more) ≡ Bad fault
 bad_stays links s bytes more fault h = step_stays links s bytes more (λ w. wants_not_bad fault (sym w ∙ h)) ∙ h
 
-takes_stays : (links : LinkSet) (s : State) (bytes more : List ℕ) (n : ℕ) (items : List FrameValue) (t : State) → step links s bytes ≡ Takes n items t → step links s (bytes ++ more) ≡ Takes n items t
+takes_stays : (links : LinkSet) (s : State) (bytes more : List ℕ) (n : ℕ) (items : List FrameValue) (t : State) → step links s bytes ≡ Takes n items t
+    → step links s (bytes ++ more) ≡ Takes n items t
 takes_stays links s bytes more n items t h = step_stays links s bytes more (λ w. wants_not_takes n items t (sym w ∙ h)) ∙ h
 
 -- What a block that is taken is.
@@ -86,7 +88,10 @@ taken_state n m a b t u h = cc
 pub length_front : (n : ℕ) (bytes : List ℕ) → n ≤ length bytes → length (take n bytes) ≡ n
 length_front n bytes h = omega (arith, h, length-take n bytes)
 
-taken_of_content : (links : LinkSet) (s : State) (bytes : List ℕ) (order : Order) (kind : Kind) (total n : ℕ) (items : List FrameValue) (t : State) → Standing s.order bytes order kind total → total ≤ length bytes → (found : Result Content Flaw) → content_of links s.interfaces order kind (take total bytes) ≡ found → block_found s (take total bytes) found ≡ Takes n items t → Taken links s bytes n items t
+taken_of_content : (links : LinkSet) (s : State) (bytes : List ℕ) (order : Order) (kind : Kind) (total n : ℕ) (items : List FrameValue) (t : State)
+    → Standing s.order bytes order kind total → total ≤ length bytes → (found : Result Content Flaw)
+    → content_of links s.interfaces order kind (take total bytes) ≡ found → block_found s (take total bytes) found ≡ Takes n items t
+    → Taken links s bytes n items t
 taken_of_content links s bytes order kind total n items t stands whole (Err flaw) is h = absurd (bad_not_takes (fault_of s.count flaw) n items t h)
 taken_of_content links s bytes order kind total n items t stands whole (Ok content) is h =
     let block : List ℕ = take total bytes in
@@ -98,25 +103,31 @@ taken_of_content links s bytes order kind total n items t stands whole (Ok conte
       whole = subst (λ (m : ℕ). m ≤ length bytes) total_is whole;
       content = content;
       states = subst (λ (m : ℕ). content_of links s.interfaces order kind (take m bytes) ≡ Ok content) total_is is;
-      items_are = sym (taken_items (length block) n (frames_of s.count content block) items (after s content) t h) ∙ ap (λ m. frames_of s.count content (take m bytes)) total_is;
+      items_are = sym (taken_items (length block) n (frames_of s.count content block) items (after s content) t h)
+          ∙ ap (λ m. frames_of s.count content (take m bytes)) total_is;
       after_is = sym (taken_state (length block) n (frames_of s.count content block) items (after s content) t h);
     }
 
-pub found_short : (links : LinkSet) (s : State) (bytes : List ℕ) (order : Order) (kind : Kind) (total : ℕ) → length bytes < total → found_at links s bytes (Stands order kind total) ≡ Wants
+pub found_short : (links : LinkSet) (s : State) (bytes : List ℕ) (order : Order) (kind : Kind) (total : ℕ) → length bytes < total
+    → found_at links s bytes (Stands order kind total) ≡ Wants
 found_short links s bytes order kind total h = rw (below (length bytes) total h) refl
 
-pub found_whole : (links : LinkSet) (s : State) (bytes : List ℕ) (order : Order) (kind : Kind) (total : ℕ) → total ≤ length bytes → found_at links s bytes (Stands order kind total) ≡ block_found s (take total bytes) (content_of links s.interfaces order kind (take total bytes))
+pub found_whole : (links : LinkSet) (s : State) (bytes : List ℕ) (order : Order) (kind : Kind) (total : ℕ) → total ≤ length bytes
+    → found_at links s bytes (Stands order kind total) ≡ block_found s (take total bytes) (content_of links s.interfaces order kind (take total bytes))
 found_whole links s bytes order kind total h = rw (not_below (length bytes) total h) refl
 
-taken_at : (links : LinkSet) (s : State) (bytes : List ℕ) (n : ℕ) (items : List FrameValue) (t : State) (head : Head) → head_of s.order bytes ≡ head → found_at links s bytes head ≡ Takes n items t → Taken links s bytes n items t
+taken_at : (links : LinkSet) (s : State) (bytes : List ℕ) (n : ℕ) (items : List FrameValue) (t : State) (head : Head) → head_of s.order bytes ≡ head
+    → found_at links s bytes head ≡ Takes n items t → Taken links s bytes n items t
 taken_at links s bytes n items t Short is h = absurd (wants_not_takes n items t h)
 taken_at links s bytes n items t (Flawed flaw) is h = absurd (bad_not_takes (fault_of s.count flaw) n items t h)
 taken_at links s bytes n items t (Stands order kind total) is h = elim (cases_lt (length bytes) total) [
   | inl short ↦ absurd (wants_not_takes n items t (sym (found_short links s bytes order kind total short) ∙ h))
-  | inr whole ↦ taken_of_content links s bytes order kind total n items t (standing s.order bytes order kind total is) whole (content_of links s.interfaces order kind (take total bytes)) refl (sym (found_whole links s bytes order kind total whole) ∙ h)
+  | inr whole ↦ taken_of_content links s bytes order kind total n items t (standing s.order bytes order kind total is) whole
+      (content_of links s.interfaces order kind (take total bytes)) refl (sym (found_whole links s bytes order kind total whole) ∙ h)
 ]
 
-pub taken : (links : LinkSet) (s : State) (bytes : List ℕ) (n : ℕ) (items : List FrameValue) (t : State) → step links s bytes ≡ Takes n items t → Taken links s bytes n items t
+pub taken : (links : LinkSet) (s : State) (bytes : List ℕ) (n : ℕ) (items : List FrameValue) (t : State) → step links s bytes ≡ Takes n items t
+    → Taken links s bytes n items t
 taken links s bytes n items t h = taken_at links s bytes n items t (head_of s.order bytes) refl (sym (step_at links s bytes (head_of s.order bytes) refl) ∙ h)
 
 frames_few : (k : ℕ) (content : Content) (block : List ℕ) → length (frames_of k content block) ≤ 1
@@ -139,14 +150,16 @@ taken_least links s bytes n items t it =
 
 -- A block that gives a frame has 16 bytes at least.
 
-content_least : (links : LinkSet) (interfaces : List Interface) (order : Order) (kind : Kind) (block : List ℕ) (k : ℕ) (content : Content) → stated links interfaces order kind block ≡ Ok content → 16 * length (frames_of k content block) ≤ least kind
+content_least : (links : LinkSet) (interfaces : List Interface) (order : Order) (kind : Kind) (block : List ℕ) (k : ℕ) (content : Content)
+    → stated links interfaces order kind block ≡ Ok content → 16 * length (frames_of k content block) ≤ least kind
 content_least links interfaces order SectionHeader block k content h = let few = frames_few k content block in omega (arith, few)
 content_least links interfaces order InterfaceDescription block k content h = let few = frames_few k content block in omega (arith, few)
 content_least links interfaces order EnhancedPacket block k content h = let few = frames_few k content block in omega (arith, few)
 content_least links interfaces order SimplePacket block k content h = let few = frames_few k content block in omega (arith, few)
 content_least links interfaces order Other block k content h = let is : content ≡ Nothing = cc h in rw is (omega arith)
 
-content_stated : (links : LinkSet) (interfaces : List Interface) (order : Order) (kind : Kind) (block : List ℕ) (content : Content) → content_of links interfaces order kind block ≡ Ok content → stated links interfaces order kind block ≡ Ok content
+content_stated : (links : LinkSet) (interfaces : List Interface) (order : Order) (kind : Kind) (block : List ℕ) (content : Content)
+    → content_of links interfaces order kind block ≡ Ok content → stated links interfaces order kind block ≡ Ok content
 unfolding content_of
 content_stated links interfaces order kind block content h = elim (cases_Bool (last_total order block == length block)) [
   | inl same ↦ sym (rw same refl) ∙ h
@@ -158,13 +171,15 @@ content_stated links interfaces order kind block content h = elim (cases_Bool (l
 taken_few : (links : LinkSet) (s : State) (bytes : List ℕ) (n : ℕ) (items : List FrameValue) (t : State) → Taken links s bytes n items t → 16 * length items ≤ n
 taken_few links s bytes n items t it =
     let most : 16 * length (frames_of s.count it.content (take n bytes)) ≤ least it.kind =
-    content_least links s.interfaces it.order it.kind (take n bytes) s.count it.content (content_stated links s.interfaces it.order it.kind (take n bytes) it.content it.states) in
+    content_least links s.interfaces it.order it.kind (take n bytes) s.count it.content
+    (content_stated links s.interfaces it.order it.kind (take n bytes) it.content it.states) in
     let size : least it.kind ≤ n = at_least it.kind n it.stands.lawful in
     let same : length items ≡ length (frames_of s.count it.content (take n bytes)) = ap length it.items_are in
     omega (arith, most, size, same)
 
 -- a block that bytes only begin is longer
-taken_total : (links : LinkSet) (s : State) (bytes : List ℕ) (order : Order) (kind : Kind) (total n : ℕ) (items : List FrameValue) (t : State) → found_at links s bytes (Stands order kind total) ≡ Takes n items t → total ≡ n
+taken_total : (links : LinkSet) (s : State) (bytes : List ℕ) (order : Order) (kind : Kind) (total n : ℕ) (items : List FrameValue) (t : State)
+    → found_at links s bytes (Stands order kind total) ≡ Takes n items t → total ≡ n
 taken_total links s bytes order kind total n items t h = elim (cases_lt (length bytes) total) [
   | inl short ↦ absurd (wants_not_takes n items t (sym (found_short links s bytes order kind total short) ∙ h))
   | inr whole ↦ by_content whole (content_of links s.interfaces order kind (take total bytes)) (sym (found_whole links s bytes order kind total whole) ∙ h)
@@ -178,16 +193,20 @@ block_not_wants : (s : State) (block : List ℕ) (found : Result Content Flaw) �
 block_not_wants s block (Err flaw) h = wants_not_bad (fault_of s.count flaw) (sym h)
 block_not_wants s block (Ok content) h = wants_not_takes (length block) (frames_of s.count content block) (after s content) (sym h)
 
-late_at : (links : LinkSet) (s : State) (bytes more : List ℕ) (n : ℕ) (items : List FrameValue) (t : State) (head : Head) → head_of s.order bytes ≡ head → step links s bytes ≡ Wants → step links s (bytes ++ more) ≡ Takes n items t → n ≤ length bytes → ⊥
+late_at : (links : LinkSet) (s : State) (bytes more : List ℕ) (n : ℕ) (items : List FrameValue) (t : State) (head : Head) → head_of s.order bytes ≡ head
+    → step links s bytes ≡ Wants → step links s (bytes ++ more) ≡ Takes n items t → n ≤ length bytes → ⊥
 late_at links s bytes more n items t Short is wants takes whole =
     let some : 12 ≤ n = taken_least links s (bytes ++ more) n items t (taken links s (bytes ++ more) n items t takes) in
     let short : length bytes < 12 = seen_size s.order bytes is in
     omega (arith, some, whole, short)
-late_at links s bytes more n items t (Flawed flaw) is wants takes whole = wants_not_bad (fault_of s.count flaw) (sym wants ∙ step_at links s bytes (Flawed flaw) is)
+late_at links s bytes more n items t (Flawed flaw) is wants takes whole =
+    wants_not_bad (fault_of s.count flaw) (sym wants ∙ step_at links s bytes (Flawed flaw) is)
 late_at links s bytes more n items t (Stands order kind total) is wants takes whole = elim (cases_lt (length bytes) total) [
   | inl short ↦
-      let same : head_of s.order (bytes ++ more) ≡ Stands order kind total = head_stays s.order bytes more (λ h. short_not_stands order kind total (sym h ∙ is)) ∙ is in
-      let one : total ≡ n = taken_total links s (bytes ++ more) order kind total n items t (sym (step_at links s (bytes ++ more) (Stands order kind total) same) ∙ takes) in
+      let same : head_of s.order (bytes ++ more) ≡ Stands order kind total =
+      head_stays s.order bytes more (λ h. short_not_stands order kind total (sym h ∙ is)) ∙ is in
+      let one : total ≡ n =
+      taken_total links s (bytes ++ more) order kind total n items t (sym (step_at links s (bytes ++ more) (Stands order kind total) same) ∙ takes) in
       omega (arith, short, whole, one)
   | inr long ↦ block_not_wants s (take total bytes) (content_of links s.interfaces order kind (take total bytes))
       (sym (found_whole links s bytes order kind total long) ∙ (sym (step_at links s bytes (Stands order kind total) is) ∙ wants))
@@ -195,7 +214,8 @@ late_at links s bytes more n items t (Stands order kind total) is wants takes wh
   short_not_stands : (order : Order) (kind : Kind) (total : ℕ) → Short ≡ Stands order kind total → ⊥
   short_not_stands order kind total h = cc
 
-late : (links : LinkSet) (s : State) (bytes more : List ℕ) (n : ℕ) (items : List FrameValue) (t : State) → step links s bytes ≡ Wants → step links s (bytes ++ more) ≡ Takes n items t → length bytes < n
+late : (links : LinkSet) (s : State) (bytes more : List ℕ) (n : ℕ) (items : List FrameValue) (t : State) → step links s bytes ≡ Wants
+    → step links s (bytes ++ more) ≡ Takes n items t → length bytes < n
 late links s bytes more n items t wants takes = elim (cases_lt (length bytes) n) [
   | inl short ↦ short
   | inr whole ↦ absurd (late_at links s bytes more n items t (head_of s.order bytes) refl wants takes whole)
@@ -211,7 +231,8 @@ stepper links = record {
   nothing = step_nothing links;
   bad_stays = bad_stays links;
   takes_stays = takes_stays links;
-  size = λ s bytes n items t h. let it = taken links s bytes n items t h in let some : 12 ≤ n = taken_least links s bytes n items t it in (omega (arith, some), it.whole);
+  size = λ s bytes n items t h. let it = taken links s bytes n items t h in let some : 12 ≤ n = taken_least links s bytes n items t it in
+      (omega (arith, some), it.whole);
   late = late links;
   one = λ s bytes n items t h.
       let it = taken links s bytes n items t h in

@@ -140,7 +140,8 @@ interface_at order block = record {
 -- rules 7 to 9, of a packet in a block with room for so many bytes
 unfoldable pub packet_of : LinkSet → ℕ → Packet → Result Content Flaw
 packet_of links room packet =
-    if is_link links packet.link then (if nat_le packet.caplen longest then (if nat_le packet.caplen room then Ok (Captures packet) else Err BadLength) else Err FrameTooLong)
+    if is_link links packet.link then
+    (if nat_le packet.caplen longest then (if nat_le packet.caplen room then Ok (Captures packet) else Err BadLength) else Err FrameTooLong)
     else Err BadLink
 
 -- the time of an enhanced packet: the high and the low 32 bits

@@ -56,7 +56,8 @@ IsEnded links stream answer = streams.IsEnded (pcapng links) stream answer
 
 -- what holds of every reader: its bytes and frames fit, it holds less than a block, and want of memory doesn't stop it
 abbrev pub IsSoundAt : Stage → PcapNgValue → Type 0
-IsSoundAt Running reader = (reader.total < 2 ^ 32) × (reader.state.count + length reader.held ≤ reader.total) × (length reader.held < 2 ^ 20) × HasRoom reader.passed
+IsSoundAt Running reader = (reader.total < 2 ^ 32) × (reader.state.count + length reader.held ≤ reader.total) × (length reader.held < 2 ^ 20)
+    × HasRoom reader.passed
 IsSoundAt (Stopped fault) reader = (fault ≡ Memory → ⊥) × (reader.held ≡ [])
 
 -- what holds of every reader, whatever its stage
@@ -94,7 +95,8 @@ pub record IsStageAtLimit (links : LinkSet) (s : State) (passed : Option Passed)
   pub flaw : Option Flaw
   pub last : State
   pub shows : ShowsLate flaw last fault
-  pub read : (gone : List ℕ) → WasPassed s.order passed gone → (frames : List FrameValue) × (block : Option Passed) × (rest : List ℕ) × AreReadOn links s (gone ++ (held ++ byte)) frames last block rest flaw
+  pub read : (gone : List ℕ) → WasPassed s.order passed gone → (frames : List FrameValue) × (block : Option Passed) × (rest : List ℕ)
+      × AreReadOn links s (gone ++ (held ++ byte)) frames last block rest flaw
 
 -- the stage after the bytes that came early enough, where `late` come late
 abbrev pub IsStageAfter : LinkSet → State → Option Passed → List ℕ → Option Flaw → List ℕ → Stage → Type 0

@@ -121,16 +121,20 @@ PacketOfStates links (Some interface) room packet content = IsLawfulPacket links
 abbrev pub BlockBreaks : LinkSet → List Interface → Order → Kind → List ℕ → Flaw → Type 0
 BlockBreaks links interfaces order SectionHeader block flaw = (flaw ≡ BadVersion) × (number_in order 2 (drop 12 block) ≡ 1 → ⊥)
 BlockBreaks links interfaces order InterfaceDescription block flaw = ⊥
-BlockBreaks links interfaces order EnhancedPacket block flaw = PacketOfBreaks links (slice_get interfaces (number_in order 4 (drop 8 block))) (length block - 32) (λ i. enhanced_packet i order block) flaw
-BlockBreaks links interfaces order SimplePacket block flaw = PacketOfBreaks links (slice_get interfaces 0) (length block - 16) (λ i. simple_packet i order block) flaw
+BlockBreaks links interfaces order EnhancedPacket block flaw =
+    PacketOfBreaks links (slice_get interfaces (number_in order 4 (drop 8 block))) (length block - 32) (λ i. enhanced_packet i order block) flaw
+BlockBreaks links interfaces order SimplePacket block flaw =
+    PacketOfBreaks links (slice_get interfaces 0) (length block - 16) (λ i. simple_packet i order block) flaw
 BlockBreaks links interfaces order Other block flaw = ⊥
 
 -- what a whole block states that breaks no rule
 abbrev pub BlockStates : LinkSet → List Interface → Order → Kind → List ℕ → Content → Type 0
 BlockStates links interfaces order SectionHeader block content = (number_in order 2 (drop 12 block) ≡ 1) × (content ≡ NewSection order)
 BlockStates links interfaces order InterfaceDescription block content = content ≡ NewInterface (interface_at order block)
-BlockStates links interfaces order EnhancedPacket block content = PacketOfStates links (slice_get interfaces (number_in order 4 (drop 8 block))) (length block - 32) (λ i. enhanced_packet i order block) content
-BlockStates links interfaces order SimplePacket block content = PacketOfStates links (slice_get interfaces 0) (length block - 16) (λ i. simple_packet i order block) content
+BlockStates links interfaces order EnhancedPacket block content =
+    PacketOfStates links (slice_get interfaces (number_in order 4 (drop 8 block))) (length block - 32) (λ i. enhanced_packet i order block) content
+BlockStates links interfaces order SimplePacket block content =
+    PacketOfStates links (slice_get interfaces 0) (length block - 16) (λ i. simple_packet i order block) content
 BlockStates links interfaces order Other block content = content ≡ Nothing
 
 -- a block stands whole at the front: so many bytes
@@ -157,7 +161,8 @@ pub record BreaksRules5To9 (links : LinkSet) (section : Option Order) (interface
 
 -- the first rule that the block at the front breaks
 abbrev pub HasFlaw : LinkSet → State → List ℕ → Flaw → Type 0
-HasFlaw links s bytes flaw = HeadBreaks s.order bytes flaw ⊎ (((flaw ≡ BadLength) × BreaksRule4 s.order bytes) ⊎ BreaksRules5To9 links s.order s.interfaces bytes flaw)
+HasFlaw links s bytes flaw = HeadBreaks s.order bytes flaw
+    ⊎ (((flaw ≡ BadLength) × BreaksRule4 s.order bytes) ⊎ BreaksRules5To9 links s.order s.interfaces bytes flaw)
 
 -- a block of n bytes at the front breaks none, and gives these frames and this state
 pub record IsBlock (links : LinkSet) (s : State) (bytes : List ℕ) (n : ℕ) (frames : List FrameValue) (t : State) : Type 0 where
@@ -182,7 +187,8 @@ pub record StepsByRules (links : LinkSet) (s : State) (bytes : List ℕ) : Type 
 -- from a state the bytes are these blocks end to end, and then the rest
 abbrev pub AreBlocksThen : LinkSet → State → List (Part State FrameValue) → List ℕ → State → List ℕ → Type 0
 AreBlocksThen links s [] bytes t rest = (s ≡ t) × (bytes ≡ rest)
-AreBlocksThen links s (part ∷ parts) bytes t rest = IsBlock links s bytes part.size part.items part.after × AreBlocksThen links part.after parts (drop part.size bytes) t rest
+AreBlocksThen links s (part ∷ parts) bytes t rest = IsBlock links s bytes part.size part.items part.after
+    × AreBlocksThen links part.after parts (drop part.size bytes) t rest
 
 -- a file begins with blocks of these frames, which lead to a state, and then comes the rest
 pub record BeginsWith (links : LinkSet) (file : List ℕ) (frames : List FrameValue) (last : State) (rest : List ℕ) : Type 0 where

@@ -28,7 +28,8 @@ use Rattle.cf_report.proofs.Legal.{finals_meant}
 low_range : (n : ℕ) → All (λ place. place < n) (range_with_len 0 n)
 low_range n k d lt = let e = get_or-range_with_len 0 n k d (omega (arith, lt, length-range_with_len 0 n)) in omega (arith, e, lt, length-range_with_len 0 n)
 
-low_places : (p : RowValue → Bool) (rows : List RowValue) → All (λ place. place < length rows) (filter (λ place. p (row_at rows place)) (range_with_len 0 (length rows)))
+low_places : (p : RowValue → Bool) (rows : List RowValue)
+    → All (λ place. place < length rows) (filter (λ place. p (row_at rows place)) (range_with_len 0 (length rows)))
 low_places p rows = All-filter (λ place. p (row_at rows place)) (λ place. place < length rows) (range_with_len 0 (length rows)) (low_range (length rows))
 
 pub body_within : (shape : ShapeValue) (ask : Ask) (rows : List RowValue) → IsWithin (length rows) (eval_rows shape ask rows)
@@ -56,18 +57,25 @@ within_more m n (bodies.Marks marks) le within = tt
 within_more m n (bodies.Tops tops) le within = tt
 
 within_log : (shape : ShapeValue) (ask : Ask) (log : List Entry) (n : ℕ) → length log ≤ n → IsWithin n (eval shape ask log)
-within_log shape ask log n le = let same : length (rows_in log) ≡ length log = length-map log (λ (entry : Entry). entry.row) in within_more (length (rows_in log)) n (eval shape ask log) (omega (arith, same, le)) (body_within shape ask (rows_in log))
+within_log shape ask log n le = let same : length (rows_in log) ≡ length log = length-map log (λ (entry : Entry). entry.row) in
+    within_more (length (rows_in log)) n (eval shape ask log) (omega (arith, same, le)) (body_within shape ask (rows_in log))
 
 module _ (shape : ShapeValue) (setup : SetupValue) (log : List Entry) where
-  lives_kind : (lives : List Live) → AllByRecursion (IsMeant shape setup log) lives → AllByRecursion (λ live. is_body_of (ask_at setup live.ask) live.answer.body ≡ true) lives
+  lives_kind : (lives : List Live) → AllByRecursion (IsMeant shape setup log) lives
+      → AllByRecursion (λ live. is_body_of (ask_at setup live.ask) live.answer.body ≡ true) lives
   lives_kind [] meant = tt
-  lives_kind (live ∷ lives) meant = (ap (is_body_of (ask_at setup live.ask)) meant.0 ∙ body_kind shape (ask_at setup live.ask) (rows_in (take live.answer.tail log)), lives_kind lives meant.1)
+  lives_kind (live ∷ lives) meant = (
+    ap (is_body_of (ask_at setup live.ask)) meant.0 ∙ body_kind shape (ask_at setup live.ask) (rows_in (take live.answer.tail log)),
+    lives_kind lives meant.1,
+  )
 
   lives_within : (lives : List Live) → AllByRecursion (IsMeant shape setup log) lives → AllByRecursion (λ live. IsWithin (length log) live.answer.body) lives
   lives_within [] meant = tt
   lives_within (live ∷ lives) meant =
-      let le : length (take live.answer.tail log) ≤ length log = omega (arith, length-take live.answer.tail log) in
-      (subst (IsWithin (length log)) (sym meant.0) (within_log shape (ask_at setup live.ask) (take live.answer.tail log) (length log) le), lives_within lives meant.1)
+      let le : length (take live.answer.tail log) ≤ length log = omega (arith, length-take live.answer.tail log) in (
+        subst (IsWithin (length log)) (sym meant.0) (within_log shape (ask_at setup live.ask) (take live.answer.tail log) (length log) le),
+        lives_within lives meant.1,
+      )
 
 all_flat : {X Y : Type 0} (P : Y → Type 0) (f : X → List Y) → ((x : X) → All P (f x)) → (xs : List X) → All P (flat_map f xs)
 all_flat P f each [] = All-nil P
@@ -76,25 +84,41 @@ all_flat P f each (x ∷ xs) = All-append P (f x) (flat_map f xs) (each x) (all_
 -- the turns ask questions that exist
 turns_exist : (n batches rounds : ℕ) (lives : List ℕ) → All (λ ask. ask < n) lives → All (λ (turn : Turn). turn.ask < n) (turns_of batches rounds lives)
 turns_exist n batches rounds lives low =
-    all_flat (λ (turn : Turn). turn.ask < n) (λ batch. flat_map (λ round. map (λ ask. record { batch = batch; round = round; ask = ask }) lives) (range_with_len 0 rounds))
-    (λ batch. all_flat (λ (turn : Turn). turn.ask < n) (λ round. map (λ ask. record { batch = batch; round = round; ask = ask }) lives) (λ round. All-map (λ (turn : Turn). turn.ask < n) (λ ask. record { batch = batch; round = round; ask = ask }) lives low) (range_with_len 0 rounds))
+    all_flat (λ (turn : Turn). turn.ask < n)
+    (λ batch. flat_map (λ round. map (λ ask. record { batch = batch; round = round; ask = ask }) lives) (range_with_len 0 rounds))
+    (λ batch. all_flat (λ (turn : Turn). turn.ask < n) (λ round. map (λ ask. record { batch = batch; round = round; ask = ask }) lives)
+    (λ round. All-map (λ (turn : Turn). turn.ask < n) (λ ask. record { batch = batch; round = round; ask = ask }) lives low) (range_with_len 0 rounds))
     (range_with_len 0 batches)
 
-from_turns : (n : ℕ) (lives : List Live) → AllByRecursion (λ (turn : Turn). turn.ask < n) (map (λ (at : Turn × ℕ). at.0) (map turn_of lives)) → AllByRecursion (λ live. live.ask < n) lives
+from_turns : (n : ℕ) (lives : List Live) → AllByRecursion (λ (turn : Turn). turn.ask < n) (map (λ (at : Turn × ℕ). at.0) (map turn_of lives))
+    → AllByRecursion (λ live. live.ask < n) lives
 from_turns n [] low = tt
 from_turns n (live ∷ lives) low = (low.0, from_turns n lives low.1)
 
-module _ (setup : SetupValue) (shape : ShapeValue) (rounds : ℕ) (log : List Entry) (answered : LoadedValue) (lawful : IsSetup setup) (meant : AreMeant setup shape rounds log answered) where
+module _ (setup : SetupValue) (shape : ShapeValue) (rounds : ℕ) (log : List Entry) (answered : LoadedValue) (lawful : IsSetup setup)
+    (meant : AreMeant setup shape rounds log answered) where
   asks_exist : All (λ ask. ask < length setup.asks) setup.lives
-  asks_exist = λ k d lt. ltb-true (get_or setup.lives k d) (length setup.asks) (AllPass-from_list_all (λ live. nat_lt live (length setup.asks)) setup.lives lawful.lives k d lt)
+  asks_exist = λ k d lt. ltb-true (get_or setup.lives k d) (length setup.asks)
+      (AllPass-from_list_all (λ live. nat_lt live (length setup.asks)) setup.lives lawful.lives k d lt)
 
   pub are_answering : IsAnswering setup (length log) answered
   are_answering = record {
     finals = ap (λ (answers : List Answer). length answers) meant.finals ∙ length-map setup.asks (answer_on shape log);
     alerts = ap (λ (found : List (List Fired)). length found) meant.alerts ∙ length-map setup.triggers (λ trigger. marks_over shape trigger (rows_in log));
-    lives = All-from_recursion (λ live. live.ask < length setup.asks) answered.lives (from_turns (length setup.asks) answered.lives (recursion_from_All (λ (turn : Turn). turn.ask < length setup.asks) (map (λ (at : Turn × ℕ). at.0) (map turn_of answered.lives)) (subst (All (λ (turn : Turn). turn.ask < length setup.asks)) (sym meant.tails.turns) (turns_exist (length setup.asks) (batches_of (length log)) rounds setup.lives asks_exist))));
-    final_kinds = subst (All (λ (told : AskReply Ask Body). is_body_of told.ask told.body ≡ true)) (sym (finals_meant setup shape rounds log answered meant)) (All-map (λ (told : AskReply Ask Body). is_body_of told.ask told.body ≡ true) (told_on shape (rows_in log)) setup.asks (λ k d lt. body_kind shape (get_or setup.asks k d) (rows_in log)));
-    final_places = subst (All (λ (answer : Answer). IsWithin (length log) answer.body)) (sym meant.finals) (All-map (λ (answer : Answer). IsWithin (length log) answer.body) (answer_on shape log) setup.asks (λ k d lt. within_log shape (get_or setup.asks k d) log (length log) (omega arith)));
-    live_kinds = All-from_recursion (λ live. is_body_of (ask_at setup live.ask) live.answer.body ≡ true) answered.lives (lives_kind shape setup log answered.lives meant.lives);
+    lives = All-from_recursion (λ live. live.ask < length setup.asks) answered.lives
+        (from_turns (length setup.asks) answered.lives
+        (recursion_from_All (λ (turn : Turn). turn.ask < length setup.asks) (map (λ (at : Turn × ℕ). at.0) (map turn_of answered.lives))
+        (subst (All (λ (turn : Turn). turn.ask < length setup.asks)) (sym meant.tails.turns)
+        (turns_exist (length setup.asks) (batches_of (length log)) rounds setup.lives asks_exist))));
+    final_kinds =
+        subst (All (λ (told : AskReply Ask Body). is_body_of told.ask told.body ≡ true)) (sym (finals_meant setup shape rounds log answered meant))
+        (All-map (λ (told : AskReply Ask Body). is_body_of told.ask told.body ≡ true) (told_on shape (rows_in log)) setup.asks
+        (λ k d lt. body_kind shape (get_or setup.asks k d) (rows_in log)));
+    final_places =
+        subst (All (λ (answer : Answer). IsWithin (length log) answer.body)) (sym meant.finals)
+        (All-map (λ (answer : Answer). IsWithin (length log) answer.body) (answer_on shape log) setup.asks
+        (λ k d lt. within_log shape (get_or setup.asks k d) log (length log) (omega arith)));
+    live_kinds = All-from_recursion (λ live. is_body_of (ask_at setup live.ask) live.answer.body ≡ true) answered.lives
+        (lives_kind shape setup log answered.lives meant.lives);
     live_places = All-from_recursion (λ live. IsWithin (length log) live.answer.body) answered.lives (lives_within shape setup log answered.lives meant.lives);
   }

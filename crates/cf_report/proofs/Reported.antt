@@ -24,11 +24,15 @@ use Rattle.cf_report.specs.Text.{text_of}
 use Rattle.cf_report.proofs.Legal.{finals_meant, report_told, report_history}
 use Rattle.cf_report.proofs.Same.{one_final}
 
-module _ (setup : SetupValue) (capacity writers nodes rounds : ℕ) (rows : List RowValue) (order : List ℕ) (answered : LoadedValue) (some : 0 < writers) (valid : IsOrder order (length rows) writers) (meant : AreMeant setup (shaped setup capacity writers nodes) rounds (log_of rows writers order) answered) where
+module _ (setup : SetupValue) (capacity writers nodes rounds : ℕ) (rows : List RowValue) (order : List ℕ) (answered : LoadedValue) (some : 0 < writers)
+    (valid : IsOrder order (length rows) writers)
+    (meant : AreMeant setup (shaped setup capacity writers nodes) rounds (log_of rows writers order) answered) where
   -- the final part that is printed is that of the rows
-  printed_final : final_part setup (rows_in (log_of rows writers order)) (tolds_of setup.asks answered.finals) answered.alerts ≡ final_text (shaped setup capacity writers nodes) setup rows
+  printed_final : final_part setup (rows_in (log_of rows writers order)) (tolds_of setup.asks answered.finals) answered.alerts ≡ final_text
+      (shaped setup capacity writers nodes) setup rows
   printed_final =
-      ap₂ (λ (ts : List (AskReply Ask Body)) (found : List (List Fired)). final_part setup (rows_in (log_of rows writers order)) ts found) (finals_meant setup (shaped setup capacity writers nodes) rounds (log_of rows writers order) answered meant) meant.alerts
+      ap₂ (λ (ts : List (AskReply Ask Body)) (found : List (List Fired)). final_part setup (rows_in (log_of rows writers order)) ts found)
+      (finals_meant setup (shaped setup capacity writers nodes) rounds (log_of rows writers order) answered meant) meant.alerts
       ∙ one_final (shaped setup capacity writers nodes) setup rows writers order some valid
 
   -- the whole text is the report
@@ -43,7 +47,8 @@ module _ (setup : SetupValue) (capacity writers nodes rounds : ℕ) (rows : List
     alerts_are = meant.alerts;
     told = report_told setup (shaped setup capacity writers nodes) rounds (log_of rows writers order) answered meant;
     history = report_history setup (shaped setup capacity writers nodes) rounds (log_of rows writers order) answered meant;
-    text_is = ap (λ (os : List ℕ). report_text setup (log_of rows writers order) os (tolds_of setup.asks answered.finals) answered.alerts answered.lives) (log_of_order rows writers order some valid).1;
+    text_is = ap (λ (os : List ℕ). report_text setup (log_of rows writers order) os (tolds_of setup.asks answered.finals) answered.alerts answered.lives)
+        (log_of_order rows writers order some valid).1;
     final_is = printed_final;
   }
 
@@ -51,7 +56,9 @@ module _ (setup : SetupValue) (capacity writers nodes rounds : ℕ) (rows : List
   pub final_is : text_of Final setup (log_of rows writers order) answered ≡ final_text (shaped setup capacity writers nodes) setup rows
   final_is = printed_final
 
-no_rounds : (batches lives : List ℕ) → ◌≡◌ {A = List Turn} (flat_map (λ batch. flat_map (λ round. map (λ ask. record { batch = batch; round = round; ask = ask }) lives) (range_with_len 0 0)) batches) []
+no_rounds : (batches lives : List ℕ)
+    → ◌≡◌ {A = List Turn}
+    (flat_map (λ batch. flat_map (λ round. map (λ ask. record { batch = batch; round = round; ask = ask }) lives) (range_with_len 0 0)) batches) []
 no_rounds [] lives = refl
 no_rounds (batch ∷ batches) lives = no_rounds batches lives
 
@@ -59,7 +66,9 @@ no_turns : (n : ℕ) (lives : List ℕ) → AreTails n 0 lives []
 no_turns n lives = record { turns = sym (no_rounds (range_with_len 0 (batches_of n)) lives); rise = tt; within = tt }
 
 -- answers on a log to which no live question was asked
-pub meant_alone : (setup : SetupValue) (shape : ShapeValue) (log : List Entry) (answered : LoadedValue) → answered.finals ≡ map (answer_on shape log) setup.asks → answered.alerts ≡ alerts_on shape setup (rows_in log) → answered.lives ≡ [] → AreMeant setup shape 0 log answered
+pub meant_alone : (setup : SetupValue) (shape : ShapeValue) (log : List Entry) (answered : LoadedValue)
+    → answered.finals ≡ map (answer_on shape log) setup.asks → answered.alerts ≡ alerts_on shape setup (rows_in log) → answered.lives ≡ []
+    → AreMeant setup shape 0 log answered
 meant_alone setup shape log answered finals alerts none = record {
   finals = finals;
   alerts = alerts;
@@ -68,9 +77,14 @@ meant_alone setup shape log answered finals alerts none = record {
 }
 
 -- The report of the rows of one writer, with no live answers: the log is the rows one after the other.
-pub report_of_one : (setup : SetupValue) (capacity nodes : ℕ) (rows : List RowValue) (answered : LoadedValue) → answered.finals ≡ map (answer_on (shaped setup capacity 1 nodes) (alone rows)) setup.asks → answered.alerts ≡ alerts_on (shaped setup capacity 1 nodes) setup (rows_in (alone rows)) → answered.lives ≡ [] → IsReport setup capacity 1 nodes 0 rows (replicate (length rows) 0) (text_of Whole setup (alone rows) answered)
+pub report_of_one : (setup : SetupValue) (capacity nodes : ℕ) (rows : List RowValue) (answered : LoadedValue)
+    → answered.finals ≡ map (answer_on (shaped setup capacity 1 nodes) (alone rows)) setup.asks
+    → answered.alerts ≡ alerts_on (shaped setup capacity 1 nodes) setup (rows_in (alone rows)) → answered.lives ≡ []
+    → IsReport setup capacity 1 nodes 0 rows (replicate (length rows) 0) (text_of Whole setup (alone rows) answered)
 report_of_one setup capacity nodes rows answered finals alerts none =
     let log : List Entry = log_of rows 1 (replicate (length rows) 0) in
     let same : alone rows ≡ log = sym (log_of_one rows) in
     subst (λ (entries : List Entry). IsReport setup capacity 1 nodes 0 rows (replicate (length rows) 0) (text_of Whole setup entries answered)) (sym same)
-    (report_is setup capacity 1 nodes 0 rows (replicate (length rows) 0) answered (omega arith) (is_order_one (length rows)) (subst (λ (entries : List Entry). AreMeant setup (shaped setup capacity 1 nodes) 0 entries answered) same (meant_alone setup (shaped setup capacity 1 nodes) (alone rows) answered finals alerts none)))
+    (report_is setup capacity 1 nodes 0 rows (replicate (length rows) 0) answered (omega arith) (is_order_one (length rows))
+    (subst (λ (entries : List Entry). AreMeant setup (shaped setup capacity 1 nodes) 0 entries answered) same
+    (meant_alone setup (shaped setup capacity 1 nodes) (alone rows) answered finals alerts none)))

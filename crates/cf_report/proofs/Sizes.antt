@@ -38,7 +38,8 @@ module _ (setup : SetupValue) (c w n c' w' n' : ℕ) where
   key_same : (lane : ℕ) (row : RowValue) → key_of one lane row ≡ key_of other lane row
   key_same lane row = key_by_same (lane_at one lane).key row
 
-  keyed_same : (lane low high : ℕ) (row : RowValue) → (selected_by one lane row && is_between low high (key_of one lane row)) ≡ (selected_by other lane row && is_between low high (key_of other lane row))
+  keyed_same : (lane low high : ℕ) (row : RowValue)
+      → (selected_by one lane row && is_between low high (key_of one lane row)) ≡ (selected_by other lane row && is_between low high (key_of other lane row))
   keyed_same lane low high row = ap (λ k. selected_by one lane row && is_between low high k) (key_same lane row)
 
   counts_same : (ask : Ask) (row : RowValue) → counts_for one ask row ≡ counts_for other ask row
@@ -50,8 +51,12 @@ module _ (setup : SetupValue) (c w n c' w' n' : ℕ) where
   counts_same (asks.Top lane part count) row = refl
   counts_same (asks.Total attr expr) row = refl
 
-  places_same : (ask : Ask) (rows : List RowValue) → filter (λ place. counts_for one ask (row_at rows place)) (range_with_len 0 (length rows)) ≡ filter (λ place. counts_for other ask (row_at rows place)) (range_with_len 0 (length rows))
-  places_same ask rows = filter_agree (λ place. counts_for one ask (row_at rows place)) (λ place. counts_for other ask (row_at rows place)) (λ place. counts_same ask (row_at rows place)) (range_with_len 0 (length rows))
+  places_same : (ask : Ask) (rows : List RowValue)
+      → filter (λ place. counts_for one ask (row_at rows place)) (range_with_len 0 (length rows)) ≡ filter (λ place. counts_for other ask (row_at rows place))
+      (range_with_len 0 (length rows))
+  places_same ask rows =
+      filter_agree (λ place. counts_for one ask (row_at rows place)) (λ place. counts_for other ask (row_at rows place))
+      (λ place. counts_same ask (row_at rows place)) (range_with_len 0 (length rows))
 
   keys_same : (lane : ℕ) (rows : List RowValue) → keys_in one lane rows ≡ keys_in other lane rows
   keys_same lane rows = ap ascending (map_agree (key_of one lane) (key_of other lane) (key_same lane) (filter (selected_by one lane) rows))
@@ -63,7 +68,8 @@ module _ (setup : SetupValue) (c w n c' w' n' : ℕ) where
 
   groups_same : (lane : ℕ) (rows : List RowValue) → groups one lane rows ≡ groups other lane rows
   groups_same lane rows =
-      ap (map (group_of one lane rows)) (keys_same lane rows) ∙ map_agree (group_of one lane rows) (group_of other lane rows) (group_same lane rows) (keys_in other lane rows)
+      ap (map (group_of one lane rows)) (keys_same lane rows)
+      ∙ map_agree (group_of one lane rows) (group_of other lane rows) (group_same lane rows) (keys_in other lane rows)
 
   marks_same : (trigger : Trigger) (rows : List RowValue) → marks_over one trigger rows ≡ marks_over other trigger rows
   marks_same trigger rows = ap (marks_in trigger) (groups_same trigger.agg rows)
@@ -74,7 +80,8 @@ module _ (setup : SetupValue) (c w n c' w' n' : ℕ) where
   body_same (asks.Between lane low high) rows = ap bodies.Places (places_same (asks.Between lane low high) rows)
   body_same (asks.Measure lane low high) rows =
       ap (λ (picked : List RowValue). bodies.Total (quad_of (map (measure_of one lane) picked)))
-      (filter_agree (counts_for one (asks.Measure lane low high)) (counts_for other (asks.Measure lane low high)) (counts_same (asks.Measure lane low high)) rows)
+      (filter_agree (counts_for one (asks.Measure lane low high)) (counts_for other (asks.Measure lane low high))
+      (counts_same (asks.Measure lane low high)) rows)
   body_same (asks.Fired trigger) rows = ap bodies.Marks (marks_same trigger rows)
   body_same (asks.Top lane part count) rows = ap (λ gs. bodies.Tops (top part count gs)) (groups_same lane rows)
   body_same (asks.Total attr expr) rows = refl
@@ -85,7 +92,8 @@ module _ (setup : SetupValue) (c w n c' w' n' : ℕ) where
   final_same : (rows : List RowValue) → final_text one setup rows ≡ final_text other setup rows
   final_same rows = ap₂ (λ (finals : List (AskReply Ask Body)) (alerts : List (List Fired)). final_part setup rows finals alerts)
       (map_agree (told_on one rows) (told_on other rows) (told_same rows) setup.asks)
-      (map_agree (λ (trigger : Trigger). marks_over one trigger rows) (λ (trigger : Trigger). marks_over other trigger rows) (λ trigger. marks_same trigger rows) setup.triggers)
+      (map_agree (λ (trigger : Trigger). marks_over one trigger rows) (λ (trigger : Trigger). marks_over other trigger rows)
+      (λ trigger. marks_same trigger rows) setup.triggers)
 
 -- the final part on the log of a valid order, by any sizes, is that on the rows by any others
 pub any_sizes : (setup : SetupValue) (c w n c' w' n' : ℕ) (rows : List RowValue) (order : List ℕ) → 0 < w → IsOrder order (length rows) w →

@@ -7,7 +7,8 @@ use Rattle.cf_plain.specs.declared.answer.Body.{Body}
 use Rattle.cf_report.specs.Answered.{told_by, tolds_of}
 
 -- the question at a place stands with the answer there
-pub told_at : (asks : List Ask) (answers : List Answer) (place : ℕ) (ask : Ask) (answer : Answer) (other : AskReply Ask Body) → place < length asks → length answers ≡ length asks → get_or (tolds_of asks answers) place other ≡ told_by (get_or asks place ask) (get_or answers place answer)
+pub told_at : (asks : List Ask) (answers : List Answer) (place : ℕ) (ask : Ask) (answer : Answer) (other : AskReply Ask Body) → place < length asks
+    → length answers ≡ length asks → get_or (tolds_of asks answers) place other ≡ told_by (get_or asks place ask) (get_or answers place answer)
 told_at [] answers place ask answer other lt same = absurd (omega (arith, lt))
 told_at (a ∷ asks) [] place ask answer other lt same = absurd (omega (arith, same))
 told_at (a ∷ asks) (b ∷ answers) zero ask answer other lt same = refl

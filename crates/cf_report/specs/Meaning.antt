@@ -52,7 +52,8 @@ pub record IsReport (setup : SetupValue) (capacity writers nodes rounds : ℕ) (
   pub alerts_are : alerts ≡ alerts_on (shaped setup capacity writers nodes) setup (rows_in (log_of rows writers order))
   -- each answer is its question's meaning on the entries that it saw, and all of them stand in one legal history
   pub told : AreToldBy (eval (shaped setup capacity writers nodes)) (log_of rows writers order) (passes_of setup finals lives)
-  pub history : IsHistoryOf (eval (shaped setup capacity writers nodes)) (log_of rows writers order) (passes_of setup finals lives) (spell (log_of rows writers order) (passes_of setup finals lives))
+  pub history : IsHistoryOf (eval (shaped setup capacity writers nodes)) (log_of rows writers order) (passes_of setup finals lives)
+      (spell (log_of rows writers order) (passes_of setup finals lives))
   -- these answers are printed
   pub text_is : text ≡ report_text setup (log_of rows writers order) order finals alerts lives
   -- and what is printed of the final ones is what the questions and triggers mean on the rows as they were captured

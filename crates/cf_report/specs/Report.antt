@@ -74,7 +74,8 @@ marks_before earlier ask = marks_of_live (last_or None (filter (λ live. live.as
 
 -- `WORD NAME @T KIND`, with the length of the log that the question saw
 abbrev pub live_head : SetupValue → List ℕ → Live → List ℕ
-live_head setup word live = word ++ codes " " ++ ask_name setup live.ask ++ codes " @" ++ decimal live.answer.tail ++ codes " " ++ word_of (told_live setup live).ask
+live_head setup word live =
+    word ++ codes " " ++ ask_name setup live.ask ++ codes " @" ++ decimal live.answer.tail ++ codes " " ++ word_of (told_live setup live).ask
 
 -- `live NAME @T BODY`, where rows are shown by their numbers in the order of the log
 abbrev pub live_line : SetupValue → List RowValue → Live → List ℕ

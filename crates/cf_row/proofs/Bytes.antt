@@ -61,13 +61,15 @@ bytes_back (suc n) x lt =
     let p = pow_pos n in
     let r = bytes_back n (x % 256 ^ n) (omega arith) in
     let l = big_long n (x % 256 ^ n) in
-    ap (λ (m : ℕ). x / 256 ^ n * 256 ^ m + big_number (big_bytes n (x % 256 ^ n))) l ∙ (ap (λ (m : ℕ). x / 256 ^ n * 256 ^ n + m) r ∙ Rattle.std.proofs.lemmas.Nat.div-add-mod' x (256 ^ n))
+    ap (λ (m : ℕ). x / 256 ^ n * 256 ^ m + big_number (big_bytes n (x % 256 ^ n))) l
+    ∙ (ap (λ (m : ℕ). x / 256 ^ n * 256 ^ n + m) r ∙ Rattle.std.proofs.lemmas.Nat.div-add-mod' x (256 ^ n))
 
 pub bytes_take : (n : ℕ) (xs : List ℕ) → AreBytes xs → AreBytes (take n xs)
 bytes_take zero xs h = refl
 bytes_take (suc n) [] h = h
 bytes_take (suc n) (x ∷ xs) h =
-    let b = both (nat_lt x 256) (list_all (λ byte. nat_lt byte 256) xs) h in and_from (nat_lt x 256) (list_all (λ byte. nat_lt byte 256) (take n xs)) b.0 (bytes_take n xs b.1)
+    let b = both (nat_lt x 256) (list_all (λ byte. nat_lt byte 256) xs) h in
+    and_from (nat_lt x 256) (list_all (λ byte. nat_lt byte 256) (take n xs)) b.0 (bytes_take n xs b.1)
 
 pub bytes_drop : (n : ℕ) (xs : List ℕ) → AreBytes xs → AreBytes (drop n xs)
 bytes_drop zero xs h = h
@@ -77,7 +79,8 @@ bytes_drop (suc n) (x ∷ xs) h = bytes_drop n xs (bytes_cons x xs h).1
 pub bytes_append : (xs ys : List ℕ) → AreBytes xs → AreBytes ys → AreBytes (xs ++ ys)
 bytes_append [] ys h k = k
 bytes_append (x ∷ xs) ys h k =
-    let b = both (nat_lt x 256) (list_all (λ byte. nat_lt byte 256) xs) h in and_from (nat_lt x 256) (list_all (λ byte. nat_lt byte 256) (xs ++ ys)) b.0 (bytes_append xs ys b.1 k)
+    let b = both (nat_lt x 256) (list_all (λ byte. nat_lt byte 256) xs) h in
+    and_from (nat_lt x 256) (list_all (λ byte. nat_lt byte 256) (xs ++ ys)) b.0 (bytes_append xs ys b.1 k)
 
 -- zeros to the end
 pub all_zero : (xs : List ℕ) → list_all (λ byte. byte == 0) xs ≡ true → xs ≡ replicate (length xs) 0
@@ -102,11 +105,14 @@ big_push (x ∷ xs) b =
     let r = big_push xs b in
     let l = length-append xs (b ∷ []) in
     let e : length (xs ++ b ∷ []) ≡ suc (length xs) = omega (arith, l) in
-    ap₂ (λ (n m : ℕ). x * 256 ^ n + m) e r ∙ (let p = pow-suc 256 (length xs) in let q : x * 256 ^ suc (length xs) ≡ x * 256 ^ length xs * 256 = ap (λ (n : ℕ). x * n) p ∙ sym (Rattle.std.proofs.Math.Nat.mul_assoc x (256 ^ length xs) 256) in omega (arith, q))
+    ap₂ (λ (n m : ℕ). x * 256 ^ n + m) e r
+    ∙ (let p = pow-suc 256 (length xs) in let q : x * 256 ^ suc (length xs) ≡ x * 256 ^ length xs * 256 = ap (λ (n : ℕ). x * n) p
+    ∙ sym (Rattle.std.proofs.Math.Nat.mul_assoc x (256 ^ length xs) 256) in omega (arith, q))
 
 pub bytes_of : (xs : List ℕ) → ((k : ℕ) → k < length xs → get_or xs k 0 < 256) → AreBytes xs
 bytes_of [] low = refl
-bytes_of (x ∷ xs) low = and_from (nat_lt x 256) (list_all (λ byte. nat_lt byte 256) xs) (lt-ltb x 256 (low 0 (omega arith))) (bytes_of xs (λ k lt. low (suc k) (omega (arith, lt))))
+bytes_of (x ∷ xs) low =
+    and_from (nat_lt x 256) (list_all (λ byte. nat_lt byte 256) xs) (lt-ltb x 256 (low 0 (omega arith))) (bytes_of xs (λ k lt. low (suc k) (omega (arith, lt))))
 
 pub big_more : (xs : List ℕ) (i : ℕ) → i < length xs → big_number (take (i + 1) xs) ≡ big_number (take i xs) * 256 + get_or xs i 0
 big_more xs i lt = ap big_number (take_more xs i 0 lt) ∙ big_push (take i xs) (get_or xs i 0)
@@ -124,7 +130,8 @@ pub big_last : (m x : ℕ) → x < 256 ^ suc m → big_bytes (suc m) x ≡ big_b
 big_last m x lt =
     let low : x / 256 < 256 ^ m = div_below x 256 (256 ^ m) (omega arith) (omega (arith, lt, pow-suc 256 m)) in
     let ys : List ℕ = big_bytes m (x / 256) ++ x % 256 ∷ [] in
-    let bytes = bytes_append (big_bytes m (x / 256)) (x % 256 ∷ []) (big_bytes_low m (x / 256) low) (and_from (nat_lt (x % 256) 256) true (lt-ltb (x % 256) 256 (omega arith)) refl) in
+    let bytes = bytes_append (big_bytes m (x / 256)) (x % 256 ∷ []) (big_bytes_low m (x / 256) low)
+    (and_from (nat_lt (x % 256) 256) true (lt-ltb (x % 256) 256 (omega arith)) refl) in
     let size : length ys ≡ suc m = omega (arith, length-append (big_bytes m (x / 256)) (x % 256 ∷ []), big_long m (x / 256)) in
     let number : big_number ys ≡ x = omega (arith, big_push (big_bytes m (x / 256)) (x % 256), bytes_back m (x / 256) low) in
     ap₂ big_bytes (sym size) (sym number) ∙ big_back ys bytes

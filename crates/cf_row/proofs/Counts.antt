@@ -25,10 +25,12 @@ pub count_low : (attrs : List Attr) → word_count attrs ≤ 2 * length attrs
 count_low [] = omega (arith, count_none)
 count_low (x ∷ xs) = omega (arith, count_cons x xs, kind_low x.kind, count_low xs)
 
-pub count_more : (xs : List Attr) (i : ℕ) (d : Attr) → i < length xs → word_count (drop i xs) ≡ words_of_kind (get_or xs i d).kind + word_count (drop (i + 1) xs)
+pub count_more : (xs : List Attr) (i : ℕ) (d : Attr) → i < length xs
+    → word_count (drop i xs) ≡ words_of_kind (get_or xs i d).kind + word_count (drop (i + 1) xs)
 count_more xs i d lt = ap word_count (drop_more xs i d lt) ∙ count_cons (get_or xs i d) (drop (i + 1) xs)
 
-pub count_step : (xs : List Attr) (i : ℕ) (x : Attr) → i < length xs → x ≡ get_or xs i x → word_count (drop i xs) ≡ words_of_kind x.kind + word_count (drop (i + 1) xs)
+pub count_step : (xs : List Attr) (i : ℕ) (x : Attr) → i < length xs → x ≡ get_or xs i x
+    → word_count (drop i xs) ≡ words_of_kind x.kind + word_count (drop (i + 1) xs)
 count_step xs i x lt is = count_more xs i x lt ∙ ap (λ (a : Attr). words_of_kind a.kind + word_count (drop (i + 1) xs)) (sym is)
 
 pub count_end : (xs : List Attr) (i : ℕ) → length xs ≤ i → word_count (drop i xs) ≡ 0

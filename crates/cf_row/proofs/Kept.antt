@@ -42,7 +42,8 @@ pub record AreReadAs (attrs : List Attr) (kept : List Attr) : Type 0 where
   pub sized : list_all (λ attr. has_good_size attr.kind) kept ≡ true
   pub fits : (ws : List ℕ) → words_fit attrs ws ≡ true → words_fit kept ws ≡ true
 
-pub attrs_kept : (attrs : List Attr) → list_all (λ attr. has_good_size attr.kind) attrs ≡ true → AreReadAs attrs (attrs_of (map (λ attr. len_of attr.kind) attrs))
+pub attrs_kept : (attrs : List Attr) → list_all (λ attr. has_good_size attr.kind) attrs ≡ true
+    → AreReadAs attrs (attrs_of (map (λ attr. len_of attr.kind) attrs))
 attrs_kept [] good = record { read = λ ws. refl; count = refl; sized = refl; fits = λ ws h. h }
 attrs_kept (a ∷ attrs) good =
     let g = both (has_good_size a.kind) (list_all (λ b. has_good_size b.kind) attrs) good in
@@ -57,7 +58,8 @@ attrs_kept (a ∷ attrs) good =
       sized = and_from _ _ one.good more.sized;
       fits = λ ws h.
           let f = both (word_fits a.kind ws) (words_fit attrs (drop (words_of_kind a.kind) ws)) (sym (fit_cons a attrs ws) ∙ h) in
-          fit_cons front kept ws ∙ and_from _ _ (one.fits ws f.0) (ap (λ (n : ℕ). words_fit kept (drop n ws)) one.words ∙ more.fits (drop (words_of_kind a.kind) ws) f.1);
+          fit_cons front kept ws
+          ∙ and_from _ _ (one.fits ws f.0) (ap (λ (n : ℕ). words_fit kept (drop n ws)) one.words ∙ more.fits (drop (words_of_kind a.kind) ws) f.1);
     }
 
 pub long_read : (attrs : List Attr) (ws : List ℕ) → length (values_read attrs ws) ≡ length attrs
@@ -71,7 +73,8 @@ pub record IsReadAt (lens ws : List ℕ) (i start : ℕ) : Type 0 where
   pub fits : word_fits (kind_of (get_or lens i 0)) (drop start ws) ≡ true
   pub room : start + words_of_kind (kind_of (get_or lens i 0)) ≤ word_count (attrs_of lens)
 
-read_at : (lens ws : List ℕ) (i : ℕ) → i < length lens → list_all (λ attr. has_good_size attr.kind) (attrs_of lens) ≡ true → words_fit (attrs_of lens) ws ≡ true → IsReadAt lens ws i (word_count (attrs_of (take i lens)))
+read_at : (lens ws : List ℕ) (i : ℕ) → i < length lens → list_all (λ attr. has_good_size attr.kind) (attrs_of lens) ≡ true
+    → words_fit (attrs_of lens) ws ≡ true → IsReadAt lens ws i (word_count (attrs_of (take i lens)))
 read_at [] ws i lt good fits = absurd (omega (arith, lt))
 read_at (x ∷ xs) ws zero lt good fits =
     let front : Attr = record { name = []; kind = kind_of x } in
@@ -124,7 +127,8 @@ flat_start (x ∷ xs) (suc i) le flat =
     let more = flat_start xs i (omega (arith, le)) (omega (arith, flat, c, one_word (kind_of x), many_words xs)) in
     omega (arith, more, flat, c, one_word (kind_of x), many_words xs, count_cons front (attrs_of (take i xs)))
 
-pub lens_step : (lens : List ℕ) (i : ℕ) → i < length lens → word_count (attrs_of (drop i lens)) ≡ words_of_kind (kind_of (get_or lens i 0)) + word_count (attrs_of (drop (i + 1) lens))
+pub lens_step : (lens : List ℕ) (i : ℕ) → i < length lens
+    → word_count (attrs_of (drop i lens)) ≡ words_of_kind (kind_of (get_or lens i 0)) + word_count (attrs_of (drop (i + 1) lens))
 lens_step lens i lt =
     ap (λ (xs : List ℕ). word_count (attrs_of xs)) (drop_more lens i 0 lt)
     ∙ count_cons (record { name = []; kind = kind_of (get_or lens i 0) }) (attrs_of (drop (i + 1) lens))
@@ -142,14 +146,17 @@ lens_low lens = omega (arith, count_low (attrs_of lens), long_attrs lens)
 pub long_kept : (lens ws : List ℕ) → length (values_kept lens ws) ≡ length lens
 long_kept lens ws = long_read (attrs_of lens) ws ∙ long_attrs lens
 
-pub lens_more : (f : Attr → ℕ) (attrs : List Attr) (lens : List ℕ) (i r : ℕ) (a : Attr) → i < length attrs → i < length lens → take i lens ≡ map f (take i attrs) → a ≡ get_or attrs i a → r ≡ f a → take (i + 1) (set lens i r) ≡ map f (take (i + 1) attrs)
+pub lens_more : (f : Attr → ℕ) (attrs : List Attr) (lens : List ℕ) (i r : ℕ) (a : Attr) → i < length attrs → i < length lens
+    → take i lens ≡ map f (take i attrs) → a ≡ get_or attrs i a → r ≡ f a → take (i + 1) (set lens i r) ≡ map f (take (i + 1) attrs)
 lens_more f attrs lens i r a lt room kept is same =
     take_more_set lens i r room
     ∙ (ap₂ (λ (xs : List ℕ) (n : ℕ). xs ++ n ∷ []) kept (same ∙ ap f is)
     ∙ sym (ap (map f) (take_more attrs i a lt) ∙ map-append f (take i attrs) (get_or attrs i a ∷ [])))
 
 -- the words of an entry of the attributes keep its values
-pub kept_new : (attrs : List Attr) (lens ws items : List ℕ) → lens ≡ map (λ attr. len_of attr.kind) attrs → items ≡ ws → list_all (λ attr. has_good_size attr.kind) attrs ≡ true → length attrs ≤ 24 → length ws ≡ word_count attrs → words_fit attrs ws ≡ true → AreKept lens items
+pub kept_new : (attrs : List Attr) (lens ws items : List ℕ) → lens ≡ map (λ attr. len_of attr.kind) attrs → items ≡ ws
+    → list_all (λ attr. has_good_size attr.kind) attrs ≡ true → length attrs ≤ 24 → length ws ≡ word_count attrs → words_fit attrs ws ≡ true
+    → AreKept lens items
 kept_new attrs lens ws items is same good few long fits =
     let alike = attrs_kept attrs good in
     let kept : List ℕ = map (λ attr. len_of attr.kind) attrs in
@@ -160,7 +167,8 @@ kept_new attrs lens ws items is same good few long fits =
       fits = alike.fits ws fits;
     }))
 
-pub read_new : (attrs : List Attr) (lens ws items : List ℕ) → lens ≡ map (λ attr. len_of attr.kind) attrs → items ≡ ws → list_all (λ attr. has_good_size attr.kind) attrs ≡ true → values_kept lens items ≡ values_read attrs ws
+pub read_new : (attrs : List Attr) (lens ws items : List ℕ) → lens ≡ map (λ attr. len_of attr.kind) attrs → items ≡ ws
+    → list_all (λ attr. has_good_size attr.kind) attrs ≡ true → values_kept lens items ≡ values_read attrs ws
 read_new attrs lens ws items is same good = ap₂ values_kept is same ∙ (attrs_kept attrs good).read ws
 
 pub none_kept : (lens ws : List ℕ) (i : ℕ) → length lens ≤ i → get_or (values_kept lens ws) i (Num 0) ≡ Num 0
@@ -254,10 +262,12 @@ good_len (suc k) (Raw len bytes) fits =
 good_lens : (lens : List ℕ) (vs : List Value) → values_fit (attrs_of lens) vs ≡ true → list_all (λ attr. has_good_size attr.kind) (attrs_of lens) ≡ true
 good_lens [] vs fits = refl
 good_lens (x ∷ xs) [] fits = absurd (cc fits)
-good_lens (x ∷ xs) (v ∷ vs) fits = let c = both (is_of_kind (kind_of x) v) (values_fit (attrs_of xs) vs) fits in and_from _ _ (good_len x v c.0) (good_lens xs vs c.1)
+good_lens (x ∷ xs) (v ∷ vs) fits = let c = both (is_of_kind (kind_of x) v) (values_fit (attrs_of xs) vs) fits in
+    and_from _ _ (good_len x v c.0) (good_lens xs vs c.1)
 
 -- the words of values of these lengths keep them
-pub packed_kept : (lens ws : List ℕ) (vs : List Value) → length lens ≤ 24 → ws ≡ values_words vs → values_fit (attrs_of lens) vs ≡ true → AreKept lens ws × (values_kept lens ws ≡ vs)
+pub packed_kept : (lens ws : List ℕ) (vs : List Value) → length lens ≤ 24 → ws ≡ values_words vs → values_fit (attrs_of lens) vs ≡ true → AreKept lens ws
+    × (values_kept lens ws ≡ vs)
 packed_kept lens ws vs few is fits =
     let attrs : List Attr = attrs_of lens in
     let long = values_long attrs vs fits in
@@ -265,13 +275,16 @@ packed_kept lens ws vs few is fits =
     let cut : take (word_count attrs) (values_words vs ++ 0 ∷ []) ≡ values_words vs = take_at (values_words vs) (0 ∷ []) (word_count attrs) long in
     let low : words_fit attrs (values_words vs) ≡ true = subst (λ (xs : List ℕ). words_fit attrs xs ≡ true) cut alone.fits in
     let back : values_read attrs (values_words vs) ≡ vs = ap (values_read attrs) (sym (append-nil (values_words vs))) ∙ values_back attrs vs [] fits in
-    subst (λ (xs : List ℕ). AreKept lens xs × (values_kept lens xs ≡ vs)) (sym is) (record { few = few; sized = good_lens lens vs fits; long = long; fits = low }, back)
+    subst (λ (xs : List ℕ). AreKept lens xs × (values_kept lens xs ≡ vs)) (sym is)
+    (record { few = few; sized = good_lens lens vs fits; long = long; fits = low }, back)
 
-fit_push : (lens : List ℕ) (vs : List Value) (n : ℕ) (v : Value) → values_fit (attrs_of lens) vs ≡ true → is_of_kind (kind_of n) v ≡ true → values_fit (attrs_of (lens ++ n ∷ [])) (vs ++ v ∷ []) ≡ true
+fit_push : (lens : List ℕ) (vs : List Value) (n : ℕ) (v : Value) → values_fit (attrs_of lens) vs ≡ true → is_of_kind (kind_of n) v ≡ true
+    → values_fit (attrs_of (lens ++ n ∷ [])) (vs ++ v ∷ []) ≡ true
 fit_push [] [] n v fits one = and_from _ _ one refl
 fit_push [] (y ∷ ys) n v fits one = absurd (cc fits)
 fit_push (x ∷ xs) [] n v fits one = absurd (cc fits)
-fit_push (x ∷ xs) (y ∷ ys) n v fits one = let c = both (is_of_kind (kind_of x) y) (values_fit (attrs_of xs) ys) fits in and_from _ _ c.0 (fit_push xs ys n v c.1 one)
+fit_push (x ∷ xs) (y ∷ ys) n v fits one = let c = both (is_of_kind (kind_of x) y) (values_fit (attrs_of xs) ys) fits in
+    and_from _ _ c.0 (fit_push xs ys n v c.1 one)
 
 -- the next value is of the next length
 pub fit_more : (lens : List ℕ) (vs : List Value) (i n : ℕ) → i < length vs → i < length lens → is_of_kind (kind_of n) (get_or vs i (Num 0)) ≡ true
@@ -303,7 +316,8 @@ pub one_is_not_kept : (vs : List Value) (i : ℕ) → i < length vs → can_be_k
 one_is_not_kept vs i lt unkept =
     ap (λ (t : Bool). t && nat_le (length (values_words vs)) 20) (no_and (nat_le (length vs) 20) (list_all can_be_kept vs) (not_all vs i lt unkept))
 
-pub too_many_words : (vs : List Value) (i at n : ℕ) → i < length vs → at ≡ length (values_words (take i vs)) → is_of_kind (kind_of n) (get_or vs i (Num 0)) ≡ true → 20 < at + words_of_kind (kind_of n) → lie_within vs ≡ false
+pub too_many_words : (vs : List Value) (i at n : ℕ) → i < length vs → at ≡ length (values_words (take i vs))
+    → is_of_kind (kind_of n) (get_or vs i (Num 0)) ≡ true → 20 < at + words_of_kind (kind_of n) → lie_within vs ≡ false
 too_many_words vs i at n lt end fits gt =
     let v : Value = get_or vs i (Num 0) in
     let m = ap (length {A = ℕ}) (words_more vs i (Num 0) lt) in

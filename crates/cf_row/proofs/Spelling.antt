@@ -133,10 +133,12 @@ values_back [] (v ∷ vs) rest h = absurd (cc h)
 values_back (a ∷ attrs) [] rest h = absurd (cc h)
 values_back (a ∷ attrs) (v ∷ vs) rest h =
     let c = both (is_of_kind a.kind v) (values_fit attrs vs) h in
-    let flat : values_words (v ∷ vs) ++ rest ≡ value_words v ++ (values_words vs ++ rest) = ap (λ (ws : List ℕ). ws ++ rest) (words_cons v vs) ∙ append_assoc (value_words v) (values_words vs) rest in
+    let flat : values_words (v ∷ vs) ++ rest ≡ value_words v ++ (values_words vs ++ rest) = ap (λ (ws : List ℕ). ws ++ rest) (words_cons v vs)
+    ∙ append_assoc (value_words v) (values_words vs) rest in
     ap (λ (ws : List ℕ). value_read a.kind ws ∷ values_read attrs (drop (words_of_kind a.kind) ws)) flat
     ∙ ap₂ (λ (x : Value) (xs : List Value). x ∷ xs) (value_back a.kind v (values_words vs ++ rest) c.0)
-    (ap (values_read attrs) (drop_at (value_words v) (values_words vs ++ rest) (words_of_kind a.kind) (value_long a.kind v c.0)) ∙ values_back attrs vs rest c.1)
+    (ap (values_read attrs) (drop_at (value_words v) (values_words vs ++ rest) (words_of_kind a.kind) (value_long a.kind v c.0))
+    ∙ values_back attrs vs rest c.1)
 
 pub spelled_long : (attrs : List Attr) (e : Entry) → values_fit attrs e.row.values ≡ true → length (spelled e) ≡ word_count attrs + 1
 spelled_long attrs e fits = omega (arith, length-append (values_words e.row.values) (tag_of e ∷ []), values_long attrs e.row.values fits)
@@ -145,19 +147,22 @@ spelled_long attrs e fits = omega (arith, length-append (values_words e.row.valu
 pub entry_back : (attrs : List Attr) (e : Entry) → IsEntry attrs e → entry_read attrs (spelled e) ≡ e
 entry_back attrs e is =
     let back = values_back attrs e.row.values (tag_of e ∷ []) is.fits in
-    let tag : get_or (spelled e) (word_count attrs) 0 ≡ tag_of e = get_or_at (values_words e.row.values) (tag_of e) [] 0 (word_count attrs) (values_long attrs e.row.values is.fits) in
+    let tag : get_or (spelled e) (word_count attrs) 0 ≡ tag_of e =
+    get_or_at (values_words e.row.values) (tag_of e) [] 0 (word_count attrs) (values_long attrs e.row.values is.fits) in
     let num : tag_of e / 16 ≡ e.row.num = div-mul-add e.row.num 16 e.writer is.writer in
     let writer : tag_of e % 16 ≡ e.writer = mod-mul-add e.row.num 16 e.writer is.writer in
     ap₂ (λ (t : ℕ) (vs : List Value). record { writer = t % 16; row = record { num = t / 16; values = vs } }) tag back
     ∙ ap₂ (λ (a b : ℕ). record { writer = a; row = record { num = b; values = e.row.values } }) writer num
 
 pub words_push : (vs : List Value) (v : Value) → values_words (vs ++ v ∷ []) ≡ values_words vs ++ value_words v
-words_push [] v = words_cons v [] ∙ (ap (λ (ws : List ℕ). value_words v ++ ws) words_none ∙ (append-nil (value_words v) ∙ ap (λ (ws : List ℕ). ws ++ value_words v) (sym words_none)))
+words_push [] v = words_cons v []
+    ∙ (ap (λ (ws : List ℕ). value_words v ++ ws) words_none ∙ (append-nil (value_words v) ∙ ap (λ (ws : List ℕ). ws ++ value_words v) (sym words_none)))
 words_push (x ∷ xs) v =
     words_cons x (xs ++ v ∷ []) ∙ (ap (λ (ws : List ℕ). value_words x ++ ws) (words_push xs v)
     ∙ (sym (append_assoc (value_words x) (values_words xs) (value_words v)) ∙ ap (λ (ws : List ℕ). ws ++ value_words v) (sym (words_cons x xs))))
 
-pub words_more : (vs : List Value) (i : ℕ) (d : Value) → i < length vs → values_words (take (i + 1) vs) ≡ values_words (take i vs) ++ value_words (get_or vs i d)
+pub words_more : (vs : List Value) (i : ℕ) (d : Value) → i < length vs
+    → values_words (take (i + 1) vs) ≡ values_words (take i vs) ++ value_words (get_or vs i d)
 words_more vs i d lt = ap values_words (take_more vs i d lt) ∙ words_push (take i vs) (get_or vs i d)
 
 words_append : (vs ws : List Value) → length (values_words (vs ++ ws)) ≡ length (values_words vs) + length (values_words ws)

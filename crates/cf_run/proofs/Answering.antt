@@ -182,9 +182,11 @@ module _ (told : Option (List File)) (before now : Option (List ℕ)) (status : 
       → IsByCall (Some (snapshot call)) status seals
   snapshot_by_hosts call setup work gives (one_halted why files is) =
       by_refusal (IsByCall (Some (snapshot call))) why
-      (files_refusal (captures setup.packet call.truncated setup.schema) told call.captures (Some []) now (λ w. IsByCall (Some (snapshot call)) (status_of w) [])
+      (files_refusal (captures setup.packet call.truncated setup.schema) told call.captures (Some []) now
+      (λ w. IsByCall (Some (snapshot call)) (status_of w) [])
       (λ name start w file.
-      file_refusal (captures setup.packet call.truncated setup.schema) told name start now (λ v. IsByCall (Some (snapshot call)) (status_of v) []) (λ e. cc e, refl)
+      file_refusal (captures setup.packet call.truncated setup.schema) told name start now (λ v. IsByCall (Some (snapshot call)) (status_of v) [])
+      (λ e. cc e, refl)
       (λ at code. (λ e. cc e, refl)) w file) why files)
       (subst (λ (w : Work). WorkGives w status text seals) is gives)
   snapshot_by_hosts call setup work gives (all_whole hosts said next) =

@@ -199,7 +199,8 @@ module _ (told : Option (List File)) (call : SnapshotCall) (before now : Option 
                 (subst (λ (ends : List (Option ℕ)). GivesCut call setup (rows_each hosts) ends status text seals) (sym (ends_captured hosts)) gives);
           }
 
-      pub snapshot_exceeds : (why : Refusal) → HostsExceed call.sizes setup (rows_each hosts) why → EndsWith told (Some (snapshot call)) before now (Err (Refused why))
+      pub snapshot_exceeds : (why : Refusal) → HostsExceed call.sizes setup (rows_each hosts) why
+          → EndsWith told (Some (snapshot call)) before now (Err (Refused why))
       snapshot_exceeds why over = snapshot_gives (status_of why) (line_of why) [] (refuses_hosts why over (refl, refl, refl))
 
       pub snapshot_stopped : StopsAt told (Some (snapshot call)) stops.Memory before now
@@ -266,8 +267,11 @@ comes_stopped told (Some (dump call)) before now work comes =
 comes_stopped told (Some (snapshot call)) before now work comes =
     called_left setups told call.setup before now (SnapshotAfter told call now) work (StopsAt told (Some (snapshot call)) stops.Memory before now)
     (λ stop. inl stop)
-    (λ setup said next. inr
-    (setup, said, all_called_left (captures setup.packet call.truncated setup.schema) told call.captures now (λ hosts. at_cut call setup hosts) work next)) comes
+    (λ setup said next. inr (
+      setup,
+      said,
+      all_called_left (captures setup.packet call.truncated setup.schema) told call.captures now (λ hosts. at_cut call setup hosts) work next,
+    )) comes
 
 pub refused_prepared : (told : Option (List File)) (call : Option Call) (before now : Option (List ℕ)) (why : Refusal) (result : Result Draft Stop)
     → EndsWith told call before now (Err (Refused why))

@@ -20,7 +20,8 @@ blocks_within n most k some few =
     let less : (k + n - 1) / n < most + 1 = lt_of_mul-lt-mul_left n low in
     omega (arith, less)
 
-pub seals_within : (sizes : LogSizes) (rows : List RowValue) (order told : List ℕ) (seals : List SealValue) → AreSizes sizes → length rows ≤ sizes.capacity * sizes.segments → IsOrder order (length rows) sizes.writers
+pub seals_within : (sizes : LogSizes) (rows : List RowValue) (order told : List ℕ) (seals : List SealValue) → AreSizes sizes
+    → length rows ≤ sizes.capacity * sizes.segments → IsOrder order (length rows) sizes.writers
     → AreSeals sizes.capacity (log_of rows sizes.writers order) told seals → HasSeals sizes seals
 seals_within sizes rows order told seals lawful few is are =
     let entries : List Entry = log_of rows sizes.writers order in

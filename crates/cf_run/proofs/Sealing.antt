@@ -29,7 +29,8 @@ told_sealed n base [] = refl
 told_sealed n base (g ∷ gs) = ap (λ (ts : List ℕ). map (λ tail. base + tail) (g.root.view).told ++ ts) (told_sealed n (base + n) gs)
 
 -- The entries of segments that are full, and of one behind them, block by block.
-block_seen : (n : ℕ) (closed : List Segment) (current : Segment) → ((k : ℕ) (h : Segment) → slice_get closed k ≡ Some h → length (seen_of h) ≡ n) → length (seen_of current) ≤ n
+block_seen : (n : ℕ) (closed : List Segment) (current : Segment) → ((k : ℕ) (h : Segment) → slice_get closed k ≡ Some h → length (seen_of h) ≡ n)
+    → length (seen_of current) ≤ n
     → (k : ℕ) (h : Segment) → slice_get (closed ++ current ∷ []) k ≡ Some h → seen_of h ≡ block n k (flat_map seen_of (closed ++ current ∷ []))
 block_seen n [] current full few zero h at =
     let same : current ≡ h = cc at in
@@ -37,10 +38,13 @@ block_seen n [] current full few zero h at =
 block_seen n [] current full few (suc k) h at = absurd (cc at)
 block_seen n (c ∷ cs) current full few zero h at =
     let same : c ≡ h = cc at in
-    ap seen_of (sym same) ∙ sym (first_block n (seen_of c ++ flat_map seen_of (cs ++ current ∷ [])) ∙ take_at (seen_of c) (flat_map seen_of (cs ++ current ∷ [])) n (full 0 c refl))
+    ap seen_of (sym same)
+    ∙ sym (first_block n (seen_of c ++ flat_map seen_of (cs ++ current ∷ []))
+    ∙ take_at (seen_of c) (flat_map seen_of (cs ++ current ∷ [])) n (full 0 c refl))
 block_seen n (c ∷ cs) current full few (suc k) h at =
     block_seen n cs current (λ j x there. full (suc j) x there) few k h at
-    ∙ sym (next_block n k (seen_of c ++ flat_map seen_of (cs ++ current ∷ [])) ∙ ap (block n k) (drop_at (seen_of c) (flat_map seen_of (cs ++ current ∷ [])) n (full 0 c refl)))
+    ∙ sym (next_block n k (seen_of c ++ flat_map seen_of (cs ++ current ∷ []))
+    ∙ ap (block n k) (drop_at (seen_of c) (flat_map seen_of (cs ++ current ∷ [])) n (full 0 c refl)))
 
 -- how many blocks some items have, where the last block has one or is the only block
 blocks_count : (n c long : ℕ) → (0 < c → n * c < long) → long ≤ n * c + n → suc c ≡ max 1 ((long + n - 1) / n)
@@ -87,7 +91,8 @@ module _ (s : SegmentsValue) (rows : List RowValue) (holds : HoldsRows s rows) w
       omega (arith, size, front)
 
   -- the seals of segments that hold rows
-  pub are_seals : (0 < length s.closed → base_of s < length rows) → (entries : List Entry) (told : List ℕ) (seals : List SealValue) → entries ≡ entries_of s → told_of s ≡ told → seals ≡ map sealed (all_of s) → AreSeals (s.shape).capacity entries told seals
+  pub are_seals : (0 < length s.closed → base_of s < length rows) → (entries : List Entry) (told : List ℕ) (seals : List SealValue) → entries ≡ entries_of s
+      → told_of s ≡ told → seals ≡ map sealed (all_of s) → AreSeals (s.shape).capacity entries told seals
   are_seals begun entries told seals seen tails made =
       let n = (s.shape).capacity in
       let long : length entries ≡ length rows = ap length seen ∙ entries_long s rows holds in
@@ -96,14 +101,17 @@ module _ (s : SegmentsValue) (rows : List RowValue) (holds : HoldsRows s rows) w
         count = size ∙ (blocks_count n (length s.closed) (length rows) begun holds.room ∙ ap (λ (k : ℕ). max 1 ((k + n - 1) / n)) (sym long));
         each = λ k seal at.
             let found = from_map sealed (all_of s) k seal (ap (λ (xs : List SealValue). slice_get xs k) (sym made) ∙ at) in
-            ap (λ (x : SealValue). x.entries) (sym found.2) ∙ (block_seen n s.closed s.current closed_full current_few k found.0 found.1 ∙ ap (block n k) (sym seen));
+            ap (λ (x : SealValue). x.entries) (sym found.2)
+            ∙ (block_seen n s.closed s.current closed_full current_few k found.0 found.1 ∙ ap (block n k) (sym seen));
         told_are = ap (told_in n 0) made ∙ (told_sealed n 0 (all_of s) ∙ tails);
       }
 
 module _ (shape : ShapeValue) (most : ℕ) (rows : List RowValue) where
   -- each block needs no more
   pub needs_at_most : ((k : ℕ) → distinct shape (block shape.capacity k rows) ≤ most) → NeedsAtMost shape most rows
-  needs_at_most each = All-map (λ part. distinct shape part ≤ most) (λ k. block shape.capacity k rows) (range_with_len 0 ((length rows + shape.capacity - 1) / shape.capacity)) (λ i d lt. each (get_or (range_with_len 0 ((length rows + shape.capacity - 1) / shape.capacity)) i d))
+  needs_at_most each =
+      All-map (λ part. distinct shape part ≤ most) (λ k. block shape.capacity k rows) (range_with_len 0 ((length rows + shape.capacity - 1) / shape.capacity))
+      (λ i d lt. each (get_or (range_with_len 0 ((length rows + shape.capacity - 1) / shape.capacity)) i d))
 
   -- a block that needs some node has a row
   needs_some : (k : ℕ) → most < distinct shape (block shape.capacity k rows) → 0 < length (block shape.capacity k rows)
@@ -124,7 +132,8 @@ module _ (shape : ShapeValue) (most : ℕ) (rows : List RowValue) where
       let front = length-take n (drop (n * k) rows) in
       let rest = length-drop (n * k) rows in
       let turn : suc k * n ≡ n * k + n = mul_comm (suc k) n ∙ mul-suc n k in
-      let low : suc k ≤ (length rows + n - 1) / n = (le-div_iff_mul-le (let e : 0 < n = omega (arith, some, front) in e)).1 (omega (arith, turn, some, front, rest)) in
+      let low : suc k ≤ (length rows + n - 1) / n =
+      (le-div_iff_mul-le (let e : 0 < n = omega (arith, some, front) in e)).1 (omega (arith, turn, some, front, rest)) in
       let size = length-map-range_with_len (λ (i : ℕ). block n i rows) 0 ((length rows + n - 1) / n) in (
         k,
         block n k rows,
@@ -138,10 +147,12 @@ module _ (shape : ShapeValue) (most : ℕ) where
   pub one_at_most : (rows : List RowValue) → length rows ≤ shape.capacity → NeedsAtMost shape most rows → distinct shape rows ≤ most
   one_at_most [] few all = omega arith
   one_at_most (row ∷ rows) few all =
-      let one : All (λ part. distinct shape part ≤ most) ((row ∷ rows) ∷ []) = subst (All (λ part. distinct shape part ≤ most)) (blocks_one shape.capacity (row ∷ rows) (omega arith) few) all in
+      let one : All (λ part. distinct shape part ≤ most) ((row ∷ rows) ∷ []) =
+      subst (All (λ part. distinct shape part ≤ most)) (blocks_one shape.capacity (row ∷ rows) (omega arith) few) all in
       one 0 [] (omega arith)
 
-  first_needs : (rows : List RowValue) → length rows ≤ shape.capacity → (k : ℕ) → most < distinct shape (block shape.capacity k rows) → most < distinct shape rows
+  first_needs : (rows : List RowValue) → length rows ≤ shape.capacity → (k : ℕ) → most < distinct shape (block shape.capacity k rows)
+      → most < distinct shape rows
   first_needs rows few zero many = subst (λ (part : List RowValue). most < distinct shape part) (whole_block shape.capacity rows few) many
   first_needs rows few (suc k) many =
       let n = shape.capacity in
@@ -156,5 +167,6 @@ module _ (shape : ShapeValue) (most : ℕ) where
       let n = shape.capacity in
       let count = (length rows + n - 1) / n in
       let size = length-map-range_with_len (λ (i : ℕ). block n i rows) 0 count in
-      let is : part ≡ block n k rows = sym at ∙ get_or-map-range_with_len (λ (i : ℕ). block n i rows) 0 count k k part (omega (arith, low, size)) (omega arith) in
+      let is : part ≡ block n k rows = sym at
+      ∙ get_or-map-range_with_len (λ (i : ℕ). block n i rows) 0 count k k part (omega (arith, low, size)) (omega arith) in
       first_needs rows few k (subst (λ (rs : List RowValue). most < distinct shape rs) is many)

@@ -61,7 +61,8 @@ expr_some before text expr h = by (expr_at (attrs_of before) text) refl h
 expr_known : (before : DraftValue) (text : List ℕ) (expr : List (List Atom)) → ExprRead (attrs_of before) text (Ok expr) → expr_of before text ≡ Some expr
 expr_known before text expr h = ap expr_in (expr_is (attrs_of before) text (Ok expr) h)
 
-offence_breaks : (before : DraftValue) (text : List ℕ) (stop : Stop) (offence : Offence) → ExprRead (attrs_of before) text (Err stop) → stop.offence ≡ offence → (code : ℕ) × IsBroken before code (expr_rules text)
+offence_breaks : (before : DraftValue) (text : List ℕ) (stop : Stop) (offence : Offence) → ExprRead (attrs_of before) text (Err stop) → stop.offence ≡ offence
+    → (code : ℕ) × IsBroken before code (expr_rules text)
 offence_breaks before text stop Syntax h e = (10, inl (refl, (stop, h, e)))
 offence_breaks before text stop UnknownName h e = (11, inr (inl (refl, (stop, h, e))))
 offence_breaks before text stop BadOperator h e = (12, inr (inr (inl (refl, (stop, h, e)))))
@@ -92,21 +93,26 @@ module _ (line : ℕ) (before : DraftValue) where
 
   pub never : (form : Form) → sound form → added line before form ≡ None → ⊥
   never packet_schema s h = cc
-  never (record_schema list) s h = s 4 (inl (refl, broken_from before (schema_list list) (ap is_none (map_none (with_schema line before false) (schema_at list) h))))
-  never (bucket_width number) s h = s 7 (inl (refl, from_none 1 (2 ^ 63) number (map_none (λ n. record before { width = Some n }) (number_from 1 (2 ^ 63) number) h)))
+  never (record_schema list) s h =
+      s 4 (inl (refl, broken_from before (schema_list list) (ap is_none (map_none (with_schema line before false) (schema_at list) h))))
+  never (bucket_width number) s h =
+      s 7 (inl (refl, from_none 1 (2 ^ 63) number (map_none (λ n. record before { width = Some n }) (number_from 1 (2 ^ 63) number) h)))
   never (new_index name attr) s h = s 6 (inr (inl (refl, map_none (λ found. with_lane before name (index_over found.0)) (attr_named (attrs_of before) attr) h)))
-  never (new_filter name expr) s h = let broken = expr_breaks before expr (map_none (λ read. with_lane before name (filter_by read)) (expr_of before expr) h) in s broken.0 (inr (inr broken.1))
+  never (new_filter name expr) s h = let broken =
+      expr_breaks before expr (map_none (λ read. with_lane before name (filter_by read)) (expr_of before expr) h) in s broken.0 (inr (inr broken.1))
   never (new_aggregate name filter attr) s h =
       no_then _ (lane_named is_filter before filter) h (λ e. s 6 (inr (inl (refl, e)))) (λ lane k.
       no_then _ (attr_named (attrs_of before) attr) k (λ e. s 6 (inr (inr (inl (refl, e))))) (λ found l. some_none l))
   never (new_tally name attr measure expr) s h =
       no_then _ (attr_named (attrs_of before) attr) h (λ e. s 6 (inr (inl (refl, e)))) (λ key k.
       no_then _ (attr_named (attrs_of before) measure) k (λ e. s 6 (inr (inr (inl (refl, e))))) (λ measured l.
-      no_then _ (expr_of before expr) l (λ e. let broken = expr_breaks before expr e in s broken.0 (inr (inr (inr (inr (inr (inr broken.1))))))) (λ read m. some_none m)))
+      no_then _ (expr_of before expr) l (λ e. let broken = expr_breaks before expr e in s broken.0 (inr (inr (inr (inr (inr (inr broken.1)))))))
+      (λ read m. some_none m)))
   never (new_trigger name aggregate part op number) s h =
       no_then _ (lane_named is_aggregate before aggregate) h (λ e. s 6 (inr (inl (refl, e)))) (λ lane k.
       no_then _ (number_of U64 number) k (λ e. s 7 (inr (inr (inl (refl, number_none number e))))) (λ n l. some_none l))
-  never (ask_list name expr) s h = let broken = expr_breaks before expr (map_none (λ read. with_ask before name (asks.List read)) (expr_of before expr) h) in s broken.0 (inr (inr broken.1))
+  never (ask_list name expr) s h = let broken = expr_breaks before expr (map_none (λ read. with_ask before name (asks.List read)) (expr_of before expr) h) in
+      s broken.0 (inr (inr broken.1))
   never (ask_find name index low high) s h =
       no_then _ (lane_named is_index before index) h (λ e. s 6 (inr (inl (refl, e)))) (λ lane k.
       no_then _ (key_of before index low) k (λ e. s 7 (inr (inr (inl (refl, key_none index low e))))) (λ first l.
@@ -126,7 +132,8 @@ module _ (line : ℕ) (before : DraftValue) where
 
   -- what is added is what the statement says
 
-  key_found : (index text : List ℕ) (kind : Kind) (n : ℕ) → index_kind before index ≡ Some kind → key_of before index text ≡ Some n → ValueText kind text (Num n)
+  key_found : (index text : List ℕ) (kind : Kind) (n : ℕ) → index_kind before index ≡ Some kind → key_of before index text ≡ Some n
+      → ValueText kind text (Num n)
   key_found index text kind n k h = number_found kind text n (ap (λ o. key_in o text) (sym k) ∙ h)
 
   key_kind : (index text : List ℕ) (n : ℕ) → key_of before index text ≡ Some n → (kind : Kind) × (index_kind before index ≡ Some kind)
@@ -139,9 +146,11 @@ module _ (line : ℕ) (before : DraftValue) where
   pub adds_found : (form : Form) (new : DraftValue) → added line before form ≡ Some new → Adds line before form new
   adds_found packet_schema new h = some_same h
   adds_found (record_schema list) new h = let m = map_some (with_schema line before false) (schema_at list) new h in (m.0, schema_found list m.0 m.1, m.2)
-  adds_found (bucket_width number) new h = let m = map_some (λ n. record before { width = Some n }) (number_from 1 (2 ^ 63) number) new h in let w = from_found 1 (2 ^ 63) number m.0 m.1 in (m.0, w.value, w.least, w.most, m.2)
+  adds_found (bucket_width number) new h = let m = map_some (λ n. record before { width = Some n }) (number_from 1 (2 ^ 63) number) new h in let w =
+      from_found 1 (2 ^ 63) number m.0 m.1 in (m.0, w.value, w.least, w.most, m.2)
   adds_found (new_index name attr) new h = map_some (λ found. with_lane before name (index_over found.0)) (attr_named (attrs_of before) attr) new h
-  adds_found (new_filter name expr) new h = let m = map_some (λ read. with_lane before name (filter_by read)) (expr_of before expr) new h in (m.0, expr_some before expr m.0 m.1, m.2)
+  adds_found (new_filter name expr) new h = let m = map_some (λ read. with_lane before name (filter_by read)) (expr_of before expr) new h in
+      (m.0, expr_some before expr m.0 m.1, m.2)
   adds_found (new_aggregate name filter attr) new h =
       option_and_then_some _ (lane_named is_filter before filter) new h (λ lane e k.
       option_and_then_some _ (attr_named (attrs_of before) attr) new k (λ found f l. (lane, found, e, f, some_same l)))
@@ -152,13 +161,22 @@ module _ (line : ℕ) (before : DraftValue) where
   adds_found (new_trigger name aggregate part op number) new h =
       option_and_then_some _ (lane_named is_aggregate before aggregate) new h (λ lane e k.
       option_and_then_some _ (number_of U64 number) new k (λ n f l. (lane, n, e, number_found U64 number n f, some_same l)))
-  adds_found (ask_list name expr) new h = let m = map_some (λ read. with_ask before name (asks.List read)) (expr_of before expr) new h in (m.0, expr_some before expr m.0 m.1, m.2)
+  adds_found (ask_list name expr) new h = let m = map_some (λ read. with_ask before name (asks.List read)) (expr_of before expr) new h in
+      (m.0, expr_some before expr m.0 m.1, m.2)
   adds_found (ask_find name index low high) new h =
       option_and_then_some _ (lane_named is_index before index) new h (λ lane e k.
       option_and_then_some _ (key_of before index low) new k (λ first f l.
       option_and_then_some _ (key_of before index high) new l (λ last g m.
-      let kind = key_kind index low first f in
-      (lane, kind.0, first, last, e, kind.1, record { low_is = key_found index low kind.0 first kind.1 f; high_is = key_found index high kind.0 last kind.1 g }, some_same m))))
+      let kind = key_kind index low first f in (
+        lane,
+        kind.0,
+        first,
+        last,
+        e,
+        kind.1,
+        record { low_is = key_found index low kind.0 first kind.1 f; high_is = key_found index high kind.0 last kind.1 g },
+        some_same m,
+      ))))
   adds_found (ask_buckets what name lane low high) new h =
       option_and_then_some _ (lane_named (is_of (family_of what)) before lane) new h (λ found e k.
       option_and_then_some _ (number_of U64 low) new k (λ first f l.
@@ -183,15 +201,19 @@ module _ (line : ℕ) (before : DraftValue) where
   pub adds_only : (form : Form) (new : DraftValue) → Adds line before form new → added line before form ≡ Some new
   adds_only packet_schema new h = ap Some (sym h)
   adds_only (record_schema list) new h = ap (option_map (with_schema line before false)) (schema_only list h.0 h.1) ∙ ap Some (sym h.2)
-  adds_only (bucket_width number) new h = ap (option_map (λ n. record before { width = Some n })) (from_only 1 (2 ^ 63) number h.0 h.1 h.2 h.3) ∙ ap Some (sym h.4)
+  adds_only (bucket_width number) new h = ap (option_map (λ n. record before { width = Some n })) (from_only 1 (2 ^ 63) number h.0 h.1 h.2 h.3)
+      ∙ ap Some (sym h.4)
   adds_only (new_index name attr) new h = ap (option_map (λ found. with_lane before name (index_over found.0))) h.1 ∙ ap Some (sym h.2)
   adds_only (new_filter name expr) new h = ap (option_map (λ read. with_lane before name (filter_by read))) (expr_known before expr h.0 h.1) ∙ ap Some (sym h.2)
   adds_only (new_aggregate name filter attr) new h = let lane = h.2 in let found = h.3 in rw (lane, found) (ap Some (sym h.4))
-  adds_only (new_tally name attr measure expr) new h = let key = h.3 in let measured = h.4 in rw (key, measured, expr_known before expr h.2 h.5) (ap Some (sym h.6))
+  adds_only (new_tally name attr measure expr) new h = let key = h.3 in let measured = h.4 in
+      rw (key, measured, expr_known before expr h.2 h.5) (ap Some (sym h.6))
   adds_only (new_trigger name aggregate part op number) new h = let lane = h.2 in rw (lane, number_only U64 number h.1 h.3) (ap Some (sym h.4))
   adds_only (ask_list name expr) new h = ap (option_map (λ read. with_ask before name (asks.List read))) (expr_known before expr h.0 h.1) ∙ ap Some (sym h.2)
-  adds_only (ask_find name index low high) new h = let lane = h.4 in let ends = h.6 in rw (key_only index low h.1 h.2 h.5 ends.low_is, key_only index high h.1 h.3 h.5 ends.high_is, lane) (ap Some (sym h.7))
-  adds_only (ask_buckets what name lane low high) new h = let found = h.3 in let ends = h.4 in rw (found, number_only U64 low h.1 ends.low_is, number_only U64 high h.2 ends.high_is) (ap Some (sym h.5))
+  adds_only (ask_find name index low high) new h = let lane = h.4 in let ends = h.6 in
+      rw (key_only index low h.1 h.2 h.5 ends.low_is, key_only index high h.1 h.3 h.5 ends.high_is, lane) (ap Some (sym h.7))
+  adds_only (ask_buckets what name lane low high) new h = let found = h.3 in let ends = h.4 in
+      rw (found, number_only U64 low h.1 ends.low_is, number_only U64 high h.2 ends.high_is) (ap Some (sym h.5))
   adds_only (ask_fired name trigger) new h = ap (option_map (λ found. with_ask before name (asks.Fired found))) h.1 ∙ ap Some (sym h.2)
   adds_only (ask_top name tally part count) new h = let lane = h.2 in rw (lane, from_only 1 1000 count h.1 h.3 h.4 h.5) (ap Some (sym h.6))
   adds_only (ask_total name attr expr) new h = let found = h.2 in rw (found, expr_known before expr h.1 h.3) (ap Some (sym h.4))

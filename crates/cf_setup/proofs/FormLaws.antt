@@ -34,7 +34,8 @@ mapped : {A : Type 0} (f : A → Form) (o : Option A) (form : Form) → option_m
 mapped f None form h = cc
 mapped f (Some x) form h = (x, some_same h)
 
-fits_as : (statement : Statement) (form other : Form) → form ≡ other → is_schema_form other ≡ is_schema_statement statement → has_sign other ≡ true → Fits statement form
+fits_as : (statement : Statement) (form other : Form) → form ≡ other → is_schema_form other ≡ is_schema_statement statement → has_sign other ≡ true
+    → Fits statement form
 fits_as statement form other e k s = record { kind = ap is_schema_form e ∙ k; sign = ap has_sign e ∙ s }
 
 sign_is : (word : List ℕ) (op : Op) → sign_named word ≡ Some op → not (is_within op) ≡ true
@@ -47,7 +48,8 @@ sign_is word op h = option_and_then_some _ (op_named word) op h (λ found e k. b
 schema_fits : (word rest : List ℕ) (form : Form) → schema_words word rest ≡ Some form → Fits statements.Schema form
 schema_fits word rest form h = by (bytes_eq word (codes "packet")) (is_blank rest) (bytes_eq word (codes "records")) h
   where
-    by : (p b r : Bool) → cond p (cond b (Some packet_schema) None) (cond r (option_map record_schema (last_word rest)) None) ≡ Some form → Fits statements.Schema form
+    by : (p b r : Bool) → cond p (cond b (Some packet_schema) None) (cond r (option_map record_schema (last_word rest)) None) ≡ Some form
+        → Fits statements.Schema form
     by true true r k = fits_as statements.Schema form packet_schema (some_same k) refl refl
     by true false r k = cc
     by false b true k = let m = mapped record_schema (last_word rest) form k in fits_as statements.Schema form (record_schema m.0) m.1 refl refl
@@ -55,12 +57,20 @@ schema_fits word rest form h = by (bytes_eq word (codes "packet")) (is_blank res
 
 question_fits : (question : Question) (name text : List ℕ) (form : Form) → question_form question name text ≡ Some form → Fits statements.Ask form
 question_fits questions.List name text form h = fits_as statements.Ask form (ask_list name text) (some_same h) refl refl
-question_fits questions.Find name text form h = let m = mapped (λ words. ask_find name words.0 words.1 words.2) (three_words text) form h in fits_as statements.Ask form (ask_find name m.0.0 m.0.1 m.0.2) m.1 refl refl
-question_fits questions.Between name text form h = let m = mapped (λ words. ask_buckets buckets.Between name words.0 words.1 words.2) (three_words text) form h in fits_as statements.Ask form (ask_buckets buckets.Between name m.0.0 m.0.1 m.0.2) m.1 refl refl
-question_fits questions.Measure name text form h = let m = mapped (λ words. ask_buckets buckets.Measure name words.0 words.1 words.2) (three_words text) form h in fits_as statements.Ask form (ask_buckets buckets.Measure name m.0.0 m.0.1 m.0.2) m.1 refl refl
-question_fits questions.Fired name text form h = let m = mapped (ask_fired name) (last_word text) form h in fits_as statements.Ask form (ask_fired name m.0) m.1 refl refl
-question_fits questions.Top name text form h = let m = mapped (λ words. ask_top name words.0 words.1 words.2) (ranking_words text) form h in fits_as statements.Ask form (ask_top name m.0.0 m.0.1 m.0.2) m.1 refl refl
-question_fits questions.Total name text form h = let m = mapped (λ attr. ask_total name attr.0 attr.1) (next_word text) form h in fits_as statements.Ask form (ask_total name m.0.0 m.0.1) m.1 refl refl
+question_fits questions.Find name text form h = let m = mapped (λ words. ask_find name words.0 words.1 words.2) (three_words text) form h in
+    fits_as statements.Ask form (ask_find name m.0.0 m.0.1 m.0.2) m.1 refl refl
+question_fits questions.Between name text form h = let m =
+    mapped (λ words. ask_buckets buckets.Between name words.0 words.1 words.2) (three_words text) form h in
+    fits_as statements.Ask form (ask_buckets buckets.Between name m.0.0 m.0.1 m.0.2) m.1 refl refl
+question_fits questions.Measure name text form h = let m =
+    mapped (λ words. ask_buckets buckets.Measure name words.0 words.1 words.2) (three_words text) form h in
+    fits_as statements.Ask form (ask_buckets buckets.Measure name m.0.0 m.0.1 m.0.2) m.1 refl refl
+question_fits questions.Fired name text form h = let m = mapped (ask_fired name) (last_word text) form h in
+    fits_as statements.Ask form (ask_fired name m.0) m.1 refl refl
+question_fits questions.Top name text form h = let m = mapped (λ words. ask_top name words.0 words.1 words.2) (ranking_words text) form h in
+    fits_as statements.Ask form (ask_top name m.0.0 m.0.1 m.0.2) m.1 refl refl
+question_fits questions.Total name text form h = let m = mapped (λ attr. ask_total name attr.0 attr.1) (next_word text) form h in
+    fits_as statements.Ask form (ask_total name m.0.0 m.0.1) m.1 refl refl
 
 pub form_fits : (statement : Statement) (text : List ℕ) (form : Form) → form_at statement text ≡ Some form → Fits statement form
 form_fits statements.Schema text form h = option_and_then_some _ (next_word text) form h (λ word e k. schema_fits word.0 word.1 form k)
@@ -69,7 +79,8 @@ form_fits statements.Index text form h =
     option_and_then_some _ (new_name text) form h (λ name e k.
     option_and_then_some _ (last_word name.1) form k (λ attr f l.
     fits_as statements.Index form (new_index name.0 attr) (some_same l) refl refl))
-form_fits statements.Filter text form h = let m = mapped (λ name. new_filter name.0 name.1) (new_name text) form h in fits_as statements.Filter form (new_filter m.0.0 m.0.1) m.1 refl refl
+form_fits statements.Filter text form h = let m = mapped (λ name. new_filter name.0 name.1) (new_name text) form h in
+    fits_as statements.Filter form (new_filter m.0.0 m.0.1) m.1 refl refl
 form_fits statements.Aggregate text form h =
     option_and_then_some _ (new_name text) form h (λ name e k.
     option_and_then_some _ (next_word name.1) form k (λ filter f l.
@@ -97,7 +108,8 @@ form_fits statements.Ask text form h =
 form_fits statements.Live text form h = let m = mapped ask_live (last_word text) form h in fits_as statements.Live form (ask_live m.0) m.1 refl refl
 
 -- after the schema's statement the schema is stated
-pub stated_before : (before : DraftValue) (statement : Statement) (text : List ℕ) (form : Form) → form_at statement text ≡ Some form → is_in_place before statement ≡ true → is_schema_form form ≡ false → is_some before.schema ≡ true
+pub stated_before : (before : DraftValue) (statement : Statement) (text : List ℕ) (form : Form) → form_at statement text ≡ Some form
+    → is_in_place before statement ≡ true → is_schema_form form ≡ false → is_some before.schema ≡ true
 stated_before before statement text form h place other = by (is_some before.schema) place
   where
     by : (b : Bool) → cond b (is_later before statement) (is_schema_statement statement) ≡ true → b ≡ true

@@ -68,12 +68,14 @@ abbrev grown : ShapeValue → Lane → ShapeValue
 grown s lane = record s { lanes = s.lanes ++ lane ∷ [] }
 
 exists_more : (s : ShapeValue) (lane : Lane) (k : ℕ) → exists s k ≡ true → exists (grown s lane) k ≡ true
-exists_more s lane k h = let below = ltb-true k (length s.lanes) h in let size = one_more s.lanes lane in lt-ltb k (length (s.lanes ++ lane ∷ [])) (omega (arith, below, size))
+exists_more s lane k h = let below = ltb-true k (length s.lanes) h in let size = one_more s.lanes lane in
+    lt-ltb k (length (s.lanes ++ lane ∷ [])) (omega (arith, below, size))
 
 lane_kept : (s : ShapeValue) (lane : Lane) (k : ℕ) → exists s k ≡ true → lane_at (grown s lane) k ≡ lane_at s k
 lane_kept s lane k h = get_or_append_left s.lanes (lane ∷ []) no_lane k (ltb-true k (length s.lanes) h)
 
-kept : (test : Lane → Bool) (s : ShapeValue) (lane : Lane) (k : ℕ) → (exists s k && test (lane_at s k)) ≡ true → (exists (grown s lane) k && test (lane_at (grown s lane) k)) ≡ true
+kept : (test : Lane → Bool) (s : ShapeValue) (lane : Lane) (k : ℕ) → (exists s k && test (lane_at s k)) ≡ true
+    → (exists (grown s lane) k && test (lane_at (grown s lane) k)) ≡ true
 kept test s lane k h =
     let both = and_parts (exists s k) (test (lane_at s k)) h in
     and_from (exists (grown s lane) k) (test (lane_at (grown s lane) k)) (exists_more s lane k both.0) (ap test (lane_kept s lane k both.0) ∙ both.1)
@@ -88,13 +90,15 @@ aggregate_more : (s : ShapeValue) (lane : Lane) (k : ℕ) → is_aggregate_at s 
 aggregate_more s lane k h =
     let both = and_parts (is_bucketed s k) (is_some (lane_at s k).measure) h in
     let there = and_parts (exists s k) (not (is_attr (lane_at s k).key)) both.0 in
-    and_from (is_bucketed (grown s lane) k) (is_some (lane_at (grown s lane) k).measure) (bucketed_more s lane k both.0) (ap (λ l. is_some l.measure) (lane_kept s lane k there.0) ∙ both.1)
+    and_from (is_bucketed (grown s lane) k) (is_some (lane_at (grown s lane) k).measure) (bucketed_more s lane k both.0)
+    (ap (λ l. is_some l.measure) (lane_kept s lane k there.0) ∙ both.1)
 
 tally_more : (s : ShapeValue) (lane : Lane) (k : ℕ) → is_tally_at s k ≡ true → is_tally_at (grown s lane) k ≡ true
 tally_more s lane k h =
     let both = and_parts (is_indexed s k) (is_some (lane_at s k).measure) h in
     let there = and_parts (exists s k) (is_attr (lane_at s k).key) both.0 in
-    and_from (is_indexed (grown s lane) k) (is_some (lane_at (grown s lane) k).measure) (indexed_more s lane k both.0) (ap (λ l. is_some l.measure) (lane_kept s lane k there.0) ∙ both.1)
+    and_from (is_indexed (grown s lane) k) (is_some (lane_at (grown s lane) k).measure) (indexed_more s lane k both.0)
+    (ap (λ l. is_some l.measure) (lane_kept s lane k there.0) ∙ both.1)
 
 trigger_more : (s : ShapeValue) (lane : Lane) (trigger : Trigger) → suits_trigger s trigger ≡ true → suits_trigger (grown s lane) trigger ≡ true
 trigger_more s lane trigger h =
@@ -110,7 +114,8 @@ ask_more s lane (asks.Fired trigger) h = trigger_more s lane trigger h
 ask_more s lane (asks.Top k part n) h =
     let both = and_parts (is_tally_at s k && nat_le 1 n) (nat_le n 1000) h in
     let first = and_parts (is_tally_at s k) (nat_le 1 n) both.0 in
-    and_from (is_tally_at (grown s lane) k && nat_le 1 n) (nat_le n 1000) (and_from (is_tally_at (grown s lane) k) (nat_le 1 n) (tally_more s lane k first.0) first.1) both.1
+    and_from (is_tally_at (grown s lane) k && nat_le 1 n) (nat_le n 1000)
+    (and_from (is_tally_at (grown s lane) k) (nat_le 1 n) (tally_more s lane k first.0) first.1) both.1
 ask_more s lane (asks.Total attr expr) h = h
 
 below : (a b : ℕ) → (b ≤ a → ⊥) → a < b
@@ -142,7 +147,8 @@ module _ (before : DraftValue) (attrs : List Attr) (is : IsSetup (settled before
     ask_names = is.ask_names;
   }
 
-  lane_step : (name : List ℕ) (lane : Lane) → (16 ≤ length before.lanes → ⊥) → is_lawful_lane attrs lane ≡ true → IsSetup (settled (with_lane before name lane) attrs)
+  lane_step : (name : List ℕ) (lane : Lane) → (16 ≤ length before.lanes → ⊥) → is_lawful_lane attrs lane ≡ true
+      → IsSetup (settled (with_lane before name lane) attrs)
   lane_step name lane room lawful =
       let size = one_more before.lanes lane in
       let names = one_more before.lane_names name in
@@ -155,15 +161,18 @@ module _ (before : DraftValue) (attrs : List Attr) (is : IsSetup (settled before
         few_triggers = is.few_triggers;
         few_asks = is.few_asks;
         lanes = all_push (is_lawful_lane attrs) before.lanes lane is.lanes lawful;
-        triggers = λ c w n. all_more (suits_trigger (shaped (settled before attrs) c w n)) (suits_trigger (grown (shaped (settled before attrs) c w n) lane)) (trigger_more (shaped (settled before attrs) c w n) lane) before.triggers (is.triggers c w n);
-        asks = λ c w n. all_more (suits_of (shaped (settled before attrs) c w n)) (suits_of (grown (shaped (settled before attrs) c w n) lane)) (ask_more (shaped (settled before attrs) c w n) lane) before.asks (is.asks c w n);
+        triggers = λ c w n. all_more (suits_trigger (shaped (settled before attrs) c w n)) (suits_trigger (grown (shaped (settled before attrs) c w n) lane))
+            (trigger_more (shaped (settled before attrs) c w n) lane) before.triggers (is.triggers c w n);
+        asks = λ c w n. all_more (suits_of (shaped (settled before attrs) c w n)) (suits_of (grown (shaped (settled before attrs) c w n) lane))
+            (ask_more (shaped (settled before attrs) c w n) lane) before.asks (is.asks c w n);
         lives = is.lives;
         lane_names = omega (arith, size, names, same);
         trigger_names = is.trigger_names;
         ask_names = is.ask_names;
       }
 
-  trigger_step : (name : List ℕ) (trigger : Trigger) → (16 ≤ length before.triggers → ⊥) → ((c w n : ℕ) → suits_trigger (shaped (settled before attrs) c w n) trigger ≡ true) → IsSetup (settled (with_trigger before name trigger) attrs)
+  trigger_step : (name : List ℕ) (trigger : Trigger) → (16 ≤ length before.triggers → ⊥)
+      → ((c w n : ℕ) → suits_trigger (shaped (settled before attrs) c w n) trigger ≡ true) → IsSetup (settled (with_trigger before name trigger) attrs)
   trigger_step name trigger room suit =
       let size = one_more before.triggers trigger in
       let names = one_more before.trigger_names name in
@@ -185,9 +194,11 @@ module _ (before : DraftValue) (attrs : List Attr) (is : IsSetup (settled before
       }
 
   live_more : (ask : Ask) (live : ℕ) → nat_lt live (length before.asks) ≡ true → nat_lt live (length (before.asks ++ ask ∷ [])) ≡ true
-  live_more ask live h = let small = ltb-true live (length before.asks) h in let size = one_more before.asks ask in lt-ltb live (length (before.asks ++ ask ∷ [])) (omega (arith, small, size))
+  live_more ask live h = let small = ltb-true live (length before.asks) h in let size = one_more before.asks ask in
+      lt-ltb live (length (before.asks ++ ask ∷ [])) (omega (arith, small, size))
 
-  ask_step : (name : List ℕ) (ask : Ask) → (32 ≤ length before.asks → ⊥) → ((c w n : ℕ) → suits_of (shaped (settled before attrs) c w n) ask ≡ true) → IsSetup (settled (with_ask before name ask) attrs)
+  ask_step : (name : List ℕ) (ask : Ask) → (32 ≤ length before.asks → ⊥) → ((c w n : ℕ) → suits_of (shaped (settled before attrs) c w n) ask ≡ true)
+      → IsSetup (settled (with_ask before name ask) attrs)
   ask_step name ask room suit =
       let size = one_more before.asks ask in
       let names = one_more before.ask_names name in
@@ -202,13 +213,15 @@ module _ (before : DraftValue) (attrs : List Attr) (is : IsSetup (settled before
         lanes = is.lanes;
         triggers = is.triggers;
         asks = λ c w n. all_push (suits_of (shaped (settled before attrs) c w n)) before.asks ask (is.asks c w n) (suit c w n);
-        lives = all_more (λ live. nat_lt live (length before.asks)) (λ live. nat_lt live (length (before.asks ++ ask ∷ []))) (live_more ask) before.lives is.lives;
+        lives = all_more (λ live. nat_lt live (length before.asks)) (λ live. nat_lt live (length (before.asks ++ ask ∷ [])))
+            (live_more ask) before.lives is.lives;
         lane_names = is.lane_names;
         trigger_names = is.trigger_names;
         ask_names = omega (arith, size, names, same);
       }
 
-  live_step : (ask : List ℕ) (place : ℕ) → place_in before.ask_names ask ≡ Some place → IsSetup (settled (record before { lives = before.lives ++ place ∷ [] }) attrs)
+  live_step : (ask : List ℕ) (place : ℕ) → place_in before.ask_names ask ≡ Some place
+      → IsSetup (settled (record before { lives = before.lives ++ place ∷ [] }) attrs)
   live_step ask place h =
       let found = position-Some (λ other. bytes_eq other ask) before.ask_names place [] h in
       let same = is.ask_names in
@@ -222,7 +235,8 @@ module _ (before : DraftValue) (attrs : List Attr) (is : IsSetup (settled before
         lanes = is.lanes;
         triggers = is.triggers;
         asks = is.asks;
-        lives = all_push (λ live. nat_lt live (length before.asks)) before.lives place is.lives (lt-ltb place (length before.asks) (omega (arith, small, same)));
+        lives = all_push (λ live. nat_lt live (length before.asks)) before.lives place is.lives
+            (lt-ltb place (length before.asks) (omega (arith, small, same)));
         lane_names = is.lane_names;
         trigger_names = is.trigger_names;
         ask_names = is.ask_names;
@@ -230,7 +244,8 @@ module _ (before : DraftValue) (attrs : List Attr) (is : IsSetup (settled before
 
   -- lanes by their names
 
-  lane_stands : (passes : Lane → Bool) (name : List ℕ) (found : ℕ × Lane) → lane_named passes before name ≡ Some found → (slice_get before.lanes found.0 ≡ Some found.1) × (passes found.1 ≡ true)
+  lane_stands : (passes : Lane → Bool) (name : List ℕ) (found : ℕ × Lane) → lane_named passes before name ≡ Some found
+      → (slice_get before.lanes found.0 ≡ Some found.1) × (passes found.1 ≡ true)
   lane_stands passes name found h =
       option_and_then_some _ (place_in before.lane_names name) found h (λ place e k.
       option_and_then_some _ (slice_get before.lanes place) found k (λ lane f l.
@@ -241,46 +256,55 @@ module _ (before : DraftValue) (attrs : List Attr) (is : IsSetup (settled before
   lane_lawful passes name found h = let s = lane_stands passes name found h in all_get (is_lawful_lane attrs) before.lanes found.0 found.1 is.lanes s.0
 
   -- the lane exists in the shape, and passes there
-  lane_there : (passes : Lane → Bool) (name : List ℕ) (found : ℕ × Lane) (c w n : ℕ) → lane_named passes before name ≡ Some found → (exists (shaped (settled before attrs) c w n) found.0 ≡ true) × (passes (lane_at (shaped (settled before attrs) c w n) found.0) ≡ true)
+  lane_there : (passes : Lane → Bool) (name : List ℕ) (found : ℕ × Lane) (c w n : ℕ) → lane_named passes before name ≡ Some found
+      → (exists (shaped (settled before attrs) c w n) found.0 ≡ true) × (passes (lane_at (shaped (settled before attrs) c w n) found.0) ≡ true)
   lane_there passes name found c w n h =
       let s = lane_stands passes name found h in (
         lt-ltb found.0 (length before.lanes) (slice_get_within before.lanes found.0 found.1 s.0),
         ap passes (get_or_from_slice_get before.lanes found.0 found.1 no_lane s.0) ∙ s.1,
       )
 
-  aggregate_there : (name : List ℕ) (found : ℕ × Lane) (c w n : ℕ) → lane_named is_aggregate before name ≡ Some found → is_aggregate_at (shaped (settled before attrs) c w n) found.0 ≡ true
+  aggregate_there : (name : List ℕ) (found : ℕ × Lane) (c w n : ℕ) → lane_named is_aggregate before name ≡ Some found
+      → is_aggregate_at (shaped (settled before attrs) c w n) found.0 ≡ true
   aggregate_there name found c w n h =
       let there = lane_there is_aggregate name found c w n h in
       let lane : Lane = lane_at (shaped (settled before attrs) c w n) found.0 in
       let both = and_parts (not (is_attr lane.key)) (is_some lane.measure) there.1 in
-      and_from (is_bucketed (shaped (settled before attrs) c w n) found.0) (is_some lane.measure) (and_from (exists (shaped (settled before attrs) c w n) found.0) (not (is_attr lane.key)) there.0 both.0) both.1
+      and_from (is_bucketed (shaped (settled before attrs) c w n) found.0) (is_some lane.measure)
+      (and_from (exists (shaped (settled before attrs) c w n) found.0) (not (is_attr lane.key)) there.0 both.0) both.1
 
-  filter_there : (name : List ℕ) (found : ℕ × Lane) (c w n : ℕ) → lane_named is_filter before name ≡ Some found → is_bucketed (shaped (settled before attrs) c w n) found.0 ≡ true
+  filter_there : (name : List ℕ) (found : ℕ × Lane) (c w n : ℕ) → lane_named is_filter before name ≡ Some found
+      → is_bucketed (shaped (settled before attrs) c w n) found.0 ≡ true
   filter_there name found c w n h =
       let there = lane_there is_filter name found c w n h in
       let lane : Lane = lane_at (shaped (settled before attrs) c w n) found.0 in
       let both = and_parts (not (is_attr lane.key)) (not (is_some lane.measure)) there.1 in
       and_from (exists (shaped (settled before attrs) c w n) found.0) (not (is_attr lane.key)) there.0 both.0
 
-  index_there : (name : List ℕ) (found : ℕ × Lane) (c w n : ℕ) → lane_named is_index before name ≡ Some found → is_indexed (shaped (settled before attrs) c w n) found.0 ≡ true
+  index_there : (name : List ℕ) (found : ℕ × Lane) (c w n : ℕ) → lane_named is_index before name ≡ Some found
+      → is_indexed (shaped (settled before attrs) c w n) found.0 ≡ true
   index_there name found c w n h =
       let there = lane_there is_index name found c w n h in
       let lane : Lane = lane_at (shaped (settled before attrs) c w n) found.0 in
       let both = and_parts (is_attr lane.key) (not (is_some lane.measure)) there.1 in
       and_from (exists (shaped (settled before attrs) c w n) found.0) (is_attr lane.key) there.0 both.0
 
-  buckets_suit : (what : Buckets) (name : List ℕ) (found : ℕ × Lane) (first last c w n : ℕ) → lane_named (is_of (family_of what)) before name ≡ Some found → suits_of (shaped (settled before attrs) c w n) (asked_of what found.0 first last) ≡ true
+  buckets_suit : (what : Buckets) (name : List ℕ) (found : ℕ × Lane) (first last c w n : ℕ) → lane_named (is_of (family_of what)) before name ≡ Some found
+      → suits_of (shaped (settled before attrs) c w n) (asked_of what found.0 first last) ≡ true
   buckets_suit buckets.Between name found first last c w n h = filter_there name found c w n h
   buckets_suit buckets.Measure name found first last c w n h = aggregate_there name found c w n h
 
-  tally_there : (name : List ℕ) (found : ℕ × Lane) (c w n : ℕ) → lane_named is_tally before name ≡ Some found → is_tally_at (shaped (settled before attrs) c w n) found.0 ≡ true
+  tally_there : (name : List ℕ) (found : ℕ × Lane) (c w n : ℕ) → lane_named is_tally before name ≡ Some found
+      → is_tally_at (shaped (settled before attrs) c w n) found.0 ≡ true
   tally_there name found c w n h =
       let there = lane_there is_tally name found c w n h in
       let lane : Lane = lane_at (shaped (settled before attrs) c w n) found.0 in
       let both = and_parts (is_attr lane.key) (is_some lane.measure) there.1 in
-      and_from (is_indexed (shaped (settled before attrs) c w n) found.0) (is_some lane.measure) (and_from (exists (shaped (settled before attrs) c w n) found.0) (is_attr lane.key) there.0 both.0) both.1
+      and_from (is_indexed (shaped (settled before attrs) c w n) found.0) (is_some lane.measure)
+      (and_from (exists (shaped (settled before attrs) c w n) found.0) (is_attr lane.key) there.0 both.0) both.1
 
-  trigger_suits : (name : List ℕ) (found : Trigger) (c w n : ℕ) → trigger_named before name ≡ Some found → suits_trigger (shaped (settled before attrs) c w n) found ≡ true
+  trigger_suits : (name : List ℕ) (found : Trigger) (c w n : ℕ) → trigger_named before name ≡ Some found
+      → suits_trigger (shaped (settled before attrs) c w n) found ≡ true
   trigger_suits name found c w n h =
       option_and_then_some _ (place_in before.trigger_names name) found h (λ place e k.
       all_get (suits_trigger (shaped (settled before attrs) c w n)) before.triggers place found (is.triggers c w n) k)
@@ -288,33 +312,42 @@ module _ (before : DraftValue) (attrs : List Attr) (is : IsSetup (settled before
 -- new lanes
 
 -- the kind passes, since the rule isn't broken
-kind_passes : (test : Kind → Bool) (o : Option (ℕ × Kind)) (found : ℕ × Kind) → ((x : ℕ × Kind) × (o ≡ Some x) × (test x.1 ≡ false) → ⊥) → o ≡ Some found → test found.1 ≡ true
+kind_passes : (test : Kind → Bool) (o : Option (ℕ × Kind)) (found : ℕ × Kind) → ((x : ℕ × Kind) × (o ≡ Some x) × (test x.1 ≡ false) → ⊥) → o ≡ Some found
+    → test found.1 ≡ true
 kind_passes test o found sound e = by (test found.1) refl
   where
     by : (b : Bool) → test found.1 ≡ b → b ≡ true
     by true b = refl
     by false b = absurd (sound (found, e, b))
 
-passes_at : (test : Kind → Bool) (attrs : List Attr) (name : List ℕ) (found : ℕ × Kind) → attr_named attrs name ≡ Some found → test found.1 ≡ true → option_passes test (slice_get attrs found.0) ≡ true
+passes_at : (test : Kind → Bool) (attrs : List Attr) (name : List ℕ) (found : ℕ × Kind) → attr_named attrs name ≡ Some found → test found.1 ≡ true
+    → option_passes test (slice_get attrs found.0) ≡ true
 passes_at test attrs name found e h = let s = named_stands attrs name found e in ap (option_passes test) s.here ∙ ap test s.kind_is ∙ h
 
-index_lawful : (attrs : List Attr) (name : List ℕ) (found : ℕ × Kind) → attr_named attrs name ≡ Some found → is_number found.1 ≡ true → is_lawful_lane attrs (index_over found.0) ≡ true
-index_lawful attrs name found e h = and_from (is_of_schema attrs ([] ∷ []) && option_passes is_number (slice_get attrs found.0)) true (passes_at is_number attrs name found e h) refl
+index_lawful : (attrs : List Attr) (name : List ℕ) (found : ℕ × Kind) → attr_named attrs name ≡ Some found → is_number found.1 ≡ true
+    → is_lawful_lane attrs (index_over found.0) ≡ true
+index_lawful attrs name found e h =
+    and_from (is_of_schema attrs ([] ∷ []) && option_passes is_number (slice_get attrs found.0)) true (passes_at is_number attrs name found e h) refl
 
 filter_lawful : (attrs : List Attr) (text : List ℕ) (expr : List (List Atom)) → ExprRead attrs text (Ok expr) → is_lawful_lane attrs (filter_by expr) ≡ true
-filter_lawful attrs text expr h = and_from (is_of_schema attrs expr && true) true (and_from (is_of_schema attrs expr) true (expr_fits attrs text expr h) refl) refl
+filter_lawful attrs text expr h =
+    and_from (is_of_schema attrs expr && true) true (and_from (is_of_schema attrs expr) true (expr_fits attrs text expr h) refl) refl
 
-aggregate_lawful : (attrs : List Attr) (lane : Lane) (name : List ℕ) (found : ℕ × Kind) → is_lawful_lane attrs lane ≡ true → attr_named attrs name ≡ Some found → is_narrow found.1 ≡ true → is_lawful_lane attrs (aggregate_by lane.select found.0) ≡ true
+aggregate_lawful : (attrs : List Attr) (lane : Lane) (name : List ℕ) (found : ℕ × Kind) → is_lawful_lane attrs lane ≡ true
+    → attr_named attrs name ≡ Some found → is_narrow found.1 ≡ true → is_lawful_lane attrs (aggregate_by lane.select found.0) ≡ true
 aggregate_lawful attrs lane name found lawful e h =
     let last = and_parts (is_of_schema attrs lane.select && is_lawful_key attrs lane.key) (is_lawful_measure attrs lane.measure) lawful in
     let first = and_parts (is_of_schema attrs lane.select) (is_lawful_key attrs lane.key) last.0 in
-    and_from (is_of_schema attrs lane.select && true) (option_passes is_narrow (slice_get attrs found.0)) (and_from (is_of_schema attrs lane.select) true first.0 refl) (passes_at is_narrow attrs name found e h)
+    and_from (is_of_schema attrs lane.select && true) (option_passes is_narrow (slice_get attrs found.0))
+    (and_from (is_of_schema attrs lane.select) true first.0 refl) (passes_at is_narrow attrs name found e h)
 
 tally_lawful : (attrs : List Attr) (attr measure text : List ℕ) (key measured : ℕ × Kind) (expr : List (List Atom))
-    → attr_named attrs attr ≡ Some key → attr_named attrs measure ≡ Some measured → is_number key.1 ≡ true → is_narrow measured.1 ≡ true → ExprRead attrs text (Ok expr) → is_lawful_lane attrs (tally_by expr key.0 measured.0) ≡ true
+    → attr_named attrs attr ≡ Some key → attr_named attrs measure ≡ Some measured → is_number key.1 ≡ true → is_narrow measured.1 ≡ true
+    → ExprRead attrs text (Ok expr) → is_lawful_lane attrs (tally_by expr key.0 measured.0) ≡ true
 tally_lawful attrs attr measure text key measured expr e f number narrow h =
     and_from (is_of_schema attrs expr && option_passes is_number (slice_get attrs key.0)) (option_passes is_narrow (slice_get attrs measured.0))
-    (and_from (is_of_schema attrs expr) (option_passes is_number (slice_get attrs key.0)) (expr_fits attrs text expr h) (passes_at is_number attrs attr key e number))
+    (and_from (is_of_schema attrs expr) (option_passes is_number (slice_get attrs key.0)) (expr_fits attrs text expr h)
+    (passes_at is_number attrs attr key e number))
     (passes_at is_narrow attrs measure measured f narrow)
 
 -- schemas
@@ -339,7 +372,12 @@ packet_is : IsSchema packet_attrs
 packet_is = record { few = leb-true (length packet_attrs) 24 refl; apart = refl; stamped = refl; sized = refl }
 
 draft_of : (line : ℕ) (packet : Bool) (attrs : List Attr) → IsSchema attrs → IsDraft (with_schema line nothing_stated packet attrs)
-draft_of line packet attrs schema = record { unstated = λ e. some_none e; lawful = λ other e. subst (λ (x : List Attr). IsSetup (settled (with_schema line nothing_stated packet attrs) x)) (some_same e) (base line packet attrs schema) }
+draft_of line packet attrs schema =
+    record {
+      unstated = λ e. some_none e;
+      lawful = λ other e. subst (λ (x : List Attr). IsSetup (settled (with_schema line nothing_stated packet attrs) x)) (some_same e)
+          (base line packet attrs schema);
+    }
   where
     some_none : Some attrs ≡ None → with_schema line nothing_stated packet attrs ≡ nothing_stated
     some_none e = cc
@@ -352,10 +390,13 @@ draft_of line packet attrs schema = record { unstated = λ e. some_none e; lawfu
 abbrev sound : DraftValue → Form → Type 0
 sound before form = (code : ℕ) → IsBroken before code (rules form) → ⊥
 
-later : (line : ℕ) (before : DraftValue) (form : Form) (new : DraftValue) (attrs : List Attr) → before.schema ≡ Some attrs → IsSetup (settled before attrs) → is_schema_form form ≡ false → has_sign form ≡ true → sound before form → Adds line before form new → (new.schema ≡ Some attrs) × IsSetup (settled new attrs)
+later : (line : ℕ) (before : DraftValue) (form : Form) (new : DraftValue) (attrs : List Attr) → before.schema ≡ Some attrs → IsSetup (settled before attrs)
+    → is_schema_form form ≡ false → has_sign form ≡ true → sound before form → Adds line before form new → (new.schema ≡ Some attrs)
+    × IsSetup (settled new attrs)
 later line before packet_schema new attrs e is k sign s h = absurd (false≢true (sym k))
 later line before (record_schema list) new attrs e is k sign s h = absurd (false≢true (sym k))
-later line before (bucket_width number) new attrs e is k sign s h = subst (λ (x : DraftValue). (x.schema ≡ Some attrs) × IsSetup (settled x attrs)) (sym h.4) (e, width_step before attrs is h.0 h.2 h.3)
+later line before (bucket_width number) new attrs e is k sign s h =
+    subst (λ (x : DraftValue). (x.schema ≡ Some attrs) × IsSetup (settled x attrs)) (sym h.4) (e, width_step before attrs is h.0 h.2 h.3)
 later line before (new_index name attr) new attrs e is k sign s h =
     let found = h.0 in
     let known : attr_named attrs attr ≡ Some found = ap (λ a. attr_named a attr) (sym (ap (λ o. unwrap_or o []) e)) ∙ h.1 in
@@ -397,7 +438,8 @@ later line before (new_trigger name aggregate part op number) new attrs e is k s
     subst (λ (x : DraftValue). (x.schema ≡ Some attrs) × IsSetup (settled x attrs)) (sym h.4) (
       e,
       trigger_step before attrs is name trigger (λ full. s 9 (inr (inr (inr (inl (refl, full))))))
-          (λ c w m. and_from (is_aggregate_at (shaped (settled before attrs) c w m) lane.0) (not (is_within op)) (aggregate_there before attrs is aggregate lane c w m h.2) sign),
+          (λ c w m. and_from (is_aggregate_at (shaped (settled before attrs) c w m) lane.0) (not (is_within op))
+          (aggregate_there before attrs is aggregate lane c w m h.2) sign),
     )
 later line before (ask_list name expr) new attrs e is k sign s h =
     let read : ExprRead attrs expr (Ok h.0) = subst (λ (a : List Attr). ExprRead a expr (Ok h.0)) (ap (λ o. unwrap_or o []) e) h.1 in
@@ -405,22 +447,33 @@ later line before (ask_list name expr) new attrs e is k sign s h =
     (e, ask_step before attrs is name (asks.List h.0) (λ full. s 9 (inr (inl (refl, full)))) (λ c w n. expr_fits attrs expr h.0 read))
 later line before (ask_find name index low high) new attrs e is k sign s h =
     let lane = h.0 in
-    subst (λ (x : DraftValue). (x.schema ≡ Some attrs) × IsSetup (settled x attrs)) (sym h.7)
-    (e, ask_step before attrs is name (asks.Find lane.0 h.2 h.3) (λ full. s 9 (inr (inr (inr (inr (inl (refl, full))))))) (λ c w n. index_there before attrs is index lane c w n h.4))
+    subst (λ (x : DraftValue). (x.schema ≡ Some attrs) × IsSetup (settled x attrs)) (sym h.7) (
+      e,
+      ask_step before attrs is name (asks.Find lane.0 h.2 h.3) (λ full. s 9 (inr (inr (inr (inr (inl (refl, full)))))))
+          (λ c w n. index_there before attrs is index lane c w n h.4),
+    )
 later line before (ask_buckets what name lane low high) new attrs e is k sign s h =
     let found = h.0 in
-    subst (λ (x : DraftValue). (x.schema ≡ Some attrs) × IsSetup (settled x attrs)) (sym h.5)
-    (e, ask_step before attrs is name (asked_of what found.0 h.1 h.2) (λ full. s 9 (inr (inr (inr (inr (inl (refl, full))))))) (λ c w n. buckets_suit before attrs is what lane found h.1 h.2 c w n h.3))
+    subst (λ (x : DraftValue). (x.schema ≡ Some attrs) × IsSetup (settled x attrs)) (sym h.5) (
+      e,
+      ask_step before attrs is name (asked_of what found.0 h.1 h.2) (λ full. s 9 (inr (inr (inr (inr (inl (refl, full)))))))
+          (λ c w n. buckets_suit before attrs is what lane found h.1 h.2 c w n h.3),
+    )
 later line before (ask_fired name trigger) new attrs e is k sign s h =
-    subst (λ (x : DraftValue). (x.schema ≡ Some attrs) × IsSetup (settled x attrs)) (sym h.2)
-    (e, ask_step before attrs is name (asks.Fired h.0) (λ full. s 9 (inr (inr (inl (refl, full))))) (λ c w n. trigger_suits before attrs is trigger h.0 c w n h.1))
+    subst (λ (x : DraftValue). (x.schema ≡ Some attrs) × IsSetup (settled x attrs)) (sym h.2) (
+      e,
+      ask_step before attrs is name (asks.Fired h.0) (λ full. s 9 (inr (inr (inl (refl, full)))))
+          (λ c w n. trigger_suits before attrs is trigger h.0 c w n h.1),
+    )
 later line before (ask_top name tally part count) new attrs e is k sign s h =
     let lane = h.0 in
     let n = h.1 in
     subst (λ (x : DraftValue). (x.schema ≡ Some attrs) × IsSetup (settled x attrs)) (sym h.6) (
       e,
       ask_step before attrs is name (asks.Top lane.0 part n) (λ full. s 9 (inr (inr (inr (inl (refl, full))))))
-          (λ c w m. and_from (is_tally_at (shaped (settled before attrs) c w m) lane.0 && nat_le 1 n) (nat_le n 1000) (and_from (is_tally_at (shaped (settled before attrs) c w m) lane.0) (nat_le 1 n) (tally_there before attrs is tally lane c w m h.2) (le-leb 1 n h.4)) (le-leb n 1000 h.5)),
+          (λ c w m. and_from (is_tally_at (shaped (settled before attrs) c w m) lane.0 && nat_le 1 n) (nat_le n 1000)
+          (and_from (is_tally_at (shaped (settled before attrs) c w m) lane.0) (nat_le 1 n) (tally_there before attrs is tally lane c w m h.2)
+          (le-leb 1 n h.4)) (le-leb n 1000 h.5)),
     )
 later line before (ask_total name attr expr) new attrs e is k sign s h =
     let found = h.0 in
@@ -431,7 +484,8 @@ later line before (ask_total name attr expr) new attrs e is k sign s h =
     subst (λ (x : DraftValue). (x.schema ≡ Some attrs) × IsSetup (settled x attrs)) (sym h.4) (
       e,
       ask_step before attrs is name (asks.Total found.0 h.1) (λ full. s 9 (inr (inr (inr (inl (refl, full))))))
-          (λ c w n. and_from (is_of_schema attrs h.1) (option_passes is_narrow (slice_get attrs found.0)) (expr_fits attrs expr h.1 read) (passes_at is_narrow attrs attr found known narrow)),
+          (λ c w n. and_from (is_of_schema attrs h.1) (option_passes is_narrow (slice_get attrs found.0)) (expr_fits attrs expr h.1 read)
+          (passes_at is_narrow attrs attr found known narrow)),
     )
 later line before (ask_live ask) new attrs e is k sign s h =
     subst (λ (x : DraftValue). (x.schema ≡ Some attrs) × IsSetup (settled x attrs)) (sym h.2) (e, live_step before attrs is ask h.0 h.1)
@@ -491,11 +545,13 @@ stated_lawful number before line new d s = by before.schema refl
     by : (o : Option (List Attr)) → before.schema ≡ o → IsDraft new
     by None e =
         let fits = form_fits s.statement (word_at line).1 s.form s.form_is in
-        let first : is_schema_statement s.statement ≡ true = sym (ap (λ o. cond (is_some o) (is_later before s.statement) (is_schema_statement s.statement)) e) ∙ place in
+        let first : is_schema_statement s.statement ≡ true =
+        sym (ap (λ o. cond (is_some o) (is_later before s.statement) (is_schema_statement s.statement)) e) ∙ place in
         started number s.form new (fits.kind ∙ first) (subst (λ (x : DraftValue). Adds number x s.form new) (d.unstated e) s.adds)
     by (Some attrs) e =
         let fits = form_fits s.statement (word_at line).1 s.form s.form_is in
-        let after : is_later before s.statement ≡ true = sym (ap (λ o. cond (is_some o) (is_later before s.statement) (is_schema_statement s.statement)) e) ∙ place in
+        let after : is_later before s.statement ≡ true = sym (ap (λ o. cond (is_some o) (is_later before s.statement) (is_schema_statement s.statement)) e)
+        ∙ place in
         let next = later number before s.form new attrs e (d.lawful attrs e) (fits.kind ∙ not_later before s.statement after) fits.sign broken s.adds in
         draft_after new attrs next.0 next.1
 
@@ -520,4 +576,5 @@ draft_few before d = by before.schema refl
   where
     by : (o : Option (List Attr)) → before.schema ≡ o → IsFew before
     by None e = subst IsFew (sym (d.unstated e)) (record { lanes = omega arith; asks = omega arith })
-    by (Some attrs) e = let is = d.lawful attrs e in let names = is.ask_names in let few = is.few_asks in record { lanes = is.few_lanes; asks = omega (arith, names, few) }
+    by (Some attrs) e = let is = d.lawful attrs e in let names = is.ask_names in let few = is.few_asks in
+        record { lanes = is.few_lanes; asks = omega (arith, names, few) }

@@ -142,8 +142,10 @@ broken_from before (known_lane family name) h = none_is (lane_named (is_of famil
 broken_from before (known_trigger name) h = none_is (trigger_named before name) h
 broken_from before (known_ask name) h = none_is (place_in before.ask_names name) h
 broken_from before (a_number text) h = λ n v. let none = none_is (number_of U64 text) h in let some = number_only U64 text n v in cc
-broken_from before (a_number_from low high text) h = λ n v least most. let none = none_is (number_from low high text) h in let some = from_only low high text n v least most in cc
-broken_from before (a_key index text) h = λ kind e n v. let none = none_is (key_of before index text) h in let some : key_of before index text ≡ Some n = ap (λ o. key_in o text) e ∙ number_only kind text n v in cc
+broken_from before (a_number_from low high text) h = λ n v least most. let none = none_is (number_from low high text) h in let some =
+    from_only low high text n v least most in cc
+broken_from before (a_key index text) h = λ kind e n v. let none = none_is (key_of before index text) h in let some : key_of before index text ≡ Some n =
+    ap (λ o. key_in o text) e ∙ number_only kind text n v in cc
 broken_from before (number_attr name) h = fails_from is_number (attr_named (attrs_of before) name) h
 broken_from before (narrow_attr name) h = fails_from is_narrow (attr_named (attrs_of before) name) h
 broken_from before lane_room h = leb-true 16 (length before.lanes) h
@@ -209,11 +211,14 @@ module _ (before : DraftValue) where
   above low code (rule ∷ rest) h (inl b) = let e = b.0 in let low_is = h.0 in omega (arith, e, low_is)
   above low code (rule ∷ rest) h (inr b) = let more = above rule.0 code rest h.1 b in let low_is = h.0 in omega (arith, more, low_is)
 
-  pub first_some : (low : ℕ) (rs : List (ℕ × Rule)) (code : ℕ) → Ascends low rs → first_broken before rs ≡ Some code → IsBroken before code rs × ((other : ℕ) → IsBroken before other rs → code ≤ other)
+  pub first_some : (low : ℕ) (rs : List (ℕ × Rule)) (code : ℕ) → Ascends low rs → first_broken before rs ≡ Some code → IsBroken before code rs
+      × ((other : ℕ) → IsBroken before other rs → code ≤ other)
   first_some low [] code h e = cc
   first_some low (rule ∷ rest) code h e = by (λ k. first_some rule.0 rest code h.1 k) (is_broken before rule.1) refl e
     where
-      by : (first_broken before rest ≡ Some code → IsBroken before code rest × ((other : ℕ) → IsBroken before other rest → code ≤ other)) → (b : Bool) → is_broken before rule.1 ≡ b → cond b (Some rule.0) (first_broken before rest) ≡ Some code → IsBroken before code (rule ∷ rest) × ((other : ℕ) → IsBroken before other (rule ∷ rest) → code ≤ other)
+      by : (first_broken before rest ≡ Some code → IsBroken before code rest × ((other : ℕ) → IsBroken before other rest → code ≤ other)) → (b : Bool)
+          → is_broken before rule.1 ≡ b → cond b (Some rule.0) (first_broken before rest) ≡ Some code → IsBroken before code (rule ∷ rest)
+          × ((other : ℕ) → IsBroken before other (rule ∷ rest) → code ≤ other)
       by later true b k = let same : rule.0 ≡ code = cc in (inl (sym same, broken_from before rule.1 b), λ other o. least other same o)
         where
           least : (other : ℕ) → rule.0 ≡ code → IsBroken before other (rule ∷ rest) → code ≤ other
@@ -229,7 +234,8 @@ module _ (before : DraftValue) where
   first_none [] code e b = b
   first_none (rule ∷ rest) code e b = by (λ k o. first_none rest code k o) (is_broken before rule.1) refl e b
     where
-      by : (first_broken before rest ≡ None → IsBroken before code rest → ⊥) → (t : Bool) → is_broken before rule.1 ≡ t → cond t (Some rule.0) (first_broken before rest) ≡ None → IsBroken before code (rule ∷ rest) → ⊥
+      by : (first_broken before rest ≡ None → IsBroken before code rest → ⊥) → (t : Bool) → is_broken before rule.1 ≡ t
+          → cond t (Some rule.0) (first_broken before rest) ≡ None → IsBroken before code (rule ∷ rest) → ⊥
       by later true t k o = cc
       by later false t k (inl o) = false≢true (sym t ∙ broken_to before rule.1 o.1)
       by later false t k (inr o) = later k o

@@ -39,7 +39,8 @@ Adds line before (new_aggregate name filter attr) new =
     (lane : ℕ × Lane) × (found : ℕ × Kind) × (lane_named is_filter before filter ≡ Some lane) × (attr_named (attrs_of before) attr ≡ Some found)
     × (new ≡ with_lane before name (aggregate_by lane.1.select found.0))
 Adds line before (new_tally name attr measure expr) new =
-    (key measured : ℕ × Kind) × (read : List (List Atom)) × (attr_named (attrs_of before) attr ≡ Some key) × (attr_named (attrs_of before) measure ≡ Some measured)
+    (key measured : ℕ × Kind) × (read : List (List Atom)) × (attr_named (attrs_of before) attr ≡ Some key)
+    × (attr_named (attrs_of before) measure ≡ Some measured)
     × ExprRead (attrs_of before) expr (Ok read) × (new ≡ with_lane before name (tally_by read key.0 measured.0))
 Adds line before (new_trigger name aggregate part op number) new =
     (lane : ℕ × Lane) × (n : ℕ) × (lane_named is_aggregate before aggregate ≡ Some lane) × ValueText U64 number (Num n)

@@ -24,7 +24,20 @@ pub record DraftValue : Type 0 where
 
 -- before the first line
 abbrev pub nothing_stated : DraftValue
-nothing_stated = record { packet = false; schema_line = 0; schema = None; width = None; lanes = []; triggers = []; asks = []; lives = []; lane_names = []; trigger_names = []; ask_names = [] }
+nothing_stated =
+    record {
+      packet = false;
+      schema_line = 0;
+      schema = None;
+      width = None;
+      lanes = [];
+      triggers = [];
+      asks = [];
+      lives = [];
+      lane_names = [];
+      trigger_names = [];
+      ask_names = [];
+    }
 
 -- the attributes, once the schema is stated
 abbrev pub attrs_of : DraftValue → List Attr

@@ -184,7 +184,8 @@ statement_read line before rest (Some statement) = if is_in_place before stateme
 
 -- what is stated after the line of that number, or the least code of a rule that it breaks
 unfoldable pub line_read : ℕ → DraftValue → List ℕ → Result DraftValue ℕ
-line_read number before line = if list_all (passes classes.Text) line then statement_read number before (word_at line).1 (statement_named (word_at line).0) else Err 1
+line_read number before line =
+    if list_all (passes classes.Text) line then statement_read number before (word_at line).1 (statement_named (word_at line).0) else Err 1
 
 -- a line after the spaces at its front
 abbrev pub said : ℕ → DraftValue → List ℕ → Result DraftValue ℕ

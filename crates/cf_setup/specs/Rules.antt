@@ -74,12 +74,17 @@ rules (record_schema list) = (4, schema_list list) ∷ []
 rules (bucket_width number) = (7, a_number_from 1 (2 ^ 63) number) ∷ []
 rules (new_index name attr) = (5, free_name name) ∷ (6, known_attr attr) ∷ (8, number_attr attr) ∷ (9, lane_room) ∷ []
 rules (new_filter name expr) = (5, free_name name) ∷ (9, lane_room) ∷ expr_rules expr
-rules (new_aggregate name filter attr) = (5, free_name name) ∷ (6, known_lane families.Filter filter) ∷ (6, known_attr attr) ∷ (8, narrow_attr attr) ∷ (9, lane_room) ∷ []
-rules (new_tally name attr measure expr) = (5, free_name name) ∷ (6, known_attr attr) ∷ (6, known_attr measure) ∷ (8, number_attr attr) ∷ (8, narrow_attr measure) ∷ (9, lane_room) ∷ expr_rules expr
-rules (new_trigger name aggregate part op number) = (5, free_name name) ∷ (6, known_lane families.Aggregate aggregate) ∷ (7, a_number number) ∷ (9, trigger_room) ∷ []
+rules (new_aggregate name filter attr) =
+    (5, free_name name) ∷ (6, known_lane families.Filter filter) ∷ (6, known_attr attr) ∷ (8, narrow_attr attr) ∷ (9, lane_room) ∷ []
+rules (new_tally name attr measure expr) =
+    (5, free_name name) ∷ (6, known_attr attr) ∷ (6, known_attr measure) ∷ (8, number_attr attr) ∷ (8, narrow_attr measure) ∷ (9, lane_room) ∷ expr_rules expr
+rules (new_trigger name aggregate part op number) =
+    (5, free_name name) ∷ (6, known_lane families.Aggregate aggregate) ∷ (7, a_number number) ∷ (9, trigger_room) ∷ []
 rules (ask_list name expr) = (5, free_name name) ∷ (9, ask_room) ∷ expr_rules expr
-rules (ask_find name index low high) = (5, free_name name) ∷ (6, known_lane families.Index index) ∷ (7, a_key index low) ∷ (7, a_key index high) ∷ (9, ask_room) ∷ []
-rules (ask_buckets what name lane low high) = (5, free_name name) ∷ (6, known_lane (family_of what) lane) ∷ (7, a_number low) ∷ (7, a_number high) ∷ (9, ask_room) ∷ []
+rules (ask_find name index low high) =
+    (5, free_name name) ∷ (6, known_lane families.Index index) ∷ (7, a_key index low) ∷ (7, a_key index high) ∷ (9, ask_room) ∷ []
+rules (ask_buckets what name lane low high) =
+    (5, free_name name) ∷ (6, known_lane (family_of what) lane) ∷ (7, a_number low) ∷ (7, a_number high) ∷ (9, ask_room) ∷ []
 rules (ask_fired name trigger) = (5, free_name name) ∷ (6, known_trigger trigger) ∷ (9, ask_room) ∷ []
 rules (ask_top name tally part count) = (5, free_name name) ∷ (6, known_lane families.Tally tally) ∷ (7, a_number_from 1 1000 count) ∷ (9, ask_room) ∷ []
 rules (ask_total name attr expr) = (5, free_name name) ∷ (6, known_attr attr) ∷ (8, narrow_attr attr) ∷ (9, ask_room) ∷ expr_rules expr

@@ -32,9 +32,12 @@ is_in_place before statement = if is_some before.schema then is_later before sta
 pub data Breaks (before : DraftValue) (line : List ℕ) (code : ℕ) : Type 0 where
   not_text : code ≡ 1 → list_all (passes classes.Text) line ≡ false → Breaks before line code
   unknown : code ≡ 2 → statement_named (word_at line).0 ≡ None → Breaks before line code
-  misplaced : (statement : Statement) → code ≡ 2 → statement_named (word_at line).0 ≡ Some statement → is_in_place before statement ≡ false → Breaks before line code
-  misformed : (statement : Statement) → code ≡ 3 → statement_named (word_at line).0 ≡ Some statement → form_at statement (word_at line).1 ≡ None → Breaks before line code
-  ruled : (statement : Statement) (form : Form) → statement_named (word_at line).0 ≡ Some statement → form_at statement (word_at line).1 ≡ Some form → IsBroken before code (rules form) → Breaks before line code
+  misplaced : (statement : Statement) → code ≡ 2 → statement_named (word_at line).0 ≡ Some statement → is_in_place before statement ≡ false
+      → Breaks before line code
+  misformed : (statement : Statement) → code ≡ 3 → statement_named (word_at line).0 ≡ Some statement → form_at statement (word_at line).1 ≡ None
+      → Breaks before line code
+  ruled : (statement : Statement) (form : Form) → statement_named (word_at line).0 ≡ Some statement → form_at statement (word_at line).1 ≡ Some form
+      → IsBroken before code (rules form) → Breaks before line code
 
 -- the least code of a rule that the line breaks
 pub record HasCode (before : DraftValue) (line : List ℕ) (code : ℕ) : Type 0 where
@@ -67,7 +70,10 @@ AllSaid number before (line ∷ lines) new = (next : DraftValue) × LineSaid num
 
 -- a setup, or the number of the first faulty line and its code
 pub data SetupText (bytes : List ℕ) (read : Result SetupValue (ℕ × ℕ)) : Type 0 where
-  whole : (stated : DraftValue) (attrs : List Attr) → length bytes ≤ 65536 → AllSaid 1 nothing_stated (lines_of bytes) stated → stated.schema ≡ Some attrs → read ≡ Ok (settled stated attrs) → SetupText bytes read
-  faulty : (front rest : List (List ℕ)) (line : List ℕ) (before : DraftValue) (code : ℕ) → length bytes ≤ 65536 → lines_of bytes ≡ front ++ line ∷ rest → AllSaid 1 nothing_stated front before → LineSaid (length front + 1) before line (Err code) → read ≡ Err (length front + 1, code) → SetupText bytes read
-  empty : (stated : DraftValue) → length bytes ≤ 65536 → AllSaid 1 nothing_stated (lines_of bytes) stated → stated.schema ≡ None → read ≡ Err (length (lines_of bytes) + 1, 2) → SetupText bytes read
+  whole : (stated : DraftValue) (attrs : List Attr) → length bytes ≤ 65536 → AllSaid 1 nothing_stated (lines_of bytes) stated → stated.schema ≡ Some attrs
+      → read ≡ Ok (settled stated attrs) → SetupText bytes read
+  faulty : (front rest : List (List ℕ)) (line : List ℕ) (before : DraftValue) (code : ℕ) → length bytes ≤ 65536 → lines_of bytes ≡ front ++ line ∷ rest
+      → AllSaid 1 nothing_stated front before → LineSaid (length front + 1) before line (Err code) → read ≡ Err (length front + 1, code) → SetupText bytes read
+  empty : (stated : DraftValue) → length bytes ≤ 65536 → AllSaid 1 nothing_stated (lines_of bytes) stated → stated.schema ≡ None
+      → read ≡ Err (length (lines_of bytes) + 1, 2) → SetupText bytes read
   large : 65536 < length bytes → read ≡ Err (0, 9) → SetupText bytes read

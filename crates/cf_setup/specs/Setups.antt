@@ -43,7 +43,8 @@ settled stated attrs = record {
 
 -- the setup's shape with that many tickets, writers and nodes
 abbrev pub shaped : SetupValue → ℕ → ℕ → ℕ → ShapeValue
-shaped setup capacity writers nodes = record { schema = setup.schema; lanes = setup.lanes; capacity = capacity; writers = writers; nodes = nodes; width = setup.width }
+shaped setup capacity writers nodes =
+    record { schema = setup.schema; lanes = setup.lanes; capacity = capacity; writers = writers; nodes = nodes; width = setup.width }
 
 -- its lanes are lawful over its schema, its triggers and asks suit its shape, and each has a name
 pub record IsSetup (setup : SetupValue) : Type 0 where

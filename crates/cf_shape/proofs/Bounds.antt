@@ -32,7 +32,8 @@ total_small s is =
     let few : 1 + 16 * s.writers ≤ 241 = omega (arith, b) in
     omega (arith, nodes_small s is, mul-le (s.writers * s.nodes) (1 + 16 * s.writers) 983040 241 (writers_nodes_small s is) few)
 
-pub lanes_lawful : (attrs : List Attr) (lanes : List Lane) → AreLanesOf attrs lanes → have_good_keys attrs lanes ≡ true → have_good_measures attrs lanes ≡ true → list_all (is_lawful_lane attrs) lanes ≡ true
+pub lanes_lawful : (attrs : List Attr) (lanes : List Lane) → AreLanesOf attrs lanes → have_good_keys attrs lanes ≡ true
+    → have_good_measures attrs lanes ≡ true → list_all (is_lawful_lane attrs) lanes ≡ true
 lanes_lawful attrs [] of keys measures = refl
 lanes_lawful attrs (x ∷ xs) of keys measures =
     let o = both (is_lane_of attrs x) (list_all (is_lane_of attrs) xs) of in
@@ -41,5 +42,6 @@ lanes_lawful attrs (x ∷ xs) of keys measures =
     let k = both (is_lawful_key attrs x.key) (have_good_keys attrs xs) keys in
     let m = both (is_lawful_measure attrs x.measure) (have_good_measures attrs xs) measures in
     and_from (is_lawful_lane attrs x) (list_all (is_lawful_lane attrs) xs)
-    (and_from (is_of_schema attrs x.select && is_lawful_key attrs x.key) (is_lawful_measure attrs x.measure) (and_from (is_of_schema attrs x.select) (is_lawful_key attrs x.key) q.0 k.0) m.0)
+    (and_from (is_of_schema attrs x.select && is_lawful_key attrs x.key) (is_lawful_measure attrs x.measure)
+    (and_from (is_of_schema attrs x.select) (is_lawful_key attrs x.key) q.0 k.0) m.0)
     (lanes_lawful attrs xs o.1 k.1 m.1)

@@ -25,7 +25,8 @@ count_low (x ∷ xs) = omega (arith, count_cons x xs, cell_low x, count_low xs)
 
 pub count_step : (xs : List Lane) (i : ℕ) (x : Lane) → i < length xs → x ≡ get_or xs i x → cell_count (drop i xs) ≡ cell_words x + cell_count (drop (i + 1) xs)
 count_step xs i x lt is =
-    ap cell_count (drop_more xs i x lt) ∙ (count_cons (get_or xs i x) (drop (i + 1) xs) ∙ ap (λ (a : Lane). cell_words a + cell_count (drop (i + 1) xs)) (sym is))
+    ap cell_count (drop_more xs i x lt)
+    ∙ (count_cons (get_or xs i x) (drop (i + 1) xs) ∙ ap (λ (a : Lane). cell_words a + cell_count (drop (i + 1) xs)) (sym is))
 
 pub count_end : (xs : List Lane) (i : ℕ) → length xs ≤ i → cell_count (drop i xs) ≡ 0
 count_end xs i le = ap cell_count (drop_all i xs le) ∙ count_none

@@ -19,7 +19,8 @@ both_right : (a b : Bool) → a && b ≡ true → b ≡ true
 both_right true b both = both
 both_right false b both = cc
 
-pub lawful_at : (attrs : List Attr) (lanes : List Lane) (lane : ℕ) → lane < length lanes → list_all (is_lawful_lane attrs) lanes ≡ true → is_lawful_lane attrs (get_or lanes lane no_lane) ≡ true
+pub lawful_at : (attrs : List Attr) (lanes : List Lane) (lane : ℕ) → lane < length lanes → list_all (is_lawful_lane attrs) lanes ≡ true
+    → is_lawful_lane attrs (get_or lanes lane no_lane) ≡ true
 lawful_at attrs [] lane lt all = absurd (omega (arith, lt))
 lawful_at attrs (first ∷ lanes) zero lt all = both_left _ _ all
 lawful_at attrs (first ∷ lanes) (suc lane) lt all = lawful_at attrs lanes lane (omega (arith, lt)) (both_right _ _ all)
@@ -42,5 +43,6 @@ key_levels attrs keys.Bucket h = omega arith
 pub levels_two : (s : ShapeValue) (l : ℕ) → IsShape s → l < length s.lanes → 1 < levels_of s l
 levels_two s l is lt =
     let lane = lane_at s l in
-    let a = both_left (is_of_schema s.schema lane.select && is_lawful_key s.schema lane.key) (is_lawful_measure s.schema lane.measure) (lawful_at s.schema s.lanes l lt is.lanes) in
+    let a = both_left (is_of_schema s.schema lane.select && is_lawful_key s.schema lane.key) (is_lawful_measure s.schema lane.measure)
+    (lawful_at s.schema s.lanes l lt is.lanes) in
     key_levels s.schema lane.key (both_right (is_of_schema s.schema lane.select) (is_lawful_key s.schema lane.key) a)

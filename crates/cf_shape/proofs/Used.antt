@@ -51,7 +51,8 @@ cells_past k i x xs =
     ∙ (ap (λ (m : ℕ). get_or (versions k 0 (cell_words x) ++ cells (suc k) xs) (m + i) (plain 0)) (sym (versions_long k 0 (cell_words x)))
     ∙ get_or-append-add (versions k 0 (cell_words x)) (cells (suc k) xs) i (plain 0))
 
-cells_at : (k : ℕ) (lanes : List Lane) (l i : ℕ) → l < length lanes → i < cell_words (get_or lanes l no_lane) → get_or (cells k lanes) (cell_count (take l lanes) + i) (plain 0) ≡ version (k + l) i
+cells_at : (k : ℕ) (lanes : List Lane) (l i : ℕ) → l < length lanes → i < cell_words (get_or lanes l no_lane)
+    → get_or (cells k lanes) (cell_count (take l lanes) + i) (plain 0) ≡ version (k + l) i
 cells_at k [] l i lt low = absurd (omega arith)
 cells_at k (x ∷ xs) zero i lt low =
     let e : cell_count [] + i ≡ i = omega (arith, count_none) in
@@ -83,7 +84,13 @@ cell_found (x ∷ xs) k lt = elim (cases_lt k (cell_words x)) [
       let j : ℕ = Rattle.std.specs.Prelude.◌-◌ k (cell_words x) in
       let below : j < cell_count xs = omega (arith, count_cons x xs) in
       let r = cell_found xs j below in
-      record { lane = suc r.lane; word = r.word; exists = (let h = r.exists in omega arith); low = r.low; at = (let h = r.at in omega (arith, h, count_cons x (take r.lane xs))) }
+      record {
+        lane = suc r.lane;
+        word = r.word;
+        exists = (let h = r.exists in omega arith);
+        low = r.low;
+        at = (let h = r.at in omega (arith, h, count_cons x (take r.lane xs)));
+      }
 ]
 
 pub before_fits : (lanes : List Lane) (l : ℕ) → l < length lanes → cell_count (take l lanes) + cell_words (get_or lanes l no_lane) ≤ cell_count lanes
@@ -103,13 +110,16 @@ past_plains s i =
     ∙ get_or-append-add (plains 0 (word_count s.schema + 1)) (cells 0 s.lanes) i (plain 0)
 
 -- word i of a lane's cell
-pub version_at : (s : ShapeValue) (l i : ℕ) → l < length s.lanes → i < cell_words (lane_at s l) → use_at s (word_count s.schema + 1 + cells_before s l + i) ≡ version l i
+pub version_at : (s : ShapeValue) (l i : ℕ) → l < length s.lanes → i < cell_words (lane_at s l)
+    → use_at s (word_count s.schema + 1 + cells_before s l + i) ≡ version l i
 version_at s l i lt low =
     let e : word_count s.schema + 1 + cells_before s l + i ≡ word_count s.schema + 1 + (cells_before s l + i) = omega arith in
-    ap (use_at s) e ∙ (past_plains s (cells_before s l + i) ∙ (cells_at 0 s.lanes l i lt low ∙ ap (λ (m : ℕ). version m i) (let f : 0 + l ≡ l = omega arith in f)))
+    ap (use_at s) e
+    ∙ (past_plains s (cells_before s l + i) ∙ (cells_at 0 s.lanes l i lt low ∙ ap (λ (m : ℕ). version m i) (let f : 0 + l ≡ l = omega arith in f)))
 
 -- the word whose use it is
-pub version_is : (s : ShapeValue) (k l i : ℕ) → suc k < ticket_words s → use_at s k ≡ version l i → (l < length s.lanes) × (i < cell_words (lane_at s l)) × (k ≡ word_count s.schema + 1 + cells_before s l + i)
+pub version_is : (s : ShapeValue) (k l i : ℕ) → suc k < ticket_words s → use_at s k ≡ version l i → (l < length s.lanes) × (i < cell_words (lane_at s l))
+    × (k ≡ word_count s.schema + 1 + cells_before s l + i)
 version_is s k l i lt is = elim (cases_lt k (word_count s.schema + 1)) [
   | inl low ↦ let p = plain_at s k low in absurd (cc (sym p ∙ is))
   | inr le ↦
@@ -120,7 +130,8 @@ version_is s k l i lt is = elim (cases_lt k (word_count s.schema + 1)) [
       let same : (r.lane ≡ l) × (r.word ≡ i) = ((let a : r.lane ≡ l = cc v in a), (let b : r.word ≡ i = cc v in b)) in (
         (let h = r.exists in omega (arith, h, same.0)),
         Rattle.std.proofs.Common.subst (λ (m : ℕ). i < cell_words (lane_at s m)) same.0 (let h = r.low in omega (arith, h, same.1)),
-        at ∙ (ap (λ (m : ℕ). word_count s.schema + 1 + cells_before s m + r.word) same.0 ∙ ap (λ (m : ℕ). word_count s.schema + 1 + cells_before s l + m) same.1),
+        at ∙ (ap (λ (m : ℕ). word_count s.schema + 1 + cells_before s m + r.word) same.0
+            ∙ ap (λ (m : ℕ). word_count s.schema + 1 + cells_before s l + m) same.1),
       )
 ]
 

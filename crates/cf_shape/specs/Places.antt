@@ -55,7 +55,8 @@ head_slot g n d w = body n (suc (d * g.writers + w))
 
 -- the sizes of the table of a log of this shape
 abbrev pub sizes_of : ShapeValue → Sizes
-sizes_of shape = record { tickets = shape.capacity; ticket_words = ticket_words shape; lanes = length shape.lanes; writers = shape.writers; nodes = shape.nodes }
+sizes_of shape =
+    record { tickets = shape.capacity; ticket_words = ticket_words shape; lanes = length shape.lanes; writers = shape.writers; nodes = shape.nodes }
 
 -- the table of a log of this shape has its first root at one place, and node 0 at the other
 abbrev pub StandsAt : ShapeValue → ℕ → ℕ → Type 0

@@ -7,7 +7,8 @@ use Rattle.cf_stream.proofs.Units.{NoUnit, reads_more, one_read, wants_none, bad
 use Rattle.cf_stream.proofs.Seen.{seen_short, early_short, early_cut, early_full}
 use Rattle.cf_stream.proofs.Cases.{shows_more}
 
-pub given_of : {S I F : Type 0} (f : Format S I F) (stream bytes : List ℕ) (items : List I) (t : S) (rest : List ℕ) → early stream ≡ bytes → ReadsTo f f.start bytes items t rest → NoUnit f t rest → AreGiven f stream items
+pub given_of : {S I F : Type 0} (f : Format S I F) (stream bytes : List ℕ) (items : List I) (t : S) (rest : List ℕ) → early stream ≡ bytes
+    → ReadsTo f f.start bytes items t rest → NoUnit f t rest → AreGiven f stream items
 given_of f stream bytes items t rest same read none =
     record { last = t; rest = rest; read = subst (λ (xs : List ℕ). ReadsTo f f.start xs items t rest) (sym same) read; none = none }
 
@@ -22,13 +23,15 @@ pub one_gift : {S I F : Type 0} (f : Format S I F) (is : IsStepper f) (stream : 
 one_gift f is stream = record { some = some_given f stream (end_of f is f.start (early stream)); one = one_given f stream }
 
 -- a long stream has given all its items
-long_gives : {S I F : Type 0} (f : Format S I F) (is : IsStepper f) (stream more : List ℕ) → 2 ^ 32 ≤ length stream → (items : List I) × AreGiven f stream items × AreGiven f (stream ++ more) items
+long_gives : {S I F : Type 0} (f : Format S I F) (is : IsStepper f) (stream more : List ℕ) → 2 ^ 32 ≤ length stream → (items : List I)
+    × AreGiven f stream items × AreGiven f (stream ++ more) items
 long_gives f is stream more size =
     let all = some_given f stream (end_of f is f.start (early stream)) in
     let same : early (stream ++ more) ≡ early stream = early_full stream more (omega (arith, size)) in
     (all.0, all.1, given_of f (stream ++ more) (early stream) all.0 all.1.last all.1.rest same all.1.read all.1.none)
 
-short_gives : {S I F : Type 0} (f : Format S I F) (is : IsStepper f) (stream more : List ℕ) (fault : F) → length stream < 2 ^ 32 → Shows f (seen stream) fault → (items : List I) × AreGiven f stream items × AreGiven f (stream ++ more) items
+short_gives : {S I F : Type 0} (f : Format S I F) (is : IsStepper f) (stream more : List ℕ) (fault : F) → length stream < 2 ^ 32 → Shows f (seen stream) fault
+    → (items : List I) × AreGiven f stream items × AreGiven f (stream ++ more) items
 short_gives f is stream more fault size h =
     let all : seen stream ≡ stream = seen_short stream (omega (arith, size)) in
     let now : Shows f stream fault = subst (λ (xs : List ℕ). Shows f xs fault) all h in
@@ -36,11 +39,14 @@ short_gives f is stream more fault size h =
     let rest : List ℕ = now.rest ++ take (2 ^ 32 - 1 - length stream) more in (
       now.items,
       given_of f stream stream now.items now.last now.rest (early_short stream size) now.read (bad_none f now.last now.rest fault now.bad),
-      given_of f (stream ++ more) (stream ++ take (2 ^ 32 - 1 - length stream) more) now.items now.last rest (early_cut stream more size) (reads_more f is f.start stream now.items now.last now.rest (take (2 ^ 32 - 1 - length stream) more) now.read) (bad_none f now.last rest fault (is.bad_stays now.last now.rest (take (2 ^ 32 - 1 - length stream) more) fault now.bad)),
+      given_of f (stream ++ more) (stream ++ take (2 ^ 32 - 1 - length stream) more) now.items now.last rest (early_cut stream more size)
+          (reads_more f is f.start stream now.items now.last now.rest (take (2 ^ 32 - 1 - length stream) more) now.read)
+          (bad_none f now.last rest fault (is.bad_stays now.last now.rest (take (2 ^ 32 - 1 - length stream) more) fault now.bad)),
     )
 
 -- after a fault no item is given
-pub found_gives : {S I F : Type 0} (f : Format S I F) (is : IsStepper f) (stream more : List ℕ) (fault : F) → IsFound f stream fault → (items : List I) × AreGiven f stream items × AreGiven f (stream ++ more) items
+pub found_gives : {S I F : Type 0} (f : Format S I F) (is : IsStepper f) (stream more : List ℕ) (fault : F) → IsFound f stream fault → (items : List I)
+    × AreGiven f stream items × AreGiven f (stream ++ more) items
 found_gives f is stream more fault (inr h) = long_gives f is stream more h.1.size
 found_gives f is stream more fault (inl h) = elim (cases_lt (length stream) (2 ^ 32)) [
   | inl size ↦ short_gives f is stream more fault size h

@@ -37,7 +37,11 @@ early_cut file piece h = take_past (2 ^ 32 - 1) file piece (omega (arith, h))
 
 pub seen_more : (file more : List ℕ) → (after : List ℕ) × (seen (file ++ more) ≡ seen file ++ after)
 seen_more file more = elim (cases_lt (length file) (2 ^ 32)) [
-  | inl short ↦ (take (2 ^ 32 - length file) more, seen_cut file more (omega (arith, short)) ∙ ap (λ xs. xs ++ take (2 ^ 32 - length file) more) (sym (seen_short file (omega (arith, short)))))
+  | inl short ↦ (
+    take (2 ^ 32 - length file) more,
+    seen_cut file more (omega (arith, short))
+        ∙ ap (λ xs. xs ++ take (2 ^ 32 - length file) more) (sym (seen_short file (omega (arith, short)))),
+  )
   | inr full ↦ ([], seen_full file more full ∙ sym (append-nil (seen file)))
 ]
 
@@ -50,4 +54,5 @@ seen_of_front front rest (inr full) = seen_full front rest (omega (arith, full))
 pub seen_last : (file more : List ℕ) (byte : ℕ) → length file + 1 ≡ 2 ^ 32 → seen (file ++ (byte ∷ more)) ≡ file ++ (byte ∷ [])
 seen_last file more byte h =
     let whole : length (file ++ (byte ∷ [])) ≡ 2 ^ 32 = length-append file (byte ∷ []) ∙ h in
-    ap seen (sym (append_assoc file (byte ∷ []) more)) ∙ seen_full (file ++ (byte ∷ [])) more (omega (arith, whole)) ∙ seen_short (file ++ (byte ∷ [])) (omega (arith, whole))
+    ap seen (sym (append_assoc file (byte ∷ []) more)) ∙ seen_full (file ++ (byte ∷ [])) more (omega (arith, whole))
+    ∙ seen_short (file ++ (byte ∷ [])) (omega (arith, whole))

@@ -9,9 +9,11 @@ pub record IsStepper {S I F : Type 0} (f : Format S I F) : Type 0 where
   pub none : f.count f.start ≡ 0
   pub nothing : (s : S) → f.step s [] ≡ Wants
   pub bad_stays : (s : S) (bytes more : List ℕ) (fault : F) → f.step s bytes ≡ Bad fault → f.step s (bytes ++ more) ≡ Bad fault
-  pub takes_stays : (s : S) (bytes more : List ℕ) (n : ℕ) (items : List I) (t : S) → f.step s bytes ≡ Takes n items t → f.step s (bytes ++ more) ≡ Takes n items t
+  pub takes_stays : (s : S) (bytes more : List ℕ) (n : ℕ) (items : List I) (t : S) → f.step s bytes ≡ Takes n items t
+      → f.step s (bytes ++ more) ≡ Takes n items t
   pub size : (s : S) (bytes : List ℕ) (n : ℕ) (items : List I) (t : S) → f.step s bytes ≡ Takes n items t → (0 < n) × (n ≤ length bytes)
-  pub late : (s : S) (bytes more : List ℕ) (n : ℕ) (items : List I) (t : S) → f.step s bytes ≡ Wants → f.step s (bytes ++ more) ≡ Takes n items t → length bytes < n
+  pub late : (s : S) (bytes more : List ℕ) (n : ℕ) (items : List I) (t : S) → f.step s bytes ≡ Wants → f.step s (bytes ++ more) ≡ Takes n items t
+      → length bytes < n
   pub one : (s : S) (bytes : List ℕ) (n : ℕ) (items : List I) (t : S) → f.step s bytes ≡ Takes n items t → length items ≤ 1
   pub few : (s : S) (bytes : List ℕ) (n : ℕ) (items : List I) (t : S) → f.step s bytes ≡ Takes n items t → 16 * length items ≤ n
   pub counts : (s : S) (bytes : List ℕ) (n : ℕ) (items : List I) (t : S) → f.step s bytes ≡ Takes n items t → f.count t ≡ f.count s + length items
@@ -36,7 +38,8 @@ pub record Runs {S I F : Type 0} (f : Format S I F) (s : S) (rest stream : List 
 
 -- What a call that takes one more piece gives and answers; `State` tells the state of the reader after it. Each item needs the last
 -- byte of its unit in this piece, and only the first of the units can have begun before it.
-pub record IsFed {S I F : Type 0} (f : Format S I F) (stream piece : List ℕ) (given : List I) (answer : Result (Unit {0}) F) (State : List ℕ → Type 0) : Type 0 where
+pub record IsFed {S I F : Type 0} (f : Format S I F) (stream piece : List ℕ) (given : List I) (answer : Result (Unit {0}) F)
+    (State : List ℕ → Type 0) : Type 0 where
   pub before : List I
   pub given_before : AreGiven f stream before
   pub given_now : AreGiven f (stream ++ piece) (before ++ given)

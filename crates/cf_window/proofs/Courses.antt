@@ -14,7 +14,8 @@ use Rattle.cf_window.specs.Rounds.{Course, Span, came, span_of, start, was_read,
 use Rattle.cf_window.specs.Windows.{after_row, drops, rows_in_all, window}
 use Rattle.cf_window.proofs.Rows.{few_after, rows_dropped, rows_first, rows_kept}
 
-moment_more : (shape : ShapeValue) (most : ℕ) (rows more : List RowValue) (span : Span) → IsMoment shape most rows span → IsMoment shape most (rows ++ more) span
+moment_more : (shape : ShapeValue) (most : ℕ) (rows more : List RowValue) (span : Span) → IsMoment shape most rows span
+    → IsMoment shape most (rows ++ more) span
 moment_more shape most rows more span is =
     let same = take-append-le span.to rows more is.come in
     let long = length-append rows more in
@@ -47,13 +48,21 @@ module _ (shape : ShapeValue) (most : ℕ) (rows : List RowValue) (course : Cour
   pub moment_now : IsMoment shape most rows (span_of course)
   moment_now = (let count = is.count in record {
     come = omega (arith, count);
-    held = held_now ∙ ap rows_in_all (is.segments ∙ ap (λ (rs : List RowValue). window shape most rs) (sym (take_all course.count rows (omega (arith, count)))));
+    held = held_now
+        ∙ ap rows_in_all (is.segments ∙ ap (λ (rs : List RowValue). window shape most rs) (sym (take_all course.count rows (omega (arith, count)))));
   })
 
   -- a round now sees each record that no other has seen
   pub seen_now : (number : ℕ) → number < length rows → IsSeen (course.rounds ++ span_of course ∷ []) number
   seen_now number low = elim (is.seen number low) [
-    | inl late ↦ (let from = from_is in let count = is.count in record { round = length course.rounds; span = span_of course; at = get_push_same course.rounds (span_of course); from = omega (arith, from, late); to = omega (arith, count, low) })
+    | inl late ↦ (let from = from_is in let count = is.count in
+        record {
+          round = length course.rounds;
+          span = span_of course;
+          at = get_push_same course.rounds (span_of course);
+          from = omega (arith, from, late);
+          to = omega (arith, count, low);
+        })
     | inr seen ↦ seen_more course.rounds (span_of course ∷ []) number seen
   ]
 
@@ -88,12 +97,14 @@ module _ (shape : ShapeValue) (most : ℕ) (rows : List RowValue) (course : Cour
       count = count_next;
       segments = segments_next;
       front = is.front;
-      ends = ap (λ (rs : List RowValue). rs ++ row ∷ []) is.ends ∙ (append_assoc is.front held (row ∷ []) ∙ ap (λ (rs : List RowValue). is.front ++ rs) (sym (rows_kept shape most course.segments row none)));
+      ends = ap (λ (rs : List RowValue). rs ++ row ∷ []) is.ends
+          ∙ (append_assoc is.front held (row ∷ []) ∙ ap (λ (rs : List RowValue). is.front ++ rs) (sym (rows_kept shape most course.segments row none)));
       rounds = subst (λ (spans : List Span). All (IsMoment shape most after) spans) (sym (ap rounds_by none)) (rounds_next course.rounds is.rounds);
-      seen = subst (λ (spans : List Span). (number : ℕ) → number < length after → (length is.front ≤ number) ⊎ IsSeen spans number) (sym (ap rounds_by none)) (λ number low. elim (Rattle.std.proofs.lemmas.Bool.cases_lt number (length rows)) [
-        | inl old ↦ is.seen number old
-        | inr last ↦ inl (let all = long in let count = is.count in omega (arith, all, count, last))
-      ]);
+      seen = subst (λ (spans : List Span). (number : ℕ) → number < length after → (length is.front ≤ number) ⊎ IsSeen spans number) (sym (ap rounds_by none))
+          (λ number low. elim (Rattle.std.proofs.lemmas.Bool.cases_lt number (length rows)) [
+            | inl old ↦ is.seen number old
+            | inr last ↦ inl (let all = long in let count = is.count in omega (arith, all, count, last))
+          ]);
     }
 
     abbrev first : List RowValue
@@ -104,13 +115,20 @@ module _ (shape : ShapeValue) (most : ℕ) (rows : List RowValue) (course : Cour
       count = count_next;
       segments = segments_next;
       front = is.front ++ first;
-      ends = ap (λ (rs : List RowValue). rs ++ row ∷ []) (is.ends ∙ (ap (λ (rs : List RowValue). is.front ++ rs) (rows_first course.segments) ∙ sym (append_assoc is.front first (rows_in_all (drop 1 course.segments)))))
-          ∙ (append_assoc (is.front ++ first) (rows_in_all (drop 1 course.segments)) (row ∷ []) ∙ ap (λ (rs : List RowValue). (is.front ++ first) ++ rs) (sym (rows_dropped shape most course.segments row one)));
-      rounds = subst (λ (spans : List Span). All (IsMoment shape most after) spans) (sym (ap rounds_by one)) (rounds_next (with_round course).rounds course_round.rounds);
-      seen = subst (λ (spans : List Span). (number : ℕ) → number < length after → (length (is.front ++ first) ≤ number) ⊎ IsSeen spans number) (sym (ap rounds_by one)) (λ number low. elim (Rattle.std.proofs.lemmas.Bool.cases_lt number (length rows)) [
-        | inl old ↦ inr (seen_now number old)
-        | inr last ↦ inl (let all = length-append is.front first in let part = count_held in let every = long in let count = is.count in omega (arith, all, part, every, count, last))
-      ]);
+      ends = ap (λ (rs : List RowValue). rs ++ row ∷ [])
+          (is.ends ∙ (ap (λ (rs : List RowValue). is.front ++ rs) (rows_first course.segments)
+          ∙ sym (append_assoc is.front first (rows_in_all (drop 1 course.segments)))))
+          ∙ (append_assoc (is.front ++ first) (rows_in_all (drop 1 course.segments)) (row ∷ [])
+          ∙ ap (λ (rs : List RowValue). (is.front ++ first) ++ rs) (sym (rows_dropped shape most course.segments row one)));
+      rounds = subst (λ (spans : List Span). All (IsMoment shape most after) spans) (sym (ap rounds_by one))
+          (rounds_next (with_round course).rounds course_round.rounds);
+      seen = subst (λ (spans : List Span). (number : ℕ) → number < length after → (length (is.front ++ first) ≤ number) ⊎ IsSeen spans number)
+          (sym (ap rounds_by one)) (λ number low. elim (Rattle.std.proofs.lemmas.Bool.cases_lt number (length rows)) [
+            | inl old ↦ inr (seen_now number old)
+            | inr last ↦ inl
+                (let all = length-append is.front first in let part = count_held in let every = long in let count = is.count in
+                omega (arith, all, part, every, count, last))
+          ]);
     }
       where
         count_held : length held ≡ length first + length (rows_in_all (drop 1 course.segments))
@@ -130,7 +148,8 @@ course_start shape most = record {
 }
 
 -- more records come
-pub course_rows : (shape : ShapeValue) (most : ℕ) (rows more : List RowValue) (course : Course) → IsCourse shape most rows course → IsCourse shape most (rows ++ more) (fold (came shape most) course more)
+pub course_rows : (shape : ShapeValue) (most : ℕ) (rows more : List RowValue) (course : Course) → IsCourse shape most rows course
+    → IsCourse shape most (rows ++ more) (fold (came shape most) course more)
 course_rows shape most rows [] course is = subst (λ (rs : List RowValue). IsCourse shape most rs course) (sym (append-nil rows)) is
 course_rows shape most rows (row ∷ more) course is =
     subst (λ (rs : List RowValue). IsCourse shape most rs (fold (came shape most) (came shape most course row) more)) (append_assoc rows (row ∷ []) more)
@@ -140,23 +159,28 @@ some_rows : (row : RowValue) (rows : List RowValue) → nat_lt 0 (length (row �
 some_rows row rows = grind (arith, nat_tests)
 
 -- a read has ended some
-pub course_read : (shape : ShapeValue) (most : ℕ) (rows read : List RowValue) (course : Course) → IsCourse shape most rows course → IsCourse shape most (rows ++ read) (was_read shape most course read)
+pub course_read : (shape : ShapeValue) (most : ℕ) (rows read : List RowValue) (course : Course) → IsCourse shape most rows course
+    → IsCourse shape most (rows ++ read) (was_read shape most course read)
 course_read shape most rows [] course is = subst (λ (rs : List RowValue). IsCourse shape most rs course) (sym (append-nil rows)) is
 course_read shape most rows (row ∷ read) course is =
     let after : Course = fold (came shape most) course (row ∷ read) in
     subst (λ (b : Bool). IsCourse shape most (rows ++ row ∷ read) (if b then with_round after else course)) (sym (some_rows row read))
     (course_round shape most (rows ++ row ∷ read) after (course_rows shape most rows (row ∷ read) course is))
 
-pub course_reads : (shape : ShapeValue) (most : ℕ) (rows : List RowValue) (reads : List (List RowValue)) (course : Course) → IsCourse shape most rows course → IsCourse shape most (rows ++ rows_in_all reads) (fold (was_read shape most) course reads)
+pub course_reads : (shape : ShapeValue) (most : ℕ) (rows : List RowValue) (reads : List (List RowValue)) (course : Course) → IsCourse shape most rows course
+    → IsCourse shape most (rows ++ rows_in_all reads) (fold (was_read shape most) course reads)
 course_reads shape most rows [] course is = subst (λ (rs : List RowValue). IsCourse shape most rs course) (sym (append-nil rows)) is
 course_reads shape most rows (read ∷ reads) course is =
-    subst (λ (rs : List RowValue). IsCourse shape most rs (fold (was_read shape most) (was_read shape most course read) reads)) (append_assoc rows read (rows_in_all reads))
+    subst (λ (rs : List RowValue). IsCourse shape most rs (fold (was_read shape most) (was_read shape most course read) reads))
+    (append_assoc rows read (rows_in_all reads))
     (course_reads shape most (rows ++ read) reads (was_read shape most course read) (course_read shape most rows read course is))
 
-pub course_all : (shape : ShapeValue) (most : ℕ) (reads : List (List RowValue)) → IsCourse shape most (rows_in_all reads) (fold (was_read shape most) start reads)
+pub course_all : (shape : ShapeValue) (most : ℕ) (reads : List (List RowValue))
+    → IsCourse shape most (rows_in_all reads) (fold (was_read shape most) start reads)
 course_all shape most reads = course_reads shape most [] reads start (course_start shape most)
 
-few_from : (shape : ShapeValue) (most : ℕ) (xs : List (List RowValue)) (rows : List RowValue) → 0 < most → length xs ≤ most → length (fold (after_row shape most) xs rows) ≤ most
+few_from : (shape : ShapeValue) (most : ℕ) (xs : List (List RowValue)) (rows : List RowValue) → 0 < most → length xs ≤ most
+    → length (fold (after_row shape most) xs rows) ≤ most
 few_from shape most xs [] some few = few
 few_from shape most xs (row ∷ rows) some few = few_from shape most (after_row shape most xs row) rows some (few_after shape most xs row some few)
 

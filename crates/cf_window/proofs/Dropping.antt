@@ -31,7 +31,8 @@ abbrev pub after_by : List (List RowValue) → RowValue → Bool → Bool → Li
 after_by xs row b c = cond {A = List (List RowValue)} b (with_last xs row) (cond {A = List (List RowValue)} c (drop 1 xs) xs ++ (row ∷ []) ∷ [])
 
 -- then the row comes as it would have come
-pub comes_then : (shape : ShapeValue) (most : ℕ) (xs : List (List RowValue)) (row : RowValue) → 0 < length xs → length xs ≤ most → drops shape most xs row ≡ true → (drops shape most (drop 1 xs) row ≡ false) × (after_row shape most (drop 1 xs) row ≡ after_row shape most xs row)
+pub comes_then : (shape : ShapeValue) (most : ℕ) (xs : List (List RowValue)) (row : RowValue) → 0 < length xs → length xs ≤ most
+    → drops shape most xs row ≡ true → (drops shape most (drop 1 xs) row ≡ false) × (after_row shape most (drop 1 xs) row ≡ after_row shape most xs row)
 comes_then shape most xs row some few is =
     let parts = both (not (goes_in shape xs row)) (nat_le most (length xs)) is in
     let out : goes_in shape xs row ≡ false = out_of (goes_in shape xs row) parts.0 in
@@ -42,15 +43,21 @@ comes_then shape most xs row some few is =
     (none, ap₂ (λ (b c : Bool). after_by (drop 1 xs) row b c) still none ∙ sym (ap₂ (λ (b c : Bool). after_by xs row b c) out is))
 
 -- The same of a window that its caller holds.
-pub refused_after : (old : WindowValue) (shape : ShapeValue) (xs ys : List (List RowValue)) (row : RowValue) → old.shape ≡ shape → old.segments ≡ xs → ys ≡ drop 1 xs → goes_in old.shape old.segments row ≡ false → goes_in shape ys row ≡ false
+pub refused_after : (old : WindowValue) (shape : ShapeValue) (xs ys : List (List RowValue)) (row : RowValue) → old.shape ≡ shape → old.segments ≡ xs
+    → ys ≡ drop 1 xs → goes_in old.shape old.segments row ≡ false → goes_in shape ys row ≡ false
 refused_after old shape xs ys row shape_is are dropped out =
-    ap (λ (zs : List (List RowValue)). goes_in shape zs row) dropped ∙ refused_still shape xs row (subst (λ (s : ShapeValue). goes_in s xs row ≡ false) shape_is (subst (λ (zs : List (List RowValue)). goes_in old.shape zs row ≡ false) are out))
+    ap (λ (zs : List (List RowValue)). goes_in shape zs row) dropped
+    ∙ refused_still shape xs row
+    (subst (λ (s : ShapeValue). goes_in s xs row ≡ false) shape_is (subst (λ (zs : List (List RowValue)). goes_in old.shape zs row ≡ false) are out))
 
-pub comes_after : (old new : WindowValue) (xs : List (List RowValue)) (row : RowValue) → old.shape ≡ new.shape → old.most ≡ new.most → old.segments ≡ xs → new.segments ≡ drop 1 xs → 0 < length old.segments → length xs ≤ new.most → drops old.shape old.most old.segments row ≡ true → ComesThen old row new
+pub comes_after : (old new : WindowValue) (xs : List (List RowValue)) (row : RowValue) → old.shape ≡ new.shape → old.most ≡ new.most → old.segments ≡ xs
+    → new.segments ≡ drop 1 xs → 0 < length old.segments → length xs ≤ new.most → drops old.shape old.most old.segments row ≡ true → ComesThen old row new
 comes_after old new xs row shape_is most_is are dropped some few is =
     let all = dropped ∙ ap (λ (zs : List (List RowValue)). drop 1 zs) (sym are) in
     let r = comes_then old.shape old.most old.segments row some (rw (are, most_is) few) is in
     record {
-      room = ap₂ (λ (s : ShapeValue) (n : ℕ). drops s n new.segments row) (sym shape_is) (sym most_is) ∙ (ap (λ (zs : List (List RowValue)). drops old.shape old.most zs row) all ∙ r.0);
-      same = ap₂ (λ (s : ShapeValue) (n : ℕ). after_row s n new.segments row) (sym shape_is) (sym most_is) ∙ (ap (λ (zs : List (List RowValue)). after_row old.shape old.most zs row) all ∙ r.1);
+      room = ap₂ (λ (s : ShapeValue) (n : ℕ). drops s n new.segments row) (sym shape_is) (sym most_is)
+          ∙ (ap (λ (zs : List (List RowValue)). drops old.shape old.most zs row) all ∙ r.0);
+      same = ap₂ (λ (s : ShapeValue) (n : ℕ). after_row s n new.segments row) (sym shape_is) (sym most_is)
+          ∙ (ap (λ (zs : List (List RowValue)). after_row old.shape old.most zs row) all ∙ r.1);
     }

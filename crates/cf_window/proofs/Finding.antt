@@ -21,12 +21,18 @@ abbrev pub rows_all : List SegmentValue → List RowValue
 rows_all xs = rows_in_all (rows_each xs)
 
 rows_append : (xs ys : List SegmentValue) → rows_all (xs ++ ys) ≡ rows_all xs ++ rows_all ys
-rows_append xs ys = ap rows_in_all (map-append (λ (s : SegmentValue). s.rows) xs ys) ∙ flat_map-append (λ (rows : List RowValue). rows) (rows_each xs) (rows_each ys)
+rows_append xs ys = ap rows_in_all (map-append (λ (s : SegmentValue). s.rows) xs ys)
+    ∙ flat_map-append (λ (rows : List RowValue). rows) (rows_each xs) (rows_each ys)
 
 pub rows_more : (xs : List SegmentValue) (i : ℕ) (d : SegmentValue) → i < length xs → rows_to xs (i + 1) ≡ rows_to xs i ++ (get_or xs i d).rows
-rows_more xs i d low = ap rows_all (take_more xs i d low) ∙ (rows_append (take i xs) (get_or xs i d ∷ []) ∙ ap (λ (rs : List RowValue). rows_to xs i ++ rs) (append-nil (get_or xs i d).rows))
+rows_more xs i d low = ap rows_all (take_more xs i d low)
+    ∙ (rows_append (take i xs) (get_or xs i d ∷ []) ∙ ap (λ (rs : List RowValue). rows_to xs i ++ rs) (append-nil (get_or xs i d).rows))
 
-module _ (shape : ShapeValue) (ask : Ask) (xs now : List SegmentValue) (i : ℕ) (d : SegmentValue) (low : i < length now) (same : now ≡ xs) (few : length xs * shape.capacity ≤ 2 ^ 20) (count : ℕ) (found : Finding) (count_is : count ≡ length (rows_to xs i)) (found_is : found ≡ finding_in shape ask (rows_to xs i)) (tail : ℕ) (more : Finding) (shape_is : (get_or now i d).shape ≡ shape) (tail_is : tail ≡ length (get_or now i d).rows) (more_is : more ≡ finding_in (get_or now i d).shape ask (get_or now i d).rows) (so_far : count ≤ i * shape.capacity) (short : length (get_or now i d).rows ≤ ((get_or now i d).shape).capacity) where
+module _ (shape : ShapeValue) (ask : Ask) (xs now : List SegmentValue) (i : ℕ) (d : SegmentValue) (low : i < length now) (same : now ≡ xs)
+    (few : length xs * shape.capacity ≤ 2 ^ 20) (count : ℕ) (found : Finding) (count_is : count ≡ length (rows_to xs i))
+    (found_is : found ≡ finding_in shape ask (rows_to xs i)) (tail : ℕ) (more : Finding) (shape_is : (get_or now i d).shape ≡ shape)
+    (tail_is : tail ≡ length (get_or now i d).rows) (more_is : more ≡ finding_in (get_or now i d).shape ask (get_or now i d).rows)
+    (so_far : count ≤ i * shape.capacity) (short : length (get_or now i d).rows ≤ ((get_or now i d).shape).capacity) where
   there : i < length xs
   there = subst (λ (ys : List SegmentValue). i < length ys) same low
 
@@ -48,7 +54,9 @@ module _ (shape : ShapeValue) (ask : Ask) (xs now : List SegmentValue) (i : ℕ)
       omega (arith, so_far, one_short, tail_is)
 
   pub count_few : count + tail ≤ 2 ^ 20
-  count_few = (let low = low_next in let more : (i + 1) * shape.capacity ≤ length xs * shape.capacity = mul-le-mul_right shape.capacity (let at = there in omega (arith, at)) in omega (arith, low, more, few))
+  count_few = (let low = low_next in
+      let more : (i + 1) * shape.capacity ≤ length xs * shape.capacity = mul-le-mul_right shape.capacity (let at = there in omega (arith, at)) in
+      omega (arith, low, more, few))
 
   pub can : CanJoin count found more
   can =

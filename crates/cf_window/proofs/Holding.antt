@@ -52,26 +52,33 @@ length_range a (suc n) = ap suc (length_range (a + 1) n)
 path_long : (lane levels key : ℕ) → length (path_of lane levels key) ≡ levels - 1
 path_long lane levels key = length-map (range_with_len 1 (levels - 1)) _ ∙ length_range 1 (levels - 1)
 
-pub counted_in : (shape : ShapeValue) (row : RowValue) (lane : ℕ) → selected_by shape lane row ≡ true → counted shape row (lane + 1) ≡ counted shape row lane + (levels_of shape lane - 1)
+pub counted_in : (shape : ShapeValue) (row : RowValue) (lane : ℕ) → selected_by shape lane row ≡ true
+    → counted shape row (lane + 1) ≡ counted shape row lane + (levels_of shape lane - 1)
 counted_in shape row lane is =
-    let all : nodes_in shape row lane ≡ path_of lane (levels_of shape lane) (key_of shape lane row) = ap (λ (b : Bool). cond {A = List Node} b (path_of lane (levels_of shape lane) (key_of shape lane row)) []) is in
+    let all : nodes_in shape row lane ≡ path_of lane (levels_of shape lane) (key_of shape lane row) =
+    ap (λ (b : Bool). cond {A = List Node} b (path_of lane (levels_of shape lane) (key_of shape lane row)) []) is in
     ap (λ (ns : List Node). length ns) (flat_from (nodes_in shape row) 0 lane)
     ∙ (length-append (flat_map (nodes_in shape row) (range_with_len 0 lane)) (nodes_in shape row (0 + lane))
-    ∙ ap (λ (k : ℕ). counted shape row lane + k) (ap (λ (k : ℕ). length (nodes_in shape row k)) (let e : 0 + lane ≡ lane = omega arith in e) ∙ (ap (λ (ns : List Node). length ns) all ∙ path_long lane (levels_of shape lane) (key_of shape lane row))))
+    ∙ ap (λ (k : ℕ). counted shape row lane + k)
+    (ap (λ (k : ℕ). length (nodes_in shape row k)) (let e : 0 + lane ≡ lane = omega arith in e)
+    ∙ (ap (λ (ns : List Node). length ns) all ∙ path_long lane (levels_of shape lane) (key_of shape lane row))))
 
 pub counted_out : (shape : ShapeValue) (row : RowValue) (lane : ℕ) → selected_by shape lane row ≡ false → counted shape row (lane + 1) ≡ counted shape row lane
 counted_out shape row lane is =
     let none : nodes_in shape row lane ≡ [] = ap (λ (b : Bool). cond {A = List Node} b (path_of lane (levels_of shape lane) (key_of shape lane row)) []) is in
     ap (λ (ns : List Node). length ns) (flat_from (nodes_in shape row) 0 lane)
     ∙ (length-append (flat_map (nodes_in shape row) (range_with_len 0 lane)) (nodes_in shape row (0 + lane))
-    ∙ (ap (λ (k : ℕ). counted shape row lane + k) (ap (λ (k : ℕ). length (nodes_in shape row k)) (let e : 0 + lane ≡ lane = omega arith in e) ∙ ap (λ (ns : List Node). length ns) none) ∙ (let e : counted shape row lane + 0 ≡ counted shape row lane = omega arith in e)))
+    ∙ (ap (λ (k : ℕ). counted shape row lane + k)
+    (ap (λ (k : ℕ). length (nodes_in shape row k)) (let e : 0 + lane ≡ lane = omega arith in e) ∙ ap (λ (ns : List Node). length ns) none)
+    ∙ (let e : counted shape row lane + 0 ≡ counted shape row lane = omega arith in e)))
 
 -- one segment more
 all_one : (P : SegmentValue → Type 0) (x : SegmentValue) → P x → All P (x ∷ [])
 all_one P x is zero d lt = is
 all_one P x is (suc i) d lt = absurd (omega (arith, lt))
 
-pub window_more : (shape : ShapeValue) (most : ℕ) (xs : List SegmentValue) (x : SegmentValue) → IsWindow shape most xs → x.shape ≡ shape → length xs < most → IsWindow shape most (xs ++ x ∷ [])
+pub window_more : (shape : ShapeValue) (most : ℕ) (xs : List SegmentValue) (x : SegmentValue) → IsWindow shape most xs → x.shape ≡ shape → length xs < most
+    → IsWindow shape most (xs ++ x ∷ [])
 window_more shape most xs x is same low = record {
   one = is.one;
   shapes = All-append (IsOfShape shape) xs (x ∷ []) is.shapes (all_one (IsOfShape shape) x same);
@@ -89,14 +96,17 @@ open_last xs x is y at =
     subst (λ (z : SegmentValue). z.is_spent ≡ false) same is
 
 -- the last segment was asked to take a row
-pub window_taken : (shape : ShapeValue) (most : ℕ) (xs ys : List SegmentValue) → IsWindow shape most xs → ((s : ShapeValue) → All (IsOfShape s) xs → All (IsOfShape s) ys) → length ys ≡ length xs → IsWindow shape most ys
-window_taken shape most xs ys is shapes same = record { one = is.one; shapes = shapes shape is.shapes; few = (let few = is.few in omega (arith, few, same)); bounded = is.bounded; some = is.some }
+pub window_taken : (shape : ShapeValue) (most : ℕ) (xs ys : List SegmentValue) → IsWindow shape most xs
+    → ((s : ShapeValue) → All (IsOfShape s) xs → All (IsOfShape s) ys) → length ys ≡ length xs → IsWindow shape most ys
+window_taken shape most xs ys is shapes same =
+    record { one = is.one; shapes = shapes shape is.shapes; few = (let few = is.few in omega (arith, few, same)); bounded = is.bounded; some = is.some }
 
 pub taken_from : (b : Bool) → not b ≡ false → b ≡ true
 taken_from true e = refl
 taken_from false e = absurd (cc e)
 
-pub opened_window : (shape : ShapeValue) (most : ℕ) (xs ys : List SegmentValue) (x : SegmentValue) → IsWindow shape most xs → ys ≡ xs ++ x ∷ [] → x.shape ≡ shape → x.is_spent ≡ false → length xs < most → IsWindow shape most ys × IsOpenLast ys
+pub opened_window : (shape : ShapeValue) (most : ℕ) (xs ys : List SegmentValue) (x : SegmentValue) → IsWindow shape most xs → ys ≡ xs ++ x ∷ []
+    → x.shape ≡ shape → x.is_spent ≡ false → length xs < most → IsWindow shape most ys × IsOpenLast ys
 opened_window shape most xs ys x is are same fresh low = (
   subst (λ (zs : List SegmentValue). IsWindow shape most zs) (sym are) (window_more shape most xs x is same low),
   subst (λ (zs : List SegmentValue). IsOpenLast zs) (sym are) (open_last xs x fresh),
@@ -106,7 +116,9 @@ abbrev pub after_take : SegmentValue → RowValue → Bool → SegmentValue
 after_take x row b = record { shape = x.shape; rows = with_row x.rows row b; is_spent = not b }
 
 -- a new segment took a row that does not need too many nodes
-pub new_takes : (shape : ShapeValue) (row : RowValue) (x y : SegmentValue) (b : Bool) → IsShape shape → length (nodes_for shape row) ≤ shape.nodes → x ≡ record { shape = shape; rows = []; is_spent = false } → b ≡ takes x.shape x.rows row → y ≡ record { shape = x.shape; rows = with_row x.rows row b; is_spent = not b }
+pub new_takes : (shape : ShapeValue) (row : RowValue) (x y : SegmentValue) (b : Bool) → IsShape shape → length (nodes_for shape row) ≤ shape.nodes
+    → x ≡ record { shape = shape; rows = []; is_spent = false } → b ≡ takes x.shape x.rows row
+    → y ≡ record { shape = x.shape; rows = with_row x.rows row b; is_spent = not b }
     → y ≡ record { shape = shape; rows = row ∷ []; is_spent = false }
 new_takes shape row x y b is low empty taken after =
     let sure : b ≡ true = taken ∙ (ap (λ (z : SegmentValue). takes z.shape z.rows row) empty ∙ small_goes shape row is low) in

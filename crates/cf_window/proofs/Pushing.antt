@@ -17,9 +17,12 @@ pub room_dropped : (old mid : WindowValue) → mid ≡ dropped old → count_of 
 room_dropped old mid is room = (let same = ap count_of is in let all = count_dropped old in omega (arith, same, all, room))
 
 -- nothing else than that it comes can be answered then
-pub replaced_by : (old mid new : WindowValue) (row : RowValue) (p : Pushed) → mid ≡ dropped old → ComesThen old row mid → count_of old < 2 ^ 32 - 1 → is_small old.shape row ≡ true → HasPushed mid row new p → new ≡ replaced old row
+pub replaced_by : (old mid new : WindowValue) (row : RowValue) (p : Pushed) → mid ≡ dropped old → ComesThen old row mid → count_of old < 2 ^ 32 - 1
+    → is_small old.shape row ≡ true → HasPushed mid row new p → new ≡ replaced old row
 replaced_by old mid new row Full is then room small has = absurd (let low = room_dropped old mid is room in let full = has.0 in omega (arith, low, full))
 replaced_by old mid new row Gone is then room small has =
-    has.2 ∙ ap (λ (xs : List (List RowValue)). record mid { segments = xs; is_spent = false }) then.same ∙ ap (λ (w : WindowValue). record w { segments = after_row old.shape old.most old.segments row; is_spent = false }) is
+    has.2 ∙ ap (λ (xs : List (List RowValue)). record mid { segments = xs; is_spent = false }) then.same
+    ∙ ap (λ (w : WindowValue). record w { segments = after_row old.shape old.most old.segments row; is_spent = false }) is
 replaced_by old mid new row NeedsDrop is then room small has = absurd (let e : true ≡ false = sym has.1 ∙ then.room in cc e)
-replaced_by old mid new row NoNodes is then room small has = absurd (let e : true ≡ false = sym small ∙ (ap (λ (w : WindowValue). is_small w.shape row) (sym is) ∙ has.2) in cc e)
+replaced_by old mid new row NoNodes is then room small has =
+    absurd (let e : true ≡ false = sym small ∙ (ap (λ (w : WindowValue). is_small w.shape row) (sym is) ∙ has.2) in cc e)

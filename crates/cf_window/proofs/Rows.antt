@@ -49,24 +49,28 @@ length_with_last xs row some =
 pub some_in : (shape : ShapeValue) (xs : List (List RowValue)) (row : RowValue) → goes_in shape xs row ≡ true → 0 < length xs
 some_in shape xs row is = is_some xs (both (nat_lt 0 (length xs)) (takes shape (last_of xs) row) is).0
 
-after_is : (shape : ShapeValue) (most : ℕ) (xs : List (List RowValue)) (row : RowValue) (b c : Bool) → goes_in shape xs row ≡ b → drops shape most xs row ≡ c → after_row shape most xs row ≡ after_by xs row b c
+after_is : (shape : ShapeValue) (most : ℕ) (xs : List (List RowValue)) (row : RowValue) (b c : Bool) → goes_in shape xs row ≡ b → drops shape most xs row ≡ c
+    → after_row shape most xs row ≡ after_by xs row b c
 after_is shape most xs row b c goes drop_is = ap₂ (λ (x y : Bool). after_by xs row x y) goes drop_is
 
 -- Where none is dropped the row stands behind all others.
-pub rows_kept : (shape : ShapeValue) (most : ℕ) (xs : List (List RowValue)) (row : RowValue) → drops shape most xs row ≡ false → rows_in_all (after_row shape most xs row) ≡ rows_in_all xs ++ row ∷ []
+pub rows_kept : (shape : ShapeValue) (most : ℕ) (xs : List (List RowValue)) (row : RowValue) → drops shape most xs row ≡ false
+    → rows_in_all (after_row shape most xs row) ≡ rows_in_all xs ++ row ∷ []
 rows_kept shape most xs row none = elim (cases_Bool (goes_in shape xs row)) [
   | inl goes ↦ ap rows_in_all (after_is shape most xs row true false goes none) ∙ rows_with_last xs row (some_in shape xs row goes)
   | inr not_in ↦ ap rows_in_all (after_is shape most xs row false false not_in none) ∙ rows_one xs (row ∷ [])
 ]
 
 -- Where one is dropped it stands behind those of the others.
-pub rows_dropped : (shape : ShapeValue) (most : ℕ) (xs : List (List RowValue)) (row : RowValue) → drops shape most xs row ≡ true → rows_in_all (after_row shape most xs row) ≡ rows_in_all (drop 1 xs) ++ row ∷ []
+pub rows_dropped : (shape : ShapeValue) (most : ℕ) (xs : List (List RowValue)) (row : RowValue) → drops shape most xs row ≡ true
+    → rows_in_all (after_row shape most xs row) ≡ rows_in_all (drop 1 xs) ++ row ∷ []
 rows_dropped shape most xs row is =
     let out : goes_in shape xs row ≡ false = out_of (goes_in shape xs row) (both (not (goes_in shape xs row)) (nat_le most (length xs)) is).0 in
     ap rows_in_all (after_is shape most xs row false true out is) ∙ rows_one (drop 1 xs) (row ∷ [])
 
 -- There are no more segments than there may be.
-pub few_after : (shape : ShapeValue) (most : ℕ) (xs : List (List RowValue)) (row : RowValue) → 0 < most → length xs ≤ most → length (after_row shape most xs row) ≤ most
+pub few_after : (shape : ShapeValue) (most : ℕ) (xs : List (List RowValue)) (row : RowValue) → 0 < most → length xs ≤ most
+    → length (after_row shape most xs row) ≤ most
 few_after shape most xs row some few = elim (cases_Bool (goes_in shape xs row)) [
   | inl goes ↦ goes_case goes
   | inr out ↦ elim (cases_Bool (drops shape most xs row)) [
@@ -97,13 +101,15 @@ few_after shape most xs row some few = elim (cases_Bool (goes_in shape xs row)) 
         omega (arith, all, long, low)
 
 -- The same of a window's segments.
-pub count_in : (shape : ShapeValue) (xs ys : List SegmentValue) (row : RowValue) (b : Bool) → b ≡ true → b ≡ goes_in shape (rows_each xs) row → rows_each ys ≡ with_taken (rows_each xs) row b → length (rows_in_all (rows_each ys)) ≡ length (rows_in_all (rows_each xs)) + 1
+pub count_in : (shape : ShapeValue) (xs ys : List SegmentValue) (row : RowValue) (b : Bool) → b ≡ true → b ≡ goes_in shape (rows_each xs) row
+    → rows_each ys ≡ with_taken (rows_each xs) row b → length (rows_in_all (rows_each ys)) ≡ length (rows_in_all (rows_each xs)) + 1
 count_in shape xs ys row b is goes are =
     let all = are ∙ ap (λ (c : Bool). with_taken (rows_each xs) row c) is in
     let rows = ap rows_in_all all ∙ rows_with_last (rows_each xs) row (some_in shape (rows_each xs) row (sym goes ∙ is)) in
     ap (λ (rs : List RowValue). length rs) rows ∙ length-append (rows_in_all (rows_each xs)) (row ∷ [])
 
-pub count_out : (xs ys : List SegmentValue) (row : RowValue) (b : Bool) → b ≡ false → rows_each ys ≡ with_taken (rows_each xs) row b → length (rows_in_all (rows_each ys)) ≡ length (rows_in_all (rows_each xs))
+pub count_out : (xs ys : List SegmentValue) (row : RowValue) (b : Bool) → b ≡ false → rows_each ys ≡ with_taken (rows_each xs) row b
+    → length (rows_in_all (rows_each ys)) ≡ length (rows_in_all (rows_each xs))
 count_out xs ys row b is are =
     ap (λ (rs : List (List RowValue)). length (rows_in_all rs)) (are ∙ ap (λ (c : Bool). with_taken (rows_each xs) row c) is)
 

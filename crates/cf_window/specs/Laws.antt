@@ -26,7 +26,8 @@ pub record IsSeen (spans : List Span) (number : ℕ) : Type 0 where
 -- No record goes unseen: each is in the window of a round, however reads cut the stream.
 abbrev pub NoneGoesUnseen : Type 0
 NoneGoesUnseen =
-    (shape : ShapeValue) (most : ℕ) (reads : List (List RowValue)) (number : ℕ) → number < length (rows_in_all reads) → IsSeen (rounds_of shape most reads) number
+    (shape : ShapeValue) (most : ℕ) (reads : List (List RowValue)) (number : ℕ) → number < length (rows_in_all reads)
+    → IsSeen (rounds_of shape most reads) number
 
 -- The window is that of the records, however reads cut the stream.
 abbrev pub WindowsAreOfRecords : Type 0

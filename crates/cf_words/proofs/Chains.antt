@@ -69,15 +69,19 @@ links_true sh w s t h =
     let b = both (has t.linked s.lane) _ a.1 in
     (eq_from t.writer w a.0, b.0, same_path_true (sh.path t.row s.lane) s.path b.1)
 
-pub links_intro : (sh : Layout) (w : ℕ) (s : Spot) (t : Ticket) → t.writer ≡ w → has t.linked s.lane ≡ true → sh.path t.row s.lane ≡ Some s.path → links sh w s t ≡ true
+pub links_intro : (sh : Layout) (w : ℕ) (s : Spot) (t : Ticket) → t.writer ≡ w → has t.linked s.lane ≡ true → sh.path t.row s.lane ≡ Some s.path
+    → links sh w s t ≡ true
 unfolding links
 links_intro sh w s t e h p =
-    both_intro (t.writer == w) _ (eq_true t.writer w e) (both_intro (has t.linked s.lane) _ h (ap (λ (q : Option (List ℕ)). same_path q s.path) p ∙ same_path_intro s.path))
+    both_intro (t.writer == w) _ (eq_true t.writer w e)
+    (both_intro (has t.linked s.lane) _ h (ap (λ (q : Option (List ℕ)). same_path q s.path) p ∙ same_path_intro s.path))
 
 pub links_of : (sh : Layout) (w : ℕ) (s : Spot) (t u : Ticket) → u.writer ≡ t.writer → u.row ≡ t.row → u.linked ≡ t.linked → links sh w s t ≡ links sh w s u
 links_of sh w s t u ew er el = same_bool _ _
-    (λ h. let x = links_true sh w s t h in links_intro sh w s u (ew ∙ x.0) (ap (λ (q : List ℕ). has q s.lane) el ∙ x.1) (ap (λ (r : RowValue). sh.path r s.lane) er ∙ x.2))
-    (λ h. let x = links_true sh w s u h in links_intro sh w s t (sym ew ∙ x.0) (ap (λ (q : List ℕ). has q s.lane) (sym el) ∙ x.1) (ap (λ (r : RowValue). sh.path r s.lane) (sym er) ∙ x.2))
+    (λ h. let x = links_true sh w s t h in
+    links_intro sh w s u (ew ∙ x.0) (ap (λ (q : List ℕ). has q s.lane) el ∙ x.1) (ap (λ (r : RowValue). sh.path r s.lane) er ∙ x.2))
+    (λ h. let x = links_true sh w s u h in
+    links_intro sh w s t (sym ew ∙ x.0) (ap (λ (q : List ℕ). has q s.lane) (sym el) ∙ x.1) (ap (λ (r : RowValue). sh.path r s.lane) (sym er) ∙ x.2))
 
 pub entry_linked : (sh : Layout) (w : ℕ) (s : Spot) (o : ℕ) (t : Ticket) → links sh w s t ≡ true → entry_at sh w s o (Some t) ≡ (o, t.row) ∷ []
 unfolding entry_at
@@ -87,7 +91,8 @@ pub entry_unlinked : (sh : Layout) (w : ℕ) (s : Spot) (o : ℕ) (t : Ticket) �
 unfolding entry_at
 entry_unlinked sh w s o t h = ap (λ (b : Bool). cond b ((o, t.row) ∷ []) []) h
 
-pub entry_same : (sh : Layout) (w : ℕ) (s : Spot) (o : ℕ) (t u : Ticket) → links sh w s t ≡ links sh w s u → t.row ≡ u.row → entry_at sh w s o (Some t) ≡ entry_at sh w s o (Some u)
+pub entry_same : (sh : Layout) (w : ℕ) (s : Spot) (o : ℕ) (t u : Ticket) → links sh w s t ≡ links sh w s u → t.row ≡ u.row
+    → entry_at sh w s o (Some t) ≡ entry_at sh w s o (Some u)
 unfolding entry_at
 entry_same sh w s o t u h e = ap₂ (λ (b : Bool) (r : RowValue). cond b ((o, r) ∷ []) []) h e
 
@@ -118,10 +123,12 @@ unfolding chain
 chain_from sh log w s o zero le h = ap (chain sh log w s) (let e : zero ≡ o = omega arith in e)
 chain_from sh log w s o (suc n) le h = elim (cases_eq o (suc n)) [
   | inl e ↦ ap (chain sh log w s) (sym e)
-  | inr ne ↦ ap (λ (e : List (ℕ × RowValue)). e ++ chain sh log w s n) (h n (omega arith) (omega arith)) ∙ chain_from sh log w s o n (omega arith) (λ i l k. h i l (omega arith))
+  | inr ne ↦ ap (λ (e : List (ℕ × RowValue)). e ++ chain sh log w s n) (h n (omega arith) (omega arith))
+      ∙ chain_from sh log w s o n (omega arith) (λ i l k. h i l (omega arith))
 ]
 
-chain_suc_top : (sh : Layout) (log : List Ticket) (w : ℕ) (s : Spot) (o : ℕ) (r : RowValue) → entry_at sh w s o (slice_get log o) ≡ (o, r) ∷ [] → link_to_newest (chain sh log w s (suc o)) ≡ suc o
+chain_suc_top : (sh : Layout) (log : List Ticket) (w : ℕ) (s : Spot) (o : ℕ) (r : RowValue) → entry_at sh w s o (slice_get log o) ≡ (o, r) ∷ []
+    → link_to_newest (chain sh log w s (suc o)) ≡ suc o
 unfolding chain
 chain_suc_top sh log w s o r e = ap (λ (c : List (ℕ × RowValue)). link_to_newest (c ++ chain sh log w s o)) e
 
@@ -139,7 +146,8 @@ fresh_unlinked sh v s w r = elim (cases_Bool (links sh v s (fresh_ticket w r))) 
 ]
 
 -- what a chain says of the log: its top is the newest entry that is linked there
-top_after : (sh : Layout) (w : ℕ) (s : Spot) (n i : ℕ) (o : Option Ticket) (c : List (ℕ × RowValue)) → i < suc n → (i < n → i < link_to_newest c) → ((t : Ticket) → i ≡ n → o ≡ Some t → links sh w s t ≡ true) → (i ≡ n → (t : Ticket) × (o ≡ Some t))
+top_after : (sh : Layout) (w : ℕ) (s : Spot) (n i : ℕ) (o : Option Ticket) (c : List (ℕ × RowValue)) → i < suc n → (i < n → i < link_to_newest c)
+    → ((t : Ticket) → i ≡ n → o ≡ Some t → links sh w s t ≡ true) → (i ≡ n → (t : Ticket) × (o ≡ Some t))
     → i < link_to_newest (entry_at sh w s n o ++ c)
 unfolding entry_at
 top_after sh w s n i None c lt below here there = elim (cases_lt i n) [
@@ -154,7 +162,8 @@ top_after sh w s n i (Some t) c lt below here there = elim (cases_Bool (links sh
   ])
 ]
 
-pub chain_has : (sh : Layout) (log : List Ticket) (w : ℕ) (s : Spot) (n i : ℕ) (t : Ticket) → slice_get log i ≡ Some t → links sh w s t ≡ true → i < n → i < link_to_newest (chain sh log w s n)
+pub chain_has : (sh : Layout) (log : List Ticket) (w : ℕ) (s : Spot) (n i : ℕ) (t : Ticket) → slice_get log i ≡ Some t → links sh w s t ≡ true → i < n
+    → i < link_to_newest (chain sh log w s n)
 unfolding chain
 chain_has sh log w s zero i t at h lt = absurd (omega arith)
 chain_has sh log w s (suc n) i t at h lt =
@@ -171,13 +180,15 @@ entry_weaker : (sh : Layout) (log : List Ticket) (w : ℕ) (s : Spot) (n v : ℕ
 entry_weaker sh log w s n zero h = h
 entry_weaker sh log w s n (suc o) h = let lt = h.0 in (omega arith, h.1, h.2, h.3)
 
-top_entry : (sh : Layout) (log : List Ticket) (w : ℕ) (s : Spot) (n : ℕ) (o : Option Ticket) (c : List (ℕ × RowValue)) → slice_get log n ≡ o → IsEntry sh log w s n (link_to_newest c)
+top_entry : (sh : Layout) (log : List Ticket) (w : ℕ) (s : Spot) (n : ℕ) (o : Option Ticket) (c : List (ℕ × RowValue)) → slice_get log n ≡ o
+    → IsEntry sh log w s n (link_to_newest c)
     → IsEntry sh log w s (suc n) (link_to_newest (entry_at sh w s n o ++ c))
 unfolding entry_at
 top_entry sh log w s n None c e h = entry_weaker sh log w s n (link_to_newest c) h
 top_entry sh log w s n (Some t) c e h = elim (cases_Bool (links sh w s t)) [
   | inl l ↦ subst (λ (b : Bool). IsEntry sh log w s (suc n) (link_to_newest (cond b ((n, t.row) ∷ []) [] ++ c))) (sym l) (omega arith, t, e, l)
-  | inr l ↦ subst (λ (b : Bool). IsEntry sh log w s (suc n) (link_to_newest (cond b ((n, t.row) ∷ []) [] ++ c))) (sym l) (entry_weaker sh log w s n (link_to_newest c) h)
+  | inr l ↦ subst (λ (b : Bool). IsEntry sh log w s (suc n) (link_to_newest (cond b ((n, t.row) ∷ []) [] ++ c))) (sym l)
+      (entry_weaker sh log w s n (link_to_newest c) h)
 ]
 
 pub chain_is : (sh : Layout) (log : List Ticket) (w : ℕ) (s : Spot) (n : ℕ) → IsEntry sh log w s n (link_to_newest (chain sh log w s n))

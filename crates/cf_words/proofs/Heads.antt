@@ -32,14 +32,16 @@ get_set_other (z ∷ xs) (suc i) zero x ne = refl
 get_set_other (z ∷ xs) (suc i) (suc k) x ne = get_set_other xs i k x (λ e. ne (ap suc e))
 
 head_word_keeps : (sh : Layout) (log log' : List Ticket) (bs : List Stock) (s : Spot) (j v : ℕ) (b : Bool)
-    → (b ≡ false → link_to_newest (chain sh log (j % sh.sizes.writers) (spot s.lane (j / sh.sizes.writers ∷ s.path)) (length log)) ≡ link_to_newest (chain sh log' (j % sh.sizes.writers) (spot s.lane (j / sh.sizes.writers ∷ s.path)) (length log')))
+    → (b ≡ false → link_to_newest (chain sh log (j % sh.sizes.writers) (spot s.lane (j / sh.sizes.writers ∷ s.path)) (length log)) ≡ link_to_newest
+    (chain sh log' (j % sh.sizes.writers) (spot s.lane (j / sh.sizes.writers ∷ s.path)) (length log')))
     → NodeWord sh log bs s j v b → NodeWord sh log' bs s j v b
 head_word_keeps sh log log' bs s j v true same h = h
 head_word_keeps sh log log' bs s j v false same h = h ∙ same refl
 
 body_log_keeps : (sh : Layout) (log log' : List Ticket) (bs : List Stock) (n j v : ℕ) (o : Option Spot)
     → ((s : Spot) (i : ℕ) → o ≡ Some s → j ≡ suc i → is_inner sh s ≡ false
-    → link_to_newest (chain sh log (i % sh.sizes.writers) (spot s.lane (i / sh.sizes.writers ∷ s.path)) (length log)) ≡ link_to_newest (chain sh log' (i % sh.sizes.writers) (spot s.lane (i / sh.sizes.writers ∷ s.path)) (length log')))
+    → link_to_newest (chain sh log (i % sh.sizes.writers) (spot s.lane (i / sh.sizes.writers ∷ s.path)) (length log)) ≡ link_to_newest
+    (chain sh log' (i % sh.sizes.writers) (spot s.lane (i / sh.sizes.writers ∷ s.path)) (length log')))
     → BodyWord sh log bs n j v o → BodyWord sh log' bs n j v o
 body_log_keeps sh log log' bs n zero v None heads h = h
 body_log_keeps sh log log' bs n (suc j) v None heads h = h
@@ -51,7 +53,8 @@ pub log_keeps : (sh : Layout) (ts ts' : ℕ × ℕ) (log log' : List Ticket) (bs
     → ((k : ℕ) → u ≡ tail k → tail_word ts k ≡ tail_word ts' k)
     → ((o i : ℕ) → u ≡ cell o i → ticket_word sh log o i (slice_get log o) ≡ ticket_word sh log' o i (slice_get log' o))
     → ((n j : ℕ) (s : Spot) → u ≡ body n (suc j) → node_at sh.sizes.nodes bs n ≡ Some s → is_inner sh s ≡ false
-    → link_to_newest (chain sh log (j % sh.sizes.writers) (spot s.lane (j / sh.sizes.writers ∷ s.path)) (length log)) ≡ link_to_newest (chain sh log' (j % sh.sizes.writers) (spot s.lane (j / sh.sizes.writers ∷ s.path)) (length log')))
+    → link_to_newest (chain sh log (j % sh.sizes.writers) (spot s.lane (j / sh.sizes.writers ∷ s.path)) (length log)) ≡ link_to_newest
+    (chain sh log' (j % sh.sizes.writers) (spot s.lane (j / sh.sizes.writers ∷ s.path)) (length log')))
     → IsWordOf sh ts log bs u x → IsWordOf sh ts' log' bs u x
 log_keeps sh ts ts' log log' bs (tail k) x tails cells heads h = h ∙ tails k refl
 log_keeps sh ts ts' log log' bs (cell o i) x tails cells heads h = h ∙ cells o i refl
@@ -75,10 +78,12 @@ ticket_same : (sh : Layout) (log log' : List Ticket) (o i : ℕ) (t : Option Tic
     → ticket_word sh log o i t ≡ ticket_word sh log' o i t
 ticket_same sh log log' o i None same = refl
 ticket_same sh log log' o i (Some r) same =
-    ap (λ (k : ℕ). cond (suc i == sh.sizes.ticket_words) (done_word r.is_done) (cond (nat_lt i r.filled) k 0)) (full_same sh log log' o i r (sh.use_of i) (λ s. same r s refl))
+    ap (λ (k : ℕ). cond (suc i == sh.sizes.ticket_words) (done_word r.is_done) (cond (nat_lt i r.filled) k 0))
+    (full_same sh log log' o i r (sh.use_of i) (λ s. same r s refl))
 
 -- A head. Where the writer, lane or path is another, the link changes no entry.
-link_elsewhere : (sh : Layout) (w : ℕ) (s : Spot) (t : Ticket) (l : ℕ) (p : List ℕ) → sh.path t.row l ≡ Some p → (t.writer ≡ w → s ≡ spot l p → ⊥) → links sh w s t ≡ links sh w s (ticket_with_head l t)
+link_elsewhere : (sh : Layout) (w : ℕ) (s : Spot) (t : Ticket) (l : ℕ) (p : List ℕ) → sh.path t.row l ≡ Some p → (t.writer ≡ w → s ≡ spot l p → ⊥)
+    → links sh w s t ≡ links sh w s (ticket_with_head l t)
 link_elsewhere sh w s t l p leads far = same_bool _ _
     (λ h. let x = links_true sh w s t h in links_intro sh w s (ticket_with_head l t) x.0 (has_rest l s.lane t.linked x.1) x.2)
     (λ h. let x = links_true sh w s (ticket_with_head l t) h in
@@ -90,29 +95,37 @@ link_elsewhere sh w s t l p leads far = same_bool _ _
     ])
 
 -- the entries of the log after the link, elsewhere
-entries_elsewhere : (sh : Layout) (log : List Ticket) (o : ℕ) (t : Ticket) (l w : ℕ) (s : Spot) (p : List ℕ) → slice_get log o ≡ Some t → sh.path t.row l ≡ Some p
+entries_elsewhere : (sh : Layout) (log : List Ticket) (o : ℕ) (t : Ticket) (l w : ℕ) (s : Spot) (p : List ℕ) → slice_get log o ≡ Some t
+    → sh.path t.row l ≡ Some p
     → (t.writer ≡ w → s ≡ spot l p → ⊥) → (i : ℕ) → entry_at sh w s i (slice_get log i) ≡ entry_at sh w s i (slice_get (set log o (ticket_with_head l t)) i)
 entries_elsewhere sh log o t l w s p at leads far i = elim (cases_eq i o) [
   | inl e ↦
-      let a : entry_at sh w s o (slice_get log o) ≡ entry_at sh w s o (Some (ticket_with_head l t)) = ap (entry_at sh w s o) at ∙ entry_same sh w s o t (ticket_with_head l t) (link_elsewhere sh w s t l p leads far) refl in
-      let b : entry_at sh w s o (slice_get log o) ≡ entry_at sh w s o (slice_get (set log o (ticket_with_head l t)) o) = a ∙ ap (entry_at sh w s o) (sym (get_set_same log o (ticket_with_head l t) t at)) in
+      let a : entry_at sh w s o (slice_get log o) ≡ entry_at sh w s o (Some (ticket_with_head l t)) = ap (entry_at sh w s o) at
+      ∙ entry_same sh w s o t (ticket_with_head l t) (link_elsewhere sh w s t l p leads far) refl in
+      let b : entry_at sh w s o (slice_get log o) ≡ entry_at sh w s o (slice_get (set log o (ticket_with_head l t)) o) = a
+      ∙ ap (entry_at sh w s o) (sym (get_set_same log o (ticket_with_head l t) t at)) in
       subst (λ (k : ℕ). entry_at sh w s k (slice_get log k) ≡ entry_at sh w s k (slice_get (set log o (ticket_with_head l t)) k)) (sym e) b
   | inr ne ↦ ap (entry_at sh w s i) (sym (get_set_other log o i (ticket_with_head l t) ne))
 ]
 
 -- no ticket of the writer stands after the one in flight
-pub none_after : (log : List Ticket) (o i : ℕ) (t u : Ticket) → FlightLaw log → slice_get log o ≡ Some t → t.is_done ≡ false → slice_get log i ≡ Some u → u.writer ≡ t.writer → o < i → ⊥
+pub none_after : (log : List Ticket) (o i : ℕ) (t u : Ticket) → FlightLaw log → slice_get log o ≡ Some t → t.is_done ≡ false → slice_get log i ≡ Some u
+    → u.writer ≡ t.writer → o < i → ⊥
 none_after log o i t u flight at flies at' same lt = absurd (cc (flight o i t u at at' (sym same) lt, flies))
 
 -- a chain below a ticket of the writer stays
-chains_below : (sh : Layout) (log : List Ticket) (o : ℕ) (t u : Ticket) (l i : ℕ) (s : Spot) (p : List ℕ) → FlightLaw log → slice_get log o ≡ Some t → t.is_done ≡ false → sh.path t.row l ≡ Some p
+chains_below : (sh : Layout) (log : List Ticket) (o : ℕ) (t u : Ticket) (l i : ℕ) (s : Spot) (p : List ℕ) → FlightLaw log → slice_get log o ≡ Some t
+    → t.is_done ≡ false → sh.path t.row l ≡ Some p
     → slice_get log i ≡ Some u → chain sh log u.writer s i ≡ chain sh (set log o (ticket_with_head l t)) u.writer s i
 chains_below sh log o t u l i s p flight at flies leads at' = elim (cases_lt o i) [
-  | inl lt ↦ chain_same sh log (set log o (ticket_with_head l t)) u.writer s i (λ k h. entries_elsewhere sh log o t l u.writer s p at leads (λ e f. none_after log o i t u flight at flies at' (sym e) lt) k)
-  | inr ge ↦ chain_same sh log (set log o (ticket_with_head l t)) u.writer s i (λ k h. ap (entry_at sh u.writer s k) (sym (get_set_other log o k (ticket_with_head l t) (λ e. absurd (omega arith)))))
+  | inl lt ↦ chain_same sh log (set log o (ticket_with_head l t)) u.writer s i
+      (λ k h. entries_elsewhere sh log o t l u.writer s p at leads (λ e f. none_after log o i t u flight at flies at' (sym e) lt) k)
+  | inr ge ↦ chain_same sh log (set log o (ticket_with_head l t)) u.writer s i
+      (λ k h. ap (entry_at sh u.writer s k) (sym (get_set_other log o k (ticket_with_head l t) (λ e. absurd (omega arith)))))
 ]
 
-head_cells : (sh : Layout) (log : List Ticket) (o : ℕ) (t : Ticket) (l i k : ℕ) (p : List ℕ) → FlightLaw log → slice_get log o ≡ Some t → t.is_done ≡ false → sh.path t.row l ≡ Some p
+head_cells : (sh : Layout) (log : List Ticket) (o : ℕ) (t : Ticket) (l i k : ℕ) (p : List ℕ) → FlightLaw log → slice_get log o ≡ Some t → t.is_done ≡ false
+    → sh.path t.row l ≡ Some p
     → ticket_word sh log i k (slice_get log i) ≡ ticket_word sh (set log o (ticket_with_head l t)) i k (slice_get (set log o (ticket_with_head l t)) i)
 head_cells sh log o t l i k p flight at flies leads =
     let log' = set log o (ticket_with_head l t) in
@@ -126,7 +139,8 @@ head_cells sh log o t l i k p flight at flies leads =
     ]
 
 -- the head that changes is that of the ticket's own leaf
-head_far : (sh : Layout) (log : List Ticket) (bs : List Stock) (o : ℕ) (t : Ticket) (l d : ℕ) (p : List ℕ) (n : ℕ) → NodesLaw sh bs → CanHead sh log bs o t l d p n
+head_far : (sh : Layout) (log : List Ticket) (bs : List Stock) (o : ℕ) (t : Ticket) (l d : ℕ) (p : List ℕ) (n : ℕ) → NodesLaw sh bs
+    → CanHead sh log bs o t l d p n
     → (k j : ℕ) (s : Spot) → node_at sh.sizes.nodes bs k ≡ Some s → (body k (suc j) ≡ head_slot sh.sizes n d t.writer → ⊥)
     → t.writer ≡ j % sh.sizes.writers → spot s.lane (j / sh.sizes.writers ∷ s.path) ≡ spot l (d ∷ p) → ⊥
 head_far sh log bs o t l d p n law can k j s at ne w e =
@@ -138,7 +152,8 @@ head_far sh log bs o t l d p n law can k j s at ne w e =
     let column : j ≡ d * sh.sizes.writers + t.writer = omega (arith, div-add-mod' j sh.sizes.writers, ap (λ (q : ℕ). q * sh.sizes.writers) nibble, w) in
     ne (ap₂ body node (ap suc column))
 
-head_others : (sh : Layout) (ts : ℕ × ℕ) (log : List Ticket) (bs : List Stock) (o : ℕ) (t : Ticket) (l d : ℕ) (p : List ℕ) (n : ℕ) → NodesLaw sh bs → FlightLaw log → CanHead sh log bs o t l d p n
+head_others : (sh : Layout) (ts : ℕ × ℕ) (log : List Ticket) (bs : List Stock) (o : ℕ) (t : Ticket) (l d : ℕ) (p : List ℕ) (n : ℕ) → NodesLaw sh bs
+    → FlightLaw log → CanHead sh log bs o t l d p n
     → (u : Slot) → (u ≡ head_slot sh.sizes n d t.writer → ⊥) → (x : ℕ) → IsWordOf sh ts log bs u x → IsWordOf sh ts (set log o (ticket_with_head l t)) bs u x
 head_others sh ts log bs o t l d p n law flight can u ne x = let log' = set log o (ticket_with_head l t) in
     log_keeps sh ts ts log log' bs u x (λ k e. refl)
@@ -147,19 +162,24 @@ head_others sh ts log bs o t l d p n law flight can u ne x = let log' = set log 
     let c = chain_same sh log log' (j % sh.sizes.writers) (spot s.lane (j / sh.sizes.writers ∷ s.path)) (length log) (λ i h.
     entries_elsewhere sh log o t l (j % sh.sizes.writers) (spot s.lane (j / sh.sizes.writers ∷ s.path)) (d ∷ p) can.at can.leads
     (λ w f. head_far sh log bs o t l d p n law can k j s at (λ g. ne (e ∙ g)) w f) i) in
-    ap link_to_newest (c ∙ ap (chain sh log' (j % sh.sizes.writers) (spot s.lane (j / sh.sizes.writers ∷ s.path))) (sym (length-set log o (ticket_with_head l t)))))
+    ap link_to_newest
+    (c ∙ ap (chain sh log' (j % sh.sizes.writers) (spot s.lane (j / sh.sizes.writers ∷ s.path))) (sym (length-set log o (ticket_with_head l t)))))
 
 -- the new head
-own_chain : (sh : Layout) (log : List Ticket) (bs : List Stock) (o : ℕ) (t : Ticket) (l d : ℕ) (p : List ℕ) (n : ℕ) → FlightLaw log → CanHead sh log bs o t l d p n
+own_chain : (sh : Layout) (log : List Ticket) (bs : List Stock) (o : ℕ) (t : Ticket) (l d : ℕ) (p : List ℕ) (n : ℕ) → FlightLaw log
+    → CanHead sh log bs o t l d p n
     → link_to_newest (chain sh (set log o (ticket_with_head l t)) t.writer (spot l (d ∷ p)) (length (set log o (ticket_with_head l t)))) ≡ suc o
 own_chain sh log bs o t l d p n flight can = let log' = set log o (ticket_with_head l t) in let s = spot l (d ∷ p) in
     let there : slice_get log' o ≡ Some (ticket_with_head l t) = get_set_same log o (ticket_with_head l t) t can.at in
     chain_top sh log' t.writer s o (length log') t.row (slice_get_within log' o _ there)
-    (ap (entry_at sh t.writer s o) there ∙ entry_linked sh t.writer s o (ticket_with_head l t) (links_intro sh t.writer s (ticket_with_head l t) refl (has_first l t.linked) can.leads))
+    (ap (entry_at sh t.writer s o) there
+    ∙ entry_linked sh t.writer s o (ticket_with_head l t) (links_intro sh t.writer s (ticket_with_head l t) refl (has_first l t.linked) can.leads))
     (λ i lt within. after i lt (slice_get log i) refl)
   where
-    after : (i : ℕ) → o < i → (u : Option Ticket) → slice_get log i ≡ u → entry_at sh t.writer (spot l (d ∷ p)) i (slice_get (set log o (ticket_with_head l t)) i) ≡ []
-    after i lt None e = ap (entry_at sh t.writer (spot l (d ∷ p)) i) (get_set_other log o i (ticket_with_head l t) (λ f. absurd (omega arith)) ∙ e) ∙ entry_none sh t.writer (spot l (d ∷ p)) i
+    after : (i : ℕ) → o < i → (u : Option Ticket) → slice_get log i ≡ u
+        → entry_at sh t.writer (spot l (d ∷ p)) i (slice_get (set log o (ticket_with_head l t)) i) ≡ []
+    after i lt None e = ap (entry_at sh t.writer (spot l (d ∷ p)) i) (get_set_other log o i (ticket_with_head l t) (λ f. absurd (omega arith)) ∙ e)
+        ∙ entry_none sh t.writer (spot l (d ∷ p)) i
     after i lt (Some u) e =
         ap (entry_at sh t.writer (spot l (d ∷ p)) i) (get_set_other log o i (ticket_with_head l t) (λ f. absurd (omega arith)) ∙ e)
         ∙ elim (cases_Bool (links sh t.writer (spot l (d ∷ p)) u)) [
@@ -170,10 +190,13 @@ own_chain sh log bs o t l d p n flight can = let log' = set log o (ticket_with_h
 pub leaf_not_inner : (sh : Layout) (r : RowValue) (l d : ℕ) (p : List ℕ) → LayoutLaw sh → sh.path r l ≡ Some (d ∷ p) → is_inner sh (spot l p) ≡ false
 leaf_not_inner sh r l d p shaped leads = lt_false _ _ (λ h. omega (arith, shaped.long r l (d ∷ p) leads, h))
 
-pub head_real : (sh : Layout) (log : List Ticket) (bs : List Stock) (o : ℕ) (t : Ticket) (l d : ℕ) (p : List ℕ) (n : ℕ) → LayoutLaw sh → NodesLaw sh bs → CanHead sh log bs o t l d p n
+pub head_real : (sh : Layout) (log : List Ticket) (bs : List Stock) (o : ℕ) (t : Ticket) (l d : ℕ) (p : List ℕ) (n : ℕ) → LayoutLaw sh → NodesLaw sh bs
+    → CanHead sh log bs o t l d p n
     → IsReal sh.sizes (head_slot sh.sizes n d t.writer)
-head_real sh log bs o t l d p n shaped law can =
-    (node_within sh.sizes.nodes sh.sizes.writers bs n _ law.writers law.room can.leaf, omega (arith, mul-add-lt d sh.sizes.writers t.writer 16 (shaped.nibble t.row l d p can.leads) can.writer))
+head_real sh log bs o t l d p n shaped law can = (
+  node_within sh.sizes.nodes sh.sizes.writers bs n _ law.writers law.room can.leaf,
+  omega (arith, mul-add-lt d sh.sizes.writers t.writer 16 (shaped.nibble t.row l d p can.leads) can.writer),
+)
 
 pub head_keeps : (sh : Layout) (ts : ℕ × ℕ) (log : List Ticket) (bs : List Stock) (words : List ℕ) (o : ℕ) (t : Ticket) (l d : ℕ) (p : List ℕ) (n : ℕ)
     → LayoutLaw sh → NodesLaw sh bs → FlightLaw log → CanHead sh log bs o t l d p n → length words ≡ word_total sh.sizes
@@ -181,16 +204,21 @@ pub head_keeps : (sh : Layout) (ts : ℕ × ℕ) (log : List Ticket) (bs : List 
     → Spells sh ts (set log o (ticket_with_head l t)) bs (set words (place sh.sizes (head_slot sh.sizes n d t.writer)) (suc o))
 head_keeps sh ts log bs words o t l d p n shaped law flight can len spells =
     let log' = set log o (ticket_with_head l t) in
-    let own : suc o ≡ link_to_newest (chain sh log' ((d * sh.sizes.writers + t.writer) % sh.sizes.writers) (spot l ((d * sh.sizes.writers + t.writer) / sh.sizes.writers ∷ p)) (length log')) =
-    sym (ap₂ (λ (w e : ℕ). link_to_newest (chain sh log' w (spot l (e ∷ p)) (length log'))) (col_of sh.sizes.writers d t.writer can.writer) (row_of sh.sizes.writers d t.writer can.writer) ∙ own_chain sh log bs o t l d p n flight can) in
+    let own : suc o ≡ link_to_newest
+    (chain sh log' ((d * sh.sizes.writers + t.writer) % sh.sizes.writers) (spot l ((d * sh.sizes.writers + t.writer) / sh.sizes.writers ∷ p))
+    (length log')) =
+    sym (ap₂ (λ (w e : ℕ). link_to_newest (chain sh log' w (spot l (e ∷ p)) (length log'))) (col_of sh.sizes.writers d t.writer can.writer)
+    (row_of sh.sizes.writers d t.writer can.writer) ∙ own_chain sh log bs o t l d p n flight can) in
     let word : NodeWord sh log' bs (spot l p) (d * sh.sizes.writers + t.writer) (suc o) (is_inner sh (spot l p)) =
-    subst (λ (b : Bool). NodeWord sh log' bs (spot l p) (d * sh.sizes.writers + t.writer) (suc o) b) (sym (leaf_not_inner sh t.row l d p shaped can.leads)) own in
+    subst (λ (b : Bool). NodeWord sh log' bs (spot l p) (d * sh.sizes.writers + t.writer) (suc o) b)
+    (sym (leaf_not_inner sh t.row l d p shaped can.leads)) own in
     store_keeps sh ts ts log log' bs bs words (head_slot sh.sizes n d t.writer) (suc o) len (head_real sh log bs o t l d p n shaped law can) spells
     (λ u r ne x. head_others sh ts log bs o t l d p n law flight can u ne x)
     (subst (λ (q : Option Spot). BodyWord sh log' bs n (suc (d * sh.sizes.writers + t.writer)) (suc o) q) (sym can.leaf) word)
 
 -- Stored words and done words: what a ticket has filled, and that it is finished, changes no entry.
-pub entries_kept : (sh : Layout) (log : List Ticket) (o : ℕ) (t u : Ticket) → slice_get log o ≡ Some t → u.writer ≡ t.writer → u.row ≡ t.row → u.linked ≡ t.linked
+pub entries_kept : (sh : Layout) (log : List Ticket) (o : ℕ) (t u : Ticket) → slice_get log o ≡ Some t → u.writer ≡ t.writer → u.row ≡ t.row
+    → u.linked ≡ t.linked
     → (w : ℕ) (s : Spot) (i : ℕ) → entry_at sh w s i (slice_get log i) ≡ entry_at sh w s i (slice_get (set log o u) i)
 entries_kept sh log o t u at ew er el w s i = elim (cases_eq i o) [
   | inl e ↦
@@ -200,7 +228,8 @@ entries_kept sh log o t u at ew er el w s i = elim (cases_eq i o) [
   | inr ne ↦ ap (entry_at sh w s i) (sym (get_set_other log o i u ne))
 ]
 
-pub retouch_others : (sh : Layout) (ts : ℕ × ℕ) (log : List Ticket) (bs : List Stock) (o k : ℕ) (t u : Ticket) → slice_get log o ≡ Some t → u.writer ≡ t.writer → u.row ≡ t.row → u.linked ≡ t.linked
+pub retouch_others : (sh : Layout) (ts : ℕ × ℕ) (log : List Ticket) (bs : List Stock) (o k : ℕ) (t u : Ticket) → slice_get log o ≡ Some t
+    → u.writer ≡ t.writer → u.row ≡ t.row → u.linked ≡ t.linked
     → ((i : ℕ) → (i ≡ k → ⊥) → ticket_word sh (set log o u) o i (Some t) ≡ ticket_word sh (set log o u) o i (Some u))
     → (z : Slot) → (z ≡ cell o k → ⊥) → (x : ℕ) → IsWordOf sh ts log bs z x → IsWordOf sh ts (set log o u) bs z x
 retouch_others sh ts log bs o k t u at ew er el words z ne x =
@@ -208,12 +237,14 @@ retouch_others sh ts log bs o k t u at ew er el words z ne x =
     let chains = λ (w : ℕ) (s : Spot) (n : ℕ). chain_same sh log log' w s n (λ i h. entries_kept sh log o t u at ew er el w s i) in
     log_keeps sh ts ts log log' bs z x (λ j e. refl)
     (λ i j e.
-    let same : ticket_word sh log i j (slice_get log i) ≡ ticket_word sh log' i j (slice_get log i) = ticket_same sh log log' i j (slice_get log i) (λ r s f. chains r.writer s i) in
+    let same : ticket_word sh log i j (slice_get log i) ≡ ticket_word sh log' i j (slice_get log i) =
+    ticket_same sh log log' i j (slice_get log i) (λ r s f. chains r.writer s i) in
     elim (cases_eq i o) [
       | inl f ↦
           let here : slice_get log i ≡ Some t = ap (slice_get log) f ∙ at in
           let there : slice_get log' i ≡ Some u = ap (slice_get log') f ∙ get_set_same log o u t at in
-          let step : ticket_word sh log' i j (Some t) ≡ ticket_word sh log' i j (Some u) = subst (λ (q : ℕ). ticket_word sh log' q j (Some t) ≡ ticket_word sh log' q j (Some u)) (sym f) (words j (λ g. ne (e ∙ ap₂ cell f g))) in
+          let step : ticket_word sh log' i j (Some t) ≡ ticket_word sh log' i j (Some u) =
+          subst (λ (q : ℕ). ticket_word sh log' q j (Some t) ≡ ticket_word sh log' q j (Some u)) (sym f) (words j (λ g. ne (e ∙ ap₂ cell f g))) in
           same ∙ (ap (ticket_word sh log' i j) here ∙ (step ∙ ap (ticket_word sh log' i j) (sym there)))
       | inr far ↦ same ∙ ap (ticket_word sh log' i j) (sym (get_set_other log o i u far))
     ])
@@ -232,7 +263,8 @@ filled_word sh log log' o k i t can ne = ap (λ (n : ℕ). cond (suc i == sh.siz
   | inr ge ↦ elim (cases_lt i k) [
     | inl lt ↦
         let none : full_word sh log' o t i ≡ 0 = skipped_zero sh log' o t (sh.use_of i) (can.skipped i ge lt) in
-        ap (λ (b : Bool). cond b (full_word sh log' o t i) 0) (lt_false _ _ (λ h. omega arith)) ∙ (sym none ∙ ap (λ (b : Bool). cond b (full_word sh log' o t i) 0) (sym (lt_true i (suc k) (omega arith))))
+        ap (λ (b : Bool). cond b (full_word sh log' o t i) 0) (lt_false _ _ (λ h. omega arith))
+        ∙ (sym none ∙ ap (λ (b : Bool). cond b (full_word sh log' o t i) 0) (sym (lt_true i (suc k) (omega arith))))
     | inr far ↦ ap (λ (b : Bool). cond b (full_word sh log' o t i) 0) (lt_false i t.filled (λ h. omega arith) ∙ sym (lt_false i (suc k) (λ h. omega arith)))
   ]
 ])
@@ -243,10 +275,13 @@ pub fill_keeps : (sh : Layout) (ts : ℕ × ℕ) (log : List Ticket) (bs : List 
     → Spells sh ts (set log o (ticket_with_word k t)) bs (set words (place sh.sizes (cell o k)) (full_word sh log o t k))
 fill_keeps sh ts log bs words o k t can len room spells =
     let log' = set log o (ticket_with_word k t) in
-    let same : full_word sh log o t k ≡ full_word sh log' o t k = full_same sh log log' o k t (sh.use_of k) (λ s. chain_same sh log log' t.writer s o (λ i h. entries_kept sh log o t (ticket_with_word k t) can.at refl refl refl t.writer s i)) in
+    let same : full_word sh log o t k ≡ full_word sh log' o t k =
+    full_same sh log log' o k t (sh.use_of k)
+    (λ s. chain_same sh log log' t.writer s o (λ i h. entries_kept sh log o t (ticket_with_word k t) can.at refl refl refl t.writer s i)) in
     let word : full_word sh log o t k ≡ ticket_word sh log' o k (Some (ticket_with_word k t)) =
     same ∙ (ap (λ (b : Bool). cond b (full_word sh log' o t k) 0) (sym (lt_true k (suc k) (omega arith)))
-    ∙ ap (λ (b : Bool). cond b (done_word t.is_done) (cond (nat_lt k (suc k)) (full_word sh log' o t k) 0)) (sym (eq_false (suc k) sh.sizes.ticket_words (λ e. omega (arith, can.within))))) in
+    ∙ ap (λ (b : Bool). cond b (done_word t.is_done) (cond (nat_lt k (suc k)) (full_word sh log' o t k) 0))
+    (sym (eq_false (suc k) sh.sizes.ticket_words (λ e. omega (arith, can.within))))) in
     store_keeps sh ts ts log log' bs bs words (cell o k) (full_word sh log o t k) len (room, omega (arith, can.within)) spells
     (λ u r ne x. retouch_others sh ts log bs o k t (ticket_with_word k t) can.at refl refl refl (λ i far. filled_word sh log log' o k i t can far) u ne x)
     (word ∙ ap (ticket_word sh log' o k) (sym (get_set_same log o (ticket_with_word k t) t can.at)))
@@ -257,7 +292,8 @@ pub finish_keeps : (sh : Layout) (ts : ℕ × ℕ) (log : List Ticket) (bs : Lis
     → Spells sh ts (set log o (ticket_with_done t)) bs (set words (place sh.sizes (cell o k)) 1)
 finish_keeps sh ts log bs words o k t at last len room spells =
     let log' = set log o (ticket_with_done t) in
-    let word : 1 ≡ ticket_word sh log' o k (Some (ticket_with_done t)) = ap (λ (b : Bool). cond b 1 (cond (nat_lt k t.filled) (full_word sh log' o t k) 0)) (sym (eq_true (suc k) sh.sizes.ticket_words last)) in
+    let word : 1 ≡ ticket_word sh log' o k (Some (ticket_with_done t)) =
+    ap (λ (b : Bool). cond b 1 (cond (nat_lt k t.filled) (full_word sh log' o t k) 0)) (sym (eq_true (suc k) sh.sizes.ticket_words last)) in
     store_keeps sh ts ts log log' bs bs words (cell o k) 1 len (room, omega arith) spells
     (λ u r ne x. retouch_others sh ts log bs o k t (ticket_with_done t) at refl refl refl
     (λ i far. let other : (suc i == sh.sizes.ticket_words) ≡ false = eq_false _ _ (λ e. far (omega arith)) in
@@ -266,16 +302,20 @@ finish_keeps sh ts log bs words o k t at last len room spells =
     (word ∙ ap (ticket_word sh log' o k) (sym (get_set_same log o (ticket_with_done t) t at)))
 
 -- A ticket: a new one has no entry, and its words are 0.
-pub entries_pushed : (sh : Layout) (log : List Ticket) (w : ℕ) (r : RowValue) (v : ℕ) (s : Spot) (i : ℕ) → entry_at sh v s i (slice_get log i) ≡ entry_at sh v s i (slice_get (log ++ fresh_ticket w r ∷ []) i)
+pub entries_pushed : (sh : Layout) (log : List Ticket) (w : ℕ) (r : RowValue) (v : ℕ) (s : Spot) (i : ℕ)
+    → entry_at sh v s i (slice_get log i) ≡ entry_at sh v s i (slice_get (log ++ fresh_ticket w r ∷ []) i)
 entries_pushed sh log w r v s i = elim (cases_eq i (length log)) [
   | inr ne ↦ ap (entry_at sh v s i) (sym (get_push_other log (fresh_ticket w r) i ne))
   | inl e ↦
       let here : slice_get log i ≡ None = slice_get_past log i (omega arith) in
-      let there : slice_get (log ++ fresh_ticket w r ∷ []) i ≡ Some (fresh_ticket w r) = ap (slice_get (log ++ fresh_ticket w r ∷ [])) e ∙ get_push_same log (fresh_ticket w r) in
-      ap (entry_at sh v s i) here ∙ (entry_none sh v s i ∙ (sym (entry_unlinked sh v s i (fresh_ticket w r) (fresh_unlinked sh v s w r)) ∙ ap (entry_at sh v s i) (sym there)))
+      let there : slice_get (log ++ fresh_ticket w r ∷ []) i ≡ Some (fresh_ticket w r) = ap (slice_get (log ++ fresh_ticket w r ∷ [])) e
+      ∙ get_push_same log (fresh_ticket w r) in
+      ap (entry_at sh v s i) here
+      ∙ (entry_none sh v s i ∙ (sym (entry_unlinked sh v s i (fresh_ticket w r) (fresh_unlinked sh v s w r)) ∙ ap (entry_at sh v s i) (sym there)))
 ]
 
-chains_pushed : (sh : Layout) (log : List Ticket) (w : ℕ) (r : RowValue) (v : ℕ) (s : Spot) → chain sh log v s (length log) ≡ chain sh (log ++ fresh_ticket w r ∷ []) v s (length (log ++ fresh_ticket w r ∷ []))
+chains_pushed : (sh : Layout) (log : List Ticket) (w : ℕ) (r : RowValue) (v : ℕ) (s : Spot)
+    → chain sh log v s (length log) ≡ chain sh (log ++ fresh_ticket w r ∷ []) v s (length (log ++ fresh_ticket w r ∷ []))
 chains_pushed sh log w r v s =
     let log' = log ++ fresh_ticket w r ∷ [] in
     let len : length log' ≡ length log + 1 = length-append log (fresh_ticket w r ∷ []) in
@@ -286,7 +326,8 @@ chains_pushed sh log w r v s =
 
 fresh_zero : (sh : Layout) (log : List Ticket) (o i w : ℕ) (r : RowValue) → 0 ≡ ticket_word sh log o i (Some (fresh_ticket w r))
 fresh_zero sh log o i w r =
-    sym (ap (λ (b : Bool). cond (suc i == sh.sizes.ticket_words) 0 (cond b (full_word sh log o (fresh_ticket w r) i) 0)) (lt_false i 0 (λ h. omega arith)) ∙ cond_zero (suc i == sh.sizes.ticket_words))
+    sym (ap (λ (b : Bool). cond (suc i == sh.sizes.ticket_words) 0 (cond b (full_word sh log o (fresh_ticket w r) i) 0)) (lt_false i 0 (λ h. omega arith))
+    ∙ cond_zero (suc i == sh.sizes.ticket_words))
 
 pub ticket_keeps : (sh : Layout) (ts : ℕ × ℕ) (log : List Ticket) (bs : List Stock) (words : List ℕ) (w : ℕ) (r : RowValue)
     → length words ≡ word_total sh.sizes
@@ -298,7 +339,8 @@ ticket_keeps sh ts log bs words w r len spells =
     (λ u real ne x. log_keeps sh ts (suc ts.0, ts.1) log log' bs u x
     (λ k e. later u ne k e)
     (λ o i e.
-    let same : ticket_word sh log o i (slice_get log o) ≡ ticket_word sh log' o i (slice_get log o) = ticket_same sh log log' o i (slice_get log o) (λ q s f. chain_same sh log log' q.writer s o (λ j h. entries_pushed sh log w r q.writer s j)) in
+    let same : ticket_word sh log o i (slice_get log o) ≡ ticket_word sh log' o i (slice_get log o) =
+    ticket_same sh log log' o i (slice_get log o) (λ q s f. chain_same sh log log' q.writer s o (λ j h. entries_pushed sh log w r q.writer s j)) in
     same ∙ elim (cases_eq o (length log)) [
       | inr far ↦ ap (ticket_word sh log' o i) (sym (get_push_other log (fresh_ticket w r) o far))
       | inl f ↦

@@ -27,7 +27,8 @@ names_same m bs bs' s v same (inl h) = inl (h.0, λ n e. h.1 n (sym (same n) ∙
 names_same m bs bs' s v same (inr h) = inr (h.0, h.1, same h.0 ∙ h.2)
 
 -- the free node of a writer has a place
-free_real : (g : Sizes) (bs : List Stock) (w : ℕ) → length bs ≡ g.writers → w < length bs → length (stock_of bs w).used < g.nodes → IsReal g (body (free_of g.nodes bs w) 0)
+free_real : (g : Sizes) (bs : List Stock) (w : ℕ) → length bs ≡ g.writers → w < length bs → length (stock_of bs w).used < g.nodes
+    → IsReal g (body (free_of g.nodes bs w) 0)
 free_real g bs w e h room = (omega (arith, mul-add-lt w g.nodes (length (stock_of bs w).used) g.writers (omega arith) room), omega arith)
 
 -- The link of the free node of w as the spot s.
@@ -71,7 +72,8 @@ node_keeps sh log bs bs' s j v false names h = h
 body_keeps : (sh : Layout) (log : List Ticket) (bs bs' : List Stock) (n j v : ℕ) (o : Option Spot)
     → Grows sh.sizes.nodes bs bs'
     → (j ≡ 0 → spare_label sh.sizes.nodes bs' n ≡ spare_label sh.sizes.nodes bs n)
-    → ((s : Spot) (i : ℕ) → o ≡ Some s → j ≡ suc i → IsChildFor sh.sizes.nodes bs (spot s.lane (i ∷ s.path)) v → IsChildFor sh.sizes.nodes bs' (spot s.lane (i ∷ s.path)) v)
+    → ((s : Spot) (i : ℕ) → o ≡ Some s → j ≡ suc i → IsChildFor sh.sizes.nodes bs (spot s.lane (i ∷ s.path)) v
+    → IsChildFor sh.sizes.nodes bs' (spot s.lane (i ∷ s.path)) v)
     → BodyWord sh log bs n j v o → BodyWord sh log bs' n j v o
 body_keeps sh log bs bs' n zero v None grows spare names h = h ∙ sym (spare refl)
 body_keeps sh log bs bs' n (suc j) v None grows spare names h = h
@@ -138,11 +140,17 @@ fresh_word sh log bs s i true none empty = elim (cases_lt i 16) [ inl h ↦ inl 
 fresh_word sh log bs s i false none empty = sym (ap link_to_newest (empty (i % sh.sizes.writers) (i / sh.sizes.writers)))
 
 -- the words of the new node
-fresh_body : (sh : Layout) (log : List Ticket) (bs : List Stock) (w : ℕ) (s : Spot) (t : Slot) (j x : ℕ) → NodesLaw sh bs → LeavesLaw sh log bs → CanLink sh bs w s t
+fresh_body : (sh : Layout) (log : List Ticket) (bs : List Stock) (w : ℕ) (s : Spot) (t : Slot) (j x : ℕ) → NodesLaw sh bs → LeavesLaw sh log bs
+    → CanLink sh bs w s t
     → ((n : ℕ) → node_at sh.sizes.nodes bs n ≡ Some s → ⊥)
     → BodyWord sh log bs (free_of sh.sizes.nodes bs w) j x None → BodyWord sh log (stocks_with_node w s bs) (free_of sh.sizes.nodes bs w) j x (Some s)
-fresh_body sh log bs w s t zero x law leaves can none r =
-    (t, named_grows sh.sizes.nodes bs (stocks_with_node w s bs) (link_grows sh.sizes.nodes bs w s can.writer can.room) s.lane s.path t can.named, can.real, r ∙ (spare_free sh.sizes.nodes bs w can.room ∙ can.label))
+fresh_body sh log bs w s t zero x law leaves can none r = (
+  t,
+  named_grows sh.sizes.nodes bs (stocks_with_node w s bs) (link_grows sh.sizes.nodes bs w s can.writer can.room) s.lane s.path t can.named,
+  can.real,
+  r
+      ∙ (spare_free sh.sizes.nodes bs w can.room ∙ can.label),
+)
 fresh_body sh log bs w s t (suc i) x law leaves can none r =
     subst (λ (y : ℕ). NodeWord sh log (stocks_with_node w s bs) s i y (is_inner sh s)) (sym r)
     (fresh_word sh log (stocks_with_node w s bs) s i (is_inner sh s)
@@ -152,7 +160,8 @@ fresh_body sh log bs w s t (suc i) x law leaves can none r =
     ])
     (λ v d. no_heads sh log bs v d s leaves none))
 
-link_others : (sh : Layout) (ts : ℕ × ℕ) (log : List Ticket) (bs : List Stock) (w : ℕ) (s : Spot) (t : Slot) → NodesLaw sh bs → LeavesLaw sh log bs → CanLink sh bs w s t
+link_others : (sh : Layout) (ts : ℕ × ℕ) (log : List Ticket) (bs : List Stock) (w : ℕ) (s : Spot) (t : Slot) → NodesLaw sh bs → LeavesLaw sh log bs
+    → CanLink sh bs w s t
     → ((n : ℕ) → node_at sh.sizes.nodes bs n ≡ Some s → ⊥)
     → (u : Slot) → (u ≡ t → ⊥) → (x : ℕ) → IsWordOf sh ts log bs u x → IsWordOf sh ts log (stocks_with_node w s bs) u x
 link_others sh ts log bs w s t law leaves can none (tail k) ne x r = r
@@ -162,10 +171,13 @@ link_others sh ts log bs w s t law leaves can none (root l d) ne x r =
     (λ e. ne (sym (subst (λ (q : Spot). IsNamedBy sh.sizes.nodes bs q.lane q.path t) (sym e) can.named))) r
 link_others sh ts log bs w s t law leaves can none (body n j) ne x r = elim (cases_eq n (free_of sh.sizes.nodes bs w)) [
   | inl e ↦
-      let r0 : BodyWord sh log bs (free_of sh.sizes.nodes bs w) j x (node_at sh.sizes.nodes bs (free_of sh.sizes.nodes bs w)) = subst (λ (k : ℕ). BodyWord sh log bs k j x (node_at sh.sizes.nodes bs k)) e r in
-      let r1 : BodyWord sh log bs (free_of sh.sizes.nodes bs w) j x None = subst (λ (o : Option Spot). BodyWord sh log bs (free_of sh.sizes.nodes bs w) j x o) (free_is_free sh.sizes.nodes bs w can.room) r0 in
+      let r0 : BodyWord sh log bs (free_of sh.sizes.nodes bs w) j x (node_at sh.sizes.nodes bs (free_of sh.sizes.nodes bs w)) =
+      subst (λ (k : ℕ). BodyWord sh log bs k j x (node_at sh.sizes.nodes bs k)) e r in
+      let r1 : BodyWord sh log bs (free_of sh.sizes.nodes bs w) j x None =
+      subst (λ (o : Option Spot). BodyWord sh log bs (free_of sh.sizes.nodes bs w) j x o) (free_is_free sh.sizes.nodes bs w can.room) r0 in
       let r2 = fresh_body sh log bs w s t j x law leaves can none r1 in
-      let r3 = subst (λ (o : Option Spot). BodyWord sh log (stocks_with_node w s bs) (free_of sh.sizes.nodes bs w) j x o) (sym (use_node_at_here sh.sizes.nodes bs w s can.writer can.room)) r2 in
+      let r3 = subst (λ (o : Option Spot). BodyWord sh log (stocks_with_node w s bs) (free_of sh.sizes.nodes bs w) j x o)
+      (sym (use_node_at_here sh.sizes.nodes bs w s can.writer can.room)) r2 in
       subst (λ (k : ℕ). BodyWord sh log (stocks_with_node w s bs) k j x (node_at sh.sizes.nodes (stocks_with_node w s bs) k)) (sym e) r3
   | inr far ↦
       subst (λ (o : Option Spot). BodyWord sh log (stocks_with_node w s bs) n j x o) (sym (use_node_at_other sh.sizes.nodes bs w s n can.writer far))
@@ -178,14 +190,16 @@ link_others sh ts log bs w s t law leaves can none (body n j) ne x r = elim (cas
 ]
 
 -- the word that names a spot
-word_named : (sh : Layout) (ts : ℕ × ℕ) (log : List Ticket) (bs : List Stock) (l : ℕ) (p : List ℕ) (t : Slot) (x : ℕ) → length p < sh.levels l → IsReal sh.sizes t
+word_named : (sh : Layout) (ts : ℕ × ℕ) (log : List Ticket) (bs : List Stock) (l : ℕ) (p : List ℕ) (t : Slot) (x : ℕ) → length p < sh.levels l
+    → IsReal sh.sizes t
     → IsNamedBy sh.sizes.nodes bs l p t → IsWordOf sh ts log bs t x → IsChildFor sh.sizes.nodes bs (spot l p) x
 word_named sh ts log bs l [] t x inner real h r = absurd h
 word_named sh ts log bs l (d ∷ []) t x inner real h r = subst (λ (u : Slot). IsWordOf sh ts log bs u x) h r
 word_named sh ts log bs l (d ∷ (e ∷ p)) t x inner real h r =
     let r1 : BodyWord sh log bs h.0 (suc d) x (node_at sh.sizes.nodes bs h.0) = subst (λ (u : Slot). IsWordOf sh ts log bs u x) h.3 r in
     let r2 : NodeWord sh log bs (spot l (e ∷ p)) d x (is_inner sh (spot l (e ∷ p))) = subst (λ (o : Option Spot). BodyWord sh log bs h.0 (suc d) x o) h.1 r1 in
-    let r3 : NodeWord sh log bs (spot l (e ∷ p)) d x true = subst (λ (b : Bool). NodeWord sh log bs (spot l (e ∷ p)) d x b) (is_inner_true sh (spot l (e ∷ p)) inner) r2 in
+    let r3 : NodeWord sh log bs (spot l (e ∷ p)) d x true =
+    subst (λ (b : Bool). NodeWord sh log bs (spot l (e ∷ p)) d x b) (is_inner_true sh (spot l (e ∷ p)) inner) r2 in
     elim r3 [ inl k ↦ k.1 | inr k ↦ absurd (omega (arith, k.0, h.2)) ]
 
 -- the word that names a used node
@@ -195,8 +209,10 @@ named_word sh ts log bs l [] t n inner h at = absurd h
 named_word sh ts log bs l (d ∷ []) t n inner h at = subst (λ (u : Slot). IsWordOf sh ts log bs u (suc n)) (sym h) (inr (n, refl, at))
 named_word sh ts log bs l (d ∷ (e ∷ p)) t n inner h at =
     let r3 : NodeWord sh log bs (spot l (e ∷ p)) d (suc n) true = inl (h.2, inr (n, refl, at)) in
-    let r2 : NodeWord sh log bs (spot l (e ∷ p)) d (suc n) (is_inner sh (spot l (e ∷ p))) = subst (λ (b : Bool). NodeWord sh log bs (spot l (e ∷ p)) d (suc n) b) (sym (is_inner_true sh (spot l (e ∷ p)) inner)) r3 in
-    let r1 : BodyWord sh log bs h.0 (suc d) (suc n) (node_at sh.sizes.nodes bs h.0) = subst (λ (o : Option Spot). BodyWord sh log bs h.0 (suc d) (suc n) o) (sym h.1) r2 in
+    let r2 : NodeWord sh log bs (spot l (e ∷ p)) d (suc n) (is_inner sh (spot l (e ∷ p))) =
+    subst (λ (b : Bool). NodeWord sh log bs (spot l (e ∷ p)) d (suc n) b) (sym (is_inner_true sh (spot l (e ∷ p)) inner)) r3 in
+    let r1 : BodyWord sh log bs h.0 (suc d) (suc n) (node_at sh.sizes.nodes bs h.0) =
+    subst (λ (o : Option Spot). BodyWord sh log bs h.0 (suc d) (suc n) o) (sym h.1) r2 in
     subst (λ (u : Slot). IsWordOf sh ts log bs u (suc n)) (sym h.3) r1
 
 -- a child word found 0 says that no node is used for what it stands for
@@ -249,34 +265,38 @@ label_law sh bs w v h law = let same = λ (n : ℕ). label_node_at sh.sizes.node
 
 pub link_law : (sh : Layout) (bs : List Stock) (w : ℕ) (s : Spot) (t : Slot) → NodesLaw sh bs → CanLink sh bs w s t
     → ((n : ℕ) → node_at sh.sizes.nodes bs n ≡ Some s → ⊥) → NodesLaw sh (stocks_with_node w s bs)
-link_law sh bs w s t law can none = let from = λ (n : ℕ) (r : Spot) (e : node_at sh.sizes.nodes (stocks_with_node w s bs) n ≡ Some r). link_from sh.sizes.nodes bs w s n r can.writer can.room e in record {
-  writers = use_length w s bs ∙ law.writers;
-  room = λ u. use_room sh.sizes.nodes w s bs u can.writer can.room (law.room u);
-  unique = λ n k r e f. elim (from n r e) [
-    | inl a ↦ elim (from k r f) [
-      | inl b ↦ a.0 ∙ sym b.0
-      | inr b ↦ absurd (none k (b ∙ ap (λ (q : Spot). Some q) a.1))
-    ]
-    | inr a ↦ elim (from k r f) [
-      | inl b ↦ absurd (none n (a ∙ ap (λ (q : Spot). Some q) b.1))
-      | inr b ↦ law.unique n k r a b
-    ]
-  ];
-  shaped = λ n r e. elim (from n r e) [
-    | inl a ↦ subst (λ (q : Spot). (q.lane < sh.sizes.lanes) × (0 < length q.path) × (length q.path < sh.levels q.lane)) (sym a.1) (can.lane, named_long sh.sizes.nodes bs s.lane s.path t can.named, can.inner)
-    | inr a ↦ law.shaped n r a
-  ];
-  parent = λ n l d e p f. elim (from n _ f) [
-    | inl a ↦
-        let up : IsNamedBy sh.sizes.nodes bs l (d ∷ (e ∷ p)) t = subst (λ (q : Spot). IsNamedBy sh.sizes.nodes bs q.lane q.path t) (sym a.1) can.named in
-        (up.0, link_grows sh.sizes.nodes bs w s can.writer can.room up.0 _ up.1)
-    | inr a ↦ let up = law.parent n l d e p a in (up.0, link_grows sh.sizes.nodes bs w s can.writer can.room up.0 _ up.1)
-  ];
-}
+link_law sh bs w s t law can none = let from =
+    λ (n : ℕ) (r : Spot) (e : node_at sh.sizes.nodes (stocks_with_node w s bs) n ≡ Some r). link_from sh.sizes.nodes bs w s n r can.writer can.room e in
+    record {
+      writers = use_length w s bs ∙ law.writers;
+      room = λ u. use_room sh.sizes.nodes w s bs u can.writer can.room (law.room u);
+      unique = λ n k r e f. elim (from n r e) [
+        | inl a ↦ elim (from k r f) [
+          | inl b ↦ a.0 ∙ sym b.0
+          | inr b ↦ absurd (none k (b ∙ ap (λ (q : Spot). Some q) a.1))
+        ]
+        | inr a ↦ elim (from k r f) [
+          | inl b ↦ absurd (none n (a ∙ ap (λ (q : Spot). Some q) b.1))
+          | inr b ↦ law.unique n k r a b
+        ]
+      ];
+      shaped = λ n r e. elim (from n r e) [
+        | inl a ↦ subst (λ (q : Spot). (q.lane < sh.sizes.lanes) × (0 < length q.path) × (length q.path < sh.levels q.lane)) (sym a.1)
+            (can.lane, named_long sh.sizes.nodes bs s.lane s.path t can.named, can.inner)
+        | inr a ↦ law.shaped n r a
+      ];
+      parent = λ n l d e p f. elim (from n _ f) [
+        | inl a ↦
+            let up : IsNamedBy sh.sizes.nodes bs l (d ∷ (e ∷ p)) t = subst (λ (q : Spot). IsNamedBy sh.sizes.nodes bs q.lane q.path t) (sym a.1) can.named in
+            (up.0, link_grows sh.sizes.nodes bs w s can.writer can.room up.0 _ up.1)
+        | inr a ↦ let up = law.parent n l d e p a in (up.0, link_grows sh.sizes.nodes bs w s can.writer can.room up.0 _ up.1)
+      ];
+    }
 
 pub link_leaves : (sh : Layout) (log : List Ticket) (bs : List Stock) (w : ℕ) (s : Spot) → w < length bs → length (stock_of bs w).used < sh.sizes.nodes
     → LeavesLaw sh log bs → LeavesLaw sh log (stocks_with_node w s bs)
-link_leaves sh log bs w s h room leaves o t l at linked = let y = leaves o t l at linked in (y.0, y.1, y.2, y.3, link_grows sh.sizes.nodes bs w s h room y.2 _ y.4)
+link_leaves sh log bs w s h room leaves o t l at linked = let y = leaves o t l at linked in
+    (y.0, y.1, y.2, y.3, link_grows sh.sizes.nodes bs w s h room y.2 _ y.4)
 
 pub label_leaves : (sh : Layout) (log : List Ticket) (bs : List Stock) (w v : ℕ) → w < length bs
     → LeavesLaw sh log bs → LeavesLaw sh log (stocks_with_label w v bs)

@@ -52,7 +52,8 @@ unfolding node_at stocks_with_label
 label_node_at m bs w v n h =
     let b : Stock = record { used = (stock_of bs w).used; label = v; over = (stock_of bs w).over } in
     elim (cases_eq (n / m) w) [
-      | inl e ↦ ap (λ (q : ℕ). slice_get (stock_of (set bs w b) q).used (n % m)) e ∙ (ap (λ (c : Stock). slice_get c.used (n % m)) (book_same bs w b h) ∙ ap (λ (q : ℕ). slice_get (stock_of bs q).used (n % m)) (sym e))
+      | inl e ↦ ap (λ (q : ℕ). slice_get (stock_of (set bs w b) q).used (n % m)) e
+          ∙ (ap (λ (c : Stock). slice_get c.used (n % m)) (book_same bs w b h) ∙ ap (λ (q : ℕ). slice_get (stock_of bs q).used (n % m)) (sym e))
       | inr ne ↦ ap (λ (c : Stock). slice_get c.used (n % m)) (book_other bs w (n / m) b ne)
     ]
 
@@ -137,7 +138,8 @@ pub relabel_used : (w v : ℕ) (bs : List Stock) (u : ℕ) → w < length bs →
 unfolding stocks_with_label
 relabel_used w v bs u h = let b : Stock = record { used = (stock_of bs w).used; label = v; over = (stock_of bs w).over } in
     elim (cases_eq u w) [
-      | inl e ↦ ap (λ (q : ℕ). length (stock_of (set bs w b) q).used) e ∙ (ap (λ (c : Stock). length c.used) (book_same bs w b h) ∙ ap (λ (q : ℕ). length (stock_of bs q).used) (sym e))
+      | inl e ↦ ap (λ (q : ℕ). length (stock_of (set bs w b) q).used) e
+          ∙ (ap (λ (c : Stock). length c.used) (book_same bs w b h) ∙ ap (λ (q : ℕ). length (stock_of bs q).used) (sym e))
       | inr ne ↦ ap (λ (c : Stock). length c.used) (book_other bs w u b ne)
     ]
 
@@ -152,7 +154,8 @@ use_room m w s bs u h room old = let b : Stock = record { used = (stock_of bs w)
       | inr ne ↦ omega (arith, ap (λ (c : Stock). length c.used) (book_other bs w u b ne), old)
     ]
 
-pub node_within : (m k : ℕ) (bs : List Stock) (n : ℕ) (s : Spot) → length bs ≡ k → ((w : ℕ) → length (stock_of bs w).used ≤ m) → node_at m bs n ≡ Some s → n < k * m
+pub node_within : (m k : ℕ) (bs : List Stock) (n : ℕ) (s : Spot) → length bs ≡ k → ((w : ℕ) → length (stock_of bs w).used ≤ m) → node_at m bs n ≡ Some s
+    → n < k * m
 unfolding node_at
 node_within m k bs n s len room h =
     let col : n % m < length (stock_of bs (n / m)).used = slice_get_within _ _ _ h in
@@ -162,7 +165,8 @@ node_within m k bs n s len room h =
     ]
 
 -- A mark leaves the nodes and labels.
-over_book : (bs : List Stock) (w u : ℕ) → w < length bs → ((stock_of (stocks_with_mark w bs) u).used ≡ (stock_of bs u).used) × ((stock_of (stocks_with_mark w bs) u).label ≡ (stock_of bs u).label)
+over_book : (bs : List Stock) (w u : ℕ) → w < length bs → ((stock_of (stocks_with_mark w bs) u).used ≡ (stock_of bs u).used)
+    × ((stock_of (stocks_with_mark w bs) u).label ≡ (stock_of bs u).label)
 unfolding stocks_with_mark
 over_book bs w u h = let b : Stock = record { used = (stock_of bs w).used; label = (stock_of bs w).label; over = true } in
     elim (cases_eq u w) [
@@ -189,7 +193,8 @@ unfolding spare_label
 over_spare m bs w n h = let b = over_book bs w (n / m) h in ap₂ (λ (xs : List Spot) (l : ℕ). cond (n % m == length xs) l 0) b.0 b.1
 
 -- How many books are marked.
-count_set : (bs : List Stock) (w : ℕ) (b : Stock) → w < length bs → marked_books (set bs w b) + cond (stock_of bs w).over 1 0 ≡ marked_books bs + cond b.over 1 0
+count_set : (bs : List Stock) (w : ℕ) (b : Stock) → w < length bs
+    → marked_books (set bs w b) + cond (stock_of bs w).over 1 0 ≡ marked_books bs + cond b.over 1 0
 unfolding marked_books stock_of
 count_set [] w b h = absurd (omega arith)
 count_set (c ∷ bs) zero b h = omega arith
@@ -208,11 +213,17 @@ use_marked w s bs h = count_same bs w _ h refl
 
 pub over_marked : (w : ℕ) (bs : List Stock) → w < length bs → (stock_of bs w).over ≡ false → marked_books (stocks_with_mark w bs) ≡ suc (marked_books bs)
 unfolding stocks_with_mark
-over_marked w bs h e = omega (arith, count_set bs w (record { used = (stock_of bs w).used; label = (stock_of bs w).label; over = true }) h, ap (λ (t : Bool). cond {A = ℕ} t 1 0) e)
+over_marked w bs h e =
+    omega (
+      arith,
+      count_set bs w (record { used = (stock_of bs w).used; label = (stock_of bs w).label; over = true }) h,
+      ap (λ (t : Bool). cond {A = ℕ} t 1 0) e,
+    )
 
 over_set : (bs : List Stock) (w u : ℕ) (b : Stock) → w < length bs → b.over ≡ (stock_of bs w).over → (stock_of (set bs w b) u).over ≡ (stock_of bs u).over
 over_set bs w u b h same = elim (cases_eq u w) [
-  | inl e ↦ ap (λ (q : ℕ). (stock_of (set bs w b) q).over) e ∙ (ap (λ (c : Stock). c.over) (book_same bs w b h) ∙ (same ∙ ap (λ (q : ℕ). (stock_of bs q).over) (sym e)))
+  | inl e ↦ ap (λ (q : ℕ). (stock_of (set bs w b) q).over) e
+      ∙ (ap (λ (c : Stock). c.over) (book_same bs w b h) ∙ (same ∙ ap (λ (q : ℕ). (stock_of bs q).over) (sym e)))
   | inr ne ↦ ap (λ (c : Stock). c.over) (book_other bs w u b ne)
 ]
 
@@ -225,7 +236,8 @@ unfolding stocks_with_node
 use_over w s bs u h = over_set bs w u _ h refl
 
 -- the book of a link
-pub use_book_same : (w : ℕ) (s : Spot) (bs : List Stock) → w < length bs → stock_of (stocks_with_node w s bs) w ≡ record { used = (stock_of bs w).used ++ s ∷ []; label = 0; over = (stock_of bs w).over }
+pub use_book_same : (w : ℕ) (s : Spot) (bs : List Stock) → w < length bs
+    → stock_of (stocks_with_node w s bs) w ≡ record { used = (stock_of bs w).used ++ s ∷ []; label = 0; over = (stock_of bs w).over }
 unfolding stocks_with_node
 use_book_same w s bs h = book_same bs w _ h
 
@@ -234,7 +246,8 @@ unfolding stocks_with_node
 use_book_other w s bs u h = book_other bs w u _ h
 
 -- an own used node by its place in the book
-pub node_of : (m : ℕ) (bs : List Stock) (w j : ℕ) (s : Spot) → length (stock_of bs w).used ≤ m → slice_get (stock_of bs w).used j ≡ Some s → node_at m bs (w * m + j) ≡ Some s
+pub node_of : (m : ℕ) (bs : List Stock) (w j : ℕ) (s : Spot) → length (stock_of bs w).used ≤ m → slice_get (stock_of bs w).used j ≡ Some s
+    → node_at m bs (w * m + j) ≡ Some s
 unfolding node_at
 node_of m bs w j s room at =
     let lt : j < m = omega (arith, slice_get_within (stock_of bs w).used j s at) in

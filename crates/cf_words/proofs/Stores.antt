@@ -16,9 +16,11 @@ store_keeps sh ts ts' log log' bs bs' words s v len real spells others here t r 
   | inl e ↦
       let same : s ≡ t = sym (same_slot sh.sizes t s r real e) in
       let within : place sh.sizes s < length words = omega (arith, place_within sh.sizes s real) in
-      let at : v ≡ get_or (set words (place sh.sizes s) v) (place sh.sizes t) 0 = sym (ap (λ (p : ℕ). get_or (set words (place sh.sizes s) v) p 0) e ∙ get_or-set_same words (place sh.sizes s) v 0 within) in
+      let at : v ≡ get_or (set words (place sh.sizes s) v) (place sh.sizes t) 0 =
+      sym (ap (λ (p : ℕ). get_or (set words (place sh.sizes s) v) p 0) e ∙ get_or-set_same words (place sh.sizes s) v 0 within) in
       subst (λ (x : ℕ). IsWordOf sh ts' log' bs' t x) at (subst (λ (u : Slot). IsWordOf sh ts' log' bs' u v) same here)
   | inr ne ↦
-      let at : get_or words (place sh.sizes t) 0 ≡ get_or (set words (place sh.sizes s) v) (place sh.sizes t) 0 = sym (get_or-set_other words (place sh.sizes s) (place sh.sizes t) v 0 ne) in
+      let at : get_or words (place sh.sizes t) 0 ≡ get_or (set words (place sh.sizes s) v) (place sh.sizes t) 0 =
+      sym (get_or-set_other words (place sh.sizes s) (place sh.sizes t) v 0 ne) in
       subst (λ (x : ℕ). IsWordOf sh ts' log' bs' t x) at (others t r (λ e. ne (ap (place sh.sizes) e)) _ (spells t r))
 ]

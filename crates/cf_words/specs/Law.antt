@@ -12,9 +12,11 @@ pub record NodesLaw (layout : Layout) (stocks : List Stock) : Type 0 where
   pub room : (w : ℕ) → length (stock_of stocks w).used ≤ layout.sizes.nodes
   -- each lane and prefix is that of one used node at most
   pub unique : (n k : ℕ) (s : Spot) → node_at layout.sizes.nodes stocks n ≡ Some s → node_at layout.sizes.nodes stocks k ≡ Some s → n ≡ k
-  pub shaped : (n : ℕ) (s : Spot) → node_at layout.sizes.nodes stocks n ≡ Some s → (s.lane < layout.sizes.lanes) × (0 < length s.path) × (length s.path < layout.levels s.lane)
+  pub shaped : (n : ℕ) (s : Spot) → node_at layout.sizes.nodes stocks n ≡ Some s → (s.lane < layout.sizes.lanes) × (0 < length s.path)
+      × (length s.path < layout.levels s.lane)
   -- the node above a used one is used
-  pub parent : (n l d e : ℕ) (p : List ℕ) → node_at layout.sizes.nodes stocks n ≡ Some (spot l (d ∷ (e ∷ p))) → (k : ℕ) × (node_at layout.sizes.nodes stocks k ≡ Some (spot l (e ∷ p)))
+  pub parent : (n l d e : ℕ) (p : List ℕ) → node_at layout.sizes.nodes stocks n ≡ Some (spot l (d ∷ (e ∷ p))) → (k : ℕ)
+      × (node_at layout.sizes.nodes stocks k ≡ Some (spot l (e ∷ p)))
 
 -- in lane l the ticket has its leaf: a used node stands for all its path but the last nibble, and so by `parent` for each shorter part
 abbrev pub HasLeaf : Layout → List Stock → Ticket → ℕ → Type 0
@@ -36,7 +38,8 @@ pub record LayoutLaw (layout : Layout) : Type 0 where
   pub reads : (r : RowValue) (w : ℕ) → layout.fits r ≡ true → w < layout.sizes.writers → layout.reads (layout.spelled r w) ≡ entry w r
   -- each lane has the first word of its cell, and no word of a cell stands twice
   pub cells : (l : ℕ) → l < layout.sizes.lanes → (k : ℕ) × (suc k < layout.sizes.ticket_words) × (layout.use_of k ≡ version l 0)
-  pub once : (i k l j : ℕ) → suc i < layout.sizes.ticket_words → suc k < layout.sizes.ticket_words → layout.use_of i ≡ version l j → layout.use_of k ≡ version l j → i ≡ k
+  pub once : (i k l j : ℕ) → suc i < layout.sizes.ticket_words → suc k < layout.sizes.ticket_words → layout.use_of i ≡ version l j
+      → layout.use_of k ≡ version l j → i ≡ k
   -- an offset plus 1 fits 32 bits
   pub few_tickets : layout.sizes.tickets < 2 ^ 32
 

@@ -183,7 +183,8 @@ ticket_word layout log o i (Some t) = cond (suc i == layout.sizes.ticket_words) 
 -- (false) it is the head of nibble j / writers and writer j % writers
 abbrev pub NodeWord : Layout → List Ticket → List Stock → Spot → ℕ → ℕ → Bool → Type 0
 NodeWord layout log bs s j v true = ((j < 16) × IsChildFor layout.sizes.nodes bs (spot s.lane (j ∷ s.path)) v) ⊎ ((16 ≤ j) × (v ≡ 0))
-NodeWord layout log bs s j v false = v ≡ link_to_newest (chain layout log (j % layout.sizes.writers) (spot s.lane (j / layout.sizes.writers ∷ s.path)) (length log))
+NodeWord layout log bs s j v false =
+    v ≡ link_to_newest (chain layout log (j % layout.sizes.writers) (spot s.lane (j / layout.sizes.writers ∷ s.path)) (length log))
 
 -- whether a node for the spot s has children: it stands above the last level of its lane
 abbrev pub is_inner : Layout → Spot → Bool
@@ -193,7 +194,8 @@ is_inner layout s = nat_lt (suc (length s.path)) (layout.levels s.lane)
 abbrev pub BodyWord : Layout → List Ticket → List Stock → ℕ → ℕ → ℕ → Option Spot → Type 0
 BodyWord layout log bs n zero v None = v ≡ spare_label layout.sizes.nodes bs n
 BodyWord layout log bs n (suc j) v None = v ≡ 0
-BodyWord layout log bs n zero v (Some s) = (t : Slot) × IsNamedBy layout.sizes.nodes bs s.lane s.path t × IsReal layout.sizes t × (v ≡ 32 * place layout.sizes t + length s.path)
+BodyWord layout log bs n zero v (Some s) = (t : Slot) × IsNamedBy layout.sizes.nodes bs s.lane s.path t × IsReal layout.sizes t
+    × (v ≡ 32 * place layout.sizes t + length s.path)
 BodyWord layout log bs n (suc j) v (Some s) = NodeWord layout log bs s j v (is_inner layout s)
 
 -- the words that need no more than the tails, the log and the books

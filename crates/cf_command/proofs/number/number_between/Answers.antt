@@ -22,4 +22,5 @@ returns-then-number-high-clause-number c =
 pub returns-clause-number : goal.returns-clause-number
 returns-clause-number c =
     let is = rw c.in-Some.is at c.in_ok-number.ensures in
-    number_found c.args.low c.args.high c.in-Some.number c.args.text.now is.1 is.0 (omega (arith, c.if-number-low.false)) (omega (arith, c.if-number-high.false))
+    number_found c.args.low c.args.high c.in-Some.number c.args.text.now is.1 is.0 (omega (arith, c.if-number-low.false))
+    (omega (arith, c.if-number-high.false))

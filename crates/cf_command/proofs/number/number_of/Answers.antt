@@ -9,5 +9,6 @@ returns-in_default c = λ n small is. let e = parse-decimal 64 n c.args.text.now
 pub returns : goal.returns
 returns c = λ n small is.
     let e = parse-decimal 64 n c.args.text.now c.parse.result small small is c.parse.ensures.value.0 in
-    let same : c.as_str.result.now ≡ c.args.text.now = c.as_str.ensures.value ∙ written_same c.args.text.now _ c.parse.result c.in-Ok.number n c.in-Ok.is e c.in_ok-written.ensures.ok is in
+    let same : c.as_str.result.now ≡ c.args.text.now = c.as_str.ensures.value
+    ∙ written_same c.args.text.now _ c.parse.result c.in-Ok.number n c.in-Ok.is e c.in_ok-written.ensures.ok is in
     let yes = c.is_same.ensures.1 same in cc (yes, c.if-is_same.false)

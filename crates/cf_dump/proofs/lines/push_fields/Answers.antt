@@ -16,4 +16,6 @@ loop-place-preserved c =
     let attr_is : attr ≡ get_or attrs place attr = rw c.attrs-attrs.ensures.attrs at c.index-attrs-place.is in
     let there : attr ≡ attr_at attrs place = attr_is ∙ get_or_default attrs place attr no_attr within in
     let field = rw c.get.ensures at c.in_ok-push_field.ensures in
-    step_range (field_at attrs row) place (string_bytes c.args.text.now) (string_bytes c.loop-place.text) (string_bytes c.push_field.new.text) c.loop-place.invariant (field ∙ ap (λ (a : Attr). string_bytes c.loop-place.text ++ field_text a (value_at row place)) there)
+    step_range (field_at attrs row) place (string_bytes c.args.text.now) (string_bytes c.loop-place.text)
+    (string_bytes c.push_field.new.text) c.loop-place.invariant
+    (field ∙ ap (λ (a : Attr). string_bytes c.loop-place.text ++ field_text a (value_at row place)) there)

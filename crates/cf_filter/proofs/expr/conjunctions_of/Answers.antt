@@ -13,14 +13,16 @@ pub returns-in-Err : goal.returns-in-Err
 returns-in-Err c =
     let stopped : atom_at c.args.attrs.now c.loop-i.rest.now ≡ Err c.in-Err.stop = sym (rw c.in-Err.is at c.atom_of.ensures) in
     let more : 32 - c.loop-i._i ≡ suc (31 - c.loop-i._i) = omega arith in
-    sym (read_bad_atom c.loop-i.closed.items c.loop-i.current.items c.args.attrs.now (32 - c.loop-i._i) (31 - c.loop-i._i) c.loop-i.rest.now c.in-Err.stop more stopped) ∙ c.loop-i.invariant
+    sym (read_bad_atom c.loop-i.closed.items c.loop-i.current.items c.args.attrs.now (32 - c.loop-i._i)
+    (31 - c.loop-i._i) c.loop-i.rest.now c.in-Err.stop more stopped) ∙ c.loop-i.invariant
 
 pub returns-in-Err-link_of : goal.returns-in-Err-link_of
 returns-in-Err-link_of c =
     let found : atom_at c.args.attrs.now c.loop-i.rest.now ≡ Ok (pair c.in-Ok.found.0 c.in-Ok.found.1.now) = sym (rw c.in-Ok.is at c.atom_of.ensures) in
     let stopped : link_at c.in-Ok.found.1.now ≡ Err c.in-Err-link_of.stop = sym (rw c.in-Err-link_of.is at c.link_of.ensures) in
     let more : 32 - c.loop-i._i ≡ suc (31 - c.loop-i._i) = omega arith in
-    sym (read_bad_link c.loop-i.closed.items c.loop-i.current.items c.args.attrs.now (32 - c.loop-i._i) (31 - c.loop-i._i) c.loop-i.rest.now c.in-Ok.found.1.now c.in-Ok.found.0 c.in-Err-link_of.stop more found stopped) ∙ c.loop-i.invariant
+    sym (read_bad_link c.loop-i.closed.items c.loop-i.current.items c.args.attrs.now (32 - c.loop-i._i)
+    (31 - c.loop-i._i) c.loop-i.rest.now c.in-Ok.found.1.now c.in-Ok.found.0 c.in-Err-link_of.stop more found stopped) ∙ c.loop-i.invariant
 
 pub returns-in-End : goal.returns-in-End
 returns-in-End c =
@@ -30,7 +32,8 @@ returns-in-End c =
     let joined : link_at rest ≡ Ok (linked End after) = sym (rw c.in-Ok-link_of.is at c.link_of.ensures) ∙ ap (λ l. Ok (linked l after)) c.in-End.is in
     let more : 32 - c.loop-i._i ≡ suc (31 - c.loop-i._i) = omega arith in
     rw (c.new-in-End.ensures, c.in_ok-push-in-End.ensures.items, c.new.ensures, c.in_ok-push.ensures.items)
-    (sym (read_end c.loop-i.closed.items c.loop-i.current.items c.args.attrs.now (32 - c.loop-i._i) (31 - c.loop-i._i) c.loop-i.rest.now rest after c.in-Ok.found.0 more found joined) ∙ c.loop-i.invariant)
+    (sym (read_end c.loop-i.closed.items c.loop-i.current.items c.args.attrs.now (32 - c.loop-i._i)
+    (31 - c.loop-i._i) c.loop-i.rest.now rest after c.in-Ok.found.0 more found joined) ∙ c.loop-i.invariant)
 
 pub loop-i-preserved : goal.loop-i-preserved
 loop-i-preserved c =
@@ -41,9 +44,14 @@ loop-i-preserved c =
     let more : 32 - c.loop-i._i ≡ suc (32 - (c.loop-i._i + 1)) = omega arith in
     elim c.match-link.branch [
       | in-And w ↦ rw (w.closed-is, w.current-is, c.in_ok-push.ensures.items)
-          (sym (read_and c.loop-i.closed.items c.loop-i.current.items c.args.attrs.now (32 - c.loop-i._i) (32 - (c.loop-i._i + 1)) c.loop-i.rest.now rest after c.in-Ok.found.0 more found (link ∙ ap (λ l. Ok (linked l after)) w.in-And.is)) ∙ c.loop-i.invariant)
-      | in-Or+in_ok-push-in-Or w ↦ rw (w.closed-is, w.current-is, w.new-current-in-Or.ensures.items, w.in_ok-push-in-Or.ensures.items, w.new-in-Or.ensures, c.in_ok-push.ensures.items)
-          (sym (read_or c.loop-i.closed.items c.loop-i.current.items c.args.attrs.now (32 - c.loop-i._i) (32 - (c.loop-i._i + 1)) c.loop-i.rest.now rest after c.in-Ok.found.0 more found (link ∙ ap (λ l. Ok (linked l after)) w.in-Or.is)) ∙ c.loop-i.invariant)
+          (sym (read_and c.loop-i.closed.items c.loop-i.current.items c.args.attrs.now (32 - c.loop-i._i)
+          (32 - (c.loop-i._i + 1)) c.loop-i.rest.now rest after c.in-Ok.found.0 more found (link ∙ ap (λ l. Ok (linked l after)) w.in-And.is))
+          ∙ c.loop-i.invariant)
+      | in-Or+in_ok-push-in-Or w ↦ rw
+          (w.closed-is, w.current-is, w.new-current-in-Or.ensures.items, w.in_ok-push-in-Or.ensures.items, w.new-in-Or.ensures, c.in_ok-push.ensures.items)
+          (sym (read_or c.loop-i.closed.items c.loop-i.current.items c.args.attrs.now (32 - c.loop-i._i)
+          (32 - (c.loop-i._i + 1)) c.loop-i.rest.now rest after c.in-Ok.found.0 more found (link ∙ ap (λ l. Ok (linked l after)) w.in-Or.is))
+          ∙ c.loop-i.invariant)
     ]
 
 pub returns : goal.returns

@@ -11,7 +11,8 @@ use Rattle.cf_filter.proofs.ExprLaws.{expr_only}
 use Rattle.cf_filter.proofs.Lawful.{expr_fits}
 use Rattle.cf_filter.proofs.expr.parse_bytes.Goals as goal
 
-answered : (attrs : List Attr) (text : List ℕ) (r : Result (List (List Atom)) FilterFault) (read : Result (List (List Atom)) Stop) → ExprRead attrs text read → Answers (length text) r read → IfOk r (IsOfSchema attrs)
+answered : (attrs : List Attr) (text : List ℕ) (r : Result (List (List Atom)) FilterFault) (read : Result (List (List Atom)) Stop) → ExprRead attrs text read
+    → Answers (length text) r read → IfOk r (IsOfSchema attrs)
 answered attrs text (Ok expr) read h a = expr_fits attrs text expr (subst (ExprRead attrs text) a h)
 answered attrs text (Err fault) read h a = _
 

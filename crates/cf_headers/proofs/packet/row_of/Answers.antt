@@ -11,14 +11,18 @@ use Rattle.cf_headers.proofs.packet.row_of.Goals as goal
 
 pub returns-clause-fits : goal.returns-clause-fits
 returns-clause-fits c =
-    let packet : FrameValue = record { num = c.args.num; ts = c.args.ts; caplen = c.args.caplen; len = c.args.len; link = c.args.link; bytes = c.args.bytes.now } in
+    let packet : FrameValue =
+    record { num = c.args.num; ts = c.args.ts; caplen = c.args.caplen; len = c.args.len; link = c.args.link; bytes = c.args.bytes.now } in
     let fits = packet_fits packet c.ranges.ts.fits c.ranges.caplen.fits c.ranges.len.fits (λ i. omega (arith, c.type_inv.bytes i)) in
-    let same : record { num = c.args.num; values = c.packet_values.result } ≡ packet_row_of packet = ap (λ (values : List Value). record { num = c.args.num; values = values }) c.packet_values.ensures in
-    IfOk-weaker c.packed.result (λ (row : RowValue). row ≡ record { num = c.args.num; values = c.packet_values.result }) (Fits packet_attrs) (λ row is. subst (λ (r : RowValue). Fits packet_attrs r) (sym (is ∙ same)) fits) c.packed.ensures.same
+    let same : record { num = c.args.num; values = c.packet_values.result } ≡ packet_row_of packet =
+    ap (λ (values : List Value). record { num = c.args.num; values = values }) c.packet_values.ensures in
+    IfOk-weaker c.packed.result (λ (row : RowValue). row ≡ record { num = c.args.num; values = c.packet_values.result }) (Fits packet_attrs)
+    (λ row is. subst (λ (r : RowValue). Fits packet_attrs r) (sym (is ∙ same)) fits) c.packed.ensures.same
 
 pub returns-clause-free : goal.returns-clause-free
 returns-clause-free c =
-    let packet : FrameValue = record { num = c.args.num; ts = c.args.ts; caplen = c.args.caplen; len = c.args.len; link = c.args.link; bytes = c.args.bytes.now } in
+    let packet : FrameValue =
+    record { num = c.args.num; ts = c.args.ts; caplen = c.args.caplen; len = c.args.len; link = c.args.link; bytes = c.args.bytes.now } in
     let fits = packet_fits packet c.ranges.ts.fits c.ranges.caplen.fits c.ranges.len.fits (λ i. omega (arith, c.type_inv.bytes i)) in
     let row : RowValue = record { num = c.args.num; values = c.packet_values.result } in
     let same : row ≡ packet_row_of packet = ap (λ (values : List Value). record { num = c.args.num; values = values }) c.packet_values.ensures in

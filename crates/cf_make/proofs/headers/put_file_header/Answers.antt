@@ -7,7 +7,8 @@ pub returns : goal.returns
 unfolding file_header
 returns c =
     cc (
-      seven c.args.bytes.now.items (little_bytes 4 0xa1b2c3d4) (little_bytes 2 2) (little_bytes 2 4) (little_bytes 4 0) (little_bytes 4 0) (little_bytes 4 65535) (little_bytes 4 1),
+      seven c.args.bytes.now.items (little_bytes 4 0xa1b2c3d4) (little_bytes 2 2) (little_bytes 2 4) (little_bytes 4 0) (little_bytes 4 0)
+          (little_bytes 4 65535) (little_bytes 4 1),
       c.in_ok-put_little_u32.ensures,
       c.in_ok-put_little_u16.ensures,
       c.in_ok-put_little_u16-2.ensures,

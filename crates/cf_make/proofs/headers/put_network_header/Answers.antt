@@ -9,7 +9,8 @@ unfolding network_header
 returns c =
     let draw = c.args.draw.bits in
     cc (
-      six c.args.bytes.now.items (0x45 ∷ 0 ∷ []) (big_bytes 2 (wire_length draw - 14)) (0 ∷ 0 ∷ 0 ∷ 0 ∷ []) (64 ∷ protocol draw ∷ 0 ∷ 0 ∷ []) (10 ∷ 0 ∷ 0 ∷ draw % 16 ∷ []) (10 ∷ 0 ∷ 1 ∷ draw / 16 % 16 ∷ []),
+      six c.args.bytes.now.items (0x45 ∷ 0 ∷ []) (big_bytes 2 (wire_length draw - 14)) (0 ∷ 0 ∷ 0 ∷ 0 ∷ []) (64 ∷ protocol draw ∷ 0 ∷ 0 ∷ [])
+          (10 ∷ 0 ∷ 0 ∷ draw % 16 ∷ []) (10 ∷ 0 ∷ 1 ∷ draw / 16 % 16 ∷ []),
       c.in_ok-put_bytes.ensures,
       c.in_ok-put_big_u16.ensures,
       c.in_ok-put_bytes-2.ensures,

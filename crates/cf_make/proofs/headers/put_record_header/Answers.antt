@@ -9,7 +9,8 @@ unfolding record_header
 returns c =
     let draw = c.args.draw.bits in
     cc (
-      four c.args.bytes.now.items (little_bytes 4 (1 + c.args.num / 1000)) (little_bytes 4 (c.args.num % 1000 * 1000)) (little_bytes 4 (captured_length draw)) (little_bytes 4 (wire_length draw)),
+      four c.args.bytes.now.items (little_bytes 4 (1 + c.args.num / 1000)) (little_bytes 4 (c.args.num % 1000 * 1000)) (little_bytes 4 (captured_length draw))
+          (little_bytes 4 (wire_length draw)),
       c.in_ok-put_little_u32.ensures,
       c.in_ok-put_little_u32-2.ensures,
       c.in_ok-put_little_u32-3.ensures,

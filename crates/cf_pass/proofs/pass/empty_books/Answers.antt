@@ -11,4 +11,5 @@ pub loop-writer-preserved : goal.loop-writer-preserved
 loop-writer-preserved c =
     let items : c.push.new.self.items ≡ c.loop-writer.books.items ++ no_book c.loop-writer.writer ∷ [] = search (rules, c.in_ok-push.ensures.items) in
     let next : suc c.loop-writer.writer ≡ c.loop-writer.writer + 1 = omega arith in
-    items ∙ (ap (λ (bs : List Book). bs ++ no_book c.loop-writer.writer ∷ []) c.loop-writer.invariant ∙ (sym (table_more no_book c.loop-writer.writer) ∙ ap (tabulated no_book) next))
+    items ∙ (ap (λ (bs : List Book). bs ++ no_book c.loop-writer.writer ∷ []) c.loop-writer.invariant
+    ∙ (sym (table_more no_book c.loop-writer.writer) ∙ ap (tabulated no_book) next))

@@ -16,12 +16,16 @@ returns-in_ok-read-in-Stands-clause-read c =
     let t = state_of read.header (c.args.num + length read.frames.items) in
     let sum : 24 + read.used ≡ read.used + 24 = omega arith in
     let left : drop read.used (drop 24 bytes) ≡ drop (read.used + 24) bytes = drop-drop read.used 24 bytes ∙ ap (λ n. drop n bytes) sum in
-    let back : AreRead c.args.links (state_of (Some header) c.args.num) (drop 24 bytes) read.frames.items t (drop read.used (drop 24 bytes)) = subst (λ (xs : List ℕ). AreRead c.args.links (state_of (Some header) c.args.num) xs read.frames.items t (drop read.used xs)) c.split_at.ensures.back (c.in_ok-read-in-Stands.ensures.read c.args.links) in
-    after_head c.args.links header c.args.num bytes read.frames.items t (drop (read.used + 24) bytes) (sym c.in-Stands.ensures) (subst (λ (xs : List ℕ). AreRead c.args.links (state_of (Some header) c.args.num) (drop 24 bytes) read.frames.items t xs) left back)
+    let back : AreRead c.args.links (state_of (Some header) c.args.num) (drop 24 bytes) read.frames.items t (drop read.used (drop 24 bytes)) =
+    subst (λ (xs : List ℕ). AreRead c.args.links (state_of (Some header) c.args.num) xs read.frames.items t (drop read.used xs)) c.split_at.ensures.back
+    (c.in_ok-read-in-Stands.ensures.read c.args.links) in
+    after_head c.args.links header c.args.num bytes read.frames.items t (drop (read.used + 24) bytes) (sym c.in-Stands.ensures)
+    (subst (λ (xs : List ℕ). AreRead c.args.links (state_of (Some header) c.args.num) (drop 24 bytes) read.frames.items t xs) left back)
 
 pub returns-in_default : goal.returns-in_default
 returns-in_default c =
     let many : length c.new.result.items ≡ 0 = ap length c.new.ensures.items in record {
-      read = nothing_read c.args.links c.args.num c.args.bytes.now c.new.result.items c.new.ensures.items (λ header is. c.in_default.not-Stands header (c.head_of.ensures ∙ is));
+      read = nothing_read c.args.links c.args.num c.args.bytes.now c.new.result.items c.new.ensures.items
+          (λ header is. c.in_default.not-Stands header (c.head_of.ensures ∙ is));
       used = (omega (arith, many), omega arith);
     }

@@ -25,8 +25,15 @@ loop-alloc-preserved c =
     let left : length (drop (16 + caplen_at header rest) rest) ≡ length rest - (16 + caplen_at header rest) = length-drop (16 + caplen_at header rest) rest in
     let few : 16 * length frames + length rest ≤ length c.args.bytes.now = c.loop-alloc.invariant.few in
     let next = left_of c.args.bytes.now rest (16 + caplen_at header rest) c.loop-alloc.invariant.back (omega (arith, fits)) (omega (arith, few)) in
-    let more : (links : LinkSet) → ReadsTo (pcap links) (state_of (Some header) c.args.num) c.args.bytes.now (frames ++ frame ∷ []) (state_of (Some header) (c.args.num + length (frames ++ frame ∷ []))) (drop (16 + caplen_at header rest) rest) = λ links. one_more links header c.args.num c.args.bytes.now frames rest frame (c.loop-alloc.invariant.read links) has is in record {
-      read = λ links. subst (λ (fs : List FrameValue). ReadsTo (pcap links) (state_of (Some header) c.args.num) c.args.bytes.now fs (state_of (Some header) (c.args.num + length fs)) c.split_at.result.1.now) (sym all) (subst (λ (xs : List ℕ). ReadsTo (pcap links) (state_of (Some header) c.args.num) c.args.bytes.now (frames ++ frame ∷ []) (state_of (Some header) (c.args.num + length (frames ++ frame ∷ []))) xs) (sym back) (more links));
+    let more : (links : LinkSet)
+    → ReadsTo (pcap links) (state_of (Some header) c.args.num) c.args.bytes.now (frames ++ frame ∷ [])
+    (state_of (Some header) (c.args.num + length (frames ++ frame ∷ []))) (drop (16 + caplen_at header rest) rest) =
+    λ links. one_more links header c.args.num c.args.bytes.now frames rest frame (c.loop-alloc.invariant.read links) has is in record {
+      read = λ links. subst
+          (λ (fs : List FrameValue). ReadsTo (pcap links) (state_of (Some header) c.args.num) c.args.bytes.now fs
+          (state_of (Some header) (c.args.num + length fs)) c.split_at.result.1.now) (sym all)
+          (subst (λ (xs : List ℕ). ReadsTo (pcap links) (state_of (Some header) c.args.num) c.args.bytes.now (frames ++ frame ∷ [])
+          (state_of (Some header) (c.args.num + length (frames ++ frame ∷ []))) xs) (sym back) (more links));
       few = rw (all, back, left, many) (omega (arith, fits, few));
       back = rw back next;
     }
@@ -39,7 +46,11 @@ returns c =
     let frames = c.loop-alloc.frames.items in
     let few : 16 * length frames + length rest ≤ length bytes = c.loop-alloc.invariant.few in
     let t = state_of (Some header) (c.args.num + length frames) in
-    let read : (links : LinkSet) → AreRead links (state_of (Some header) c.args.num) bytes frames t rest = λ links. record { read = c.loop-alloc.invariant.read links; none = no_record links header (c.args.num + length frames) rest (c.has_record.ensures.no c.loop-alloc-test.false) } in record {
+    let read : (links : LinkSet) → AreRead links (state_of (Some header) c.args.num) bytes frames t rest =
+    λ links. record {
+      read = c.loop-alloc.invariant.read links;
+      none = no_record links header (c.args.num + length frames) rest (c.has_record.ensures.no c.loop-alloc-test.false);
+    } in record {
       read = λ links. subst (λ (xs : List ℕ). AreRead links (state_of (Some header) c.args.num) bytes frames t xs) c.loop-alloc.invariant.back (read links);
       used = (omega (arith, few), omega arith);
     }

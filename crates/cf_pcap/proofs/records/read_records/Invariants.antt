@@ -7,7 +7,8 @@ use Rattle.cf_pcap.proofs.records.read_records.Given as goal
 
 abbrev pub invariant-loop-alloc : goal.invariant-loop-alloc
 invariant-loop-alloc l = record {
-  read : (links : LinkSet) → ReadsTo (pcap links) (state_of (Some l.header) l.num) l.bytes l.frames.items (state_of (Some l.header) (l.num + length l.frames.items)) l.rest;
+  read : (links : LinkSet)
+      → ReadsTo (pcap links) (state_of (Some l.header) l.num) l.bytes l.frames.items (state_of (Some l.header) (l.num + length l.frames.items)) l.rest;
   few : 16 * length l.frames.items + length l.rest ≤ length l.bytes;
   back : l.rest ≡ drop (length l.bytes - length l.rest) l.bytes;
 }

@@ -8,4 +8,6 @@ no_more order zero found options h = refl
 no_more order (suc steps) found options h = rw h refl
 
 pub returns : goal.returns
-returns c = sym (c.loop-rest.invariant.same ∙ no_more c.args.order c.loop-rest.invariant.steps c.loop-rest.found c.loop-rest.rest.now (sym c.has_option.ensures.value ∙ c.loop-rest-test.false))
+returns c = sym
+    (c.loop-rest.invariant.same
+    ∙ no_more c.args.order c.loop-rest.invariant.steps c.loop-rest.found c.loop-rest.rest.now (sym c.has_option.ensures.value ∙ c.loop-rest-test.false))

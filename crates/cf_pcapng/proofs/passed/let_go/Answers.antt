@@ -16,9 +16,13 @@ pub returns-in-None-clause-read : goal.returns-in-None-clause-read
 returns-in-None-clause-read c = λ links s bytes read.
     let all = c.args.read in
     let none : all.flaw ≡ None = not_some all.flaw (search rules) in
-    let at : IsPassedAt all.position.order all.rest.items None = subst (λ (o : Option Order). IsPassedAt o all.rest.items None) c.order.ensures (subst (λ (xs : List ℕ). IsPassedAt c.order.result xs None) c.deref.ensures.value c.in-None.ensures) in
-    let now : AreRead links s bytes all.frames.items (state_of all.position) all.rest.items None = subst (λ (x : Option Flaw). AreRead links s bytes all.frames.items (state_of all.position) all.rest.items x) none read in
-    subst (λ (x : Option Flaw). AreReadOn links s bytes all.frames.items (state_of all.position) None all.rest.items x) (sym none) (begins_whole links s bytes all.frames.items (state_of all.position) all.rest.items now at)
+    let at : IsPassedAt all.position.order all.rest.items None =
+    subst (λ (o : Option Order). IsPassedAt o all.rest.items None) c.order.ensures
+    (subst (λ (xs : List ℕ). IsPassedAt c.order.result xs None) c.deref.ensures.value c.in-None.ensures) in
+    let now : AreRead links s bytes all.frames.items (state_of all.position) all.rest.items None =
+    subst (λ (x : Option Flaw). AreRead links s bytes all.frames.items (state_of all.position) all.rest.items x) none read in
+    subst (λ (x : Option Flaw). AreReadOn links s bytes all.frames.items (state_of all.position) None all.rest.items x) (sym none)
+    (begins_whole links s bytes all.frames.items (state_of all.position) all.rest.items now at)
 
 pub returns-clause-read : goal.returns-clause-read
 returns-clause-read c = λ links s bytes read.
@@ -27,10 +31,15 @@ returns-clause-read c = λ links s bytes read.
     let passed = c.within-some.result.0 in
     let some = c.within-some.result.1 in
     let none : all.flaw ≡ None = not_some all.flaw (search rules) in
-    let at : IsPassedAt all.position.order all.rest.items (Some block) = subst (λ (o : Option Order). IsPassedAt o all.rest.items (Some block)) c.order.ensures (subst (λ (xs : List ℕ). IsPassedAt c.order.result xs (Some block)) c.deref.ensures.value c.in-Some.ensures) in
-    let go : IsLetGo block (length all.rest.items) passed some = subst (λ (xs : List ℕ). IsLetGo block (length xs) passed some) c.deref-in-Some.ensures.value c.within-some.ensures in
+    let at : IsPassedAt all.position.order all.rest.items (Some block) =
+    subst (λ (o : Option Order). IsPassedAt o all.rest.items (Some block)) c.order.ensures
+    (subst (λ (xs : List ℕ). IsPassedAt c.order.result xs (Some block)) c.deref.ensures.value c.in-Some.ensures) in
+    let go : IsLetGo block (length all.rest.items) passed some =
+    subst (λ (xs : List ℕ). IsLetGo block (length xs) passed some) c.deref-in-Some.ensures.value c.within-some.ensures in
     let held : c.in_ok-held-in-Some.held.items ≡ drop some all.rest.items = search rules in
-    let now : AreRead links s bytes all.frames.items (state_of all.position) all.rest.items None = subst (λ (x : Option Flaw). AreRead links s bytes all.frames.items (state_of all.position) all.rest.items x) none read in
-    let done : Begins links s bytes all.frames.items (state_of all.position) (Some passed) (drop some all.rest.items) = begins_passed links s bytes all.frames.items (state_of all.position) all.rest.items block passed some now at go in
+    let now : AreRead links s bytes all.frames.items (state_of all.position) all.rest.items None =
+    subst (λ (x : Option Flaw). AreRead links s bytes all.frames.items (state_of all.position) all.rest.items x) none read in
+    let done : Begins links s bytes all.frames.items (state_of all.position) (Some passed) (drop some all.rest.items) =
+    begins_passed links s bytes all.frames.items (state_of all.position) all.rest.items block passed some now at go in
     subst (λ (x : Option Flaw). AreReadOn links s bytes all.frames.items (state_of all.position) (Some passed) c.in_ok-held-in-Some.held.items x) (sym none)
     (subst (λ (xs : List ℕ). Begins links s bytes all.frames.items (state_of all.position) (Some passed) xs) (sym held) done)

@@ -4,4 +4,5 @@ use Rattle.cf_fold.proofs.Sorted.{sort_leaves}
 use Rattle.cf_report.proofs.body.sorted_nums_of.Goals as goal
 
 pub returns : goal.returns
-returns c = sort_leaves c.in_ok-nums.nums.items c.sort_unstable.new.self.items c.sort_unstable.ensures.permutation c.sort_unstable.ensures.sorted ∙ ap sort c.in_ok-nums.ensures
+returns c = sort_leaves c.in_ok-nums.nums.items c.sort_unstable.new.self.items c.sort_unstable.ensures.permutation c.sort_unstable.ensures.sorted
+    ∙ ap sort c.in_ok-nums.ensures

@@ -23,7 +23,8 @@ loop-place-preserved c =
     let own : is_body_of ask answer.body ≡ true = search rules in
     let size : length (tolds_of asks finals) ≡ length asks = length_tolds asks finals c.requires in
     let within : place < length asks = c.loop-place-test.true in
-    let told : told_by ask answer ≡ get_or (tolds_of asks finals) place nothing_told = sym (told_at asks finals place ask answer nothing_told within c.requires ∙ ap₂ told_by (sym c.index-asks-place.is) (sym c.index-finals-place.is)) in
+    let told : told_by ask answer ≡ get_or (tolds_of asks finals) place nothing_told =
+    sym (told_at asks finals place ask answer nothing_told within c.requires ∙ ap₂ told_by (sym c.index-asks-place.is) (sym c.index-finals-place.is)) in
     All-more IsOfKind (tolds_of asks finals) place nothing_told (omega (arith, size, within)) c.loop-place.invariant (subst IsOfKind told own)
 
 pub returns : goal.returns
@@ -44,5 +45,6 @@ returns-then-not-is_kind c =
     let other : is_body_of ask answer.body ≡ true → ⊥ = search rules in
     let size : length (tolds_of asks finals) ≡ length asks = length_tolds asks finals c.requires in
     let within : place < length asks = c.loop-place-test.true in
-    let told : told_by ask answer ≡ get_or (tolds_of asks finals) place nothing_told = sym (told_at asks finals place ask answer nothing_told within c.requires ∙ ap₂ told_by (sym c.index-asks-place.is) (sym c.index-finals-place.is)) in
+    let told : told_by ask answer ≡ get_or (tolds_of asks finals) place nothing_told =
+    sym (told_at asks finals place ask answer nothing_told within c.requires ∙ ap₂ told_by (sym c.index-asks-place.is) (sym c.index-finals-place.is)) in
     (λ t. absurd (cc t), λ all. absurd (other (subst IsOfKind (sym told) (all place nothing_told (omega (arith, size, within))))))

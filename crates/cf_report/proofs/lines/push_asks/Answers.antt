@@ -19,6 +19,9 @@ loop-place-preserved c =
     let answer = c.index-finals-place.result in
     let within : place < length setup.asks = rw c.asks-asks.ensures.asks at c.loop-place-test.true in
     let ask_is : ask ≡ get_or setup.asks place ask = rw c.asks-asks.ensures.asks at c.index-asks-place.is in
-    let told : told_by ask answer ≡ get_or (tolds_of setup.asks finals) place nothing_told = sym (told_at setup.asks finals place ask answer nothing_told within c.requires.answered ∙ ap₂ told_by (sym ask_is) (sym c.index-finals-place.is)) in
+    let told : told_by ask answer ≡ get_or (tolds_of setup.asks finals) place nothing_told =
+    sym (told_at setup.asks finals place ask answer nothing_told within c.requires.answered ∙ ap₂ told_by (sym ask_is) (sym c.index-finals-place.is)) in
     let line = rw (c.name_at.ensures, c.ask_names-names.ensures.names) at c.in_ok-push_ask.ensures in
-    step_range (ask_line_at setup rows (tolds_of setup.asks finals)) place (string_bytes c.args.text.now) (string_bytes c.loop-place.text) (string_bytes c.push_ask.new.text) c.loop-place.invariant (line ∙ ap (λ (t : AskReply Ask Body). string_bytes c.loop-place.text ++ ask_line (ask_name setup place) rows t) told)
+    step_range (ask_line_at setup rows (tolds_of setup.asks finals)) place (string_bytes c.args.text.now) (string_bytes c.loop-place.text)
+    (string_bytes c.push_ask.new.text) c.loop-place.invariant
+    (line ∙ ap (λ (t : AskReply Ask Body). string_bytes c.loop-place.text ++ ask_line (ask_name setup place) rows t) told)

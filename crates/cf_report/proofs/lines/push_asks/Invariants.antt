@@ -6,4 +6,6 @@ use Rattle.cf_report.specs.Report.{ask_line_at}
 use Rattle.cf_report.proofs.lines.push_asks.Given as goal
 
 abbrev pub invariant-loop-place : goal.invariant-loop-place
-invariant-loop-place l = string_bytes l.text ≡ string_bytes l.initial.text ++ flat_map (ask_line_at l.setup (rows_in l.entries) (tolds_of l.setup.asks l.finals)) (range_with_len 0 l.place)
+invariant-loop-place l =
+    string_bytes l.text ≡ string_bytes l.initial.text ++ flat_map (ask_line_at l.setup (rows_in l.entries) (tolds_of l.setup.asks l.finals))
+    (range_with_len 0 l.place)

@@ -4,4 +4,6 @@ use Rattle.cf_report.specs.Report.{live_lines}
 use Rattle.cf_report.proofs.live.push_lives.Given as goal
 
 abbrev pub invariant-loop-place : goal.invariant-loop-place
-invariant-loop-place l = string_bytes l.text ++ live_lines l.setup (rows_in l.entries) (take l.place l.lives) (drop l.place l.lives) ≡ string_bytes l.initial.text ++ live_lines l.setup (rows_in l.entries) [] l.lives
+invariant-loop-place l =
+    string_bytes l.text ++ live_lines l.setup (rows_in l.entries) (take l.place l.lives)
+    (drop l.place l.lives) ≡ string_bytes l.initial.text ++ live_lines l.setup (rows_in l.entries) [] l.lives

@@ -26,10 +26,13 @@ pub read_value-requires-clause-fits : goal.read_value-requires-clause-fits
 read_value-requires-clause-fits c =
     let lt : c.args.place < length c.args.lens.now = omega (arith, c.if-place-lens.false) in
     let kind : c.kind_of.result ≡ kind_of (get_or c.args.lens.now c.args.place 0) = search (rules, c.kind_of.ensures) in
-    ap₂ (λ (k : Kind) (n : ℕ). word_fits k (drop n c.args.words.now)) kind c.start_of-at.ensures ∙ (kept_at c.args.lens.now c.args.words.now c.args.place lt c.requires).fits
+    ap₂ (λ (k : Kind) (n : ℕ). word_fits k (drop n c.args.words.now)) kind c.start_of-at.ensures
+    ∙ (kept_at c.args.lens.now c.args.words.now c.args.place lt c.requires).fits
 
 pub returns : goal.returns
 returns c =
     let lt : c.args.place < length c.args.lens.now = omega (arith, c.if-place-lens.false) in
     let kind : c.kind_of.result ≡ kind_of (get_or c.args.lens.now c.args.place 0) = search (rules, c.kind_of.ensures) in
-    c.read_value.ensures ∙ (ap₂ (λ (k : Kind) (n : ℕ). value_read k (drop n c.args.words.now)) kind c.start_of-at.ensures ∙ sym (kept_at c.args.lens.now c.args.words.now c.args.place lt c.requires).value)
+    c.read_value.ensures
+    ∙ (ap₂ (λ (k : Kind) (n : ℕ). value_read k (drop n c.args.words.now)) kind c.start_of-at.ensures
+    ∙ sym (kept_at c.args.lens.now c.args.words.now c.args.place lt c.requires).value)

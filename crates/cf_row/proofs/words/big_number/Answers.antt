@@ -8,7 +8,8 @@ use Rattle.cf_row.proofs.words.big_number.Goals as goal
 pub loop-byte-init : goal.loop-byte-init
 loop-byte-init c = sym big_zero
 
-number_of : (xs : Rattle.std.specs.Prelude.List ℕ) (i n : ℕ) → AreBytes xs → i < length xs → Rattle.std.specs.Prelude.◌≤◌ (length xs) 8 → n ≡ big_number (take i xs) → n * 256 + get_or xs i 0 < 2 ^ 64
+number_of : (xs : Rattle.std.specs.Prelude.List ℕ) (i n : ℕ) → AreBytes xs → i < length xs → Rattle.std.specs.Prelude.◌≤◌ (length xs) 8
+    → n ≡ big_number (take i xs) → n * 256 + get_or xs i 0 < 2 ^ 64
 number_of xs i n low lt few is =
     let more = big_more xs i lt in
     let fits = big_fits (take (i + 1) xs) (bytes_take (i + 1) xs low) (let l = length-take-le (i + 1) xs (omega arith) in omega (arith, l)) in
@@ -27,4 +28,5 @@ overflow_add-number c =
     omega (arith, h, c.from.ensures)
 
 pub loop-byte-preserved : goal.loop-byte-preserved
-loop-byte-preserved c = let more = big_more c.args.bytes.now c.loop-byte.byte-index c.loop-byte-test.true in omega (arith, more, c.from.ensures, c.loop-byte.invariant)
+loop-byte-preserved c = let more = big_more c.args.bytes.now c.loop-byte.byte-index c.loop-byte-test.true in
+    omega (arith, more, c.from.ensures, c.loop-byte.invariant)

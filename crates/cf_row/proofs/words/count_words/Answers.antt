@@ -17,4 +17,5 @@ pub returns-clause-count : goal.returns-clause-count
 returns-clause-count c = omega (arith, c.loop-attr.invariant, count_end c.args.attrs.now c.loop-attr.attr-index c.loop-attr-test.false)
 
 pub returns-clause-few : goal.returns-clause-few
-returns-clause-few c = omega (arith, c.loop-attr.invariant, count_end c.args.attrs.now c.loop-attr.attr-index c.loop-attr-test.false, count_low c.args.attrs.now)
+returns-clause-few c =
+    omega (arith, c.loop-attr.invariant, count_end c.args.attrs.now c.loop-attr.attr-index c.loop-attr-test.false, count_low c.args.attrs.now)

@@ -13,7 +13,15 @@ put_value-at-requires c =
     let vs : List Value = c.args.values.now in
     let i = c.loop-value.value-index in
     let m = words_more vs i (Num 0) c.loop-value-test.true in record {
-      room = omega (arith, ap (length {A = ℕ}) m, length-append (values_words (take i vs)) (value_words (get_or vs i (Num 0))), words_front vs (i + 1), c.loop-value.invariant.end, c.requires.room, c.loop-value.auto.out);
+      room = omega (
+        arith,
+        ap (length {A = ℕ}) m,
+        length-append (values_words (take i vs)) (value_words (get_or vs i (Num 0))),
+        words_front vs (i + 1),
+        c.loop-value.invariant.end,
+        c.requires.room,
+        c.loop-value.auto.out,
+      );
     }
 
 pub loop-value-preserved : goal.loop-value-preserved
@@ -22,6 +30,12 @@ loop-value-preserved c =
     let i = c.loop-value.value-index in
     let v : Value = get_or vs i (Num 0) in
     let m = words_more vs i (Num 0) c.loop-value-test.true in record {
-      end = omega (arith, ap (length {A = ℕ}) m, length-append (values_words (take i vs)) (value_words v), c.loop-value.invariant.end, c.put_value-at.ensures.end);
+      end = omega (
+        arith,
+        ap (length {A = ℕ}) m,
+        length-append (values_words (take i vs)) (value_words v),
+        c.loop-value.invariant.end,
+        c.put_value-at.ensures.end,
+      );
       words = c.put_value-at.ensures.words ∙ (ap (λ (ws : List ℕ). ws ++ value_words v) c.loop-value.invariant.words ∙ sym m);
     }

@@ -8,7 +8,9 @@ pub returns-then-words-word_count : goal.returns-then-words-word_count
 returns-then-words-word_count c =
     let fits : c.are_in_range.result ≡ words_fit c.args.schema.now c.args.words.now = rw c.attrs.ensures.attrs at c.are_in_range.ensures in
     let long : length c.args.words.now ≡ word_count c.args.schema.now + 1 = omega (arith, c.if-words-word_count.true, c.word_count.ensures.count) in (
-      λ yes. (let is : c.are_in_range.result ≡ true = yes in let r = read_spells c.args.schema.now c.args.words.now (c.attrs.ensures.lawful).sized long (sym fits ∙ is) in record { entry = entry_read c.args.schema.now c.args.words.now; lawful = r.0; spells = r.1 }),
+      λ yes. (let is : c.are_in_range.result ≡ true = yes in
+          let r = read_spells c.args.schema.now c.args.words.now (c.attrs.ensures.lawful).sized long (sym fits ∙ is) in
+          record { entry = entry_read c.args.schema.now c.args.words.now; lawful = r.0; spells = r.1 }),
       λ s. fits ∙ (spelled_fits c.args.schema.now c.args.words.now s).1,
     )
 

@@ -16,7 +16,8 @@ returns-in_err-take_rows-in-Records-clause-read g c =
 pub returns-in_ok-open_packets-in-Packets-clause-read : goal.returns-in_ok-open_packets-in-Packets-clause-read
 returns-in_ok-open_packets-in-Packets-clause-read g c =
     rw c.in-Packets.is
-    (packets_read c.args.manner.truncated (IsFilled c.fill_packets.new.filling) (g.F.Shelf.files c.args.shelf.now) c.args.name.now (g.F.Shelf.rest c.args.shelf.now)
+    (packets_read c.args.manner.truncated (IsFilled c.fill_packets.new.filling) (g.F.Shelf.files c.args.shelf.now) c.args.name.now
+    (g.F.Shelf.rest c.args.shelf.now)
     (g.F.Shelf.rest c.open_packets.new.shelf)
     (g.F.Shelf.rest c.fill_packets.new.shelf) c.fill_packets.result c.in_ok-open_packets-in-Packets.ensures.opened c.fill_packets.ensures.taken)
 

@@ -6,5 +6,6 @@ use Rattle.cf_run.proofs.log.final_of.Goals as goal
 
 pub returns : goal.returns
 returns g c = λ sizes rows lawful is.
-    final_so c.report_in.result (λ made. IsSealedFinal c.args.setup.now sizes.capacity sizes.writers sizes.nodes rows made.text.items made.seals.items) (IsUnmade (shape_for c.args.setup.now sizes) rows)
+    final_so c.report_in.result (λ made. IsSealedFinal c.args.setup.now sizes.capacity sizes.writers sizes.nodes rows made.text.items made.seals.items)
+    (IsUnmade (shape_for c.args.setup.now sizes) rows)
     (c.report_in.ensures sizes 0 rows lawful is)

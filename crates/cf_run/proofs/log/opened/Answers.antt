@@ -6,9 +6,12 @@ use Rattle.cf_run.proofs.Logs.{plan_suits, segments_allowed}
 use Rattle.cf_run.proofs.log.opened.Goals as goal
 
 pub new-requires-clause-allowed : goal.new-requires-clause-allowed
-new-requires-clause-allowed c = subst (λ (s : ShapeValue). AllowsSegments s c.args.sizes.segments) (sym c.in_ok-shape.ensures) (segments_allowed c.args.setup.now c.args.sizes c.requires.sizes)
+new-requires-clause-allowed c =
+    subst (λ (s : ShapeValue). AllowsSegments s c.args.sizes.segments) (sym c.in_ok-shape.ensures)
+    (segments_allowed c.args.setup.now c.args.sizes c.requires.sizes)
 
 pub new-requires-clause-plan : goal.new-requires-clause-plan
 new-requires-clause-plan c =
     let sizes = c.args.sizes in
-    subst (λ (s : ShapeValue). IsPlan s c.in_ok-plan.plan) (sym c.in_ok-shape.ensures) (plan_suits c.args.setup.now sizes.capacity sizes.writers sizes.nodes c.args.rounds c.in_ok-plan.plan c.requires.lawful c.in_ok-plan.ensures)
+    subst (λ (s : ShapeValue). IsPlan s c.in_ok-plan.plan) (sym c.in_ok-shape.ensures)
+    (plan_suits c.args.setup.now sizes.capacity sizes.writers sizes.nodes c.args.rounds c.in_ok-plan.plan c.requires.lawful c.in_ok-plan.ensures)

@@ -12,7 +12,8 @@ closed_log-requires-clause-filled g c κs within = (
   0,
   c.args.rows.now,
   c.requires.sizes,
-  filled_on c.args.setup.now c.args.sizes 0 c.in_ok-filling.filling c.take_copies.new.self c.args.rows.now c.in_ok-filling.ensures c.take_copies.ensures.keeps (c.in_ok-take_copies.ensures.filled [] c.in_ok-filling.ensures.filled),
+  filled_on c.args.setup.now c.args.sizes 0 c.in_ok-filling.filling c.take_copies.new.self c.args.rows.now c.in_ok-filling.ensures c.take_copies.ensures.keeps
+      (c.in_ok-take_copies.ensures.filled [] c.in_ok-filling.ensures.filled),
 )
 
 pub closed_log-requires-clause-few : goal.closed_log-requires-clause-few

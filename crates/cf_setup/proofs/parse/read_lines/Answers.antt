@@ -16,15 +16,19 @@ returns-in-Err c =
     let line = c.first_line.result.0.now in
     let next = c.first_line.result.1.now in
     let fault = c.in-Err.fault in
-    let read : Takes (Err fault) (said c.loop-rest.number c.loop-rest.draft (unspaced line)) = subst (λ (text : List ℕ). Takes (Err fault) (said c.loop-rest.number c.loop-rest.draft text)) c.unspaced.ensures c.in-Err.ensures in
-    rw c.at.ensures (subst (Answers (Err (fault_at c.loop-rest.number fault))) c.loop-rest.invariant.read (line_stops c.loop-rest.number fault c.loop-rest.draft c.loop-rest.rest.now line next c.first_line.ensures.line read))
+    let read : Takes (Err fault) (said c.loop-rest.number c.loop-rest.draft (unspaced line)) =
+    subst (λ (text : List ℕ). Takes (Err fault) (said c.loop-rest.number c.loop-rest.draft text)) c.unspaced.ensures c.in-Err.ensures in
+    rw c.at.ensures
+    (subst (Answers (Err (fault_at c.loop-rest.number fault))) c.loop-rest.invariant.read
+    (line_stops c.loop-rest.number fault c.loop-rest.draft c.loop-rest.rest.now line next c.first_line.ensures.line read))
 
 pub loop-rest-preserved : goal.loop-rest-preserved
 loop-rest-preserved c =
     let line = c.first_line.result.0.now in
     let next = c.first_line.result.1.now in
     let new = c.in-Ok.stated in
-    let read : said c.loop-rest.number c.loop-rest.draft (unspaced line) ≡ Ok new = ap (said c.loop-rest.number c.loop-rest.draft) (sym c.unspaced.ensures) ∙ c.in-Ok.ensures in
+    let read : said c.loop-rest.number c.loop-rest.draft (unspaced line) ≡ Ok new = ap (said c.loop-rest.number c.loop-rest.draft) (sym c.unspaced.ensures)
+    ∙ c.in-Ok.ensures in
     record {
       read = sym (line_ok c.loop-rest.number c.loop-rest.draft new c.loop-rest.rest.now line next c.first_line.ensures.line read) ∙ c.loop-rest.invariant.read;
       draft = said_lawful c.loop-rest.number c.loop-rest.draft (unspaced line) new c.loop-rest.invariant.draft read;
@@ -34,5 +38,6 @@ loop-rest-preserved c =
 pub returns : goal.returns
 returns c =
     let none : length c.loop-rest.rest.now ≡ 0 = eqb-true (length c.loop-rest.rest.now) 0 (sym c.is_empty.ensures ∙ c.loop-rest-test.false) in
-    let read : settled_or c.loop-rest.number c.loop-rest.draft c.loop-rest.draft.schema ≡ setup_from 1 nothing_stated (lines_of c.args.bytes.now) = sym (line_none c.loop-rest.number c.loop-rest.draft c.loop-rest.rest.now (empty_is c.loop-rest.rest.now none)) ∙ c.loop-rest.invariant.read in
+    let read : settled_or c.loop-rest.number c.loop-rest.draft c.loop-rest.draft.schema ≡ setup_from 1 nothing_stated (lines_of c.args.bytes.now) =
+    sym (line_none c.loop-rest.number c.loop-rest.draft c.loop-rest.rest.now (empty_is c.loop-rest.rest.now none)) ∙ c.loop-rest.invariant.read in
     subst (Answers c.settle.result) read c.settle.ensures

@@ -4,4 +4,5 @@ use Rattle.cf_setup.proofs.FormLaws.{stated_before}
 use Rattle.cf_setup.proofs.take.take_statement.Goals as goal
 
 pub add-requires-clause-stated : goal.add-requires-clause-stated
-add-requires-clause-stated c = stated_before c.args.draft c.args.statement c.args.text.now (form_value c.in-Some.form) (sym c.in-Some.ensures.form) c.requires.place
+add-requires-clause-stated c =
+    stated_before c.args.draft c.args.statement c.args.text.now (form_value c.in-Some.form) (sym c.in-Some.ensures.form) c.requires.place

@@ -17,4 +17,5 @@ pub returns-clause-count : goal.returns-clause-count
 returns-clause-count c = omega (arith, c.loop-lane.invariant, count_end c.args.lanes.now c.loop-lane.lane-index c.loop-lane-test.false)
 
 pub returns-clause-few : goal.returns-clause-few
-returns-clause-few c = omega (arith, c.loop-lane.invariant, count_end c.args.lanes.now c.loop-lane.lane-index c.loop-lane-test.false, count_low c.args.lanes.now)
+returns-clause-few c =
+    omega (arith, c.loop-lane.invariant, count_end c.args.lanes.now c.loop-lane.lane-index c.loop-lane-test.false, count_low c.args.lanes.now)

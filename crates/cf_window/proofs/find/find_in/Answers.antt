@@ -12,7 +12,8 @@ join-requires c =
     let d = c.segment-item.result in
     let v = c.loop-segment.invariant in
     let low : i < length now = search rules in
-    let shape = subst (λ (ys : List SegmentValue). (get_or ys i d).shape ≡ c.args.shape.now) (sym v.same) (c.requires.shapes i d (subst (λ (ys : List SegmentValue). i < length ys) v.same low)) in
+    let shape = subst (λ (ys : List SegmentValue). (get_or ys i d).shape ≡ c.args.shape.now) (sym v.same)
+    (c.requires.shapes i d (subst (λ (ys : List SegmentValue). i < length ys) v.same low)) in
     let f = c.in_ok-tail.ensures.found in
     record { can = can c.args.shape.now c.args.ask.now xs now i d low v.same c.requires.few c.loop-segment.count c.loop-segment.found v.count v.found c.in_ok-tail.tail c.in_ok-tail.more shape f.0 f.1 v.low c.find.ensures.few }
 
@@ -24,7 +25,8 @@ overflow_add-count c =
     let d = c.segment-item.result in
     let v = c.loop-segment.invariant in
     let low : i < length now = search rules in
-    let shape = subst (λ (ys : List SegmentValue). (get_or ys i d).shape ≡ c.args.shape.now) (sym v.same) (c.requires.shapes i d (subst (λ (ys : List SegmentValue). i < length ys) v.same low)) in
+    let shape = subst (λ (ys : List SegmentValue). (get_or ys i d).shape ≡ c.args.shape.now) (sym v.same)
+    (c.requires.shapes i d (subst (λ (ys : List SegmentValue). i < length ys) v.same low)) in
     let f = c.in_ok-tail.ensures.found in
     let few = count_few c.args.shape.now c.args.ask.now xs now i d low v.same c.requires.few c.loop-segment.count c.loop-segment.found v.count v.found c.in_ok-tail.tail c.in_ok-tail.more shape f.0 f.1 v.low c.find.ensures.few in
     omega (arith, few)
@@ -37,7 +39,8 @@ loop-segment-preserved c =
     let d = c.segment-item.result in
     let v = c.loop-segment.invariant in
     let low : i < length now = search rules in
-    let shape = subst (λ (ys : List SegmentValue). (get_or ys i d).shape ≡ c.args.shape.now) (sym v.same) (c.requires.shapes i d (subst (λ (ys : List SegmentValue). i < length ys) v.same low)) in
+    let shape = subst (λ (ys : List SegmentValue). (get_or ys i d).shape ≡ c.args.shape.now) (sym v.same)
+    (c.requires.shapes i d (subst (λ (ys : List SegmentValue). i < length ys) v.same low)) in
     let f = c.in_ok-tail.ensures.found in
     record {
       same = ap (λ (x : SegmentValue). set now i x) c.in_ok-tail.ensures.stays ∙ (set-get_or now i d ∙ v.same);

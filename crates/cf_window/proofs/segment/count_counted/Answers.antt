@@ -12,4 +12,5 @@ returns-clause-seen g c = seen_still c.args.log.now c.args.pass.now c.tail.new.p
 
 pub returns-clause-count : goal.returns-clause-count
 returns-clause-count g c =
-    c.tail.ensures.tail ∙ ap (λ (es : List Entry). length es) (seen_still c.args.log.now c.args.pass.now c.tail.new.pass c.requires.segment.alone c.tail.ensures.asked)
+    c.tail.ensures.tail
+    ∙ ap (λ (es : List Entry). length es) (seen_still c.args.log.now c.args.pass.now c.tail.new.pass c.requires.segment.alone c.tail.ensures.asked)

@@ -17,9 +17,11 @@ returns-clause-seen g c =
 pub returns-clause-ok : goal.returns-clause-ok
 returns-clause-ok g c =
     let asked = asked_by c.args.log.now c.args.question.now c.args.pass.now c.finding.new.pass c.finding.result c.finding.ensures.ok c.finding.ensures.memory in
-    found_by c.args.log.now c.args.question.now c.args.pass.now c.finding.new.pass c.finding.result c.finding.ensures.ok (seen_still c.args.log.now c.args.pass.now c.finding.new.pass c.requires.segment.alone asked)
+    found_by c.args.log.now c.args.question.now c.args.pass.now c.finding.new.pass c.finding.result c.finding.ensures.ok
+    (seen_still c.args.log.now c.args.pass.now c.finding.new.pass c.requires.segment.alone asked)
 
 pub returns-clause-few : goal.returns-clause-few
 returns-clause-few g c =
     let asked = asked_by c.args.log.now c.args.question.now c.args.pass.now c.finding.new.pass c.finding.result c.finding.ensures.ok c.finding.ensures.memory in
-    subst (λ (es : List Entry). length es ≤ c.args.log.now.shape.capacity) (seen_still c.args.log.now c.args.pass.now c.finding.new.pass c.requires.segment.alone asked) asked.few
+    subst (λ (es : List Entry). length es ≤ c.args.log.now.shape.capacity)
+    (seen_still c.args.log.now c.args.pass.now c.finding.new.pass c.requires.segment.alone asked) asked.few

@@ -6,7 +6,8 @@ use Rattle.cf_window.proofs.Taken.{taken, taken_all, taken_answer, taken_rows}
 use Rattle.cf_window.proofs.segment.take_counted.Goals as goal
 
 pub settle-requires-clause-of : goal.settle-requires-clause-of
-settle-requires-clause-of g c = Rattle.cf_append.proofs.Answering.of_then c.args.log.now c.args.pass.now c.append-answer.new.pass c.requires.segment.alone.of c.append-answer.ensures.goes_on.same
+settle-requires-clause-of g c =
+    Rattle.cf_append.proofs.Answering.of_then c.args.log.now c.args.pass.now c.append-answer.new.pass c.requires.segment.alone.of c.append-answer.ensures.goes_on.same
 
 pub settle-requires-clause-place : goal.settle-requires-clause-place
 settle-requires-clause-place g c =
@@ -26,7 +27,8 @@ returns-clause-segment g c =
     let s = c.settle.ensures in
     let alone = c.requires.segment.alone in
     let now = alone_then log row m n o r alone a.goes_on a.rest a.answer s.goes_on s.books s.fit s.alone s.full in
-    let has = taken log row m n o c.shape-lawful.ensures.lawful c.requires.segment now s.books (s.paths alone.one now.rest) s.bounds r a.answer (covered log row m n o r alone a.goes_on s.goes_on a.answer now s.books) (used_for log.shape row m n o r a.answer s.books) in
+    let has = taken log row m n o c.shape-lawful.ensures.lawful c.requires.segment now s.books (s.paths alone.one now.rest) s.bounds r a.answer
+    (covered log row m n o r alone a.goes_on s.goes_on a.answer now s.books) (used_for log.shape row m n o r a.answer s.books) in
     subst (λ (b : Bool). IsSegment log o (not b)) (sym c.is_ok.ensures.value) (taken_all log row (m.view).seen o r now has)
 
 pub returns-clause-taken : goal.returns-clause-taken
@@ -41,7 +43,8 @@ returns-clause-taken g c =
     let s = c.settle.ensures in
     let alone = c.requires.segment.alone in
     let now = alone_then log row m n o r alone a.goes_on a.rest a.answer s.goes_on s.books s.fit s.alone s.full in
-    let has = taken log row m n o c.shape-lawful.ensures.lawful c.requires.segment now s.books (s.paths alone.one now.rest) s.bounds r a.answer (covered log row m n o r alone a.goes_on s.goes_on a.answer now s.books) (used_for log.shape row m n o r a.answer s.books) in
+    let has = taken log row m n o c.shape-lawful.ensures.lawful c.requires.segment now s.books (s.paths alone.one now.rest) s.bounds r a.answer
+    (covered log row m n o r alone a.goes_on s.goes_on a.answer now s.books) (used_for log.shape row m n o r a.answer s.books) in
     c.is_ok.ensures.value ∙ taken_answer log.shape row (m.view).seen o.view r has
 
 pub returns-clause-rows : goal.returns-clause-rows
@@ -56,5 +59,6 @@ returns-clause-rows g c =
     let s = c.settle.ensures in
     let alone = c.requires.segment.alone in
     let now = alone_then log row m n o r alone a.goes_on a.rest a.answer s.goes_on s.books s.fit s.alone s.full in
-    let has = taken log row m n o c.shape-lawful.ensures.lawful c.requires.segment now s.books (s.paths alone.one now.rest) s.bounds r a.answer (covered log row m n o r alone a.goes_on s.goes_on a.answer now s.books) (used_for log.shape row m n o r a.answer s.books) in
+    let has = taken log row m n o c.shape-lawful.ensures.lawful c.requires.segment now s.books (s.paths alone.one now.rest) s.bounds r a.answer
+    (covered log row m n o r alone a.goes_on s.goes_on a.answer now s.books) (used_for log.shape row m n o r a.answer s.books) in
     taken_rows log.shape row (m.view).seen o.view r has ∙ ap (λ (b : Bool). with_row (rows_in (m.view).seen) row b) (sym c.is_ok.ensures.value)

@@ -9,23 +9,33 @@ use Rattle.cf_pcap.proofs.reader.Pcap.feed.Goals as goal
 
 pub returns-in-Stopped-clause-fed : goal.returns-in-Stopped-clause-fed
 returns-in-Stopped-clause-fed c =
-    let is : c.args.self.now.stage ≡ Stopped c.in-Stopped.fault = subst (λ (r : PcapValue). r.stage ≡ Stopped c.in-Stopped.fault) c.self.view_is c.in-Stopped.is in
+    let is : c.args.self.now.stage ≡ Stopped c.in-Stopped.fault =
+    subst (λ (r : PcapValue). r.stage ≡ Stopped c.in-Stopped.fault) c.self.view_is c.in-Stopped.is in
     λ _. ([], sym (append-nil c.args.out.now.items), λ stream state. fed_stopped c.in-Stopped.fault c.args.self.now stream c.args.piece.now is state)
 
 pub returns-in-Stopped-clause-stopped : goal.returns-in-Stopped-clause-stopped
 returns-in-Stopped-clause-stopped c =
-    let is : c.args.self.now.stage ≡ Stopped c.in-Stopped.fault = subst (λ (r : PcapValue). r.stage ≡ Stopped c.in-Stopped.fault) c.self.view_is c.in-Stopped.is in
+    let is : c.args.self.now.stage ≡ Stopped c.in-Stopped.fault =
+    subst (λ (r : PcapValue). r.stage ≡ Stopped c.in-Stopped.fault) c.self.view_is c.in-Stopped.is in
     answers_stopped c.in-Stopped.fault c.args.self.now is
 
 pub returns-in_err-given-clause-stopped : goal.returns-in_err-given-clause-stopped
 returns-in_err-given-clause-stopped c =
-    let is : c.args.self.now.stage ≡ Running = subst (λ (r : PcapValue). r.stage ≡ Running) c.self.view_is (running_of c.self.inside.stage c.in_default.not-Stopped) in
+    let is : c.args.self.now.stage ≡ Running =
+    subst (λ (r : PcapValue). r.stage ≡ Running) c.self.view_is (running_of c.self.inside.stage c.in_default.not-Stopped) in
     λ stream fault state found. absurd (not_found c.args.self.now stream fault is state found)
 
 pub invariant_of-self-2 : goal.invariant_of-self-2
 invariant_of-self-2 c =
     let inside = c.self.inside in
-    let reader : PcapValue = record { links = inside.links; stage = inside.stage; total = inside.total; state = record { header = inside.header; count = inside.count }; held = inside.held.items } in
+    let reader : PcapValue =
+    record {
+      links = inside.links;
+      stage = inside.stage;
+      total = inside.total;
+      state = record { header = inside.header; count = inside.count };
+      held = inside.held.items;
+    } in
     let given = c.in_ok-given.ensures.given in
     let sound : IsSoundAt Running reader = subst (λ (s : Stage). IsSoundAt s reader) (running_of inside.stage c.in_default.not-Stopped) c.self.invariant in
     sound_call reader c.args.piece.now c.front-taken.result.now c.late_of-late.result given.0 _ c.take_in.new.held.items c.in_ok-given.given.stage sound c.front-taken.ensures c.late_of-late.ensures given.3
@@ -33,7 +43,14 @@ invariant_of-self-2 c =
 pub returns-clause-fed : goal.returns-clause-fed
 returns-clause-fed c =
     let inside = c.self.inside in
-    let reader : PcapValue = record { links = inside.links; stage = inside.stage; total = inside.total; state = record { header = inside.header; count = inside.count }; held = inside.held.items } in
+    let reader : PcapValue =
+    record {
+      links = inside.links;
+      stage = inside.stage;
+      total = inside.total;
+      state = record { header = inside.header; count = inside.count };
+      held = inside.held.items;
+    } in
     let given = c.in_ok-given.ensures.given in
     let t = state_of c.in_ok-given.given.header c.in_ok-given.given.count in
     let stage = c.in_ok-given.given.stage in
@@ -45,24 +62,34 @@ returns-clause-fed c =
       given.0,
       given.1,
       λ stream state.
-          let run : IsRunning reader stream = subst (λ (s : Stage). IsAt s reader stream) is (subst (λ (r : PcapValue). IsStateOf r stream) (sym c.self.view_is) state) in
+          let run : IsRunning reader stream =
+          subst (λ (s : Stage). IsAt s reader stream) is (subst (λ (r : PcapValue). IsStateOf r stream) (sym c.self.view_is) state) in
           subst (λ (answer : Result (Unit {0}) PcapFault). IsFed stream c.args.piece.now given.0 answer after) (sym c.answer_of.ensures)
           (fed_call reader stream c.args.piece.now taken c.late_of-late.result given.0 t c.take_in.new.held.items stage run sound.0 c.front-taken.ensures c.late_of-late.ensures given.3),
     )
 
 pub returns-clause-stopped : goal.returns-clause-stopped
 returns-clause-stopped c =
-    let is : c.args.self.now.stage ≡ Running = subst (λ (r : PcapValue). r.stage ≡ Running) c.self.view_is (running_of c.self.inside.stage c.in_default.not-Stopped) in
+    let is : c.args.self.now.stage ≡ Running =
+    subst (λ (r : PcapValue). r.stage ≡ Running) c.self.view_is (running_of c.self.inside.stage c.in_default.not-Stopped) in
     λ stream fault state found. absurd (not_found c.args.self.now stream fault is state found)
 
 pub returns-clause-memory : goal.returns-clause-memory
 returns-clause-memory c = λ memory.
     let inside = c.self.inside in
-    let reader : PcapValue = record { links = inside.links; stage = inside.stage; total = inside.total; state = record { header = inside.header; count = inside.count }; held = inside.held.items } in
+    let reader : PcapValue =
+    record {
+      links = inside.links;
+      stage = inside.stage;
+      total = inside.total;
+      state = record { header = inside.header; count = inside.count };
+      held = inside.held.items;
+    } in
     let given = c.in_ok-given.ensures.given in
     let t = state_of c.in_ok-given.given.header c.in_ok-given.given.count in
     let stage = c.in_ok-given.given.stage in
     let taken = c.front-taken.result.now in
     let sound : IsSoundAt Running reader = subst (λ (s : Stage). IsSoundAt s reader) (running_of inside.stage c.in_default.not-Stopped) c.self.invariant in
-    let later : IsSound (Later inside.links stage (inside.total + length taken) t c.take_in.new.held.items) = sound_call reader c.args.piece.now taken c.late_of-late.result given.0 t c.take_in.new.held.items stage sound c.front-taken.ensures c.late_of-late.ensures given.3 in
+    let later : IsSound (Later inside.links stage (inside.total + length taken) t c.take_in.new.held.items) =
+    sound_call reader c.args.piece.now taken c.late_of-late.result given.0 t c.take_in.new.held.items stage sound c.front-taken.ensures c.late_of-late.ensures given.3 in
     absurd (no_memory (Later inside.links stage (inside.total + length taken) t c.take_in.new.held.items) later (sym c.answer_of.ensures ∙ memory))

@@ -6,25 +6,30 @@ use Rattle.cf_pcapng.proofs.reader.PcapNg.feed.Goals as goal
 
 pub returns-in-Stopped-clause-fed : goal.returns-in-Stopped-clause-fed
 returns-in-Stopped-clause-fed c =
-    let is : c.args.self.now.stage ≡ Stopped c.in-Stopped.fault = subst (λ (r : PcapNgValue). r.stage ≡ Stopped c.in-Stopped.fault) c.self.view_is c.in-Stopped.is in
+    let is : c.args.self.now.stage ≡ Stopped c.in-Stopped.fault =
+    subst (λ (r : PcapNgValue). r.stage ≡ Stopped c.in-Stopped.fault) c.self.view_is c.in-Stopped.is in
     λ _. ([], sym (append-nil c.args.out.now.items), λ stream state. fed_stopped c.in-Stopped.fault c.args.self.now stream c.args.piece.now is state)
 
 pub returns-in-Stopped-clause-stopped : goal.returns-in-Stopped-clause-stopped
 returns-in-Stopped-clause-stopped c =
-    let is : c.args.self.now.stage ≡ Stopped c.in-Stopped.fault = subst (λ (r : PcapNgValue). r.stage ≡ Stopped c.in-Stopped.fault) c.self.view_is c.in-Stopped.is in
+    let is : c.args.self.now.stage ≡ Stopped c.in-Stopped.fault =
+    subst (λ (r : PcapNgValue). r.stage ≡ Stopped c.in-Stopped.fault) c.self.view_is c.in-Stopped.is in
     answers_stopped c.in-Stopped.fault c.args.self.now is
 
 pub returns-in_err-stage-clause-stopped : goal.returns-in_err-stage-clause-stopped
 returns-in_err-stage-clause-stopped c =
-    let is : c.args.self.now.stage ≡ Running = subst (λ (r : PcapNgValue). r.stage ≡ Running) c.self.view_is (running_of c.self.inside.stage c.in_default.not-Stopped) in
+    let is : c.args.self.now.stage ≡ Running =
+    subst (λ (r : PcapNgValue). r.stage ≡ Running) c.self.view_is (running_of c.self.inside.stage c.in_default.not-Stopped) in
     λ stream fault state found. absurd (not_found c.args.self.now stream fault is state found)
 
 pub returns-in_err-take_over-clause-stopped : goal.returns-in_err-take_over-clause-stopped
 returns-in_err-take_over-clause-stopped c =
-    let is : c.args.self.now.stage ≡ Running = subst (λ (r : PcapNgValue). r.stage ≡ Running) c.self.view_is (running_of c.self.inside.stage c.in_default.not-Stopped) in
+    let is : c.args.self.now.stage ≡ Running =
+    subst (λ (r : PcapNgValue). r.stage ≡ Running) c.self.view_is (running_of c.self.inside.stage c.in_default.not-Stopped) in
     λ stream fault state found. absurd (not_found c.args.self.now stream fault is state found)
 
 pub returns-clause-stopped : goal.returns-clause-stopped
 returns-clause-stopped c =
-    let is : c.args.self.now.stage ≡ Running = subst (λ (r : PcapNgValue). r.stage ≡ Running) c.self.view_is (running_of c.self.inside.stage c.in_default.not-Stopped) in
+    let is : c.args.self.now.stage ≡ Running =
+    subst (λ (r : PcapNgValue). r.stage ≡ Running) c.self.view_is (running_of c.self.inside.stage c.in_default.not-Stopped) in
     λ stream fault state found. absurd (not_found c.args.self.now stream fault is state found)

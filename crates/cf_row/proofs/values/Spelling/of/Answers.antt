@@ -22,19 +22,28 @@ loop-place-preserved c =
     let one : is_of_kind (kind_of c.in-Some.len) v ≡ true = search (rules, c.in-Some.ensures) in record {
       long = length-set c.loop-place.lens i c.in-Some.len ∙ c.loop-place.invariant.long;
       room = omega (arith, c.put_value-at.auto.out, c.loop-place.invariant.room);
-      fit = fit_more c.loop-place.lens vs i c.in-Some.len lt (omega (arith, lt, c.if-values-gt-FEW.false, c.loop-place.invariant.long)) one c.loop-place.invariant.fit;
-      end = omega (arith, ap (length {A = ℕ}) m, length-append (values_words (take i vs)) (value_words v), c.loop-place.invariant.end, c.put_value-at.ensures.end);
+      fit = fit_more c.loop-place.lens vs i c.in-Some.len lt
+          (omega (arith, lt, c.if-values-gt-FEW.false, c.loop-place.invariant.long)) one c.loop-place.invariant.fit;
+      end = omega (
+        arith,
+        ap (length {A = ℕ}) m,
+        length-append (values_words (take i vs)) (value_words v),
+        c.loop-place.invariant.end,
+        c.put_value-at.ensures.end,
+      );
       spelled = c.put_value-at.ensures.words ∙ (ap (λ (ws : List ℕ). ws ++ value_words v) c.loop-place.invariant.spelled ∙ sym m);
     }
 
 -- all values came
-kept : (vs : List Value) (lens words : List ℕ) (i at : ℕ) → i ≤ length vs → length vs ≤ i → length vs ≤ 20 → length lens ≡ 24 → values_fit (attrs_of (take i lens)) (take i vs) ≡ true → take at words ≡ values_words (take i vs)
+kept : (vs : List Value) (lens words : List ℕ) (i at : ℕ) → i ≤ length vs → length vs ≤ i → length vs ≤ 20 → length lens ≡ 24
+    → values_fit (attrs_of (take i lens)) (take i vs) ≡ true → take at words ≡ values_words (take i vs)
     → AreKept (take (length vs) lens) (take at words) × (values_kept (take (length vs) lens) (take at words) ≡ vs)
 kept vs lens words i at le ge few long fit spells =
     let end : i ≡ length vs = omega (arith, le, ge) in
     let all : take i vs ≡ vs = take_all i vs ge in
     let short : length (take (length vs) lens) ≤ 24 = omega (arith, few, length-take-le (length vs) lens (omega (arith, few, long))) in
-    packed_kept (take (length vs) lens) (take at words) vs short (spells ∙ ap values_words all) (ap₂ (λ (n : ℕ) (ys : List Value). values_fit (attrs_of (take n lens)) ys) (sym end) (sym all) ∙ fit)
+    packed_kept (take (length vs) lens) (take at words) vs short (spells ∙ ap values_words all)
+    (ap₂ (λ (n : ℕ) (ys : List Value). values_fit (attrs_of (take n lens)) ys) (sym end) (sym all) ∙ fit)
 
 pub invariant_of-result : goal.invariant_of-result
 invariant_of-result c =
@@ -48,4 +57,5 @@ returns-clause-same c =
 pub returns-then-at-kind_words-gt-FEW-clause-none : goal.returns-then-at-kind_words-gt-FEW-clause-none
 returns-then-at-kind_words-gt-FEW-clause-none c =
     let one : is_of_kind (kind_of c.in-Some.len) (get_or c.args.values.now c.loop-place.place (Num 0)) ≡ true = search (rules, c.in-Some.ensures) in
-    too_many_words c.args.values.now c.loop-place.place c.loop-place.at c.in-Some.len c.loop-place-test.true c.loop-place.invariant.end one (omega (arith, ap words_of_kind c.kind_of.ensures, c.kind_words.ensures, c.if-at-kind_words-gt-FEW.true))
+    too_many_words c.args.values.now c.loop-place.place c.loop-place.at c.in-Some.len c.loop-place-test.true c.loop-place.invariant.end one
+    (omega (arith, ap words_of_kind c.kind_of.ensures, c.kind_words.ensures, c.if-at-kind_words-gt-FEW.true))

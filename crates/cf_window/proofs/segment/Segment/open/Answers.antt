@@ -22,7 +22,8 @@ invariant_of-result c =
     let view = ap (λ (h : PassValue). h.view) o.root in
     let one = ap (λ (s : ShapeValue). s.writers) o.shape ∙ c.requires.one in
     let many = opened_count c.in_ok-log.log c.in_ok-log.root c.deal.new.root items view c.in_ok-passes.ensures.dealt in
-    let at : slice_get items 0 ≡ Some pass = slice_get-get_or items 0 pass (omega (arith, many, one)) ∙ ap (λ (h : PassValue). Some h) (sym c.swap_remove-pass.ensures.value) in
+    let at : slice_get items 0 ≡ Some pass = slice_get-get_or items 0 pass (omega (arith, many, one))
+    ∙ ap (λ (h : PassValue). Some h) (sym c.swap_remove-pass.ensures.value) in
     let alone = opened c.in_ok-log.log c.in_ok-log.root c.deal.new.root pass items one view c.in_ok-passes.ensures.dealt at in
     empty_segment c.in_ok-log.log pass alone
     (opened_seen c.in_ok-log.log c.in_ok-log.root c.deal.new.root pass items view c.in_ok-passes.ensures.dealt at)
@@ -36,6 +37,7 @@ returns c =
     let view = ap (λ (h : PassValue). h.view) o.root in
     let one = ap (λ (s : ShapeValue). s.writers) o.shape ∙ c.requires.one in
     let many = opened_count c.in_ok-log.log c.in_ok-log.root c.deal.new.root items view c.in_ok-passes.ensures.dealt in
-    let at : slice_get items 0 ≡ Some pass = slice_get-get_or items 0 pass (omega (arith, many, one)) ∙ ap (λ (h : PassValue). Some h) (sym c.swap_remove-pass.ensures.value) in
+    let at : slice_get items 0 ≡ Some pass = slice_get-get_or items 0 pass (omega (arith, many, one))
+    ∙ ap (λ (h : PassValue). Some h) (sym c.swap_remove-pass.ensures.value) in
     empty_value (c.in_ok-log.log).shape c.args.shape (pass.view).seen o.shape
     (opened_seen c.in_ok-log.log c.in_ok-log.root c.deal.new.root pass items view c.in_ok-passes.ensures.dealt at)

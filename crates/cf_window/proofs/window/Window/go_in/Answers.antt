@@ -12,8 +12,12 @@ invariant_of-self c =
     let room = v.1 in
     let same = e.room in
     let more = count_in inside.shape inside.segments.items ys c.args.row.now c.take_last.result c.if-take_last.true (e.taken inside.shape v.0.shapes) e.rows in
-    let count = v.3 in
-    (window_taken inside.shape inside.most inside.segments.items ys v.0 e.shapes e.long, omega (arith, room, same), λ is. e.open c.if-take_last.true, omega (arith, more, count))
+    let count = v.3 in (
+      window_taken inside.shape inside.most inside.segments.items ys v.0 e.shapes e.long,
+      omega (arith, room, same),
+      λ is. e.open c.if-take_last.true,
+      omega (arith, more, count),
+    )
 
 pub invariant_of-self-else-take_last : goal.invariant_of-self-else-take_last
 invariant_of-self-else-take_last c =
@@ -24,5 +28,9 @@ invariant_of-self-else-take_last c =
     let room = v.1 in
     let same = e.room in
     let still = count_out inside.segments.items ys c.args.row.now c.take_last.result c.if-take_last.false e.rows in
-    let count = v.3 in
-    (window_taken inside.shape inside.most inside.segments.items ys v.0 e.shapes e.long, omega (arith, room, same), λ is. absurd (cc is), omega (arith, still, count))
+    let count = v.3 in (
+      window_taken inside.shape inside.most inside.segments.items ys v.0 e.shapes e.long,
+      omega (arith, room, same),
+      λ is. absurd (cc is),
+      omega (arith, still, count),
+    )

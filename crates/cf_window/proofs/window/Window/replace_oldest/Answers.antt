@@ -6,4 +6,7 @@ use Rattle.cf_window.proofs.window.Window.replace_oldest.Goals as goal
 pub drop_oldest-requires : goal.drop_oldest-requires
 drop_oldest-requires c =
     let old = c.args.self.now in
-    record { some = some_to_drop old.shape old.most old.segments c.args.row.now (subst (λ (w : WindowValue). 0 < w.most) c.self.view_is c.self.invariant.0.some) c.requires.needed }
+    record {
+      some = some_to_drop old.shape old.most old.segments c.args.row.now
+          (subst (λ (w : WindowValue). 0 < w.most) c.self.view_is c.self.invariant.0.some) c.requires.needed;
+    }
