@@ -1,10 +1,12 @@
 -- Each file is in one case.
-use Rattle.std.proofs.Common.{◌≡◌, ◌⊎◌, inl, inr, ℕ, ◌<◌, ◌≤◌, ◌+◌, ◌^◌, Bool, true, false, List, [], ◌++◌, length, refl, sym, ap, subst, ◌∙◌, arith, length-append}
-use Rattle.std.proofs.lemmas.Bool.{cases_lt, cases_eq}
+use Rattle.std.proofs.Common.{◌≡◌, ◌⊎◌, inl, inr, ℕ, ◌<◌, ◌+◌, Bool, true, false, List, [], ◌++◌, length, refl, sym, ap, subst, ◌∙◌, arith, length-append}
+use Rattle.std.proofs.lemmas.Bool.{cases_eq}
 use Rattle.std.proofs.lemmas.List.{nil_from_length}
+use Rattle.cf_stream.specs.Limits.{IsShort, IsLong}
 use Rattle.cf_stream.specs.Format.{Wants, Format, ReadsTo, IsWhole, Shows, seen, IsCut, IsFound, HasFault, OneCase}
 use Rattle.cf_stream.specs.Stream.{IsStepper}
 use Rattle.cf_stream.proofs.Units.{NoUnit, reads_more, one_read, wants_none, bad_none, bad_same, wants_bad, End, More, Fault, end_of}
+use Rattle.cf_stream.proofs.Limits.{short_or_long, not_both, long_more}
 use Rattle.cf_stream.proofs.Seen.{seen_short, seen_full, seen_more}
 
 -- a fault that was found stays, whatever comes
@@ -17,22 +19,22 @@ shows_more f is bytes more fault h = record {
   bad = is.bad_stays h.last h.rest more fault h.bad;
 }
 
-pub seen_shows : {S I F : Type 0} (f : Format S I F) (is : IsStepper f) (file more : List ℕ) (fault : F) → Shows f (seen file) fault
-    → Shows f (seen (file ++ more)) fault
+pub seen_shows : {S I F : Type 0} (f : Format S I F) (is : IsStepper f) (file more : List ℕ) (fault : F) → Shows f (seen f.length file) fault
+    → Shows f (seen f.length (file ++ more)) fault
 seen_shows {S} {I} {F} f is file more fault h =
-    let after = seen_more file more in
-    subst (λ (xs : List ℕ). Shows f xs fault) (sym after.1) (shows_more f is (seen file) after.0 fault h)
+    let after = seen_more f.length file more in
+    subst (λ (xs : List ℕ). Shows f xs fault) (sym after.1) (shows_more f is (seen f.length file) after.0 fault h)
 
 pub found_more : {S I F : Type 0} (f : Format S I F) (is : IsStepper f) (file more : List ℕ) (fault : F) → IsFound f file fault → IsFound f (file ++ more) fault
 found_more f is file more fault (inl h) = inl (seen_shows f is file more fault h)
 found_more f is file more fault (inr h) =
-    let size : 2 ^ 32 ≤ length file = h.1.size in
+    let size : IsLong f.length (length file) = h.1.size in
     let len : length (file ++ more) ≡ length file + length more = length-append file more in
     inr (
       h.0,
       record {
-        size = omega (arith, size, len);
-        first = λ other shows. h.1.first other (subst (λ (xs : List ℕ). Shows f xs other) (seen_full file more size) shows);
+        size = long_more f.length (length file) (length (file ++ more)) (omega (arith, len)) size;
+        first = λ other shows. h.1.first other (subst (λ (xs : List ℕ). Shows f xs other) (seen_full f.length file more size) shows);
       },
     )
 
@@ -54,14 +56,15 @@ none_shown {S} {I} {F} f bytes items t rest read wants fault h =
     let left : rest ≡ h.rest = same.left in
     wants_bad {S = S} {I = I} fault (sym wants ∙ ap (λ (x : S). f.step x rest) state ∙ ap (λ xs. f.step h.last xs) left ∙ h.bad)
 
-short_shown : {S I F : Type 0} (f : Format S I F) (file : List ℕ) (fault : F) → length file < 2 ^ 32 → Shows f (seen file) fault → Shows f file fault
-short_shown f file fault size h = subst (λ (xs : List ℕ). Shows f xs fault) (seen_short file (omega (arith, size))) h
+short_shown : {S I F : Type 0} (f : Format S I F) (file : List ℕ) (fault : F) → IsShort f.length (length file) → Shows f (seen f.length file) fault
+    → Shows f file fault
+short_shown f file fault size h = subst (λ (xs : List ℕ). Shows f xs fault) (seen_short f.length file size) h
 
 -- a file that was read up to the begin of a unit has none that is found by its place
-pub none_found : {S I F : Type 0} (f : Format S I F) (file : List ℕ) (items : List I) (t : S) (rest : List ℕ) → length file < 2 ^ 32
+pub none_found : {S I F : Type 0} (f : Format S I F) (file : List ℕ) (items : List I) (t : S) (rest : List ℕ) → IsShort f.length (length file)
     → ReadsTo f f.start file items t rest → f.step t rest ≡ Wants → (fault : F) → IsFound f file fault → ⊥
 none_found f file items t rest size read wants fault (inl h) = none_shown f file items t rest read wants fault (short_shown f file fault size h)
-none_found f file items t rest size read wants fault (inr h) = let large : 2 ^ 32 ≤ length file = h.1.size in omega (arith, size, large)
+none_found f file items t rest size read wants fault (inr h) = not_both f.length (length file) size h.1.size
 
 whole_wants : {S I F : Type 0} (f : Format S I F) (is : IsStepper f) (file : List ℕ) (items : List I) (whole : IsWhole f file items) → NoUnit f whole.last []
 whole_wants f is file items whole = wants_none f whole.last [] (is.nothing whole.last)
@@ -100,7 +103,7 @@ one_cut f file a b p q =
     (one_read f f.start file p.items q.items a p.rest b q.rest p.read q.read (wants_none f a p.rest p.part) (wants_none f b q.rest q.part)).state
 
 pub one_found : {S I F : Type 0} (f : Format S I F) (file : List ℕ) (a b : F) → IsFound f file a → IsFound f file b → a ≡ b
-one_found f file a b (inl p) (inl q) = one_shown f (seen file) a b p q
+one_found f file a b (inl p) (inl q) = one_shown f (seen f.length file) a b p q
 one_found f file a b (inl p) (inr q) = absurd (q.1.first a p)
 one_found f file a b (inr p) (inl q) = absurd (p.1.first b q)
 one_found f file a b (inr p) (inr q) = p.0 ∙ sym q.0
@@ -115,22 +118,23 @@ bool_cases : (b : Bool) → (b ≡ true) ⊎ (b ≡ false)
 bool_cases true = inl refl
 bool_cases false = inr refl
 
-pub whole_of : {S I F : Type 0} (f : Format S I F) (file : List ℕ) (items : List I) (t : S) (rest : List ℕ) → length file < 2 ^ 32
+pub whole_of : {S I F : Type 0} (f : Format S I F) (file : List ℕ) (items : List I) (t : S) (rest : List ℕ) → IsShort f.length (length file)
     → ReadsTo f f.start file items t rest → rest ≡ [] → f.may_end t ≡ true → IsWhole f file items
 whole_of f file items t rest size read end ends =
     record { size = size; last = t; read = subst (λ (xs : List ℕ). ReadsTo f f.start file items t xs) end read; ends = ends }
 
-pub cut_of : {S I F : Type 0} (f : Format S I F) (file : List ℕ) (items : List I) (t : S) (rest : List ℕ) → length file < 2 ^ 32
+pub cut_of : {S I F : Type 0} (f : Format S I F) (file : List ℕ) (items : List I) (t : S) (rest : List ℕ) → IsShort f.length (length file)
     → ReadsTo f f.start file items t rest → f.step t rest ≡ Wants → (0 < length rest) ⊎ (f.may_end t ≡ false) → IsCut f file t
 cut_of f file items t rest size read wants left = record { size = size; items = items; rest = rest; read = read; part = wants; left = left }
 
-short_case : {S I F : Type 0} (f : Format S I F) (file : List ℕ) → length file < 2 ^ 32 → End f f.start file → ((items : List I) × IsWhole f file items)
+short_case : {S I F : Type 0} (f : Format S I F) (file : List ℕ) → IsShort f.length (length file) → End f f.start file
+    → ((items : List I) × IsWhole f file items)
     ⊎ ((fault : F) × HasFault f file fault)
 short_case f file size (Fault items t rest fault read bad) =
     inr (
       fault,
       inl
-          (inl (subst (λ (xs : List ℕ). Shows f xs fault) (sym (seen_short file (omega (arith, size))))
+          (inl (subst (λ (xs : List ℕ). Shows f xs fault) (sym (seen_short f.length file size))
           (record { items = items; last = t; rest = rest; read = read; bad = bad }))),
     )
 short_case f file size (More items t rest read wants) = elim (cases_eq (length rest) 0) [
@@ -141,17 +145,17 @@ short_case f file size (More items t rest read wants) = elim (cases_eq (length r
   | inr left ↦ inr (f.cut t, inr (t, refl, cut_of f file items t rest size read wants (inl (omega (arith, left)))))
 ]
 
-large_case : {S I F : Type 0} (f : Format S I F) (file : List ℕ) → 2 ^ 32 ≤ length file → End f f.start (seen file)
+large_case : {S I F : Type 0} (f : Format S I F) (file : List ℕ) → IsLong f.length (length file) → End f f.start (seen f.length file)
     → ((items : List I) × IsWhole f file items) ⊎ ((fault : F) × HasFault f file fault)
 large_case f file size (Fault items t rest fault read bad) = inr (fault, inl (inl (record { items = items; last = t; rest = rest; read = read; bad = bad })))
 large_case f file size (More items t rest read wants) =
-    inr (f.too_many, inl (inr (refl, record { size = size; first = none_shown f (seen file) items t rest read wants })))
+    inr (f.too_many, inl (inr (refl, record { size = size; first = none_shown f (seen f.length file) items t rest read wants })))
 
 some_case : {S I F : Type 0} (f : Format S I F) (is : IsStepper f) (file : List ℕ) → ((items : List I) × IsWhole f file items)
     ⊎ ((fault : F) × HasFault f file fault)
-some_case f is file = elim (cases_lt (length file) (2 ^ 32)) [
+some_case f is file = elim (short_or_long f.length (length file)) [
   | inl size ↦ short_case f file size (end_of f is f.start file)
-  | inr size ↦ large_case f file size (end_of f is f.start (seen file))
+  | inr size ↦ large_case f file size (end_of f is f.start (seen f.length file))
 ]
 
 -- each file is in one case

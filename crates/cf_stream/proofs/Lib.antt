@@ -1,3 +1,4 @@
+pub mod Limits
 pub mod Units
 pub mod Seen
 pub mod Cases

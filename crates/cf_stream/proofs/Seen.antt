@@ -1,58 +1,65 @@
 -- The bytes of a stream that count.
-use Rattle.std.proofs.Common.{◌≡◌, ◌⊎◌, inl, inr, ℕ, ◌<◌, ◌≤◌, ◌+◌, ◌-◌, ◌^◌, List, [], ◌∷◌, ◌++◌, length, take, min, sym, ap, ◌∙◌, arith, append_assoc, append-nil, length-append, length-take}
+use Rattle.std.proofs.Common.{◌≡◌, ◌⊎◌, inl, inr, ℕ, ◌+◌, ◌-◌, ◌^◌, List, [], ◌∷◌, ◌++◌, length, take, refl, sym, ap, subst, ◌∙◌, arith, append_assoc, append-nil, length-append}
 use Rattle.std.proofs.lemmas.List.{take_all, take-append-le}
-use Rattle.std.proofs.lemmas.Bool.{cases_lt}
-use Rattle.std.proofs.Math.Seq.{take-append-add}
 use Rattle.cf_lemmas.proofs.Lists.{take_past}
+use Rattle.cf_stream.specs.declared.limit.Length.{Length}
+use Rattle.cf_stream.specs.declared.limit.Length.TheVariants.{Limited, Any}
+use Rattle.cf_stream.specs.Limits.{IsShort, IsLong, IsAtLimit}
 use Rattle.cf_stream.specs.Format.{seen}
 use Rattle.cf_stream.specs.Stream.{early}
+use Rattle.cf_stream.proofs.Limits.{short_or_long, limit_long}
 
-pub seen_short : (file : List ℕ) → length file ≤ 2 ^ 32 → seen file ≡ file
+pub seen_short : (l : Length) (file : List ℕ) → IsShort l (length file) → seen l file ≡ file
 unfolding seen
-seen_short file h = take_all (2 ^ 32) file h
+seen_short Limited file h = take_all (2 ^ 32) file (omega (arith, h))
+seen_short Any file h = refl
 
-pub early_short : (file : List ℕ) → length file < 2 ^ 32 → early file ≡ file
+pub early_short : (l : Length) (file : List ℕ) → IsShort l (length file) → early l file ≡ file
 unfolding early
-early_short file h = take_all (2 ^ 32 - 1) file (omega (arith, h))
+early_short Limited file h = take_all (2 ^ 32 - 1) file (omega (arith, h))
+early_short Any file h = refl
 
-pub seen_full : (file more : List ℕ) → 2 ^ 32 ≤ length file → seen (file ++ more) ≡ seen file
+pub seen_full : (l : Length) (file more : List ℕ) → IsLong l (length file) → seen l (file ++ more) ≡ seen l file
 unfolding seen
-seen_full file more h = take-append-le (2 ^ 32) file more h
+seen_full Limited file more h = take-append-le (2 ^ 32) file more h
+seen_full Any file more h = absurd h
 
-pub early_full : (file more : List ℕ) → 2 ^ 32 ≤ length file + 1 → early (file ++ more) ≡ early file
+pub early_full : (l : Length) (file more : List ℕ) → IsLong l (length file + 1) → early l (file ++ more) ≡ early l file
 unfolding early
-early_full file more h = take-append-le (2 ^ 32 - 1) file more (omega (arith, h))
+early_full Limited file more h = take-append-le (2 ^ 32 - 1) file more (omega (arith, h))
+early_full Any file more h = absurd h
 
-pub length_early : (file : List ℕ) → length (early file) ≡ min (2 ^ 32 - 1) (length file)
+pub early_more : (l : Length) (file more : List ℕ) → IsShort l (length file) → (after : List ℕ) × (early l (file ++ more) ≡ file ++ after)
 unfolding early
-length_early file = length-take (2 ^ 32 - 1) file
+early_more Limited file more h = (take (2 ^ 32 - 1 - length file) more, take_past (2 ^ 32 - 1) file more (omega (arith, h)))
+early_more Any file more h = (more, refl)
 
-pub seen_cut : (file piece : List ℕ) → length file ≤ 2 ^ 32 → seen (file ++ piece) ≡ file ++ take (2 ^ 32 - length file) piece
+short_more : (l : Length) (file more : List ℕ) → IsShort l (length file) → (after : List ℕ) × (seen l (file ++ more) ≡ file ++ after)
 unfolding seen
-seen_cut file piece h = take_past (2 ^ 32) file piece h
+short_more Limited file more h = (take (2 ^ 32 - length file) more, take_past (2 ^ 32) file more (omega (arith, h)))
+short_more Any file more h = (more, refl)
 
-pub early_cut : (file piece : List ℕ) → length file < 2 ^ 32 → early (file ++ piece) ≡ file ++ take (2 ^ 32 - 1 - length file) piece
-unfolding early
-early_cut file piece h = take_past (2 ^ 32 - 1) file piece (omega (arith, h))
-
-pub seen_more : (file more : List ℕ) → (after : List ℕ) × (seen (file ++ more) ≡ seen file ++ after)
-seen_more file more = elim (cases_lt (length file) (2 ^ 32)) [
-  | inl short ↦ (
-    take (2 ^ 32 - length file) more,
-    seen_cut file more (omega (arith, short))
-        ∙ ap (λ xs. xs ++ take (2 ^ 32 - length file) more) (sym (seen_short file (omega (arith, short)))),
-  )
-  | inr full ↦ ([], seen_full file more full ∙ sym (append-nil (seen file)))
+pub seen_more : (l : Length) (file more : List ℕ) → (after : List ℕ) × (seen l (file ++ more) ≡ seen l file ++ after)
+seen_more l file more = elim (short_or_long l (length file)) [
+  | inl short ↦ let more_is = short_more l file more short in (more_is.0, more_is.1 ∙ ap (λ xs. xs ++ more_is.0) (sym (seen_short l file short)))
+  | inr full ↦ ([], seen_full l file more full ∙ sym (append-nil (seen l file)))
 ]
 
--- what the first 2^32 bytes of a file say of it, they say of the whole
-pub seen_of_front : (front rest : List ℕ) → (rest ≡ []) ⊎ (length front ≡ 2 ^ 32) → seen (front ++ rest) ≡ seen front
-seen_of_front front rest (inl none) = ap seen (ap (λ xs. front ++ xs) none ∙ append-nil front)
-seen_of_front front rest (inr full) = seen_full front rest (omega (arith, full))
+-- what the bytes of a file that count say of it, they say of the whole
+pub seen_of_front : (l : Length) (front rest : List ℕ) → (rest ≡ []) ⊎ IsLong l (length front) → seen l (front ++ rest) ≡ seen l front
+seen_of_front l front rest (inl none) = ap (seen l) (ap (λ xs. front ++ xs) none ∙ append-nil front)
+seen_of_front l front rest (inr full) = seen_full l front rest full
 
--- a byte that makes the stream 2^32 bytes long is the last that counts
-pub seen_last : (file more : List ℕ) (byte : ℕ) → length file + 1 ≡ 2 ^ 32 → seen (file ++ (byte ∷ more)) ≡ file ++ (byte ∷ [])
-seen_last file more byte h =
-    let whole : length (file ++ (byte ∷ [])) ≡ 2 ^ 32 = length-append file (byte ∷ []) ∙ h in
-    ap seen (sym (append_assoc file (byte ∷ []) more)) ∙ seen_full (file ++ (byte ∷ [])) more (omega (arith, whole))
-    ∙ seen_short (file ++ (byte ∷ [])) (omega (arith, whole))
+seen_limit : (l : Length) (file : List ℕ) → IsAtLimit l (length file) → seen l file ≡ file
+unfolding seen
+seen_limit Limited file h = take_all (2 ^ 32) file (omega (arith, h))
+seen_limit Any file h = absurd h
+
+-- a byte that makes the stream just too long is the last that counts
+pub seen_last : (l : Length) (file more : List ℕ) (byte : ℕ) → IsAtLimit l (length file + 1) → seen l (file ++ (byte ∷ more)) ≡ file ++ (byte ∷ [])
+seen_last l file more byte h =
+    let len : length (file ++ (byte ∷ [])) ≡ length file + 1 = length-append file (byte ∷ []) in
+    let whole : IsAtLimit l (length (file ++ (byte ∷ []))) = subst (λ n. IsAtLimit l n) (sym len) h in
+    ap (seen l) (sym (append_assoc file (byte ∷ []) more))
+    ∙ seen_full l (file ++ (byte ∷ [])) more (limit_long l (length (file ++ (byte ∷ []))) whole)
+    ∙ seen_limit l (file ++ (byte ∷ [])) whole

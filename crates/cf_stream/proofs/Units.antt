@@ -1,8 +1,10 @@
 -- Units one after another.
 use Rattle.std.proofs.Common.{◌≡◌, ℕ, ◌<◌, ◌≤◌, ◌+◌, ◌-◌, ◌*◌, zero, suc, List, [], ◌∷◌, ◌++◌, length, drop, refl, sym, ap, subst, ◌∙◌, arith, append_assoc, append-nil, length-append, length-drop}
 use Rattle.std.proofs.lemmas.List.{drop-append-le}
+use Rattle.cf_stream.specs.Limits.{count_on}
 use Rattle.cf_stream.specs.Format.{Found, Wants, Bad, Takes, Format, Part, items_of, AreUnitsThen, ReadsTo}
 use Rattle.cf_stream.specs.Stream.{IsStepper}
+use Rattle.cf_stream.proofs.Limits.{count_none, count_sum}
 
 -- more bytes come after the rest
 pub more_after : {S I F : Type 0} (f : Format S I F) (is : IsStepper f) (s : S) (parts : List (Part S I)) (bytes : List ℕ) (t : S) (rest more : List ℕ)
@@ -55,13 +57,13 @@ ended_few f is s (part ∷ parts) rest piece t end wants h =
     omega (arith, more, len, both, fits, late, one, many)
 
 pub counted : {S I F : Type 0} (f : Format S I F) (is : IsStepper f) (s : S) (parts : List (Part S I)) (bytes : List ℕ) (t : S) (rest : List ℕ)
-    → AreUnitsThen f s parts bytes t rest → f.count t ≡ f.count s + length (items_of parts)
-counted f is s [] bytes t rest h = let same : f.count s ≡ f.count t = ap f.count h.0 in omega (arith, same)
+    → AreUnitsThen f s parts bytes t rest → f.count t ≡ count_on f.length (f.count s) (length (items_of parts))
+counted f is s [] bytes t rest h = sym (ap f.count h.0) ∙ sym (count_none f.length (f.count s))
 counted f is s (part ∷ parts) bytes t rest h =
-    let more : f.count t ≡ f.count part.after + length (items_of parts) = counted f is part.after parts (drop part.size bytes) t rest h.1 in
-    let one : f.count part.after ≡ f.count s + length part.items = is.counts s bytes part.size part.items part.after h.0 in
-    let many : length (part.items ++ items_of parts) ≡ length part.items + length (items_of parts) = length-append part.items (items_of parts) in
-    omega (arith, more, one, many)
+    counted f is part.after parts (drop part.size bytes) t rest h.1
+    ∙ ap (λ k. count_on f.length k (length (items_of parts))) (is.counts s bytes part.size part.items part.after h.0)
+    ∙ count_sum f.length (f.count s) (length part.items) (length (items_of parts))
+    ∙ ap (λ n. count_on f.length (f.count s) n) (sym (length-append part.items (items_of parts)))
 
 -- no unit begins where a reading has ended
 abbrev pub NoUnit : {S I F : Type 0} → Format S I F → S → List ℕ → Type 0
@@ -142,8 +144,9 @@ reads_few f is s rest piece items t end wants h =
     omega (arith, few, same)
 
 pub reads_count : {S I F : Type 0} (f : Format S I F) (is : IsStepper f) (s : S) (bytes : List ℕ) (items : List I) (t : S) (rest : List ℕ)
-    → ReadsTo f s bytes items t rest → f.count t ≡ f.count s + length items
-reads_count f is s bytes items t rest h = counted f is s h.parts bytes t rest h.units ∙ ap (λ (xs : List _). f.count s + length xs) (sym h.items_are)
+    → ReadsTo f s bytes items t rest → f.count t ≡ count_on f.length (f.count s) (length items)
+reads_count f is s bytes items t rest h = counted f is s h.parts bytes t rest h.units
+    ∙ ap (λ (xs : List _). count_on f.length (f.count s) (length xs)) (sym h.items_are)
 
 pub one_read : {S I F : Type 0} (f : Format S I F) (s : S) (bytes : List ℕ) (a b : List I) (t : S) (rest : List ℕ) (u : S) (end : List ℕ)
     → ReadsTo f s bytes a t rest → ReadsTo f s bytes b u end → NoUnit f t rest → NoUnit f u end → Same a b t u rest end

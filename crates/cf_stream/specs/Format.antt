@@ -1,5 +1,8 @@
 -- Formats whose files are units end to end, as whole files.
-use Rattle.std.specs.Prelude.{◌≡◌, ◌⊎◌, ℕ, ◌^◌, ◌<◌, ◌≤◌, Bool, true, false, List, [], ◌∷◌, ◌++◌, length, take, drop}
+use Rattle.std.specs.Prelude.{◌≡◌, ◌⊎◌, ℕ, ◌^◌, ◌<◌, Bool, true, false, List, [], ◌∷◌, ◌++◌, length, take, drop}
+use Rattle.cf_stream.specs.declared.limit.Length.{Length}
+use Rattle.cf_stream.specs.declared.limit.Length.TheVariants.{Limited, Any}
+use Rattle.cf_stream.specs.Limits.{IsShort, IsLong}
 
 -- what the bytes at the front show: no whole unit yet, a fault, or a unit of so many bytes, with its items and the state
 -- after it
@@ -8,9 +11,10 @@ pub data Found (S I F : Type 0) : Type 0 where
   Bad : F → Found S I F
   Takes : ℕ → List I → S → Found S I F
 
--- a format: the state at a file's begin, what bytes show in a state, how many items came before a state, whether a file
--- may end there, and the faults of a file that ends elsewhere and of one that is too long
+-- a format: how long a file may be, the state at its begin, what bytes show in a state, the number of the next item in a state, whether a
+-- file may end there, and the faults of a file that ends elsewhere and of one that is too long
 pub record Format (S I F : Type 0) : Type 0 where
+  pub length : Length
   pub start : S
   pub step : S → List ℕ → Found S I F
   pub count : S → ℕ
@@ -42,9 +46,9 @@ pub record ReadsTo {S I F : Type 0} (f : Format S I F) (s : S) (bytes : List ℕ
   pub units : AreUnitsThen f s parts bytes t rest
   pub items_are : items ≡ items_of parts
 
--- a file below 2^32 bytes is units end to end, and nothing else
+-- a file that is no longer than it may be is units end to end, and nothing else
 pub record IsWhole {S I F : Type 0} (f : Format S I F) (file : List ℕ) (items : List I) : Type 0 where
-  pub size : length file < 2 ^ 32
+  pub size : IsShort f.length (length file)
   pub last : S
   pub read : ReadsTo f f.start file items last []
   pub ends : f.may_end last ≡ true
@@ -57,18 +61,19 @@ pub record Shows {S I F : Type 0} (f : Format S I F) (bytes : List ℕ) (fault :
   pub read : ReadsTo f f.start bytes items last rest
   pub bad : f.step last rest ≡ Bad fault
 
--- what counts of a file: its first 2^32 bytes
-unfoldable pub seen : List ℕ → List ℕ
-seen file = take (2 ^ 32) file
+-- what counts of a file: its first 2^32 bytes, or all where any number may come
+unfoldable pub seen : Length → List ℕ → List ℕ
+seen Limited file = take (2 ^ 32) file
+seen Any file = file
 
--- 2^32 bytes or more, and the first 2^32 show no fault
+-- too many bytes, 2^32 or more, and those that count show no fault
 pub record HasTooManyBytes {S I F : Type 0} (f : Format S I F) (file : List ℕ) : Type 0 where
-  pub size : 2 ^ 32 ≤ length file
-  pub first : (fault : F) → Shows f (seen file) fault → ⊥
+  pub size : IsLong f.length (length file)
+  pub first : (fault : F) → Shows f (seen f.length file) fault → ⊥
 
--- a file below 2^32 bytes ends after some units where none may end, or within a unit that shows no fault
+-- a file that is no longer than it may be ends after some units where none may end, or within a unit that shows no fault
 pub record IsCut {S I F : Type 0} (f : Format S I F) (file : List ℕ) (last : S) : Type 0 where
-  pub size : length file < 2 ^ 32
+  pub size : IsShort f.length (length file)
   pub items : List I
   pub rest : List ℕ
   pub read : ReadsTo f f.start file items last rest
@@ -77,7 +82,7 @@ pub record IsCut {S I F : Type 0} (f : Format S I F) (file : List ℕ) (last : S
 
 -- a fault that is found by its place, before the end is known
 abbrev pub IsFound : {S I F : Type 0} → Format S I F → List ℕ → F → Type 0
-IsFound f stream fault = Shows f (seen stream) fault ⊎ ((fault ≡ f.too_many) × HasTooManyBytes f stream)
+IsFound f stream fault = Shows f (seen f.length stream) fault ⊎ ((fault ≡ f.too_many) × HasTooManyBytes f stream)
 
 -- why a file is not of the format. Each file is of it or has one fault (`OneCase`).
 abbrev pub HasFault : {S I F : Type 0} → Format S I F → List ℕ → F → Type 0

@@ -1,5 +1,8 @@
 -- What a reader of a format gives and answers over a stream, however it is cut.
 use Rattle.std.specs.Prelude.{◌≡◌, ℕ, ◌+◌, ◌-◌, ◌^◌, ◌<◌, ◌≤◌, List, [], ◌++◌, length, take, Result, MatchResult, ◌*◌}
+use Rattle.cf_stream.specs.declared.limit.Length.{Length}
+use Rattle.cf_stream.specs.declared.limit.Length.TheVariants.{Limited, Any}
+use Rattle.cf_stream.specs.Limits.{IsShort, count_on, number_of}
 use Rattle.cf_stream.specs.Format.{Wants, Bad, Takes, Format, ReadsTo, IsWhole, IsFound, HasFault}
 
 -- What makes a format one that can be read as a stream: no bytes show nothing; what the bytes at the front show stays when more
@@ -16,22 +19,24 @@ pub record IsStepper {S I F : Type 0} (f : Format S I F) : Type 0 where
       → length bytes < n
   pub one : (s : S) (bytes : List ℕ) (n : ℕ) (items : List I) (t : S) → f.step s bytes ≡ Takes n items t → length items ≤ 1
   pub few : (s : S) (bytes : List ℕ) (n : ℕ) (items : List I) (t : S) → f.step s bytes ≡ Takes n items t → 16 * length items ≤ n
-  pub counts : (s : S) (bytes : List ℕ) (n : ℕ) (items : List I) (t : S) → f.step s bytes ≡ Takes n items t → f.count t ≡ f.count s + length items
+  pub counts : (s : S) (bytes : List ℕ) (n : ℕ) (items : List I) (t : S) → f.step s bytes ≡ Takes n items t
+      → f.count t ≡ count_on f.length (f.count s) (length items)
 
--- the bytes of a stream that come early enough for an item: the byte that makes it 2^32 bytes long comes with a fault
-unfoldable pub early : List ℕ → List ℕ
-early stream = take (2 ^ 32 - 1) stream
+-- the bytes of a stream that come early enough for an item: the byte that makes a limited one 2^32 bytes long comes with a fault
+unfoldable pub early : Length → List ℕ → List ℕ
+early Limited stream = take (2 ^ 32 - 1) stream
+early Any stream = stream
 
 -- the items whose last byte lies in the stream and before any fault
 pub record AreGiven {S I F : Type 0} (f : Format S I F) (stream : List ℕ) (items : List I) : Type 0 where
   pub last : S
   pub rest : List ℕ
-  pub read : ReadsTo f f.start (early stream) items last rest
+  pub read : ReadsTo f f.start (early f.length stream) items last rest
   pub none : (n : ℕ) (more : List I) (t : S) → f.step last rest ≡ Takes n more t → ⊥
 
 -- a reader that no fault has stopped: the units of the stream led to this state, and the rest is only the begin of one
 pub record Runs {S I F : Type 0} (f : Format S I F) (s : S) (rest stream : List ℕ) : Type 0 where
-  pub size : length stream < 2 ^ 32
+  pub size : IsShort f.length (length stream)
   pub items : List I
   pub read : ReadsTo f f.start stream items s rest
   pub part : f.step s rest ≡ Wants
@@ -50,7 +55,7 @@ pub record IsFed {S I F : Type 0} (f : Format S I F) (stream piece : List ℕ) (
 -- what the end of the stream answers: the number of a whole file's items, or the fault
 abbrev pub IsEnded : {S I F : Type 0} → Format S I F → List ℕ → Result ℕ F → Type 0
 IsEnded {S} {I} f stream answer =
-    MatchResult answer (λ count. (items : List I) × IsWhole f stream items × (count ≡ length items)) (HasFault f stream)
+    MatchResult answer (λ count. (items : List I) × IsWhole f stream items × (count ≡ number_of f.length (length items))) (HasFault f stream)
 
 -- a stream gives one list of items
 pub record OneGift {S I F : Type 0} (f : Format S I F) (stream : List ℕ) : Type 0 where

@@ -1,0 +1,32 @@
+// Counts by a table.
+use crate::Length;
+use std::test::Fail;
+
+#[test]
+fn counts_stop_at_the_largest_number(rt: HostRuntime) -> Result<(), Fail> {
+    let numbers = [
+        (Length::Any, 0, 1),
+        (Length::Any, 4_294_967_293, 4_294_967_294),
+        (Length::Any, 4_294_967_294, 4_294_967_295),
+        (Length::Any, 4_294_967_295, 4_294_967_295),
+        (Length::Limited, 0, 1),
+        (Length::Limited, 268_435_454, 268_435_455),
+    ];
+    for (length, number, after) in numbers {
+        assert_eq!(rt; length.number_after(number), after);
+    }
+    Ok(())
+}
+
+#[test]
+fn bytes_are_counted_where_they_are_limited(rt: HostRuntime) -> Result<(), Fail> {
+    let totals = [
+        (Length::Limited, 0, 4_294_967_296, 4_294_967_296),
+        (Length::Limited, 24, 35, 59),
+        (Length::Any, 0, 59, 0),
+    ];
+    for (length, total, more, after) in totals {
+        assert_eq!(rt; length.total_after(total, more), after);
+    }
+    Ok(())
+}
