@@ -4,6 +4,7 @@ use Rattle.std.proofs.lemmas.Bool.{cases_lt, cases_eq, true≢false}
 use Rattle.std.proofs.lemmas.Bool.Decides.{nat_tests}
 use Rattle.cf_lemmas.proofs.Truths.{lt_true, lt_false}
 use Rattle.cf_pcap.specs.declared.links.LinkSet.{LinkSet}
+use Rattle.cf_pcap.specs.declared.scope.Scope.{Scope}
 use Rattle.cf_pcap.specs.declared.form.Order.TheVariants.{Little, Big}
 use Rattle.cf_pcap.specs.declared.form.Layout.{Layout}
 use Rattle.cf_pcap.specs.declared.form.FileHeader.{FileHeader}
@@ -149,24 +150,24 @@ one_header_fault links bytes BadLink TooManyBytes p q = absurd q
 one_header_fault links bytes BadLink Memory p q = absurd q
 
 -- a fault that bytes show is one of their header, or a record that is too long
-pub shown_by_header : (links : LinkSet) (bytes : List ℕ) (fault : PcapFault) → HasHeaderFault links bytes fault → Shows links bytes fault
-shown_by_header links bytes BadMagic h = h
-shown_by_header links bytes BadVersion h = h
-shown_by_header links bytes BadLink h = h
-shown_by_header links bytes (FrameTooLong k) h = absurd h
-shown_by_header links bytes (Cut k) h = absurd h
-shown_by_header links bytes TooManyBytes h = absurd h
-shown_by_header links bytes Memory h = absurd h
+pub shown_by_header : (scope : Scope) (bytes : List ℕ) (fault : PcapFault) → HasHeaderFault scope.links bytes fault → Shows scope bytes fault
+shown_by_header scope bytes BadMagic h = h
+shown_by_header scope bytes BadVersion h = h
+shown_by_header scope bytes BadLink h = h
+shown_by_header scope bytes (FrameTooLong k) h = absurd h
+shown_by_header scope bytes (Cut k) h = absurd h
+shown_by_header scope bytes TooManyBytes h = absurd h
+shown_by_header scope bytes Memory h = absurd h
 
-pub shown : (links : LinkSet) (bytes : List ℕ) (fault : PcapFault) → Shows links bytes fault → HasHeaderFault links bytes fault
-    ⊎ ((k : ℕ) × (fault ≡ FrameTooLong k) × HasLongFrame links k bytes)
-shown links bytes BadMagic h = inl h
-shown links bytes BadVersion h = inl h
-shown links bytes BadLink h = inl h
-shown links bytes (FrameTooLong k) h = inr (k, refl, h)
-shown links bytes (Cut k) h = absurd h
-shown links bytes TooManyBytes h = absurd h
-shown links bytes Memory h = absurd h
+pub shown : (scope : Scope) (bytes : List ℕ) (fault : PcapFault) → Shows scope bytes fault → HasHeaderFault scope.links bytes fault
+    ⊎ ((k : ℕ) × (fault ≡ FrameTooLong k) × HasLongFrame scope k bytes)
+shown scope bytes BadMagic h = inl h
+shown scope bytes BadVersion h = inl h
+shown scope bytes BadLink h = inl h
+shown scope bytes (FrameTooLong k) h = inr (k, refl, h)
+shown scope bytes (Cut k) h = absurd h
+shown scope bytes TooManyBytes h = absurd h
+shown scope bytes Memory h = absurd h
 
 -- how far a header goes
 pub data Header (links : LinkSet) (bytes : List ℕ) : Type 0 where

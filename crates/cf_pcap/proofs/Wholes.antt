@@ -1,6 +1,9 @@
 -- What is whole of a file that ends within a unit.
-use Rattle.std.proofs.Common.{◌≡◌, ◌⊎◌, inl, inr, ℕ, ◌<◌, ◌≤◌, ◌+◌, ◌-◌, ◌*◌, ◌^◌, Bool, true, false, List, [], ◌∷◌, ◌++◌, length, take, drop, refl, sym, ap, subst, ◌∙◌, arith, append_assoc, length-append, length-drop}
+use Rattle.std.proofs.Common.{◌≡◌, ◌⊎◌, inl, inr, ℕ, ◌<◌, ◌≤◌, ◌+◌, ◌-◌, ◌*◌, Bool, true, false, List, [], ◌∷◌, ◌++◌, length, take, drop, refl, sym, ap, subst, ◌∙◌, arith, append_assoc, length-append, length-drop}
 use Rattle.std.proofs.lemmas.List.{drop-append-le, take-append-drop, take-append-le, take_all, nil_from_length}
+use Rattle.cf_stream.specs.Limits.{IsShort, count_on, number_of}
+use Rattle.cf_stream.proofs.Limits.{short_less, count_first}
+use Rattle.cf_stream.proofs.Feeding as streams
 use Rattle.cf_stream.specs.Format.{Found, Wants, Bad, Takes, Format, Part, items_of, AreUnitsThen, ReadsTo, IsWhole, IsCut, IsFound}
 use Rattle.cf_stream.specs.Stream.{IsStepper, AreGiven, Runs}
 use Rattle.cf_stream.proofs.Units.{NoUnit, sizes, more_after, reads_count, one_read, wants_none}
@@ -10,7 +13,7 @@ use Rattle.cf_stream.proofs.Given.{given_of}
 
 -- a file ends within a unit, after some units of these items
 pub record EndsIn {S I F : Type 0} (f : Format S I F) (file : List ℕ) (items : List I) : Type 0 where
-  pub size : length file < 2 ^ 32
+  pub size : IsShort f.length (length file)
   pub last : S
   pub rest : List ℕ
   pub read : ReadsTo f f.start file items last rest
@@ -134,12 +137,12 @@ pub whole_front : {S I F : Type 0} (f : Format S I F) (is : IsStepper f) (file :
 whole_front f is file items e =
     let front = rest_is f f.start e.read.parts file e.last e.rest e.read.units in
     let len : length file ≡ length front.0 + length e.rest = ap length front.1 ∙ length-append front.0 e.rest in
-    let size : length file < 2 ^ 32 = e.size in record {
+    record {
       whole = front.0;
       rest = e.rest;
       file_is = front.1;
       is = record {
-        size = omega (arith, len, size);
+        size = short_less f.length (length front.0) (length file) (omega (arith, len)) e.size;
         last = e.last;
         read = record {
           parts = e.read.parts;
@@ -186,7 +189,7 @@ same_front file a x b y p q less more =
 
 -- a file that ends within a unit gives the items before it
 pub ends_give : {S I F : Type 0} (f : Format S I F) (file : List ℕ) (items : List I) → EndsIn f file items → AreGiven f file items
-ends_give f file items e = given_of f file file items e.last e.rest (early_short file e.size) e.read (wants_none f e.last e.rest e.part)
+ends_give f file items e = given_of f file file items e.last e.rest (early_short f.length file e.size) e.read (wants_none f e.last e.rest e.part)
 
 -- it has no fault that is found by its place
 pub ends_unfound : {S I F : Type 0} (f : Format S I F) (file : List ℕ) (items : List I) (fault : F) → EndsIn f file items → IsFound f file fault → ⊥
@@ -206,18 +209,15 @@ pub runs_in : {S I F : Type 0} (f : Format S I F) (file : List ℕ) (s : S) (res
 runs_in f file s rest runs so_far some = record { size = runs.size; last = s; rest = rest; read = runs.read; part = runs.part; begun = so_far; left = some }
 
 pub ends_count : {S I F : Type 0} (f : Format S I F) (is : IsStepper f) (file : List ℕ) (items : List I) (e : EndsIn f file items)
-    → f.count e.last ≡ length items
+    → f.count e.last ≡ number_of f.length (length items)
 ends_count f is file items e =
-    let all : f.count e.last ≡ f.count f.start + length items = reads_count f is f.start file items e.last e.rest e.read in
-    let none : f.count f.start ≡ 0 = is.none in
-    omega (arith, all, none)
+    reads_count f is f.start file items e.last e.rest e.read
+    ∙ ap (λ k. count_on f.length k (length items)) is.none
+    ∙ count_first f.length (length items)
 
 pub runs_count : {S I F : Type 0} (f : Format S I F) (is : IsStepper f) (file : List ℕ) (s : S) (rest : List ℕ) (runs : Runs f s rest file)
-    → f.count s ≡ length runs.items
-runs_count f is file s rest runs =
-    let all : f.count s ≡ f.count f.start + length runs.items = reads_count f is f.start file runs.items s rest runs.read in
-    let none : f.count f.start ≡ 0 = is.none in
-    omega (arith, all, none)
+    → f.count s ≡ number_of f.length (length runs.items)
+runs_count f is file s rest runs = streams.runs_count f is s rest file runs
 
 -- a file that is cut where it may end after some units ends within the next
 pub cut_begun : {S I F : Type 0} (f : Format S I F) (file : List ℕ) (last : S) (cut : IsCut f file last) → f.may_end last ≡ true → EndsIn f file cut.items
@@ -234,8 +234,9 @@ cut_begun f file last cut begun = record {
   ];
 }
 
-pub cut_count : {S I F : Type 0} (f : Format S I F) (is : IsStepper f) (file : List ℕ) (last : S) (cut : IsCut f file last) → f.count last ≡ length cut.items
+pub cut_count : {S I F : Type 0} (f : Format S I F) (is : IsStepper f) (file : List ℕ) (last : S) (cut : IsCut f file last)
+    → f.count last ≡ number_of f.length (length cut.items)
 cut_count f is file last cut =
-    let all : f.count last ≡ f.count f.start + length cut.items = reads_count f is f.start file cut.items last cut.rest cut.read in
-    let none : f.count f.start ≡ 0 = is.none in
-    omega (arith, all, none)
+    reads_count f is f.start file cut.items last cut.rest cut.read
+    ∙ ap (λ k. count_on f.length k (length cut.items)) is.none
+    ∙ count_first f.length (length cut.items)

@@ -1,5 +1,7 @@
 -- Captures in the libpcap file format 2.4 (pcap savefile, pcap-savefile(5)), as whole files.
 use Rattle.std.specs.Prelude.{◌≡◌, ◌⊎◌, ℕ, ◌+◌, ◌*◌, ◌^◌, ◌%◌, ◌<◌, ◌≤◌, ◌==◌, true, false, if◌then◌else◌, List, [], ◌∷◌, length, drop, slice_range, Option, Some, None}
+use Rattle.cf_stream.specs.declared.limit.Length.{Length}
+use Rattle.cf_stream.specs.Limits.{IsShort, IsLong, count_on, number_of}
 use Rattle.cf_stream.specs.Format.{seen}
 use Rattle.byteorder.specs.Endian.{little_number, big_number}
 use Rattle.cf_pcap.specs.declared.form.Order.{Order}
@@ -8,6 +10,7 @@ use Rattle.cf_pcap.specs.declared.form.Precision.{Precision}
 use Rattle.cf_pcap.specs.declared.form.Precision.TheVariants.{Micro, Nano}
 use Rattle.cf_pcap.specs.declared.form.Layout.{Layout}
 use Rattle.cf_pcap.specs.declared.links.LinkSet.{LinkSet}
+use Rattle.cf_pcap.specs.declared.scope.Scope.{Scope}
 use Rattle.cf_pcap.specs.Links.{is_link, longest}
 use Rattle.cf_pcap.specs.declared.form.FileHeader.{FileHeader}
 use Rattle.cf_pcap.specs.declared.fault.PcapFault.{PcapFault}
@@ -86,22 +89,22 @@ frame_at header k bytes = record {
 }
 
 -- the bytes are the records of these frames end to end, numbered from k, and then the rest
-abbrev pub AreRecordsThen : FileHeader → ℕ → List FrameValue → List ℕ → List ℕ → Type 0
-AreRecordsThen header k [] bytes rest = bytes ≡ rest
-AreRecordsThen header k (frame ∷ frames) bytes rest =
+abbrev pub AreRecordsThen : Length → FileHeader → ℕ → List FrameValue → List ℕ → List ℕ → Type 0
+AreRecordsThen limit header k [] bytes rest = bytes ≡ rest
+AreRecordsThen limit header k (frame ∷ frames) bytes rest =
     HasRecord header bytes × (frame ≡ frame_at header k bytes)
-    × AreRecordsThen header (k + 1) frames (drop (16 + caplen_at header bytes) bytes) rest
+    × AreRecordsThen limit header (count_on limit k 1) frames (drop (16 + caplen_at header bytes) bytes) rest
 
 -- a file header, the records of these frames, and then the rest
-pub record IsReadTo (links : LinkSet) (header : FileHeader) (bytes : List ℕ) (frames : List FrameValue) (rest : List ℕ) : Type 0 where
-  pub begin : IsFileHeader links header bytes
-  pub records : AreRecordsThen header 0 frames (drop 24 bytes) rest
+pub record IsReadTo (scope : Scope) (header : FileHeader) (bytes : List ℕ) (frames : List FrameValue) (rest : List ℕ) : Type 0 where
+  pub begin : IsFileHeader scope.links header bytes
+  pub records : AreRecordsThen scope.length header 0 frames (drop 24 bytes) rest
 
--- a file below 2^32 bytes is a capture of one of these links, and of these frames: a file header and their records, and nothing else
-pub record IsCapture (links : LinkSet) (file : List ℕ) (frames : List FrameValue) : Type 0 where
-  pub size : length file < 2 ^ 32
+-- a file of this scope is a capture of these frames: a file header and their records, and nothing else
+pub record IsCapture (scope : Scope) (file : List ℕ) (frames : List FrameValue) : Type 0 where
+  pub size : IsShort scope.length (length file)
   pub header : FileHeader
-  pub whole : IsReadTo links header file frames []
+  pub whole : IsReadTo scope header file frames []
 
 -- Faults. The magic is found false after 4 bytes, the version after 8, the link after 24, and a captured length after
 -- the 16 bytes of its record header.
@@ -127,28 +130,28 @@ pub record HasBadLink (links : LinkSet) (bytes : List ℕ) : Type 0 where
   pub link : is_link links (link_at layout bytes) ≡ false
 
 -- after k whole records
-pub record HasLongFrame (links : LinkSet) (k : ℕ) (bytes : List ℕ) : Type 0 where
+pub record HasLongFrame (scope : Scope) (k : ℕ) (bytes : List ℕ) : Type 0 where
   pub header : FileHeader
   pub frames : List FrameValue
   pub rest : List ℕ
-  pub read : IsReadTo links header bytes frames rest
-  pub number_is : k ≡ length frames
+  pub read : IsReadTo scope header bytes frames rest
+  pub number_is : k ≡ number_of scope.length (length frames)
   pub long : HasLongRecord header rest
 
 -- a fault that these bytes show, whatever comes after them
-abbrev pub Shows : LinkSet → List ℕ → PcapFault → Type 0
-Shows links bytes BadMagic = HasBadMagic bytes
-Shows links bytes BadVersion = HasBadVersion bytes
-Shows links bytes BadLink = HasBadLink links bytes
-Shows links bytes (FrameTooLong k) = HasLongFrame links k bytes
-Shows links bytes (Cut k) = ⊥
-Shows links bytes TooManyBytes = ⊥
-Shows links bytes Memory = ⊥
+abbrev pub Shows : Scope → List ℕ → PcapFault → Type 0
+Shows scope bytes BadMagic = HasBadMagic bytes
+Shows scope bytes BadVersion = HasBadVersion bytes
+Shows scope bytes BadLink = HasBadLink scope.links bytes
+Shows scope bytes (FrameTooLong k) = HasLongFrame scope k bytes
+Shows scope bytes (Cut k) = ⊥
+Shows scope bytes TooManyBytes = ⊥
+Shows scope bytes Memory = ⊥
 
--- 2^32 bytes or more, and the first 2^32 show no fault
-pub record HasTooManyBytes (links : LinkSet) (file : List ℕ) : Type 0 where
-  pub size : 2 ^ 32 ≤ length file
-  pub first : (fault : PcapFault) → Shows links (seen file) fault → ⊥
+-- too many bytes, 2^32 or more, and those that count show no fault
+pub record HasTooManyBytes (scope : Scope) (file : List ℕ) : Type 0 where
+  pub size : IsLong scope.length (length file)
+  pub first : (fault : PcapFault) → Shows scope (seen scope.length file) fault → ⊥
 
 -- fewer bytes than a file header has
 pub record EndsInHeader (k : ℕ) (file : List ℕ) : Type 0 where
@@ -156,27 +159,27 @@ pub record EndsInHeader (k : ℕ) (file : List ℕ) : Type 0 where
   pub number_is : k ≡ 0
 
 -- after k whole records something is left, which is no whole record
-pub record EndsInRecord (links : LinkSet) (k : ℕ) (file : List ℕ) : Type 0 where
+pub record EndsInRecord (scope : Scope) (k : ℕ) (file : List ℕ) : Type 0 where
   pub header : FileHeader
   pub frames : List FrameValue
   pub rest : List ℕ
-  pub read : IsReadTo links header file frames rest
-  pub number_is : k ≡ length frames
+  pub read : IsReadTo scope header file frames rest
+  pub number_is : k ≡ number_of scope.length (length frames)
   pub left : 0 < length rest
   pub part : HasRecord header rest → ⊥
 
--- a file below 2^32 bytes that shows no fault ends too early
-pub record IsCut (links : LinkSet) (k : ℕ) (file : List ℕ) : Type 0 where
-  pub size : length file < 2 ^ 32
-  pub first : (fault : PcapFault) → Shows links (seen file) fault → ⊥
-  pub ends : EndsInHeader k file ⊎ EndsInRecord links k file
+-- a file that is no longer than it may be, and shows no fault, ends too early
+pub record IsCut (scope : Scope) (k : ℕ) (file : List ℕ) : Type 0 where
+  pub size : IsShort scope.length (length file)
+  pub first : (fault : PcapFault) → Shows scope (seen scope.length file) fault → ⊥
+  pub ends : EndsInHeader k file ⊎ EndsInRecord scope k file
 
 -- why a file is no capture. Each file is a capture of some frames or has one fault (`OneCase`).
-abbrev pub HasPcapFault : LinkSet → List ℕ → PcapFault → Type 0
-HasPcapFault links file BadMagic = Shows links (seen file) BadMagic
-HasPcapFault links file BadVersion = Shows links (seen file) BadVersion
-HasPcapFault links file BadLink = Shows links (seen file) BadLink
-HasPcapFault links file (FrameTooLong k) = Shows links (seen file) (FrameTooLong k)
-HasPcapFault links file (Cut k) = IsCut links k file
-HasPcapFault links file TooManyBytes = HasTooManyBytes links file
-HasPcapFault links file Memory = ⊥
+abbrev pub HasPcapFault : Scope → List ℕ → PcapFault → Type 0
+HasPcapFault scope file BadMagic = Shows scope (seen scope.length file) BadMagic
+HasPcapFault scope file BadVersion = Shows scope (seen scope.length file) BadVersion
+HasPcapFault scope file BadLink = Shows scope (seen scope.length file) BadLink
+HasPcapFault scope file (FrameTooLong k) = Shows scope (seen scope.length file) (FrameTooLong k)
+HasPcapFault scope file (Cut k) = IsCut scope k file
+HasPcapFault scope file TooManyBytes = HasTooManyBytes scope file
+HasPcapFault scope file Memory = ⊥

@@ -1,9 +1,12 @@
 -- Captures as units end to end: a file header, and then records. `IsCapture` says without units what a capture is.
 use Rattle.std.specs.Prelude.{ℕ, ◌+◌, ◌==◌, ◌&&◌, nat_lt, if◌then◌else◌, Bool, is_some, List, [], ◌∷◌, length, drop, Option, Some, None}
+use Rattle.cf_stream.specs.declared.limit.Length.{Length}
+use Rattle.cf_stream.specs.Limits.{count_on}
 use Rattle.cf_stream.specs.Format.{Found, Wants, Bad, Takes, Format}
 use Rattle.cf_pcap.specs.declared.form.Layout.{Layout}
 use Rattle.cf_pcap.specs.declared.form.FileHeader.{FileHeader}
 use Rattle.cf_pcap.specs.declared.links.LinkSet.{LinkSet}
+use Rattle.cf_pcap.specs.declared.scope.Scope.{Scope}
 use Rattle.cf_pcap.specs.declared.fault.PcapFault.{PcapFault}
 use Rattle.cf_pcap.specs.declared.fault.PcapFault.TheVariants.{BadMagic, BadVersion, BadLink, FrameTooLong, Cut, TooManyBytes}
 use Rattle.cf_pcap.specs.declared.head.Head.{Head}
@@ -11,7 +14,7 @@ use Rattle.cf_pcap.specs.declared.head.Head.TheVariants.{Short, Faulty, Stands}
 use Rattle.cf_pcap.specs.Capture.{FrameValue, number_in, layout_of, link_at, caplen_at, frame_at}
 use Rattle.cf_pcap.specs.Links.{is_link, longest}
 
--- how far a file was read: what its header states, once that was read, and the number of frames
+-- how far a file was read: what its header states, once that was read, and the number of the next frame
 pub record State : Type 0 where
   pub header : Option FileHeader
   pub count : ℕ
@@ -44,27 +47,28 @@ head_found k (Faulty fault) = Bad fault
 head_found k (Stands header) = Takes 24 [] (record { header = Some header; count = k })
 
 -- a record gives one, as number k: its captured length is known after 16 bytes
-abbrev pub record_found : FileHeader → ℕ → List ℕ → Found State FrameValue PcapFault
-record_found header k bytes =
+abbrev pub record_found : Length → FileHeader → ℕ → List ℕ → Found State FrameValue PcapFault
+record_found limit header k bytes =
     if nat_lt (length bytes) 16 then Wants
     else (if nat_lt longest (caplen_at header bytes) then Bad (FrameTooLong k)
     else (if nat_lt (length bytes) (16 + caplen_at header bytes) then Wants
-    else Takes (16 + caplen_at header bytes) (frame_at header k bytes ∷ []) (record { header = Some header; count = k + 1 })))
+    else Takes (16 + caplen_at header bytes) (frame_at header k bytes ∷ []) (record { header = Some header; count = count_on limit k 1 })))
 
 -- a file begins with its header
-abbrev pub found_at : LinkSet → Option FileHeader → ℕ → List ℕ → Found State FrameValue PcapFault
-found_at links None k bytes = head_found k (head_of links bytes)
-found_at links (Some header) k bytes = record_found header k bytes
+abbrev pub found_at : Scope → Option FileHeader → ℕ → List ℕ → Found State FrameValue PcapFault
+found_at scope None k bytes = head_found k (head_of scope.links bytes)
+found_at scope (Some header) k bytes = record_found scope.length header k bytes
 
 -- what the bytes at the front show in a state: no whole header or record yet, a fault, or one of these
-unfoldable pub step : LinkSet → State → List ℕ → Found State FrameValue PcapFault
-step links s bytes = found_at links s.header s.count bytes
+unfoldable pub step : Scope → State → List ℕ → Found State FrameValue PcapFault
+step scope s bytes = found_at scope s.header s.count bytes
 
--- pcap with these links: a file header, and then records end to end
-abbrev pub pcap : LinkSet → Format State FrameValue PcapFault
-pcap links = record {
+-- pcap of this scope: a file header, and then records end to end
+abbrev pub pcap : Scope → Format State FrameValue PcapFault
+pcap scope = record {
+  length = scope.length;
   start = record { header = None; count = 0 };
-  step = step links;
+  step = step scope;
   count = λ s. s.count;
   may_end = λ s. is_some s.header;
   cut = λ s. Cut s.count;

@@ -4,6 +4,8 @@ use Rattle.cf_pcap.specs.declared.links.Link.{Link}
 use Rattle.cf_pcap.specs.declared.links.Link.TheVariants.{Ethernet, LinuxCooked, LinuxCookedV2, RawIp, Ipv4, Ipv6, Null, Loop}
 use Rattle.cf_pcap.specs.declared.links.LinkSet.{LinkSet}
 use Rattle.cf_pcap.specs.declared.links.LinkSet.TheVariants.{Basic, All}
+use Rattle.cf_pcap.specs.declared.scope.Scope.{Scope}
+use Rattle.cf_stream.specs.declared.limit.Length.TheVariants.{Limited, Any}
 
 -- LINKTYPE_ETHERNET, _LINUX_SLL, _LINUX_SLL2, _RAW, _IPV4, _IPV6, _NULL, _LOOP
 abbrev pub number_of : Link → ℕ
@@ -49,6 +51,14 @@ has_some links (Some link) = has links link
 -- frames of the link of a number are read
 unfoldable pub is_link : LinkSet → ℕ → Bool
 is_link links n = has_some links (link_of n)
+
+-- captures of these links below 2^32 bytes
+abbrev pub limited : LinkSet → Scope
+limited links = record { links = links; length = Limited }
+
+-- captures of these links of any length
+abbrev pub unlimited : LinkSet → Scope
+unlimited links = record { links = links; length = Any }
 
 -- the most bytes that a record may hold of its frame: libpcap's MAXIMUM_SNAPLEN
 abbrev pub longest : ℕ

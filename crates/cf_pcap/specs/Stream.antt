@@ -1,9 +1,12 @@
 -- What a reader's state says of the stream that led to it, and what it gives and answers, however the stream is cut.
-use Rattle.std.specs.Prelude.{◌≡◌, ℕ, ◌+◌, ◌*◌, ◌^◌, ◌<◌, ◌≤◌, List, [], length, Result, Ok, Err}
+use Rattle.std.specs.Prelude.{◌≡◌, ℕ, ◌+◌, ◌*◌, ◌≤◌, List, [], length, Option, Some, None, Result, Ok, Err}
+use Rattle.cf_stream.specs.declared.limit.Length.{Length}
+use Rattle.cf_stream.specs.declared.limit.Length.TheVariants.{Limited, Any}
+use Rattle.cf_stream.specs.Limits.{IsShort, IsTotal}
 use Rattle.cf_stream.specs.Format as formats
 use Rattle.cf_stream.specs.Stream.{Runs}
 use Rattle.cf_stream.specs.Stream as streams
-use Rattle.cf_pcap.specs.declared.links.LinkSet.{LinkSet}
+use Rattle.cf_pcap.specs.declared.scope.Scope.{Scope}
 use Rattle.cf_pcap.specs.declared.fault.PcapFault.{PcapFault}
 use Rattle.cf_pcap.specs.declared.fault.PcapFault.TheVariants.{Memory}
 use Rattle.cf_pcap.specs.declared.stage.Stage.{Stage}
@@ -12,17 +15,17 @@ use Rattle.cf_pcap.specs.Capture.{FrameValue}
 use Rattle.cf_pcap.specs.File.{State, pcap}
 
 -- a fault that the stream shows by its place, before its end is known
-abbrev pub IsFound : LinkSet → List ℕ → PcapFault → Type 0
-IsFound links stream fault = formats.IsFound (pcap links) stream fault
+abbrev pub IsFound : Scope → List ℕ → PcapFault → Type 0
+IsFound scope stream fault = formats.IsFound (pcap scope) stream fault
 
 -- the frames whose last byte lies in the stream and before any fault
-abbrev pub AreGiven : LinkSet → List ℕ → List FrameValue → Type 0
-AreGiven links stream frames = streams.AreGiven (pcap links) stream frames
+abbrev pub AreGiven : Scope → List ℕ → List FrameValue → Type 0
+AreGiven scope stream frames = streams.AreGiven (pcap scope) stream frames
 
--- a reader as contracts see it: the links that it reads, whether it runs, how many bytes it has had, how far these were read, and the bytes of a
+-- a reader as contracts see it: the scope that it reads, whether it runs, the count of the bytes it has had, how far these were read, and the bytes of a
 -- file header or a record that has only begun
 pub record PcapValue : Type 0 where
-  pub links : LinkSet
+  pub scope : Scope
   pub stage : Stage
   pub total : ℕ
   pub state : State
@@ -30,13 +33,13 @@ pub record PcapValue : Type 0 where
 
 -- the file header and some records were read, and the bytes after them are only the begin of one
 pub record IsRunning (reader : PcapValue) (stream : List ℕ) : Type 0 where
-  pub total_is : reader.total ≡ length stream
-  pub runs : Runs (pcap reader.links) reader.state reader.held stream
+  pub total_is : IsTotal reader.scope.length reader.total (length stream)
+  pub runs : Runs (pcap reader.scope) reader.state reader.held stream
 
 -- what a reader at a stage says of its stream: no fault yet while it runs, and where it stopped, that fault
 abbrev pub IsAt : Stage → PcapValue → List ℕ → Type 0
 IsAt Running reader stream = IsRunning reader stream
-IsAt (Stopped fault) reader stream = IsFound reader.links stream fault
+IsAt (Stopped fault) reader stream = IsFound reader.scope stream fault
 
 -- the reader's state is that after this stream
 abbrev pub IsStateOf : PcapValue → List ℕ → Type 0
@@ -44,24 +47,35 @@ IsStateOf reader stream = IsAt reader.stage reader stream
 
 -- what a call that takes one more piece gives and answers
 abbrev pub IsFed : List ℕ → List ℕ → List FrameValue → Result (Unit {0}) PcapFault → PcapValue → Type 0
-IsFed stream piece given answer reader = streams.IsFed (pcap reader.links) stream piece given answer (IsStateOf reader)
+IsFed stream piece given answer reader = streams.IsFed (pcap reader.scope) stream piece given answer (IsStateOf reader)
 
 -- a reader that has found a fault answers it, and no want of memory
 abbrev pub AnswersFound : PcapValue → Result (Unit {0}) PcapFault → Type 0
-AnswersFound reader answer = (stream : List ℕ) (fault : PcapFault) → IsStateOf reader stream → IsFound reader.links stream fault → answer ≡ Err fault
+AnswersFound reader answer = (stream : List ℕ) (fault : PcapFault) → IsStateOf reader stream → IsFound reader.scope stream fault → answer ≡ Err fault
 
 -- what the end of the stream answers: the number of a capture's frames, or the fault
-abbrev pub IsEnded : LinkSet → List ℕ → Result ℕ PcapFault → Type 0
-IsEnded links stream answer = streams.IsEnded (pcap links) stream answer
+abbrev pub IsEnded : Scope → List ℕ → Result ℕ PcapFault → Type 0
+IsEnded scope stream answer = streams.IsEnded (pcap scope) stream answer
+
+-- the fault that was found at this stage
+abbrev pub found_at : Stage → Option PcapFault
+found_at Running = None
+found_at (Stopped fault) = Some fault
 
 -- what a call that ends at this stage answers
 abbrev pub answer_at : Stage → Result (Unit {0}) PcapFault
 answer_at Running = Ok tt
 answer_at (Stopped fault) = Err fault
 
+-- so many bytes have the records of so many frames, and those that are held. Where any number may come, they are not counted.
+abbrev pub IsCounted : Length → ℕ → ℕ → ℕ → Type 0
+IsCounted Limited total frames held = 16 * frames + held ≤ total
+IsCounted Any total frames held = Unit {0}
+
 -- what holds of every reader: its bytes and frames fit, it holds less than a record, and want of memory doesn't stop it
 abbrev pub IsSoundAt : Stage → PcapValue → Type 0
-IsSoundAt Running reader = (reader.total < 2 ^ 32) × (16 * reader.state.count + length reader.held ≤ reader.total) × (length reader.held ≤ 262159)
+IsSoundAt Running reader = IsShort reader.scope.length reader.total
+    × IsCounted reader.scope.length reader.total reader.state.count (length reader.held) × (length reader.held ≤ 262159)
 IsSoundAt (Stopped fault) reader = (fault ≡ Memory → ⊥) × (reader.held ≡ [])
 
 -- what holds of every reader, whatever its stage

@@ -5,7 +5,7 @@ ghost use Rattle.cf_pcap.specs.declared.fault.PcapFault.TheVariants.{Memory};
 use std::alloc::{AllocError, AllocFailed};
 use thiserror::Error;
 
-/// Why a stream is no capture. The number is that of the whole records before the fault.
+/// Why a stream is no capture. The number is that of the whole records before the fault, and 2^32 - 1 where these are more.
 #[derive(Clone, Copy, Debug, PartialEq, Eq, Error)]
 pub enum PcapFault {
     /// The first four bytes are no magic.
@@ -23,7 +23,7 @@ pub enum PcapFault {
     /// The stream ends inside the file header or a record.
     #[error("the stream ends inside the file header or a record, after {0} whole records")]
     Cut(u32),
-    /// The stream has 2^32 bytes or more.
+    /// The stream has 2^32 bytes or more, and these are too many ([`crate::Scope`]).
     #[error("the stream has 2^32 bytes or more")]
     TooManyBytes,
     /// Want of memory, which is no fault of the stream.

@@ -1,6 +1,6 @@
 // The theorems on files and streams.
 ghost use Rattle.std.specs.Prelude.{ℕ, List, ◌++◌};
-ghost use Rattle.cf_pcap.specs.declared.links.LinkSet.{LinkSet};
+ghost use Rattle.cf_pcap.specs.declared.scope.Scope.{Scope};
 ghost use Rattle.cf_pcap.specs.declared.fault.PcapFault.{PcapFault};
 ghost use Rattle.cf_pcap.specs.Capture.{HasPcapFault};
 ghost use Rattle.cf_pcap.specs.Stream.{IsFound};
@@ -9,26 +9,26 @@ ghost use Rattle.cf_pcap.specs.Truncated.{TruncatedCase};
 
 /// Each file is a capture of one list of frames, or has one fault.
 pub fn each_file_is_in_one_case()
-    ensures { (links : LinkSet) (file : List ℕ) → OneCase links file }
+    ensures { (scope : Scope) (file : List ℕ) → OneCase scope file }
 {}
 
 /// A stream gives one list of frames.
 pub fn each_stream_gives_one_list()
-    ensures { (links : LinkSet) (stream : List ℕ) → OneGift links stream }
+    ensures { (scope : Scope) (stream : List ℕ) → OneGift scope stream }
 {}
 
 /// A fault that is found before the end is that of every file which begins so.
 pub fn a_found_fault_stays()
-    ensures { (links : LinkSet) (stream more : List ℕ) (fault : PcapFault) → IsFound links stream fault → HasPcapFault links (stream ++ more) fault }
+    ensures { (scope : Scope) (stream more : List ℕ) (fault : PcapFault) → IsFound scope stream fault → HasPcapFault scope (stream ++ more) fault }
 {}
 
 /// A file is a capture, or has a fault, just where its units say so, by which it is read.
 pub fn files_are_judged_alike()
-    ensures { (links : LinkSet) (file : List ℕ) → JudgedAlike links file }
+    ensures { (scope : Scope) (file : List ℕ) → JudgedAlike scope file }
 {}
 
 /// A file that ends within a record, and not within its file header, is a capture up to the end of its last whole record, of the
 /// frames that its bytes give. Read as truncated, each file says one thing, or has one fault.
 pub fn a_truncated_file_has_its_whole_records()
-    ensures { (links : LinkSet) (file : List ℕ) → TruncatedCase links file }
+    ensures { (scope : Scope) (file : List ℕ) → TruncatedCase scope file }
 {}

@@ -9,6 +9,7 @@ mod laws;
 mod links;
 mod reader;
 mod records;
+mod scope;
 mod stage;
 mod taking;
 
@@ -22,6 +23,7 @@ pub use laws::{
 pub use links::{Link, LinkSet};
 pub use reader::Pcap;
 pub use records::LONGEST;
+pub use scope::Scope;
 
 #[cfg(test)]
 mod tests;

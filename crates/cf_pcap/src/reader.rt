@@ -1,14 +1,18 @@
 // The reader of a capture, which comes in pieces.
-ghost use Rattle.std.specs.Prelude.{◌≡◌, ◌≢◌, ℕ, List, [], ◌++◌, ◌<◌, ◌≤◌, ◌^◌, ◌+◌, ◌-◌, ◌*◌, length, take, min, IfOk, MatchResult, OnErr, Err};
+ghost use Rattle.std.specs.Prelude.{◌≡◌, ◌≢◌, ℕ, List, [], ◌++◌, ◌≤◌, length, take, IfOk, MatchResult, OnErr, Err};
 ghost use Rattle.cf_pcap.specs.Capture.{FrameValue};
 ghost use Rattle.cf_pcap.specs.declared.links.LinkSet.TheVariants.{Basic};
-ghost use Rattle.cf_pcap.specs.Stream.{IsStateOf, IsFed, IsEnded, AnswersFound, AreGiven};
+ghost use Rattle.cf_pcap.specs.Links.{limited};
+ghost use Rattle.cf_pcap.specs.Reading.{front_of};
+ghost use Rattle.cf_stream.specs.Limits.{IsShort};
+ghost use Rattle.cf_pcap.specs.Stream.{IsStateOf, IsFed, IsEnded, AnswersFound, AreGiven, found_at};
 ghost use Rattle.cf_pcap.specs.Truncated.{Says, Breaks};
 
 use crate::form::FileHeader;
 use crate::stage::{Stage, answer_of};
 use crate::taking::{LIMIT, Place, late_of, take_in};
-use crate::{Frame, LinkSet, PcapFault};
+use crate::{Frame, LinkSet, PcapFault, Scope};
+use cf_stream::Length;
 use std::alloc::{AllocError, Global};
 use std::marker::Model;
 
@@ -17,29 +21,32 @@ use std::marker::Model;
 #[derive(Drop)]
 pub struct Pcap {
     alloc: Global,
-    links: LinkSet,
+    scope: Scope,
     stage: Stage,
-    // How many bytes were taken, while the reader runs.
+    // How many bytes were taken, while the reader runs and they are limited.
     total: usize,
     // What the file header states, once that was read.
     header: Option<FileHeader>,
-    // How many frames were given.
+    // The number of the next frame.
     count: u32,
     held: Vec<u8>,
 }
 
 impl Model for Pcap {
+    ghost use Rattle.cf_pcap.specs.Links.{limited};
+    ghost use Rattle.cf_pcap.specs.Reading.{front_of};
+    ghost use Rattle.cf_stream.specs.Limits.{IsShort};
     ghost use Rattle.cf_pcap.specs.Stream.{PcapValue, IsSound};
 
     ghost Value = { PcapValue };
 
-    ghost view = { λ p. record { links = p.links; stage = p.stage; total = p.total; state = record { header = p.header; count = p.count }; held = p.held.items } };
+    ghost view = { λ p. record { scope = p.scope; stage = p.stage; total = p.total; state = record { header = p.header; count = p.count }; held = p.held.items } };
 
-    ghost invariant = { λ p. IsSound (record { links = p.links; stage = p.stage; total = p.total; state = record { header = p.header; count = p.count }; held = p.held.items }) };
+    ghost invariant = { λ p. IsSound (record { scope = p.scope; stage = p.stage; total = p.total; state = record { header = p.header; count = p.count }; held = p.held.items }) };
 }
 
 // The first bytes of a piece, that many at most.
-fn front(piece: &[u8], most: usize) -> &[u8]
+fn first_bytes(piece: &[u8], most: usize) -> &[u8]
     ensures { result.now ≡ take most piece.now }
 {
     if piece.len() <= most {
@@ -48,23 +55,34 @@ fn front(piece: &[u8], most: usize) -> &[u8]
     piece.split_at(most).0
 }
 
+// The bytes of a piece that are taken, where so many came before: those up to the one that makes a limited stream 2^32 bytes long.
+fn front(length: Length, total: usize, piece: &[u8]) -> &[u8]
+    requires { IsShort length total }
+    ensures { result.now ≡ front_of length total piece.now }
+{
+    match length {
+        Length::Any => piece,
+        Length::Limited => first_bytes(piece, LIMIT - total),
+    }
+}
+
 impl Pcap {
-    /// A reader of captures of Ethernet and Linux SLL that was fed nothing yet.
+    /// A reader of captures of Ethernet and Linux SLL, below 2^32 bytes, that was fed nothing yet.
     pub fn new(alloc: Global) -> Result<Self, AllocError>
-        ensures links { IfOk result (λ pcap. pcap.links ≡ Basic) }
+        ensures scope { IfOk result (λ pcap. pcap.scope ≡ limited Basic) }
         ensures state { IfOk result (λ pcap. IsStateOf pcap []) }
     {
-        Pcap::for_links(alloc, LinkSet::Basic)
+        Pcap::for_scope(alloc, Scope::limited(LinkSet::Basic))
     }
 
-    /// A reader of captures of these links that was fed nothing yet.
-    pub fn for_links(alloc: Global, links: LinkSet) -> Result<Self, AllocError>
-        ensures links { IfOk result (λ pcap. pcap.links ≡ links) }
+    /// A reader of the captures of this scope that was fed nothing yet.
+    pub fn for_scope(alloc: Global, scope: Scope) -> Result<Self, AllocError>
+        ensures scope { IfOk result (λ pcap. pcap.scope ≡ scope) }
         ensures state { IfOk result (λ pcap. IsStateOf pcap []) }
     {
         Ok(Pcap {
             alloc,
-            links,
+            scope,
             stage: Stage::Running,
             total: 0,
             header: None,
@@ -75,28 +93,30 @@ impl Pcap {
 
     /// Takes the next piece of the stream, and adds to `out` the frames whose last byte lies in it and before any fault.
     /// A fault is found by its place: the magic after 4 bytes, the version after 8, the link after 24, a captured length
-    /// after its record's 16, `TooManyBytes` at the byte that makes the stream 2^32 bytes. After a fault every call
+    /// after its record's 16, `TooManyBytes` at the byte that makes a limited stream 2^32 bytes. After a fault every call
     /// answers it. After `Memory` nothing of the piece is taken, and it may be fed again.
     pub fn feed(&mut self, piece: &[u8], out: &mut Vec<Frame>) -> Result<(), PcapFault>
         ensures fed { result ≢ Err PcapFault.Memory → (given : List FrameValue) × (out.new.items ≡ out.old.items ++ given)
             × ((stream : List ℕ) → IsStateOf self.old stream → IsFed stream piece.now given result self.new) }
-        ensures links { self.new.links ≡ self.old.links }
+        ensures scope { self.new.scope ≡ self.old.scope }
         ensures stopped { AnswersFound self.old result }
         ensures memory { result ≡ Err PcapFault.Memory → (self.new ≡ self.old) × (out.new.items ≡ out.old.items) }
     {
         if let Stage::Stopped(fault) = self.stage {
             return Err(fault);
         }
-        let taken = front(piece, LIMIT - self.total);
-        let late = late_of(self.total + taken.len());
+        let length = self.scope.length;
+        let taken = front(length, self.total, piece);
+        let total = length.total_after(self.total, taken.len());
+        let late = late_of(length, total);
         let place = Place {
-            links: self.links,
+            scope: self.scope,
             header: self.header,
             count: self.count,
         };
         let given = take_in(self.alloc, place, late, &mut self.held, taken, out)?;
         self.stage = given.stage;
-        self.total += taken.len();
+        self.total = total;
         self.header = given.header;
         self.count = given.count;
         answer_of(self.stage)
@@ -110,9 +130,19 @@ impl Pcap {
         self.held.len()
     }
 
-    /// The number of frames of the stream that was fed, or its fault. It takes no memory.
+    /// The fault that was found, if one was. The stream has it, whatever follows.
+    pub fn fault(&self) -> Option<PcapFault>
+        ensures { result ≡ found_at self.now.stage }
+    {
+        match self.stage {
+            Stage::Stopped(fault) => Some(fault),
+            Stage::Running => None,
+        }
+    }
+
+    /// The number of frames of the stream that was fed, and 2^32 - 1 where they are more, or its fault. It takes no memory.
     pub fn finish(self) -> Result<u32, PcapFault>
-        ensures ended { (stream : List ℕ) → IsStateOf self stream → IsEnded self.links stream result }
+        ensures ended { (stream : List ℕ) → IsStateOf self stream → IsEnded self.scope stream result }
         ensures no_memory { result ≢ Err PcapFault.Memory }
     {
         match self.stage {
@@ -125,8 +155,8 @@ impl Pcap {
     /// The same where a stream that ends within a record is one of the records before it: how many they are then, and nothing where
     /// the stream ends well. One that ends within its file header has its fault.
     pub fn finish_truncated(self) -> Result<Option<u32>, PcapFault>
-        ensures ended { (stream : List ℕ) (frames : List FrameValue) → IsStateOf self stream → AreGiven self.links stream frames
-            → MatchResult result (Says self.links stream frames) (Breaks self.links stream) }
+        ensures ended { (stream : List ℕ) (frames : List FrameValue) → IsStateOf self stream → AreGiven self.scope stream frames
+            → MatchResult result (Says self.scope stream frames) (Breaks self.scope stream) }
         ensures no_memory { result ≢ Err PcapFault.Memory }
     {
         match self.stage {

@@ -1,12 +1,12 @@
 // The file header and the records of a capture.
-ghost use Rattle.std.specs.Prelude.{◌≡◌, ℕ, List, ◌<◌, ◌≤◌, ◌+◌, ◌*◌, ◌^◌, Some, None, drop, length, IfOk, true, false};
-ghost use Rattle.cf_pcap.specs.declared.links.LinkSet.{LinkSet};
+ghost use Rattle.std.specs.Prelude.{◌≡◌, ℕ, List, ◌<◌, ◌≤◌, ◌+◌, ◌*◌, Some, None, drop, length, IfOk, true, false};
 ghost use Rattle.cf_pcap.specs.Capture.{FrameValue, HasRecord, HasLongRecord, frame_at, caplen_at};
-ghost use Rattle.cf_pcap.specs.Reading.{state_of, AreRead, IsFaultAt};
+ghost use Rattle.cf_stream.specs.Limits.{HasRoom};
+ghost use Rattle.cf_pcap.specs.Reading.{state_of, AreRead, IsFaultAt, IsOneRecord};
 
 use crate::form::FileHeader;
 use crate::head::{HEADER, Head, head_of};
-use crate::{Frame, LinkSet, PcapFault};
+use crate::{Frame, PcapFault, Scope};
 use std::alloc::{AllocError, Global};
 
 /// The length of a record's header.
@@ -15,16 +15,17 @@ pub(crate) const RECORD_HEADER: usize = 16;
 /// The most bytes that a record may hold of its frame: libpcap's `MAXIMUM_SNAPLEN`.
 pub const LONGEST: u32 = 262_144;
 
-/// What was read of some bytes: what the file header states, the frames, and how many of the bytes these take.
+/// What was read of some bytes: what the file header states, the frames, the number of the next, and how many of the bytes they take.
 #[derive(Drop)]
 pub(crate) struct Read {
     pub header: Option<FileHeader>,
     pub frames: Vec<Frame>,
+    pub count: u32,
     pub used: usize,
 }
 
 // The captured length that the record header at the front states.
-fn caplen_of(header: FileHeader, bytes: &[u8]) -> u32
+pub(crate) fn caplen_of(header: FileHeader, bytes: &[u8]) -> u32
     requires { 16 ≤ length bytes.now }
     ensures { result ≡ caplen_at header bytes.now }
 {
@@ -43,6 +44,18 @@ fn has_record(header: FileHeader, bytes: &[u8]) -> bool
     caplen <= LONGEST && RECORD_HEADER + caplen as usize <= bytes.len()
 }
 
+// Whether the bytes are one lawful record.
+pub(crate) fn is_one_record(header: Option<FileHeader>, bytes: &[u8]) -> bool
+    ensures { result ≡ true → IsOneRecord header bytes.now }
+{
+    match header {
+        Some(header) if has_record(header, bytes) => {
+            RECORD_HEADER + caplen_of(header, bytes) as usize == bytes.len()
+        }
+        _ => false,
+    }
+}
+
 // Whether a record header at the front states too many bytes.
 fn is_too_long(header: FileHeader, bytes: &[u8]) -> bool
     ensures yes { result ≡ true → HasLongRecord header bytes.now }
@@ -52,7 +65,7 @@ fn is_too_long(header: FileHeader, bytes: &[u8]) -> bool
 }
 
 // The frame of the record at the front.
-fn first_frame(
+pub(crate) fn first_frame(
     alloc: Global,
     header: FileHeader,
     num: u32,
@@ -81,44 +94,49 @@ fn first_frame(
 // Reads the records at the front, from this number on.
 fn read_records(
     alloc: Global,
+    scope: Scope,
     header: FileHeader,
     num: u32,
     bytes: &[u8],
 ) -> Result<Read, AllocError>
-    requires { 16 * num + length bytes.now ≤ 2 ^ 32 }
-    ensures read { IfOk result (λ read. (links : LinkSet) → AreRead links (state_of (Some header) num) bytes.now read.frames.items (state_of read.header (num + length read.frames.items)) (drop read.used bytes.now)) }
-    ensures used { IfOk result (λ read. (16 * length read.frames.items ≤ read.used) × (read.used ≤ length bytes.now)) }
+    requires { HasRoom scope.length (16 * num + length bytes.now) }
+    ensures read { IfOk result (λ read. AreRead scope (state_of (Some header) num) bytes.now read.frames.items (state_of read.header read.count) (drop read.used bytes.now)) }
+    ensures used { IfOk result (λ read. read.used ≤ length bytes.now) }
 {
     let mut frames = Vec::new(alloc);
+    let mut count = num;
     let mut rest = bytes;
     while has_record(header, rest) {
-        let frame = first_frame(alloc, header, num + frames.len() as u32, rest)?;
+        let frame = first_frame(alloc, header, count, rest)?;
         let end = frame.record_len();
         frames.push(frame)?;
+        count = scope.length.number_after(count);
         rest = rest.split_at(end).1;
     }
     Ok(Read {
         header: Some(header),
         frames,
+        count,
         used: bytes.len() - rest.len(),
     })
 }
 
 // Reads the first bytes of a file.
-fn read_first(alloc: Global, links: LinkSet, num: u32, bytes: &[u8]) -> Result<Read, AllocError>
-    requires { 16 * num + length bytes.now ≤ 2 ^ 32 }
-    ensures read { IfOk result (λ read. AreRead links (state_of None num) bytes.now read.frames.items (state_of read.header (num + length read.frames.items)) (drop read.used bytes.now)) }
-    ensures used { IfOk result (λ read. (16 * length read.frames.items ≤ read.used) × (read.used ≤ length bytes.now)) }
+fn read_first(alloc: Global, scope: Scope, num: u32, bytes: &[u8]) -> Result<Read, AllocError>
+    requires { HasRoom scope.length (16 * num + length bytes.now) }
+    ensures read { IfOk result (λ read. AreRead scope (state_of None num) bytes.now read.frames.items (state_of read.header read.count) (drop read.used bytes.now)) }
+    ensures used { IfOk result (λ read. read.used ≤ length bytes.now) }
 {
-    match head_of(links, bytes) {
+    match head_of(scope.links, bytes) {
         Head::Stands(header) => {
-            let mut read = read_records(alloc, header, num, bytes.split_at(HEADER).1)?;
+            let mut read = read_records(alloc, scope, header, num, bytes.split_at(HEADER).1)?;
             read.used += HEADER;
             Ok(read)
         }
         _ => Ok(Read {
             header: None,
             frames: Vec::new(alloc),
+            count: num,
             used: 0,
         }),
     }
@@ -127,34 +145,34 @@ fn read_first(alloc: Global, links: LinkSet, num: u32, bytes: &[u8]) -> Result<R
 // Reads the bytes that come after so many frames, of a file whose header states this, if it was read.
 pub(crate) fn go_on(
     alloc: Global,
-    links: LinkSet,
+    scope: Scope,
     header: Option<FileHeader>,
     num: u32,
     bytes: &[u8],
 ) -> Result<Read, AllocError>
-    requires { 16 * num + length bytes.now ≤ 2 ^ 32 }
-    ensures read { IfOk result (λ read. AreRead links (state_of header num) bytes.now read.frames.items (state_of read.header (num + length read.frames.items)) (drop read.used bytes.now)) }
-    ensures used { IfOk result (λ read. (16 * length read.frames.items ≤ read.used) × (read.used ≤ length bytes.now)) }
+    requires { HasRoom scope.length (16 * num + length bytes.now) }
+    ensures read { IfOk result (λ read. AreRead scope (state_of header num) bytes.now read.frames.items (state_of read.header read.count) (drop read.used bytes.now)) }
+    ensures used { IfOk result (λ read. read.used ≤ length bytes.now) }
 {
     match header {
-        Some(header) => read_records(alloc, header, num, bytes),
-        None => read_first(alloc, links, num, bytes),
+        Some(header) => read_records(alloc, scope, header, num, bytes),
+        None => read_first(alloc, scope, num, bytes),
     }
 }
 
 // The fault that the bytes at the front show.
 pub(crate) fn fault_at(
-    links: LinkSet,
+    scope: Scope,
     header: Option<FileHeader>,
     num: u32,
     bytes: &[u8],
 ) -> Option<PcapFault>
-    ensures { IsFaultAt links (state_of header num) bytes.now result }
+    ensures { IsFaultAt scope (state_of header num) bytes.now result }
 {
     match header {
         Some(header) if is_too_long(header, bytes) => Some(PcapFault::FrameTooLong(num)),
         Some(_) => None,
-        None => match head_of(links, bytes) {
+        None => match head_of(scope.links, bytes) {
             Head::Faulty(fault) => Some(fault),
             _ => None,
         },

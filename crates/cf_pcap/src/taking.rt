@@ -1,15 +1,17 @@
 // A piece is taken.
-ghost use Rattle.std.specs.Prelude.{◌≡◌, ℕ, List, [], ◌++◌, ◌<◌, ◌≤◌, ◌^◌, ◌+◌, ◌-◌, ◌*◌, length, take, drop, IfOk, OnErr};
+ghost use Rattle.std.specs.Prelude.{◌≡◌, List, [], ◌++◌, ◌≤◌, ◌+◌, ◌*◌, length, take, drop, IfOk, OnErr};
+ghost use Rattle.cf_stream.specs.Limits.{HasRoom};
 ghost use Rattle.cf_pcap.specs.Capture.{FrameValue};
-ghost use Rattle.cf_pcap.specs.Reading.{state_of, IsStageAfter, AreTaken, late_of as late_of_total};
+ghost use Rattle.cf_pcap.specs.Reading.{state_of, IsStageAfter, AreTaken, IsOneRecord, late_of as late_of_total};
 
 use crate::form::FileHeader;
-use crate::records::{fault_at, go_on};
+use crate::records::{RECORD_HEADER, caplen_of, fault_at, first_frame, go_on, is_one_record};
 use crate::stage::Stage;
-use crate::{Frame, LinkSet, PcapFault};
+use crate::{Frame, PcapFault, Scope};
+use cf_stream::Length;
 use std::alloc::{AllocError, Global};
 
-/// A stream of so many bytes is no capture.
+/// A limited stream of so many bytes is no capture.
 pub(crate) const LIMIT: usize = 1 << 32;
 
 /// What the bytes at hand gave: the frames, the reader after them, and how many of the bytes it lets go.
@@ -18,13 +20,14 @@ struct Given {
     stage: Stage,
     header: Option<FileHeader>,
     frames: Vec<Frame>,
+    count: u32,
     used: usize,
 }
 
-/// How far a stream was read: what its header states, once that was read, and the number of frames.
+/// How far a stream was read: what its header states, once that was read, and the number of the next frame.
 #[derive(Clone, Copy)]
 pub(crate) struct Place {
-    pub links: LinkSet,
+    pub scope: Scope,
     pub header: Option<FileHeader>,
     pub count: u32,
 }
@@ -38,23 +41,26 @@ pub(crate) struct Reached {
 }
 
 // How many of the last bytes of a stream that long come too late for a frame.
-pub(crate) fn late_of(total: usize) -> usize
-    ensures { result ≡ late_of_total total }
+pub(crate) fn late_of(length: Length, total: usize) -> usize
+    ensures { result ≡ late_of_total length total }
 {
-    if total == LIMIT { 1 } else { 0 }
+    match length {
+        Length::Any => 0,
+        Length::Limited => { if total == LIMIT { 1 } else { 0 } }
+    }
 }
 
 // The stage where this is left.
 fn stage_after(
-    links: LinkSet,
+    scope: Scope,
     header: Option<FileHeader>,
     count: u32,
     late: usize,
     rest: &[u8],
 ) -> Stage
-    ensures { IsStageAfter links (state_of header count) late rest.now result }
+    ensures { IsStageAfter scope (state_of header count) late rest.now result }
 {
-    match fault_at(links, header, count, rest) {
+    match fault_at(scope, header, count, rest) {
         Some(fault) => Stage::Stopped(fault),
         None if late > 0 => Stage::Stopped(PcapFault::TooManyBytes),
         None => Stage::Running,
@@ -64,18 +70,16 @@ fn stage_after(
 // Reads the bytes at hand.
 fn read(alloc: Global, place: Place, late: usize, bytes: &[u8]) -> Result<Given, AllocError>
     requires late { late ≤ length bytes.now }
-    requires room { 16 * place.count + length bytes.now ≤ 2 ^ 32 }
-    ensures taken { IfOk result (λ given. AreTaken place.links (state_of place.header place.count) late bytes.now given.frames.items (state_of given.header (place.count + length given.frames.items)) given.stage (drop given.used bytes.now)) }
-    ensures few { IfOk result (λ given. 16 * length given.frames.items ≤ length bytes.now) }
+    requires room { HasRoom place.scope.length (16 * place.count + length bytes.now) }
+    ensures taken { IfOk result (λ given. AreTaken place.scope (state_of place.header place.count) late bytes.now given.frames.items (state_of given.header given.count) given.stage (drop given.used bytes.now)) }
     ensures used { IfOk result (λ given. given.used ≤ length bytes.now) }
 {
     let early = bytes.split_at(bytes.len() - late).0;
-    let read = go_on(alloc, place.links, place.header, place.count, early)?;
-    let count = place.count + read.frames.len() as u32;
+    let read = go_on(alloc, place.scope, place.header, place.count, early)?;
     let stage = stage_after(
-        place.links,
+        place.scope,
         read.header,
-        count,
+        read.count,
         late,
         bytes.split_at(read.used).1,
     );
@@ -87,6 +91,7 @@ fn read(alloc: Global, place: Place, late: usize, bytes: &[u8]) -> Result<Given,
         stage,
         header: read.header,
         frames: read.frames,
+        count: read.count,
         used,
     })
 }
@@ -113,18 +118,17 @@ fn give(
     out: &mut Vec<Frame>,
 ) -> Result<(Reached, usize), AllocError>
     requires late { late ≤ length bytes.now }
-    requires room { 16 * place.count + length bytes.now ≤ 2 ^ 32 }
-    ensures given { IfOk result (λ given. (frames : List FrameValue) × (out.new.items ≡ out.old.items ++ frames) × (given.0.count ≡ place.count + length frames) × AreTaken place.links (state_of place.header place.count) late bytes.now frames (state_of given.0.header given.0.count) given.0.stage (drop given.1 bytes.now)) }
+    requires room { HasRoom place.scope.length (16 * place.count + length bytes.now) }
+    ensures given { IfOk result (λ given. (frames : List FrameValue) × (out.new.items ≡ out.old.items ++ frames) × AreTaken place.scope (state_of place.header place.count) late bytes.now frames (state_of given.0.header given.0.count) given.0.stage (drop given.1 bytes.now)) }
     ensures used { IfOk result (λ given. given.1 ≤ length bytes.now) }
     ensures memory { OnErr result (out.new.items ≡ out.old.items) }
 {
     let mut given = read(alloc, place, late, bytes)?;
-    let count = place.count + given.frames.len() as u32;
     out.append(&mut given.frames)?;
     let reached = Reached {
         stage: given.stage,
         header: given.header,
-        count,
+        count: given.count,
     };
     Ok((reached, given.used))
 }
@@ -140,18 +144,17 @@ fn take_alone(
 ) -> Result<Reached, AllocError>
     requires none { held.old.items ≡ [] }
     requires late { late ≤ length bytes.now }
-    requires room { 16 * place.count + length bytes.now ≤ 2 ^ 32 }
-    ensures given { IfOk result (λ reached. (frames : List FrameValue) × (out.new.items ≡ out.old.items ++ frames) × (reached.count ≡ place.count + length frames) × AreTaken place.links (state_of place.header place.count) late bytes.now frames (state_of reached.header reached.count) reached.stage held.new.items) }
+    requires room { HasRoom place.scope.length (16 * place.count + length bytes.now) }
+    ensures given { IfOk result (λ reached. (frames : List FrameValue) × (out.new.items ≡ out.old.items ++ frames) × AreTaken place.scope (state_of place.header place.count) late bytes.now frames (state_of reached.header reached.count) reached.stage held.new.items) }
     ensures memory { OnErr result ((out.new.items ≡ out.old.items) × (held.new.items ≡ held.old.items)) }
 {
     let mut given = read(alloc, place, late, bytes)?;
     held.extend_from_slice(bytes.split_at(given.used).1)?;
-    let count = place.count + given.frames.len() as u32;
     match out.append(&mut given.frames) {
         Ok(()) => Ok(Reached {
             stage: given.stage,
             header: given.header,
-            count,
+            count: given.count,
         }),
         Err(wanting) => {
             held.clear();
@@ -160,8 +163,124 @@ fn take_alone(
     }
 }
 
+// Fills the held bytes up to that length, as far as those that come go, and says how many it took.
+fn fill(held: &mut Vec<u8>, size: usize, more: &[u8]) -> Result<usize, AllocError>
+    ensures filled { IfOk result (λ count. (count ≤ length more.now) × (held.new.items ≡ held.old.items ++ take count more.now)) }
+    ensures memory { OnErr result (held.new.items ≡ held.old.items) }
+{
+    let count = size.saturating_sub(held.len()).min(more.len());
+    held.extend_from_slice(more.split_at(count).0)?;
+    Ok(count)
+}
+
+// Completes the record that the held bytes begin, as far as those that come go, and says how many it took.
+fn complete(header: FileHeader, held: &mut Vec<u8>, more: &[u8]) -> Result<usize, AllocError>
+    ensures filled { IfOk result (λ count. (count ≤ length more.now) × (held.new.items ≡ held.old.items ++ take count more.now)) }
+    ensures memory { OnErr result (held.new.items ≡ held.old.items) }
+{
+    let before = held.len();
+    let first = fill(held, RECORD_HEADER, more)?;
+    if held.len() < RECORD_HEADER {
+        return Ok(first);
+    }
+    let size = RECORD_HEADER + caplen_of(header, held) as usize;
+    match fill(held, size, more.split_at(first).1) {
+        Ok(second) => Ok(first + second),
+        Err(wanting) => {
+            held.truncate(before);
+            Err(wanting)
+        }
+    }
+}
+
+// Reads the held bytes, which are one record, and then those that come, where these are.
+fn take_after(
+    alloc: Global,
+    place: Place,
+    late: usize,
+    held: &mut Vec<u8>,
+    more: &[u8],
+    out: &mut Vec<Frame>,
+) -> Result<Reached, AllocError>
+    requires record { IsOneRecord place.header held.old.items }
+    requires late { late ≤ length more.now }
+    requires room { HasRoom place.scope.length (16 * place.count + (length held.old.items + length more.now)) }
+    ensures given { IfOk result (λ reached. (frames : List FrameValue) × (out.new.items ≡ out.old.items ++ frames) × AreTaken place.scope (state_of place.header place.count) late (held.old.items ++ more.now) frames (state_of reached.header reached.count) reached.stage held.new.items) }
+    ensures memory { OnErr result ((out.new.items ≡ out.old.items) × (held.new.items ≡ held.old.items)) }
+{
+    let Some(header) = place.header else {
+        unreachable!();
+    };
+    let frame = first_frame(alloc, header, place.count, held)?;
+    let next = Place {
+        scope: place.scope,
+        header: place.header,
+        count: place.scope.length.number_after(place.count),
+    };
+    let mut given = read(alloc, next, late, more)?;
+    let kept = more.split_at(given.used).1.to_vec(alloc)?;
+    let mut frames = Vec::new(alloc);
+    frames.push(frame)?;
+    frames.append(&mut given.frames)?;
+    out.append(&mut frames)?;
+    *held = kept;
+    Ok(Reached {
+        stage: given.stage,
+        header: given.header,
+        count: given.count,
+    })
+}
+
+// Reads the bytes that are held and those that come as one.
+fn take_joined(
+    alloc: Global,
+    place: Place,
+    late: usize,
+    held: &mut Vec<u8>,
+    more: &[u8],
+    out: &mut Vec<Frame>,
+) -> Result<Reached, AllocError>
+    requires late { late ≤ length held.old.items + length more.now }
+    requires room { HasRoom place.scope.length (16 * place.count + (length held.old.items + length more.now)) }
+    ensures given { IfOk result (λ reached. (frames : List FrameValue) × (out.new.items ≡ out.old.items ++ frames) × AreTaken place.scope (state_of place.header place.count) late (held.old.items ++ more.now) frames (state_of reached.header reached.count) reached.stage held.new.items) }
+    ensures memory { OnErr result ((out.new.items ≡ out.old.items) × (held.new.items ≡ held.old.items)) }
+{
+    let before = held.len();
+    held.extend_from_slice(more)?;
+    match give(alloc, place, late, held, out) {
+        Ok((reached, used)) => {
+            drop_front(held, used);
+            Ok(reached)
+        }
+        Err(wanting) => {
+            held.truncate(before);
+            Err(wanting)
+        }
+    }
+}
+
+// Reads the held bytes, which mostly are one record, and then those that come.
+fn take_on(
+    alloc: Global,
+    place: Place,
+    late: usize,
+    held: &mut Vec<u8>,
+    more: &[u8],
+    out: &mut Vec<Frame>,
+) -> Result<Reached, AllocError>
+    requires late { late ≤ length held.old.items + length more.now }
+    requires room { HasRoom place.scope.length (16 * place.count + (length held.old.items + length more.now)) }
+    ensures given { IfOk result (λ reached. (frames : List FrameValue) × (out.new.items ≡ out.old.items ++ frames) × AreTaken place.scope (state_of place.header place.count) late (held.old.items ++ more.now) frames (state_of reached.header reached.count) reached.stage held.new.items) }
+    ensures memory { OnErr result ((out.new.items ≡ out.old.items) × (held.new.items ≡ held.old.items)) }
+{
+    if late <= more.len() && is_one_record(place.header, held) {
+        return take_after(alloc, place, late, held, more, out);
+    }
+    take_joined(alloc, place, late, held, more, out)
+}
+
 // Reads the bytes that are held and those that come, adds their frames to `out`, and holds what is left. Where memory is
-// wanting it does none of this.
+// wanting it does none of this. No more of what comes is copied than completes the record that is held.
 pub(crate) fn take_in(
     alloc: Global,
     place: Place,
@@ -171,20 +290,20 @@ pub(crate) fn take_in(
     out: &mut Vec<Frame>,
 ) -> Result<Reached, AllocError>
     requires late { late ≤ length more.now }
-    requires room { 16 * place.count + (length held.old.items + length more.now) ≤ 2 ^ 32 }
-    ensures given { IfOk result (λ reached. (frames : List FrameValue) × (out.new.items ≡ out.old.items ++ frames) × (reached.count ≡ place.count + length frames) × AreTaken place.links (state_of place.header place.count) late (held.old.items ++ more.now) frames (state_of reached.header reached.count) reached.stage held.new.items) }
+    requires room { HasRoom place.scope.length (16 * place.count + (length held.old.items + length more.now)) }
+    ensures given { IfOk result (λ reached. (frames : List FrameValue) × (out.new.items ≡ out.old.items ++ frames) × AreTaken place.scope (state_of place.header place.count) late (held.old.items ++ more.now) frames (state_of reached.header reached.count) reached.stage held.new.items) }
     ensures memory { OnErr result ((out.new.items ≡ out.old.items) × (held.new.items ≡ held.old.items)) }
 {
     if held.is_empty() {
         return take_alone(alloc, place, late, held, more, out);
     }
+    let Some(header) = place.header else {
+        return take_joined(alloc, place, late, held, more, out);
+    };
     let before = held.len();
-    held.extend_from_slice(more)?;
-    match give(alloc, place, late, held, out) {
-        Ok((reached, used)) => {
-            drop_front(held, used);
-            Ok(reached)
-        }
+    let count = complete(header, held, more)?;
+    match take_on(alloc, place, late, held, more.split_at(count).1, out) {
+        Ok(reached) => Ok(reached),
         Err(wanting) => {
             held.truncate(before);
             Err(wanting)

@@ -1,6 +1,7 @@
 // Captures by tables.
-use crate::{Frame, Pcap, PcapFault};
+use crate::{Frame, LinkSet, Pcap, PcapFault, Scope};
 use std::alloc::{AllocError, Global};
+use std::process::Abort;
 use std::test::Fail;
 
 /// Two records, of 2 and 1 bytes, little-endian, with times in microseconds.
@@ -33,6 +34,14 @@ fn with(mut bytes: [u8; 59], changes: &[(usize, u8)]) -> [u8; 59] {
     bytes
 }
 
+/// Captures of Ethernet and Linux SLL, below 2^32 bytes and of any length.
+fn both_lengths() -> [Scope; 2] {
+    [
+        Scope::limited(LinkSet::Basic),
+        Scope::unlimited(LinkSet::Basic),
+    ]
+}
+
 /// After how many bytes a fault was found, if one was, and what the end answers.
 #[derive(Clone, Copy)]
 struct Told {
@@ -51,11 +60,12 @@ fn feed_again(pcap: &mut Pcap, piece: &[u8], out: &mut Vec<Frame>) -> Result<(),
 /// Feeds a stream in pieces of that many bytes.
 fn feed_all(
     alloc: Global,
+    scope: Scope,
     stream: &[u8],
     size: usize,
     out: &mut Vec<Frame>,
 ) -> Result<Told, AllocError> {
-    let mut pcap = Pcap::new(alloc)?;
+    let mut pcap = Pcap::for_scope(alloc, scope)?;
     let mut found = None;
     let mut taken = 0usize;
     for piece in stream.chunks(size.max(1)) {
@@ -80,25 +90,33 @@ fn each_form_gives_the_same_frames(rt: HostRuntime) -> Result<(), Fail> {
         (big(), 1_000_500_000),
     ];
     for (stream, first) in forms {
-        for size in [1, 7, 24, 59] {
-            let mut out: Vec<Frame> = Vec::new(rt.alloc());
-            let told = feed_all(rt.alloc(), &stream, size, &mut out)?;
-            assert_eq!(rt;
-                (told.found, told.end),
-                (None, Ok(2)),
-                "in pieces of {size}"
-            );
-            let wanted = [
-                (0, first, 2, 60, [0xaa, 0xbb].as_slice()),
-                (1, 2_000_000_000, 1, 100, [0xcc].as_slice()),
-            ];
-            assert_eq!(rt; out.len(), wanted.len());
-            for (frame, (num, ts, caplen, len, bytes)) in out.iter().zip(wanted) {
-                assert_eq!(rt; (frame.num, frame.ts), (num, ts));
-                assert_eq!(rt; (frame.caplen, frame.len), (caplen, len));
-                assert_eq!(rt; frame.bytes.as_slice(), bytes);
+        for scope in both_lengths() {
+            for size in [1, 7, 24, 59] {
+                let mut out: Vec<Frame> = Vec::new(rt.alloc());
+                let told = feed_all(rt.alloc(), scope, &stream, size, &mut out)?;
+                assert_eq!(rt;
+                    (told.found, told.end),
+                    (None, Ok(2)),
+                    "in pieces of {size}"
+                );
+                are_the_two(&rt, &out, first)?;
             }
         }
+    }
+    Ok(())
+}
+
+/// Fails where these aren't the two frames, the first of them of that time.
+fn are_the_two(rt: &impl Abort, out: &[Frame], first: u64) -> Result<(), Fail> {
+    let wanted = [
+        (0, first, 2, 60, [0xaa, 0xbb].as_slice()),
+        (1, 2_000_000_000, 1, 100, [0xcc].as_slice()),
+    ];
+    assert_eq!(rt; out.len(), wanted.len());
+    for (frame, (num, ts, caplen, len, bytes)) in out.iter().zip(wanted) {
+        assert_eq!(rt; (frame.num, frame.ts), (num, ts));
+        assert_eq!(rt; (frame.caplen, frame.len), (caplen, len));
+        assert_eq!(rt; frame.bytes.as_slice(), bytes);
     }
     Ok(())
 }
@@ -116,12 +134,12 @@ fn wanted_after(n: usize) -> (Result<u32, PcapFault>, usize) {
 
 #[test]
 fn a_cut_stream_is_cut_after_whole_records(rt: HostRuntime) -> Result<(), Fail> {
-    for stream in [little(), big()] {
+    for (stream, scope) in [little(), big()].into_iter().zip(both_lengths()) {
         for size in [1, 7, 59] {
             for n in 0..60 {
                 let mut out: Vec<Frame> = Vec::new(rt.alloc());
                 let cut = stream.get(..n).unwrap_or(&[]);
-                let told = feed_all(rt.alloc(), cut, size, &mut out)?;
+                let told = feed_all(rt.alloc(), scope, cut, size, &mut out)?;
                 let (end, count) = wanted_after(n);
                 assert_eq!(rt; (told.found, told.end), (None, end), "after {n} bytes");
                 assert_eq!(rt; out.len(), count, "after {n} bytes");
@@ -144,11 +162,12 @@ fn truncated_after(n: usize) -> Result<Option<u32>, PcapFault> {
 /// What the end of a stream answers that is read as truncated, in pieces of that many bytes.
 fn end_truncated(
     alloc: Global,
+    scope: Scope,
     stream: &[u8],
     size: usize,
     out: &mut Vec<Frame>,
 ) -> Result<Result<Option<u32>, PcapFault>, AllocError> {
-    let mut pcap = Pcap::new(alloc)?;
+    let mut pcap = Pcap::for_scope(alloc, scope)?;
     for piece in stream.chunks(size.max(1)) {
         let _ = feed_again(&mut pcap, piece, out);
     }
@@ -168,9 +187,12 @@ fn a_truncated_stream_has_its_whole_records(rt: HostRuntime) -> Result<(), Fail>
             for n in 0..60 {
                 let mut out: Vec<Frame> = Vec::new(rt.alloc());
                 let cut = stream.get(..n).unwrap_or(&[]);
-                let end = end_truncated(rt.alloc(), cut, size, &mut out)?;
-                assert_eq!(rt; end, truncated_after(n), "after {n} bytes");
-                assert_eq!(rt; out.len(), wanted_after(n).1, "after {n} bytes");
+                for scope in both_lengths() {
+                    out.clear();
+                    let end = end_truncated(rt.alloc(), scope, cut, size, &mut out)?;
+                    assert_eq!(rt; end, truncated_after(n), "after {n} bytes");
+                    assert_eq!(rt; out.len(), wanted_after(n).1, "after {n} bytes");
+                }
             }
         }
     }
@@ -186,10 +208,12 @@ fn other_faults_stay_of_a_truncated_stream(rt: HostRuntime) -> Result<(), Fail> 
         (with(little(), &[(53, 4)]), PcapFault::FrameTooLong(1)),
     ];
     for (stream, fault) in table {
-        for size in [1, 7, 65536] {
-            let mut out: Vec<Frame> = Vec::new(rt.alloc());
-            let end = end_truncated(rt.alloc(), &stream, size, &mut out)?;
-            assert_eq!(rt; end, Err(fault));
+        for scope in both_lengths() {
+            for size in [1, 7, 65536] {
+                let mut out: Vec<Frame> = Vec::new(rt.alloc());
+                let end = end_truncated(rt.alloc(), scope, &stream, size, &mut out)?;
+                assert_eq!(rt; end, Err(fault));
+            }
         }
     }
     Ok(())
@@ -222,7 +246,13 @@ fn each_field_that_counts_is_looked_at(rt: HostRuntime) -> Result<(), Fail> {
         let stream = with(little(), &changes);
         for size in [1, 7, 59] {
             let mut out: Vec<Frame> = Vec::new(rt.alloc());
-            let told = feed_all(rt.alloc(), &stream, size, &mut out)?;
+            let told = feed_all(
+                rt.alloc(),
+                Scope::unlimited(LinkSet::Basic),
+                &stream,
+                size,
+                &mut out,
+            )?;
             let (place, end) = match fault {
                 None => (None, Ok(2)),
                 Some((at, fault)) => (Some(at), Err(fault)),
@@ -263,7 +293,13 @@ fn a_capture_is_of_link_1_or_113_by_its_low_bits(rt: HostRuntime) -> Result<(), 
     for (link, high, lawful) in cases {
         for stream in of_link(link, high) {
             let mut out: Vec<Frame> = Vec::new(rt.alloc());
-            let told = feed_all(rt.alloc(), &stream, 1, &mut out)?;
+            let told = feed_all(
+                rt.alloc(),
+                Scope::limited(LinkSet::Basic),
+                &stream,
+                1,
+                &mut out,
+            )?;
             if lawful {
                 assert_eq!(rt; (told.found, told.end), (None, Ok(2)), "link {link}");
             } else {
@@ -287,7 +323,13 @@ fn a_short_stream_shows_what_it_can(rt: HostRuntime) -> Result<(), Fail> {
     ];
     for (stream, fault) in cases {
         let mut out: Vec<Frame> = Vec::new(rt.alloc());
-        let told = feed_all(rt.alloc(), stream, 1, &mut out)?;
+        let told = feed_all(
+            rt.alloc(),
+            Scope::unlimited(LinkSet::Basic),
+            stream,
+            1,
+            &mut out,
+        )?;
         assert_eq!(rt; told.end, Err(fault));
     }
     Ok(())

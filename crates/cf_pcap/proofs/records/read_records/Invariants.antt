@@ -1,15 +1,15 @@
-use Rattle.std.proofs.Common.{◌≡◌, length, drop, ◌≤◌, ◌+◌, ◌-◌, ◌*◌, Some}
+use Rattle.std.proofs.Common.{◌≡◌, length, drop, ◌+◌, ◌-◌, ◌*◌, ◌≤◌, Some}
+use Rattle.cf_stream.specs.Limits.{HasRoom}
 use Rattle.cf_stream.specs.Format.{ReadsTo}
-use Rattle.cf_pcap.specs.declared.links.LinkSet.{LinkSet}
 use Rattle.cf_pcap.specs.File.{pcap}
 use Rattle.cf_pcap.specs.Reading.{state_of}
 use Rattle.cf_pcap.proofs.records.read_records.Given as goal
 
 abbrev pub invariant-loop-alloc : goal.invariant-loop-alloc
 invariant-loop-alloc l = record {
-  read : (links : LinkSet)
-      → ReadsTo (pcap links) (state_of (Some l.header) l.num) l.bytes l.frames.items (state_of (Some l.header) (l.num + length l.frames.items)) l.rest;
-  few : 16 * length l.frames.items + length l.rest ≤ length l.bytes;
+  read : ReadsTo (pcap l.scope) (state_of (Some l.header) l.num) l.bytes l.frames.items (state_of (Some l.header) l.count) l.rest;
+  room : HasRoom l.scope.length (16 * l.count + length l.rest);
+  few : length l.rest ≤ length l.bytes;
   back : l.rest ≡ drop (length l.bytes - length l.rest) l.bytes;
 }
 

@@ -1,4 +1,4 @@
-use Rattle.std.proofs.Common.{◌≡◌, ◌+◌, [], length, Result, sym, subst, ◌∙◌, append-nil}
+use Rattle.std.proofs.Common.{◌≡◌, [], Result, sym, subst, ◌∙◌, append-nil}
 use Rattle.cf_pcap.specs.declared.fault.PcapFault.{PcapFault}
 use Rattle.cf_pcap.specs.declared.stage.Stage.{Stage}
 use Rattle.cf_pcap.specs.declared.stage.Stage.TheVariants.{Running, Stopped}
@@ -30,7 +30,7 @@ invariant_of-self-2 c =
     let inside = c.self.inside in
     let reader : PcapValue =
     record {
-      links = inside.links;
+      scope = inside.scope;
       stage = inside.stage;
       total = inside.total;
       state = record { header = inside.header; count = inside.count };
@@ -38,14 +38,15 @@ invariant_of-self-2 c =
     } in
     let given = c.in_ok-given.ensures.given in
     let sound : IsSoundAt Running reader = subst (λ (s : Stage). IsSoundAt s reader) (running_of inside.stage c.in_default.not-Stopped) c.self.invariant in
-    sound_call reader c.args.piece.now c.front-taken.result.now c.late_of-late.result given.0 _ c.take_in.new.held.items c.in_ok-given.given.stage sound c.front-taken.ensures c.late_of-late.ensures given.3
+    sound_call reader c.args.piece.now c.front-taken.result.now c.late_of-late.result given.0 _ c.take_in.new.held.items c.in_ok-given.given.stage
+    c.total_after-total.result sound c.front-taken.ensures c.total_after-total.ensures c.late_of-late.ensures given.2
 
 pub returns-clause-fed : goal.returns-clause-fed
 returns-clause-fed c =
     let inside = c.self.inside in
     let reader : PcapValue =
     record {
-      links = inside.links;
+      scope = inside.scope;
       stage = inside.stage;
       total = inside.total;
       state = record { header = inside.header; count = inside.count };
@@ -55,7 +56,7 @@ returns-clause-fed c =
     let t = state_of c.in_ok-given.given.header c.in_ok-given.given.count in
     let stage = c.in_ok-given.given.stage in
     let taken = c.front-taken.result.now in
-    let after : PcapValue = Later inside.links stage (inside.total + length taken) t c.take_in.new.held.items in
+    let after : PcapValue = Later inside.scope stage c.total_after-total.result t c.take_in.new.held.items in
     let is : inside.stage ≡ Running = running_of inside.stage c.in_default.not-Stopped in
     let sound : IsSoundAt Running reader = subst (λ (s : Stage). IsSoundAt s reader) is c.self.invariant in
     λ _. (
@@ -65,7 +66,7 @@ returns-clause-fed c =
           let run : IsRunning reader stream =
           subst (λ (s : Stage). IsAt s reader stream) is (subst (λ (r : PcapValue). IsStateOf r stream) (sym c.self.view_is) state) in
           subst (λ (answer : Result (Unit {0}) PcapFault). IsFed stream c.args.piece.now given.0 answer after) (sym c.answer_of.ensures)
-          (fed_call reader stream c.args.piece.now taken c.late_of-late.result given.0 t c.take_in.new.held.items stage run sound.0 c.front-taken.ensures c.late_of-late.ensures given.3),
+          (fed_call reader stream c.args.piece.now taken c.late_of-late.result given.0 t c.take_in.new.held.items stage c.total_after-total.result run sound.0 c.front-taken.ensures c.total_after-total.ensures c.late_of-late.ensures given.2),
     )
 
 pub returns-clause-stopped : goal.returns-clause-stopped
@@ -79,7 +80,7 @@ returns-clause-memory c = λ memory.
     let inside = c.self.inside in
     let reader : PcapValue =
     record {
-      links = inside.links;
+      scope = inside.scope;
       stage = inside.stage;
       total = inside.total;
       state = record { header = inside.header; count = inside.count };
@@ -90,6 +91,6 @@ returns-clause-memory c = λ memory.
     let stage = c.in_ok-given.given.stage in
     let taken = c.front-taken.result.now in
     let sound : IsSoundAt Running reader = subst (λ (s : Stage). IsSoundAt s reader) (running_of inside.stage c.in_default.not-Stopped) c.self.invariant in
-    let later : IsSound (Later inside.links stage (inside.total + length taken) t c.take_in.new.held.items) =
-    sound_call reader c.args.piece.now taken c.late_of-late.result given.0 t c.take_in.new.held.items stage sound c.front-taken.ensures c.late_of-late.ensures given.3 in
-    absurd (no_memory (Later inside.links stage (inside.total + length taken) t c.take_in.new.held.items) later (sym c.answer_of.ensures ∙ memory))
+    let later : IsSound (Later inside.scope stage c.total_after-total.result t c.take_in.new.held.items) =
+    sound_call reader c.args.piece.now taken c.late_of-late.result given.0 t c.take_in.new.held.items stage c.total_after-total.result sound c.front-taken.ensures c.total_after-total.ensures c.late_of-late.ensures given.2 in
+    absurd (no_memory (Later inside.scope stage c.total_after-total.result t c.take_in.new.held.items) later (sym c.answer_of.ensures ∙ memory))

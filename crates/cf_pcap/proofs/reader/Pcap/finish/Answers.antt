@@ -9,7 +9,7 @@ returns-in-Running-clause-ended c =
     let inside = c.self.inside in
     let reader : PcapValue =
     record {
-      links = inside.links;
+      scope = inside.scope;
       stage = inside.stage;
       total = inside.total;
       state = record { header = inside.header; count = inside.count };
@@ -17,6 +17,6 @@ returns-in-Running-clause-ended c =
     } in
     let empty : length reader.held ≡ 0 = search rules in
     let some : is_some reader.state.header ≡ true = search rules in
-    λ stream state. subst (λ (r : PcapValue). IsEnded r.links stream (Ok inside.count)) c.self.view_is
+    λ stream state. subst (λ (r : PcapValue). IsEnded r.scope stream (Ok inside.count)) c.self.view_is
     (ended_whole reader stream inside.count c.in-Running.is (nil_from_length reader.held empty) some refl
     (subst (λ (r : PcapValue). IsStateOf r stream) (sym c.self.view_is) state))

@@ -11,13 +11,13 @@ returns-in-Stopped-clause-ended c =
     let inside = c.self.inside in
     let reader : PcapValue =
     record {
-      links = inside.links;
+      scope = inside.scope;
       stage = inside.stage;
       total = inside.total;
       state = record { header = inside.header; count = inside.count };
       held = inside.held.items;
     } in
-    λ stream frames state given. subst (λ (r : PcapValue). Breaks r.links stream c.in-Stopped.found) c.self.view_is
+    λ stream frames state given. subst (λ (r : PcapValue). Breaks r.scope stream c.in-Stopped.found) c.self.view_is
     (end_stopped reader stream c.in-Stopped.found c.in-Stopped.is (subst (λ (r : PcapValue). IsStateOf r stream) (sym c.self.view_is) state))
 
 pub returns-in-Running-clause-ended : goal.returns-in-Running-clause-ended
@@ -25,14 +25,14 @@ returns-in-Running-clause-ended c =
     let inside = c.self.inside in
     let reader : PcapValue =
     record {
-      links = inside.links;
+      scope = inside.scope;
       stage = inside.stage;
       total = inside.total;
       state = record { header = inside.header; count = inside.count };
       held = inside.held.items;
     } in
     let without : is_some reader.state.header ≡ false = search rules in
-    λ stream frames state given. subst (λ (r : PcapValue). Breaks r.links stream (Cut inside.count)) c.self.view_is
+    λ stream frames state given. subst (λ (r : PcapValue). Breaks r.scope stream (Cut inside.count)) c.self.view_is
     (end_in_header reader stream inside.count c.in-Running.is without refl (subst (λ (r : PcapValue). IsStateOf r stream) (sym c.self.view_is) state))
 
 pub returns-in-Running-2-clause-ended : goal.returns-in-Running-2-clause-ended
@@ -40,7 +40,7 @@ returns-in-Running-2-clause-ended c =
     let inside = c.self.inside in
     let reader : PcapValue =
     record {
-      links = inside.links;
+      scope = inside.scope;
       stage = inside.stage;
       total = inside.total;
       state = record { header = inside.header; count = inside.count };
@@ -48,17 +48,17 @@ returns-in-Running-2-clause-ended c =
     } in
     let empty : length reader.held ≡ 0 = search rules in
     let some : is_some reader.state.header ≡ true = search rules in
-    λ stream frames state given. subst (λ (r : PcapValue). Says r.links stream frames None) c.self.view_is
+    λ stream frames state given. subst (λ (r : PcapValue). Says r.scope stream frames None) c.self.view_is
     (end_whole reader stream frames c.in-Running-2.is (nil_from_length reader.held empty) some
     (subst (λ (r : PcapValue). IsStateOf r stream) (sym c.self.view_is) state)
-    (subst (λ (r : PcapValue). AreGiven r.links stream frames) (sym c.self.view_is) given))
+    (subst (λ (r : PcapValue). AreGiven r.scope stream frames) (sym c.self.view_is) given))
 
 pub returns-clause-ended : goal.returns-clause-ended
 returns-clause-ended c =
     let inside = c.self.inside in
     let reader : PcapValue =
     record {
-      links = inside.links;
+      scope = inside.scope;
       stage = inside.stage;
       total = inside.total;
       state = record { header = inside.header; count = inside.count };
@@ -66,7 +66,7 @@ returns-clause-ended c =
     } in
     let held : 0 < length reader.held = search rules in
     let some : is_some reader.state.header ≡ true = search rules in
-    λ stream frames state given. subst (λ (r : PcapValue). Says r.links stream frames (Some inside.count)) c.self.view_is
+    λ stream frames state given. subst (λ (r : PcapValue). Says r.scope stream frames (Some inside.count)) c.self.view_is
     (end_within reader stream frames inside.count c.in-Running-3.is held some refl
     (subst (λ (r : PcapValue). IsStateOf r stream) (sym c.self.view_is) state)
-    (subst (λ (r : PcapValue). AreGiven r.links stream frames) (sym c.self.view_is) given))
+    (subst (λ (r : PcapValue). AreGiven r.scope stream frames) (sym c.self.view_is) given))

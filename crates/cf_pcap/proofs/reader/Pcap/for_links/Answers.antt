@@ -1,5 +1,0 @@
-use Rattle.cf_pcap.proofs.Feeding.{new_runs}
-use Rattle.cf_pcap.proofs.reader.Pcap.for_links.Goals as goal
-
-pub returns-clause-state : goal.returns-clause-state
-returns-clause-state c = new_runs c.args.links c.new.result.items c.new.ensures.items
