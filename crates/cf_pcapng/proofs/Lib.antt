@@ -6,3 +6,4 @@ pub mod Feeding
 pub mod Ruling
 pub mod Filing
 pub mod Truncating
+pub mod Numbers

@@ -1,7 +1,11 @@
 -- The block at the front, as the code finds it.
-use Rattle.std.proofs.Common.{◌≡◌, inl, inr, ℕ, ◌<◌, ◌≤◌, ◌+◌, List, ◌++◌, length, take, drop, Option, Result, Ok, Err, IfOk, refl, sym, ap, subst, ◌∙◌, arith}
+use Rattle.std.proofs.Common.{◌≡◌, inl, inr, ℕ, ◌<◌, ◌≤◌, ◌+◌, ◌-◌, List, ◌++◌, length, take, drop, Option, Result, Ok, Err, IfOk, refl, sym, ap, subst, ◌∙◌, arith}
 use Rattle.std.proofs.lemmas.Bool.{cases_lt}
 use Rattle.cf_pcap.specs.declared.links.LinkSet.{LinkSet}
+use Rattle.cf_pcap.specs.declared.scope.Scope.{Scope}
+use Rattle.cf_stream.specs.declared.limit.Length.{Length}
+use Rattle.cf_stream.specs.declared.limit.Length.TheVariants.{Limited, Any}
+use Rattle.cf_stream.specs.Limits.{IsShort, HasRoom}
 use Rattle.cf_pcap.specs.declared.form.Order.{Order}
 use Rattle.cf_pcap.specs.Capture.{FrameValue}
 use Rattle.cf_stream.specs.Format.{Wants, Bad, Takes, ReadsTo}
@@ -34,59 +38,65 @@ pub next_whole : (links : LinkSet) (s : State) (bytes : List ℕ) (order : Order
 next_whole links s bytes order kind total h whole = next_by_head links s bytes (Stands order kind total) h ∙ rw (not_below (length bytes) total whole) refl
 
 -- what the block at the front shows
-abbrev pub shown_by : State → List ℕ → Next → Shown
-shown_by s bytes next.Wants = Wants
-shown_by s bytes (next.Flawed flaw) = Bad (fault_of s.count flaw)
-shown_by s bytes (next.Block total content) = Takes total (frames_of s.count content (take total bytes)) (after s content)
+abbrev pub shown_by : Length → State → List ℕ → Next → Shown
+shown_by l s bytes next.Wants = Wants
+shown_by l s bytes (next.Flawed flaw) = Bad (fault_of s.count flaw)
+shown_by l s bytes (next.Block total content) = Takes total (frames_of s.count content (take total bytes)) (after l s content)
 
-by_content : (s : State) (bytes : List ℕ) (total : ℕ) (found : Result Content Flaw) → total ≤ length bytes
-    → block_found s (take total bytes) found ≡ shown_by s bytes (block_next total found)
-by_content s bytes total (Ok content) whole =
-    ap (λ n. Takes n (frames_of s.count content (take total bytes)) (after s content)) (length_front total bytes whole)
-by_content s bytes total (Err flaw) whole = refl
+by_content : (l : Length) (s : State) (bytes : List ℕ) (total : ℕ) (found : Result Content Flaw) → total ≤ length bytes
+    → block_found l s (take total bytes) found ≡ shown_by l s bytes (block_next total found)
+by_content l s bytes total (Ok content) whole =
+    ap (λ n. Takes n (frames_of s.count content (take total bytes)) (after l s content)) (length_front total bytes whole)
+by_content l s bytes total (Err flaw) whole = refl
 
-by_head : (links : LinkSet) (s : State) (bytes : List ℕ) (head : Head) → found_at links s bytes head ≡ shown_by s bytes (next_at links s.interfaces bytes head)
-by_head links s bytes Short = refl
-by_head links s bytes (Flawed flaw) = refl
-by_head links s bytes (Stands order kind total) = elim (cases_lt (length bytes) total) [
+by_head : (scope : Scope) (s : State) (bytes : List ℕ) (head : Head)
+    → found_at scope s bytes head ≡ shown_by scope.length s bytes (next_at scope.links s.interfaces bytes head)
+by_head scope s bytes Short = refl
+by_head scope s bytes (Flawed flaw) = refl
+by_head scope s bytes (Stands order kind total) = elim (cases_lt (length bytes) total) [
   | inl short ↦ rw (below (length bytes) total short) refl
-  | inr whole ↦ rw (not_below (length bytes) total whole) (by_content s bytes total (content_of links s.interfaces order kind (take total bytes)) whole)
+  | inr whole ↦ rw (not_below (length bytes) total whole)
+      (by_content scope.length s bytes total (content_of scope.links s.interfaces order kind (take total bytes)) whole)
 ]
 
-pub step_by_next : (links : LinkSet) (s : State) (bytes : List ℕ) → step links s bytes ≡ shown_by s bytes (next_of links s bytes)
-step_by_next links s bytes =
-    step_at links s bytes (head_of s.order bytes) refl
-    ∙ by_head links s bytes (head_of s.order bytes)
-    ∙ ap (λ (x : Next). shown_by s bytes x) (sym (next_by_head links s bytes (head_of s.order bytes) refl))
+pub step_by_next : (scope : Scope) (s : State) (bytes : List ℕ) → step scope s bytes ≡ shown_by scope.length s bytes (next_of scope.links s bytes)
+step_by_next scope s bytes =
+    step_at scope s bytes (head_of s.order bytes) refl
+    ∙ by_head scope s bytes (head_of s.order bytes)
+    ∙ ap (λ (x : Next). shown_by scope.length s bytes x) (sym (next_by_head scope.links s bytes (head_of s.order bytes) refl))
 
-pub step_of : (links : LinkSet) (s : State) (bytes : List ℕ) (found : Next) → found ≡ next_of links s bytes → step links s bytes ≡ shown_by s bytes found
-step_of links s bytes found h = step_by_next links s bytes ∙ ap (λ (x : Next). shown_by s bytes x) (sym h)
+pub step_of : (scope : Scope) (s : State) (bytes : List ℕ) (found : Next) → found ≡ next_of scope.links s bytes
+    → step scope s bytes ≡ shown_by scope.length s bytes found
+step_of scope s bytes found h = step_by_next scope s bytes ∙ ap (λ (x : Next). shown_by scope.length s bytes x) (sym h)
 
 -- one more block is read
-pub one_more : (links : LinkSet) (s : State) (bytes : List ℕ) (frames : List FrameValue) (t : State) (left : List ℕ) (total : ℕ) (content : Content)
-    → ReadsTo (pcapng links) s bytes frames t left → next.Block total content ≡ next_of links t left
-    → ReadsTo (pcapng links) s bytes (frames ++ frames_of t.count content (take total left)) (after t content) (drop total left)
-one_more links s bytes frames t left total content read is =
-    reads_on (pcapng links) s bytes frames (frames_of t.count content (take total left)) t left (after t content) (drop total left) read
-    (reads_one (pcapng links) t left total (frames_of t.count content (take total left)) (after t content)
-    (step_of links t left (next.Block total content) is))
+pub one_more : (scope : Scope) (s : State) (bytes : List ℕ) (frames : List FrameValue) (t : State) (left : List ℕ) (total : ℕ) (content : Content)
+    → ReadsTo (pcapng scope) s bytes frames t left → next.Block total content ≡ next_of scope.links t left
+    → ReadsTo (pcapng scope) s bytes (frames ++ frames_of t.count content (take total left)) (after scope.length t content) (drop total left)
+one_more scope s bytes frames t left total content read is =
+    reads_on (pcapng scope) s bytes frames (frames_of t.count content (take total left)) t left (after scope.length t content) (drop total left) read
+    (reads_one (pcapng scope) t left total (frames_of t.count content (take total left)) (after scope.length t content)
+    (step_of scope t left (next.Block total content) is))
 
-pub count_after : (t : State) (content : Content) → (after t content).count ≤ t.count + 1
-count_after t (NewSection order) = omega arith
-count_after t (NewInterface interface) = omega arith
-count_after t (Captures packet) = omega arith
-count_after t Nothing = omega arith
+-- there is room for the number after a block, and for what is left
+pub room_after : (l : Length) (t : State) (content : Content) (total left : ℕ) → 12 ≤ total → total ≤ left → HasRoom l (t.count + left)
+    → IsShort l (t.count + 1) × HasRoom l ((after l t content).count + (left - total))
+room_after Any t content total left some fits room = (tt, tt)
+room_after Limited t (NewSection order) total left some fits room = (omega (arith, some, fits, room), omega (arith, some, fits, room))
+room_after Limited t (NewInterface interface) total left some fits room = (omega (arith, some, fits, room), omega (arith, some, fits, room))
+room_after Limited t (Captures packet) total left some fits room = (omega (arith, some, fits, room), omega (arith, some, fits, room))
+room_after Limited t Nothing total left some fits room = (omega (arith, some, fits, room), omega (arith, some, fits, room))
 
 -- what was read, where the blocks end
-pub read_of : (links : LinkSet) (s : State) (bytes : List ℕ) (frames given : List FrameValue) (t last : State) (left rest : List ℕ) (end flaw : Option Flaw)
-    → ReadsTo (pcapng links) s bytes frames t left → IsEnd links t left end → last ≡ t → given ≡ frames → rest ≡ left → flaw ≡ end
-    → AreRead links s bytes given last rest flaw
-read_of links s bytes frames given t last left rest end flaw read is p q r e =
-    let done : AreRead links s bytes frames t left end = record { read = read; end = is } in
-    subst (λ (x : State). AreRead links s bytes given x rest flaw) (sym p)
-    (subst (λ (x : List FrameValue). AreRead links s bytes x t rest flaw) (sym q)
-    (subst (λ (x : List ℕ). AreRead links s bytes frames t x flaw) (sym r)
-    (subst (λ (x : Option Flaw). AreRead links s bytes frames t left x) (sym e) done)))
+pub read_of : (scope : Scope) (s : State) (bytes : List ℕ) (frames given : List FrameValue) (t last : State) (left rest : List ℕ) (end flaw : Option Flaw)
+    → ReadsTo (pcapng scope) s bytes frames t left → IsEnd scope t left end → last ≡ t → given ≡ frames → rest ≡ left → flaw ≡ end
+    → AreRead scope s bytes given last rest flaw
+read_of scope s bytes frames given t last left rest end flaw read is p q r e =
+    let done : AreRead scope s bytes frames t left end = record { read = read; end = is } in
+    subst (λ (x : State). AreRead scope s bytes given x rest flaw) (sym p)
+    (subst (λ (x : List FrameValue). AreRead scope s bytes x t rest flaw) (sym q)
+    (subst (λ (x : List ℕ). AreRead scope s bytes frames t x flaw) (sym r)
+    (subst (λ (x : Option Flaw). AreRead scope s bytes frames t left x) (sym e) done)))
 
 -- from what is said of an answer that is Ok
 pub by_ok : {T E : Type 0} (r : Result T E) (P Q : T → Type 0) → ((x : T) → P x → Q x) → IfOk r P → IfOk r Q

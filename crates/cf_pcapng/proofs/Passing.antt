@@ -4,10 +4,13 @@ use Rattle.std.proofs.lemmas.Bool.{cases_lt}
 use Rattle.std.proofs.lemmas.Bool.Decides.{nat_tests}
 use Rattle.std.proofs.lemmas.List.{take-append-drop}
 use Rattle.std.proofs.Math.Seq.{drop-append-add}
-use Rattle.cf_pcap.specs.declared.links.LinkSet.{LinkSet}
+use Rattle.cf_pcap.specs.declared.scope.Scope.{Scope}
 use Rattle.cf_pcap.specs.declared.form.Order.{Order}
 use Rattle.cf_pcap.specs.Capture.{FrameValue, number_in}
 use Rattle.cf_pcap.proofs.Following.{number_later}
+use Rattle.cf_stream.specs.declared.limit.Length.{Length}
+use Rattle.cf_stream.specs.declared.limit.Length.TheVariants.{Limited, Any}
+use Rattle.cf_stream.specs.Limits.{count_on}
 use Rattle.cf_stream.specs.Format.{Wants, Bad, Takes, ReadsTo}
 use Rattle.cf_stream.proofs.Units.{reads_nothing, reads_on, reads_one, reads_fit, reads_count}
 use Rattle.cf_pcapng.specs.declared.fault.Flaw.{Flaw}
@@ -22,22 +25,22 @@ use Rattle.cf_pcapng.specs.declared.content.Content.TheVariants.{Nothing}
 use Rattle.cf_pcapng.specs.declared.passed.Passed.{Passed}
 use Rattle.cf_pcapng.specs.Blocks.{head_of, last_total, content_of, is_section}
 use Rattle.cf_pcapng.specs.File.{State, fault_of, found_at, block_found, step, pcapng}
-use Rattle.cf_pcapng.specs.Reading.{AreRead, WasPassed, Begins, Breaks, AreReadOn, IsLetGo, IsPassedAt, HasRoom, IsSoundOn, IsGoneOn}
+use Rattle.cf_pcapng.specs.Reading.{AreRead, WasPassed, Begins, Breaks, AreReadOn, IsLetGo, IsPassedAt, HasRoom, FitsIn, IsSoundOn, IsGoneOn}
 use Rattle.cf_pcapng.proofs.Heads.{head_stays, head_by_8, section_first, standing, at_least, at_most, seen_size}
 use Rattle.cf_pcapng.proofs.Steps.{Shown, step_at, found_short, found_whole, length_front, stepper}
 
 -- What a block of an unknown type shows.
 
-content_true : (links : LinkSet) (interfaces : List Interface) (order : Order) (block : List ℕ) → last_total order block ≡ length block
-    → content_of links interfaces order Other block ≡ Ok Nothing
+content_true : (scope : Scope) (interfaces : List Interface) (order : Order) (block : List ℕ) → last_total order block ≡ length block
+    → content_of scope.links interfaces order Other block ≡ Ok Nothing
 unfolding content_of
-content_true links interfaces order block h = let same : eqb (last_total order block) (length block) ≡ true =
+content_true scope interfaces order block h = let same : eqb (last_total order block) (length block) ≡ true =
     eq-eqb (last_total order block) (length block) h in rw same refl
 
-content_false : (links : LinkSet) (interfaces : List Interface) (order : Order) (block : List ℕ) → (last_total order block ≡ length block → ⊥)
-    → content_of links interfaces order Other block ≡ Err BadLength
+content_false : (scope : Scope) (interfaces : List Interface) (order : Order) (block : List ℕ) → (last_total order block ≡ length block → ⊥)
+    → content_of scope.links interfaces order Other block ≡ Err BadLength
 unfolding content_of
-content_false links interfaces order block h = let other : eqb (last_total order block) (length block) ≡ false = grind (arith, nat_tests) in rw other refl
+content_false scope interfaces order block h = let other : eqb (last_total order block) (length block) ≡ false = grind (arith, nat_tests) in rw other refl
 
 -- the last field of a block whose first bytes were let go
 last_field : (order : Order) (gone bytes : List ℕ) (total left : ℕ) → length gone + left ≡ total → 4 ≤ left → left ≤ length bytes
@@ -57,18 +60,18 @@ head_kept : (order : Option Order) (block : Passed) (gone bytes : List ℕ) → 
     → head_of order (gone ++ bytes) ≡ Stands block.order Other block.total
 head_kept order block gone bytes was = head_stays order gone bytes (λ h. let no : Short ≡ Stands block.order Other block.total = sym h ∙ was.0 in cc) ∙ was.0
 
-pub passed_wants : (links : LinkSet) (s : State) (block : Passed) (gone bytes : List ℕ) → WasPassed s.order (Some block) gone
-    → block.gone + length bytes < block.total → step links s (gone ++ bytes) ≡ Wants
-passed_wants links s block gone bytes was short =
+pub passed_wants : (scope : Scope) (s : State) (block : Passed) (gone bytes : List ℕ) → WasPassed s.order (Some block) gone
+    → block.gone + length bytes < block.total → step scope s (gone ++ bytes) ≡ Wants
+passed_wants scope s block gone bytes was short =
     let len : length (gone ++ bytes) ≡ length gone + length bytes = length-append gone bytes in
     let size : length gone ≡ block.gone = was.1 in
-    step_at links s (gone ++ bytes) (Stands block.order Other block.total) (head_kept s.order block gone bytes was)
-    ∙ found_short links s (gone ++ bytes) block.order Other block.total (omega (arith, len, size, short))
+    step_at scope s (gone ++ bytes) (Stands block.order Other block.total) (head_kept s.order block gone bytes was)
+    ∙ found_short scope s (gone ++ bytes) block.order Other block.total (omega (arith, len, size, short))
 
-pub passed_over : (links : LinkSet) (s : State) (block : Passed) (gone bytes : List ℕ) (left : ℕ) → WasPassed s.order (Some block) gone
+pub passed_over : (scope : Scope) (s : State) (block : Passed) (gone bytes : List ℕ) (left : ℕ) → WasPassed s.order (Some block) gone
     → block.gone + left ≡ block.total → left ≤ length bytes → number_in block.order 4 (drop (left - 4) bytes) ≡ block.total
-    → step links s (gone ++ bytes) ≡ Takes block.total [] s
-passed_over links s block gone bytes left was is whole last =
+    → step scope s (gone ++ bytes) ≡ Takes block.total [] s
+passed_over scope s block gone bytes left was is whole last =
     let len : length (gone ++ bytes) ≡ length gone + length bytes = length-append gone bytes in
     let gone_is : length gone ≡ block.gone = was.1 in
     let room : block.gone + 4 ≤ block.total = was.2 in
@@ -76,16 +79,16 @@ passed_over links s block gone bytes left was is whole last =
     let size : length (take block.total (gone ++ bytes)) ≡ block.total = length_front block.total (gone ++ bytes) fits in
     let field : last_total block.order (take block.total (gone ++ bytes)) ≡ block.total =
     last_field block.order gone bytes block.total left (omega (arith, gone_is, is)) (omega (arith, is, room)) whole ∙ last in
-    step_at links s (gone ++ bytes) (Stands block.order Other block.total) (head_kept s.order block gone bytes was)
-    ∙ found_whole links s (gone ++ bytes) block.order Other block.total fits
-    ∙ ap (λ (x : Result Content Flaw). block_found s (take block.total (gone ++ bytes)) x)
-    (content_true links s.interfaces block.order (take block.total (gone ++ bytes)) (field ∙ sym size))
+    step_at scope s (gone ++ bytes) (Stands block.order Other block.total) (head_kept s.order block gone bytes was)
+    ∙ found_whole scope s (gone ++ bytes) block.order Other block.total fits
+    ∙ ap (λ (x : Result Content Flaw). block_found scope.length s (take block.total (gone ++ bytes)) x)
+    (content_true scope s.interfaces block.order (take block.total (gone ++ bytes)) (field ∙ sym size))
     ∙ ap (λ n. Takes n [] s) size
 
-pub passed_flawed : (links : LinkSet) (s : State) (block : Passed) (gone bytes : List ℕ) → WasPassed s.order (Some block) gone
+pub passed_flawed : (scope : Scope) (s : State) (block : Passed) (gone bytes : List ℕ) → WasPassed s.order (Some block) gone
     → block.total ≤ block.gone + length bytes → (number_in block.order 4 (drop (block.total - block.gone - 4) bytes) ≡ block.total → ⊥)
-    → step links s (gone ++ bytes) ≡ Bad (fault_of s.count BadLength)
-passed_flawed links s block gone bytes was whole other =
+    → step scope s (gone ++ bytes) ≡ Bad (fault_of s.count BadLength)
+passed_flawed scope s block gone bytes was whole other =
     let len : length (gone ++ bytes) ≡ length gone + length bytes = length-append gone bytes in
     let gone_is : length gone ≡ block.gone = was.1 in
     let room : block.gone + 4 ≤ block.total = was.2 in
@@ -93,38 +96,39 @@ passed_flawed links s block gone bytes was whole other =
     let size : length (take block.total (gone ++ bytes)) ≡ block.total = length_front block.total (gone ++ bytes) fits in
     let field : last_total block.order (take block.total (gone ++ bytes)) ≡ number_in block.order 4 (drop (block.total - block.gone - 4) bytes) =
     last_field block.order gone bytes block.total (block.total - block.gone) (omega (arith, gone_is, room)) (omega (arith, room)) (omega (arith, whole)) in
-    step_at links s (gone ++ bytes) (Stands block.order Other block.total) (head_kept s.order block gone bytes was)
-    ∙ found_whole links s (gone ++ bytes) block.order Other block.total fits
-    ∙ ap (λ (x : Result Content Flaw). block_found s (take block.total (gone ++ bytes)) x)
-    (content_false links s.interfaces block.order (take block.total (gone ++ bytes)) (λ h. other (sym field ∙ h ∙ size)))
+    step_at scope s (gone ++ bytes) (Stands block.order Other block.total) (head_kept s.order block gone bytes was)
+    ∙ found_whole scope s (gone ++ bytes) block.order Other block.total fits
+    ∙ ap (λ (x : Result Content Flaw). block_found scope.length s (take block.total (gone ++ bytes)) x)
+    (content_false scope s.interfaces block.order (take block.total (gone ++ bytes)) (λ h. other (sym field ∙ h ∙ size)))
 
 -- What is held of a block that has only begun.
 
-not_wants : (s : State) (block : List ℕ) (found : Result Content Flaw) → block_found s block found ≡ Wants → ⊥
-not_wants s block (Ok content) h = cc
-not_wants s block (Err flaw) h = cc
+not_wants : (scope : Scope) (s : State) (block : List ℕ) (found : Result Content Flaw) → block_found scope.length s block found ≡ Wants → ⊥
+not_wants scope s block (Ok content) h = cc
+not_wants scope s block (Err flaw) h = cc
 
-few_at : (links : LinkSet) (s : State) (rest : List ℕ) (head : Head) → head_of s.order rest ≡ head → found_at links s rest head ≡ Wants
+few_at : (scope : Scope) (s : State) (rest : List ℕ) (head : Head) → head_of s.order rest ≡ head → found_at scope s rest head ≡ Wants
     → IsPassedAt s.order rest None → length rest < 2 ^ 20
-few_at links s rest Short is h none = let small : length rest < 12 = seen_size s.order rest is in omega (arith, small)
-few_at links s rest (Flawed flaw) is h none = absurd (let no : ◌≡◌ {A = Shown} (Bad (fault_of s.count flaw)) Wants = h in cc)
-few_at links s rest (Stands order kind total) is h none = elim (cases_lt (length rest) total) [
+few_at scope s rest Short is h none = let small : length rest < 12 = seen_size s.order rest is in omega (arith, small)
+few_at scope s rest (Flawed flaw) is h none = absurd (let no : ◌≡◌ {A = Shown} (Bad (fault_of s.count flaw)) Wants = h in cc)
+few_at scope s rest (Stands order kind total) is h none = elim (cases_lt (length rest) total) [
   | inl short ↦
       let it = standing s.order rest order kind total is in
       let most : total ≤ 2 ^ 20 = at_most kind total it.lawful (λ e. none order total short (is ∙ ap (λ (k : Kind). Stands order k total) e)) in
       omega (arith, short, most)
   | inr whole ↦ absurd
-      (not_wants s (take total rest) (content_of links s.interfaces order kind (take total rest)) (sym (found_whole links s rest order kind total whole) ∙ h))
+      (not_wants scope s (take total rest) (content_of scope.links s.interfaces order kind (take total rest))
+      (sym (found_whole scope s rest order kind total whole) ∙ h))
 ]
 
-pub begins_whole : (links : LinkSet) (s : State) (bytes : List ℕ) (frames : List FrameValue) (t : State) (rest : List ℕ)
-    → AreRead links s bytes frames t rest None → IsPassedAt t.order rest None → Begins links s bytes frames t None rest
-begins_whole links s bytes frames t rest read none = record {
+pub begins_whole : (scope : Scope) (s : State) (bytes : List ℕ) (frames : List FrameValue) (t : State) (rest : List ℕ)
+    → AreRead scope s bytes frames t rest None → IsPassedAt t.order rest None → Begins scope s bytes frames t None rest
+begins_whole scope s bytes frames t rest read none = record {
   gone = [];
   was = refl;
   read = read.read;
   part = read.end;
-  few = few_at links t rest (head_of t.order rest) refl (sym (step_at links t rest (head_of t.order rest) refl) ∙ read.end) none;
+  few = few_at scope t rest (head_of t.order rest) refl (sym (step_at scope t rest (head_of t.order rest) refl) ∙ read.end) none;
 }
 
 -- the first bytes of a block that is passed over show its head
@@ -145,10 +149,10 @@ room_at order rest block at =
     let least : 12 ≤ block.total = at_least Other block.total it.lawful in
     least
 
-pub begins_passed : (links : LinkSet) (s : State) (bytes : List ℕ) (frames : List FrameValue) (t : State) (rest : List ℕ) (block passed : Passed) (some : ℕ)
-    → AreRead links s bytes frames t rest None → IsPassedAt t.order rest (Some block) → IsLetGo block (length rest) passed some
-    → Begins links s bytes frames t (Some passed) (drop some rest)
-begins_passed links s bytes frames t rest block passed some read at go =
+pub begins_passed : (scope : Scope) (s : State) (bytes : List ℕ) (frames : List FrameValue) (t : State) (rest : List ℕ) (block passed : Passed) (some : ℕ)
+    → AreRead scope s bytes frames t rest None → IsPassedAt t.order rest (Some block) → IsLetGo block (length rest) passed some
+    → Begins scope s bytes frames t (Some passed) (drop some rest)
+begins_passed scope s bytes frames t rest block passed some read at go =
     let it = standing t.order rest block.order Other block.total at.0 in
     let size : 8 ≤ length rest = it.size in
     let none : block.gone ≡ 0 = at.1 in
@@ -165,16 +169,16 @@ begins_passed links s bytes frames t rest block passed some read at go =
     ap (λ (o : Order). Stands o Other block.total) (sym go.order_is) ∙ ap (λ n. Stands passed.order Other n) (sym go.total_is) in record {
       gone = take some rest;
       was = (head_front t.order block.order block.total rest some at.0 least most ∙ same, omega (arith, front, none, gone_is), omega (arith, room, total_is));
-      read = subst (λ (xs : List ℕ). ReadsTo (pcapng links) s bytes frames t xs) whole read.read;
-      part = ap (λ xs. step links t xs) (sym whole) ∙ read.end;
+      read = subst (λ (xs : List ℕ). ReadsTo (pcapng scope) s bytes frames t xs) whole read.read;
+      part = ap (λ xs. step scope t xs) (sym whole) ∙ read.end;
       few = omega (arith, back, left);
     }
 
 -- What comes of a block at hand.
 
-pub goes_within : (links : LinkSet) (s : State) (block passed : Passed) (some : ℕ) (gone bytes : List ℕ) → WasPassed s.order (Some block) gone
-    → block.gone + length bytes < block.total → IsLetGo block (length bytes) passed some → Begins links s (gone ++ bytes) [] s (Some passed) (drop some bytes)
-goes_within links s block passed some gone bytes was short go =
+pub goes_within : (scope : Scope) (s : State) (block passed : Passed) (some : ℕ) (gone bytes : List ℕ) → WasPassed s.order (Some block) gone
+    → block.gone + length bytes < block.total → IsLetGo block (length bytes) passed some → Begins scope s (gone ++ bytes) [] s (Some passed) (drop some bytes)
+goes_within scope s block passed some gone bytes was short go =
     let most : some ≤ length bytes = go.most in
     let left : length bytes < some + 4 = go.left in
     let gone_is : passed.gone ≡ block.gone + some = go.gone_is in
@@ -190,32 +194,32 @@ goes_within links s block passed some gone bytes was short go =
     ap (λ (o : Order). Stands o Other block.total) (sym go.order_is) ∙ ap (λ n. Stands passed.order Other n) (sym go.total_is) in record {
       gone = gone ++ take some bytes;
       was = (head_kept s.order block gone (take some bytes) was ∙ same, omega (arith, len, had, front, gone_is), omega (arith, room, total_is));
-      read = subst (λ (xs : List ℕ). ReadsTo (pcapng links) s (gone ++ bytes) [] s xs) whole (reads_nothing (pcapng links) s (gone ++ bytes));
-      part = ap (λ xs. step links s xs) (sym whole) ∙ passed_wants links s block gone bytes was short;
+      read = subst (λ (xs : List ℕ). ReadsTo (pcapng scope) s (gone ++ bytes) [] s xs) whole (reads_nothing (pcapng scope) s (gone ++ bytes));
+      part = ap (λ xs. step scope s xs) (sym whole) ∙ passed_wants scope s block gone bytes was short;
       few = omega (arith, back, left);
     }
 
-pub goes_wrong : (links : LinkSet) (s : State) (block : Passed) (gone bytes : List ℕ) → WasPassed s.order (Some block) gone
+pub goes_wrong : (scope : Scope) (s : State) (block : Passed) (gone bytes : List ℕ) → WasPassed s.order (Some block) gone
     → block.total ≤ block.gone + length bytes → (number_in block.order 4 (drop (block.total - block.gone - 4) bytes) ≡ block.total → ⊥)
-    → Breaks links s (gone ++ bytes) [] s BadLength
-goes_wrong links s block gone bytes was whole other = record {
+    → Breaks scope s (gone ++ bytes) [] s BadLength
+goes_wrong scope s block gone bytes was whole other = record {
   rest = gone ++ bytes;
-  read = reads_nothing (pcapng links) s (gone ++ bytes);
-  bad = passed_flawed links s block gone bytes was whole other;
+  read = reads_nothing (pcapng scope) s (gone ++ bytes);
+  bad = passed_flawed scope s block gone bytes was whole other;
 }
 
-pub goes_over : (links : LinkSet) (s : State) (block : Passed) (gone bytes : List ℕ) (left : ℕ) (frames : List FrameValue) (t : State) (rest : List ℕ)
+pub goes_over : (scope : Scope) (s : State) (block : Passed) (gone bytes : List ℕ) (left : ℕ) (frames : List FrameValue) (t : State) (rest : List ℕ)
     (flaw : Option Flaw) → WasPassed s.order (Some block) gone → block.gone + left ≡ block.total → left ≤ length bytes
-    → number_in block.order 4 (drop (left - 4) bytes) ≡ block.total → AreRead links s (drop left bytes) frames t rest flaw
-    → AreRead links s (gone ++ bytes) frames t rest flaw
-goes_over links s block gone bytes left frames t rest flaw was is whole last read =
+    → number_in block.order 4 (drop (left - 4) bytes) ≡ block.total → AreRead scope s (drop left bytes) frames t rest flaw
+    → AreRead scope s (gone ++ bytes) frames t rest flaw
+goes_over scope s block gone bytes left frames t rest flaw was is whole last read =
     let had : length gone ≡ block.gone = was.1 in
     let at : block.total ≡ length gone + left = omega (arith, had, is) in
     let behind : drop block.total (gone ++ bytes) ≡ drop left bytes = ap (λ n. drop n (gone ++ bytes)) at ∙ drop-append-add gone bytes left in
-    let first : ReadsTo (pcapng links) s (gone ++ bytes) [] s (drop left bytes) =
-    subst (λ (xs : List ℕ). ReadsTo (pcapng links) s (gone ++ bytes) [] s xs) behind
-    (reads_one (pcapng links) s (gone ++ bytes) block.total [] s (passed_over links s block gone bytes left was is whole last)) in record {
-      read = reads_on (pcapng links) s (gone ++ bytes) [] frames s (drop left bytes) t rest first read.read;
+    let first : ReadsTo (pcapng scope) s (gone ++ bytes) [] s (drop left bytes) =
+    subst (λ (xs : List ℕ). ReadsTo (pcapng scope) s (gone ++ bytes) [] s xs) behind
+    (reads_one (pcapng scope) s (gone ++ bytes) block.total [] s (passed_over scope s block gone bytes left was is whole last)) in record {
+      read = reads_on (pcapng scope) s (gone ++ bytes) [] frames s (drop left bytes) t rest first read.read;
       end = read.end;
     }
 
@@ -223,38 +227,60 @@ pub not_some : (flaw : Option Flaw) → is_some flaw ≡ false → flaw ≡ None
 not_some None h = refl
 not_some (Some flaw) h = cc
 
+-- what fits, by the counts
+fits_on : (l : Length) (k n count held size : ℕ) → count ≡ count_on l k n → n + held ≤ size → FitsIn l (count + held) (k + size)
+fits_on Any k n count held size count_is fits = tt
+fits_on Limited k n count held size count_is fits = omega (arith, count_is, fits)
+
+fits_more : (l : Length) (n k size more : ℕ) → size ≤ more → FitsIn l n (k + size) → FitsIn l n (k + more)
+fits_more Any n k size more few fits = tt
+fits_more Limited n k size more few fits = omega (arith, few, fits)
+
+fits_same : (l : Length) (k n m : ℕ) → n ≤ m → FitsIn l (k + n) (k + m)
+fits_same Any k n m few = tt
+fits_same Limited k n m few = omega (arith, few)
+
 -- what a reader has is no more than it had and what came
-pub sound_of : (links : LinkSet) (s : State) (bytes : List ℕ) (frames : List FrameValue) (t : State) (passed : Option Passed) (held : List ℕ)
-    (flaw : Option Flaw) → AreReadOn links s bytes frames t passed held flaw → IsGoneOn s (length bytes) t passed held flaw
-sound_of links s bytes frames t passed held (Some flaw) on = tt
-sound_of links s bytes frames t passed held None on =
-    let fit : length frames + length (on.gone ++ held) ≤ length bytes = reads_fit (pcapng links) (stepper links) s bytes frames t (on.gone ++ held) on.read in
-    let count : t.count ≡ s.count + length frames = reads_count (pcapng links) (stepper links) s bytes frames t (on.gone ++ held) on.read in
+pub sound_of : (scope : Scope) (s : State) (bytes : List ℕ) (frames : List FrameValue) (t : State) (passed : Option Passed) (held : List ℕ)
+    (flaw : Option Flaw) → AreReadOn scope s bytes frames t passed held flaw → IsGoneOn scope.length s (length bytes) t passed held flaw
+sound_of scope s bytes frames t passed held (Some flaw) on = tt
+sound_of scope s bytes frames t passed held None on =
+    let fit : length frames + length (on.gone ++ held) ≤ length bytes = reads_fit (pcapng scope) (stepper scope) s bytes frames t (on.gone ++ held) on.read in
+    let count : t.count ≡ count_on scope.length s.count (length frames) =
+    reads_count (pcapng scope) (stepper scope) s bytes frames t (on.gone ++ held) on.read in
     let len : length (on.gone ++ held) ≡ length on.gone + length held = length-append on.gone held in
-    record { fits = omega (arith, fit, count, len); room = room_of t.order passed on.gone on.was; few = on.few } where
+    record {
+      fits = fits_on scope.length s.count (length frames) t.count (length held) (length bytes) count (omega (arith, fit, len));
+      room = room_of t.order passed on.gone on.was;
+      few = on.few;
+    } where
       room_of : (order : Option Order) (passed : Option Passed) (gone : List ℕ) → WasPassed order passed gone → HasRoom passed
       room_of order None gone was = tt
       room_of order (Some block) gone was = was.2
 
 -- the same, where fewer bytes count
-sound_more : (s : State) (size more : ℕ) (t : State) (passed : Option Passed) (held : List ℕ) (flaw : Option Flaw) → size ≤ more
-    → IsGoneOn s size t passed held flaw → IsGoneOn s more t passed held flaw
-sound_more s size more t passed held (Some flaw) few on = tt
-sound_more s size more t passed held None few on = let fits : t.count + length held ≤ s.count + size = on.fits in
-    record { fits = omega (arith, fits, few); room = on.room; few = on.few }
+sound_more : (l : Length) (s : State) (size more : ℕ) (t : State) (passed : Option Passed) (held : List ℕ) (flaw : Option Flaw) → size ≤ more
+    → IsGoneOn l s size t passed held flaw → IsGoneOn l s more t passed held flaw
+sound_more l s size more t passed held (Some flaw) few on = tt
+sound_more l s size more t passed held None few on =
+    record { fits = fits_more l (t.count + length held) s.count size more few on.fits; room = on.room; few = on.few }
 
-pub sound_over : (links : LinkSet) (s : State) (bytes : List ℕ) (left : ℕ) (frames : List FrameValue) (t : State) (passed : Option Passed) (held : List ℕ)
-    (flaw : Option Flaw) → AreReadOn links s (drop left bytes) frames t passed held flaw → IsGoneOn s (length bytes) t passed held flaw
-sound_over links s bytes left frames t passed held flaw on =
+pub sound_over : (scope : Scope) (s : State) (bytes : List ℕ) (left : ℕ) (frames : List FrameValue) (t : State) (passed : Option Passed) (held : List ℕ)
+    (flaw : Option Flaw) → AreReadOn scope s (drop left bytes) frames t passed held flaw → IsGoneOn scope.length s (length bytes) t passed held flaw
+sound_over scope s bytes left frames t passed held flaw on =
     let len : length (drop left bytes) ≡ length bytes - left = length-drop left bytes in
-    sound_more s (length (drop left bytes)) (length bytes) t passed held flaw (omega (arith, len))
-    (sound_of links s (drop left bytes) frames t passed held flaw on)
+    sound_more scope.length s (length (drop left bytes)) (length bytes) t passed held flaw (omega (arith, len))
+    (sound_of scope s (drop left bytes) frames t passed held flaw on)
 
-pub sound_within : (s : State) (block passed : Passed) (some : ℕ) (bytes : List ℕ) → IsLetGo block (length bytes) passed some
-    → IsSoundOn s (length bytes) s (Some passed) (drop some bytes)
-sound_within s block passed some bytes go =
+pub sound_within : (l : Length) (s : State) (block passed : Passed) (some : ℕ) (bytes : List ℕ) → IsLetGo block (length bytes) passed some
+    → IsSoundOn l s (length bytes) s (Some passed) (drop some bytes)
+sound_within l s block passed some bytes go =
     let len : length (drop some bytes) ≡ length bytes - some = length-drop some bytes in
     let left : length bytes < some + 4 = go.left in
     let room : passed.gone + 4 ≤ block.total = go.room in
     let total_is : passed.total ≡ block.total = go.total_is in
-    record { fits = omega (arith, len); room = omega (arith, room, total_is); few = omega (arith, len, left) }
+    record {
+      fits = fits_same l s.count (length (drop some bytes)) (length bytes) (omega (arith, len));
+      room = omega (arith, room, total_is);
+      few = omega (arith, len, left);
+    }

@@ -5,6 +5,7 @@ use Rattle.std.proofs.lemmas.Bool.Decides.{nat_tests}
 use Rattle.byteorder.specs.Endian.{little_number}
 use Rattle.cf_lemmas.proofs.Truths.{both}
 use Rattle.cf_pcap.specs.declared.links.LinkSet.{LinkSet}
+use Rattle.cf_pcap.specs.declared.scope.Scope.{Scope}
 use Rattle.cf_pcap.specs.declared.form.Order.{Order}
 use Rattle.cf_pcap.specs.Capture.{FrameValue, number_in}
 use Rattle.cf_pcap.specs.Links.{is_link, longest}
@@ -368,71 +369,72 @@ head_case section bytes = elim (cases_lt (length bytes) 4) [
 -- The step.
 
 -- what the bytes at the front come to
-data StepCase (links : LinkSet) (s : State) (bytes : List ℕ) : Type 0 where
-  Wanting : step links s bytes ≡ Wants → StepCase links s bytes
-  Flaws : (flaw : Flaw) → step links s bytes ≡ Bad (fault_of s.count flaw) → HasFlaw links s bytes flaw → StepCase links s bytes
-  Block : (n : ℕ) (content : Content) → step links s bytes ≡ Takes n (frames_of s.count content (take n bytes)) (after s content)
-      → IsBlock links s bytes n (frames_of s.count content (take n bytes)) (after s content) → StepCase links s bytes
+data StepCase (scope : Scope) (s : State) (bytes : List ℕ) : Type 0 where
+  Wanting : step scope s bytes ≡ Wants → StepCase scope s bytes
+  Flaws : (flaw : Flaw) → step scope s bytes ≡ Bad (fault_of s.count flaw) → HasFlaw scope.links s bytes flaw → StepCase scope s bytes
+  Block : (n : ℕ) (content : Content) → step scope s bytes ≡ Takes n (frames_of s.count content (take n bytes)) (after scope.length s content)
+      → IsBlock scope s bytes n (frames_of s.count content (take n bytes)) (after scope.length s content) → StepCase scope s bytes
 
-step_content : (links : LinkSet) (s : State) (bytes : List ℕ) (order : Order) (kind : Kind) (total : ℕ) (found : Result Content Flaw)
-    → HasBlock s.order bytes order kind total → content_of links s.interfaces order kind (take total bytes) ≡ found
-    → step links s bytes ≡ block_found s (take total bytes) found
-step_content links s bytes order kind total found h is =
-    step_at links s bytes (Stands order kind total) (head_stands s.order bytes order kind total h.head)
-    ∙ found_whole links s bytes order kind total h.whole
-    ∙ ap (λ (x : Result Content Flaw). block_found s (take total bytes) x) is
+step_content : (scope : Scope) (s : State) (bytes : List ℕ) (order : Order) (kind : Kind) (total : ℕ) (found : Result Content Flaw)
+    → HasBlock s.order bytes order kind total → content_of scope.links s.interfaces order kind (take total bytes) ≡ found
+    → step scope s bytes ≡ block_found scope.length s (take total bytes) found
+step_content scope s bytes order kind total found h is =
+    step_at scope s bytes (Stands order kind total) (head_stands s.order bytes order kind total h.head)
+    ∙ found_whole scope s bytes order kind total h.whole
+    ∙ ap (λ (x : Result Content Flaw). block_found scope.length s (take total bytes) x) is
 
-step_block : (links : LinkSet) (s : State) (bytes : List ℕ) (order : Order) (kind : Kind) (total : ℕ) (content : Content)
+step_block : (scope : Scope) (s : State) (bytes : List ℕ) (order : Order) (kind : Kind) (total : ℕ) (content : Content)
     → HasBlock s.order bytes order kind total → last_total order (take total bytes) ≡ total
-    → BlockStates links s.interfaces order kind (take total bytes) content
-    → step links s bytes ≡ Takes total (frames_of s.count content (take total bytes)) (after s content)
-step_block links s bytes order kind total content h last states =
+    → BlockStates scope.links s.interfaces order kind (take total bytes) content
+    → step scope s bytes ≡ Takes total (frames_of s.count content (take total bytes)) (after scope.length s content)
+step_block scope s bytes order kind total content h last states =
     let size : length (take total bytes) ≡ total = length_front total bytes h.whole in
-    step_content links s bytes order kind total (Ok content) h
-    (closed links s.interfaces order kind (take total bytes) (last ∙ sym size)
-    ∙ stated_lawful links s.interfaces order kind (take total bytes) content states)
-    ∙ ap (λ n. Takes n (frames_of s.count content (take total bytes)) (after s content)) size
+    step_content scope s bytes order kind total (Ok content) h
+    (closed scope.links s.interfaces order kind (take total bytes) (last ∙ sym size)
+    ∙ stated_lawful scope.links s.interfaces order kind (take total bytes) content states)
+    ∙ ap (λ n. Takes n (frames_of s.count content (take total bytes)) (after scope.length s content)) size
 
-step_flawed : (links : LinkSet) (s : State) (bytes : List ℕ) (flaw : Flaw) → HasFlaw links s bytes flaw → step links s bytes ≡ Bad (fault_of s.count flaw)
-step_flawed links s bytes flaw (inl h) = step_at links s bytes (Flawed flaw) (head_flawed s.order bytes flaw h)
-step_flawed links s bytes flaw (inr (inl h)) =
+step_flawed : (scope : Scope) (s : State) (bytes : List ℕ) (flaw : Flaw) → HasFlaw scope.links s bytes flaw → step scope s bytes ≡ Bad (fault_of s.count flaw)
+step_flawed scope s bytes flaw (inl h) = step_at scope s bytes (Flawed flaw) (head_flawed s.order bytes flaw h)
+step_flawed scope s bytes flaw (inr (inl h)) =
     let it = h.1 in
     let size : length (take it.total bytes) ≡ it.total = length_front it.total bytes it.block.whole in
-    step_content links s bytes it.order it.kind it.total (Err BadLength) it.block
-    (not_closed links s.interfaces it.order it.kind (take it.total bytes) (λ e. it.last (e ∙ size)))
+    step_content scope s bytes it.order it.kind it.total (Err BadLength) it.block
+    (not_closed scope.links s.interfaces it.order it.kind (take it.total bytes) (λ e. it.last (e ∙ size)))
     ∙ ap (λ (f : Flaw). Bad (fault_of s.count f)) (sym h.0)
-step_flawed links s bytes flaw (inr (inr it)) =
+step_flawed scope s bytes flaw (inr (inr it)) =
     let size : length (take it.total bytes) ≡ it.total = length_front it.total bytes it.block.whole in
-    step_content links s bytes it.order it.kind it.total (Err flaw) it.block
-    (closed links s.interfaces it.order it.kind (take it.total bytes) (it.last ∙ sym size)
-    ∙ stated_broken links s.interfaces it.order it.kind (take it.total bytes) flaw it.breaks)
+    step_content scope s bytes it.order it.kind it.total (Err flaw) it.block
+    (closed scope.links s.interfaces it.order it.kind (take it.total bytes) (it.last ∙ sym size)
+    ∙ stated_broken scope.links s.interfaces it.order it.kind (take it.total bytes) flaw it.breaks)
 
-by_content : (links : LinkSet) (s : State) (bytes : List ℕ) (order : Order) (kind : Kind) (total : ℕ) → HasBlock s.order bytes order kind total
+by_content : (scope : Scope) (s : State) (bytes : List ℕ) (order : Order) (kind : Kind) (total : ℕ) → HasBlock s.order bytes order kind total
     → last_total order (take total bytes) ≡ total
-    → BlockCase (stated links s.interfaces order kind (take total bytes)) (BlockBreaks links s.interfaces order kind (take total bytes))
-    (BlockStates links s.interfaces order kind (take total bytes)) → StepCase links s bytes
-by_content links s bytes order kind total block last (Breaking flaw is h) =
-    let breaks : HasFlaw links s bytes flaw = inr (inr (record { order = order; kind = kind; total = total; block = block; last = last; breaks = h })) in
-    Flaws flaw (step_flawed links s bytes flaw breaks) breaks
-by_content links s bytes order kind total block last (Stating content is h) =
-    Block total content (step_block links s bytes order kind total content block last h)
+    → BlockCase (stated scope.links s.interfaces order kind (take total bytes)) (BlockBreaks scope.links s.interfaces order kind (take total bytes))
+    (BlockStates scope.links s.interfaces order kind (take total bytes)) → StepCase scope s bytes
+by_content scope s bytes order kind total block last (Breaking flaw is h) =
+    let breaks : HasFlaw scope.links s bytes flaw = inr (inr (record { order = order; kind = kind; total = total; block = block; last = last; breaks = h })) in
+    Flaws flaw (step_flawed scope s bytes flaw breaks) breaks
+by_content scope s bytes order kind total block last (Stating content is h) =
+    Block total content (step_block scope s bytes order kind total content block last h)
     (record { order = order; kind = kind; content = content; block = block; last = last; states = h; frames_are = refl; after_is = refl })
 
-by_block : (links : LinkSet) (s : State) (bytes : List ℕ) (order : Order) (kind : Kind) (total : ℕ) → HasBlock s.order bytes order kind total
-    → StepCase links s bytes
-by_block links s bytes order kind total block = elim (cases_eq (last_total order (take total bytes)) total) [
-  | inl last ↦ by_content links s bytes order kind total block last (stated_case links s.interfaces order kind (take total bytes))
+by_block : (scope : Scope) (s : State) (bytes : List ℕ) (order : Order) (kind : Kind) (total : ℕ) → HasBlock s.order bytes order kind total
+    → StepCase scope s bytes
+by_block scope s bytes order kind total block = elim (cases_eq (last_total order (take total bytes)) total) [
+  | inl last ↦ by_content scope s bytes order kind total block last (stated_case scope.links s.interfaces order kind (take total bytes))
   | inr other ↦
-      let breaks : HasFlaw links s bytes BadLength = inr (inl (refl, record { order = order; kind = kind; total = total; block = block; last = other })) in
-      Flaws BadLength (step_flawed links s bytes BadLength breaks) breaks
+      let breaks : HasFlaw scope.links s bytes BadLength =
+      inr (inl (refl, record { order = order; kind = kind; total = total; block = block; last = other })) in
+      Flaws BadLength (step_flawed scope s bytes BadLength breaks) breaks
 ]
 
-by_head : (links : LinkSet) (s : State) (bytes : List ℕ) → HeadCase s.order bytes → StepCase links s bytes
-by_head links s bytes (Unseen is) = Wanting (step_at links s bytes Short is)
-by_head links s bytes (Breaking flaw is h) = Flaws flaw (step_flawed links s bytes flaw (inl h)) (inl h)
-by_head links s bytes (Standing order kind total is h) = elim (cases_lt (length bytes) total) [
-  | inl short ↦ Wanting (step_at links s bytes (Stands order kind total) is ∙ found_short links s bytes order kind total short)
-  | inr whole ↦ by_block links s bytes order kind total (record { head = h; whole = whole })
+by_head : (scope : Scope) (s : State) (bytes : List ℕ) → HeadCase s.order bytes → StepCase scope s bytes
+by_head scope s bytes (Unseen is) = Wanting (step_at scope s bytes Short is)
+by_head scope s bytes (Breaking flaw is h) = Flaws flaw (step_flawed scope s bytes flaw (inl h)) (inl h)
+by_head scope s bytes (Standing order kind total is h) = elim (cases_lt (length bytes) total) [
+  | inl short ↦ Wanting (step_at scope s bytes (Stands order kind total) is ∙ found_short scope s bytes order kind total short)
+  | inr whole ↦ by_block scope s bytes order kind total (record { head = h; whole = whole })
 ]
 
 wants_bad : (fault : NgFault) → ◌≡◌ {A = Shown} Wants (Bad fault) → ⊥
@@ -456,35 +458,35 @@ takes_frames n m a b t u h = cc
 takes_state : (n m : ℕ) (a b : List FrameValue) (t u : State) → ◌≡◌ {A = Shown} (Takes n a t) (Takes m b u) → t ≡ u
 takes_state n m a b t u h = cc
 
-bad_by_rules : (links : LinkSet) (s : State) (bytes : List ℕ) (fault : NgFault) → step links s bytes ≡ Bad fault → StepCase links s bytes → (flaw : Flaw)
-    × (fault ≡ fault_of s.count flaw) × HasFlaw links s bytes flaw
-bad_by_rules links s bytes fault h (Wanting is) = absurd (wants_bad fault (sym is ∙ h))
-bad_by_rules links s bytes fault h (Flaws flaw is breaks) = (flaw, bad_same fault (fault_of s.count flaw) (sym h ∙ is), breaks)
-bad_by_rules links s bytes fault h (Block n content is block) =
-    absurd (bad_takes fault n (frames_of s.count content (take n bytes)) (after s content) (sym h ∙ is))
+bad_by_rules : (scope : Scope) (s : State) (bytes : List ℕ) (fault : NgFault) → step scope s bytes ≡ Bad fault → StepCase scope s bytes → (flaw : Flaw)
+    × (fault ≡ fault_of s.count flaw) × HasFlaw scope.links s bytes flaw
+bad_by_rules scope s bytes fault h (Wanting is) = absurd (wants_bad fault (sym is ∙ h))
+bad_by_rules scope s bytes fault h (Flaws flaw is breaks) = (flaw, bad_same fault (fault_of s.count flaw) (sym h ∙ is), breaks)
+bad_by_rules scope s bytes fault h (Block n content is block) =
+    absurd (bad_takes fault n (frames_of s.count content (take n bytes)) (after scope.length s content) (sym h ∙ is))
 
-takes_by_rules : (links : LinkSet) (s : State) (bytes : List ℕ) (n : ℕ) (frames : List FrameValue) (t : State) → step links s bytes ≡ Takes n frames t
-    → StepCase links s bytes → IsBlock links s bytes n frames t
-takes_by_rules links s bytes n frames t h (Wanting is) = absurd (wants_takes n frames t (sym is ∙ h))
-takes_by_rules links s bytes n frames t h (Flaws flaw is breaks) = absurd (bad_takes (fault_of s.count flaw) n frames t (sym is ∙ h))
-takes_by_rules links s bytes n frames t h (Block m content is block) =
+takes_by_rules : (scope : Scope) (s : State) (bytes : List ℕ) (n : ℕ) (frames : List FrameValue) (t : State) → step scope s bytes ≡ Takes n frames t
+    → StepCase scope s bytes → IsBlock scope s bytes n frames t
+takes_by_rules scope s bytes n frames t h (Wanting is) = absurd (wants_takes n frames t (sym is ∙ h))
+takes_by_rules scope s bytes n frames t h (Flaws flaw is breaks) = absurd (bad_takes (fault_of s.count flaw) n frames t (sym is ∙ h))
+takes_by_rules scope s bytes n frames t h (Block m content is block) =
     let given : List FrameValue = frames_of s.count content (take m bytes) in
-    let next : State = after s content in
-    subst (λ (k : ℕ). IsBlock links s bytes k frames t) (takes_size m n given frames next t (sym is ∙ h))
-    (subst (λ (x : List FrameValue). IsBlock links s bytes m x t) (takes_frames m n given frames next t (sym is ∙ h))
-    (subst (λ (x : State). IsBlock links s bytes m given x) (takes_state m n given frames next t (sym is ∙ h)) block))
+    let next : State = after scope.length s content in
+    subst (λ (k : ℕ). IsBlock scope s bytes k frames t) (takes_size m n given frames next t (sym is ∙ h))
+    (subst (λ (x : List FrameValue). IsBlock scope s bytes m x t) (takes_frames m n given frames next t (sym is ∙ h))
+    (subst (λ (x : State). IsBlock scope s bytes m given x) (takes_state m n given frames next t (sym is ∙ h)) block))
 
-block_taken : (links : LinkSet) (s : State) (bytes : List ℕ) (n : ℕ) (frames : List FrameValue) (t : State) → IsBlock links s bytes n frames t
-    → step links s bytes ≡ Takes n frames t
-block_taken links s bytes n frames t h =
-    step_block links s bytes h.order h.kind n h.content h.block h.last h.states
-    ∙ ap (λ (x : List FrameValue). Takes n x (after s h.content)) (sym h.frames_are)
+block_taken : (scope : Scope) (s : State) (bytes : List ℕ) (n : ℕ) (frames : List FrameValue) (t : State) → IsBlock scope s bytes n frames t
+    → step scope s bytes ≡ Takes n frames t
+block_taken scope s bytes n frames t h =
+    step_block scope s bytes h.order h.kind n h.content h.block h.last h.states
+    ∙ ap (λ (x : List FrameValue). Takes n x (after scope.length s h.content)) (sym h.frames_are)
     ∙ ap (λ (x : State). Takes n frames x) (sym h.after_is)
 
-pub steps_by_rules : (links : LinkSet) (s : State) (bytes : List ℕ) → StepsByRules links s bytes
-steps_by_rules links s bytes = record {
-  bad = λ fault h. bad_by_rules links s bytes fault h (by_head links s bytes (head_case s.order bytes));
-  flaw = step_flawed links s bytes;
-  takes = λ n frames t h. takes_by_rules links s bytes n frames t h (by_head links s bytes (head_case s.order bytes));
-  block = block_taken links s bytes;
+pub steps_by_rules : (scope : Scope) (s : State) (bytes : List ℕ) → StepsByRules scope s bytes
+steps_by_rules scope s bytes = record {
+  bad = λ fault h. bad_by_rules scope s bytes fault h (by_head scope s bytes (head_case s.order bytes));
+  flaw = step_flawed scope s bytes;
+  takes = λ n frames t h. takes_by_rules scope s bytes n frames t h (by_head scope s bytes (head_case s.order bytes));
+  block = block_taken scope s bytes;
 }

@@ -1,7 +1,8 @@
 -- What a reader's state says of the stream that led to it.
-use Rattle.std.specs.Prelude.{◌≡◌, ℕ, ◌+◌, ◌<◌, ◌≤◌, ◌^◌, List, [], ◌∷◌, ◌++◌, length, Option, Some, None, Result, Ok, Err}
-use Rattle.cf_pcap.specs.declared.links.LinkSet.{LinkSet}
+use Rattle.std.specs.Prelude.{◌≡◌, ℕ, ◌+◌, ◌<◌, ◌^◌, List, [], ◌∷◌, ◌++◌, length, Option, Some, None, Result, Ok, Err}
+use Rattle.cf_pcap.specs.declared.scope.Scope.{Scope}
 use Rattle.cf_pcap.specs.Capture.{FrameValue}
+use Rattle.cf_stream.specs.Limits.{IsShort, IsTotal}
 use Rattle.cf_stream.specs.Format.{IsFound}
 use Rattle.cf_stream.specs.Stream.{Runs}
 use Rattle.cf_stream.specs.Stream as streams
@@ -15,11 +16,11 @@ use Rattle.cf_pcapng.specs.declared.interfaces.Interface.{Interface}
 use Rattle.cf_pcapng.specs.declared.position.Reached.{Reached}
 use Rattle.cf_pcapng.specs.File.{State, fault_of, pcapng}
 use Rattle.cf_pcapng.specs.Position.{listed}
-use Rattle.cf_pcapng.specs.Reading.{WasPassed, AreReadOn, HasRoom}
+use Rattle.cf_pcapng.specs.Reading.{WasPassed, AreReadOn, HasRoom, FitsIn}
 
--- a reader as contracts see it: the links that it reads, how far it is, how many bytes it has had, and what it has of the block at hand
+-- a reader as contracts see it: the scope that it reads, how far it is, how many bytes it has had, and what it has of the block at hand
 pub record PcapNgValue : Type 0 where
-  pub links : LinkSet
+  pub scope : Scope
   pub stage : Stage
   pub total : ℕ
   pub state : State
@@ -28,15 +29,15 @@ pub record PcapNgValue : Type 0 where
 
 -- some blocks were read, and the bytes after them, those that were let go and those that are held, only begin one
 pub record IsRunning (reader : PcapNgValue) (stream : List ℕ) : Type 0 where
-  pub total_is : reader.total ≡ length stream
+  pub total_is : IsTotal reader.scope.length reader.total (length stream)
   pub gone : List ℕ
   pub was : WasPassed reader.state.order reader.passed gone
-  pub runs : Runs (pcapng reader.links) reader.state (gone ++ reader.held) stream
+  pub runs : Runs (pcapng reader.scope) reader.state (gone ++ reader.held) stream
 
 -- what a reader at a stage says of its stream: no fault yet while it runs, and where it stopped, that fault
 abbrev pub IsAt : Stage → PcapNgValue → List ℕ → Type 0
 IsAt Running reader stream = IsRunning reader stream
-IsAt (Stopped fault) reader stream = IsFound (pcapng reader.links) stream fault
+IsAt (Stopped fault) reader stream = IsFound (pcapng reader.scope) stream fault
 
 -- the reader's state is that after this stream
 abbrev pub IsStateOf : PcapNgValue → List ℕ → Type 0
@@ -44,25 +45,30 @@ IsStateOf reader stream = IsAt reader.stage reader stream
 
 -- what a call that takes one more piece gives and answers
 abbrev pub IsFed : List ℕ → List ℕ → List FrameValue → Result (Unit {0}) NgFault → PcapNgValue → Type 0
-IsFed stream piece given answer reader = streams.IsFed (pcapng reader.links) stream piece given answer (IsStateOf reader)
+IsFed stream piece given answer reader = streams.IsFed (pcapng reader.scope) stream piece given answer (IsStateOf reader)
 
 -- a reader that has found a fault answers it, and no want of memory
 abbrev pub AnswersFound : PcapNgValue → Result (Unit {0}) NgFault → Type 0
-AnswersFound reader answer = (stream : List ℕ) (fault : NgFault) → IsStateOf reader stream → IsFound (pcapng reader.links) stream fault → answer ≡ Err fault
+AnswersFound reader answer = (stream : List ℕ) (fault : NgFault) → IsStateOf reader stream → IsFound (pcapng reader.scope) stream fault → answer ≡ Err fault
 
 -- what the end of the stream answers: the number of a capture's frames, or the fault
-abbrev pub IsEnded : LinkSet → List ℕ → Result ℕ NgFault → Type 0
-IsEnded links stream answer = streams.IsEnded (pcapng links) stream answer
+abbrev pub IsEnded : Scope → List ℕ → Result ℕ NgFault → Type 0
+IsEnded scope stream answer = streams.IsEnded (pcapng scope) stream answer
 
 -- what holds of every reader: its bytes and frames fit, it holds less than a block, and want of memory doesn't stop it
 abbrev pub IsSoundAt : Stage → PcapNgValue → Type 0
-IsSoundAt Running reader = (reader.total < 2 ^ 32) × (reader.state.count + length reader.held ≤ reader.total) × (length reader.held < 2 ^ 20)
-    × HasRoom reader.passed
+IsSoundAt Running reader = IsShort reader.scope.length reader.total
+    × FitsIn reader.scope.length (reader.state.count + length reader.held) reader.total × (length reader.held < 2 ^ 20) × HasRoom reader.passed
 IsSoundAt (Stopped fault) reader = (fault ≡ Memory → ⊥) × (reader.held ≡ [])
 
 -- what holds of every reader, whatever its stage
 abbrev pub IsSound : PcapNgValue → Type 0
 IsSound reader = IsSoundAt reader.stage reader
+
+-- the fault that was found at this stage
+abbrev pub found_at : Stage → Option NgFault
+found_at Running = None
+found_at (Stopped fault) = Some fault
 
 -- what a call that ends at this stage answers
 abbrev pub answer_at : Stage → Result (Unit {0}) NgFault
@@ -89,17 +95,17 @@ ShowsLate None t fault = fault ≡ TooManyBytes
 ShowsLate (Some flaw) t fault = fault ≡ fault_of t.count flaw
 
 -- the stage where a byte comes that makes the stream 2^32 bytes long
-pub record IsStageAtLimit (links : LinkSet) (s : State) (passed : Option Passed) (held byte : List ℕ) (stage : Stage) : Type 0 where
+pub record IsStageAtLimit (scope : Scope) (s : State) (passed : Option Passed) (held byte : List ℕ) (stage : Stage) : Type 0 where
   pub fault : NgFault
   pub stage_is : stage ≡ Stopped fault
   pub flaw : Option Flaw
   pub last : State
   pub shows : ShowsLate flaw last fault
   pub read : (gone : List ℕ) → WasPassed s.order passed gone → (frames : List FrameValue) × (block : Option Passed) × (rest : List ℕ)
-      × AreReadOn links s (gone ++ (held ++ byte)) frames last block rest flaw
+      × AreReadOn scope s (gone ++ (held ++ byte)) frames last block rest flaw
 
 -- the stage after the bytes that came early enough, where `late` come late
-abbrev pub IsStageAfter : LinkSet → State → Option Passed → List ℕ → Option Flaw → List ℕ → Stage → Type 0
-IsStageAfter links s passed held (Some flaw) late stage = stage ≡ Stopped (fault_of s.count flaw)
-IsStageAfter links s passed held None [] stage = stage ≡ Running
-IsStageAfter links s passed held None (byte ∷ late) stage = IsStageAtLimit links s passed held (byte ∷ []) stage
+abbrev pub IsStageAfter : Scope → State → Option Passed → List ℕ → Option Flaw → List ℕ → Stage → Type 0
+IsStageAfter scope s passed held (Some flaw) late stage = stage ≡ Stopped (fault_of s.count flaw)
+IsStageAfter scope s passed held None [] stage = stage ≡ Running
+IsStageAfter scope s passed held None (byte ∷ late) stage = IsStageAtLimit scope s passed held (byte ∷ []) stage

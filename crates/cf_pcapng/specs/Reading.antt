@@ -1,6 +1,10 @@
 -- What the parts of a reader do.
 use Rattle.std.specs.Prelude.{◌≡◌, ℕ, ◌+◌, ◌-◌, ◌≤◌, ◌<◌, ◌^◌, nat_lt, if◌then◌else◌, List, [], ◌++◌, length, take, drop, Option, Some, None, Result, Ok, Err}
 use Rattle.cf_pcap.specs.declared.links.LinkSet.{LinkSet}
+use Rattle.cf_pcap.specs.declared.scope.Scope.{Scope}
+use Rattle.cf_stream.specs.declared.limit.Length.{Length}
+use Rattle.cf_stream.specs.declared.limit.Length.TheVariants.{Limited, Any}
+use Rattle.cf_stream.specs.Limits.{HasRoom as MayCome}
 use Rattle.cf_pcap.specs.declared.form.Order.{Order}
 use Rattle.cf_pcap.specs.Capture.{FrameValue, number_in}
 use Rattle.cf_stream.specs.Format.{Wants, Bad, ReadsTo}
@@ -49,14 +53,14 @@ IsNextIn size (next.Flawed flaw) = Unit {0}
 IsNextIn size (next.Block total content) = (12 ≤ total) × (total ≤ size) × LiesIn total content
 
 -- what stands where the whole blocks end
-abbrev pub IsEnd : LinkSet → State → List ℕ → Option Flaw → Type 0
-IsEnd links t rest None = (pcapng links).step t rest ≡ Wants
-IsEnd links t rest (Some flaw) = (pcapng links).step t rest ≡ Bad (fault_of t.count flaw)
+abbrev pub IsEnd : Scope → State → List ℕ → Option Flaw → Type 0
+IsEnd scope t rest None = (pcapng scope).step t rest ≡ Wants
+IsEnd scope t rest (Some flaw) = (pcapng scope).step t rest ≡ Bad (fault_of t.count flaw)
 
 -- the blocks at the front were read, up to the begin of one or a flaw
-pub record AreRead (links : LinkSet) (s : State) (bytes : List ℕ) (frames : List FrameValue) (t : State) (rest : List ℕ) (flaw : Option Flaw) : Type 0 where
-  pub read : ReadsTo (pcapng links) s bytes frames t rest
-  pub end : IsEnd links t rest flaw
+pub record AreRead (scope : Scope) (s : State) (bytes : List ℕ) (frames : List FrameValue) (t : State) (rest : List ℕ) (flaw : Option Flaw) : Type 0 where
+  pub read : ReadsTo (pcapng scope) s bytes frames t rest
+  pub end : IsEnd scope t rest flaw
 
 -- bytes of a block at hand that is only passed over, which were let go
 abbrev pub WasPassed : Option Order → Option Passed → List ℕ → Type 0
@@ -65,23 +69,23 @@ WasPassed order (Some block) gone =
     (head_of order gone ≡ Stands block.order Other block.total) × (length gone ≡ block.gone) × (block.gone + 4 ≤ block.total)
 
 -- the blocks were read up to the begin of one, whose bytes were let go or are held
-pub record Begins (links : LinkSet) (s : State) (bytes : List ℕ) (frames : List FrameValue) (t : State) (passed : Option Passed) (held : List ℕ) : Type 0 where
+pub record Begins (scope : Scope) (s : State) (bytes : List ℕ) (frames : List FrameValue) (t : State) (passed : Option Passed) (held : List ℕ) : Type 0 where
   pub gone : List ℕ
   pub was : WasPassed t.order passed gone
-  pub read : ReadsTo (pcapng links) s bytes frames t (gone ++ held)
-  pub part : (pcapng links).step t (gone ++ held) ≡ Wants
+  pub read : ReadsTo (pcapng scope) s bytes frames t (gone ++ held)
+  pub part : (pcapng scope).step t (gone ++ held) ≡ Wants
   pub few : length held < 2 ^ 20
 
 -- the blocks were read up to a flaw
-pub record Breaks (links : LinkSet) (s : State) (bytes : List ℕ) (frames : List FrameValue) (t : State) (flaw : Flaw) : Type 0 where
+pub record Breaks (scope : Scope) (s : State) (bytes : List ℕ) (frames : List FrameValue) (t : State) (flaw : Flaw) : Type 0 where
   pub rest : List ℕ
-  pub read : ReadsTo (pcapng links) s bytes frames t rest
-  pub bad : (pcapng links).step t rest ≡ Bad (fault_of t.count flaw)
+  pub read : ReadsTo (pcapng scope) s bytes frames t rest
+  pub bad : (pcapng scope).step t rest ≡ Bad (fault_of t.count flaw)
 
 -- the blocks were read, where a block that is only passed over is let go up to its last field
-abbrev pub AreReadOn : LinkSet → State → List ℕ → List FrameValue → State → Option Passed → List ℕ → Option Flaw → Type 0
-AreReadOn links s bytes frames t passed held None = Begins links s bytes frames t passed held
-AreReadOn links s bytes frames t passed held (Some flaw) = Breaks links s bytes frames t flaw
+abbrev pub AreReadOn : Scope → State → List ℕ → List FrameValue → State → Option Passed → List ℕ → Option Flaw → Type 0
+AreReadOn scope s bytes frames t passed held None = Begins scope s bytes frames t passed held
+AreReadOn scope s bytes frames t passed held (Some flaw) = Breaks scope s bytes frames t flaw
 
 -- so many bytes of a block that is passed over are let go, of `size` that are there
 pub record IsLetGo (block : Passed) (size : ℕ) (after : Passed) (some : ℕ) : Type 0 where
@@ -112,18 +116,33 @@ abbrev pub HasRoom : Option Passed → Type 0
 HasRoom None = Unit {0}
 HasRoom (Some block) = block.gone + 4 ≤ block.total
 
+-- what a reader has is no more than so much. Where any number of bytes may come, it is not counted.
+abbrev pub FitsIn : Length → ℕ → ℕ → Type 0
+FitsIn Limited n most = n ≤ most
+FitsIn Any n most = Unit {0}
+
+-- the bytes of a piece that come early enough for a frame, where so many came before
+abbrev pub early_of : Length → ℕ → List ℕ → List ℕ
+early_of Limited total piece = take (2 ^ 32 - 1 - total) piece
+early_of Any total piece = piece
+
+-- and the others
+abbrev pub late_of : Length → ℕ → List ℕ → List ℕ
+late_of Limited total piece = drop (2 ^ 32 - 1 - total) piece
+late_of Any total piece = []
+
 -- what a reader has after `size` more bytes is no more than it had before and these
-pub record IsSoundOn (s : State) (size : ℕ) (t : State) (passed : Option Passed) (held : List ℕ) : Type 0 where
-  pub fits : t.count + length held ≤ s.count + size
+pub record IsSoundOn (l : Length) (s : State) (size : ℕ) (t : State) (passed : Option Passed) (held : List ℕ) : Type 0 where
+  pub fits : FitsIn l (t.count + length held) (s.count + size)
   pub room : HasRoom passed
   pub few : length held < 2 ^ 20
 
 -- after `size` more bytes with no flaw (None) a reader has no more than it had and these; after a flaw nothing is said
-abbrev pub IsGoneOn : State → ℕ → State → Option Passed → List ℕ → Option Flaw → Type 0
-IsGoneOn s size t passed held None = IsSoundOn s size t passed held
-IsGoneOn s size t passed held (Some flaw) = Unit {0}
+abbrev pub IsGoneOn : Length → State → ℕ → State → Option Passed → List ℕ → Option Flaw → Type 0
+IsGoneOn l s size t passed held None = IsSoundOn l s size t passed held
+IsGoneOn l s size t passed held (Some flaw) = Unit {0}
 
 -- one more byte may come
-abbrev pub MayGoOn : State → Option Passed → List ℕ → Option Flaw → Type 0
-MayGoOn t passed held None = HasRoom passed × (t.count + length held + 1 ≤ 2 ^ 32)
-MayGoOn t passed held (Some flaw) = Unit {0}
+abbrev pub MayGoOn : Length → State → Option Passed → List ℕ → Option Flaw → Type 0
+MayGoOn l t passed held None = HasRoom passed × MayCome l (t.count + length held + 1)
+MayGoOn l t passed held (Some flaw) = Unit {0}

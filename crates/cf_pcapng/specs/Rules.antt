@@ -2,6 +2,8 @@
 use Rattle.std.specs.Prelude.{◌≡◌, ◌⊎◌, ℕ, ◌-◌, ◌%◌, ◌^◌, ◌<◌, ◌≤◌, true, false, List, [], ◌∷◌, length, take, drop, slice_get, Option, Some, None, is_some}
 use Rattle.byteorder.specs.Endian.{little_number}
 use Rattle.cf_pcap.specs.declared.links.LinkSet.{LinkSet}
+use Rattle.cf_pcap.specs.declared.scope.Scope.{Scope}
+use Rattle.cf_stream.specs.Limits.{IsShort, IsLong, number_of}
 use Rattle.cf_pcap.specs.declared.form.Order.{Order}
 use Rattle.cf_pcap.specs.Capture.{FrameValue, number_in}
 use Rattle.cf_pcap.specs.Links.{is_link, longest}
@@ -165,89 +167,89 @@ HasFlaw links s bytes flaw = HeadBreaks s.order bytes flaw
     ⊎ (((flaw ≡ BadLength) × BreaksRule4 s.order bytes) ⊎ BreaksRules5To9 links s.order s.interfaces bytes flaw)
 
 -- a block of n bytes at the front breaks none, and gives these frames and this state
-pub record IsBlock (links : LinkSet) (s : State) (bytes : List ℕ) (n : ℕ) (frames : List FrameValue) (t : State) : Type 0 where
+pub record IsBlock (scope : Scope) (s : State) (bytes : List ℕ) (n : ℕ) (frames : List FrameValue) (t : State) : Type 0 where
   pub order : Order
   pub kind : Kind
   pub content : Content
   pub block : HasBlock s.order bytes order kind n
   pub last : last_total order (take n bytes) ≡ n
-  pub states : BlockStates links s.interfaces order kind (take n bytes) content
+  pub states : BlockStates scope.links s.interfaces order kind (take n bytes) content
   pub frames_are : frames ≡ frames_of s.count content (take n bytes)
-  pub after_is : t ≡ after s content
+  pub after_is : t ≡ after scope.length s content
 
 -- what the step of a pcapng file finds is what the rules say, both ways
-pub record StepsByRules (links : LinkSet) (s : State) (bytes : List ℕ) : Type 0 where
-  pub bad : (fault : NgFault) → (pcapng links).step s bytes ≡ Bad fault → (flaw : Flaw) × (fault ≡ fault_of s.count flaw) × HasFlaw links s bytes flaw
-  pub flaw : (flaw : Flaw) → HasFlaw links s bytes flaw → (pcapng links).step s bytes ≡ Bad (fault_of s.count flaw)
-  pub takes : (n : ℕ) (frames : List FrameValue) (t : State) → (pcapng links).step s bytes ≡ Takes n frames t → IsBlock links s bytes n frames t
-  pub block : (n : ℕ) (frames : List FrameValue) (t : State) → IsBlock links s bytes n frames t → (pcapng links).step s bytes ≡ Takes n frames t
+pub record StepsByRules (scope : Scope) (s : State) (bytes : List ℕ) : Type 0 where
+  pub bad : (fault : NgFault) → (pcapng scope).step s bytes ≡ Bad fault → (flaw : Flaw) × (fault ≡ fault_of s.count flaw) × HasFlaw scope.links s bytes flaw
+  pub flaw : (flaw : Flaw) → HasFlaw scope.links s bytes flaw → (pcapng scope).step s bytes ≡ Bad (fault_of s.count flaw)
+  pub takes : (n : ℕ) (frames : List FrameValue) (t : State) → (pcapng scope).step s bytes ≡ Takes n frames t → IsBlock scope s bytes n frames t
+  pub block : (n : ℕ) (frames : List FrameValue) (t : State) → IsBlock scope s bytes n frames t → (pcapng scope).step s bytes ≡ Takes n frames t
 
 -- Whole files, in these words.
 
 -- from a state the bytes are these blocks end to end, and then the rest
-abbrev pub AreBlocksThen : LinkSet → State → List (Part State FrameValue) → List ℕ → State → List ℕ → Type 0
-AreBlocksThen links s [] bytes t rest = (s ≡ t) × (bytes ≡ rest)
-AreBlocksThen links s (part ∷ parts) bytes t rest = IsBlock links s bytes part.size part.items part.after
-    × AreBlocksThen links part.after parts (drop part.size bytes) t rest
+abbrev pub AreBlocksThen : Scope → State → List (Part State FrameValue) → List ℕ → State → List ℕ → Type 0
+AreBlocksThen scope s [] bytes t rest = (s ≡ t) × (bytes ≡ rest)
+AreBlocksThen scope s (part ∷ parts) bytes t rest = IsBlock scope s bytes part.size part.items part.after
+    × AreBlocksThen scope part.after parts (drop part.size bytes) t rest
 
 -- a file begins with blocks of these frames, which lead to a state, and then comes the rest
-pub record BeginsWith (links : LinkSet) (file : List ℕ) (frames : List FrameValue) (last : State) (rest : List ℕ) : Type 0 where
+pub record BeginsWith (scope : Scope) (file : List ℕ) (frames : List FrameValue) (last : State) (rest : List ℕ) : Type 0 where
   pub parts : List (Part State FrameValue)
-  pub blocks : AreBlocksThen links (pcapng links).start parts file last rest
+  pub blocks : AreBlocksThen scope (pcapng scope).start parts file last rest
   pub frames_are : frames ≡ items_of parts
 
--- a file below 2^32 bytes is blocks end to end, a section header first, and nothing else
-pub record IsFileOf (links : LinkSet) (file : List ℕ) (frames : List FrameValue) : Type 0 where
-  pub size : length file < 2 ^ 32
+-- a file that is no longer than it may be is blocks end to end, a section header first, and nothing else
+pub record IsFileOf (scope : Scope) (file : List ℕ) (frames : List FrameValue) : Type 0 where
+  pub size : IsShort scope.length (length file)
   pub last : State
-  pub read : BeginsWith links file frames last []
+  pub read : BeginsWith scope file frames last []
   pub begun : is_some last.order ≡ true
 
 -- after blocks of k frames comes one with this flaw
-pub record ShowsFlaw (links : LinkSet) (file : List ℕ) (k : ℕ) (flaw : Flaw) : Type 0 where
+pub record ShowsFlaw (scope : Scope) (file : List ℕ) (k : ℕ) (flaw : Flaw) : Type 0 where
   pub frames : List FrameValue
   pub last : State
   pub rest : List ℕ
-  pub read : BeginsWith links file frames last rest
-  pub number_is : k ≡ length frames
-  pub breaks : HasFlaw links last rest flaw
+  pub read : BeginsWith scope file frames last rest
+  pub number_is : k ≡ number_of scope.length (length frames)
+  pub breaks : HasFlaw scope.links last rest flaw
 
 -- neither a whole block nor one with a flaw
-pub record IsPart (links : LinkSet) (s : State) (bytes : List ℕ) : Type 0 where
-  pub no_flaw : (flaw : Flaw) → HasFlaw links s bytes flaw → ⊥
-  pub no_block : (n : ℕ) (frames : List FrameValue) (t : State) → IsBlock links s bytes n frames t → ⊥
+pub record IsPart (scope : Scope) (s : State) (bytes : List ℕ) : Type 0 where
+  pub no_flaw : (flaw : Flaw) → HasFlaw scope.links s bytes flaw → ⊥
+  pub no_block : (n : ℕ) (frames : List FrameValue) (t : State) → IsBlock scope s bytes n frames t → ⊥
 
--- a file below 2^32 bytes ends within a block after k frames, or before its first section header
-pub record EndsWithin (links : LinkSet) (file : List ℕ) (k : ℕ) : Type 0 where
-  pub size : length file < 2 ^ 32
+-- a file that is no longer than it may be ends within a block after k frames, or before its first section header
+pub record EndsWithin (scope : Scope) (file : List ℕ) (k : ℕ) : Type 0 where
+  pub size : IsShort scope.length (length file)
   pub frames : List FrameValue
   pub last : State
   pub rest : List ℕ
-  pub read : BeginsWith links file frames last rest
-  pub number_is : k ≡ length frames
-  pub part : IsPart links last rest
+  pub read : BeginsWith scope file frames last rest
+  pub number_is : k ≡ number_of scope.length (length frames)
+  pub part : IsPart scope last rest
   pub left : (0 < length rest) ⊎ (is_some last.order ≡ false)
 
--- 2^32 bytes or more, of which the first 2^32 show no flaw
-pub record IsTooLong (links : LinkSet) (file : List ℕ) : Type 0 where
-  pub size : 2 ^ 32 ≤ length file
-  pub first : (k : ℕ) (flaw : Flaw) → ShowsFlaw links (seen file) k flaw → ⊥
+-- too many bytes, 2^32 or more, of which those that count show no flaw
+pub record IsTooLong (scope : Scope) (file : List ℕ) : Type 0 where
+  pub size : IsLong scope.length (length file)
+  pub first : (k : ℕ) (flaw : Flaw) → ShowsFlaw scope (seen scope.length file) k flaw → ⊥
 
 -- why a file is no capture
-abbrev pub HasFaultOf : LinkSet → List ℕ → NgFault → Type 0
-HasFaultOf links file (faults.BadMagic k) = ShowsFlaw links (seen file) k BadMagic
-HasFaultOf links file (faults.BadVersion k) = ShowsFlaw links (seen file) k BadVersion
-HasFaultOf links file (faults.BadLink k) = ShowsFlaw links (seen file) k BadLink
-HasFaultOf links file (faults.FrameTooLong k) = ShowsFlaw links (seen file) k FrameTooLong
-HasFaultOf links file (faults.Cut k) = EndsWithin links file k
-HasFaultOf links file faults.TooManyBytes = IsTooLong links file
-HasFaultOf links file (faults.BadLength k) = ShowsFlaw links (seen file) k BadLength
-HasFaultOf links file (faults.NoInterface k) = ShowsFlaw links (seen file) k NoInterface
-HasFaultOf links file faults.Memory = ⊥
+abbrev pub HasFaultOf : Scope → List ℕ → NgFault → Type 0
+HasFaultOf scope file (faults.BadMagic k) = ShowsFlaw scope (seen scope.length file) k BadMagic
+HasFaultOf scope file (faults.BadVersion k) = ShowsFlaw scope (seen scope.length file) k BadVersion
+HasFaultOf scope file (faults.BadLink k) = ShowsFlaw scope (seen scope.length file) k BadLink
+HasFaultOf scope file (faults.FrameTooLong k) = ShowsFlaw scope (seen scope.length file) k FrameTooLong
+HasFaultOf scope file (faults.Cut k) = EndsWithin scope file k
+HasFaultOf scope file faults.TooManyBytes = IsTooLong scope file
+HasFaultOf scope file (faults.BadLength k) = ShowsFlaw scope (seen scope.length file) k BadLength
+HasFaultOf scope file (faults.NoInterface k) = ShowsFlaw scope (seen scope.length file) k NoInterface
+HasFaultOf scope file faults.Memory = ⊥
 
 -- the two ways to say what a file is, agree
-pub record FileByRules (links : LinkSet) (file : List ℕ) : Type 0 where
-  pub capture : (frames : List FrameValue) → IsNg links file frames → IsFileOf links file frames
-  pub is_capture : (frames : List FrameValue) → IsFileOf links file frames → IsNg links file frames
-  pub fault : (fault : NgFault) → HasNgFault links file fault → HasFaultOf links file fault
-  pub is_fault : (fault : NgFault) → HasFaultOf links file fault → HasNgFault links file fault
+pub record FileByRules (scope : Scope) (file : List ℕ) : Type 0 where
+  pub capture : (frames : List FrameValue) → IsNg scope file frames → IsFileOf scope file frames
+  pub is_capture : (frames : List FrameValue) → IsFileOf scope file frames → IsNg scope file frames
+  pub fault : (fault : NgFault) → HasNgFault scope file fault → HasFaultOf scope file fault
+  pub is_fault : (fault : NgFault) → HasFaultOf scope file fault → HasNgFault scope file fault

@@ -1,5 +1,6 @@
 // The blocks of a file.
 ghost use Rattle.std.specs.Prelude.{◌≡◌, ◌+◌, ◌<◌, ◌≤◌, ◌^◌, length, IfOk};
+ghost use Rattle.cf_stream.specs.Limits.{HasRoom};
 ghost use Rattle.cf_pcapng.specs.Position.{state_of};
 ghost use Rattle.cf_pcapng.specs.Reading.{next_of as next_block, IsNextIn, AreRead};
 
@@ -7,7 +8,7 @@ use crate::content::{Content, content_of};
 use crate::fault::Flaw;
 use crate::head::{Head, head_of};
 use crate::position::Position;
-use cf_pcap::{Frame, LinkSet};
+use cf_pcap::{Frame, LinkSet, Scope};
 use std::alloc::{AllocError, Global};
 
 /// What stands at the front of some bytes.
@@ -72,21 +73,21 @@ fn stopped<'a>(
 // Reads the blocks at the front.
 pub(crate) fn read_blocks<'a>(
     alloc: Global,
-    links: LinkSet,
+    scope: Scope,
     mut position: Position<'a>,
     bytes: &[u8],
 ) -> Result<Read<'a>, AllocError>
-    requires { position.count + length bytes.now ≤ 2 ^ 32 }
-    ensures read { IfOk result (λ read. AreRead links (state_of position.entry) bytes.now read.frames.items (state_of read.position) read.rest.items read.flaw) }
+    requires { HasRoom scope.length (position.count + length bytes.now) }
+    ensures read { IfOk result (λ read. AreRead scope (state_of position.entry) bytes.now read.frames.items (state_of read.position) read.rest.items read.flaw) }
     ensures had { IfOk result (λ read. read.position.listed.had ≡ position.entry.listed.had) }
 {
     let mut frames = Vec::new(alloc);
     let mut left = bytes;
     loop {
-        match next_of(links, &position, left) {
+        match next_of(scope.links, &position, left) {
             Next::Block(total, content) => {
                 let (block, after) = left.split_at(total as usize);
-                position.pass(alloc, content, block, &mut frames)?;
+                position.pass(alloc, scope.length, content, block, &mut frames)?;
                 left = after;
             }
             Next::Wants => return stopped(alloc, position, frames, left, None),

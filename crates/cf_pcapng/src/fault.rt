@@ -6,7 +6,7 @@ ghost use Rattle.cf_pcapng.specs.declared.fault.NgFault.TheVariants.{Memory};
 use std::alloc::{AllocError, AllocFailed};
 use thiserror::Error;
 
-/// Why a stream is no capture. The number is that of the frames before the fault.
+/// Why a stream is no capture. The number is that of the frames before the fault, and 2^32 - 1 where these are more.
 #[derive(Clone, Copy, Debug, PartialEq, Eq, Error)]
 pub enum NgFault {
     /// The first block is no section header, or a section header's byte-order magic is in neither order.
@@ -24,7 +24,7 @@ pub enum NgFault {
     /// The stream ends inside a block, or before its first section header.
     #[error("the stream ends inside a block or before its first section header, after {0} frames")]
     Cut(u32),
-    /// The stream has 2^32 bytes or more.
+    /// The stream has 2^32 bytes or more, and these are too many ([`cf_pcap::Scope`]).
     #[error("the stream has 2^32 bytes or more")]
     TooManyBytes,
     /// A total length is unlawful or stands differently at the block's end, or a packet's bytes don't fit.

@@ -1,6 +1,6 @@
 // The theorems on files and streams.
 ghost use Rattle.std.specs.Prelude.{ℕ, List};
-ghost use Rattle.cf_pcap.specs.declared.links.LinkSet.{LinkSet};
+ghost use Rattle.cf_pcap.specs.declared.scope.Scope.{Scope};
 ghost use Rattle.cf_pcapng.specs.File.{State};
 ghost use Rattle.cf_pcapng.specs.Laws.{OneCase, OneGift};
 ghost use Rattle.cf_pcapng.specs.Rules.{StepsByRules, FileByRules};
@@ -8,26 +8,26 @@ ghost use Rattle.cf_pcapng.specs.Truncated.{TruncatedCase};
 
 /// Each file is a capture of one list of frames, or has one fault.
 pub fn each_file_is_in_one_case()
-    ensures { (links : LinkSet) (file : List ℕ) → OneCase links file }
+    ensures { (scope : Scope) (file : List ℕ) → OneCase scope file }
 {}
 
 /// A stream gives one list of frames.
 pub fn each_stream_gives_one_list()
-    ensures { (links : LinkSet) (stream : List ℕ) → OneGift links stream }
+    ensures { (scope : Scope) (stream : List ℕ) → OneGift scope stream }
 {}
 
 /// What a reader finds at the front of some bytes is what the rules say of the block there, both ways.
 pub fn blocks_are_judged_by_the_rules()
-    ensures { (links : LinkSet) (s : State) (bytes : List ℕ) → StepsByRules links s bytes }
+    ensures { (scope : Scope) (s : State) (bytes : List ℕ) → StepsByRules scope s bytes }
 {}
 
 /// A file is a capture, or has a fault, just where the rules over whole files say so.
 pub fn files_are_judged_by_the_rules()
-    ensures { (links : LinkSet) (file : List ℕ) → FileByRules links file }
+    ensures { (scope : Scope) (file : List ℕ) → FileByRules scope file }
 {}
 
 /// A file that ends within a block, and not within its first section header, is a capture up to the end of its last whole block, of
 /// the frames that its bytes give. Read as truncated, each file says one thing, or has one fault.
 pub fn a_truncated_file_has_its_whole_blocks()
-    ensures { (links : LinkSet) (file : List ℕ) → TruncatedCase links file }
+    ensures { (scope : Scope) (file : List ℕ) → TruncatedCase scope file }
 {}

@@ -1,6 +1,7 @@
 // Blocks that are passed over.
-ghost use Rattle.std.specs.Prelude.{◌≡◌, ℕ, List, ◌++◌, ◌+◌, ◌<◌, ◌≤◌, ◌^◌, length, IfOk};
-ghost use Rattle.cf_pcap.specs.declared.links.LinkSet.{LinkSet};
+ghost use Rattle.std.specs.Prelude.{◌≡◌, ℕ, List, ◌++◌, ◌+◌, ◌<◌, ◌≤◌, length, IfOk};
+ghost use Rattle.cf_stream.specs.Limits.{HasRoom as MayCome};
+ghost use Rattle.cf_pcap.specs.declared.scope.Scope.{Scope};
 ghost use Rattle.cf_pcapng.specs.File.{State};
 ghost use Rattle.cf_pcapng.specs.Position.{state_of};
 ghost use Rattle.cf_pcapng.specs.Reading.{WasPassed, AreReadOn, AreRead, IsResumed, IsLetGo, IsPassedAt, HasRoom, IsGoneOn};
@@ -9,7 +10,7 @@ use crate::blocks::{Read, read_blocks};
 use crate::fault::Flaw;
 use crate::head::{Head, Kind, head_of};
 use crate::position::Position;
-use cf_pcap::{Frame, LinkSet, Order};
+use cf_pcap::{Frame, Order, Scope};
 use std::alloc::{AllocError, Global};
 
 /// A block at hand that is only passed over, and may be very long: its bytes are let go up to the last field.
@@ -91,7 +92,7 @@ fn passed_at(section: Option<Order>, rest: &[u8]) -> Option<Passed>
 
 // Lets go of a block that is only passed over.
 fn let_go<'a>(alloc: Global, read: Read<'a>) -> Result<Given<'a>, AllocError>
-    ensures read { IfOk result (λ given. (links : LinkSet) (s : State) (bytes : List ℕ) → AreRead links s bytes read.entry.frames.items (state_of read.entry.position) read.entry.rest.items read.entry.flaw → AreReadOn links s bytes given.frames.items (state_of given.position) given.passed given.held.items given.flaw) }
+    ensures read { IfOk result (λ given. (scope : Scope) (s : State) (bytes : List ℕ) → AreRead scope s bytes read.entry.frames.items (state_of read.entry.position) read.entry.rest.items read.entry.flaw → AreReadOn scope s bytes given.frames.items (state_of given.position) given.passed given.held.items given.flaw) }
     ensures had { IfOk result (λ given. given.position.listed.had ≡ read.entry.position.listed.had) }
 {
     let Read {
@@ -134,20 +135,20 @@ fn let_go<'a>(alloc: Global, read: Read<'a>) -> Result<Given<'a>, AllocError>
 // Goes on in a block at hand, of which the next bytes come.
 fn go_past<'a>(
     alloc: Global,
-    links: LinkSet,
+    scope: Scope,
     position: Position<'a>,
     block: Passed,
     bytes: &[u8],
 ) -> Result<Given<'a>, AllocError>
     requires block { block.gone + 4 ≤ block.total }
-    requires room { position.count + length bytes.now ≤ 2 ^ 32 }
-    ensures sound { IfOk result (λ given. IsGoneOn (state_of position.entry) (length bytes.now) (state_of given.position) given.passed given.held.items given.flaw) }
-    ensures read { IfOk result (λ given. (gone : List ℕ) → WasPassed position.entry.order (Some block) gone → AreReadOn links (state_of position.entry) (gone ++ bytes.now) given.frames.items (state_of given.position) given.passed given.held.items given.flaw) }
+    requires room { MayCome scope.length (position.count + length bytes.now) }
+    ensures sound { IfOk result (λ given. IsGoneOn scope.length (state_of position.entry) (length bytes.now) (state_of given.position) given.passed given.held.items given.flaw) }
+    ensures read { IfOk result (λ given. (gone : List ℕ) → WasPassed position.entry.order (Some block) gone → AreReadOn scope (state_of position.entry) (gone ++ bytes.now) given.frames.items (state_of given.position) given.passed given.held.items given.flaw) }
     ensures had { IfOk result (λ given. given.position.listed.had ≡ position.entry.listed.had) }
 {
     match block.resume(bytes) {
         Resumed::Over(left) => {
-            let read = read_blocks(alloc, links, position, bytes.split_at(left).1)?;
+            let read = read_blocks(alloc, scope, position, bytes.split_at(left).1)?;
             let_go(alloc, read)
         }
         Resumed::Within(passed, some) => {
@@ -173,21 +174,21 @@ fn go_past<'a>(
 // Reads the bytes after those that were let go.
 pub(crate) fn go_on<'a>(
     alloc: Global,
-    links: LinkSet,
+    scope: Scope,
     position: Position<'a>,
     passed: Option<Passed>,
     bytes: &[u8],
 ) -> Result<Given<'a>, AllocError>
     requires block { HasRoom passed }
-    requires room { position.count + length bytes.now ≤ 2 ^ 32 }
-    ensures sound { IfOk result (λ given. IsGoneOn (state_of position.entry) (length bytes.now) (state_of given.position) given.passed given.held.items given.flaw) }
-    ensures read { IfOk result (λ given. (gone : List ℕ) → WasPassed position.entry.order passed gone → AreReadOn links (state_of position.entry) (gone ++ bytes.now) given.frames.items (state_of given.position) given.passed given.held.items given.flaw) }
+    requires room { MayCome scope.length (position.count + length bytes.now) }
+    ensures sound { IfOk result (λ given. IsGoneOn scope.length (state_of position.entry) (length bytes.now) (state_of given.position) given.passed given.held.items given.flaw) }
+    ensures read { IfOk result (λ given. (gone : List ℕ) → WasPassed position.entry.order passed gone → AreReadOn scope (state_of position.entry) (gone ++ bytes.now) given.frames.items (state_of given.position) given.passed given.held.items given.flaw) }
     ensures had { IfOk result (λ given. given.position.listed.had ≡ position.entry.listed.had) }
 {
     match passed {
-        Some(block) => go_past(alloc, links, position, block, bytes),
+        Some(block) => go_past(alloc, scope, position, block, bytes),
         None => {
-            let read = read_blocks(alloc, links, position, bytes)?;
+            let read = read_blocks(alloc, scope, position, bytes)?;
             let_go(alloc, read)
         }
     }

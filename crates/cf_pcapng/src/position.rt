@@ -1,5 +1,6 @@
 // How far a file was read.
-ghost use Rattle.std.specs.Prelude.{◌≡◌, ◌+◌, ◌<◌, ◌≤◌, ◌++◌, ◌∷◌, [], ◌^◌, false, length, IfOk};
+ghost use Rattle.std.specs.Prelude.{◌≡◌, ◌+◌, ◌≤◌, ◌++◌, ◌∷◌, [], false, length, IfOk};
+ghost use Rattle.cf_stream.specs.Limits.{IsShort};
 ghost use Rattle.cf_pcapng.specs.File.{frames_of, after};
 ghost use Rattle.cf_pcapng.specs.Position.{state_of};
 ghost use Rattle.cf_pcapng.specs.Reading.{LiesIn};
@@ -7,6 +8,7 @@ ghost use Rattle.cf_pcapng.specs.Reading.{LiesIn};
 use crate::content::{Content, Packet};
 use crate::interfaces::{Interface, Interfaces};
 use cf_pcap::{Frame, Order};
+use cf_stream::Length;
 use std::alloc::{AllocError, Global};
 use std::marker::Model;
 
@@ -17,7 +19,7 @@ pub(crate) struct Position<'a> {
     order: Option<Order>,
     /// The interfaces of the section.
     interfaces: Interfaces<'a>,
-    /// The number of frames.
+    /// The number of the next frame.
     count: u32,
 }
 
@@ -121,13 +123,14 @@ impl<'a> Position<'a> {
     pub(crate) fn pass(
         &mut self,
         alloc: Global,
+        limit: Length,
         content: Content,
         block: &[u8],
         frames: &mut Vec<Frame>,
     ) -> Result<(), AllocError>
         requires lies { LiesIn (length block.now) content }
-        requires room { self.old.count + 1 < 2 ^ 32 }
-        ensures moved { IfOk result (λ _. state_of self.new ≡ after (state_of self.old) content) }
+        requires room { IsShort limit (self.old.count + 1) }
+        ensures moved { IfOk result (λ _. state_of self.new ≡ after limit (state_of self.old) content) }
         ensures had { IfOk result (λ _. self.new.listed.had ≡ self.old.listed.had) }
         ensures given { IfOk result (λ _. frames.new.items ≡ frames.old.items ++ frames_of self.old.count content block.now) }
     {
@@ -140,7 +143,7 @@ impl<'a> Position<'a> {
             Content::Captures(packet) => {
                 let frame = frame_of(alloc, self.count, packet, block)?;
                 frames.push(frame)?;
-                self.count += 1;
+                self.count = limit.number_after(self.count);
             }
             Content::Nothing => {}
         }

@@ -1,13 +1,15 @@
 // The reader of a capture, which comes in pieces.
-ghost use Rattle.std.specs.Prelude.{◌≡◌, ◌≢◌, ℕ, List, [], ◌++◌, ◌<◌, ◌≤◌, ◌^◌, ◌+◌, length, take, drop, IfOk, MatchResult, is_ok, if◌then◌else◌, Err};
+ghost use Rattle.std.specs.Prelude.{◌≡◌, ◌≢◌, ℕ, List, [], ◌++◌, ◌≤◌, ◌+◌, length, take, drop, IfOk, MatchResult, is_ok, if◌then◌else◌, Err};
 ghost use Rattle.cf_pcap.specs.Capture.{FrameValue};
 ghost use Rattle.cf_pcap.specs.declared.links.LinkSet.TheVariants.{Basic};
+ghost use Rattle.cf_pcap.specs.Links.{limited};
+ghost use Rattle.cf_stream.specs.Limits.{IsShort, HasRoom as MayCome};
 ghost use Rattle.cf_stream.specs.Stream.{AreGiven};
 ghost use Rattle.cf_pcapng.specs.declared.stage.Stage.TheVariants.{Running};
 ghost use Rattle.cf_pcapng.specs.File.{pcapng};
 ghost use Rattle.cf_pcapng.specs.Position.{listed, state_of};
-ghost use Rattle.cf_pcapng.specs.Reading.{HasRoom, MayGoOn};
-ghost use Rattle.cf_pcapng.specs.Reader.{IsStateOf, IsFed, IsEnded, AnswersFound, IsStageAtLimit, IsStageAfter, IsCalled, kept_at, state_after};
+ghost use Rattle.cf_pcapng.specs.Reading.{HasRoom, MayGoOn, early_of, late_of};
+ghost use Rattle.cf_pcapng.specs.Reader.{IsStateOf, IsFed, IsEnded, AnswersFound, IsStageAtLimit, IsStageAfter, IsCalled, found_at, kept_at, state_after};
 ghost use Rattle.cf_pcapng.specs.Truncated.{Says, Breaks};
 
 use crate::fault::NgFault;
@@ -15,11 +17,12 @@ use crate::interfaces::Interface;
 use crate::passed::{Given, Passed, go_on};
 use crate::position::{Position, Reached};
 use crate::stage::{Stage, answer_of};
-use cf_pcap::{Frame, LinkSet, Order};
+use cf_pcap::{Frame, LinkSet, Order, Scope};
+use cf_stream::Length;
 use std::alloc::{AllocError, Global};
 use std::marker::Model;
 
-/// The most bytes of a capture.
+/// The most bytes of a limited capture.
 const LAST: usize = (1 << 32) - 1;
 
 /// A reader of one capture. It keeps no more of the stream than the begin of a block that is read, and the interfaces of
@@ -27,15 +30,15 @@ const LAST: usize = (1 << 32) - 1;
 #[derive(Drop)]
 pub struct PcapNg {
     alloc: Global,
-    links: LinkSet,
+    scope: Scope,
     stage: Stage,
-    // How many bytes were taken, while the reader runs.
+    // How many bytes were taken, while the reader runs and they are limited.
     total: usize,
     // The byte order of the section, if one has begun.
     order: Option<Order>,
     // The interfaces of the section.
     interfaces: Vec<Interface>,
-    // The number of frames.
+    // The number of the next frame.
     count: u32,
     // The block at hand, where it is only passed over.
     passed: Option<Passed>,
@@ -47,9 +50,9 @@ impl Model for PcapNg {
 
     ghost Value = { PcapNgValue };
 
-    ghost view = { λ p. record { links = p.links; stage = p.stage; total = p.total; state = record { order = p.order; interfaces = p.interfaces.items; count = p.count }; passed = p.passed; held = p.held.items } };
+    ghost view = { λ p. record { scope = p.scope; stage = p.stage; total = p.total; state = record { order = p.order; interfaces = p.interfaces.items; count = p.count }; passed = p.passed; held = p.held.items } };
 
-    ghost invariant = { λ p. IsSound (record { links = p.links; stage = p.stage; total = p.total; state = record { order = p.order; interfaces = p.interfaces.items; count = p.count }; passed = p.passed; held = p.held.items }) };
+    ghost invariant = { λ p. IsSound (record { scope = p.scope; stage = p.stage; total = p.total; state = record { order = p.order; interfaces = p.interfaces.items; count = p.count }; passed = p.passed; held = p.held.items }) };
 }
 
 /// What a call that takes a piece comes to: the frames that it gives, and the reader after it.
@@ -75,18 +78,18 @@ fn joined(alloc: Global, held: &[u8], more: &[u8]) -> Result<Vec<u8>, AllocError
 // The stage where a byte comes that makes the stream 2^32 bytes long.
 fn stage_at_limit(
     alloc: Global,
-    links: LinkSet,
+    scope: Scope,
     given: &Given<'_>,
     byte: &[u8],
 ) -> Result<Stage, AllocError>
     requires one { length byte.now ≡ 1 }
     requires block { HasRoom given.now.passed }
-    requires room { given.now.position.count + length given.now.held.items + 1 ≤ 2 ^ 32 }
-    ensures { IfOk result (IsStageAtLimit links (state_of given.now.position) given.now.passed given.now.held.items byte.now) }
+    requires room { MayCome scope.length (given.now.position.count + length given.now.held.items + 1) }
+    ensures { IfOk result (IsStageAtLimit scope (state_of given.now.position) given.now.passed given.now.held.items byte.now) }
 {
     let bytes = joined(alloc, &given.held, byte)?;
     let position = given.position.copy(alloc)?;
-    let last = go_on(alloc, links, position, given.passed, &bytes)?;
+    let last = go_on(alloc, scope, position, given.passed, &bytes)?;
     match last.flaw {
         Some(flaw) => Ok(Stage::Stopped(flaw.after(last.position.count()))),
         None => Ok(Stage::Stopped(NgFault::TooManyBytes)),
@@ -96,12 +99,12 @@ fn stage_at_limit(
 // The stage after the bytes that came early enough, where these come late.
 fn stage_after(
     alloc: Global,
-    links: LinkSet,
+    scope: Scope,
     given: &Given<'_>,
     late: &[u8],
 ) -> Result<Stage, AllocError>
-    requires { MayGoOn (state_of given.now.position) given.now.passed given.now.held.items given.now.flaw }
-    ensures { IfOk result (IsStageAfter links (state_of given.now.position) given.now.passed given.now.held.items given.now.flaw late.now) }
+    requires { MayGoOn scope.length (state_of given.now.position) given.now.passed given.now.held.items given.now.flaw }
+    ensures { IfOk result (IsStageAfter scope (state_of given.now.position) given.now.passed given.now.held.items given.now.flaw late.now) }
 {
     if let Some(flaw) = given.flaw {
         return Ok(Stage::Stopped(flaw.after(given.position.count())));
@@ -109,11 +112,11 @@ fn stage_after(
     if late.is_empty() {
         return Ok(Stage::Running);
     }
-    stage_at_limit(alloc, links, given, late.split_at(1).0)
+    stage_at_limit(alloc, scope, given, late.split_at(1).0)
 }
 
 // The first bytes of a piece, that many at most, and the others.
-fn cut(piece: &[u8], most: usize) -> (&[u8], &[u8])
+fn cut_at(piece: &[u8], most: usize) -> (&[u8], &[u8])
     ensures early { result.0.now ≡ take most piece.now }
     ensures late { result.1.now ≡ drop most piece.now }
 {
@@ -121,6 +124,18 @@ fn cut(piece: &[u8], most: usize) -> (&[u8], &[u8])
         return (piece, &[]);
     }
     piece.split_at(most)
+}
+
+// The bytes of a piece that come early enough for a frame, where so many came before, and the others.
+fn cut(limit: Length, total: usize, piece: &[u8]) -> (&[u8], &[u8])
+    requires { IsShort limit total }
+    ensures early { result.0.now ≡ early_of limit total piece.now }
+    ensures late { result.1.now ≡ late_of limit total piece.now }
+{
+    match limit {
+        Length::Any => (piece, &[]),
+        Length::Limited => cut_at(piece, LAST - total),
+    }
 }
 
 // The bytes that a reader keeps at a stage.
@@ -155,22 +170,22 @@ fn take_over(
 }
 
 impl PcapNg {
-    /// A reader of captures of Ethernet and Linux SLL that was fed nothing yet.
+    /// A reader of captures of Ethernet and Linux SLL, below 2^32 bytes, that was fed nothing yet.
     pub fn new(alloc: Global) -> Result<Self, AllocError>
-        ensures links { IfOk result (λ pcapng. pcapng.links ≡ Basic) }
+        ensures scope { IfOk result (λ pcapng. pcapng.scope ≡ limited Basic) }
         ensures state { IfOk result (λ pcapng. IsStateOf pcapng []) }
     {
-        PcapNg::for_links(alloc, LinkSet::Basic)
+        PcapNg::for_scope(alloc, Scope::limited(LinkSet::Basic))
     }
 
-    /// A reader of captures of these links that was fed nothing yet.
-    pub fn for_links(alloc: Global, links: LinkSet) -> Result<Self, AllocError>
-        ensures links { IfOk result (λ pcapng. pcapng.links ≡ links) }
+    /// A reader of the captures of this scope that was fed nothing yet.
+    pub fn for_scope(alloc: Global, scope: Scope) -> Result<Self, AllocError>
+        ensures scope { IfOk result (λ pcapng. pcapng.scope ≡ scope) }
         ensures state { IfOk result (λ pcapng. IsStateOf pcapng []) }
     {
         Ok(PcapNg {
             alloc,
-            links,
+            scope,
             stage: Stage::Running,
             total: 0,
             order: None,
@@ -184,12 +199,12 @@ impl PcapNg {
     /// Takes the next piece of the stream, and adds to `out` the frames whose last byte lies in it and before any fault.
     /// A fault is found by its place: the type of the first block after 4 bytes, a total length after 8 bytes of its block,
     /// a byte-order magic and a section header's total length after 12, and others at the end of their block;
-    /// `TooManyBytes` at the byte that makes the stream 2^32 bytes. After a fault every call answers it. After `Memory`
+    /// `TooManyBytes` at the byte that makes a limited stream 2^32 bytes. After a fault every call answers it. After `Memory`
     /// nothing of the piece is taken, and it may be fed again.
     pub fn feed(&mut self, piece: &[u8], out: &mut Vec<Frame>) -> Result<(), NgFault>
         ensures fed { result ≢ Err NgFault.Memory → (given : List FrameValue) × (out.new.items ≡ out.old.items ++ given)
             × ((stream : List ℕ) → IsStateOf self.old stream → IsFed stream piece.now given result self.new) }
-        ensures links { self.new.links ≡ self.old.links }
+        ensures scope { self.new.scope ≡ self.old.scope }
         ensures stopped { AnswersFound self.old result }
         ensures memory { result ≡ Err NgFault.Memory → (self.new ≡ self.old) × (out.new.items ≡ out.old.items) }
     {
@@ -223,16 +238,17 @@ impl PcapNg {
     // What a call that takes a piece comes to.
     fn call(&self, piece: &[u8]) -> Result<Called, AllocError>
         requires { self.now.stage ≡ Running }
-        ensures { IfOk result (λ called. IsCalled self.now piece.now called.frames.items (record { links = self.now.links; stage = called.stage; total = called.total; state = state_after self.now.state.interfaces called.reached; passed = called.passed; held = called.held.items })) }
+        ensures { IfOk result (λ called. IsCalled self.now piece.now called.frames.items (record { scope = self.now.scope; stage = called.stage; total = called.total; state = state_after self.now.state.interfaces called.reached; passed = called.passed; held = called.held.items })) }
     {
-        let (early, late) = cut(piece, LAST - self.total);
+        let limit = self.scope.length;
+        let (early, late) = cut(limit, self.total, piece);
         let bytes = joined(self.alloc, &self.held, early)?;
         let position = Position::new(self.alloc, self.order, &self.interfaces, self.count);
-        let given = go_on(self.alloc, self.links, position, self.passed, &bytes)?;
-        let stage = stage_after(self.alloc, self.links, &given, late)?;
+        let given = go_on(self.alloc, self.scope, position, self.passed, &bytes)?;
+        let stage = stage_after(self.alloc, self.scope, &given, late)?;
         Ok(Called {
             stage,
-            total: self.total + early.len(),
+            total: limit.total_after(self.total, early.len()),
             reached: given.position.reached(),
             passed: given.passed,
             held: kept(self.alloc, stage, given.held),
@@ -249,9 +265,19 @@ impl PcapNg {
         self.held.len()
     }
 
-    /// The number of frames of the stream that was fed, or its fault. It takes no memory.
+    /// The fault that was found, if one was. The stream has it, whatever follows.
+    pub fn fault(&self) -> Option<NgFault>
+        ensures { result ≡ found_at self.now.stage }
+    {
+        match self.stage {
+            Stage::Stopped(fault) => Some(fault),
+            Stage::Running => None,
+        }
+    }
+
+    /// The number of frames of the stream that was fed, and 2^32 - 1 where they are more, or its fault. It takes no memory.
     pub fn finish(self) -> Result<u32, NgFault>
-        ensures ended { (stream : List ℕ) → IsStateOf self stream → IsEnded self.links stream result }
+        ensures ended { (stream : List ℕ) → IsStateOf self stream → IsEnded self.scope stream result }
         ensures no_memory { result ≢ Err NgFault.Memory }
     {
         match self.stage {
@@ -271,8 +297,8 @@ impl PcapNg {
     /// The same where a stream that ends within a block is one of the blocks before it: how many frames they have then, and nothing
     /// where the stream ends well. One that ends within its first section header has its fault.
     pub fn finish_truncated(self) -> Result<Option<u32>, NgFault>
-        ensures ended { (stream : List ℕ) (frames : List FrameValue) → IsStateOf self stream → AreGiven (pcapng self.links) stream frames
-            → MatchResult result (Says self.links stream frames) (Breaks self.links stream) }
+        ensures ended { (stream : List ℕ) (frames : List FrameValue) → IsStateOf self stream → AreGiven (pcapng self.scope) stream frames
+            → MatchResult result (Says self.scope stream frames) (Breaks self.scope stream) }
         ensures no_memory { result ≢ Err NgFault.Memory }
     {
         match self.stage {

@@ -1,8 +1,16 @@
 // Captures by tables.
 use crate::{NgFault, PcapNg};
-use cf_pcap::Frame;
+use cf_pcap::{Frame, LinkSet, Scope};
 use std::alloc::{AllocError, Global};
 use std::test::Fail;
+
+/// Captures of Ethernet and Linux SLL, below 2^32 bytes and of any length.
+fn both_lengths() -> [Scope; 2] {
+    [
+        Scope::limited(LinkSet::Basic),
+        Scope::unlimited(LinkSet::Basic),
+    ]
+}
 
 /// A section, an interface, an enhanced and a simple packet, little-endian.
 const LITTLE: [u8; 104] = [
@@ -57,11 +65,12 @@ fn feed_again(pcapng: &mut PcapNg, piece: &[u8], out: &mut Vec<Frame>) -> Result
 /// Feeds a stream in pieces of that many bytes.
 fn feed_all(
     alloc: Global,
+    scope: Scope,
     stream: &[u8],
     size: usize,
     out: &mut Vec<Frame>,
 ) -> Result<Told, AllocError> {
-    let mut pcapng = PcapNg::new(alloc)?;
+    let mut pcapng = PcapNg::for_scope(alloc, scope)?;
     let mut found = None;
     let mut taken = 0usize;
     for piece in stream.chunks(size.max(1)) {
@@ -93,10 +102,12 @@ fn part(stream: &[u8], begin: usize, end: usize) -> &[u8] {
 
 #[test]
 fn each_order_gives_the_same_frames(rt: HostRuntime) -> Result<(), Fail> {
-    for stream in [LITTLE, BIG] {
+    let streams = [LITTLE, LITTLE, BIG, BIG];
+    let scopes = both_lengths().into_iter().chain(both_lengths());
+    for (stream, scope) in streams.into_iter().zip(scopes) {
         for size in [1, 7, 24, 104] {
             let mut out: Vec<Frame> = Vec::new(rt.alloc());
-            let told = feed_all(rt.alloc(), &stream, size, &mut out)?;
+            let told = feed_all(rt.alloc(), scope, &stream, size, &mut out)?;
             assert_eq!(rt;
                 (told.found, told.end),
                 (None, Ok(2)),
@@ -125,7 +136,13 @@ fn a_resolution_option_counts(rt: HostRuntime) -> Result<(), Fail> {
     )?;
     for size in [1, 7, 200] {
         let mut out: Vec<Frame> = Vec::new(rt.alloc());
-        let told = feed_all(rt.alloc(), &stream, size, &mut out)?;
+        let told = feed_all(
+            rt.alloc(),
+            Scope::unlimited(LinkSet::Basic),
+            &stream,
+            size,
+            &mut out,
+        )?;
         assert_eq!(rt; told.end, Ok(2));
         assert_eq!(rt; out.first().map(|frame| frame.ts), Some(1_500_000));
     }
@@ -171,7 +188,13 @@ fn first_of(
     size: usize,
 ) -> Result<Option<(u64, u32, u16)>, AllocError> {
     let mut out: Vec<Frame> = Vec::new(alloc);
-    let told = feed_all(alloc, stream, size, &mut out)?;
+    let told = feed_all(
+        alloc,
+        Scope::limited(LinkSet::Basic),
+        stream,
+        size,
+        &mut out,
+    )?;
     if told.end.is_err() {
         return Ok(None);
     }
@@ -278,7 +301,13 @@ fn interfaces_are_those_of_their_section(rt: HostRuntime) -> Result<(), Fail> {
         stream.extend_from_slice(more)?;
         for size in [1, 20, 36, 500] {
             let mut out: Vec<Frame> = Vec::new(rt.alloc());
-            let told = feed_all(rt.alloc(), &stream, size, &mut out)?;
+            let told = feed_all(
+                rt.alloc(),
+                Scope::unlimited(LinkSet::Basic),
+                &stream,
+                size,
+                &mut out,
+            )?;
             assert_eq!(rt; told.end, end);
             assert_eq!(rt; out.len(), links.len());
             for (frame, link) in out.iter().zip(links) {
@@ -323,7 +352,13 @@ fn total_lengths_are_judged_at_their_bounds(rt: HostRuntime) -> Result<(), Fail>
         let stream = joined(rt.alloc(), &[&SECTION, &described, &last])?;
         for size in [65_536, 2_000_000] {
             let mut out: Vec<Frame> = Vec::new(rt.alloc());
-            let told = feed_all(rt.alloc(), &stream, size, &mut out)?;
+            let told = feed_all(
+                rt.alloc(),
+                Scope::unlimited(LinkSet::Basic),
+                &stream,
+                size,
+                &mut out,
+            )?;
             assert_eq!(rt; told.end, end);
         }
     }
@@ -344,7 +379,13 @@ fn other_blocks_are_passed_over(rt: HostRuntime) -> Result<(), Fail> {
     )?;
     for size in [1, 3, 7, 300] {
         let mut out: Vec<Frame> = Vec::new(rt.alloc());
-        let told = feed_all(rt.alloc(), &stream, size, &mut out)?;
+        let told = feed_all(
+            rt.alloc(),
+            Scope::unlimited(LinkSet::Basic),
+            &stream,
+            size,
+            &mut out,
+        )?;
         assert_eq!(rt;
             (told.found, told.end),
             (None, Ok(3)),
@@ -390,7 +431,13 @@ fn each_fault_is_found_at_its_place(rt: HostRuntime) -> Result<(), Fail> {
         let stream = changed(LITTLE, &changes);
         for size in [1, 7, 104] {
             let mut out: Vec<Frame> = Vec::new(rt.alloc());
-            let told = feed_all(rt.alloc(), &stream, size, &mut out)?;
+            let told = feed_all(
+                rt.alloc(),
+                Scope::unlimited(LinkSet::Basic),
+                &stream,
+                size,
+                &mut out,
+            )?;
             let (place, end) = match fault {
                 None => (None, Ok(2)),
                 Some((at, fault)) => (Some(at), Err(fault)),
@@ -406,11 +453,11 @@ fn each_fault_is_found_at_its_place(rt: HostRuntime) -> Result<(), Fail> {
 
 #[test]
 fn a_cut_stream_is_cut_after_whole_blocks(rt: HostRuntime) -> Result<(), Fail> {
-    for stream in [LITTLE, BIG] {
+    for (stream, scope) in [LITTLE, BIG].into_iter().zip(both_lengths()) {
         for size in [1, 7, 104] {
             for n in 0..105 {
                 let mut out: Vec<Frame> = Vec::new(rt.alloc());
-                let told = feed_all(rt.alloc(), part(&stream, 0, n), size, &mut out)?;
+                let told = feed_all(rt.alloc(), scope, part(&stream, 0, n), size, &mut out)?;
                 let end = match n {
                     28 | 48 => Ok(0),
                     84 => Ok(1),
@@ -428,11 +475,12 @@ fn a_cut_stream_is_cut_after_whole_blocks(rt: HostRuntime) -> Result<(), Fail> {
 /// What the end of a stream answers that is read as truncated, in pieces of that many bytes.
 fn end_truncated(
     alloc: Global,
+    scope: Scope,
     stream: &[u8],
     size: usize,
     out: &mut Vec<Frame>,
 ) -> Result<Result<Option<u32>, NgFault>, AllocError> {
-    let mut pcapng = PcapNg::new(alloc)?;
+    let mut pcapng = PcapNg::for_scope(alloc, scope)?;
     for piece in stream.chunks(size.max(1)) {
         let _ = feed_again(&mut pcapng, piece, out);
     }
@@ -458,12 +506,12 @@ fn a_truncated_stream_has_its_whole_blocks(rt: HostRuntime) -> Result<(), Fail> 
         joined(rt.alloc(), &[&LITTLE, &UNKNOWN, &BIG])?,
         joined(rt.alloc(), &[&LITTLE, &UNKNOWN, &LITTLE])?,
     ];
-    for stream in &streams {
+    for (stream, scope) in streams.iter().zip(both_lengths()) {
         for size in [1, 7, 65536] {
             for n in 0..229 {
                 let mut out: Vec<Frame> = Vec::new(rt.alloc());
                 let cut = part(stream, 0, n);
-                let end = end_truncated(rt.alloc(), cut, size, &mut out)?;
+                let end = end_truncated(rt.alloc(), scope, cut, size, &mut out)?;
                 assert_eq!(rt; end, truncated_after(n), "after {n} bytes");
             }
         }
@@ -483,7 +531,13 @@ fn other_faults_stay_of_a_truncated_stream(rt: HostRuntime) -> Result<(), Fail> 
     for (stream, fault) in table {
         for size in [1, 7, 65536] {
             let mut out: Vec<Frame> = Vec::new(rt.alloc());
-            let end = end_truncated(rt.alloc(), &stream, size, &mut out)?;
+            let end = end_truncated(
+                rt.alloc(),
+                Scope::unlimited(LinkSet::Basic),
+                &stream,
+                size,
+                &mut out,
+            )?;
             assert_eq!(rt; end, Err(fault));
         }
     }

@@ -1,4 +1,5 @@
-use Rattle.std.proofs.Common.{◌≡◌, ◌≤◌, ◌+◌, ◌^◌, length}
+use Rattle.std.proofs.Common.{◌≡◌, ◌+◌, length}
+use Rattle.cf_stream.specs.Limits.{HasRoom}
 use Rattle.cf_stream.specs.Format.{ReadsTo}
 use Rattle.cf_pcapng.specs.File.{pcapng}
 use Rattle.cf_pcapng.specs.Position.{state_of}
@@ -6,9 +7,9 @@ use Rattle.cf_pcapng.proofs.blocks.read_blocks.Given as goal
 
 abbrev pub invariant-loop-total : goal.invariant-loop-total
 invariant-loop-total l = record {
-  read : ReadsTo (pcapng l.links) (state_of l.fn.position) l.bytes l.frames.items (state_of l.position) l.left;
+  read : ReadsTo (pcapng l.scope) (state_of l.fn.position) l.bytes l.frames.items (state_of l.position) l.left;
   had : l.position.listed.had ≡ l.fn.position.listed.had;
-  room : l.position.count + length l.left ≤ 2 ^ 32;
+  room : HasRoom l.scope.length (l.position.count + length l.left);
 }
 
 abbrev pub decreases-loop-total : goal.decreases-loop-total

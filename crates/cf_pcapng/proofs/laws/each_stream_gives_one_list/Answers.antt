@@ -4,4 +4,4 @@ use Rattle.cf_pcapng.proofs.Steps.{stepper}
 use Rattle.cf_pcapng.proofs.laws.each_stream_gives_one_list.Goals as goal
 
 pub returns : goal.returns
-returns c = λ links. one_gift (pcapng links) (stepper links)
+returns c = λ scope. one_gift (pcapng scope) (stepper scope)

@@ -13,19 +13,19 @@ within-some-requires-clause-room c =
     omega (arith, most, none)
 
 pub returns-in-None-clause-read : goal.returns-in-None-clause-read
-returns-in-None-clause-read c = λ links s bytes read.
+returns-in-None-clause-read c = λ scope s bytes read.
     let all = c.args.read in
     let none : all.flaw ≡ None = not_some all.flaw (search rules) in
     let at : IsPassedAt all.position.order all.rest.items None =
     subst (λ (o : Option Order). IsPassedAt o all.rest.items None) c.order.ensures
     (subst (λ (xs : List ℕ). IsPassedAt c.order.result xs None) c.deref.ensures.value c.in-None.ensures) in
-    let now : AreRead links s bytes all.frames.items (state_of all.position) all.rest.items None =
-    subst (λ (x : Option Flaw). AreRead links s bytes all.frames.items (state_of all.position) all.rest.items x) none read in
-    subst (λ (x : Option Flaw). AreReadOn links s bytes all.frames.items (state_of all.position) None all.rest.items x) (sym none)
-    (begins_whole links s bytes all.frames.items (state_of all.position) all.rest.items now at)
+    let now : AreRead scope s bytes all.frames.items (state_of all.position) all.rest.items None =
+    subst (λ (x : Option Flaw). AreRead scope s bytes all.frames.items (state_of all.position) all.rest.items x) none read in
+    subst (λ (x : Option Flaw). AreReadOn scope s bytes all.frames.items (state_of all.position) None all.rest.items x) (sym none)
+    (begins_whole scope s bytes all.frames.items (state_of all.position) all.rest.items now at)
 
 pub returns-clause-read : goal.returns-clause-read
-returns-clause-read c = λ links s bytes read.
+returns-clause-read c = λ scope s bytes read.
     let all = c.args.read in
     let block = c.in-Some.block in
     let passed = c.within-some.result.0 in
@@ -37,9 +37,9 @@ returns-clause-read c = λ links s bytes read.
     let go : IsLetGo block (length all.rest.items) passed some =
     subst (λ (xs : List ℕ). IsLetGo block (length xs) passed some) c.deref-in-Some.ensures.value c.within-some.ensures in
     let held : c.in_ok-held-in-Some.held.items ≡ drop some all.rest.items = search rules in
-    let now : AreRead links s bytes all.frames.items (state_of all.position) all.rest.items None =
-    subst (λ (x : Option Flaw). AreRead links s bytes all.frames.items (state_of all.position) all.rest.items x) none read in
-    let done : Begins links s bytes all.frames.items (state_of all.position) (Some passed) (drop some all.rest.items) =
-    begins_passed links s bytes all.frames.items (state_of all.position) all.rest.items block passed some now at go in
-    subst (λ (x : Option Flaw). AreReadOn links s bytes all.frames.items (state_of all.position) (Some passed) c.in_ok-held-in-Some.held.items x) (sym none)
-    (subst (λ (xs : List ℕ). Begins links s bytes all.frames.items (state_of all.position) (Some passed) xs) (sym held) done)
+    let now : AreRead scope s bytes all.frames.items (state_of all.position) all.rest.items None =
+    subst (λ (x : Option Flaw). AreRead scope s bytes all.frames.items (state_of all.position) all.rest.items x) none read in
+    let done : Begins scope s bytes all.frames.items (state_of all.position) (Some passed) (drop some all.rest.items) =
+    begins_passed scope s bytes all.frames.items (state_of all.position) all.rest.items block passed some now at go in
+    subst (λ (x : Option Flaw). AreReadOn scope s bytes all.frames.items (state_of all.position) (Some passed) c.in_ok-held-in-Some.held.items x) (sym none)
+    (subst (λ (xs : List ℕ). Begins scope s bytes all.frames.items (state_of all.position) (Some passed) xs) (sym held) done)

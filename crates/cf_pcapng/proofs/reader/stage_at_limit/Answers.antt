@@ -16,7 +16,7 @@ returns-in-Some c =
     let fault : c.after.result ≡ fault_of last.position.count c.in-Some.flaw = c.after.ensures ∙ ap (λ n. fault_of n c.in-Some.flaw) c.count.ensures in
     let shows : ShowsLate last.flaw (state_of last.position) c.after.result =
     subst (λ (x : Option Flaw). ShowsLate x (state_of last.position) c.after.result) (sym c.in-Some.is) fault in
-    limit_stage c.args.links (state_of given.position)
+    limit_stage c.args.scope (state_of given.position)
     (state_of c.in_ok-position.position) given.passed given.held.items c.args.byte.now c.deref-2.result.now last.frames.items
     (state_of last.position) last.passed last.held.items last.flaw c.after.result bytes
     (ap state_of c.in_ok-position.ensures) c.in_ok-last.ensures.read shows
@@ -29,6 +29,6 @@ returns c =
     ∙ ap (λ xs. xs ++ c.args.byte.now) c.deref.ensures.value in
     let shows : ShowsLate last.flaw (state_of last.position) TooManyBytes =
     subst (λ (x : Option Flaw). ShowsLate x (state_of last.position) TooManyBytes) (sym c.in-None.is) refl in
-    limit_stage c.args.links (state_of given.position)
+    limit_stage c.args.scope (state_of given.position)
     (state_of c.in_ok-position.position) given.passed given.held.items c.args.byte.now c.deref-2.result.now last.frames.items
     (state_of last.position) last.passed last.held.items last.flaw TooManyBytes bytes (ap state_of c.in_ok-position.ensures) c.in_ok-last.ensures.read shows

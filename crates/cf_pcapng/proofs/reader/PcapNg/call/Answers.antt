@@ -1,4 +1,4 @@
-use Rattle.std.proofs.Common.{◌≡◌, ◌++◌, ◌+◌, length, sym, ap, subst, refl, ◌∙◌}
+use Rattle.std.proofs.Common.{◌≡◌, ◌++◌, sym, ap, subst, ◌∙◌}
 use Rattle.cf_pcapng.specs.declared.stage.Stage.TheVariants.{Running}
 use Rattle.cf_pcapng.specs.Position.{state_of}
 use Rattle.cf_pcapng.specs.File.{State}
@@ -11,7 +11,7 @@ returns c =
     let inside = c.self.inside in
     let reader : PcapNgValue =
     record {
-      links = inside.links;
+      scope = inside.scope;
       stage = inside.stage;
       total = inside.total;
       state = record { order = inside.order; interfaces = inside.interfaces.items; count = inside.count };
@@ -24,9 +24,9 @@ returns c =
     let late = c.cut.result.1.now in
     let after : PcapNgValue =
     record {
-      links = inside.links;
+      scope = inside.scope;
       stage = c.in_ok-stage.stage;
-      total = inside.total + length early;
+      total = c.total_after.result;
       state = state_of given.position;
       passed = given.passed;
       held = c.kept.result.items;
@@ -40,7 +40,7 @@ returns c =
     reached_is inside.interfaces.items c.reached.result given.position had c.reached.ensures.order c.reached.ensures.anew c.reached.ensures.came c.reached.ensures.count in
     subst (λ (r : PcapNgValue). IsCalled r c.args.piece.now given.frames.items
     (record {
-      links = r.links;
+      scope = r.scope;
       stage = after.stage;
       total = after.total;
       state = state_after r.state.interfaces c.reached.result;
@@ -48,8 +48,8 @@ returns c =
       held = after.held;
     })) c.self.view_is
     (subst (λ (s : State). IsCalled reader c.args.piece.now given.frames.items
-    (record { links = inside.links; stage = after.stage; total = after.total; state = s; passed = after.passed; held = after.held })) state
+    (record { scope = inside.scope; stage = after.stage; total = after.total; state = s; passed = after.passed; held = after.held })) state
     (called reader c.args.piece.now early late c.deref-3.result.now given.frames.items (state_of c.new-position.result)
     (state_of given.position) given.passed given.held.items c.kept.result.items given.flaw
-    (inside.total + length early) c.in_ok-stage.stage running c.self.invariant c.cut.ensures.early c.cut.ensures.late bytes
-    (position_is reader.state c.new-position.result c.deref-2.result.now c.deref-2.ensures.value c.new-position.ensures) c.in_ok-given.ensures.read c.in_ok-given.ensures.sound c.in_ok-stage.ensures refl c.kept.ensures))
+    c.total_after.result c.in_ok-stage.stage running c.self.invariant c.cut.ensures.early c.cut.ensures.late bytes
+    (position_is reader.state c.new-position.result c.deref-2.result.now c.deref-2.ensures.value c.new-position.ensures) c.in_ok-given.ensures.read c.in_ok-given.ensures.sound c.in_ok-stage.ensures c.total_after.ensures c.kept.ensures))

@@ -11,7 +11,7 @@ returns-then-is_some-clause-ended c =
     let inside = c.self.inside in
     let reader : PcapNgValue =
     record {
-      links = inside.links;
+      scope = inside.scope;
       stage = inside.stage;
       total = inside.total;
       state = record { order = inside.order; interfaces = inside.interfaces.items; count = inside.count };
@@ -23,7 +23,7 @@ returns-then-is_some-clause-ended c =
       | then-is_some-via-then-is_some w ↦ inl (search rules)
       | then-is_some-via-else-is_some+then-not-is_empty w ↦ inr (search rules)
     ] in
-    λ stream state. subst (λ (r : PcapNgValue). IsEnded r.links stream (Err (Cut inside.count))) c.self.view_is
+    λ stream state. subst (λ (r : PcapNgValue). IsEnded r.scope stream (Err (Cut inside.count))) c.self.view_is
     (ended_within reader stream inside.count c.in-Running.is left refl (subst (λ (r : PcapNgValue). IsStateOf r stream) (sym c.self.view_is) state))
 
 pub returns-clause-ended : goal.returns-clause-ended
@@ -31,7 +31,7 @@ returns-clause-ended c =
     let inside = c.self.inside in
     let reader : PcapNgValue =
     record {
-      links = inside.links;
+      scope = inside.scope;
       stage = inside.stage;
       total = inside.total;
       state = record { order = inside.order; interfaces = inside.interfaces.items; count = inside.count };
@@ -42,6 +42,6 @@ returns-clause-ended c =
     let none : is_some reader.passed ≡ false = search rules in
     let empty : length reader.held ≡ 0 = search rules in
     let some : is_some reader.state.order ≡ true = search rules in
-    λ stream state. subst (λ (r : PcapNgValue). IsEnded r.links stream (Ok inside.count)) c.self.view_is
+    λ stream state. subst (λ (r : PcapNgValue). IsEnded r.scope stream (Ok inside.count)) c.self.view_is
     (ended_whole reader stream inside.count c.in-Running.is none (nil_from_length reader.held empty) some refl
     (subst (λ (r : PcapNgValue). IsStateOf r stream) (sym c.self.view_is) state))

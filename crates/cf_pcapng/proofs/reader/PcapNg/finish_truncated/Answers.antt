@@ -13,7 +13,7 @@ returns-in-Stopped-clause-ended c =
     let inside = c.self.inside in
     let reader : PcapNgValue =
     record {
-      links = inside.links;
+      scope = inside.scope;
       stage = inside.stage;
       total = inside.total;
       state = record { order = inside.order; interfaces = inside.interfaces.items; count = inside.count };
@@ -21,7 +21,7 @@ returns-in-Stopped-clause-ended c =
       held =
           inside.held.items;
     } in
-    λ stream frames state given. subst (λ (r : PcapNgValue). Breaks r.links stream c.in-Stopped.found) c.self.view_is
+    λ stream frames state given. subst (λ (r : PcapNgValue). Breaks r.scope stream c.in-Stopped.found) c.self.view_is
     (end_stopped reader stream c.in-Stopped.found c.in-Stopped.is (subst (λ (r : PcapNgValue). IsStateOf r stream) (sym c.self.view_is) state))
 
 pub returns-in-Running-clause-ended : goal.returns-in-Running-clause-ended
@@ -29,7 +29,7 @@ returns-in-Running-clause-ended c =
     let inside = c.self.inside in
     let reader : PcapNgValue =
     record {
-      links = inside.links;
+      scope = inside.scope;
       stage = inside.stage;
       total = inside.total;
       state = record { order = inside.order; interfaces = inside.interfaces.items; count = inside.count };
@@ -38,7 +38,7 @@ returns-in-Running-clause-ended c =
           inside.held.items;
     } in
     let without : is_some reader.state.order ≡ false = search rules in
-    λ stream frames state given. subst (λ (r : PcapNgValue). Breaks r.links stream (Cut inside.count)) c.self.view_is
+    λ stream frames state given. subst (λ (r : PcapNgValue). Breaks r.scope stream (Cut inside.count)) c.self.view_is
     (end_outside reader stream inside.count c.in-Running.is without refl (subst (λ (r : PcapNgValue). IsStateOf r stream) (sym c.self.view_is) state))
 
 pub returns-in-Running-2-clause-ended : goal.returns-in-Running-2-clause-ended
@@ -46,7 +46,7 @@ returns-in-Running-2-clause-ended c =
     let inside = c.self.inside in
     let reader : PcapNgValue =
     record {
-      links = inside.links;
+      scope = inside.scope;
       stage = inside.stage;
       total = inside.total;
       state = record { order = inside.order; interfaces = inside.interfaces.items; count = inside.count };
@@ -56,17 +56,17 @@ returns-in-Running-2-clause-ended c =
     } in
     let some : is_some reader.state.order ≡ true = search rules in
     let left : (is_some reader.passed ≡ true) ⊎ (0 < length reader.held) = inl (search rules) in
-    λ stream frames state given. subst (λ (r : PcapNgValue). Says r.links stream frames (Some inside.count)) c.self.view_is
+    λ stream frames state given. subst (λ (r : PcapNgValue). Says r.scope stream frames (Some inside.count)) c.self.view_is
     (end_within reader stream frames inside.count c.in-Running-2.is left some refl
     (subst (λ (r : PcapNgValue). IsStateOf r stream) (sym c.self.view_is) state)
-    (subst (λ (r : PcapNgValue). AreGiven (pcapng r.links) stream frames) (sym c.self.view_is) given))
+    (subst (λ (r : PcapNgValue). AreGiven (pcapng r.scope) stream frames) (sym c.self.view_is) given))
 
 pub returns-in-Running-3-clause-ended : goal.returns-in-Running-3-clause-ended
 returns-in-Running-3-clause-ended c =
     let inside = c.self.inside in
     let reader : PcapNgValue =
     record {
-      links = inside.links;
+      scope = inside.scope;
       stage = inside.stage;
       total = inside.total;
       state = record { order = inside.order; interfaces = inside.interfaces.items; count = inside.count };
@@ -76,17 +76,17 @@ returns-in-Running-3-clause-ended c =
     } in
     let some : is_some reader.state.order ≡ true = search rules in
     let left : (is_some reader.passed ≡ true) ⊎ (0 < length reader.held) = inr (search rules) in
-    λ stream frames state given. subst (λ (r : PcapNgValue). Says r.links stream frames (Some inside.count)) c.self.view_is
+    λ stream frames state given. subst (λ (r : PcapNgValue). Says r.scope stream frames (Some inside.count)) c.self.view_is
     (end_within reader stream frames inside.count c.in-Running-3.is left some refl
     (subst (λ (r : PcapNgValue). IsStateOf r stream) (sym c.self.view_is) state)
-    (subst (λ (r : PcapNgValue). AreGiven (pcapng r.links) stream frames) (sym c.self.view_is) given))
+    (subst (λ (r : PcapNgValue). AreGiven (pcapng r.scope) stream frames) (sym c.self.view_is) given))
 
 pub returns-clause-ended : goal.returns-clause-ended
 returns-clause-ended c =
     let inside = c.self.inside in
     let reader : PcapNgValue =
     record {
-      links = inside.links;
+      scope = inside.scope;
       stage = inside.stage;
       total = inside.total;
       state = record { order = inside.order; interfaces = inside.interfaces.items; count = inside.count };
@@ -97,7 +97,7 @@ returns-clause-ended c =
     let some : is_some reader.state.order ≡ true = search rules in
     let none : is_some reader.passed ≡ false = search rules in
     let empty : length reader.held ≡ 0 = search rules in
-    λ stream frames state given. subst (λ (r : PcapNgValue). Says r.links stream frames None) c.self.view_is
+    λ stream frames state given. subst (λ (r : PcapNgValue). Says r.scope stream frames None) c.self.view_is
     (end_whole reader stream frames c.in-Running-4.is none (nil_from_length reader.held empty) some
     (subst (λ (r : PcapNgValue). IsStateOf r stream) (sym c.self.view_is) state)
-    (subst (λ (r : PcapNgValue). AreGiven (pcapng r.links) stream frames) (sym c.self.view_is) given))
+    (subst (λ (r : PcapNgValue). AreGiven (pcapng r.scope) stream frames) (sym c.self.view_is) given))
