@@ -9,7 +9,7 @@ use Rattle.cf_pcap.specs.declared.form.Order.TheVariants.{Little}
 use Rattle.cf_pcap.specs.declared.form.Precision.TheVariants.{Micro}
 use Rattle.cf_pcap.specs.declared.form.FileHeader.{FileHeader}
 use Rattle.cf_pcap.specs.declared.links.LinkSet.TheVariants.{Basic}
-use Rattle.cf_pcap.specs.Links.{is_link}
+use Rattle.cf_pcap.specs.Links.{is_link, limited}
 use Rattle.cf_pcap.specs.Capture.{FrameValue, layout_of, caplen_at, frame_at, HasRecord, AreRecordsThen, IsFileHeader, IsCapture}
 use Rattle.cf_pcap.proofs.Following.{caplen_first, record_first, frame_first}
 use Rattle.cf_pcap.proofs.Heading.{header_first}
@@ -164,7 +164,7 @@ records seed k n = flat_map (record_at seed) (range_with_len k n)
 abbrev frames : ℕ → ℕ → ℕ → List FrameValue
 frames seed k n = map (frame_from seed) (range_with_len k n)
 
-are_records : (seed k n : ℕ) → k + n ≤ 2 ^ 20 → AreRecordsThen the_header k (frames seed k n) (records seed k n) []
+are_records : (seed k n : ℕ) → k + n ≤ 2 ^ 20 → AreRecordsThen (limited Basic).length the_header k (frames seed k n) (records seed k n) []
 unfolding record_at frame_from
 are_records seed k zero most = refl
 are_records seed k (suc n) most =
@@ -173,7 +173,7 @@ are_records seed k (suc n) most =
     let whole : 16 + caplen_at the_header (record_of k draw) ≤ length (record_of k draw) = (has_record k draw).whole in (
       record_first the_header (record_of k draw) rest (has_record k draw),
       sym (frame_first the_header k (record_of k draw) rest whole ∙ frame_read k draw (omega (arith, most))),
-      subst (λ (xs : List ℕ). AreRecordsThen the_header (k + 1) (frames seed (k + 1) n) xs []) (sym (after_record k draw rest))
+      subst (λ (xs : List ℕ). AreRecordsThen (limited Basic).length the_header (k + 1) (frames seed (k + 1) n) xs []) (sym (after_record k draw rest))
           (are_records seed (k + 1) n (omega (arith, most))),
     )
 
@@ -187,7 +187,7 @@ records_size seed k (suc n) =
     let small = captured_few (draw_of seed k) in
     omega (arith, rest, whole, small, length-append (record_of k (draw_of seed k)) (records seed (k + 1) n))
 
-pub made_is_capture : (seed count : ℕ) → count ≤ 2 ^ 20 → IsCapture Basic (generated_bytes seed count) (generated_frames seed count)
+pub made_is_capture : (seed count : ℕ) → count ≤ 2 ^ 20 → IsCapture (limited Basic) (generated_bytes seed count) (generated_frames seed count)
 unfolding generated_bytes generated_frames
 made_is_capture seed count most =
     let size = records_size seed 0 count in
@@ -197,7 +197,7 @@ made_is_capture seed count most =
       header = the_header;
       whole = record {
         begin = header_first Basic the_header file_header (records seed 0 count) is_header;
-        records = subst (λ (xs : List ℕ). AreRecordsThen the_header 0 (frames seed 0 count) xs []) (sym next) (are_records seed 0 count (omega (arith, most)));
+        records = subst (λ (xs : List ℕ). AreRecordsThen (limited Basic).length the_header 0 (frames seed 0 count) xs []) (sym next) (are_records seed 0 count (omega (arith, most)));
       };
     }
 
