@@ -3,6 +3,8 @@ use Rattle.std.specs.Prelude.{List, [], ◌∷◌, ◌++◌, codes}
 use Rattle.cf_row.specs.declared.schema.Attr.{Attr}
 use Rattle.cf_row.specs.declared.schema.Kind.TheVariants.{U64}
 use Rattle.cf_row.specs.Schema.{packet_attrs}
+use Rattle.cf_packet6.specs.declared.PacketSchema.{PacketSchema}
+use Rattle.cf_packet6.specs.declared.PacketSchema.TheVariants.{Packet, Packet6}
 
 -- the high and the low 64 bits of the source and the destination address (RFC 8200, section 3)
 abbrev pub address_attrs : List Attr
@@ -16,3 +18,8 @@ address_attrs =
 -- those of a packet, and then these
 abbrev pub packet6_attrs : List Attr
 packet6_attrs = packet_attrs ++ address_attrs
+
+-- those of either schema
+abbrev pub attrs_by : PacketSchema → List Attr
+attrs_by Packet = packet_attrs
+attrs_by Packet6 = packet6_attrs

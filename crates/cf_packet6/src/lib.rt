@@ -1,13 +1,34 @@
-//! The schema of captured packets with their IPv6 addresses.
+//! The schemas of captured packets: `packet`, and `packet6` with their IPv6 addresses.
 #![tactic(auto)]
 
 ghost use Rattle.std.specs.Prelude.{◌≡◌, IfOk, codes};
 ghost use Rattle.cf_row.specs.declared.schema.Kind.TheVariants.{U64};
 ghost use Rattle.cf_row.specs.Schema.{IsSchema};
-ghost use Rattle.cf_packet6.specs.Schema6.{packet6_attrs};
+ghost use Rattle.cf_packet6.specs.Schema6.{attrs_by, packet6_attrs};
 
 use cf_row::{Attr, Kind, Memory, Name, Schema, packet_schema};
 use std::alloc::Global;
+
+/// Which schema captured packets have, by its name in a setup.
+#[derive(Clone, Copy, Debug, PartialEq, Eq)]
+pub enum PacketSchema {
+    /// `packet`, of 20 attributes.
+    Packet,
+    /// `packet6`, of these and four more for IPv6 addresses.
+    Packet6,
+}
+
+impl PacketSchema {
+    /// The schema of that name.
+    pub fn schema(self, alloc: Global) -> Result<Schema, Memory>
+        ensures { IfOk result (λ schema. schema ≡ attrs_by self) }
+    {
+        match self {
+            PacketSchema::Packet => packet_schema(alloc),
+            PacketSchema::Packet6 => packet6_schema(alloc),
+        }
+    }
+}
 
 // An attribute of 8 bytes.
 fn half(alloc: Global, name: &str) -> Result<Attr, Memory>
