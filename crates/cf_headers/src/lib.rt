@@ -12,6 +12,8 @@ mod network;
 mod packet;
 mod packet6;
 #[cfg(test)]
+mod packet6_tests;
+#[cfg(test)]
 mod tests;
 mod transport;
 
