@@ -1,5 +1,5 @@
 -- A lawful statement adds just what it says.
-use Rattle.std.proofs.Common.{◌≡◌, ℕ, ◌^◌, List, [], ◌∷◌, ◌++◌, false, Option, Some, None, Result, Ok, Err, refl, sym, ap, ◌∙◌, inl, inr, is_none}
+use Rattle.std.proofs.Common.{◌≡◌, ℕ, ◌^◌, List, [], ◌∷◌, ◌++◌, Option, Some, None, Result, Ok, Err, refl, sym, ap, ◌∙◌, inl, inr, is_none}
 use Rattle.std.specs.Option.{option_map, option_and_then}
 use Rattle.std.proofs.lemmas.Option.{option_and_then_some}
 use Rattle.cf_row.specs.declared.schema.Kind.{Kind}
@@ -13,6 +13,7 @@ use Rattle.cf_filter.specs.declared.fault.Stop.{Stop}
 use Rattle.cf_filter.specs.Reading.{attr_named}
 use Rattle.cf_filter.specs.Exprs.{expr_at}
 use Rattle.cf_filter.specs.Grammar.{ValueText, ExprRead}
+use Rattle.cf_setup.specs.declared.source.Source.TheVariants.{Records}
 use Rattle.cf_setup.specs.Drafts.{DraftValue, attrs_of, with_lane, with_ask, index_over, filter_by}
 use Rattle.cf_setup.specs.Forms.{Form}
 use Rattle.cf_setup.specs.Forms.Form.{packet_schema, record_schema, bucket_width, new_index, new_filter, new_aggregate, new_tally, new_trigger, ask_list, ask_find, ask_buckets, ask_fired, ask_top, ask_total, ask_live}
@@ -92,9 +93,9 @@ module _ (line : ℕ) (before : DraftValue) where
   key_none index text e = broken_from before (a_key index text) (ap is_none e)
 
   pub never : (form : Form) → sound form → added line before form ≡ None → ⊥
-  never packet_schema s h = cc
+  never (packet_schema which) s h = cc
   never (record_schema list) s h =
-      s 4 (inl (refl, broken_from before (schema_list list) (ap is_none (map_none (with_schema line before false) (schema_at list) h))))
+      s 4 (inl (refl, broken_from before (schema_list list) (ap is_none (map_none (with_schema line before Records) (schema_at list) h))))
   never (bucket_width number) s h =
       s 7 (inl (refl, from_none 1 (2 ^ 63) number (map_none (λ n. record before { width = Some n }) (number_from 1 (2 ^ 63) number) h)))
   never (new_index name attr) s h = s 6 (inr (inl (refl, map_none (λ found. with_lane before name (index_over found.0)) (attr_named (attrs_of before) attr) h)))
@@ -144,8 +145,8 @@ module _ (line : ℕ) (before : DraftValue) where
       by (Some kind) e k = (kind, e)
 
   pub adds_found : (form : Form) (new : DraftValue) → added line before form ≡ Some new → Adds line before form new
-  adds_found packet_schema new h = some_same h
-  adds_found (record_schema list) new h = let m = map_some (with_schema line before false) (schema_at list) new h in (m.0, schema_found list m.0 m.1, m.2)
+  adds_found (packet_schema which) new h = some_same h
+  adds_found (record_schema list) new h = let m = map_some (with_schema line before Records) (schema_at list) new h in (m.0, schema_found list m.0 m.1, m.2)
   adds_found (bucket_width number) new h = let m = map_some (λ n. record before { width = Some n }) (number_from 1 (2 ^ 63) number) new h in let w =
       from_found 1 (2 ^ 63) number m.0 m.1 in (m.0, w.value, w.least, w.most, m.2)
   adds_found (new_index name attr) new h = map_some (λ found. with_lane before name (index_over found.0)) (attr_named (attrs_of before) attr) new h
@@ -199,8 +200,8 @@ module _ (line : ℕ) (before : DraftValue) where
   key_only index text kind n k h = ap (λ o. key_in o text) k ∙ number_only kind text n h
 
   pub adds_only : (form : Form) (new : DraftValue) → Adds line before form new → added line before form ≡ Some new
-  adds_only packet_schema new h = ap Some (sym h)
-  adds_only (record_schema list) new h = ap (option_map (with_schema line before false)) (schema_only list h.0 h.1) ∙ ap Some (sym h.2)
+  adds_only (packet_schema which) new h = ap Some (sym h)
+  adds_only (record_schema list) new h = ap (option_map (with_schema line before Records)) (schema_only list h.0 h.1) ∙ ap Some (sym h.2)
   adds_only (bucket_width number) new h = ap (option_map (λ n. record before { width = Some n })) (from_only 1 (2 ^ 63) number h.0 h.1 h.2 h.3)
       ∙ ap Some (sym h.4)
   adds_only (new_index name attr) new h = ap (option_map (λ found. with_lane before name (index_over found.0))) h.1 ∙ ap Some (sym h.2)

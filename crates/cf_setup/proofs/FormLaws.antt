@@ -6,6 +6,7 @@ use Rattle.std.proofs.lemmas.Bool.{false≢true}
 use Rattle.std.proofs.lemmas.Option.{option_and_then_some}
 use Rattle.cf_row.specs.declared.expr.Op.{Op}
 use Rattle.cf_row.specs.Expr.{is_within}
+use Rattle.cf_packet6.specs.declared.PacketSchema.TheVariants.{Packet, Packet6}
 use Rattle.cf_filter.specs.Reading.{op_named}
 use Rattle.cf_setup.specs.declared.statement.Statement.{Statement}
 use Rattle.cf_setup.specs.declared.statement.Statement.TheVariants as statements
@@ -46,14 +47,17 @@ sign_is word op h = option_and_then_some _ (op_named word) op h (λ found e k. b
     by found false b k = let same : found ≡ op = cc in subst (λ (x : Op). not (is_within x) ≡ true) same (ap not b)
 
 schema_fits : (word rest : List ℕ) (form : Form) → schema_words word rest ≡ Some form → Fits statements.Schema form
-schema_fits word rest form h = by (bytes_eq word (codes "packet")) (is_blank rest) (bytes_eq word (codes "records")) h
+schema_fits word rest form h = by (bytes_eq word (codes "packet")) (bytes_eq word (codes "packet6")) (is_blank rest) (bytes_eq word (codes "records")) h
   where
-    by : (p b r : Bool) → cond p (cond b (Some packet_schema) None) (cond r (option_map record_schema (last_word rest)) None) ≡ Some form
+    by : (p q b r : Bool) → cond p (cond b (Some (packet_schema Packet)) None) (cond q (cond b (Some (packet_schema Packet6)) None)
+        (cond r (option_map record_schema (last_word rest)) None)) ≡ Some form
         → Fits statements.Schema form
-    by true true r k = fits_as statements.Schema form packet_schema (some_same k) refl refl
-    by true false r k = cc
-    by false b true k = let m = mapped record_schema (last_word rest) form k in fits_as statements.Schema form (record_schema m.0) m.1 refl refl
-    by false b false k = cc
+    by true q true r k = fits_as statements.Schema form (packet_schema Packet) (some_same k) refl refl
+    by true q false r k = cc
+    by false true true r k = fits_as statements.Schema form (packet_schema Packet6) (some_same k) refl refl
+    by false true false r k = cc
+    by false false b true k = let m = mapped record_schema (last_word rest) form k in fits_as statements.Schema form (record_schema m.0) m.1 refl refl
+    by false false b false k = cc
 
 question_fits : (question : Question) (name text : List ℕ) (form : Form) → question_form question name text ≡ Some form → Fits statements.Ask form
 question_fits questions.List name text form h = fits_as statements.Ask form (ask_list name text) (some_same h) refl refl

@@ -12,6 +12,12 @@ use Rattle.cf_row.specs.declared.schema.Attr.{Attr}
 use Rattle.cf_row.specs.declared.schema.Kind.{Kind}
 use Rattle.cf_row.specs.declared.expr.Atom.{Atom}
 use Rattle.cf_row.specs.Schema.{IsSchema, packet_attrs}
+use Rattle.cf_packet6.specs.declared.PacketSchema.{PacketSchema}
+use Rattle.cf_packet6.specs.declared.PacketSchema.TheVariants.{Packet, Packet6}
+use Rattle.cf_packet6.specs.Schema6.{attrs_by}
+use Rattle.cf_packet6.proofs.Lawful.{packet6_is}
+use Rattle.cf_setup.specs.declared.source.Source.{Source}
+use Rattle.cf_setup.specs.declared.source.Source.TheVariants.{Packets, Records}
 use Rattle.cf_row.specs.Expr.{is_of_schema, is_within}
 use Rattle.cf_fold.specs.declared.trigger.Trigger.{Trigger}
 use Rattle.cf_shape.specs.declared.lane.Lane.{Lane}
@@ -352,8 +358,8 @@ tally_lawful attrs attr measure text key measured expr e f number narrow h =
 
 -- schemas
 
-base : (line : ℕ) (packet : Bool) (attrs : List Attr) → IsSchema attrs → IsSetup (settled (with_schema line nothing_stated packet attrs) attrs)
-base line packet attrs schema = record {
+base : (line : ℕ) (source : Source) (attrs : List Attr) → IsSchema attrs → IsSetup (settled (with_schema line nothing_stated source attrs) attrs)
+base line source attrs schema = record {
   schema = schema;
   width = (omega arith, leb-true 1000000000 (2 ^ 63) refl);
   few_lanes = omega arith;
@@ -368,18 +374,19 @@ base line packet attrs schema = record {
   ask_names = refl;
 }
 
-packet_is : IsSchema packet_attrs
-packet_is = record { few = leb-true (length packet_attrs) 24 refl; apart = refl; stamped = refl; sized = refl }
+packets_are : (which : PacketSchema) → IsSchema (attrs_by which)
+packets_are Packet = record { few = leb-true (length packet_attrs) 24 refl; apart = refl; stamped = refl; sized = refl }
+packets_are Packet6 = packet6_is
 
-draft_of : (line : ℕ) (packet : Bool) (attrs : List Attr) → IsSchema attrs → IsDraft (with_schema line nothing_stated packet attrs)
-draft_of line packet attrs schema =
+draft_of : (line : ℕ) (source : Source) (attrs : List Attr) → IsSchema attrs → IsDraft (with_schema line nothing_stated source attrs)
+draft_of line source attrs schema =
     record {
       unstated = λ e. some_none e;
-      lawful = λ other e. subst (λ (x : List Attr). IsSetup (settled (with_schema line nothing_stated packet attrs) x)) (some_same e)
-          (base line packet attrs schema);
+      lawful = λ other e. subst (λ (x : List Attr). IsSetup (settled (with_schema line nothing_stated source attrs) x)) (some_same e)
+          (base line source attrs schema);
     }
   where
-    some_none : Some attrs ≡ None → with_schema line nothing_stated packet attrs ≡ nothing_stated
+    some_none : Some attrs ≡ None → with_schema line nothing_stated source attrs ≡ nothing_stated
     some_none e = cc
 
     some_same : {other : List Attr} → Some attrs ≡ Some other → attrs ≡ other
@@ -393,7 +400,7 @@ sound before form = (code : ℕ) → IsBroken before code (rules form) → ⊥
 later : (line : ℕ) (before : DraftValue) (form : Form) (new : DraftValue) (attrs : List Attr) → before.schema ≡ Some attrs → IsSetup (settled before attrs)
     → is_schema_form form ≡ false → has_sign form ≡ true → sound before form → Adds line before form new → (new.schema ≡ Some attrs)
     × IsSetup (settled new attrs)
-later line before packet_schema new attrs e is k sign s h = absurd (false≢true (sym k))
+later line before (packet_schema which) new attrs e is k sign s h = absurd (false≢true (sym k))
 later line before (record_schema list) new attrs e is k sign s h = absurd (false≢true (sym k))
 later line before (bucket_width number) new attrs e is k sign s h =
     subst (λ (x : DraftValue). (x.schema ≡ Some attrs) × IsSetup (settled x attrs)) (sym h.4) (e, width_step before attrs is h.0 h.2 h.3)
@@ -493,8 +500,8 @@ later line before (ask_live ask) new attrs e is k sign s h =
 -- the schema's statement
 
 started : (line : ℕ) (form : Form) (new : DraftValue) → is_schema_form form ≡ true → Adds line nothing_stated form new → IsDraft new
-started line packet_schema new k h = subst IsDraft (sym h) (draft_of line true packet_attrs packet_is)
-started line (record_schema list) new k h = let l = h.1 in subst IsDraft (sym h.2) (draft_of line false h.0 l.schema)
+started line (packet_schema which) new k h = subst IsDraft (sym h) (draft_of line (Packets which) (attrs_by which) (packets_are which))
+started line (record_schema list) new k h = let l = h.1 in subst IsDraft (sym h.2) (draft_of line Records h.0 l.schema)
 started line (bucket_width number) new k h = absurd (false≢true k)
 started line (new_index name attr) new k h = absurd (false≢true k)
 started line (new_filter name expr) new k h = absurd (false≢true k)

@@ -244,7 +244,7 @@ expr_ascends : (text : List ℕ) → Ascends 9 (expr_rules text)
 expr_ascends text = (omega arith, (omega arith, (omega arith, (omega arith, (omega arith, tt)))))
 
 pub ascends : (form : Form) → Ascends 4 (rules form)
-ascends packet_schema = tt
+ascends (packet_schema which) = tt
 ascends (record_schema list) = (omega arith, tt)
 ascends (bucket_width number) = (omega arith, tt)
 ascends (new_index name attr) = (omega arith, (omega arith, (omega arith, (omega arith, tt))))

@@ -1,16 +1,18 @@
 -- What a lawful statement adds to what is stated before.
-use Rattle.std.specs.Prelude.{◌≡◌, ℕ, ◌≤◌, ◌^◌, Bool, true, false, List, [], ◌∷◌, ◌++◌, Some, Ok}
+use Rattle.std.specs.Prelude.{◌≡◌, ℕ, ◌≤◌, ◌^◌, List, [], ◌∷◌, ◌++◌, Some, Ok}
 use Rattle.cf_row.specs.declared.schema.Attr.{Attr}
 use Rattle.cf_row.specs.declared.schema.Kind.{Kind}
 use Rattle.cf_row.specs.declared.schema.Kind.TheVariants.{U64}
 use Rattle.cf_row.specs.declared.row.Value.TheVariants.{Num}
 use Rattle.cf_row.specs.declared.expr.Atom.{Atom}
-use Rattle.cf_row.specs.Schema.{packet_attrs}
+use Rattle.cf_packet6.specs.Schema6.{attrs_by}
 use Rattle.cf_fold.specs.declared.trigger.Trigger.{Trigger}
 use Rattle.cf_shape.specs.declared.lane.Lane.{Lane}
 use Rattle.cf_plain.specs.declared.ask.Ask.TheVariants as asks
 use Rattle.cf_filter.specs.Reading.{attr_named}
 use Rattle.cf_filter.specs.Grammar.{ValueText, ExprRead}
+use Rattle.cf_setup.specs.declared.source.Source.{Source}
+use Rattle.cf_setup.specs.declared.source.Source.TheVariants.{Packets, Records}
 use Rattle.cf_setup.specs.Drafts.{DraftValue, attrs_of, with_lane, with_trigger, with_ask, index_over, filter_by, aggregate_by, tally_by}
 use Rattle.cf_setup.specs.Forms.{Form}
 use Rattle.cf_setup.specs.Forms.Form.{packet_schema, record_schema, bucket_width, new_index, new_filter, new_aggregate, new_tally, new_trigger, ask_list, ask_find, ask_buckets, ask_fired, ask_top, ask_total, ask_live}
@@ -18,8 +20,8 @@ use Rattle.cf_setup.specs.Named.{place_in, is_index, is_filter, is_aggregate, is
 use Rattle.cf_lines.specs.Schemas.{ListText}
 
 -- a schema at that line
-abbrev pub with_schema : ℕ → DraftValue → Bool → List Attr → DraftValue
-with_schema line before packet attrs = record before { packet = packet; schema_line = line; schema = Some attrs }
+abbrev pub with_schema : ℕ → DraftValue → Source → List Attr → DraftValue
+with_schema line before source attrs = record before { source = source; schema_line = line; schema = Some attrs }
 
 -- both ends of a range as values of the kind
 pub record AreEnds (kind : Kind) (low high : List ℕ) (first last : ℕ) : Type 0 where
@@ -28,8 +30,8 @@ pub record AreEnds (kind : Kind) (low high : List ℕ) (first last : ℕ) : Type
 
 -- the statement at that line adds this
 abbrev pub Adds : ℕ → DraftValue → Form → DraftValue → Type 0
-Adds line before packet_schema new = new ≡ with_schema line before true packet_attrs
-Adds line before (record_schema list) new = (attrs : List Attr) × ListText list attrs × (new ≡ with_schema line before false attrs)
+Adds line before (packet_schema which) new = new ≡ with_schema line before (Packets which) (attrs_by which)
+Adds line before (record_schema list) new = (attrs : List Attr) × ListText list attrs × (new ≡ with_schema line before Records attrs)
 Adds line before (bucket_width number) new = (n : ℕ) × ValueText U64 number (Num n) × (1 ≤ n) × (n ≤ 2 ^ 63) × (new ≡ record before { width = Some n })
 Adds line before (new_index name attr) new =
     (found : ℕ × Kind) × (attr_named (attrs_of before) attr ≡ Some found) × (new ≡ with_lane before name (index_over found.0))

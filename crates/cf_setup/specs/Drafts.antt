@@ -1,5 +1,5 @@
 -- What the statements so far have stated.
-use Rattle.std.specs.Prelude.{ℕ, Bool, false, List, [], ◌∷◌, ◌++◌, Option, Some, None}
+use Rattle.std.specs.Prelude.{ℕ, List, [], ◌∷◌, ◌++◌, Option, Some, None}
 use Rattle.std.specs.Option.{unwrap_or}
 use Rattle.cf_row.specs.declared.schema.Attr.{Attr}
 use Rattle.cf_row.specs.declared.expr.Atom.{Atom}
@@ -7,10 +7,12 @@ use Rattle.cf_fold.specs.declared.trigger.Trigger.{Trigger}
 use Rattle.cf_shape.specs.declared.lane.Lane.{Lane}
 use Rattle.cf_shape.specs.declared.lane.Key.TheVariants as keys
 use Rattle.cf_plain.specs.declared.ask.Ask.{Ask}
+use Rattle.cf_setup.specs.declared.source.Source.{Source}
+use Rattle.cf_setup.specs.declared.source.Source.TheVariants.{Records}
 
 -- the lanes stand in the order of their statements, whatever their kind
 pub record DraftValue : Type 0 where
-  pub packet : Bool
+  pub source : Source
   pub schema_line : ℕ
   pub schema : Option (List Attr)
   pub width : Option ℕ
@@ -26,7 +28,7 @@ pub record DraftValue : Type 0 where
 abbrev pub nothing_stated : DraftValue
 nothing_stated =
     record {
-      packet = false;
+      source = Records;
       schema_line = 0;
       schema = None;
       width = None;

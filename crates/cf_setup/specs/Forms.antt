@@ -4,6 +4,8 @@ use Rattle.std.specs.Option.{option_map}
 use Rattle.std.specs.Str.{bytes_eq}
 use Rattle.cf_row.specs.declared.expr.Op.{Op}
 use Rattle.cf_row.specs.Expr.{is_within}
+use Rattle.cf_packet6.specs.declared.PacketSchema.{PacketSchema}
+use Rattle.cf_packet6.specs.declared.PacketSchema.TheVariants.{Packet, Packet6}
 use Rattle.cf_fold.specs.declared.trigger.Part.{Part}
 use Rattle.cf_fold.specs.declared.trigger.Part.TheVariants.{Count, Sum, Least, Greatest}
 use Rattle.cf_filter.specs.Values.{◌>>=◌}
@@ -20,7 +22,7 @@ use Rattle.cf_lines.specs.Lines.{is_blank, next_word, last_word, new_name}
 
 -- a statement in its form, with its words
 pub data Form : Type 0 where
-  packet_schema : Form
+  packet_schema : (which : PacketSchema) → Form
   record_schema : (list : List ℕ) → Form
   bucket_width : (number : List ℕ) → Form
   new_index : (name attr : List ℕ) → Form
@@ -74,11 +76,12 @@ sign_named word = do
   op ← op_named word
   if is_within op then None else Some op
 
--- packet; records LIST
+-- packet; packet6; records LIST
 abbrev pub schema_words : List ℕ → List ℕ → Option Form
 schema_words word rest =
-    if bytes_eq word (codes "packet") then (if is_blank rest then Some packet_schema else None) else (
-    if bytes_eq word (codes "records") then option_map record_schema (last_word rest) else None)
+    if bytes_eq word (codes "packet") then (if is_blank rest then Some (packet_schema Packet) else None) else (
+    if bytes_eq word (codes "packet6") then (if is_blank rest then Some (packet_schema Packet6) else None) else (
+    if bytes_eq word (codes "records") then option_map record_schema (last_word rest) else None))
 
 -- schema, and then which
 abbrev pub schema_form : List ℕ → Option Form
@@ -183,7 +186,7 @@ form_at statements.Live text = live_form text
 
 -- a form, with the bytes of its words
 abbrev pub form_value : Read → Form
-form_value reads.PacketSchema = packet_schema
+form_value (reads.PacketSchema which) = packet_schema which
 form_value (reads.RecordSchema list) = record_schema list.now
 form_value (reads.Width number) = bucket_width number.now
 form_value (reads.Index name attr) = new_index name.now attr.now
@@ -201,7 +204,7 @@ form_value (reads.Live ask) = ask_live ask.now
 
 -- it states the schema
 abbrev pub is_schema_form : Form → Bool
-is_schema_form packet_schema = true
+is_schema_form (packet_schema which) = true
 is_schema_form (record_schema list) = true
 is_schema_form _ = false
 
@@ -211,7 +214,7 @@ IsAscii name = All (λ b. b < 128) name
 
 -- its new name is ASCII, and its expression has fewer than 2^32 bytes
 abbrev pub HasWords : Form → Type 0
-HasWords packet_schema = Unit {0}
+HasWords (packet_schema which) = Unit {0}
 HasWords (record_schema list) = Unit {0}
 HasWords (bucket_width number) = Unit {0}
 HasWords (new_index name attr) = IsAscii name

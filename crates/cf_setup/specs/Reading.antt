@@ -8,7 +8,7 @@ use Rattle.cf_row.specs.declared.schema.Kind.TheVariants.{U64}
 use Rattle.cf_row.specs.declared.row.Value.{Value}
 use Rattle.cf_row.specs.declared.row.Value.TheVariants.{Num, Raw}
 use Rattle.cf_row.specs.declared.expr.Atom.{Atom}
-use Rattle.cf_row.specs.Schema.{packet_attrs}
+use Rattle.cf_packet6.specs.Schema6.{attrs_by}
 use Rattle.cf_shape.specs.Lanes.{is_number, is_narrow}
 use Rattle.cf_plain.specs.declared.ask.Ask.TheVariants as asks
 use Rattle.cf_filter.specs.declared.bytes.Class.TheVariants as classes
@@ -26,6 +26,7 @@ use Rattle.cf_setup.specs.declared.fault.LineFault.{LineFault}
 use Rattle.cf_setup.specs.declared.fault.LineFault.TheVariants.{Breaks, Memory as LineMemory}
 use Rattle.cf_setup.specs.declared.parse.SetupFault.{SetupFault}
 use Rattle.cf_setup.specs.declared.parse.SetupFault.TheVariants.{Bad, Memory}
+use Rattle.cf_setup.specs.declared.source.Source.TheVariants.{Packets, Records}
 use Rattle.cf_setup.specs.Codes.{code_number}
 use Rattle.cf_lines.specs.Lines.{lines_of, is_silent, word_at}
 use Rattle.cf_setup.specs.Drafts.{DraftValue, nothing_stated, attrs_of, with_lane, with_trigger, with_ask, index_over, filter_by, aggregate_by, tally_by}
@@ -122,8 +123,8 @@ expr_of before text = expr_in (expr_at (attrs_of before) text)
 
 -- what is stated after a lawful statement
 abbrev pub added : ℕ → DraftValue → Form → Option DraftValue
-added line before packet_schema = Some (with_schema line before true packet_attrs)
-added line before (record_schema list) = option_map (with_schema line before false) (schema_at list)
+added line before (packet_schema which) = Some (with_schema line before (Packets which) (attrs_by which))
+added line before (record_schema list) = option_map (with_schema line before Records) (schema_at list)
 added line before (bucket_width number) = option_map (λ n. record before { width = Some n }) (number_from 1 (2 ^ 63) number)
 added line before (new_index name attr) = option_map (λ found. with_lane before name (index_over found.0)) (attr_named (attrs_of before) attr)
 added line before (new_filter name expr) = option_map (λ read. with_lane before name (filter_by read)) (expr_of before expr)

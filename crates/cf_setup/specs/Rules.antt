@@ -69,7 +69,7 @@ expr_rules text =
 
 -- the rules of a statement in its form, each with its code, which ascend
 abbrev pub rules : Form → List (ℕ × Rule)
-rules packet_schema = []
+rules (packet_schema which) = []
 rules (record_schema list) = (4, schema_list list) ∷ []
 rules (bucket_width number) = (7, a_number_from 1 (2 ^ 63) number) ∷ []
 rules (new_index name attr) = (5, free_name name) ∷ (6, known_attr attr) ∷ (8, number_attr attr) ∷ (9, lane_room) ∷ []

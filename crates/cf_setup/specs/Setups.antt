@@ -1,5 +1,5 @@
 -- A setup as contracts see it, and what is true of one.
-use Rattle.std.specs.Prelude.{◌≡◌, ℕ, ◌≤◌, ◌^◌, Bool, true, nat_lt, List, length, Some, None}
+use Rattle.std.specs.Prelude.{◌≡◌, ℕ, ◌≤◌, ◌^◌, true, nat_lt, List, length, Some, None}
 use Rattle.std.specs.List.{list_all}
 use Rattle.std.specs.Option.{unwrap_or}
 use Rattle.cf_row.specs.declared.schema.Attr.{Attr}
@@ -9,11 +9,12 @@ use Rattle.cf_shape.specs.declared.lane.Lane.{Lane}
 use Rattle.cf_shape.specs.Lanes.{ShapeValue, is_lawful_lane}
 use Rattle.cf_plain.specs.declared.ask.Ask.{Ask}
 use Rattle.cf_plain.specs.Asks.{suits_of, suits_trigger}
+use Rattle.cf_setup.specs.declared.source.Source.{Source}
 use Rattle.cf_setup.specs.Drafts.{DraftValue, nothing_stated}
 
 -- lanes, triggers and asks go by their places, each with the name at the same place
 pub record SetupValue : Type 0 where
-  pub packet : Bool
+  pub source : Source
   pub schema_line : ℕ
   pub schema : List Attr
   pub width : ℕ
@@ -28,7 +29,7 @@ pub record SetupValue : Type 0 where
 -- what is stated, over these attributes; a bucket is a second wide where no width is stated
 abbrev pub settled : DraftValue → List Attr → SetupValue
 settled stated attrs = record {
-  packet = stated.packet;
+  source = stated.source;
   schema_line = stated.schema_line;
   schema = attrs;
   width = unwrap_or stated.width 1000000000;

@@ -10,6 +10,7 @@ ghost use Rattle.cf_setup.specs.Adds.{with_schema as with_schema_of};
 ghost use Rattle.cf_setup.specs.Named.{place_in, is_among as is_among_of, is_taken as is_taken_of, lane_named, is_of as is_of_family, trigger_named, kind_of_key as kind_of_key_in};
 
 use crate::fault::Code;
+use crate::source::Source;
 use cf_filter::find_attr;
 use cf_fold::Trigger;
 use cf_plain::Ask;
@@ -21,7 +22,7 @@ use std::marker::Model;
 /// What the lines so far have stated.
 #[derive(Debug, Drop)]
 pub(crate) struct Draft {
-    pub(crate) packet: bool,
+    pub(crate) source: Source,
     pub(crate) schema_line: u32,
     pub(crate) schema: Option<Schema>,
     pub(crate) width: Option<u64>,
@@ -39,7 +40,7 @@ impl Model for Draft {
 
     ghost Value = { DraftValue };
 
-    ghost view = { λ s. record { packet = s.packet; schema_line = s.schema_line; schema = s.schema; width = s.width; lanes = s.lanes.items; triggers = s.triggers.items; asks = s.asks.items; lives = s.lives.items; lane_names = s.lane_names.items; trigger_names = s.trigger_names.items; ask_names = s.ask_names.items } };
+    ghost view = { λ s. record { source = s.source; schema_line = s.schema_line; schema = s.schema; width = s.width; lanes = s.lanes.items; triggers = s.triggers.items; asks = s.asks.items; lives = s.lives.items; lane_names = s.lane_names.items; trigger_names = s.trigger_names.items; ask_names = s.ask_names.items } };
 }
 
 /// The kinds of lanes that statements make.
@@ -232,7 +233,7 @@ impl Draft {
         ensures { result ≡ nothing_stated }
     {
         Draft {
-            packet: false,
+            source: Source::Records,
             schema_line: 0,
             schema: None,
             width: None,
@@ -247,11 +248,11 @@ impl Draft {
     }
 
     /// The schema, stated at that line.
-    pub(crate) fn with_schema(self, line: u32, packet: bool, schema: Schema) -> Draft
-        ensures { result ≡ with_schema_of line self packet schema }
+    pub(crate) fn with_schema(self, line: u32, source: Source, schema: Schema) -> Draft
+        ensures { result ≡ with_schema_of line self source schema }
     {
         let mut draft = self;
-        draft.packet = packet;
+        draft.source = source;
         draft.schema_line = line;
         draft.schema = Some(schema);
         draft

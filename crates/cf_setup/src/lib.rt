@@ -21,6 +21,7 @@ mod live;
 mod parse;
 mod schema;
 mod setup;
+mod source;
 mod statement;
 mod take;
 mod tally;
@@ -32,3 +33,4 @@ mod width;
 
 pub use parse::{SetupFault, one_outcome, parse_setup};
 pub use setup::{Setup, shape_of};
+pub use source::Source;

@@ -61,7 +61,7 @@ impl Draft {
         ensures { Answers result (settled_or line self self.schema) }
     {
         let Draft {
-            packet,
+            source,
             schema_line,
             schema,
             width,
@@ -77,7 +77,7 @@ impl Draft {
             return Err(broken(line, Code::BadStatement));
         };
         Ok(Setup {
-            packet,
+            source,
             schema_line,
             schema,
             width: width.unwrap_or(1_000_000_000),

@@ -1,5 +1,7 @@
-// `schema packet` and `schema records LIST`.
-ghost use Rattle.std.specs.Prelude.{◌≡◌, IfSome};
+// `schema packet`, `schema packet6` and `schema records LIST`.
+ghost use Rattle.std.specs.Prelude.{◌≡◌, IfSome, Some, None, cond};
+ghost use Rattle.cf_lines.specs.Lines.{is_blank as is_blank_text};
+ghost use Rattle.cf_setup.specs.declared.form.Form.TheVariants.{PacketSchema as PacketsForm};
 ghost use Rattle.std.specs.Option.{option_map};
 ghost use Rattle.cf_setup.specs.Forms.{schema_form as schema_form_of, form_value, HasWords};
 ghost use Rattle.cf_setup.specs.Forms.Form.{packet_schema as packet_schema_form, record_schema};
@@ -8,9 +10,21 @@ ghost use Rattle.cf_setup.specs.Reading.{ruled, Takes};
 use crate::draft::Draft;
 use crate::fault::{Code, LineFault};
 use crate::form::Form;
+use crate::source::Source;
 use cf_lines::{is_blank, last_word, next_word, schema_of};
-use cf_row::packet_schema;
+use cf_packet6::PacketSchema;
 use std::alloc::Global;
+
+// A schema of packets, which no word follows.
+fn packets_form<'a>(rest: &'a [u8], which: PacketSchema) -> Option<Form<'a>>
+    ensures { result ≡ cond (is_blank_text rest.now) (Some (PacketsForm which)) None }
+{
+    if is_blank(rest) {
+        Some(Form::PacketSchema { which })
+    } else {
+        None
+    }
+}
 
 pub(crate) fn schema_form<'a>(text: &'a [u8]) -> Option<Form<'a>>
     ensures form { option_map form_value result ≡ schema_form_of text.now }
@@ -18,10 +32,10 @@ pub(crate) fn schema_form<'a>(text: &'a [u8]) -> Option<Form<'a>>
 {
     let (word, rest) = next_word(text)?;
     if word == b"packet".as_slice() {
-        if !is_blank(rest) {
-            return None;
-        }
-        return Some(Form::PacketSchema);
+        return packets_form(rest, PacketSchema::Packet);
+    }
+    if word == b"packet6".as_slice() {
+        return packets_form(rest, PacketSchema::Packet6);
     }
     if word != b"records".as_slice() {
         return None;
@@ -30,12 +44,17 @@ pub(crate) fn schema_form<'a>(text: &'a [u8]) -> Option<Form<'a>>
     Some(Form::RecordSchema { list })
 }
 
-/// The schema of packets.
+/// A schema of packets.
 #[tactic(auto, unfolding(crate::specs::Reading::ruled))]
-pub(crate) fn add_packet_schema(alloc: Global, line: u32, draft: Draft) -> Result<Draft, LineFault>
-    ensures { Takes result (ruled line draft packet_schema_form) }
+pub(crate) fn add_packet_schema(
+    alloc: Global,
+    line: u32,
+    draft: Draft,
+    which: PacketSchema,
+) -> Result<Draft, LineFault>
+    ensures { Takes result (ruled line draft (packet_schema_form which)) }
 {
-    Ok(draft.with_schema(line, true, packet_schema(alloc)?))
+    Ok(draft.with_schema(line, Source::Packets(which), which.schema(alloc)?))
 }
 
 /// A schema of records.
@@ -49,7 +68,7 @@ pub(crate) fn add_record_schema(
     ensures { Takes result (ruled line draft (record_schema list.now)) }
 {
     match schema_of(alloc, list)? {
-        Some(schema) => Ok(draft.with_schema(line, false, schema)),
+        Some(schema) => Ok(draft.with_schema(line, Source::Records, schema)),
         None => Err(LineFault::Breaks(Code::BadSchema)),
     }
 }

@@ -3,6 +3,7 @@ ghost use Rattle.std.specs.Prelude.{◌≡◌, ℕ, ◌≤◌, IfOk, List};
 ghost use Rattle.cf_setup.specs.Setups.{IsSetup, shaped};
 ghost use Rattle.cf_shape.specs.Lanes.{IsShape};
 
+use crate::source::Source;
 use cf_fold::Trigger;
 use cf_plain::Ask;
 use cf_row::{Memory, Name, Schema};
@@ -13,7 +14,7 @@ use std::marker::Model;
 /// What a setup's text states. Lanes, triggers and asks go by their places here, each of which has a name.
 #[derive(Debug, Drop)]
 pub struct Setup {
-    pub(crate) packet: bool,
+    pub(crate) source: Source,
     pub(crate) schema_line: u32,
     pub(crate) schema: Schema,
     pub(crate) width: u64,
@@ -31,17 +32,17 @@ impl Model for Setup {
 
     ghost Value = { SetupValue };
 
-    ghost view = { λ s. record { packet = s.packet; schema_line = s.schema_line; schema = s.schema; width = s.width; lanes = s.lanes.items; triggers = s.triggers.items; asks = s.asks.items; lives = s.lives.items; lane_names = s.lane_names.items; trigger_names = s.trigger_names.items; ask_names = s.ask_names.items } };
+    ghost view = { λ s. record { source = s.source; schema_line = s.schema_line; schema = s.schema; width = s.width; lanes = s.lanes.items; triggers = s.triggers.items; asks = s.asks.items; lives = s.lives.items; lane_names = s.lane_names.items; trigger_names = s.trigger_names.items; ask_names = s.ask_names.items } };
 
-    ghost invariant = { λ s. IsSetup (record { packet = s.packet; schema_line = s.schema_line; schema = s.schema; width = s.width; lanes = s.lanes.items; triggers = s.triggers.items; asks = s.asks.items; lives = s.lives.items; lane_names = s.lane_names.items; trigger_names = s.trigger_names.items; ask_names = s.ask_names.items }) };
+    ghost invariant = { λ s. IsSetup (record { source = s.source; schema_line = s.schema_line; schema = s.schema; width = s.width; lanes = s.lanes.items; triggers = s.triggers.items; asks = s.asks.items; lives = s.lives.items; lane_names = s.lane_names.items; trigger_names = s.trigger_names.items; ask_names = s.ask_names.items }) };
 }
 
 impl Setup {
-    /// Whether its schema was stated as `schema packet`.
-    pub fn packet(&self) -> bool
-        ensures { result ≡ self.now.packet }
+    /// What its rows are read from, as its schema was stated.
+    pub fn source(&self) -> Source
+        ensures { result ≡ self.now.source }
     {
-        self.packet
+        self.source
     }
 
     /// The number of the line of its schema, from 1.

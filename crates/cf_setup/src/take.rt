@@ -58,7 +58,7 @@ fn add(alloc: Global, line: u32, draft: Draft, form: Form) -> Result<Draft, Line
     ensures { Takes result (ruled line draft (form_value form.entry)) }
 {
     match form {
-        Form::PacketSchema => add_packet_schema(alloc, line, draft),
+        Form::PacketSchema { which } => add_packet_schema(alloc, line, draft, which),
         Form::RecordSchema { list } => add_record_schema(alloc, line, draft, list),
         Form::Width { number } => add_width(line, draft, number),
         Form::Index { name, attr } => add_index(alloc, line, draft, name, attr),

@@ -1,4 +1,5 @@
 use super::*;
+use cf_packet6::PacketSchema;
 use cf_plain::{Ask, suits};
 use std::alloc::Global;
 use std::test::Fail;
@@ -102,6 +103,26 @@ fn the_schema_comes_first(rt: HostRuntime) {
         ),
         ("schema packet\r", (1, 1)),
         ("schema packet x", (1, 3)),
+        ("schema packet6", (0, 0)),
+        ("schema packet6 x", (1, 3)),
+        ("schema packet66", (1, 3)),
+        ("schema packet6\nschema packet", (2, 2)),
+        (
+            "schema packet6\nindex a src6\nindex b src6_low\nindex c dst6\nindex d dst6_low",
+            (0, 0),
+        ),
+        ("schema packet6\nindex a src\nask q find a 1 2", (0, 0)),
+        ("schema packet6\nindex a src6_high", (2, 6)),
+        ("schema packet\nindex a src6", (2, 6)),
+        ("schema packet6\nask q total src6 *", (2, 8)),
+        (
+            "schema records ts:u64,b:u8,c:u8,d:u8,e:u8,f:u8,g:u8,h:u8,i:u8,j:u8,k:u8,l:u8,m:u8,n:u8,o:u8,p:u8,q:u8,r:u8,s:u8,t:u8,u:u8,v:u8,w:u8,x:u8",
+            (0, 0),
+        ),
+        (
+            "schema records ts:u64,b:u8,c:u8,d:u8,e:u8,f:u8,g:u8,h:u8,i:u8,j:u8,k:u8,l:u8,m:u8,n:u8,o:u8,p:u8,q:u8,r:u8,s:u8,t:u8,u:u8,v:u8,w:u8,x:u8,y:u8",
+            (1, 4),
+        ),
         ("schema foo", (1, 3)),
         ("width 5\nschema packet", (1, 2)),
         ("schema records a:u9", (1, 4)),
@@ -245,13 +266,27 @@ fn a_setup_states_asks_by_their_names(rt: HostRuntime) -> Result<(), Fail> {
 fn a_setup_has_a_shape(rt: HostRuntime) -> Result<(), Fail> {
     let alloc = rt.alloc();
     let setup = example(alloc)?;
-    assert!(rt; setup.packet());
+    assert_eq!(rt; setup.source(), Source::Packets(PacketSchema::Packet));
     assert_eq!(rt; setup.schema_line(), 2);
     let shape = shape_of(alloc, &setup, 8, 1, 0)?;
     assert_eq!(rt; shape.lanes().len(), 4);
     assert_eq!(rt; shape.width(), 1000);
     for ask in setup.asks() {
         assert!(rt; suits(&shape, ask));
+    }
+    Ok(())
+}
+
+#[test]
+fn rows_come_from_what_the_schema_says(rt: HostRuntime) -> Result<(), Fail> {
+    for (text, source, count) in [
+        ("schema packet", Source::Packets(PacketSchema::Packet), 20),
+        ("schema packet6", Source::Packets(PacketSchema::Packet6), 24),
+        ("schema records ts:u64,len:u32", Source::Records, 2),
+    ] {
+        let setup = parse_setup(rt.alloc(), text.as_bytes())?;
+        assert_eq!(rt; setup.source(), source, "{text}");
+        assert_eq!(rt; setup.schema().attrs().len(), count, "{text}");
     }
     Ok(())
 }
