@@ -2,6 +2,7 @@
 use Rattle.std.specs.Prelude.{ℕ, ◌/◌, ◌%◌, ◌^◌, Bool, false, ◌||◌, List, [], ◌∷◌, ◌++◌, length, take, codes, decimal, slice_index_or, if◌then◌else◌}
 use Rattle.std.specs.List.{flat_map, range_with_len}
 use Rattle.std.specs.Fmt.{digit_glyph}
+use Rattle.std.specs.Int.{w64, to_be_bytes}
 use Rattle.cf_row.specs.Row.{RowValue, value_at}
 use Rattle.cf_row.specs.Schema.{is_named}
 use Rattle.cf_row.specs.declared.row.Value.{Value}
@@ -13,6 +14,10 @@ use Rattle.cf_row.specs.declared.schema.Kind.TheVariants.{U8}
 abbrev pub is_address : Attr → Bool
 is_address attr = is_named (codes "src") attr || is_named (codes "dst") attr
 
+-- the halves of the addresses of IPv6
+abbrev pub is_half : Attr → Bool
+is_half attr = is_named (codes "src6") attr || is_named (codes "src6_low") attr || is_named (codes "dst6") attr || is_named (codes "dst6_low") attr
+
 -- the four bytes of an IPv4 address (RFC 791), the highest first, with dots between them
 abbrev pub dotted : ℕ → List ℕ
 dotted n =
@@ -22,9 +27,14 @@ dotted n =
 abbrev pub byte_text : ℕ → List ℕ
 byte_text byte = digit_glyph false (byte / 16) ∷ digit_glyph false (byte % 16) ∷ []
 
--- the text of an attribute's value: `src` and `dst` dotted, other numbers decimal, byte strings `0x` and two digits for each byte
+-- `0x` and the sixteen digits of eight bytes, the highest first
+abbrev pub half_text : ℕ → List ℕ
+half_text n = codes "0x" ++ flat_map byte_text (to_be_bytes w64 n)
+
+-- the text of an attribute's value: `src` and `dst` dotted, the halves of IPv6 addresses in sixteen digits, other numbers decimal, byte
+-- strings `0x` and two digits for each byte
 abbrev pub value_text : Attr → Value → List ℕ
-value_text attr (Num n) = if is_address attr then dotted n else decimal n
+value_text attr (Num n) = if is_address attr then dotted n else (if is_half attr then half_text n else decimal n)
 value_text attr (Raw len bytes) = codes "0x" ++ flat_map byte_text (take len bytes)
 
 -- stands where an attribute doesn't exist: it has no name, and is a number of one byte

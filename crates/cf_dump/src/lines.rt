@@ -51,7 +51,7 @@ fn push_rows(text: &mut String, schema: &Schema, rows: &[Row]) -> Result<(), Mem
 
 /// The text of a dump: `records` and their number, and then a line for each row, with its number and ` NAME=VALUE` for
 /// each attribute in the schema's order. `src` and `dst` are dotted (RFC 791), bytes are `0x` and lower-case digits,
-/// and other numbers are decimal.
+/// `src6`, `src6_low`, `dst6` and `dst6_low` are `0x` and sixteen, and other numbers are decimal.
 pub fn dump(alloc: Global, schema: &Schema, rows: &[Row]) -> Result<String, Memory>
     requires fit { All (Fits schema.now) rows.now }
     ensures { IfOk result (λ text. string_bytes text ≡ dump_text schema.now rows.now) }

@@ -1,5 +1,6 @@
 use super::*;
-use cf_row::{Memory, Row, Schema, Value, fits, packet_schema};
+use crate::value::push_value;
+use cf_row::{Attr, Kind, Memory, Name, Row, Schema, Value, fits, packet_schema};
 use std::alloc::Global;
 use std::test::Fail;
 
@@ -40,5 +41,27 @@ fn a_row_is_shown_by_the_names_of_its_values(rt: HostRuntime) -> Result<(), Fail
     let wanted =
         "records 1\n7 ts=1000000000 caplen=54 len=54 dmac=0x2f0000000001 smac=0x2f0000000002 etype=2048 kind=2 tos=0 iplen=40 ttl=64 proto=6 src=10.0.0.12 dst=10.0.1.10 sport=40219 dport=80 seq=0 ack=0 flags=16 win=1024 vlan=0\n";
     assert_eq!(rt; text.as_str(), wanted);
+    Ok(())
+}
+
+#[test]
+fn halves_of_ipv6_addresses_have_sixteen_digits(rt: HostRuntime) -> Result<(), Fail> {
+    let alloc = rt.alloc();
+    for (name, number, wanted) in [
+        ("src6", 0x20010db800000000, "0x20010db800000000"),
+        ("src6_low", 1, "0x0000000000000001"),
+        ("dst6", 0xfe80000000000000, "0xfe80000000000000"),
+        ("dst6_low", u64::MAX, "0xffffffffffffffff"),
+        ("src6_high", 10, "10"),
+        ("src", 167772172, "10.0.0.12"),
+    ] {
+        let attr = Attr {
+            name: Name::new(alloc, name)?,
+            kind: Kind::U64,
+        };
+        let mut text = String::new(alloc);
+        push_value(&mut text, &attr, Value::Num(number))?;
+        assert_eq!(rt; text.as_str(), wanted, "{name}");
+    }
     Ok(())
 }

@@ -1,7 +1,7 @@
 // The text of a value.
 ghost use Rattle.std.specs.Prelude.{◌≡◌, ◌++◌, OnOk, string_bytes, take, decimal};
 ghost use Rattle.std.specs.List.{flat_map};
-ghost use Rattle.cf_dump.specs.Dump.{is_address as is_address_of, dotted, byte_text, value_text};
+ghost use Rattle.cf_dump.specs.Dump.{is_address as is_address_of, is_half as is_half_of, dotted, byte_text, half_text, value_text};
 
 use cf_row::{Attr, Memory, Value};
 use std::fmt::Write;
@@ -10,6 +10,15 @@ fn is_address(attr: &Attr) -> bool
     ensures { result ≡ is_address_of attr.now }
 {
     attr.is_named("src") || attr.is_named("dst")
+}
+
+fn is_half(attr: &Attr) -> bool
+    ensures { result ≡ is_half_of attr.now }
+{
+    attr.is_named("src6")
+        || attr.is_named("src6_low")
+        || attr.is_named("dst6")
+        || attr.is_named("dst6_low")
 }
 
 fn push_dotted(text: &mut String, address: u64) -> Result<(), Memory>
@@ -47,13 +56,21 @@ fn front(bytes: &[u8], len: usize) -> &[u8]
     bytes.split_at(len).0
 }
 
+// `0x` and sixteen digits.
+fn push_half(text: &mut String, half: u64) -> Result<(), Memory>
+    ensures { OnOk result (string_bytes text.new ≡ string_bytes text.old ++ half_text half) }
+{
+    text.push_str("0x")?;
+    push_bytes(text, &half.to_be_bytes())
+}
+
 fn push_number(text: &mut String, number: u64) -> Result<(), Memory>
     ensures { OnOk result (string_bytes text.new ≡ string_bytes text.old ++ decimal number) }
 {
     write!(text, "{number}")
 }
 
-/// The value: bytes as hexadecimal digits, an address with dots, other numbers in decimal.
+/// The value: bytes and halves of IPv6 addresses as hexadecimal digits, an IPv4 address with dots, other numbers in decimal.
 pub(crate) fn push_value(text: &mut String, attr: &Attr, value: Value) -> Result<(), Memory>
     ensures { OnOk result (string_bytes text.new ≡ string_bytes text.old ++ value_text attr.now value) }
 {
@@ -61,6 +78,8 @@ pub(crate) fn push_value(text: &mut String, attr: &Attr, value: Value) -> Result
         Value::Num(number) => {
             if is_address(attr) {
                 push_dotted(text, number)
+            } else if is_half(attr) {
+                push_half(text, number)
             } else {
                 push_number(text, number)
             }
