@@ -5,9 +5,10 @@ use Rattle.std.specs.Str.{bytes_eq}
 use Rattle.std.specs.Str.Parse.{digits_value}
 use Rattle.std.proofs.lemmas.Bool.{and_parts, or_cases, leb-true, eqb-true}
 use Rattle.cf_command.specs.declared.words.LogSizes.{LogSizes}
+use Rattle.cf_command.specs.declared.words.WindowSizes.{WindowSizes}
 use Rattle.cf_command.specs.Table.{SaidValue, said_of}
-use Rattle.cf_command.specs.Table.SaidValue.{run_said, synth_said, dump_said, snapshot_said}
-use Rattle.cf_command.specs.Call.{SnapshotCall, HasSizes, AreSizes, number_in, is_given, sizes_with, divided, sizes_in, call_in, call_of}
+use Rattle.cf_command.specs.Table.SaidValue.{run_said, synth_said, dump_said, snapshot_said, watch_said}
+use Rattle.cf_command.specs.Call.{SnapshotCall, HasSizes, AreSizes, AreWindowSizes, number_in, is_given, schema_named, sizes_with, divided, sizes_in, window_in, call_in, call_of}
 use Rattle.cf_command.specs.Call.Call.{snapshot}
 
 -- what comes of a value that there may be
@@ -83,6 +84,31 @@ right_in writers capacity nodes segments =
     right_divided sizes k (right (sizes_with w capacity nodes) sizes (right_with w capacity nodes (in_range 1 15 w writers first)) second)
     (in_range 1 256 k segments third))))
 
+-- of a window
+abbrev IsWide : Option WindowSizes → Type 0
+IsWide None = Unit {0}
+IsWide (Some sizes) = AreWindowSizes sizes
+
+bounded_by : (b : Bool) (sizes : WindowSizes) → (b ≡ true → AreWindowSizes sizes) → IsWide (if b then Some sizes else None)
+bounded_by true sizes are = are refl
+bounded_by false sizes are = tt
+
+wide_in : (capacity segments nodes : List ℕ) → IsWide (window_in capacity segments nodes)
+wide_in capacity segments nodes =
+    and_then_by IsWide _ (number_in 1 65536 capacity) tt (λ c first.
+    and_then_by IsWide _ (number_in 1 256 segments) tt (λ g second.
+    and_then_by IsWide _ (number_in 0 65536 nodes) tt (λ n third.
+    bounded_by (nat_le (c * g) (2 ^ 20)) (record { capacity = c; segments = g; nodes = n }) (λ few.
+    record {
+      capacity = in_range 1 65536 c capacity first;
+      segments = in_range 1 256 g segments second;
+      nodes = (in_range 0 65536 n nodes third).1;
+      most = leb-true (c * g) (2 ^ 20) few;
+    }))))
+
+wide : (found : Option WindowSizes) (sizes : WindowSizes) → IsWide found → found ≡ Some sizes → AreWindowSizes sizes
+wide found sizes are is = subst IsWide is are
+
 by_hosts : (b : Bool) (call : SnapshotCall) → AreSizes call.sizes → HasSizes (if b then Some (snapshot call) else None)
 by_hosts true call are = are
 by_hosts false call are = tt
@@ -99,7 +125,7 @@ by_said (synth_said texts) =
     and_then_by HasSizes _ (sizes_in texts.writers texts.capacity texts.nodes texts.segments) tt
     (λ sizes found. right (sizes_in texts.writers texts.capacity texts.nodes texts.segments) sizes
     (right_in texts.writers texts.capacity texts.nodes texts.segments) found)))
-by_said (dump_said texts) = tt
+by_said (dump_said texts) = and_then_by HasSizes _ (schema_named texts.schema) tt (λ schema found. tt)
 by_said (snapshot_said texts) =
     and_then_by HasSizes _ (number_in 0 (2 ^ 32 - 1) texts.after) tt (λ turns first.
     and_then_by HasSizes _ (number_in 1 4096 texts.turn) tt (λ turn second.
@@ -107,6 +133,10 @@ by_said (snapshot_said texts) =
     by_hosts (nat_le 1 (length texts.captures) && nat_le (length texts.captures) 16)
     (record { setup = texts.setup; captures = texts.captures; turns = turns; turn = turn; sizes = sizes; truncated = is_given texts.truncated })
     (right (sizes_with 1 texts.capacity texts.nodes) sizes (right_with 1 texts.capacity texts.nodes (omega arith, omega arith)) found))))
+by_said (watch_said texts) =
+    and_then_by HasSizes _ (window_in texts.capacity texts.segments texts.nodes) tt (λ sizes found.
+    and_then_by HasSizes _ (number_in 0 (2 ^ 32 - 1) texts.every) tt (λ every also.
+    wide (window_in texts.capacity texts.segments texts.nodes) sizes (wide_in texts.capacity texts.segments texts.nodes) found))
 
 -- whatever words call for
 pub has_sizes : (words : List (List ℕ)) → HasSizes (call_of words)

@@ -3,15 +3,19 @@ use Rattle.std.specs.Prelude.{◌≡◌, ℕ, ◌≤◌, ◌<◌, ◌-◌, ◌*�
 use Rattle.std.specs.Borrow.{Bor}
 use Rattle.std.specs.Str.{bytes_eq}
 use Rattle.std.specs.Str.Parse.{digits_value}
+use Rattle.cf_packet6.specs.declared.PacketSchema.{PacketSchema}
+use Rattle.cf_packet6.specs.declared.PacketSchema.TheVariants.{Packet, Packet6}
 use Rattle.cf_command.specs.declared.words.LogSizes.{LogSizes}
+use Rattle.cf_command.specs.declared.words.WindowSizes.{WindowSizes}
 use Rattle.cf_command.specs.declared.words.RunCommand.{RunCommand}
 use Rattle.cf_command.specs.declared.words.SynthCommand.{SynthCommand}
 use Rattle.cf_command.specs.declared.words.DumpCommand.{DumpCommand}
 use Rattle.cf_command.specs.declared.words.SnapshotCommand.{SnapshotCommand}
+use Rattle.cf_command.specs.declared.words.WatchCommand.{WatchCommand}
 use Rattle.cf_command.specs.declared.words.Command.{Command}
-use Rattle.cf_command.specs.declared.words.Command.TheVariants.{Run, Synth, Dump, Snapshot}
+use Rattle.cf_command.specs.declared.words.Command.TheVariants.{Run, Synth, Dump, Snapshot, Watch}
 use Rattle.cf_command.specs.Table.{SaidValue, said_of}
-use Rattle.cf_command.specs.Table.SaidValue.{run_said, synth_said, dump_said, snapshot_said}
+use Rattle.cf_command.specs.Table.SaidValue.{run_said, synth_said, dump_said, snapshot_said, watch_said}
 
 -- the texts behind a list of references
 abbrev pub texts : List (Bor (List ℕ)) → List (List ℕ)
@@ -25,6 +29,12 @@ number_in low high text = let number = digits_value 10 text in
 -- an option without a value is given
 abbrev pub is_given : List ℕ → Bool
 is_given text = bytes_eq text (codes "true")
+
+-- the schema of packets of that name
+abbrev pub schema_named : List ℕ → Option PacketSchema
+schema_named text =
+    if bytes_eq text (codes "packet") then Some Packet else (
+    if bytes_eq text (codes "packet6") then Some Packet6 else None)
 
 -- the sizes of a log of so many writers and one segment, whose capacity and the nodes of each writer two texts write out
 abbrev pub sizes_with : ℕ → List ℕ → List ℕ → Option LogSizes
@@ -54,6 +64,24 @@ pub record AreSizes (sizes : LogSizes) : Type 0 where
   pub most : sizes.capacity * sizes.segments ≤ 2 ^ 20
   pub whole : 1 < sizes.segments → sizes.capacity % 4096 ≡ 0
 
+-- the sizes of a window of at most so many segments, where all together hold 2^20 records at most
+abbrev pub bounded_window : WindowSizes → Option WindowSizes
+bounded_window sizes = if nat_le (sizes.capacity * sizes.segments) (2 ^ 20) then Some sizes else None
+
+-- the same, whose capacity, segments and nodes of each segment texts write out
+abbrev pub window_in : List ℕ → List ℕ → List ℕ → Option WindowSizes
+window_in capacity segments nodes =
+    option_and_then
+    (λ c. option_and_then (λ g. option_and_then (λ n. bounded_window (record { capacity = c; segments = g; nodes = n }))
+    (number_in 0 65536 nodes)) (number_in 1 256 segments)) (number_in 1 65536 capacity)
+
+-- the sizes that a window may have
+pub record AreWindowSizes (sizes : WindowSizes) : Type 0 where
+  pub capacity : (1 ≤ sizes.capacity) × (sizes.capacity ≤ 65536)
+  pub segments : (1 ≤ sizes.segments) × (sizes.segments ≤ 256)
+  pub nodes : sizes.nodes ≤ 65536
+  pub most : sizes.capacity * sizes.segments ≤ 2 ^ 20
+
 -- what `run` is called for: the report of a capture by a setup, both named, over a log of these sizes, each live question being
 -- asked so often beside a batch; whether the capture is read as truncated
 pub record RunCall : Type 0 where
@@ -70,9 +98,10 @@ pub record SynthCall : Type 0 where
   pub count : ℕ
   pub sizes : LogSizes
 
--- what `dump` is called for: the rows of a capture, which is named; whether it is read as truncated
+-- what `dump` is called for: the rows of a capture, which is named, by a schema of packets; whether it is read as truncated
 pub record DumpCall : Type 0 where
   pub capture : List ℕ
+  pub schema : PacketSchema
   pub truncated : Bool
 
 -- what `snapshot` is called for: the answers of a setup at one cut of several hosts, each of which has the rows of a capture, all
@@ -86,12 +115,22 @@ pub record SnapshotCall : Type 0 where
   pub sizes : LogSizes
   pub truncated : Bool
 
+-- what `watch` is called for: what the rounds of a capture say by a setup, both named, over a window of these sizes, each live question
+-- being asked where so many records came since it was; whether the capture is read as truncated
+pub record WatchCall : Type 0 where
+  pub setup : List ℕ
+  pub capture : List ℕ
+  pub sizes : WindowSizes
+  pub every : ℕ
+  pub truncated : Bool
+
 -- what a command line is called for
 pub data Call : Type 0 where
   run : (call : RunCall) → Call
   synth : (call : SynthCall) → Call
   dump : (call : DumpCall) → Call
   snapshot : (call : SnapshotCall) → Call
+  watch : (call : WatchCall) → Call
 
 -- a snapshot of 1 to 16 captures
 abbrev pub snapshot_over : SnapshotCall → Option Call
@@ -108,7 +147,9 @@ call_in (synth_said texts) =
     option_and_then
     (λ seed. option_and_then (λ count. option_and_then (λ sizes. Some (synth (record { setup = texts.setup; seed = seed; count = count; sizes = sizes })))
     (sizes_in texts.writers texts.capacity texts.nodes texts.segments)) (number_in 0 (2 ^ 20) texts.count)) (number_in 0 (2 ^ 64 - 1) texts.seed)
-call_in (dump_said texts) = Some (dump (record { capture = texts.capture; truncated = is_given texts.truncated }))
+call_in (dump_said texts) =
+    option_and_then (λ schema. Some (dump (record { capture = texts.capture; schema = schema; truncated = is_given texts.truncated })))
+    (schema_named texts.schema)
 call_in (snapshot_said texts) =
     option_and_then
     (λ turns. option_and_then
@@ -116,6 +157,11 @@ call_in (snapshot_said texts) =
     (λ sizes. snapshot_over
     (record { setup = texts.setup; captures = texts.captures; turns = turns; turn = turn; sizes = sizes; truncated = is_given texts.truncated }))
     (sizes_with 1 texts.capacity texts.nodes)) (number_in 1 4096 texts.turn)) (number_in 0 (2 ^ 32 - 1) texts.after)
+call_in (watch_said texts) =
+    option_and_then
+    (λ sizes. option_and_then
+    (λ every. Some (watch (record { setup = texts.setup; capture = texts.capture; sizes = sizes; every = every; truncated = is_given texts.truncated })))
+    (number_in 0 (2 ^ 32 - 1) texts.every)) (window_in texts.capacity texts.segments texts.nodes)
 
 -- What the words call for: a command with its options, as clap takes them, each number being in its range. Other words are no
 -- command.
@@ -129,6 +175,7 @@ HasSizes (Some (run call)) = AreSizes call.sizes
 HasSizes (Some (synth call)) = AreSizes call.sizes
 HasSizes (Some (dump call)) = Unit {0}
 HasSizes (Some (snapshot call)) = AreSizes call.sizes
+HasSizes (Some (watch call)) = AreWindowSizes call.sizes
 
 -- the calls that commands were read as
 abbrev pub run_by : RunCommand → RunCall
@@ -139,7 +186,7 @@ abbrev pub synth_by : SynthCommand → SynthCall
 synth_by command = record { setup = command.setup.now; seed = command.seed; count = command.count; sizes = command.sizes }
 
 abbrev pub dump_by : DumpCommand → DumpCall
-dump_by command = record { capture = command.capture.now; truncated = command.truncated }
+dump_by command = record { capture = command.capture.now; schema = command.schema; truncated = command.truncated }
 
 abbrev pub snapshot_by : SnapshotCommand → SnapshotCall
 snapshot_by command =
@@ -152,12 +199,17 @@ snapshot_by command =
       truncated = command.truncated;
     }
 
+abbrev pub watch_by : WatchCommand → WatchCall
+watch_by command =
+    record { setup = command.setup.now; capture = command.capture.now; sizes = command.sizes; every = command.every; truncated = command.truncated }
+
 -- the call of a command that was read
 abbrev pub call_by : Command → Call
 call_by (Run command) = run (run_by command)
 call_by (Synth command) = synth (synth_by command)
 call_by (Dump command) = dump (dump_by command)
 call_by (Snapshot command) = snapshot (snapshot_by command)
+call_by (Watch command) = watch (watch_by command)
 
 -- a snapshot has 1 to 16 hosts, each with one writer and one segment
 pub record IsSnapshotInRange (command : SnapshotCommand) : Type 0 where
@@ -173,3 +225,4 @@ IsInRange (Run command) = AreSizes command.sizes
 IsInRange (Synth command) = AreSizes command.sizes × (command.count ≤ 2 ^ 20)
 IsInRange (Dump command) = Unit {0}
 IsInRange (Snapshot command) = IsSnapshotInRange command
+IsInRange (Watch command) = AreWindowSizes command.sizes

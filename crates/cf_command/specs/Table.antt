@@ -5,8 +5,9 @@ use Rattle.cf_command.specs.declared.table.RunTexts.{RunTexts}
 use Rattle.cf_command.specs.declared.table.SynthTexts.{SynthTexts}
 use Rattle.cf_command.specs.declared.table.DumpTexts.{DumpTexts}
 use Rattle.cf_command.specs.declared.table.SnapshotTexts.{SnapshotTexts}
+use Rattle.cf_command.specs.declared.table.WatchTexts.{WatchTexts}
 use Rattle.cf_command.specs.declared.table.Said.{Said}
-use Rattle.cf_command.specs.declared.table.Said.TheVariants.{Run, Synth, Dump, Snapshot}
+use Rattle.cf_command.specs.declared.table.Said.TheVariants.{Run, Synth, Dump, Snapshot, Watch}
 use Rattle.clap.specs.Words.{App, Rule, Row, Text, new_app, new_rule, with_rule, with_subcommand, subcommand_of, fault_of, first_of, all_of}
 use Rattle.clap.specs.declared.builder.action.ArgAction.TheVariants.{Append, SetTrue}
 
@@ -52,9 +53,10 @@ run_app = with_rule
 abbrev pub synth_app : App
 synth_app = sized_app (with_rule (with_rule (with_rule (new_app (codes "synth")) (needed (codes "setup"))) (needed (codes "seed"))) (needed (codes "count")))
 
--- `dump`: whether the capture is read as truncated, and a capture
+-- `dump`: by which schema rows are made, whether the capture is read as truncated, and a capture
 abbrev pub dump_app : App
-dump_app = with_rule (truncatable_app (new_app (codes "dump"))) (place (codes "capture"))
+dump_app =
+    with_rule (truncatable_app (with_rule (new_app (codes "dump")) (optional (codes "schema") (codes "packet")))) (place (codes "capture"))
 
 -- `snapshot`: a setup, the turns before the freezing, the rows of a turn, the capacity and nodes of each log, whether captures are read
 -- as truncated, and captures
@@ -64,13 +66,27 @@ snapshot_app =
     (roomed_app (with_rule (with_rule (with_rule (new_app (codes "snapshot")) (needed (codes "setup"))) (needed (codes "after")))
     (optional (codes "turn") (codes "1"))))) (places (codes "captures"))
 
+-- with the options of a window's sizes
+abbrev pub windowed_app : App → App
+windowed_app app = with_rule (with_rule (with_rule app (optional (codes "segments") (codes "4"))) (optional (codes "nodes") (codes "65536")))
+    (optional (codes "capacity") (codes "65536"))
+
+-- `watch`: a setup, the sizes of the window, after how many records live questions are asked, whether the capture is read as truncated,
+-- and a capture
+abbrev pub watch_app : App
+watch_app = with_rule
+    (truncatable_app (with_rule (windowed_app (with_rule (new_app (codes "watch")) (needed (codes "setup")))) (optional (codes "every") (codes "4096"))))
+    (place (codes "capture"))
+
 -- the program, whose words begin with a command of their own
 abbrev pub bare_app : App
 bare_app = let a = new_app (codes "confluo") in record a { top = record a.top { no_binary_name = true; subcommand_required = true } }
 
 -- the program with its commands
 unfoldable pub confluo_app : App
-confluo_app = with_subcommand (with_subcommand (with_subcommand (with_subcommand bare_app run_app.top) synth_app.top) dump_app.top) snapshot_app.top
+confluo_app =
+    with_subcommand (with_subcommand (with_subcommand (with_subcommand (with_subcommand bare_app run_app.top) synth_app.top) dump_app.top) snapshot_app.top)
+    watch_app.top
 
 -- the list is empty
 abbrev pub none_of : {X : Type 0} → List X → Bool
@@ -138,22 +154,23 @@ synth_texts_of rows =
 
 -- the texts of a `dump` command
 pub record DumpSays : Type 0 where
+  pub schema : Text
   pub truncated : Text
   pub capture : Text
 
 -- these texts as a record, in the order in which they are looked up
-abbrev pub dump_says : Text → Text → DumpSays
-dump_says t c = record { truncated = t; capture = c }
+abbrev pub dump_says : Text → Text → Text → DumpSays
+dump_says s t c = record { schema = s; truncated = t; capture = c }
 
 -- what was read of a `dump` command
 abbrev pub dump_says_of : DumpTexts → DumpSays
-dump_says_of r = dump_says r.truncated.now r.capture.now
+dump_says_of r = dump_says r.schema.now r.truncated.now r.capture.now
 
 -- what the rows of a `dump` command say
 unfoldable pub dump_texts_of : List Row → Option DumpSays
 dump_texts_of rows =
-    option_and_then (λ t. option_and_then (λ c. Some (dump_says t c))
-    (first_of (codes "capture") rows)) (first_of (codes "truncated") rows)
+    option_and_then (λ s. option_and_then (λ t. option_and_then (λ c. Some (dump_says s t c))
+    (first_of (codes "capture") rows)) (first_of (codes "truncated") rows)) (first_of (codes "schema") rows)
 
 -- the texts of a `snapshot` command
 pub record SnapshotSays : Type 0 where
@@ -183,12 +200,40 @@ snapshot_texts_of rows =
     (all_of (codes "captures") rows)) (first_of (codes "truncated") rows)) (first_of (codes "nodes") rows)) (first_of (codes "capacity") rows))
     (first_of (codes "turn") rows)) (first_of (codes "after") rows)) (first_of (codes "setup") rows)
 
+-- the texts of a `watch` command
+pub record WatchSays : Type 0 where
+  pub setup : Text
+  pub capacity : Text
+  pub segments : Text
+  pub nodes : Text
+  pub every : Text
+  pub truncated : Text
+  pub capture : Text
+
+-- these texts as a record, in the order in which they are looked up
+abbrev pub watch_says : Text → Text → Text → Text → Text → Text → Text → WatchSays
+watch_says s n g m e t c = record { setup = s; capacity = n; segments = g; nodes = m; every = e; truncated = t; capture = c }
+
+-- what was read of a `watch` command
+abbrev pub watch_says_of : WatchTexts → WatchSays
+watch_says_of r = watch_says r.setup.now r.capacity.now r.segments.now r.nodes.now r.every.now r.truncated.now r.capture.now
+
+-- what the rows of a `watch` command say
+unfoldable pub watch_texts_of : List Row → Option WatchSays
+watch_texts_of rows =
+    option_and_then
+    (λ s. option_and_then
+    (λ n. option_and_then (λ g. option_and_then (λ m. option_and_then (λ e. option_and_then (λ t. option_and_then (λ c. Some (watch_says s n g m e t c))
+    (first_of (codes "capture") rows)) (first_of (codes "truncated") rows)) (first_of (codes "every") rows)) (first_of (codes "nodes") rows))
+    (first_of (codes "segments") rows)) (first_of (codes "capacity") rows)) (first_of (codes "setup") rows)
+
 -- what a command line says: the texts of its command
 pub data SaidValue : Type 0 where
   run_said : (said : RunSays) → SaidValue
   synth_said : (said : SynthSays) → SaidValue
   dump_said : (said : DumpSays) → SaidValue
   snapshot_said : (said : SnapshotSays) → SaidValue
+  watch_said : (said : WatchSays) → SaidValue
 
 -- what a command of that name says with these rows
 abbrev pub said_in : Text × List Row → Option SaidValue
@@ -196,7 +241,8 @@ said_in p =
     if bytes_eq p.0 (codes "run") then option_map run_said (run_texts_of p.1) else (
     if bytes_eq p.0 (codes "synth") then option_map synth_said (synth_texts_of p.1) else (
     if bytes_eq p.0 (codes "dump") then option_map dump_said (dump_texts_of p.1) else (
-    if bytes_eq p.0 (codes "snapshot") then option_map snapshot_said (snapshot_texts_of p.1) else None)))
+    if bytes_eq p.0 (codes "snapshot") then option_map snapshot_said (snapshot_texts_of p.1) else (
+    if bytes_eq p.0 (codes "watch") then option_map watch_said (watch_texts_of p.1) else None))))
 
 -- what words say, where clap takes them
 unfoldable pub said_of : List Text → Option SaidValue
@@ -208,3 +254,4 @@ said_by (Run texts) = run_said (says_of texts)
 said_by (Synth texts) = synth_said (synth_says_of texts)
 said_by (Dump texts) = dump_said (dump_says_of texts)
 said_by (Snapshot texts) = snapshot_said (snapshot_says_of texts)
+said_by (Watch texts) = watch_said (watch_says_of texts)

@@ -9,7 +9,8 @@ mod words;
 
 use std::alloc::AllocError;
 pub use words::{
-    Command, DumpCommand, LogSizes, RunCommand, SnapshotCommand, SynthCommand, command_of,
+    Command, DumpCommand, LogSizes, RunCommand, SnapshotCommand, SynthCommand, WatchCommand,
+    WindowSizes, command_of,
 };
 
 /// Want of memory, the one refusal of reading words.

@@ -2,8 +2,8 @@
 ghost use Rattle.std.specs.Prelude.{◌≡◌, IfOk, option_map, option_and_then, map, false, codes};
 ghost use Rattle.clap.specs.Words.{app_of, rule_of, shape_of, subcommand_rows_of, with_rule, with_subcommand, first_of, all_of, found_of, rows_of};
 ghost use Rattle.clap.specs.declared.builder.command.Command.TheViews.{out-Command as fields_of};
-ghost use Rattle.cf_command.specs.Table.{bare_app, confluo_app, roomed_app, sized_app, truncatable_app, needed, optional, flag, place, places, run_app, synth_app, dump_app, snapshot_app, taken, said_of, said_by, run_texts_of, says_of, synth_texts_of, synth_says_of, dump_texts_of, dump_says_of, snapshot_texts_of, snapshot_says_of};
-ghost use Rattle.cf_command.specs.Table.SaidValue.{run_said, synth_said, dump_said, snapshot_said};
+ghost use Rattle.cf_command.specs.Table.{bare_app, confluo_app, roomed_app, sized_app, truncatable_app, windowed_app, needed, optional, flag, place, places, run_app, synth_app, dump_app, snapshot_app, watch_app, taken, said_of, said_by, run_texts_of, says_of, synth_texts_of, synth_says_of, dump_texts_of, dump_says_of, snapshot_texts_of, snapshot_says_of, watch_texts_of, watch_says_of};
+ghost use Rattle.cf_command.specs.Table.SaidValue.{run_said, synth_said, dump_said, snapshot_said, watch_said};
 
 use crate::Memory;
 use clap::error::ErrorKind;
@@ -83,6 +83,17 @@ fn truncatable<'a>(alloc: Global, command: Command<'a>) -> Result<Command<'a>, M
     and(command, bare_option(alloc, "truncated"))
 }
 
+// With the options of a window's sizes.
+fn windowed<'a>(alloc: Global, command: Command<'a>) -> Result<Command<'a>, Memory>
+    requires local { (fields_of command).has_globals ≡ false }
+    ensures rules { IfOk result (λ c. app_of c ≡ windowed_app (app_of command.entry)) }
+    ensures local { IfOk result (λ c. (fields_of c).has_globals ≡ false) }
+{
+    let command = and(command, optional_option(alloc, "segments", "4"))?;
+    let command = and(command, optional_option(alloc, "nodes", "65536"))?;
+    and(command, optional_option(alloc, "capacity", "65536"))
+}
+
 fn run_command<'a>(alloc: Global) -> Result<Command<'a>, Memory>
     ensures rules { IfOk result (λ c. app_of c ≡ run_app) }
     ensures local { IfOk result (λ c. (fields_of c).has_globals ≡ false) }
@@ -110,7 +121,9 @@ fn dump_command<'a>(alloc: Global) -> Result<Command<'a>, Memory>
     ensures rules { IfOk result (λ c. app_of c ≡ dump_app) }
     ensures local { IfOk result (λ c. (fields_of c).has_globals ≡ false) }
 {
-    let command = truncatable(alloc, Command::new(alloc, "dump"))?;
+    let command = Command::new(alloc, "dump");
+    let command = and(command, optional_option(alloc, "schema", "packet"))?;
+    let command = truncatable(alloc, command)?;
     and(command, own_word(alloc, "capture"))
 }
 
@@ -125,6 +138,18 @@ fn snapshot_command<'a>(alloc: Global) -> Result<Command<'a>, Memory>
     let command = roomed(alloc, command)?;
     let command = truncatable(alloc, command)?;
     and(command, own_words(alloc, "captures"))
+}
+
+fn watch_command<'a>(alloc: Global) -> Result<Command<'a>, Memory>
+    ensures rules { IfOk result (λ c. app_of c ≡ watch_app) }
+    ensures local { IfOk result (λ c. (fields_of c).has_globals ≡ false) }
+{
+    let command = Command::new(alloc, "watch");
+    let command = and(command, needed_option(alloc, "setup"))?;
+    let command = windowed(alloc, command)?;
+    let command = and(command, optional_option(alloc, "every", "4096"))?;
+    let command = truncatable(alloc, command)?;
+    and(command, own_word(alloc, "capture"))
 }
 
 fn under<'a>(command: Command<'a>, sub: Command<'a>) -> Result<Command<'a>, Memory>
@@ -149,7 +174,8 @@ fn confluo_command<'a>(alloc: Global) -> Result<Command<'a>, Memory>
     let command = under(bare_command(alloc), run_command(alloc)?)?;
     let command = under(command, synth_command(alloc)?)?;
     let command = under(command, dump_command(alloc)?)?;
-    under(command, snapshot_command(alloc)?)
+    let command = under(command, snapshot_command(alloc)?)?;
+    under(command, watch_command(alloc)?)
 }
 
 // The command that the words name, with its values, or nothing where clap refuses them.
@@ -247,6 +273,7 @@ fn synth_texts<'a>(matches: &ArgMatches<'a>) -> Option<SynthTexts<'a>>
 /// The texts of a `dump` command.
 #[derive(Drop)]
 pub(crate) struct DumpTexts<'a> {
+    pub(crate) schema: &'a str,
     pub(crate) truncated: &'a str,
     pub(crate) capture: &'a str,
 }
@@ -255,9 +282,14 @@ pub(crate) struct DumpTexts<'a> {
 fn dump_texts<'a>(matches: &ArgMatches<'a>) -> Option<DumpTexts<'a>>
     ensures { option_map dump_says_of result ≡ dump_texts_of (rows_of (found_of matches.now)) }
 {
+    let schema = text_of(matches, "schema")?;
     let truncated = text_of(matches, "truncated")?;
     let capture = text_of(matches, "capture")?;
-    Some(DumpTexts { truncated, capture })
+    Some(DumpTexts {
+        schema,
+        truncated,
+        capture,
+    })
 }
 
 /// The texts of a `snapshot` command.
@@ -323,6 +355,40 @@ fn snapshot_texts<'a>(
     })
 }
 
+/// The texts of a `watch` command.
+#[derive(Drop)]
+pub(crate) struct WatchTexts<'a> {
+    pub(crate) setup: &'a str,
+    pub(crate) capacity: &'a str,
+    pub(crate) segments: &'a str,
+    pub(crate) nodes: &'a str,
+    pub(crate) every: &'a str,
+    pub(crate) truncated: &'a str,
+    pub(crate) capture: &'a str,
+}
+
+#[tactic(auto, unfolding(crate::specs::Table::watch_texts_of))]
+fn watch_texts<'a>(matches: &ArgMatches<'a>) -> Option<WatchTexts<'a>>
+    ensures { option_map watch_says_of result ≡ watch_texts_of (rows_of (found_of matches.now)) }
+{
+    let setup = text_of(matches, "setup")?;
+    let capacity = text_of(matches, "capacity")?;
+    let segments = text_of(matches, "segments")?;
+    let nodes = text_of(matches, "nodes")?;
+    let every = text_of(matches, "every")?;
+    let truncated = text_of(matches, "truncated")?;
+    let capture = text_of(matches, "capture")?;
+    Some(WatchTexts {
+        setup,
+        capacity,
+        segments,
+        nodes,
+        every,
+        truncated,
+        capture,
+    })
+}
+
 /// What the words of a command say.
 #[derive(Drop)]
 pub(crate) enum Said<'a> {
@@ -330,6 +396,7 @@ pub(crate) enum Said<'a> {
     Synth(SynthTexts<'a>),
     Dump(DumpTexts<'a>),
     Snapshot(SnapshotTexts<'a>),
+    Watch(WatchTexts<'a>),
 }
 
 fn run_said_by<'a>(matches: &ArgMatches<'a>) -> Option<Said<'a>>
@@ -348,6 +415,12 @@ fn dump_said_by<'a>(matches: &ArgMatches<'a>) -> Option<Said<'a>>
     ensures { option_map said_by result ≡ option_map dump_said (dump_texts_of (rows_of (found_of matches.now))) }
 {
     Some(Said::Dump(dump_texts(matches)?))
+}
+
+fn watch_said_by<'a>(matches: &ArgMatches<'a>) -> Option<Said<'a>>
+    ensures { option_map said_by result ≡ option_map watch_said (watch_texts_of (rows_of (found_of matches.now))) }
+{
+    Some(Said::Watch(watch_texts(matches)?))
 }
 
 fn snapshot_said_by<'a>(alloc: Global, matches: &ArgMatches<'a>) -> Result<Option<Said<'a>>, Memory>
@@ -378,6 +451,8 @@ pub(crate) fn read_words<'a>(
                 Ok(dump_said_by(inner))
             } else if name == "snapshot" {
                 snapshot_said_by(alloc, inner)
+            } else if name == "watch" {
+                Ok(watch_said_by(inner))
             } else {
                 Ok(None)
             }

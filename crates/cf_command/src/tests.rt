@@ -1,32 +1,39 @@
 use super::*;
+use cf_packet6::PacketSchema;
 use std::alloc::Global;
 use std::test::Fail;
 
-// The writers, capacity, nodes and live rounds of a `run` whose words have spaces between them; the count in place of the rounds of a `synth`; zeros of a `dump`; how many captures a `snapshot` has in place of the writers, and its turns in place of the rounds.
-fn numbers_of(alloc: Global, text: &str) -> Result<Option<(u8, u32, u32, u32)>, Memory> {
+// The writers, capacity, nodes and live rounds of a `run` whose words have spaces between them; the count in place of the rounds of a `synth`; zeros of a `dump`; how many captures a `snapshot` has in place of the writers, and its turns in place of the rounds; the segments and the live interval of a `watch` in place of the writers and the rounds.
+fn numbers_of(alloc: Global, text: &str) -> Result<Option<(u32, u32, u32, u32)>, Memory> {
     let mut words = Vec::new(alloc);
     for word in text.split(' ') {
         words.push(word)?;
     }
     match command_of(alloc, &words)? {
         Some(Command::Run(command)) => Ok(Some((
-            command.sizes.writers,
+            u32::from(command.sizes.writers),
             command.sizes.capacity,
             command.sizes.nodes,
             command.rounds,
         ))),
         Some(Command::Synth(command)) => Ok(Some((
-            command.sizes.writers,
+            u32::from(command.sizes.writers),
             command.sizes.capacity,
             command.sizes.nodes,
             command.count,
         ))),
         Some(Command::Dump(_)) => Ok(Some((0, 0, 0, 0))),
         Some(Command::Snapshot(command)) => Ok(Some((
-            command.captures.len() as u8,
+            command.captures.len() as u32,
             command.sizes.capacity,
             command.sizes.nodes,
             command.turns,
+        ))),
+        Some(Command::Watch(command)) => Ok(Some((
+            command.sizes.segments,
+            command.sizes.capacity,
+            command.sizes.nodes,
+            command.every,
         ))),
         None => Ok(None),
     }
@@ -95,10 +102,51 @@ fn words_are_read_by_the_table(rt: HostRuntime) -> Result<(), Fail> {
         ("dump --truncated c", Some((0, 0, 0, 0))),
         ("dump --truncated", None),
         ("dump c --truncated d", None),
+        ("dump --schema packet c", Some((0, 0, 0, 0))),
+        ("dump c --schema=packet6 --truncated", Some((0, 0, 0, 0))),
+        ("dump --schema packet7 c", None),
+        ("dump --schema Packet6 c", None),
+        ("dump --schema= c", None),
+        ("dump --schema records c", None),
+        ("dump --schema packet6", None),
+        ("dump --schema packet --schema packet6 c", None),
+        ("run --setup s --schema packet6 c", None),
+        ("snapshot --setup s --after 0 --schema packet6 c", None),
         (
             "snapshot --setup s --truncated --after 0 c d",
             Some((2, 65536, 1024, 0)),
         ),
+        ("watch --setup s c", Some((4, 65536, 65536, 4096))),
+        (
+            "watch c --every 0 --nodes 0 --segments 1 --capacity 1 --setup s",
+            Some((1, 1, 0, 0)),
+        ),
+        (
+            "watch --setup=s --every=4294967295 --segments=16 --capacity=65536 --nodes=65536 c",
+            Some((16, 65536, 65536, 4294967295)),
+        ),
+        (
+            "watch --setup s --truncated c",
+            Some((4, 65536, 65536, 4096)),
+        ),
+        (
+            "watch --setup s --capacity 4097 --segments 255 c",
+            Some((255, 4097, 65536, 4096)),
+        ),
+        ("watch --setup s --segments 17 c", None),
+        ("watch --setup s --capacity 4097 --segments 256 c", None),
+        ("watch --setup s --segments 0 c", None),
+        ("watch --setup s --segments 257 --capacity 1 c", None),
+        ("watch --setup s --capacity 0 c", None),
+        ("watch --setup s --capacity 65537 --segments 1 c", None),
+        ("watch --setup s --nodes 65537 c", None),
+        ("watch --setup s --every 4294967296 c", None),
+        ("watch --setup s --every 01 c", None),
+        ("watch --setup s --writers 1 c", None),
+        ("watch --setup s --live 1 c", None),
+        ("watch --setup s", None),
+        ("watch --setup s c d", None),
+        ("watch c", None),
     ] {
         assert_eq!(rt; numbers_of(alloc, text)?, answer, "of {text}");
     }
@@ -141,6 +189,7 @@ fn segments_of(alloc: Global, text: &str) -> Result<Option<u32>, Memory> {
         Some(Command::Run(command)) => Some(command.sizes.segments),
         Some(Command::Synth(command)) => Some(command.sizes.segments),
         Some(Command::Snapshot(command)) => Some(command.sizes.segments),
+        Some(Command::Watch(command)) => Some(command.sizes.segments),
         Some(Command::Dump(_)) => None,
         None => None,
     })
@@ -181,6 +230,7 @@ fn names_of<'a>(alloc: Global, words: &'a [&'a str]) -> Result<Option<(&'a str, 
                 command.captures.last().copied().unwrap_or(""),
             )))
         }
+        Some(Command::Watch(command)) => Ok(Some((command.setup, command.capture))),
         None => Ok(None),
     }
 }
@@ -188,7 +238,7 @@ fn names_of<'a>(alloc: Global, words: &'a [&'a str]) -> Result<Option<(&'a str, 
 #[test]
 fn names_of_files_are_those_of_the_words(rt: HostRuntime) -> Result<(), Fail> {
     let alloc = rt.alloc();
-    let table: [(&[&str], (&str, &str)); 5] = [
+    let table: [(&[&str], (&str, &str)); 6] = [
         (&["run", "c.pcap", "--setup", "s"], ("s", "c.pcap")),
         (&["run", "--setup=c", "s"], ("c", "s")),
         (
@@ -199,6 +249,10 @@ fn names_of_files_are_those_of_the_words(rt: HostRuntime) -> Result<(), Fail> {
         (
             &["snapshot", "b", "a", "--setup", "s", "--after", "1"],
             ("s", "a"),
+        ),
+        (
+            &["watch", "/dev/stdin", "--setup", "s"],
+            ("s", "/dev/stdin"),
         ),
     ];
     for (words, names) in table {
@@ -218,6 +272,7 @@ fn reading_of(alloc: Global, text: &str) -> Result<Option<bool>, Memory> {
         Some(Command::Synth(_)) => None,
         Some(Command::Snapshot(command)) => Some(command.truncated),
         Some(Command::Dump(command)) => Some(command.truncated),
+        Some(Command::Watch(command)) => Some(command.truncated),
         None => None,
     })
 }
@@ -233,8 +288,37 @@ fn captures_are_read_as_the_option_says(rt: HostRuntime) -> Result<(), Fail> {
         ("snapshot --setup s --truncated --after 1 c", true),
         ("dump c", false),
         ("dump --truncated c", true),
+        ("watch --setup s c", false),
+        ("watch --setup s c --truncated", true),
     ] {
         assert_eq!(rt; reading_of(alloc, text)?, Some(reading), "of {text}");
+    }
+    Ok(())
+}
+
+// The schema of the rows that words with spaces between them dump.
+fn schema_of(alloc: Global, text: &str) -> Result<Option<PacketSchema>, Memory> {
+    let mut words = Vec::new(alloc);
+    for word in text.split(' ') {
+        words.push(word)?;
+    }
+    Ok(match command_of(alloc, &words)? {
+        Some(Command::Dump(command)) => Some(command.schema),
+        _ => None,
+    })
+}
+
+#[test]
+fn a_dump_has_the_schema_that_the_option_says(rt: HostRuntime) -> Result<(), Fail> {
+    let alloc = rt.alloc();
+    for (text, schema) in [
+        ("dump c", PacketSchema::Packet),
+        ("dump --schema packet c", PacketSchema::Packet),
+        ("dump --schema packet6 c", PacketSchema::Packet6),
+        ("dump packet --schema=packet6", PacketSchema::Packet6),
+        ("dump --truncated packet6", PacketSchema::Packet),
+    ] {
+        assert_eq!(rt; schema_of(alloc, text)?, Some(schema), "of {text}");
     }
     Ok(())
 }

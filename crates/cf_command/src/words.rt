@@ -1,12 +1,13 @@
 // What the words ask for.
 ghost use Rattle.std.specs.Prelude.{◌≡◌, ◌≤◌, ◌*◌, IfOk, IfSome, option_map};
-ghost use Rattle.cf_command.specs.Call.{call_of, call_in, call_by, is_given, sizes_in, sizes_with, divided, texts, AreSizes, IsInRange};
-ghost use Rattle.cf_command.specs.Table.{says_of, synth_says_of, dump_says_of, snapshot_says_of};
-ghost use Rattle.cf_command.specs.Table.SaidValue.{run_said, synth_said, dump_said, snapshot_said};
+ghost use Rattle.cf_command.specs.Call.{call_of, call_in, call_by, is_given, schema_named, sizes_in, sizes_with, divided, bounded_window, window_in, texts, AreSizes, AreWindowSizes, IsInRange};
+ghost use Rattle.cf_command.specs.Table.{says_of, synth_says_of, dump_says_of, snapshot_says_of, watch_says_of};
+ghost use Rattle.cf_command.specs.Table.SaidValue.{run_said, synth_said, dump_said, snapshot_said, watch_said};
 
 use crate::Memory;
 use crate::number::number_between;
-use crate::table::{DumpTexts, RunTexts, Said, SnapshotTexts, SynthTexts, read_words};
+use crate::table::{DumpTexts, RunTexts, Said, SnapshotTexts, SynthTexts, WatchTexts, read_words};
+use cf_packet6::PacketSchema;
 use std::alloc::Global;
 
 // The records that the segments of a log hold together at most.
@@ -35,6 +36,15 @@ impl LogSizes {
     }
 }
 
+/// The sizes of a window: how many records each of its segments holds at most, how many segments it has at most, and how many nodes
+/// each has.
+#[derive(Clone, Copy, Debug, PartialEq, Eq)]
+pub struct WindowSizes {
+    pub capacity: u32,
+    pub segments: u32,
+    pub nodes: u32,
+}
+
 /// The command `run`: the names of the setup and of the capture, and the numbers of its options.
 #[derive(Clone, Copy, Debug)]
 pub struct RunCommand<'a> {
@@ -57,10 +67,11 @@ pub struct SynthCommand<'a> {
     pub sizes: LogSizes,
 }
 
-/// The command `dump`: the name of the capture.
+/// The command `dump`: the name of the capture, and the schema of its rows.
 #[derive(Clone, Copy, Debug)]
 pub struct DumpCommand<'a> {
     pub capture: &'a str,
+    pub schema: PacketSchema,
     /// A capture that ends within a record has the records before it.
     pub truncated: bool,
 }
@@ -78,6 +89,18 @@ pub struct SnapshotCommand<'a> {
     pub truncated: bool,
 }
 
+/// The command `watch`: the names of the setup and of the capture, and the numbers of its options.
+#[derive(Clone, Copy, Debug)]
+pub struct WatchCommand<'a> {
+    pub setup: &'a str,
+    pub capture: &'a str,
+    pub sizes: WindowSizes,
+    /// Each live question is asked where so many records came since it was, and never where this is 0.
+    pub every: u32,
+    /// A capture that ends within a record has the records before it.
+    pub truncated: bool,
+}
+
 /// What the words of a command line ask for.
 #[derive(Debug, Drop)]
 pub enum Command<'a> {
@@ -89,6 +112,8 @@ pub enum Command<'a> {
     Dump(DumpCommand<'a>),
     /// The answers of a setup at one cut of several hosts.
     Snapshot(SnapshotCommand<'a>),
+    /// What the rounds of a capture say by a setup, while it comes.
+    Watch(WatchCommand<'a>),
 }
 
 // An option without a value is given.
@@ -96,6 +121,17 @@ fn is_given(text: &str) -> bool
     ensures { result ≡ is_given text.now }
 {
     text == "true"
+}
+
+// The schema of packets of that name.
+fn schema_of(name: &str) -> Option<PacketSchema>
+    ensures { result ≡ schema_named name.now }
+{
+    match name {
+        "packet" => Some(PacketSchema::Packet),
+        "packet6" => Some(PacketSchema::Packet6),
+        _ => None,
+    }
 }
 
 // The sizes of a log of so many writers and one segment, where the texts write out the others, each in its range.
@@ -246,6 +282,75 @@ fn snapshot_from<'a>(alloc: Global, said: SnapshotTexts<'a>) -> Result<Option<Co
     })))
 }
 
+// The command of these texts, where the schema is one of packets.
+fn dump_from<'a>(said: &DumpTexts<'a>) -> Option<Command<'a>>
+    ensures call { option_map call_by result ≡ call_in (dump_said (dump_says_of said.now)) }
+    ensures within { IfSome result IsInRange }
+{
+    let capture = said.capture;
+    let schema = schema_of(said.schema)?;
+    Some(Command::Dump(DumpCommand {
+        capture,
+        schema,
+        truncated: is_given(said.truncated),
+    }))
+}
+
+// The sizes of a window, where they hold no more records together than a log may.
+fn bounded_window(sizes: WindowSizes) -> Option<WindowSizes>
+    requires capacity { (1 ≤ sizes.capacity) × (sizes.capacity ≤ 65536) }
+    requires segments { (1 ≤ sizes.segments) × (sizes.segments ≤ 256) }
+    requires nodes { sizes.nodes ≤ 65536 }
+    ensures sizes { result ≡ bounded_window sizes }
+    ensures within { IfSome result AreWindowSizes }
+{
+    if sizes.capacity * sizes.segments > MOST_RECORDS {
+        return None;
+    }
+    Some(sizes)
+}
+
+// The sizes of a window that the texts write out, where each is in its range.
+fn window_of(alloc: Global, texts: &WatchTexts) -> Result<Option<WindowSizes>, Memory>
+    ensures sizes { IfOk result (λ found. found ≡ window_in texts.now.capacity.now texts.now.segments.now texts.now.nodes.now) }
+    ensures within { IfOk result (λ found. IfSome found AreWindowSizes) }
+{
+    let Some(capacity) = number_between(alloc, texts.capacity, 1, 65536)? else {
+        return Ok(None);
+    };
+    let Some(segments) = number_between(alloc, texts.segments, 1, 256)? else {
+        return Ok(None);
+    };
+    let Some(nodes) = number_between(alloc, texts.nodes, 0, 65536)? else {
+        return Ok(None);
+    };
+    Ok(bounded_window(WindowSizes {
+        capacity: capacity as u32,
+        segments: segments as u32,
+        nodes: nodes as u32,
+    }))
+}
+
+// The command of these texts, where each number is in its range.
+fn watch_from<'a>(alloc: Global, texts: &WatchTexts<'a>) -> Result<Option<Command<'a>>, Memory>
+    ensures call { IfOk result (λ found. option_map call_by found ≡ call_in (watch_said (watch_says_of texts.now))) }
+    ensures within { IfOk result (λ found. IfSome found IsInRange) }
+{
+    let Some(sizes) = window_of(alloc, texts)? else {
+        return Ok(None);
+    };
+    let Some(every) = number_between(alloc, texts.every, 0, u64::from(u32::MAX))? else {
+        return Ok(None);
+    };
+    Ok(Some(Command::Watch(WatchCommand {
+        setup: texts.setup,
+        capture: texts.capture,
+        sizes,
+        every: every as u32,
+        truncated: is_given(texts.truncated),
+    })))
+}
+
 /// The command that the words are, or nothing where they are none. Each of its numbers is in its range.
 #[tactic(auto, unfolding(crate::specs::Call::call_of))]
 pub fn command_of<'a>(alloc: Global, words: &'a [&'a str]) -> Result<Option<Command<'a>>, Memory>
@@ -258,10 +363,8 @@ pub fn command_of<'a>(alloc: Global, words: &'a [&'a str]) -> Result<Option<Comm
     match said {
         Said::Run(texts) => run_from(alloc, &texts),
         Said::Synth(texts) => synth_from(alloc, &texts),
-        Said::Dump(texts) => Ok(Some(Command::Dump(DumpCommand {
-            capture: texts.capture,
-            truncated: is_given(texts.truncated),
-        }))),
+        Said::Dump(texts) => Ok(dump_from(&texts)),
         Said::Snapshot(texts) => snapshot_from(alloc, texts),
+        Said::Watch(texts) => watch_from(alloc, &texts),
     }
 }

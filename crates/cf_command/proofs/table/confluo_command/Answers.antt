@@ -6,7 +6,8 @@ use Rattle.cf_command.proofs.table.confluo_command.Goals as goal
 
 pub returns : goal.returns
 unfolding confluo_app
-returns c = IfOk-weaker c.under-4.result _ _ (λ m e. e
+returns c = IfOk-weaker c.under-5.result _ _ (λ m e. e
+    ∙ ap₂ with_subcommand (c.in_ok-command-4.ensures
     ∙ ap₂ with_subcommand (c.in_ok-command-3.ensures
     ∙ ap₂ with_subcommand (c.in_ok-command-2.ensures
     ∙ ap₂ with_subcommand (c.in_ok-command.ensures
@@ -14,4 +15,5 @@ returns c = IfOk-weaker c.under-4.result _ _ (λ m e. e
     (ap (λ (a : App). a.top) c.in_ok-run_command.ensures.rules))
     (ap (λ (a : App). a.top) c.in_ok-synth_command.ensures.rules))
     (ap (λ (a : App). a.top) c.in_ok-dump_command.ensures.rules))
-    (ap (λ (a : App). a.top) c.in_ok-snapshot_command.ensures.rules)) c.under-4.ensures
+    (ap (λ (a : App). a.top) c.in_ok-snapshot_command.ensures.rules))
+    (ap (λ (a : App). a.top) c.in_ok-watch_command.ensures.rules)) c.under-5.ensures

@@ -5,7 +5,8 @@ use Rattle.cf_command.specs.Table.{truncatable_app}
 use Rattle.cf_command.proofs.table.dump_command.Goals as goal
 
 pub returns-clause-rules : goal.returns-clause-rules
-returns-clause-rules c = IfOk-weaker c.and.result _ _ (λ m e. e
-    ∙ ap₂ with_rule (c.in_ok-command.ensures.rules
-    ∙ ap truncatable_app c.new.ensures.app)
-    c.own_word.ensures.rule) c.and.ensures.rules
+returns-clause-rules c = IfOk-weaker c.and-2.result _ _ (λ m e. e
+    ∙ ap₂ with_rule (c.in_ok-command-2.ensures.rules
+    ∙ ap truncatable_app (c.in_ok-command.ensures.rules
+    ∙ ap₂ with_rule c.new-command.ensures.app c.optional_option.ensures.rule))
+    c.own_word.ensures.rule) c.and-2.ensures.rules
