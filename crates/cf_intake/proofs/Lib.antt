@@ -9,3 +9,5 @@ pub mod PacketSchema
 pub mod OneCase
 pub mod MoreRows
 pub mod Several
+pub mod SingleReads
+pub mod Breaking

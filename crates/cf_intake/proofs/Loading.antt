@@ -2,7 +2,10 @@
 use Rattle.std.proofs.Common.{◌≡◌, ◌⊎◌, ℕ, ◌+◌, ◌<◌, ◌^◌, Bool, true, false, List, [], ◌++◌, length, Option, Some, None, Result, Ok, Err, refl, ap, sym, ◌∙◌, inl, inr, MatchResult, subst, arith, append-nil, length-append, Vec}
 use Rattle.std.specs.declared.alloc.Global.{Global}
 use Rattle.cf_row.specs.Row.{RowValue}
-use Rattle.cf_row.specs.Schema.{packet_attrs}
+use Rattle.cf_packet6.specs.declared.PacketSchema.{PacketSchema}
+use Rattle.cf_packet6.specs.Schema6.{attrs_by}
+use Rattle.cf_setup.specs.declared.source.Source.{Source}
+use Rattle.cf_setup.specs.declared.source.Source.TheVariants.{Packets, Records}
 use Rattle.cf_row.specs.declared.schema.Attr.{Attr}
 use Rattle.cf_outside.specs.Files.{File, Opens}
 use Rattle.cf_records.specs.Records.{HasRecordsFault, IsRecordFile}
@@ -87,51 +90,53 @@ lines_longer attrs bytes rest at code whole has = record {
   code_is = has.code_is;
 }
 
-captures_end : (packet truncated : Bool) (attrs : List Attr) (bytes : List ℕ) (rows : List RowValue) (cut : Option ℕ)
-    → AreRowsTo packet truncated attrs bytes rows cut → length bytes < limit_by packet
-captures_end true truncated attrs bytes rows None are = packets_end bytes rows are
-captures_end false truncated attrs bytes rows None are = are.small
-captures_end packet truncated attrs bytes rows (Some k) is = truncated_end packet truncated bytes rows k is
+captures_end : (source : Source) (truncated : Bool) (attrs : List Attr) (bytes : List ℕ) (rows : List RowValue) (cut : Option ℕ)
+    → AreRowsTo source truncated attrs bytes rows cut → length bytes < limit_by source
+captures_end (Packets schema) truncated attrs bytes rows None are = packets_end schema bytes rows are
+captures_end Records truncated attrs bytes rows None are = are.small
+captures_end source truncated attrs bytes rows (Some k) is = truncated_end source truncated bytes rows k is
 
-untruncated_longer : (packet truncated : Bool) (bytes rest : List ℕ) → (rest ≡ []) ⊎ (length bytes ≡ limit_by packet)
-    → ((rows : List RowValue) (k : ℕ) → IsTruncatedAt packet truncated bytes rows k → ⊥) → (rows : List RowValue) (k : ℕ)
-    → IsTruncatedAt packet truncated (bytes ++ rest) rows k → ⊥
-untruncated_longer packet truncated bytes rest (inl end) never rows k is =
-    never rows k (subst (λ (xs : List ℕ). IsTruncatedAt packet truncated xs rows k) (ap (λ xs. bytes ++ xs) end ∙ append-nil bytes) is)
-untruncated_longer packet truncated bytes rest (inr full) never rows k is =
-    let small : length (bytes ++ rest) < limit_by packet = truncated_end packet truncated (bytes ++ rest) rows k is in
+untruncated_longer : (source : Source) (truncated : Bool) (bytes rest : List ℕ) → (rest ≡ []) ⊎ (length bytes ≡ limit_by source)
+    → ((rows : List RowValue) (k : ℕ) → IsTruncatedAt source truncated bytes rows k → ⊥) → (rows : List RowValue) (k : ℕ)
+    → IsTruncatedAt source truncated (bytes ++ rest) rows k → ⊥
+untruncated_longer source truncated bytes rest (inl end) never rows k is =
+    never rows k (subst (λ (xs : List ℕ). IsTruncatedAt source truncated xs rows k) (ap (λ xs. bytes ++ xs) end ∙ append-nil bytes) is)
+untruncated_longer source truncated bytes rest (inr full) never rows k is =
+    let small : length (bytes ++ rest) < limit_by source = truncated_end source truncated (bytes ++ rest) rows k is in
     let sum : length (bytes ++ rest) ≡ length bytes + length rest = length-append bytes rest in
     omega (arith, small, full, sum)
 
-faults_longer : (packet : Bool) (attrs : List Attr) (bytes rest : List ℕ) (at code : ℕ) → (rest ≡ []) ⊎ (length bytes ≡ limit_by packet)
-    → HasFaultBy packet attrs bytes at code → HasFaultBy packet attrs (bytes ++ rest) at code
-faults_longer true attrs = packets_longer
-faults_longer false attrs = lines_longer attrs
+faults_longer : (source : Source) (attrs : List Attr) (bytes rest : List ℕ) (at code : ℕ) → (rest ≡ []) ⊎ (length bytes ≡ limit_by source)
+    → HasFaultBy source attrs bytes at code → HasFaultBy source attrs (bytes ++ rest) at code
+faults_longer (Packets schema) attrs = packets_longer schema
+faults_longer Records attrs = lines_longer attrs
 
-captures_longer : (packet truncated : Bool) (attrs : List Attr) → Longer (captures packet truncated attrs)
-captures_longer packet truncated attrs bytes rest at code whole has =
-    (faults_longer packet attrs bytes rest at code whole has.0, untruncated_longer packet truncated bytes rest whole has.1)
+captures_longer : (source : Source) (truncated : Bool) (attrs : List Attr) → Longer (captures source truncated attrs)
+captures_longer source truncated attrs bytes rest at code whole has =
+    (faults_longer source attrs bytes rest at code whole has.0, untruncated_longer source truncated bytes rest whole has.1)
 
 -- the rows of a capture that was read
-pub rows_said : (packet truncated : Bool) (attrs : List Attr) (told : Option (List File)) (name bytes : List ℕ) (now : Option (List ℕ)) (what : CaptureValue)
-    → IsFileRead told name (limit_by packet) now bytes → AreRowsTo packet truncated attrs bytes what.rows what.cut
-    → IsReadAs (captures packet truncated attrs) told name now what
-rows_said packet truncated attrs told name bytes now what read are =
-    read_as (captures packet truncated attrs) (λ xs this says. captures_end packet truncated attrs xs this.rows this.cut says) told name bytes now what read are
+pub rows_said : (source : Source) (truncated : Bool) (attrs : List Attr) (told : Option (List File)) (name bytes : List ℕ) (now : Option (List ℕ))
+    (what : CaptureValue)
+    → IsFileRead told name (limit_by source) now bytes → AreRowsTo source truncated attrs bytes what.rows what.cut
+    → IsReadAs (captures source truncated attrs) told name now what
+rows_said source truncated attrs told name bytes now what read are =
+    read_as (captures source truncated attrs) (λ xs this says. captures_end source truncated attrs xs this.rows this.cut says) told name bytes now what read are
 
 -- why it has none
-pub rows_unsaid : (packet truncated : Bool) (attrs : List Attr) (told : Option (List File)) (name bytes : List ℕ) (before now : Option (List ℕ)) (halt : Halt)
-    → IsFileRead told name (limit_by packet) now bytes → IsBad (HasFaultTo packet truncated attrs bytes) halt
-    → Halts (captures packet truncated attrs) told name before now halt
-rows_unsaid packet truncated attrs told name bytes before now (Refused why) read bad =
-    subst (λ (w : Refusal). IsFileRefused (captures packet truncated attrs) told name before now w) (sym bad.2)
-    (read_broken (captures packet truncated attrs) (captures_longer packet truncated attrs) told name bytes before now bad.0 bad.1 read bad.3)
-rows_unsaid packet truncated attrs told name bytes before now (Stopped stop) read bad = stopped_read told name (limit_by packet) before now bytes read
+pub rows_unsaid : (source : Source) (truncated : Bool) (attrs : List Attr) (told : Option (List File)) (name bytes : List ℕ) (before now : Option (List ℕ))
+    (halt : Halt)
+    → IsFileRead told name (limit_by source) now bytes → IsBad (HasFaultTo source truncated attrs bytes) halt
+    → Halts (captures source truncated attrs) told name before now halt
+rows_unsaid source truncated attrs told name bytes before now (Refused why) read bad =
+    subst (λ (w : Refusal). IsFileRefused (captures source truncated attrs) told name before now w) (sym bad.2)
+    (read_broken (captures source truncated attrs) (captures_longer source truncated attrs) told name bytes before now bad.0 bad.1 read bad.3)
+rows_unsaid source truncated attrs told name bytes before now (Stopped stop) read bad = stopped_read told name (limit_by source) before now bytes read
 
-bad_lines : (attrs : List Attr) (bytes : List ℕ) (halt : Halt) → IsBad (HasLineFault attrs bytes) halt → IsBad (HasFaultTo false false attrs bytes) halt
+bad_lines : (attrs : List Attr) (bytes : List ℕ) (halt : Halt) → IsBad (HasLineFault attrs bytes) halt → IsBad (HasFaultTo Records false attrs bytes) halt
 bad_lines attrs bytes (Refused why) bad = (bad.0, bad.1, bad.2, (bad.3, λ rows k is. is))
 bad_lines attrs bytes (Stopped stop) bad = stopped_bad stop bad where
-  stopped_bad : (stop : Stop) → IsBad (HasLineFault attrs bytes) (Stopped stop) → IsBad (HasFaultTo false false attrs bytes) (Stopped stop)
+  stopped_bad : (stop : Stop) → IsBad (HasLineFault attrs bytes) (Stopped stop) → IsBad (HasFaultTo Records false attrs bytes) (Stopped stop)
   stopped_bad stops.ReadFault bad = bad
   stopped_bad stops.Memory bad = bad
 
@@ -139,41 +144,45 @@ bad_lines attrs bytes (Stopped stop) bad = stopped_bad stop bad where
 pub lines_read : (attrs : List Attr) (told : Option (List File)) (name bytes : List ℕ) (before now : Option (List ℕ))
     (result : Result (Vec RowValue Global) Halt) → IsFileRead told name (2 ^ 24) now bytes
     → MatchResult result (λ rows. IsRecordFile attrs bytes rows.items) (IsBad (HasLineFault attrs bytes))
-    → MatchResult result (λ rows. IsReadAs (captures false false attrs) told name now (record { rows = rows.items; cut = None }))
-    (Halts (captures false false attrs) told name before now)
+    → MatchResult result (λ rows. IsReadAs (captures Records false attrs) told name now (record { rows = rows.items; cut = None }))
+    (Halts (captures Records false attrs) told name before now)
 lines_read attrs told name bytes before now (Ok rows) read says =
-    rows_said false false attrs told name bytes now (record { rows = rows.items; cut = None }) read says
+    rows_said Records false attrs told name bytes now (record { rows = rows.items; cut = None }) read says
 lines_read attrs told name bytes before now (Err halt) read bad =
-    rows_unsaid false false attrs told name bytes before now halt read (bad_lines attrs bytes halt bad)
+    rows_unsaid Records false attrs told name bytes before now halt read (bad_lines attrs bytes halt bad)
 
 -- of the packets of an opened file
-pub packets_read : (truncated : Bool) (Took : List RowValue → Type 0) (told : Option (List File)) (name : List ℕ) (before mid now : Option (List ℕ))
+pub packets_read : (schema : PacketSchema) (truncated : Bool) (Took : List RowValue → Type 0) (told : Option (List File)) (name : List ℕ)
+    (before mid now : Option (List ℕ))
     (result : Result (Option ℕ) Halt) → Opens told name before mid (Ok tt)
-    → TakesPackets truncated (λ cut what. (what.cut ≡ cut) × Took what.rows) mid now result
-    → ReadsRows true truncated packet_attrs Took told name before now result
-packets_read truncated Took told name before mid now (Ok cut) opened takes = (
+    → TakesPackets schema truncated (λ cut what. (what.cut ≡ cut) × Took what.rows) mid now result
+    → ReadsRows (Packets schema) truncated (attrs_by schema) Took told name before now result
+packets_read schema truncated Took told name before mid now (Ok cut) opened takes = (
   takes.1.rows,
-  subst (λ (c : Option ℕ). IsReadAs (captures true truncated packet_attrs) told name now (record { rows = takes.1.rows; cut = c })) takes.4.0
-      (rows_said true truncated packet_attrs told name takes.0 now takes.1 (file_read told name (2 ^ 32) before mid now takes.0 opened takes.2) takes.3),
+  subst (λ (c : Option ℕ). IsReadAs (captures (Packets schema) truncated (attrs_by schema)) told name now (record { rows = takes.1.rows; cut = c })) takes.4.0
+      (rows_said (Packets schema) truncated (attrs_by schema) told name takes.0 now takes.1
+      (file_read told name (2 ^ 32) before mid now takes.0 opened takes.2) takes.3),
   takes.4.1,
 )
-packets_read truncated Took told name before mid now (Err (Refused why)) opened takes =
-    rows_unsaid true truncated packet_attrs told name takes.0 before now (Refused why)
+packets_read schema truncated Took told name before mid now (Err (Refused why)) opened takes =
+    rows_unsaid (Packets schema) truncated (attrs_by schema) told name takes.0 before now (Refused why)
     (file_read told name (2 ^ 32) before mid now takes.0 opened takes.1) takes.2
-packets_read truncated Took told name before mid now (Err (Stopped stop)) opened takes = file_stopped told name (2 ^ 32) before mid now opened takes
+packets_read schema truncated Took told name before mid now (Err (Stopped stop)) opened takes = file_stopped told name (2 ^ 32) before mid now opened takes
 
 -- all of which are kept
-pub packets_kept : (truncated : Bool) (told : Option (List File)) (name : List ℕ) (before mid now : Option (List ℕ)) (result : Result Captured Halt)
-    → Opens told name before mid (Ok tt) → TakesPackets truncated (λ kept what. captured kept ≡ what) mid now result
-    → MatchResult result (λ kept. IsReadAs (captures true truncated packet_attrs) told name now (captured kept))
-    (Halts (captures true truncated packet_attrs) told name before now)
-packets_kept truncated told name before mid now (Ok kept) opened takes =
-    subst (λ (what : CaptureValue). IsReadAs (captures true truncated packet_attrs) told name now what) (sym takes.4)
-    (rows_said true truncated packet_attrs told name takes.0 now takes.1 (file_read told name (2 ^ 32) before mid now takes.0 opened takes.2) takes.3)
-packets_kept truncated told name before mid now (Err (Refused why)) opened takes =
-    rows_unsaid true truncated packet_attrs told name takes.0 before now (Refused why)
+pub packets_kept : (schema : PacketSchema) (truncated : Bool) (told : Option (List File)) (name : List ℕ) (before mid now : Option (List ℕ))
+    (result : Result Captured Halt)
+    → Opens told name before mid (Ok tt) → TakesPackets schema truncated (λ kept what. captured kept ≡ what) mid now result
+    → MatchResult result (λ kept. IsReadAs (captures (Packets schema) truncated (attrs_by schema)) told name now (captured kept))
+    (Halts (captures (Packets schema) truncated (attrs_by schema)) told name before now)
+packets_kept schema truncated told name before mid now (Ok kept) opened takes =
+    subst (λ (what : CaptureValue). IsReadAs (captures (Packets schema) truncated (attrs_by schema)) told name now what) (sym takes.4)
+    (rows_said (Packets schema) truncated (attrs_by schema) told name takes.0 now takes.1
+    (file_read told name (2 ^ 32) before mid now takes.0 opened takes.2) takes.3)
+packets_kept schema truncated told name before mid now (Err (Refused why)) opened takes =
+    rows_unsaid (Packets schema) truncated (attrs_by schema) told name takes.0 before now (Refused why)
     (file_read told name (2 ^ 32) before mid now takes.0 opened takes.1) takes.2
-packets_kept truncated told name before mid now (Err (Stopped stop)) opened takes = file_stopped told name (2 ^ 32) before mid now opened takes
+packets_kept schema truncated told name before mid now (Err (Stopped stop)) opened takes = file_stopped told name (2 ^ 32) before mid now opened takes
 
 -- a fault of the bytes refuses them, and want of memory is none
 line_faulty : (attrs : List Attr) (bytes : List ℕ) (fault : RecordFault) (halt : Halt) → (fault ≡ records.Memory → ⊥)

@@ -3,11 +3,10 @@ use Rattle.std.proofs.Common.{◌≡◌, ℕ, zero, suc, ◌<◌, ◌+◌, List,
 use Rattle.std.proofs.lemmas.List.{map-append, get_or-append-add}
 use Rattle.std.proofs.lemmas.List.Elements.{All-append}
 use Rattle.cf_row.specs.Row.{RowValue, Fits}
-use Rattle.cf_row.specs.Schema.{packet_attrs}
+use Rattle.cf_packet6.specs.declared.PacketSchema.{PacketSchema}
 use Rattle.cf_row.specs.declared.schema.Attr.{Attr}
 use Rattle.cf_pcap.specs.Capture.{FrameValue}
-use Rattle.cf_headers.specs.Packet.{packet_row_of}
-use Rattle.cf_intake.specs.Rows.{packet_rows}
+use Rattle.cf_intake.specs.Rows.{packet_rows, row_by}
 
 take_more : {A : Type 0} (xs : List A) (i : ℕ) (x : A) → i < length xs → x ≡ get_or xs i x → take (i + 1) xs ≡ take i xs ++ (x ∷ [])
 take_more {A} [] i x lt is = absurd (omega (arith, lt))
@@ -22,10 +21,10 @@ more {A} {B} f xs i x y ys zs lt is row before now =
     now ∙ ap₂ (λ (a b : List B). a ++ b) before (ap (λ (z : B). z ∷ []) row)
     ∙ sym (map-append f (take i xs) (x ∷ [])) ∙ ap (λ (q : List A). map f q) (sym (take_more xs i x lt is))
 
-pub more_rows : (frames : List FrameValue) (i : ℕ) (frame : FrameValue) (row : RowValue) (rows now : List RowValue) → i < length frames
-    → frame ≡ get_or frames i frame → row ≡ packet_row_of frame → rows ≡ packet_rows (take i frames) → now ≡ rows ++ (row ∷ [])
-    → now ≡ packet_rows (take (i + 1) frames)
-more_rows frames i frame row rows now lt is row_is before grown = more packet_row_of frames i frame row rows now lt is row_is before grown
+pub more_rows : (schema : PacketSchema) (frames : List FrameValue) (i : ℕ) (frame : FrameValue) (row : RowValue) (rows now : List RowValue) → i < length frames
+    → frame ≡ get_or frames i frame → row ≡ row_by schema frame → rows ≡ packet_rows schema (take i frames) → now ≡ rows ++ (row ∷ [])
+    → now ≡ packet_rows schema (take (i + 1) frames)
+more_rows schema frames i frame row rows now lt is row_is before grown = more (row_by schema) frames i frame row rows now lt is row_is before grown
 
 one_fits : (attrs : List Attr) (row : RowValue) → Fits attrs row → All (Fits attrs) (row ∷ [])
 one_fits attrs row fits zero other lt = fits
@@ -35,9 +34,9 @@ one_fits attrs row fits (suc k) other lt = absurd (omega (arith, lt))
 pub fits_more : (attrs : List Attr) (rows : List RowValue) (row : RowValue) → All (Fits attrs) rows → Fits attrs row → All (Fits attrs) (rows ++ row ∷ [])
 fits_more attrs rows row fit fits = All-append (Fits attrs) rows (row ∷ []) fit (one_fits attrs row fits)
 
-pub all_fit : (rows now : List RowValue) (row : RowValue) → All (Fits packet_attrs) rows → Fits packet_attrs row → now ≡ rows ++ (row ∷ [])
-    → All (Fits packet_attrs) now
-all_fit rows now row fit fits grown = subst (λ (rs : List RowValue). All (Fits packet_attrs) rs) (sym grown) (fits_more packet_attrs rows row fit fits)
+pub all_fit : (attrs : List Attr) (rows now : List RowValue) (row : RowValue) → All (Fits attrs) rows → Fits attrs row → now ≡ rows ++ (row ∷ [])
+    → All (Fits attrs) now
+all_fit attrs rows now row fit fits grown = subst (λ (rs : List RowValue). All (Fits attrs) rs) (sym grown) (fits_more attrs rows row fit fits)
 
 -- one of them fits
 pub fits_within : (attrs : List Attr) (rows before after : List RowValue) (row : RowValue) → All (Fits attrs) rows → rows ≡ before ++ row ∷ after

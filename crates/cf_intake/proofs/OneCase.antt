@@ -7,13 +7,15 @@ use Rattle.cf_records.specs.declared.fault.RecordFault.{RecordFault}
 use Rattle.cf_records.proofs.OneOutcome.{one_records}
 use Rattle.cf_records.proofs.SomeOutcome.{some_records}
 use Rattle.cf_intake.specs.Faults.{HasFaultTo, line_code_of, record_of_lines}
+use Rattle.cf_setup.specs.declared.source.Source.{Source}
+use Rattle.cf_setup.specs.declared.source.Source.TheVariants.{Packets, Records}
 use Rattle.cf_intake.specs.Laws.{OneCase}
 use Rattle.cf_intake.specs.Rows.{CaptureValue, AreRowsTo}
 use Rattle.cf_intake.proofs.Capturing.{one_packet_case}
 
 some_of : (attrs : List Attr) (bytes : List ℕ) (answer : Result (List RowValue) RecordFault) → RecordsText attrs bytes answer
-    → ((what : CaptureValue) × AreRowsTo false false attrs bytes what.rows what.cut)
-    ⊎ ((record_at : ℕ) × (code : ℕ) × HasFaultTo false false attrs bytes record_at code)
+    → ((what : CaptureValue) × AreRowsTo Records false attrs bytes what.rows what.cut)
+    ⊎ ((record_at : ℕ) × (code : ℕ) × HasFaultTo Records false attrs bytes record_at code)
 some_of attrs bytes (Ok rows) is = inl (record { rows = rows; cut = None }, is)
 some_of attrs bytes (Err fault) is =
     inr (record_of_lines fault, line_code_of fault, (record { fault = fault; fault_is = is; record_is = refl; code_is = refl }, λ rows k none. none))
@@ -27,19 +29,19 @@ same_fault a b e = cc e
 not_both : (rows : List RowValue) (fault : RecordFault) → ◌≡◌ {A = Result (List RowValue) RecordFault} (Ok rows) (Err fault) → ⊥
 not_both rows fault e = absurd (cc e)
 
-lines_same : (attrs : List Attr) (bytes : List ℕ) (a b : List RowValue) (cut other : Option ℕ) → AreRowsTo false false attrs bytes a cut
-    → AreRowsTo false false attrs bytes b other → ◌≡◌ {A = CaptureValue} (record { rows = a; cut = cut }) (record { rows = b; cut = other })
+lines_same : (attrs : List Attr) (bytes : List ℕ) (a b : List RowValue) (cut other : Option ℕ) → AreRowsTo Records false attrs bytes a cut
+    → AreRowsTo Records false attrs bytes b other → ◌≡◌ {A = CaptureValue} (record { rows = a; cut = cut }) (record { rows = b; cut = other })
 lines_same attrs bytes a b None None p q =
     ap (λ (rows : List RowValue). record { rows = rows; cut = None }) (same_rows a b (one_records attrs bytes (Ok a) (Ok b) p q))
 lines_same attrs bytes a b None (Some j) p q = absurd q
 lines_same attrs bytes a b (Some k) other p q = absurd p
 
-lines_either : (attrs : List Attr) (bytes : List ℕ) (rows : List RowValue) (cut : Option ℕ) (at code : ℕ) → AreRowsTo false false attrs bytes rows cut
-    → HasFaultTo false false attrs bytes at code → ⊥
+lines_either : (attrs : List Attr) (bytes : List ℕ) (rows : List RowValue) (cut : Option ℕ) (at code : ℕ) → AreRowsTo Records false attrs bytes rows cut
+    → HasFaultTo Records false attrs bytes at code → ⊥
 lines_either attrs bytes rows None at code are has = not_both rows has.0.fault (one_records attrs bytes (Ok rows) (Err has.0.fault) are has.0.fault_is)
 lines_either attrs bytes rows (Some k) at code are has = are
 
-one_record_case : (attrs : List Attr) (bytes : List ℕ) → OneCase false false attrs bytes
+one_record_case : (attrs : List Attr) (bytes : List ℕ) → OneCase Records false attrs bytes
 one_record_case attrs bytes = record {
   some = (let s = some_records attrs bytes in some_of attrs bytes s.0 s.1);
   either = λ what at code are has. lines_either attrs bytes what.rows what.cut at code are has;
@@ -49,9 +51,9 @@ one_record_case attrs bytes = record {
       (x.0.record_is ∙ (ap record_of_lines e ∙ sym y.0.record_is), x.0.code_is ∙ (ap line_code_of e ∙ sym y.0.code_is)));
 }
 
-pub one_case : (packet truncated : Bool) (attrs : List Attr) (bytes : List ℕ) → OneCase packet truncated attrs bytes
-one_case true truncated attrs bytes = one_packet_case truncated attrs bytes
-one_case false truncated attrs bytes = record {
+pub one_case : (source : Source) (truncated : Bool) (attrs : List Attr) (bytes : List ℕ) → OneCase source truncated attrs bytes
+one_case (Packets schema) truncated attrs bytes = one_packet_case schema truncated attrs bytes
+one_case Records truncated attrs bytes = record {
   some = (one_record_case attrs bytes).some;
   either = (one_record_case attrs bytes).either;
   one = (one_record_case attrs bytes).one;

@@ -1,8 +1,10 @@
--- A setup over packets has their schema.
+-- A setup over packets has the attributes of its schema.
 use Rattle.std.proofs.Common.{◌≡◌, ℕ, ◌+◌, true, List, [], ◌∷◌, Some, Result, Ok, Err, refl, sym, ap, ◌∙◌, subst}
 use Rattle.cf_row.specs.declared.schema.Attr.{Attr}
-use Rattle.std.proofs.lemmas.Bool.{false≢true}
-use Rattle.cf_row.specs.Schema.{packet_attrs}
+use Rattle.cf_packet6.specs.declared.PacketSchema.{PacketSchema}
+use Rattle.cf_packet6.specs.Schema6.{attrs_by}
+use Rattle.cf_setup.specs.declared.source.Source.{Source}
+use Rattle.cf_setup.specs.declared.source.Source.TheVariants.{Packets, Records}
 use Rattle.cf_setup.specs.Drafts.{DraftValue, nothing_stated}
 use Rattle.cf_setup.specs.Forms.{Form}
 use Rattle.cf_setup.specs.Forms.Form.{packet_schema, record_schema, bucket_width, new_index, new_filter, new_aggregate, new_tally, new_trigger, ask_list, ask_find, ask_buckets, ask_fired, ask_top, ask_total, ask_live}
@@ -12,13 +14,20 @@ use Rattle.cf_setup.specs.SetupText.{SetupText, LineSaid, AllSaid}
 use Rattle.cf_setup.specs.SetupText.SetupText.{whole, faulty, empty, large}
 use Rattle.cf_setup.specs.SetupText.LineSaid.{silent, spoken}
 
--- where packets are stated, their schema is
+-- where packets are stated, the attributes of their schema are
 abbrev KeepsPackets : DraftValue → Type 0
-KeepsPackets stated = stated.packet ≡ true → stated.schema ≡ Some packet_attrs
+KeepsPackets stated = (which : PacketSchema) → stated.source ≡ Packets which → stated.schema ≡ Some (attrs_by which)
+
+packets_same : (a b : PacketSchema) → Packets a ≡ Packets b → a ≡ b
+packets_same a b h = cc
+
+records_none : (which : PacketSchema) → Records ≡ Packets which → ⊥
+records_none which h = cc
 
 adds_keep : (line : ℕ) (before new : DraftValue) (form : Form) → Adds line before form new → KeepsPackets before → KeepsPackets new
-adds_keep line before new packet_schema adds kept = subst KeepsPackets (sym adds) (λ h. refl)
-adds_keep line before new (record_schema list) adds kept = subst KeepsPackets (sym adds.2) (λ h. absurd (false≢true h))
+adds_keep line before new (packet_schema which) adds kept =
+    subst KeepsPackets (sym adds) (λ other h. ap (λ (s : PacketSchema). Some (attrs_by s)) (packets_same which other h))
+adds_keep line before new (record_schema list) adds kept = subst KeepsPackets (sym adds.2) (λ which h. absurd (records_none which h))
 adds_keep line before new (bucket_width number) adds kept = subst KeepsPackets (sym adds.4) kept
 adds_keep line before new (new_index name attr) adds kept = subst KeepsPackets (sym adds.2) kept
 adds_keep line before new (new_filter name expr) adds kept = subst KeepsPackets (sym adds.2) kept
@@ -53,15 +62,17 @@ setup_same a b h = cc
 ok_no_fault : (setup : SetupValue) (fault : ℕ × ℕ) → ◌≡◌ {A = Result SetupValue (ℕ × ℕ)} (Ok setup) (Err fault) → ⊥
 ok_no_fault setup fault h = cc
 
-packets_of : (setup : SetupValue) (stated : DraftValue) (attrs : List Attr) → setup ≡ settled stated attrs → KeepsPackets stated → stated.schema ≡ Some attrs
-    → setup.packet ≡ true → setup.schema ≡ packet_attrs
-packets_of setup stated attrs same kept schema packet =
-    ap (λ (s : SetupValue). s.schema) same ∙ attrs_same attrs packet_attrs (sym schema ∙ kept (sym (ap (λ (s : SetupValue). s.packet) same) ∙ packet))
+packets_of : (setup : SetupValue) (stated : DraftValue) (attrs : List Attr) (which : PacketSchema) → setup ≡ settled stated attrs → KeepsPackets stated
+    → stated.schema ≡ Some attrs → setup.source ≡ Packets which → setup.schema ≡ attrs_by which
+packets_of setup stated attrs which same kept schema packets =
+    ap (λ (s : SetupValue). s.schema) same
+    ∙ attrs_same attrs (attrs_by which) (sym schema ∙ kept which (sym (ap (λ (s : SetupValue). s.source) same) ∙ packets))
 
-pub packet_setup_schema : (bytes : List ℕ) (setup : SetupValue) → SetupText bytes (Ok setup) → setup.packet ≡ true → setup.schema ≡ packet_attrs
-packet_setup_schema bytes setup (whole stated attrs few said schema is) packet =
-    packets_of setup stated attrs (setup_same setup (settled stated attrs) is)
-    (all_keep 1 nothing_stated stated _ said (λ h. absurd (false≢true h))) schema packet
-packet_setup_schema bytes setup (faulty front rest line before code few lines said bad is) packet = absurd (ok_no_fault setup _ is)
-packet_setup_schema bytes setup (empty stated few said schema is) packet = absurd (ok_no_fault setup _ is)
-packet_setup_schema bytes setup (large many is) packet = absurd (ok_no_fault setup _ is)
+pub packet_setup_schema : (bytes : List ℕ) (setup : SetupValue) (which : PacketSchema) → SetupText bytes (Ok setup) → setup.source ≡ Packets which
+    → setup.schema ≡ attrs_by which
+packet_setup_schema bytes setup which (whole stated attrs few said schema is) packets =
+    packets_of setup stated attrs which (setup_same setup (settled stated attrs) is)
+    (all_keep 1 nothing_stated stated _ said (λ other h. absurd (records_none other h))) schema packets
+packet_setup_schema bytes setup which (faulty front rest line before code few lines said bad is) packets = absurd (ok_no_fault setup _ is)
+packet_setup_schema bytes setup which (empty stated few said schema is) packets = absurd (ok_no_fault setup _ is)
+packet_setup_schema bytes setup which (large many is) packets = absurd (ok_no_fault setup _ is)

@@ -1,8 +1,9 @@
 -- The faults of captures, as statuses tell them.
-use Rattle.std.specs.Prelude.{◌≡◌, ℕ, Bool, true, false, List}
+use Rattle.std.specs.Prelude.{◌≡◌, ℕ, Bool, true, false, List, Some}
 use Rattle.cf_pcap.specs.Capture.{HasPcapFault}
-use Rattle.cf_pcap.specs.declared.links.LinkSet.{LinkSet}
-use Rattle.cf_pcap.specs.declared.links.LinkSet.TheVariants.{Basic}
+use Rattle.cf_pcap.specs.declared.scope.Scope.{Scope}
+use Rattle.cf_stream.specs.declared.limit.Length.{Length}
+use Rattle.cf_stream.specs.declared.limit.Length.TheVariants.{Limited}
 use Rattle.cf_pcap.specs.declared.fault.PcapFault.{PcapFault}
 use Rattle.cf_pcap.specs.declared.fault.PcapFault.TheVariants as faults
 use Rattle.cf_pcapng.specs.Rules.{HasFaultOf}
@@ -13,8 +14,11 @@ use Rattle.cf_records.specs.Records.{HasRecordsFault}
 use Rattle.cf_records.specs.declared.fault.RecordFault.{RecordFault}
 use Rattle.cf_records.specs.declared.fault.RecordFault.TheVariants as records
 use Rattle.cf_row.specs.Row.{RowValue}
+use Rattle.cf_packet6.specs.declared.PacketSchema.{PacketSchema}
+use Rattle.cf_setup.specs.declared.source.Source.{Source}
+use Rattle.cf_setup.specs.declared.source.Source.TheVariants.{Packets, Records}
 use Rattle.cf_intake.specs.Formats.{begins_section}
-use Rattle.cf_intake.specs.Rows.{IsTruncatedAt}
+use Rattle.cf_intake.specs.Rows.{ArePacketsTo, IsTruncatedAt, scope_by}
 
 -- the code of a capture's fault, and the record that it names
 abbrev pub code_of : PcapFault → ℕ
@@ -36,9 +40,9 @@ record_of faults.TooManyBytes = 0
 record_of faults.Memory = 0
 
 -- the bytes are no capture in pcap, first at that record, by the rule of that code
-pub record HasRecordFault (links : LinkSet) (bytes : List ℕ) (record_at code : ℕ) : Type 0 where
+pub record HasRecordFault (scope : Scope) (bytes : List ℕ) (record_at code : ℕ) : Type 0 where
   pub fault : PcapFault
-  pub fault_is : HasPcapFault links bytes fault
+  pub fault_is : HasPcapFault scope bytes fault
   pub record_is : record_at ≡ record_of fault
   pub code_is : code ≡ code_of fault
 
@@ -66,19 +70,25 @@ frame_of (ng.NoInterface k) = k
 frame_of ng.Memory = 0
 
 -- the bytes are no capture in pcapng, first after so many frames, by the rule of that code
-pub record HasBlockFault (links : LinkSet) (bytes : List ℕ) (record_at code : ℕ) : Type 0 where
+pub record HasBlockFault (scope : Scope) (bytes : List ℕ) (record_at code : ℕ) : Type 0 where
   pub fault : NgFault
-  pub fault_is : HasFaultOf links bytes fault
+  pub fault_is : HasFaultOf scope bytes fault
   pub record_is : record_at ≡ frame_of fault
   pub code_is : code ≡ block_code_of fault
 
 -- the bytes are outside the format of captures that they begin as, first at that record, by the rule of that code
-abbrev pub HasFaultIn : LinkSet → Bool → List ℕ → ℕ → ℕ → Type 0
-HasFaultIn links true bytes record_at code = HasBlockFault links bytes record_at code
-HasFaultIn links false bytes record_at code = HasRecordFault links bytes record_at code
+abbrev pub HasFaultIn : Scope → Bool → List ℕ → ℕ → ℕ → Type 0
+HasFaultIn scope true bytes record_at code = HasBlockFault scope bytes record_at code
+HasFaultIn scope false bytes record_at code = HasRecordFault scope bytes record_at code
 
-abbrev pub HasPacketFault : List ℕ → ℕ → ℕ → Type 0
-HasPacketFault bytes record_at code = HasFaultIn Basic (begins_section bytes) bytes record_at code
+-- in a capture of that length, by a schema of packets
+abbrev pub HasPacketFault : Length → PacketSchema → List ℕ → ℕ → ℕ → Type 0
+HasPacketFault longest schema bytes record_at code = HasFaultIn (scope_by longest schema) (begins_section bytes) bytes record_at code
+
+-- the same of one that is not truncated where it may be
+abbrev pub HasPacketFaultTo : Length → PacketSchema → (truncated : Bool) → List ℕ → ℕ → ℕ → Type 0
+HasPacketFaultTo longest schema truncated bytes record_at code = HasPacketFault longest schema bytes record_at code
+    × ((rows : List RowValue) (k : ℕ) → ArePacketsTo longest schema truncated bytes rows (Some k) → ⊥)
 
 -- the code of a fault of a file of records, and the record that it names
 abbrev pub line_code_of : RecordFault → ℕ
@@ -104,12 +114,12 @@ pub record HasLineFault (attrs : List Attr) (bytes : List ℕ) (record_at code :
   pub record_is : record_at ≡ record_of_lines fault
   pub code_is : code ≡ line_code_of fault
 
--- by the schema of the setup: of packets, or of other records
-abbrev pub HasFaultBy : Bool → List Attr → List ℕ → ℕ → ℕ → Type 0
-HasFaultBy true attrs bytes record_at code = HasPacketFault bytes record_at code
-HasFaultBy false attrs bytes record_at code = HasLineFault attrs bytes record_at code
+-- by what the setup's rows are read from: packets, or other records
+abbrev pub HasFaultBy : Source → List Attr → List ℕ → ℕ → ℕ → Type 0
+HasFaultBy (Packets schema) attrs bytes record_at code = HasPacketFault Limited schema bytes record_at code
+HasFaultBy Records attrs bytes record_at code = HasLineFault attrs bytes record_at code
 
 -- the same where a capture of packets may be truncated: then its end within a record is no fault
-abbrev pub HasFaultTo : (packet truncated : Bool) → List Attr → List ℕ → ℕ → ℕ → Type 0
-HasFaultTo packet truncated attrs bytes record_at code =
-    HasFaultBy packet attrs bytes record_at code × ((rows : List RowValue) (k : ℕ) → IsTruncatedAt packet truncated bytes rows k → ⊥)
+abbrev pub HasFaultTo : (source : Source) (truncated : Bool) → List Attr → List ℕ → ℕ → ℕ → Type 0
+HasFaultTo source truncated attrs bytes record_at code =
+    HasFaultBy source attrs bytes record_at code × ((rows : List RowValue) (k : ℕ) → IsTruncatedAt source truncated bytes rows k → ⊥)

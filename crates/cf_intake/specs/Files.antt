@@ -2,6 +2,7 @@
 use Rattle.std.specs.Prelude.{◌≡◌, ◌⊎◌, ℕ, ◌≤◌, Bool, List, [], drop, length, Some, None, Ok, Err, Option}
 use Rattle.cf_row.specs.declared.schema.Attr.{Attr}
 use Rattle.cf_outside.specs.Files.{File, file_named}
+use Rattle.cf_setup.specs.declared.source.Source.{Source}
 use Rattle.cf_setup.specs.Setups.{SetupValue}
 use Rattle.cf_setup.specs.SetupText.{SetupText}
 use Rattle.cf_intake.specs.Faults.{HasFaultTo}
@@ -49,11 +50,11 @@ setups = record {
 }
 
 -- captures of packets, which may be truncated or not, or files of records of these attributes: a fault is told with its record and its code
-abbrev pub captures : (packet truncated : Bool) → List Attr → Grammar CaptureValue
-captures packet truncated attrs = record {
-  limit = limit_by packet;
-  Says = λ bytes what. AreRowsTo packet truncated attrs bytes what.rows what.cut;
-  Breaks = HasFaultTo packet truncated attrs;
+abbrev pub captures : (source : Source) (truncated : Bool) → List Attr → Grammar CaptureValue
+captures source truncated attrs = record {
+  limit = limit_by source;
+  Says = λ bytes what. AreRowsTo source truncated attrs bytes what.rows what.cut;
+  Breaks = HasFaultTo source truncated attrs;
   refusal = Capture;
 }
 

@@ -1,18 +1,19 @@
--- Each file has one meaning, by the schema of a setup: as a capture of packets, which may be truncated or not, or as a file of other records.
+-- Each file has one meaning, by what a setup's rows are read from: as a capture of packets, which may be truncated or not, or as a file of other records.
 use Rattle.std.specs.Prelude.{◌≡◌, ◌⊎◌, ℕ, Bool, List}
 use Rattle.cf_row.specs.declared.schema.Attr.{Attr}
+use Rattle.cf_setup.specs.declared.source.Source.{Source}
 use Rattle.cf_intake.specs.Faults.{HasFaultTo}
 use Rattle.cf_intake.specs.Rows.{CaptureValue, AreRowsTo}
 
 -- In the format that the schema asks for, and of the two formats of packets in the one that it begins as, a file has one list
 -- of rows or has a fault, never both, and the fault is at one record by one code alone. Where it may be truncated, it is whole or ends within
 -- one record.
-pub record OneCase (packet truncated : Bool) (attrs : List Attr) (bytes : List ℕ) : Type 0 where
-  pub some : ((what : CaptureValue) × AreRowsTo packet truncated attrs bytes what.rows what.cut)
-      ⊎ ((record_at : ℕ) × (code : ℕ) × HasFaultTo packet truncated attrs bytes record_at code)
-  pub either : (what : CaptureValue) (record_at code : ℕ) → AreRowsTo packet truncated attrs bytes what.rows what.cut
-      → HasFaultTo packet truncated attrs bytes record_at code → ⊥
-  pub one : (a b : CaptureValue) → AreRowsTo packet truncated attrs bytes a.rows a.cut → AreRowsTo packet truncated attrs bytes b.rows b.cut → a ≡ b
-  pub one_fault : (record_at code other other_code : ℕ) → HasFaultTo packet truncated attrs bytes record_at code
-      → HasFaultTo packet truncated attrs bytes other other_code
+pub record OneCase (source : Source) (truncated : Bool) (attrs : List Attr) (bytes : List ℕ) : Type 0 where
+  pub some : ((what : CaptureValue) × AreRowsTo source truncated attrs bytes what.rows what.cut)
+      ⊎ ((record_at : ℕ) × (code : ℕ) × HasFaultTo source truncated attrs bytes record_at code)
+  pub either : (what : CaptureValue) (record_at code : ℕ) → AreRowsTo source truncated attrs bytes what.rows what.cut
+      → HasFaultTo source truncated attrs bytes record_at code → ⊥
+  pub one : (a b : CaptureValue) → AreRowsTo source truncated attrs bytes a.rows a.cut → AreRowsTo source truncated attrs bytes b.rows b.cut → a ≡ b
+  pub one_fault : (record_at code other other_code : ℕ) → HasFaultTo source truncated attrs bytes record_at code
+      → HasFaultTo source truncated attrs bytes other other_code
       → (record_at ≡ other) × (code ≡ other_code)

@@ -9,3 +9,4 @@ pub mod Devices
 pub mod Parts
 pub mod Causes
 pub mod Reading
+pub mod Reads

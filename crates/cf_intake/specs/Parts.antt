@@ -1,8 +1,11 @@
 -- What the parts of reading answer.
-use Rattle.std.specs.Prelude.{◌≡◌, ℕ, Bool, true, false, List, map}
+use Rattle.std.specs.Prelude.{◌≡◌, ℕ, List, map}
 use Rattle.cf_row.specs.Row.{RowValue}
-use Rattle.cf_row.specs.Schema.{packet_attrs}
 use Rattle.cf_row.specs.declared.schema.Attr.{Attr}
+use Rattle.cf_packet6.specs.declared.PacketSchema.{PacketSchema}
+use Rattle.cf_packet6.specs.Schema6.{attrs_by}
+use Rattle.cf_setup.specs.declared.source.Source.{Source}
+use Rattle.cf_setup.specs.declared.source.Source.TheVariants as sources
 use Rattle.cf_setup.specs.Setups.{SetupValue, IsSetup}
 use Rattle.cf_intake.specs.declared.refusal.Halt.{Halt}
 use Rattle.cf_intake.specs.declared.refusal.Halt.TheVariants.{Refused, Stopped}
@@ -15,24 +18,24 @@ use Rattle.cf_intake.specs.declared.rows.Format.{Format}
 use Rattle.cf_intake.specs.declared.rows.Manner.{Manner}
 use Rattle.cf_intake.specs.declared.rows.Format.TheVariants.{Packets, Records}
 
--- a lawful setup; one over packets has their schema
+-- a lawful setup; one over packets has the attributes of its schema
 pub record IsSetupRead (setup : SetupValue) : Type 0 where
   pub lawful : IsSetup setup
-  pub schema : setup.packet ≡ true → setup.schema ≡ packet_attrs
+  pub schema : (which : PacketSchema) → setup.source ≡ sources.Packets which → setup.schema ≡ attrs_by which
 
--- whether a format is that of packets
-abbrev pub is_packets : Format → Bool
-is_packets Packets = true
-is_packets (Records schema) = false
+-- what a format is read from
+abbrev pub source_in : Format → Source
+source_in (Packets which) = sources.Packets which
+source_in (Records schema) = sources.Records
 
 -- the attributes of a format's rows
 abbrev pub attrs_in : Format → List Attr
-attrs_in Packets = packet_attrs
+attrs_in (Packets which) = attrs_by which
 attrs_in (Records schema) = schema.now
 
 -- the grammar of captures that are read so
 abbrev pub captures_by : Manner → Grammar CaptureValue
-captures_by manner = captures (is_packets manner.format) manner.truncated (attrs_in manner.format)
+captures_by manner = captures (source_in manner.format) manner.truncated (attrs_in manner.format)
 
 -- the rows of each host, without where they lie in memory
 abbrev pub rows_each : List Captured → List (List RowValue)

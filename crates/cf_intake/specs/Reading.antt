@@ -5,65 +5,81 @@ use Rattle.cf_outside.specs.Files.{File}
 use Rattle.cf_row.specs.Row.{RowValue}
 use Rattle.cf_row.specs.declared.schema.Attr.{Attr}
 use Rattle.cf_pcap.specs.Capture.{FrameValue}
-use Rattle.cf_pcap.specs.declared.links.LinkSet.{LinkSet}
-use Rattle.cf_pcap.specs.declared.links.LinkSet.TheVariants.{Basic}
+use Rattle.cf_pcap.specs.declared.scope.Scope.{Scope}
+use Rattle.cf_stream.specs.declared.limit.Length.TheVariants.{Limited}
 use Rattle.cf_pcap.specs.Stream as pcap
 use Rattle.cf_pcapng.specs.File.{pcapng}
 use Rattle.cf_pcapng.specs.Reader as ng
+use Rattle.cf_stream.specs.Limits.{number_of}
 use Rattle.cf_stream.specs.Stream as streams
 use Rattle.cf_intake.specs.Devices.{TakesUpTo, TakesAtMost}
-use Rattle.cf_row.specs.Schema.{packet_attrs}
+use Rattle.cf_packet6.specs.declared.PacketSchema.{PacketSchema}
+use Rattle.cf_packet6.specs.Schema6.{attrs_by}
+use Rattle.cf_setup.specs.declared.source.Source.{Source}
+use Rattle.cf_setup.specs.declared.source.Source.TheVariants.{Packets}
 use Rattle.cf_intake.specs.Faults.{HasFaultIn, HasFaultTo}
 use Rattle.cf_intake.specs.Files.{captures, IsReadAs, Halts}
 use Rattle.cf_intake.specs.Formats.{begins_section}
 use Rattle.cf_intake.specs.Parts.{IsBad}
-use Rattle.cf_intake.specs.Rows.{CaptureValue, AreFramesBy, AreFramesBefore, AreRowsTo, packet_rows}
+use Rattle.cf_intake.specs.Rows.{CaptureValue, AreFramesBy, AreFramesBefore, AreRowsTo, packet_rows, scope_by}
 use Rattle.cf_intake.specs.declared.pieces.Pieces.{Pieces}
 use Rattle.cf_intake.specs.declared.reader.Reader.{Reader}
 use Rattle.cf_intake.specs.declared.reader.Reader.TheVariants.{Pcap, PcapNg}
 use Rattle.cf_intake.specs.declared.refusal.Halt.{Halt}
 use Rattle.cf_intake.specs.declared.refusal.Halt.TheVariants.{Refused, Stopped}
+use Rattle.cf_intake.specs.declared.refusal.Refusal.{Refusal}
+use Rattle.cf_intake.specs.declared.refusal.Refusal.TheVariants.{Capture}
 
 -- whether a reader is one of blocks
 abbrev pub reads_blocks : Reader → Bool
 reads_blocks (Pcap reader) = false
 reads_blocks (PcapNg reader) = true
 
--- the links that it reads
-abbrev pub reads_links : Reader → LinkSet
-reads_links (Pcap reader) = reader.links
-reads_links (PcapNg reader) = reader.links
+-- the scope that it reads
+abbrev pub reads_scope : Reader → Scope
+reads_scope (Pcap reader) = reader.scope
+reads_scope (PcapNg reader) = reader.scope
 
 -- the reader's state is that after this stream, of which it has given these frames
 abbrev pub IsReaderAt : Reader → List ℕ → List FrameValue → Type 0
-IsReaderAt (Pcap reader) stream frames = pcap.IsStateOf reader stream × pcap.AreGiven reader.links stream frames
-IsReaderAt (PcapNg reader) stream frames = ng.IsStateOf reader stream × streams.AreGiven (pcapng reader.links) stream frames
+IsReaderAt (Pcap reader) stream frames = pcap.IsStateOf reader stream × pcap.AreGiven reader.scope stream frames
+IsReaderAt (PcapNg reader) stream frames = ng.IsStateOf reader stream × streams.AreGiven (pcapng reader.scope) stream frames
 
 -- a piece brings a reader from the one state to the other, and gives these frames
 abbrev pub Feeds : Reader → Reader → List ℕ → List FrameValue → Type 0
 Feeds old new piece given = (stream : List ℕ) (frames : List FrameValue) → IsReaderAt old stream frames → IsReaderAt new (stream ++ piece) (frames ++ given)
 
 -- where a stream may be truncated: it ends within record or block k, after these frames
-abbrev pub IsCutAt : (truncated : Bool) → LinkSet → Bool → List ℕ → List FrameValue → ℕ → Type 0
-IsCutAt false links blocks stream frames k = ⊥
-IsCutAt true links blocks stream frames k = AreFramesBefore links blocks stream frames × (k ≡ length frames)
+abbrev pub IsCutAt : (truncated : Bool) → Scope → Bool → List ℕ → List FrameValue → ℕ → Type 0
+IsCutAt false scope blocks stream frames k = ⊥
+IsCutAt true scope blocks stream frames k = AreFramesBefore scope blocks stream frames × (k ≡ number_of scope.length (length frames))
 
 -- these are its frames, up to its end or to a record or block within which it ends
-abbrev pub AreFramesTo : (truncated : Bool) → LinkSet → Bool → List ℕ → List FrameValue → Option ℕ → Type 0
-AreFramesTo truncated links blocks stream frames None = AreFramesBy links blocks stream frames
-AreFramesTo truncated links blocks stream frames (Some k) = IsCutAt truncated links blocks stream frames k
+abbrev pub AreFramesTo : (truncated : Bool) → Scope → Bool → List ℕ → List FrameValue → Option ℕ → Type 0
+AreFramesTo truncated scope blocks stream frames None = AreFramesBy scope blocks stream frames
+AreFramesTo truncated scope blocks stream frames (Some k) = IsCutAt truncated scope blocks stream frames k
 
 -- it has a fault, and is not truncated where it may be
-abbrev pub HasFaultUncut : (truncated : Bool) → LinkSet → Bool → List ℕ → ℕ → ℕ → Type 0
-HasFaultUncut truncated links blocks stream at code = HasFaultIn links blocks stream at code
-    × ((frames : List FrameValue) (k : ℕ) → IsCutAt truncated links blocks stream frames k → ⊥)
+abbrev pub HasFaultUncut : (truncated : Bool) → Scope → Bool → List ℕ → ℕ → ℕ → Type 0
+HasFaultUncut truncated scope blocks stream at code = HasFaultIn scope blocks stream at code
+    × ((frames : List FrameValue) (k : ℕ) → IsCutAt truncated scope blocks stream frames k → ⊥)
 
 -- what the reader says at the end of a stream: the frames are those of a capture, or the stream has a fault
 abbrev pub Finishes : (truncated : Bool) → Reader → Result (Option ℕ) Halt → Type 0
 Finishes truncated reader result =
     (stream : List ℕ) (frames : List FrameValue) → IsReaderAt reader stream frames
-    → MatchResult result (AreFramesTo truncated (reads_links reader) (reads_blocks reader) stream frames)
-    (IsBad (HasFaultUncut truncated (reads_links reader) (reads_blocks reader) stream))
+    → MatchResult result (AreFramesTo truncated (reads_scope reader) (reads_blocks reader) stream frames)
+    (IsBad (HasFaultUncut truncated (reads_scope reader) (reads_blocks reader) stream))
+
+-- such a stream has a fault, whatever follows, which is told so
+abbrev pub IsBrokenIn : Scope → Bool → List ℕ → Refusal → Type 0
+IsBrokenIn scope blocks stream why =
+    (at : ℕ) × (code : ℕ) × (why ≡ Capture at code) × ((truncated : Bool) (more : List ℕ) → HasFaultUncut truncated scope blocks (stream ++ more) at code)
+
+-- the same of the stream that a reader is after
+abbrev pub IsBrokenFor : Reader → Refusal → Type 0
+IsBrokenFor reader why =
+    (stream : List ℕ) (frames : List FrameValue) → IsReaderAt reader stream frames → IsBrokenIn (reads_scope reader) (reads_blocks reader) stream why
 
 -- of a reader that is after some stream
 abbrev pub IfReaderAt : Reader → Type 0 → Type 0
@@ -79,9 +95,9 @@ pub record IsReadOn (pieces : Pieces) (before now : Option (List ℕ)) (rows : L
   pub frames : List FrameValue
   pub taken : Consumes before now stream
   pub at : IsReaderAt pieces.reader stream frames
-  pub rows_are : rows ≡ packet_rows frames
+  pub rows_are : rows ≡ packet_rows pieces.schema frames
   pub blocks : reads_blocks pieces.reader ≡ begins_section stream
-  pub links : reads_links pieces.reader ≡ Basic
+  pub scope : reads_scope pieces.reader ≡ scope_by Limited pieces.schema
   pub size : length pieces.buf.items ≡ 65536
   pub long : length stream + 65536 ≡ 65536 * pieces.number + pieces.count
   pub some : 1 ≤ pieces.number
@@ -123,15 +139,16 @@ TakesRows limit Says Breaks Took before now (Err (Refused why)) = (bytes : List 
 TakesRows limit Says Breaks Took before now (Err (Stopped stop)) = TakesAtMost before now limit
 
 -- what handing on the rows of the file of that name answers: it says the rows that were taken, or why it does not
-abbrev pub ReadsRows : (packet truncated : Bool) (attrs : List Attr) (Took : List RowValue → Type 0) (told : Option (List File)) (name : List ℕ)
+abbrev pub ReadsRows : (source : Source) (truncated : Bool) (attrs : List Attr) (Took : List RowValue → Type 0) (told : Option (List File)) (name : List ℕ)
     (before now : Option (List ℕ)) → Result (Option ℕ) Halt → Type 0
-ReadsRows packet truncated attrs Took told name before now result =
+ReadsRows source truncated attrs Took told name before now result =
     MatchResult result
-    (λ cut. (rows : List RowValue) × IsReadAs (captures packet truncated attrs) told name now (record { rows = rows; cut = cut }) × Took rows)
-    (Halts (captures packet truncated attrs) told name before now)
+    (λ cut. (rows : List RowValue) × IsReadAs (captures source truncated attrs) told name now (record { rows = rows; cut = cut }) × Took rows)
+    (Halts (captures source truncated attrs) told name before now)
 
 -- of the packets of an opened capture, which may be truncated or not
-abbrev pub TakesPackets : {A : Type 0} (truncated : Bool) (Took : A → CaptureValue → Type 0) (before now : Option (List ℕ)) → Result A Halt → Type 0
-TakesPackets truncated Took before now result =
-    TakesRows (2 ^ 32) (λ bytes what. AreRowsTo true truncated packet_attrs bytes what.rows what.cut)
-    (HasFaultTo true truncated packet_attrs) Took before now result
+abbrev pub TakesPackets : {A : Type 0} (schema : PacketSchema) (truncated : Bool) (Took : A → CaptureValue → Type 0) (before now : Option (List ℕ))
+    → Result A Halt → Type 0
+TakesPackets schema truncated Took before now result =
+    TakesRows (2 ^ 32) (λ bytes what. AreRowsTo (Packets schema) truncated (attrs_by schema) bytes what.rows what.cut)
+    (HasFaultTo (Packets schema) truncated (attrs_by schema)) Took before now result

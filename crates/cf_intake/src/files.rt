@@ -1,8 +1,10 @@
 // The setup and the rows of the files that the words name.
-ghost use Rattle.std.specs.Prelude.{◌≡◌, Bool, true, false, None, All, Ok, IfOk, MatchResult};
+ghost use Rattle.std.specs.Prelude.{◌≡◌, Bool, false, None, All, Ok, IfOk, MatchResult};
 ghost use Rattle.cf_outside.specs.Files.{Opens};
 ghost use Rattle.cf_row.specs.Row.{Fits};
-ghost use Rattle.cf_row.specs.Schema.{packet_attrs};
+ghost use Rattle.cf_packet6.specs.Schema6.{attrs_by};
+ghost use Rattle.cf_setup.specs.declared.source.Source.TheVariants.{Packets, Records};
+ghost use Rattle.cf_packet6.specs.declared.PacketSchema.{PacketSchema};
 ghost use Rattle.cf_intake.specs.Files.{setups, captures, IsReadAs, Halts};
 ghost use Rattle.cf_intake.specs.Causes.{HasHaltCause};
 ghost use Rattle.cf_intake.specs.Parts.{IsSetupRead, captured, captures_by, attrs_in};
@@ -38,7 +40,7 @@ pub fn read_setup<F: Shelf>(alloc: Global, shelf: &mut F, name: &str) -> Result<
 pub fn open_packets<F: Shelf>(shelf: &mut F, name: &str) -> Result<(), Halt>
     ensures files { F.files shelf.new ≡ F.files shelf.old }
     ensures opened { MatchResult result (λ done. Opens (F.files shelf.old) name.now (F.rest shelf.old) (F.rest shelf.new) (Ok done))
-        (λ halt. (truncated : Bool) → Halts (captures true truncated packet_attrs) (F.files shelf.old) name.now (F.rest shelf.old) (F.rest shelf.new) halt) }
+        (λ halt. (schema : PacketSchema) (truncated : Bool) → Halts (captures (Packets schema) truncated (attrs_by schema)) (F.files shelf.old) name.now (F.rest shelf.old) (F.rest shelf.new) halt) }
     ensures cause { HasHaltCause (F.faults shelf.old) (F.faults shelf.new) result }
 {
     match shelf.open(name) {
@@ -55,8 +57,8 @@ pub fn read_lines<F: Shelf>(
     schema: &Schema,
 ) -> Result<Vec<Row>, Halt>
     ensures files { F.files shelf.new ≡ F.files shelf.old }
-    ensures read { MatchResult result (λ rows. IsReadAs (captures false false schema.now) (F.files shelf.old) name.now (F.rest shelf.new) (record { rows = rows.items; cut = None }))
-        (Halts (captures false false schema.now) (F.files shelf.old) name.now (F.rest shelf.old) (F.rest shelf.new)) }
+    ensures read { MatchResult result (λ rows. IsReadAs (captures Records false schema.now) (F.files shelf.old) name.now (F.rest shelf.new) (record { rows = rows.items; cut = None }))
+        (Halts (captures Records false schema.now) (F.files shelf.old) name.now (F.rest shelf.old) (F.rest shelf.new)) }
     ensures fit { IfOk result (λ rows. All (Fits schema.now) rows.items) }
     ensures cause { HasHaltCause (F.faults shelf.old) (F.faults shelf.new) result }
 {
@@ -78,9 +80,9 @@ pub fn collect_rows<F: Shelf>(
     ensures cause { HasHaltCause (F.faults shelf.old) (F.faults shelf.new) result }
 {
     match manner.format {
-        Format::Packets => {
+        Format::Packets(schema) => {
             open_packets(shelf, name)?;
-            collect_packets(alloc, shelf, manner.truncated)
+            collect_packets(alloc, shelf, schema, manner.truncated)
         }
         Format::Records(schema) => {
             let rows = read_lines(alloc, shelf, name, schema)?;

@@ -1,11 +1,12 @@
 // The theorem on captures.
 ghost use Rattle.std.specs.Prelude.{ℕ, Bool, List};
 ghost use Rattle.cf_row.specs.declared.schema.Attr.{Attr};
+ghost use Rattle.cf_setup.specs.declared.source.Source.{Source};
 ghost use Rattle.cf_intake.specs.Laws.{OneCase};
 
-/// Each file is a capture of one list of rows in the format that a schema asks for, or has one fault: of packets in pcap or
-/// pcapng, by the first four bytes, or of the records of other attributes in CSV. Where a capture of packets may be truncated, one that
+/// Each file is a capture of one list of rows in the format that a schema asks for, or has one fault: of packets by either schema,
+/// in pcap or pcapng, by the first four bytes, or of the records of other attributes in CSV. Where a capture of packets may be truncated, one that
 /// ends within a record is of the records before it.
 pub fn each_file_is_in_one_case()
-    ensures { (packet truncated : Bool) (attrs : List Attr) (bytes : List ℕ) → OneCase packet truncated attrs bytes }
+    ensures { (source : Source) (truncated : Bool) (attrs : List Attr) (bytes : List ℕ) → OneCase source truncated attrs bytes }
 {}

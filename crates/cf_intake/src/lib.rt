@@ -1,7 +1,8 @@
 //! Files are read, and captures become rows or have a fault.
 //!
 //! A grammar says what the bytes of a file say, or at which place they break it (`specs/Files.antt`). `read_setup`, `collect_rows`
-//! and `read_hosts` read whole files by it. `Pieces` reads a capture of packets piece by piece, for who takes its rows meanwhile.
+//! and `read_hosts` read whole files by it. `Pieces` reads a capture of packets piece by piece, for who takes its rows meanwhile, and `Reads`
+//! read by read.
 //! Why work has no result is a `Refusal`, which has a line, or a `Stop`.
 #![tactic(auto)]
 
@@ -12,13 +13,17 @@ mod hosts;
 mod laws;
 mod pieces;
 mod reader;
+mod reads;
 mod refusal;
 mod rows;
+#[cfg(test)]
+mod tests;
 
 pub use devices::write_all;
 pub use files::{collect_rows, open_packets, read_lines, read_setup};
 pub use hosts::read_hosts;
 pub use laws::each_file_is_in_one_case;
 pub use pieces::Pieces;
+pub use reads::Reads;
 pub use refusal::{Halt, Refusal, Stop};
 pub use rows::{Captured, Format, Manner, format_of};

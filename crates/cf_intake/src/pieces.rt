@@ -3,13 +3,12 @@ ghost use Rattle.std.specs.Prelude.{◌≡◌, ◌≤◌, ◌<◌, ◌^◌, ◌+
 ghost use Rattle.cf_outside.specs.Causes.{HasCause};
 ghost use Rattle.cf_pcap.specs.Capture.{FrameValue};
 ghost use Rattle.cf_row.specs.Row.{Fits, RowValue};
-ghost use Rattle.cf_row.specs.Schema.{packet_attrs};
+ghost use Rattle.cf_packet6.specs.Schema6.{attrs_by};
 ghost use Rattle.cf_intake.specs.Devices.{TakesUpTo, TakesAtMost};
-ghost use Rattle.cf_pcap.specs.declared.links.LinkSet.TheVariants.{Basic};
 ghost use Rattle.cf_intake.specs.Causes.{HasHaltCause, HasStopCause};
-ghost use Rattle.cf_intake.specs.Reading.{AddsFew, Feeds, HasMore, IfReadOn, IfReaderAt, IsLast, IsReadOn, ReadsOn, StopsOn, TakesPackets, pieces_left, reads_blocks, reads_links};
+ghost use Rattle.cf_intake.specs.Reading.{AddsFew, Feeds, HasMore, IfReadOn, IfReaderAt, IsLast, IsReadOn, ReadsOn, StopsOn, TakesPackets, pieces_left, reads_blocks, reads_scope};
 ghost use Rattle.cf_intake.specs.Parts.{captured};
-ghost use Rattle.cf_intake.specs.Rows.{packet_rows};
+ghost use Rattle.cf_intake.specs.Rows.{links_by, packet_rows};
 ghost use Rattle.cf_intake.specs.declared.refusal.Halt.TheVariants.{Stopped};
 ghost use Rattle.cf_intake.specs.declared.refusal.Stop.TheVariants as stops;
 
@@ -17,6 +16,8 @@ use crate::reader::Reader;
 use crate::refusal::{Halt, Stop};
 use crate::rows::{Captured, rows_of};
 use cf_outside::{Failed, Shelf};
+use cf_packet6::PacketSchema;
+use cf_pcap::{LinkSet, Scope};
 use cf_row::{Memory, Row};
 use std::alloc::Global;
 
@@ -46,23 +47,40 @@ fn read_piece<F: Shelf>(shelf: &mut F, buf: &mut [u8]) -> Result<usize, Failed>
     Ok(filled)
 }
 
+/// The links that are read under a schema of packets.
+pub(crate) fn links_of(schema: PacketSchema) -> LinkSet
+    ensures { result ≡ links_by schema }
+{
+    match schema {
+        PacketSchema::Packet => LinkSet::Basic,
+        PacketSchema::Packet6 => LinkSet::All,
+    }
+}
+
 // Feeds a piece, and gives the rows of the frames that end in it.
-fn feed_rows(alloc: Global, reader: &mut Reader, piece: &[u8]) -> Result<Vec<Row>, Memory>
+pub(crate) fn feed_rows(
+    alloc: Global,
+    reader: &mut Reader,
+    piece: &[u8],
+    schema: PacketSchema,
+) -> Result<Vec<Row>, Memory>
     ensures blocks { reads_blocks reader.new ≡ reads_blocks reader.old }
-    ensures links { reads_links reader.new ≡ reads_links reader.old }
-    ensures fed { IfOk result (λ rows. (given : List FrameValue) × (rows.items ≡ packet_rows given)
+    ensures scope { reads_scope reader.new ≡ reads_scope reader.old }
+    ensures fed { IfOk result (λ rows. (given : List FrameValue) × (rows.items ≡ packet_rows schema given)
         × Feeds reader.old reader.new piece.now given) }
     ensures few { IfOk result (λ rows. IfReaderAt reader.old (AddsFew piece.now [] rows.items)) }
-    ensures fit { IfOk result (λ rows. All (Fits packet_attrs) rows.items) }
+    ensures fit { IfOk result (λ rows. All (Fits (attrs_by schema)) rows.items) }
 {
     let mut frames = Vec::new(alloc);
     reader.feed(piece, &mut frames)?;
-    rows_of(alloc, &frames)
+    rows_of(alloc, &frames, schema)
 }
 
 /// The opened capture of packets, which is read piece by piece.
 #[derive(Drop)]
 pub struct Pieces {
+    // By which the rows are made.
+    schema: PacketSchema,
     reader: Reader,
     buf: Vec<u8>,
     // The bytes of the last piece. It fills the buffer, unless the file ended before.
@@ -75,20 +93,24 @@ pub struct Pieces {
 fn first_piece<F: Shelf>(
     alloc: Global,
     shelf: &mut F,
+    schema: PacketSchema,
     mut buf: Vec<u8>,
 ) -> Result<(Pieces, Vec<Row>), Stop>
     requires { length buf.items ≡ 65536 }
     ensures files { F.files shelf.new ≡ F.files shelf.old }
     ensures read { IfOk result (λ begun. IsReadOn begun.0 (F.rest shelf.old) (F.rest shelf.new) begun.1.items) }
+    ensures schema { IfOk result (λ begun. begun.0.schema ≡ schema) }
     ensures few { IfOk result (λ begun. length begun.1.items ≤ 4096) }
-    ensures fit { IfOk result (λ begun. All (Fits packet_attrs) begun.1.items) }
+    ensures fit { IfOk result (λ begun. All (Fits (attrs_by schema)) begun.1.items) }
     ensures stopped { OnErr result (TakesAtMost (F.rest shelf.old) (F.rest shelf.new) (2 ^ 32)) }
     ensures cause { HasStopCause (F.faults shelf.old) (F.faults shelf.new) result }
 {
     let count = read_piece(shelf, &mut buf)?;
-    let mut reader = Reader::of(alloc, &buf[..count])?;
-    let rows = feed_rows(alloc, &mut reader, &buf[..count])?;
+    let scope = Scope::limited(links_of(schema));
+    let mut reader = Reader::of(alloc, &buf[..count], scope)?;
+    let rows = feed_rows(alloc, &mut reader, &buf[..count], schema)?;
     let pieces = Pieces {
+        schema,
         reader,
         buf,
         count,
@@ -98,17 +120,22 @@ fn first_piece<F: Shelf>(
 }
 
 impl Pieces {
-    /// Reads the first piece, and gives its rows.
-    pub fn begin<F: Shelf>(alloc: Global, shelf: &mut F) -> Result<(Pieces, Vec<Row>), Stop>
+    /// Reads the first piece, and gives its rows by that schema.
+    pub fn begin<F: Shelf>(
+        alloc: Global,
+        shelf: &mut F,
+        schema: PacketSchema,
+    ) -> Result<(Pieces, Vec<Row>), Stop>
         ensures files { F.files shelf.new ≡ F.files shelf.old }
         ensures read { IfOk result (λ begun. IsReadOn begun.0 (F.rest shelf.old) (F.rest shelf.new) begun.1.items) }
+        ensures schema { IfOk result (λ begun. begun.0.schema ≡ schema) }
         ensures few { IfOk result (λ begun. length begun.1.items ≤ 4096) }
-        ensures fit { IfOk result (λ begun. All (Fits packet_attrs) begun.1.items) }
+        ensures fit { IfOk result (λ begun. All (Fits (attrs_by schema)) begun.1.items) }
         ensures stopped { OnErr result (TakesAtMost (F.rest shelf.old) (F.rest shelf.new) (2 ^ 32)) }
         ensures cause { HasStopCause (F.faults shelf.old) (F.faults shelf.new) result }
     {
         let buf = vec![in alloc; 0u8; PIECE]?;
-        first_piece(alloc, shelf, buf)
+        first_piece(alloc, shelf, schema, buf)
     }
 
     /// Whether there may be more pieces.
@@ -123,15 +150,16 @@ impl Pieces {
     pub(crate) fn next<F: Shelf>(&mut self, alloc: Global, shelf: &mut F) -> Result<Vec<Row>, Stop>
         requires more { HasMore self.old }
         ensures files { F.files shelf.new ≡ F.files shelf.old }
+        ensures schema { self.new.schema ≡ self.old.schema }
         ensures number { IfOk result (λ _. self.new.number ≡ self.old.number + 1) }
         ensures few { IfOk result (λ given. IfReadOn self.old (F.rest shelf.old) (length given.items ≤ 4096)) }
         ensures read { IfOk result (λ given. ReadsOn self.old self.new (F.rest shelf.old) (F.rest shelf.new) given.items) }
-        ensures fit { IfOk result (λ given. All (Fits packet_attrs) given.items) }
+        ensures fit { IfOk result (λ given. All (Fits (attrs_by self.old.schema)) given.items) }
         ensures stopped { OnErr result (StopsOn self.old (F.rest shelf.old) (F.rest shelf.new)) }
         ensures cause { HasStopCause (F.faults shelf.old) (F.faults shelf.new) result }
     {
         let count = read_piece(shelf, &mut self.buf)?;
-        let rows = feed_rows(alloc, &mut self.reader, &self.buf[..count])?;
+        let rows = feed_rows(alloc, &mut self.reader, &self.buf[..count], self.schema)?;
         self.count = count;
         self.number += 1;
         Ok(rows)
@@ -147,10 +175,11 @@ impl Pieces {
         requires more { HasMore self.old }
         requires some { 0 < wanted }
         ensures files { F.files shelf.new ≡ F.files shelf.old }
+        ensures schema { self.new.schema ≡ self.old.schema }
         ensures left { IfOk result (λ _. pieces_left self.new < pieces_left self.old) }
         ensures few { IfOk result (λ given. IfReadOn self.old (F.rest shelf.old) (length given.items < wanted + 4096)) }
         ensures read { IfOk result (λ given. ReadsOn self.old self.new (F.rest shelf.old) (F.rest shelf.new) given.items) }
-        ensures fit { IfOk result (λ given. All (Fits packet_attrs) given.items) }
+        ensures fit { IfOk result (λ given. All (Fits (attrs_by self.old.schema)) given.items) }
         ensures stopped { OnErr result (StopsOn self.old (F.rest shelf.old) (F.rest shelf.new)) }
         ensures cause { HasStopCause (F.faults shelf.old) (F.faults shelf.new) result }
     {
@@ -167,7 +196,7 @@ impl Pieces {
     pub fn finish(self, truncated: bool) -> Result<Option<u32>, Halt>
         requires last { IsLast self }
         ensures taken { (before now : Option (List ℕ)) (rows : List RowValue) → IsReadOn self before now rows
-            → TakesPackets truncated (λ cut what. what ≡ record { rows = rows; cut = cut }) before now result }
+            → TakesPackets self.schema truncated (λ cut what. what ≡ record { rows = rows; cut = cut }) before now result }
         ensures unfailed { (now : Option (List ℕ)) → IfReadOn self now (result ≡ Err (Stopped stops.ReadFault) → ⊥) }
     {
         let Pieces { reader, .. } = self;
@@ -175,18 +204,19 @@ impl Pieces {
     }
 }
 
-/// The rows of the opened capture, which is read to its end, or until 2^32 bytes were taken.
+/// The rows of the opened capture by that schema. It is read to its end, or until 2^32 bytes were taken.
 pub(crate) fn collect_packets<F: Shelf>(
     alloc: Global,
     shelf: &mut F,
+    schema: PacketSchema,
     truncated: bool,
 ) -> Result<Captured, Halt>
     ensures files { F.files shelf.new ≡ F.files shelf.old }
-    ensures taken { TakesPackets truncated (λ kept what. captured kept ≡ what) (F.rest shelf.old) (F.rest shelf.new) result }
-    ensures fit { IfOk result (λ kept. All (Fits packet_attrs) kept.rows.items) }
+    ensures taken { TakesPackets schema truncated (λ kept what. captured kept ≡ what) (F.rest shelf.old) (F.rest shelf.new) result }
+    ensures fit { IfOk result (λ kept. All (Fits (attrs_by schema)) kept.rows.items) }
     ensures cause { HasHaltCause (F.faults shelf.old) (F.faults shelf.new) result }
 {
-    let (mut pieces, mut rows) = Pieces::begin(alloc, shelf)?;
+    let (mut pieces, mut rows) = Pieces::begin(alloc, shelf, schema)?;
     while pieces.has_more() {
         let mut given = pieces.next(alloc, shelf)?;
         rows.append(&mut given)?;

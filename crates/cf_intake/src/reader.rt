@@ -1,15 +1,14 @@
 // The reader of a capture of packets, which comes in pieces.
-ghost use Rattle.std.specs.Prelude.{◌≡◌, ℕ, true, false, List, [], ◌++◌, IfOk, MatchResult};
+ghost use Rattle.std.specs.Prelude.{◌≡◌, ℕ, true, false, List, [], ◌++◌, IfOk, IfSome, MatchResult};
 ghost use Rattle.cf_pcap.specs.Capture.{FrameValue};
 ghost use Rattle.cf_intake.specs.Formats.{begins_section as section_begins};
-ghost use Rattle.cf_pcap.specs.declared.links.LinkSet.TheVariants.{Basic};
 ghost use Rattle.cf_pcap.specs.Capture.{HasPcapFault};
 ghost use Rattle.cf_pcapng.specs.Rules.{HasFaultOf};
-ghost use Rattle.cf_intake.specs.Reading.{AddsFew, AreFramesTo, Feeds, Finishes, IfReaderAt, IsCutAt, IsReaderAt, reads_blocks, reads_links};
+ghost use Rattle.cf_intake.specs.Reading.{AddsFew, AreFramesTo, Feeds, Finishes, IfReaderAt, IsBrokenFor, IsCutAt, IsReaderAt, reads_blocks, reads_scope};
 
 use crate::faults::{refused_pcap, refused_pcapng};
-use crate::refusal::Halt;
-use cf_pcap::{Frame, Pcap, PcapFault};
+use crate::refusal::{Halt, Refusal};
+use cf_pcap::{Frame, Pcap, PcapFault, Scope};
 use cf_pcapng::{NgFault, PcapNg};
 use cf_row::Memory;
 use std::alloc::{AllocError, Global};
@@ -33,7 +32,7 @@ fn begins_section(bytes: &[u8]) -> bool
 
 // The frames that a piece gives a reader of records, whose fault is told at the end.
 fn feed_pcap(pcap: &mut Pcap, piece: &[u8], out: &mut Vec<Frame>) -> Result<(), Memory>
-    ensures links { pcap.new.links ≡ pcap.old.links }
+    ensures scope { pcap.new.scope ≡ pcap.old.scope }
     ensures fed { IfOk result (λ _. (given : List FrameValue) × (out.new.items ≡ out.old.items ++ given)
         × Feeds (Reader.Pcap pcap.old) (Reader.Pcap pcap.new) piece.now given) }
     ensures few { IfOk result (λ _. IfReaderAt (Reader.Pcap pcap.old) (AddsFew piece.now out.old.items out.new.items)) }
@@ -46,7 +45,7 @@ fn feed_pcap(pcap: &mut Pcap, piece: &[u8], out: &mut Vec<Frame>) -> Result<(), 
 
 // The frames that a piece gives a reader of blocks, whose fault is told at the end.
 fn feed_pcapng(pcapng: &mut PcapNg, piece: &[u8], out: &mut Vec<Frame>) -> Result<(), Memory>
-    ensures links { pcapng.new.links ≡ pcapng.old.links }
+    ensures scope { pcapng.new.scope ≡ pcapng.old.scope }
     ensures fed { IfOk result (λ _. (given : List FrameValue) × (out.new.items ≡ out.old.items ++ given)
         × Feeds (Reader.PcapNg pcapng.old) (Reader.PcapNg pcapng.new) piece.now given) }
     ensures few { IfOk result (λ _. IfReaderAt (Reader.PcapNg pcapng.old) (AddsFew piece.now out.old.items out.new.items)) }
@@ -60,8 +59,8 @@ fn feed_pcapng(pcapng: &mut PcapNg, piece: &[u8], out: &mut Vec<Frame>) -> Resul
 // What the end of a stream of records says.
 fn end_pcap(pcap: Pcap, truncated: bool) -> Result<Option<u32>, PcapFault>
     ensures { (stream : List ℕ) (frames : List FrameValue) → IsReaderAt (Reader.Pcap pcap) stream frames
-        → MatchResult result (AreFramesTo truncated pcap.links false stream frames)
-        (λ fault. HasPcapFault pcap.links stream fault × ((others : List FrameValue) (k : ℕ) → IsCutAt truncated pcap.links false stream others k → ⊥)) }
+        → MatchResult result (AreFramesTo truncated pcap.scope false stream frames)
+        (λ fault. HasPcapFault pcap.scope stream fault × ((others : List FrameValue) (k : ℕ) → IsCutAt truncated pcap.scope false stream others k → ⊥)) }
 {
     if truncated {
         return pcap.finish_truncated();
@@ -75,8 +74,8 @@ fn end_pcap(pcap: Pcap, truncated: bool) -> Result<Option<u32>, PcapFault>
 // What the end of a stream of blocks says.
 fn end_pcapng(pcapng: PcapNg, truncated: bool) -> Result<Option<u32>, NgFault>
     ensures { (stream : List ℕ) (frames : List FrameValue) → IsReaderAt (Reader.PcapNg pcapng) stream frames
-        → MatchResult result (AreFramesTo truncated pcapng.links true stream frames)
-        (λ fault. HasFaultOf pcapng.links stream fault × ((others : List FrameValue) (k : ℕ) → IsCutAt truncated pcapng.links true stream others k → ⊥)) }
+        → MatchResult result (AreFramesTo truncated pcapng.scope true stream frames)
+        (λ fault. HasFaultOf pcapng.scope stream fault × ((others : List FrameValue) (k : ℕ) → IsCutAt truncated pcapng.scope true stream others k → ⊥)) }
 {
     if truncated {
         return pcapng.finish_truncated();
@@ -87,24 +86,45 @@ fn end_pcapng(pcapng: PcapNg, truncated: bool) -> Result<Option<u32>, NgFault>
     }
 }
 
+// Why a capture of records is refused, whatever follows, if its fault was found.
+fn broken_pcap(pcap: &Pcap) -> Option<Refusal>
+    ensures { IfSome result (IsBrokenFor (Reader.Pcap pcap.now)) }
+{
+    match refused_pcap(pcap.fault()?) {
+        Halt::Refused(why) => Some(why),
+        Halt::Stopped(_) => None,
+    }
+}
+
+// Why a capture of blocks is refused, whatever follows, if its fault was found.
+fn broken_pcapng(pcapng: &PcapNg) -> Option<Refusal>
+    ensures { IfSome result (IsBrokenFor (Reader.PcapNg pcapng.now)) }
+{
+    match refused_pcapng(pcapng.fault()?) {
+        Halt::Refused(why) => Some(why),
+        Halt::Stopped(_) => None,
+    }
+}
+
 impl Reader {
-    /// A reader of a capture that begins with that piece, in pcapng where this begins with a section header, in pcap otherwise.
-    pub(crate) fn of(alloc: Global, piece: &[u8]) -> Result<Reader, Memory>
+    /// A reader of the captures of this scope, of one that begins with that piece: in pcapng where this begins with a section header, in
+    /// pcap otherwise.
+    pub(crate) fn of(alloc: Global, piece: &[u8], scope: Scope) -> Result<Reader, Memory>
         ensures blocks { IfOk result (λ reader. reads_blocks reader ≡ section_begins piece.now) }
-        ensures links { IfOk result (λ reader. reads_links reader ≡ Basic) }
+        ensures scope { IfOk result (λ reader. reads_scope reader ≡ scope) }
         ensures begins { IfOk result (λ reader. IsReaderAt reader [] []) }
     {
         if begins_section(piece) {
-            Ok(Reader::PcapNg(PcapNg::new(alloc)?))
+            Ok(Reader::PcapNg(PcapNg::for_scope(alloc, scope)?))
         } else {
-            Ok(Reader::Pcap(Pcap::new(alloc)?))
+            Ok(Reader::Pcap(Pcap::for_scope(alloc, scope)?))
         }
     }
 
     /// Takes the next piece, and adds the frames that end in it and before any fault. A fault is told at the end.
     pub(crate) fn feed(&mut self, piece: &[u8], out: &mut Vec<Frame>) -> Result<(), Memory>
         ensures blocks { reads_blocks self.new ≡ reads_blocks self.old }
-        ensures links { reads_links self.new ≡ reads_links self.old }
+        ensures scope { reads_scope self.new ≡ reads_scope self.old }
         ensures fed { IfOk result (λ _. (given : List FrameValue) × (out.new.items ≡ out.old.items ++ given)
             × Feeds self.old self.new piece.now given) }
         ensures few { IfOk result (λ _. IfReaderAt self.old (AddsFew piece.now out.old.items out.new.items)) }
@@ -112,6 +132,16 @@ impl Reader {
         match self {
             Reader::Pcap(pcap) => feed_pcap(pcap, piece, out),
             Reader::PcapNg(pcapng) => feed_pcapng(pcapng, piece, out),
+        }
+    }
+
+    /// Why the capture is refused, whatever follows, if its fault was found in what came.
+    pub(crate) fn fault(&self) -> Option<Refusal>
+        ensures { IfSome result (IsBrokenFor self.now) }
+    {
+        match self {
+            Reader::Pcap(pcap) => broken_pcap(pcap),
+            Reader::PcapNg(pcapng) => broken_pcapng(pcapng),
         }
     }
 

@@ -1,29 +1,30 @@
 // The rows of the bytes of a capture.
 ghost use Rattle.std.specs.Prelude.{◌≡◌, All, IfOk, MatchResult};
 ghost use Rattle.cf_row.specs.Row.{Fits};
-ghost use Rattle.cf_row.specs.Schema.{packet_attrs};
+ghost use Rattle.cf_packet6.specs.Schema6.{attrs_by};
 ghost use Rattle.cf_records.specs.Records.{IsRecordFile};
 ghost use Rattle.cf_records.specs.declared.fault.RecordFault.TheVariants as record_faults;
 ghost use Rattle.cf_intake.specs.Faults.{HasLineFault, line_code_of as line_code_of_fault, record_of_lines};
-ghost use Rattle.cf_intake.specs.Parts.{IsBad, IsSetupRead, is_packets, attrs_in};
-ghost use Rattle.cf_intake.specs.Rows.{packet_rows};
+ghost use Rattle.cf_intake.specs.Parts.{IsBad, IsSetupRead, source_in, attrs_in};
+ghost use Rattle.cf_intake.specs.Rows.{packet_rows, row_by};
 ghost use Rattle.cf_intake.specs.declared.refusal.Halt.TheVariants.{Refused, Stopped};
 ghost use Rattle.cf_intake.specs.declared.refusal.Refusal.TheVariants as refusals;
 ghost use Rattle.cf_intake.specs.declared.refusal.Stop.TheVariants as stops;
 
 use crate::refusal::{Halt, Refusal, Stop};
-use cf_headers::packet_row;
+use cf_headers::{packet_row, packet6_row};
+use cf_packet6::PacketSchema;
 use cf_pcap::Frame;
 use cf_records::{RecordFault, read_records};
 use cf_row::{Memory, Row, Schema};
-use cf_setup::Setup;
+use cf_setup::{Setup, Source};
 use std::alloc::Global;
 
 /// The format of a capture.
 #[derive(Clone, Copy)]
 pub enum Format<'a> {
-    /// Packets, in pcap or pcapng.
-    Packets,
+    /// Packets, in pcap or pcapng, by the schema of that name.
+    Packets(PacketSchema),
     /// Records of that schema, in CSV.
     Records(&'a Schema),
 }
@@ -47,23 +48,37 @@ pub struct Captured {
 /// The format that a setup asks for.
 pub fn format_of<'a>(setup: &'a Setup) -> Format<'a>
     requires { IsSetupRead setup.now }
-    ensures { (is_packets result ≡ setup.now.packet) × (attrs_in result ≡ setup.now.schema) }
+    ensures { (source_in result ≡ setup.now.source) × (attrs_in result ≡ setup.now.schema) }
 {
-    if setup.packet() {
-        Format::Packets
-    } else {
-        Format::Records(setup.schema())
+    match setup.source() {
+        Source::Packets(schema) => Format::Packets(schema),
+        Source::Records => Format::Records(setup.schema()),
     }
 }
 
-/// A row for each frame.
-pub(crate) fn rows_of(alloc: Global, frames: &[Frame]) -> Result<Vec<Row>, Memory>
-    ensures rows { IfOk result (λ rows. rows.items ≡ packet_rows frames.now) }
-    ensures fit { IfOk result (λ rows. All (Fits packet_attrs) rows.items) }
+// The row of a frame, by that schema.
+fn row_of(alloc: Global, frame: &Frame, schema: PacketSchema) -> Result<Row, Memory>
+    ensures row { IfOk result (λ row. row ≡ row_by schema frame.now) }
+    ensures fits { IfOk result (Fits (attrs_by schema)) }
+{
+    match schema {
+        PacketSchema::Packet => packet_row(alloc, frame),
+        PacketSchema::Packet6 => packet6_row(alloc, frame),
+    }
+}
+
+/// A row for each frame, by that schema.
+pub(crate) fn rows_of(
+    alloc: Global,
+    frames: &[Frame],
+    schema: PacketSchema,
+) -> Result<Vec<Row>, Memory>
+    ensures rows { IfOk result (λ rows. rows.items ≡ packet_rows schema frames.now) }
+    ensures fit { IfOk result (λ rows. All (Fits (attrs_by schema)) rows.items) }
 {
     let mut rows = Vec::with_capacity(alloc, frames.len())?;
     for frame in frames {
-        rows.push(packet_row(alloc, frame)?)?;
+        rows.push(row_of(alloc, frame, schema)?)?;
     }
     Ok(rows)
 }

@@ -1,5 +1,6 @@
-use Rattle.std.proofs.Common.{true, ◌^◌}
-use Rattle.cf_row.specs.Schema.{packet_attrs}
+use Rattle.std.proofs.Common.{◌^◌}
+use Rattle.cf_packet6.specs.Schema6.{attrs_by}
+use Rattle.cf_setup.specs.declared.source.Source.TheVariants.{Packets}
 use Rattle.cf_intake.specs.Files.{captures}
 use Rattle.cf_intake.specs.Refusals.{unopened}
 use Rattle.cf_intake.proofs.Loading.{unread_halts}
@@ -9,7 +10,8 @@ use Rattle.cf_intake.proofs.files.open_packets.Goals as goal
 pub returns-in-Err-clause-opened : goal.returns-in-Err-clause-opened
 returns-in-Err-clause-opened g c =
     rw (c.from-in-Err.ensures, c.from.ensures)
-    (λ truncated. unread_halts (captures true truncated packet_attrs) (g.F.Shelf.files c.args.shelf.now) c.args.name.now (g.F.Shelf.rest c.args.shelf.now)
+    (λ schema truncated. unread_halts (captures (Packets schema) truncated (attrs_by schema)) (g.F.Shelf.files c.args.shelf.now) c.args.name.now
+    (g.F.Shelf.rest c.args.shelf.now)
     (g.F.Shelf.rest c.open.new.self)
     (unopened c.in-Err.fault)
     (unopened_reads (g.F.Shelf.files c.args.shelf.now) c.args.name.now (2 ^ 32) (g.F.Shelf.rest c.args.shelf.now)

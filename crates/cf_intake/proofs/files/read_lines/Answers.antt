@@ -1,4 +1,5 @@
 use Rattle.std.proofs.Common.{false}
+use Rattle.cf_setup.specs.declared.source.Source.TheVariants.{Records}
 use Rattle.std.proofs.lemmas.Result.{err_from_is_err_and}
 use Rattle.cf_intake.specs.Files.{captures}
 use Rattle.cf_intake.proofs.Loading.{unread_halts, lines_read}
@@ -8,7 +9,7 @@ pub returns-in_err-bytes-clause-read : goal.returns-in_err-bytes-clause-read
 returns-in_err-bytes-clause-read g c =
     let p = err_from_is_err_and c.from_residual.result c.from_residual.ensures.1 in
     rw (p.1, p.2)
-    (unread_halts (captures false false c.args.schema.now) (g.F.Shelf.files c.args.shelf.now) c.args.name.now (g.F.Shelf.rest c.args.shelf.now)
+    (unread_halts (captures Records false c.args.schema.now) (g.F.Shelf.files c.args.shelf.now) c.args.name.now (g.F.Shelf.rest c.args.shelf.now)
     (g.F.Shelf.rest c.read_file.new.shelf) _ c.in_err-bytes.ensures.read)
 
 pub returns-clause-read : goal.returns-clause-read

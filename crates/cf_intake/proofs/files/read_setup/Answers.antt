@@ -30,5 +30,6 @@ pub returns-clause-lawful : goal.returns-clause-lawful
 returns-clause-lawful g c =
     record {
       lawful = c.in_ok-parse_setup.ensures.lawful;
-      schema = λ packet. packet_setup_schema _ c.in_ok-parse_setup.field-0 (text_of_ok _ c.in_ok-parse_setup.field-0 c.in_ok-parse_setup.ensures.found) packet;
+      schema = λ which packets. packet_setup_schema _ c.in_ok-parse_setup.field-0 which
+          (text_of_ok _ c.in_ok-parse_setup.field-0 c.in_ok-parse_setup.ensures.found) packets;
     }

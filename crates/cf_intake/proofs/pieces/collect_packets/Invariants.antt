@@ -1,6 +1,6 @@
 use Rattle.std.proofs.Common.{◌≡◌, ◌≤◌, ◌-◌, All}
 use Rattle.cf_row.specs.Row.{Fits}
-use Rattle.cf_row.specs.Schema.{packet_attrs}
+use Rattle.cf_packet6.specs.Schema6.{attrs_by}
 use Rattle.cf_intake.specs.Reading.{IsReadOn}
 use Rattle.cf_intake.proofs.pieces.collect_packets.Given as goal
 
@@ -8,7 +8,8 @@ abbrev pub invariant-loop-alloc : goal.invariant-loop-alloc
 invariant-loop-alloc g l = record {
   files : g.F.Shelf.files l.shelf ≡ g.F.Shelf.files l.fn.shelf;
   later : g.F.Shelf.faults l.fn.shelf ≤ g.F.Shelf.faults l.shelf;
-  fit : All (Fits packet_attrs) l.rows.items;
+  schema : l.pieces.schema ≡ l.fn.schema;
+  fit : All (Fits (attrs_by l.fn.schema)) l.rows.items;
   read : IsReadOn l.pieces (g.F.Shelf.rest l.fn.shelf) (g.F.Shelf.rest l.shelf) l.rows.items;
 }
 

@@ -4,7 +4,7 @@ use Rattle.cf_intake.proofs.reader.end_pcapng.Goals as goal
 pub returns-then-truncated : goal.returns-then-truncated
 returns-then-truncated c =
     rw c.if-truncated.true
-    (λ stream frames at. blocks_truncated c.args.pcapng.links stream frames c.finish_truncated.result
+    (λ stream frames at. blocks_truncated c.args.pcapng.scope stream frames c.finish_truncated.result
     (c.finish_truncated.ensures.ended stream frames at.0 at.1))
 
 pub returns-in-Ok : goal.returns-in-Ok

@@ -7,13 +7,13 @@ pub returns-in_default-clause-fed : goal.returns-in_default-clause-fed
 returns-in_default-clause-fed c =
     let other : c.feed.result ≢ Err Memory = search rules in
     let fed = c.feed.ensures.fed other in
-    (fed.0, fed.1, records_fed c.args.pcap.now c.feed.new.self c.feed.ensures.links c.args.piece.now fed.0 c.feed.result fed.2)
+    (fed.0, fed.1, records_fed c.args.pcap.now c.feed.new.self c.feed.ensures.scope c.args.piece.now fed.0 c.feed.result fed.2)
 
 pub returns-in_default-2-clause-fed : goal.returns-in_default-2-clause-fed
 returns-in_default-2-clause-fed c =
     let other : c.feed.result ≢ Err Memory = search rules in
     let fed = c.feed.ensures.fed other in
-    (fed.0, fed.1, records_fed c.args.pcap.now c.feed.new.self c.feed.ensures.links c.args.piece.now fed.0 c.feed.result fed.2)
+    (fed.0, fed.1, records_fed c.args.pcap.now c.feed.new.self c.feed.ensures.scope c.args.piece.now fed.0 c.feed.result fed.2)
 
 pub returns-in_default-clause-few : goal.returns-in_default-clause-few
 returns-in_default-clause-few c =

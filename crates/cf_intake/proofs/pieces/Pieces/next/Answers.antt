@@ -40,9 +40,15 @@ returns-clause-read g c = λ before rows on.
     let same : (with_items c.args.self.now.buf buf).items ≡ buf = take_at buf (drop (length buf) c.args.self.now.buf.items) c.args.self.now.buf.len long in
     let fed = rw (c.deref.ensures.value ∙ same) at c.in_ok-rows.ensures.fed in
     let new : Pieces =
-    record { reader = c.feed_rows.new.reader; buf = with_items c.args.self.now.buf buf; count = count; number = c.args.self.now.number + 1 } in
+    record {
+      schema = c.args.self.now.schema;
+      reader = c.feed_rows.new.reader;
+      buf = with_items c.args.self.now.buf buf;
+      count = count;
+      number = c.args.self.now.number + 1;
+    } in
     gone_on c.args.self.now new before mid now
-    (take count buf) rows c.in_ok-rows.rows.items fed.0 on c.requires.more.0 c.requires.more.1 c.in_ok-rows.ensures.blocks c.in_ok-rows.ensures.links
+    (take count buf) rows c.in_ok-rows.rows.items fed.0 on refl c.requires.more.0 c.requires.more.1 c.in_ok-rows.ensures.blocks c.in_ok-rows.ensures.scope
     (ap (λ (xs : List ℕ). length xs) same ∙ ok.size ∙ room) refl takes (piece_long count (length c.deref_mut.result.now) buf ok.size within) fed.2 fed.1
 
 pub returns-clause-few : goal.returns-clause-few

@@ -3,7 +3,8 @@ use Rattle.std.proofs.lemmas.List.{append_assoc}
 use Rattle.std.proofs.lemmas.List.Elements.{All-append}
 use Rattle.std.proofs.lemmas.Result.{err_from_is_err_and}
 use Rattle.cf_row.specs.Row.{Fits, RowValue}
-use Rattle.cf_row.specs.Schema.{packet_attrs}
+use Rattle.cf_packet6.specs.Schema6.{attrs_by}
+use Rattle.cf_packet6.specs.declared.PacketSchema.{PacketSchema}
 use Rattle.cf_intake.specs.Reading.{IsReadOn}
 use Rattle.cf_intake.proofs.Piecewise.{few_more, stopped_on}
 use Rattle.cf_intake.proofs.pieces.Pieces.next_rows.Goals as goal
@@ -16,6 +17,7 @@ loop-self-init g c =
     record {
       files = ok.files;
       later = ok.cause.later;
+      schema = ok.schema;
       number = omega (arith, number);
       read = ok.read;
       few = λ before rows on. (let few = ok.few before rows on in omega (arith, few, some));
@@ -36,6 +38,7 @@ loop-self-preserved g c =
     record {
       files = ok.files ∙ v.files;
       later = omega (arith, first, then);
+      schema = ok.schema ∙ v.schema;
       number = omega (arith, had, number);
       read = λ before rows on.
           let all = rows ++ c.loop-self.given.items in
@@ -44,8 +47,9 @@ loop-self-preserved g c =
           (ok.read before all (v.read before rows on));
       few = λ before rows on. few_more c.loop-self.given.items c.in_ok-more.more.items c.append.new.self.items c.args.wanted grown (omega (arith, short, size))
           (ok.few before (rows ++ c.loop-self.given.items) (v.read before rows on));
-      fit = subst (λ (rs : List RowValue). All (Fits packet_attrs) rs) (sym grown)
-          (All-append (Fits packet_attrs) c.loop-self.given.items c.in_ok-more.more.items v.fit ok.fit);
+      fit = subst (λ (rs : List RowValue). All (Fits (attrs_by c.args.self.now.schema)) rs) (sym grown)
+          (All-append (Fits (attrs_by c.args.self.now.schema)) c.loop-self.given.items c.in_ok-more.more.items v.fit
+          (subst (λ (s : PacketSchema). All (Fits (attrs_by s)) c.in_ok-more.more.items) v.schema ok.fit));
     }
 
 pub returns-in_err-more-clause-stopped : goal.returns-in_err-more-clause-stopped

@@ -1,6 +1,6 @@
 use Rattle.std.proofs.Common.{◌≡◌, ◌≤◌, ◌<◌, ◌+◌, ◌-◌, ◌++◌, ℕ, List, Option, All, length}
 use Rattle.cf_row.specs.Row.{Fits, RowValue}
-use Rattle.cf_row.specs.Schema.{packet_attrs}
+use Rattle.cf_packet6.specs.Schema6.{attrs_by}
 use Rattle.cf_intake.specs.Reading.{IsReadOn}
 use Rattle.cf_intake.proofs.pieces.Pieces.next_rows.Given as goal
 
@@ -13,7 +13,8 @@ invariant-loop-self g l = record {
       → IsReadOn l.self before (g.F.Shelf.rest l.shelf) (rows ++ l.given.items);
   few : (before : Option (List ℕ)) (rows : List RowValue) → IsReadOn l.fn.self before (g.F.Shelf.rest l.fn.shelf) rows
       → length l.given.items < l.fn.wanted + 4096;
-  fit : All (Fits packet_attrs) l.given.items;
+  schema : l.self.schema ≡ l.fn.self.schema;
+  fit : All (Fits (attrs_by l.fn.self.schema)) l.given.items;
 }
 
 abbrev pub decreases-loop-self : goal.decreases-loop-self

@@ -11,7 +11,7 @@ returns-in-Ok c =
 pub returns-in-Err : goal.returns-in-Err
 returns-in-Err c =
     let is : c.args.self ≡ Pcap c.in-Pcap.pcap = search rules in
-    rw is (λ stream frames at. uncut_record c.args.truncated c.in-Pcap.pcap.links stream c.in-Err.fault c.refused_pcap.result c.refused_pcap.ensures.memory c.refused_pcap.ensures.other (c.in-Err.ensures stream frames at))
+    rw is (λ stream frames at. uncut_record c.args.truncated c.in-Pcap.pcap.scope stream c.in-Err.fault c.refused_pcap.result c.refused_pcap.ensures.memory c.refused_pcap.ensures.other (c.in-Err.ensures stream frames at))
 
 pub returns-in-Ok-end_pcapng : goal.returns-in-Ok-end_pcapng
 returns-in-Ok-end_pcapng c =
@@ -21,4 +21,4 @@ returns-in-Ok-end_pcapng c =
 pub returns-in-Err-end_pcapng : goal.returns-in-Err-end_pcapng
 returns-in-Err-end_pcapng c =
     let is : c.args.self ≡ PcapNg c.in-PcapNg.pcapng = search rules in
-    rw is (λ stream frames at. uncut_block c.args.truncated c.in-PcapNg.pcapng.links stream c.in-Err-end_pcapng.fault c.refused_pcapng.result c.refused_pcapng.ensures.memory c.refused_pcapng.ensures.other (c.in-Err-end_pcapng.ensures stream frames at))
+    rw is (λ stream frames at. uncut_block c.args.truncated c.in-PcapNg.pcapng.scope stream c.in-Err-end_pcapng.fault c.refused_pcapng.result c.refused_pcapng.ensures.memory c.refused_pcapng.ensures.other (c.in-Err-end_pcapng.ensures stream frames at))

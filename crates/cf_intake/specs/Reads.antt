@@ -1,0 +1,95 @@
+-- A capture is read by single reads: how far they have come, and which records end within them.
+use Rattle.std.specs.Prelude.{◌≡◌, ℕ, ◌+◌, ◌*◌, ◌<◌, ◌≤◌, Bool, true, false, List, [], ◌++◌, length, slice_get, Option, Some, None, Result, MatchResult}
+use Rattle.std.specs.Io.KnownBytes.{Consumes, IsAtEnd}
+use Rattle.cf_row.specs.Row.{RowValue}
+use Rattle.cf_packet6.specs.declared.PacketSchema.{PacketSchema}
+use Rattle.cf_pcap.specs.Capture.{FrameValue}
+use Rattle.cf_pcap.specs.declared.scope.Scope.{Scope}
+use Rattle.cf_pcap.specs.Stream as pcap
+use Rattle.cf_pcapng.specs.File.{pcapng}
+use Rattle.cf_stream.specs.Limits.{number_of}
+use Rattle.cf_stream.specs.Stream as streams
+use Rattle.cf_stream.specs.declared.limit.Length.TheVariants.{Any}
+use Rattle.cf_intake.specs.Faults.{HasPacketFaultTo}
+use Rattle.cf_intake.specs.Formats.{begins_section}
+use Rattle.cf_intake.specs.Parts.{IsBad}
+use Rattle.cf_intake.specs.Reading.{IsReaderAt, reads_blocks, reads_scope}
+use Rattle.cf_intake.specs.Rows.{ArePacketsTo, packet_rows, scope_by}
+use Rattle.cf_intake.specs.declared.reader.Reader.{Reader}
+use Rattle.cf_intake.specs.declared.reads.Reads.{Reads}
+use Rattle.cf_intake.specs.declared.refusal.Halt.{Halt}
+use Rattle.cf_intake.specs.declared.refusal.Refusal.{Refusal}
+use Rattle.cf_intake.specs.declared.refusal.Refusal.TheVariants.{Capture}
+
+-- the frames whose last byte lies in the bytes and before any fault, by blocks in pcapng, by records in pcap otherwise
+abbrev pub AreFramesGiven : Scope → Bool → List ℕ → List FrameValue → Type 0
+AreFramesGiven scope true bytes frames = streams.AreGiven (pcapng scope) bytes frames
+AreFramesGiven scope false bytes frames = pcap.AreGiven scope bytes frames
+
+-- the rows of those frames by a schema, in the format that the bytes begin as
+pub record AreRowsGiven (schema : PacketSchema) (bytes : List ℕ) (rows : List RowValue) : Type 0 where
+  pub frames : List FrameValue
+  pub given : AreFramesGiven (scope_by Any schema) (begins_section bytes) bytes frames
+  pub rows_are : rows ≡ packet_rows schema frames
+
+-- the rows are numbered one by one from this number on, up to 2^32 - 1
+abbrev pub AreNumberedFrom : ℕ → List RowValue → Type 0
+AreNumberedFrom from rows = (place : ℕ) (row : RowValue) → slice_get rows place ≡ Some row → row.num ≡ number_of Any (from + place)
+
+-- Before four bytes have come, which tell the format, all are kept, and no record has ended.
+pub record IsOpening (held bytes : List ℕ) (rows : List RowValue) : Type 0 where
+  pub kept : held ≡ bytes
+  pub short : length bytes < 4
+  pub none : rows ≡ []
+
+-- Then a reader is after the bytes, and the rows are those of the frames that it has given.
+pub record IsUnderWay (schema : PacketSchema) (reader : Reader) (bytes : List ℕ) (rows : List RowValue) : Type 0 where
+  pub frames : List FrameValue
+  pub at : IsReaderAt reader bytes frames
+  pub rows_are : rows ≡ packet_rows schema frames
+  pub blocks : reads_blocks reader ≡ begins_section bytes
+  pub scope : reads_scope reader ≡ scope_by Any schema
+  pub long : 4 ≤ length bytes
+
+abbrev pub AreReadBy : PacketSchema → Option Reader → List ℕ → List ℕ → List RowValue → Type 0
+AreReadBy schema None held bytes rows = IsOpening held bytes rows
+AreReadBy schema (Some reader) held bytes rows = IsUnderWay schema reader bytes rows
+
+-- These bytes were read, and the records of these rows end in them.
+pub record HaveRead (reads : Reads) (bytes : List ℕ) (rows : List RowValue) : Type 0 where
+  pub by : AreReadBy reads.schema reads.reader reads.held.items bytes rows
+  pub size : length reads.buf.items ≡ 65536
+
+-- A read moved a piece: wherever the reading was, it is there with the piece, and these are the rows of the records that the piece ended.
+pub record MovesOn (old new : Reads) (before now : Option (List ℕ)) (given : List RowValue) : Type 0 where
+  pub piece : List ℕ
+  pub taken : Consumes before now piece
+  pub some : 0 < length piece
+  pub short : length old.buf.items ≡ 65536 → length piece ≤ 65536
+  pub kind : new.schema ≡ old.schema
+  pub read : (bytes : List ℕ) (rows : List RowValue) → HaveRead old bytes rows → HaveRead new (bytes ++ piece) (rows ++ given)
+
+-- the next read: the end, or a piece
+abbrev pub HasNext : Reads → Reads → Option (List ℕ) → Option (List ℕ) → Option (List RowValue) → Type 0
+HasNext old new before now None = ((bytes : List ℕ) (rows : List RowValue) → HaveRead old bytes rows → HaveRead new bytes rows × IsAtEnd now)
+    × Consumes before now [] × (new.schema ≡ old.schema)
+HasNext old new before now (Some given) = MovesOn old new before now given
+
+-- what is said of a reading that has begun
+abbrev pub WhileReading : Reads → Type 0 → Type 0
+WhileReading reads P = (bytes : List ℕ) (rows : List RowValue) → HaveRead reads bytes rows → P
+
+-- what the end of the bytes says: the rows are those of a capture, which may be truncated or not, or the bytes have a fault
+abbrev pub HasEndedAs : Bool → Reads → Result (Option ℕ) Halt → Type 0
+HasEndedAs truncated reads result =
+    (bytes : List ℕ) (rows : List RowValue) → HaveRead reads bytes rows
+    → MatchResult result (ArePacketsTo Any reads.schema truncated bytes rows) (IsBad (HasPacketFaultTo Any reads.schema truncated bytes))
+
+-- the bytes have a fault, whatever follows, which is told so
+abbrev pub IsBroken : PacketSchema → List ℕ → Refusal → Type 0
+IsBroken schema bytes why =
+    (at : ℕ) × (code : ℕ) × (why ≡ Capture at code) × ((truncated : Bool) (more : List ℕ) → HasPacketFaultTo Any schema truncated (bytes ++ more) at code)
+
+-- the same of the bytes that were read
+abbrev pub HasBroken : Reads → Refusal → Type 0
+HasBroken reads why = (bytes : List ℕ) (rows : List RowValue) → HaveRead reads bytes rows → IsBroken reads.schema bytes why
