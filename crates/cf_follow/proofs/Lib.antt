@@ -1,0 +1,5 @@
+pub mod MoreReads
+pub mod Hearing
+pub mod Going
+pub mod Fronts
+pub mod Complete

@@ -1,0 +1,125 @@
+-- One more read.
+use Rattle.std.proofs.Common.{◌≡◌, ◌∙◌, ℕ, ◌+◌, ◌<◌, ◌≤◌, inl, inr, List, [], ◌∷◌, ◌++◌, length, take, fold, All, Bool, true, false, nat_lt, if◌then◌else◌, refl, sym, ap, ap₂, subst, arith, length-append, append-nil}
+use Rattle.std.proofs.lemmas.Bool.{cases_lt}
+use Rattle.std.proofs.lemmas.Bool.Decides.{nat_tests}
+use Rattle.std.proofs.lemmas.List.{take_all, take-append-le}
+use Rattle.std.proofs.lemmas.List.Concat.{flat_map-append}
+use Rattle.std.proofs.lemmas.List.Elements.{All-push}
+use Rattle.std.proofs.lemmas.List.Sums.{fold_push}
+use Rattle.cf_packet6.specs.declared.PacketSchema.{PacketSchema}
+use Rattle.cf_row.specs.Row.{RowValue}
+use Rattle.cf_setup.specs.Setups.{SetupValue}
+use Rattle.cf_shape.specs.Lanes.{ShapeValue}
+use Rattle.cf_intake.specs.Reads.{AreRowsGiven}
+use Rattle.cf_rounds.specs.Lines.{Said, View, nothing_said, with_view}
+use Rattle.cf_rounds.specs.Texts.{said_on, view_of, with_span}
+use Rattle.cf_rounds.proofs.Again.{again}
+use Rattle.cf_window.specs.Rounds.{Course, Span, after_reads, came, span_of, start, was_read, with_round}
+use Rattle.cf_window.specs.Watched.{AreCut, AreEnded, bytes_in_all}
+use Rattle.cf_window.specs.Windows.{rows_in_all}
+use Rattle.cf_window.proofs.Rows.{rows_one}
+use Rattle.cf_follow.specs.Followed.{AreRead}
+
+bytes_one : (pieces : List (List ℕ)) (piece : List ℕ) → bytes_in_all (pieces ++ piece ∷ []) ≡ bytes_in_all pieces ++ piece
+bytes_one pieces piece =
+    flat_map-append (λ (bs : List ℕ). bs) pieces (piece ∷ []) ∙ ap (λ (bs : List ℕ). bytes_in_all pieces ++ bs) (append-nil piece)
+
+length_one : {A : Type 0} (xs : List A) (x : A) → length (xs ++ x ∷ []) ≡ length xs + 1
+length_one xs x = length-append xs (x ∷ [])
+
+-- The records of the reads before are those of before.
+module _ (schema : PacketSchema) (pieces : List (List ℕ)) (piece : List ℕ) (reads : List (List RowValue)) (given : List RowValue)
+    (are : AreEnded (AreRowsGiven schema) pieces reads)
+    (now : AreRowsGiven schema (bytes_in_all pieces ++ piece) (rows_in_all reads ++ given)) where
+  before : (k : ℕ) → k ≤ length pieces → AreRowsGiven schema (bytes_in_all (take k (pieces ++ piece ∷ []))) (rows_in_all (take k (reads ++ given ∷ [])))
+  before k low =
+      let count = are.count in
+      let front : take k (pieces ++ piece ∷ []) ≡ take k pieces = take-append-le k pieces (piece ∷ []) low in
+      let rows : take k (reads ++ given ∷ []) ≡ take k reads = take-append-le k reads (given ∷ []) (omega (arith, low, count)) in
+      subst (λ (ps : List (List ℕ)). AreRowsGiven schema (bytes_in_all ps) (rows_in_all (take k (reads ++ given ∷ [])))) (sym front)
+      (subst (λ (rs : List (List RowValue)). AreRowsGiven schema (bytes_in_all (take k pieces)) (rows_in_all rs)) (sym rows) (are.each k low))
+
+  whole : (k : ℕ) → length pieces < k → AreRowsGiven schema (bytes_in_all (take k (pieces ++ piece ∷ []))) (rows_in_all (take k (reads ++ given ∷ [])))
+  whole k high =
+      let count = are.count in
+      let more = length_one pieces piece in
+      let also = length_one reads given in
+      let all : bytes_in_all (take k (pieces ++ piece ∷ [])) ≡ bytes_in_all pieces ++ piece =
+      ap bytes_in_all (take_all k (pieces ++ piece ∷ []) (omega (arith, more, high))) ∙ bytes_one pieces piece in
+      let rows : rows_in_all (take k (reads ++ given ∷ [])) ≡ rows_in_all reads ++ given =
+      ap rows_in_all (take_all k (reads ++ given ∷ []) (omega (arith, also, high, count))) ∙ rows_one reads given in
+      subst (λ (bs : List ℕ). AreRowsGiven schema bs (rows_in_all (take k (reads ++ given ∷ [])))) (sym all)
+      (subst (λ (rs : List RowValue). AreRowsGiven schema (bytes_in_all pieces ++ piece) rs) (sym rows) now)
+
+  pub ended_more : AreEnded (AreRowsGiven schema) (pieces ++ piece ∷ []) (reads ++ given ∷ [])
+  ended_more = record {
+    count = (let count = are.count in let more = length_one pieces piece in let also = length_one reads given in omega (arith, count, more, also));
+    each = λ k low. elim (cases_lt (length pieces) k) [ inl high ↦ whole k high | inr less ↦ before k less ];
+  }
+
+pub read_more : (schema : PacketSchema) (bytes piece : List ℕ) (reads : List (List RowValue)) (given : List RowValue) → AreRead schema bytes reads
+    → 0 < length piece
+    → length piece ≤ 65536 → AreRowsGiven schema (bytes ++ piece) (rows_in_all reads ++ given) → AreRead schema (bytes ++ piece) (reads ++ given ∷ [])
+read_more schema bytes piece reads given read some short now = record {
+  pieces = read.pieces ++ piece ∷ [];
+  cut = record {
+    all = bytes_one read.pieces piece ∙ ap (λ (bs : List ℕ). bs ++ piece) read.cut.all;
+    some = All-push (λ (p : List ℕ). 0 < length p) read.pieces piece read.cut.some some;
+    short = All-push (λ (p : List ℕ). length p ≤ 65536) read.pieces piece read.cut.short short;
+  };
+  ended = ended_more schema read.pieces piece reads given read.ended
+      (subst (λ (bs : List ℕ). AreRowsGiven schema (bs ++ piece) (rows_in_all reads ++ given)) (sym read.cut.all) now);
+}
+
+-- nothing was read
+pub read_nothing : (schema : PacketSchema) → AreRowsGiven schema [] [] → AreRead schema [] []
+read_nothing schema none = record {
+  pieces = [];
+  cut = record { all = refl; some = λ i d low. absurd (omega (arith, low)); short = λ i d low. absurd (omega (arith, low)) };
+  ended = record {
+    count = refl;
+    each = λ k low. let zero_is : 0 ≡ k = omega (arith, low) in
+        subst (λ (n : ℕ). AreRowsGiven schema (bytes_in_all (take n [])) (rows_in_all (take n []))) zero_is none;
+  };
+}
+
+-- The course after one more read.
+
+pub reads_one : (shape : ShapeValue) (most : ℕ) (reads : List (List RowValue)) (given : List RowValue)
+    → after_reads shape most (reads ++ given ∷ []) ≡ was_read shape most (after_reads shape most reads) given
+reads_one shape most reads given = fold_push (was_read shape most) start reads given
+
+some_true : (n : ℕ) → 0 < n → nat_lt 0 n ≡ true
+some_true n some = grind (arith, nat_tests)
+
+-- one that ended no record changes nothing
+pub read_none : (shape : ShapeValue) (most : ℕ) (course : Course) (given : List RowValue) → length given ≡ 0 → was_read shape most course given ≡ course
+read_none shape most course given none =
+    ap (λ (n : ℕ). if nat_lt 0 n then with_round (fold (came shape most) course given) else course) none
+
+-- after one that ended some a round comes
+pub read_some : (shape : ShapeValue) (most : ℕ) (course : Course) (given : List RowValue) → 0 < length given
+    → was_read shape most course given ≡ with_round (fold (came shape most) course given)
+read_some shape most course given some =
+    ap (λ (b : Bool). if b then with_round (fold (came shape most) course given) else course) (some_true (length given) some)
+
+-- A round again says nothing.
+pub said_twice : (shape : ShapeValue) (setup : SetupValue) (every : ℕ) (rows : List RowValue) (course : Course)
+    → said_on shape setup every rows (with_round (with_round course)).rounds ≡ said_on shape setup every rows (with_round course).rounds
+said_twice shape setup every rows course =
+    let say : Said → Span → Said = with_span shape setup every rows in
+    let once : said_on shape setup every rows (with_round course).rounds
+    ≡ say (said_on shape setup every rows course.rounds) (span_of course) = fold_push say nothing_said course.rounds (span_of course) in
+    fold_push say nothing_said (with_round course).rounds (span_of course)
+    ∙ (ap (λ (said : Said). say said (span_of course)) once
+    ∙ (again shape setup every (said_on shape setup every rows course.rounds) (view_of rows (span_of course))
+    ∙ sym once))
+
+-- What a round says after some records of a read is what the last one says after these.
+pub said_then : (shape : ShapeValue) (setup : SetupValue) (most every : ℕ) (rows : List RowValue) (course : Course) (front : List RowValue)
+    → said_on shape setup every rows (with_round (was_read shape most course front)).rounds
+    ≡ said_on shape setup every rows (with_round (fold (came shape most) course front)).rounds
+said_then shape setup most every rows course [] = refl
+said_then shape setup most every rows course (row ∷ front) =
+    ap (λ (c : Course). said_on shape setup every rows (with_round c).rounds) (read_some shape most course (row ∷ front) (omega arith))
+    ∙ said_twice shape setup every rows (fold (came shape most) course (row ∷ front))

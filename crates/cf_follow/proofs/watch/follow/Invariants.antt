@@ -1,0 +1,15 @@
+use Rattle.std.proofs.Common.{◌≡◌, ◌≤◌}
+use Rattle.cf_packet6.specs.Schema6.{attrs_by}
+use Rattle.cf_follow.specs.Followed.{IsGoingOn}
+use Rattle.cf_follow.proofs.watch.follow.Given as goal
+
+abbrev pub invariant-loop : goal.invariant-loop
+invariant-loop g l = record {
+  going : IsGoingOn l.initial.reads.schema l.initial.rounds l.rounds l.reads (g.F.Shelf.rest l.initial.shelf) (g.F.Shelf.rest l.shelf)
+      (g.K.Sink.held l.initial.sink)
+      (g.K.Sink.held l.sink);
+  packets : ((l.rounds.window).shape).schema ≡ attrs_by l.reads.schema;
+  files : g.F.Shelf.files l.shelf ≡ g.F.Shelf.files l.initial.shelf;
+  shelf_later : g.F.Shelf.faults l.initial.shelf ≤ g.F.Shelf.faults l.shelf;
+  sink_later : g.K.Sink.faults l.initial.sink ≤ g.K.Sink.faults l.sink;
+}

@@ -1,0 +1,75 @@
+// The end of a capture.
+ghost use Rattle.std.specs.Prelude.{◌≡◌, ◌≤◌, Bool, ℕ, List, Option, IfOk, [], ◌++◌, string_bytes};
+ghost use Rattle.std.specs.Io.KnownBytes.{IsAtEnd};
+ghost use Rattle.cf_outside.specs.Causes.{Rose};
+ghost use Rattle.cf_packet6.specs.declared.PacketSchema.{PacketSchema};
+ghost use Rattle.cf_rounds.specs.Held.{HasEnded, RoundsValue};
+ghost use Rattle.cf_follow.specs.Followed.{IsFollowed, IsGoingOn, truncated_line as line_of_cut};
+ghost use Rattle.cf_follow.specs.Heard.{Concludes};
+ghost use Rattle.cf_intake.specs.declared.refusal.Stop.TheVariants as stops;
+ghost use Rattle.cf_follow.specs.declared.ending.Ending.TheVariants as endings;
+
+use crate::Ending;
+use crate::said::refuse;
+use cf_intake::{Halt, Reads, write_all};
+use cf_outside::Sink;
+use cf_rounds::Rounds;
+use cf_row::Memory;
+use std::alloc::Global;
+
+// The line of a capture that ends within a record.
+fn truncated_line(alloc: Global, cut: Option<u32>) -> Result<String, Memory>
+    ensures { IfOk result (λ line. string_bytes line ≡ line_of_cut cut) }
+{
+    match cut {
+        None => Ok(String::new(alloc)),
+        Some(num) => format!(in alloc; "truncated: record {num}\n"),
+    }
+}
+
+// The text of the end.
+fn end_text(alloc: Global, rounds: &mut Rounds, cut: Option<u32>) -> Result<String, Memory>
+    ensures { IfOk result (λ text. (after : List ℕ) × HasEnded rounds.old [] after × (string_bytes text ≡ after ++ line_of_cut cut)) }
+{
+    let mut text = String::new(alloc);
+    rounds.finish(alloc, &mut text)?;
+    let line = truncated_line(alloc, cut)?;
+    text.push_str(line.as_str())?;
+    Ok(text)
+}
+
+// The end of a capture is written.
+fn conclude<K: Sink>(alloc: Global, rounds: &mut Rounds, cut: Option<u32>, sink: &mut K) -> Ending
+    ensures concluded { Concludes rounds.old cut (K.held sink.old) (K.held sink.new) result }
+    ensures later { K.faults sink.old ≤ K.faults sink.new }
+    ensures cause { result ≡ endings.Unwritten → Rose (K.faults sink.old) (K.faults sink.new) }
+{
+    let text = match end_text(alloc, rounds, cut) {
+        Ok(text) => text,
+        Err(error) => return Ending::from(error),
+    };
+    match write_all(sink, text.as_bytes()) {
+        Ok(()) => Ending::Done,
+        Err(error) => Ending::from(error),
+    }
+}
+
+/// What the end of the capture says is written: the end of its rounds, or the line of its fault.
+pub(crate) fn end<K: Sink>(
+    alloc: Global,
+    mut rounds: Rounds,
+    reads: Reads,
+    truncated: bool,
+    sink: &mut K,
+) -> Ending
+    ensures ended { (schema : PacketSchema) (begun : RoundsValue) (before now held : Option (List ℕ)) → IsGoingOn schema begun rounds reads before now held (K.held sink.old) → IsAtEnd now
+        → IsFollowed schema begun truncated before now held (K.held sink.new) result × (result ≡ endings.Stopped stops.ReadFault → ⊥) }
+    ensures later { K.faults sink.old ≤ K.faults sink.new }
+    ensures cause { result ≡ endings.Unwritten → Rose (K.faults sink.old) (K.faults sink.new) }
+{
+    match reads.finish(alloc, truncated) {
+        Ok(cut) => conclude(alloc, &mut rounds, cut, sink),
+        Err(Halt::Refused(why)) => refuse(alloc, &mut rounds, String::new(alloc), why, sink),
+        Err(Halt::Stopped(stop)) => Ending::Stopped(stop),
+    }
+}

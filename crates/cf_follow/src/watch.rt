@@ -1,0 +1,140 @@
+// An opened capture is followed to its end.
+ghost use Rattle.std.specs.Prelude.{◌≡◌, ◌⊎◌, ◌≤◌, Bool, ℕ, List, [], Option, Ok, Err, IfOk, IfSome, OnOk, ◌^◌, ◌-◌};
+ghost use Rattle.cf_command.specs.Call.{AreWindowSizes};
+ghost use Rattle.cf_outside.specs.Causes.{Rose};
+ghost use Rattle.cf_packet6.specs.Schema6.{attrs_by};
+ghost use Rattle.cf_packet6.specs.declared.PacketSchema.{PacketSchema};
+ghost use Rattle.cf_intake.specs.declared.refusal.Stop.TheVariants as stops;
+ghost use Rattle.cf_rounds.specs.Held.{IsSetAs, RoundsValue};
+ghost use Rattle.cf_follow.specs.Followed.{GoesOn, IsFollowed, IsGoingOn, IsReady, begun_with};
+ghost use Rattle.cf_follow.specs.Completed.{IsWatchable, Yields};
+ghost use Rattle.cf_follow.specs.Heard.{Stops};
+ghost use Rattle.cf_follow.specs.declared.ending.Ending.TheVariants as endings;
+
+use crate::Ending;
+use crate::end::end;
+use crate::said::{hear, refuse, tell};
+use cf_command::WindowSizes;
+use cf_intake::{Reads, Stop};
+use cf_outside::{Shelf, Sink};
+use cf_packet6::PacketSchema;
+use cf_rounds::Rounds;
+use cf_row::Memory;
+use cf_setup::{Setup, shape_of};
+use std::alloc::Global;
+
+/// Records are numbered below 2^32 - 1.
+const LIMIT: u32 = u32::MAX;
+
+/// A capture that is to be followed: the rounds, of which none was made, and its reads, of which none either. One that may be
+/// truncated ends well within a record.
+#[derive(Drop)]
+pub struct Watch {
+    pub(crate) rounds: Rounds,
+    pub(crate) reads: Reads,
+    pub(crate) truncated: bool,
+}
+
+impl Watch {
+    /// A window of these sizes for the records of a setup, of which each live question is asked where so many came since it was.
+    pub fn begin(
+        alloc: Global,
+        setup: Setup,
+        sizes: WindowSizes,
+        every: u32,
+        truncated: bool,
+        schema: PacketSchema,
+    ) -> Result<Watch, Memory>
+        requires sizes { AreWindowSizes sizes }
+        ensures begun { IfOk result (λ watch. watch.rounds ≡ begun_with setup sizes.capacity sizes.segments sizes.nodes every (2 ^ 32 - 1)) }
+        ensures ready { IfOk result (λ watch. IsReady watch.rounds watch.reads) }
+        ensures truncated { IfOk result (λ watch. watch.truncated ≡ truncated) }
+        ensures schema { IfOk result (λ watch. watch.reads.schema ≡ schema) }
+    {
+        let shape = shape_of(alloc, &setup, sizes.capacity, 1, sizes.nodes)?;
+        Ok(Watch {
+            rounds: Rounds::begin(alloc, setup, shape, sizes.segments, every, LIMIT)?,
+            reads: Reads::begin(alloc, schema)?,
+            truncated,
+        })
+    }
+}
+
+// The shelf failed: a round is made of what was read.
+fn stop<K: Sink>(alloc: Global, rounds: &mut Rounds, sink: &mut K) -> Ending
+    ensures set { IsSetAs rounds.old rounds.new }
+    ensures stopped { Stops rounds.old rounds.new (K.held sink.old) (K.held sink.new) result }
+    ensures later { K.faults sink.old ≤ K.faults sink.new }
+    ensures cause { result ≡ endings.Unwritten → Rose (K.faults sink.old) (K.faults sink.new) }
+{
+    match tell(alloc, rounds, String::new(alloc), "", sink) {
+        Ok(()) => Ending::Stopped(Stop::ReadFault),
+        Err(ending) => ending,
+    }
+}
+
+// A read, of which what its records say is written before the next. Answers whether there may be another. After a fault of the capture
+// there is none.
+fn step<F: Shelf, K: Sink>(
+    alloc: Global,
+    rounds: &mut Rounds,
+    reads: &mut Reads,
+    shelf: &mut F,
+    sink: &mut K,
+) -> Result<bool, Ending>
+    requires packets { rounds.old.window.shape.schema ≡ attrs_by reads.old.schema }
+    requires going { (begun : RoundsValue) × (before : Option (List ℕ)) × (held : Option (List ℕ)) × (schema : PacketSchema) × IsGoingOn schema begun rounds.old reads.old before (F.rest shelf.old) held (K.held sink.old) }
+    ensures packets { OnOk result (rounds.new.window.shape.schema ≡ attrs_by reads.new.schema) }
+    ensures files { F.files shelf.new ≡ F.files shelf.old }
+    ensures goes { (schema : PacketSchema) (begun : RoundsValue) (before held : Option (List ℕ)) → IsGoingOn schema begun rounds.old reads.old before (F.rest shelf.old) held (K.held sink.old)
+        → GoesOn schema begun rounds.new reads.new before (F.rest shelf.new) held (K.held sink.new) result }
+    ensures shelf_later { F.faults shelf.old ≤ F.faults shelf.new }
+    ensures sink_later { K.faults sink.old ≤ K.faults sink.new }
+    ensures read_cause { result ≡ Err (endings.Stopped stops.ReadFault) → Rose (F.faults shelf.old) (F.faults shelf.new) }
+    ensures write_cause { result ≡ Err endings.Unwritten → Rose (K.faults sink.old) (K.faults sink.new) }
+{
+    if let Some(why) = reads.fault() {
+        return Err(refuse(alloc, rounds, String::new(alloc), why, sink));
+    }
+    match reads.next(alloc, shelf) {
+        Ok(None) => Ok(false),
+        Ok(Some(rows)) if rows.is_empty() => Ok(true),
+        Ok(Some(rows)) => match hear(alloc, rounds, &rows, sink) {
+            Ok(()) => Ok(true),
+            Err(ending) => Err(ending),
+        },
+        Err(Stop::Memory) => Err(Ending::Stopped(Stop::Memory)),
+        Err(Stop::ReadFault) => Err(stop(alloc, rounds, sink)),
+    }
+}
+
+/// Follows the opened capture of packets to its end: a round comes after each read that ended a record, and what it says is written
+/// before the next read.
+pub fn follow<F: Shelf, K: Sink>(alloc: Global, watch: Watch, shelf: &mut F, sink: &mut K) -> Ending
+    requires packets { watch.rounds.window.shape.schema ≡ attrs_by watch.reads.schema }
+    requires ready { IsReady watch.rounds watch.reads }
+    // What was written is, for some way in which the reads cut the bytes that were read, the text of those, or a front of it.
+    ensures followed { IsFollowed watch.reads.schema watch.rounds watch.truncated (F.rest shelf.old) (F.rest shelf.new) (K.held sink.old) (K.held sink.new) result }
+    // A lawful capture is followed to its end, unless memory runs out or a device fails.
+    ensures complete { IfSome (F.rest shelf.old) (λ file. IsWatchable watch.reads.schema watch.rounds watch.truncated file → (result ≡ endings.Done) ⊎ Yields result) }
+    ensures files { F.files shelf.new ≡ F.files shelf.old }
+    // A device's fault comes only where its count rose, and no count falls.
+    ensures read_fault { result ≡ endings.Stopped stops.ReadFault → Rose (F.faults shelf.old) (F.faults shelf.new) }
+    ensures write_fault { result ≡ endings.Unwritten → Rose (K.faults sink.old) (K.faults sink.new) }
+    ensures shelf_count { F.faults shelf.old ≤ F.faults shelf.new }
+    ensures sink_count { K.faults sink.old ≤ K.faults sink.new }
+{
+    let Watch {
+        mut rounds,
+        mut reads,
+        truncated,
+    } = watch;
+    for _ in 0..u64::MAX {
+        match step(alloc, &mut rounds, &mut reads, shelf, sink) {
+            Ok(true) => {}
+            Ok(false) => return end(alloc, rounds, reads, truncated, sink),
+            Err(ending) => return ending,
+        }
+    }
+    Ending::Stopped(Stop::Memory)
+}
