@@ -1,16 +1,21 @@
 -- From what is prepared to what the program answers.
 use Rattle.std.proofs.Common.{◌≡◌, ◌⊎◌, ℕ, ◌*◌, ◌≤◌, Bool, true, false, List, [], length, Option, Some, None, refl, sym, inl, inr, IfSome, subst}
 use Rattle.std.specs.Io.KnownBytes.{Keeps}
+use Rattle.std.specs.Option.{option_map}
 use Rattle.cf_outside.specs.Files.{File}
 use Rattle.cf_row.specs.Row.{RowValue}
-use Rattle.cf_row.specs.Schema.{packet_attrs}
+use Rattle.cf_packet6.specs.Schema6.{attrs_by}
+use Rattle.cf_setup.specs.declared.source.Source.{Source}
+use Rattle.cf_setup.specs.declared.source.Source.TheVariants.{Packets, Records}
 use Rattle.cf_command.specs.declared.words.LogSizes.{LogSizes}
-use Rattle.cf_command.specs.Call.{Call, RunCall, SynthCall, DumpCall, SnapshotCall, AreSizes, HasSizes}
-use Rattle.cf_command.specs.Call.Call.{run, synth, dump, snapshot}
+use Rattle.cf_command.specs.declared.words.Command.{Command}
+use Rattle.cf_command.specs.declared.words.Command.TheVariants as commands
+use Rattle.cf_command.specs.Call.{Call, RunCall, SynthCall, DumpCall, SnapshotCall, WatchCall, AreSizes, HasSizes, IsInRange, call_by}
+use Rattle.cf_command.specs.Call.Call.{run, synth, dump, snapshot, watch}
 use Rattle.cf_setup.specs.Setups.{SetupValue}
 use Rattle.cf_table.specs.Moves.{SealValue}
 use Rattle.cf_run.specs.Answers.{Yields, IsDecided, IsByCall}
-use Rattle.cf_run.specs.Due.{Work, RunAfter, SnapshotAfter, ComesTo, StopsAt, GivesLog, GivesCut, IsReportOf, AreAnswersOf, WorkGives, IsDue, IsLawful, drawn_work}
+use Rattle.cf_run.specs.Due.{Work, RunAfter, SnapshotAfter, WatchFrom, ComesTo, StopsAt, GivesLog, GivesCut, IsReportOf, AreAnswersOf, WorkGives, IsDue, IsLawful, drawn_work}
 use Rattle.cf_run.specs.Due.Work.{refused}
 use Rattle.cf_run.specs.Due.CallsBy.{halted, whole}
 use Rattle.cf_run.specs.Due.CallsByAll.{one_halted, all_whole}
@@ -23,7 +28,7 @@ use Rattle.cf_intake.specs.Files.IsFileRefused.{missing, broken}
 use Rattle.cf_intake.specs.Refusals.{line_of}
 use Rattle.cf_run.specs.Refusals.{status_of, stop_status}
 use Rattle.cf_run.specs.Parts.{draft_status, draft_seals}
-use Rattle.cf_run.specs.Work.{drawn_rows, rows_told, ends_told}
+use Rattle.cf_run.specs.Work.{draws, drawn_rows, rows_told, ends_told}
 use Rattle.cf_run.specs.declared.draft.Draft.{Draft}
 use Rattle.cf_run.specs.declared.draft.Draft.TheVariants as drafts
 use Rattle.cf_load.specs.Planned.{tails_of}
@@ -105,7 +110,7 @@ module _ (told : Option (List File)) (before now : Option (List ℕ)) (status : 
       → RunAfter told call now setup work → IsByCall (Some (run call)) status seals
   run_by_rows call setup work sized gives (halted why file is) =
       by_refusal (IsByCall (Some (run call))) why
-      (file_refusal (captures setup.packet call.truncated setup.schema) told call.capture (Some []) now (λ w. IsByCall (Some (run call)) (status_of w) [])
+      (file_refusal (captures setup.source call.truncated setup.schema) told call.capture (Some []) now (λ w. IsByCall (Some (run call)) (status_of w) [])
       (run_by_call call NoFile (λ e. cc e) (λ e. cc e)) (λ at code. run_by_call call (Capture at code) (λ e. cc e) (λ e. cc e)) why file)
       (subst (λ (w : Work). WorkGives w status text seals) is gives)
   run_by_rows call setup work sized gives (whole what said next) =
@@ -152,14 +157,15 @@ module _ (told : Option (List File)) (before now : Option (List ℕ)) (status : 
       (λ line code. synth_by_call call (Setup line code) (λ e. cc e) (λ at other e. cc e) (λ e. cc e)) why file)
       (subst (λ (w : Work). WorkGives w status text seals) is gives)
   synth_by_work call work sized gives (whole setup said next) =
-      synth_by_setup call setup setup.packet sized (subst (λ (w : Work). WorkGives w status text seals) next.0 gives)
+      synth_by_setup call setup (draws setup.source) sized (subst (λ (w : Work). WorkGives w status text seals) next.0 gives)
 
   -- of a dump
   dump_by_work : (call : DumpCall) (work : Work) → WorkGives work status text seals → ComesTo told (Some (dump call)) before now work
       → IsByCall (Some (dump call)) status seals
   dump_by_work call work gives (halted why file is) =
       by_refusal (IsByCall (Some (dump call))) why
-      (file_refusal (captures true call.truncated packet_attrs) told call.capture before now (λ w. IsByCall (Some (dump call)) (status_of w) [])
+      (file_refusal (captures (Packets call.schema) call.truncated (attrs_by call.schema)) told call.capture before now
+      (λ w. IsByCall (Some (dump call)) (status_of w) [])
       (λ e. cc e, λ line code e. cc e, λ e. cc e, λ e. cc e, refl) (λ at code. (λ e. cc e, λ line other e. cc e, λ e. cc e, λ e. cc e, refl)) why file)
       (subst (λ (w : Work). WorkGives w status text seals) is gives)
   dump_by_work call work gives (whole what said next) =
@@ -182,10 +188,10 @@ module _ (told : Option (List File)) (before now : Option (List ℕ)) (status : 
       → IsByCall (Some (snapshot call)) status seals
   snapshot_by_hosts call setup work gives (one_halted why files is) =
       by_refusal (IsByCall (Some (snapshot call))) why
-      (files_refusal (captures setup.packet call.truncated setup.schema) told call.captures (Some []) now
+      (files_refusal (captures setup.source call.truncated setup.schema) told call.captures (Some []) now
       (λ w. IsByCall (Some (snapshot call)) (status_of w) [])
       (λ name start w file.
-      file_refusal (captures setup.packet call.truncated setup.schema) told name start now (λ v. IsByCall (Some (snapshot call)) (status_of v) [])
+      file_refusal (captures setup.source call.truncated setup.schema) told name start now (λ v. IsByCall (Some (snapshot call)) (status_of v) [])
       (λ e. cc e, refl)
       (λ at code. (λ e. cc e, refl)) w file) why files)
       (subst (λ (w : Work). WorkGives w status text seals) is gives)
@@ -201,12 +207,32 @@ module _ (told : Option (List File)) (before now : Option (List ℕ)) (status : 
       (subst (λ (w : Work). WorkGives w status text seals) is gives)
   snapshot_by_work call work gives (whole setup said next) = snapshot_by_hosts call setup work gives next
 
+  -- of a watch, before its stream
+  watch_by_source : (call : WatchCall) (setup : SetupValue) (source : Source) (work : Work) → WorkGives work status text seals
+      → WatchFrom told call now setup source work → IsByCall (Some (watch call)) status seals
+  watch_by_source call setup Records work gives next =
+      by_refusal (IsByCall (Some (watch call))) (refusals.Setup setup.schema_line 4) (λ e. cc e, refl)
+      (subst (λ (w : Work). WorkGives w status text seals) next.0 gives)
+  watch_by_source call setup (Packets schema) work gives (inl next) =
+      by_refusal (IsByCall (Some (watch call))) refusals.NoFile (λ e. cc e, refl) (subst (λ (w : Work). WorkGives w status text seals) next.1.0 gives)
+  watch_by_source call setup (Packets schema) work gives (inr next) = absurd (subst (λ (w : Work). WorkGives w status text seals) next.2 gives)
+
+  watch_by_work : (call : WatchCall) (work : Work) → WorkGives work status text seals → ComesTo told (Some (watch call)) before now work
+      → IsByCall (Some (watch call)) status seals
+  watch_by_work call work gives (halted why file is) =
+      by_refusal (IsByCall (Some (watch call))) why
+      (file_refusal setups told call.setup before now (λ w. IsByCall (Some (watch call)) (status_of w) []) (λ e. cc e, refl)
+      (λ line code. (λ e. cc e, refl)) why file)
+      (subst (λ (w : Work). WorkGives w status text seals) is gives)
+  watch_by_work call work gives (whole setup said next) = watch_by_source call setup setup.source work gives next
+
   pub by_due : (call : Option Call) → HasSizes call → IsDue told call before now status text seals → IsByCall call status seals
   by_due None sized due = inl (subst (λ (w : Work). WorkGives w status text seals) due.comes.0 due.gives).0
   by_due (Some (run call)) sized due = run_by_work call due.work sized due.gives due.comes
   by_due (Some (synth call)) sized due = synth_by_work call due.work sized due.gives due.comes
   by_due (Some (dump call)) sized due = dump_by_work call due.work due.gives due.comes
   by_due (Some (snapshot call)) sized due = snapshot_by_work call due.work due.gives due.comes
+  by_due (Some (watch call)) sized due = watch_by_work call due.work due.gives due.comes
 
 -- of the faults of devices, and of want of memory
 pub by_cut : (call : Option Call) (status : Status) (seals : List SealValue) → status ≡ WriteFault → seals ≡ [] → IsByCall call status seals
@@ -215,13 +241,15 @@ by_cut (Some (run call)) status seals is none = (λ e. cc (e, is), λ e. cc (e, 
 by_cut (Some (synth call)) status seals is none = (λ e. cc (e, is), λ at code e. cc (e, is), λ e. cc (e, is))
 by_cut (Some (dump call)) status seals is none = (λ e. cc (e, is), λ line code e. cc (e, is), λ e. cc (e, is), λ e. cc (e, is), none)
 by_cut (Some (snapshot call)) status seals is none = (λ e. cc (e, is), none)
+by_cut (Some (watch call)) status seals is none = (λ e. cc (e, is), none)
 
-by_memory : (call : Option Call) (status : Status) (seals : List SealValue) → status ≡ Memory → seals ≡ [] → IsByCall call status seals
+pub by_memory : (call : Option Call) (status : Status) (seals : List SealValue) → status ≡ Memory → seals ≡ [] → IsByCall call status seals
 by_memory None status seals is none = inr (inl is)
 by_memory (Some (run call)) status seals is none = (λ e. cc (e, is), λ e. cc (e, is))
 by_memory (Some (synth call)) status seals is none = (λ e. cc (e, is), λ at code e. cc (e, is), λ e. cc (e, is))
 by_memory (Some (dump call)) status seals is none = (λ e. cc (e, is), λ line code e. cc (e, is), λ e. cc (e, is), λ e. cc (e, is), none)
 by_memory (Some (snapshot call)) status seals is none = (λ e. cc (e, is), none)
+by_memory (Some (watch call)) status seals is none = (λ e. cc (e, is), none)
 
 pub by_stop : (told : Option (List File)) (call : Option Call) (before now : Option (List ℕ)) (status : Status) (seals : List SealValue) (stop : Stop)
     → status ≡ stop_status stop → seals ≡ [] → StopsAt told call stop before now → IsByCall call status seals
@@ -232,6 +260,7 @@ by_stop told (Some (synth call)) before now status seals stops.ReadFault is none
 by_stop told (Some (dump call)) before now status seals stops.ReadFault is none left =
     (λ e. cc (e, is), λ line code e. cc (e, is), λ e. cc (e, is), λ e. cc (e, is), none)
 by_stop told (Some (snapshot call)) before now status seals stops.ReadFault is none left = (λ e. cc (e, is), none)
+by_stop told (Some (watch call)) before now status seals stops.ReadFault is none left = (λ e. cc (e, is), none)
 
 -- words that are no command
 pub words_text : (told : Option (List File)) (call : Option Call) (before now : Option (List ℕ)) (status : Status) (text : List ℕ) (seals : List SealValue)
@@ -250,6 +279,17 @@ words_call told (Some (dump call)) before now status text seals sized due is =
     absurd ((by_due told before now status text seals (Some (dump call)) sized due).0 is)
 words_call told (Some (snapshot call)) before now status text seals sized due is =
     absurd ((by_due told before now status text seals (Some (snapshot call)) sized due).0 is)
+words_call told (Some (watch call)) before now status text seals sized due is =
+    absurd ((by_due told before now status text seals (Some (watch call)) sized due).0 is)
+
+-- the sizes of a command are in their ranges
+pub sized_by : (command : Option Command) → IfSome command IsInRange → HasSizes (option_map call_by command)
+sized_by None within = tt
+sized_by (Some (commands.Run command)) within = within
+sized_by (Some (commands.Synth command)) within = within.0
+sized_by (Some (commands.Dump command)) within = tt
+sized_by (Some (commands.Snapshot command)) within = within.sizes
+sized_by (Some (commands.Watch command)) within = within
 
 pub keeps_same : (held : Option (List ℕ)) → Keeps held held
 keeps_same None = tt
@@ -268,7 +308,7 @@ none_of {A} {B} {C} a b c (inl x) = a x
 none_of {A} {B} {C} a b c (inr (inl x)) = b x
 none_of {A} {B} {C} a b c (inr (inr x)) = c x
 
-refusal_yields : (why : Refusal) → Yields (status_of why) → ⊥
+pub refusal_yields : (why : Refusal) → Yields (status_of why) → ⊥
 refusal_yields refusals.Words yields = none_of (λ e. cc e) (λ e. cc e) (λ e. cc e) yields
 refusal_yields refusals.NoFile yields = none_of (λ e. cc e) (λ e. cc e) (λ e. cc e) yields
 refusal_yields (refusals.Setup line code) yields = none_of (λ e. cc e) (λ e. cc e) (λ e. cc e) yields

@@ -4,13 +4,15 @@ use Rattle.std.proofs.lemmas.List.{drop_all}
 use Rattle.std.proofs.lemmas.Simd.{map-map}
 use Rattle.cf_outside.specs.Files.{File}
 use Rattle.cf_row.specs.Row.{RowValue}
-use Rattle.cf_row.specs.Schema.{packet_attrs}
-use Rattle.cf_command.specs.Call.{Call, RunCall, SynthCall, DumpCall, SnapshotCall}
-use Rattle.cf_command.specs.Call.Call.{run, synth, dump, snapshot}
+use Rattle.cf_packet6.specs.Schema6.{attrs_by}
+use Rattle.cf_setup.specs.declared.source.Source.{Source}
+use Rattle.cf_setup.specs.declared.source.Source.TheVariants.{Packets, Records}
+use Rattle.cf_command.specs.Call.{Call, RunCall, SynthCall, DumpCall, SnapshotCall, WatchCall}
+use Rattle.cf_command.specs.Call.Call.{run, synth, dump, snapshot, watch}
 use Rattle.cf_dump.specs.Dump.{dump_text}
 use Rattle.cf_setup.specs.Setups.{SetupValue}
 use Rattle.cf_table.specs.Moves.{SealValue}
-use Rattle.cf_run.specs.Due.{Work, CallsBy, CallsByAll, CallsFor, RunAfter, SynthAfter, SnapshotAfter, ComesTo, Exceeds, GivesLog, HostsExceed, HasRoom, IsSnapshotOf, GivesCut, IsReportOf, AreAnswersOf, IsDue, StopsAt, drawn_work}
+use Rattle.cf_run.specs.Due.{Work, CallsBy, CallsByAll, CallsFor, RunAfter, SynthAfter, SnapshotAfter, WatchFrom, WatchAfter, ComesTo, Exceeds, GivesLog, HostsExceed, HasRoom, IsSnapshotOf, GivesCut, IsReportOf, AreAnswersOf, IsDue, StopsAt, drawn_work}
 use Rattle.cf_run.specs.Due.Work.{report, answers, listing, at_cut, refused}
 use Rattle.cf_run.specs.Due.CallsBy.{halted, whole}
 use Rattle.cf_run.specs.Due.CallsByAll.{one_halted, all_whole}
@@ -27,7 +29,7 @@ use Rattle.cf_intake.specs.Refusals.{line_of}
 use Rattle.cf_run.specs.Refusals.{status_of}
 use Rattle.cf_run.specs.Seals.{IsSealedReport, IsSealedFinal}
 use Rattle.cf_intake.specs.Several.{AreReadAs, AreHalted, AreStopped}
-use Rattle.cf_run.specs.Work.{drawn_rows, shape_for, truncated_line, rows_told, ends_told}
+use Rattle.cf_run.specs.Work.{draws, drawn_rows, shape_for, truncated_line, rows_told, ends_told}
 use Rattle.cf_run.specs.Due.Exceeds.{full, short}
 use Rattle.cf_run.specs.Due.HostsExceed.{some_short}
 use Rattle.cf_shape.specs.Nodes.{distinct}
@@ -83,14 +85,14 @@ module _ (told : Option (List File)) (call : RunCall) (before now : Option (List
   run_unopened setup set = inl (whole_taken setups told call.setup before now setup set)
 
   module _ (setup : SetupValue) (mid : Option (List ℕ)) (set : IsReadAs setups told call.setup mid setup) where
-    pub run_unread : (halt : Halt) → Halts (captures setup.packet call.truncated setup.schema) told call.capture mid now halt
+    pub run_unread : (halt : Halt) → Halts (captures setup.source call.truncated setup.schema) told call.capture mid now halt
         → EndsWith told (Some (run call)) before now (Err halt)
     run_unread halt halts =
-        ends_halted (captures setup.packet call.truncated setup.schema) told (Some (run call)) call.capture (Some []) before now
+        ends_halted (captures setup.source call.truncated setup.schema) told (Some (run call)) call.capture (Some []) before now
         (λ why file. whole setup set.0 (halted why file refl)) (λ stop left. inr (setup, set.0, left)) halt
-        (halts_after (captures setup.packet call.truncated setup.schema) told call.capture mid now set.1 halt halts)
+        (halts_after (captures setup.source call.truncated setup.schema) told call.capture mid now set.1 halt halts)
 
-    module _ (what : CaptureValue) (read : IsReadAs (captures setup.packet call.truncated setup.schema) told call.capture now what) where
+    module _ (what : CaptureValue) (read : IsReadAs (captures setup.source call.truncated setup.schema) told call.capture now what) where
       pub run_gives : (status : Status) (text : List ℕ) (seals : List SealValue)
           → GivesLog call.sizes setup what.rows (IsReportOf call setup what) status text seals → IsDue told (Some (run call)) before now status text seals
       run_gives status text seals gives = record { work = report call setup what; comes = whole setup set.0 (whole what read.0 (refl, read.1)); gives = gives }
@@ -99,7 +101,7 @@ module _ (told : Option (List File)) (call : RunCall) (before now : Option (List
       run_exceeds why over = run_gives (status_of why) (line_of why) [] (refuses why over (refl, refl, refl))
 
       pub run_stopped : StopsAt told (Some (run call)) stops.Memory before now
-      run_stopped = inr (setup, set.0, whole_taken (captures setup.packet call.truncated setup.schema) told call.capture (Some []) now what read)
+      run_stopped = inr (setup, set.0, whole_taken (captures setup.source call.truncated setup.schema) told call.capture (Some []) now what read)
 
       -- there is no log of the rows
       pub run_unmade : (why : Unmade) → length what.rows ≤ call.sizes.capacity * call.sizes.segments → IsUnmade (shape_for setup call.sizes) what.rows why
@@ -122,7 +124,7 @@ module _ (told : Option (List File)) (call : SynthCall) (before now : Option (Li
       ends_halted setups told (Some (synth call)) call.setup before before now (λ why file. halted why file refl) (λ stop left. left) halt halts
 
   module _ (setup : SetupValue) (set : IsReadAs setups told call.setup now setup) where
-    pub synth_other : setup.packet ≡ false → EndsWith told (Some (synth call)) before now (Err (Refused (refusals.Setup setup.schema_line 4)))
+    pub synth_other : draws setup.source ≡ false → EndsWith told (Some (synth call)) before now (Err (Refused (refusals.Setup setup.schema_line 4)))
     synth_other records =
         record {
           work = refused (refusals.Setup setup.schema_line 4);
@@ -133,7 +135,7 @@ module _ (told : Option (List File)) (call : SynthCall) (before now : Option (Li
     pub synth_stopped : StopsAt told (Some (synth call)) stops.Memory before now
     synth_stopped = whole_taken setups told call.setup before now setup set
 
-    module _ (packets : setup.packet ≡ true) where
+    module _ (packets : draws setup.source ≡ true) where
       pub synth_gives : (status : Status) (text : List ℕ) (seals : List SealValue)
           → GivesLog call.sizes setup (drawn_rows call) (AreAnswersOf call setup) status text seals
           → IsDue told (Some (synth call)) before now status text seals
@@ -162,19 +164,20 @@ module _ (told : Option (List File)) (call : SynthCall) (before now : Option (Li
           synth_gives Done text seals (tells few made.few_nodes refl (record { text_is = made.text_is; seals_are = made.seals_are }))
 
 module _ (told : Option (List File)) (call : DumpCall) (before now : Option (List ℕ)) where
-  pub dump_unread : (halt : Halt) → Halts (captures true call.truncated packet_attrs) told call.capture before now halt
+  pub dump_unread : (halt : Halt) → Halts (captures (Packets call.schema) call.truncated (attrs_by call.schema)) told call.capture before now halt
       → EndsWith told (Some (dump call)) before now (Err halt)
   dump_unread halt halts =
-      ends_halted (captures true call.truncated packet_attrs) told (Some (dump call)) call.capture before before now (λ why file. halted why file refl)
+      ends_halted (captures (Packets call.schema) call.truncated (attrs_by call.schema)) told (Some (dump call)) call.capture before before now
+      (λ why file. halted why file refl)
       (λ stop left. left) halt halts
 
-  module _ (what : CaptureValue) (read : IsReadAs (captures true call.truncated packet_attrs) told call.capture now what) where
-    pub dump_gives : (text : List ℕ) (seals : List SealValue) → text ≡ dump_text packet_attrs what.rows ++ truncated_line what.cut → seals ≡ []
+  module _ (what : CaptureValue) (read : IsReadAs (captures (Packets call.schema) call.truncated (attrs_by call.schema)) told call.capture now what) where
+    pub dump_gives : (text : List ℕ) (seals : List SealValue) → text ≡ dump_text (attrs_by call.schema) what.rows ++ truncated_line what.cut → seals ≡ []
         → IsDue told (Some (dump call)) before now Done text seals
-    dump_gives text seals is none = record { work = listing what; comes = whole what read.0 (refl, read.1); gives = (refl, is, none) }
+    dump_gives text seals is none = record { work = listing call.schema what; comes = whole what read.0 (refl, read.1); gives = (refl, is, none) }
 
     pub dump_stopped : StopsAt told (Some (dump call)) stops.Memory before now
-    dump_stopped = whole_taken (captures true call.truncated packet_attrs) told call.capture before now what read
+    dump_stopped = whole_taken (captures (Packets call.schema) call.truncated (attrs_by call.schema)) told call.capture before now what read
 
 module _ (told : Option (List File)) (call : SnapshotCall) (before now : Option (List ℕ)) where
   pub snapshot_unset : (halt : Halt) → Halts setups told call.setup before now halt → EndsWith told (Some (snapshot call)) before now (Err halt)
@@ -182,12 +185,12 @@ module _ (told : Option (List File)) (call : SnapshotCall) (before now : Option 
       ends_halted setups told (Some (snapshot call)) call.setup before before now (λ why file. halted why file refl) (λ stop left. inl left) halt halts
 
   module _ (setup : SetupValue) (mid : Option (List ℕ)) (set : IsReadAs setups told call.setup mid setup) where
-    pub snapshot_unread : (halt : Halt) → AreHalted (captures setup.packet call.truncated setup.schema) told call.captures (Some []) now halt
+    pub snapshot_unread : (halt : Halt) → AreHalted (captures setup.source call.truncated setup.schema) told call.captures (Some []) now halt
         → EndsWith told (Some (snapshot call)) before now (Err halt)
     snapshot_unread (Refused why) halts = record { work = refused why; comes = whole setup set.0 (one_halted why halts refl); gives = (refl, refl, refl) }
     snapshot_unread (Stopped stop) halts = inr (setup, set.0, halts)
 
-    module _ (hosts : List Captured) (read : AreReadAs (captures setup.packet call.truncated setup.schema) told call.captures now (captured_each hosts)) where
+    module _ (hosts : List Captured) (read : AreReadAs (captures setup.source call.truncated setup.schema) told call.captures now (captured_each hosts)) where
       snapshot_gives : (status : Status) (text : List ℕ) (seals : List SealValue)
           → GivesCut call setup (rows_each hosts) (ends_each hosts) status text seals → IsDue told (Some (snapshot call)) before now status text seals
       snapshot_gives status text seals gives =
@@ -204,7 +207,7 @@ module _ (told : Option (List File)) (call : SnapshotCall) (before now : Option 
       snapshot_exceeds why over = snapshot_gives (status_of why) (line_of why) [] (refuses_hosts why over (refl, refl, refl))
 
       pub snapshot_stopped : StopsAt told (Some (snapshot call)) stops.Memory before now
-      snapshot_stopped = inr (setup, set.0, all_taken (captures setup.packet call.truncated setup.schema) told call.captures now (captured_each hosts) read)
+      snapshot_stopped = inr (setup, set.0, all_taken (captures setup.source call.truncated setup.schema) told call.captures now (captured_each hosts) read)
 
       pub snapshot_unmade : (why : Unmade) → All (λ rows. length rows ≤ call.sizes.capacity) (rows_each hosts)
           → (why ≡ unmade.Nodes → Any (λ rows. call.sizes.nodes < distinct (shape_for setup call.sizes) rows) (rows_each hosts))
@@ -229,6 +232,7 @@ stops_unopened told (Some (run call)) before = inl (inl (left_same told before))
 stops_unopened told (Some (synth call)) before = inl (left_same told before)
 stops_unopened told (Some (dump call)) before = inl (left_same told before)
 stops_unopened told (Some (snapshot call)) before = inl (inl (left_same told before))
+stops_unopened told (Some (watch call)) before = inl (inl (left_same told before))
 
 pub words_due : (told : Option (List File)) (before : Option (List ℕ)) → EndsWith told None before before (Err (Refused refusals.Words))
 words_due told before = record { work = refused refusals.Words; comes = (refl, left_same told before); gives = (refl, refl, refl) }
@@ -248,30 +252,44 @@ all_called_left : {A : Type 0} (g : Grammar A) (told : Option (List File)) (name
 all_called_left {A} g told names now called work (one_halted why refused_files is) = refused_stopped g told names (Some []) now why refused_files
 all_called_left {A} g told names now called work (all_whole whats said next) = all_taken g told names now whats (said, next.1)
 
+-- once the setup of a watch is read, nothing of its capture is taken
+watch_left : (told : Option (List File)) (call : WatchCall) (before now : Option (List ℕ)) (setup : SetupValue) (work : Work)
+    → IsFileAs setups told call.setup setup → (source : Source) → setup.source ≡ source → WatchFrom told call now setup source work
+    → StopsAt told (Some (watch call)) stops.Memory before now
+watch_left told call before now setup work said Records kind next = inl (whole_taken setups told call.setup before now setup (said, next.1))
+watch_left told call before now setup work said (Packets schema) kind (inl next) = inr (setup, schema, said, kind, inl next.1.1)
+watch_left told call before now setup work said (Packets schema) kind (inr next) =
+    inr (setup, schema, said, kind, inr (next.0, next.1, record { count = 0; most = omega arith; left = next.3 }))
+
 pub comes_stopped : (told : Option (List File)) (call : Option Call) (before now : Option (List ℕ)) (work : Work) → ComesTo told call before now work
     → StopsAt told call stops.Memory before now
 comes_stopped told None before now work comes = (refl, comes.1)
 comes_stopped told (Some (run call)) before now work comes =
     called_left setups told call.setup before now (RunAfter told call now) work (StopsAt told (Some (run call)) stops.Memory before now) (λ stop. inl stop)
     (λ setup said next.
-    called_left (captures setup.packet call.truncated setup.schema) told call.capture (Some []) now (λ what. CallsFor told now (report call setup what)) work
+    called_left (captures setup.source call.truncated setup.schema) told call.capture (Some []) now (λ what. CallsFor told now (report call setup what)) work
     (StopsAt told (Some (run call)) stops.Memory before now) (λ stop. inr (setup, said, stop)) (λ what read end.
-    inr (setup, said, whole_taken (captures setup.packet call.truncated setup.schema) told call.capture (Some []) now what (read, end.1))) next) comes
+    inr (setup, said, whole_taken (captures setup.source call.truncated setup.schema) told call.capture (Some []) now what (read, end.1))) next) comes
 comes_stopped told (Some (synth call)) before now work comes =
     called_left setups told call.setup before now (SynthAfter told call now) work (StopsAt told (Some (synth call)) stops.Memory before now) (λ stop. stop)
     (λ setup said next. whole_taken setups told call.setup before now setup (said, next.1)) comes
 comes_stopped told (Some (dump call)) before now work comes =
-    called_left (captures true call.truncated packet_attrs) told call.capture before now (λ what. CallsFor told now (listing what)) work
+    called_left (captures (Packets call.schema) call.truncated (attrs_by call.schema)) told call.capture before now
+    (λ what. CallsFor told now (listing call.schema what)) work
     (StopsAt told (Some (dump call)) stops.Memory before now) (λ stop. stop)
-    (λ what said next. whole_taken (captures true call.truncated packet_attrs) told call.capture before now what (said, next.1)) comes
+    (λ what said next. whole_taken (captures (Packets call.schema) call.truncated (attrs_by call.schema)) told call.capture before now what
+    (said, next.1)) comes
 comes_stopped told (Some (snapshot call)) before now work comes =
     called_left setups told call.setup before now (SnapshotAfter told call now) work (StopsAt told (Some (snapshot call)) stops.Memory before now)
     (λ stop. inl stop)
     (λ setup said next. inr (
       setup,
       said,
-      all_called_left (captures setup.packet call.truncated setup.schema) told call.captures now (λ hosts. at_cut call setup hosts) work next,
+      all_called_left (captures setup.source call.truncated setup.schema) told call.captures now (λ hosts. at_cut call setup hosts) work next,
     )) comes
+comes_stopped told (Some (watch call)) before now work comes =
+    called_left setups told call.setup before now (WatchAfter told call now) work (StopsAt told (Some (watch call)) stops.Memory before now)
+    (λ stop. inl stop) (λ setup said next. watch_left told call before now setup work said setup.source refl next) comes
 
 pub refused_prepared : (told : Option (List File)) (call : Option Call) (before now : Option (List ℕ)) (why : Refusal) (result : Result Draft Stop)
     → EndsWith told call before now (Err (Refused why))

@@ -1,6 +1,7 @@
 -- The packets that a seed draws, read as a capture.
 use Rattle.std.proofs.Common.{◌≡◌, ℕ, ◌+◌, ◌<◌, ◌≤◌, ◌^◌, true, false, List, ◌∷◌, ◌++◌, length, Option, Some, None, Result, Ok, Err, refl, sym, ap, subst, ◌∙◌, inl, inr, arith, append-nil, length-append}
 use Rattle.std.specs.Str.{bytes_eq}
+use Rattle.std.proofs.lemmas.Bool.{false≢true}
 use Rattle.std.proofs.lemmas.List.{length-map}
 use Rattle.std.proofs.lemmas.Slice.Eq.{bytes_eq-Decides}
 use Rattle.cf_outside.specs.Causes.{Rose}
@@ -8,7 +9,11 @@ use Rattle.cf_outside.specs.Files.{File, Opens, file_named}
 use Rattle.cf_outside.specs.declared.shelf.OpenFault.{OpenFault}
 use Rattle.cf_outside.specs.declared.shelf.OpenFault.TheVariants as open_faults
 use Rattle.cf_row.specs.Row.{RowValue}
-use Rattle.cf_row.specs.Schema.{packet_attrs}
+use Rattle.cf_packet6.specs.declared.PacketSchema.TheVariants.{Packet, Packet6}
+use Rattle.cf_packet6.specs.Schema6.{attrs_by}
+use Rattle.cf_setup.specs.declared.source.Source.{Source}
+use Rattle.cf_setup.specs.declared.source.Source.TheVariants.{Packets, Records}
+use Rattle.cf_stream.specs.declared.limit.Length.TheVariants.{Limited}
 use Rattle.cf_headers.specs.Packet.{packet_row_of}
 use Rattle.cf_make.specs.Generated.{file_header, generated_bytes, generated_frames}
 use Rattle.cf_make.proofs.Reading.{made_is_capture, frames_many}
@@ -19,11 +24,17 @@ use Rattle.cf_intake.specs.Formats.{begins_section}
 use Rattle.cf_intake.specs.Causes.{HasHaltCause}
 use Rattle.cf_intake.specs.Reading.{TakesPackets}
 use Rattle.cf_intake.specs.Rows.{ArePackets, AreRowsTo, CaptureValue, packet_rows}
-use Rattle.cf_run.specs.Work.{drawn_rows}
+use Rattle.cf_run.specs.Work.{draws, drawn_rows}
 use Rattle.cf_intake.specs.declared.refusal.Halt.{Halt}
 use Rattle.cf_intake.specs.declared.refusal.Halt.TheVariants.{Refused, Stopped}
 use Rattle.cf_intake.specs.declared.refusal.Stop.TheVariants as stops
 use Rattle.cf_intake.proofs.Capturing.{packets_either, packets_same}
+
+-- rows are drawn of packets by their own schema
+pub draws_packets : (source : Source) → draws source ≡ true → source ≡ Packets Packet
+draws_packets (Packets Packet) is = refl
+draws_packets (Packets Packet6) is = absurd (false≢true is)
+draws_packets Records is = absurd (false≢true is)
 
 -- there are as many as were asked for
 pub drawn_many : (call : SynthCall) → length (drawn_rows call) ≡ call.count
@@ -56,7 +67,7 @@ begins_pcap : (seed count : ℕ) → begins_section (generated_bytes seed count)
 unfolding begins_section file_header generated_bytes
 begins_pcap seed count = refl
 
-drawn_are : (seed count : ℕ) → count ≤ 2 ^ 20 → ArePackets (generated_bytes seed count) (packet_rows (generated_frames seed count))
+drawn_are : (seed count : ℕ) → count ≤ 2 ^ 20 → ArePackets Limited Packet (generated_bytes seed count) (packet_rows Packet (generated_frames seed count))
 drawn_are seed count few = record {
   frames = generated_frames seed count;
   frames_are = rw (begins_pcap seed count) (made_is_capture seed count few);
@@ -77,28 +88,29 @@ read_whole seed count file left bytes few made takes =
     ]
 
 -- what is not read as truncated ends well
-read_well : (bytes : List ℕ) (rows : List RowValue) (cut : Option ℕ) → AreRowsTo true false packet_attrs bytes rows cut → ArePackets bytes rows
+read_well : (bytes : List ℕ) (rows : List RowValue) (cut : Option ℕ) → AreRowsTo (Packets Packet) false (attrs_by Packet) bytes rows cut
+    → ArePackets Limited Packet bytes rows
 read_well bytes rows None are = are
 read_well bytes rows (Some k) are = absurd are
 
 -- So its rows are those of the packets,
 pub drawn_taken : (Took : List RowValue → Type 0) (seed count : ℕ) (file left : List ℕ) (cut : Option ℕ) → count ≤ 2 ^ 20
     → file ≡ generated_bytes seed count
-    → TakesPackets false (λ (end : Option ℕ) (what : CaptureValue). (what.cut ≡ end) × Took what.rows) (Some file) (Some left) (Ok cut)
-    → Took (packet_rows (generated_frames seed count))
+    → TakesPackets Packet false (λ (end : Option ℕ) (what : CaptureValue). (what.cut ≡ end) × Took what.rows) (Some file) (Some left) (Ok cut)
+    → Took (packet_rows Packet (generated_frames seed count))
 drawn_taken Took seed count file left cut few made (bytes, what, takes, are, took) =
     let all : bytes ≡ generated_bytes seed count = read_whole seed count file left bytes few made takes in
-    let drawn = packets_same (generated_bytes seed count) what.rows (packet_rows (generated_frames seed count))
-    (subst (λ (xs : List ℕ). ArePackets xs what.rows) all (read_well bytes what.rows what.cut are)) (drawn_are seed count few) in
+    let drawn = packets_same Packet (generated_bytes seed count) what.rows (packet_rows Packet (generated_frames seed count))
+    (subst (λ (xs : List ℕ). ArePackets Limited Packet xs what.rows) all (read_well bytes what.rows what.cut are)) (drawn_are seed count few) in
     subst Took drawn took.1
 
 -- and it is want of memory alone that ends the work before.
 pub drawn_memory : (Took : Option ℕ → CaptureValue → Type 0) (seed count : ℕ) (file left : List ℕ) (halt : Halt) → count ≤ 2 ^ 20
-    → file ≡ generated_bytes seed count → TakesPackets false Took (Some file) (Some left) (Err halt)
+    → file ≡ generated_bytes seed count → TakesPackets Packet false Took (Some file) (Some left) (Err halt)
     → HasHaltCause {T = Option ℕ} 0 0 (Err halt) → (halt ≡ Stopped stops.Memory → ⊥) → ⊥
 drawn_memory Took seed count file left (Refused why) few made (bytes, takes, bad) cause other =
     let all : bytes ≡ generated_bytes seed count = read_whole seed count file left bytes few made takes in
-    packets_either (generated_bytes seed count) (packet_rows (generated_frames seed count)) bad.0 bad.1 (drawn_are seed count few)
-    (subst (λ (xs : List ℕ). HasPacketFault xs bad.0 bad.1) all bad.3.0)
+    packets_either Packet (generated_bytes seed count) (packet_rows Packet (generated_frames seed count)) bad.0 bad.1 (drawn_are seed count few)
+    (subst (λ (xs : List ℕ). HasPacketFault Limited Packet xs bad.0 bad.1) all bad.3.0)
 drawn_memory Took seed count file left (Stopped stops.ReadFault) few made stopped cause other = let rose : Rose 0 0 = cause.failed refl in omega (arith, rose)
 drawn_memory Took seed count file left (Stopped stops.Memory) few made stopped cause other = other refl

@@ -9,3 +9,4 @@ pub mod Ending
 pub mod Coming
 mod Counted
 pub mod Answering
+pub mod Watching

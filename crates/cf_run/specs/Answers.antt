@@ -2,13 +2,14 @@
 use Rattle.std.specs.Prelude.{◌≡◌, ◌⊎◌, ◌≤◌, ℕ, List, [], length, Some, None, Option}
 use Rattle.std.specs.Io.KnownBytes.{Appends, Keeps}
 use Rattle.cf_command.specs.declared.words.LogSizes.{LogSizes}
-use Rattle.cf_command.specs.Call.{Call}
-use Rattle.cf_command.specs.Call.Call.{run, synth, dump, snapshot}
+use Rattle.cf_command.specs.Call.{Call, WatchCall}
+use Rattle.cf_command.specs.Call.Call.{run, synth, dump, snapshot, watch}
 use Rattle.cf_outside.specs.Files.{File}
 use Rattle.cf_table.specs.Moves.{SealValue}
 use Rattle.cf_intake.specs.Devices.{WritesFront}
 use Rattle.cf_run.specs.Due.{IsDue, StopsAt}
 use Rattle.cf_run.specs.Refusals.{stop_status}
+use Rattle.cf_run.specs.Watched.{IsWatched}
 use Rattle.cf_intake.specs.declared.refusal.Stop.{Stop}
 use Rattle.cf_run.specs.declared.status.Status.{Status}
 use Rattle.cf_run.specs.declared.status.Status.TheVariants.{Done, Words, Setup, Capture, ReadFault, WriteFault, Full, Nodes, Memory, NoFile}
@@ -32,13 +33,15 @@ Yields status = (status ≡ Memory) ⊎ (status ≡ ReadFault) ⊎ (status ≡ W
 
 -- What is written, from what the sink held to what it holds, with the seals, and from what was left of the opened file to what is. The
 -- text that is due is written whole. Or the sink failed after a front of it: nothing is written before all was read. Or the work was
--- stopped before its end, and nothing is written.
+-- stopped before its end, and nothing is written. Or a capture was followed, and what its rounds say was written read by read.
 pub data RunAnswers (told : Option (List File)) (call : Option Call) (status : Status) (seals : List SealValue)
     (held now before after : Option (List ℕ)) : Type 0 where
   wrote : (text : List ℕ) → IsDue told call before after status text seals → Appends held now text → RunAnswers told call status seals held now before after
   cut : (due : Status) (text : List ℕ) (owed : List SealValue) → status ≡ WriteFault → seals ≡ [] → IsDue told call before after due text owed
       → WritesFront held now text → RunAnswers told call status seals held now before after
   stopped : (stop : Stop) → status ≡ stop_status stop → seals ≡ [] → StopsAt told call stop before after → Keeps held now
+      → RunAnswers told call status seals held now before after
+  watched : (watching : WatchCall) → call ≡ Some (watch watching) → seals ≡ [] → IsWatched told watching status held now after
       → RunAnswers told call status seals held now before after
 
 -- The threads decide between these two where the rows of some segment need more different nodes than one writer has in it, and those of
@@ -57,7 +60,7 @@ HasSeals sizes seals = (1 ≤ length seals) × (length seals ≤ sizes.segments)
 
 -- What the call alone says of a status and of the seals, whatever the files are. Only words that are no command come to that status. A
 -- synth opens no capture, and a dump has no setup and no log. A run or a synth that was done has a seal for each segment of its log, and a
--- dump and a snapshot have none.
+-- dump, a snapshot and a watch have none.
 abbrev pub IsByCall : Option Call → Status → List SealValue → Type 0
 IsByCall None status seals = (status ≡ Words) ⊎ (status ≡ Memory) ⊎ (status ≡ WriteFault)
 IsByCall (Some (run call)) status seals = (status ≡ Words → ⊥) × (status ≡ Done → HasSeals call.sizes seals)
@@ -65,3 +68,4 @@ IsByCall (Some (synth call)) status seals = (status ≡ Words → ⊥) × ((at c
 IsByCall (Some (dump call)) status seals = (status ≡ Words → ⊥) × ((line code : ℕ) → status ≡ Setup line code → ⊥) × (status ≡ Full → ⊥)
     × (status ≡ Nodes → ⊥) × (seals ≡ [])
 IsByCall (Some (snapshot call)) status seals = (status ≡ Words → ⊥) × (seals ≡ [])
+IsByCall (Some (watch call)) status seals = (status ≡ Words → ⊥) × (seals ≡ [])

@@ -1,5 +1,6 @@
 pub mod Work
 pub mod Refusals
+pub mod Watched
 pub mod Needs
 pub mod Seals
 pub mod Logs

@@ -1,11 +1,25 @@
 -- What the parts of the work answer.
-use Rattle.std.specs.Prelude.{ℕ, ◌≤◌, List, [], length, map, slice_index_or, Option, Result, Ok, Err}
+use Rattle.std.specs.Prelude.{◌≡◌, ◌⊎◌, ℕ, ◌≤◌, List, [], length, map, slice_index_or, Some, None, Option, Result, Ok, Err}
+use Rattle.std.specs.Io.KnownBytes.{Appends, Keeps}
 use Rattle.cf_outside.specs.Files.{File}
 use Rattle.cf_row.specs.Row.{RowValue}
-use Rattle.cf_command.specs.Call.{Call}
+use Rattle.cf_command.specs.Call.{Call, WatchCall}
+use Rattle.cf_command.specs.Call.Call.{watch}
+use Rattle.cf_follow.specs.Followed.{IsReady}
+use Rattle.cf_follow.specs.declared.watch.Watch.{Watch}
+use Rattle.cf_intake.specs.Files.{HasFile, HasLeft, IsFileAs, setups}
+use Rattle.cf_intake.specs.Devices.{WritesFront}
+use Rattle.cf_packet6.specs.Schema6.{attrs_by}
+use Rattle.cf_packet6.specs.declared.PacketSchema.{PacketSchema}
+use Rattle.cf_setup.specs.Setups.{SetupValue}
+use Rattle.cf_setup.specs.declared.source.Source.{Source}
+use Rattle.cf_setup.specs.declared.source.Source.TheVariants.{Packets, Records}
 use Rattle.cf_table.specs.Moves.{SealValue}
 use Rattle.cf_run.specs.Due.{IsDue, StopsAt}
+use Rattle.cf_run.specs.Watched.{IsOpened, begun_for}
 use Rattle.cf_intake.specs.Refusals.{line_of}
+use Rattle.cf_intake.specs.declared.refusal.Refusal.{Refusal}
+use Rattle.cf_intake.specs.declared.refusal.Refusal.TheVariants as refusals
 use Rattle.cf_run.specs.Refusals.{status_of}
 use Rattle.cf_run.specs.declared.draft.Draft.{Draft}
 use Rattle.cf_run.specs.declared.draft.Draft.TheVariants as drafts
@@ -15,7 +29,7 @@ use Rattle.cf_intake.specs.declared.refusal.Halt.{Halt}
 use Rattle.cf_intake.specs.declared.refusal.Halt.TheVariants.{Refused, Stopped}
 use Rattle.cf_intake.specs.declared.refusal.Stop.{Stop}
 use Rattle.cf_run.specs.declared.status.Status.{Status}
-use Rattle.cf_run.specs.declared.status.Status.TheVariants.{Done}
+use Rattle.cf_run.specs.declared.status.Status.TheVariants.{Done, Memory, WriteFault}
 
 -- within which record the capture of each host ends, if it does
 abbrev pub ends_each : List Captured → List (Option ℕ)
@@ -50,3 +64,36 @@ draft_seals (drafts.Refused why text) = []
 abbrev pub IsPrepared : Option (List File) → Option Call → Option (List ℕ) → Option (List ℕ) → Result Draft Stop → Type 0
 IsPrepared told call before now (Ok draft) = IsDue told call before now (draft_status draft) (draft_text draft) (draft_seals draft)
 IsPrepared told call before now (Err stop) = StopsAt told call stop before now
+
+-- the schema of the packets that a setup is over, or its refusal, whose schema is in that line
+abbrev pub packets_from : Source → ℕ → Result PacketSchema Halt
+packets_from (Packets schema) line = Ok schema
+packets_from Records line = Err (Refused (refusals.Setup line 4))
+
+-- the capture of that name is not opened, and what is left stays: there is none, or the shelf failed, or memory ran out
+abbrev pub IsUnopened : Option (List File) → List ℕ → Option (List ℕ) → Option (List ℕ) → Halt → Type 0
+IsUnopened told name before now (Refused why) = HasFile told name None × HasLeft told now before × (why ≡ refusals.NoFile)
+IsUnopened told name before now (Stopped stop) = HasLeft told now before
+
+-- the setup over packets of a watch was read, its capture is open, and it is to be followed from the first record on
+pub record IsBegun (told : Option (List File)) (call : WatchCall) (now : Option (List ℕ)) (watching : Watch) : Type 0 where
+  pub setup : SetupValue
+  pub set : IsFileAs setups told call.setup setup
+  pub kind : setup.source ≡ Packets watching.reads.schema
+  pub opens : IsOpened told call.capture now
+  pub begun : watching.rounds ≡ begun_for call setup
+  pub truncated : watching.truncated ≡ call.truncated
+  pub ready : IsReady watching.rounds watching.reads
+  pub packets : ((watching.rounds).window).shape.schema ≡ attrs_by watching.reads.schema
+
+-- a watch has begun, or the line of its refusal is due, or it was stopped
+abbrev pub Begins : Option (List File) → WatchCall → Option (List ℕ) → Option (List ℕ) → Result Watch Halt → Type 0
+Begins told call before now (Ok watching) = IsBegun told call now watching
+Begins told call before now (Err (Refused why)) = IsDue told (Some (watch call)) before now (status_of why) (line_of why) []
+Begins told call before now (Err (Stopped stop)) = StopsAt told (Some (watch call)) stop before now
+
+-- The line of a refusal was written, and the status is its own. Or the sink failed within it, or memory ran out.
+abbrev pub Refuses : Refusal → (held now : Option (List ℕ)) → Status → Type 0
+Refuses why held now status =
+    ((status ≡ status_of why) × Appends held now (line_of why)) ⊎ ((status ≡ WriteFault) × WritesFront held now (line_of why))
+    ⊎ ((status ≡ Memory) × Keeps held now)

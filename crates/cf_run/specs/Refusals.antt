@@ -1,4 +1,6 @@
--- With which status work ends that has no result.
+-- With which status work ends that has no result, and the following of a capture.
+use Rattle.cf_follow.specs.declared.ending.Ending.{Ending}
+use Rattle.cf_follow.specs.declared.ending.Ending.TheVariants as endings
 use Rattle.cf_intake.specs.declared.refusal.Refusal.{Refusal}
 use Rattle.cf_intake.specs.declared.refusal.Refusal.TheVariants.{Words, NoFile, Setup, Capture, Full, Nodes}
 use Rattle.cf_intake.specs.declared.refusal.Stop.{Stop}
@@ -19,3 +21,10 @@ status_of (Nodes nodes) = statuses.Nodes
 abbrev pub stop_status : Stop → Status
 stop_status ReadFault = statuses.ReadFault
 stop_status Memory = statuses.Memory
+
+-- the status with which the following of a capture ends
+abbrev pub ending_status : Ending → Status
+ending_status endings.Done = statuses.Done
+ending_status (endings.Refused why) = status_of why
+ending_status (endings.Stopped stop) = stop_status stop
+ending_status endings.Unwritten = statuses.WriteFault

@@ -1,7 +1,8 @@
 // The packets that a seed draws go into a log as they are read.
 ghost use Rattle.std.specs.Prelude.{◌≡◌, ◌≤◌, ◌^◌, [], IfOk};
 ghost use Rattle.cf_make.specs.Generated.{generated_bytes, generated_frames};
-ghost use Rattle.cf_row.specs.Schema.{packet_attrs};
+ghost use Rattle.cf_packet6.specs.Schema6.{attrs_by};
+ghost use Rattle.cf_packet6.specs.declared.PacketSchema.TheVariants.{Packet};
 ghost use Rattle.cf_run.specs.Filling.{IsFilled, KeepsLog};
 ghost use Rattle.cf_intake.specs.Rows.{packet_rows};
 
@@ -10,6 +11,7 @@ use crate::filling::Filling;
 use cf_intake::{Halt, Stop};
 use cf_make::make_capture;
 use cf_outside::{Gate, Shelf, SteadyShelf};
+use cf_packet6::PacketSchema;
 use cf_row::Memory;
 use std::alloc::{AllocError, Global};
 use std::thread::Threads;
@@ -40,13 +42,13 @@ pub(crate) fn fill_drawn<R: Threads + Sync, G: Gate>(
     gate: &G,
 ) -> Result<(), Memory>
     requires count { count ≤ 2 ^ 20 }
-    requires attrs { filling.old.segments.shape.schema ≡ packet_attrs }
+    requires attrs { filling.old.segments.shape.schema ≡ attrs_by Packet }
     requires none { IsFilled filling.old [] }
     ensures keeps { KeepsLog filling.old filling.new }
-    ensures filled { IfOk result (λ _. IsFilled filling.new (packet_rows (generated_frames seed count))) }
+    ensures filled { IfOk result (λ _. IsFilled filling.new (packet_rows Packet (generated_frames seed count))) }
 {
     let mut shelf = open_drawn(filling.alloc(), seed, count)?;
-    match fill_packets(rt, &mut shelf, false, filling, gate) {
+    match fill_packets(rt, &mut shelf, PacketSchema::Packet, false, filling, gate) {
         Ok(_) => Ok(()),
         Err(Halt::Stopped(Stop::Memory)) => Err(AllocError),
         // What is made is a capture, and no read of it fails.

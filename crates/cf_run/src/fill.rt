@@ -2,15 +2,16 @@
 ghost use Rattle.std.specs.Prelude.{◌≡◌, ◌≤◌, ◌<◌, ◌+◌, [], length, true, All, IfOk, OnErr};
 ghost use Rattle.std.specs.Thread.{IsSync};
 ghost use Rattle.cf_row.specs.Row.{Fits};
-ghost use Rattle.cf_row.specs.Schema.{packet_attrs};
+ghost use Rattle.cf_packet6.specs.Schema6.{attrs_by};
 ghost use Rattle.cf_intake.specs.Causes.{HasHaltCause, HasStopCause};
-ghost use Rattle.cf_intake.specs.Parts.{is_packets, attrs_in};
+ghost use Rattle.cf_intake.specs.Parts.{source_in, attrs_in};
 ghost use Rattle.cf_intake.specs.Reading.{HasMore, IfReadOn, ReadsOn, ReadsRows, StopsOn, TakesPackets, pieces_left};
 ghost use Rattle.cf_run.specs.Filling.{Fills, IsFilled, IsFilling, KeepsLog, most_waiting, rows_waiting};
 
 use crate::filling::Filling;
 use cf_intake::{Format, Halt, Manner, Pieces, Stop, open_packets, read_lines};
 use cf_outside::{Gate, Shelf};
+use cf_packet6::PacketSchema;
 use cf_row::{Memory, Row};
 use std::thread::{Threads, join_mut};
 
@@ -35,9 +36,10 @@ fn take_beside<R: Threads + Sync, F: Shelf, G: Gate>(
     ensures few { IfOk result.1 (λ given. IfReadOn pieces.old (F.rest shelf.old)
         (rows_waiting (length filling.old.waiting + length rows.old.items) (length given.items) ≤ most_waiting)) }
     ensures files { F.files shelf.new ≡ F.files shelf.old }
+    ensures schema { pieces.new.schema ≡ pieces.old.schema }
     ensures left { IfOk result.1 (λ _. pieces_left pieces.new < pieces_left pieces.old) }
     ensures read { IfOk result.1 (λ given. ReadsOn pieces.old pieces.new (F.rest shelf.old) (F.rest shelf.new) given.items) }
-    ensures fit { IfOk result.1 (λ given. All (Fits packet_attrs) given.items) }
+    ensures fit { IfOk result.1 (λ given. All (Fits (attrs_by pieces.old.schema)) given.items) }
     ensures stopped { OnErr result.1 (StopsOn pieces.old (F.rest shelf.old) (F.rest shelf.new)) }
     ensures cause { HasStopCause (F.faults shelf.old) (F.faults shelf.new) result.1 }
 {
@@ -55,30 +57,32 @@ fn take_beside<R: Threads + Sync, F: Shelf, G: Gate>(
         ensures left { IfOk result (λ _. pieces_left pieces.exit.now < pieces_left pieces.entry.now) }
         ensures few { IfOk result (λ given. IfReadOn pieces.entry.now (F.rest shelf.entry.now) (length given.items < wanted + 4096)) }
         ensures read { IfOk result (λ given. ReadsOn pieces.entry.now pieces.exit.now (F.rest shelf.entry.now) (F.rest shelf.exit.now) given.items) }
-        ensures fit { IfOk result (λ given. All (Fits packet_attrs) given.items) }
+        ensures schema { pieces.exit.now.schema ≡ pieces.entry.now.schema }
+        ensures fit { IfOk result (λ given. All (Fits (attrs_by pieces.entry.now.schema)) given.items) }
         ensures stopped { OnErr result (StopsOn pieces.entry.now (F.rest shelf.entry.now) (F.rest shelf.exit.now)) }
         ensures cause { HasStopCause (F.faults shelf.entry.now) (F.faults shelf.exit.now) result }
     { pieces.next_rows(alloc, shelf, wanted) };
     join_mut(rt, &mut take, &mut read)
 }
 
-/// Fills the log with the rows of the opened capture as they come. It is read to its end, or until 2^32 bytes were taken. One that may
+/// Fills the log with the rows of the opened capture by that schema as they come. It is read to its end, or until 2^32 bytes were taken. One that may
 /// be truncated says within which record it ends, if it does.
 pub(crate) fn fill_packets<R: Threads + Sync, F: Shelf, G: Gate>(
     rt: &R,
     shelf: &mut F,
+    schema: PacketSchema,
     truncated: bool,
     filling: &mut Filling,
     gate: &G,
 ) -> Result<Option<u32>, Halt>
-    requires attrs { filling.old.segments.shape.schema ≡ packet_attrs }
+    requires attrs { filling.old.segments.shape.schema ≡ attrs_by schema }
     requires none { IsFilled filling.old [] }
     ensures keeps { KeepsLog filling.old filling.new }
     ensures files { F.files shelf.new ≡ F.files shelf.old }
-    ensures taken { TakesPackets truncated (λ cut what. (what.cut ≡ cut) × IsFilled filling.new what.rows) (F.rest shelf.old) (F.rest shelf.new) result }
+    ensures taken { TakesPackets schema truncated (λ cut what. (what.cut ≡ cut) × IsFilled filling.new what.rows) (F.rest shelf.old) (F.rest shelf.new) result }
     ensures cause { HasHaltCause (F.faults shelf.old) (F.faults shelf.new) result }
 {
-    let (mut pieces, mut rows) = Pieces::begin(filling.alloc(), shelf)?;
+    let (mut pieces, mut rows) = Pieces::begin(filling.alloc(), shelf, schema)?;
     while pieces.has_more() {
         let (taken, given) = take_beside(rt, shelf, filling, gate, &mut rows, &mut pieces);
         rows = given?;
@@ -102,14 +106,14 @@ pub(crate) fn fill_rows<R: Threads + Sync, F: Shelf, G: Gate>(
     requires none { IsFilled filling.old [] }
     ensures keeps { KeepsLog filling.old filling.new }
     ensures files { F.files shelf.new ≡ F.files shelf.old }
-    ensures read { ReadsRows (is_packets manner.entry.format) manner.entry.truncated (attrs_in manner.entry.format)
+    ensures read { ReadsRows (source_in manner.entry.format) manner.entry.truncated (attrs_in manner.entry.format)
         (IsFilled filling.new) (F.files shelf.old) name.now (F.rest shelf.old) (F.rest shelf.new) result }
     ensures cause { HasHaltCause (F.faults shelf.old) (F.faults shelf.new) result }
 {
     match manner.format {
-        Format::Packets => {
+        Format::Packets(schema) => {
             open_packets(shelf, name)?;
-            fill_packets(rt, shelf, manner.truncated, filling, gate)
+            fill_packets(rt, shelf, schema, manner.truncated, filling, gate)
         }
         Format::Records(schema) => {
             let mut rows = read_lines(filling.alloc(), shelf, name, schema)?;

@@ -13,6 +13,8 @@ mod fill;
 mod filling;
 mod log;
 #[cfg(test)]
+mod packet6_tests;
+#[cfg(test)]
 mod piece_tests;
 mod prepare;
 mod program;
@@ -30,6 +32,9 @@ mod top;
 mod truncated;
 #[cfg(test)]
 mod truncated_tests;
+mod watched;
+#[cfg(test)]
+mod watched_tests;
 
 pub use program::start;
 pub use status::{Outcome, Status};

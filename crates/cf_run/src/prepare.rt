@@ -1,9 +1,11 @@
 // The work up to the text that is to be written.
-ghost use Rattle.std.specs.Prelude.{◌≡◌, ◌≤◌, ◌^◌, Some, None};
-ghost use Rattle.cf_command.specs.Call.{AreSizes, IsSnapshotInRange, call_of, run_by, synth_by, dump_by, snapshot_by, texts};
+ghost use Rattle.std.specs.Prelude.{◌≡◌, ◌≤◌, ◌^◌, Some, None, IfSome, option_map};
+ghost use Rattle.cf_command.specs.Call.{AreSizes, IsInRange, IsSnapshotInRange, call_by, run_by, synth_by, dump_by, snapshot_by};
 ghost use Rattle.cf_command.specs.Call.Call.{run, synth, dump, snapshot};
 ghost use Rattle.cf_intake.specs.Causes.{HasHaltCause, HasStopCause};
 ghost use Rattle.cf_run.specs.Parts.{EndsWith, IsPrepared};
+ghost use Rattle.cf_run.specs.Watched.{IsNoWatch};
+ghost use Rattle.cf_run.specs.Work.{draws as draws_from};
 
 use crate::draft::{Draft, Product, refused};
 use crate::drawn::fill_drawn;
@@ -12,14 +14,13 @@ use crate::fill::fill_rows;
 use crate::log::{final_of, opened, report_of};
 use crate::snapshot::{cut_text, is_some_full, load_hosts};
 use crate::truncated::with_truncated;
-use cf_command::{
-    Command, DumpCommand, LogSizes, RunCommand, SnapshotCommand, SynthCommand, command_of,
-};
+use cf_command::{Command, DumpCommand, LogSizes, RunCommand, SnapshotCommand, SynthCommand};
 use cf_intake::{
     Format, Halt, Manner, Refusal, Stop, collect_rows, format_of, read_hosts, read_setup,
 };
 use cf_outside::{Gate, Shelf};
-use cf_row::packet_schema;
+use cf_packet6::PacketSchema;
+use cf_setup::Source;
 use std::alloc::Global;
 use std::thread::Threads;
 
@@ -57,6 +58,13 @@ fn run_report<R: Threads + Sync, F: Shelf, G: Gate>(
     }
 }
 
+// Whether rows are drawn of a setup that reads from this.
+fn draws(source: Source) -> bool
+    ensures { result ≡ draws_from source }
+{
+    matches!(source, Source::Packets(PacketSchema::Packet))
+}
+
 // The answers that a synth is called for.
 fn synth_answers<R: Threads + Sync, F: Shelf, G: Gate>(
     rt: &R,
@@ -72,7 +80,7 @@ fn synth_answers<R: Threads + Sync, F: Shelf, G: Gate>(
     ensures cause { HasHaltCause (F.faults shelf.old) (F.faults shelf.new) result }
 {
     let setup = read_setup(alloc, shelf, command.setup)?;
-    if !setup.packet() {
+    if !draws(setup.source()) {
         let line = setup.schema_line();
         return Err(Halt::Refused(Refusal::Setup { line, code: 4 }));
     }
@@ -100,9 +108,9 @@ fn dump_listing<F: Shelf>(
     ensures ends { EndsWith (F.files shelf.old) (Some (dump (dump_by command.now))) (F.rest shelf.old) (F.rest shelf.new) result }
     ensures cause { HasHaltCause (F.faults shelf.old) (F.faults shelf.new) result }
 {
-    let schema = packet_schema(alloc)?;
+    let schema = command.schema.schema(alloc)?;
     let manner = Manner {
-        format: Format::Packets,
+        format: Format::Packets(command.schema),
         truncated: command.truncated,
     };
     let captured = collect_rows(alloc, shelf, command.capture, manner)?;
@@ -148,42 +156,48 @@ fn snapshot_answers<R: Threads + Sync, F: Shelf, G: Gate>(
     Ok(Product { text, seals })
 }
 
-// What the words and files call for.
+// What a command that is no watch, or none, and the files call for.
 fn product_of<R: Threads + Sync, F: Shelf, G: Gate>(
     rt: &R,
     alloc: Global,
-    words: &[&str],
+    command: Option<Command>,
     shelf: &mut F,
     gate: &G,
 ) -> Result<Product, Halt>
+    requires range { IfSome command IsInRange }
+    requires whole { IsNoWatch (option_map call_by command) }
     ensures files { F.files shelf.new ≡ F.files shelf.old }
-    ensures ends { EndsWith (F.files shelf.old) (call_of (texts words.now)) (F.rest shelf.old) (F.rest shelf.new) result }
+    ensures ends { EndsWith (F.files shelf.old) (option_map call_by command.entry) (F.rest shelf.old) (F.rest shelf.new) result }
     ensures cause { HasHaltCause (F.faults shelf.old) (F.faults shelf.new) result }
-    ensures no_words { call_of (texts words.now) ≡ None → shelf.new ≡ shelf.old }
+    ensures no_words { option_map call_by command.entry ≡ None → shelf.new ≡ shelf.old }
 {
-    match command_of(alloc, words)? {
+    match command {
         Some(Command::Run(command)) => run_report(rt, alloc, &command, shelf, gate),
         Some(Command::Synth(command)) => synth_answers(rt, alloc, &command, shelf, gate),
         Some(Command::Dump(command)) => dump_listing(alloc, &command, shelf),
         Some(Command::Snapshot(command)) => snapshot_answers(rt, alloc, &command, shelf, gate),
+        // A watch is no report.
+        Some(Command::Watch(_)) => unreachable!(),
         None => Err(Halt::Refused(Refusal::Words)),
     }
 }
 
-/// What is to be written for the words and files, or why nothing is.
+/// What is to be written for a command that is no watch, or none, and the files, or why nothing is.
 pub(crate) fn prepare<R: Threads + Sync, F: Shelf, G: Gate>(
     rt: &R,
     alloc: Global,
-    words: &[&str],
+    command: Option<Command>,
     shelf: &mut F,
     gate: &G,
 ) -> Result<Draft, Stop>
+    requires range { IfSome command IsInRange }
+    requires whole { IsNoWatch (option_map call_by command) }
     ensures files { F.files shelf.new ≡ F.files shelf.old }
-    ensures prepared { IsPrepared (F.files shelf.old) (call_of (texts words.now)) (F.rest shelf.old) (F.rest shelf.new) result }
+    ensures prepared { IsPrepared (F.files shelf.old) (option_map call_by command.entry) (F.rest shelf.old) (F.rest shelf.new) result }
     ensures cause { HasStopCause (F.faults shelf.old) (F.faults shelf.new) result }
-    ensures no_words { call_of (texts words.now) ≡ None → shelf.new ≡ shelf.old }
+    ensures no_words { option_map call_by command.entry ≡ None → shelf.new ≡ shelf.old }
 {
-    match product_of(rt, alloc, words, shelf, gate) {
+    match product_of(rt, alloc, command, shelf, gate) {
         Ok(Product { text, seals }) => Ok(Draft::Done { text, seals }),
         Err(Halt::Refused(refusal)) => refused(alloc, refusal),
         Err(Halt::Stopped(stop)) => Err(stop),

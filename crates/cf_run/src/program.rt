@@ -5,6 +5,7 @@ ghost use Rattle.std.specs.Vec.Iter.{into_iter_items};
 ghost use Rattle.cf_command.specs.Call.{call_of, texts as texts_of};
 ghost use Rattle.cf_outside.specs.Causes.{Rose};
 ghost use Rattle.cf_run.specs.Ending.{EndsBy, HasEnded};
+ghost use Rattle.cf_run.specs.Watched.{IsNoWatch};
 
 use crate::{Status, run};
 use cf_outside::{FileShelf, FreeGate, Gate, Shelf, Sink, StdSink};
@@ -34,8 +35,8 @@ fn run_to_code<R: Threads + Sync, F: Shelf, K: Sink, G: Gate>(
     ensures files { F.files shelf.new ≡ F.files shelf.old }
 
     // 8 is the number of `Memory`, 4 of `ReadFault` and 5 of `WriteFault`.
-    ensures no_memory_no_write { exit_status result ≡ 8 → sink.new ≡ sink.old }
-    ensures no_read_no_write { exit_status result ≡ 4 → sink.new ≡ sink.old }
+    ensures no_memory_no_write { IsNoWatch (call_of (texts_of words.now)) → exit_status result ≡ 8 → sink.new ≡ sink.old }
+    ensures no_read_no_write { IsNoWatch (call_of (texts_of words.now)) → exit_status result ≡ 4 → sink.new ≡ sink.old }
     ensures read_fault { exit_status result ≡ 4 → Rose (F.faults shelf.old) (F.faults shelf.new) }
     ensures write_fault { exit_status result ≡ 5 → Rose (K.faults sink.old) (K.faults sink.new) }
     ensures shelf_count { F.faults shelf.old ≤ F.faults shelf.new }

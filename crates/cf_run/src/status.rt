@@ -1,8 +1,9 @@
 // How the program ends.
 ghost use Rattle.std.specs.Prelude.{◌≡◌};
 ghost use Rattle.cf_run.specs.Answers.{number_of};
-ghost use Rattle.cf_run.specs.Refusals.{status_of, stop_status};
+ghost use Rattle.cf_run.specs.Refusals.{ending_status, status_of, stop_status};
 
+use cf_follow::Ending;
 use cf_intake::{Refusal, Stop};
 use cf_table::Seal;
 
@@ -25,7 +26,7 @@ pub enum Status {
     Full,
     /// The paths of the records in a segment need more different nodes than a writer has in it.
     Nodes,
-    /// Want of memory. Nothing was written.
+    /// Want of memory. Nothing was written, but of a watch what its rounds said before.
     Memory,
     /// No file has the name of the setup or of a capture.
     NoFile,
@@ -73,6 +74,19 @@ impl From<Stop> for Status {
         match stop {
             Stop::ReadFault => Status::ReadFault,
             Stop::Memory => Status::Memory,
+        }
+    }
+}
+
+impl From<Ending> for Status {
+    ghost from_gives = { λ ending status. status ≡ ending_status ending };
+
+    fn from(ending: Ending) -> Status {
+        match ending {
+            Ending::Done => Status::Done,
+            Ending::Refused(refusal) => Status::from(refusal),
+            Ending::Stopped(stop) => Status::from(stop),
+            Ending::Unwritten => Status::WriteFault,
         }
     }
 }

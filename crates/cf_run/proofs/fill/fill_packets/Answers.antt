@@ -1,11 +1,13 @@
 use Rattle.std.proofs.Common.{◌≡◌, arith, ℕ, List, [], ◌++◌, Option, Result, Err, OnErr, All, sym, ap, subst, ◌∙◌}
 use Rattle.std.proofs.lemmas.Result.{err_from_is_err_and, IfOk-at_ok}
 use Rattle.cf_row.specs.Row.{RowValue, Fits}
-use Rattle.cf_row.specs.Schema.{packet_attrs}
 use Rattle.cf_row.specs.declared.schema.Attr.{Attr}
+use Rattle.cf_packet6.specs.declared.PacketSchema.{PacketSchema}
+use Rattle.cf_packet6.specs.Schema6.{attrs_by}
 use Rattle.cf_shape.specs.Lanes.{ShapeValue}
 use Rattle.cf_run.specs.Filling.{IsFilled}
 use Rattle.cf_run.proofs.Filled.{keeps_all, keeps_then, waits_few, waits_short}
+use Rattle.cf_intake.specs.Reading.{TakesPackets}
 use Rattle.cf_intake.proofs.Piecewise.{stopped_on, finished_so}
 use Rattle.cf_run.proofs.fill.fill_packets.Goals as goal
 
@@ -14,15 +16,16 @@ on_err_at : {T E P : Type 0} (r : Result T E) (y : E) → r ≡ Err y → OnErr 
 on_err_at {P = P} r y is said = subst (λ s. OnErr s P) is said
 
 -- rows of packets fit the schema of a log of packets
-fit_now : (now shape : ShapeValue) (rows : List RowValue) → now ≡ shape → shape.schema ≡ packet_attrs → All (Fits packet_attrs) rows
+fit_now : (attrs : List Attr) (now shape : ShapeValue) (rows : List RowValue) → now ≡ shape → shape.schema ≡ attrs → All (Fits attrs) rows
     → All (Fits now.schema) rows
-fit_now now shape rows same attrs fit =
-    subst (λ (attributes : List Attr). All (Fits attributes) rows) (sym (ap (λ (h : ShapeValue). h.schema) same ∙ attrs)) fit
+fit_now attrs now shape rows same are fit =
+    subst (λ (attributes : List Attr). All (Fits attributes) rows) (sym (ap (λ (h : ShapeValue). h.schema) same ∙ are)) fit
 
 pub loop-shelf-init : goal.loop-shelf-init
 loop-shelf-init g c = record {
   files = c.in_ok-pieces.ensures.files;
   later = c.in_ok-pieces.ensures.cause.later;
+  schema = c.in_ok-pieces.ensures.schema;
   fit = c.in_ok-pieces.ensures.fit;
   few = (
       let begun = c.in_ok-pieces.ensures.few in
@@ -36,7 +39,7 @@ loop-shelf-init g c = record {
 pub take_beside-taken-requires-clause-fit : goal.take_beside-taken-requires-clause-fit
 take_beside-taken-requires-clause-fit g c = λ κs within.
     let v = c.loop-shelf.invariant in
-    fit_now c.loop-shelf.filling.segments.shape c.args.filling.now.segments.shape c.loop-shelf.rows.items v.keeps.shape c.requires.attrs v.fit
+    fit_now (attrs_by c.args.schema) c.loop-shelf.filling.segments.shape c.args.filling.now.segments.shape c.loop-shelf.rows.items v.keeps.shape c.requires.attrs v.fit
 
 pub loop-shelf-preserved : goal.loop-shelf-preserved
 loop-shelf-preserved g c =
@@ -53,7 +56,8 @@ loop-shelf-preserved g c =
     record {
       files = beside.files ∙ v.files;
       later = omega (arith, first, then);
-      fit = IfOk-at_ok _ c.in_ok-rows.was beside.fit;
+      schema = beside.schema ∙ v.schema;
+      fit = subst (λ (s : PacketSchema). All (Fits (attrs_by s)) c.in_ok-rows.rows.items) v.schema (IfOk-at_ok _ c.in_ok-rows.was beside.fit);
       few = (
           let wait = waits_few old new rows c.loop-shelf.rows.items v.taken.2 filled beside.keeps beside.stops in
           let ahead = IfOk-at_ok _ c.in_ok-rows.was beside.few before more v.taken.1 in
@@ -90,7 +94,7 @@ returns-in_err-take_rows-clause-taken g c =
 pub take_rows-requires-clause-fit : goal.take_rows-requires-clause-fit
 take_rows-requires-clause-fit g c = λ κs within.
     let v = c.loop-shelf.invariant in
-    fit_now c.loop-shelf.filling.segments.shape c.args.filling.now.segments.shape c.loop-shelf.rows.items v.keeps.shape c.requires.attrs v.fit
+    fit_now (attrs_by c.args.schema) c.loop-shelf.filling.segments.shape c.args.filling.now.segments.shape c.loop-shelf.rows.items v.keeps.shape c.requires.attrs v.fit
 
 pub returns-clause-taken : goal.returns-clause-taken
 returns-clause-taken g c =
@@ -99,7 +103,9 @@ returns-clause-taken g c =
     let v = c.loop-shelf.invariant.taken in
     let all : List RowValue = v.0 ++ c.loop-shelf.rows.items in
     let filled : IsFilled c.take_rows.new.self all = c.in_ok-take_rows.ensures.filled v.0 v.2 in
-    finished_so c.args.truncated (IsFilled c.take_rows.new.self) before now all c.finish.result (c.finish.ensures.taken before now all v.1) filled
+    finished_so c.args.schema c.args.truncated (IsFilled c.take_rows.new.self) before now all c.finish.result
+    (subst (λ (s : PacketSchema). TakesPackets s c.args.truncated (λ (cut : Option ℕ) what. what ≡ record { rows = all; cut = cut }) before now c.finish.result)
+    c.loop-shelf.invariant.schema (c.finish.ensures.taken before now all v.1)) filled
 
 pub returns-clause-cause : goal.returns-clause-cause
 returns-clause-cause g c =

@@ -1,5 +1,6 @@
 use Rattle.std.proofs.Common.{false, None}
 use Rattle.std.proofs.lemmas.Result.{err_from_is_err_and}
+use Rattle.cf_setup.specs.declared.source.Source.TheVariants.{Records}
 use Rattle.cf_intake.specs.Files.{captures}
 use Rattle.cf_run.specs.Filling.{IsFilled}
 use Rattle.cf_run.proofs.Coming.{whole_taken}
@@ -10,13 +11,13 @@ pub returns-in_err-take_rows-in-Records-clause-read : goal.returns-in_err-take_r
 returns-in_err-take_rows-in-Records-clause-read g c =
     let p = err_from_is_err_and c.from_residual-in_err-take_rows-in-Records.result c.from_residual-in_err-take_rows-in-Records.ensures.1 in
     rw (c.in-Records.is, p.1, p.2)
-    (whole_taken (captures false false c.in-Records.schema.now) (g.F.Shelf.files c.args.shelf.now) c.args.name.now (g.F.Shelf.rest c.args.shelf.now)
+    (whole_taken (captures Records false c.in-Records.schema.now) (g.F.Shelf.files c.args.shelf.now) c.args.name.now (g.F.Shelf.rest c.args.shelf.now)
     (g.F.Shelf.rest c.read_lines.new.shelf) (record { rows = c.in_ok-rows-in-Records.rows.items; cut = None }) c.in_ok-rows-in-Records.ensures.read)
 
 pub returns-in_ok-open_packets-in-Packets-clause-read : goal.returns-in_ok-open_packets-in-Packets-clause-read
 returns-in_ok-open_packets-in-Packets-clause-read g c =
     rw c.in-Packets.is
-    (packets_read c.args.manner.truncated (IsFilled c.fill_packets.new.filling) (g.F.Shelf.files c.args.shelf.now) c.args.name.now
+    (packets_read c.in-Packets.schema c.args.manner.truncated (IsFilled c.fill_packets.new.filling) (g.F.Shelf.files c.args.shelf.now) c.args.name.now
     (g.F.Shelf.rest c.args.shelf.now)
     (g.F.Shelf.rest c.open_packets.new.shelf)
     (g.F.Shelf.rest c.fill_packets.new.shelf) c.fill_packets.result c.in_ok-open_packets-in-Packets.ensures.opened c.fill_packets.ensures.taken)
@@ -24,7 +25,7 @@ returns-in_ok-open_packets-in-Packets-clause-read g c =
 pub returns-in_err-open_packets-in-Packets-clause-read : goal.returns-in_err-open_packets-in-Packets-clause-read
 returns-in_err-open_packets-in-Packets-clause-read g c =
     let p = err_from_is_err_and c.from_residual.result c.from_residual.ensures.1 in
-    rw (p.1, p.2, c.in-Packets.is) (c.in_err-open_packets-in-Packets.ensures.opened c.args.manner.truncated)
+    rw (p.1, p.2, c.in-Packets.is) (c.in_err-open_packets-in-Packets.ensures.opened c.in-Packets.schema c.args.manner.truncated)
 
 pub returns-in_err-rows-in-Records-clause-read : goal.returns-in_err-rows-in-Records-clause-read
 returns-in_err-rows-in-Records-clause-read g c =

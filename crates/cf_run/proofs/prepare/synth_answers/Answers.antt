@@ -2,9 +2,10 @@ use Rattle.std.proofs.Common.{◌≡◌, ◌∙◌, true, false, ap, arith, rule
 use Rattle.std.proofs.lemmas.Result.{err_from_is_err_and}
 use Rattle.cf_command.specs.Call.{synth_by}
 use Rattle.cf_shape.specs.Lanes.{ShapeValue}
-use Rattle.cf_run.specs.Work.{drawn_rows}
+use Rattle.cf_packet6.specs.declared.PacketSchema.TheVariants.{Packet}
+use Rattle.cf_run.specs.Work.{draws, drawn_rows}
 use Rattle.cf_run.proofs.Coming.{synth_unset, synth_other, synth_full, synth_sealed, synth_stopped, synth_unmade, unmade_unfailed}
-use Rattle.cf_run.proofs.Drawing.{drawn_many}
+use Rattle.cf_run.proofs.Drawing.{drawn_many, draws_packets}
 use Rattle.cf_run.proofs.Filled.{filled_few, filled_on}
 use Rattle.cf_run.proofs.prepare.synth_answers.Goals as goal
 
@@ -15,16 +16,16 @@ returns-in_err-setup-clause-ends g c =
     (synth_unset (g.F.Shelf.files c.args.shelf.now) (synth_by c.args.command.now) (g.F.Shelf.rest c.args.shelf.now)
     (g.F.Shelf.rest c.read_setup.new.shelf) _ c.in_err-setup.ensures.read)
 
-pub returns-then-not-packet-clause-ends : goal.returns-then-not-packet-clause-ends
-returns-then-not-packet-clause-ends g c =
-    let records : c.in_ok-setup.setup.packet ≡ false = search rules in
+pub returns-then-not-draws-clause-ends : goal.returns-then-not-draws-clause-ends
+returns-then-not-draws-clause-ends g c =
+    let records : draws c.in_ok-setup.setup.source ≡ false = search rules in
     rw c.schema_line-line.ensures
     (synth_other (g.F.Shelf.files c.args.shelf.now) (synth_by c.args.command.now) (g.F.Shelf.rest c.args.shelf.now)
     (g.F.Shelf.rest c.read_setup.new.shelf) c.in_ok-setup.setup c.in_ok-setup.ensures.read records)
 
 pub returns-then-command-most-clause-ends : goal.returns-then-command-most-clause-ends
 returns-then-command-most-clause-ends g c =
-    let packets : c.in_ok-setup.setup.packet ≡ true = search rules in
+    let packets : draws c.in_ok-setup.setup.source ≡ true = search rules in
     let most = c.most-most.ensures in
     rw most (synth_full (g.F.Shelf.files c.args.shelf.now) (synth_by c.args.command.now) (g.F.Shelf.rest c.args.shelf.now)
     (g.F.Shelf.rest c.read_setup.new.shelf) c.in_ok-setup.setup c.in_ok-setup.ensures.read packets
@@ -39,8 +40,9 @@ returns-in_err-filling-clause-ends g c =
 
 pub fill_drawn-requires-clause-attrs : goal.fill_drawn-requires-clause-attrs
 fill_drawn-requires-clause-attrs g c κs within =
-    let packets : c.in_ok-setup.setup.packet ≡ true = search rules in
-    ap (λ (s : ShapeValue). s.schema) c.in_ok-filling.ensures.shape ∙ c.in_ok-setup.ensures.lawful.schema packets
+    let packets : draws c.in_ok-setup.setup.source ≡ true = search rules in
+    ap (λ (s : ShapeValue). s.schema) c.in_ok-filling.ensures.shape
+    ∙ c.in_ok-setup.ensures.lawful.schema Packet (draws_packets c.in_ok-setup.setup.source packets)
 
 pub returns-in_err-fill_drawn-clause-ends : goal.returns-in_err-fill_drawn-clause-ends
 returns-in_err-fill_drawn-clause-ends g c =
@@ -75,7 +77,7 @@ final_of-requires-clause-few g c κs within =
 
 pub returns-in-Ok-clause-ends : goal.returns-in-Ok-clause-ends
 returns-in-Ok-clause-ends g c =
-    let packets : c.in_ok-setup.setup.packet ≡ true = search rules in
+    let packets : draws c.in_ok-setup.setup.source ≡ true = search rules in
     let command = synth_by c.args.command.now in
     let old = c.in_ok-filling.filling in
     let new = c.fill_drawn.new.filling in
@@ -90,7 +92,7 @@ returns-in-Ok-clause-ends g c =
 
 pub returns-clause-ends : goal.returns-clause-ends
 returns-clause-ends g c =
-    let packets : c.in_ok-setup.setup.packet ≡ true = search rules in
+    let packets : draws c.in_ok-setup.setup.source ≡ true = search rules in
     let command = synth_by c.args.command.now in
     let old = c.in_ok-filling.filling in
     let new = c.fill_drawn.new.filling in

@@ -1,113 +1,53 @@
-use Rattle.std.proofs.Common.{inl, inr, ◌∙◌}
-use Rattle.cf_command.specs.Call.{call_of, texts}
-use Rattle.cf_command.proofs.Sizes.{has_sizes}
-use Rattle.cf_run.specs.Answers.RunAnswers.{wrote, cut, stopped}
-use Rattle.cf_run.specs.Parts.{draft_status, draft_text, draft_seals}
-use Rattle.cf_run.proofs.Answering.{decided_if, complete_if, decided_free, complete_free, stop_yields, by_due, by_cut, by_stop, words_text, words_call, keeps_same, due_as, never_yields, draft_unsealed}
+use Rattle.std.proofs.Common.{◌≡◌, ◌⊎◌, Option, Some, IfSome, rules, subst, sym}
+use Rattle.cf_command.specs.Call.{Call, call_of, texts, watch_by}
+use Rattle.cf_command.specs.Call.Call.{watch}
+use Rattle.cf_intake.specs.declared.refusal.Stop.TheVariants as stops
+use Rattle.cf_run.specs.Answers.{IsDecided, RunAnswers, Yields}
+use Rattle.cf_run.specs.Answers.RunAnswers.{stopped}
+use Rattle.cf_run.specs.Due.{IsLawful}
+use Rattle.cf_run.specs.declared.status.Status.{Status}
+use Rattle.cf_run.specs.declared.status.Status.TheVariants.{Done}
+use Rattle.cf_run.proofs.Answering.{keeps_same}
+use Rattle.cf_run.proofs.Coming.{stops_unopened}
+use Rattle.cf_run.proofs.Watching.{answers_as}
 use Rattle.cf_run.proofs.top.run.Goals as goal
+
+pub returns-in-Some-Watch-clause-written : goal.returns-in-Some-Watch-clause-written
+returns-in-Some-Watch-clause-written g c =
+    let is : (Some (watch (watch_by c.in-Some-Watch.command))) ≡ call_of (texts c.args.words.now) = search rules in
+    answers_as (g.F.Shelf.files c.args.shelf.now) (Some (watch (watch_by c.in-Some-Watch.command))) (call_of (texts c.args.words.now)) c.watch.result
+    c.unsealed-in-Some-Watch.result.status c.unsealed-in-Some-Watch.result.seals.items (g.K.Sink.held c.args.sink.now) (g.K.Sink.held c.watch.new.sink)
+    (g.F.Shelf.rest c.args.shelf.now)
+    (g.F.Shelf.rest c.watch.new.shelf) is c.unsealed-in-Some-Watch.ensures.status c.unsealed-in-Some-Watch.ensures.none c.watch.ensures.written
+
+pub returns-in-Some-Watch-clause-decided : goal.returns-in-Some-Watch-clause-decided
+returns-in-Some-Watch-clause-decided g c =
+    let is : (Some (watch (watch_by c.in-Some-Watch.command))) ≡ call_of (texts c.args.words.now) = search rules in
+    subst (λ (call : Option Call). IfSome (g.F.Shelf.files c.args.shelf.now) (λ files. IsDecided files call c.unsealed-in-Some-Watch.result.status)) is
+    (subst (λ (s : Status). IfSome (g.F.Shelf.files c.args.shelf.now) (λ files. IsDecided files (Some (watch (watch_by c.in-Some-Watch.command))) s))
+    (sym c.unsealed-in-Some-Watch.ensures.status) c.watch.ensures.decided)
+
+pub returns-in_default-clause-written : goal.returns-in_default-clause-written
+returns-in_default-clause-written g c =
+    let is = c.in-Ok.ensures.call in
+    subst (λ (call : Option Call). RunAnswers (g.F.Shelf.files c.args.shelf.now) call c.report.result.status c.report.result.seals.items
+    (g.K.Sink.held c.args.sink.now) (g.K.Sink.held c.report.new.sink) (g.F.Shelf.rest c.args.shelf.now) (g.F.Shelf.rest c.report.new.shelf))
+    is c.report.ensures.written
+
+pub returns-in_default-clause-decided : goal.returns-in_default-clause-decided
+returns-in_default-clause-decided g c =
+    let is = c.in-Ok.ensures.call in
+    subst (λ (call : Option Call). IfSome (g.F.Shelf.files c.args.shelf.now) (λ files. IsDecided files call c.report.result.status))
+    is c.report.ensures.decided
+
+pub returns-in_default-clause-complete : goal.returns-in_default-clause-complete
+returns-in_default-clause-complete g c =
+    let is = c.in-Ok.ensures.call in
+    subst (λ (call : Option Call). IfSome (g.F.Shelf.files c.args.shelf.now) (λ files. IsLawful (Some files) call
+    → (c.report.result.status ≡ Done) ⊎ Yields c.report.result.status)) is c.report.ensures.complete
 
 pub returns-in-Err-clause-written : goal.returns-in-Err-clause-written
 returns-in-Err-clause-written g c =
-    stopped c.in-Err.stop (c.unsealed.ensures.status ∙ c.from.ensures) c.unsealed.ensures.none c.in-Err.ensures.prepared
+    stopped stops.Memory c.unsealed.ensures.status c.unsealed.ensures.none
+    (stops_unopened (g.F.Shelf.files c.args.shelf.now) (call_of (texts c.args.words.now)) (g.F.Shelf.rest c.args.shelf.now))
     (keeps_same (g.K.Sink.held c.args.sink.now))
-
-pub returns-in-Err-clause-by_command : goal.returns-in-Err-clause-by_command
-returns-in-Err-clause-by_command g c =
-    by_stop (g.F.Shelf.files c.args.shelf.now) (call_of (texts c.args.words.now)) (g.F.Shelf.rest c.args.shelf.now)
-    (g.F.Shelf.rest c.prepare.new.shelf) c.unsealed.result.status c.unsealed.result.seals.items c.in-Err.stop
-    (c.unsealed.ensures.status ∙ c.from.ensures) c.unsealed.ensures.none c.in-Err.ensures.prepared
-
-pub returns-in-Err-clause-decided : goal.returns-in-Err-clause-decided
-returns-in-Err-clause-decided g c = decided_free _ _ _ (stop_yields _ c.in-Err.stop (c.unsealed.ensures.status ∙ c.from.ensures))
-
-pub returns-in-Err-clause-complete : goal.returns-in-Err-clause-complete
-returns-in-Err-clause-complete g c = complete_free _ _ _ (stop_yields _ c.in-Err.stop (c.unsealed.ensures.status ∙ c.from.ensures))
-
-pub returns-in-Ok-write_all-clause-written : goal.returns-in-Ok-write_all-clause-written
-returns-in-Ok-write_all-clause-written g c =
-    wrote (draft_text c.in-Ok.draft)
-    (due_as (g.F.Shelf.files c.args.shelf.now) (call_of (texts c.args.words.now)) (g.F.Shelf.rest c.args.shelf.now) (g.F.Shelf.rest c.prepare.new.shelf)
-    (draft_status c.in-Ok.draft) c.status.result (draft_text c.in-Ok.draft)
-    (draft_seals c.in-Ok.draft) c.into_seals.result.items c.in-Ok.ensures.prepared c.status.ensures c.into_seals.ensures)
-    (rw c.text.ensures at c.in-Ok-write_all.ensures.ok)
-
-pub returns-in-Ok-write_all-clause-by_command : goal.returns-in-Ok-write_all-clause-by_command
-returns-in-Ok-write_all-clause-by_command g c =
-    by_due (g.F.Shelf.files c.args.shelf.now) (g.F.Shelf.rest c.args.shelf.now) (g.F.Shelf.rest c.prepare.new.shelf) c.status.result
-    (draft_text c.in-Ok.draft) c.into_seals.result.items (call_of (texts c.args.words.now)) (has_sizes (texts c.args.words.now))
-    (due_as (g.F.Shelf.files c.args.shelf.now) (call_of (texts c.args.words.now)) (g.F.Shelf.rest c.args.shelf.now) (g.F.Shelf.rest c.prepare.new.shelf)
-    (draft_status c.in-Ok.draft) c.status.result (draft_text c.in-Ok.draft)
-    (draft_seals c.in-Ok.draft) c.into_seals.result.items c.in-Ok.ensures.prepared c.status.ensures c.into_seals.ensures)
-
-pub returns-in-Ok-write_all-clause-decided : goal.returns-in-Ok-write_all-clause-decided
-returns-in-Ok-write_all-clause-decided g c =
-    decided_if (g.F.Shelf.files c.args.shelf.now) (call_of (texts c.args.words.now)) (g.F.Shelf.rest c.args.shelf.now)
-    (g.F.Shelf.rest c.prepare.new.shelf) c.status.result (draft_text c.in-Ok.draft) c.into_seals.result.items
-    (due_as (g.F.Shelf.files c.args.shelf.now) (call_of (texts c.args.words.now)) (g.F.Shelf.rest c.args.shelf.now) (g.F.Shelf.rest c.prepare.new.shelf)
-    (draft_status c.in-Ok.draft) c.status.result (draft_text c.in-Ok.draft)
-    (draft_seals c.in-Ok.draft) c.into_seals.result.items c.in-Ok.ensures.prepared c.status.ensures c.into_seals.ensures)
-
-pub returns-in-Ok-write_all-clause-complete : goal.returns-in-Ok-write_all-clause-complete
-returns-in-Ok-write_all-clause-complete g c =
-    complete_if (g.F.Shelf.files c.args.shelf.now) (call_of (texts c.args.words.now)) (g.F.Shelf.rest c.args.shelf.now)
-    (g.F.Shelf.rest c.prepare.new.shelf) c.status.result (draft_text c.in-Ok.draft) c.into_seals.result.items
-    (due_as (g.F.Shelf.files c.args.shelf.now) (call_of (texts c.args.words.now)) (g.F.Shelf.rest c.args.shelf.now) (g.F.Shelf.rest c.prepare.new.shelf)
-    (draft_status c.in-Ok.draft) c.status.result (draft_text c.in-Ok.draft)
-    (draft_seals c.in-Ok.draft) c.into_seals.result.items c.in-Ok.ensures.prepared c.status.ensures c.into_seals.ensures)
-
-pub returns-in-Ok-write_all-clause-words : goal.returns-in-Ok-write_all-clause-words
-returns-in-Ok-write_all-clause-words g c = λ is.
-    let due = (due_as (g.F.Shelf.files c.args.shelf.now) (call_of (texts c.args.words.now)) (g.F.Shelf.rest c.args.shelf.now)
-    (g.F.Shelf.rest c.prepare.new.shelf) (draft_status c.in-Ok.draft) c.status.result (draft_text c.in-Ok.draft)
-    (draft_seals c.in-Ok.draft) c.into_seals.result.items c.in-Ok.ensures.prepared c.status.ensures c.into_seals.ensures) in
-    let none = words_call (g.F.Shelf.files c.args.shelf.now) (call_of (texts c.args.words.now)) (g.F.Shelf.rest c.args.shelf.now)
-    (g.F.Shelf.rest c.prepare.new.shelf) c.status.result (draft_text c.in-Ok.draft) c.into_seals.result.items (has_sizes (texts c.args.words.now)) due is in (
-      none,
-      rw (
-        c.text.ensures,
-        words_text (g.F.Shelf.files c.args.shelf.now) (call_of (texts c.args.words.now)) (g.F.Shelf.rest c.args.shelf.now)
-            (g.F.Shelf.rest c.prepare.new.shelf) c.status.result (draft_text c.in-Ok.draft) c.into_seals.result.items due none,
-      ) at c.in-Ok-write_all.ensures.ok,
-    )
-
-pub returns-in-Ok-write_all-clause-no_seals : goal.returns-in-Ok-write_all-clause-no_seals
-returns-in-Ok-write_all-clause-no_seals g c = draft_unsealed c.in-Ok.draft c.status.result c.into_seals.result.items c.status.ensures c.into_seals.ensures
-
-pub returns-in-Ok-write_all-clause-no_words_front : goal.returns-in-Ok-write_all-clause-no_words_front
-returns-in-Ok-write_all-clause-no_words_front g c = λ none is. absurd (never_yields c.in-Ok.draft c.status.result c.status.ensures (inr (inr is)))
-
-pub returns-in-Ok-write_all-clause-no_memory_no_write : goal.returns-in-Ok-write_all-clause-no_memory_no_write
-returns-in-Ok-write_all-clause-no_memory_no_write g c = λ is. absurd (never_yields c.in-Ok.draft c.status.result c.status.ensures (inl is))
-
-pub returns-in-Ok-write_all-clause-no_read_no_write : goal.returns-in-Ok-write_all-clause-no_read_no_write
-returns-in-Ok-write_all-clause-no_read_no_write g c = λ is. absurd (never_yields c.in-Ok.draft c.status.result c.status.ensures (inr (inl is)))
-
-pub returns-in-Ok-write_all-clause-read_fault : goal.returns-in-Ok-write_all-clause-read_fault
-returns-in-Ok-write_all-clause-read_fault g c = λ is. absurd (never_yields c.in-Ok.draft c.status.result c.status.ensures (inr (inl is)))
-
-pub returns-in-Ok-write_all-clause-write_fault : goal.returns-in-Ok-write_all-clause-write_fault
-returns-in-Ok-write_all-clause-write_fault g c = λ is. absurd (never_yields c.in-Ok.draft c.status.result c.status.ensures (inr (inr is)))
-
-pub returns-in-Err-write_all-clause-written : goal.returns-in-Err-write_all-clause-written
-returns-in-Err-write_all-clause-written g c =
-    cut (draft_status c.in-Ok.draft) (draft_text c.in-Ok.draft)
-    (draft_seals c.in-Ok.draft) c.unsealed-in-Err-write_all.ensures.status c.unsealed-in-Err-write_all.ensures.none c.in-Ok.ensures.prepared
-    (rw c.text.ensures at c.in-Err-write_all.ensures.err)
-
-pub returns-in-Err-write_all-clause-by_command : goal.returns-in-Err-write_all-clause-by_command
-returns-in-Err-write_all-clause-by_command g c =
-    by_cut (call_of (texts c.args.words.now)) _ _ c.unsealed-in-Err-write_all.ensures.status c.unsealed-in-Err-write_all.ensures.none
-
-pub returns-in-Err-write_all-clause-decided : goal.returns-in-Err-write_all-clause-decided
-returns-in-Err-write_all-clause-decided g c = decided_free _ _ _ (inr (inr c.unsealed-in-Err-write_all.ensures.status))
-
-pub returns-in-Err-write_all-clause-complete : goal.returns-in-Err-write_all-clause-complete
-returns-in-Err-write_all-clause-complete g c = complete_free _ _ _ (inr (inr c.unsealed-in-Err-write_all.ensures.status))
-
-pub returns-in-Err-write_all-clause-no_words_front : goal.returns-in-Err-write_all-clause-no_words_front
-returns-in-Err-write_all-clause-no_words_front g c =
-    λ none is. rw (
-      c.text.ensures,
-      words_text (g.F.Shelf.files c.args.shelf.now) (call_of (texts c.args.words.now)) (g.F.Shelf.rest c.args.shelf.now) (g.F.Shelf.rest c.prepare.new.shelf)
-          (draft_status c.in-Ok.draft) (draft_text c.in-Ok.draft) (draft_seals c.in-Ok.draft) c.in-Ok.ensures.prepared none,
-    ) at c.in-Err-write_all.ensures.err
