@@ -1,0 +1,87 @@
+-- What calls by handles answer, and what the handles then lead to.
+use Rattle.std.specs.Prelude.{◌≡◌, ℕ, List, Option, Some, None, Result, Ok, Err}
+use Rattle.std.specs.declared.alloc.AllocError.{AllocError}
+use Rattle.cf_table.specs.Values.{book_of}
+use Rattle.confluo_c.specs.declared.code.Code.{Code}
+use Rattle.confluo_c.specs.declared.code.Code.TheVariants as codes
+use Rattle.confluo_c.specs.declared.held.Log.{Log}
+use Rattle.confluo_c.specs.declared.held.Writer.{Writer}
+use Rattle.confluo_c.specs.declared.held.Reader.{Reader}
+use Rattle.confluo_c.specs.declared.shown.Sizes.{Sizes}
+use Rattle.confluo_c.specs.declared.shown.Fault.{Fault}
+use Rattle.confluo_c.specs.declared.shown.Room.{Room}
+use Rattle.confluo_c.specs.declared.refusals.OpenRefusal.{OpenRefusal}
+use Rattle.confluo_c.specs.declared.refusals.OpenRefusal.TheVariants as opens
+use Rattle.confluo_c.specs.Codes.{code_number, open_code, take_code}
+use Rattle.confluo_c.specs.Opens.{Opens, Takes, Forks}
+use Rattle.confluo_c.specs.Appends.{HasRoom}
+use Rattle.confluo_c.specs.Asks.{AsksTail}
+
+-- the number that a call answers: 0, or that of its code
+abbrev pub number_of : {A : Type 0} → Result A Code → ℕ
+number_of (Ok a) = 0
+number_of (Err code) = code_number code
+
+-- what the call answers stands there, or what stood there before
+abbrev pub told_or : {A : Type 0} → Result A Code → A → A
+told_or (Ok a) before = a
+told_or (Err code) before = before
+
+-- the same answer, with the refusal's code
+abbrev pub coded : {A E : Type 0} → (E → Code) → Result A E → Result A Code
+coded code (Ok a) = Ok a
+coded code (Err e) = Err (code e)
+
+-- it is such an answer, with the refusal's code
+abbrev pub IsCoded : {A E : Type 0} → (E → Code) → (Result A E → Type 0) → Result A Code → Type 0
+IsCoded {A} {E} code Is r = (made : Result A E) × Is made × (r ≡ coded code made)
+
+-- A call by a handle that leads to nothing is refused, and it leads to nothing still. Else the call is that of what the handle leads to,
+-- and it leads to the same, changed so.
+abbrev pub ByHandle : {T A : Type 0} → (T → T → Result A Code → Type 0) → Option T → Option T → Result A Code → Type 0
+ByHandle Does None after r = (after ≡ None) × (r ≡ Err codes.Nothing)
+ByHandle {T} Does (Some m) after r = (n : T) × (after ≡ Some n) × Does m n r
+
+-- A log was opened, and the handle leads to it. Refused, it leads to what it led to.
+abbrev pub OpensAt : List ℕ → Sizes → Option Log → Option Log → Result (Unit {0}) OpenRefusal → Type 0
+OpensAt text sizes before after (Ok done) = (log : Log) × (after ≡ Some log) × Opens text sizes (Ok log)
+OpensAt text sizes before after (Err refusal) = (after ≡ before) × Opens text sizes (Err refusal)
+
+-- the fault of a refused setup, or what stood there before
+abbrev pub fault_after : OpenRefusal → Fault → Fault
+fault_after opens.Memory before = before
+fault_after opens.Sizes before = before
+fault_after (opens.Setup line code) before = record { line = line; code = code }
+
+-- the fault of a setup, if it was refused for one, or what stood there before
+abbrev pub fault_or : {A : Type 0} → Result A OpenRefusal → Fault → Fault
+fault_or (Ok a) before = before
+fault_or (Err refusal) before = fault_after refusal before
+
+-- A writer was taken, of that number, and the other handle leads to it. Refused, that leads to what it led to.
+abbrev pub TakesTo : Option Writer → Option Writer → Log → Log → Result ℕ Code → Type 0
+TakesTo before after m n (Ok number) = (w : Writer) × (after ≡ Some w) × Takes m n (Ok w) × (number ≡ (book_of w.pass.view).writer)
+TakesTo before after m n (Err code) = (after ≡ before) × IsCoded take_code (Takes m n) (Err code)
+
+-- A reader was taken, and the other handle leads to it. Refused, that leads to what it led to.
+abbrev pub ForksTo : Option Reader → Option Reader → Log → Log → Result (Unit {0}) Code → Type 0
+ForksTo before after m n (Ok done) = (r : Reader) × (after ≡ Some r) × Forks m n (Ok r)
+ForksTo before after m n (Err code) = (after ≡ before) × (code ≡ codes.Memory) × ((e : AllocError) × Forks m n (Err e))
+
+-- what the log and the writer have room for; the writer is as it was
+abbrev pub IsRoom : Writer → Writer → Result Room Code → Type 0
+IsRoom m n (Ok room) = (n ≡ m) × HasRoom m room
+IsRoom m n (Err code) = ⊥
+
+-- how many records are covered
+abbrev pub IsTail : Reader → Reader → Result ℕ Code → Type 0
+IsTail m n (Ok tail) = AsksTail m n tail
+IsTail m n (Err code) = ⊥
+
+-- What a call by a handle answers, with what its out-value is then.
+abbrev pub Tells : {T A : Type 0} → (T → T → Result A Code → Type 0) → Option T → Option T → A → A → ℕ → Type 0
+Tells {T} {A} Does before after out out' number = (r : Result A Code) × ByHandle Does before after r × (number ≡ number_of r) × (out' ≡ told_or r out)
+
+-- the number of a setup's code, with what the fault is then
+abbrev pub TellsFault : {A : Type 0} → Result A OpenRefusal → Fault → Fault → ℕ → Type 0
+TellsFault r fault fault' number = (number ≡ number_of (coded open_code r)) × (fault' ≡ fault_or r fault)
