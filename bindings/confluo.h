@@ -1,0 +1,244 @@
+/* confluo.h: the confluo log, kept and asked by a program of your own.
+**
+** MODEL
+**
+**   A log is opened from the text of a setup (docs/FORMATS.md, "Setup"): a schema, indexes, filters, aggregates, tallies, triggers and
+**   questions. It takes a fixed number of records, at most 65,536.
+**   A writer appends records. A log has 1 to 15 writers; each is taken once, and is for one thread at a time.
+**   A reader asks the questions of the setup, numbered from 0 in the order of their lines. Take as many readers as you like.
+**   Writers and readers of one log run at the same time in different threads. None ever waits for another.
+**   Each record has an offset, 0, 1, 2 and so on. A reader sees all records below the tail, which only rises. A finished record may wait
+**   behind an earlier one whose writer has not finished it.
+**   An answer is exactly the question's meaning on the records below the tail that it was asked at (confluo_head.tail). It is as if one
+**   thread had appended these records and then asked.
+**   A log that is full stays open to readers. Open the next one and go on there.
+**
+** EXAMPLE
+**
+**   const char *setup = "schema packet\nindex sources src\nask from_one find sources 10.0.0.1 10.0.0.1\n";
+**   const confluo_sizes sizes = {.capacity = 65536, .writers = 1, .nodes = 4096};
+**   confluo_log log = CONFLUO_LOG_INIT;
+**   confluo_writer writer = CONFLUO_WRITER_INIT;
+**   confluo_reader reader = CONFLUO_READER_INIT;
+**   confluo_fault fault;
+**   uint32_t number, offset;
+**   if (confluo_open(&log, (const uint8_t *)setup, strlen(setup), &sizes, &fault)) return 1;
+**   if (confluo_take_writer(&log, &writer, &number) || confluo_take_reader(&log, &reader)) return 1;
+**
+**   confluo_capture capture = {.ns = now, .number = 0, .length = sizeof frame, .link = 1};
+**   uint32_t code = confluo_append(&writer, &capture, frame, sizeof frame, &offset);    // in the writer's thread
+**
+**   confluo_head head;
+**   uint64_t places[100];
+**   if (confluo_ask(&reader, 0, &head) == CONFLUO_OK)                                   // in the reader's thread
+**       for (size_t k = 0, n = confluo_words(&reader, 0, places, 100); k < n; k++) printf("record %u\n", (unsigned)places[k]);
+**
+**   confluo_free_writer(&writer), confluo_free_reader(&reader), confluo_free_log(&log); // in any order
+**
+**   bindings/example.c is a whole program with three threads. Link libconfluo.a or libconfluo.so, and nothing else.
+**
+** THREADS
+**
+**   A handle is in one call at a time. Different handles may be in calls at the same time, also those of one log.
+**   A handle may go from one thread to another by starting or joining a thread, by a lock, or by a sequentially consistent atomic. An
+**   atomic with acquire and release alone is not enough.
+**   No call is made from a signal handler, nor in the forked child of a process that had threads. Do not cancel a thread
+**   (pthread_cancel) in a call, and do not jump out of one (longjmp): a record that is half appended holds the tail back for good.
+**   The deepest call takes less than 64 KiB of stack.
+**
+** DUTIES
+**
+**   What calls do is proved (docs/PROVED.md); that the caller keeps these duties is not checked.
+**
+**   - A handle is {0} at first (CONFLUO_LOG_INIT and so on), and after that as the last call left it. It is not copied and used twice: that
+**     is a double free, as with a pointer. Its fields are the library's.
+**   - A pointer is to memory of its type, and not NULL, even if the length with it is 0. A length counts what is there.
+**   - Memory that one call writes overlaps nothing else that the call is given. In particular no handle is given twice.
+**   - malloc, realloc and free are one allocator, and align to 16 bytes. Arrays of uint64_t are aligned to 8.
+**   - No other function of the program begins with confluo_.
+**
+** ERRORS
+**
+**   A call answers CONFLUO_OK, which is 0, or the code of the first reason, in the order of the list at the call, why it did nothing. Then
+**   what it would have written is as it was, unless said otherwise. confluo_message gives a code's text. errno means nothing.
+**   CONFLUO_MEMORY may come whenever a call that lists it needs memory; nothing is lost, and the same call may be made again.
+*/
+#ifndef CONFLUO_H
+#define CONFLUO_H
+#include <stdbool.h>
+#include <stddef.h>
+#include <stdint.h>
+
+#ifdef __cplusplus
+extern "C" {
+#endif
+
+#if defined(__GNUC__)
+#define CONFLUO_CHECKED __attribute__((warn_unused_result))
+#else
+#define CONFLUO_CHECKED
+#endif
+
+/* The version of these calls, apart from that of the program: 1,000,000 for the major number, 1,000 for the minor one, 1 for the patch. */
+#define CONFLUO_VERSION 1000
+
+/* A log, a writer or a reader; or nothing, if all bytes are 0. The fields are the library's. */
+typedef struct confluo_log { bool full; void *at; } confluo_log;
+typedef struct confluo_writer { bool full; void *at; } confluo_writer;
+typedef struct confluo_reader { bool full; void *at; } confluo_reader;
+
+#define CONFLUO_LOG_INIT {false, NULL}
+#define CONFLUO_WRITER_INIT {false, NULL}
+#define CONFLUO_READER_INIT {false, NULL}
+
+/* What calls answer. */
+enum {
+    CONFLUO_OK = 0,
+    CONFLUO_MEMORY = 1,       /* out of memory */
+    CONFLUO_SIZES = 2,        /* a size is out of range, or a reserved field is not 0 */
+    CONFLUO_SETUP = 3,        /* the setup is faulty; confluo_fault says where */
+    CONFLUO_NOTHING = 4,      /* the handle leads to nothing */
+    CONFLUO_NO_WRITER = 5,    /* all writers of the log were taken */
+    CONFLUO_FULL = 6,         /* the log is full: it has taken as many records as it can */
+    CONFLUO_NODES = 7,        /* the writer has too few nodes left for this row; another row may still fit */
+    CONFLUO_UNFIT = 8,        /* the row does not fit the schema of the log */
+    CONFLUO_FRAME = 9,        /* the frame has 2^32 bytes or more, its link is not read, or a reserved field is not 0 */
+    CONFLUO_NO_QUESTION = 10  /* the setup has no question of that number */
+};
+
+/* How large a log is. */
+typedef struct confluo_sizes {
+    uint32_t capacity; /* records, 1 to 65,536 */
+    uint32_t writers;  /* 1 to 15 */
+    uint32_t nodes;    /* nodes of each writer, 0 to 65,536: one for each proper prefix of a key that an index or another lane meets;
+                          docs/GUIDE.md says how many a capture needs */
+    uint32_t reserved; /* 0 */
+} confluo_sizes;
+
+/* The first faulty line of a setup, from 1 (0: the whole text is too long), and what is wrong with it: the codes of docs/FORMATS.md. */
+typedef struct confluo_fault { uint32_t line, code; } confluo_fault;
+
+/* What is said of a captured frame beside its bytes. */
+typedef struct confluo_capture {
+    uint64_t ns;       /* when it was captured, in nanoseconds since the epoch */
+    uint32_t number;   /* a number of yours, which the record keeps; it need not ascend */
+    uint32_t length;   /* its length on the wire, in bytes */
+    uint32_t link;     /* its link-layer header type, LINKTYPE_..: 1 is Ethernet; confluo_append says which are read */
+    uint32_t reserved; /* 0 */
+} confluo_capture;
+
+/* What a log has room for, and a writer of it. */
+typedef struct confluo_room {
+    uint32_t capacity;   /* how many records the log takes in all */
+    uint32_t covered;    /* how many of them are below the tail, as far as this writer knows */
+    uint32_t nodes_left; /* how many nodes the writer has left */
+    uint32_t reserved;   /* 0 */
+} confluo_room;
+
+/* An answer: how many records it is about, what kind of body it has, and how many words. */
+typedef struct confluo_head {
+    uint32_t tail;
+    uint32_t kind;
+    uint64_t count;
+} confluo_head;
+
+/* The kinds of bodies, and what their words are. */
+enum {
+    CONFLUO_PLACES = 0, /* list, find, between: offsets, ascending */
+    CONFLUO_QUAD = 1,   /* buckets, total: count, sum, least, greatest; of no record 0, 0, 2^64 - 1, 0 */
+    CONFLUO_MARKS = 2,  /* fired: pairs of a bucket and its value, by ascending bucket */
+    CONFLUO_TOPS = 3    /* top: pairs of a key and its value, the heaviest first, ties by ascending key */
+};
+
+/* The version of the library, as CONFLUO_VERSION is that of the header. Any thread, at any time. */
+uint32_t confluo_version(void);
+
+/* Copies the text of a code to `out`, from byte `from` on, as far as there is room; it is ASCII and at most 64 bytes, without a byte 0 at
+** its end. Answers how many bytes. Any thread, at any time. */
+size_t confluo_message(uint32_t code, size_t from, uint8_t *out, size_t out_len);
+
+/* Says whether confluo_open would take this setup and these sizes, and how many bytes the words of the log would take. Nothing is opened.
+** Any thread, at any time.
+**
+**   CONFLUO_SETUP    the text is no setup; `fault` says where
+**   CONFLUO_SIZES    the text is a setup, and a size is out of range
+**   CONFLUO_MEMORY */
+CONFLUO_CHECKED uint32_t confluo_check(const uint8_t *setup, size_t setup_len, const confluo_sizes *sizes, uint64_t *bytes,
+                                       confluo_fault *fault);
+
+/* Opens a log. What `log` led to is freed; if the call is refused, `log` leads to what it led to. The thread that has `log`.
+**
+**   CONFLUO_SETUP, CONFLUO_SIZES, CONFLUO_MEMORY    as for confluo_check */
+CONFLUO_CHECKED uint32_t confluo_open(confluo_log *log, const uint8_t *setup, size_t setup_len, const confluo_sizes *sizes,
+                                      confluo_fault *fault);
+
+/* Takes a writer of the log that was not taken yet to `writer`, and says its number, from writers - 1 down to 0. What `writer` led to is
+** freed. A writer that is freed is not given back. The thread that has `log`.
+**
+**   CONFLUO_NOTHING    `log` leads to nothing
+**   CONFLUO_NO_WRITER  all were taken
+**   CONFLUO_MEMORY     may come in place of CONFLUO_NO_WRITER */
+CONFLUO_CHECKED uint32_t confluo_take_writer(confluo_log *log, confluo_writer *writer, uint32_t *number);
+
+/* Takes a reader of the log to `reader`. What `reader` led to is freed. The thread that has `log`.
+**
+**   CONFLUO_NOTHING    `log` leads to nothing
+**   CONFLUO_MEMORY */
+CONFLUO_CHECKED uint32_t confluo_take_reader(confluo_log *log, confluo_reader *reader);
+
+/* Appends the record of a captured frame, and says its offset. `bytes` are the captured bytes of the frame; they are read within the call,
+** and not kept. A frame whose headers cannot be read is a record all the same, with 0 in those fields. The schema `packet` reads the links
+** 1 (Ethernet) and 113 (LINUX_SLL); `packet6` also 276 (LINUX_SLL2), 101 (RAW), 228 (IPV4), 229 (IPV6), 0 (NULL) and 108 (LOOP).
+** The thread that has `writer`.
+**
+**   CONFLUO_NOTHING    `writer` leads to nothing
+**   CONFLUO_FRAME      bytes_len is 2^32 or more, the schema does not read capture->link, or capture->reserved is not 0
+**   CONFLUO_MEMORY     there is no memory for a copy of the frame
+**   CONFLUO_UNFIT      the schema of the log is not that of packets
+**   CONFLUO_FULL       the log is full, now and for good
+**   CONFLUO_NODES      the writer has too few nodes left for this row; a row whose keys it has met may still be appended */
+CONFLUO_CHECKED uint32_t confluo_append(confluo_writer *writer, const confluo_capture *capture, const uint8_t *bytes, size_t bytes_len,
+                                        uint32_t *offset);
+
+/* Appends a record of numbers, one for each attribute of the schema in its order, and says its offset. `number` is yours. The thread that
+** has `writer`.
+**
+**   CONFLUO_NOTHING    `writer` leads to nothing
+**   CONFLUO_MEMORY
+**   CONFLUO_UNFIT      there are too few or too many numbers, one is too large for its attribute, or an attribute takes bytes
+**   CONFLUO_FULL, CONFLUO_NODES    as for confluo_append */
+CONFLUO_CHECKED uint32_t confluo_append_values(confluo_writer *writer, uint32_t number, const uint64_t *values, size_t values_len,
+                                               uint32_t *offset);
+
+/* Says what the log of a writer has room for, and the writer. The thread that has `writer`.
+**
+**   CONFLUO_NOTHING    `writer` leads to nothing */
+CONFLUO_CHECKED uint32_t confluo_room_of(confluo_writer *writer, confluo_room *room);
+
+/* Asks a question of the setup. The reader keeps the words of the answer until its next answer; if the call is refused, those that it has.
+** The thread that has `reader`.
+**
+**   CONFLUO_NOTHING      `reader` leads to nothing
+**   CONFLUO_NO_QUESTION  the setup has no question of that number
+**   CONFLUO_MEMORY */
+CONFLUO_CHECKED uint32_t confluo_ask(confluo_reader *reader, uint32_t question, confluo_head *head);
+
+/* Copies words of the reader's last answer to `out`, from word `from` on, as far as there is room. Answers how many: none if there was no
+** answer yet, if `from` is past the last word, and if `reader` leads to nothing. The thread that has `reader`. */
+size_t confluo_words(confluo_reader *reader, size_t from, uint64_t *out, size_t out_len);
+
+/* Says how many records are below the tail now. The thread that has `reader`.
+**
+**   CONFLUO_NOTHING    `reader` leads to nothing */
+CONFLUO_CHECKED uint32_t confluo_tail(confluo_reader *reader, uint32_t *tail);
+
+/* Frees what the handle leads to, which may be nothing, and leaves nothing there. Handles of one log are freed in any order: its memory goes
+** with the last of them. The thread that has the handle. */
+void confluo_free_log(confluo_log *log);
+void confluo_free_writer(confluo_writer *writer);
+void confluo_free_reader(confluo_reader *reader);
+
+#ifdef __cplusplus
+}
+#endif
+#endif

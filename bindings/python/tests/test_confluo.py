@@ -1,0 +1,148 @@
+"""The package: codes, numbers that do not fit, threads, and a forked child."""
+
+import contextlib
+import io
+import os
+import pathlib
+import re
+import sys
+import threading
+import unittest
+
+HERE = pathlib.Path(__file__).resolve().parent
+sys.path.insert(0, str(HERE.parent))
+
+import confluo  # noqa: E402
+
+RECORDS = (
+    "schema records ts:u64,host:u32,len:u32\nindex hosts host\nask all total len *\nask one find hosts 1 1\n"
+)
+FRAME = bytes([0] * 12 + [8, 0, 0x45, 0, 0, 20] + [0] * 8 + [10, 0, 0, 1] + [0] * 4)
+
+
+class Calls(unittest.TestCase):
+    def test_version(self):
+        self.assertEqual(confluo.version(), 1000)
+
+    def test_the_example_of_the_documents(self):
+        page = (HERE.parents[2] / "docs" / "LIBRARY.md").read_text()
+        example = re.search(r"```python\n(.*?)```", page, re.S).group(1)
+        printed = io.StringIO()
+        with contextlib.redirect_stdout(printed):
+            exec(example, {"confluo": confluo})
+        self.assertEqual(printed.getvalue(), "[1, 60, 60, 60]\n")
+
+    def test_refusals(self):
+        log = confluo.Log("schema packet\nask all list *\n", capacity=1)
+        writer, reader = log.writer(), log.reader()
+        cases = [
+            (confluo.Code.SIZES, lambda: confluo.Log(RECORDS, capacity=0)),
+            (confluo.Code.SIZES, lambda: confluo.Log(RECORDS, writers=257)),
+            (confluo.Code.SETUP, lambda: confluo.Log("schema packet\nindex\n")),
+            (confluo.Code.SETUP, lambda: confluo.check("schema packet\nindex\n")),
+            (confluo.Code.NO_WRITER, log.writer),
+            (confluo.Code.NO_QUESTION, lambda: reader.ask(1)),
+            (confluo.Code.UNFIT, lambda: writer.append_values(0, [1])),
+            (confluo.Code.FRAME, lambda: writer.append(0, 1, FRAME, link=65536)),
+        ]
+        for code, call in cases:
+            with self.subTest(code=code), self.assertRaises(confluo.Error) as caught:
+                call()
+            self.assertEqual(caught.exception.code, code)
+        with self.assertRaises(confluo.SetupError) as caught:
+            confluo.check("schema packet\nindex\n")
+        self.assertEqual((caught.exception.line, caught.exception.fault), (2, 3))
+
+    def test_numbers_that_do_not_fit(self):
+        log = confluo.Log(RECORDS, capacity=8)
+        writer, reader = log.writer(), log.reader()
+        cases = [
+            lambda: confluo.Log(RECORDS, capacity=2**32 + 2),
+            lambda: confluo.Log(RECORDS, nodes=-1),
+            lambda: reader.ask(2**32),
+            lambda: writer.append_values(0, [2**64, 1, 1]),
+            lambda: writer.append_values(-1, [1, 1, 1]),
+            lambda: writer.append(0, 2**64 + 1, FRAME),
+            lambda: writer.append(0, 1, FRAME, length=-1),
+        ]
+        for k, call in enumerate(cases):
+            with self.subTest(case=k), self.assertRaises(ValueError):
+                call()
+        self.assertEqual(reader.tail(), 0)
+
+    def test_frames_are_any_bytes(self):
+        with confluo.Log(
+            "schema packet\nindex sources src\nask one find sources 10.0.0.1 10.0.0.1\n", capacity=3
+        ) as log:
+            with log.writer() as writer, log.reader() as reader:
+                for k, frame in enumerate([FRAME, bytearray(FRAME), memoryview(FRAME)]):
+                    self.assertEqual(writer.append(k, 1000, frame), k)
+                with self.assertRaises(confluo.Error) as caught:
+                    writer.append(3, 1000, FRAME)
+                self.assertEqual(caught.exception.code, confluo.Code.FULL)
+                answer = reader.ask(0)
+                self.assertEqual(
+                    (answer.tail, answer.kind, answer.words), (3, confluo.Kind.PLACES, [0, 1, 2])
+                )
+                self.assertEqual((writer.room().capacity, writer.room().covered), (3, 3))
+            with self.assertRaises(confluo.Error) as caught:
+                reader.tail()
+            self.assertEqual(caught.exception.code, confluo.Code.NOTHING)
+
+    def test_bytes_of_a_log(self):
+        small, large = confluo.check(RECORDS, capacity=1, nodes=0), confluo.check(
+            RECORDS, capacity=2, nodes=0
+        )
+        self.assertEqual((large - small) % 8, 0)
+        self.assertGreater(large, small)
+
+
+class Threads(unittest.TestCase):
+    def test_twenty_threads(self):
+        log = confluo.Log(RECORDS, capacity=4000, writers=4, nodes=64)
+        writers, reader = [log.writer() for _ in range(4)], log.reader()
+        faults = []
+
+        def append(writer):
+            try:
+                for k in range(200):
+                    writer.append_values(k, [k, k % 3, 10])
+            except Exception as fault:  # noqa: BLE001
+                faults.append(fault)
+
+        def ask():
+            try:
+                for _ in range(200):
+                    answer = reader.ask(0)
+                    if answer.words[:2] != [answer.tail, 10 * answer.tail]:
+                        faults.append(answer)
+            except Exception as fault:  # noqa: BLE001
+                faults.append(fault)
+
+        threads = [threading.Thread(target=append, args=(writers[k % 4],)) for k in range(14)]
+        threads += [threading.Thread(target=ask) for _ in range(6)]
+        for thread in threads:
+            thread.start()
+        for thread in threads:
+            thread.join()
+        self.assertEqual(faults, [])
+        self.assertEqual(reader.ask(0).words, [2800, 28000, 10, 10])
+
+    @unittest.skipUnless(hasattr(os, "fork"), "there is no fork")
+    def test_a_forked_child(self):
+        log = confluo.Log(RECORDS, capacity=8)
+        reader = log.reader()
+        child = os.fork()
+        if child == 0:
+            try:
+                reader.tail()
+            except RuntimeError:
+                log.close()
+                os._exit(0)
+            os._exit(1)
+        self.assertEqual(os.waitstatus_to_exitcode(os.waitpid(child, 0)[1]), 0)
+        self.assertEqual(reader.tail(), 0)
+
+
+if __name__ == "__main__":
+    unittest.main()
