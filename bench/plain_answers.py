@@ -89,10 +89,10 @@ class Answers:
 def report(setup, data, truncated=False):
     """The status and the text."""
     setup = parse_setup(setup)
-    frames, code, is_cut = plain.read(data, plain.LINKS["packet"], truncated)
+    frames, code, is_cut = plain.read(data, plain.LINKS[setup.source], truncated)
     if code:
         return 3, f"capture: record {len(frames)} code {code}\n"
-    rows = [tuple(plain.row(it, "packet").values()) for it in frames]
+    rows = [tuple(plain.row(it, setup.source).values()) for it in frames]
     lines = [*Answers(setup, rows).lines(), *[f"truncated: record {len(rows)}"] * is_cut]
     return 0, "".join(f"{it}\n" for it in lines)
 

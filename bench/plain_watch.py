@@ -1,0 +1,306 @@
+#!/usr/bin/env python3
+"""What `confluo watch` writes, by a plain walk over the window at each round.
+
+    bench/plain_watch.py [--reads N,N,..] watch --setup FILE [OPTIONS] CAPTURE
+
+The options are those of `confluo watch`. It reads the capture as it comes, writes what that has to write for these reads, and
+ends with its status. With --reads the reads have these sizes, the last size again and again; without, each takes what is there,
+at most 65,536 bytes. Captures and packets are read by plain.py, the setup by confluo-report; answers are plain_answers.py's.
+"""
+
+import os
+import pathlib
+import struct
+import sys
+
+sys.dont_write_bytecode = True
+ROOT = pathlib.Path(__file__).resolve().parent.parent
+sys.path[:0] = [str(ROOT / "tools"), str(ROOT / "bench")]
+
+import plain  # noqa: E402
+from confluo_report.commands import WordsFault, parse_words  # noqa: E402
+from confluo_report.setups import SetupFault, parse_setup  # noqa: E402
+from plain_answers import Answers  # noqa: E402
+
+MOST_READ = 65536
+MOST_RECORDS = 2**32 - 1
+DEFAULTS = {"capacity": 65536, "segments": 4, "nodes": 65536, "every": 4096}
+BITS = {"u8": 8, "u16": 16, "u32": 32, "u64": 64}
+SECTION, INTERFACE, SIMPLE, ENHANCED = 0x0A0D0D0A, 1, 3, 6
+
+
+class Stop(Exception):
+    """The end before the end: a status and the line that tells it."""
+
+    def __init__(self, status, line):
+        super().__init__(line)
+        self.status, self.line = status, line
+
+
+class Source:
+    """A capture that comes by pieces."""
+
+    def __init__(self, schema):
+        self.links, self.schema = plain.LINKS[schema], schema
+        # What later packets are read by, and the bytes behind it that end no packet yet.
+        self.front, self.rest = b"", b""
+        # The fault that the last piece shows; 5 and 25 if it ends within a packet.
+        self.code = 0
+
+    def feed(self, piece):
+        """The rows of the records that end in the piece."""
+        data = self.front + self.rest + piece
+        frames, self.code, _ = plain.read(data, self.links)
+        used = self.use(data, len(frames))
+        self.rest = data[used:]
+        return [tuple(plain.row(it, self.schema).values()) for it in frames]
+
+    def use(self, data, count):
+        """Where `count` packets of the data end; `front` becomes what those behind them are read by."""
+        if data[:4] != b"\x0a\x0d\x0d\x0a":
+            self.front = data[:24]
+            at = len(self.front)
+            for _ in range(count):
+                order = "<" if data[:1] in (b"\xd4", b"\x4d") else ">"
+                at += 16 + struct.unpack(order + "I", data[at + 8 : at + 12])[0]
+            return at
+        at, order, front = 0, "<", []
+        while count or is_known(data, at, order):
+            kind, order, total = block_at(data, at, order)
+            front = [data[at : at + total]] if kind == SECTION else front + [data[at : at + total]] * (kind == INTERFACE)
+            count -= kind in (SIMPLE, ENHANCED)
+            at += total
+        self.front = b"".join(front)
+        return at
+
+    def end(self, truncated):
+        """The code of an end here, 0 for none, and whether the capture is cut off and may be."""
+        read = plain.read(self.front + self.rest, self.links, truncated)
+        return read.code, read.is_cut
+
+
+def block_at(data, at, order):
+    """The kind of a block, its byte order and its length."""
+    if data[at : at + 4] == b"\x0a\x0d\x0d\x0a":
+        order = "<" if data[at + 8] == 0x4D else ">"
+    kind, total = struct.unpack(order + "II", data[at : at + 8])
+    return kind, order, total
+
+
+def is_known(data, at, order):
+    """Whether a whole section header or interface is there, without a fault."""
+    if len(data) - at < 12:
+        return False
+    kind, order, total = block_at(data, at, order)
+    if kind not in (SECTION, INTERFACE) or not 12 <= total <= len(data) - at:
+        return False
+    header = b"" if kind == SECTION else struct.pack(order + "IIIHHqI", SECTION, 28, 0x1A2B3C4D, 1, 0, -1, 28)
+    return plain.read(header + data[at : at + total], plain.LINKS["packet6"]).code == 0
+
+
+class Window(Answers):
+    """Answers on the records from `first` on, whose numbers are those in the capture."""
+
+    def __init__(self, setup, first, rows):
+        super().__init__(setup, rows)
+        self.first = first
+
+    def found(self, holds):
+        return [self.first + k for k in super().found(holds)]
+
+
+class Segment:
+    """Consecutive rows, and the nodes of their keys."""
+
+    def __init__(self, first):
+        self.first, self.rows, self.nodes = first, [], set()
+
+
+class Watch:
+    """The window and the rounds of a stream of rows; the lines gather in `lines`."""
+
+    def __init__(self, setup, capacity=65536, segments=4, nodes=65536, every=4096, most=MOST_RECORDS):
+        self.setup, self.capacity, self.most_segments, self.most_nodes = setup, capacity, segments, nodes
+        self.every, self.most = every, most
+        self.count, self.asked, self.last, self.segments = 0, 0, None, []
+        self.marked = {it.name: set() for it in setup.triggers}
+        self.lines = []
+
+    @property
+    def first(self):
+        return self.segments[0].first if self.segments else 0
+
+    def window(self):
+        return Window(self.setup, self.first, [row for it in self.segments for row in it.rows])
+
+    def nodes_of(self, row):
+        """The nodes on the paths of a row: a lane and a proper beginning of its key, of one digit or more."""
+        nodes = set()
+        for place, lane in enumerate(self.setup.lanes):
+            if lane.select.holds(row):
+                key, bits = row[0] // self.setup.nanoseconds, 64
+                if lane.key is not None:
+                    key, bits = row[lane.key], BITS[self.setup.schema[lane.key].kind]
+                nodes |= {(place, rest, key >> rest) for rest in range(4, bits, 4)}
+        return nodes
+
+    def take(self, row):
+        """One record goes into the window; a Stop where none more may."""
+        nodes = self.nodes_of(row)
+        if self.count == self.most:
+            raise Stop(6, f"full: more than {self.most} records")
+        now = self.segments[-1] if self.segments else None
+        if now is None or len(now.rows) == self.capacity or len(now.nodes | nodes) > self.most_nodes:
+            if len(nodes) > self.most_nodes:
+                raise Stop(7, f"nodes: more than {self.most_nodes} nodes")
+            if len(self.segments) == self.most_segments:
+                self.round()
+                del self.segments[0]
+            now = Segment(self.count)
+            self.segments.append(now)
+        now.rows.append(row)
+        now.nodes |= nodes
+        self.count += 1
+
+    def round(self):
+        """A round, which writes nothing at the place of the one before."""
+        if self.last == (self.first, self.count):
+            return
+        self.last = (self.first, self.count)
+        window = self.window()
+        for trigger in self.setup.triggers:
+            marks = window.marks(trigger)
+            for bucket, value in marks:
+                if bucket not in self.marked[trigger.name]:
+                    self.lines.append(f"alert {trigger.name} {bucket} {value} @{self.count}")
+            self.marked[trigger.name] = {bucket for bucket, _ in marks}
+        if self.every and self.count - self.asked >= self.every:
+            self.asked = self.count
+            for name in self.setup.lives:
+                body = window.body(self.setup.question(name))
+                self.lines.append(f"live {name} @{self.first}..{self.count} {body}")
+
+    def finish(self, is_cut):
+        """The final part."""
+        self.round()
+        front, *rest = self.window().lines()
+        self.lines += [f"records {self.count}", f"window {self.first}", *rest]
+        self.lines += [f"truncated: record {self.count}"] * is_cut
+
+
+class Run:
+    """`watch` with a setup and options: `read` for each read, then `end`; both answer what was written."""
+
+    def __init__(self, setup, truncated=False, **options):
+        schema = "packet6" if len(setup.schema) > len(plain.NAMES) else "packet"
+        self.source, self.watch, self.truncated = Source(schema), Watch(setup, **options), truncated
+        # None until it ends.
+        self.status = None
+
+    def text(self):
+        lines, self.watch.lines = self.watch.lines, []
+        return "".join(f"{it}\n" for it in lines)
+
+    def stop(self, status, line):
+        self.watch.round()
+        self.watch.lines.append(line)
+        self.status = status
+
+    def read(self, piece):
+        """One read of the capture, of at least a byte."""
+        try:
+            for row in self.source.feed(piece):
+                self.watch.take(row)
+        except Stop as stop:
+            self.stop(stop.status, stop.line)
+            return self.text()
+        if self.source.code not in (0, 5, 25):
+            self.stop(3, f"capture: record {self.watch.count} code {self.source.code}")
+        else:
+            self.watch.round()
+        return self.text()
+
+    def end(self):
+        """The end of the capture."""
+        code, is_cut = self.source.end(self.truncated)
+        if code:
+            self.stop(3, f"capture: record {self.watch.count} code {code}")
+        else:
+            self.watch.finish(is_cut)
+            self.status = 0
+        return self.text()
+
+
+def setup_of(data):
+    """The setup, or a Stop; one of records is at fault in its first statement."""
+    try:
+        setup = parse_setup(data)
+    except SetupFault as fault:
+        raise Stop(2, f"setup: line {fault.line} code {fault.fault.code}") from fault
+    if not setup.is_packet:
+        lines = [it.strip(b" ") for it in data.split(b"\n")]
+        line = next(number for number, it in enumerate(lines, 1) if it.startswith(b"schema"))
+        raise Stop(2, f"setup: line {line} code 4")
+    return setup
+
+
+def pieces(data, sizes):
+    """The data by reads of these sizes, the last again and again."""
+    at, sizes = 0, list(sizes)
+    while at < len(data):
+        size = sizes.pop(0) if len(sizes) > 1 else sizes[0]
+        yield data[at : at + size]
+        at += size
+
+
+def watch(setup, data, sizes=(MOST_READ,), truncated=False, **options):
+    """The status, what each read wrote, and what the end did, of a setup's bytes and a capture's."""
+    try:
+        run = Run(setup_of(setup), truncated, **options)
+    except Stop as stop:
+        return stop.status, [], stop.line + "\n"
+    texts = []
+    for piece in pieces(data, sizes):
+        texts.append(run.read(piece))
+        if run.status is not None:
+            return run.status, texts, ""
+    end = run.end()
+    return run.status, texts, end
+
+
+def follow(run, fd, sizes):
+    """Reads a file as it comes, and writes what each read gives rise to before the next."""
+    sizes = list(sizes)
+    while run.status is None:
+        size = sizes.pop(0) if len(sizes) > 1 else sizes[0]
+        piece = os.read(fd, size)
+        text = (run.read(piece) if piece else run.end()).encode()
+        try:
+            while text:
+                text = text[os.write(1, text) :]
+        except OSError:
+            return 5
+    return run.status
+
+
+def main():
+    words, sizes = sys.argv[1:], [MOST_READ]
+    if words[:1] == ["--reads"]:
+        sizes, words = [int(it) for it in words[1].split(",")], words[2:]
+    try:
+        command = parse_words(words)
+        if command.name != "watch":
+            sys.exit(__doc__)
+        options = {name: int(command.options.get(name, default)) for name, default in DEFAULTS.items()}
+        setup = setup_of(pathlib.Path(command.options["setup"]).read_bytes())
+        fd = os.open(command.captures[0], os.O_RDONLY)
+    except (WordsFault, FileNotFoundError, Stop) as fault:
+        lines = {WordsFault: (1, "words: not a command"), FileNotFoundError: (9, "file: none of that name")}
+        status, line = lines[type(fault)] if type(fault) in lines else (fault.status, fault.line)
+        print(line)
+        sys.exit(status)
+    sys.exit(follow(Run(setup, command.may_be_cut, **options), fd, sizes))
+
+
+if __name__ == "__main__":
+    main()
