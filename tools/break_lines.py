@@ -79,7 +79,8 @@ def laid_out(text):
 
 def main():
     check = sys.argv[1:2] == ["--check"]
-    files = [pathlib.Path(it) for it in sys.argv[1 + check :]]
+    # What a build keeps below out/ is not to be touched.
+    files = [it for it in map(pathlib.Path, sys.argv[1 + check :]) if "out" not in it.parts]
     if not files:
         sys.exit(__doc__)
     other = 0

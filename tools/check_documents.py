@@ -6,10 +6,11 @@
 - Each relative link and its anchor exists.
 - docs/full_link.svg is what tools/draw_full_link.py draws, and the table of crates what tools/crate_table.py writes.
 - docs/INCIDENTS.md shows each setup of examples/incidents, without its comments, and below each command the stored report.
-- VERSION is the newest version of CHANGELOG.md, the README has at most 900 words and docs/ at most 20,000.
-- With PROGRAM: README.md, docs/GUIDE.md, examples/*.md and, of confluo-report, docs/INCIDENTS.md are right about what
-  commands print. A block whose first line begins with `$ ` is run, with `confluo` being PROGRAM and `questions.setup` the
-  setup shown last, and must print the lines below. Blocks with confluo-report are passed over if tools/ has none.
+- VERSION is the newest version of CHANGELOG.md, the README has at most 900 words, WATCH.md 800 and the rest of docs/ 20,000.
+- With PROGRAM: README.md, docs/GUIDE.md, docs/WATCH.md, examples/*.md and, of confluo-report, docs/INCIDENTS.md are right
+  about what commands print. A block whose first line begins with `$ ` is run, with `confluo` being PROGRAM and
+  `questions.setup` the setup shown last, and must print the lines below. Blocks with confluo-report are passed over if tools/
+  has none, blocks with `confluo watch` if PROGRAM has no such command.
 
 A shown line `..` stands for any number of lines. Of `live`, `new` and `order` lines, which depend on threads, only the front is
 compared, and all are left out if none is shown. Ends with 1 if something differs. Needs the standard library alone.
@@ -31,7 +32,14 @@ ROOT = pathlib.Path(__file__).resolve().parent.parent
 INCIDENTS = ROOT / "examples" / "incidents"
 PAGES = [ROOT / it for it in ("README.md", "CONTRIBUTING.md", "CHANGELOG.md")]
 PAGES += sorted([*ROOT.glob("docs/*.md"), *ROOT.glob("examples/**/*.md")])
-RUN = ["README.md", "docs/GUIDE.md", "docs/INCIDENTS.md", "examples/README.md", "examples/formats/README.md"]
+RUN = [
+    "README.md",
+    "docs/GUIDE.md",
+    "docs/WATCH.md",
+    "docs/INCIDENTS.md",
+    "examples/README.md",
+    "examples/formats/README.md",
+]
 SECONDS = 60
 
 
@@ -114,8 +122,15 @@ def wrong_incidents():
             yield f"docs/INCIDENTS.md does not show {report.name}"
 
 
+def has_watch(program):
+    """Whether the program has the command: then it looks for the setup."""
+    words = [program, "watch", "--setup", "/no/setup", "/no/capture"]
+    return subprocess.run(words, capture_output=True).returncode == 9
+
+
 def wrong_sessions(program):
     """Commands in pages that print something else than what is shown below them."""
+    knows_watch = has_watch(program)
     for name in RUN:
         with tempfile.TemporaryDirectory() as folder:
             here = pathlib.Path(folder)
@@ -139,6 +154,8 @@ def wrong_sessions(program):
                     and not (ROOT / "tools" / "confluo-report").exists()
                     or name == "docs/INCIDENTS.md"
                     and not is_of_tool
+                    or "confluo watch" in commands
+                    and not knows_watch
                 ):
                     continue
                 ran = subprocess.run(
@@ -159,11 +176,12 @@ def wrong_sizes():
         it: len(it.read_text().split())
         for it in [ROOT / "README.md", *ROOT.glob("docs/*.md"), *ROOT.glob("docs/*.1")]
     }
-    first = words.pop(ROOT / "README.md")
-    if first > 900:
-        yield f"README.md has {first} words, more than 900"
+    for page, most in (("README.md", 900), ("docs/WATCH.md", 800)):
+        found = words.pop(ROOT / page)
+        if found > most:
+            yield f"{page} has {found} words, more than {most}"
     if sum(words.values()) > 20000:
-        yield f"docs/ has {sum(words.values())} words, more than 20,000"
+        yield f"docs/ has {sum(words.values())} words besides WATCH.md, more than 20,000"
     version = (ROOT / "VERSION").read_text().strip()
     newest = re.search(r"(?m)^## (\S+)", (ROOT / "CHANGELOG.md").read_text()).group(1)
     if version != newest:

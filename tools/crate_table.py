@@ -23,7 +23,7 @@ def layers_of(text):
     for line in text.splitlines():
         if layer := re.fullmatch(r"# Layer: (.*)", line):
             layers.append((layer.group(1), []))
-        elif crate := re.fullmatch(r"(\w+):(.*)", line):
+        elif crate := re.fullmatch(r"(\w+)(?: staticlib)?:(.*)", line):
             layers[-1][1].append((crate.group(1), crate.group(2).split()))
     return layers
 

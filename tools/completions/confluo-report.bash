@@ -4,7 +4,7 @@ _confluo_report() {
     local word=${COMP_WORDS[COMP_CWORD]} before=${COMP_WORDS[COMP_CWORD-1]} options
     COMPREPLY=()
     if [ "$COMP_CWORD" -eq 1 ]; then
-        mapfile -t COMPREPLY < <(compgen -W "show explain json csv prometheus merge plot packets ask check --version --help" -- "$word")
+        mapfile -t COMPREPLY < <(compgen -W "show explain json csv prometheus stream merge plot packets ask check --version --help" -- "$word")
         return
     fi
     case ${COMP_WORDS[1]} in
@@ -13,6 +13,7 @@ _confluo_report() {
         json) options="--setup --indent" ;;
         csv) options="--setup" ;;
         prometheus) options="--setup --label --brief --textfile" ;;
+        stream) options="--setup --json --quiet --most --prometheus --label --exec --exec-limit --exec-seconds" ;;
         merge) options="--setup --tagged" ;;
         plot) options="--setup --tagged --out --width --dotted" ;;
         packets) options="--ask --out --into" ;;
@@ -22,8 +23,10 @@ _confluo_report() {
     case $before in
         --status) mapfile -t COMPREPLY < <(compgen -W "1 2 3 4 5 6 7 8 9" -- "$word"); return ;;
         --into) mapfile -t COMPREPLY < <(compgen -d -- "$word"); return ;;
-        --most | --indent | --width | --label | --command | --ask | --schema) return ;;
-        --setup | --capture | --out | --textfile) mapfile -t COMPREPLY < <(compgen -f -- "$word"); return ;;
+        --exec) mapfile -t COMPREPLY < <(compgen -c -- "$word"); return ;;
+        --most | --indent | --width | --label | --command | --ask | --exec-limit | --exec-seconds) return ;;
+        --schema) mapfile -t COMPREPLY < <(compgen -W "packet packet6" -- "$word"); return ;;
+        --setup | --capture | --out | --textfile | --prometheus) mapfile -t COMPREPLY < <(compgen -f -- "$word"); return ;;
     esac
     if [ "${word:0:1}" = - ]; then
         mapfile -t COMPREPLY < <(compgen -W "$options --help" -- "$word")

@@ -22,7 +22,7 @@ MOST_BLOCK = 2**20
 SECTION, INTERFACE, SIMPLE, ENHANCED = 0x0A0D0D0A, 1, 3, 6
 CUT = (5, 25)
 LEAST = {SECTION: 28, INTERFACE: 20, SIMPLE: 16, ENHANCED: 32}
-LINKS = (1, 113)
+LINKS = {"packet": (1, 113), "packet6": (1, 113, 276, 101, 228, 229, 0, 108)}
 MAGICS = {
     b"\xd4\xc3\xb2\xa1": ("<", 1000),
     b"\xa1\xb2\xc3\xd4": (">", 1000),
@@ -58,12 +58,13 @@ class Frame:
 
 @dataclass
 class Reading:
-    """How a capture is read: whether a file that is cut off may be.
+    """How a capture is read: whether a file that is cut off may be, and by which schema of packets.
 
     `cut` is, once all is read, the number of whole records of a file that is cut off.
     """
 
     may_be_cut: bool = False
+    schema: str = "packet"
     cut: int | None = None
 
 
@@ -120,11 +121,17 @@ class _Source:
         return passed
 
 
+def _links_text(schema: str) -> str:
+    """The link types that are read."""
+    names = [f"{it} ({LINK_NAMES[it]})" for it in LINKS[schema]]
+    return f"link type {', '.join(names[:-1])} or {names[-1]}"
+
+
 def _link_text(link: int) -> str:
     return f"link type {link}" + (f" ({LINK_NAMES[link]})" if link in LINK_NAMES else "")
 
 
-def _classic(source: _Source, head: bytes) -> Iterator[Piece]:
+def _classic(source: _Source, head: bytes, schema: str) -> Iterator[Piece]:
     """The header and the records of a classic file whose first four bytes were read."""
     if len(head) == 4 and head not in MAGICS:
         wanted = "one of the four magic numbers of pcap, as d4c3b2a1"
@@ -138,8 +145,8 @@ def _classic(source: _Source, head: bytes) -> Iterator[Piece]:
     if len(head) < 24:
         raise CaptureFault(5, 0, source.at, "a file header of 24 bytes", f"{len(head)} bytes in all")
     link = struct.unpack(order + "I", head[20:24])[0] & 0xFFFF
-    if link not in LINKS:
-        raise CaptureFault(3, 0, 20, "link type 1 (Ethernet) or 113 (Linux cooked)", _link_text(link))
+    if link not in LINKS[schema]:
+        raise CaptureFault(3, 0, 20, _links_text(schema), _link_text(link))
     yield Piece(head)
     number = 0
     while True:
@@ -205,8 +212,8 @@ def _nanoseconds(ticks: int, resolution: int) -> int:
 class _Blocks:
     """The blocks of a pcapng file one after another."""
 
-    def __init__(self, source: _Source, head: bytes) -> None:
-        self.source, self.head, self.number = source, head, 0
+    def __init__(self, source: _Source, head: bytes, schema: str) -> None:
+        self.source, self.head, self.schema, self.number = source, head, schema, 0
         self.section = _Section("<")
         source.is_blocks = True
 
@@ -285,8 +292,8 @@ class _Blocks:
         if number >= len(known):
             wanted = f"an interface that the section describes; it describes {len(known)}"
             self.fail(28, at + 8, wanted, f"interface {number}")
-        if known[number][0] not in LINKS:
-            wanted = "an interface of link type 1 (Ethernet) or 113 (Linux cooked)"
+        if known[number][0] not in LINKS[self.schema]:
+            wanted = f"an interface of {_links_text(self.schema)}"
             self.fail(23, at + 8, wanted, f"interface {number} of {_link_text(known[number][0])}")
         return known[number]
 
@@ -319,8 +326,8 @@ def pieces(file: BinaryIO, reading: Reading | None = None) -> Iterator[Piece]:
     source = _Source(file, b"")
     head = source.read(4)
     if head == b"\n\r\r\n":
-        return _up_to_a_cut(_Blocks(source, head).pieces(), reading)
-    return _up_to_a_cut(_classic(source, head), reading)
+        return _up_to_a_cut(_Blocks(source, head, reading.schema).pieces(), reading)
+    return _up_to_a_cut(_classic(source, head, reading.schema), reading)
 
 
 def _up_to_a_cut(read: Iterator[Piece], reading: Reading) -> Iterator[Piece]:

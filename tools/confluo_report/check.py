@@ -17,7 +17,8 @@ def summary(setup: Setup) -> str:
     parts.append(_counted(families.count("tally"), "tall", "ies", "y"))
     parts += [_counted(len(setup.triggers), "trigger"), _counted(len(setup.asks), "question")]
     parts.append(f"{len(setup.lives)} live" if setup.lives else "")
-    schema = "packets" if setup.is_packet else f"records of {len(setup.schema)} attributes"
+    schemas = {"packet": "packets", "packet6": "packets with IPv6"}
+    schema = schemas.get(setup.source, f"records of {len(setup.schema)} attributes")
     said = ", ".join(it for it in parts if it) or "no question"
     return f"{schema}, by the {unit(setup.nanoseconds)}; {said}"
 

@@ -22,9 +22,10 @@ from .metrics import label_of, metrics_text, write_at_once
 from .packets import copy_packets
 from .plot import drawing_of, plot
 from .questions import write_setup
-from .reports import Report, Snapshot, parse, parse_report, refusal_of
+from .reports import Report, Snapshot, is_told, parse, parse_report, refusal_of
 from .setups import Setup, SetupFault, parse_setup
 from .show import Viewer, asks_of, report_lines, snapshot_lines
+from .stream import Commands, Incoming, JsonLines, Output, Textfile, WordLines, stream
 from .tables import style_for
 from .version import version
 
@@ -34,6 +35,7 @@ examples:
   confluo-report ask capture.pcap 'top src by bytes' 'list kind==2 && flags==20'
   confluo run --setup q.setup capture.pcap | confluo-report show --setup q.setup --capture capture.pcap
   confluo run --setup q.setup capture.pcap | confluo-report explain --setup q.setup --capture capture.pcap
+  tcpdump -U -w - | confluo watch --setup q.setup /dev/stdin | confluo-report stream --setup q.setup
 """
 Words = argparse.Namespace
 
@@ -96,7 +98,8 @@ def _explain(words: Words) -> int:
     case = Case(words.setup, words.capture, typed)
     text = "" if words.report is None and words.status in (4, 5, 8) else _text_of(words.report or "-")
     refusal = refusal_of(text)
-    if refusal is None and text and words.status != 5:
+    case.is_watch = is_told(text)
+    if refusal is None and text and words.status != 5 and not (case.is_watch and words.status in (4, 8)):
         parse(text, _shown(words.report or "-"))
         raise Complaint(
             f"{_shown(words.report or '-')} is a report and no refusal: `confluo-report show` shows it"
@@ -189,6 +192,27 @@ def _check(words: Words) -> int:
     return 0 if good else 1
 
 
+def _stream(words: Words) -> int:
+    setup = _setup_of(words.setup)
+    if words.exec_limit < 1 or words.exec_seconds < 1:
+        raise Complaint("--exec-limit and --exec-seconds are at least 1")
+    commands = Commands(words.exec, words.exec_limit, words.exec_seconds, setup) if words.exec else None
+    outputs: list[Output] = [commands] if commands else []
+    if words.prometheus:
+        labels = dict(label_of(it) for it in words.label)
+        outputs.append(Textfile(words.prometheus, labels, setup, commands))
+    if words.json:
+        outputs.append(JsonLines(sys.stdout, setup, words.setup))
+    elif not words.quiet:
+        viewer = Viewer(setup, {}, style_for(sys.stdout), words.most)
+        outputs.append(WordLines(sys.stdout, viewer, words.setup))
+    incoming = Incoming(_shown(words.report), setup)
+    if words.report == "-":
+        return stream(sys.stdin.fileno(), incoming, outputs)
+    with open(words.report, "rb", buffering=0) as file:
+        return stream(file.fileno(), incoming, outputs)
+
+
 def _add_report(parser: argparse.ArgumentParser, setup: str) -> None:
     parser.add_argument("--setup", metavar="FILE", help=setup)
     parser.add_argument(
@@ -262,6 +286,44 @@ def _add_prometheus(commands: argparse._SubParsersAction) -> Callable[[Words], i
     return _prometheus
 
 
+def _add_stream(commands: argparse._SubParsersAction) -> Callable[[Words], int]:
+    parser = commands.add_parser(
+        "stream",
+        help="alerts as they come",
+        description="Hands on what `confluo watch` writes, line by line as it comes.",
+    )
+    _add_report(parser, "the setup: then times, addresses, units and conditions are shown")
+    parser.add_argument("--json", action="store_true", help="JSON lines in place of words")
+    parser.add_argument("--quiet", action="store_true", help="nothing on standard output")
+    parser.add_argument(
+        "--most", type=_count, default=20, metavar="N", help="records shown of each answer; 0: all (20)"
+    )
+    parser.add_argument(
+        "--prometheus",
+        metavar="FILE",
+        help="keep metrics in this file, which is replaced at once, for node_exporter",
+    )
+    parser.add_argument(
+        "--label", metavar="NAME=VALUE", action="append", default=[], help="a label of all metrics"
+    )
+    parser.add_argument(
+        "--exec",
+        metavar="COMMAND",
+        help="run this for each alert, which it has as JSON and in its environment",
+    )
+    parser.add_argument(
+        "--exec-limit", type=_count, default=4, metavar="N", help="commands at a time; others wait (4)"
+    )
+    parser.add_argument(
+        "--exec-seconds",
+        type=_count,
+        default=30,
+        metavar="S",
+        help="seconds of a command, then it is killed (30)",
+    )
+    return _stream
+
+
 def _add_several(parser: argparse.ArgumentParser) -> None:
     parser.add_argument(
         "--setup", metavar="FILE", help="the setup of the reports; needed where there are tops"
@@ -333,7 +395,10 @@ def _add_ask(commands: argparse._SubParsersAction) -> Callable[[Words], int]:
         "--most", type=_count, default=20, metavar="N", help="records shown of each answer; 0: all (20)"
     )
     parser.add_argument(
-        "--schema", default="packet", metavar="S", help="of CSV files: 'records ts:u64,src:u32,len:u16'"
+        "--schema",
+        default="packet",
+        metavar="S",
+        help="packet6 for IPv6, or of CSV files: 'records ts:u64,src:u32,len:u16' (packet)",
     )
     parser.add_argument("--truncated", action="store_true", help="also about captures that are cut off")
     parser.add_argument(
@@ -361,6 +426,7 @@ ADDERS = (
     _add_json,
     _add_csv,
     _add_prometheus,
+    _add_stream,
     _add_merge,
     _add_plot,
     _add_packets,

@@ -5,6 +5,7 @@ from __future__ import annotations
 import os
 import shlex
 from dataclasses import dataclass, field
+from typing import Mapping
 
 MOST_RECORDS = 2**20
 OPTIONS = {
@@ -17,13 +18,18 @@ OPTIONS = {
     "count": (0, 2**20),
     "after": (0, 2**32 - 1),
     "turn": (1, 4096),
+    "every": (0, 2**32 - 1),
 }
+SCHEMAS = ("packet", "packet6")
 DEFAULTS = {"writers": 4, "capacity": 65536, "segments": 1, "nodes": 1024, "live": 0, "turn": 1}
 
 
 @dataclass(frozen=True)
 class Form:
-    """A command's options, those that it needs, how many captures it takes, and options without a value."""
+    """A command's options, those that it needs, how many captures it takes, and options without a value.
+
+    `defaults` are those that differ from other commands'.
+    """
 
     options: tuple[str, ...]
     needed: tuple[str, ...]
@@ -31,6 +37,7 @@ class Form:
     most: int
     example: str
     flags: tuple[str, ...] = ("truncated",)
+    defaults: Mapping[str, int] = field(default_factory=dict)
 
 
 FORMS = {
@@ -49,7 +56,7 @@ FORMS = {
         "confluo synth --setup questions.setup --seed 1 --count 1000",
         (),
     ),
-    "dump": Form((), (), 1, 1, "confluo dump capture.pcap"),
+    "dump": Form(("schema",), (), 1, 1, "confluo dump capture.pcap"),
     "snapshot": Form(
         ("setup", "after", "turn", "capacity", "nodes"),
         ("setup", "after"),
@@ -57,7 +64,20 @@ FORMS = {
         16,
         "confluo snapshot --setup questions.setup --after 100 host0.pcap host1.pcap",
     ),
+    "watch": Form(
+        ("setup", "capacity", "segments", "nodes", "every"),
+        ("setup",),
+        1,
+        1,
+        "confluo watch --setup questions.setup /dev/stdin",
+        defaults={"segments": 4, "nodes": 65536, "every": 4096},
+    ),
 }
+
+
+def default_of(name: str, option: str) -> int:
+    """What an option of the command is where it is not given."""
+    return FORMS[name].defaults.get(option, DEFAULTS.get(option, 0))
 
 
 @dataclass
@@ -75,7 +95,7 @@ class Command:
 
     def number(self, option: str) -> int:
         """The option's number, or its default."""
-        return int(self.options.get(option, DEFAULTS.get(option, 0)))
+        return int(self.options.get(option, default_of(self.name, option)))
 
 
 class WordsFault(Exception):
@@ -136,6 +156,10 @@ def _must_be_complete(form: Form, command: Command) -> None:
 
 
 def _must_be_in_range(form: Form, command: Command) -> None:
+    schema = command.options.get("schema", SCHEMAS[0])
+    if schema not in SCHEMAS:
+        why = f"--schema is {' or '.join(SCHEMAS)}, and not `{schema}`"
+        raise WordsFault(why, f"{form.example} --schema {SCHEMAS[1]}")
     for name, text in command.options.items():
         if name not in OPTIONS:
             continue
@@ -143,9 +167,9 @@ def _must_be_in_range(form: Form, command: Command) -> None:
         lawful = text.isascii() and text.isdigit() and (text == "0" or text[0] != "0")
         if not lawful or not low <= int(text) <= high:
             why = f"--{name} is a decimal number from {low} to {high} without sign and leading zero, and not `{text}`"
-            raise WordsFault(why, f"{form.example} --{name} {DEFAULTS.get(name, 1)}")
+            raise WordsFault(why, f"{form.example} --{name} {default_of(command.name, name) or low}")
     capacity, segments = command.number("capacity"), command.number("segments")
-    if segments > 1 and capacity % 4096:
+    if command.name != "watch" and segments > 1 and capacity % 4096:
         why = f"with more than one segment --capacity is a multiple of 4096, and not {capacity}"
         raise WordsFault(why, f"{form.example} --segments {segments} --capacity 4096")
     if segments > 1 and segments * capacity > MOST_RECORDS:

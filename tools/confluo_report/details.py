@@ -2,6 +2,7 @@
 
 from __future__ import annotations
 
+import ipaddress
 from dataclasses import dataclass
 from typing import Callable, Iterable, Mapping, Sequence
 
@@ -11,10 +12,11 @@ from .errors import Complaint
 from .expressions import Value, value_of
 from .reports import Ask, Found
 from .rows import bucket_of, rows_of
-from .setups import PACKET, Question, Setup
+from .setups import PACKETS, Question, Setup
 from .values import KINDS, PROTOCOLS, flags_text, packet_clock
 
 Details = Mapping[int, str]
+IPV6 = 0x86DD
 
 
 @dataclass(frozen=True)
@@ -23,6 +25,7 @@ class Packet:
 
     number: int
     values: dict[str, str]
+    schema: str = "packet"
 
     def text(self) -> str:
         """The packet in one line."""
@@ -33,11 +36,19 @@ class Packet:
         it = self.values
         if it["kind"] == "0":
             return f"{_mac(it['smac'])} > {_mac(it['dmac'])}  type {int(it['etype']):#06x}"
+        src, dst = self.address("src"), self.address("dst")
         if it["kind"] in ("2", "3"):
             name = KINDS[int(it["kind"])]
-            return f"{name} {it['src']}:{it['sport']} > {it['dst']}:{it['dport']}"
+            return f"{name} {_at_port(src, it['sport'])} > {_at_port(dst, it['dport'])}"
         proto = int(it["proto"])
-        return f"{PROTOCOLS.get(proto, f'protocol {proto}')} {it['src']} > {it['dst']}"
+        return f"{PROTOCOLS.get(proto, f'protocol {proto}')} {src} > {dst}"
+
+    def address(self, side: str) -> str:
+        """The address of that side, of IPv4 or IPv6."""
+        if int(self.values["etype"]) != IPV6:
+            return self.values[side]
+        halves = [int(self.values.get(it, "0"), 16) for it in (f"{side}6", f"{side}6_low")]
+        return str(ipaddress.IPv6Address((halves[0] << 64) + halves[1]))
 
     def more(self) -> str:
         it = self.values
@@ -47,8 +58,8 @@ class Packet:
         return f"{flags}{numbers}{vlan}"
 
     def row(self) -> tuple[Value, ...]:
-        """The values of the packet schema."""
-        found = [value_of(it.kind, self.values[it.name]) for it in PACKET]
+        """The values of its schema."""
+        found = [value_of(it.kind, self.values[it.name]) for it in PACKETS[self.schema]]
         if any(it is None for it in found):
             raise Complaint(f"packet {self.number} of `confluo dump` cannot be read")
         return tuple(it for it in found if it is not None)
@@ -59,22 +70,27 @@ def _mac(text: str) -> str:
     return ":".join(digits[at : at + 2] for at in range(0, len(digits), 2))
 
 
-def _packet(line: str) -> Packet:
+def _at_port(address: str, port: str) -> str:
+    return f"[{address}]:{port}" if ":" in address else f"{address}:{port}"
+
+
+def _packet(line: str, schema: str) -> Packet:
     number, *words = line.split(" ")
     values = dict(it.partition("=")[::2] for it in words)
-    if not number.isdigit() or list(values) != [it.name for it in PACKET]:
+    if not number.isdigit() or list(values) != [it.name for it in PACKETS[schema]]:
         raise Complaint(f"`confluo dump` printed a line that cannot be read: {line[:60]}")
-    return Packet(int(number), values)
+    return Packet(int(number), values, schema)
 
 
 def dumped(
-    capture: str, wanted: Iterable[int], records: int, truncated: int | None = None
+    capture: str, wanted: Iterable[int], records: int, truncated: int | None = None, schema: str = "packet"
 ) -> dict[int, Packet]:
     """The packets of these numbers by `confluo dump`, of a capture that must have that many.
 
     `truncated` is what the report says of a capture that is cut off.
     """
-    ran = program.run_over(["dump", *["--truncated"] * (truncated is not None)], capture)
+    words = ["dump", *["--truncated"] * (truncated is not None)]
+    ran = program.run_over(words + ["--schema", schema] * (schema != "packet"), capture)
     if ran.status != 0:
         raise Complaint(
             f"{capture}: `confluo dump` refuses it with status {ran.status}: {ran.text.strip()}\n"
@@ -84,7 +100,7 @@ def dumped(
     cut = lines.pop() if lines and lines[-1].startswith("truncated: ") else None
     _must_be_as_many(capture, len(lines), records)
     _must_be_cut(capture, cut is not None, truncated)
-    return {it: _packet(lines[it]) for it in set(wanted) if it < len(lines)}
+    return {it: _packet(lines[it], schema) for it in set(wanted) if it < len(lines)}
 
 
 def _must_be_as_many(capture: str, there: int, records: int) -> None:
@@ -144,7 +160,7 @@ def details_of(
     wanted = {row for ask in asks if isinstance(ask.body, Found) for row in ask.body.rows[: most or None]}
     if setup and not setup.is_packet:
         return _record_lines(asks, records, setup, capture, wanted)
-    packets = dumped(capture, wanted, records, truncated)
+    packets = dumped(capture, wanted, records, truncated, setup.source if setup else "packet")
     if setup:
         _must_be_found(setup, asks, {at: it.row() for at, it in packets.items()}, capture)
     return {at: it.text() for at, it in packets.items()}

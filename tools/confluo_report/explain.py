@@ -9,7 +9,7 @@ from dataclasses import dataclass, field
 from .captures import CaptureFault, Reading
 from .commands import Command, WordsFault, parse_words
 from .errors import Complaint
-from .explain_capture import explain_capture
+from .explain_capture import explain_capture, explain_stream
 from .explain_setup import explain_setup
 from .nodes import MOST_RECORDS, Need, need_of, sizes_for
 from .reports import Refusal
@@ -22,12 +22,13 @@ BYTES_OF_A_PLACE = 8 * 22
 
 @dataclass
 class Case:
-    """What is known of a refused run: its files and the words of its command."""
+    """What is known of a refused run: its files and the words of its command, and whether it was a `watch`."""
 
     setup: str | None = None
     captures: list[str] = field(default_factory=list)
     words: list[str] | None = None
     was_cut: bool = False
+    is_watch: bool = False
 
     def command(self) -> Command | None:
         """The command, where its words are given and lawful."""
@@ -44,11 +45,13 @@ class Case:
         if command:
             self.setup = self.setup or command.options.get("setup")
             self.captures = self.captures or command.captures
+            self.is_watch = self.is_watch or command.name == "watch"
 
     def reading(self) -> Reading:
         """How the run read packets, as far as its words say it."""
         command = self.command()
-        return Reading(bool(command and command.may_be_cut))
+        schema = command.options.get("schema", "packet") if command else "packet"
+        return Reading(bool(command and command.may_be_cut), schema)
 
     def parsed(self) -> Setup | None:
         """The setup, where it is given and lawful."""
@@ -89,9 +92,10 @@ def _usage() -> list[str]:
         "    confluo run --setup FILE [--writers W] [--capacity N] [--segments G] [--nodes M] [--live R]",
         "        [--truncated] CAPTURE",
         "    confluo synth --setup FILE --seed S --count C [--writers W] [--capacity N] [--segments G] [--nodes M]",
-        "    confluo dump [--truncated] CAPTURE",
+        "    confluo dump [--schema packet|packet6] [--truncated] CAPTURE",
         "    confluo snapshot --setup FILE --after A [--turn T] [--capacity N] [--nodes M]",
         "        [--truncated] CAPTURE ..",
+        "    confluo watch --setup FILE [--capacity N] [--segments G] [--nodes M] [--every E] [--truncated] CAPTURE",
     ]
 
 
@@ -114,7 +118,8 @@ def explain_file(case: Case) -> list[str]:
 
 def explain_reading(case: Case) -> list[str]:
     """Status 4."""
-    lines = ["The system could not open or read a file (status 4). Nothing was printed."]
+    printed = "The final part is missing." if case.is_watch else "Nothing was printed."
+    lines = [f"The system could not open or read a file (status 4). {printed}"]
     for path in (it for it in (case.setup, *case.captures) if it):
         if os.path.isdir(path):
             lines.append(f"{path} is a folder, and no file.")
@@ -136,6 +141,8 @@ def explain_writing() -> list[str]:
 
 def explain_memory(case: Case) -> list[str]:
     """Status 8."""
+    if case.is_watch:
+        return _explain_memory_of_watch(case)
     command = case.command() or Command("run")
     writers, nodes, capacity = (command.number(it) for it in ("writers", "nodes", "capacity"))
     trees = 8 * (1 + 16 * writers) * writers * nodes
@@ -147,6 +154,20 @@ def explain_memory(case: Case) -> list[str]:
         "One writer needs the least, and small segments are taken only as records come:",
         "",
         f"    confluo run --setup questions.setup --writers 1 --nodes {nodes} --capacity 4096 --segments 256 capture.pcap",
+    ]
+
+
+def _explain_memory_of_watch(case: Case) -> list[str]:
+    command = case.command() or Command("watch")
+    nodes, capacity, segments = (command.number(it) for it in ("nodes", "capacity", "segments"))
+    size = (BYTES_OF_A_PLACE * capacity + 8 * 17 * nodes) / 1e6
+    return [
+        "There was not enough memory (status 8). The final part is missing.",
+        f"A segment with --nodes {nodes} --capacity {capacity} takes about {size:.0f} MB or more, and there are "
+        f"up to {segments} of them.",
+        "Smaller segments need less:",
+        "",
+        "    confluo watch --setup questions.setup --capacity 4096 --nodes 16384 /dev/stdin",
     ]
 
 
@@ -175,6 +196,8 @@ def _need(case: Case, capacity: int) -> Need | None:
 def _again(case: Case, options: str) -> list[str]:
     setup, capture = case.setup or "questions.setup", " ".join(case.captures) or "capture.pcap"
     name = "run"
+    if case.is_watch:
+        name, capture = "watch", case.captures[0] if case.captures else "/dev/stdin"
     command = case.command()
     if command and command.name != "dump":
         name = command.name
@@ -184,6 +207,11 @@ def _again(case: Case, options: str) -> list[str]:
 
 def explain_full(refusal: Refusal, case: Case) -> list[str]:
     """Status 6."""
+    if case.is_watch:
+        return [
+            f"More than {refusal.place} records came, and they have no numbers (status 6).",
+            "Start it again: the window is lost, and what was written stays right.",
+        ]
     lines = [f"The capture has more records than the log holds, {refusal.place} (status 6)."]
     need = _need(case, 65536)
     if need is None:
@@ -217,6 +245,12 @@ def _sized(case: Case, need: Need) -> list[str]:
 
 def explain_nodes(refusal: Refusal, case: Case) -> list[str]:
     """Status 7."""
+    if case.is_watch:
+        return [
+            f"One record's keys need more tree nodes than {refusal.place}, the most of a segment (status 7).",
+            "256 nodes are enough for every record; more keep more records in a segment:",
+            *_again(case, "--nodes 65536"),
+        ]
     lines = [
         f"The keys of indexes, filters, aggregates and tallies need more tree nodes than {refusal.place} (status 7)."
     ]
@@ -247,7 +281,9 @@ def explain(refusal: Refusal | None, status: int | None, case: Case) -> list[str
     if status is not None and KINDS.get(status) != refusal.kind:
         raise Complaint(f"the line is that of a refused {refusal.kind}, and status {status} is another")
     if refusal.kind == "setup":
-        return explain_setup(refusal, case.setup, read_bytes(case.setup) if case.setup else None)
+        command = case.command()
+        data = read_bytes(case.setup) if case.setup else None
+        return explain_setup(refusal, case.setup, data, bool(command and command.name == "synth"))
     if refusal.kind == "capture":
         return _explain_capture(refusal, case)
     return {
@@ -262,6 +298,8 @@ def _explain_capture(refusal: Refusal, case: Case) -> list[str]:
     if len(case.captures) > 1:
         return _explain_one_of(refusal, case)
     capture = case.captures[0] if case.captures else None
+    if case.is_watch and (capture is None or not os.path.isfile(capture)):
+        return explain_stream(refusal)
     return explain_capture(refusal, capture, case.parsed(), case.reading())
 
 

@@ -15,7 +15,7 @@ from .setups import Setup
 REASONS = {
     1: "the file is no capture: its first bytes are none of pcap's or pcapng's",
     2: "the version of pcap is another than 2.4",
-    3: "the packets are of a link type that is not read; Ethernet (1) and Linux cooked (113) are",
+    3: "the packets are of a link type that the schema does not read",
     4: "a packet states more than 262144 captured bytes; most likely the file is damaged there",
     5: "the file ends within a packet or its header: it is still being written, or the disk was full",
     6: "the file has 4 GiB or more",
@@ -26,7 +26,7 @@ REASONS = {
     15: "the CSV file has 16 MiB or more",
     21: "the byte order of a pcapng section cannot be told; most likely the file is damaged there",
     22: "a pcapng section has another version than 1",
-    23: "a packet is of an interface whose link type is not read; Ethernet (1) and Linux cooked (113) are",
+    23: "a packet is of an interface whose link type the schema does not read",
     24: "a packet states more than 262144 captured bytes; most likely the file is damaged there",
     25: "the file ends within a block: it is still being written, or the disk was full",
     26: "the file has 4 GiB or more",
@@ -34,6 +34,7 @@ REASONS = {
     28: "a packet names an interface that the file does not describe; the file is damaged there",
 }
 IN_CSV = (11, 12, 13, 14, 15)
+WIDER = "`schema packet6` reads Linux cooked v2, raw IP and BSD loopback too. If that is none of these: "
 
 
 def _keep(code: int, path: str, count: int) -> tuple[str, list[str]]:
@@ -66,20 +67,23 @@ def _unpack(path: str, packer: str | None) -> tuple[str, list[str]]:
     return advice, [f"editcap -F pcap {path} mended.pcap"]
 
 
-def mending(code: int, record: int, path: str, packer: str | None) -> tuple[str, list[str]]:
+def mending(
+    code: int, record: int, path: str, packer: str | None, schema: str = "packet"
+) -> tuple[str, list[str]]:
     """What to do, and the commands that do it."""
+    wider = WIDER if schema == "packet" else ""
     if code == 1:
         return _unpack(path, packer)
     if code in (2, 21, 22):
         return "This writes it anew, as far as it can be read:", [f"editcap -F pcap {path} mended.pcap"]
     if code == 3:
         return (
-            "Capture on one interface, or as Linux cooked; or, if the frames are in truth Ethernet, say so:",
+            f"{wider}Capture on one interface, or as Linux cooked; or, if the frames are in truth Ethernet, say so:",
             ["tcpdump -i any -y LINUX_SLL -w capture.pcap", f"editcap -F pcap -T ether {path} mended.pcap"],
         )
     if code == 23:
         return (
-            "Keep the packets of one interface of a type that is read:",
+            f"{wider}Keep the packets of one interface of a type that is read:",
             [f"tshark -r {path} -Y 'frame.interface_id == 0' -F pcap -w mended.pcap"],
         )
     if code in (4, 5, 24, 25, 27, 28):
@@ -122,6 +126,8 @@ def find_fault(
             if setup and not setup.is_packet:
                 _exhaust(record_rows(setup.schema, file.read(2**24 + 1)))
             else:
+                reading = reading or Reading()
+                reading.schema = setup.source if setup else reading.schema
                 _exhaust(frames(file, reading))
     except CaptureFault as fault:
         return fault
@@ -150,8 +156,26 @@ def explain_capture(
         names = ",".join(it.name for it in setup.schema) if setup else "ts,src,len"
         advice, commands = _csv_mending(refusal.code, names, refusal.place, shown)
     else:
-        advice, commands = mending(refusal.code, refusal.place, shown, packer)
+        schema = setup.source if setup else reading.schema if reading else "packet"
+        advice, commands = mending(refusal.code, refusal.place, shown, packer, schema)
     return lines + [advice, *["", *[f"    {it}" for it in commands]][: 1 + len(commands)]]
+
+
+def explain_stream(refusal: Refusal) -> list[str]:
+    """The refusal of a capture that came through a pipe and is gone."""
+    reason = REASONS.get(refusal.code)
+    if reason is None:
+        raise Complaint(f"there is no code {refusal.code} of captures")
+    if refusal.code in CUT:
+        reason = "it ends within a packet: what wrote it was stopped in the middle"
+    lines = [f"The stream: {reason} (code {refusal.code}).", f"{refusal.place} packets came before."]
+    if refusal.code in CUT:
+        lines += ["If the stream may end there, --truncated answers up to its last whole packet."]
+    if refusal.code == 1 and not refusal.place:
+        lines += ["What writes into the pipe must write pcap or pcapng: tcpdump -U -w -"]
+    if refusal.code in (3, 23):
+        lines += [mending(3, 0, "capture.pcap", None)[0], "", "    tcpdump -i any -y LINUX_SLL -U -w -"]
+    return lines
 
 
 def _place_lines(

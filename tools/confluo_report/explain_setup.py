@@ -59,7 +59,20 @@ def fault_lines(path: str, fault: SetupFault) -> list[str]:
     return lines
 
 
-def explain_setup(refusal: Refusal, path: str | None, data: bytes | None) -> list[str]:
+def _packet_lines(refusal: Refusal, path: str, why: str) -> list[str]:
+    """A command over packets, and a setup over others."""
+    return [
+        f"{path}, line {refusal.place}: the setup is refused, code 4.",
+        f"Why: {why}.",
+        "A line that would be right:",
+        "",
+        "    schema packet",
+    ]
+
+
+def explain_setup(
+    refusal: Refusal, path: str | None, data: bytes | None, is_synth: bool = False
+) -> list[str]:
     """The refusal in words, with the setup where it is given."""
     if path is None or data is None:
         wrong, right = EXAMPLES.get(refusal.code, ("", ""))
@@ -71,10 +84,18 @@ def explain_setup(refusal: Refusal, path: str | None, data: bytes | None) -> lis
             "With --setup FILE the line is shown.",
         ]
     try:
-        parse_setup(data)
+        setup = parse_setup(data)
     except SetupFault as fault:
         if (fault.line, fault.fault.code) == (refusal.place, refusal.code):
             return fault_lines(path, fault)
         found = f"its first fault is in line {fault.line}, code {fault.fault.code}"
         raise Complaint(f"{path} is not the setup that was refused: {found}") from fault
+    if refusal.code == 4 and not setup.is_packet:
+        return _packet_lines(
+            refusal, path, "it is over records, and `watch` and `synth` are over packets alone"
+        )
+    if is_synth and refusal.code == 4 and setup.source != "packet":
+        return _packet_lines(
+            refusal, path, "`synth` draws packets by `schema packet`, and this setup states another schema"
+        )
     raise Complaint(f"{path} is not the setup that was refused: it is lawful")

@@ -7,7 +7,7 @@ import io
 import json
 from typing import Any, Iterator, Sequence
 
-from .reports import Ask, Body, Fired, Found, Host, Live, Pair, Quad, Report, Snapshot
+from .reports import Ask, Body, Fired, Found, Host, Live, Pair, Quad, Report, RoundAlert, Snapshot, Told
 from .setups import Question, Setup
 from .values import clock, value_text
 
@@ -61,6 +61,15 @@ def _live(live: Live, setup: Setup | None) -> dict[str, Any]:
     return found
 
 
+def told_object(it: Told, setup: Setup | None = None) -> dict[str, Any]:
+    """The members of a line of a round of `watch`."""
+    if isinstance(it, RoundAlert):
+        found = {"trigger": it.trigger, "bucket": it.bucket, "value": it.value, "prefix": it.prefix}
+        return {"kind": "alert", **found, **_time(setup, it.bucket)}
+    answer = body_object(it.body, setup, setup.question(it.name) if setup else None)
+    return {"kind": "live", "name": it.name, "first": it.first, "prefix": it.prefix, "answer": answer}
+
+
 def report_object(read: Report | Snapshot, setup: Setup | None = None) -> dict[str, Any]:
     """The object that docs/report.schema.json describes; with a setup also times and addresses."""
     if isinstance(read, Snapshot):
@@ -88,7 +97,14 @@ def report_object(read: Report | Snapshot, setup: Setup | None = None) -> dict[s
         "lives": [_live(it, setup) for it in read.lives],
         "order": order,
         **_truncated(read),
+        **_watched(read, setup),
     }
+
+
+def _watched(read: Report, setup: Setup | None) -> dict[str, Any]:
+    if read.window is None:
+        return {}
+    return {"window": read.window, "told": [told_object(it, setup) for it in read.told]}
 
 
 def _truncated(read: Report | Host) -> dict[str, Any]:
@@ -129,7 +145,15 @@ def _rows(read: Report | Snapshot) -> Iterator[tuple[Cell, ...]]:
             if host.truncated is not None:
                 yield ("truncated", host.number, "", "", "", "", "", host.truncated)
         return
+    for told in read.told:
+        if isinstance(told, RoundAlert):
+            yield ("alert", "", told.trigger, "", told.prefix, "", told.bucket, told.value)
+        else:
+            prefix = f"{told.first}..{told.prefix}"
+            yield from _body_rows(("live", "", told.name, told.body.kind, prefix), told.body)
     yield ("records", "", "", "", "", "", "", read.records)
+    if read.window is not None:
+        yield ("window", "", "", "", "", "", "", read.window)
     for ask in read.asks:
         yield from _body_rows(("ask", "", ask.name, ask.body.kind, ""), ask.body)
     for it in read.alerts:

@@ -27,7 +27,7 @@ def _types(frame: Frame) -> tuple[int, int, int]:
     return 0, kind, at + 2
 
 
-def _transport(data: bytes, proto: int, at: int, end: int) -> tuple[int, tuple[int, ...]]:
+def transport_values(data: bytes, proto: int, at: int, end: int) -> tuple[int, tuple[int, ...]]:
     """The kind, and ports, seq, ack, flags and window."""
     if proto == 6 and at + 20 <= end:
         sport, dport, seq, ack, _, flags, win = struct.unpack_from(">HHIIBBH", data, at)
@@ -37,7 +37,7 @@ def _transport(data: bytes, proto: int, at: int, end: int) -> tuple[int, tuple[i
     return 1, (0,) * 6
 
 
-def _network(data: bytes, etype: int, at: int) -> tuple[int, ...]:
+def network_values(data: bytes, etype: int, at: int) -> tuple[int, ...]:
     """From `kind` to `win`; all 0 where no IPv4 header is read."""
     nothing = (0,) * 13
     if etype != IPV4 or len(data) < at + 20 or data[at] >> 4 != 4:
@@ -50,7 +50,7 @@ def _network(data: bytes, etype: int, at: int) -> tuple[int, ...]:
     if fragment & 0x1FFF:
         kind, rest = 1, (0,) * 6
     else:
-        kind, rest = _transport(data, proto, at + header, end)
+        kind, rest = transport_values(data, proto, at + header, end)
     return (kind, tos, iplen, ttl, proto, src, dst, *rest)
 
 
@@ -61,5 +61,5 @@ def packet_row(frame: Frame) -> tuple[Value, ...]:
     if frame.link == 1 and len(data) >= 14:
         dmac, smac = data[:6], data[6:12]
     vlan, etype, at = _types(frame)
-    network = _network(data, etype, at)
+    network = network_values(data, etype, at)
     return (frame.ts, len(data), frame.length, dmac, smac, etype, *network, vlan)

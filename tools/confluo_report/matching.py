@@ -5,7 +5,7 @@ from __future__ import annotations
 from typing import Sequence
 
 from .errors import Complaint
-from .reports import Alert, Ask, Fired, Report, Snapshot, Top
+from .reports import Alert, Ask, Fired, Report, RoundAlert, Snapshot, Told, Top
 from .setups import Setup
 
 
@@ -68,3 +68,16 @@ def must_match(read: Report | Snapshot, setup: Setup, source: str) -> None:
     strange = [it.name for it in read.lives if it.name not in setup.lives]
     if strange:
         raise Complaint(f"{source} is no report of this setup: `{strange[0]}` is not live in it")
+    for it in read.told:
+        must_be_told(it, setup, source)
+
+
+def must_be_told(it: Told, setup: Setup, source: str) -> None:
+    """A Complaint where the line of a round of `watch` is not one of this setup."""
+    if isinstance(it, RoundAlert):
+        if not setup.trigger(it.trigger):
+            raise Complaint(f"{source} is not of this setup, which has no trigger `{it.trigger}`")
+        return
+    question = setup.question(it.name)
+    if it.name not in setup.lives or not question or question.kind != it.body.kind:
+        raise Complaint(f"{source} is not of this setup, where no `{it.name} {it.body.kind}` is live")

@@ -157,6 +157,10 @@ def merge(named: Sequence[Named], setup: Setup | None, asked: dict[str, int] | N
     for it in named:
         if [(ask.name, ask.body.kind) for ask in it.report.asks] != shape:
             raise Complaint(f"{it.name} and {first.name} are reports of different setups")
+        if it.report.window is not None:
+            raise Complaint(
+                f"{it.name} is of `watch`, whose answers are on its window alone: it is not merged"
+            )
         if setup:
             must_match(it.report, setup, it.name)
     asks = tuple(_joined(named, at, setup, asked or {}) for at in range(len(shape)))

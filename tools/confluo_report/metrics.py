@@ -10,7 +10,7 @@ from dataclasses import dataclass, field
 from typing import Iterable
 
 from .errors import Complaint
-from .reports import Body, Fired, Found, Quad, Report, Snapshot
+from .reports import Body, Fired, Found, Quad, Report, RoundAlert, Snapshot
 
 LABEL = re.compile(r"[a-zA-Z_][a-zA-Z0-9_]*")
 EXACT = 2**53
@@ -29,6 +29,15 @@ HELP = {
     "confluo_alert_value": "The value in a time bucket in which the trigger fires.",
     "confluo_order_records": "Consecutive records of one writer in the log.",
     "confluo_truncated_records": "Whole records of a capture that is cut off; absent of one that ends well.",
+    "confluo_window_record": "The first record that the answers are on, by its number.",
+    "confluo_told_alert_value": "The value in a time bucket in which the trigger began to fire.",
+    "confluo_stream_running": "1 while the stream is read, 0 after its end.",
+    "confluo_stream_records": "Records that had come when the last line was written.",
+    "confluo_stream_alerts_total": "Alerts of the trigger since the start.",
+    "confluo_stream_alert_bucket": "The time bucket of the trigger's last alert.",
+    "confluo_stream_alert_value": "The value of the trigger's last alert.",
+    "confluo_stream_commands_total": "Commands run for alerts, by how they ended, or passed over.",
+    "confluo_stream_fault": "The code of the fault that ended the stream, 0 for one without a code.",
 }
 STAGES = {"live": "Asked while records were loaded: ", "new": "New in the live answer: "}
 
@@ -51,7 +60,8 @@ class Families:
     def text(self) -> str:
         lines: list[str] = []
         for name, samples in self.samples.items():
-            lines += [f"# HELP {name} {help_of(name)}", f"# TYPE {name} gauge", *samples]
+            kind = "counter" if name.endswith("_total") else "gauge"
+            lines += [f"# HELP {name} {help_of(name)}", f"# TYPE {name} {kind}", *samples]
         return "\n".join(lines) + "\n"
 
 
@@ -69,7 +79,8 @@ def help_of(name: str) -> str:
     return HELP[name]
 
 
-def _add_body(families: Families, stage: str, body: Body, brief: bool, **labels: object) -> None:
+def add_body(families: Families, stage: str, body: Body, brief: bool, **labels: object) -> None:
+    """The samples of an answer; `stage` is the front of their metrics' names behind `confluo_`."""
     front = f"confluo_{stage}"
     labels["kind"] = body.kind
     if isinstance(body, Quad):
@@ -95,8 +106,10 @@ def _add_report(families: Families, report: Report, triggers: Iterable[str], bri
     families.add("confluo_records", report.records)
     if report.truncated is not None:
         families.add("confluo_truncated_records", report.truncated)
+    if report.window is not None:
+        families.add("confluo_window_record", report.window)
     for ask in report.asks:
-        _add_body(families, "", ask.body, brief, ask=ask.name)
+        add_body(families, "", ask.body, brief, ask=ask.name)
     counts = dict.fromkeys(triggers, 0)
     for it in report.alerts:
         counts[it.trigger] = counts.get(it.trigger, 0) + 1
@@ -108,9 +121,16 @@ def _add_report(families: Families, report: Report, triggers: Iterable[str], bri
         return
     for line, live in enumerate(report.lives):
         labels = {"ask": live.name, "line": line, "prefix": live.prefix}
-        _add_body(families, "live_", live.body, False, **labels)
+        add_body(families, "live_", live.body, False, **labels)
         if live.new is not None:
-            _add_body(families, "new_", live.new, False, **labels)
+            add_body(families, "new_", live.new, False, **labels)
+    for line, told in enumerate(report.told):
+        if isinstance(told, RoundAlert):
+            labels = {"trigger": told.trigger, "line": line, "prefix": told.prefix, "bucket": told.bucket}
+            families.add("confluo_told_alert_value", told.value, **labels)
+        else:
+            labels = {"ask": told.name, "line": line, "first": told.first, "prefix": told.prefix}
+            add_body(families, "live_", told.body, False, **labels)
     for place, stretch in enumerate(report.order or ()):
         families.add("confluo_order_records", stretch.count, place=place, writer=stretch.writer)
 
@@ -122,7 +142,7 @@ def _add_snapshot(families: Families, snapshot: Snapshot, brief: bool) -> None:
         if host.truncated is not None:
             families.add("confluo_truncated_records", host.truncated, host=host.number)
         for ask in host.asks:
-            _add_body(families, "", ask.body, brief, ask=ask.name, host=host.number)
+            add_body(families, "", ask.body, brief, ask=ask.name, host=host.number)
 
 
 def metrics_text(
@@ -156,6 +176,8 @@ def label_of(text: str) -> tuple[str, str]:
         "line",
         "prefix",
         "writer",
+        "first",
+        "result",
     }
     if not equals or not LABEL.fullmatch(name) or name.startswith("__") or name in taken:
         raise Complaint(f"`{text}` is no label NAME=VALUE, or its name is one of {', '.join(sorted(taken))}")

@@ -53,7 +53,8 @@ def _copy(capture: str, wanted: set[int], out: BinaryIO, reading: Reading) -> Co
 def copy_packets(report: Report, name: str, capture: str, out: str, source: str) -> Copied:
     """The file `out` has the found packets, or is as before; `-` is standard output."""
     wanted = rows_found(report, name, source)
-    reading = Reading(report.truncated is not None)
+    # A report does not say its schema; packet6 reads each capture that packet reads.
+    reading = Reading(report.truncated is not None, "packet6")
     with tempfile.TemporaryFile() if out == "-" else _new_file(out) as file:
         try:
             copied = _copy(capture, wanted, file, reading)

@@ -1,4 +1,4 @@
-"""Reads the texts that confluo prints: reports, snapshots, dumps and refusals.
+"""Reads the texts that confluo prints: reports, snapshots, dumps, refusals, and what `watch` writes.
 
 The lines are those of docs/FORMATS.md and no others. A text that is anything else is a Complaint that
 names the line and quotes it.
@@ -100,10 +100,37 @@ class Stretch:
 
 
 @dataclass(frozen=True)
-class Report:
-    """What `run` prints, or `synth`, whose report has no order.
+class RoundAlert:
+    """An alert of a round of `watch`: a bucket in which the trigger did not fire in the round before.
 
-    `truncated` is the number of whole records of a capture that is cut off.
+    `prefix` is the number of records that had come.
+    """
+
+    trigger: str
+    bucket: int
+    value: int
+    prefix: int
+
+
+@dataclass(frozen=True)
+class RoundLive:
+    """A live answer of a round of `watch`, on the records from `first` up to `prefix`, which is not one of them."""
+
+    name: str
+    first: int
+    prefix: int
+    body: Body
+
+
+Told = Union[RoundAlert, RoundLive]
+
+
+@dataclass(frozen=True)
+class Report:
+    """What `run` prints, or `synth`, whose report has no order, or `watch`.
+
+    `truncated` is the number of whole records of a capture that is cut off. Of `watch`, `window` is the number of
+    the first record that the answers are on, and `told` is what its rounds said.
     """
 
     records: int
@@ -112,6 +139,8 @@ class Report:
     lives: tuple[Live, ...] = ()
     order: tuple[Stretch, ...] | None = None
     truncated: int | None = None
+    window: int | None = None
+    told: tuple[Told, ...] = ()
 
 
 @dataclass(frozen=True)
@@ -159,6 +188,9 @@ FORMS = {
     "cut": re.compile(rf"cut ({NUMBER})"),
     "host": re.compile(rf"host ({NUMBER}) @({NUMBER})"),
     "truncated:": re.compile(rf"truncated: record ({NUMBER})"),
+    "window": re.compile(rf"window ({NUMBER})"),
+    "round alert": re.compile(rf"alert ({NAME}) ({NUMBER}) ({NUMBER}) @({NUMBER})"),
+    "round live": re.compile(rf"live ({NAME}) @({NUMBER})\.\.({NUMBER}) (.*)"),
 }
 QUAD = re.compile(
     rf"(measure|total) count ({NUMBER}) sum ({NUMBER}) least ({NUMBER}|-) greatest ({NUMBER}|-)"
@@ -167,20 +199,31 @@ LISTED = re.compile(rf"(list|find|between) ({NUMBER}):((?: {NUMBER})*)")
 PAIRED = re.compile(rf"(fired|top) ({NUMBER}):((?: {NUMBER}={NUMBER})*)")
 
 
+def is_told(line: str) -> bool:
+    """Whether the line is one of a round of `watch`, or begins like one."""
+    return line.startswith(("alert ", "live "))
+
+
 def refusal_of(text: str) -> Refusal | None:
-    """The refusal, if the text is one line of a refusal."""
+    """The refusal, if the text is one line of a refusal, or lines of rounds of `watch` before one."""
+    *before, last = text.removesuffix("\n").split("\n")
+    if not all(is_told(it) for it in before):
+        return None
     for kind, form in REFUSALS:
-        found = form.fullmatch(text.removesuffix("\n"))
+        found = form.fullmatch(last)
         if found:
             return Refusal(kind, *map(int, found.groups()))
     return None
 
 
 class _Lines:
-    """The lines of a text one after another, with the number of the one that is next."""
+    """The lines of a text one after another, with the number of the one that is next.
 
-    def __init__(self, text: str, source: str) -> None:
-        self.source = source
+    `before` is the number of lines that came before the text.
+    """
+
+    def __init__(self, text: str, source: str, before: int = 0) -> None:
+        self.source, self.before = source, before
         self.whole = text.endswith("\n")
         self.lines = text.split("\n")[:-1] if self.whole else text.split("\n")
         self.at = 0
@@ -201,14 +244,16 @@ class _Lines:
         """Complains of the line `back` lines before the next one."""
         at = self.at - back
         if at >= len(self.lines):
-            raise Complaint(f"{self.source}: the report ends after line {at}; {wanted} should follow")
+            raise Complaint(
+                f"{self.source}: the report ends after line {at + self.before}; {wanted} should follow"
+            )
         line = self.lines[at]
         shown = line if len(line) <= 76 else line[:73] + "..."
         cut = ""
         if at == len(self.lines) - 1 and not self.whole:
             cut = "\nThe last line has no line end: the report is cut off."
         raise Complaint(
-            f"{self.source}: line {at + 1} cannot be read as part of a report:\n    {shown}\n"
+            f"{self.source}: line {at + 1 + self.before} cannot be read as part of a report:\n    {shown}\n"
             f"Expected: {wanted}.{cut}"
         )
 
@@ -224,17 +269,20 @@ def _shown_form(word: str) -> str:
         "cut": "`cut K`",
         "host": "`host H @C`",
         "truncated:": "`truncated: record K`",
+        "window": "`window F`",
+        "round alert": "`alert TRIGGER BUCKET VALUE @T`",
+        "round live": "`live NAME @F..T ..`",
     }[word]
 
 
-def _body(lines: _Lines, text: str, most: int, ascending: bool) -> Body:
-    """An answer whose line was just taken, over `most` records."""
+def _body(lines: _Lines, text: str, most: int, ascending: bool, least: int = 0) -> Body:
+    """An answer whose line was just taken, over the records from `least` up to `most`."""
     if found := QUAD.fullmatch(text):
         return _quad(lines, found.groups())
     if found := LISTED.fullmatch(text):
         rows = tuple(map(int, found[3].split()))
         _must_count(lines, int(found[2]), len(rows))
-        _must_be_rows(lines, rows, most, ascending)
+        _must_be_rows(lines, rows, (least, most), ascending)
         return Found(found[1], rows)
     if found := PAIRED.fullmatch(text):
         pairs = tuple(Pair(*map(int, it.split("="))) for it in found[3].split())
@@ -262,9 +310,10 @@ def _must_count(lines: _Lines, stated: int, there: int) -> None:
         lines.fail(f"{stated} entries after the colon, and there are {there}", back=1)
 
 
-def _must_be_rows(lines: _Lines, rows: tuple[int, ...], most: int, ascending: bool) -> None:
-    if any(row >= most for row in rows):
-        lines.fail(f"numbers of records below {most}", back=1)
+def _must_be_rows(lines: _Lines, rows: tuple[int, ...], ends: tuple[int, int], ascending: bool) -> None:
+    least, most = ends
+    if any(not least <= row < most for row in rows):
+        lines.fail(f"numbers of records {f'from {least} and ' if least else ''}below {most}", back=1)
     if ascending and any(low >= high for low, high in zip(rows, rows[1:])):
         lines.fail("numbers of records in ascending order", back=1)
     if len(set(rows)) != len(rows):
@@ -282,13 +331,13 @@ def _must_be_in_order(lines: _Lines, kind: str, pairs: tuple[Pair, ...]) -> None
         lines.fail(wanted, back=1)
 
 
-def _asks(lines: _Lines, most: int) -> tuple[Ask, ...]:
+def _asks(lines: _Lines, most: int, least: int = 0) -> tuple[Ask, ...]:
     asks: list[Ask] = []
     while lines.word() == "ask":
         name, text = lines.take("ask")
         if any(it.name == name for it in asks):
             lines.fail(f"another name than {name}, which has its answer above", back=1)
-        asks.append(Ask(name, _body(lines, text, most, True)))
+        asks.append(Ask(name, _body(lines, text, most, True, least)))
     return tuple(asks)
 
 
@@ -357,8 +406,42 @@ def _must_end(lines: _Lines, wanted: str) -> None:
         lines.fail("a line end after the last line", back=1)
 
 
+class Rounds:
+    """Reads the lines of rounds of `watch` one after another."""
+
+    def __init__(self) -> None:
+        # The window of the last line.
+        self.first = self.prefix = 0
+
+    def take(self, lines: _Lines) -> Told:
+        """The next line, which is one of a round."""
+        if lines.word() == "alert":
+            name, bucket, value, prefix = lines.take("round alert")
+            self._move(lines, self.first, int(prefix))
+            return RoundAlert(name, int(bucket), int(value), self.prefix)
+        name, first, prefix, text = lines.take("round live")
+        self._move(lines, int(first), int(prefix))
+        return RoundLive(name, self.first, self.prefix, _body(lines, text, self.prefix, True, self.first))
+
+    def _move(self, lines: _Lines, first: int, prefix: int) -> None:
+        if prefix < self.prefix or not self.first <= first <= prefix:
+            lines.fail(f"a window that is none before {self.first}..{self.prefix}", back=1)
+        self.first, self.prefix = first, prefix
+
+    def take_line(self, line: str, number: int, source: str) -> Told:
+        """The line of that number, from 1, which is one of a round."""
+        return self.take(_Lines(line + "\n", source, number - 1))
+
+
 def _report(lines: _Lines) -> Report:
+    told, rounds = [], Rounds()
+    while lines.word() in ("alert", "live"):
+        told.append(rounds.take(lines))
+    if lines.word() != "records":
+        lines.fail("a further line of a round of `watch`, or `records K`, the first line of its final part")
     records = int(lines.take("records")[0])
+    if lines.word() == "window" or told:
+        return _final_part(lines, records, rounds, tuple(told))
     asks = _asks(lines, records)
     alerts = _alerts(lines)
     lives = _lives(lines, records)
@@ -368,6 +451,22 @@ def _report(lines: _Lines) -> Report:
     truncated = _truncated(lines, records, records, f"`truncated: record {records}`, the report's records")
     _must_end(lines, "a further line of a report, in the order records, ask, alert, live, order, truncated")
     return Report(records, asks, alerts, lives, order, truncated)
+
+
+def _final_part(lines: _Lines, records: int, rounds: Rounds, told: tuple[Told, ...]) -> Report:
+    """What `watch` writes at the end, behind the line of its records."""
+    if records < rounds.prefix:
+        lines.fail(f"`records K` of at least {rounds.prefix}, those of the round above", back=1)
+    if lines.word() != "window":
+        lines.fail("`window F`")
+    window = int(lines.take("window")[0])
+    if not rounds.first <= window <= records:
+        lines.fail(f"a window from {rounds.first} on, and of at most {records} records", back=1)
+    asks = _asks(lines, records, window)
+    alerts = _alerts(lines)
+    truncated = _truncated(lines, records, records, f"`truncated: record {records}`, the capture's records")
+    _must_end(lines, "a further line, in the order records, window, ask, alert, truncated")
+    return Report(records, asks, alerts, truncated=truncated, window=window, told=told)
 
 
 def _snapshot(lines: _Lines) -> Snapshot:
@@ -395,7 +494,7 @@ def _must_be_text(text: str, source: str) -> None:
     refusal = refusal_of(text)
     if refusal:
         raise Complaint(
-            f"{source}: this is no report but a refusal: {text.strip()}\n"
+            f"{source}: this is no report but a refusal: {text.rstrip().rpartition(chr(10))[2]}\n"
             "`confluo-report explain` says what it means"
         )
     lines = text.split("\n", 2)
@@ -408,7 +507,7 @@ def parse(text: str, source: str = "report") -> Report | Snapshot:
     _must_be_text(text, source)
     lines = _Lines(text, source)
     readers: dict[str, Callable[[_Lines], Report | Snapshot]]
-    readers = {"records": _report, "cut": _snapshot}
+    readers = {"records": _report, "cut": _snapshot, "alert": _report, "live": _report}
     reader = readers.get(lines.word())
     if not reader:
         lines.fail("`records K`, the first line of a report, or `cut K`, that of a snapshot")
@@ -437,6 +536,13 @@ def body_text(body: Body) -> str:
     return " ".join([f"{body.kind} {len(words)}:", *words])
 
 
+def told_text(it: Told) -> str:
+    """The line of a round as `watch` writes it."""
+    if isinstance(it, RoundAlert):
+        return f"alert {it.trigger} {it.bucket} {it.value} @{it.prefix}"
+    return f"live {it.name} @{it.first}..{it.prefix} {body_text(it.body)}"
+
+
 def lines_of(read: Report | Snapshot) -> Iterator[str]:
     """The lines of the report or snapshot, as confluo prints them."""
     if isinstance(read, Snapshot):
@@ -446,7 +552,10 @@ def lines_of(read: Report | Snapshot) -> Iterator[str]:
             yield from (f"ask {it.name} {body_text(it.body)}" for it in host.asks)
             yield from _truncated_lines(host)
         return
+    yield from map(told_text, read.told)
     yield f"records {read.records}"
+    if read.window is not None:
+        yield f"window {read.window}"
     yield from (f"ask {it.name} {body_text(it.body)}" for it in read.asks)
     yield from (f"alert {it.trigger} {it.bucket} {it.value}" for it in read.alerts)
     for live in read.lives:

@@ -7,6 +7,7 @@ from typing import Iterator
 from .captures import Reading, frames, opened
 from .expressions import Value
 from .frames import packet_row
+from .frames6 import packet6_row
 from .recordfiles import record_rows
 from .setups import Setup
 
@@ -17,7 +18,10 @@ def rows_of(setup: Setup, path: str, reading: Reading | None = None) -> Iterator
     """The rows in order; a CaptureFault at the first fault."""
     with opened(path) as file:
         if setup.is_packet:
-            yield from map(packet_row, frames(file, reading))
+            reading = reading or Reading()
+            reading.schema = setup.source
+            row = packet_row if setup.source == "packet" else packet6_row
+            yield from map(row, frames(file, reading))
         else:
             yield from record_rows(setup.schema, file.read())
 

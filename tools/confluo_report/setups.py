@@ -38,6 +38,8 @@ PACKET = tuple(
         "proto:u8 src:u32 dst:u32 sport:u16 dport:u16 seq:u32 ack:u32 flags:u8 win:u16 vlan:u16"
     ).split()
 )
+HALVES = ("src6", "src6_low", "dst6", "dst6_low")
+PACKETS = {"packet": PACKET, "packet6": PACKET + tuple(Attribute(it, "u64") for it in HALVES)}
 
 
 @dataclass(frozen=True)
@@ -83,12 +85,18 @@ class Setup:
     """What a setup states."""
 
     schema: tuple[Attribute, ...] = ()
-    is_packet: bool = True
+    # packet, packet6 or records
+    source: str = "packet"
     width: int | None = None
     lanes: list[Lane] = field(default_factory=list)
     triggers: list[Trigger] = field(default_factory=list)
     asks: list[Question] = field(default_factory=list)
     lives: list[str] = field(default_factory=list)
+
+    @property
+    def is_packet(self) -> bool:
+        """Whether its rows are captured packets."""
+        return self.source in PACKETS
 
     @property
     def nanoseconds(self) -> int:
@@ -384,16 +392,17 @@ def right_lines(setup: Setup, words: list[str]) -> str:
 
 
 def _schema(it: _Statement) -> None:
-    form = "schema packet` or `schema records LIST"
-    if not it.must_be_one_of(1, ("packet", "records"), form):
+    form = "schema packet`, `schema packet6` or `schema records LIST"
+    if not it.must_be_one_of(1, (*PACKETS, "records"), form):
         return
-    if it.word(1).text == "packet":
-        if it.must_have(2, "schema packet"):
-            it.setup.schema = PACKET
+    name = it.word(1).text
+    if name in PACKETS:
+        if it.must_have(2, f"schema {name}"):
+            it.setup.schema, it.setup.source = PACKETS[name], name
         return
     if it.must_have(3, "schema records LIST"):
         it.setup.schema = _attributes(it, it.word(2))
-        it.setup.is_packet = False
+        it.setup.source = "records"
 
 
 def _attributes(it: _Statement, word: _Word) -> tuple[Attribute, ...]:
@@ -581,7 +590,7 @@ def _misplaced(setup: Setup, it: _Statement) -> str:
     if first not in STATEMENTS:
         return f"no statement begins with `{first}`; they begin with {', '.join(STATEMENTS)}"
     if not setup.schema and first != "schema":
-        return "the first statement is `schema packet` or `schema records LIST`"
+        return "the first statement is `schema packet`, `schema packet6` or `schema records LIST`"
     if setup.schema and first == "schema":
         return "there is a schema on a line above"
     if first == "width" and setup.width is not None:

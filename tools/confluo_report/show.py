@@ -6,7 +6,22 @@ from dataclasses import dataclass, field
 from typing import Sequence
 
 from .details import Details
-from .reports import Alert, Ask, Body, Fired, Found, Host, Live, Pair, Quad, Report, Snapshot, Top
+from .reports import (
+    Alert,
+    Ask,
+    Body,
+    Fired,
+    Found,
+    Host,
+    Live,
+    Pair,
+    Quad,
+    Report,
+    RoundAlert,
+    Snapshot,
+    Told,
+    Top,
+)
 from .setups import Lane, Question, Setup, Trigger
 from .tables import MOST, Style, marks, table
 from .values import clock, grouped, unit, units, value_text
@@ -225,11 +240,48 @@ def _order(report: Report) -> list[str]:
 
 def report_lines(viewer: Viewer, report: Report) -> list[str]:
     """The whole report."""
-    lines = [f"{grouped(report.records)} {viewer.things}{_cut_text(viewer, report)}"]
+    lines = [f"{grouped(report.records)} {viewer.things}{_window_text(report)}{_cut_text(viewer, report)}"]
     for ask in report.asks:
         lines += ask_lines(viewer, ask.name, ask.body)
     lines += _alerts(viewer, report.alerts)
-    return lines + _lives(viewer, report.lives) + _order(report)
+    return lines + _lives(viewer, report.lives) + _order(report) + _told(viewer, report.told)
+
+
+def _window_text(report: Report) -> str:
+    """On which records `watch` answers."""
+    if not report.window:
+        return ""
+    kept = grouped(report.records - report.window)
+    return f"; the answers are on the last {kept}, from number {report.window}"
+
+
+def _told(viewer: Viewer, told: Sequence[Told]) -> list[str]:
+    lines = ["", viewer.style.title(f"While the {viewer.things} came")] if told else []
+    for it in told:
+        front, *rest = told_lines(viewer, it)
+        lines += [f"  {front}", *(f"  {line}" for line in rest)]
+    return lines
+
+
+def told_lines(viewer: Viewer, it: Told) -> list[str]:
+    """A line of a round of `watch`, and below a live one its table."""
+    after = f"after {grouped(it.prefix)} {viewer.things}"
+    if isinstance(it, RoundAlert):
+        setup = viewer.setup
+        trigger = setup.trigger(it.trigger) if setup else None
+        where = (
+            f"{unit(setup.nanoseconds)} {clock(it.bucket * setup.nanoseconds)}"
+            if setup
+            else f"bucket {it.bucket}"
+        )
+        value = grouped(it.value)
+        fires = f" (fires at {condition_text(setup, trigger)})" if setup and trigger else ""
+        return [
+            f"{viewer.style.high('alert')} {viewer.style.title(it.trigger)}  {where}: {value}{fires}, {after}"
+        ]
+    about = f"{heading(viewer, it.name, it.body)}{count_text(viewer, it.body)}"
+    span = after if it.first == 0 else f"{after} on those from number {it.first}"
+    return [f"live {viewer.style.title(it.name)}  {about}, {span}", *body_lines(viewer, it.name, it.body)]
 
 
 def _cut_text(viewer: Viewer, read: Report | Host) -> str:

@@ -6,11 +6,12 @@ import datetime
 import ipaddress
 
 from .expressions import Attribute
-from .setups import SECOND, Setup
+from .setups import HALVES, SECOND, Setup
 
 ADDRESSES = ("src", "dst")
 PROTOCOLS = {1: "ICMP", 2: "IGMP", 6: "TCP", 17: "UDP", 47: "GRE", 50: "ESP", 58: "ICMPv6"}
 KINDS = {0: "not IPv4", 1: "other IPv4", 2: "TCP", 3: "UDP"}
+KINDS6 = KINDS | {0: "not IP", 1: "other IP"}
 UNITS = {
     1: "nanosecond",
     10**3: "microsecond",
@@ -69,8 +70,15 @@ def dotted(number: int) -> str:
     return str(ipaddress.IPv4Address(number)) if 0 <= number < 2**32 else str(number)
 
 
+def network(half: int) -> str:
+    """The network of 64 bits that the high half of an IPv6 address is of."""
+    return f"{ipaddress.IPv6Address(half << 64)}/64"
+
+
 def value_text(setup: Setup, attribute: Attribute, value: int) -> str:
     """A value of the attribute: addresses dotted, protocols and kinds named, times as times."""
+    if setup.source == "packet6" and attribute.name in HALVES:
+        return f"{value:#018x}" if attribute.name.endswith("_low") else network(value)
     if attribute.kind == "u32" and attribute.name in ADDRESSES:
         return dotted(value)
     if attribute.name == "ts":
@@ -78,7 +86,7 @@ def value_text(setup: Setup, attribute: Attribute, value: int) -> str:
     if setup.is_packet and attribute.name == "proto" and value in PROTOCOLS:
         return f"{value} ({PROTOCOLS[value]})"
     if setup.is_packet and attribute.name == "kind" and value in KINDS:
-        return f"{value} ({KINDS[value]})"
+        return f"{value} ({(KINDS if setup.source == 'packet' else KINDS6)[value]})"
     if setup.is_packet and attribute.name == "flags":
         return f"{value} ({flags_text(value)})" if value else "0"
     return str(value)

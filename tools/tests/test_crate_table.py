@@ -6,7 +6,7 @@ import support  # noqa: F401
 
 import crate_table
 
-LIST = "# About the list.\n\n# Layer: base\nlow:\nhigh: low\n\n# Layer: top\nprogram: high low\n"
+LIST = "# About the list.\n\n# Layer: base\nlow:\nhigh: low\n\n# Layer: top\nprogram: high low\nffi staticlib: low\n"
 PAGE = "# Page\n\n" + crate_table.HEAD + "| old | row |\n\nText.\n"
 
 
@@ -14,7 +14,11 @@ class CrateTable(unittest.TestCase):
     def test_layers_are_the_comments_of_the_list(self):
         layers = crate_table.layers_of(LIST)
         self.assertEqual(
-            layers, [("base", [("low", []), ("high", ["low"])]), ("top", [("program", ["high", "low"])])]
+            layers,
+            [
+                ("base", [("low", []), ("high", ["low"])]),
+                ("top", [("program", ["high", "low"]), ("ffi", ["low"])]),
+            ],
         )
 
     def test_the_table_takes_the_place_of_the_old_one(self):

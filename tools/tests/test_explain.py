@@ -36,8 +36,10 @@ WORDS = (
     ("run --setup s --segments 17 c", "above 1048576"),
     ("synth --setup s --seed 1", "--count is missing"),
     ("synth --setup s --seed 1 --count 1 c", "takes no capture"),
-    ("dump --setup s c", "it has --truncated"),
-    ("dump --schema packet c", "no option of `dump`"),
+    ("dump --setup s c", "it has --schema, --truncated"),
+    ("dump --schema records c", "packet or packet6"),
+    ("dump --schema packet6 --schema packet c", "given twice"),
+    ("run --setup s --schema packet6 c", "no option of `run`"),
     ("dump --truncated=1 c", "takes no value"),
     ("run --truncated --setup s --truncated c", "given twice"),
     ("synth --setup s --seed 1 --count 1 --truncated", "no option of `synth`"),
@@ -52,6 +54,7 @@ LAWFUL = (
     "snapshot --after 0 --setup s c c",
     "run --truncated --setup s c",
     "dump --truncated c",
+    "dump c --schema packet6",
     "snapshot --after 0 --setup s c c --truncated",
 )
 

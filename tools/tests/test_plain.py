@@ -1,6 +1,7 @@
 """The plain reading of bench/ agrees with the tool's own, and with what is stored."""
 
 import io
+import itertools
 import pathlib
 import random
 import struct
@@ -11,6 +12,7 @@ from support import EXAMPLES, INCIDENTS, ROOT, frame
 
 from confluo_report.captures import CaptureFault, Frame, Reading, frames
 from confluo_report.frames import packet_row
+from confluo_report.frames6 import packet6_row
 
 sys.path.append(str(ROOT / "bench"))
 
@@ -52,7 +54,9 @@ def frame6(behind: bytes = b"", following: int = 6, payload: int | None = None, 
 
 
 def row(data: bytes, link: int = 1) -> dict[str, object]:
-    return plain.row(plain.Frame(10**9, len(data), data, link), "packet6")
+    found = plain.row(plain.Frame(10**9, len(data), data, link), "packet6")
+    assert tuple(found.values()) == packet6_row(Frame(0, 10**9, len(data), data, link))
+    return found
 
 
 def fragment(offset: int, following: int = 6) -> bytes:
@@ -64,10 +68,12 @@ class Plain(unittest.TestCase):
         draw, kinds = random.Random(5), set()
         for _ in range(4000):
             data, link = drawn_frame(draw)
+            wide = plain.row(plain.Frame(5, 99, data, link), "packet6")
+            self.assertEqual(tuple(wide.values()), packet6_row(Frame(0, 5, 99, data, link)))
             if link not in plain.LINKS["packet"]:
                 continue
             it = plain.Frame(5, 99, data, link)
-            narrow, wide = plain.row(it, "packet"), plain.row(it, "packet6")
+            narrow = plain.row(it, "packet")
             kinds.add((narrow["kind"], wide["kind"]))
             self.assertEqual(tuple(narrow.values()), packet_row(Frame(0, 5, 99, data, link)))
             if narrow["kind"]:
@@ -79,9 +85,9 @@ class Plain(unittest.TestCase):
         for seed in range(1500):
             draw = random.Random(seed)
             data = damage.damaged(draw, draw.choice([damage.pcap, damage.pcapng])(draw))
-            for may_be_cut in (False, True):
-                wanted = plain.read(data, plain.LINKS["packet"], may_be_cut)
-                reading, found, code = Reading(may_be_cut), [], 0
+            for schema, may_be_cut in itertools.product(plain.LINKS, (False, True)):
+                wanted = plain.read(data, plain.LINKS[schema], may_be_cut)
+                reading, found, code = Reading(may_be_cut, schema), [], 0
                 try:
                     for it in frames(io.BytesIO(data), reading):
                         found.append((it.ts, it.length, it.data, it.link))

@@ -1,0 +1,64 @@
+"""The systemd units are well formed, and give no more rights than they need."""
+
+import pathlib
+import re
+import shutil
+import subprocess
+import tempfile
+import unittest
+
+from support import TOOLS
+
+ANALYZE = shutil.which("systemd-analyze")
+UNITS = sorted((TOOLS / "systemd").glob("*.service"))
+# What systemd-analyze counts against a unit at most, in tenths: 0 is the least.
+EXPOSURES = {"confluo-capture@.service": 20, "confluo-watch@.service": 5}
+
+
+class Units(unittest.TestCase):
+    def setUp(self) -> None:
+        self.place = tempfile.TemporaryDirectory()
+        self.addCleanup(self.place.cleanup)
+
+    def installed(self) -> list[pathlib.Path]:
+        """The units as `make install` writes them, over programs that are there."""
+        folder = pathlib.Path(self.place.name)
+        for name in ("confluo", "confluo-report"):
+            (folder / name).write_text("#!/bin/sh\n")
+            (folder / name).chmod(0o755)
+        for unit in UNITS:
+            text = unit.read_text().replace("@BIN@", str(folder)).replace("@SHARE@", "/usr/share")
+            (folder / unit.name).write_text(text.replace("/usr/bin/tcpdump", "/bin/sh"))
+        return [folder / it.name for it in UNITS]
+
+    def test_one_captures_and_the_other_has_no_network(self) -> None:
+        self.assertEqual([it.name for it in UNITS], list(EXPOSURES))
+        capture, watch = (re.findall(r"(?m)^(\w+=.*)$", it.read_text()) for it in UNITS)
+        self.assertIn("CapabilityBoundingSet=CAP_NET_RAW", capture)
+        for line in ("CapabilityBoundingSet=", "PrivateNetwork=yes", "RestrictAddressFamilies=none"):
+            self.assertIn(line, watch)
+        for line in ("DynamicUser=yes", "ProtectSystem=strict", "NoNewPrivileges=yes", "Restart=always"):
+            self.assertIn(line, capture)
+            self.assertIn(line, watch)
+
+    @unittest.skipUnless(ANALYZE, "systemd-analyze is missing: apt-get install systemd")
+    def test_systemd_reads_them(self) -> None:
+        words = [ANALYZE, "verify", "--man=no", *map(str, self.installed())]
+        done = subprocess.run(words, capture_output=True, text=True, timeout=60)
+        said = [
+            it for it in (done.stdout + done.stderr).splitlines() if self.place.name in it or "confluo" in it
+        ]
+        self.assertEqual(said, [])
+
+    @unittest.skipUnless(ANALYZE, "systemd-analyze is missing: apt-get install systemd")
+    def test_exposure(self) -> None:
+        for unit in self.installed():
+            words = [ANALYZE, "security", "--offline=true", f"--threshold={EXPOSURES[unit.name]}", str(unit)]
+            done = subprocess.run(words, capture_output=True, text=True, timeout=60)
+            if "unrecognized option" in done.stderr:
+                self.skipTest("this systemd-analyze judges no unit that is not loaded")
+            self.assertEqual(done.returncode, 0, done.stdout[-300:] + done.stderr)
+
+
+if __name__ == "__main__":
+    unittest.main()
