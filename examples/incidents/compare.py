@@ -20,7 +20,7 @@ import make_captures
 HERE = pathlib.Path(__file__).resolve().parent
 SNAPSHOTS = {"lost": ("240", ["lost_before", "lost_behind"])}
 # what a run needs beside its setup
-OPTIONS = {"cut_off": ["--truncated"]}
+OPTIONS = {"cut_off": ["--truncated"], "many_addresses": ["--nodes", "2048"]}
 SHARED = {it for _, captures in SNAPSHOTS.values() for it in captures}
 CAPTURE_OF = {name: name for name in make_captures.CAPTURES if name not in SHARED} | {"port_scan_stranger": "port_scan"}
 

@@ -4,15 +4,17 @@
     examples/incidents/make_captures.py [FOLDER]
 
 FOLDER is where the files go; the folder of this script where it is not said. All addresses are of the ranges that are set
-aside for documentation (RFC 5737), and the addresses of the link are locally administered. Of each frame the first
+aside for documentation (RFC 5737, RFC 3849), and the addresses of the link are locally administered. Of each frame the first
 96 bytes are kept, as `tcpdump -s 96` does; payloads are zeros.
 """
 
+import ipaddress
 import pathlib
 import struct
 import sys
 
 KEPT = 96
+ETHERNET, COOKED_V2 = 1, 276
 FIN, SYN, RST, PSH, ACK = 1, 2, 4, 8, 16
 
 
@@ -34,8 +36,8 @@ def checksum(data):
 class Capture:
     """Frames with their times in microseconds from a start in seconds, sorted by time when they are written."""
 
-    def __init__(self, start):
-        self.start = start
+    def __init__(self, start, link=ETHERNET):
+        self.start, self.link = start, link
         self.frames = []
 
     def packet(self, at, sender, receiver, protocol, header, data, sum_at, tag=None):
@@ -53,6 +55,18 @@ class Capture:
         """A TCP segment with a payload of `length` bytes."""
         header = struct.pack(">HHIIBBHHH", sport, dport, seq, ack, 0x50, flags, window, 0, 0)
         self.packet(at, sender, receiver, 6, header, bytes(length), 16, tag)
+
+    def segment6(self, at, sender, sport, receiver, dport, flags, length=0, seq=0, ack=0, options=b""):
+        """A TCP segment over IPv6 in a cooked frame of version 2, behind a header of destination options where there is one."""
+        ends = ipaddress.ip_address(sender).packed + ipaddress.ip_address(receiver).packed
+        size = 20 + length
+        tcp = struct.pack(">HHIIBBHHH", sport, dport, seq, ack, 0x50, flags, 64240, 0, 0)
+        tcp = tcp[:16] + struct.pack(">H", checksum(ends + struct.pack(">II", size, 6) + tcp + bytes(length))) + tcp[18:]
+        first = 60 if options else 6
+        ip = struct.pack(">IHBB", 6 << 28, len(options) + size, first, 64) + ends
+        # of the interface 2, received where it is for the server
+        cooked = struct.pack(">HHIHBB8s", 0x86DD, 0, 2, 1, 4 if sport == 443 else 0, 6, b"\x02\0\0\0\0\xfe")
+        self.frames.append((at, cooked + ip + options + tcp + bytes(length)))
 
     def datagram(self, at, sender, sport, receiver, dport, data, tag=None):
         """A UDP datagram."""
@@ -73,7 +87,7 @@ class Capture:
 
     def bytes(self):
         """The file."""
-        out = struct.pack("<IHHIIII", 0xA1B2C3D4, 2, 4, 0, 0, KEPT, 1)
+        out = struct.pack("<IHHIIII", 0xA1B2C3D4, 2, 4, 0, 0, KEPT, self.link)
         for at, frame in sorted(self.frames, key=lambda it: it[0]):
             kept = frame[:KEPT]
             out += struct.pack("<IIII", self.start + at // 10**6, at % 10**6, len(kept), len(frame)) + kept
@@ -249,6 +263,33 @@ def cut_off():
     return capture.bytes()[:-20]
 
 
+def many_addresses():
+    """Twenty seconds at a web server, on all of its interfaces. From second 8 on one network opens connections, each from another address."""
+    server = "2001:db8:0:80::80"
+    # a header for TCP, with padding
+    options = bytes([6, 0, 1, 4, 0, 0, 0, 0])
+    capture = Capture(1700917200, COOKED_V2)
+
+    def visit(at, client, port, answer):
+        there, back = (client, port, server, 443), (server, 443, client, port)
+        capture.segment6(at, *there, SYN, seq=1000)
+        capture.segment6(at + 300, *back, SYN | ACK, seq=5000, ack=1001)
+        capture.segment6(at + 900, *there, ACK, seq=1001, ack=5001)
+        capture.segment6(at + 1000, *there, PSH | ACK, 310, seq=1001, ack=5001)
+        capture.segment6(at + 4000, *back, PSH | ACK, answer, seq=5001, ack=1311)
+        capture.segment6(at + 4600, *there, FIN | ACK, seq=1311, ack=5001 + answer)
+
+    for k in range(9):
+        visit(k * 2_100_000 + 130_000, f"2001:db8:0:{k % 5 + 1:x}::{32 + k:x}", 50000 + k, 700 + 90 * k)
+    for k in range(96):
+        client = f"2001:db8:0:42:{k * 7919 % 65536:x}:{k * 104729 % 65536:x}:{k * 1299709 % 65536:x}:{k + 1:x}"
+        there, back = (client, 40000 + k, server, 443), (server, 443, client, 40000 + k)
+        at = 8_000_000 + k * 62_500
+        capture.segment6(at, *there, SYN, seq=k * 31, options=options)
+        capture.segment6(at + 200, *back, SYN | ACK, seq=9000, ack=k * 31 + 1)
+    return capture.bytes()
+
+
 CAPTURES = {
     "syn_flood": syn_flood,
     "port_scan": port_scan,
@@ -260,6 +301,7 @@ CAPTURES = {
     "lost_before": lambda: lost(False),
     "lost_behind": lambda: lost(True),
     "cut_off": cut_off,
+    "many_addresses": many_addresses,
 }
 
 
