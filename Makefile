@@ -1,10 +1,11 @@
 # `make run` proves and builds the program and prints the report of the example capture.
-# `make test` is the gate (`rt ci`), and then the checks of what is not Rattle: `make check-tools` (Python) and `make check-twin` (C).
+# `make test` is the gate (`rt ci`), and then the checks of what is not Rattle: `make check-tools` (Python), `make check-twin` (C) and
+# `make check-bindings` (the library, in C and Python).
 # `make try` prints the same report before anything is proved: it shows what a report looks like, and proves nothing.
 # `make incidents` compares the documents and the reports of examples/incidents with what the built program prints ($CONFLUO, if set).
-# `make install PREFIX=..` copies the built program, confluo-report, manual pages, completions and examples.
+# `make install PREFIX=..` copies the built program, confluo-report, manual pages, completions, systemd units and examples.
 # `make deb` puts the same into a Debian package, build/confluo_VERSION_ARCHITECTURE.deb.
-.PHONY: run try test check-tools check-twin incidents install deb built
+.PHONY: run try test check-tools check-twin check-bindings incidents install deb built
 
 PREFIX ?= /usr/local
 PYTHON ?= python3
@@ -25,15 +26,21 @@ try:
 
 test:
 	rt ci
-	@$(MAKE) --no-print-directory check-tools check-twin
+	@$(MAKE) --no-print-directory check-tools check-twin check-bindings
 
 check-tools:
-	cd tools/tests && $(PYTHON) -B -m unittest discover
+	@if command -v $(PYTHON) > /dev/null; then cd tools/tests && $(PYTHON) -B -m unittest discover; \
+	else echo "check-tools: skipped, there is no Python"; fi
 	@tools/lint.sh
 
 # The plain twin of bench/ is clean under warnings and sanitizers, and its log is whole by one writer and by several.
 check-twin:
 	@if command -v cc > /dev/null; then bench/check_twin.sh; else echo "check-twin: skipped, there is no C compiler"; fi
+
+# The library, if `make -C bindings archive` has built it (which proves it and all below), is tried from C, under sanitizers too, and
+# from Python.
+check-bindings:
+	@$(MAKE) --no-print-directory -C bindings check
 
 built:
 	@test -x $(PROGRAM) || { echo "There is no $(PROGRAM) yet: make run builds it"; exit 1; }
@@ -53,7 +60,11 @@ install: built
 	install -D -m 644 tools/completions/confluo-report.bash $(SHARE)/bash-completion/completions/confluo-report
 	install -D -m 644 -t $(SHARE)/zsh/site-functions tools/completions/_confluo tools/completions/_confluo-report
 	install -D -m 644 -t $(SHARE)/fish/vendor_completions.d tools/completions/confluo.fish tools/completions/confluo-report.fish
-	install -m 644 -t $(SHARE)/doc/confluo README.md docs/GUIDE.md docs/FORMATS.md docs/INCIDENTS.md docs/report.schema.json
+	install -d $(PLACE)/lib/systemd/system
+	for unit in tools/systemd/*.service; do \
+	sed -e 's,@BIN@,$(PREFIX)/bin,' -e 's,@SHARE@,$(PREFIX)/share,' $$unit > $(PLACE)/lib/systemd/system/$${unit##*/} || exit 1; done
+	install -D -m 644 -t $(PLACE)/lib/sysusers.d tools/systemd/confluo.conf
+	install -m 644 -t $(SHARE)/doc/confluo README.md docs/GUIDE.md docs/FORMATS.md docs/INCIDENTS.md docs/WATCH.md docs/report.schema.json
 	install -m 644 -t $(SHARE)/doc/confluo/examples examples/*.md examples/*.pcap examples/*.setup
 	install -m 644 -t $(SHARE)/doc/confluo/examples/incidents examples/incidents/*.pcap examples/incidents/*.setup examples/incidents/*.report
 	install -m 644 -t $(SHARE)/doc/confluo/examples/formats examples/formats/*.md examples/formats/*.dump examples/formats/*.pcap*
@@ -65,7 +76,7 @@ deb: built
 	strip --strip-unneeded $(STAGE)/usr/bin/confluo 2> /dev/null || true
 	gzip -9 -n $(STAGE)/usr/share/man/man1/*.1
 	install -D -m 644 LICENSE $(STAGE)/usr/share/doc/confluo/copyright
-	install -d $(STAGE)/DEBIAN
+	install -D -m 755 tools/deb/postinst $(STAGE)/DEBIAN/postinst
 	sed -e 's/@VERSION@/$(VERSION)/' -e 's/@ARCHITECTURE@/$(ARCHITECTURE)/' tools/deb/control > $(STAGE)/DEBIAN/control
 	cd $(STAGE) && find usr -type f -print0 | sort -z | xargs -0 md5sum > DEBIAN/md5sums
 	dpkg-deb --root-owner-group --build $(STAGE) $(PACKAGE)
