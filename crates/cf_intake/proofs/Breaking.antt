@@ -1,13 +1,11 @@
 -- A fault that was found stays, whatever follows.
-use Rattle.std.proofs.Common.{◌≡◌, inl, ℕ, Bool, true, false, List, ◌++◌, length, Option, Some, None, refl, sym, ap, subst, ◌∙◌}
+use Rattle.std.proofs.Common.{◌≡◌, inl, ℕ, Bool, true, false, List, ◌++◌, length, Some, refl, sym, subst, ◌∙◌}
 use Rattle.cf_packet6.specs.declared.PacketSchema.{PacketSchema}
 use Rattle.cf_pcap.specs.Capture.{FrameValue, HasPcapFault}
 use Rattle.cf_row.specs.Row.{RowValue}
 use Rattle.cf_pcap.specs.declared.fault.PcapFault.{PcapFault}
 use Rattle.cf_pcap.specs.declared.fault.PcapFault.TheVariants as faults
 use Rattle.cf_pcap.specs.declared.scope.Scope.{Scope}
-use Rattle.cf_pcap.specs.declared.stage.Stage as record_stage
-use Rattle.cf_pcap.specs.declared.stage.Stage.TheVariants as record_stages
 use Rattle.cf_pcap.specs.File as records
 use Rattle.cf_pcap.specs.Stream as pcap
 use Rattle.cf_pcap.proofs.Steps as records_steps
@@ -16,8 +14,6 @@ use Rattle.cf_pcap.proofs.Truncating.{not_found as records_never}
 use Rattle.cf_pcap.proofs.Verdict as verdict
 use Rattle.cf_pcapng.specs.declared.fault.NgFault.{NgFault}
 use Rattle.cf_pcapng.specs.declared.fault.NgFault.TheVariants as ng
-use Rattle.cf_pcapng.specs.declared.stage.Stage as block_stage
-use Rattle.cf_pcapng.specs.declared.stage.Stage.TheVariants as block_stages
 use Rattle.cf_pcapng.specs.File as blocks
 use Rattle.cf_pcapng.specs.Rules.{HasFaultOf}
 use Rattle.cf_pcapng.specs.Reader as reading
@@ -26,10 +22,12 @@ use Rattle.cf_pcapng.proofs.Filing.{file_by_rules, one_case_of}
 use Rattle.cf_pcapng.proofs.Truncating.{not_found as blocks_never}
 use Rattle.cf_stream.specs.Format.{IsFound}
 use Rattle.cf_stream.specs.Limits.{number_of}
+use Rattle.cf_stream.specs.Stages.{found_at}
+use Rattle.cf_stream.proofs.Stages.{at_found}
 use Rattle.cf_stream.specs.declared.limit.Length.TheVariants.{Any}
 use Rattle.cf_stream.proofs.Cases.{found_more}
 use Rattle.cf_intake.specs.Faults.{HasRecordFault, HasBlockFault, code_of, record_of, block_code_of, frame_of}
-use Rattle.cf_intake.specs.Reading.{IsBrokenFor, IsCutAt, IsReaderAt, reads_blocks, reads_scope}
+use Rattle.cf_intake.specs.Reading.{IsBrokenFor, IsCutAt, reads_blocks, reads_scope}
 use Rattle.cf_intake.specs.Reads.{IsBroken, IsUnderWay}
 use Rattle.cf_intake.specs.declared.reader.Reader.{Reader}
 use Rattle.cf_intake.specs.declared.reader.Reader.TheVariants.{Pcap, PcapNg}
@@ -42,12 +40,6 @@ use Rattle.cf_intake.proofs.Capturing.{begins_same}
 use Rattle.cf_intake.proofs.Piecewise.{fault_to}
 
 -- By records.
-
-record_found : (reader : pcap.PcapValue) (stage : record_stage.Stage) (stream : List ℕ) (fault : PcapFault) → pcap.found_at stage ≡ Some fault
-    → pcap.IsAt stage reader stream → pcap.IsFound reader.scope stream fault
-record_found reader record_stages.Running stream fault is at = absurd (cc is)
-record_found reader (record_stages.Stopped other) stream fault is at =
-    let same : other ≡ fault = cc is in subst (λ (f : PcapFault). pcap.IsFound reader.scope stream f) same at
 
 record_has : (scope : Scope) (stream more : List ℕ) (fault : PcapFault) → pcap.IsFound scope stream fault → HasPcapFault scope (stream ++ more) fault
 record_has scope stream more fault found =
@@ -68,7 +60,7 @@ record_uncut true scope stream more fault found frames k is =
     verdict.one_fault scope (stream ++ more) fault (faults.Cut n) (record_has scope stream more fault found) is.0.fault in
     records_never scope stream n (subst (λ (f : PcapFault). pcap.IsFound scope stream f) same found)
 
-pub record_breaks : (reader : pcap.PcapValue) (fault : PcapFault) (halt : Halt) (why : Refusal) → pcap.found_at reader.stage ≡ Some fault
+pub record_breaks : (reader : pcap.PcapValue) (fault : PcapFault) (halt : Halt) (why : Refusal) → found_at reader.stage ≡ Some fault
     → halt ≡ Refused why → (fault ≡ faults.Memory → halt ≡ Stopped stops.Memory)
     → ((fault ≡ faults.Memory → ⊥) → halt ≡ Refused (refusals.Capture (record_of fault) (code_of fault))) → IsBrokenFor (Pcap reader) why
 record_breaks reader fault halt why found is memory other stream frames at =
@@ -79,17 +71,11 @@ record_breaks reader fault halt why found is memory other stream frames at =
       code_of fault,
       why_is,
       λ truncated more.
-          let shown = record_found reader reader.stage stream fault found at.0 in
+          let shown = at_found (records.pcap reader.scope) stream reader.stage (pcap.IsRunning reader stream) fault found at.0 in
           (record_stays reader.scope stream more fault shown, record_uncut truncated reader.scope stream more fault shown),
     )
 
 -- By blocks.
-
-block_found : (reader : reading.PcapNgValue) (stage : block_stage.Stage) (stream : List ℕ) (fault : NgFault) → reading.found_at stage ≡ Some fault
-    → reading.IsAt stage reader stream → IsFound (blocks.pcapng reader.scope) stream fault
-block_found reader block_stages.Running stream fault is at = absurd (cc is)
-block_found reader (block_stages.Stopped other) stream fault is at =
-    let same : other ≡ fault = cc is in subst (λ (f : NgFault). IsFound (blocks.pcapng reader.scope) stream f) same at
 
 block_has : (scope : Scope) (stream more : List ℕ) (fault : NgFault) → IsFound (blocks.pcapng scope) stream fault → HasFaultOf scope (stream ++ more) fault
 block_has scope stream more fault found =
@@ -110,7 +96,7 @@ block_uncut true scope stream more fault found frames k is =
     (one_case_of scope (stream ++ more)).one_fault fault (ng.Cut n) (block_has scope stream more fault found) is.0.fault in
     blocks_never scope stream n (subst (λ (f : NgFault). IsFound (blocks.pcapng scope) stream f) same found)
 
-pub block_breaks : (reader : reading.PcapNgValue) (fault : NgFault) (halt : Halt) (why : Refusal) → reading.found_at reader.stage ≡ Some fault
+pub block_breaks : (reader : reading.PcapNgValue) (fault : NgFault) (halt : Halt) (why : Refusal) → found_at reader.stage ≡ Some fault
     → halt ≡ Refused why → (fault ≡ ng.Memory → halt ≡ Stopped stops.Memory)
     → ((fault ≡ ng.Memory → ⊥) → halt ≡ Refused (refusals.Capture (frame_of fault) (block_code_of fault))) → IsBrokenFor (PcapNg reader) why
 block_breaks reader fault halt why found is memory other stream frames at =
@@ -121,7 +107,7 @@ block_breaks reader fault halt why found is memory other stream frames at =
       block_code_of fault,
       why_is,
       λ truncated more.
-          let shown = block_found reader reader.stage stream fault found at.0 in
+          let shown = at_found (blocks.pcapng reader.scope) stream reader.stage (reading.IsRunning reader stream) fault found at.0 in
           (block_stays reader.scope stream more fault shown, block_uncut truncated reader.scope stream more fault shown),
     )
 

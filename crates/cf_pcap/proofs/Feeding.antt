@@ -1,5 +1,5 @@
 -- What a call that takes one more piece gives and answers, and what the end of a stream answers.
-use Rattle.std.proofs.Common.{◌≡◌, ◌⊎◌, inl, inr, ℕ, ◌<◌, ◌≤◌, ◌+◌, ◌-◌, ◌*◌, ◌^◌, min, true, false, List, [], ◌∷◌, ◌++◌, length, take, drop, Some, None, Result, Ok, Err, is_some, refl, sym, ap, subst, ◌∙◌, arith, append_assoc, append-nil, length-append, length-take, length-drop}
+use Rattle.std.proofs.Common.{◌≡◌, ◌⊎◌, inl, inr, ℕ, ◌<◌, ◌≤◌, ◌+◌, ◌-◌, ◌*◌, ◌^◌, min, true, false, List, [], ◌∷◌, ◌++◌, length, take, drop, Some, None, Ok, Err, is_some, refl, sym, ap, subst, ◌∙◌, arith, append_assoc, append-nil, length-append, length-take, length-drop}
 use Rattle.std.proofs.lemmas.Bool.{cases_lt}
 use Rattle.std.proofs.lemmas.Bool.Decides.{nat_tests}
 use Rattle.std.proofs.lemmas.List.{take_all, drop_all, take-append-drop, drop-append-le}
@@ -10,23 +10,24 @@ use Rattle.cf_stream.specs.Limits.{IsShort, IsLong, IsAtLimit, HasRoom, IsTotal,
 use Rattle.cf_stream.proofs.Limits.{limit_long, limit_after}
 use Rattle.cf_stream.specs.Format.{Wants, Bad, Takes, ReadsTo}
 use Rattle.cf_stream.specs.Stream.{Runs}
-use Rattle.cf_stream.proofs.Cases.{one_fault}
 use Rattle.cf_stream.proofs.Units.{reads_nothing, reads_one, reads_count, sizes}
 use Rattle.cf_stream.proofs.Feeding as streams
 use Rattle.cf_pcap.specs.declared.scope.Scope.{Scope}
 use Rattle.cf_pcap.specs.declared.form.FileHeader.{FileHeader}
 use Rattle.cf_pcap.specs.declared.fault.PcapFault.{PcapFault}
 use Rattle.cf_pcap.specs.declared.fault.PcapFault.TheVariants.{FrameTooLong, Cut, TooManyBytes, Memory}
-use Rattle.cf_pcap.specs.declared.stage.Stage.{Stage}
-use Rattle.cf_pcap.specs.declared.stage.Stage.TheVariants.{Running, Stopped}
+use Rattle.cf_stream.specs.declared.stage.Stage.{Stage}
+use Rattle.cf_stream.specs.declared.stage.Stage.TheVariants.{Running, Stopped}
 use Rattle.cf_pcap.specs.Capture.{FrameValue, HasRecord, HasLongRecord, caplen_at}
 use Rattle.cf_pcap.specs.File.{State, step, pcap}
-use Rattle.cf_pcap.specs.Reading.{AreRead, IsFaultAt, front_of, late_of, IsStageAfter, kept_at, AreTaken}
-use Rattle.cf_pcap.specs.Stream.{IsFound, PcapValue, IsRunning, IsAt, IsStateOf, IsFed, AnswersFound, IsEnded, answer_at, IsCounted, IsSoundAt, IsSound}
+use Rattle.cf_pcap.specs.Reading.{AreRead, IsFaultAt, front_of, late_of, IsStageAfter, AreTaken}
+use Rattle.cf_stream.specs.Stages.{answer_at, kept_at}
+use Rattle.cf_stream.proofs.Stages.{at_running}
+use Rattle.cf_pcap.specs.Stream.{IsFound, PcapValue, IsRunning, IsStateOf, IsFed, IsEnded, IsCounted, IsSoundAt, IsSound}
 use Rattle.cf_pcap.proofs.Steps.{Shown, bad_same, broken, InHeader, TooLong, part_of, OfHeader, OfRecord, stepper}
 
 -- the reader after a call
-abbrev pub Later : Scope → Stage → ℕ → State → List ℕ → PcapValue
+abbrev pub Later : Scope → Stage PcapFault → ℕ → State → List ℕ → PcapValue
 Later scope stage total t held = record { scope = scope; stage = stage; total = total; state = t; held = held }
 
 -- what is taken of a piece: all of it, or what comes up to the byte that makes the stream too long
@@ -125,7 +126,7 @@ fed_flaw before stream piece given t rest held fault total run small read bad =
     small (inl refl) read.read bad (λ found. found) in
     subst (λ (xs : List ℕ). IsFed stream xs given (Err fault) later) (append-nil piece) fed
 
-fed_below : (before : PcapValue) (stream piece : List ℕ) (late : ℕ) (given : List FrameValue) (t : State) (rest held : List ℕ) (stage : Stage)
+fed_below : (before : PcapValue) (stream piece : List ℕ) (late : ℕ) (given : List FrameValue) (t : State) (rest held : List ℕ) (stage : Stage PcapFault)
     → IsRunning before stream → IsShort before.scope.length (length (stream ++ piece)) → late ≡ 0
     → AreRead before.scope before.state (before.held ++ piece) given t rest → IsStageAfter before.scope t late rest stage → held ≡ kept_at stage rest
     → IsFed stream piece given (answer_at stage) (Later before.scope stage (total_on before.scope.length before.total (length piece)) t held)
@@ -227,7 +228,7 @@ fed_last before stream early byte later given t held fault total run full now =
     fed_limit before stream early byte later given t now.rest held fault total limit stage_is (step before.scope t now.rest)
     (step before.scope t (now.rest ++ (byte ∷ []))) refl refl
 
-fed_up_to : (before : PcapValue) (stream early : List ℕ) (byte : ℕ) (later : List ℕ) (given : List FrameValue) (t : State) (held : List ℕ) (stage : Stage)
+fed_up_to : (before : PcapValue) (stream early : List ℕ) (byte : ℕ) (later : List ℕ) (given : List FrameValue) (t : State) (held : List ℕ) (stage : Stage PcapFault)
     (total : ℕ) → IsRunning before stream → IsAtLimit before.scope.length (length stream + length early + 1)
     → AreTaken before.scope before.state 1 (before.held ++ (early ++ (byte ∷ []))) given t stage held
     → IsFed stream (early ++ (byte ∷ later)) given (answer_at stage) (Later before.scope stage total t held)
@@ -238,13 +239,13 @@ fed_up_to before stream early byte later given t held (Stopped fault) total run 
     (subst (λ (xs : List ℕ). AreTaken before.scope before.state 1 xs given t (Stopped fault) held) (sym (append_assoc before.held early (byte ∷ []))) taken)
 
 -- nothing comes late
-record Early (scope : Scope) (s : State) (bytes : List ℕ) (given : List FrameValue) (t : State) (stage : Stage) (held : List ℕ) : Type 0 where
+record Early (scope : Scope) (s : State) (bytes : List ℕ) (given : List FrameValue) (t : State) (stage : Stage PcapFault) (held : List ℕ) : Type 0 where
   rest : List ℕ
   read : AreRead scope s bytes given t rest
   stage_is : IsStageAfter scope t 0 rest stage
   held_is : held ≡ kept_at stage rest
 
-all_early : (scope : Scope) (s : State) (late : ℕ) (bytes : List ℕ) (given : List FrameValue) (t : State) (stage : Stage) (held : List ℕ) → late ≡ 0
+all_early : (scope : Scope) (s : State) (late : ℕ) (bytes : List ℕ) (given : List FrameValue) (t : State) (stage : Stage PcapFault) (held : List ℕ) → late ≡ 0
     → AreTaken scope s late bytes given t stage held → Early scope s bytes given t stage held
 all_early scope s late bytes given t stage held none are =
     let all : take (length bytes - late) bytes ≡ bytes = take_all (length bytes - late) bytes (omega (arith, none)) in
@@ -258,7 +259,7 @@ all_early scope s late bytes given t stage held none are =
     }
 
 -- whichever of these
-fed_taken : (before : PcapValue) (stream piece taken : List ℕ) (late : ℕ) (given : List FrameValue) (t : State) (held : List ℕ) (stage : Stage)
+fed_taken : (before : PcapValue) (stream piece taken : List ℕ) (late : ℕ) (given : List FrameValue) (t : State) (held : List ℕ) (stage : Stage PcapFault)
     → IsRunning before stream → IsShort before.scope.length before.total → taken ≡ front_of before.scope.length before.total piece
     → late ≡ late_of before.scope.length (total_on before.scope.length before.total (length taken))
     → AreTaken before.scope before.state late (before.held ++ taken) given t stage held
@@ -281,7 +282,7 @@ fed_taken before stream piece taken late given t held stage run small taken_is l
           (fed_up_to before stream early byte later given t held stage total run (full (length stream) run.total_is) now)
     ]
 
-pub fed_call : (before : PcapValue) (stream piece taken : List ℕ) (late : ℕ) (given : List FrameValue) (t : State) (held : List ℕ) (stage : Stage)
+pub fed_call : (before : PcapValue) (stream piece taken : List ℕ) (late : ℕ) (given : List FrameValue) (t : State) (held : List ℕ) (stage : Stage PcapFault)
     (total : ℕ) → IsRunning before stream → IsShort before.scope.length before.total → taken ≡ front_of before.scope.length before.total piece
     → total ≡ total_on before.scope.length before.total (length taken) → late ≡ late_of before.scope.length total
     → AreTaken before.scope before.state late (before.held ++ taken) given t stage held
@@ -351,7 +352,7 @@ sound_running before taken given t held small had now =
       omega (arith, few, same),
     )
 
-sound_taken : (before : PcapValue) (piece taken : List ℕ) (late : ℕ) (given : List FrameValue) (t : State) (held : List ℕ) (stage : Stage)
+sound_taken : (before : PcapValue) (piece taken : List ℕ) (late : ℕ) (given : List FrameValue) (t : State) (held : List ℕ) (stage : Stage PcapFault)
     → IsSoundAt Running before → taken ≡ front_of before.scope.length before.total piece
     → late ≡ late_of before.scope.length (total_on before.scope.length before.total (length taken))
     → AreTaken before.scope before.state late (before.held ++ taken) given t stage held
@@ -365,7 +366,7 @@ sound_taken before piece taken late given t held Running sound taken_is late_is 
       | UpTo early byte later one taken_by piece_by full ↦ absurd (let none : late ≡ 0 = are.stage_is.0 in omega (arith, none, one))
     ]
 
-pub sound_call : (before : PcapValue) (piece taken : List ℕ) (late : ℕ) (given : List FrameValue) (t : State) (held : List ℕ) (stage : Stage) (total : ℕ)
+pub sound_call : (before : PcapValue) (piece taken : List ℕ) (late : ℕ) (given : List FrameValue) (t : State) (held : List ℕ) (stage : Stage PcapFault) (total : ℕ)
     → IsSoundAt Running before → taken ≡ front_of before.scope.length before.total piece
     → total ≡ total_on before.scope.length before.total (length taken) → late ≡ late_of before.scope.length total
     → AreTaken before.scope before.state late (before.held ++ taken) given t stage held → IsSound (Later before.scope stage total t held)
@@ -375,39 +376,12 @@ sound_call before piece taken late given t held stage total sound taken_is total
 
 -- The other calls.
 
-pub running_of : (stage : Stage) → ((fault : PcapFault) → stage ≡ Stopped fault → ⊥) → stage ≡ Running
-running_of Running h = refl
-running_of (Stopped fault) h = absurd (h fault refl)
-
--- a reader that has found a fault answers it
-pub answers_stopped : (fault : PcapFault) (reader : PcapValue) → reader.stage ≡ Stopped fault → AnswersFound reader (Err fault)
-answers_stopped fault reader is = λ stream other state found.
-    ap (λ (f : PcapFault). Err f) (one_fault (pcap reader.scope) stream fault other (inl (subst (λ (s : Stage). IsAt s reader stream) is state)) (inl found))
-
 -- one that runs has found none
 pub not_found : (reader : PcapValue) (stream : List ℕ) (fault : PcapFault) → reader.stage ≡ Running → IsStateOf reader stream
     → IsFound reader.scope stream fault → ⊥
 not_found reader stream fault is state found =
-    let run : IsRunning reader stream = subst (λ (s : Stage). IsAt s reader stream) is state in
+    let run = at_running (pcap reader.scope) stream reader.stage (IsRunning reader stream) is state in
     streams.runs_none (pcap reader.scope) reader.state reader.held stream fault run.runs found
-
--- one that a fault has stopped takes nothing
-pub fed_stopped : (fault : PcapFault) (reader : PcapValue) (stream piece : List ℕ) → reader.stage ≡ Stopped fault → IsStateOf reader stream
-    → IsFed stream piece [] (Err fault) reader
-fed_stopped fault reader stream piece is state =
-    let found : IsFound reader.scope stream fault = subst (λ (s : Stage). IsAt s reader stream) is state in
-    streams.fed_stopped (pcap reader.scope) (stepper reader.scope) stream piece fault (IsStateOf reader) found
-    (λ later. subst (λ (s : Stage). IsAt s reader (stream ++ piece)) (sym is) later)
-
--- the reader after a call answers no want of memory
-pub no_memory : (reader : PcapValue) → IsSound reader → answer_at reader.stage ≡ Err Memory → ⊥
-no_memory reader sound memory = at_stage reader.stage reader sound memory where
-  err_same : (a b : PcapFault) → ◌≡◌ {A = Result (Unit {0}) PcapFault} (Err a) (Err b) → a ≡ b
-  err_same a b h = cc
-
-  at_stage : (stage : Stage) (reader : PcapValue) → IsSoundAt stage reader → answer_at stage ≡ Err Memory → ⊥
-  at_stage Running reader sound h = cc
-  at_stage (Stopped fault) reader sound h = sound.0 (err_same fault Memory h)
 
 pub new_runs : (scope : Scope) (held : List ℕ) → held ≡ [] → IsRunning (Later scope Running 0 (pcap scope).start held) []
 new_runs scope held none =
@@ -419,11 +393,11 @@ new_runs scope held none =
 pub ended_within : (reader : PcapValue) (stream : List ℕ) (count : ℕ) → reader.stage ≡ Running → (0 < length reader.held)
     ⊎ (is_some reader.state.header ≡ false) → count ≡ reader.state.count → IsStateOf reader stream → IsEnded reader.scope stream (Err (Cut count))
 ended_within reader stream count is left count_is state =
-    let run : IsRunning reader stream = subst (λ (s : Stage). IsAt s reader stream) is state in
+    let run = at_running (pcap reader.scope) stream reader.stage (IsRunning reader stream) is state in
     streams.ended_cut (pcap reader.scope) reader.state reader.held stream (Cut count) run.runs left (ap (λ n. Cut n) count_is)
 
 pub ended_whole : (reader : PcapValue) (stream : List ℕ) (count : ℕ) → reader.stage ≡ Running → reader.held ≡ [] → is_some reader.state.header ≡ true
     → count ≡ reader.state.count → IsStateOf reader stream → IsEnded reader.scope stream (Ok count)
 ended_whole reader stream count is empty some count_is state =
-    let run : IsRunning reader stream = subst (λ (s : Stage). IsAt s reader stream) is state in
+    let run = at_running (pcap reader.scope) stream reader.stage (IsRunning reader stream) is state in
     streams.ended_whole (pcap reader.scope) (stepper reader.scope) reader.state reader.held stream count run.runs empty some count_is

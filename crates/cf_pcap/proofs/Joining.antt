@@ -6,14 +6,15 @@ use Rattle.cf_stream.specs.Format.{Takes, ReadsTo}
 use Rattle.cf_stream.proofs.Units.{reads_one, reads_on}
 use Rattle.cf_pcap.specs.declared.scope.Scope.{Scope}
 use Rattle.cf_pcap.specs.declared.form.FileHeader.{FileHeader}
-use Rattle.cf_pcap.specs.declared.stage.Stage.{Stage}
+use Rattle.cf_pcap.specs.declared.fault.PcapFault.{PcapFault}
+use Rattle.cf_stream.specs.declared.stage.Stage.{Stage}
 use Rattle.cf_pcap.specs.Capture.{FrameValue, caplen_at, frame_at, HasRecord}
 use Rattle.cf_pcap.specs.File.{State, step, pcap}
 use Rattle.cf_pcap.specs.Reading.{state_of, AreRead, IsStageAfter, AreTaken}
 use Rattle.cf_pcap.proofs.Steps.{step_record, stepper}
 
 pub record_then : (scope : Scope) (header : FileHeader) (k late : ℕ) (record_bytes more : List ℕ) (frame : FrameValue) (frames : List FrameValue) (t : State)
-    (stage : Stage) (held : List ℕ) → HasRecord header record_bytes → 16 + caplen_at header record_bytes ≡ length record_bytes → late ≤ length more
+    (stage : Stage PcapFault) (held : List ℕ) → HasRecord header record_bytes → 16 + caplen_at header record_bytes ≡ length record_bytes → late ≤ length more
     → frame ≡ frame_at header k record_bytes
     → AreTaken scope (state_of (Some header) (count_on scope.length k 1)) late more frames t stage held
     → AreTaken scope (state_of (Some header) k) late (record_bytes ++ more) (frame ∷ frames) t stage held

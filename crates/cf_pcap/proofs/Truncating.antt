@@ -8,11 +8,11 @@ use Rattle.cf_stream.proofs.Ending.{whole_gives}
 use Rattle.cf_pcap.specs.declared.scope.Scope.{Scope}
 use Rattle.cf_pcap.specs.declared.fault.PcapFault.{PcapFault}
 use Rattle.cf_pcap.specs.declared.fault.PcapFault.TheVariants.{FrameTooLong, Cut, TooManyBytes}
-use Rattle.cf_pcap.specs.declared.stage.Stage.{Stage}
-use Rattle.cf_pcap.specs.declared.stage.Stage.TheVariants.{Running, Stopped}
+use Rattle.cf_stream.specs.declared.stage.Stage.TheVariants.{Running, Stopped}
 use Rattle.cf_pcap.specs.Capture.{FrameValue, IsCapture, HasPcapFault}
 use Rattle.cf_pcap.specs.File.{State, step, pcap}
-use Rattle.cf_pcap.specs.Stream.{AreGiven, PcapValue, IsRunning, IsAt, IsStateOf}
+use Rattle.cf_pcap.specs.Stream.{AreGiven, PcapValue, IsRunning, IsStateOf}
+use Rattle.cf_stream.proofs.Stages.{at_running, at_stopped}
 use Rattle.cf_pcap.specs.Truncated.{IsTruncated, Says, Breaks, TruncatedCase}
 use Rattle.cf_pcap.proofs.Steps.{TakesHeader, TakesRecord, taken, InHeader, TooLong, broken, OfHeader, OfRecord, part_of, none_some, stepper}
 use Rattle.cf_pcap.proofs.Judging.{judged_alike}
@@ -170,7 +170,7 @@ truncated_case scope file = record {
 pub end_stopped : (reader : PcapValue) (stream : List ℕ) (fault : PcapFault) → reader.stage ≡ Stopped fault → IsStateOf reader stream
     → Breaks reader.scope stream fault
 end_stopped reader stream fault is state =
-    let found : IsFound (pcap reader.scope) stream fault = subst (λ (s : Stage). IsAt s reader stream) is state in (
+    let found = at_stopped (pcap reader.scope) stream reader.stage (IsRunning reader stream) fault is state in (
       (judged_alike reader.scope stream).fault fault (inl found),
       λ frames t. ends_unfound (pcap reader.scope) stream frames fault (ends_of reader.scope stream frames t) found,
     )
@@ -178,7 +178,7 @@ end_stopped reader stream fault is state =
 pub end_in_header : (reader : PcapValue) (stream : List ℕ) (count : ℕ) → reader.stage ≡ Running → is_some reader.state.header ≡ false
     → count ≡ reader.state.count → IsStateOf reader stream → Breaks reader.scope stream (Cut count)
 end_in_header reader stream count is unbegun count_is state =
-    let run : IsRunning reader stream = subst (λ (s : Stage). IsAt s reader stream) is state in (
+    let run = at_running (pcap reader.scope) stream reader.stage (IsRunning reader stream) is state in (
       (judged_alike reader.scope stream).fault (Cut count) (ended_within reader stream count is (inr unbegun) count_is state),
       λ frames t. ends_begun (pcap reader.scope) stream frames reader.state reader.held (ends_of reader.scope stream frames t) run.runs unbegun,
     )
@@ -195,7 +195,7 @@ pub end_within : (reader : PcapValue) (stream : List ℕ) (frames : List FrameVa
     → is_some reader.state.header ≡ true → count ≡ reader.state.count → IsStateOf reader stream → AreGiven reader.scope stream frames
     → Says reader.scope stream frames (Some count)
 end_within reader stream frames count is held some count_is state given =
-    let run : IsRunning reader stream = subst (λ (s : Stage). IsAt s reader stream) is state in
+    let run = at_running (pcap reader.scope) stream reader.stage (IsRunning reader stream) is state in
     let e : EndsIn (pcap reader.scope) stream run.runs.items = runs_in (pcap reader.scope) stream reader.state reader.held run.runs some held in
     let same : run.runs.items ≡ frames =
     one_given (pcap reader.scope) stream run.runs.items frames (ends_give (pcap reader.scope) stream run.runs.items e) given in

@@ -1,5 +1,5 @@
 -- What the parts of a reader do.
-use Rattle.std.specs.Prelude.{◌≡◌, ◌⊎◌, ℕ, ◌+◌, ◌-◌, ◌<◌, ◌^◌, ◌==◌, if◌then◌else◌, List, [], ◌++◌, length, take, drop, Option, Some, None}
+use Rattle.std.specs.Prelude.{◌≡◌, ◌⊎◌, ℕ, ◌+◌, ◌-◌, ◌<◌, ◌^◌, ◌==◌, if◌then◌else◌, List, ◌++◌, length, take, drop, Option, Some, None}
 use Rattle.cf_stream.specs.declared.limit.Length.{Length}
 use Rattle.cf_stream.specs.declared.limit.Length.TheVariants.{Limited, Any}
 use Rattle.cf_stream.specs.Format.{Bad, Takes, ReadsTo}
@@ -7,8 +7,9 @@ use Rattle.cf_pcap.specs.declared.form.FileHeader.{FileHeader}
 use Rattle.cf_pcap.specs.declared.scope.Scope.{Scope}
 use Rattle.cf_pcap.specs.declared.fault.PcapFault.{PcapFault}
 use Rattle.cf_pcap.specs.declared.fault.PcapFault.TheVariants.{TooManyBytes}
-use Rattle.cf_pcap.specs.declared.stage.Stage.{Stage}
-use Rattle.cf_pcap.specs.declared.stage.Stage.TheVariants.{Running, Stopped}
+use Rattle.cf_stream.specs.declared.stage.Stage.{Stage}
+use Rattle.cf_stream.specs.declared.stage.Stage.TheVariants.{Running, Stopped}
+use Rattle.cf_stream.specs.Stages.{kept_at}
 use Rattle.cf_pcap.specs.Capture.{FrameValue, HasRecord, caplen_at}
 use Rattle.cf_pcap.specs.File.{State, step, pcap}
 
@@ -42,17 +43,12 @@ late_of Limited total = if total == 2 ^ 32 then 1 else 0
 late_of Any total = 0
 
 -- the stage where this is left, of which `late` bytes come too late for a frame: a fault, or too many bytes
-abbrev pub IsStageAfter : Scope → State → ℕ → List ℕ → Stage → Type 0
+abbrev pub IsStageAfter : Scope → State → ℕ → List ℕ → Stage PcapFault → Type 0
 IsStageAfter scope t late rest Running = (late ≡ 0) × IsFaultAt scope t rest None
 IsStageAfter scope t late rest (Stopped fault) = IsFaultAt scope t rest (Some fault) ⊎ ((0 < late) × (fault ≡ TooManyBytes) × IsFaultAt scope t rest None)
 
--- the bytes that a reader keeps at a stage
-abbrev pub kept_at : Stage → List ℕ → List ℕ
-kept_at Running held = held
-kept_at (Stopped fault) held = []
-
 -- bytes were read, of which the last `late` come too late for a frame; what is held then
-pub record AreTaken (scope : Scope) (s : State) (late : ℕ) (bytes : List ℕ) (frames : List FrameValue) (t : State) (stage : Stage)
+pub record AreTaken (scope : Scope) (s : State) (late : ℕ) (bytes : List ℕ) (frames : List FrameValue) (t : State) (stage : Stage PcapFault)
     (held : List ℕ) : Type 0 where
   pub rest : List ℕ
   pub read : AreRead scope s (take (length bytes - late) bytes) frames t rest

@@ -1,5 +1,5 @@
 -- What a reader's state says of the stream that led to it, and what it gives and answers, however the stream is cut.
-use Rattle.std.specs.Prelude.{◌≡◌, ℕ, ◌+◌, ◌*◌, ◌≤◌, List, [], length, Option, Some, None, Result, Ok, Err}
+use Rattle.std.specs.Prelude.{ℕ, ◌+◌, ◌*◌, ◌≤◌, List, length, Result}
 use Rattle.cf_stream.specs.declared.limit.Length.{Length}
 use Rattle.cf_stream.specs.declared.limit.Length.TheVariants.{Limited, Any}
 use Rattle.cf_stream.specs.Limits.{IsShort, IsTotal}
@@ -9,8 +9,8 @@ use Rattle.cf_stream.specs.Stream as streams
 use Rattle.cf_pcap.specs.declared.scope.Scope.{Scope}
 use Rattle.cf_pcap.specs.declared.fault.PcapFault.{PcapFault}
 use Rattle.cf_pcap.specs.declared.fault.PcapFault.TheVariants.{Memory}
-use Rattle.cf_pcap.specs.declared.stage.Stage.{Stage}
-use Rattle.cf_pcap.specs.declared.stage.Stage.TheVariants.{Running, Stopped}
+use Rattle.cf_stream.specs.declared.stage.Stage.{Stage}
+use Rattle.cf_stream.specs.Stages as stages
 use Rattle.cf_pcap.specs.Capture.{FrameValue}
 use Rattle.cf_pcap.specs.File.{State, pcap}
 
@@ -26,7 +26,7 @@ AreGiven scope stream frames = streams.AreGiven (pcap scope) stream frames
 -- file header or a record that has only begun
 pub record PcapValue : Type 0 where
   pub scope : Scope
-  pub stage : Stage
+  pub stage : Stage PcapFault
   pub total : ℕ
   pub state : State
   pub held : List ℕ
@@ -36,14 +36,9 @@ pub record IsRunning (reader : PcapValue) (stream : List ℕ) : Type 0 where
   pub total_is : IsTotal reader.scope.length reader.total (length stream)
   pub runs : Runs (pcap reader.scope) reader.state reader.held stream
 
--- what a reader at a stage says of its stream: no fault yet while it runs, and where it stopped, that fault
-abbrev pub IsAt : Stage → PcapValue → List ℕ → Type 0
-IsAt Running reader stream = IsRunning reader stream
-IsAt (Stopped fault) reader stream = IsFound reader.scope stream fault
-
 -- the reader's state is that after this stream
 abbrev pub IsStateOf : PcapValue → List ℕ → Type 0
-IsStateOf reader stream = IsAt reader.stage reader stream
+IsStateOf reader stream = stages.IsAt (pcap reader.scope) stream reader.stage (IsRunning reader stream)
 
 -- what a call that takes one more piece gives and answers
 abbrev pub IsFed : List ℕ → List ℕ → List FrameValue → Result (Unit {0}) PcapFault → PcapValue → Type 0
@@ -51,21 +46,11 @@ IsFed stream piece given answer reader = streams.IsFed (pcap reader.scope) strea
 
 -- a reader that has found a fault answers it, and no want of memory
 abbrev pub AnswersFound : PcapValue → Result (Unit {0}) PcapFault → Type 0
-AnswersFound reader answer = (stream : List ℕ) (fault : PcapFault) → IsStateOf reader stream → IsFound reader.scope stream fault → answer ≡ Err fault
+AnswersFound reader answer = stages.AnswersFound (pcap reader.scope) (IsStateOf reader) answer
 
 -- what the end of the stream answers: the number of a capture's frames, or the fault
 abbrev pub IsEnded : Scope → List ℕ → Result ℕ PcapFault → Type 0
 IsEnded scope stream answer = streams.IsEnded (pcap scope) stream answer
-
--- the fault that was found at this stage
-abbrev pub found_at : Stage → Option PcapFault
-found_at Running = None
-found_at (Stopped fault) = Some fault
-
--- what a call that ends at this stage answers
-abbrev pub answer_at : Stage → Result (Unit {0}) PcapFault
-answer_at Running = Ok tt
-answer_at (Stopped fault) = Err fault
 
 -- so many bytes have the records of so many frames, and those that are held. Where any number may come, they are not counted.
 abbrev pub IsCounted : Length → ℕ → ℕ → ℕ → Type 0
@@ -73,10 +58,10 @@ IsCounted Limited total frames held = 16 * frames + held ≤ total
 IsCounted Any total frames held = Unit {0}
 
 -- what holds of every reader: its bytes and frames fit, it holds less than a record, and want of memory doesn't stop it
-abbrev pub IsSoundAt : Stage → PcapValue → Type 0
-IsSoundAt Running reader = IsShort reader.scope.length reader.total
-    × IsCounted reader.scope.length reader.total reader.state.count (length reader.held) × (length reader.held ≤ 262159)
-IsSoundAt (Stopped fault) reader = (fault ≡ Memory → ⊥) × (reader.held ≡ [])
+abbrev pub IsSoundAt : Stage PcapFault → PcapValue → Type 0
+IsSoundAt stage reader = stages.IsSoundAt Memory reader.held stage
+    (IsShort reader.scope.length reader.total
+    × IsCounted reader.scope.length reader.total reader.state.count (length reader.held) × (length reader.held ≤ 262159))
 
 -- what holds of every reader, whatever its stage
 abbrev pub IsSound : PcapValue → Type 0

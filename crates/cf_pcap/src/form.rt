@@ -51,6 +51,7 @@ impl Order {
     }
 
     /// The 32-bit number at the front of the bytes.
+    #[inline]
     pub fn read_u32(self, bytes: &[u8]) -> u32
         requires { 4 ≤ length bytes.now }
         ensures { result ≡ number_in self 4 bytes.now }

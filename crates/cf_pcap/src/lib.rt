@@ -10,7 +10,6 @@ mod links;
 mod reader;
 mod records;
 mod scope;
-mod stage;
 mod taking;
 
 pub use fault::PcapFault;

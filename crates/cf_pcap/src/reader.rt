@@ -1,18 +1,18 @@
 // The reader of a capture, which comes in pieces.
-ghost use Rattle.std.specs.Prelude.{◌≡◌, ◌≢◌, ℕ, List, [], ◌++◌, ◌≤◌, length, take, IfOk, MatchResult, OnErr, Err};
+ghost use Rattle.std.specs.Prelude.{◌≡◌, ◌≢◌, ℕ, List, [], ◌++◌, ◌≤◌, length, IfOk, MatchResult, Err};
 ghost use Rattle.cf_pcap.specs.Capture.{FrameValue};
 ghost use Rattle.cf_pcap.specs.declared.links.LinkSet.TheVariants.{Basic};
 ghost use Rattle.cf_pcap.specs.Links.{limited};
 ghost use Rattle.cf_pcap.specs.Reading.{front_of};
 ghost use Rattle.cf_stream.specs.Limits.{IsShort};
-ghost use Rattle.cf_pcap.specs.Stream.{IsStateOf, IsFed, IsEnded, AnswersFound, AreGiven, found_at};
+ghost use Rattle.cf_pcap.specs.Stream.{IsStateOf, IsFed, IsEnded, AnswersFound, AreGiven};
+ghost use Rattle.cf_stream.specs.Stages.{found_at};
 ghost use Rattle.cf_pcap.specs.Truncated.{Says, Breaks};
 
 use crate::form::FileHeader;
-use crate::stage::{Stage, answer_of};
 use crate::taking::{LIMIT, Place, late_of, take_in};
 use crate::{Frame, LinkSet, PcapFault, Scope};
-use cf_stream::Length;
+use cf_stream::{Length, Stage, cut_at};
 use std::alloc::{AllocError, Global};
 use std::marker::Model;
 
@@ -22,7 +22,7 @@ use std::marker::Model;
 pub struct Pcap {
     alloc: Global,
     scope: Scope,
-    stage: Stage,
+    stage: Stage<PcapFault>,
     // How many bytes were taken, while the reader runs and they are limited.
     total: usize,
     // What the file header states, once that was read.
@@ -45,16 +45,6 @@ impl Model for Pcap {
     ghost invariant = { λ p. IsSound (record { scope = p.scope; stage = p.stage; total = p.total; state = record { header = p.header; count = p.count }; held = p.held.items }) };
 }
 
-// The first bytes of a piece, that many at most.
-fn first_bytes(piece: &[u8], most: usize) -> &[u8]
-    ensures { result.now ≡ take most piece.now }
-{
-    if piece.len() <= most {
-        return piece;
-    }
-    piece.split_at(most).0
-}
-
 // The bytes of a piece that are taken, where so many came before: those up to the one that makes a limited stream 2^32 bytes long.
 fn front(length: Length, total: usize, piece: &[u8]) -> &[u8]
     requires { IsShort length total }
@@ -62,7 +52,7 @@ fn front(length: Length, total: usize, piece: &[u8]) -> &[u8]
 {
     match length {
         Length::Any => piece,
-        Length::Limited => first_bytes(piece, LIMIT - total),
+        Length::Limited => cut_at(piece, LIMIT - total).0,
     }
 }
 
@@ -119,7 +109,7 @@ impl Pcap {
         self.total = total;
         self.header = given.header;
         self.count = given.count;
-        answer_of(self.stage)
+        self.stage.answer()
     }
 
     /// How many bytes of the stream are held: those of a file header or a record that has only begun.
@@ -134,10 +124,7 @@ impl Pcap {
     pub fn fault(&self) -> Option<PcapFault>
         ensures { result ≡ found_at self.now.stage }
     {
-        match self.stage {
-            Stage::Stopped(fault) => Some(fault),
-            Stage::Running => None,
-        }
+        self.stage.fault()
     }
 
     /// The number of frames of the stream that was fed, and 2^32 - 1 where they are more, or its fault. It takes no memory.

@@ -65,6 +65,7 @@ fn is_too_long(header: FileHeader, bytes: &[u8]) -> bool
 }
 
 // The frame of the record at the front.
+#[inline(always)]
 pub(crate) fn first_frame(
     alloc: Global,
     header: FileHeader,

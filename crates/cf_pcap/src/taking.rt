@@ -6,9 +6,8 @@ ghost use Rattle.cf_pcap.specs.Reading.{state_of, IsStageAfter, AreTaken, IsOneR
 
 use crate::form::FileHeader;
 use crate::records::{RECORD_HEADER, caplen_of, fault_at, first_frame, go_on, is_one_record};
-use crate::stage::Stage;
 use crate::{Frame, PcapFault, Scope};
-use cf_stream::Length;
+use cf_stream::{Length, Stage};
 use std::alloc::{AllocError, Global};
 
 /// A limited stream of so many bytes is no capture.
@@ -17,7 +16,7 @@ pub(crate) const LIMIT: usize = 1 << 32;
 /// What the bytes at hand gave: the frames, the reader after them, and how many of the bytes it lets go.
 #[derive(Drop)]
 struct Given {
-    stage: Stage,
+    stage: Stage<PcapFault>,
     header: Option<FileHeader>,
     frames: Vec<Frame>,
     count: u32,
@@ -35,7 +34,7 @@ pub(crate) struct Place {
 /// Where a piece brings a reader.
 #[derive(Clone, Copy)]
 pub(crate) struct Reached {
-    pub stage: Stage,
+    pub stage: Stage<PcapFault>,
     pub header: Option<FileHeader>,
     pub count: u32,
 }
@@ -57,7 +56,7 @@ fn stage_after(
     count: u32,
     late: usize,
     rest: &[u8],
-) -> Stage
+) -> Stage<PcapFault>
     ensures { IsStageAfter scope (state_of header count) late rest.now result }
 {
     match fault_at(scope, header, count, rest) {

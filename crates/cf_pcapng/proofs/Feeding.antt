@@ -1,5 +1,5 @@
 -- What a call that takes one more piece gives and answers, and what the end of a stream answers.
-use Rattle.std.proofs.Common.{◌≡◌, ◌⊎◌, inl, inr, ℕ, ◌<◌, ◌≤◌, ◌+◌, ◌-◌, ◌^◌, min, true, false, Bool, List, [], ◌∷◌, ◌++◌, length, Option, Some, None, Result, Ok, Err, is_some, refl, sym, ap, subst, ◌∙◌, arith, append_assoc, append-nil, length-append, length-take, length-drop}
+use Rattle.std.proofs.Common.{◌≡◌, ◌⊎◌, inl, inr, ℕ, ◌<◌, ◌≤◌, ◌+◌, ◌-◌, ◌^◌, min, true, false, Bool, List, [], ◌∷◌, ◌++◌, length, Option, Some, None, Ok, Err, is_some, refl, sym, ap, subst, ◌∙◌, arith, append_assoc, append-nil, length-append, length-take, length-drop}
 use Rattle.std.proofs.lemmas.List.{take-append-drop}
 use Rattle.cf_pcap.specs.declared.scope.Scope.{Scope}
 use Rattle.cf_pcap.specs.declared.form.Order.{Order}
@@ -10,19 +10,20 @@ use Rattle.cf_stream.specs.Limits.{IsShort, IsLong, IsAtLimit, HasRoom as MayCom
 use Rattle.cf_stream.proofs.Limits.{limit_long}
 use Rattle.cf_stream.specs.Format.{Wants, Bad, ReadsTo, IsFound}
 use Rattle.cf_stream.specs.Stream.{Runs}
-use Rattle.cf_stream.proofs.Cases.{one_fault}
 use Rattle.cf_stream.proofs.Feeding as streams
 use Rattle.cf_pcapng.specs.declared.fault.Flaw.{Flaw}
 use Rattle.cf_pcapng.specs.declared.fault.Flaw.TheVariants.{BadMagic, BadVersion, BadLink, FrameTooLong, BadLength, NoInterface}
 use Rattle.cf_pcapng.specs.declared.fault.NgFault.{NgFault}
 use Rattle.cf_pcapng.specs.declared.fault.NgFault.TheVariants.{Cut, TooManyBytes, Memory}
-use Rattle.cf_pcapng.specs.declared.stage.Stage.{Stage}
-use Rattle.cf_pcapng.specs.declared.stage.Stage.TheVariants.{Running, Stopped}
+use Rattle.cf_stream.specs.declared.stage.Stage.{Stage}
+use Rattle.cf_stream.specs.declared.stage.Stage.TheVariants.{Running, Stopped}
 use Rattle.cf_pcapng.specs.declared.passed.Passed.{Passed}
 use Rattle.cf_pcapng.specs.File.{State, fault_of, step, pcapng}
 use Rattle.cf_pcapng.specs.Position.{listed, PositionValue, state_of}
 use Rattle.cf_pcapng.specs.Reading.{WasPassed, Begins, Breaks, AreReadOn, FitsIn, early_of, late_of, IsGoneOn, MayGoOn}
-use Rattle.cf_pcapng.specs.Reader.{PcapNgValue, IsRunning, IsAt, IsStateOf, IsFed, AnswersFound, IsEnded, IsSoundAt, IsSound, answer_at, IsCalled, state_after, kept_at, ShowsLate, IsStageAtLimit, IsStageAfter}
+use Rattle.cf_stream.specs.Stages.{IsAt, answer_at, kept_at}
+use Rattle.cf_stream.proofs.Stages.{at_running}
+use Rattle.cf_pcapng.specs.Reader.{PcapNgValue, IsRunning, IsStateOf, IsFed, IsEnded, IsSoundAt, IsSound, IsCalled, state_after, ShowsLate, IsStageAtLimit, IsStageAfter}
 use Rattle.cf_pcapng.specs.declared.interfaces.Interface.{Interface}
 use Rattle.cf_pcapng.specs.declared.position.Reached.{Reached}
 use Rattle.cf_pcapng.specs.declared.head.Kind.TheVariants.{Other}
@@ -30,7 +31,7 @@ use Rattle.cf_pcapng.proofs.Heads.{standing}
 use Rattle.cf_pcapng.proofs.Steps.{stepper}
 
 -- the reader after a call
-abbrev Later : Scope → Stage → ℕ → State → Option Passed → List ℕ → PcapNgValue
+abbrev Later : Scope → Stage NgFault → ℕ → State → Option Passed → List ℕ → PcapNgValue
 Later scope stage total t passed held = record { scope = scope; stage = stage; total = total; state = t; passed = passed; held = kept_at stage held }
 
 regroup : (a b c : List ℕ) → a ++ (b ++ c) ≡ (a ++ b) ++ c
@@ -184,33 +185,33 @@ limit_by before stream piece early byte late given t passed held total fault (So
     (inl (last.bad ∙ ap (λ (f : NgFault). Bad f) (sym shows)))
 
 fed_late : (before : PcapNgValue) (stream piece early : List ℕ) (byte : ℕ) (late : List ℕ) (given : List FrameValue) (t : State) (passed : Option Passed)
-    (held : List ℕ) (total : ℕ) (stage : Stage) → (call : Call before stream piece early (byte ∷ late))
+    (held : List ℕ) (total : ℕ) (stage : Stage NgFault) → (call : Call before stream piece early (byte ∷ late))
     → (on : Begins before.scope before.state ((call.run.gone ++ before.held) ++ early) given t passed held)
     → IsStageAtLimit before.scope t passed held (byte ∷ []) stage → IsFed stream piece given (answer_at stage) (Later before.scope stage total t passed held)
 fed_late before stream piece early byte late given t passed held total stage call on at =
     let last = at.read on.gone on.was in
     let fed : IsFed stream piece given (Err at.fault) (Later before.scope (Stopped at.fault) total t passed held) =
     limit_by before stream piece early byte late given t passed held total at.fault at.flaw at.last call on at.shows last.0 last.1 last.2 last.3 in
-    subst (λ (x : Stage). IsFed stream piece given (answer_at x) (Later before.scope x total t passed held)) (sym at.stage_is) fed
+    subst (λ (x : Stage NgFault). IsFed stream piece given (answer_at x) (Later before.scope x total t passed held)) (sym at.stage_is) fed
 
 -- whichever of these
 fed_case : (before : PcapNgValue) (stream piece early late : List ℕ) (given : List FrameValue) (t : State) (passed : Option Passed) (held : List ℕ)
-    (flaw : Option Flaw) (total : ℕ) (stage : Stage) → (call : Call before stream piece early late)
+    (flaw : Option Flaw) (total : ℕ) (stage : Stage NgFault) → (call : Call before stream piece early late)
     → AreReadOn before.scope before.state ((call.run.gone ++ before.held) ++ early) given t passed held flaw
     → IsStageAfter before.scope t passed held flaw late stage → total ≡ total_on before.scope.length before.total (length early)
     → IsFed stream piece given (answer_at stage) (Later before.scope stage total t passed held)
 fed_case before stream piece early [] given t passed held None total stage call on at is =
-    subst (λ (x : Stage). IsFed stream piece given (answer_at x) (Later before.scope x total t passed held)) (sym at)
+    subst (λ (x : Stage NgFault). IsFed stream piece given (answer_at x) (Later before.scope x total t passed held)) (sym at)
     (fed_running before stream piece early given t passed held total call on is)
 fed_case before stream piece early (byte ∷ late) given t passed held None total stage call on at is =
     fed_late before stream piece early byte late given t passed held total stage call on at
 fed_case before stream piece early [] given t passed held (Some flaw) total stage call on at is =
-    subst (λ (x : Stage). IsFed stream piece given (answer_at x) (Later before.scope x total t passed held)) (sym at)
+    subst (λ (x : Stage NgFault). IsFed stream piece given (answer_at x) (Later before.scope x total t passed held)) (sym at)
     (fed_flaw before stream piece early [] given t passed held flaw total call on (inl refl))
 fed_case before stream piece early (byte ∷ late) given t passed held (Some flaw) total stage call on at is =
     let full : IsLong before.scope.length (length (stream ++ early) + 1) =
     limit_long before.scope.length (length (stream ++ early) + 1) (late_full before stream piece early byte late call) in
-    subst (λ (x : Stage). IsFed stream piece given (answer_at x) (Later before.scope x total t passed held)) (sym at)
+    subst (λ (x : Stage NgFault). IsFed stream piece given (answer_at x) (Later before.scope x total t passed held)) (sym at)
     (fed_flaw before stream piece early (byte ∷ late) given t passed held flaw total call on (inr full))
 
 -- What holds of the reader after a call.
@@ -232,27 +233,27 @@ sound_stopped : (scope : Scope) (fault : NgFault) (total : ℕ) (t : State) (pas
 sound_stopped scope fault total t passed held h = (h, refl)
 
 sound_case : (before : PcapNgValue) (early late : List ℕ) (t : State) (passed : Option Passed) (held : List ℕ) (flaw : Option Flaw) (total : ℕ)
-    (stage : Stage) → FitsIn before.scope.length (before.state.count + length before.held) before.total → IsShort before.scope.length total
+    (stage : Stage NgFault) → FitsIn before.scope.length (before.state.count + length before.held) before.total → IsShort before.scope.length total
     → IsGoneOn before.scope.length before.state (length (before.held ++ early)) t passed held flaw → IsStageAfter before.scope t passed held flaw late stage
     → total ≡ total_on before.scope.length before.total (length early) → IsSound (Later before.scope stage total t passed held)
 sound_case before early [] t passed held None total stage had small on at is =
     let l : Length = before.scope.length in
     let fits : FitsIn l (t.count + length held) (before.state.count + (length before.held + length early)) =
     subst (λ n. FitsIn l (t.count + length held) (before.state.count + n)) (length-append before.held early) on.fits in
-    subst (λ (x : Stage). IsSound (Later before.scope x total t passed held)) (sym at) (
+    subst (λ (x : Stage NgFault). IsSound (Later before.scope x total t passed held)) (sym at) (
       small,
       fits_after l before.total before.state.count (length before.held) (length early) t.count (length held) total had fits is,
       on.few,
       on.room,
     )
 sound_case before early (byte ∷ late) t passed held None total stage had small on at is =
-    subst (λ (x : Stage). IsSound (Later before.scope x total t passed held)) (sym at.stage_is)
+    subst (λ (x : Stage NgFault). IsSound (Later before.scope x total t passed held)) (sym at.stage_is)
     (sound_stopped before.scope at.fault total t passed held (late_is_fault at.flaw at.last at.fault at.shows))
 sound_case before early [] t passed held (Some flaw) total stage had small on at is =
-    subst (λ (x : Stage). IsSound (Later before.scope x total t passed held)) (sym at)
+    subst (λ (x : Stage NgFault). IsSound (Later before.scope x total t passed held)) (sym at)
     (sound_stopped before.scope (fault_of t.count flaw) total t passed held (flaw_is_fault t.count flaw))
 sound_case before early (byte ∷ late) t passed held (Some flaw) total stage had small on at is =
-    subst (λ (x : Stage). IsSound (Later before.scope x total t passed held)) (sym at)
+    subst (λ (x : Stage NgFault). IsSound (Later before.scope x total t passed held)) (sym at)
     (sound_stopped before.scope (fault_of t.count flaw) total t passed held (flaw_is_fault t.count flaw))
 
 -- room for one more byte
@@ -271,7 +272,7 @@ may_go_on before piece early t passed held None small had early_is on =
 
 -- a call that takes a piece
 pub called : (before : PcapNgValue) (piece early late bytes : List ℕ) (given : List FrameValue) (s t : State) (passed : Option Passed) (held kept : List ℕ)
-    (flaw : Option Flaw) (total : ℕ) (stage : Stage) → before.stage ≡ Running → IsSound before → early ≡ early_of before.scope.length before.total piece
+    (flaw : Option Flaw) (total : ℕ) (stage : Stage NgFault) → before.stage ≡ Running → IsSound before → early ≡ early_of before.scope.length before.total piece
     → late ≡ late_of before.scope.length before.total piece → bytes ≡ before.held ++ early → s ≡ before.state
     → ((gone : List ℕ) → WasPassed s.order before.passed gone → AreReadOn before.scope s (gone ++ bytes) given t passed held flaw)
     → IsGoneOn before.scope.length s (length bytes) t passed held flaw → IsStageAfter before.scope t passed held flaw late stage
@@ -279,7 +280,7 @@ pub called : (before : PcapNgValue) (piece early late bytes : List ℕ) (given :
     → kept ≡ kept_at stage held
     → IsCalled before piece given (record { scope = before.scope; stage = stage; total = total; state = t; passed = passed; held = kept })
 called before piece early late bytes given s t passed held kept flaw total stage running sound early_is late_is bytes_is s_is read on at total_is kept_is =
-    let had = subst (λ (x : Stage). IsSoundAt x before) running sound in
+    let had = subst (λ (x : Stage NgFault). IsSoundAt x before) running sound in
     let small : IsShort before.scope.length before.total = had.0 in
     let reads : (gone : List ℕ) → WasPassed before.state.order before.passed gone
     → AreReadOn before.scope before.state ((gone ++ before.held) ++ early) given t passed held flaw =
@@ -329,39 +330,12 @@ position_is s p had had_is is = ap state_of is ∙ ap (λ x. state_by s.order x 
 
 -- The other calls.
 
-pub running_of : (stage : Stage) → ((fault : NgFault) → stage ≡ Stopped fault → ⊥) → stage ≡ Running
-running_of Running h = refl
-running_of (Stopped fault) h = absurd (h fault refl)
-
--- a reader that has found a fault answers it
-pub answers_stopped : (fault : NgFault) (reader : PcapNgValue) → reader.stage ≡ Stopped fault → AnswersFound reader (Err fault)
-answers_stopped fault reader is = λ stream other state found.
-    ap (λ (f : NgFault). Err f) (one_fault (pcapng reader.scope) stream fault other (inl (subst (λ (s : Stage). IsAt s reader stream) is state)) (inl found))
-
 -- one that runs has found none
 pub not_found : (reader : PcapNgValue) (stream : List ℕ) (fault : NgFault) → reader.stage ≡ Running → IsStateOf reader stream
     → IsFound (pcapng reader.scope) stream fault → ⊥
 not_found reader stream fault is state found =
-    let run : IsRunning reader stream = subst (λ (s : Stage). IsAt s reader stream) is state in
+    let run = at_running (pcapng reader.scope) stream reader.stage (IsRunning reader stream) is state in
     streams.runs_none (pcapng reader.scope) reader.state (run.gone ++ reader.held) stream fault run.runs found
-
--- one that a fault has stopped takes nothing
-pub fed_stopped : (fault : NgFault) (reader : PcapNgValue) (stream piece : List ℕ) → reader.stage ≡ Stopped fault → IsStateOf reader stream
-    → IsFed stream piece [] (Err fault) reader
-fed_stopped fault reader stream piece is state =
-    let found : IsFound (pcapng reader.scope) stream fault = subst (λ (s : Stage). IsAt s reader stream) is state in
-    streams.fed_stopped (pcapng reader.scope) (stepper reader.scope) stream piece fault (IsStateOf reader) found
-    (λ later. subst (λ (s : Stage). IsAt s reader (stream ++ piece)) (sym is) later)
-
--- the reader after a call answers no want of memory
-pub no_memory : (reader : PcapNgValue) → IsSound reader → answer_at reader.stage ≡ Err Memory → ⊥
-no_memory reader sound memory = at_stage reader.stage reader sound memory where
-  err_same : (a b : NgFault) → ◌≡◌ {A = Result (Unit {0}) NgFault} (Err a) (Err b) → a ≡ b
-  err_same a b h = cc
-
-  at_stage : (stage : Stage) (reader : PcapNgValue) → IsSoundAt stage reader → answer_at stage ≡ Err Memory → ⊥
-  at_stage Running reader sound h = cc
-  at_stage (Stopped fault) reader sound h = sound.0 (err_same fault Memory h)
 
 pub new_runs : (reader : PcapNgValue) → reader.stage ≡ Running → reader.total ≡ 0 → reader.state ≡ (pcapng reader.scope).start → reader.passed ≡ None
     → reader.held ≡ [] → IsStateOf reader []
@@ -374,11 +348,7 @@ new_runs reader is total start none held =
           (subst (λ (xs : List ℕ). Runs (pcapng reader.scope) (pcapng reader.scope).start xs []) (sym held)
           (streams.runs_new (pcapng reader.scope) (stepper reader.scope)));
     } in
-    subst (λ (s : Stage). IsAt s reader []) (sym is) run
-
-pub ended_stopped : (fault : NgFault) (reader : PcapNgValue) (stream : List ℕ) → reader.stage ≡ Stopped fault → IsStateOf reader stream
-    → IsEnded reader.scope stream (Err fault)
-ended_stopped fault reader stream is state = streams.ended_found (pcapng reader.scope) stream fault (subst (λ (s : Stage). IsAt s reader stream) is state)
+    subst (λ (s : Stage NgFault). IsAt (pcapng reader.scope) [] s (IsRunning reader [])) (sym is) run
 
 -- something is left of a block at hand
 pub some_left : (order : Option Order) (passed : Option Passed) (gone held : List ℕ) → WasPassed order passed gone → (is_some passed ≡ true)
@@ -394,14 +364,14 @@ some_left order (Some block) gone held was (inl h) =
 pub ended_within : (reader : PcapNgValue) (stream : List ℕ) (count : ℕ) → reader.stage ≡ Running → (is_some reader.passed ≡ true) ⊎ (0 < length reader.held)
     → count ≡ reader.state.count → IsStateOf reader stream → IsEnded reader.scope stream (Err (Cut count))
 ended_within reader stream count is left count_is state =
-    let run : IsRunning reader stream = subst (λ (s : Stage). IsAt s reader stream) is state in
+    let run = at_running (pcapng reader.scope) stream reader.stage (IsRunning reader stream) is state in
     streams.ended_cut (pcapng reader.scope) reader.state (run.gone ++ reader.held) stream (Cut count) run.runs
     (inl (some_left reader.state.order reader.passed run.gone reader.held run.was left)) (ap (λ n. Cut n) count_is)
 
 pub ended_outside : (reader : PcapNgValue) (stream : List ℕ) (count : ℕ) → reader.stage ≡ Running → is_some reader.state.order ≡ false
     → count ≡ reader.state.count → IsStateOf reader stream → IsEnded reader.scope stream (Err (Cut count))
 ended_outside reader stream count is none count_is state =
-    let run : IsRunning reader stream = subst (λ (s : Stage). IsAt s reader stream) is state in
+    let run = at_running (pcapng reader.scope) stream reader.stage (IsRunning reader stream) is state in
     streams.ended_cut (pcapng reader.scope) reader.state (run.gone ++ reader.held) stream (Cut count) run.runs (inr none) (ap (λ n. Cut n) count_is)
 
 none_left : (order : Option Order) (passed : Option Passed) (gone held : List ℕ) → WasPassed order passed gone → is_some passed ≡ false → held ≡ []
@@ -412,7 +382,7 @@ none_left order (Some block) gone held was none empty = absurd (let some : true 
 pub ended_whole : (reader : PcapNgValue) (stream : List ℕ) (count : ℕ) → reader.stage ≡ Running → is_some reader.passed ≡ false → reader.held ≡ []
     → is_some reader.state.order ≡ true → count ≡ reader.state.count → IsStateOf reader stream → IsEnded reader.scope stream (Ok count)
 ended_whole reader stream count is none empty some count_is state =
-    let run : IsRunning reader stream = subst (λ (s : Stage). IsAt s reader stream) is state in
+    let run = at_running (pcapng reader.scope) stream reader.stage (IsRunning reader stream) is state in
     streams.ended_whole (pcapng reader.scope) (stepper reader.scope) reader.state (run.gone ++ reader.held) stream count run.runs
     (none_left reader.state.order reader.passed run.gone reader.held run.was none empty) some count_is
 

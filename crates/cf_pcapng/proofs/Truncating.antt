@@ -19,11 +19,11 @@ use Rattle.cf_pcapng.specs.declared.head.Kind.{Kind}
 use Rattle.cf_pcapng.specs.declared.head.Kind.TheVariants.{SectionHeader}
 use Rattle.cf_pcapng.specs.declared.content.Content.{Content}
 use Rattle.cf_pcapng.specs.declared.content.Content.TheVariants.{NewSection, NewInterface, Captures, Nothing}
-use Rattle.cf_pcapng.specs.declared.stage.Stage.{Stage}
-use Rattle.cf_pcapng.specs.declared.stage.Stage.TheVariants.{Running, Stopped}
+use Rattle.cf_stream.specs.declared.stage.Stage.TheVariants.{Running, Stopped}
 use Rattle.cf_pcapng.specs.File.{State, fault_of, after, step, pcapng}
 use Rattle.cf_pcapng.specs.Rules.{BlockStates, IsBlock, IsFileOf, HasFaultOf}
-use Rattle.cf_pcapng.specs.Reader.{PcapNgValue, IsRunning, IsAt, IsStateOf}
+use Rattle.cf_pcapng.specs.Reader.{PcapNgValue, IsRunning, IsStateOf}
+use Rattle.cf_stream.proofs.Stages.{at_running, at_stopped}
 use Rattle.cf_pcapng.specs.Truncated.{IsTruncated, Says, Breaks, HasBegun, TruncatedCase}
 use Rattle.cf_pcapng.proofs.Steps.{Shown, stepper}
 use Rattle.cf_pcapng.proofs.Ruling.{steps_by_rules}
@@ -204,7 +204,7 @@ truncated_case scope file = record {
 pub end_stopped : (reader : PcapNgValue) (stream : List ℕ) (fault : NgFault) → reader.stage ≡ Stopped fault → IsStateOf reader stream
     → Breaks reader.scope stream fault
 end_stopped reader stream fault is state =
-    let found : IsFound (pcapng reader.scope) stream fault = subst (λ (s : Stage). IsAt s reader stream) is state in (
+    let found = at_stopped (pcapng reader.scope) stream reader.stage (IsRunning reader stream) fault is state in (
       (file_by_rules reader.scope stream).fault fault (inl found),
       λ frames t. ends_unfound (pcapng reader.scope) stream frames fault (ends_of reader.scope stream frames t) found,
     )
@@ -212,7 +212,7 @@ end_stopped reader stream fault is state =
 pub end_outside : (reader : PcapNgValue) (stream : List ℕ) (count : ℕ) → reader.stage ≡ Running → is_some reader.state.order ≡ false
     → count ≡ reader.state.count → IsStateOf reader stream → Breaks reader.scope stream (Cut count)
 end_outside reader stream count is unbegun count_is state =
-    let run : IsRunning reader stream = subst (λ (s : Stage). IsAt s reader stream) is state in (
+    let run = at_running (pcapng reader.scope) stream reader.stage (IsRunning reader stream) is state in (
       (file_by_rules reader.scope stream).fault (Cut count) (ended_outside reader stream count is unbegun count_is state),
       λ frames t. ends_begun (pcapng reader.scope) stream frames reader.state (run.gone ++ reader.held) (ends_of reader.scope stream frames t) run.runs unbegun,
     )
@@ -230,7 +230,7 @@ pub end_within : (reader : PcapNgValue) (stream : List ℕ) (frames : List Frame
     ⊎ (0 < length reader.held) → is_some reader.state.order ≡ true → count ≡ reader.state.count → IsStateOf reader stream
     → AreGiven (pcapng reader.scope) stream frames → Says reader.scope stream frames (Some count)
 end_within reader stream frames count is held some count_is state given =
-    let run : IsRunning reader stream = subst (λ (s : Stage). IsAt s reader stream) is state in
+    let run = at_running (pcapng reader.scope) stream reader.stage (IsRunning reader stream) is state in
     let e : EndsIn (pcapng reader.scope) stream run.runs.items =
     runs_in (pcapng reader.scope) stream reader.state (run.gone ++ reader.held) run.runs some
     (some_left reader.state.order reader.passed run.gone reader.held run.was held) in

@@ -1,16 +1,17 @@
 -- What a reader's state says of the stream that led to it.
-use Rattle.std.specs.Prelude.{◌≡◌, ℕ, ◌+◌, ◌<◌, ◌^◌, List, [], ◌∷◌, ◌++◌, length, Option, Some, None, Result, Ok, Err}
+use Rattle.std.specs.Prelude.{◌≡◌, ℕ, ◌+◌, ◌<◌, ◌^◌, List, [], ◌∷◌, ◌++◌, length, Option, Some, None, Result}
 use Rattle.cf_pcap.specs.declared.scope.Scope.{Scope}
 use Rattle.cf_pcap.specs.Capture.{FrameValue}
 use Rattle.cf_stream.specs.Limits.{IsShort, IsTotal}
-use Rattle.cf_stream.specs.Format.{IsFound}
 use Rattle.cf_stream.specs.Stream.{Runs}
 use Rattle.cf_stream.specs.Stream as streams
 use Rattle.cf_pcapng.specs.declared.fault.NgFault.{NgFault}
 use Rattle.cf_pcapng.specs.declared.fault.NgFault.TheVariants.{TooManyBytes, Memory}
 use Rattle.cf_pcapng.specs.declared.fault.Flaw.{Flaw}
-use Rattle.cf_pcapng.specs.declared.stage.Stage.{Stage}
-use Rattle.cf_pcapng.specs.declared.stage.Stage.TheVariants.{Running, Stopped}
+use Rattle.cf_stream.specs.declared.stage.Stage.{Stage}
+use Rattle.cf_stream.specs.declared.stage.Stage.TheVariants.{Running, Stopped}
+use Rattle.cf_stream.specs.Stages.{answer_at}
+use Rattle.cf_stream.specs.Stages as stages
 use Rattle.cf_pcapng.specs.declared.passed.Passed.{Passed}
 use Rattle.cf_pcapng.specs.declared.interfaces.Interface.{Interface}
 use Rattle.cf_pcapng.specs.declared.position.Reached.{Reached}
@@ -21,7 +22,7 @@ use Rattle.cf_pcapng.specs.Reading.{WasPassed, AreReadOn, HasRoom, FitsIn}
 -- a reader as contracts see it: the scope that it reads, how far it is, how many bytes it has had, and what it has of the block at hand
 pub record PcapNgValue : Type 0 where
   pub scope : Scope
-  pub stage : Stage
+  pub stage : Stage NgFault
   pub total : ℕ
   pub state : State
   pub passed : Option Passed
@@ -34,14 +35,9 @@ pub record IsRunning (reader : PcapNgValue) (stream : List ℕ) : Type 0 where
   pub was : WasPassed reader.state.order reader.passed gone
   pub runs : Runs (pcapng reader.scope) reader.state (gone ++ reader.held) stream
 
--- what a reader at a stage says of its stream: no fault yet while it runs, and where it stopped, that fault
-abbrev pub IsAt : Stage → PcapNgValue → List ℕ → Type 0
-IsAt Running reader stream = IsRunning reader stream
-IsAt (Stopped fault) reader stream = IsFound (pcapng reader.scope) stream fault
-
 -- the reader's state is that after this stream
 abbrev pub IsStateOf : PcapNgValue → List ℕ → Type 0
-IsStateOf reader stream = IsAt reader.stage reader stream
+IsStateOf reader stream = stages.IsAt (pcapng reader.scope) stream reader.stage (IsRunning reader stream)
 
 -- what a call that takes one more piece gives and answers
 abbrev pub IsFed : List ℕ → List ℕ → List FrameValue → Result (Unit {0}) NgFault → PcapNgValue → Type 0
@@ -49,31 +45,21 @@ IsFed stream piece given answer reader = streams.IsFed (pcapng reader.scope) str
 
 -- a reader that has found a fault answers it, and no want of memory
 abbrev pub AnswersFound : PcapNgValue → Result (Unit {0}) NgFault → Type 0
-AnswersFound reader answer = (stream : List ℕ) (fault : NgFault) → IsStateOf reader stream → IsFound (pcapng reader.scope) stream fault → answer ≡ Err fault
+AnswersFound reader answer = stages.AnswersFound (pcapng reader.scope) (IsStateOf reader) answer
 
 -- what the end of the stream answers: the number of a capture's frames, or the fault
 abbrev pub IsEnded : Scope → List ℕ → Result ℕ NgFault → Type 0
 IsEnded scope stream answer = streams.IsEnded (pcapng scope) stream answer
 
 -- what holds of every reader: its bytes and frames fit, it holds less than a block, and want of memory doesn't stop it
-abbrev pub IsSoundAt : Stage → PcapNgValue → Type 0
-IsSoundAt Running reader = IsShort reader.scope.length reader.total
-    × FitsIn reader.scope.length (reader.state.count + length reader.held) reader.total × (length reader.held < 2 ^ 20) × HasRoom reader.passed
-IsSoundAt (Stopped fault) reader = (fault ≡ Memory → ⊥) × (reader.held ≡ [])
+abbrev pub IsSoundAt : Stage NgFault → PcapNgValue → Type 0
+IsSoundAt stage reader = stages.IsSoundAt Memory reader.held stage
+    (IsShort reader.scope.length reader.total
+    × FitsIn reader.scope.length (reader.state.count + length reader.held) reader.total × (length reader.held < 2 ^ 20) × HasRoom reader.passed)
 
 -- what holds of every reader, whatever its stage
 abbrev pub IsSound : PcapNgValue → Type 0
 IsSound reader = IsSoundAt reader.stage reader
-
--- the fault that was found at this stage
-abbrev pub found_at : Stage → Option NgFault
-found_at Running = None
-found_at (Stopped fault) = Some fault
-
--- what a call that ends at this stage answers
-abbrev pub answer_at : Stage → Result (Unit {0}) NgFault
-answer_at Running = Ok tt
-answer_at (Stopped fault) = Err fault
 
 -- the state that a piece brings a reader to, which had these interfaces
 abbrev pub state_after : List Interface → Reached → State
@@ -84,18 +70,13 @@ abbrev pub IsCalled : PcapNgValue → List ℕ → List FrameValue → PcapNgVal
 IsCalled before piece given reader =
     IsSound reader × ((stream : List ℕ) → IsRunning before stream → IsFed stream piece given (answer_at reader.stage) reader)
 
--- the bytes that a reader keeps at a stage
-abbrev pub kept_at : Stage → List ℕ → List ℕ
-kept_at Running held = held
-kept_at (Stopped fault) held = []
-
 -- what one more byte shows that comes too late for a frame: a flaw, or that there are too many bytes
 abbrev pub ShowsLate : Option Flaw → State → NgFault → Type 0
 ShowsLate None t fault = fault ≡ TooManyBytes
 ShowsLate (Some flaw) t fault = fault ≡ fault_of t.count flaw
 
 -- the stage where a byte comes that makes the stream 2^32 bytes long
-pub record IsStageAtLimit (scope : Scope) (s : State) (passed : Option Passed) (held byte : List ℕ) (stage : Stage) : Type 0 where
+pub record IsStageAtLimit (scope : Scope) (s : State) (passed : Option Passed) (held byte : List ℕ) (stage : Stage NgFault) : Type 0 where
   pub fault : NgFault
   pub stage_is : stage ≡ Stopped fault
   pub flaw : Option Flaw
@@ -105,7 +86,7 @@ pub record IsStageAtLimit (scope : Scope) (s : State) (passed : Option Passed) (
       × AreReadOn scope s (gone ++ (held ++ byte)) frames last block rest flaw
 
 -- the stage after the bytes that came early enough, where `late` come late
-abbrev pub IsStageAfter : Scope → State → Option Passed → List ℕ → Option Flaw → List ℕ → Stage → Type 0
+abbrev pub IsStageAfter : Scope → State → Option Passed → List ℕ → Option Flaw → List ℕ → Stage NgFault → Type 0
 IsStageAfter scope s passed held (Some flaw) late stage = stage ≡ Stopped (fault_of s.count flaw)
 IsStageAfter scope s passed held None [] stage = stage ≡ Running
 IsStageAfter scope s passed held None (byte ∷ late) stage = IsStageAtLimit scope s passed held (byte ∷ []) stage

@@ -11,7 +11,6 @@ mod options;
 mod passed;
 mod position;
 mod reader;
-mod stage;
 mod times;
 
 pub use fault::NgFault;

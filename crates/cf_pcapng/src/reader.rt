@@ -1,24 +1,24 @@
 // The reader of a capture, which comes in pieces.
-ghost use Rattle.std.specs.Prelude.{◌≡◌, ◌≢◌, ℕ, List, [], ◌++◌, ◌≤◌, ◌+◌, length, take, drop, IfOk, MatchResult, is_ok, if◌then◌else◌, Err};
+ghost use Rattle.std.specs.Prelude.{◌≡◌, ◌≢◌, ℕ, List, [], ◌++◌, ◌≤◌, ◌+◌, length, IfOk, MatchResult, is_ok, if◌then◌else◌, Err};
 ghost use Rattle.cf_pcap.specs.Capture.{FrameValue};
 ghost use Rattle.cf_pcap.specs.declared.links.LinkSet.TheVariants.{Basic};
 ghost use Rattle.cf_pcap.specs.Links.{limited};
 ghost use Rattle.cf_stream.specs.Limits.{IsShort, HasRoom as MayCome};
 ghost use Rattle.cf_stream.specs.Stream.{AreGiven};
-ghost use Rattle.cf_pcapng.specs.declared.stage.Stage.TheVariants.{Running};
+ghost use Rattle.cf_stream.specs.declared.stage.Stage.TheVariants.{Running};
 ghost use Rattle.cf_pcapng.specs.File.{pcapng};
 ghost use Rattle.cf_pcapng.specs.Position.{listed, state_of};
 ghost use Rattle.cf_pcapng.specs.Reading.{HasRoom, MayGoOn, early_of, late_of};
-ghost use Rattle.cf_pcapng.specs.Reader.{IsStateOf, IsFed, IsEnded, AnswersFound, IsStageAtLimit, IsStageAfter, IsCalled, found_at, kept_at, state_after};
+ghost use Rattle.cf_pcapng.specs.Reader.{IsStateOf, IsFed, IsEnded, AnswersFound, IsStageAtLimit, IsStageAfter, IsCalled, state_after};
+ghost use Rattle.cf_stream.specs.Stages.{found_at, kept_at};
 ghost use Rattle.cf_pcapng.specs.Truncated.{Says, Breaks};
 
 use crate::fault::NgFault;
 use crate::interfaces::Interface;
 use crate::passed::{Given, Passed, go_on};
 use crate::position::{Position, Reached};
-use crate::stage::{Stage, answer_of};
 use cf_pcap::{Frame, LinkSet, Order, Scope};
-use cf_stream::Length;
+use cf_stream::{Length, Stage, cut_at};
 use std::alloc::{AllocError, Global};
 use std::marker::Model;
 
@@ -31,7 +31,7 @@ const LAST: usize = (1 << 32) - 1;
 pub struct PcapNg {
     alloc: Global,
     scope: Scope,
-    stage: Stage,
+    stage: Stage<NgFault>,
     // How many bytes were taken, while the reader runs and they are limited.
     total: usize,
     // The byte order of the section, if one has begun.
@@ -58,7 +58,7 @@ impl Model for PcapNg {
 /// What a call that takes a piece comes to: the frames that it gives, and the reader after it.
 #[derive(Drop)]
 struct Called {
-    stage: Stage,
+    stage: Stage<NgFault>,
     total: usize,
     reached: Reached,
     passed: Option<Passed>,
@@ -81,7 +81,7 @@ fn stage_at_limit(
     scope: Scope,
     given: &Given<'_>,
     byte: &[u8],
-) -> Result<Stage, AllocError>
+) -> Result<Stage<NgFault>, AllocError>
     requires one { length byte.now ≡ 1 }
     requires block { HasRoom given.now.passed }
     requires room { MayCome scope.length (given.now.position.count + length given.now.held.items + 1) }
@@ -102,7 +102,7 @@ fn stage_after(
     scope: Scope,
     given: &Given<'_>,
     late: &[u8],
-) -> Result<Stage, AllocError>
+) -> Result<Stage<NgFault>, AllocError>
     requires { MayGoOn scope.length (state_of given.now.position) given.now.passed given.now.held.items given.now.flaw }
     ensures { IfOk result (IsStageAfter scope (state_of given.now.position) given.now.passed given.now.held.items given.now.flaw late.now) }
 {
@@ -113,17 +113,6 @@ fn stage_after(
         return Ok(Stage::Running);
     }
     stage_at_limit(alloc, scope, given, late.split_at(1).0)
-}
-
-// The first bytes of a piece, that many at most, and the others.
-fn cut_at(piece: &[u8], most: usize) -> (&[u8], &[u8])
-    ensures early { result.0.now ≡ take most piece.now }
-    ensures late { result.1.now ≡ drop most piece.now }
-{
-    if piece.len() <= most {
-        return (piece, &[]);
-    }
-    piece.split_at(most)
 }
 
 // The bytes of a piece that come early enough for a frame, where so many came before, and the others.
@@ -139,7 +128,7 @@ fn cut(limit: Length, total: usize, piece: &[u8]) -> (&[u8], &[u8])
 }
 
 // The bytes that a reader keeps at a stage.
-fn kept(alloc: Global, stage: Stage, held: Vec<u8>) -> Vec<u8>
+fn kept(alloc: Global, stage: Stage<NgFault>, held: Vec<u8>) -> Vec<u8>
     ensures { result.items ≡ kept_at stage held.items }
 {
     match stage {
@@ -232,7 +221,7 @@ impl PcapNg {
         self.count = reached.count;
         self.passed = passed;
         self.held = held;
-        answer_of(stage)
+        stage.answer()
     }
 
     // What a call that takes a piece comes to.
@@ -269,10 +258,7 @@ impl PcapNg {
     pub fn fault(&self) -> Option<NgFault>
         ensures { result ≡ found_at self.now.stage }
     {
-        match self.stage {
-            Stage::Stopped(fault) => Some(fault),
-            Stage::Running => None,
-        }
+        self.stage.fault()
     }
 
     /// The number of frames of the stream that was fed, and 2^32 - 1 where they are more, or its fault. It takes no memory.

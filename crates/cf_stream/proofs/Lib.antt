@@ -5,3 +5,4 @@ pub mod Cases
 pub mod Given
 pub mod Feeding
 pub mod Ending
+pub mod Stages

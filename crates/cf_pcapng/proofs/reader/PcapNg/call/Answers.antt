@@ -1,5 +1,5 @@
 use Rattle.std.proofs.Common.{◌≡◌, ◌++◌, sym, ap, subst, ◌∙◌}
-use Rattle.cf_pcapng.specs.declared.stage.Stage.TheVariants.{Running}
+use Rattle.cf_stream.specs.declared.stage.Stage.TheVariants.{Running}
 use Rattle.cf_pcapng.specs.Position.{state_of}
 use Rattle.cf_pcapng.specs.File.{State}
 use Rattle.cf_pcapng.specs.Reader.{PcapNgValue, IsCalled, state_after}

@@ -1,20 +1,28 @@
 use Rattle.std.proofs.Common.{◌≡◌, [], sym, subst, append-nil}
-use Rattle.cf_pcapng.specs.declared.stage.Stage.TheVariants.{Running, Stopped}
-use Rattle.cf_pcapng.specs.Reader.{PcapNgValue}
-use Rattle.cf_pcapng.proofs.Feeding.{running_of, answers_stopped, not_found, fed_stopped}
+use Rattle.cf_stream.specs.declared.stage.Stage.TheVariants.{Running, Stopped}
+use Rattle.cf_pcapng.specs.Reader.{PcapNgValue, IsRunning}
+use Rattle.cf_stream.proofs.Stages.{running_of, answers_stopped, fed_stopped}
+use Rattle.cf_pcapng.specs.File.{pcapng}
+use Rattle.cf_pcapng.proofs.Steps.{stepper}
+use Rattle.cf_pcapng.proofs.Feeding.{not_found}
 use Rattle.cf_pcapng.proofs.reader.PcapNg.feed.Goals as goal
 
 pub returns-in-Stopped-clause-fed : goal.returns-in-Stopped-clause-fed
 returns-in-Stopped-clause-fed c =
     let is : c.args.self.now.stage ≡ Stopped c.in-Stopped.fault =
     subst (λ (r : PcapNgValue). r.stage ≡ Stopped c.in-Stopped.fault) c.self.view_is c.in-Stopped.is in
-    λ _. ([], sym (append-nil c.args.out.now.items), λ stream state. fed_stopped c.in-Stopped.fault c.args.self.now stream c.args.piece.now is state)
+    let reader = c.args.self.now in
+    λ _. (
+      [],
+      sym (append-nil c.args.out.now.items),
+      λ stream state. fed_stopped (pcapng reader.scope) (stepper reader.scope) c.in-Stopped.fault reader.stage (IsRunning reader) stream c.args.piece.now is state,
+    )
 
 pub returns-in-Stopped-clause-stopped : goal.returns-in-Stopped-clause-stopped
 returns-in-Stopped-clause-stopped c =
     let is : c.args.self.now.stage ≡ Stopped c.in-Stopped.fault =
     subst (λ (r : PcapNgValue). r.stage ≡ Stopped c.in-Stopped.fault) c.self.view_is c.in-Stopped.is in
-    answers_stopped c.in-Stopped.fault c.args.self.now is
+    let reader = c.args.self.now in answers_stopped (pcapng reader.scope) c.in-Stopped.fault reader.stage (IsRunning reader) is
 
 pub returns-in_err-stage-clause-stopped : goal.returns-in_err-stage-clause-stopped
 returns-in_err-stage-clause-stopped c =
