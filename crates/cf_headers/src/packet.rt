@@ -21,6 +21,7 @@ pub(crate) fn address_values(link: u16, frame: &[u8]) -> [Value; 2]
 }
 
 // tos, iplen, ttl, proto, src and dst.
+#[inline(always)]
 pub(crate) fn network_values(ipv4: bool, at: usize, frame: &[u8]) -> [Value; 6]
     requires near { at ≤ 28 }
     requires room { IsTrue ipv4 → at + 20 ≤ length frame.now }
@@ -37,6 +38,7 @@ pub(crate) fn network_values(ipv4: bool, at: usize, frame: &[u8]) -> [Value; 6]
 }
 
 // sport, dport, seq, ack, flags and win.
+#[inline(always)]
 pub(crate) fn transport_values(transport: Transport, frame: &[u8]) -> [Value; 6]
     requires { IsWithin transport frame.now }
     ensures { result ≡ transport_values_of transport frame.now }

@@ -14,6 +14,7 @@ pub(crate) enum Transport {
 }
 
 // The transport header after an IPv4 header at that place, if one is read.
+#[inline(always)]
 #[tactic(auto, unfolding(crate::specs::Packet::transport_in))]
 pub(crate) fn transport_of(ipv4: bool, at: usize, frame: &[u8]) -> Transport
     requires near { at ≤ 28 }
