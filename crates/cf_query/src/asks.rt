@@ -3,12 +3,14 @@ ghost use Rattle.std.specs.Prelude.{◌≡◌, ◌+◌, ◌<◌, ◌≤◌, leng
 ghost use Rattle.cf_shape.specs.Uses.{is_measured};
 ghost use Rattle.cf_table.specs.Loads.{CountsLoads};
 ghost use Rattle.cf_table.specs.Values.{IsOf};
+ghost use Rattle.cf_table.specs.Moves.{AreFit};
 ghost use Rattle.cf_plain.specs.Asks.{Suits, eval, rows_in, is_aggregate, is_keyed_between, total_over};
 ghost use Rattle.cf_plain.specs.Groups.{groups as groups_by, as_group};
+ghost use Rattle.cf_walk.specs.Walks.{OnlyWalked};
 ghost use Rattle.cf_query.specs.Asking.{HasAsked};
-ghost use Rattle.cf_query.specs.Walking.{AsksOne, lane_of, steps_of_one, steps_of_bucket};
+ghost use Rattle.cf_query.specs.Walking.{AsksBucket, AsksOne, lane_of, steps_of_one, steps_of_bucket};
 
-use crate::findings::finding;
+use crate::findings::{finding, finding_seen};
 use cf_fold::Quad;
 use cf_plain::{Answer, Ask, Group};
 use cf_row::Memory;
@@ -48,6 +50,33 @@ pub fn ask<P: Pass, L: Ledger>(
     ensures loads { CountsLoads (P.held pass.old) (P.held pass.new) steps.old steps.new }
 {
     let (tail, found) = finding(log, alloc, pass, ask, steps)?;
+    let body = found.body(alloc, ask)?;
+    Ok(Answer { tail, body })
+}
+
+/// The question's meaning on the entries that the pass has seen, and how many they are. The read tail is not loaded, no ask is
+/// noted, and the pass only walks: questions that are asked so, one after the other, are all asked of the same entries. A
+/// question for one key, or for what is measured under one bucket, takes a step less than `ask` and `measure` say. If memory
+/// runs out, there is no answer, and the pass has only walked.
+pub fn ask_seen<P: Pass, L: Ledger>(
+    log: &MultiLog,
+    alloc: Global,
+    pass: &mut P,
+    ask: &Ask,
+    steps: &mut Steps<L>,
+) -> Result<Answer, Memory>
+    requires of { IsOf (P.held pass.old) log.now }
+    requires suits { Suits log.now.shape ask.now }
+    requires few { length (P.held pass.old).view.seen ≤ log.now.shape.capacity }
+    requires fit { AreFit log.now.shape (P.held pass.old).view }
+    ensures ok { IfOk result (λ answer. (answer.tail ≡ length (P.held pass.old).view.seen) × (answer.body ≡ eval log.now.shape ask.now (P.held pass.old).view.seen)) }
+    ensures walked { OnlyWalked (P.held pass.old) (P.held pass.new) }
+    ensures steps { AsksOne ask.now → IfOk result (λ answer. steps.new + 1 ≤ steps.old + steps_of_one log.now.shape (lane_of ask.now) answer.body answer.tail) }
+    ensures bucket { AsksBucket ask.now → IfOk result (λ answer. steps.new + 1 ≤ steps.old + steps_of_bucket log.now.shape (lane_of ask.now) answer.tail) }
+    ensures loads { CountsLoads (P.held pass.old) (P.held pass.new) steps.old steps.new }
+{
+    let tail = pass.covered();
+    let found = finding_seen(log, alloc, pass, ask, steps)?;
     let body = found.body(alloc, ask)?;
     Ok(Answer { tail, body })
 }

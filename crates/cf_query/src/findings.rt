@@ -42,8 +42,11 @@ fn groups_of<P: Pass, L: Ledger>(
     Ok(Finding::Groups(Groups::new(groups)))
 }
 
-// What the question finds. All but `List` and `Total` walk the lane's tree and chains.
-fn finding_of<P: Pass, L: Ledger>(
+/// What the question finds in the entries that the pass has seen: in place of marks the groups of its lane. The read tail is not
+/// loaded, no ask is noted, and the pass only walks, so that several questions are asked of the same entries. `List` and `Total`
+/// go over all of them; all others walk the lane's tree and chains, in a step less than `ask` and `measure` say. If memory runs
+/// out, nothing is found, and the pass has only walked.
+pub fn finding_seen<P: Pass, L: Ledger>(
     log: &MultiLog,
     alloc: Global,
     pass: &mut P,
@@ -104,6 +107,6 @@ pub fn finding<P: Pass, L: Ledger>(
     ensures loads { CountsLoads (P.held pass.old) (P.held pass.new) steps.old steps.new }
 {
     let tail = tail(log, pass, steps);
-    let finding = finding_of(log, alloc, pass, ask, steps)?;
+    let finding = finding_seen(log, alloc, pass, ask, steps)?;
     Ok((tail, finding))
 }

@@ -10,7 +10,7 @@ mod history;
 mod rows;
 mod scans;
 
-pub use asks::{ask, groups, measure, tail};
-pub use findings::finding;
+pub use asks::{ask, ask_seen, groups, measure, tail};
+pub use findings::{finding, finding_seen};
 pub use history::{questions_keep_their_place, seals_are_histories};
 pub use rows::row;

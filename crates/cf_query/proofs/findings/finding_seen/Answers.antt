@@ -4,7 +4,7 @@ use Rattle.cf_plain.specs.Asks.{rows_in}
 use Rattle.cf_plain.specs.Segments.{finding_in}
 use Rattle.cf_plain.specs.declared.ask.Ask.{Ask}
 use Rattle.cf_plain.specs.declared.finding.Finding.TheVariants as findings
-use Rattle.cf_query.proofs.findings.finding_of.Goals as goal
+use Rattle.cf_query.proofs.findings.finding_seen.Goals as goal
 
 pub returns-in-Measure-clause-found : goal.returns-in-Measure-clause-found
 returns-in-Measure-clause-found g c =
