@@ -18,3 +18,4 @@ pub mod Findings
 pub mod Kept
 pub mod Filled
 pub mod Costs
+pub mod Tagging

@@ -28,6 +28,7 @@ use Rattle.cf_load.specs.Needed.{HasRunOut}
 use Rattle.cf_load.specs.Loads.{LacksNodes, HasSome, HaveStopped, IsLoaded, room_of}
 use Rattle.cf_load.specs.Loaders.{LoaderValue, IsFresh, IsLoading, IsBatched, IsRefused, IsFinished}
 use Rattle.cf_load.specs.Planned.{IsPlan, IsSamePlan, marks_on, tails_of}
+use Rattle.cf_load.specs.Priors.{KnowsBefore}
 use Rattle.cf_load.specs.Segments.{SegmentsValue, all_of, base_of, entries_of, told_of, IsSegments, HoldsRows, SegmentsGoOn, KeepsAll}
 use Rattle.cf_load.proofs.Batches.{distinct_more, run_out_more}
 use Rattle.cf_load.proofs.Chains.{base_whole, rows_are_log}
@@ -38,7 +39,7 @@ use Rattle.cf_load.proofs.Tails.{answered_none}
 use Rattle.cf_load.proofs.Written.{part_after, rows_append}
 
 -- a plan that asks the same suits the same shapes
-same_suits : (shape : ShapeValue) (plan other : LivePlan) → IsSamePlan plan other → IsPlan shape plan → IsPlan shape other
+pub same_suits : (shape : ShapeValue) (plan other : LivePlan) → IsSamePlan plan other → IsPlan shape plan → IsPlan shape other
 same_suits shape plan other same suits = record {
   asks = subst (All (Suits shape)) (sym same.asks) suits.asks;
   triggers = subst (All (SuitsTrigger shape)) (sym same.triggers) suits.triggers;
@@ -55,8 +56,9 @@ pub entries_long : (s : SegmentsValue) (rows : List RowValue) → HoldsRows s ro
 entries_long s rows holds = (rows_are_log s rows holds).0.size
 
 -- before the first batch
-pub starts : (s : SegmentsValue) (plan : LivePlan) (loader : LoaderValue) → IsPlan s.shape plan → IsFresh plan loader → HoldsRows s [] → IsLoading s [] loader
-starts s plan loader suits fresh has = record {
+pub starts : (s : SegmentsValue) (plan : LivePlan) (loader : LoaderValue) → IsPlan s.shape plan → IsFresh plan loader → HoldsRows s [] → KnowsBefore s loader.plan loader.found
+    → IsLoading s [] loader
+starts s plan loader suits fresh has known = record {
   plan = same_suits s.shape plan loader.plan fresh.plan_is suits;
   going = fresh.going;
   count = fresh.count;
@@ -65,15 +67,16 @@ starts s plan loader suits fresh has = record {
   loaded = has;
   answered = subst (HasAnswered s.shape loader.plan.asks.items loader.plan.lives.items loader.plan.rounds 0 (entries_of s)) (sym fresh.lives)
       (answered_none s.shape loader.plan.asks.items loader.plan.lives.items loader.plan.rounds (entries_of s));
+  known = known;
 }
 
 -- a batch is loaded, and its answers come after those before
 pub goes_on : (before rows : List RowValue) (old new : LoaderValue) (b : ℕ) (s t : SegmentsValue) (more : List Live) → IsLoading s before old
     → HoldsRows t (before ++ rows) → SegmentsGoOn s t → base_of t ≤ length before → length before ≡ 4096 * b → 0 < length rows → length rows ≤ 4096
     → length before + length rows ≤ room_of s → All (Fits (s.shape).schema) rows → AsksBeside s.shape old.plan b (entries_of s) (entries_of t) more
-    → told_of t ≡ told_of s ++ tails_of more → new ≡ record old { count = old.count + length rows; lives = old.lives ++ more }
-    → IsBatched before rows old new s t
-goes_on before rows old new b s t more is has same within long some few room fits beside told now = record {
+    → told_of t ≡ told_of s ++ tails_of more → new ≡ record old { count = old.count + length rows; lives = old.lives ++ more; found = new.found }
+    → KnowsBefore t old.plan new.found → IsBatched before rows old new s t
+goes_on before rows old new b s t more is has same within long some few room fits beside told now known = record {
   same = same;
   within = within;
   more = more;
@@ -92,6 +95,7 @@ goes_on before rows old new b s t more is has same within long some few room fit
         (old.lives ++ more)) (sym same.shape)
         (answered_beside s.shape before rows old.plan b (entries_of s) (entries_of t) old.lives more (entries_long s before is.loaded)
         (entries_long t (before ++ rows) has) long some few is.answered beside);
+    known = known;
   });
 }
 

@@ -8,3 +8,4 @@ pub mod Planned
 pub mod Priors
 pub mod Loads
 pub mod Loaders
+pub mod Tags

@@ -7,19 +7,23 @@ use Rattle.cf_plain.specs.declared.loaded.Live.{Live}
 use Rattle.cf_table.specs.Moves.{Begins}
 use Rattle.cf_load.specs.declared.plan.LivePlan.{LivePlan}
 use Rattle.cf_load.specs.declared.loads.LoadFault.{LoadFault}
+use Rattle.cf_load.specs.declared.prior.FoundBefore.{FoundBefore}
 use Rattle.cf_load.specs.declared.loads.LoadFault.TheVariants.{Full, NodesFull, Memory}
 use Rattle.cf_load.specs.Blocks.{block}
 use Rattle.cf_load.specs.Loading.{HasAnswered}
 use Rattle.cf_load.specs.Loads.{LacksNodes, room_of}
 use Rattle.cf_load.specs.Planned.{IsPlan, IsSamePlan, marks_on, tails_of}
+use Rattle.cf_load.specs.Priors.{KnowsBefore}
 use Rattle.cf_load.specs.Segments.{SegmentsValue, HoldsRows, SegmentsGoOn, KeepsAll, base_of, entries_of, told_of}
 
--- what it asks, how many rows it has loaded, the live answers so far, and whether a batch was refused
+-- what it asks, how many rows it has loaded, the live answers so far, whether a batch was refused, and what the live questions found
+-- before the current segment
 pub record LoaderValue : Type 0 where
   pub plan : LivePlan
   pub count : ℕ
   pub lives : List Live
   pub stopped : Bool
+  pub found : FoundBefore
 
 -- a loader of that plan before its first batch
 pub record IsFresh (plan : LivePlan) (loader : LoaderValue) : Type 0 where
@@ -29,7 +33,8 @@ pub record IsFresh (plan : LivePlan) (loader : LoaderValue) : Type 0 where
   pub going : loader.stopped ≡ false
 
 -- The loader and the segments have loaded just those rows, and no batch was refused. The entries of all segments are a log of the
--- rows, and the loader has the live answers that came beside them, each in its turn.
+-- rows, and the loader has the live answers that came beside them, each in its turn, and knows what the live questions found in the
+-- closed segments.
 pub record IsLoading (s : SegmentsValue) (rows : List RowValue) (loader : LoaderValue) : Type 0 where
   pub plan : IsPlan s.shape loader.plan
   pub going : loader.stopped ≡ false
@@ -38,6 +43,7 @@ pub record IsLoading (s : SegmentsValue) (rows : List RowValue) (loader : Loader
   pub fit : All (Fits (s.shape).schema) rows
   pub loaded : HoldsRows s rows
   pub answered : HasAnswered s.shape loader.plan.asks.items loader.plan.lives.items loader.plan.rounds (length rows) (entries_of s) loader.lives
+  pub known : KnowsBefore s loader.plan loader.found
 
 -- A batch is loaded after the rows before it, and the current segment has all its rows. The loader has the answers that came beside
 -- it, and a root was told of them.
@@ -45,7 +51,7 @@ pub record IsBatched (before rows : List RowValue) (old new : LoaderValue) (s t 
   pub same : SegmentsGoOn s t
   pub within : base_of t ≤ length before
   pub more : List Live
-  pub loader : new ≡ record old { count = old.count + length rows; lives = old.lives ++ more }
+  pub loader : new ≡ record old { count = old.count + length rows; lives = old.lives ++ more; found = new.found }
   pub told : told_of t ≡ told_of s ++ tails_of more
   pub longer : Begins (entries_of s) (entries_of t)
   pub loading : IsLoading t (before ++ rows) new

@@ -13,6 +13,7 @@ mod prior;
 mod reader;
 mod segment_asks;
 mod segments;
+mod tags;
 #[cfg(test)]
 mod tests;
 mod writers;
@@ -20,4 +21,4 @@ mod writers;
 pub use loader::Loader;
 pub use loads::{LoadFault, load};
 pub use plan::LivePlan;
-pub use segments::{Closing, Segments, TurnFault};
+pub use segments::{Closing, Sealing, Segments, TurnFault};

@@ -6,6 +6,7 @@ ghost use Rattle.cf_load.specs.Loaders.{IsFresh, IsLoading, IsBatched, IsRefused
 ghost use Rattle.cf_load.specs.Planned.{IsPlan};
 
 use crate::finals::answers_on_all;
+use crate::prior::FoundBefore;
 use crate::{LivePlan, LoadFault, Segments};
 use cf_outside::Gate;
 use cf_plain::{Live, Loaded};
@@ -23,6 +24,8 @@ pub struct Loader {
     count: u32,
     lives: Vec<Live>,
     stopped: bool,
+    // What the live questions found before the current segment.
+    found: FoundBefore,
 }
 
 impl Model for Loader {
@@ -30,25 +33,28 @@ impl Model for Loader {
 
     ghost Value = { LoaderValue };
 
-    ghost view = { λ l. record { plan = l.plan; count = l.count; lives = l.lives.items; stopped = l.stopped } };
+    ghost view = { λ l. record { plan = l.plan; count = l.count; lives = l.lives.items; stopped = l.stopped; found = l.found } };
 }
 
 impl Loader {
     /// A loader of segments with no row, which asks what the plan says.
-    pub fn new(alloc: Global, _segments: &Segments, plan: &LivePlan) -> Result<Loader, Memory>
-        requires plan { IsPlan _segments.now.shape plan.now }
+    pub fn new(alloc: Global, segments: &Segments, plan: &LivePlan) -> Result<Loader, Memory>
+        requires plan { IsPlan segments.now.shape plan.now }
         ensures fresh { IfOk result (IsFresh plan.now) }
-        ensures loading { IfOk result (λ loader. HoldsRows _segments.now [] → IsLoading _segments.now [] loader) }
+        ensures loading { IfOk result (λ loader. HoldsRows segments.now [] → IsLoading segments.now [] loader) }
     {
+        let plan = plan.copy(alloc)?;
+        let found = FoundBefore::none(alloc, segments.shape(), &plan)?;
         Ok(Loader {
-            plan: plan.copy(alloc)?,
+            plan,
             count: 0,
             lives: Vec::new(alloc),
             stopped: false,
+            found,
         })
     }
 
-    // Loads a batch. Refused, the loader is as it was.
+    // Loads a batch. Refused, the loader is as it was but for what the live questions found before the current segment.
     fn append<R: Threads + Sync, G: Gate>(
         &mut self,
         rt: &R,
@@ -64,14 +70,14 @@ impl Loader {
         requires fits { All (Fits segments.old.shape.schema) rows.now }
         ensures batched { (before : List RowValue) → IsLoading segments.old before self.old
             → MatchResult result (λ _. IsBatched before rows.now self.old self.new segments.old segments.new) (IsRefused before rows.now segments.old segments.new) }
-        ensures stopped { OnErr result (self.new ≡ self.old) }
+        ensures stopped { OnErr result (self.new ≡ record self.old { found = self.new.found }) }
     {
         if self.count as usize + rows.len() > segments.room() as usize {
             return Err(LoadFault::Full);
         }
-        segments.make_room(alloc, self.count)?;
+        segments.make_ready(alloc, self.count, &self.plan, &mut self.found)?;
         let batch = self.count / 4096;
-        let mut more = segments.load(rt, alloc, rows, &self.plan, gate, batch)?;
+        let mut more = segments.load(rt, alloc, rows, &self.plan, &self.found, gate, batch)?;
         self.lives.append(&mut more)?;
         self.count += rows.len() as u32;
         Ok(())
@@ -98,7 +104,7 @@ impl Loader {
         requires fits { All (Fits segments.old.shape.schema) rows.now }
         ensures batched { (before : List RowValue) → IsLoading segments.old before self.old
             → MatchResult result (λ _. IsBatched before rows.now self.old self.new segments.old segments.new) (IsRefused before rows.now segments.old segments.new) }
-        ensures stopped { OnErr result (self.new ≡ record self.old { stopped = true }) }
+        ensures stopped { OnErr result (self.new ≡ record self.old { stopped = true; found = self.new.found }) }
     {
         let answer = self.append(rt, alloc, segments, rows, gate);
         self.stopped = answer.is_err();

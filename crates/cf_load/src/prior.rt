@@ -1,5 +1,5 @@
 // What questions find in logs that stand one behind the other.
-ghost use Rattle.std.specs.Prelude.{◌≡◌, ◌+◌, ◌*◌, ◌≤◌, ◌^◌, ◌++◌, [], All, List, length, IfOk, IfErr};
+ghost use Rattle.std.specs.Prelude.{◌≡◌, ◌+◌, ◌*◌, ◌<◌, ◌≤◌, ◌^◌, ◌++◌, [], All, List, length, IfOk, IfErr};
 ghost use Rattle.std.specs.List.{AllZip, flat_map};
 ghost use Rattle.cf_row.specs.declared.row.Entry.{Entry};
 ghost use Rattle.cf_shape.specs.Lanes.{ShapeValue};
@@ -12,7 +12,7 @@ ghost use Rattle.cf_query.specs.Asking.{HasAsked};
 ghost use Rattle.cf_query.specs.Walking.{AsksOne, AsksBucket};
 ghost use Rattle.cf_load.specs.Costs.{CountLoads, bucket_steps, bucket_steps_in, key_steps, key_steps_in};
 ghost use Rattle.cf_load.specs.Planned.{IsPlan, findings_on};
-ghost use Rattle.cf_load.specs.Priors.{HasFound};
+ghost use Rattle.cf_load.specs.Priors.{HasFound, entries_before};
 ghost use Rattle.cf_load.specs.Segments.{IsSegment, KeepsSegment, seen_of};
 
 use crate::LivePlan;
@@ -48,6 +48,36 @@ fn nothing(alloc: Global, ask: &Ask) -> Finding
         }
         Ask::Measure(..) | Ask::Total(..) => Finding::Total(Quad::EMPTY),
         Ask::Fired(_) | Ask::Top(..) => Finding::Groups(Groups::new(Vec::new(alloc))),
+    }
+}
+
+// What each live question finds in no row.
+fn nothings(alloc: Global, _shape: &Shape, plan: &LivePlan) -> Result<Vec<Finding>, Memory>
+    requires plan { IsPlan _shape.now plan.now }
+    ensures found { IfOk result (λ found. found.items ≡ findings_on _shape.now plan.now []) }
+{
+    let mut findings = Vec::new(alloc);
+    for place in &plan.lives {
+        let question = &plan.asks[*place as usize];
+        findings.push(nothing(alloc, question))?;
+    }
+    Ok(findings)
+}
+
+impl FoundBefore {
+    // What the live questions found before the first segment.
+    pub(crate) fn none(alloc: Global, shape: &Shape, plan: &LivePlan) -> Result<FoundBefore, Memory>
+        requires plan { IsPlan shape.now plan.now }
+        ensures base { IfOk result (λ prior. prior.base ≡ 0) }
+        ensures none { IfOk result (λ prior. entries_before prior ≡ []) }
+        ensures found { IfOk result (λ prior. prior.findings.items ≡ findings_on shape.now plan.now []) }
+    {
+        let none = Vec::new(alloc);
+        Ok(FoundBefore {
+            base: 0,
+            findings: nothings(alloc, shape, plan)?,
+            closed: Snapshot::of(&none),
+        })
     }
 }
 
@@ -127,7 +157,7 @@ pub(crate) fn found_in<L: Ledger>(
 }
 
 // What each live question finds in the segments.
-pub(crate) fn findings_in<L: Ledger>(
+fn findings_in<L: Ledger>(
     alloc: Global,
     shape: &Shape,
     segments: &mut [Segment],
@@ -148,4 +178,25 @@ pub(crate) fn findings_in<L: Ledger>(
         findings.push(found)?;
     }
     Ok(findings)
+}
+
+// What each live question finds in the segments, where a round asks them.
+pub(crate) fn findings_due<L: Ledger>(
+    alloc: Global,
+    shape: &Shape,
+    segments: &mut [Segment],
+    plan: &LivePlan,
+    steps: &mut Steps<L>,
+) -> Result<Vec<Finding>, Memory>
+    requires each { All (IsSegment shape.now) segments.old }
+    requires plan { IsPlan shape.now plan.now }
+    requires few { shape.now.capacity * length segments.old ≤ 2 ^ 20 }
+    ensures kept { AllZip KeepsSegment segments.old segments.new }
+    ensures found { 0 < plan.now.rounds → IfOk result (λ found. found.items ≡ findings_on shape.now plan.now (flat_map seen_of segments.old)) }
+    ensures loads { CountLoads segments.old segments.new steps.old steps.new }
+{
+    if plan.makes_no_round() {
+        return Ok(Vec::new(alloc));
+    }
+    findings_in(alloc, shape, segments, plan, steps)
 }

@@ -32,6 +32,7 @@ fn ask_round<L: Ledger>(
     requires of { IsOf reader.old log.now }
     requires plan { IsPlan log.now.shape plan.now }
     requires prior { IsFoundBefore log.now.shape plan.now prior.now }
+    requires due { 0 < plan.now.rounds }
     requires asks { AsksSome log.now.shape plan.now.asks.items plan.now.lives.items at.1 0 at.0 (entries_before prior.now ++ start.now.value.view.seen) (entries_before prior.now ++ reader.old.view.seen) answers.old.items }
     requires read { HasRead prior.now.base start.now.value reader.old answers.old.items }
     ensures of { IsOf reader.new log.now }

@@ -1,5 +1,5 @@
 // Segments are filled, batch by batch, and asked.
-ghost use Rattle.std.specs.Prelude.{◌≡◌, ◌+◌, ◌*◌, ◌<◌, ◌≤◌, ◌++◌, All, List, length, IfOk, IfErr, MatchResult};
+ghost use Rattle.std.specs.Prelude.{◌≡◌, ◌+◌, ◌*◌, ◌<◌, ◌≤◌, ◌++◌, All, List, length, IfOk, IfErr, MatchResult, false};
 ghost use Rattle.std.specs.List.{flat_map};
 ghost use Rattle.cf_row.specs.Row.{Fits, RowValue};
 ghost use Rattle.cf_plain.specs.Asks.{Suits};
@@ -7,14 +7,14 @@ ghost use Rattle.cf_plain.specs.Answered.{answer_on};
 ghost use Rattle.cf_load.specs.Loading.{AsksBeside};
 ghost use Rattle.cf_load.specs.Loads.{HaveStopped, room_of};
 ghost use Rattle.cf_load.specs.Planned.{IsPlan, tails_of};
-ghost use Rattle.cf_load.specs.Priors.{IsFoundBefore, entries_before};
+ghost use Rattle.cf_load.specs.Priors.{KnowsBefore};
 ghost use Rattle.cf_query.specs.Walking.{AsksOne, AsksBucket};
 ghost use Rattle.cf_load.specs.Costs.{CountLoads, bucket_steps_in, key_steps_in};
 ghost use Rattle.cf_load.specs.Segments.{SegmentsGoOn, HoldsRows, KeepsAll, all_of, base_of, entries_of, seen_of, told_of};
 ghost use Rattle.cf_load.specs.declared.loads.LoadFault.TheVariants.{Memory as NoMemory};
 
 use crate::batch::load_batch;
-use crate::prior::{FoundBefore, answer_behind, findings_in, found_in};
+use crate::prior::{FoundBefore, answer_behind, findings_due, found_in};
 use crate::{LivePlan, LoadFault, Segments, TurnFault};
 use cf_outside::Gate;
 use cf_plain::{Answer, Ask, Live};
@@ -64,12 +64,12 @@ impl Segments {
         requires full { (rows : List RowValue) × HoldsRows self.old rows }
         requires blank { (blank.name ≡ L.name) × (blank.parts ≡ L.parts) × (0 < L.parts) }
         ensures kept { KeepsAll self.old self.new }
-        ensures prior { IfOk result (λ prior. IsFoundBefore self.old.shape plan.now prior × (prior.base ≡ base_of self.old) × (entries_before prior ≡ flat_map seen_of self.old.closed)) }
+        ensures prior { IfOk result (KnowsBefore self.old plan.now) }
     {
         let mut steps = Steps::<L>::new(blank);
         let base = self.base();
         let shape = self.current.log.shape();
-        let findings = findings_in(alloc, shape, self.closed.as_mut_slice(), plan, &mut steps)?;
+        let findings = findings_due(alloc, shape, self.closed.as_mut_slice(), plan, &mut steps)?;
         Ok(FoundBefore {
             base,
             findings,
@@ -82,30 +82,58 @@ impl Segments {
         requires plan { IsPlan self.old.shape plan.now }
         requires full { (rows : List RowValue) × HoldsRows self.old rows }
         ensures kept { KeepsAll self.old self.new }
-        ensures prior { IfOk result (λ prior. IsFoundBefore self.old.shape plan.now prior × (prior.base ≡ base_of self.old) × (entries_before prior ≡ flat_map seen_of self.old.closed)) }
+        ensures prior { IfOk result (KnowsBefore self.old plan.now) }
     {
         self.prior_counted::<Brand>(alloc, plan, Blank::new(1))
     }
 
-    // Closes the current segment where the rows so far fill it, and there is to be one more.
-    pub(crate) fn make_room(&mut self, alloc: Global, count: u32) -> Result<(), LoadFault>
+    // Closes the current segment where the rows so far fill it, and there is to be one more. Answers whether it did.
+    fn make_room(&mut self, alloc: Global, count: u32) -> Result<bool, LoadFault>
         requires holds { (rows : List RowValue) × (length rows ≡ count) × HoldsRows self.old rows }
         requires room { count < room_of self.old }
         ensures same { SegmentsGoOn self.old self.new }
         ensures entries { entries_of self.new ≡ entries_of self.old }
         ensures told { told_of self.new ≡ told_of self.old }
         ensures holds { (rows : List RowValue) → length rows ≡ count → HoldsRows self.old rows → HoldsRows self.new rows }
+        ensures stays { IfOk result (λ turned. turned ≡ false → self.new ≡ self.old) }
         ensures room { IfOk result (λ _. count < base_of self.new + self.new.shape.capacity) }
         ensures fault { IfErr result (λ fault. fault ≡ NoMemory) }
     {
         if count < self.base() + self.shape().capacity() {
-            return Ok(());
+            return Ok(false);
         }
         match self.turn(alloc) {
-            Ok(()) => Ok(()),
+            Ok(()) => Ok(true),
             Err(TurnFault::Memory) => Err(LoadFault::Memory),
             Err(TurnFault::Spent) => unreachable!(),
         }
+    }
+
+    // As `make_room`. Where it closes a segment, the live questions are asked of those that are closed; else what they found in them
+    // stays.
+    pub(crate) fn make_ready(
+        &mut self,
+        alloc: Global,
+        count: u32,
+        plan: &LivePlan,
+        found: &mut FoundBefore,
+    ) -> Result<(), LoadFault>
+        requires holds { (rows : List RowValue) × (length rows ≡ count) × HoldsRows self.old rows }
+        requires room { count < room_of self.old }
+        requires plan { IsPlan self.old.shape plan.now }
+        requires known { KnowsBefore self.old plan.now found.old }
+        ensures same { SegmentsGoOn self.old self.new }
+        ensures entries { entries_of self.new ≡ entries_of self.old }
+        ensures told { told_of self.new ≡ told_of self.old }
+        ensures holds { (rows : List RowValue) → length rows ≡ count → HoldsRows self.old rows → HoldsRows self.new rows }
+        ensures room { IfOk result (λ _. count < base_of self.new + self.new.shape.capacity) }
+        ensures known { IfOk result (λ _. KnowsBefore self.new plan.now found.new) }
+        ensures fault { IfErr result (λ fault. fault ≡ NoMemory) }
+    {
+        if self.make_room(alloc, count)? {
+            *found = self.prior(alloc, plan)?;
+        }
+        Ok(())
     }
 
     // Loads the rows of a batch into the current segment, which has room for them. Refused for memory, the segments have them all
@@ -116,11 +144,13 @@ impl Segments {
         alloc: Global,
         rows: &[Row],
         plan: &LivePlan,
+        prior: &FoundBefore,
         gate: &G,
         batch: u32,
     ) -> Result<Vec<Live>, LoadFault>
         requires loaded { (before : List RowValue) × (length before ≡ 4096 * batch) × HoldsRows self.old before }
         requires plan { IsPlan self.old.shape plan.now }
+        requires prior { KnowsBefore self.old plan.now prior.now }
         requires fits { All (Fits self.old.shape.schema) rows.now }
         requires few { length rows.now ≤ 4096 }
         requires room { 4096 * batch + length rows.now ≤ base_of self.old + self.old.shape.capacity }
@@ -129,10 +159,8 @@ impl Segments {
         ensures loaded { (before : List RowValue) → length before ≡ 4096 * batch → HoldsRows self.old before → MatchResult result (λ _. HoldsRows self.new (before ++ rows.now)) (HaveStopped before rows.now self.new) }
         ensures asked { IfOk result (λ more. AsksBeside self.old.shape plan.now batch (entries_of self.old) (entries_of self.new) more.items) }
         ensures told { IfOk result (λ more. told_of self.new ≡ told_of self.old ++ tails_of more.items) }
+        ensures known { KnowsBefore self.new plan.now prior.now }
     {
-        let Ok(prior) = self.prior(alloc, plan) else {
-            return Err(LoadFault::Memory);
-        };
         let current = &mut self.current;
         load_batch(
             rt,
@@ -141,7 +169,7 @@ impl Segments {
             &mut current.root,
             rows,
             plan,
-            &prior,
+            prior,
             gate,
             batch,
         )

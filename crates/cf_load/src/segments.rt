@@ -1,18 +1,22 @@
 // A log goes on through several segments.
-ghost use Rattle.std.specs.Prelude.{◌≡◌, ◌+◌, ◌≤◌, ◌↔◌, ◌++◌, [], All, length, map, vec_capacity, IfOk, MatchResult, OnErr, OnOk};
+ghost use Rattle.std.specs.Prelude.{◌≡◌, ◌+◌, ◌<◌, ◌≤◌, ◌↔◌, ◌++◌, [], All, length, map, vec_capacity, IfOk, MatchResult, OnErr, OnOk};
 ghost use Rattle.std.specs.List.{AllZip, flat_map};
+ghost use Rattle.cf_history.specs.Order.{order_of};
 ghost use Rattle.cf_shape.specs.Lanes.{ShapeValue, IsShape};
 ghost use Rattle.cf_table.specs.Values.{IsOf};
 ghost use Rattle.cf_load.specs.Loads.{room_of};
 ghost use Rattle.cf_load.specs.Segments.{AllowsSegments, IsSegment, IsOpened, HoldsRows, HasTurned, HasLooked, HaveLooked, all_of, base_of, entries_of, seen_of, sealed, told_of};
+ghost use Rattle.cf_load.specs.Tags.{nums_of};
 ghost use Rattle.cf_load.specs.declared.segments.TurnFault.TheVariants.{Memory as NoMemory, Spent};
 
+use crate::tags::push_tags;
 use cf_row::{Entry, Memory};
 use cf_shape::Shape;
-use cf_table::{MultiLog, Root, Seal};
+use cf_table::{MultiLog, Pass, Root, Seal, Steps};
 use std::alloc::Global;
-use std::marker::Model;
+use std::marker::{Brand, Model};
 use std::mem;
+use std::sync::ledger::{Blank, Ledger};
 use thiserror::Error;
 
 /// A log and the pass that holds its books.
@@ -38,6 +42,21 @@ impl Segment {
         ensures looked { HasLooked self.old self.new }
     {
         self.log.entries(alloc, &mut self.root)
+    }
+
+    // Puts the numbers and the writers of all entries behind others.
+    fn push_tags<L: Ledger>(
+        &mut self,
+        nums: &mut Vec<u32>,
+        writers: &mut Vec<u8>,
+        steps: &mut Steps<L>,
+    ) -> Result<(), Memory>
+        requires of { IsOf self.old.root self.old.log }
+        ensures nums { OnOk result (nums.new.items ≡ nums.old.items ++ nums_of (seen_of self.old)) }
+        ensures writers { OnOk result (writers.new.items ≡ writers.old.items ++ order_of (seen_of self.old)) }
+        ensures looked { HasLooked self.old self.new }
+    {
+        push_tags(&self.log, &mut self.root, nums, writers, steps)
     }
 
     // Nothing more is done with it.
@@ -72,6 +91,14 @@ impl From<Memory> for TurnFault {
 #[derive(Drop)]
 pub struct Closing {
     pub entries: Vec<Entry>,
+    pub seals: Vec<Seal>,
+}
+
+/// The numbers in the input and the writers of the entries of all segments, end to end, and a seal of each segment.
+#[derive(Drop)]
+pub struct Sealing {
+    pub nums: Vec<u32>,
+    pub writers: Vec<u8>,
     pub seals: Vec<Seal>,
 }
 
@@ -110,6 +137,50 @@ fn push_entries(
         entries.append(&mut more)?;
     }
     Ok(())
+}
+
+// Puts the numbers and the writers of the segments' entries behind others.
+fn push_each<L: Ledger>(
+    segments: &mut [Segment],
+    nums: &mut Vec<u32>,
+    writers: &mut Vec<u8>,
+    steps: &mut Steps<L>,
+) -> Result<(), Memory>
+    requires of { All (λ segment. IsOf segment.root segment.log) segments.old }
+    ensures nums { OnOk result (nums.new.items ≡ nums.old.items ++ nums_of (flat_map seen_of segments.old)) }
+    ensures writers { OnOk result (writers.new.items ≡ writers.old.items ++ order_of (flat_map seen_of segments.old)) }
+    ensures looked { AllZip HasLooked segments.old segments.new }
+{
+    for segment in segments.iter_mut() {
+        segment.push_tags(nums, writers, steps)?;
+    }
+    Ok(())
+}
+
+// The numbers and the writers of the entries of all these segments, end to end.
+fn read_tags<L: Ledger>(
+    alloc: Global,
+    closed: &mut [Segment],
+    current: &mut Segment,
+    blank: Blank,
+) -> Result<(Vec<u32>, Vec<u8>), Memory>
+    requires closed { All (λ segment. IsOf segment.root segment.log) closed.old }
+    requires current { IsOf current.old.root current.old.log }
+    requires blank { (blank.name ≡ L.name) × (blank.parts ≡ L.parts) × (0 < L.parts) }
+    ensures nums { IfOk result (λ tags. tags.0.items ≡ nums_of (flat_map seen_of closed.old ++ seen_of current.old)) }
+    ensures writers { IfOk result (λ tags. tags.1.items ≡ order_of (flat_map seen_of closed.old ++ seen_of current.old)) }
+    ensures closed { AllZip HasLooked closed.old closed.new }
+    ensures current { HasLooked current.old current.new }
+{
+    let mut steps = Steps::<L>::new(blank);
+    let room = current.log.shape().capacity() as usize;
+    let last = current.root.covered() as usize;
+    let most = closed.len().saturating_mul(room).saturating_add(last);
+    let mut nums = Vec::with_capacity(alloc, most)?;
+    let mut writers = Vec::with_capacity(alloc, most)?;
+    push_each(closed, &mut nums, &mut writers, &mut steps)?;
+    current.push_tags(&mut nums, &mut writers, &mut steps)?;
+    Ok((nums, writers))
 }
 
 // The entries of all these segments, end to end.
@@ -216,14 +287,12 @@ impl Segments {
         Ok((entries, seals))
     }
 
-    /// The entries of all segments, end to end, and a seal of each. After want of memory the segments come back, and only their
-    /// roots' last looks are others.
-    pub fn close(mut self, alloc: Global) -> Result<Closing, Segments>
-        ensures { MatchResult result (λ closing. (closing.entries.items ≡ entries_of self) × (closing.seals.items ≡ map sealed (all_of self))) (HaveLooked self) }
+    // Seals all segments. There is room for a seal of each.
+    fn into_seals(self, mut seals: Vec<Seal>) -> Vec<Seal>
+        requires none { seals.items ≡ [] }
+        requires room { length self.closed + 1 ≤ vec_capacity seals }
+        ensures { result.items ≡ map sealed (all_of self) }
     {
-        let Ok((entries, mut seals)) = self.read(alloc) else {
-            return Err(self);
-        };
         let Segments {
             closed,
             current,
@@ -231,6 +300,57 @@ impl Segments {
         } = self;
         push_seals(closed, &mut seals);
         seals.push_reserved(current.seal());
+        seals
+    }
+
+    // The numbers and the writers of all entries, and room for as many seals as there are segments.
+    fn read_columns<L: Ledger>(&mut self, alloc: Global, blank: Blank) -> Result<Sealing, Memory>
+        requires blank { (blank.name ≡ L.name) × (blank.parts ≡ L.parts) × (0 < L.parts) }
+        ensures nums { IfOk result (λ read. read.nums.items ≡ nums_of (entries_of self.old)) }
+        ensures writers { IfOk result (λ read. read.writers.items ≡ order_of (entries_of self.old)) }
+        ensures room { IfOk result (λ read. (read.seals.items ≡ []) × (length self.old.closed + 1 ≤ vec_capacity read.seals)) }
+        ensures looked { HaveLooked self.old self.new }
+    {
+        let seals = Vec::with_capacity(alloc, self.closed.len() + 1)?;
+        let closed = self.closed.as_mut_slice();
+        let (nums, writers) = read_tags::<L>(alloc, closed, &mut self.current, blank)?;
+        Ok(Sealing {
+            nums,
+            writers,
+            seals,
+        })
+    }
+
+    /// Reads the tag of each entry and no other word of it: the entries' numbers and writers, end to end, and a seal of each
+    /// segment. After want of memory the segments come back, and only their roots' last looks are others.
+    pub fn seal(mut self, alloc: Global) -> Result<Sealing, Segments>
+        ensures { MatchResult result (λ sealing. (sealing.nums.items ≡ nums_of (entries_of self)) × (sealing.writers.items ≡ order_of (entries_of self)) × (sealing.seals.items ≡ map sealed (all_of self))) (HaveLooked self) }
+    {
+        let Ok(read) = self.read_columns::<Brand>(alloc, Blank::new(1)) else {
+            return Err(self);
+        };
+        let Sealing {
+            nums,
+            writers,
+            seals,
+        } = read;
+        let seals = self.into_seals(seals);
+        Ok(Sealing {
+            nums,
+            writers,
+            seals,
+        })
+    }
+
+    /// The entries of all segments, end to end, and a seal of each. After want of memory the segments come back, and only their
+    /// roots' last looks are others.
+    pub fn close(mut self, alloc: Global) -> Result<Closing, Segments>
+        ensures { MatchResult result (λ closing. (closing.entries.items ≡ entries_of self) × (closing.seals.items ≡ map sealed (all_of self))) (HaveLooked self) }
+    {
+        let Ok((entries, seals)) = self.read(alloc) else {
+            return Err(self);
+        };
+        let seals = self.into_seals(seals);
         Ok(Closing { entries, seals })
     }
 }

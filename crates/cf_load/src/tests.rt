@@ -401,7 +401,7 @@ fn load_in_two<R: Threads + Sync + Abort>(
     alloc: Global,
     sizes: Sizes,
     rows: &[Row],
-) -> Result<(Closing, Loaded), Fail> {
+) -> Result<(Segments, Loaded), Fail> {
     let plan = plan(alloc)?;
     let mut segments = open_segments(rt, alloc, sizes)?;
     assert!(rt; all_fit(segments.shape().schema(), rows));
@@ -414,8 +414,7 @@ fn load_in_two<R: Threads + Sync + Abort>(
     let answer = loader.batch(rt, alloc, &mut segments, rest, &FreeGate);
     answer.expect(rt, "the second batch");
     let loaded = loader.finish(alloc, &mut segments)?;
-    let closing = segments.close(alloc).ok().expect(rt, "memory");
-    Ok((closing, loaded))
+    Ok((segments, loaded))
 }
 
 #[test]
@@ -429,12 +428,42 @@ fn two_batches_load_what_all_rows_at_once_do(rt: HostRuntime) -> Result<(), Fail
             writers: 1,
             nodes: 30,
         };
-        let (parts, told) = load_in_two(&rt, alloc, sizes, &rows)?;
+        let (segments, told) = load_in_two(&rt, alloc, sizes, &rows)?;
+        let parts = segments.close(alloc).ok().expect(&rt, "memory");
         assert_eq!(rt; parts.entries.len(), 4100);
         for (entry, row) in parts.entries.iter().zip(rows.iter()) {
             assert_eq!(rt; entry.row.num(), row.num());
         }
         check(&rt, &told, 4100);
+    }
+    Ok(())
+}
+
+// A seal gives the numbers and the writers of the entries that a close gives.
+#[test]
+fn numbers_and_writers_are_those_of_the_entries(rt: HostRuntime) -> Result<(), Fail> {
+    let alloc = rt.alloc();
+    let rows = rows(alloc, 4100)?;
+    for (most, capacity) in [(1, 5000), (2, 4096)] {
+        let sizes = Sizes {
+            most,
+            capacity,
+            writers: 1,
+            nodes: 30,
+        };
+        let (segments, _) = load_in_two(&rt, alloc, sizes, &rows)?;
+        let closing = segments.close(alloc).ok().expect(&rt, "memory");
+        let (segments, _) = load_in_two(&rt, alloc, sizes, &rows)?;
+        let sealing = segments.seal(alloc).ok().expect(&rt, "memory");
+        assert_eq!(rt; sealing.seals.len(), closing.seals.len());
+        assert_eq!(rt; sealing.writers.len(), closing.entries.len());
+        assert_eq!(rt; sealing.nums.len(), closing.entries.len());
+        for (entry, num) in closing.entries.iter().zip(sealing.nums.iter()) {
+            assert_eq!(rt; *num, entry.row.num());
+        }
+        for (entry, writer) in closing.entries.iter().zip(sealing.writers.iter()) {
+            assert_eq!(rt; *writer, entry.writer);
+        }
     }
     Ok(())
 }

@@ -37,7 +37,7 @@ loop-turn-preserved g c =
     let asked : question ≡ get_or plan.asks.items live.ask no_ask = c.index-question.ensures ∙ get_there plan.asks.items live.ask question no_ask low in
     let found : c.index.result.now ≡ finding_in log.shape (get_or plan.asks.items live.ask no_ask) (rows_in before) =
     c.index.ensures
-    ∙ (ap (λ (fs : List Finding). get_or fs i c.index.result.now) c.requires.prior.found
+    ∙ (ap (λ (fs : List Finding). get_or fs i c.index.result.now) (c.requires.prior.found c.requires.due)
     ∙ (get_or-map (λ (k : ℕ). finding_in log.shape (get_or plan.asks.items k no_ask) (rows_in before)) plan.lives.items i live.ask c.index.result.now there
     ∙ ap (λ (k : ℕ). finding_in log.shape (get_or plan.asks.items k no_ask) (rows_in before)) (sym place))) in
     let has : HasFound log.shape question before prior.base c.in_ok-copy.field-0 = record {

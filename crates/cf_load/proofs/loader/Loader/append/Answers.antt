@@ -6,25 +6,31 @@ use Rattle.cf_load.specs.Loading.{AsksBeside}
 use Rattle.cf_load.specs.Loads.{room_of}
 use Rattle.cf_load.specs.Loaders.{LoaderValue, IsLoading, IsBatched}
 use Rattle.cf_load.specs.Planned.{tails_of}
+use Rattle.cf_load.specs.Priors.{KnowsBefore}
 use Rattle.cf_load.specs.Segments.{SegmentsValue, HoldsRows, entries_of, told_of}
 use Rattle.cf_load.specs.declared.loads.LoadFault.TheVariants.{Memory}
 use Rattle.cf_load.proofs.Kept.{goes_then}
 use Rattle.cf_load.proofs.Loaders.{batch_room, goes_on, refused, same_room}
 use Rattle.cf_load.proofs.loader.Loader.append.Goals as goal
 
+pub make_ready-requires-clause-known : goal.make_ready-requires-clause-known
+make_ready-requires-clause-known g c =
+    let s : SegmentsValue = c.args.segments.now in
+    subst (λ (l : LoaderValue). KnowsBefore s l.plan l.found) (sym c.self.view_is) c.requires.loading.1.known
+
 pub load-requires-clause-room : goal.load-requires-clause-room
 load-requires-clause-room g c κs within =
     let inside = c.self.inside in
     let s : SegmentsValue = c.args.segments.now in
-    let u : SegmentsValue = c.make_room.new.self in
+    let u : SegmentsValue = c.make_ready.new.self in
     let had = c.requires.loading in
     let start : inside.count ≡ length had.0 = ap (λ (l : LoaderValue). l.count) c.self.view_is ∙ had.1.count in
     let whole : inside.count % 4096 ≡ 0 = subst (λ (l : LoaderValue). l.count % 4096 ≡ 0) (sym c.self.view_is) c.requires.whole in
-    let holds : HoldsRows u had.0 = c.in_ok-make_room.ensures.holds had.0 (sym start) had.1.loaded in
-    let most = same_room s u c.in_ok-make_room.ensures.same in
+    let holds : HoldsRows u had.0 = c.in_ok-make_ready.ensures.holds had.0 (sym start) had.1.loaded in
+    let most = same_room s u c.in_ok-make_ready.ensures.same in
     let size = c.room.ensures in
     let within_all = c.if-self-rows.false in
-    let room = batch_room u inside.count (length c.args.rows.now) holds.are whole c.requires.few c.in_ok-make_room.ensures.room
+    let room = batch_room u inside.count (length c.args.rows.now) holds.are whole c.requires.few c.in_ok-make_ready.ensures.room
     (omega (arith, most, size, within_all)) in
     omega (arith, whole, room)
 
@@ -32,7 +38,7 @@ pub returns-in_err-more-clause-batched : goal.returns-in_err-more-clause-batched
 returns-in_err-more-clause-batched g c before is =
     let inside = c.self.inside in
     let s : SegmentsValue = c.args.segments.now in
-    let u : SegmentsValue = c.make_room.new.self in
+    let u : SegmentsValue = c.make_ready.new.self in
     let t : SegmentsValue = c.load.new.self in
     let rows = c.args.rows.now in
     let start : inside.count ≡ length before = ap (λ (l : LoaderValue). l.count) c.self.view_is ∙ is.count in
@@ -41,16 +47,16 @@ returns-in_err-more-clause-batched g c before is =
     let size = c.room.ensures in
     let within = c.if-self-rows.false in
     let room : length before + length rows ≤ room_of s = omega (arith, size, within, start) in
-    let holds : HoldsRows u before = c.in_ok-make_room.ensures.holds before (sym start) is.loaded in
+    let holds : HoldsRows u before = c.in_ok-make_ready.ensures.holds before (sym start) is.loaded in
     let same : c.from_residual-in_err-more.result ≡ Err c.in_err-more.field-0.0 = search rules in
-    rw same (refused before rows s t c.in_err-more.field-0.0 room (goes_then s u t c.in_ok-make_room.ensures.same c.in_err-more.ensures.same)
+    rw same (refused before rows s t c.in_err-more.field-0.0 room (goes_then s u t c.in_ok-make_ready.ensures.same c.in_err-more.ensures.same)
     (c.in_err-more.ensures.loaded before long holds))
 
 pub returns-in_err-append-clause-batched : goal.returns-in_err-append-clause-batched
 returns-in_err-append-clause-batched g c before is =
     let inside = c.self.inside in
     let s : SegmentsValue = c.args.segments.now in
-    let u : SegmentsValue = c.make_room.new.self in
+    let u : SegmentsValue = c.make_ready.new.self in
     let t : SegmentsValue = c.load.new.self in
     let rows = c.args.rows.now in
     let start : inside.count ≡ length before = ap (λ (l : LoaderValue). l.count) c.self.view_is ∙ is.count in
@@ -59,22 +65,28 @@ returns-in_err-append-clause-batched g c before is =
     let size = c.room.ensures in
     let within = c.if-self-rows.false in
     let room : length before + length rows ≤ room_of s = omega (arith, size, within, start) in
-    let holds : HoldsRows u before = c.in_ok-make_room.ensures.holds before (sym start) is.loaded in
+    let holds : HoldsRows u before = c.in_ok-make_ready.ensures.holds before (sym start) is.loaded in
     let same : c.from_residual-in_err-append.result ≡ Err Memory = search rules in
-    rw same (refused before rows s t Memory room (goes_then s u t c.in_ok-make_room.ensures.same c.in_ok-more.ensures.same)
+    rw same (refused before rows s t Memory room (goes_then s u t c.in_ok-make_ready.ensures.same c.in_ok-more.ensures.same)
     (inr (c.in_ok-more.ensures.loaded before long holds)))
 
 pub returns-clause-batched : goal.returns-clause-batched
 returns-clause-batched g c before is =
     let inside = c.self.inside in
     let s : SegmentsValue = c.args.segments.now in
-    let u : SegmentsValue = c.make_room.new.self in
+    let u : SegmentsValue = c.make_ready.new.self in
     let t : SegmentsValue = c.load.new.self in
     let rows = c.args.rows.now in
     let more = c.in_ok-more.more.items in
     let b = inside.count / 4096 in
-    let old : LoaderValue = record { plan = inside.plan; count = inside.count; lives = inside.lives.items; stopped = inside.stopped } in
-    let new : LoaderValue = record { plan = inside.plan; count = inside.count + length rows; lives = c.append.new.self.items; stopped = inside.stopped } in
+    let old : LoaderValue = record { plan = inside.plan; count = inside.count; lives = inside.lives.items; stopped = inside.stopped; found = inside.found } in
+    let new : LoaderValue = record {
+      plan = inside.plan;
+      count = inside.count + length rows;
+      lives = c.append.new.self.items;
+      stopped = inside.stopped;
+      found = c.make_ready.new.found;
+    } in
     let begun : IsLoading s before old = subst (λ (l : LoaderValue). IsLoading s before l) (sym c.self.view_is) is in
     let whole : inside.count % 4096 ≡ 0 = subst (λ (l : LoaderValue). l.count % 4096 ≡ 0) (sym c.self.view_is) c.requires.whole in
     let start : inside.count ≡ length before = begun.count in
@@ -82,7 +94,7 @@ returns-clause-batched g c before is =
     let size = c.room.ensures in
     let within = c.if-self-rows.false in
     let room : length before + length rows ≤ room_of s = omega (arith, size, within, start) in
-    let first = c.in_ok-make_room.ensures in
+    let first = c.in_ok-make_ready.ensures in
     let made = c.in_ok-more.ensures in
     let holds : HoldsRows u before = first.holds before (sym start) begun.loaded in
     let beside : AsksBeside s.shape old.plan b (entries_of s) (entries_of t) more =
@@ -90,8 +102,8 @@ returns-clause-batched g c before is =
     (subst (λ (es : List Entry). AsksBeside u.shape old.plan b es (entries_of t) more) first.entries made.asked) in
     let told : told_of t ≡ told_of s ++ tails_of more = made.told ∙ ap (λ (ts : List ℕ). ts ++ tails_of more) first.told in
     let items : c.append.new.self.items ≡ inside.lives.items ++ more = search rules in
-    let now : new ≡ record old { count = old.count + length rows; lives = old.lives ++ more } =
-    ap (λ (ls : List Live). record old { count = old.count + length rows; lives = ls }) items in
+    let now : new ≡ record old { count = old.count + length rows; lives = old.lives ++ more; found = new.found } =
+    ap (λ (ls : List Live). record old { count = old.count + length rows; lives = ls; found = new.found }) items in
     subst (λ (l : LoaderValue). IsBatched before rows l new s t) c.self.view_is
     (goes_on before rows old new b s t more begun (made.loaded before long holds) (goes_then s u t first.same made.same)
-    (let base = made.base in let full = holds.full in omega (arith, base, full)) long c.requires.some c.requires.few room c.requires.fits beside told now)
+    (let base = made.base in let full = holds.full in omega (arith, base, full)) long c.requires.some c.requires.few room c.requires.fits beside told now made.known)
