@@ -2,6 +2,7 @@ pub mod Tolds
 pub mod Lives
 pub mod FrontRun
 pub mod Same
+pub mod Bare
 pub mod Legal
 pub mod Reported
 pub mod Answering

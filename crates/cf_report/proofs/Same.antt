@@ -48,7 +48,7 @@ same_places p rows others same =
     (subst (λ (ns : List ℕ). AsOften ns (nums_at others (places p others))) (sym (nums_of_places p rows))
     (subst (λ (ns : List ℕ). AsOften (map (λ row. row.num) (filter p rows)) ns) (sym (nums_of_places p others)) (often (λ row. row.num) p rows others same)))
 
-flat_agree : {X : Type 0} (f g : X → List ℕ) → ((x : X) → f x ≡ g x) → (xs : List X) → flat_map f xs ≡ flat_map g xs
+pub flat_agree : {X : Type 0} (f g : X → List ℕ) → ((x : X) → f x ≡ g x) → (xs : List X) → flat_map f xs ≡ flat_map g xs
 flat_agree f g same [] = refl
 flat_agree f g same (x ∷ xs) = ap₂ (λ (y ys : List ℕ). y ++ ys) (same x) (flat_agree f g same xs)
 

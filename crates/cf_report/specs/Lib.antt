@@ -6,3 +6,4 @@ pub mod Runs
 pub mod Meaning
 pub mod Snapshot
 pub mod Laws
+pub mod Tags

@@ -6,9 +6,10 @@ ghost use Rattle.cf_plain.specs.Asks.{rows_in, row_at};
 ghost use Rattle.cf_report.specs.Answered.{IsWithin};
 ghost use Rattle.cf_report.specs.Bodies.{numbers_text, number_text, quad_text, bound_text, mark_text, marks_text, word_of, shown, nums_at};
 
+use crate::Tags;
 use cf_fold::Quad;
 use cf_plain::{Ask, Body, Fired};
-use cf_row::{Entry, Memory};
+use cf_row::Memory;
 use std::alloc::Global;
 use std::fmt::Write;
 
@@ -89,15 +90,15 @@ pub fn word(ask: &Ask) -> &str
 }
 
 // The number in the input of the row at a place.
-fn num_of(entries: &[Entry], place: u32) -> u32
+fn num_of(entries: &Tags, place: u32) -> u32
     requires { place < length entries.now }
     ensures { result ≡ (row_at (rows_in entries.now) place).num }
 {
-    entries[place as usize].row.num()
+    entries.num_at(place as usize)
 }
 
 // The numbers in the input of the rows at some places.
-fn nums_of(alloc: Global, entries: &[Entry], places: &[u32]) -> Result<Vec<u32>, Memory>
+fn nums_of(alloc: Global, entries: &Tags, places: &[u32]) -> Result<Vec<u32>, Memory>
     requires { All (λ place. place < length entries.now) places.now }
     ensures { IfOk result (λ nums. nums.items ≡ nums_at (rows_in entries.now) places.now) }
 {
@@ -109,7 +110,7 @@ fn nums_of(alloc: Global, entries: &[Entry], places: &[u32]) -> Result<Vec<u32>,
 }
 
 // The same, ascending.
-fn sorted_nums_of(alloc: Global, entries: &[Entry], places: &[u32]) -> Result<Vec<u32>, Memory>
+fn sorted_nums_of(alloc: Global, entries: &Tags, places: &[u32]) -> Result<Vec<u32>, Memory>
     requires { All (λ place. place < length entries.now) places.now }
     ensures { IfOk result (λ nums. nums.items ≡ sort (nums_at (rows_in entries.now) places.now)) }
 {
@@ -122,7 +123,7 @@ fn sorted_nums_of(alloc: Global, entries: &[Entry], places: &[u32]) -> Result<Ve
 pub(crate) fn push_final(
     alloc: Global,
     text: &mut String,
-    entries: &[Entry],
+    entries: &Tags,
     body: &Body,
 ) -> Result<(), Memory>
     requires { IsWithin (length entries.now) body.now }
@@ -143,7 +144,7 @@ pub(crate) fn push_final(
 pub(crate) fn push_live(
     alloc: Global,
     text: &mut String,
-    entries: &[Entry],
+    entries: &Tags,
     body: &Body,
 ) -> Result<(), Memory>
     requires { IsWithin (length entries.now) body.now }

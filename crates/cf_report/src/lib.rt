@@ -9,6 +9,7 @@ mod lines;
 mod live;
 mod order;
 mod snapshot;
+mod tags;
 #[cfg(test)]
 mod tests;
 mod text;
@@ -20,5 +21,6 @@ pub use laws::{
     final_part_has_no_sizes, final_part_is_one, meant_answers_make_reports, reports_are_histories,
 };
 pub use lines::{name_at, push_alerts};
-pub use snapshot::{push_cut, push_host};
-pub use text::{Form, report};
+pub use snapshot::{push_cut, push_host, push_host_by_tags};
+pub use tags::Tags;
+pub use text::{Form, report, report_by_tags};

@@ -5,9 +5,10 @@ ghost use Rattle.cf_plain.specs.Asks.{rows_in};
 ghost use Rattle.cf_report.specs.Answered.{IsWithin, told_by, tolds_of};
 ghost use Rattle.cf_report.specs.Report.{ask_line, ask_line_at, alert_line, alert_lines_at};
 
+use crate::Tags;
 use crate::body::{push_final, word};
 use cf_plain::{Answer, Ask, Fired, Marks};
-use cf_row::{Entry, Memory, Name};
+use cf_row::{Memory, Name};
 use cf_setup::Setup;
 use std::alloc::Global;
 use std::fmt::Write;
@@ -25,7 +26,7 @@ fn push_ask(
     text: &mut String,
     name: &str,
     ask: &Ask,
-    entries: &[Entry],
+    entries: &Tags,
     answer: &Answer,
 ) -> Result<(), Memory>
     requires { IsWithin (length entries.now) answer.now.body }
@@ -42,7 +43,7 @@ pub(crate) fn push_asks(
     alloc: Global,
     text: &mut String,
     setup: &Setup,
-    entries: &[Entry],
+    entries: &Tags,
     finals: &[Answer],
 ) -> Result<(), Memory>
     requires answered { length finals.now ≡ length setup.now.asks }

@@ -5,10 +5,11 @@ ghost use Rattle.cf_report.specs.Answered.{IsWithin, ask_at};
 ghost use Rattle.cf_report.specs.Bodies.{word_of};
 ghost use Rattle.cf_report.specs.Report.{live_head, live_line, live_lines, new_line, marks_of, marks_before as marks_before_of};
 
+use crate::Tags;
 use crate::body::{push_live, push_marks, word};
 use crate::lines::name_at;
 use cf_plain::{Body, Fired, Live};
-use cf_row::{Entry, Memory};
+use cf_row::Memory;
 use cf_setup::Setup;
 use cf_watch::newly;
 use std::alloc::Global;
@@ -37,7 +38,7 @@ fn push_live_line(
     alloc: Global,
     text: &mut String,
     setup: &Setup,
-    entries: &[Entry],
+    entries: &Tags,
     live: &Live,
 ) -> Result<(), Memory>
     requires exists { live.now.ask < length setup.now.asks }
@@ -99,7 +100,7 @@ fn push_lines(
     alloc: Global,
     text: &mut String,
     setup: &Setup,
-    entries: &[Entry],
+    entries: &Tags,
     earlier: &[Live],
     live: &Live,
 ) -> Result<(), Memory>
@@ -116,7 +117,7 @@ pub(crate) fn push_lives(
     alloc: Global,
     text: &mut String,
     setup: &Setup,
-    entries: &[Entry],
+    entries: &Tags,
     lives: &[Live],
 ) -> Result<(), Memory>
     requires exist { All (λ live. live.ask < length setup.now.asks) lives.now }

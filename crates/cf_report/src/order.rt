@@ -4,37 +4,32 @@ ghost use Rattle.cf_history.specs.Order.{order_of};
 ghost use Rattle.cf_report.specs.Report.{order_line};
 ghost use Rattle.cf_report.specs.Runs.{IsRun, IsWriterAt};
 
-use cf_row::{Entry, Memory};
+use crate::Tags;
+use cf_row::Memory;
 use std::fmt::Write;
 
-fn writer_at(entries: &[Entry], place: usize) -> u8
-    requires { place < length entries.now }
-    ensures { IsWriterAt entries.now place result }
-{
-    entries[place].writer
-}
-
 // How many entries from this place on are of its writer.
-fn run_len(entries: &[Entry], start: usize, writer: u8) -> usize
+fn run_len(entries: &Tags, start: usize, writer: u8) -> usize
     requires within { start < length entries.now }
     requires writer { IsWriterAt entries.now start writer }
     ensures { IsRun writer (drop start entries.now) result }
 {
+    let count = entries.len();
     let mut end = start + 1;
-    while end < entries.len() && writer_at(entries, end) == writer {
+    while end < count && entries.writer_at(end) == writer {
         end += 1;
     }
     end - start
 }
 
 /// The writers of the entries, in their longest runs.
-pub(crate) fn push_order(text: &mut String, entries: &[Entry]) -> Result<(), Memory>
+pub(crate) fn push_order(text: &mut String, entries: &Tags) -> Result<(), Memory>
     ensures { OnOk result (string_bytes text.new ≡ string_bytes text.old ++ order_line (order_of entries.now)) }
 {
     text.push_str("order")?;
     let mut start = 0;
     while start < entries.len() {
-        let writer = writer_at(entries, start);
+        let writer = entries.writer_at(start);
         let count = run_len(entries, start, writer);
         write!(text, " {writer}*{count}")?;
         start += count;

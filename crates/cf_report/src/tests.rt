@@ -91,7 +91,8 @@ fn loaded_of(alloc: Global, case: &Case) -> Result<Loaded, Memory> {
     Ok(Loaded::new(finals, alerts, lives))
 }
 
-// The text of the report; None where the setup is faulty or the answers aren't its own.
+// The text of the report, the same over the entries and by their numbers and writers; None where the setup is faulty or the answers
+// aren't its own.
 fn text_of(alloc: Global, case: &Case, form: Form) -> Result<Option<Vec<u8>>, Memory> {
     let Ok(setup) = parse_setup(alloc, case.setup.as_bytes()) else {
         return Ok(None);
@@ -102,6 +103,14 @@ fn text_of(alloc: Global, case: &Case, form: Form) -> Result<Option<Vec<u8>>, Me
         return Ok(None);
     }
     let text = report(alloc, &setup, &entries, &loaded, form)?;
+    let tags = Tags::of(alloc, &entries)?;
+    if !is_answering(&setup, tags.len(), &loaded) {
+        return Ok(None);
+    }
+    let same = report_by_tags(alloc, &setup, &tags, &loaded, form)?;
+    if same.as_slice() != text.as_slice() {
+        return Ok(None);
+    }
     let (finals, alerts, lives) = loaded.into_parts();
     if (finals.len(), alerts.len(), lives.len())
         != (case.finals.len(), case.alerts.len(), case.lives.len())

@@ -3,6 +3,7 @@ ghost use Rattle.std.specs.Prelude.{◌≡◌, IfOk, length};
 ghost use Rattle.cf_report.specs.Answered.{IsAnswering};
 ghost use Rattle.cf_report.specs.Text.{text_of};
 
+use crate::Tags;
 use crate::lines::{push_alerts, push_asks};
 use crate::live::push_lives;
 use crate::order::push_order;
@@ -21,12 +22,12 @@ pub enum Form {
     Final,
 }
 
-/// The text of a report of these answers over the entries of a log. There is an answer to each question of the setup and a list
-/// of marks to each trigger, in its order.
-pub fn report(
+/// The text of a report of these answers over the entries of a log, by their numbers and writers alone. There is an answer to each
+/// question of the setup and a list of marks to each trigger, in its order.
+pub fn report_by_tags(
     alloc: Global,
     setup: &Setup,
-    entries: &[Entry],
+    entries: &Tags,
     loaded: &Loaded,
     form: Form,
 ) -> Result<Vec<u8>, Memory>
@@ -46,4 +47,19 @@ pub fn report(
             Ok(text.into_bytes())
         }
     }
+}
+
+/// As `report_by_tags`, over the entries themselves.
+pub fn report(
+    alloc: Global,
+    setup: &Setup,
+    entries: &[Entry],
+    loaded: &Loaded,
+    form: Form,
+) -> Result<Vec<u8>, Memory>
+    requires { IsAnswering setup.now (length entries.now) loaded.now }
+    ensures { IfOk result (λ text. text.items ≡ text_of form setup.now entries.now loaded.now) }
+{
+    let tags = Tags::of(alloc, entries)?;
+    report_by_tags(alloc, setup, &tags, loaded, form)
 }
