@@ -400,3 +400,9 @@ concludes_never m cut_at held kept ending concludes is = subst (λ (e : Ending).
 pub refuses_never : (m n : RoundsValue) (text : List ℕ) (why : Refusal) (held kept : Option (List ℕ)) (ending : Ending) → Refuses m text why n held kept ending
     → ending ≡ Stopped stops.ReadFault → ⊥
 refuses_never m n text why held kept ending refuses is = subst (λ (e : Ending). Refuses m text why n held kept e) is refuses
+
+-- It goes on with rounds that are the same.
+pub going_still : (schema : PacketSchema) (begun m n : RoundsValue) (reading : Reads) (before now held kept : Option (List ℕ)) → n ≡ m
+    → IsGoingOn schema begun m reading before now held kept → IsGoingOn schema begun n reading before now held kept
+going_still schema begun m n reading before now held kept is on =
+    subst (λ (r : RoundsValue). IsGoingOn schema begun r reading before now held kept) (sym is) on

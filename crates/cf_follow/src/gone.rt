@@ -10,9 +10,11 @@ use cf_intake::Refusal;
 use cf_rounds::{Rounds, Taken};
 use cf_row::{Memory, Row};
 use std::alloc::Global;
+use std::thread::Threads;
 
 /// The rows go in, one after another, until one is turned away. What is said where segments are dropped for them goes behind the text.
-pub(crate) fn take_rows(
+pub(crate) fn take_rows<R: Threads>(
+    rt: &R,
     alloc: Global,
     rounds: &mut Rounds,
     text: &mut String,
@@ -29,7 +31,7 @@ pub(crate) fn take_rows(
 {
     for row in rows {
         let _few = rounds.count();
-        match rounds.take(alloc, text, row)? {
+        match rounds.take(rt, alloc, text, row)? {
             Taken::Gone => {}
             Taken::Full => {
                 let most = rounds.count();

@@ -15,6 +15,7 @@ use cf_outside::Sink;
 use cf_rounds::Rounds;
 use cf_row::Row;
 use std::alloc::Global;
+use std::thread::Threads;
 
 /// A round is made, and what it says is written behind the text, and then the line.
 pub(crate) fn tell<K: Sink>(
@@ -60,7 +61,8 @@ pub(crate) fn refuse<K: Sink>(
 }
 
 /// The rows of a read go in, and what is said of them is written. Where one is turned away, its line is too.
-pub(crate) fn hear<K: Sink>(
+pub(crate) fn hear<R: Threads, K: Sink>(
+    rt: &R,
     alloc: Global,
     rounds: &mut Rounds,
     rows: &[Row],
@@ -78,7 +80,7 @@ pub(crate) fn hear<K: Sink>(
     ensures cause { result ≡ Err endings.Unwritten → Rose (K.faults sink.old) (K.faults sink.new) }
 {
     let mut text = String::new(alloc);
-    match take_rows(alloc, rounds, &mut text, rows)? {
+    match take_rows(rt, alloc, rounds, &mut text, rows)? {
         None => tell(alloc, rounds, text, "", sink),
         Some(why) => Err(refuse(alloc, rounds, text, why, sink)),
     }

@@ -17,6 +17,7 @@ use cf_setup::{Setup, Source, shape_of};
 use std::alloc::Global;
 use std::process::Abort;
 use std::test::Fail;
+use std::thread::Threads;
 
 const S: &str =
     "schema packet\nfilter f *\naggregate a f len\ntrigger t a sum > 50\nask q list len>=1\nlive q\n";
@@ -128,7 +129,7 @@ fn watch_of(alloc: Global, setup: Setup, case: &Case) -> Result<Watch, Memory>
 }
 
 // The number of the ending's status, and what was written.
-fn followed<R: Abort>(rt: &R, alloc: Global, case: &Case) -> Result<(u8, Vec<u8>), Memory>
+fn followed<R: Abort + Threads>(rt: &R, alloc: Global, case: &Case) -> Result<(u8, Vec<u8>), Memory>
     requires { 0 < case.now.most }
 {
     let mut shelf = MemShelf::new(alloc, case.failing_reads.to_vec(alloc)?, case.most);
@@ -139,11 +140,11 @@ fn followed<R: Abort>(rt: &R, alloc: Global, case: &Case) -> Result<(u8, Vec<u8>
     assert!(rt; 1 <= case.segments && case.segments <= 4);
     let setup = read(rt, alloc)?;
     let watch = watch_of(alloc, setup, case)?;
-    let ending = follow(alloc, watch, &mut shelf, &mut sink);
+    let ending = follow(rt, alloc, watch, &mut shelf, &mut sink);
     Ok((number_of(ending), sink.held().to_vec(alloc)?))
 }
 
-fn expect<R: Abort>(rt: &R, alloc: Global, case: &Case) -> Result<(), Memory>
+fn expect<R: Abort + Threads>(rt: &R, alloc: Global, case: &Case) -> Result<(), Memory>
     requires { 0 < case.now.most }
 {
     let mut text = Vec::new(alloc);
@@ -380,11 +381,11 @@ fn a_watch_begins_with_its_sizes(rt: HostRuntime) -> Result<(), Fail> {
     let sizes = WindowSizes {
         capacity: 1,
         segments: 2,
-        nodes: 64,
+        nodes: 2048,
     };
     let schema = PacketSchema::Packet;
     let watch = Watch::begin(alloc, read(&rt, alloc)?, sizes, 0, false, schema)?;
-    let ending = follow(alloc, watch, &mut shelf, &mut sink);
+    let ending = follow(&rt, alloc, watch, &mut shelf, &mut sink);
     assert_eq!(rt; number_of(ending), 0);
     let text =
         b"alert t 1 60 @2\nalert t 2 100 @2\nrecords 2\nwindow 0\nask q list 2: 0 1\nalert t 1 60\nalert t 2 100\n";

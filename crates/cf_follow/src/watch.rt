@@ -22,6 +22,7 @@ use cf_rounds::Rounds;
 use cf_row::Memory;
 use cf_setup::{Setup, shape_of};
 use std::alloc::Global;
+use std::thread::Threads;
 
 /// Records are numbered below 2^32 - 1.
 const LIMIT: u32 = u32::MAX;
@@ -75,7 +76,8 @@ fn stop<K: Sink>(alloc: Global, rounds: &mut Rounds, sink: &mut K) -> Ending
 
 // A read, of which what its records say is written before the next. Answers whether there may be another. After a fault of the capture
 // there is none.
-fn step<F: Shelf, K: Sink>(
+fn step<R: Threads, F: Shelf, K: Sink>(
+    rt: &R,
     alloc: Global,
     rounds: &mut Rounds,
     reads: &mut Reads,
@@ -99,7 +101,7 @@ fn step<F: Shelf, K: Sink>(
     match reads.next(alloc, shelf) {
         Ok(None) => Ok(false),
         Ok(Some(rows)) if rows.is_empty() => Ok(true),
-        Ok(Some(rows)) => match hear(alloc, rounds, &rows, sink) {
+        Ok(Some(rows)) => match hear(rt, alloc, rounds, &rows, sink) {
             Ok(()) => Ok(true),
             Err(ending) => Err(ending),
         },
@@ -109,8 +111,15 @@ fn step<F: Shelf, K: Sink>(
 }
 
 /// Follows the opened capture of packets to its end: a round comes after each read that ended a record, and what it says is written
-/// before the next read.
-pub fn follow<F: Shelf, K: Sink>(alloc: Global, watch: Watch, shelf: &mut F, sink: &mut K) -> Ending
+/// before the next read. The segment that the window needs next is opened in a thread of its own beside the reads, which has ended when
+/// this returns.
+pub fn follow<R: Threads, F: Shelf, K: Sink>(
+    rt: &R,
+    alloc: Global,
+    watch: Watch,
+    shelf: &mut F,
+    sink: &mut K,
+) -> Ending
     requires packets { watch.rounds.window.shape.schema ≡ attrs_by watch.reads.schema }
     requires ready { IsReady watch.rounds watch.reads }
     // What was written is, for some way in which the reads cut the bytes that were read, the text of those, or a front of it.
@@ -130,10 +139,17 @@ pub fn follow<F: Shelf, K: Sink>(alloc: Global, watch: Watch, shelf: &mut F, sin
         truncated,
     } = watch;
     for _ in 0..u64::MAX {
-        match step(alloc, &mut rounds, &mut reads, shelf, sink) {
+        rounds.prepare(rt, alloc);
+        match step(rt, alloc, &mut rounds, &mut reads, shelf, sink) {
             Ok(true) => {}
-            Ok(false) => return end(alloc, rounds, reads, truncated, sink),
-            Err(ending) => return ending,
+            Ok(false) => {
+                rounds.release(rt);
+                return end(alloc, rounds, reads, truncated, sink);
+            }
+            Err(ending) => {
+                rounds.release(rt);
+                return ending;
+            }
         }
     }
     Ending::Stopped(Stop::Memory)

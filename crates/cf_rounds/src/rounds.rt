@@ -18,6 +18,7 @@ use cf_shape::Shape;
 use cf_window::{Pushed, Window};
 use std::alloc::Global;
 use std::marker::Model;
+use std::thread::Threads;
 
 /// What came of a record.
 #[derive(Clone, Copy, Debug, PartialEq, Eq)]
@@ -102,6 +103,20 @@ impl Rounds {
         self.window.shape()
     }
 
+    /// Begins to open the segment that the window needs next, in a thread of its own, unless that has begun.
+    pub fn prepare<R: Threads>(&mut self, rt: &R, alloc: Global)
+        ensures { self.new ≡ self.old }
+    {
+        self.window.prepare(rt, alloc);
+    }
+
+    /// Waits for the thread that opens the window's next segment, if there is one, and lets that segment go.
+    pub fn release<R: Threads>(&mut self, rt: &R)
+        ensures { self.new ≡ self.old }
+    {
+        self.window.release(rt);
+    }
+
     // The lines of the live questions, where they are due.
     fn ask_due(&mut self, alloc: Global, text: &mut String) -> Result<(), Memory>
         ensures set { IsSetAs self.old self.new }
@@ -147,7 +162,13 @@ impl Rounds {
 
     /// A record comes. If the oldest segment has to be dropped for it, a round is made before. Once a record has come for which
     /// there are no nodes, no other comes.
-    pub fn take(&mut self, alloc: Global, text: &mut String, row: &Row) -> Result<Taken, Memory>
+    pub fn take<R: Threads>(
+        &mut self,
+        rt: &R,
+        alloc: Global,
+        text: &mut String,
+        row: &Row,
+    ) -> Result<Taken, Memory>
         requires fits { Fits self.old.window.shape.schema row.now }
         requires number { row.now.num ≡ count_of self.old.window }
         requires open { self.old.window.is_spent ≡ false }
@@ -156,13 +177,13 @@ impl Rounds {
         if self.window.count() >= self.limit {
             return Ok(Taken::Full);
         }
-        match self.window.push(alloc, row)? {
+        match self.window.push(rt, alloc, row)? {
             Pushed::Full => Ok(Taken::Full),
             Pushed::Gone => Ok(Taken::Gone),
             Pushed::NoNodes => Ok(Taken::NoNodes),
             Pushed::NeedsDrop => {
                 self.make_round(alloc, text)?;
-                self.window.replace_oldest(alloc, row)?;
+                self.window.replace_oldest(rt, alloc, row)?;
                 Ok(Taken::Gone)
             }
         }

@@ -9,6 +9,7 @@ use cf_shape::Shape;
 use std::alloc::Global;
 use std::process::Abort;
 use std::test::Fail;
+use std::thread::Threads;
 
 // Rounds that have refused no record.
 #[derive(Drop)]
@@ -87,7 +88,7 @@ enum Step {
     Off(Rounds, Taken),
 }
 
-fn put<R: Abort>(
+fn put<R: Abort + Threads>(
     rt: &R,
     alloc: Global,
     open: Open,
@@ -97,7 +98,7 @@ fn put<R: Abort>(
     let Open { mut rounds, .. } = open;
     assert!(rt; fits(rounds.shape().schema(), row));
     assert!(rt; row.num() == rounds.count());
-    match rounds.take(alloc, text, row)? {
+    match rounds.take(rt, alloc, text, row)? {
         Taken::Gone => Ok(Step::On(Open { rounds })),
         Taken::Full => Ok(Step::Off(rounds, Taken::Full)),
         Taken::NoNodes => Ok(Step::Off(rounds, Taken::NoNodes)),
@@ -111,7 +112,7 @@ fn round(alloc: Global, open: Open, text: &mut String) -> Result<Open, Memory> {
 }
 
 // The records of a read.
-fn read<R: Abort>(
+fn read<R: Abort + Threads>(
     rt: &R,
     alloc: Global,
     mut open: Open,
@@ -129,7 +130,11 @@ fn read<R: Abort>(
 }
 
 // The text and the answer of the last record.
-fn watched<R: Abort>(rt: &R, alloc: Global, case: &Case) -> Result<(String, Taken), Memory> {
+fn watched<R: Abort + Threads>(
+    rt: &R,
+    alloc: Global,
+    case: &Case,
+) -> Result<(String, Taken), Memory> {
     let mut text = String::new(alloc);
     let mut open = begun(rt, alloc, case)?;
     for count in case.reads {

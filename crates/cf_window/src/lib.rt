@@ -5,6 +5,7 @@ mod find;
 mod laws;
 mod needed;
 mod segment;
+mod spare;
 #[cfg(test)]
 mod tests;
 mod window;

@@ -9,6 +9,7 @@ use cf_shape::{Key, Lane, Shape, belongs};
 use std::alloc::Global;
 use std::process::Abort;
 use std::test::Fail;
+use std::thread::Threads;
 
 // what every row passes
 fn every(alloc: Global) -> Result<Expr, Memory> {
@@ -86,13 +87,18 @@ fn row(alloc: Global, num: u32, key: u64, len: u64) -> Result<Row, Memory> {
 }
 
 // The row comes, where need be in the place of the oldest segment. It answers with nothing if the row is refused.
-fn put<R: Abort>(rt: &R, alloc: Global, open: Open, row: &Row) -> Result<Option<Open>, Memory> {
+fn put<R: Abort + Threads>(
+    rt: &R,
+    alloc: Global,
+    open: Open,
+    row: &Row,
+) -> Result<Option<Open>, Memory> {
     let Open { mut window, .. } = open;
     assert!(rt; fits(window.shape().schema(), row));
-    match window.push(alloc, row)? {
+    match window.push(rt, alloc, row)? {
         Pushed::Gone => Ok(Some(Open { window })),
         Pushed::NeedsDrop => {
-            window.replace_oldest(alloc, row)?;
+            window.replace_oldest(rt, alloc, row)?;
             Ok(Some(Open { window }))
         }
         Pushed::Full => Ok(None),
@@ -101,7 +107,12 @@ fn put<R: Abort>(rt: &R, alloc: Global, open: Open, row: &Row) -> Result<Option<
 }
 
 // The numbers of the window's first row after each of these keys has come, up to the first that is refused.
-fn firsts<R: Abort>(rt: &R, alloc: Global, sizes: Sizes, keys: &[u64]) -> Result<Vec<u32>, Memory> {
+fn firsts<R: Abort + Threads>(
+    rt: &R,
+    alloc: Global,
+    sizes: Sizes,
+    keys: &[u64],
+) -> Result<Vec<u32>, Memory> {
     let mut firsts = Vec::new(alloc);
     let mut open = window(rt, alloc, sizes, false)?;
     for key in keys {
@@ -157,8 +168,96 @@ fn the_oldest_segment_makes_room(rt: HostRuntime) -> Result<(), Fail> {
     Ok(())
 }
 
+// Rows come, and before some of them the next segment begins to be opened.
+#[derive(Clone, Copy, Drop)]
+struct Prepared {
+    sizes: Sizes,
+    before: &'static [u32],
+    // after each row the number of the window's first one, and whether there is a segment for the next
+    wanted: &'static [(u32, bool)],
+}
+
+// What a case finds after each row.
+fn come<R: Abort + Threads>(
+    rt: &R,
+    alloc: Global,
+    case: &Prepared,
+) -> Result<Vec<(u32, bool)>, Memory> {
+    let mut found = Vec::new(alloc);
+    let mut open = window(rt, alloc, case.sizes, false)?;
+    for _ in case.wanted {
+        let num = open.window.count();
+        if case.before.contains(&num) {
+            open = begin_next(rt, alloc, open);
+        }
+        let row = row(alloc, num, 1, 1)?;
+        open = put(rt, alloc, open, &row)?.expect(rt, "nodes");
+        found.push((open.window.from(), open.window.is_prepared()))?;
+    }
+    let Open { mut window, .. } = open;
+    window.release(rt);
+    assert!(rt; !window.is_prepared());
+    Ok(found)
+}
+
+fn begin_next<R: Threads>(rt: &R, alloc: Global, open: Open) -> Open {
+    let Open { mut window, .. } = open;
+    window.prepare(rt, alloc);
+    Open { window }
+}
+
+#[test]
+fn a_prepared_segment_changes_nothing(rt: HostRuntime) -> Result<(), Fail> {
+    for case in [
+        // before each row, and each takes it
+        Prepared {
+            sizes: sized(1, 1200, 1),
+            before: &[0, 1, 2],
+            wanted: &[(0, false), (1, false), (2, false)],
+        },
+        Prepared {
+            sizes: sized(1, 1200, 2),
+            before: &[0, 1, 2],
+            wanted: &[(0, false), (0, false), (1, false)],
+        },
+        // before the first row alone, so that the others have none
+        Prepared {
+            sizes: sized(1, 1200, 1),
+            before: &[0],
+            wanted: &[(0, false), (1, false), (2, false)],
+        },
+        // the last segment still takes a row
+        Prepared {
+            sizes: sized(2, 1200, 1),
+            before: &[1],
+            wanted: &[(0, false), (0, true), (2, false), (2, false), (4, false)],
+        },
+        // there is one already
+        Prepared {
+            sizes: sized(3, 1200, 1),
+            before: &[1, 2],
+            wanted: &[(0, false), (0, true), (0, true), (3, false)],
+        },
+        // of few words
+        Prepared {
+            sizes: sized(1, 9, 1),
+            before: &[0, 1, 2],
+            wanted: &[(0, false), (1, false), (2, false)],
+        },
+    ] {
+        let found = come(&rt, rt.alloc(), &case)?;
+        assert_eq!(rt; found.as_slice(), case.wanted);
+    }
+    Ok(())
+}
+
 // A window of so many rows, which are four of the key 1 for each of the key 2, and each is as long as its number.
-fn filled<R: Abort>(rt: &R, alloc: Global, sizes: Sizes, count: u32) -> Result<Open, Memory> {
+fn filled<R: Abort + Threads>(
+    rt: &R,
+    alloc: Global,
+    sizes: Sizes,
+    count: u32,
+) -> Result<Open, Memory> {
     let mut open = window(rt, alloc, sizes, true)?;
     for num in 0..count {
         let key = if num % 5 == 4 { 2 } else { 1 };

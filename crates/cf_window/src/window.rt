@@ -1,5 +1,5 @@
 // The segments of a window.
-ghost use Rattle.std.specs.Prelude.{◌≡◌, ◌+◌, ◌-◌, ◌<◌, ◌≤◌, ◌*◌, ◌^◌, All, List, [], ◌∷◌, ◌++◌, drop, not, true, false, length, vec_capacity, slice_index_or, IfOk, MatchResult, OnErr, OnOk};
+ghost use Rattle.std.specs.Prelude.{◌≡◌, ◌+◌, ◌-◌, ◌<◌, ◌≤◌, ◌*◌, ◌^◌, All, List, [], ◌∷◌, ◌++◌, drop, not, true, false, length, vec_capacity, slice_index_or, IfOk, IfSome, MatchResult, OnErr, OnOk};
 ghost use Rattle.cf_row.specs.Row.{Fits, RowValue};
 ghost use Rattle.cf_shape.specs.Lanes.{ShapeValue};
 ghost use Rattle.cf_shape.specs.Nodes.{nodes_for};
@@ -9,6 +9,7 @@ ghost use Rattle.cf_window.specs.Held.{ComesThen, HasPushed, IsOfShape, IsOpenLa
 ghost use Rattle.cf_window.specs.Windows.{drops, goes_in, is_small, rows_in_all};
 
 use crate::find::find_in;
+use crate::spare::{Spare, next_segment};
 use crate::{Segment, nodes_needed};
 use cf_fold::Trigger;
 use cf_plain::{Ask, Body, Finding, Marks};
@@ -16,6 +17,7 @@ use cf_row::{Memory, Row};
 use cf_shape::Shape;
 use std::alloc::Global;
 use std::marker::Model;
+use std::thread::Threads;
 
 /// What a push did with a row.
 #[derive(Clone, Copy, Debug, PartialEq, Eq)]
@@ -30,7 +32,8 @@ pub enum Pushed {
     NoNodes,
 }
 
-/// The last rows of a stream, in at most so many segments.
+/// The last rows of a stream, in at most so many segments. Beside them it has at most one more, which is empty, for the row that needs a new
+/// one.
 #[derive(Drop)]
 pub struct Window {
     shape: Shape,
@@ -41,10 +44,12 @@ pub struct Window {
     segments: Vec<Segment>,
     // whether the last segment has refused a row
     is_spent: bool,
+    // the next segment, no part of what contracts see
+    spare: Option<Spare>,
 }
 
 impl Model for Window {
-    ghost use Rattle.std.specs.Prelude.{◌≡◌, ◌+◌, ◌≤◌, false, length, vec_capacity};
+    ghost use Rattle.std.specs.Prelude.{◌≡◌, ◌+◌, ◌≤◌, false, length, vec_capacity, IfSome};
     ghost use Rattle.cf_window.specs.Held.{WindowValue, IsOpenLast, IsWindow, rows_each};
     ghost use Rattle.cf_window.specs.Windows.{rows_in_all};
 
@@ -52,7 +57,7 @@ impl Model for Window {
 
     ghost view = { λ w. record { shape = w.shape; most = w.most; from = w.from; segments = rows_each w.segments.items; is_spent = w.is_spent } };
 
-    ghost invariant = { λ w. IsWindow w.shape w.most w.segments.items × (w.most ≤ vec_capacity w.segments) × (w.is_spent ≡ false → IsOpenLast w.segments.items) × (w.count ≡ w.from + length (rows_in_all (rows_each w.segments.items))) };
+    ghost invariant = { λ w. IsWindow w.shape w.most w.segments.items × (w.most ≤ vec_capacity w.segments) × (w.is_spent ≡ false → IsOpenLast w.segments.items) × (w.count ≡ w.from + length (rows_in_all (rows_each w.segments.items))) × IfSome w.spare (λ spare. spare ≡ w.shape) };
 }
 
 // The last segment takes the row, where there is one.
@@ -90,6 +95,7 @@ impl Window {
             count: 0,
             segments: Vec::with_capacity(alloc, most as usize)?,
             is_spent: false,
+            spare: None,
         })
     }
 
@@ -114,6 +120,31 @@ impl Window {
         self.count
     }
 
+    /// Begins to open the segment that comes next, in a thread of its own, unless that has begun. Nothing is begun if a segment's table is
+    /// small, if memory runs out or if no thread can be made: then a segment is opened when a row needs it.
+    pub fn prepare<R: Threads>(&mut self, rt: &R, alloc: Global)
+        ensures { self.new ≡ self.old }
+    {
+        if self.spare.is_none() {
+            self.spare = Spare::begin(rt, alloc, &self.shape);
+        }
+    }
+
+    /// Waits for the thread that opens the segment that comes next, if there is one, and lets that segment go.
+    pub fn release<R: Threads>(&mut self, rt: &R)
+        ensures { self.new ≡ self.old }
+    {
+        if let Some(spare) = self.spare.take() {
+            let _segment = spare.join(rt);
+        }
+    }
+
+    // Whether the segment that comes next is there, or begins to be.
+    #[cfg(test)]
+    pub(crate) fn is_prepared(&self) -> bool {
+        self.spare.is_some()
+    }
+
     // The row comes in the last segment, where there is one that takes it.
     fn go_in(&mut self, row: &Row) -> bool
         requires room { count_of self.old < 2 ^ 32 - 1 }
@@ -135,7 +166,7 @@ impl Window {
     }
 
     // A new segment takes the row.
-    fn open_for(&mut self, alloc: Global, row: &Row) -> Result<(), Memory>
+    fn open_for<R: Threads>(&mut self, rt: &R, alloc: Global, row: &Row) -> Result<(), Memory>
         requires fits { Fits self.old.shape.schema row.now }
         requires small { length (nodes_for self.old.shape row.now) ≤ self.old.shape.nodes }
         requires room { length self.old.segments < self.old.most }
@@ -144,8 +175,8 @@ impl Window {
         ensures stays { OnErr result (self.new ≡ self.old) }
     {
         let _lawful = self.shape.lanes();
-        let shape = self.shape.copy(alloc)?;
-        let mut segment = Segment::open(alloc, shape)?;
+        let spare = self.spare.take();
+        let mut segment = next_segment(rt, alloc, &self.shape, spare)?;
         segment.take(row);
         self.segments.push_reserved(segment);
         self.is_spent = false;
@@ -155,7 +186,7 @@ impl Window {
 
     /// The row comes, in the last segment or in a new one, unless as many have come as are counted, it needs too many nodes or the
     /// oldest segment has to be dropped for it first.
-    pub fn push(&mut self, alloc: Global, row: &Row) -> Result<Pushed, Memory>
+    pub fn push<R: Threads>(&mut self, rt: &R, alloc: Global, row: &Row) -> Result<Pushed, Memory>
         requires fits { Fits self.old.shape.schema row.now }
         requires spent { self.old.is_spent ≡ true → goes_in self.old.shape self.old.segments row.now ≡ false }
         ensures answer { MatchResult result (HasPushed self.old row.now self.new) (λ _. self.new ≡ record self.old { is_spent = true }) }
@@ -172,7 +203,7 @@ impl Window {
         if self.segments.len() == self.most as usize {
             return Ok(Pushed::NeedsDrop);
         }
-        self.open_for(alloc, row)?;
+        self.open_for(rt, alloc, row)?;
         Ok(Pushed::Gone)
     }
 
@@ -189,7 +220,12 @@ impl Window {
 
     /// The oldest segment is dropped, and then the row comes, for which a push has told that it needs that. If memory runs out, the
     /// oldest segment is gone and the row has not come.
-    pub fn replace_oldest(&mut self, alloc: Global, row: &Row) -> Result<(), Memory>
+    pub fn replace_oldest<R: Threads>(
+        &mut self,
+        rt: &R,
+        alloc: Global,
+        row: &Row,
+    ) -> Result<(), Memory>
         requires fits { Fits self.old.shape.schema row.now }
         requires room { count_of self.old < 2 ^ 32 - 1 }
         requires needed { drops self.old.shape self.old.most self.old.segments row.now ≡ true }
@@ -200,7 +236,7 @@ impl Window {
     {
         let _some = self.most;
         self.drop_oldest();
-        self.push(alloc, row)?;
+        self.push(rt, alloc, row)?;
         Ok(())
     }
 

@@ -5,7 +5,7 @@ use Rattle.cf_follow.proofs.Hearing.{all_gone, next_gone, part_full, part_nodes,
 use Rattle.cf_follow.proofs.gone.take_rows.Goals as goal
 
 pub take-requires-clause-number : goal.take-requires-clause-number
-take-requires-clause-number c =
+take-requires-clause-number g c =
     let here = slice_get_read c.args.rows.now (length c.args.rows.now) c.loop-row.row-index c.row-item.result refl (omega arith) c.row-item.is in
     let number = c.requires.numbered c.loop-row.row-index c.row-item.result here in
     let count = c.loop-row.invariant.count in
@@ -14,21 +14,21 @@ take-requires-clause-number c =
     omega (arith, number, count, same, few)
 
 pub returns-in-Full-clause-gone : goal.returns-in-Full-clause-gone
-returns-in-Full-clause-gone c =
+returns-in-Full-clause-gone g c =
     let v = c.loop-row.invariant in
     part_full c.args.rounds.now c.loop-row.rounds c.args.rows.now c.loop-row.row-index c.row-item.result (string_bytes c.args.text.now)
     (string_bytes c.loop-row.text) v.set v.gone (omega arith) c.row-item.is c.take.new.self (string_bytes c.take.new.text) c.count-most.result v.within
     (rw c.in-Full.is at c.in_ok-take.ensures.answer) c.count-most.ensures
 
 pub returns-in-NoNodes-clause-gone : goal.returns-in-NoNodes-clause-gone
-returns-in-NoNodes-clause-gone c =
+returns-in-NoNodes-clause-gone g c =
     let v = c.loop-row.invariant in
     part_nodes c.args.rounds.now c.loop-row.rounds c.args.rows.now c.loop-row.row-index c.row-item.result (string_bytes c.args.text.now)
     (string_bytes c.loop-row.text) v.set v.gone (omega arith) c.row-item.is c.take.new.self (string_bytes c.take.new.text) c.nodes-nodes.result
     (rw c.in-NoNodes.is at c.in_ok-take.ensures.answer) (rw c.shape.ensures at c.nodes-nodes.ensures.nodes)
 
 pub loop-row-preserved : goal.loop-row-preserved
-loop-row-preserved c =
+loop-row-preserved g c =
     let v = c.loop-row.invariant in
     let a = rw c.in-Gone.is at c.in_ok-take.ensures.answer in
     let limit = a.3.limit in
@@ -44,6 +44,6 @@ loop-row-preserved c =
     }
 
 pub returns-clause-gone : goal.returns-clause-gone
-returns-clause-gone c =
+returns-clause-gone g c =
     all_gone c.args.rounds.now c.loop-row.rounds c.args.rows.now c.loop-row.row-index (string_bytes c.args.text.now) (string_bytes c.loop-row.text)
     c.loop-row.invariant.gone (omega arith)

@@ -6,7 +6,7 @@ use Rattle.cf_follow.specs.Heard.{HaveAllGone}
 use Rattle.cf_follow.proofs.gone.take_rows.Given as goal
 
 abbrev pub invariant-loop-row : goal.invariant-loop-row
-invariant-loop-row l = record {
+invariant-loop-row g l = record {
   set : IsSetAs l.initial.rounds l.rounds;
   unspent : (l.rounds.window).is_spent ≡ false;
   within : count_of l.rounds.window ≤ l.rounds.limit;

@@ -17,6 +17,7 @@ invariant_of-self c =
       omega (arith, room, same),
       λ is. e.open c.if-take_last.true,
       omega (arith, more, count),
+      v.4,
     )
 
 pub invariant_of-self-else-take_last : goal.invariant_of-self-else-take_last
@@ -33,4 +34,5 @@ invariant_of-self-else-take_last c =
       omega (arith, room, same),
       λ is. absurd (cc is),
       omega (arith, still, count),
+      v.4,
     )

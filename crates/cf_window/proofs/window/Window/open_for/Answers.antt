@@ -1,4 +1,4 @@
-use Rattle.std.proofs.Common.{◌≡◌, ◌∙◌, ◌<◌, ◌≤◌, ◌++◌, ◌∷◌, [], List, false, length, map, sym, ap, ap₂, subst, arith}
+use Rattle.std.proofs.Common.{◌≡◌, ◌∙◌, ◌<◌, ◌≤◌, ◌++◌, ◌∷◌, [], List, false, length, sym, ap, subst, arith, rules}
 use Rattle.std.proofs.lemmas.List.{length-map, map-append}
 use Rattle.cf_row.specs.Row.{RowValue}
 use Rattle.cf_shape.specs.Lanes.{ShapeValue}
@@ -9,8 +9,8 @@ use Rattle.cf_window.proofs.Rows.{count_one}
 use Rattle.cf_window.proofs.Holding.{opened_window, new_takes}
 use Rattle.cf_window.proofs.window.Window.open_for.Goals as goal
 
-pub invariant_of-self : goal.invariant_of-self
-invariant_of-self c =
+pub invariant_of-self-2 : goal.invariant_of-self-2
+invariant_of-self-2 g c =
     let inside = c.self.inside in
     let v = c.self.invariant in
     let xs : List SegmentValue = inside.segments.items in
@@ -19,12 +19,7 @@ invariant_of-self c =
     let shape_is = ap (λ (w : WindowValue). w.shape) c.self.view_is in
     let low = subst (λ (s : ShapeValue). length (nodes_for s c.args.row.now) ≤ s.nodes) (sym shape_is) c.requires.small in
     let is = new_takes inside.shape c.args.row.now c.in_ok-segment.segment x c.take.result c.lanes-lawful.ensures.lawful low
-    (c.in_ok-segment.ensures
-    ∙ ap (λ (s : ShapeValue). record {
-      shape = s;
-      rows = [];
-      is_spent = Rattle.std.proofs.Common.false;
-    }) c.in_ok-shape.ensures) c.take.ensures.taken c.take.ensures.segment in
+    c.in_ok-segment.ensures c.take.ensures.taken c.take.ensures.segment in
     let long = length-map xs (λ (s : SegmentValue). s.rows) in
     let same = ap (λ (w : WindowValue). length w.segments) c.self.view_is in
     let most = ap (λ (w : WindowValue). w.most) c.self.view_is in
@@ -37,10 +32,10 @@ invariant_of-self c =
     ∙ (map-append (λ (s : SegmentValue). s.rows) xs (x ∷ []) ∙ ap (λ (b : List RowValue). rows_each xs ++ b ∷ []) (ap (λ (s : SegmentValue). s.rows) is)) in
     let more = count_one (rows_each xs) (rows_each c.push_reserved.new.self.items) c.args.row.now rows in
     let count = v.3 in
-    (r.0, omega (arith, held, cap), λ _. r.1, omega (arith, more, count))
+    (r.0, omega (arith, held, cap), λ _. r.1, omega (arith, more, count), search rules)
 
 pub returns-clause-opened : goal.returns-clause-opened
-returns-clause-opened c =
+returns-clause-opened g c =
     let inside = c.self.inside in
     let v = c.self.invariant in
     let xs : List SegmentValue = inside.segments.items in
@@ -49,12 +44,7 @@ returns-clause-opened c =
     let shape_is = ap (λ (w : WindowValue). w.shape) c.self.view_is in
     let low = subst (λ (s : ShapeValue). length (nodes_for s c.args.row.now) ≤ s.nodes) (sym shape_is) c.requires.small in
     let is = new_takes inside.shape c.args.row.now c.in_ok-segment.segment x c.take.result c.lanes-lawful.ensures.lawful low
-    (c.in_ok-segment.ensures
-    ∙ ap (λ (s : ShapeValue). record {
-      shape = s;
-      rows = [];
-      is_spent = Rattle.std.proofs.Common.false;
-    }) c.in_ok-shape.ensures) c.take.ensures.taken c.take.ensures.segment in
+    c.in_ok-segment.ensures c.take.ensures.taken c.take.ensures.segment in
     let rows = ap (λ (ys : List SegmentValue). rows_each ys) e.items
     ∙ (map-append (λ (s : SegmentValue). s.rows) xs (x ∷ []) ∙ ap (λ (b : List RowValue). rows_each xs ++ b ∷ []) (ap (λ (s : SegmentValue). s.rows) is)) in
     ap (λ (ys : List (List RowValue)). record { shape = inside.shape; most = inside.most; from = inside.from; segments = ys; is_spent = false }) rows
