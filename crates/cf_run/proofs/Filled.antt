@@ -79,7 +79,7 @@ module _ (waiting : List RowValue) (s t : SegmentsValue) (old new : LoaderValue)
       })
 
   pub waiting_lack : (fault : LoadFault) (writer : ℕ) → fault ≡ NodesFull writer
-      → ((before : List RowValue) → IsLoading s before old → IsRefused before waiting s t fault) → new ≡ record old { stopped = true }
+      → ((before : List RowValue) → IsLoading s before old → IsRefused before waiting s t fault) → new ≡ record old { stopped = true; found = new.found }
       → LoadsWaiting waiting s t old new
   waiting_lack fault writer is refused stopped = λ before so.
       let left : IsRefused before waiting s t (NodesFull writer) = subst (λ (f : LoadFault). IsRefused before waiting s t f) is (refused before so.loading) in

@@ -128,7 +128,7 @@ pub fn run<R: Threads + Sync, F: Shelf, K: Sink, G: Gate>(
         Err(_) => return unsealed(alloc, Status::Memory),
     };
     match command {
-        Some(Command::Watch(command)) => unsealed(alloc, watch(alloc, &command, shelf, sink)),
+        Some(Command::Watch(command)) => unsealed(alloc, watch(rt, alloc, &command, shelf, sink)),
         _ => report(rt, alloc, command, shelf, sink, gate),
     }
 }

@@ -18,6 +18,7 @@ use cf_outside::{OpenFault, Shelf, Sink};
 use cf_packet6::PacketSchema;
 use cf_setup::{Setup, Source};
 use std::alloc::Global;
+use std::thread::Threads;
 
 // The schema of the packets that a setup is over.
 fn packets_of(setup: &Setup) -> Result<PacketSchema, Halt>
@@ -84,7 +85,8 @@ fn refuse<K: Sink>(alloc: Global, why: Refusal, sink: &mut K) -> Status
 
 /// Watches a capture: reads the setup, opens the capture, and writes read by read what the rounds of its records say. Before that a file that
 /// there is not, a fault of the setup or a setup that isn't over packets is refused.
-pub(crate) fn watch<F: Shelf, K: Sink>(
+pub(crate) fn watch<R: Threads, F: Shelf, K: Sink>(
+    rt: &R,
     alloc: Global,
     command: &WatchCommand,
     shelf: &mut F,
@@ -104,7 +106,7 @@ pub(crate) fn watch<F: Shelf, K: Sink>(
     ensures sink_count { K.faults sink.old ≤ K.faults sink.new }
 {
     match begin(alloc, command, shelf) {
-        Ok(watching) => Status::from(follow(alloc, watching, shelf, sink)),
+        Ok(watching) => Status::from(follow(rt, alloc, watching, shelf, sink)),
         Err(Halt::Refused(why)) => refuse(alloc, why, sink),
         Err(Halt::Stopped(stop)) => Status::from(stop),
     }
