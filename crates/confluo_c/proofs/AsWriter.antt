@@ -6,8 +6,8 @@ use Rattle.std.proofs.BoxSteps.Form.{Bx}
 use Rattle.std.specs.contracts.alloc.Global as Heap
 use Rattle.std.specs.contracts.impls.GlobalAllocator.TheImpl.{ghosts, dict}
 use Rattle.std.proofs.alloc.Global.TheLaws as heap
-use Rattle.confluo_c.specs.contracts.held.Writer as Held
-use Rattle.confluo_c.proofs.held.Writer.TheLaws as held
+use Rattle.cf_store.specs.contracts.held.Writer as Held
+use Rattle.cf_store.proofs.held.Writer.TheLaws as held
 use Rattle.confluo_c.specs.contracts.parts.Parts as Parts
 use Rattle.confluo_c.specs.contracts.seats.writer.WriterSeat as Seat
 

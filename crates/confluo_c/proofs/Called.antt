@@ -1,7 +1,11 @@
 -- Calls by handles are those of what they lead to.
-use Rattle.std.proofs.Common.{◌≡◌, ◌∙◌, Result, Option, Some, Ok, Err, ap, sym, subst}
-use Rattle.confluo_c.specs.declared.code.Code.{Code}
-use Rattle.confluo_c.specs.Calls.{ByHandle, IsCoded, coded}
+use Rattle.std.proofs.Common.{◌≡◌, ◌∙◌, ℕ, List, Result, Option, Some, None, Ok, Err, ap, refl, sym, subst}
+use Rattle.cf_store.specs.declared.held.Writer.{Writer}
+use Rattle.cf_store.specs.declared.shown.Framed.{Framed}
+use Rattle.cf_store.specs.declared.code.Code.{Code}
+use Rattle.cf_store.specs.declared.code.Code.TheVariants.{Nothing}
+use Rattle.cf_store.specs.Codes.{code_number}
+use Rattle.confluo_c.specs.Calls.{AppendsBatch, BatchBy, ByHandle, IsCoded, Tells, coded, number_of, told_or}
 
 pub by_handle : {T A : Type 0} (Does : T → T → Result A Code → Type 0) (a b : Option T) (m k n : T) (r : Result A Code) → a ≡ Some m → k ≡ m → b ≡ Some n
     → Does k n r
@@ -14,3 +18,22 @@ coded_ok code Is made a did is = (made, did, sym (ap (coded code) is))
 pub coded_err : {A E : Type 0} (code : E → Code) (Is : Result A E → Type 0) (made : Result A E) (e : E) (x : Code) → Is made → made ≡ Err e → x ≡ code e
     → IsCoded code Is (Err x)
 coded_err {A} code Is made e x did is same = (made, did, ap (λ (c : Code). Err c) same ∙ sym (ap (coded code) is))
+
+pub batch_by : (buffer : List ℕ) (frames : List Framed) (before after : List ℕ) (done : ℕ) (code : Code) (a b : Option Writer) (m k n : Writer) → a ≡ Some m
+    → k ≡ m → b ≡ Some n
+    → AppendsBatch buffer frames before after done code k n
+    → BatchBy buffer frames before after done code a b
+batch_by buffer frames before after done code a b m k n is same put did =
+    subst (λ (x : Option Writer). BatchBy buffer frames before after done code x b) (sym is)
+    (n, put, subst (λ (x : Writer). AppendsBatch buffer frames before after done code x n) same did)
+
+-- what is told by a handle that leads to nothing, and by one whose log stays as it was
+pub nothing_told : {T A : Type 0} (Does : T → T → Result A Code → Type 0) (a b : Option T) (out : A) (number : ℕ) → a ≡ None → b ≡ None
+    → number ≡ code_number Nothing
+    → Tells Does a b out out number
+nothing_told {T} Does a b out number is none same = (Err Nothing, subst (λ (x : Option T). ByHandle Does x b (Err Nothing)) (sym is) (none, refl), same, refl)
+
+pub told : {T A : Type 0} (Does : T → T → Result A Code → Type 0) (a b : Option T) (m : T) (r : Result A Code) (out out' : A) (number : ℕ) → a ≡ Some m
+    → b ≡ Some m → Does m m r → number ≡ number_of r → out' ≡ told_or r out
+    → Tells Does a b out out' number
+told Does a b m r out out' number is put did same out_is = (r, by_handle Does a b m m m r is refl put did, same, out_is)

@@ -1,21 +1,27 @@
 -- What calls by handles answer, and what the handles then lead to.
-use Rattle.std.specs.Prelude.{◌≡◌, ℕ, List, Option, Some, None, Result, Ok, Err}
+use Rattle.std.specs.Prelude.{◌≡◌, ◌⊎◌, ℕ, ◌<◌, ◌≤◌, List, length, Option, Some, None, Result, Ok, Err, Vec}
 use Rattle.std.specs.declared.alloc.AllocError.{AllocError}
 use Rattle.cf_table.specs.Values.{book_of}
-use Rattle.confluo_c.specs.declared.code.Code.{Code}
-use Rattle.confluo_c.specs.declared.code.Code.TheVariants as codes
-use Rattle.confluo_c.specs.declared.held.Log.{Log}
-use Rattle.confluo_c.specs.declared.held.Writer.{Writer}
-use Rattle.confluo_c.specs.declared.held.Reader.{Reader}
-use Rattle.confluo_c.specs.declared.shown.Sizes.{Sizes}
-use Rattle.confluo_c.specs.declared.shown.Fault.{Fault}
-use Rattle.confluo_c.specs.declared.shown.Room.{Room}
-use Rattle.confluo_c.specs.declared.refusals.OpenRefusal.{OpenRefusal}
-use Rattle.confluo_c.specs.declared.refusals.OpenRefusal.TheVariants as opens
-use Rattle.confluo_c.specs.Codes.{code_number, open_code, take_code}
-use Rattle.confluo_c.specs.Opens.{Opens, Takes, Forks}
-use Rattle.confluo_c.specs.Appends.{HasRoom}
-use Rattle.confluo_c.specs.Asks.{AsksTail}
+use Rattle.cf_store.specs.declared.code.Code.{Code}
+use Rattle.cf_store.specs.declared.code.Code.TheVariants as codes
+use Rattle.cf_store.specs.declared.held.Log.{Log}
+use Rattle.cf_store.specs.declared.held.Writer.{Writer}
+use Rattle.cf_store.specs.declared.held.Reader.{Reader}
+use Rattle.cf_store.specs.declared.shown.Sizes.{Sizes}
+use Rattle.cf_store.specs.declared.shown.Fault.{Fault}
+use Rattle.std.specs.Global.{Global}
+use Rattle.cf_store.specs.declared.refusals.MergeRefusal.{MergeRefusal}
+use Rattle.cf_store.specs.declared.shown.Room.{Room}
+use Rattle.cf_store.specs.declared.shown.Framed.{Framed}
+use Rattle.cf_store.specs.declared.shown.Shown.{Shown}
+use Rattle.cf_store.specs.declared.refusals.OpenRefusal.{OpenRefusal}
+use Rattle.cf_store.specs.declared.refusals.OpenRefusal.TheVariants as opens
+use Rattle.cf_store.specs.Codes.{code_number, merge_code, open_code, stop_code, take_code}
+use Rattle.confluo_c.specs.Copied.{Copies}
+use Rattle.cf_store.specs.Opens.{Opens, Takes, Forks}
+use Rattle.cf_store.specs.declared.refusals.AppendRefusal.{AppendRefusal}
+use Rattle.cf_store.specs.Appends.{AppendsFrames, HasRoom}
+use Rattle.cf_store.specs.Asks.{AsksTail}
 
 -- the number that a call answers: 0, or that of its code
 abbrev pub number_of : {A : Type 0} → Result A Code → ℕ
@@ -85,3 +91,34 @@ Tells {T} {A} Does before after out out' number = (r : Result A Code) × ByHandl
 -- the number of a setup's code, with what the fault is then
 abbrev pub TellsFault : {A : Type 0} → Result A OpenRefusal → Fault → Fault → ℕ → Type 0
 TellsFault r fault fault' number = (number ≡ number_of (coded open_code r)) × (fault' ≡ fault_or r fault)
+
+-- A batch by a writer: with too little room for the offsets nothing is done; else the frames' rows are appended in order, and the code says
+-- why it stopped.
+abbrev pub AppendsBatch : List ℕ → List Framed → List ℕ → List ℕ → ℕ → Code → Writer → Writer → Type 0
+AppendsBatch buffer frames before after done code m n =
+    ((length before < length frames) × (n ≡ m) × (after ≡ before) × (done ≡ 0) × (code ≡ codes.Sizes))
+    ⊎ ((length frames ≤ length before) × ((stop : Option AppendRefusal) × AppendsFrames buffer frames m n before after done stop × (code ≡ stop_code stop)))
+
+-- the same by a handle of a writer, or of nothing
+abbrev pub BatchBy : List ℕ → List Framed → List ℕ → List ℕ → ℕ → Code → Option Writer → Option Writer → Type 0
+BatchBy buffer frames before after done code None held = (held ≡ None) × (after ≡ before) × (done ≡ 0) × (code ≡ codes.Nothing)
+BatchBy buffer frames before after done code (Some m) held = (n : Writer) × (held ≡ Some n) × AppendsBatch buffer frames before after done code m n
+
+-- what is said of a row that is shown, or what stood there before
+abbrev pub number_or : Result Shown Code → ℕ → ℕ
+number_or (Ok shown) before = shown.number
+number_or (Err code) before = before
+
+abbrev pub count_or : Result Shown Code → ℕ → ℕ
+count_or (Ok shown) before = shown.count
+count_or (Err code) before = before
+
+-- The merged words were put to the front of `out`, if there is room for them, and so many they are. Refused, all stays as it was.
+abbrev pub Puts : List ℕ → List ℕ → List ℕ → ℕ → ℕ → Code → Type 0
+Puts words before after count count' code =
+    ((length words ≤ length before) × Copies words 0 before after count' × (count' ≡ length words) × (code ≡ codes.Done))
+    ⊎ ((length before < length words) × (after ≡ before) × (count' ≡ count) × (code ≡ codes.Sizes))
+
+abbrev pub MergesTo : Result (Vec ℕ Global) MergeRefusal → List ℕ → List ℕ → ℕ → ℕ → Code → Type 0
+MergesTo (Ok words) before after count count' code = Puts words.items before after count count' code
+MergesTo (Err refusal) before after count count' code = (after ≡ before) × (count' ≡ count) × (code ≡ merge_code refusal)

@@ -1,7 +1,4 @@
-pub mod Parts
-pub mod Opens
+pub mod Copied
 pub mod Seats
-pub mod Appends
-pub mod Asks
-pub mod Codes
 pub mod Calls
+pub mod Named

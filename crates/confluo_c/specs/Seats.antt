@@ -8,9 +8,9 @@ use Rattle.std.specs.Box.Ownership.{box_owns}
 use Rattle.std.specs.Global.{Global}
 use Rattle.std.specs.contracts.impls.GlobalAllocator.TheImpl.{ghosts}
 use Rattle.std.specs.contracts.option.Option as option
-use Rattle.confluo_c.specs.contracts.held.Log.{the_row as log_row}
-use Rattle.confluo_c.specs.contracts.held.Writer.{the_row as writer_row}
-use Rattle.confluo_c.specs.contracts.held.Reader.{the_row as reader_row}
+use Rattle.cf_store.specs.contracts.held.Log.{the_row as log_row}
+use Rattle.cf_store.specs.contracts.held.Writer.{the_row as writer_row}
+use Rattle.cf_store.specs.contracts.held.Reader.{the_row as reader_row}
 
 abbrev pub seat_owns : (R : RattleType) → Global → Ptr → Option R.Denot → Fml
 seat_owns R alloc p None = ftrue

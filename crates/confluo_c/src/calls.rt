@@ -1,16 +1,14 @@
 // Calls by handles.
-ghost use Rattle.std.specs.Prelude.{◌≡◌, MatchOption, Some, None};
-ghost use Rattle.confluo_c.specs.Codes.{append_code, ask_code};
-ghost use Rattle.confluo_c.specs.Appends.{AppendsFrame, AppendsValues, HasRoom};
-ghost use Rattle.confluo_c.specs.Asks.{AsksAt, AsksTail, Copies};
-ghost use Rattle.confluo_c.specs.Calls.{ByHandle, ForksTo, IsCoded, IsRoom, IsTail, OpensAt, TakesTo};
+ghost use Rattle.std.specs.Prelude.{◌≡◌, MatchOption, OnErr, Some, None};
+ghost use Rattle.cf_store.specs.Codes.{append_code, ask_code, lane_code, row_code};
+ghost use Rattle.cf_store.specs.Appends.{AppendsFrame, AppendsPlain, AppendsValues, HasRoom};
+ghost use Rattle.cf_store.specs.Asks.{AsksAt, AsksSeen, AsksTail, ShowsRowAt, TellsGroups};
+ghost use Rattle.confluo_c.specs.Copied.{Copies};
+ghost use Rattle.confluo_c.specs.Calls.{BatchBy, ByHandle, ForksTo, IsCoded, IsRoom, IsTail, OpensAt, TakesTo};
 
-use crate::code::Code;
 use crate::copies::copy_part;
 use crate::handles::{LogHandle, ReaderHandle, WriterHandle};
-use crate::held::Log;
-use crate::refusals::OpenRefusal;
-use crate::shown::{Capture, Head, Room, Sizes};
+use cf_store::{Capture, Code, Framed, Head, Log, OpenRefusal, PlainValue, Room, Shown, Sizes};
 use std::alloc::Global;
 
 impl LogHandle {
@@ -100,6 +98,48 @@ impl WriterHandle {
         }
     }
 
+    /// Appends the rows of the frames in order, until one is refused. Answers how many, and why no more.
+    pub fn append_frames(
+        &mut self,
+        alloc: Global,
+        frames: &[Framed],
+        buffer: &[u8],
+        offsets: &mut [u32],
+    ) -> (usize, Code)
+        ensures { BatchBy buffer.now frames.now offsets.old offsets.new result.0 result.1 self.old.seat.held self.new.seat.held }
+    {
+        let Some(mut writer) = self.take(alloc) else {
+            return (0, Code::Nothing);
+        };
+        if offsets.len() < frames.len() {
+            self.put(writer);
+            return (0, Code::Sizes);
+        }
+        let (done, stop) = writer.append_frames(alloc, frames, buffer, offsets);
+        self.put(writer);
+        (done, Code::of_stop(stop))
+    }
+
+    /// Appends a row of such values.
+    pub fn append_plain(
+        &mut self,
+        alloc: Global,
+        number: u32,
+        values: &[PlainValue],
+    ) -> Result<u32, Code>
+        ensures { ByHandle (λ m n. IsCoded append_code (AppendsPlain number values.now m n)) self.old.seat.held self.new.seat.held result }
+    {
+        let Some(mut writer) = self.take(alloc) else {
+            return Err(Code::Nothing);
+        };
+        let answer = writer.append_plain(alloc, number, values);
+        self.put(writer);
+        match answer {
+            Ok(offset) => Ok(offset),
+            Err(refusal) => Err(Code::of_append(refusal)),
+        }
+    }
+
     /// What the log and the writer have room for.
     pub fn room(&mut self, alloc: Global) -> Result<Room, Code>
         ensures { ByHandle IsRoom self.old.seat.held self.new.seat.held result }
@@ -126,6 +166,57 @@ impl ReaderHandle {
         match answer {
             Ok(head) => Ok(head),
             Err(refusal) => Err(Code::of_ask(refusal)),
+        }
+    }
+
+    /// Asks the question of that number in the setup of what the reader has seen.
+    pub fn ask_seen(&mut self, alloc: Global, question: u32) -> Result<Head, Code>
+        ensures { ByHandle (λ m n. IsCoded ask_code (AsksSeen question m n)) self.old.seat.held self.new.seat.held result }
+    {
+        let Some(mut reader) = self.take(alloc) else {
+            return Err(Code::Nothing);
+        };
+        let answer = reader.ask_seen(alloc, question);
+        self.put(reader);
+        match answer {
+            Ok(head) => Ok(head),
+            Err(refusal) => Err(Code::of_ask(refusal)),
+        }
+    }
+
+    /// Tells the groups of a lane in what the reader has seen.
+    pub fn groups(&mut self, alloc: Global, lane: u32) -> Result<Head, Code>
+        ensures { ByHandle (λ m n. IsCoded lane_code (TellsGroups lane m n)) self.old.seat.held self.new.seat.held result }
+    {
+        let Some(mut reader) = self.take(alloc) else {
+            return Err(Code::Nothing);
+        };
+        let answer = reader.groups(alloc, lane);
+        self.put(reader);
+        match answer {
+            Ok(head) => Ok(head),
+            Err(refusal) => Err(Code::of_lane(refusal)),
+        }
+    }
+
+    /// Shows the row at an offset that the reader has seen.
+    pub fn show_row(
+        &mut self,
+        alloc: Global,
+        offset: u32,
+        values: &mut [PlainValue],
+    ) -> Result<Shown, Code>
+        ensures shown { ByHandle (λ m n. IsCoded row_code (ShowsRowAt offset m n values.old values.new)) self.old.seat.held self.new.seat.held result }
+        ensures refused { OnErr result (values.new ≡ values.old) }
+    {
+        let Some(mut reader) = self.take(alloc) else {
+            return Err(Code::Nothing);
+        };
+        let answer = reader.show_row(alloc, offset, values);
+        self.put(reader);
+        match answer {
+            Ok(shown) => Ok(shown),
+            Err(refusal) => Err(Code::of_row(refusal)),
         }
     }
 

@@ -1,27 +1,32 @@
 // What C calls. `bindings/confluo.h` declares these for C, with what each call answers and what its caller owes.
-ghost use Rattle.std.specs.Prelude.{◌≡◌, ℕ, MatchOption, None, Result};
-ghost use Rattle.confluo_c.specs.declared.code.Code.{Code as CodeValue};
-ghost use Rattle.confluo_c.specs.declared.refusals.OpenRefusal.{OpenRefusal as OpenRefusalValue};
-ghost use Rattle.confluo_c.specs.Codes.{append_code, ask_code, code_number, open_code, text_of};
-ghost use Rattle.confluo_c.specs.Opens.{Measures};
-ghost use Rattle.confluo_c.specs.Appends.{AppendsFrame, AppendsValues};
-ghost use Rattle.confluo_c.specs.Asks.{AsksAt, Copies};
-ghost use Rattle.confluo_c.specs.Calls.{ByHandle, ForksTo, IsCoded, IsRoom, IsTail, OpensAt, TakesTo, Tells, TellsFault, coded, fault_after, number_of, told_or};
+ghost use Rattle.std.specs.Prelude.{◌≡◌, ℕ, IfErr, MatchOption, None, Result, Vec};
+ghost use Rattle.cf_store.specs.declared.code.Code.{Code as CodeValue};
+ghost use Rattle.cf_store.specs.declared.refusals.OpenRefusal.{OpenRefusal as OpenRefusalValue};
+ghost use Rattle.std.specs.Global.{Global as GlobalValue};
+ghost use Rattle.cf_store.specs.declared.refusals.MergeRefusal.{MergeRefusal as MergeRefusalValue};
+ghost use Rattle.cf_store.specs.declared.shown.Shown.{Shown as ShownValue};
+ghost use Rattle.cf_store.specs.Merges.{Merges};
+ghost use Rattle.cf_store.specs.Codes.{append_code, ask_code, code_number, lane_code, open_code, row_code, text_of};
+ghost use Rattle.cf_store.specs.Opens.{Measures};
+ghost use Rattle.cf_store.specs.Appends.{AppendsFrame, AppendsPlain, AppendsValues};
+ghost use Rattle.cf_store.specs.Asks.{AsksAt, AsksSeen, ShowsRowAt, TellsGroups};
+ghost use Rattle.confluo_c.specs.Copied.{Copies};
+ghost use Rattle.confluo_c.specs.Calls.{BatchBy, ByHandle, ForksTo, IsCoded, IsRoom, IsTail, MergesTo, OpensAt, TakesTo, Tells, TellsFault, coded, count_or, fault_after, number_of, number_or, told_or};
 
-use crate::code::{Code, message_of};
-use crate::copies::copy_part;
+use crate::copies::{copy_part, put_all};
 use crate::handles::{LogHandle, ReaderHandle, WriterHandle};
-use crate::log::measure;
-use crate::refusals::OpenRefusal;
-use crate::shown::{Capture, Fault, Head, Room, Sizes};
+use cf_store::{
+    Capture, Code, Fault, Framed, Head, OpenRefusal, PlainValue, Room, Sizes, measure, merge,
+    message_of,
+};
 use std::alloc::Global;
 
 /// The version of these calls: 1,000,000 for the major number, 1,000 for the minor one, 1 for the patch.
 #[unsafe(no_mangle)]
 pub extern "C" fn confluo_version() -> u32
-    ensures { result ≡ 1000 }
+    ensures { result ≡ 2000 }
 {
-    1_000
+    2_000
 }
 
 /// Copies the text of the code of that number, from that byte on, as far as there is room. Answers how many bytes.
@@ -183,6 +188,120 @@ pub extern "C" fn confluo_ask(
     match reader.ask(alloc, question) {
         Ok(found) => {
             *head = found;
+            0
+        }
+        Err(code) => code.number(),
+    }
+}
+
+/// Appends the rows of the frames by a writer, in order, until one is refused. Says how many, and their offsets.
+#[unsafe(no_mangle)]
+pub extern "C" fn confluo_append_many(
+    alloc: Global,
+    writer: &mut WriterHandle,
+    frames: &[Framed],
+    bytes: &[u8],
+    offsets: &mut [u32],
+    done: &mut usize,
+) -> u32
+    ensures { (code : CodeValue) × BatchBy bytes.now frames.now offsets.old offsets.new done.new code writer.old.seat.held writer.new.seat.held × (result ≡ code_number code) }
+{
+    let (count, code) = writer.append_frames(alloc, frames, bytes, offsets);
+    *done = count;
+    code.number()
+}
+
+/// Appends a row of such values by a writer, one for each attribute of the schema, and says its offset.
+#[unsafe(no_mangle)]
+pub extern "C" fn confluo_append_row(
+    alloc: Global,
+    writer: &mut WriterHandle,
+    number: u32,
+    values: &[PlainValue],
+    offset: &mut u32,
+) -> u32
+    ensures { Tells (λ m n. IsCoded append_code (AppendsPlain number values.now m n)) writer.old.seat.held writer.new.seat.held offset.old offset.new result }
+{
+    match writer.append_plain(alloc, number, values) {
+        Ok(found) => {
+            *offset = found;
+            0
+        }
+        Err(code) => code.number(),
+    }
+}
+
+/// Asks the question of that number in the setup of what the reader has seen, and says what its answer is.
+#[unsafe(no_mangle)]
+pub extern "C" fn confluo_ask_seen(
+    alloc: Global,
+    reader: &mut ReaderHandle,
+    question: u32,
+    head: &mut Head,
+) -> u32
+    ensures { Tells (λ m n. IsCoded ask_code (AsksSeen question m n)) reader.old.seat.held reader.new.seat.held head.old head.new result }
+{
+    match reader.ask_seen(alloc, question) {
+        Ok(found) => {
+            *head = found;
+            0
+        }
+        Err(code) => code.number(),
+    }
+}
+
+/// Tells the groups of the lane of that number in what the reader has seen.
+#[unsafe(no_mangle)]
+pub extern "C" fn confluo_groups(
+    alloc: Global,
+    reader: &mut ReaderHandle,
+    lane: u32,
+    head: &mut Head,
+) -> u32
+    ensures { Tells (λ m n. IsCoded lane_code (TellsGroups lane m n)) reader.old.seat.held reader.new.seat.held head.old head.new result }
+{
+    match reader.groups(alloc, lane) {
+        Ok(found) => {
+            *head = found;
+            0
+        }
+        Err(code) => code.number(),
+    }
+}
+
+/// Merges two lists of groups, as `confluo_groups` tells them, and says how many words the merged list has.
+#[unsafe(no_mangle)]
+pub extern "C" fn confluo_merge(
+    alloc: Global,
+    one: &[u64],
+    other: &[u64],
+    out: &mut [u64],
+    count: &mut usize,
+) -> u32
+    ensures { (r : Result (Vec ℕ GlobalValue) MergeRefusalValue) × (code : CodeValue) × Merges one.now other.now r × MergesTo r out.old out.new count.old count.new code × (result ≡ code_number code) }
+{
+    match merge(alloc, one, other) {
+        Ok(words) => put_all(&words, out, count).number(),
+        Err(refusal) => Code::of_merge(refusal).number(),
+    }
+}
+
+/// Shows the row at an offset that the reader has seen: its number, its values as far as there is room, and how many they are.
+#[unsafe(no_mangle)]
+pub extern "C" fn confluo_row(
+    alloc: Global,
+    reader: &mut ReaderHandle,
+    offset: u32,
+    number: &mut u32,
+    values: &mut [PlainValue],
+    count: &mut usize,
+) -> u32
+    ensures { (r : Result ShownValue CodeValue) × ByHandle (λ m n. IsCoded row_code (ShowsRowAt offset m n values.old values.new)) reader.old.seat.held reader.new.seat.held r × IfErr r (λ _. values.new ≡ values.old) × (result ≡ number_of r) × (number.new ≡ number_or r number.old) × (count.new ≡ count_or r count.old) }
+{
+    match reader.show_row(alloc, offset, values) {
+        Ok(shown) => {
+            *number = shown.number;
+            *count = shown.count;
             0
         }
         Err(code) => code.number(),

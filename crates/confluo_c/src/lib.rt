@@ -2,17 +2,11 @@
 #![tactic(auto)]
 
 mod calls;
-mod code;
 mod copies;
 mod exports;
 mod handles;
-mod held;
-mod log;
+mod names;
 mod parts;
-mod reader;
-mod refusals;
 mod seats;
-mod shown;
 #[cfg(test)]
 mod tests;
-mod writer;

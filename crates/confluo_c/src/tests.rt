@@ -1,10 +1,13 @@
 use crate::exports::{
-    confluo_append, confluo_append_values, confluo_ask, confluo_check, confluo_free_log,
-    confluo_free_reader, confluo_free_writer, confluo_message, confluo_open, confluo_room_of,
+    confluo_append, confluo_append_many, confluo_append_row, confluo_append_values, confluo_ask,
+    confluo_ask_seen, confluo_check, confluo_free_log, confluo_free_reader, confluo_free_writer,
+    confluo_groups, confluo_merge, confluo_message, confluo_open, confluo_room_of, confluo_row,
     confluo_tail, confluo_take_reader, confluo_take_writer, confluo_version, confluo_words,
 };
 use crate::handles::{LogHandle, ReaderHandle, WriterHandle};
-use crate::shown::{Capture, Fault, Head, Room, Sizes};
+use crate::names::{confluo_name, confluo_question, confluo_tell, confluo_width};
+use cf_about::About;
+use cf_store::{Capture, Fault, Framed, Head, PlainValue, Room, Sizes};
 use std::alloc::Global;
 use std::process::Abort;
 use std::test::*;
@@ -44,7 +47,7 @@ fn handles_cross_threads(rt: HostRuntime) {
 #[test]
 fn codes_have_texts(rt: HostRuntime) {
     let mut out = [b'.'; 6];
-    assert_eq!(rt; confluo_version(), 1_000);
+    assert_eq!(rt; confluo_version(), 2_000);
     assert_eq!(rt; confluo_message(0, 0, &mut out), 4);
     assert_eq!(rt; &out[..], b"done..".as_slice());
     assert_eq!(rt; confluo_message(6, 4, &mut out), 6);
@@ -218,4 +221,219 @@ fn an_ipv6_address_is_in_the_row(rt: HostRuntime) {
     assert_eq!(rt; confluo_words(alloc, &mut reader, 0, &mut words), 1);
     assert_eq!(rt; (words[0], words[1]), (0, 9));
     confluo_free_reader(alloc, &mut reader);
+}
+
+const ROWS: &[u8] =
+    b"schema records ts:u64,len:u32,tag:b3\nwidth 10\nfilter f *\naggregate a f len\nask all total len *\n";
+
+fn opened<R: Abort>(
+    rt: &R,
+    alloc: Global,
+    text: &[u8],
+    writer: &mut WriterHandle,
+    reader: &mut ReaderHandle,
+) {
+    let mut log = LogHandle::none(alloc);
+    let mut fault = Fault { line: 0, code: 0 };
+    let mut number = 9;
+    let mut sizes = sizes_of(4, 1);
+    sizes.nodes = 64;
+    assert_eq!(rt; confluo_open(alloc, &mut log, text, &sizes, &mut fault), 0);
+    assert_eq!(rt;
+        confluo_take_writer(alloc, &mut log, writer, &mut number),
+        0
+    );
+    assert_eq!(rt; confluo_take_reader(alloc, &mut log, reader), 0);
+    confluo_free_log(alloc, &mut log);
+}
+
+fn framed(number: u32, from: u64, count: u64) -> Framed {
+    Framed {
+        capture: capture_of(number, 1),
+        from,
+        count,
+    }
+}
+
+#[test]
+fn a_batch_stops_at_the_first_refusal(rt: HostRuntime) {
+    let alloc = rt.alloc();
+    let mut writer = WriterHandle::none(alloc);
+    let mut reader = ReaderHandle::none(alloc);
+    let mut offsets = [9u32; 3];
+    let mut done = 9;
+    let good = [framed(0, 0, 4), framed(1, 4, 0), framed(2, 1, 3)];
+    let past = [framed(3, 0, 4), framed(4, 2, 3), framed(5, 0, 4)];
+    assert_eq!(rt;
+        confluo_append_many(alloc, &mut writer, &good, b"abcd", &mut offsets, &mut done),
+        4
+    );
+    assert_eq!(rt; done, 0);
+    opened(&rt, alloc, SETUP, &mut writer, &mut reader);
+    let cases = [
+        (&good[..], 2, 2, 0, [9, 9]),
+        (&good[..], 3, 0, 3, [0, 1]),
+        (&past[..], 3, 9, 1, [3, 1]),
+        (&past[..], 3, 6, 0, [3, 1]),
+    ];
+    for (frames, room, code, count, front) in cases {
+        let offsets = &mut offsets[..room];
+        assert_eq!(rt;
+            confluo_append_many(alloc, &mut writer, frames, b"abcd", offsets, &mut done),
+            code
+        );
+        assert_eq!(rt; done, count);
+        assert_eq!(rt; [offsets[0], offsets[1]], front);
+    }
+    confluo_free_writer(alloc, &mut writer);
+    confluo_free_reader(alloc, &mut reader);
+}
+
+fn number_of(number: u64) -> PlainValue {
+    PlainValue {
+        number,
+        kind: 0,
+        length: 0,
+        bytes: [0; 16],
+    }
+}
+
+fn string_of(length: u32, kind: u32) -> PlainValue {
+    let mut bytes = [0u8; 16];
+    bytes[0] = b'x';
+    PlainValue {
+        number: 0,
+        kind,
+        length,
+        bytes,
+    }
+}
+
+#[test]
+fn rows_are_read_back(rt: HostRuntime) {
+    let alloc = rt.alloc();
+    let mut writer = WriterHandle::none(alloc);
+    let mut reader = ReaderHandle::none(alloc);
+    let (mut offset, mut number, mut count, mut tail) = (9, 9, 9, 9);
+    let mut shown = [number_of(7); 4];
+    opened(&rt, alloc, ROWS, &mut writer, &mut reader);
+    for (tag, code) in [
+        (string_of(3, 1), 0),
+        (string_of(2, 1), 8),
+        (string_of(17, 1), 8),
+        (string_of(3, 2), 8),
+        (number_of(3), 8),
+    ] {
+        let row = [number_of(25), number_of(60), tag];
+        assert_eq!(rt;
+            confluo_append_row(alloc, &mut writer, 6, &row, &mut offset),
+            code
+        );
+    }
+    assert_eq!(rt;
+        confluo_row(alloc, &mut reader, 0, &mut number, &mut shown, &mut count),
+        12
+    );
+    assert_eq!(rt; confluo_tail(alloc, &mut reader, &mut tail), 0);
+    assert_eq!(rt;
+        confluo_row(alloc, &mut reader, 0, &mut number, &mut shown, &mut count),
+        0
+    );
+    assert_eq!(rt; (number, count), (6, 3));
+    assert_eq!(rt; (shown[0].number, shown[1].number), (25, 60));
+    assert_eq!(rt; (shown[2].kind, shown[2].length), (1, 3));
+    assert_eq!(rt; shown[2].bytes[0], b'x');
+    assert_eq!(rt; shown[3].number, 7);
+    confluo_free_writer(alloc, &mut writer);
+    confluo_free_reader(alloc, &mut reader);
+}
+
+#[test]
+fn a_report_has_one_tail(rt: HostRuntime) {
+    let alloc = rt.alloc();
+    let mut writer = WriterHandle::none(alloc);
+    let mut reader = ReaderHandle::none(alloc);
+    let (mut offset, mut tail, mut count) = (9, 9, 9);
+    let mut head = Head {
+        tail: 9,
+        kind: 9,
+        count: 9,
+    };
+    let mut words = [9u64; 5];
+    let mut merged = [9u64; 6];
+    opened(&rt, alloc, ROWS, &mut writer, &mut reader);
+    for (seen, code) in [(0, 0), (1, 0)] {
+        assert_eq!(rt; confluo_ask_seen(alloc, &mut reader, 0, &mut head), code);
+        assert_eq!(rt; (head.tail, head.kind, head.count), (seen, 1, 4));
+        let row = [number_of(25), number_of(60), string_of(3, 1)];
+        assert_eq!(rt;
+            confluo_append_row(alloc, &mut writer, 6, &row, &mut offset),
+            0
+        );
+        if seen == 0 {
+            assert_eq!(rt; confluo_tail(alloc, &mut reader, &mut tail), 0);
+        }
+    }
+    assert_eq!(rt; confluo_ask_seen(alloc, &mut reader, 1, &mut head), 10);
+    assert_eq!(rt; confluo_groups(alloc, &mut reader, 0, &mut head), 11);
+    assert_eq!(rt; confluo_groups(alloc, &mut reader, 2, &mut head), 11);
+    assert_eq!(rt; confluo_groups(alloc, &mut reader, 1, &mut head), 0);
+    assert_eq!(rt; (head.tail, head.kind, head.count), (1, 4, 5));
+    assert_eq!(rt; confluo_words(alloc, &mut reader, 0, &mut words), 5);
+    assert_eq!(rt; words, [2, 1, 60, 60, 60]);
+    let more = [1, 1, 5, 5, 5, 2, 2, 9, 4, 5];
+    for (other, room, code) in [(&more[..9], 6, 14), (&words[..], 4, 2), (&words[..], 6, 0)] {
+        let out = &mut merged[..room];
+        assert_eq!(rt; confluo_merge(alloc, &words, other, out, &mut count), code);
+        assert_eq!(rt; count, if code == 0 { 5 } else { 9 });
+    }
+    assert_eq!(rt; merged, [2, 2, 120, 60, 60, 9]);
+    confluo_free_writer(alloc, &mut writer);
+    confluo_free_reader(alloc, &mut reader);
+}
+
+#[test]
+fn a_setup_names_its_parts(rt: HostRuntime) {
+    let alloc = rt.alloc();
+    let mut log = LogHandle::none(alloc);
+    let mut fault = Fault { line: 0, code: 0 };
+    let (mut count, mut number, mut width) = (9, 9, 9);
+    let mut name = [b'.'; 2];
+    assert_eq!(rt; confluo_width(alloc, &mut log, &mut width), 4);
+    assert_eq!(rt;
+        confluo_open(alloc, &mut log, ROWS, &sizes_of(4, 1), &mut fault),
+        0
+    );
+    for (sort, place, code, long, front) in [
+        (2, 0, 13, 9, b'.'),
+        (4, 0, 13, 9, b'.'),
+        (0, 2, 0, 3, b't'),
+        (1, 1, 0, 1, b'a'),
+        (3, 1, 13, 1, b'a'),
+    ] {
+        assert_eq!(rt;
+            confluo_name(alloc, &mut log, sort, place, &mut name, &mut count),
+            code
+        );
+        assert_eq!(rt; (count, name[0]), (long, front));
+    }
+    let mut about = About {
+        kind: 9,
+        of: 9,
+        part: 9,
+        op: 9,
+        low: 9,
+        high: 9,
+        size: 9,
+        reserved: 9,
+    };
+    for (sort, place, kind, of, size) in [(0, 2, 0, 0, 3), (1, 1, 2, 0, 1), (3, 0, 6, 1, 0)] {
+        assert_eq!(rt; confluo_tell(alloc, &mut log, sort, place, &mut about), 0);
+        assert_eq!(rt; (about.kind, about.of, about.size), (kind, of, size));
+    }
+    assert_eq!(rt; confluo_question(alloc, &mut log, b"some", &mut number), 10);
+    assert_eq!(rt; confluo_question(alloc, &mut log, b"all", &mut number), 0);
+    assert_eq!(rt; confluo_width(alloc, &mut log, &mut width), 0);
+    assert_eq!(rt; (number, width), (0, 10));
+    confluo_free_log(alloc, &mut log);
 }

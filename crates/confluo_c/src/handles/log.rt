@@ -1,9 +1,9 @@
 // A handle of a log, as C holds it.
 ghost use Rattle.std.specs.Prelude.{◌≡◌, ◌≢◌, ◌↔◌, IsTrue, MatchOption, Some, None};
 
-use crate::held::Log;
 use crate::parts::Parts;
 use crate::seats::LogSeat;
+use cf_store::Log;
 use std::alloc::Global;
 use std::mem::replace;
 use std::ptr::null_mut;

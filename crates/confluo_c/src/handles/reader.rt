@@ -1,9 +1,9 @@
 // A handle of a reader, as C holds it.
 ghost use Rattle.std.specs.Prelude.{◌≡◌, ◌≢◌, ◌↔◌, IsTrue, MatchOption, Some, None};
 
-use crate::held::Reader;
 use crate::parts::Parts;
 use crate::seats::ReaderSeat;
+use cf_store::Reader;
 use std::alloc::Global;
 use std::mem::replace;
 use std::ptr::null_mut;

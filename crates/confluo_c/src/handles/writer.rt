@@ -1,9 +1,9 @@
 // A handle of a writer, as C holds it.
 ghost use Rattle.std.specs.Prelude.{◌≡◌, ◌≢◌, ◌↔◌, IsTrue, MatchOption, Some, None};
 
-use crate::held::Writer;
 use crate::parts::Parts;
 use crate::seats::WriterSeat;
+use cf_store::Writer;
 use std::alloc::Global;
 use std::mem::replace;
 use std::ptr::null_mut;

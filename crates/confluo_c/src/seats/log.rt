@@ -1,10 +1,10 @@
 // What a handle of a log leads to: a log on the heap, or nothing.
 ghost use Rattle.std.specs.Prelude.{◌≡◌, ◌≢◌, Option, Some, None};
-ghost use Rattle.confluo_c.specs.declared.held.Log.{Log};
+ghost use Rattle.cf_store.specs.declared.held.Log.{Log};
 ghost use Rattle.confluo_c.specs.Seats.{log_owns, log_coded};
 
-use crate::held::Log;
 use crate::parts::Parts;
+use cf_store::Log;
 use std::alloc::Global;
 use std::marker::Model;
 

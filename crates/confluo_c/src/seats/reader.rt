@@ -1,10 +1,10 @@
 // What a handle of a reader leads to: a reader on the heap, or nothing.
 ghost use Rattle.std.specs.Prelude.{◌≡◌, ◌≢◌, Option, Some, None};
-ghost use Rattle.confluo_c.specs.declared.held.Reader.{Reader};
+ghost use Rattle.cf_store.specs.declared.held.Reader.{Reader};
 ghost use Rattle.confluo_c.specs.Seats.{reader_owns, reader_coded};
 
-use crate::held::Reader;
 use crate::parts::Parts;
+use cf_store::Reader;
 use std::alloc::Global;
 use std::marker::Model;
 

@@ -1,10 +1,10 @@
 // What a handle of a writer leads to: a writer on the heap, or nothing.
 ghost use Rattle.std.specs.Prelude.{◌≡◌, ◌≢◌, Option, Some, None};
-ghost use Rattle.confluo_c.specs.declared.held.Writer.{Writer};
+ghost use Rattle.cf_store.specs.declared.held.Writer.{Writer};
 ghost use Rattle.confluo_c.specs.Seats.{writer_owns, writer_coded};
 
-use crate::held::Writer;
 use crate::parts::Parts;
+use cf_store::Writer;
 use std::alloc::Global;
 use std::marker::Model;
 

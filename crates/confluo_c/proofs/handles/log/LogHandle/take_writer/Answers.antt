@@ -1,8 +1,8 @@
 use Rattle.std.proofs.Common.{◌∙◌, Err, ap, refl}
 use Rattle.cf_table.specs.Values.{book_of}
-use Rattle.confluo_c.specs.declared.held.Writer.{Writer}
-use Rattle.confluo_c.specs.Codes.{take_code}
-use Rattle.confluo_c.specs.Opens.{Takes}
+use Rattle.cf_store.specs.declared.held.Writer.{Writer}
+use Rattle.cf_store.specs.Codes.{take_code}
+use Rattle.cf_store.specs.Opens.{Takes}
 use Rattle.confluo_c.specs.Calls.{TakesTo}
 use Rattle.confluo_c.proofs.Called.{by_handle, coded_err}
 use Rattle.confluo_c.proofs.handles.log.LogHandle.take_writer.Goals as goal

@@ -1,5 +1,5 @@
-use Rattle.confluo_c.specs.Codes.{ask_code}
-use Rattle.confluo_c.specs.Asks.{AsksAt}
+use Rattle.cf_store.specs.Codes.{ask_code}
+use Rattle.cf_store.specs.Asks.{AsksAt}
 use Rattle.confluo_c.specs.Calls.{IsCoded}
 use Rattle.confluo_c.proofs.Called.{by_handle, coded_ok, coded_err}
 use Rattle.confluo_c.proofs.handles.reader.ReaderHandle.ask.Goals as goal

@@ -1,5 +1,5 @@
-use Rattle.confluo_c.specs.Codes.{append_code}
-use Rattle.confluo_c.specs.Appends.{AppendsFrame}
+use Rattle.cf_store.specs.Codes.{append_code}
+use Rattle.cf_store.specs.Appends.{AppendsFrame}
 use Rattle.confluo_c.specs.Calls.{IsCoded}
 use Rattle.confluo_c.proofs.Called.{by_handle, coded_ok, coded_err}
 use Rattle.confluo_c.proofs.handles.writer.WriterHandle.append_frame.Goals as goal

@@ -1,7 +1,7 @@
 use Rattle.std.proofs.Common.{refl, subst}
-use Rattle.confluo_c.specs.Appends.{HasRoom}
+use Rattle.cf_store.specs.Appends.{HasRoom}
 use Rattle.confluo_c.specs.Calls.{IsRoom}
-use Rattle.confluo_c.specs.declared.held.Writer.{Writer}
+use Rattle.cf_store.specs.declared.held.Writer.{Writer}
 use Rattle.confluo_c.proofs.Called.{by_handle}
 use Rattle.confluo_c.proofs.handles.writer.WriterHandle.room.Goals as goal
 

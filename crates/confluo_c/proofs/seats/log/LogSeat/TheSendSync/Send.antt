@@ -13,8 +13,8 @@ use Rattle.std.specs.Global.{Global}
 use Rattle.std.proofs.Crossing as heap
 use Rattle.std.proofs.alloc.Global.TheSendSync as handle
 use Rattle.confluo_c.specs.Seats.{seat_owns}
-use Rattle.confluo_c.specs.contracts.held.Log as Held
-use Rattle.confluo_c.proofs.held.Log.TheSendSync.{the_send as held}
+use Rattle.cf_store.specs.contracts.held.Log as Held
+use Rattle.cf_store.proofs.held.Log.TheSendSync.{the_send as held}
 use Rattle.confluo_c.specs.contracts.seats.log.LogSeat.{the_row, the_type}
 
 quiet : {D X : Type 0} (to : D → X) (e : Exit X) → Quiet e → Quiet (hidden (under to e))

@@ -20,7 +20,7 @@ use denote.Exit.{yes}
 use denote.Signature.{type_at}
 use denote.Steps.{nothing, heard}
 use Rattle.std.specs.Prelude.{◌≢◌, Option, None}
-use Rattle.confluo_c.specs.contracts.held.Writer as Held
+use Rattle.cf_store.specs.contracts.held.Writer as Held
 use Rattle.confluo_c.specs.contracts.seats.writer.WriterSeat as Seat
 use denote.Triple.Spec.{triple_of}
 use denote.Triple.Table.{entered}

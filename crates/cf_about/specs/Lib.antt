@@ -1,0 +1,2 @@
+pub mod Abouts
+pub mod Names

@@ -1,0 +1,7 @@
+pub mod Options
+pub mod Aware
+pub mod Appended
+pub mod Opened
+pub mod Suited
+pub mod Merged
+pub mod Laid

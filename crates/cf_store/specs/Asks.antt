@@ -1,0 +1,153 @@
+-- What comes of asking questions by a reader.
+use Rattle.std.specs.Prelude.{◌≡◌, ℕ, ◌<◌, ◌≤◌, List, [], ◌∷◌, true, length, map, slice_get, Some, None, Result, Ok, Err, Vec}
+use Rattle.std.specs.List.{flat_map}
+use Rattle.std.specs.Global.{Global}
+use Rattle.std.specs.Arc.{arc_value}
+use Rattle.cf_plain.specs.declared.ask.Ask.{Ask}
+use Rattle.cf_plain.specs.declared.answer.Fired.{Fired}
+use Rattle.cf_plain.specs.declared.answer.Answer.{Answer}
+use Rattle.cf_plain.specs.declared.answer.Body.{Body}
+use Rattle.cf_plain.specs.declared.answer.Body.TheVariants as bodies
+use Rattle.cf_fold.specs.Quads.{QuadValue}
+use Rattle.cf_row.specs.Row.{Fits, RowValue}
+use Rattle.cf_shape.specs.Uses.{is_measured}
+use Rattle.cf_plain.specs.Asks.{eval, row_at, rows_in}
+use Rattle.cf_plain.specs.Groups.{groups}
+use Rattle.cf_walk.specs.Walks.{OnlyWalked}
+use Rattle.cf_table.specs.Moves.{OnlyLooked}
+use Rattle.cf_table.specs.Values.{PassValue}
+use Rattle.cf_query.specs.Asking.{HasAsked}
+use Rattle.cf_store.specs.declared.held.Shared.{Shared}
+use Rattle.cf_store.specs.declared.held.Reader.{Reader}
+use Rattle.cf_store.specs.Values.{ShowsRow}
+use Rattle.cf_store.specs.declared.shown.Head.{Head}
+use Rattle.cf_store.specs.declared.shown.PlainValue.{PlainValue}
+use Rattle.cf_store.specs.declared.shown.Shown.{Shown}
+use Rattle.cf_store.specs.declared.refusals.AskRefusal.{AskRefusal}
+use Rattle.cf_store.specs.declared.refusals.AskRefusal.TheVariants.{NoQuestion, Memory}
+use Rattle.cf_store.specs.declared.refusals.LaneRefusal.{LaneRefusal}
+use Rattle.cf_store.specs.declared.refusals.LaneRefusal.TheVariants as lanes
+use Rattle.cf_store.specs.declared.refusals.RowRefusal.{RowRefusal}
+use Rattle.cf_store.specs.declared.refusals.RowRefusal.TheVariants as rows
+
+-- a mark as its bucket or key, and then its value
+abbrev pub mark_words : Fired → List ℕ
+mark_words m = m.bucket ∷ m.value ∷ []
+
+-- the words of a body: places; or count, sum, least and greatest; or marks
+abbrev pub body_words : Body → List ℕ
+body_words (bodies.Places places) = places
+body_words (bodies.Total quad) = quad.count ∷ quad.sum ∷ quad.least ∷ quad.greatest ∷ []
+body_words (bodies.Marks marks) = flat_map mark_words marks
+body_words (bodies.Tops marks) = flat_map mark_words marks
+
+-- the number of a body's kind
+abbrev pub body_kind : Body → ℕ
+body_kind (bodies.Places places) = 0
+body_kind (bodies.Total quad) = 1
+body_kind (bodies.Marks marks) = 2
+body_kind (bodies.Tops marks) = 3
+
+-- the question of that number was asked, and the body is its meaning on all that the pass has seen then
+pub record IsAnswer (shared : Shared) (question : ℕ) (m n : PassValue) (answer : Answer) : Type 0 where
+  pub ask : Ask
+  pub at : slice_get shared.setup.asks question ≡ Some ask
+  pub asked : HasAsked shared.log.shape m n
+  pub tail : answer.tail ≡ length (n.view).seen
+  pub body : answer.body ≡ eval shared.log.shape ask (n.view).seen
+
+-- What asking a question of the setup by a pass of the log answers. If there is no such question, nothing is asked. If there is no memory,
+-- the pass has asked all the same.
+abbrev pub Answers : Shared → ℕ → PassValue → PassValue → Result Answer AskRefusal → Type 0
+Answers shared question m n (Ok answer) = IsAnswer shared question m n answer
+Answers shared question m n (Err NoQuestion) = (n ≡ m) × (slice_get shared.setup.asks question ≡ None)
+Answers shared question m n (Err Memory) = HasAsked shared.log.shape m n
+
+-- the question of that number was asked of what the pass had seen, and the body is its meaning on that
+pub record IsSeenAnswer (shared : Shared) (question : ℕ) (m n : PassValue) (answer : Answer) : Type 0 where
+  pub ask : Ask
+  pub at : slice_get shared.setup.asks question ≡ Some ask
+  pub walked : OnlyWalked m n
+  pub tail : answer.tail ≡ length (m.view).seen
+  pub body : answer.body ≡ eval shared.log.shape ask (m.view).seen
+
+-- What asking a question of the setup answers that is asked of what the pass has seen. If there is no memory, the pass has only walked.
+abbrev pub AnswersSeen : Shared → ℕ → PassValue → PassValue → Result Answer AskRefusal → Type 0
+AnswersSeen shared question m n (Ok answer) = IsSeenAnswer shared question m n answer
+AnswersSeen shared question m n (Err NoQuestion) = (n ≡ m) × (slice_get shared.setup.asks question ≡ None)
+AnswersSeen shared question m n (Err Memory) = OnlyWalked m n
+
+-- the head and the words of an answer
+pub record IsTold (answer : Answer) (head : Head) (words : List ℕ) : Type 0 where
+  pub tail : head.tail ≡ answer.tail
+  pub kind : head.kind ≡ body_kind answer.body
+  pub count : head.count ≡ length words
+  pub words_are : words ≡ body_words answer.body
+
+-- The reader stays one of its log. It keeps the words of the answer that its pass was told; refused, those that it had.
+abbrev pub Keeps : (PassValue → PassValue → Result Answer AskRefusal → Type 0) → Reader → Reader → Result Head AskRefusal → Type 0
+Keeps Asked m n (Ok head) = (n.of ≡ m.of) × ((answer : Answer) × Asked m.pass n.pass (Ok answer) × IsTold answer head n.words.items)
+Keeps Asked m n (Err refusal) = (n.of ≡ m.of) × (n.words.items ≡ m.words.items) × Asked m.pass n.pass (Err refusal)
+
+-- a question of the setup, at the tail
+abbrev pub AsksAt : ℕ → Reader → Reader → Result Head AskRefusal → Type 0
+AsksAt question m n r = Keeps (Answers (arc_value m.of) question) m n r
+
+-- a question of the setup, of what the reader has seen
+abbrev pub AsksSeen : ℕ → Reader → Reader → Result Head AskRefusal → Type 0
+AsksSeen question m n r = Keeps (AnswersSeen (arc_value m.of) question) m n r
+
+-- The reader asked how many records are covered. It keeps its words.
+pub record AsksTail (m n : Reader) (tail : ℕ) : Type 0 where
+  pub of : n.of ≡ m.of
+  pub words : n.words.items ≡ m.words.items
+  pub asked : HasAsked (arc_value m.of).log.shape m.pass n.pass
+  pub tail_is : tail ≡ length (n.pass.view).seen
+
+-- a group as its key, and then its quad
+abbrev pub group_words : ℕ × QuadValue → List ℕ
+group_words g = g.0 ∷ g.1.count ∷ g.1.sum ∷ g.1.least ∷ g.1.greatest ∷ []
+
+-- the words of groups
+abbrev pub groups_words : List (ℕ × QuadValue) → List ℕ
+groups_words gs = flat_map group_words gs
+
+-- the lane is there, and measures something
+pub record IsMeasured (shared : Shared) (lane : ℕ) : Type 0 where
+  pub there : lane < length shared.log.shape.lanes
+  pub measured : is_measured shared.log.shape lane ≡ true
+
+-- the head and the words of the lane's groups in what the pass has seen
+pub record AreGroups (shared : Shared) (lane : ℕ) (m : PassValue) (head : Head) (words : List ℕ) : Type 0 where
+  pub measures : IsMeasured shared lane
+  pub words_are : words ≡ groups_words (groups shared.log.shape lane (rows_in (m.view).seen))
+  pub tail : head.tail ≡ length (m.view).seen
+  pub kind : head.kind ≡ 4
+  pub count : head.count ≡ length words
+
+-- What finding the groups of a lane answers, in what the pass has seen.
+abbrev pub FindsGroups : Shared → ℕ → PassValue → PassValue → Result (Vec ℕ Global) LaneRefusal → Type 0
+FindsGroups shared lane m n (Ok words) =
+    OnlyWalked m n × IsMeasured shared lane × (words.items ≡ groups_words (groups shared.log.shape lane (rows_in (m.view).seen)))
+FindsGroups shared lane m n (Err lanes.NoLane) = (n ≡ m) × (IsMeasured shared lane → ⊥)
+FindsGroups shared lane m n (Err lanes.Memory) = OnlyWalked m n
+
+-- What telling the groups of a lane answers. The reader keeps their words; refused, those that it had.
+abbrev pub TellsGroups : ℕ → Reader → Reader → Result Head LaneRefusal → Type 0
+TellsGroups lane m n (Ok head) = (n.of ≡ m.of) × OnlyWalked m.pass n.pass × AreGroups (arc_value m.of) lane m.pass head n.words.items
+TellsGroups lane m n (Err lanes.NoLane) = (n ≡ m) × (IsMeasured (arc_value m.of) lane → ⊥)
+TellsGroups lane m n (Err lanes.Memory) = (n.of ≡ m.of) × (n.words.items ≡ m.words.items) × OnlyWalked m.pass n.pass
+
+-- What reading the row at an offset answers. The reader keeps its words, and has only looked.
+abbrev pub ReadsRow : ℕ → Reader → Reader → Result RowValue RowRefusal → Type 0
+ReadsRow offset m n (Ok row) = (n.of ≡ m.of) × (n.words.items ≡ m.words.items) × OnlyLooked m.pass n.pass
+    × (offset < length (m.pass.view).seen) × (row ≡ row_at (rows_in (m.pass.view).seen) offset)
+    × Fits (arc_value m.of).log.shape.schema row
+ReadsRow offset m n (Err rows.NoRow) = (n ≡ m) × (length (m.pass.view).seen ≤ offset)
+ReadsRow offset m n (Err rows.Memory) = (n.of ≡ m.of) × (n.words.items ≡ m.words.items) × OnlyLooked m.pass n.pass
+
+-- What showing the row at an offset answers. Refused, nothing is shown.
+abbrev pub ShowsRowAt : ℕ → Reader → Reader → List PlainValue → List PlainValue → Result Shown RowRefusal → Type 0
+ShowsRowAt offset m n before after (Ok shown) =
+    (row : RowValue) × ReadsRow offset m n (Ok row) × (shown.number ≡ row.num) × ShowsRow row before after shown.count
+ShowsRowAt offset m n before after (Err refusal) = ReadsRow offset m n (Err refusal) × (after ≡ before)

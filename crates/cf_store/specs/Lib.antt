@@ -1,0 +1,7 @@
+pub mod Parts
+pub mod Codes
+pub mod Opens
+pub mod Values
+pub mod Appends
+pub mod Asks
+pub mod Merges

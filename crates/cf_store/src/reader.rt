@@ -1,0 +1,254 @@
+// Questions are asked by a reader of a log.
+ghost use Rattle.std.specs.Prelude.{◌≡◌, ◌<◌, [], ◌∷◌, length, map, IfOk, IfErr, MatchOption};
+ghost use Rattle.std.specs.List.{flat_map};
+ghost use Rattle.std.specs.Arc.{arc_value};
+ghost use Rattle.cf_plain.specs.Groups.{pair_of};
+ghost use Rattle.cf_store.specs.Parts.{IsAware};
+ghost use Rattle.cf_store.specs.declared.refusals.AskRefusal.TheVariants.{Memory};
+ghost use Rattle.cf_store.specs.Asks.{Answers, AnswersSeen, AsksAt, AsksSeen, AsksTail, FindsGroups, IsMeasured, IsTold, ReadsRow, ShowsRowAt, TellsGroups, groups_words, mark_words as mark_words_of, body_words as body_words_of, body_kind as body_kind_of};
+
+use crate::held::{Reader, Shared};
+use crate::refusals::{AskRefusal, LaneRefusal, RowRefusal};
+use crate::shown::{Head, PlainValue, Shown};
+use crate::values::show_row;
+use cf_fold::Quad;
+use cf_log::{ask, ask_seen, groups_seen, row, tail};
+use cf_plain::{Answer, Body, Fired, Group};
+use cf_row::{Memory as NoMemory, Row};
+use cf_shape::measures;
+use cf_table::{Pass, ReaderPass};
+use std::alloc::Global;
+
+fn place_words(alloc: Global, places: &[u32]) -> Result<Vec<u64>, NoMemory>
+    ensures { IfOk result (λ words. words.items ≡ places.now) }
+{
+    let mut words = Vec::with_capacity(alloc, places.len())?;
+    for place in places {
+        words.push(u64::from(*place))?;
+    }
+    Ok(words)
+}
+
+fn quad_words(alloc: Global, quad: Quad) -> Result<Vec<u64>, NoMemory>
+    ensures { IfOk result (λ words. words.items ≡ quad.count ∷ quad.sum ∷ quad.least ∷ quad.greatest ∷ []) }
+{
+    let words = vec![in alloc; quad.count(), quad.sum(), quad.least(), quad.greatest()]?;
+    Ok(words)
+}
+
+fn mark_words(alloc: Global, marks: &[Fired]) -> Result<Vec<u64>, NoMemory>
+    ensures { IfOk result (λ words. words.items ≡ flat_map mark_words_of marks.now) }
+{
+    let mut words = Vec::new(alloc);
+    for mark in marks {
+        words.push(mark.bucket)?;
+        words.push(mark.value)?;
+    }
+    Ok(words)
+}
+
+fn body_words(alloc: Global, body: &Body) -> Result<Vec<u64>, NoMemory>
+    ensures { IfOk result (λ words. words.items ≡ body_words_of body.now) }
+{
+    match body {
+        Body::Places(places) => place_words(alloc, places.as_slice()),
+        Body::Total(quad) => quad_words(alloc, *quad),
+        Body::Marks(marks) => mark_words(alloc, marks.as_slice()),
+        Body::Tops(tops) => mark_words(alloc, tops.as_slice()),
+    }
+}
+
+fn body_kind(body: &Body) -> u32
+    ensures { result ≡ body_kind_of body.now }
+{
+    match body {
+        Body::Places(_) => 0,
+        Body::Total(_) => 1,
+        Body::Marks(_) => 2,
+        Body::Tops(_) => 3,
+    }
+}
+
+pub(crate) fn group_words(alloc: Global, groups: &[Group]) -> Result<Vec<u64>, NoMemory>
+    ensures { IfOk result (λ words. words.items ≡ groups_words (map pair_of groups.now)) }
+{
+    let mut words = Vec::new(alloc);
+    for group in groups {
+        words.push(group.key)?;
+        words.push(group.quad.count())?;
+        words.push(group.quad.sum())?;
+        words.push(group.quad.least())?;
+        words.push(group.quad.greatest())?;
+    }
+    Ok(words)
+}
+
+// Asks question q of the setup at the tail.
+fn ask_of(
+    shared: &Shared,
+    alloc: Global,
+    pass: &mut ReaderPass,
+    q: u32,
+) -> Result<Answer, AskRefusal>
+    requires { IsAware shared.now.log pass.old }
+    ensures answers { Answers shared.now q pass.old pass.new result }
+    ensures aware { IsAware shared.now.log pass.new }
+{
+    let Some(question) = shared.setup.asks().get(q as usize) else {
+        return Err(AskRefusal::NoQuestion);
+    };
+    match ask(&shared.log, alloc, pass, question) {
+        Ok(answer) => Ok(answer),
+        Err(_) => Err(AskRefusal::Memory),
+    }
+}
+
+// Asks question q of the setup of what the pass has seen.
+fn ask_seen_of(
+    shared: &Shared,
+    alloc: Global,
+    pass: &mut ReaderPass,
+    q: u32,
+) -> Result<Answer, AskRefusal>
+    requires { IsAware shared.now.log pass.old }
+    ensures answers { AnswersSeen shared.now q pass.old pass.new result }
+    ensures aware { IsAware shared.now.log pass.new }
+{
+    let asks = shared.setup.asks();
+    let Some(question) = asks.get(q as usize) else {
+        return Err(AskRefusal::NoQuestion);
+    };
+    match ask_seen(&shared.log, alloc, pass, question) {
+        Ok(answer) => Ok(answer),
+        Err(_) => Err(AskRefusal::Memory),
+    }
+}
+
+// The lane of that number, if it is there and measures something.
+fn measured(shared: &Shared, lane: u32) -> Option<u8>
+    ensures { MatchOption result (IsMeasured shared.now lane → ⊥) (λ found. (found ≡ lane) × IsMeasured shared.now lane) }
+{
+    let shape = shared.log.shape();
+    if lane as usize >= shape.lanes().len() || !measures(shape, lane as u8) {
+        return None;
+    }
+    Some(lane as u8)
+}
+
+// The words of the lane's groups in what the pass has seen.
+fn groups_of(
+    shared: &Shared,
+    alloc: Global,
+    pass: &mut ReaderPass,
+    lane: u32,
+) -> Result<Vec<u64>, LaneRefusal>
+    requires { IsAware shared.now.log pass.old }
+    ensures found { FindsGroups shared.now lane pass.old pass.new result }
+    ensures aware { IsAware shared.now.log pass.new }
+{
+    let Some(lane) = measured(shared, lane) else {
+        return Err(LaneRefusal::NoLane);
+    };
+    let Ok(groups) = groups_seen(&shared.log, alloc, pass, lane) else {
+        return Err(LaneRefusal::Memory);
+    };
+    match group_words(alloc, &groups) {
+        Ok(words) => Ok(words),
+        Err(_) => Err(LaneRefusal::Memory),
+    }
+}
+
+impl Reader {
+    fn keep(&mut self, alloc: Global, answer: &Answer) -> Result<Head, AskRefusal>
+        ensures same { (self.new.of ≡ self.old.of) × (self.new.pass ≡ self.old.pass) }
+        ensures told { IfOk result (λ head. IsTold answer.now head self.new.words.items) }
+        ensures memory { IfErr result (λ refusal. (refusal ≡ Memory) × (self.new.words.items ≡ self.old.words.items)) }
+    {
+        let Ok(words) = body_words(alloc, &answer.body) else {
+            return Err(AskRefusal::Memory);
+        };
+        let head = Head {
+            tail: answer.tail,
+            kind: body_kind(&answer.body),
+            count: words.len() as u64,
+        };
+        self.words = words;
+        Ok(head)
+    }
+
+    /// Asks question q of the setup at the tail, and keeps the words of the answer.
+    pub fn ask(&mut self, alloc: Global, q: u32) -> Result<Head, AskRefusal>
+        ensures { AsksAt q self.old self.new result }
+    {
+        match ask_of(&self.of, alloc, &mut self.pass, q) {
+            Ok(answer) => self.keep(alloc, &answer),
+            Err(refusal) => Err(refusal),
+        }
+    }
+
+    /// Asks question q of the setup of what the reader has seen, and keeps the words of the answer.
+    pub fn ask_seen(&mut self, alloc: Global, q: u32) -> Result<Head, AskRefusal>
+        ensures { AsksSeen q self.old self.new result }
+    {
+        let answer = ask_seen_of(&self.of, alloc, &mut self.pass, q)?;
+        self.keep(alloc, &answer)
+    }
+
+    /// Tells the groups of a lane in what the reader has seen, and keeps their words: of each group its key, and its quad.
+    pub fn groups(&mut self, alloc: Global, lane: u32) -> Result<Head, LaneRefusal>
+        ensures { TellsGroups lane self.old self.new result }
+    {
+        let tail = self.pass.covered();
+        let words = groups_of(&self.of, alloc, &mut self.pass, lane)?;
+        let count = words.len() as u64;
+        self.words = words;
+        Ok(Head {
+            tail,
+            kind: 4,
+            count,
+        })
+    }
+
+    /// The row at an offset that the reader has seen.
+    pub fn row(&mut self, alloc: Global, offset: u32) -> Result<Row, RowRefusal>
+        ensures { ReadsRow offset self.old self.new result }
+    {
+        if offset >= self.pass.covered() {
+            return Err(RowRefusal::NoRow);
+        }
+        match row(&self.of.log, alloc, &mut self.pass, offset) {
+            Ok(found) => Ok(found),
+            Err(_) => Err(RowRefusal::Memory),
+        }
+    }
+
+    /// Shows the row at an offset that the reader has seen: its number, and its values as far as there is room.
+    pub fn show_row(
+        &mut self,
+        alloc: Global,
+        offset: u32,
+        out: &mut [PlainValue],
+    ) -> Result<Shown, RowRefusal>
+        ensures { ShowsRowAt offset self.old self.new out.old out.new result }
+    {
+        let row = self.row(alloc, offset)?;
+        Ok(Shown {
+            number: row.num(),
+            count: show_row(self.of.log.shape().schema(), &row, out),
+        })
+    }
+
+    /// How many records are covered.
+    pub fn tail(&mut self) -> u32
+        ensures { AsksTail self.old self.new result }
+    {
+        tail(&self.of.log, &mut self.pass)
+    }
+
+    /// The words of the last answer.
+    pub fn words(&self) -> &[u64]
+        ensures { result.now ≡ self.now.words.items }
+    {
+        self.words.as_slice()
+    }
+}

@@ -1,0 +1,65 @@
+// Why calls are refused.
+
+/// Why a setup is not taken, or a log not opened.
+#[derive(Clone, Copy)]
+pub enum OpenRefusal {
+    /// The setup has that first faulty line, with that code.
+    Setup(u32, u8),
+    /// The setup is lawful, and a size is out of range.
+    Sizes,
+    Memory,
+}
+
+/// Why no writer is taken.
+#[derive(Clone, Copy)]
+pub enum TakeRefusal {
+    /// All were taken.
+    NoWriter,
+    Memory,
+}
+
+/// Why a row is not appended.
+#[derive(Clone, Copy)]
+pub enum AppendRefusal {
+    /// The log is full.
+    Full,
+    /// The writer's nodes are used.
+    Nodes,
+    /// The row does not fit the log's schema.
+    Unfit,
+    /// The frame has 2^32 bytes or more, its link is one that the schema does not read, or `reserved` is not 0.
+    Frame,
+    Memory,
+}
+
+/// Why a question is not answered.
+#[derive(Clone, Copy)]
+pub enum AskRefusal {
+    /// The setup has no such question.
+    NoQuestion,
+    Memory,
+}
+
+/// Why no groups are told.
+#[derive(Clone, Copy)]
+pub enum LaneRefusal {
+    /// The setup has no such lane, or it measures nothing.
+    NoLane,
+    Memory,
+}
+
+/// Why no row is read.
+#[derive(Clone, Copy)]
+pub enum RowRefusal {
+    /// The reader has seen no record at that offset.
+    NoRow,
+    Memory,
+}
+
+/// Why no groups are merged.
+#[derive(Clone, Copy)]
+pub enum MergeRefusal {
+    /// The words of one of the lists are no groups, or both are of more than 2^20 numbers together.
+    NoGroups,
+    Memory,
+}

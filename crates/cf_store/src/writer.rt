@@ -1,0 +1,282 @@
+// Rows are appended by a writer of a log.
+ghost use Rattle.std.specs.Prelude.{◌≡◌, ◌<◌, ◌≤◌, ◌^◌, ◌↔◌, true, IfOk, OnOk, length};
+ghost use Rattle.std.specs.Arc.{arc_value};
+ghost use Rattle.cf_row.specs.Row.{Fits};
+ghost use Rattle.cf_table.specs.Values.{book_of};
+ghost use Rattle.cf_append.specs.Paths.{Remembers};
+ghost use Rattle.cf_log.specs.Appended.{HasAppended};
+ghost use Rattle.cf_store.specs.Appends.{AppendsFrame, AppendsFramed, AppendsFrames, AppendsPlain, AppendsRow, AppendsValues, HasRoom, IsFrame, StandsIn, numbers_row, frame_of, frame_row, reads_link, bytes_in as bytes_in_of};
+
+use crate::held::Writer;
+use crate::refusals::AppendRefusal;
+use crate::shown::{Capture, Framed, PlainValue, Room};
+use crate::values::{are_values, row_of_values};
+use cf_headers::{packet_row, packet6_row};
+use cf_log::{AppendFault, Leaves, append_near};
+use cf_packet6::PacketSchema;
+use cf_pcap::{Frame, LinkSet};
+use cf_row::{Memory, Row, Value, fits};
+use cf_setup::{Setup, Source};
+use cf_table::Pass;
+use std::alloc::Global;
+
+// A row of numbers.
+fn row_of(alloc: Global, number: u32, values: &[u64]) -> Result<Row, Memory>
+    ensures { IfOk result (λ row. row ≡ numbers_row number values.now) }
+{
+    let mut listed = Vec::with_capacity(alloc, values.len())?;
+    for value in values {
+        listed.push(Value::Num(*value))?;
+    }
+    Ok(Row::new(number, listed))
+}
+
+// Whether the schema reads frames of that link.
+fn is_read(setup: &Setup, link: u16) -> bool
+    ensures { result ≡ reads_link setup.now.source link }
+{
+    match setup.source() {
+        Source::Packets(PacketSchema::Packet) => LinkSet::Basic.reads(link),
+        Source::Packets(PacketSchema::Packet6) => LinkSet::All.reads(link),
+        Source::Records => true,
+    }
+}
+
+// Whether it is a frame that is not too long, of a link that the schema reads.
+fn is_frame(setup: &Setup, capture: Capture, bytes: &[u8]) -> bool
+    ensures { (result ≡ true) ↔ IsFrame setup.now capture bytes.now }
+{
+    bytes.len() <= 0xffff_ffff
+        && capture.reserved == 0
+        && capture.link <= 0xffff
+        && is_read(setup, capture.link as u16)
+}
+
+// A frame of no bytes.
+fn blank_frame(alloc: Global) -> Frame {
+    Frame {
+        num: 0,
+        ts: 0,
+        caplen: 0,
+        len: 0,
+        link: 0,
+        bytes: Vec::new(alloc),
+    }
+}
+
+// These bytes take the place of what the frame had. Memory is taken only where they are more than it ever had.
+fn fill_frame(frame: &mut Frame, capture: Capture, bytes: &[u8]) -> Result<(), Memory>
+    requires few { length bytes.now < 2 ^ 32 }
+    requires link { capture.link < 2 ^ 16 }
+    ensures { OnOk result (frame.new ≡ frame_of capture bytes.now) }
+{
+    frame.bytes.clear();
+    frame.bytes.extend_from_slice(bytes)?;
+    frame.num = capture.number;
+    frame.ts = capture.ns;
+    frame.caplen = bytes.len() as u32;
+    frame.len = capture.length;
+    frame.link = capture.link as u16;
+    Ok(())
+}
+
+// Whether all bytes of the frame stand in the buffer.
+fn stands_in(buffer: &[u8], framed: Framed) -> bool
+    ensures { (result ≡ true) ↔ StandsIn buffer.now framed }
+{
+    match framed.from.checked_add(framed.count) {
+        Some(end) => end <= buffer.len() as u64,
+        None => false,
+    }
+}
+
+// The bytes of the frame.
+fn bytes_in(buffer: &[u8], framed: Framed) -> &[u8]
+    requires { StandsIn buffer.now framed }
+    ensures { result.now ≡ bytes_in_of buffer.now framed }
+{
+    let (_, rest) = buffer.split_at(framed.from as usize);
+    rest.split_at(framed.count as usize).0
+}
+
+// The row of a frame in a log of the setup.
+fn row_of_frame(alloc: Global, setup: &Setup, frame: &Frame) -> Result<Row, Memory>
+    ensures { IfOk result (λ row. row ≡ frame_row setup.now frame.now) }
+{
+    match setup.source() {
+        Source::Packets(PacketSchema::Packet6) => packet6_row(alloc, frame),
+        Source::Packets(PacketSchema::Packet) | Source::Records => packet_row(alloc, frame),
+    }
+}
+
+impl Writer {
+    /// The writer's number.
+    pub fn number(&self) -> u8
+        ensures { result ≡ (book_of self.now.pass.view).writer }
+    {
+        self.pass.writer()
+    }
+
+    fn append_fitting(&mut self, row: &Row, leaves: &mut Leaves) -> Result<u32, AppendFault>
+        requires fits { Fits (arc_value self.old.of).log.shape.schema row.now }
+        requires near { Remembers (arc_value self.old.of).log.shape self.old.pass.view leaves.old }
+        ensures of { self.new.of ≡ self.old.of }
+        ensures appended { HasAppended (arc_value self.old.of).log.shape row.now self.old.pass self.new.pass result }
+        ensures near { Remembers (arc_value self.old.of).log.shape self.new.pass.view leaves.new }
+    {
+        append_near(&self.of.log, &mut self.pass, row, leaves)
+    }
+
+    fn append_by(&mut self, row: &Row, leaves: &mut Leaves) -> Result<u32, AppendRefusal>
+        requires near { Remembers (arc_value self.old.of).log.shape self.old.pass.view leaves.old }
+        ensures appended { AppendsRow row.now self.old self.new result }
+        ensures near { Remembers (arc_value self.old.of).log.shape self.new.pass.view leaves.new }
+    {
+        if !fits(self.of.log.shape().schema(), row) {
+            return Err(AppendRefusal::Unfit);
+        }
+        match self.append_fitting(row, leaves) {
+            Ok(offset) => Ok(offset),
+            Err(AppendFault::Full) => Err(AppendRefusal::Full),
+            Err(AppendFault::NodesFull) => Err(AppendRefusal::Nodes),
+        }
+    }
+
+    /// Appends the row. It needs no memory.
+    pub fn append(&mut self, row: &Row) -> Result<u32, AppendRefusal>
+        ensures { AppendsRow row.now self.old self.new result }
+    {
+        self.append_by(row, &mut Leaves::new())
+    }
+
+    // Appends the row of a captured frame, which takes the place of what the frame is.
+    fn append_frame_by(
+        &mut self,
+        alloc: Global,
+        capture: Capture,
+        bytes: &[u8],
+        frame: &mut Frame,
+        leaves: &mut Leaves,
+    ) -> Result<u32, AppendRefusal>
+        requires near { Remembers (arc_value self.old.of).log.shape self.old.pass.view leaves.old }
+        ensures appended { AppendsFrame capture bytes.now self.old self.new result }
+        ensures near { Remembers (arc_value self.old.of).log.shape self.new.pass.view leaves.new }
+    {
+        if !is_frame(&self.of.setup, capture, bytes) {
+            return Err(AppendRefusal::Frame);
+        }
+        let Ok(()) = fill_frame(frame, capture, bytes) else {
+            return Err(AppendRefusal::Memory);
+        };
+        let Ok(row) = row_of_frame(alloc, &self.of.setup, frame) else {
+            return Err(AppendRefusal::Memory);
+        };
+        self.append_by(&row, leaves)
+    }
+
+    /// Appends the row of a captured frame.
+    pub fn append_frame(
+        &mut self,
+        alloc: Global,
+        capture: Capture,
+        bytes: &[u8],
+    ) -> Result<u32, AppendRefusal>
+        ensures { AppendsFrame capture bytes.now self.old self.new result }
+    {
+        let mut frame = blank_frame(alloc);
+        self.append_frame_by(alloc, capture, bytes, &mut frame, &mut Leaves::new())
+    }
+
+    // Appends the row of a frame of a batch.
+    fn append_framed(
+        &mut self,
+        alloc: Global,
+        framed: Framed,
+        buffer: &[u8],
+        frame: &mut Frame,
+        leaves: &mut Leaves,
+    ) -> Result<u32, AppendRefusal>
+        requires near { Remembers (arc_value self.old.of).log.shape self.old.pass.view leaves.old }
+        ensures appended { AppendsFramed buffer.now framed self.old self.new result }
+        ensures near { Remembers (arc_value self.old.of).log.shape self.new.pass.view leaves.new }
+    {
+        if !stands_in(buffer, framed) {
+            return Err(AppendRefusal::Frame);
+        }
+        let bytes = bytes_in(buffer, framed);
+        self.append_frame_by(alloc, framed.capture, bytes, frame, leaves)
+    }
+
+    /// Appends the rows of the frames in order, until one is refused, and keeps leaves on the way. Says how many were appended, whose
+    /// offsets are the first of `offsets`, and why the next one was not, if there is one.
+    pub fn append_frames(
+        &mut self,
+        alloc: Global,
+        frames: &[Framed],
+        buffer: &[u8],
+        offsets: &mut [u32],
+    ) -> (usize, Option<AppendRefusal>)
+        requires { length frames.now ≤ length offsets.old }
+        ensures { AppendsFrames buffer.now frames.now self.old self.new offsets.old offsets.new result.0 result.1 }
+    {
+        let mut frame = blank_frame(alloc);
+        let mut leaves = Leaves::new();
+        for k in 0..frames.len() {
+            match self.append_framed(alloc, frames[k], buffer, &mut frame, &mut leaves) {
+                Ok(offset) => offsets[k] = offset,
+                Err(refusal) => return (k, Some(refusal)),
+            }
+        }
+        (frames.len(), None)
+    }
+
+    /// Appends a row of such values.
+    pub fn append_plain(
+        &mut self,
+        alloc: Global,
+        number: u32,
+        values: &[PlainValue],
+    ) -> Result<u32, AppendRefusal>
+        ensures { AppendsPlain number values.now self.old self.new result }
+    {
+        if !are_values(values) {
+            return Err(AppendRefusal::Unfit);
+        }
+        let Ok(row) = row_of_values(alloc, number, values) else {
+            return Err(AppendRefusal::Memory);
+        };
+        self.append(&row)
+    }
+
+    /// Appends the row of these numbers.
+    pub fn append_values(
+        &mut self,
+        alloc: Global,
+        number: u32,
+        values: &[u64],
+    ) -> Result<u32, AppendRefusal>
+        ensures { AppendsValues number values.now self.old self.new result }
+    {
+        let Ok(row) = row_of(alloc, number, values) else {
+            return Err(AppendRefusal::Memory);
+        };
+        self.append(&row)
+    }
+
+    /// What the log has room for, how much of it the writer has seen, and how many nodes the writer has left.
+    pub fn room(&self) -> Room
+        ensures { HasRoom self.now result }
+    {
+        let shape = self.of.log.shape();
+        let nodes_left = match self.pass.free_node() {
+            Some(node) => (u32::from(self.pass.writer()) + 1) * shape.nodes() - node,
+            None => 0,
+        };
+        Room {
+            capacity: shape.capacity(),
+            covered: self.pass.covered(),
+            nodes_left,
+            reserved: 0,
+        }
+    }
+}
