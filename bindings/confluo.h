@@ -6,12 +6,14 @@
 **   questions. It takes a fixed number of records, at most 65,536.
 **   A writer appends records. A log has 1 to 15 writers; each is taken once, and is for one thread at a time.
 **   A reader asks the questions of the setup, numbered from 0 in the order of their lines. Take as many readers as you like.
-**   Writers and readers of one log run at the same time in different threads. None ever waits for another.
+**   Writers and readers of one log run at the same time in different threads. None takes a lock.
 **   Each record has an offset, 0, 1, 2 and so on. A reader sees all records below the tail, which only rises. A finished record may wait
 **   behind an earlier one whose writer has not finished it.
 **   An answer is exactly the question's meaning on the records below the tail that it was asked at (confluo_head.tail). It is as if one
 **   thread had appended these records and then asked.
-**   A log that is full stays open to readers. Open the next one and go on there.
+**   All questions of a report can have one tail: look at it once (confluo_tail), and ask of what was seen (confluo_ask_seen).
+**   A log that is full stays open to readers. Open the next one and go on there. What an aggregate or a tally measured in several logs can
+**   be merged (confluo_groups, confluo_merge), as if one log had all records.
 **
 ** EXAMPLE
 **
@@ -52,7 +54,8 @@
 **
 **   - A handle is {0} at first (CONFLUO_LOG_INIT and so on), and after that as the last call left it. It is not copied and used twice: that
 **     is a double free, as with a pointer. Its fields are the library's.
-**   - A pointer is to memory of its type, and not NULL, even if the length with it is 0. A length counts what is there.
+**   - A pointer is to memory of its type, and not NULL, even if the length with it is 0. A length counts what is there. Only confluo_free_log
+**     and its like take NULL, and do nothing.
 **   - Memory that one call writes overlaps nothing else that the call is given. In particular no handle is given twice.
 **   - malloc, realloc and free are one allocator, and align to 16 bytes. Arrays of uint64_t are aligned to 8.
 **   - No other function of the program begins with confluo_.
@@ -80,7 +83,7 @@ extern "C" {
 #endif
 
 /* The version of these calls, apart from that of the program: 1,000,000 for the major number, 1,000 for the minor one, 1 for the patch. */
-#define CONFLUO_VERSION 1000
+#define CONFLUO_VERSION 2000
 
 /* A log, a writer or a reader; or nothing, if all bytes are 0. The fields are the library's. */
 typedef struct confluo_log { bool full; void *at; } confluo_log;
@@ -95,15 +98,19 @@ typedef struct confluo_reader { bool full; void *at; } confluo_reader;
 enum {
     CONFLUO_OK = 0,
     CONFLUO_MEMORY = 1,       /* out of memory */
-    CONFLUO_SIZES = 2,        /* a size is out of range, or a reserved field is not 0 */
+    CONFLUO_SIZES = 2,        /* a size is out of range, a reserved field is not 0, or an array is too short */
     CONFLUO_SETUP = 3,        /* the setup is faulty; confluo_fault says where */
     CONFLUO_NOTHING = 4,      /* the handle leads to nothing */
     CONFLUO_NO_WRITER = 5,    /* all writers of the log were taken */
     CONFLUO_FULL = 6,         /* the log is full: it has taken as many records as it can */
     CONFLUO_NODES = 7,        /* the writer has too few nodes left for this row; another row may still fit */
     CONFLUO_UNFIT = 8,        /* the row does not fit the schema of the log */
-    CONFLUO_FRAME = 9,        /* the frame has 2^32 bytes or more, its link is not read, or a reserved field is not 0 */
-    CONFLUO_NO_QUESTION = 10  /* the setup has no question of that number */
+    CONFLUO_FRAME = 9,        /* the frame has 2^32 bytes or more, its link is not read, it is not in the buffer, or a reserved field is not 0 */
+    CONFLUO_NO_QUESTION = 10, /* the setup has no question of that number or name */
+    CONFLUO_NO_LANE = 11,     /* the setup has no lane of that number, or it measures nothing */
+    CONFLUO_NO_ROW = 12,      /* the reader has seen no record at that offset */
+    CONFLUO_NO_NAME = 13,     /* the setup has nothing of that sort and number */
+    CONFLUO_NO_GROUPS = 14    /* the words are no list of groups, or both lists have more than 2^20 numbers together */
 };
 
 /* How large a log is. */
@@ -127,6 +134,23 @@ typedef struct confluo_capture {
     uint32_t reserved; /* 0 */
 } confluo_capture;
 
+/* A frame of a batch: what is said of it, and where its captured bytes stand in the batch's buffer. */
+typedef struct confluo_frame {
+    confluo_capture capture;
+    uint64_t from;  /* how many bytes of the buffer stand before them */
+    uint64_t count; /* how many bytes they are */
+} confluo_frame;
+
+/* The value of an attribute: a number, or a string of at most 16 bytes. */
+typedef struct confluo_value {
+    uint64_t number;   /* the number; 0 of a string */
+    uint32_t kind;     /* CONFLUO_NUMBER or CONFLUO_BYTES */
+    uint32_t length;   /* how many bytes the string has; 0 of a number */
+    uint8_t bytes[16]; /* its bytes, and 0 behind them; all 0 of a number */
+} confluo_value;
+
+enum { CONFLUO_NUMBER = 0, CONFLUO_BYTES = 1 };
+
 /* What a log has room for, and a writer of it. */
 typedef struct confluo_room {
     uint32_t capacity;   /* how many records the log takes in all */
@@ -145,10 +169,41 @@ typedef struct confluo_head {
 /* The kinds of bodies, and what their words are. */
 enum {
     CONFLUO_PLACES = 0, /* list, find, between: offsets, ascending */
-    CONFLUO_QUAD = 1,   /* buckets, total: count, sum, least, greatest; of no record 0, 0, 2^64 - 1, 0 */
+    CONFLUO_QUAD = 1,   /* measure, total: count, sum, least, greatest; of no record four times 0 */
     CONFLUO_MARKS = 2,  /* fired: pairs of a bucket and its value, by ascending bucket */
-    CONFLUO_TOPS = 3    /* top: pairs of a key and its value, the heaviest first, ties by ascending key */
+    CONFLUO_TOPS = 3,   /* top: pairs of a key and its value, the heaviest first, ties by ascending key */
+    CONFLUO_GROUPS = 4  /* confluo_groups: a bucket or key, count, sum, least, greatest, and so on, by ascending bucket or key */
 };
+
+/* What a setup names. Each sort is numbered from 0, in the order of the lines. */
+enum {
+    CONFLUO_ATTRIBUTES = 0, /* the attributes of the schema */
+    CONFLUO_LANES = 1,      /* indexes, filters, aggregates and tallies, all in one order */
+    CONFLUO_TRIGGERS = 2,
+    CONFLUO_QUESTIONS = 3
+};
+
+/* What the setup says of a thing that it names. Fields that are not listed for its sort are 0.
+**
+**   attribute    kind: 8, 16, 32 or 64 for a number of so many bits, or 0 for a string of bytes; size: how many bytes the string has
+**   lane         kind: 0 index, 1 filter, 2 aggregate, 3 tally; of: the attribute of the keys (index, tally); size: the attribute that is
+**                measured (aggregate, tally)
+**   trigger      of: the lane of its aggregate; part; op; low: its number
+**   question     kind: 0 list, 1 find, 2 between, 3 measure, 4 fired, 5 top, 6 total; of: the lane it is about, of a total the attribute, of a
+**                list 0; part: of a fired or a top; op: of a fired; low: the least value of its range, of a fired the number; high: the
+**                greatest value of its range; size: of a top how many keys
+**
+** `part` is 0 count, 1 sum, 2 least, 3 greatest; `op` is 0 ==, 1 !=, 2 <, 3 <=, 4 >, 5 >=. */
+typedef struct confluo_about {
+    uint32_t kind;
+    uint32_t of;
+    uint32_t part;
+    uint32_t op;
+    uint64_t low;
+    uint64_t high;
+    uint32_t size;
+    uint32_t reserved;
+} confluo_about;
 
 /* The version of the library, as CONFLUO_VERSION is that of the header. Any thread, at any time. */
 uint32_t confluo_version(void);
@@ -210,6 +265,31 @@ CONFLUO_CHECKED uint32_t confluo_append(confluo_writer *writer, const confluo_ca
 CONFLUO_CHECKED uint32_t confluo_append_values(confluo_writer *writer, uint32_t number, const uint64_t *values, size_t values_len,
                                                uint32_t *offset);
 
+/* Appends the records of many frames, each as confluo_append does, until one is refused. `bytes` is the buffer in which the frames' bytes
+** stand; frames may share bytes. `done` is how many were appended, whatever the answer is, and 0 if none was; the first so many of
+** `offsets` are their offsets, and the others are as they were. The answer is CONFLUO_OK if all were appended, and else why the next one
+** was not: you may go on with that one. One copy of the longest frame is kept while the call runs, and no memory is taken for each.
+** A writer that appends in such calls finds its way faster, the more so where a frame's keys are near those of the frame before.
+** The thread that has `writer`.
+**
+**   CONFLUO_NOTHING    `writer` leads to nothing
+**   CONFLUO_SIZES      offsets_len is less than frames_len
+**   CONFLUO_FRAME      as for confluo_append, or the frame's bytes do not all stand in the buffer
+**   CONFLUO_MEMORY, CONFLUO_UNFIT, CONFLUO_FULL, CONFLUO_NODES    as for confluo_append */
+CONFLUO_CHECKED uint32_t confluo_append_many(confluo_writer *writer, const confluo_frame *frames, size_t frames_len, const uint8_t *bytes,
+                                             size_t bytes_len, uint32_t *offsets, size_t offsets_len, size_t *done);
+
+/* Appends a record of values, one for each attribute of the schema in its order, and says its offset. `number` is yours. The thread that has
+** `writer`.
+**
+**   CONFLUO_NOTHING    `writer` leads to nothing
+**   CONFLUO_MEMORY
+**   CONFLUO_UNFIT      there are too few or too many values, one is not of its attribute's kind, a number is too large, a string has another
+**                      length than its attribute's, or a byte behind it is not 0
+**   CONFLUO_FULL, CONFLUO_NODES    as for confluo_append */
+CONFLUO_CHECKED uint32_t confluo_append_row(confluo_writer *writer, uint32_t number, const confluo_value *values, size_t values_len,
+                                            uint32_t *offset);
+
 /* Says what the log of a writer has room for, and the writer. The thread that has `writer`.
 **
 **   CONFLUO_NOTHING    `writer` leads to nothing */
@@ -223,6 +303,42 @@ CONFLUO_CHECKED uint32_t confluo_room_of(confluo_writer *writer, confluo_room *r
 **   CONFLUO_MEMORY */
 CONFLUO_CHECKED uint32_t confluo_ask(confluo_reader *reader, uint32_t question, confluo_head *head);
 
+/* Asks a question of the setup on the records that the reader has seen: those below the tail that its last confluo_ask or confluo_tail
+** found, which is 0 at first. The tail is not looked at again, so that all questions of a report have one tail: call
+** confluo_tail once, and then this for each question. All else is as for confluo_ask, with the same codes. */
+CONFLUO_CHECKED uint32_t confluo_ask_seen(confluo_reader *reader, uint32_t question, confluo_head *head);
+
+/* Tells the groups of an aggregate or a tally on the records that the reader has seen, as for confluo_ask_seen: for each bucket of the
+** aggregate, or each key of the tally, that a record has which it selects, what it measures. These are the words of an answer of kind
+** CONFLUO_GROUPS, which the reader keeps. Groups of several logs can be merged; marks and tops cannot. The thread that has `reader`.
+**
+**   CONFLUO_NOTHING    `reader` leads to nothing
+**   CONFLUO_NO_LANE    the setup has no lane of that number, or it is an index or a filter
+**   CONFLUO_MEMORY */
+CONFLUO_CHECKED uint32_t confluo_groups(confluo_reader *reader, uint32_t lane, confluo_head *head);
+
+/* Merges two lists of groups, as confluo_groups and this call tell them: those of one key become one, and they ascend by key, in whatever
+** order they stood. The merged list goes to `out`, in as many words as `count` says; one_len + other_len words are always room enough. Of
+** groups of an aggregate, or of a tally, of several logs with one setup, this makes the groups of all their records. Any thread, at any
+** time.
+**
+**   CONFLUO_NO_GROUPS  the words of a list are not five for each group, or four of them are no quad (of no number all four are 0; the sum
+**                      is at most 2^32 - 1 for each number, and so is each number); or both lists have more than 2^20 numbers (the sum of
+**                      all counts) together: the records of 16 full logs
+**   CONFLUO_MEMORY
+**   CONFLUO_SIZES      the merged list has more words than `out` */
+CONFLUO_CHECKED uint32_t confluo_merge(const uint64_t *one, size_t one_len, const uint64_t *other, size_t other_len, uint64_t *out,
+                                       size_t out_len, size_t *count);
+
+/* Reads back the record at an offset that the reader has seen: the number that it was appended with, and its values, of which as many are
+** copied to `values` as there is room for. `count` is how many values a record has. The thread that has `reader`.
+**
+**   CONFLUO_NOTHING    `reader` leads to nothing
+**   CONFLUO_NO_ROW     the offset is not below the tail that the reader saw last; confluo_tail looks again
+**   CONFLUO_MEMORY */
+CONFLUO_CHECKED uint32_t confluo_row(confluo_reader *reader, uint32_t offset, uint32_t *number, confluo_value *values, size_t values_len,
+                                     size_t *count);
+
 /* Copies words of the reader's last answer to `out`, from word `from` on, as far as there is room. Answers how many: none if there was no
 ** answer yet, if `from` is past the last word, and if `reader` leads to nothing. The thread that has `reader`. */
 size_t confluo_words(confluo_reader *reader, size_t from, uint64_t *out, size_t out_len);
@@ -232,11 +348,62 @@ size_t confluo_words(confluo_reader *reader, size_t from, uint64_t *out, size_t 
 **   CONFLUO_NOTHING    `reader` leads to nothing */
 CONFLUO_CHECKED uint32_t confluo_tail(confluo_reader *reader, uint32_t *tail);
 
+/* Copies the name of what the setup of the log has of that sort at that number (CONFLUO_ATTRIBUTES and so on), as far as there is room, and
+** says in `count` how many bytes the name has: at most 32, all ASCII, without a byte 0 at the end. The thread that has `log`.
+**
+**   CONFLUO_NOTHING    `log` leads to nothing
+**   CONFLUO_NO_NAME    there is no such sort, or the setup has nothing of it at that number: count up from 0 until this comes */
+CONFLUO_CHECKED uint32_t confluo_name(confluo_log *log, uint32_t sort, uint32_t number, uint8_t *name, size_t name_len, size_t *count);
+
+/* Says what the setup of the log says of that. The thread that has `log`; codes as for confluo_name. */
+CONFLUO_CHECKED uint32_t confluo_tell(confluo_log *log, uint32_t sort, uint32_t number, confluo_about *about);
+
+/* Says the number of the question of that name. The thread that has `log`.
+**
+**   CONFLUO_NOTHING      `log` leads to nothing
+**   CONFLUO_NO_QUESTION  the setup has no question of that name */
+CONFLUO_CHECKED uint32_t confluo_question(confluo_log *log, const uint8_t *name, size_t name_len, uint32_t *number);
+
+/* Says how wide a bucket is, in nanoseconds. The thread that has `log`.
+**
+**   CONFLUO_NOTHING    `log` leads to nothing */
+CONFLUO_CHECKED uint32_t confluo_width(confluo_log *log, uint64_t *width);
+
 /* Frees what the handle leads to, which may be nothing, and leaves nothing there. Handles of one log are freed in any order: its memory goes
 ** with the last of them. The thread that has the handle. */
 void confluo_free_log(confluo_log *log);
 void confluo_free_writer(confluo_writer *writer);
 void confluo_free_reader(confluo_reader *reader);
+
+/* A call of these by its name lets a null pointer be. A pointer to one of them, and a call from another language, owes a handle. */
+static inline void confluo_free_log_at(confluo_log *log) {
+    if (log != NULL) confluo_free_log(log);
+}
+static inline void confluo_free_writer_at(confluo_writer *writer) {
+    if (writer != NULL) confluo_free_writer(writer);
+}
+static inline void confluo_free_reader_at(confluo_reader *reader) {
+    if (reader != NULL) confluo_free_reader(reader);
+}
+#define confluo_free_log(log) confluo_free_log_at(log)
+#define confluo_free_writer(writer) confluo_free_writer_at(writer)
+#define confluo_free_reader(reader) confluo_free_reader_at(reader)
+
+/* What the library was built with. A compiler that lays these out in another way cannot use it. */
+#if defined(__cplusplus) ? __cplusplus >= 201103L : defined(__STDC_VERSION__) && __STDC_VERSION__ >= 201112L
+#ifdef __cplusplus
+#define CONFLUO_IS(holds) static_assert(holds, #holds)
+#else
+#define CONFLUO_IS(holds) _Static_assert(holds, #holds)
+#endif
+CONFLUO_IS(sizeof(bool) == 1 && sizeof(void *) == 8 && sizeof(size_t) == 8);
+CONFLUO_IS(sizeof(confluo_log) == 16 && sizeof(confluo_writer) == 16 && sizeof(confluo_reader) == 16);
+CONFLUO_IS(offsetof(confluo_log, at) == 8 && offsetof(confluo_writer, at) == 8 && offsetof(confluo_reader, at) == 8);
+CONFLUO_IS(sizeof(confluo_sizes) == 16 && sizeof(confluo_fault) == 8 && sizeof(confluo_capture) == 24);
+CONFLUO_IS(sizeof(confluo_frame) == 40 && sizeof(confluo_value) == 32 && sizeof(confluo_about) == 40);
+CONFLUO_IS(sizeof(confluo_room) == 16 && sizeof(confluo_head) == 16 && offsetof(confluo_head, count) == 8);
+#undef CONFLUO_IS
+#endif
 
 #ifdef __cplusplus
 }

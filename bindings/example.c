@@ -4,11 +4,10 @@
 #include <stdio.h>
 #include <string.h>
 
-static const char setup[] =
-    "schema records ts:u64,host:u32,len:u32\n"
-    "index hosts host\n"
-    "ask all total len *\n"
-    "ask first find hosts 1 1\n";
+static const char setup[] = "schema records ts:u64,host:u32,len:u32\n"
+                            "index hosts host\n"
+                            "ask all total len *\n"
+                            "ask first find hosts 1 1\n";
 
 static int refused(uint32_t code, const char *call) {
     uint8_t text[64];

@@ -1,34 +1,15 @@
 /* Each code of each call, and what a refused call leaves: the handles, and what it would have written. Ends with 0 if all is as said. */
-#define _POSIX_C_SOURCE 200809L
-#include "confluo.h"
-#include <pthread.h>
-#include <stdio.h>
-#include <string.h>
-
-static int failed;
-
-static void is(uint64_t found, uint64_t wanted, const char *what) {
-    if (found == wanted) return;
-    fprintf(stderr, "calls: %s: %llu, not %llu\n", what, (unsigned long long)found, (unsigned long long)wanted);
-    failed = 1;
-}
-
-static const uint8_t *text_of(const char *text) { return (const uint8_t *)text; }
+#include "check.h"
 
 static const char packets[] = "schema packet\nindex sources src\nask all list *\nask one find sources 10.0.0.1 10.0.0.1\n";
 static const char records[] =
     "schema records ts:u64,key:u16,len:u32\ntally keys key len *\nfilter every *\naggregate sums every len\ntrigger large sums sum > 40\n"
     "ask top top keys sum 2\nask all total len *\nask marks fired large\nask seconds measure sums 0 0\n";
 
-static uint32_t opened(confluo_log *log, const char *text, uint32_t capacity, uint32_t writers, uint32_t nodes, confluo_fault *fault) {
-    const confluo_sizes sizes = {capacity, writers, nodes, 0};
-    return confluo_open(log, text_of(text), strlen(text), &sizes, fault);
-}
-
 static void versions_and_texts(void) {
     uint8_t out[64];
     is(confluo_version(), CONFLUO_VERSION, "version");
-    for (uint32_t code = 0; code <= CONFLUO_NO_QUESTION; code++) {
+    for (uint32_t code = 0; code <= CONFLUO_NO_GROUPS; code++) {
         size_t count = confluo_message(code, 0, out, sizeof out);
         is(count > 0 && count < sizeof out && confluo_message(code, count, out, sizeof out) == 0, 1, "length of a text");
     }
@@ -38,7 +19,10 @@ static void versions_and_texts(void) {
 }
 
 static void setups(void) {
-    struct { const char *text; uint32_t capacity, writers, nodes, reserved, code, line, fault; } cases[] = {
+    struct {
+        const char *text;
+        uint32_t capacity, writers, nodes, reserved, code, line, fault;
+    } cases[] = {
         {packets, 1, 1, 0, 0, CONFLUO_OK, 7, 7},
         {packets, 0, 1, 0, 0, CONFLUO_SIZES, 7, 7},
         {packets, 65537, 1, 0, 0, CONFLUO_SIZES, 7, 7},
@@ -90,20 +74,22 @@ static void nothing(void) {
     confluo_free_log(&log);
     confluo_free_writer(&writer);
     confluo_free_reader(&reader);
+    confluo_free_log(NULL);
+    confluo_free_writer(NULL);
+    confluo_free_reader(NULL);
 }
 
 static void frames(void) {
     confluo_log log = CONFLUO_LOG_INIT;
     confluo_writer writer = CONFLUO_WRITER_INIT, other = CONFLUO_WRITER_INIT;
     confluo_reader reader = CONFLUO_READER_INIT;
-    confluo_fault fault = {7, 7};
     confluo_head head = {7, 7, 7};
     confluo_room room;
     uint8_t frame[34] = {0};
     uint64_t words[4] = {7, 7, 7, 7};
     uint32_t out = 7;
     frame[12] = 8, frame[14] = 0x45, frame[17] = 20, frame[26] = 10, frame[29] = 1;
-    is(opened(&log, packets, 3, 2, 16, &fault), CONFLUO_OK, "open");
+    is(opened(&log, packets, 3, 2, 16), CONFLUO_OK, "open");
     is(confluo_take_writer(&log, &writer, &out), CONFLUO_OK, "writer 1");
     is(out, 1, "its number");
     is(confluo_take_writer(&log, &other, &out), CONFLUO_OK, "writer 0");
@@ -111,14 +97,17 @@ static void frames(void) {
     is(confluo_take_writer(&log, &other, &out), CONFLUO_NO_WRITER, "a third writer");
     is(confluo_room_of(&other, &room), CONFLUO_OK, "a writer that a refused call keeps");
     is(confluo_take_reader(&log, &reader), CONFLUO_OK, "reader");
-    is(opened(&log, "nonsense\n", 3, 2, 16, &fault), CONFLUO_SETUP, "a refused open");
+    is(opened(&log, "nonsense\n", 3, 2, 16), CONFLUO_SETUP, "a refused open");
     is(confluo_take_writer(&log, &other, &out), CONFLUO_NO_WRITER, "the log that it keeps");
     confluo_free_log(&log);
     confluo_free_log(&log);
 
-    struct { confluo_capture capture; uint32_t code; } cases[] = {
-        {{1000, 5, 60, 65537, 0}, CONFLUO_FRAME}, {{1000, 5, 60, 276, 0}, CONFLUO_FRAME}, {{1000, 5, 60, 1, 1}, CONFLUO_FRAME},
-        {{1000, 5, 60, 1, 0}, CONFLUO_OK}, {{2000, 5, 4000000000u, 1, 0}, CONFLUO_OK},
+    struct {
+        confluo_capture capture;
+        uint32_t code;
+    } cases[] = {
+        {{1000, 5, 60, 65537, 0}, CONFLUO_FRAME}, {{1000, 5, 60, 276, 0}, CONFLUO_FRAME},     {{1000, 5, 60, 1, 1}, CONFLUO_FRAME},
+        {{1000, 5, 60, 1, 0}, CONFLUO_OK},        {{2000, 5, 4000000000u, 1, 0}, CONFLUO_OK},
     };
     for (size_t k = 0; k < sizeof cases / sizeof *cases; k++)
         is(confluo_append(&writer, &cases[k].capture, frame, sizeof frame, &out), cases[k].code, "append");
@@ -153,11 +142,10 @@ static void rows(void) {
     confluo_writer writer = CONFLUO_WRITER_INIT;
     confluo_reader reader = CONFLUO_READER_INIT;
     confluo_capture capture = {1000, 5, 60, 1, 0};
-    confluo_fault fault = {7, 7};
     confluo_head head;
     uint64_t wide[3] = {1, 65536, 1}, row[3][3] = {{1, 7, 10}, {2, 8, 25}, {3, 7, 20}}, words[4];
     uint32_t out = 7;
-    is(opened(&log, records, 4, 1, 34, &fault), CONFLUO_OK, "open");
+    is(opened(&log, records, 4, 1, 34), CONFLUO_OK, "open");
     is(confluo_take_writer(&log, &writer, &out), CONFLUO_OK, "writer");
     is(confluo_take_reader(&log, &reader), CONFLUO_OK, "reader");
     is(confluo_append(&writer, &capture, (const uint8_t *)words, 0, &out), CONFLUO_UNFIT, "a frame among records");
@@ -169,7 +157,10 @@ static void rows(void) {
     }
     row[0][1] = 65535;
     is(confluo_append_values(&writer, 3, row[0], 3, &out), CONFLUO_NODES, "a key that needs more nodes than there are");
-    struct { uint32_t kind, count; uint64_t words[4]; } answers[] = {
+    struct {
+        uint32_t kind, count;
+        uint64_t words[4];
+    } answers[] = {
         {CONFLUO_TOPS, 4, {7, 30, 8, 25}},
         {CONFLUO_QUAD, 4, {3, 55, 10, 25}},
         {CONFLUO_MARKS, 2, {0, 55}},
@@ -193,12 +184,11 @@ static void addresses(void) {
     confluo_writer writer = CONFLUO_WRITER_INIT;
     confluo_reader reader = CONFLUO_READER_INIT;
     confluo_capture capture = {1000, 5, 40, 229, 0}, unread = {1000, 5, 40, 65535, 0};
-    confluo_fault fault = {7, 7};
     confluo_head head = {7, 7, 7};
     uint8_t packet[40] = {[0] = 0x60, [8] = 0x20, [9] = 0x01, [10] = 0x0d, [11] = 0xb8};
     uint64_t words[4] = {7, 7, 7, 7};
     uint32_t out = 7;
-    is(opened(&log, setup, 4, 1, 0, &fault), CONFLUO_OK, "open");
+    is(opened(&log, setup, 4, 1, 0), CONFLUO_OK, "open");
     is(confluo_take_writer(&log, &writer, &out), CONFLUO_OK, "writer");
     is(confluo_take_reader(&log, &reader), CONFLUO_OK, "reader");
     is(confluo_append(&writer, &unread, packet, sizeof packet, &out), CONFLUO_FRAME, "a link that packet6 does not read");
@@ -223,15 +213,4 @@ static void *all(void *given) {
     return given;
 }
 
-/* In a thread with a small stack. A sanitizer takes more. */
-int main(void) {
-    pthread_attr_t attributes;
-    pthread_t thread;
-    pthread_attr_init(&attributes);
-#if !defined(__SANITIZE_ADDRESS__) && !defined(__SANITIZE_THREAD__)
-    pthread_attr_setstacksize(&attributes, 64 * 1024);
-#endif
-    if (pthread_create(&thread, &attributes, all, NULL) != 0) return 2;
-    pthread_join(thread, NULL);
-    return failed;
-}
+int main(void) { return in_a_small_stack(all); }

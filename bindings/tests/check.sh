@@ -12,9 +12,27 @@ build() {
     shift
     "$cc" -std=c11 -g -Wall -Wextra -Werror -I"$here/.." "$@" "$out/libconfluo.a" -pthread -o "$folder/$name"
 }
+# The examples of the header and of the documents.
+{
+    echo '#include "confluo.h"'
+    echo '#include <stdio.h>'
+    echo '#include <string.h>'
+    echo 'int main(void) { const uint64_t now = 1000; const uint8_t frame[60] = {[12] = 8, [14] = 0x45, [17] = 20, [26] = 10, [29] = 1};'
+    sed -n '/^\*\* EXAMPLE/,/^\*\*   bindings/{s/^\*\*   //; /^\*\*/d; /^bindings/d; p}' "$here/../confluo.h"
+    echo 'return (int)code; }'
+} > "$folder/header.c"
+sed -n '/^```c$/,/^```$/{/^```/d; p}' "$here/../../docs/LIBRARY.md" > "$folder/page.c"
 example_prints() {
     [ "$("$folder/example")" = "2000 records, 200000 bytes" ] || { echo "check-c: the example prints something else"; exit 1; }
 }
+for standard in c99 c11 c17; do
+    echo '#include "confluo.h"' | "$cc" -std=$standard -Wall -Wextra -Wpedantic -Werror -I"$here/.." -fsyntax-only -x c -
+done
+if echo 'int main() { return 0; }' | "$cc" -x c++ -fsyntax-only - 2> /dev/null; then
+    for standard in c++98 c++11 c++17; do
+        echo '#include "confluo.h"' | "$cc" -std=$standard -Wall -Wextra -Werror -I"$here/.." -fsyntax-only -x c++ -
+    done
+fi
 for flags in -O2 -fsanitize=address,undefined -fsanitize=thread; do
     if ! echo 'int main(void) { return 0; }' | "$cc" -x c "$flags" -o "$folder/empty" - 2> /dev/null; then
         echo "check-c: $flags skipped, the compiler does not have it"
@@ -22,12 +40,14 @@ for flags in -O2 -fsanitize=address,undefined -fsanitize=thread; do
     fi
     build example "$flags" "$here/../example.c"
     example_prints
-    build calls "$flags" "$here/calls.c"
-    "$folder/calls"
-    build threads "$flags" "$here/threads.c"
-    "$folder/threads"
+    build header "$flags" "$folder/header.c"
+    [ "$("$folder/header")" = "record 0" ] || { echo "check-c: the example of confluo.h prints something else"; exit 1; }
+    build page "$flags" "$folder/page.c"
+    [ "$("$folder/page")" = "2000 records, 120000 bytes" ] || { echo "check-c: the example of docs/LIBRARY.md prints something else"; exit 1; }
+    for name in calls asks names batches threads; do
+        build $name "$flags" "$here/$name.c"
+        "$folder/$name"
+    done
 done
 build refusals -fsanitize=address -Wl,--wrap=malloc,--wrap=realloc "$here/refusals.c" && "$folder/refusals"
-exported=$(nm -D --defined-only "$out/libconfluo.so.0" | awk '$2 == "T" { print $3 }' | grep -v '^confluo_' || true)
-[ -z "$exported" ] || { echo "check-c: the shared object exports $exported"; exit 1; }
 echo "check-c: the library is clean in C"

@@ -1,4 +1,5 @@
-/* Each allocation is refused in turn. The call answers CONFLUO_MEMORY, the handles are as they were, and the same call then goes through. */
+/* Each allocation is refused in turn. The call answers CONFLUO_MEMORY, the handles are as they were, and the same call then goes through.
+ */
 #include "confluo.h"
 #include <stdio.h>
 #include <stdlib.h>
@@ -16,42 +17,93 @@ static int is_refused(void) { return left >= 0 && left-- == 0; }
 void *__wrap_malloc(size_t size) { return is_refused() ? NULL : __real_malloc(size); }
 void *__wrap_realloc(void *block, size_t size) { return is_refused() ? NULL : __real_realloc(block, size); }
 
-static const char setup[] = "schema packet\nindex source src\nask host find source 0.0.0.0 255.255.255.255\nask all list *\n";
+static const char setup[] =
+    "schema packet\nindex source src\ntally sources src len *\nask host find source 0.0.0.0 255.255.255.255\nask all list *\n";
 
-typedef struct { confluo_log log; confluo_writer writer; confluo_reader reader; uint32_t offset; confluo_head head; } parts;
+typedef struct parts {
+    confluo_log log;
+    confluo_writer writer;
+    confluo_reader reader;
+    uint32_t number, offsets[4];
+    size_t done; /* of a batch */
+    confluo_head head;
+    confluo_value row[20];
+} parts;
 
-/* The calls from the step on. Answers the step that is refused for memory, 6 if none is, or 7 if another code comes. */
-static int run(parts *at, int step) {
-    const confluo_sizes sizes = {8, 1, 16, 0};
+enum { STEPS = 13 };
+
+/* Frames 2 and 3 of the log, but for what is appended of them. */
+static uint32_t append_batch(parts *at) {
+    static const uint8_t frame[60] = {[12] = 8, [14] = 0x45, [29] = 1};
+    const confluo_capture capture = {1000, 5, 60, 1, 0};
+    const confluo_frame frames[] = {{capture, 0, 60}, {capture, 0, 60}};
+    size_t done = 0;
+    const uint32_t code =
+        confluo_append_many(&at->writer, frames + at->done, 2 - at->done, frame, 60, at->offsets + 1 + at->done, 2, &done);
+    at->done += done;
+    return code;
+}
+
+static uint32_t merged(void) {
+    static const uint64_t one[] = {1, 1, 60, 60, 60}, other[] = {2, 1, 60, 60, 60};
+    uint64_t out[10] = {0};
+    size_t count = 0;
+    const uint32_t code = confluo_merge(one, 5, other, 5, out, 10, &count);
+    return code == CONFLUO_OK && (count != 10 || out[5] != 2) ? 99 : code;
+}
+
+static uint32_t call(parts *at, int step) {
+    const confluo_sizes sizes = {8, 1, 64, 0};
     const confluo_capture capture = {1000, 5, 60, 1, 0};
     const uint8_t frame[60] = {[12] = 8, [14] = 0x45};
-    for (; step < 6; step++) {
-        confluo_fault fault;
-        uint32_t number, code = 99;
-        if (step == 0) code = confluo_open(&at->log, (const uint8_t *)setup, strlen(setup), &sizes, &fault);
-        if (step == 1) code = confluo_take_writer(&at->log, &at->writer, &number);
-        if (step == 2) code = confluo_take_reader(&at->log, &at->reader);
-        if (step == 3) code = confluo_append(&at->writer, &capture, frame, sizeof frame, &at->offset);
-        if (step >= 4) code = confluo_ask(&at->reader, (uint32_t)step - 4, &at->head);
+    confluo_fault fault;
+    size_t count;
+    uint64_t bytes;
+    uint32_t number;
+    switch (step) {
+    case 0: return confluo_check((const uint8_t *)setup, strlen(setup), &sizes, &bytes, &fault);
+    case 1: return confluo_open(&at->log, (const uint8_t *)setup, strlen(setup), &sizes, &fault);
+    case 2: return confluo_take_writer(&at->log, &at->writer, &number);
+    case 3: return confluo_take_reader(&at->log, &at->reader);
+    case 4: return confluo_append(&at->writer, &capture, frame, sizeof frame, &at->offsets[0]);
+    case 5: return append_batch(at);
+    case 6: return confluo_tail(&at->reader, &number);
+    case 7: return confluo_row(&at->reader, 2, &at->number, at->row, 20, &count);
+    case 8: return confluo_append_row(&at->writer, 6, at->row, 20, &at->offsets[3]);
+    case 9: return confluo_ask(&at->reader, 0, &at->head);
+    case 10: return confluo_groups(&at->reader, 1, &at->head);
+    case 11: return merged();
+    default: return confluo_ask_seen(&at->reader, 1, &at->head);
+    }
+}
+
+/* The calls from the step on. Answers the step that is refused for memory, STEPS if none is, or STEPS + 1 if another code comes. */
+static int run(parts *at, int step) {
+    for (; step < STEPS; step++) {
+        const uint32_t code = call(at, step);
         if (code == CONFLUO_MEMORY) return step;
-        if (code != CONFLUO_OK) return 7;
+        if (code != CONFLUO_OK) return STEPS + 1;
     }
     return step;
 }
 
 int main(void) {
-    long tries = 0, refused = 0;
+    long tries = 0, refused[STEPS] = {0};
     for (int over = 0; !over; tries++) {
-        parts at = {.offset = 99};
-        uint64_t words[2] = {7, 7};
+        parts at = {.number = 99};
+        uint64_t words[5] = {7, 7, 7, 7, 7};
         left = tries;
         int step = run(&at, 0);
         over = left >= 0;
         left = -1;
-        refused += step < 6;
-        if (step < 6) step = run(&at, step);
-        size_t count = confluo_words(&at.reader, 0, words, 2);
-        if (step != 6 || at.offset != 0 || at.head.tail != 1 || count != 1 || words[0] != 0) {
+        if (step < STEPS) {
+            refused[step]++;
+            step = run(&at, step);
+        }
+        const size_t count = confluo_words(&at.reader, 0, words, 5);
+        int wrong = step != STEPS || at.head.tail != 4 || count != 4 || at.number != 5 || words[3] != 3;
+        for (uint32_t k = 0; k < 4; k++) wrong |= at.offsets[k] != k || words[k] != k;
+        if (wrong) {
             fprintf(stderr, "refusals: allocation %ld, step %d\n", tries, step);
             return 1;
         }
@@ -59,7 +111,8 @@ int main(void) {
         confluo_free_log(&at.log);
         confluo_free_reader(&at.reader);
     }
-    if (refused < 10) return 1;
-    printf("refusals: %ld allocations, each refused once\n", refused);
+    printf("refusals: %ld allocations, each refused once; by call", tries);
+    for (int k = 0; k < STEPS; k++) printf(" %ld", refused[k]);
+    putchar('\n');
     return 0;
 }

@@ -17,12 +17,17 @@ import confluo  # noqa: E402
 RECORDS = (
     "schema records ts:u64,host:u32,len:u32\nindex hosts host\nask all total len *\nask one find hosts 1 1\n"
 )
+LANES = (
+    "schema records ts:u64,host:u16,len:u32,mac:b6\nindex hosts host\nfilter every *\naggregate sums every len\n"
+    "tally keys host len *\ntrigger large sums sum > 40\nask all total len *\nask one find hosts 1 1\n"
+    "ask marks fired large\nask first top keys count 2\n"
+)
 FRAME = bytes([0] * 12 + [8, 0, 0x45, 0, 0, 20] + [0] * 8 + [10, 0, 0, 1] + [0] * 4)
 
 
 class Calls(unittest.TestCase):
     def test_version(self):
-        self.assertEqual(confluo.version(), 1000)
+        self.assertEqual(confluo.version(), 2000)
 
     def test_the_example_of_the_documents(self):
         page = (HERE.parents[2] / "docs" / "LIBRARY.md").read_text()
@@ -30,7 +35,7 @@ class Calls(unittest.TestCase):
         printed = io.StringIO()
         with contextlib.redirect_stdout(printed):
             exec(example, {"confluo": confluo})
-        self.assertEqual(printed.getvalue(), "[1, 60, 60, 60]\n")
+        self.assertEqual(printed.getvalue(), "[Quad(count=2000, sum=120000, least=60, greatest=60)]\n")
 
     def test_refusals(self):
         log = confluo.Log("schema packet\nask all list *\n", capacity=1)
@@ -42,6 +47,10 @@ class Calls(unittest.TestCase):
             (confluo.Code.SETUP, lambda: confluo.check("schema packet\nindex\n")),
             (confluo.Code.NO_WRITER, log.writer),
             (confluo.Code.NO_QUESTION, lambda: reader.ask(1)),
+            (confluo.Code.NO_QUESTION, lambda: reader.ask_seen(1)),
+            (confluo.Code.NO_LANE, lambda: reader.groups(0)),
+            (confluo.Code.NO_ROW, lambda: reader.row(0)),
+            (confluo.Code.UNFIT, lambda: writer.append_row(0, [1])),
             (confluo.Code.UNFIT, lambda: writer.append_values(0, [1])),
             (confluo.Code.FRAME, lambda: writer.append(0, 1, FRAME, link=65536)),
         ]
@@ -52,6 +61,7 @@ class Calls(unittest.TestCase):
         with self.assertRaises(confluo.SetupError) as caught:
             confluo.check("schema packet\nindex\n")
         self.assertEqual((caught.exception.line, caught.exception.fault), (2, 3))
+        self.assertRaises(KeyError, reader.ask, "other")
 
     def test_numbers_that_do_not_fit(self):
         log = confluo.Log(RECORDS, capacity=8)
@@ -64,6 +74,11 @@ class Calls(unittest.TestCase):
             lambda: writer.append_values(-1, [1, 1, 1]),
             lambda: writer.append(0, 2**64 + 1, FRAME),
             lambda: writer.append(0, 1, FRAME, length=-1),
+            lambda: writer.append_many([(0, 2**64, FRAME)]),
+            lambda: writer.append_row(0, [-1, 1, 1]),
+            lambda: writer.append_row(0, [1, 1, bytes(17)]),
+            lambda: reader.row(2**32),
+            lambda: reader.groups(-1),
         ]
         for k, call in enumerate(cases):
             with self.subTest(case=k), self.assertRaises(ValueError):
@@ -88,6 +103,95 @@ class Calls(unittest.TestCase):
             with self.assertRaises(confluo.Error) as caught:
                 reader.tail()
             self.assertEqual(caught.exception.code, confluo.Code.NOTHING)
+
+    def test_batches_go_on_after_a_refusal(self):
+        log = confluo.Log("schema packet\nask all list *\n", capacity=3, writers=1)
+        writer, reader = log.writer(), log.reader()
+        frames = [confluo.Frame(k, 1000, FRAME, link=1 + (k == 1)) for k in range(5)]
+        self.assertEqual(writer.append_many(frames), confluo.Appended([0], confluo.Code.FRAME))
+        self.assertEqual(writer.append_many(frames[2:4]), confluo.Appended([1, 2], None))
+        self.assertEqual(writer.append_many(frames[4:]), confluo.Appended([], confluo.Code.FULL))
+        self.assertEqual(writer.append_many([]), confluo.Appended([], None))
+        self.assertEqual(reader.tail(), 3)
+        self.assertEqual([reader.row(k).number for k in range(3)], [0, 2, 3])
+        self.assertEqual(reader.row(0).values["src"], 0x0A000001)
+
+    def test_names(self):
+        names = confluo.Log(LANES).names
+        self.assertEqual(names.attributes[2:], [("len", "u32"), ("mac", "b6")])
+        self.assertEqual(
+            names.lanes,
+            [
+                ("hosts", "index", "host", None),
+                ("every", "filter", None, None),
+                ("sums", "aggregate", None, "len"),
+                ("keys", "tally", "host", "len"),
+            ],
+        )
+        self.assertEqual(names.triggers, [("large", "sums", "sum", ">", 40)])
+        self.assertEqual(
+            names.questions,
+            [
+                confluo.Question("all", "total", "len"),
+                confluo.Question("one", "find", "hosts", (1, 1)),
+                confluo.Question("marks", "fired", "sums", part="sum", operator=">", number=40),
+                confluo.Question("first", "top", "keys", part="count", count=2),
+            ],
+        )
+        self.assertEqual(confluo.Log("schema packet\nwidth 50\n").width(), 50)
+
+    def test_questions_at_one_tail(self):
+        log = confluo.Log(LANES, capacity=8)
+        writer, reader = log.writer(), log.reader()
+        rows = [(1, 7, 10, b"abcdef"), (2, 8, 25, b"abcdef"), (3, 7, 20, b"ghijkl")]
+        for k, row in enumerate(rows):
+            writer.append_row(10 + k, row)
+        self.assertEqual(reader.ask_seen("all").rows, [confluo.Quad(0, 0, 0, 0)])
+        self.assertEqual(reader.tail(), 3)
+        writer.append_row(13, rows[0])
+        cases = [
+            ("all", confluo.Kind.QUAD, [(3, 55, 10, 25)]),
+            ("one", confluo.Kind.PLACES, []),
+            ("marks", confluo.Kind.MARKS, [(0, 55)]),
+            ("first", confluo.Kind.TOPS, [(7, 2), (8, 1)]),
+        ]
+        for name, kind, found in cases:
+            answer = reader.ask_seen(name)
+            self.assertEqual((answer.tail, answer.kind, answer.rows), (3, kind, found))
+        groups = reader.groups("keys")
+        self.assertEqual(groups.rows, [(7, 2, 30, 10, 20), (8, 1, 25, 25, 25)])
+        merged = groups.merge(groups)
+        self.assertEqual((merged.tail, merged.rows), (6, [(7, 4, 60, 10, 20), (8, 2, 50, 25, 25)]))
+        with self.assertRaises(confluo.Error) as caught:
+            confluo.Answer(1, confluo.Kind.GROUPS, [1, 0, 1, 0, 0]).merge(groups)
+        self.assertEqual(caught.exception.code, confluo.Code.NO_GROUPS)
+        self.assertRaises(ValueError, reader.ask("all").merge, groups)
+        self.assertEqual(reader.row(2), (12, {"ts": 3, "host": 7, "len": 20, "mac": b"ghijkl"}))
+
+    def test_frames_of_pandas(self):
+        try:
+            import pandas  # noqa: F401
+        except ImportError:
+            self.skipTest("pandas is missing: apt-get install python3-pandas")
+        log = confluo.Log(LANES, capacity=8)
+        writer, reader = log.writer(), log.reader()
+        for host in (7, 8, 7):
+            writer.append_row(0, (1, host, 10, bytes(6)))
+        frame = reader.ask("first").to_frame()
+        self.assertEqual((list(frame.columns), frame.values.tolist()), (["key", "value"], [[7, 2], [8, 1]]))
+        frame = reader.groups("keys").to_frame()
+        self.assertEqual(list(frame["sum"]), [20, 10])
+        self.assertEqual(len(reader.ask("marks").to_frame()), 0)
+
+    def test_captures(self):
+        sys.path.insert(0, str(HERE.parents[2] / "bench"))
+        import library_answers
+
+        cases = [*library_answers.examples(), *map(library_answers.drawn, range(1, 21))]
+        for number, case in enumerate(cases):
+            fault = library_answers.fault_of(*case, writers=1 + number % 3, batch=(1, 5)[number % 2])
+            self.assertIsNone(fault)
+        self.assertGreater(len(cases), 30)
 
     def test_bytes_of_a_log(self):
         small, large = confluo.check(RECORDS, capacity=1, nodes=0), confluo.check(

@@ -1,0 +1,114 @@
+"""The calls of confluo.h."""
+
+import ctypes
+import operator
+import os
+
+WORD, LONG, SIZE, TEXT = ctypes.c_uint32, ctypes.c_uint64, ctypes.c_size_t, ctypes.c_char_p
+TO = ctypes.POINTER
+
+
+def words(*names):
+    """Fields of 32 bits."""
+    return [(name, WORD) for name in names]
+
+
+class Handle(ctypes.Structure):
+    _fields_ = [("full", ctypes.c_bool), ("at", ctypes.c_void_p)]
+
+
+class Sizes(ctypes.Structure):
+    _fields_ = words("capacity", "writers", "nodes", "reserved")
+
+
+class Fault(ctypes.Structure):
+    _fields_ = words("line", "code")
+
+
+class Capture(ctypes.Structure):
+    _fields_ = [("ns", LONG), *words("number", "length", "link", "reserved")]
+
+
+class FrameOf(ctypes.Structure):
+    _fields_ = [("capture", Capture), ("from_", LONG), ("count", LONG)]
+
+
+class ValueOf(ctypes.Structure):
+    _fields_ = [("number", LONG), *words("kind", "length"), ("bytes", ctypes.c_uint8 * 16)]
+
+
+class About(ctypes.Structure):
+    _fields_ = [
+        *words("kind", "of", "part", "op"),
+        ("low", LONG),
+        ("high", LONG),
+        *words("size", "reserved"),
+    ]
+
+
+class RoomOf(ctypes.Structure):
+    _fields_ = words("capacity", "covered", "nodes_left", "reserved")
+
+
+class Head(ctypes.Structure):
+    _fields_ = [*words("tail", "kind"), ("count", LONG)]
+
+
+CALLS = {
+    "version": (WORD, []),
+    "message": (SIZE, [WORD, SIZE, TEXT, SIZE]),
+    "check": (WORD, [TEXT, SIZE, TO(Sizes), TO(LONG), TO(Fault)]),
+    "open": (WORD, [TO(Handle), TEXT, SIZE, TO(Sizes), TO(Fault)]),
+    "take_writer": (WORD, [TO(Handle), TO(Handle), TO(WORD)]),
+    "take_reader": (WORD, [TO(Handle), TO(Handle)]),
+    "append": (WORD, [TO(Handle), TO(Capture), TEXT, SIZE, TO(WORD)]),
+    "append_values": (WORD, [TO(Handle), WORD, TO(LONG), SIZE, TO(WORD)]),
+    "append_many": (WORD, [TO(Handle), TO(FrameOf), SIZE, TEXT, SIZE, TO(WORD), SIZE, TO(SIZE)]),
+    "append_row": (WORD, [TO(Handle), WORD, TO(ValueOf), SIZE, TO(WORD)]),
+    "room_of": (WORD, [TO(Handle), TO(RoomOf)]),
+    "ask": (WORD, [TO(Handle), WORD, TO(Head)]),
+    "ask_seen": (WORD, [TO(Handle), WORD, TO(Head)]),
+    "groups": (WORD, [TO(Handle), WORD, TO(Head)]),
+    "merge": (WORD, [TO(LONG), SIZE, TO(LONG), SIZE, TO(LONG), SIZE, TO(SIZE)]),
+    "row": (WORD, [TO(Handle), WORD, TO(WORD), TO(ValueOf), SIZE, TO(SIZE)]),
+    "words": (SIZE, [TO(Handle), SIZE, TO(LONG), SIZE]),
+    "tail": (WORD, [TO(Handle), TO(WORD)]),
+    "name": (WORD, [TO(Handle), WORD, WORD, TEXT, SIZE, TO(SIZE)]),
+    "tell": (WORD, [TO(Handle), WORD, WORD, TO(About)]),
+    "question": (WORD, [TO(Handle), TEXT, SIZE, TO(WORD)]),
+    "width": (WORD, [TO(Handle), TO(LONG)]),
+    "free_log": (None, [TO(Handle)]),
+    "free_writer": (None, [TO(Handle)]),
+    "free_reader": (None, [TO(Handle)]),
+}
+
+
+def loaded():
+    """The library, with the types of its calls."""
+    library = ctypes.CDLL(os.environ.get("CONFLUO_LIBRARY", "libconfluo.so.0"))
+    for name, (answer, parameters) in CALLS.items():
+        call = getattr(library, "confluo_" + name)
+        call.restype, call.argtypes = answer, parameters
+    return library
+
+
+LIBRARY = loaded()
+
+
+def call(name):
+    """A call of the library by its name."""
+    return getattr(LIBRARY, "confluo_" + name)
+
+
+def checked(value, bits, name):
+    """The value as a number of so many bits, or ValueError."""
+    found = operator.index(value)
+    if not 0 <= found < 1 << bits:
+        raise ValueError(f"{name} is {found}, not a number of {bits} bits")
+    return found
+
+
+def array(numbers):
+    """Numbers of 64 bits for the library, which wants a place even for none, and how many."""
+    held = [checked(it, 64, "a value") for it in numbers]
+    return (LONG * max(1, len(held)))(*held), len(held)

@@ -1,0 +1,172 @@
+//! Logs.
+use crate::error::{OpenError, TakeError};
+use crate::handle::Held;
+use crate::names::{Attribute, Lane, Question, Trigger};
+use crate::raw;
+use crate::reader::Reader;
+use crate::writer::Writer;
+
+/// How large a log is.
+#[derive(Clone, Copy, Debug, PartialEq, Eq, Hash)]
+pub struct Sizes {
+    /// How many records it takes, 1 to 65,536.
+    pub capacity: u32,
+    /// How many writers it has, 1 to 15.
+    pub writers: u32,
+    /// How many nodes each writer has, 0 to 65,536: one for each proper prefix of a key that an index or another lane
+    /// meets. `docs/GUIDE.md` says how many a capture needs.
+    pub nodes: u32,
+}
+
+impl Default for Sizes {
+    /// 65,536 records by one writer of 4,096 nodes.
+    fn default() -> Self {
+        Sizes {
+            capacity: 65_536,
+            writers: 1,
+            nodes: 4_096,
+        }
+    }
+}
+
+impl Sizes {
+    fn raw(self) -> raw::Sizes {
+        raw::Sizes {
+            capacity: self.capacity,
+            writers: self.writers,
+            nodes: self.nodes,
+            reserved: 0,
+        }
+    }
+}
+
+/// How many bytes the words of a log of this setup and these sizes would take. Nothing is opened.
+///
+/// # Errors
+///
+/// As for [`Log::open`].
+///
+/// ```
+/// let sizes = confluo::Sizes::default();
+/// assert!(confluo::check("schema packet\n", sizes)? > 10_000_000);
+/// assert_eq!(confluo::check("schema packet\nindex\n", sizes).unwrap_err().to_string(), "the setup is faulty: line 2, code 3");
+/// # Ok::<(), confluo::OpenError>(())
+/// ```
+pub fn check(setup: &str, sizes: Sizes) -> Result<u64, OpenError> {
+    let (mut bytes, mut fault) = (0, raw::Fault::default());
+    // SAFETY: the memory is ours, and the text as long as said.
+    let code = unsafe { raw::confluo_check(setup.as_ptr(), setup.len(), &sizes.raw(), &mut bytes, &mut fault) };
+    OpenError::check(code, &fault)?;
+    Ok(bytes)
+}
+
+/// A log, of which writers and readers are taken.
+#[derive(Debug)]
+pub struct Log {
+    held: Held<raw::Log>,
+}
+
+impl Log {
+    /// Opens a log of the setup.
+    ///
+    /// # Errors
+    ///
+    /// [`OpenError::Setup`] if the text is no setup, else [`OpenError::Sizes`] if a size is out of range;
+    /// [`OpenError::Memory`].
+    pub fn open(setup: &str, sizes: Sizes) -> Result<Log, OpenError> {
+        let (mut held, mut fault) = (Held::nothing(), raw::Fault::default());
+        // SAFETY: the memory is ours, and the text as long as said.
+        let code =
+            held.call(|log| unsafe { raw::confluo_open(log, setup.as_ptr(), setup.len(), &sizes.raw(), &mut fault) });
+        OpenError::check(code, &fault)?;
+        Ok(Log { held })
+    }
+
+    /// Takes a writer that was not taken yet. A writer that is dropped is not given back.
+    ///
+    /// # Errors
+    ///
+    /// [`TakeError::NoWriter`] if all were taken; [`TakeError::Memory`], which may come in its place.
+    pub fn writer(&mut self) -> Result<Writer, TakeError> {
+        let (mut writer, mut number) = (Held::nothing(), 0);
+        // SAFETY: the handles are two, and the number is ours.
+        let code = self
+            .held
+            .call(|log| writer.call(|writer| unsafe { raw::confluo_take_writer(log, writer, &mut number) }));
+        TakeError::check(code)?;
+        Ok(Writer::new(writer, number))
+    }
+
+    /// Takes a reader. Take as many as you like.
+    ///
+    /// # Errors
+    ///
+    /// [`TakeError::Memory`].
+    pub fn reader(&mut self) -> Result<Reader, TakeError> {
+        let mut reader = Held::nothing();
+        // SAFETY: the handles are two.
+        let code = self
+            .held
+            .call(|log| reader.call(|reader| unsafe { raw::confluo_take_reader(log, reader) }));
+        TakeError::check(code)?;
+        Ok(Reader::new(reader))
+    }
+
+    /// The attributes of the schema, in its order.
+    pub fn attributes(&mut self) -> Vec<Attribute> {
+        self.named(raw::ATTRIBUTES, Attribute::of)
+    }
+
+    /// Indexes, filters, aggregates and tallies, in the order of their lines.
+    pub fn lanes(&mut self) -> Vec<Lane> {
+        self.named(raw::LANES, Lane::of)
+    }
+
+    /// The triggers, in the order of their lines.
+    pub fn triggers(&mut self) -> Vec<Trigger> {
+        self.named(raw::TRIGGERS, Trigger::of)
+    }
+
+    /// The questions, in the order of their lines.
+    pub fn questions(&mut self) -> Vec<Question> {
+        self.named(raw::QUESTIONS, Question::of)
+    }
+
+    /// The number of the question of that name, if there is one.
+    pub fn question(&mut self, name: &str) -> Option<u32> {
+        let mut number = 0;
+        // SAFETY: the memory is ours, and the name as long as said.
+        let code = self
+            .held
+            .call(|log| unsafe { raw::confluo_question(log, name.as_ptr(), name.len(), &mut number) });
+        (code == raw::OK).then_some(number)
+    }
+
+    /// How wide a bucket is, in nanoseconds.
+    pub fn width(&mut self) -> u64 {
+        let mut width = 0;
+        // SAFETY: the memory is ours. The call is refused only for a handle that leads to nothing.
+        self.held.call(|log| unsafe { raw::confluo_width(log, &mut width) });
+        width
+    }
+
+    /// All things of a sort that the setup names.
+    fn named<T>(&mut self, sort: u32, made: impl Fn(String, &raw::About) -> T) -> Vec<T> {
+        let mut found = Vec::new();
+        for number in 0.. {
+            let (mut name, mut count, mut about) = ([0; 32], 0, raw::About::default());
+            // SAFETY: the memory is ours, and as long as said.
+            let code = self.held.call(|log| unsafe {
+                match raw::confluo_name(log, sort, number, name.as_mut_ptr(), name.len(), &mut count) {
+                    raw::OK => raw::confluo_tell(log, sort, number, &mut about),
+                    code => code,
+                }
+            });
+            if code != raw::OK {
+                break;
+            }
+            found.push(made(String::from_utf8_lossy(&name[..count]).into_owned(), &about));
+        }
+        found
+    }
+}

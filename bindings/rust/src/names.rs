@@ -1,0 +1,188 @@
+//! What a setup names.
+use crate::raw::About;
+
+/// An attribute of the schema.
+#[derive(Clone, Debug, PartialEq, Eq, Hash)]
+pub struct Attribute {
+    /// Its name.
+    pub name: String,
+    /// Whether its values are numbers, of 8 times `size` bits; else they are strings of `size` bytes.
+    pub is_number: bool,
+    /// How many bytes a value has.
+    pub size: u32,
+}
+
+/// An index, a filter, an aggregate or a tally.
+#[derive(Clone, Debug, PartialEq, Eq, Hash)]
+pub struct Lane {
+    /// Its name.
+    pub name: String,
+    /// What it is. Attributes are given by their numbers.
+    pub kind: LaneKind,
+}
+
+/// What a lane is.
+#[derive(Clone, Copy, Debug, PartialEq, Eq, Hash)]
+#[non_exhaustive]
+pub enum LaneKind {
+    /// It finds records by the attribute `key`.
+    Index {
+        /// The attribute.
+        key: u32,
+    },
+    /// It finds records of an expression by bucket.
+    Filter,
+    /// It measures an attribute by bucket.
+    Aggregate {
+        /// The attribute.
+        measure: u32,
+    },
+    /// It measures an attribute by the attribute `key`.
+    Tally {
+        /// The attribute of the keys.
+        key: u32,
+        /// The attribute that is measured.
+        measure: u32,
+    },
+}
+
+/// A trigger: it fires in a bucket of the aggregate whose `part` compares by `op` with `number`.
+#[derive(Clone, Debug, PartialEq, Eq, Hash)]
+pub struct Trigger {
+    /// Its name.
+    pub name: String,
+    /// The number of the aggregate among the lanes.
+    pub lane: u32,
+    /// The part of the quad.
+    pub part: Part,
+    /// How it is compared.
+    pub op: Op,
+    /// With what.
+    pub number: u64,
+}
+
+/// A question.
+#[derive(Clone, Debug, PartialEq, Eq, Hash)]
+pub struct Question {
+    /// Its name.
+    pub name: String,
+    /// What it asks. Lanes and attributes are given by their numbers.
+    pub asks: Asks,
+}
+
+/// What a question asks. The ends of a range belong to it.
+#[derive(Clone, Copy, Debug, PartialEq, Eq, Hash)]
+#[allow(missing_docs)] // the fields have the names of the setup's words
+#[non_exhaustive]
+pub enum Asks {
+    /// Which records match an expression.
+    List,
+    /// Which records have a value in the range.
+    Find { lane: u32, low: u64, high: u64 },
+    /// Which records of a filter are in these buckets.
+    Between { lane: u32, low: u64, high: u64 },
+    /// What an aggregate measured in these buckets.
+    Measure { lane: u32, low: u64, high: u64 },
+    /// In which buckets a part of the aggregate compares so.
+    Fired { lane: u32, part: Part, op: Op, number: u64 },
+    /// Which keys have the greatest part.
+    Top { lane: u32, part: Part, count: u32 },
+    /// What the attribute adds up to over the records that match.
+    Total { attribute: u32 },
+}
+
+/// A part of a quad.
+#[derive(Clone, Copy, Debug, PartialEq, Eq, Hash)]
+#[allow(missing_docs)]
+pub enum Part {
+    Count,
+    Sum,
+    Least,
+    Greatest,
+}
+
+/// How numbers are compared.
+#[derive(Clone, Copy, Debug, PartialEq, Eq, Hash)]
+#[allow(missing_docs)]
+pub enum Op {
+    Equal,
+    NotEqual,
+    Less,
+    AtMost,
+    Greater,
+    AtLeast,
+}
+
+impl Part {
+    fn of(number: u32) -> Self {
+        [Part::Count, Part::Sum, Part::Least, Part::Greatest][number as usize]
+    }
+}
+
+impl Op {
+    fn of(number: u32) -> Self {
+        [Op::Equal, Op::NotEqual, Op::Less, Op::AtMost, Op::Greater, Op::AtLeast][number as usize]
+    }
+}
+
+impl Attribute {
+    pub(crate) fn of(name: String, about: &About) -> Self {
+        Attribute {
+            name,
+            is_number: about.kind != 0,
+            size: if about.kind == 0 { about.size } else { about.kind / 8 },
+        }
+    }
+}
+
+impl Lane {
+    pub(crate) fn of(name: String, about: &About) -> Self {
+        let (key, measure) = (about.of, about.size);
+        let kind = match about.kind {
+            0 => LaneKind::Index { key },
+            1 => LaneKind::Filter,
+            2 => LaneKind::Aggregate { measure },
+            3 => LaneKind::Tally { key, measure },
+            other => panic!("libconfluo told of a lane of kind {other}"),
+        };
+        Lane { name, kind }
+    }
+}
+
+impl Trigger {
+    pub(crate) fn of(name: String, about: &About) -> Self {
+        Trigger {
+            name,
+            lane: about.of,
+            part: Part::of(about.part),
+            op: Op::of(about.op),
+            number: about.low,
+        }
+    }
+}
+
+impl Question {
+    pub(crate) fn of(name: String, about: &About) -> Self {
+        let (lane, low, high) = (about.of, about.low, about.high);
+        let asks = match about.kind {
+            0 => Asks::List,
+            1 => Asks::Find { lane, low, high },
+            2 => Asks::Between { lane, low, high },
+            3 => Asks::Measure { lane, low, high },
+            4 => Asks::Fired {
+                lane,
+                part: Part::of(about.part),
+                op: Op::of(about.op),
+                number: low,
+            },
+            5 => Asks::Top {
+                lane,
+                part: Part::of(about.part),
+                count: about.size,
+            },
+            6 => Asks::Total { attribute: lane },
+            other => panic!("libconfluo told of a question of kind {other}"),
+        };
+        Question { name, asks }
+    }
+}

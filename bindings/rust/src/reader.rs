@@ -1,0 +1,133 @@
+//! Readers.
+use crate::answer::{Answer, Body, Groups};
+use crate::error::{AskError, GroupsError, RowError};
+use crate::handle::Held;
+use crate::raw;
+use crate::row::{Row, Value};
+
+/// A reader of a log.
+#[derive(Debug)]
+pub struct Reader {
+    held: Held<raw::Reader>,
+}
+
+impl Reader {
+    pub(crate) fn new(held: Held<raw::Reader>) -> Self {
+        Reader { held }
+    }
+
+    /// Asks the question of that number in the setup, from 0, on all records below the tail.
+    ///
+    /// # Errors
+    ///
+    /// [`AskError::NoQuestion`] if the setup has none of that number; [`AskError::Memory`].
+    pub fn ask(&mut self, question: u32) -> Result<Answer, AskError> {
+        let mut head = raw::Head::default();
+        // SAFETY: the memory is ours.
+        let code = self
+            .held
+            .call(|reader| unsafe { raw::confluo_ask(reader, question, &mut head) });
+        AskError::check(code)?;
+        Ok(self.answer(&head))
+    }
+
+    /// Asks a question on the records that the reader has seen: those below the tail that [`tail`](Reader::tail) or
+    /// [`ask`](Reader::ask) found last, none at first. So all questions of a report have one tail.
+    ///
+    /// # Errors
+    ///
+    /// As for [`ask`](Reader::ask).
+    ///
+    /// ```
+    /// use confluo::{Body, Log, Sizes};
+    ///
+    /// let setup = "schema records ts:u64,len:u32\nask one total len *\nask other list len>50\n";
+    /// let mut log = Log::open(setup, Sizes::default())?;
+    /// let (mut writer, mut reader) = (log.writer()?, log.reader()?);
+    /// writer.append_values(0, &[1_000, 60])?;
+    /// let tail = reader.tail();
+    /// writer.append_values(1, &[2_000, 90])?;
+    /// for question in 0..2 {
+    ///     assert_eq!(reader.ask_seen(question)?.tail, tail);
+    /// }
+    /// assert_eq!(reader.ask(1)?.body, Body::Places(vec![0, 1]));
+    /// # Ok::<(), Box<dyn std::error::Error>>(())
+    /// ```
+    pub fn ask_seen(&mut self, question: u32) -> Result<Answer, AskError> {
+        let mut head = raw::Head::default();
+        // SAFETY: the memory is ours.
+        let code = self
+            .held
+            .call(|reader| unsafe { raw::confluo_ask_seen(reader, question, &mut head) });
+        AskError::check(code)?;
+        Ok(self.answer(&head))
+    }
+
+    /// All groups of the aggregate or tally of that number among the lanes, on the records that the reader has seen. Groups of several
+    /// logs can be [merged](crate::merge), which marks and tops cannot.
+    ///
+    /// # Errors
+    ///
+    /// [`GroupsError::NoLane`] if the setup has none of that number, or it is an index or a filter; [`GroupsError::Memory`].
+    pub fn groups(&mut self, lane: u32) -> Result<Groups, GroupsError> {
+        let mut head = raw::Head::default();
+        // SAFETY: the memory is ours.
+        let code = self
+            .held
+            .call(|reader| unsafe { raw::confluo_groups(reader, lane, &mut head) });
+        GroupsError::check(code)?;
+        Ok(Groups::of(head.tail, &self.words(&head)))
+    }
+
+    /// Reads back the record at that offset.
+    ///
+    /// # Errors
+    ///
+    /// [`RowError::NoRow`] if the offset is not below the tail that the reader saw last; [`RowError::Memory`].
+    pub fn row(&mut self, offset: u32) -> Result<Row, RowError> {
+        let mut values = vec![raw::Value::default(); MOST_ATTRIBUTES];
+        let (mut number, mut count) = (0, 0);
+        // SAFETY: the memory is ours, and as long as said.
+        let code = self.held.call(|reader| unsafe {
+            raw::confluo_row(
+                reader,
+                offset,
+                &mut number,
+                values.as_mut_ptr(),
+                values.len(),
+                &mut count,
+            )
+        });
+        RowError::check(code)?;
+        let values = values[..count].iter().map(Value::of).collect();
+        Ok(Row { number, values })
+    }
+
+    /// How many records are below the tail now.
+    pub fn tail(&mut self) -> u32 {
+        let mut tail = 0;
+        // SAFETY: the memory is ours. The call is refused only for a handle that leads to nothing.
+        self.held.call(|reader| unsafe { raw::confluo_tail(reader, &mut tail) });
+        tail
+    }
+
+    /// The answer of that head, whose words the reader holds.
+    fn answer(&mut self, head: &raw::Head) -> Answer {
+        let body = Body::of(head.kind, &self.words(head));
+        Answer { tail: head.tail, body }
+    }
+
+    fn words(&mut self, head: &raw::Head) -> Vec<u64> {
+        let length = usize::try_from(head.count).expect("an answer is in memory");
+        let mut words = vec![0; length];
+        // SAFETY: the memory is ours, and as long as said.
+        let copied = self
+            .held
+            .call(|reader| unsafe { raw::confluo_words(reader, 0, words.as_mut_ptr(), words.len()) });
+        assert_eq!(copied, length, "the reader has the words of its answer");
+        words
+    }
+}
+
+/// How many attributes a schema has at most.
+const MOST_ATTRIBUTES: usize = 24;

@@ -1,0 +1,299 @@
+//! The calls that are refused, answers, the order of drops, and threads.
+#![forbid(unsafe_code)]
+
+use confluo::{
+    check, merge, Answer, AppendError, AskError, Asks, Body, Capture, Fault, Group, Groups, GroupsError, LaneKind, Log,
+    Mark, MergeError, Op, OpenError, Part, Quad, Reader, Row, RowError, Sizes, TakeError, Top, Trigger, Value, Writer,
+};
+use std::error::Error;
+use std::sync::mpsc;
+use std::thread;
+
+const RECORDS: &str =
+    "schema records ts:u64,host:u32,len:u32\nindex hosts host\nfilter every *\naggregate sums every len\n\
+    trigger large sums sum > 40\ntally keys host len *\nask all total len *\nask one find hosts 1 1\n\
+    ask marks fired large\nask top top keys sum 2\n";
+
+fn sizes(capacity: u32, writers: u32, nodes: u32) -> Sizes {
+    Sizes {
+        capacity,
+        writers,
+        nodes,
+    }
+}
+
+/// Whether a type is `Sync`: `is_sync` is ambiguous, and does not compile, if it is.
+macro_rules! is_not_sync {
+    ($($type:ty),*) => {
+        $(const _: fn() = || {
+            trait Ambiguous<A> {
+                fn is_sync() {}
+            }
+            impl<T: ?Sized> Ambiguous<()> for T {}
+            struct Synced;
+            impl<T: ?Sized + Sync> Ambiguous<Synced> for T {}
+            <$type as Ambiguous<_>>::is_sync();
+        };)*
+    };
+}
+
+is_not_sync!(Log, Writer, Reader);
+
+fn is_send<T: Send>(_: &T) {}
+
+#[test]
+fn setups_are_refused() {
+    let fault = OpenError::Setup(Fault { line: 2, code: 3 });
+    let cases = [
+        (
+            "schema packet\nindex\n",
+            sizes(1, 1, 0),
+            fault,
+            "the setup is faulty: line 2, code 3",
+        ),
+        (
+            "schema packet\nindex\n",
+            sizes(0, 99, 0),
+            fault,
+            "the setup is faulty: line 2, code 3",
+        ),
+        (RECORDS, sizes(0, 1, 0), OpenError::Sizes, "a size is out of range"),
+        (RECORDS, sizes(65_537, 1, 0), OpenError::Sizes, "a size is out of range"),
+        (RECORDS, sizes(1, 257, 0), OpenError::Sizes, "a size is out of range"),
+        (RECORDS, sizes(1, 1, 65_537), OpenError::Sizes, "a size is out of range"),
+    ];
+    for (setup, sizes, error, text) in cases {
+        assert_eq!(check(setup, sizes), Err(error));
+        assert_eq!(Log::open(setup, sizes).err(), Some(error));
+        assert!(error.to_string().starts_with(text));
+    }
+}
+
+#[test]
+fn calls_are_refused() -> Result<(), Box<dyn Error>> {
+    let mut log = Log::open(RECORDS, sizes(2, 1, 64))?;
+    let mut writer = log.writer()?;
+    let mut reader = log.reader()?;
+    is_send(&log);
+    is_send(&writer);
+    is_send(&reader);
+    assert_eq!(log.writer().err(), Some(TakeError::NoWriter));
+    assert_eq!(writer.append_values(0, &[]), Err(AppendError::Unfit));
+    assert_eq!(writer.append_values(0, &[1, 1 << 32, 1]), Err(AppendError::Unfit));
+    let capture = Capture {
+        ns: 1,
+        number: 0,
+        length: 60,
+        link: 1,
+    };
+    assert_eq!(writer.append(&capture, &[]), Err(AppendError::Unfit));
+    assert_eq!(writer.append_values(0, &[1, 1, 10]), Ok(0));
+    assert_eq!(writer.append_values(0, &[2, 1, 40]), Ok(1));
+    assert_eq!(writer.append_values(0, &[3, 1, 10]), Err(AppendError::Full));
+    assert_eq!(reader.ask(4), Err(AskError::NoQuestion));
+    assert_eq!((writer.room().capacity, writer.room().covered), (2, 2));
+    let mut other = Log::open("schema packet\n", sizes(1, 1, 0))?;
+    let unread = Capture {
+        link: 65_537,
+        ..capture
+    };
+    assert_eq!(other.writer()?.append(&unread, &[]), Err(AppendError::Frame));
+    Ok(())
+}
+
+#[test]
+fn answers_have_forms() -> Result<(), Box<dyn Error>> {
+    let mut log = Log::open(RECORDS, sizes(4, 1, 64))?;
+    let mut writer = log.writer()?;
+    for (host, len) in [(7, 10), (1, 25), (7, 20)] {
+        writer.append_values(0, &[1, host, len])?;
+    }
+    let mut reader = log.reader()?;
+    let quad = Quad {
+        count: 3,
+        sum: 55,
+        least: 10,
+        greatest: 25,
+    };
+    let answers = [
+        Body::Quad(quad),
+        Body::Places(vec![1]),
+        Body::Marks(vec![Mark { bucket: 0, value: 55 }]),
+        Body::Tops(vec![Top { key: 7, value: 30 }, Top { key: 1, value: 25 }]),
+    ];
+    for (question, body) in (0..).zip(answers) {
+        assert_eq!(reader.ask(question)?, Answer { tail: 3, body });
+    }
+    Ok(())
+}
+
+#[test]
+fn names_are_told() -> Result<(), Box<dyn Error>> {
+    let mut log = Log::open(RECORDS, sizes(4, 1, 64))?;
+    let names: Vec<_> = log
+        .attributes()
+        .into_iter()
+        .map(|it| (it.name, it.is_number, it.size))
+        .collect();
+    assert_eq!(
+        names,
+        [
+            ("ts".into(), true, 8),
+            ("host".into(), true, 4),
+            ("len".into(), true, 4)
+        ]
+    );
+    let lanes: Vec<_> = log.lanes().into_iter().map(|it| it.kind).collect();
+    let kinds = [
+        LaneKind::Index { key: 1 },
+        LaneKind::Filter,
+        LaneKind::Aggregate { measure: 2 },
+        LaneKind::Tally { key: 1, measure: 2 },
+    ];
+    assert_eq!(lanes, kinds);
+    let (part, op, number) = (Part::Sum, Op::Greater, 40);
+    let trigger = Trigger {
+        name: "large".into(),
+        lane: 2,
+        part,
+        op,
+        number,
+    };
+    assert_eq!(log.triggers(), [trigger]);
+    let asks: Vec<_> = log.questions().into_iter().map(|it| it.asks).collect();
+    let asked = [
+        Asks::Total { attribute: 2 },
+        Asks::Find {
+            lane: 0,
+            low: 1,
+            high: 1,
+        },
+        Asks::Fired {
+            lane: 2,
+            part,
+            op,
+            number,
+        },
+        Asks::Top {
+            lane: 3,
+            part,
+            count: 2,
+        },
+    ];
+    assert_eq!(asks, asked);
+    assert_eq!((log.question("marks"), log.question("large")), (Some(2), None));
+    assert_eq!(log.width(), 1_000_000_000);
+    Ok(())
+}
+
+#[test]
+fn all_is_asked_at_one_tail() -> Result<(), Box<dyn Error>> {
+    let mut log = Log::open(RECORDS, sizes(4, 1, 64))?;
+    let (mut writer, mut reader) = (log.writer()?, log.reader()?);
+    writer.append_row(7, &[Value::Number(1), Value::Number(9), Value::Number(30)])?;
+    assert_eq!(reader.row(0), Err(RowError::NoRow));
+    assert_eq!(reader.ask_seen(0)?.tail, 0);
+    assert_eq!(reader.tail(), 1);
+    writer.append_values(8, &[2, 9, 50])?;
+    assert_eq!(reader.ask_seen(0)?.tail, 1);
+    let quad = Quad {
+        count: 1,
+        sum: 30,
+        least: 30,
+        greatest: 30,
+    };
+    let groups = reader.groups(3)?;
+    assert_eq!(
+        groups,
+        Groups {
+            tail: 1,
+            groups: vec![Group { key: 9, quad }]
+        }
+    );
+    let twice = Quad {
+        count: 2,
+        sum: 60,
+        ..quad
+    };
+    assert_eq!(merge(&groups.groups, &groups.groups)?, [Group { key: 9, quad: twice }]);
+    let wrong = Group {
+        key: 9,
+        quad: Quad { count: 0, ..quad },
+    };
+    assert_eq!(merge(&[wrong], &[]), Err(MergeError::NoGroups));
+    assert_eq!(reader.groups(0), Err(GroupsError::NoLane));
+    assert_eq!(reader.ask_seen(4), Err(AskError::NoQuestion));
+    let row = Row {
+        number: 7,
+        values: vec![Value::Number(1), Value::Number(9), Value::Number(30)],
+    };
+    assert_eq!(reader.row(0)?, row);
+    assert_eq!(reader.row(1), Err(RowError::NoRow));
+    let long = [Value::Number(1), Value::Number(9), Value::Bytes(vec![0; 17])];
+    assert_eq!(writer.append_row(9, &long), Err(AppendError::Unfit));
+    Ok(())
+}
+
+#[test]
+fn parts_are_dropped_in_any_order() -> Result<(), Box<dyn Error>> {
+    for first in 0..3 {
+        let mut log = Log::open(RECORDS, sizes(4, 1, 64))?;
+        let (mut writer, mut reader) = (log.writer()?, log.reader()?);
+        match first {
+            0 => {
+                drop(log);
+                writer.append_values(0, &[1, 1, 1])?;
+                assert_eq!(reader.tail(), 1);
+            }
+            1 => {
+                drop(writer);
+                assert_eq!(reader.tail(), 0);
+            }
+            _ => {
+                drop(reader);
+                drop(log);
+                assert_eq!(writer.append_values(0, &[1, 1, 1]), Ok(0));
+            }
+        }
+    }
+    Ok(())
+}
+
+#[test]
+fn writers_and_readers_run_at_the_same_time() -> Result<(), Box<dyn Error>> {
+    const EACH: u32 = 1_000;
+    let mut log = Log::open(RECORDS, sizes(4 * EACH, 4, 64))?;
+    // A channel hands handles over by acquire and release alone.
+    let (send, receive) = mpsc::channel();
+    for _ in 0..4 {
+        send.send((log.writer()?, log.reader()?))?;
+    }
+    drop((send, log));
+    let threads: Vec<_> = receive
+        .into_iter()
+        .map(|(mut writer, mut reader)| {
+            let asks = thread::spawn(move || {
+                let mut before = 0;
+                while before < 4 * EACH {
+                    let answer = reader.ask(0).expect("an answer");
+                    assert!(answer.tail >= before);
+                    let count = u64::from(answer.tail);
+                    assert!(matches!(answer.body, Body::Quad(quad) if (quad.count, quad.sum) == (count, 10 * count)));
+                    before = answer.tail;
+                }
+            });
+            let appends = thread::spawn(move || {
+                for k in 0..EACH {
+                    writer
+                        .append_values(k, &[u64::from(k), u64::from(k % 4), 10])
+                        .expect("room");
+                }
+            });
+            [asks, appends]
+        })
+        .collect();
+    for thread in threads.into_iter().flatten() {
+        thread.join().expect("no thread panics");
+    }
+    Ok(())
+}

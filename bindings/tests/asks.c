@@ -1,0 +1,111 @@
+/* Questions at one tail, groups and their merge: each code, and what a refused call leaves. */
+#include "check.h"
+
+static const char setup[] =
+    "schema records ts:u64,key:u16,len:u32,mac:b6\nwidth 1000\nindex keys key\nfilter every *\naggregate sums every len\n"
+    "tally kinds key len len>5\ntrigger large sums sum >= 40\nask all list *\nask some find keys 7 8\nask early between every 0 1\n"
+    "ask both measure sums 0 9\nask marks fired large\nask first top kinds greatest 2\nask whole total len *\n";
+
+static void append(parts *it, uint64_t ns, uint64_t key, uint64_t len) {
+    const confluo_value row[] = {{.number = ns}, {.number = key}, {.number = len}, {.kind = CONFLUO_BYTES, .length = 6}};
+    uint32_t offset = 7;
+    is(confluo_append_row(&it->writer, 5, row, 4, &offset), CONFLUO_OK, "append");
+}
+
+static void one_tail(void) {
+    parts it = parts_of(setup, 4, 64);
+    confluo_head head = {7, 7, 7};
+    confluo_reader none = CONFLUO_READER_INIT;
+    uint64_t words[4] = {7, 7, 7, 7};
+    uint32_t tail = 7;
+    append(&it, 500, 7, 10);
+    is(confluo_ask_seen(&it.reader, 6, &head), CONFLUO_OK, "seen nothing");
+    is(head.tail == 0 && head.count == 4, 1, "of no record");
+    is(confluo_words(&it.reader, 0, words, 4), 4, "its words");
+    is(words[0] + words[1] + words[2] + words[3], 0, "four times 0");
+    is(confluo_tail(&it.reader, &tail), CONFLUO_OK, "tail");
+    append(&it, 600, 8, 30);
+    for (uint32_t q = 0; q < 7; q++) {
+        is(confluo_ask_seen(&it.reader, q, &head), CONFLUO_OK, "ask of what is seen");
+        is(head.tail, 1, "one tail");
+    }
+    is(confluo_ask_seen(&it.reader, 7, &head), CONFLUO_NO_QUESTION, "no question");
+    is(confluo_words(&it.reader, 0, words, 4), 4, "the words that it keeps");
+    is(words[0] == 1 && words[1] == 10, 1, "the last answer");
+    is(confluo_ask(&it.reader, 0, &head), CONFLUO_OK, "ask");
+    is(head.tail, 2, "a new tail");
+    is(confluo_ask_seen(&it.reader, 0, &head), CONFLUO_OK, "ask of what is seen");
+    is(head.tail, 2, "which is seen then");
+    is(confluo_ask_seen(&none, 0, &head), CONFLUO_NOTHING, "ask of nothing");
+    free_parts(&it);
+}
+
+static void groups(void) {
+    parts it = parts_of(setup, 4, 64);
+    confluo_head head = {7, 7, 7};
+    confluo_reader none = CONFLUO_READER_INIT;
+    uint64_t words[16];
+    uint32_t tail = 7;
+    append(&it, 500, 7, 10);
+    append(&it, 600, 8, 30);
+    append(&it, 1500, 7, 4);
+    static const struct {
+        uint32_t lane, code;
+        size_t count;
+        uint64_t words[10];
+    } cases[] = {
+        {2, CONFLUO_OK, 10, {0, 2, 40, 10, 30, 1, 1, 4, 4, 4}},         {3, CONFLUO_OK, 10, {7, 1, 10, 10, 10, 8, 1, 30, 30, 30}},
+        {0, CONFLUO_NO_LANE, 10, {7, 1, 10, 10, 10, 8, 1, 30, 30, 30}}, {1, CONFLUO_NO_LANE, 10, {7, 1, 10, 10, 10, 8, 1, 30, 30, 30}},
+        {4, CONFLUO_NO_LANE, 10, {7, 1, 10, 10, 10, 8, 1, 30, 30, 30}},
+    };
+    is(confluo_groups(&it.reader, 2, &head), CONFLUO_OK, "groups of what is seen");
+    is(head.tail == 0 && head.kind == CONFLUO_GROUPS && head.count == 0, 1, "none");
+    is(confluo_tail(&it.reader, &tail), CONFLUO_OK, "tail");
+    for (size_t k = 0; k < sizeof cases / sizeof *cases; k++) {
+        is(confluo_groups(&it.reader, cases[k].lane, &head), cases[k].code, "groups");
+        is(head.tail == 3 && head.kind == CONFLUO_GROUPS && head.count == 10, 1, "their head");
+        is(confluo_words(&it.reader, 0, words, 16), cases[k].count, "their words");
+        is(memcmp(words, cases[k].words, cases[k].count * sizeof *words), 0, "what they are");
+    }
+    is(confluo_groups(&none, 2, &head), CONFLUO_NOTHING, "groups of nothing");
+    free_parts(&it);
+}
+
+static void merges(void) {
+    static const struct {
+        uint64_t one[10], other[10], out[15];
+        size_t one_len, other_len, room;
+        uint32_t code;
+        size_t count;
+    } cases[] = {
+        {{0}, {0}, {0}, 0, 0, 0, CONFLUO_OK, 0},
+        {{1, 1, 5, 5, 5}, {0}, {1, 1, 5, 5, 5}, 5, 0, 5, CONFLUO_OK, 5},
+        {{1, 1, 5, 5, 5}, {1, 2, 9, 3, 6}, {1, 3, 14, 3, 6}, 5, 5, 10, CONFLUO_OK, 5},
+        {{1, 1, 5, 5, 5, 9, 1, 2, 2, 2}, {3, 1, 4, 4, 4}, {1, 1, 5, 5, 5, 3, 1, 4, 4, 4, 9, 1, 2, 2, 2}, 10, 5, 15, CONFLUO_OK, 15},
+        {{1, 1, 5, 5, 5}, {2, 1, 5, 5, 5}, {0}, 5, 5, 9, CONFLUO_SIZES, 9},
+        {{1, 1, 5, 5, 5}, {0}, {0}, 4, 0, 10, CONFLUO_NO_GROUPS, 9},
+        {{2, 1, 5, 5, 5, 1, 1, 4, 4, 4}, {0}, {1, 1, 4, 4, 4, 2, 1, 5, 5, 5}, 10, 0, 10, CONFLUO_OK, 10},
+        {{1, 1, 5, 5, 5, 1, 1, 4, 4, 4}, {0}, {1, 2, 9, 4, 5}, 10, 0, 10, CONFLUO_OK, 5},
+        {{1, 0, 1, 0, 0}, {0}, {0}, 5, 0, 10, CONFLUO_NO_GROUPS, 9},
+        {{1, 1, UINT64_C(1) << 32, 5, 5}, {0}, {0}, 5, 0, 10, CONFLUO_NO_GROUPS, 9},
+        {{0}, {1, 1, 5, UINT64_C(1) << 32, 5}, {0}, 0, 5, 10, CONFLUO_NO_GROUPS, 9},
+        {{1, 1 << 20, 1 << 20, 1, 1}, {1, 1, 5, 5, 5}, {0}, 5, 5, 10, CONFLUO_NO_GROUPS, 9},
+    };
+    for (size_t k = 0; k < sizeof cases / sizeof *cases; k++) {
+        uint64_t out[15] = {0};
+        size_t count = 9;
+        is(confluo_merge(cases[k].one, cases[k].one_len, cases[k].other, cases[k].other_len, out, cases[k].room, &count), cases[k].code,
+           "merge");
+        is(count, cases[k].count, "its words");
+        is(memcmp(out, cases[k].out, sizeof out), 0, "what they are");
+    }
+}
+
+static void *all(void *given) {
+    one_tail();
+    groups();
+    merges();
+    return given;
+}
+
+int main(void) { return in_a_small_stack(all); }
