@@ -18,4 +18,10 @@ for words in "--writers 0" "--lanes 17" "--batch" "--records -1" "--other 1"; do
     "$folder/twin" $words 2> /dev/null || status=$?
     [ "$status" -eq 2 ] || { echo "check-twin: status $status for: $words"; exit 1; }
 done
+if command -v rustc > /dev/null; then
+    rustc --edition 2021 -O -D warnings -o "$folder/twin_rust" "$here/plain_twin.rs"
+    "$folder/twin_rust" rows 4 2 > /dev/null && "$folder/twin_rust" frames 0 2 256 > /dev/null
+else
+    echo "check-twin: the twin in Rust is skipped, there is no rustc"
+fi
 echo "check-twin: the plain twin is clean and its log whole"

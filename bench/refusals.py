@@ -6,18 +6,22 @@ Run it from anywhere after `make run` has built the program (it needs a C compil
     bench/refusals.py [CASE ..]
 
 It runs the program with a small library before the C library's, which refuses the allocation of one number and no other. For a
-`run` with lanes, live questions and two writers, a `synth`, a `snapshot` over two hosts, a `dump` of a capture in either format and
-a run over a record file it refuses allocation 1, 2, 3 .. until a run makes fewer. Each run has to end with status 8 and nothing written, or with
-what it writes when nothing is refused: a thread that could not be started, whose caller did its work. The numbers of both are
-printed. CONFLUO may name another build of the program. It is no part of the gate.
+`run` with lanes, live questions and two writers, a `synth`, a `snapshot` over two hosts, a `dump` of a capture in either format,
+a run over a record file and a `watch` of a capture that comes packet by packet it refuses allocation 1, 2, 3 .. until a run makes fewer.
+Each run has to end with status 8 and nothing written, of a `watch` with a front of what is due; or with what it writes when nothing
+is refused: a thread that could not be started, whose caller did its work, or a segment that was not opened before it was needed. The
+numbers of both are printed. CONFLUO may name another build of the program. It is no part of the gate.
 """
 
+import fcntl
 import os
 import pathlib
 import struct
 import subprocess
 import sys
 import tempfile
+import termios
+import time
 
 ROOT = pathlib.Path(__file__).parent.parent
 PROGRAM = pathlib.Path(os.environ.get("CONFLUO", ROOT / "crates/confluo/out/confluo"))
@@ -59,9 +63,15 @@ def frames():
         yield link + struct.pack(">BBHIBBHII", 0x45, 0, 60, 0, 64, 17, 0, 0x0A000000 + num % 3, 0x0A000100) + struct.pack(">HHHH", 4000, 53, 40, 0)
 
 
+def pieces():
+    """A capture, as it comes: its header, and each packet."""
+    yield struct.pack("<IHHIIII", 0xA1B2C3D4, 2, 4, 0, 0, 65535, 1)
+    for k, frame in enumerate(frames()):
+        yield struct.pack("<IIII", k, 0, len(frame), len(frame) + k) + frame
+
+
 def pcap():
-    head = struct.pack("<IHHIIII", 0xA1B2C3D4, 2, 4, 0, 0, 65535, 1)
-    return head + b"".join(struct.pack("<IIII", k, 0, len(f), len(f) + k) + f for k, f in enumerate(frames()))
+    return b"".join(pieces())
 
 
 def block(kind, body):
@@ -80,16 +90,44 @@ CASES = {
     "snapshot over two hosts": ["snapshot", "--setup", "setup", "--after", "5", "--turn", "2", "--capacity", "64", "--nodes", "256", "pcap", "pcapng"],
     "dump of a classic capture": ["dump", "pcap"],
     "dump of a pcapng capture": ["dump", "pcapng"],
+    "watch, a segment beside the reads": ["watch", "--setup", "setup", "--capacity", "3", "--segments", "2", "--nodes", "2048", "--every", "2", "/dev/stdin"],
+    "watch, small segments": ["watch", "--setup", "setup", "--capacity", "2", "--segments", "2", "--nodes", "256", "--every", "2", "/dev/stdin"],
     "run over a record file": ["run", "--setup", "records.setup", "--writers", "2", "--capacity", "64", "--nodes", "64", "--live", "1", "records"],
 }
+
+
+def is_stream(words):
+    return words[-1] == "/dev/stdin"
+
+
+def feed(process, pieces):
+    """Writes each piece once the one before was read, until the process ends."""
+    try:
+        for piece in pieces:
+            process.stdin.write(piece)
+            while process.poll() is None and any(fcntl.ioctl(process.stdin, termios.FIONREAD, bytes(4))):
+                time.sleep(0.0002)
+    except BrokenPipeError:
+        pass
 
 
 def one(folder, words, at, library):
     mark = folder / "mark"
     mark.unlink(missing_ok=True)
     environment = dict(os.environ, LD_PRELOAD=str(library), REFUSE_AT=str(at), REFUSE_MARK=str(mark))
-    done = subprocess.run([PROGRAM, *words], cwd=folder, env=environment, capture_output=True, timeout=60)
-    return done.returncode, done.stdout, mark.exists()
+    streams = {"stdin": subprocess.PIPE, "stdout": subprocess.PIPE, "stderr": subprocess.DEVNULL, "bufsize": 0}
+    with subprocess.Popen([PROGRAM, *words], cwd=folder, env=environment, **streams) as process:
+        if is_stream(words):
+            feed(process, pieces())
+        text, _ = process.communicate(timeout=60)
+    return process.returncode, text, mark.exists()
+
+
+def is_good(words, status, text, whole):
+    """Whether a run of which an allocation was refused ended as it may."""
+    if is_stream(words):
+        return (status == 8 and whole.startswith(text)) or (status == 0 and text == whole)
+    return (status == 8 and text == b"") or (status == 0 and final_part(text) == final_part(whole))
 
 
 def final_part(text):
@@ -108,8 +146,7 @@ def check(folder, name, words, library):
         status, text, hit = one(folder, words, at, library)
         if not hit:
             break
-        good = (status == 8 and text == b"") or (status == 0 and final_part(text) == final_part(whole))
-        if not good:
+        if not is_good(words, status, text, whole):
             sys.exit(f"{name}: allocation {at} refused: status {status}, {text[:200]!r}")
         counts[status] += 1
         at += 1

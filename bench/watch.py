@@ -11,6 +11,7 @@ Run it from anywhere after `make run` has built the program; CONFLUO may name an
  - window: 200,000 packets of seed 7, capacity 4096, three segments: the end is plain_watch.py's.
  - long: N packets (10 million) on a pipe, the program's memory sampled: it must be flat behind the first tenth.
  - latency: from a packet's write to its alert's line, 500 packets one after another.
+ - turns: the same about the turns of segments of 65,536 packets, the one that begins a segment beside the 39 around it.
  - ends: SIGTERM, a reader that goes away, a reader that stops reading for a while, a disk without room.
  - speed: packets a second from a file and from a pipe beside `confluo run` with one writer, on the usual setup of speed.py; each
    time is the shortest of N runs. A pipe may take 1.3 times the time of `run`.
@@ -278,6 +279,39 @@ def latency(given, folder):
     print(f"latency: in milliseconds {middle:.2f} in the middle, {late:.2f} at 99 of 100, {last:.2f} at most")
 
 
+def turns(given, folder):
+    """From the write of a packet to the line of its alert, where a segment is full."""
+    frame, length = speed.packet(0, 0)
+    size, half, second = 65536, 20, 1
+    plain, turning = [], []
+
+    def packet(seconds):
+        return struct.pack("<IIII", seconds, 0, len(frame), length) + frame
+
+    with Watched(folder, EACH) as it:
+        it.write(HEADER)
+        for turn in range(1, 4 if given.short else 13):
+            # These packets are in the second of the last ones, and so have no alert of their own.
+            it.write(packet(second) * (size - half - (0 if turn == 1 else half)))
+            it.until(lambda: it.left() == 0, "the packets of a segment")
+            time.sleep(0.2)
+            while select.select([it.process.stdout], [], [], 0)[0]:
+                it.read(0)
+            for num in range(2 * half):
+                second += 1
+                before = len(it.out)
+                start = time.perf_counter()
+                it.write(packet(second))
+                it.until(lambda: it.out.count(b"\n", before), "the alert of a packet")
+                (turning if num == half else plain).append((time.perf_counter() - start) * 1e3)
+                time.sleep(0.002)
+        status, _ = it.end()
+    must(status == 0, f"status {status}")
+    for name, times in (("that begins a segment", turning), ("around it", plain)):
+        times.sort()
+        print(f"turns: a packet {name}: {times[len(times) // 2]:.2f} milliseconds in the middle, {times[-1]:.2f} at most of {len(times)}")
+
+
 def packets(first, last):
     """Packets of these numbers, each in a second of its own."""
     frame, length = speed.packet(0, 0)
@@ -372,7 +406,7 @@ def speeds(given, folder):
         raise Wrong("a pipe takes more than 1.3 times the time of run")
 
 
-PARTS = {"drawn": drawn, "cuts": cuts, "window": window, "long": long, "latency": latency, "ends": ends, "speed": speeds}
+PARTS = {"drawn": drawn, "cuts": cuts, "window": window, "long": long, "latency": latency, "turns": turns, "ends": ends, "speed": speeds}
 
 
 def main():
