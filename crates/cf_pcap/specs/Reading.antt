@@ -2,6 +2,7 @@
 use Rattle.std.specs.Prelude.{◌≡◌, ◌⊎◌, ℕ, ◌+◌, ◌-◌, ◌<◌, ◌^◌, ◌==◌, if◌then◌else◌, List, ◌++◌, length, take, drop, Option, Some, None}
 use Rattle.cf_stream.specs.declared.limit.Length.{Length}
 use Rattle.cf_stream.specs.declared.limit.Length.TheVariants.{Limited, Any}
+use Rattle.cf_stream.specs.Limits.{first_of}
 use Rattle.cf_stream.specs.Format.{Bad, Takes, ReadsTo}
 use Rattle.cf_pcap.specs.declared.form.FileHeader.{FileHeader}
 use Rattle.cf_pcap.specs.declared.scope.Scope.{Scope}
@@ -10,6 +11,8 @@ use Rattle.cf_pcap.specs.declared.fault.PcapFault.TheVariants.{TooManyBytes}
 use Rattle.cf_stream.specs.declared.stage.Stage.{Stage}
 use Rattle.cf_stream.specs.declared.stage.Stage.TheVariants.{Running, Stopped}
 use Rattle.cf_stream.specs.Stages.{kept_at}
+use Rattle.cf_pcap.specs.declared.taking.Place.{Place}
+use Rattle.cf_pcap.specs.declared.taking.Reached.{Reached}
 use Rattle.cf_pcap.specs.Capture.{FrameValue, HasRecord, caplen_at}
 use Rattle.cf_pcap.specs.File.{State, step, pcap}
 
@@ -34,8 +37,7 @@ IsFaultAt scope t bytes (Some fault) = step scope t bytes ≡ Bad fault
 
 -- the bytes of a piece that are taken, where so many came before: those up to the one that makes a limited stream 2^32 bytes long
 abbrev pub front_of : Length → ℕ → List ℕ → List ℕ
-front_of Limited total piece = take (2 ^ 32 - total) piece
-front_of Any total piece = piece
+front_of length total piece = first_of length (2 ^ 32 - total) piece
 
 -- 1 where the last of so many bytes comes too late for a frame
 abbrev pub late_of : Length → ℕ → ℕ
@@ -54,3 +56,9 @@ pub record AreTaken (scope : Scope) (s : State) (late : ℕ) (bytes : List ℕ) 
   pub read : AreRead scope s (take (length bytes - late) bytes) frames t rest
   pub stage_is : IsStageAfter scope t late (rest ++ drop (length bytes - late) bytes) stage
   pub held_is : held ≡ kept_at stage rest
+
+-- a reader took bytes at a place, of which the last `late` come too late for a frame: the frames that were given before, and with those of
+-- the bytes, where it came to, and what is held then
+abbrev pub IsTaken : Place → ℕ → List ℕ → List FrameValue → List FrameValue → Reached → List ℕ → Type 0
+IsTaken place late bytes before after reached held = (frames : List FrameValue) × (after ≡ before ++ frames)
+    × AreTaken place.scope (state_of place.header place.count) late bytes frames (state_of reached.header reached.count) reached.stage held

@@ -4,15 +4,14 @@ ghost use Rattle.cf_pcap.specs.Capture.{FrameValue};
 ghost use Rattle.cf_pcap.specs.declared.links.LinkSet.TheVariants.{Basic};
 ghost use Rattle.cf_pcap.specs.Links.{limited};
 ghost use Rattle.cf_pcap.specs.Reading.{front_of};
-ghost use Rattle.cf_stream.specs.Limits.{IsShort};
 ghost use Rattle.cf_pcap.specs.Stream.{IsStateOf, IsFed, IsEnded, AnswersFound, AreGiven};
 ghost use Rattle.cf_stream.specs.Stages.{found_at};
 ghost use Rattle.cf_pcap.specs.Truncated.{Says, Breaks};
 
 use crate::form::FileHeader;
-use crate::taking::{LIMIT, Place, late_of, take_in};
+use crate::taking::{Place, late_of, take_in};
 use crate::{Frame, LinkSet, PcapFault, Scope};
-use cf_stream::{Length, Stage, cut_at};
+use cf_stream::{LIMIT, Length, Stage};
 use std::alloc::{AllocError, Global};
 use std::marker::Model;
 
@@ -47,13 +46,9 @@ impl Model for Pcap {
 
 // The bytes of a piece that are taken, where so many came before: those up to the one that makes a limited stream 2^32 bytes long.
 fn front(length: Length, total: usize, piece: &[u8]) -> &[u8]
-    requires { IsShort length total }
     ensures { result.now ≡ front_of length total piece.now }
 {
-    match length {
-        Length::Any => piece,
-        Length::Limited => cut_at(piece, LIMIT - total).0,
-    }
+    length.cut(piece, LIMIT.saturating_sub(total)).0
 }
 
 impl Pcap {

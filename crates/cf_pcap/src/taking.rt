@@ -1,17 +1,13 @@
 // A piece is taken.
 ghost use Rattle.std.specs.Prelude.{◌≡◌, List, [], ◌++◌, ◌≤◌, ◌+◌, ◌*◌, length, take, drop, IfOk, OnErr};
 ghost use Rattle.cf_stream.specs.Limits.{HasRoom};
-ghost use Rattle.cf_pcap.specs.Capture.{FrameValue};
-ghost use Rattle.cf_pcap.specs.Reading.{state_of, IsStageAfter, AreTaken, IsOneRecord, late_of as late_of_total};
+ghost use Rattle.cf_pcap.specs.Reading.{state_of, IsStageAfter, AreTaken, IsTaken, IsOneRecord, late_of as late_of_total};
 
 use crate::form::FileHeader;
 use crate::records::{RECORD_HEADER, caplen_of, fault_at, first_frame, go_on, is_one_record};
 use crate::{Frame, PcapFault, Scope};
-use cf_stream::{Length, Stage};
+use cf_stream::{LIMIT, Length, Stage};
 use std::alloc::{AllocError, Global};
-
-/// A limited stream of so many bytes is no capture.
-pub(crate) const LIMIT: usize = 1 << 32;
 
 /// What the bytes at hand gave: the frames, the reader after them, and how many of the bytes it lets go.
 #[derive(Drop)]
@@ -70,7 +66,8 @@ fn stage_after(
 fn read(alloc: Global, place: Place, late: usize, bytes: &[u8]) -> Result<Given, AllocError>
     requires late { late ≤ length bytes.now }
     requires room { HasRoom place.scope.length (16 * place.count + length bytes.now) }
-    ensures taken { IfOk result (λ given. AreTaken place.scope (state_of place.header place.count) late bytes.now given.frames.items (state_of given.header given.count) given.stage (drop given.used bytes.now)) }
+    ensures taken { IfOk result (λ given. AreTaken place.scope (state_of place.header place.count) late bytes.now given.frames.items
+        (state_of given.header given.count) given.stage (drop given.used bytes.now)) }
     ensures used { IfOk result (λ given. given.used ≤ length bytes.now) }
 {
     let early = bytes.split_at(bytes.len() - late).0;
@@ -118,7 +115,7 @@ fn give(
 ) -> Result<(Reached, usize), AllocError>
     requires late { late ≤ length bytes.now }
     requires room { HasRoom place.scope.length (16 * place.count + length bytes.now) }
-    ensures given { IfOk result (λ given. (frames : List FrameValue) × (out.new.items ≡ out.old.items ++ frames) × AreTaken place.scope (state_of place.header place.count) late bytes.now frames (state_of given.0.header given.0.count) given.0.stage (drop given.1 bytes.now)) }
+    ensures given { IfOk result (λ given. IsTaken place late bytes.now out.old.items out.new.items given.0 (drop given.1 bytes.now)) }
     ensures used { IfOk result (λ given. given.1 ≤ length bytes.now) }
     ensures memory { OnErr result (out.new.items ≡ out.old.items) }
 {
@@ -144,7 +141,7 @@ fn take_alone(
     requires none { held.old.items ≡ [] }
     requires late { late ≤ length bytes.now }
     requires room { HasRoom place.scope.length (16 * place.count + length bytes.now) }
-    ensures given { IfOk result (λ reached. (frames : List FrameValue) × (out.new.items ≡ out.old.items ++ frames) × AreTaken place.scope (state_of place.header place.count) late bytes.now frames (state_of reached.header reached.count) reached.stage held.new.items) }
+    ensures given { IfOk result (λ reached. IsTaken place late bytes.now out.old.items out.new.items reached held.new.items) }
     ensures memory { OnErr result ((out.new.items ≡ out.old.items) × (held.new.items ≡ held.old.items)) }
 {
     let mut given = read(alloc, place, late, bytes)?;
@@ -204,7 +201,7 @@ fn take_after(
     requires record { IsOneRecord place.header held.old.items }
     requires late { late ≤ length more.now }
     requires room { HasRoom place.scope.length (16 * place.count + (length held.old.items + length more.now)) }
-    ensures given { IfOk result (λ reached. (frames : List FrameValue) × (out.new.items ≡ out.old.items ++ frames) × AreTaken place.scope (state_of place.header place.count) late (held.old.items ++ more.now) frames (state_of reached.header reached.count) reached.stage held.new.items) }
+    ensures given { IfOk result (λ reached. IsTaken place late (held.old.items ++ more.now) out.old.items out.new.items reached held.new.items) }
     ensures memory { OnErr result ((out.new.items ≡ out.old.items) × (held.new.items ≡ held.old.items)) }
 {
     let Some(header) = place.header else {
@@ -241,7 +238,7 @@ fn take_joined(
 ) -> Result<Reached, AllocError>
     requires late { late ≤ length held.old.items + length more.now }
     requires room { HasRoom place.scope.length (16 * place.count + (length held.old.items + length more.now)) }
-    ensures given { IfOk result (λ reached. (frames : List FrameValue) × (out.new.items ≡ out.old.items ++ frames) × AreTaken place.scope (state_of place.header place.count) late (held.old.items ++ more.now) frames (state_of reached.header reached.count) reached.stage held.new.items) }
+    ensures given { IfOk result (λ reached. IsTaken place late (held.old.items ++ more.now) out.old.items out.new.items reached held.new.items) }
     ensures memory { OnErr result ((out.new.items ≡ out.old.items) × (held.new.items ≡ held.old.items)) }
 {
     let before = held.len();
@@ -269,7 +266,7 @@ fn take_on(
 ) -> Result<Reached, AllocError>
     requires late { late ≤ length held.old.items + length more.now }
     requires room { HasRoom place.scope.length (16 * place.count + (length held.old.items + length more.now)) }
-    ensures given { IfOk result (λ reached. (frames : List FrameValue) × (out.new.items ≡ out.old.items ++ frames) × AreTaken place.scope (state_of place.header place.count) late (held.old.items ++ more.now) frames (state_of reached.header reached.count) reached.stage held.new.items) }
+    ensures given { IfOk result (λ reached. IsTaken place late (held.old.items ++ more.now) out.old.items out.new.items reached held.new.items) }
     ensures memory { OnErr result ((out.new.items ≡ out.old.items) × (held.new.items ≡ held.old.items)) }
 {
     if late <= more.len() && is_one_record(place.header, held) {
@@ -290,7 +287,7 @@ pub(crate) fn take_in(
 ) -> Result<Reached, AllocError>
     requires late { late ≤ length more.now }
     requires room { HasRoom place.scope.length (16 * place.count + (length held.old.items + length more.now)) }
-    ensures given { IfOk result (λ reached. (frames : List FrameValue) × (out.new.items ≡ out.old.items ++ frames) × AreTaken place.scope (state_of place.header place.count) late (held.old.items ++ more.now) frames (state_of reached.header reached.count) reached.stage held.new.items) }
+    ensures given { IfOk result (λ reached. IsTaken place late (held.old.items ++ more.now) out.old.items out.new.items reached held.new.items) }
     ensures memory { OnErr result ((out.new.items ≡ out.old.items) × (held.new.items ≡ held.old.items)) }
 {
     if held.is_empty() {

@@ -122,8 +122,8 @@ fn are_the_two(rt: &impl Abort, out: &[Frame], first: u64) -> Result<(), Fail> {
 }
 
 /// What the end answers after so many bytes of the two frames, and how many frames there were.
-fn wanted_after(n: usize) -> (Result<u32, PcapFault>, usize) {
-    match n {
+fn wanted_after(bytes: usize) -> (Result<u32, PcapFault>, usize) {
+    match bytes {
         24 => (Ok(0), 0),
         0..=41 => (Err(PcapFault::Cut(0)), 0),
         42 => (Ok(1), 1),
@@ -150,8 +150,8 @@ fn a_cut_stream_is_cut_after_whole_records(rt: HostRuntime) -> Result<(), Fail> 
 }
 
 /// What the end of so many bytes of the two frames answers where they are read as truncated.
-fn truncated_after(n: usize) -> Result<Option<u32>, PcapFault> {
-    match n {
+fn truncated_after(bytes: usize) -> Result<Option<u32>, PcapFault> {
+    match bytes {
         0..=23 => Err(PcapFault::Cut(0)),
         24 | 42 | 59 => Ok(None),
         25..=41 => Ok(Some(0)),

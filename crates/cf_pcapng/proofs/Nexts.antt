@@ -20,7 +20,7 @@ use Rattle.cf_pcapng.specs.declared.blocks.Next.{Next}
 use Rattle.cf_pcapng.specs.declared.blocks.Next.TheVariants as next
 use Rattle.cf_pcapng.specs.Blocks.{head_of, content_of}
 use Rattle.cf_pcapng.specs.File.{State, fault_of, frames_of, after, block_found, found_at, step, pcapng}
-use Rattle.cf_pcapng.specs.Reading.{block_next, next_at, next_of, IsEnd, AreRead}
+use Rattle.cf_pcapng.specs.Reading.{block_next, next_at, next_of, IsEnd, AreRead, AreReadAfter}
 use Rattle.cf_pcapng.proofs.Heads.{below, not_below}
 use Rattle.cf_pcapng.proofs.Steps.{Shown, step_at, length_front}
 
@@ -88,15 +88,18 @@ room_after Limited t (Captures packet) total left some fits room = (omega (arith
 room_after Limited t Nothing total left some fits room = (omega (arith, some, fits, room), omega (arith, some, fits, room))
 
 -- what was read, where the blocks end
-pub read_of : (scope : Scope) (s : State) (bytes : List ℕ) (frames given : List FrameValue) (t last : State) (left rest : List ℕ) (end flaw : Option Flaw)
-    → ReadsTo (pcapng scope) s bytes frames t left → IsEnd scope t left end → last ≡ t → given ≡ frames → rest ≡ left → flaw ≡ end
-    → AreRead scope s bytes given last rest flaw
-read_of scope s bytes frames given t last left rest end flaw read is p q r e =
-    let done : AreRead scope s bytes frames t left end = record { read = read; end = is } in
-    subst (λ (x : State). AreRead scope s bytes given x rest flaw) (sym p)
-    (subst (λ (x : List FrameValue). AreRead scope s bytes x t rest flaw) (sym q)
-    (subst (λ (x : List ℕ). AreRead scope s bytes frames t x flaw) (sym r)
-    (subst (λ (x : Option Flaw). AreRead scope s bytes frames t left x) (sym e) done)))
+pub read_of : (scope : Scope) (s : State) (bytes : List ℕ) (before more frames given : List FrameValue) (t last : State) (left rest : List ℕ)
+    (end flaw : Option Flaw) → ReadsTo (pcapng scope) s bytes more t left → IsEnd scope t left end → frames ≡ before ++ more → last ≡ t → given ≡ frames
+    → rest ≡ left → flaw ≡ end → AreReadAfter scope s bytes before given last rest flaw
+read_of scope s bytes before more frames given t last left rest end flaw read is all p q r e =
+    let done : AreRead scope s bytes more t left end = record { read = read; end = is } in
+    record {
+      more = more;
+      frames_are = q ∙ all;
+      read = subst (λ (x : State). AreRead scope s bytes more x rest flaw) (sym p)
+          (subst (λ (x : List ℕ). AreRead scope s bytes more t x flaw) (sym r)
+          (subst (λ (x : Option Flaw). AreRead scope s bytes more t left x) (sym e) done));
+    }
 
 -- from what is said of an answer that is Ok
 pub by_ok : {T E : Type 0} (r : Result T E) (P Q : T → Type 0) → ((x : T) → P x → Q x) → IfOk r P → IfOk r Q

@@ -1,18 +1,18 @@
 -- Blocks that are passed over.
-use Rattle.std.proofs.Common.{◌≡◌, inl, inr, ℕ, ◌<◌, ◌≤◌, ◌+◌, ◌-◌, ◌^◌, eqb, eq-eqb, true, false, List, [], ◌++◌, length, take, drop, Option, Some, None, Result, Ok, Err, is_some, refl, sym, ap, subst, ◌∙◌, arith, append_assoc, length-append, length-drop}
+use Rattle.std.proofs.Common.{◌≡◌, inl, inr, ◌⊎◌, ℕ, ◌<◌, ◌≤◌, ◌+◌, ◌-◌, ◌^◌, eqb, eq-eqb, true, false, List, [], ◌∷◌, ◌++◌, length, take, drop, Option, Some, None, Result, Ok, Err, is_some, refl, sym, ap, subst, ◌∙◌, arith, append_assoc, append-nil, length-append, length-drop}
 use Rattle.std.proofs.lemmas.Bool.{cases_lt}
 use Rattle.std.proofs.lemmas.Bool.Decides.{nat_tests}
-use Rattle.std.proofs.lemmas.List.{take-append-drop}
-use Rattle.std.proofs.Math.Seq.{drop-append-add}
+use Rattle.std.proofs.lemmas.List.{take-append-drop, take-append-le, take_all}
+use Rattle.std.proofs.Math.Seq.{take-append-add, drop-append-add}
 use Rattle.cf_pcap.specs.declared.scope.Scope.{Scope}
 use Rattle.cf_pcap.specs.declared.form.Order.{Order}
 use Rattle.cf_pcap.specs.Capture.{FrameValue, number_in}
 use Rattle.cf_pcap.proofs.Following.{number_later}
 use Rattle.cf_stream.specs.declared.limit.Length.{Length}
 use Rattle.cf_stream.specs.declared.limit.Length.TheVariants.{Limited, Any}
-use Rattle.cf_stream.specs.Limits.{count_on}
+use Rattle.cf_stream.specs.Limits.{count_on, HasRoom as MayCome}
 use Rattle.cf_stream.specs.Format.{Wants, Bad, Takes, ReadsTo}
-use Rattle.cf_stream.proofs.Units.{reads_nothing, reads_on, reads_one, reads_fit, reads_count}
+use Rattle.cf_stream.proofs.Units.{reads_nothing, reads_more, reads_on, reads_one, reads_fit, reads_count}
 use Rattle.cf_pcapng.specs.declared.fault.Flaw.{Flaw}
 use Rattle.cf_pcapng.specs.declared.fault.Flaw.TheVariants.{BadLength}
 use Rattle.cf_pcapng.specs.declared.head.Kind.{Kind}
@@ -25,7 +25,7 @@ use Rattle.cf_pcapng.specs.declared.content.Content.TheVariants.{Nothing}
 use Rattle.cf_pcapng.specs.declared.passed.Passed.{Passed}
 use Rattle.cf_pcapng.specs.Blocks.{head_of, last_total, content_of, is_section}
 use Rattle.cf_pcapng.specs.File.{State, fault_of, found_at, block_found, step, pcapng}
-use Rattle.cf_pcapng.specs.Reading.{AreRead, WasPassed, Begins, Breaks, AreReadOn, IsLetGo, IsPassedAt, HasRoom, FitsIn, IsSoundOn, IsGoneOn}
+use Rattle.cf_pcapng.specs.Reading.{AreRead, WasPassed, Begins, Breaks, AreReadOn, AreReadOnAfter, IsLetGo, IsPassedAt, HasRoom, FitsIn, IsSoundOn, IsGoneOn, MayReadOn, size_by, missing_of}
 use Rattle.cf_pcapng.proofs.Heads.{head_stays, head_by_8, section_first, standing, at_least, at_most, seen_size}
 use Rattle.cf_pcapng.proofs.Steps.{Shown, step_at, found_short, found_whole, length_front, stepper}
 
@@ -284,3 +284,110 @@ sound_within l s block passed some bytes go =
       room = omega (arith, room, total_is);
       few = omega (arith, len, left);
     }
+
+-- Reading on, after what was read.
+
+after_reading : (scope : Scope) (s : State) (bytes : List ℕ) (frames more : List FrameValue) (t : State) (rest : List ℕ) (u : State)
+    (passed : Option Passed) (held : List ℕ) (flaw : Option Flaw) → ReadsTo (pcapng scope) s bytes frames t rest
+    → AreReadOn scope t rest more u passed held flaw → AreReadOn scope s bytes (frames ++ more) u passed held flaw
+after_reading scope s bytes frames more t rest u passed held None read on = record {
+  gone = on.gone;
+  was = on.was;
+  read = reads_on (pcapng scope) s bytes frames more t rest u (on.gone ++ held) read on.read;
+  part = on.part;
+  few = on.few;
+}
+after_reading scope s bytes frames more t rest u passed held (Some flaw) read on = record {
+  rest = on.rest;
+  read = reads_on (pcapng scope) s bytes frames more t rest u on.rest read on.read;
+  bad = on.bad;
+}
+
+pub then_on : (scope : Scope) (s : State) (bytes more : List ℕ) (frames after : List FrameValue) (t : State) (passed : Option Passed) (held : List ℕ)
+    (u : State) (block : Option Passed) (rest : List ℕ) (flaw : Option Flaw) → Begins scope s bytes frames t passed held
+    → AreReadOnAfter scope t passed (held ++ more) frames after u block rest flaw → AreReadOn scope s (bytes ++ more) after u block rest flaw
+then_on scope s bytes more frames after t passed held u block rest flaw on next =
+    let read : ReadsTo (pcapng scope) s (bytes ++ more) frames t (on.gone ++ (held ++ more)) =
+    subst (λ (xs : List ℕ). ReadsTo (pcapng scope) s (bytes ++ more) frames t xs) (append_assoc on.gone held more)
+    (reads_more (pcapng scope) (stepper scope) s bytes frames t (on.gone ++ held) more on.read) in
+    subst (λ (xs : List FrameValue). AreReadOn scope s (bytes ++ more) xs u block rest flaw) (sym next.frames_are)
+    (after_reading scope s (bytes ++ more) frames next.more t (on.gone ++ (held ++ more)) u block rest flaw read (next.read on.gone on.was))
+
+-- a flaw stays, and so does all where nothing comes
+pub still_read : (scope : Scope) (s : State) (bytes more : List ℕ) (frames : List FrameValue) (t : State) (passed : Option Passed) (held : List ℕ)
+    (flaw : Option Flaw) → (is_some flaw ≡ true) ⊎ (more ≡ []) → AreReadOn scope s bytes frames t passed held flaw
+    → AreReadOn scope s (bytes ++ more) frames t passed held flaw
+still_read scope s bytes more frames t passed held flaw (inr none) on =
+    subst (λ (xs : List ℕ). AreReadOn scope s xs frames t passed held flaw) (sym (ap (λ xs. bytes ++ xs) none ∙ append-nil bytes)) on
+still_read scope s bytes more frames t passed held None (inl h) on = absurd (let no : false ≡ true = h in cc)
+still_read scope s bytes more frames t passed held (Some flaw) (inl h) on = record {
+  rest = on.rest ++ more;
+  read = reads_more (pcapng scope) (stepper scope) s bytes frames t on.rest more on.read;
+  bad = (stepper scope).bad_stays t on.rest more (fault_of t.count flaw) on.bad;
+}
+
+pub still_sound : (l : Length) (s : State) (size : ℕ) (more : List ℕ) (t : State) (passed : Option Passed) (held : List ℕ) (flaw : Option Flaw)
+    → IsGoneOn l s size t passed held flaw → IsGoneOn l s (size + length more) t passed held flaw
+still_sound l s size more t passed held flaw on = sound_more l s size (size + length more) t passed held flaw (omega arith) on
+
+fits_then : (l : Length) (k size t held n after : ℕ) → FitsIn l (t + held) (k + size) → FitsIn l after (t + (held + n)) → FitsIn l after (k + (size + n))
+fits_then Any k size t held n after had on = tt
+fits_then Limited k size t held n after had on = omega (arith, had, on)
+
+pub then_sound : (l : Length) (s : State) (size n : ℕ) (t : State) (passed : Option Passed) (held : List ℕ) (u : State) (block : Option Passed)
+    (rest : List ℕ) (flaw : Option Flaw) → IsSoundOn l s size t passed held → IsGoneOn l t (length held + n) u block rest flaw
+    → IsGoneOn l s (size + n) u block rest flaw
+then_sound l s size n t passed held u block rest (Some flaw) had on = tt
+then_sound l s size n t passed held u block rest None had on =
+    record { fits = fits_then l s.count size t.count (length held) n (u.count + length rest) had.fits on.fits; room = on.room; few = on.few }
+
+room_then : (l : Length) (k size t held n all : ℕ) → FitsIn l (t + held) (k + size) → size + n ≤ all → MayCome l (k + all) → MayCome l (t + (held + n))
+room_then Any k size t held n all had few room = tt
+room_then Limited k size t held n all had few room = omega (arith, had, few, room)
+
+-- there is room for what comes after it
+pub may_read_on : (l : Length) (s : State) (size n all : ℕ) (t : State) (passed : Option Passed) (held : List ℕ) (flaw : Option Flaw)
+    → IsGoneOn l s size t passed held flaw → size + n ≤ all → MayCome l (s.count + all) → MayReadOn l t passed held flaw n
+may_read_on l s size n all t passed held (Some flaw) on few room = tt
+may_read_on l s size n all t passed held None on few room =
+    (on.room, on.few, room_then l s.count size t.count (length held) n all on.fits few room)
+
+-- the bytes that are held, then those that complete the block, and then the others
+pub in_parts : (gone held first others more : List ℕ) → first ++ others ≡ more → (gone ++ (held ++ first)) ++ others ≡ gone ++ (held ++ more)
+in_parts gone held first others more is =
+    append_assoc gone (held ++ first) others ∙ ap (λ xs. gone ++ xs) (append_assoc held first others ∙ ap (λ xs. held ++ xs) is)
+
+pub both_lengths : (held first others more : List ℕ) → first ++ others ≡ more → length (held ++ first) + length others ≡ length (held ++ more)
+both_lengths held first others more is =
+    sym (length-append (held ++ first) others) ∙ ap length (append_assoc held first others ∙ ap (λ xs. held ++ xs) is)
+
+-- the block that hung over, before which no frame was read
+pub first_read : (scope : Scope) (s : State) (passed : Option Passed) (bytes whole : List ℕ) (before frames : List FrameValue) (t : State)
+    (block : Option Passed) (held : List ℕ) (flaw : Option Flaw) (gone : List ℕ) → bytes ≡ whole → before ≡ []
+    → AreReadOnAfter scope s passed bytes before frames t block held flaw → WasPassed s.order passed gone
+    → AreReadOn scope s (gone ++ whole) frames t block held flaw
+first_read scope s passed bytes whole before frames t block held flaw gone is none read was =
+    let all : frames ≡ read.more = read.frames_are ∙ ap (λ xs. xs ++ read.more) none in
+    subst (λ (xs : List FrameValue). AreReadOn scope s (gone ++ whole) xs t block held flaw) (sym all)
+    (subst (λ (xs : List ℕ). AreReadOn scope s (gone ++ xs) read.more t block held flaw) is (read.read gone was))
+
+-- the first bytes of some bytes and of those that follow
+take_both : (n : ℕ) (xs ys : List ℕ) → take n xs ++ take (n - length xs) ys ≡ take n (xs ++ ys)
+take_both n xs ys = elim (cases_lt (length xs) n) [
+  | inl short ↦
+      let at : n ≡ length xs + (n - length xs) = omega (arith, short) in
+      ap (λ zs. zs ++ take (n - length xs) ys) (take_all n xs (omega (arith, short)))
+      ∙ sym (take-append-add xs ys (n - length xs))
+      ∙ ap (λ m. take m (xs ++ ys)) (sym at)
+  | inr long ↦
+      let at : n - length xs ≡ 0 = omega (arith, long) in
+      ap (λ m. take n xs ++ take m ys) at ∙ append-nil (take n xs) ∙ sym (take-append-le n xs ys long)
+]
+
+pub missing_is : (section : Option Order) (passed : Option Passed) (held more seen : List ℕ) (count : ℕ) → is_some passed ≡ false → 0 < length held
+    → seen ≡ take 12 held ++ take (12 - length held) more → count ≡ size_by (head_of section seen) - length held
+    → count ≡ missing_of section passed held more
+missing_is section (Some block) held more seen count none some seen_is is = absurd (let no : true ≡ false = none in cc)
+missing_is section None [] more seen count none some seen_is is = absurd (let no : 0 < 0 = some in omega (arith, no))
+missing_is section None (byte ∷ held) more seen count none some seen_is is =
+    is ∙ ap (λ xs. size_by (head_of section xs) - length (byte ∷ held)) (seen_is ∙ take_both 12 (byte ∷ held) more)

@@ -15,6 +15,7 @@ use Rattle.cf_stream.specs.Stages as stages
 use Rattle.cf_pcapng.specs.declared.passed.Passed.{Passed}
 use Rattle.cf_pcapng.specs.declared.interfaces.Interface.{Interface}
 use Rattle.cf_pcapng.specs.declared.position.Reached.{Reached}
+use Rattle.cf_pcapng.specs.declared.reader.Called.{Called}
 use Rattle.cf_pcapng.specs.File.{State, fault_of, pcapng}
 use Rattle.cf_pcapng.specs.Position.{listed}
 use Rattle.cf_pcapng.specs.Reading.{WasPassed, AreReadOn, HasRoom, FitsIn}
@@ -64,6 +65,17 @@ IsSound reader = IsSoundAt reader.stage reader
 -- the state that a piece brings a reader to, which had these interfaces
 abbrev pub state_after : List Interface → Reached → State
 state_after had reached = record { order = reached.order; interfaces = listed had reached.anew reached.came.items; count = reached.count }
+
+-- the reader that a call comes to
+abbrev pub reader_after : PcapNgValue → Called → PcapNgValue
+reader_after before called = record {
+  scope = before.scope;
+  stage = called.stage;
+  total = called.total;
+  state = state_after before.state.interfaces called.reached;
+  passed = called.passed;
+  held = called.held.items;
+}
 
 -- a call took a piece: what it gave, and the reader after it, whatever stream led to the reader before
 abbrev pub IsCalled : PcapNgValue → List ℕ → List FrameValue → PcapNgValue → Type 0

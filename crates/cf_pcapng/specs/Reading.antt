@@ -1,15 +1,15 @@
 -- What the parts of a reader do.
-use Rattle.std.specs.Prelude.{◌≡◌, ℕ, ◌+◌, ◌-◌, ◌≤◌, ◌<◌, ◌^◌, nat_lt, if◌then◌else◌, List, [], ◌++◌, length, take, drop, Option, Some, None, Result, Ok, Err}
+use Rattle.std.specs.Prelude.{◌≡◌, ℕ, ◌+◌, ◌-◌, ◌≤◌, ◌<◌, ◌^◌, nat_lt, if◌then◌else◌, List, [], ◌∷◌, ◌++◌, length, take, drop, Option, Some, None, Result, Ok, Err}
 use Rattle.cf_pcap.specs.declared.links.LinkSet.{LinkSet}
 use Rattle.cf_pcap.specs.declared.scope.Scope.{Scope}
 use Rattle.cf_stream.specs.declared.limit.Length.{Length}
 use Rattle.cf_stream.specs.declared.limit.Length.TheVariants.{Limited, Any}
-use Rattle.cf_stream.specs.Limits.{HasRoom as MayCome}
+use Rattle.cf_stream.specs.Limits.{HasRoom as MayCome, first_of, others_of}
 use Rattle.cf_pcap.specs.declared.form.Order.{Order}
 use Rattle.cf_pcap.specs.Capture.{FrameValue, number_in}
 use Rattle.cf_stream.specs.Format.{Wants, Bad, ReadsTo}
 use Rattle.cf_pcapng.specs.declared.fault.Flaw.{Flaw}
-use Rattle.cf_pcapng.specs.declared.head.Kind.TheVariants.{Other}
+use Rattle.cf_pcapng.specs.declared.head.Kind.TheVariants.{SectionHeader, InterfaceDescription, EnhancedPacket, SimplePacket, Other}
 use Rattle.cf_pcapng.specs.declared.head.Head.{Head}
 use Rattle.cf_pcapng.specs.declared.head.Head.TheVariants.{Short, Flawed, Stands}
 use Rattle.cf_pcapng.specs.declared.interfaces.Interface.{Interface}
@@ -20,6 +20,9 @@ use Rattle.cf_pcapng.specs.declared.blocks.Next.TheVariants as next
 use Rattle.cf_pcapng.specs.declared.passed.Passed.{Passed}
 use Rattle.cf_pcapng.specs.declared.passed.Resumed.{Resumed}
 use Rattle.cf_pcapng.specs.declared.passed.Resumed.TheVariants as resumed
+use Rattle.cf_pcapng.specs.declared.blocks.Read.{Read}
+use Rattle.cf_pcapng.specs.declared.passed.Given.{Given}
+use Rattle.cf_pcapng.specs.Position.{state_of}
 use Rattle.cf_pcapng.specs.Blocks.{head_of, content_of}
 use Rattle.cf_pcapng.specs.File.{State, fault_of, pcapng}
 
@@ -62,6 +65,13 @@ pub record AreRead (scope : Scope) (s : State) (bytes : List ℕ) (frames : List
   pub read : ReadsTo (pcapng scope) s bytes frames t rest
   pub end : IsEnd scope t rest flaw
 
+-- the blocks at the front were read after these frames, to which theirs were added
+pub record AreReadAfter (scope : Scope) (s : State) (bytes : List ℕ) (before frames : List FrameValue) (t : State) (rest : List ℕ)
+    (flaw : Option Flaw) : Type 0 where
+  pub more : List FrameValue
+  pub frames_are : frames ≡ before ++ more
+  pub read : AreRead scope s bytes more t rest flaw
+
 -- bytes of a block at hand that is only passed over, which were let go
 abbrev pub WasPassed : Option Order → Option Passed → List ℕ → Type 0
 WasPassed order None gone = gone ≡ []
@@ -86,6 +96,13 @@ pub record Breaks (scope : Scope) (s : State) (bytes : List ℕ) (frames : List 
 abbrev pub AreReadOn : Scope → State → List ℕ → List FrameValue → State → Option Passed → List ℕ → Option Flaw → Type 0
 AreReadOn scope s bytes frames t passed held None = Begins scope s bytes frames t passed held
 AreReadOn scope s bytes frames t passed held (Some flaw) = Breaks scope s bytes frames t flaw
+
+-- the bytes after those of a block at hand that were let go were read after these frames, to which theirs were added
+pub record AreReadOnAfter (scope : Scope) (s : State) (passed : Option Passed) (bytes : List ℕ) (before frames : List FrameValue) (t : State)
+    (block : Option Passed) (held : List ℕ) (flaw : Option Flaw) : Type 0 where
+  pub more : List FrameValue
+  pub frames_are : frames ≡ before ++ more
+  pub read : (gone : List ℕ) → WasPassed s.order passed gone → AreReadOn scope s (gone ++ bytes) more t block held flaw
 
 -- so many bytes of a block that is passed over are let go, of `size` that are there
 pub record IsLetGo (block : Passed) (size : ℕ) (after : Passed) (some : ℕ) : Type 0 where
@@ -123,13 +140,11 @@ FitsIn Any n most = Unit {0}
 
 -- the bytes of a piece that come early enough for a frame, where so many came before
 abbrev pub early_of : Length → ℕ → List ℕ → List ℕ
-early_of Limited total piece = take (2 ^ 32 - 1 - total) piece
-early_of Any total piece = piece
+early_of length total piece = first_of length (2 ^ 32 - 1 - total) piece
 
 -- and the others
 abbrev pub late_of : Length → ℕ → List ℕ → List ℕ
-late_of Limited total piece = drop (2 ^ 32 - 1 - total) piece
-late_of Any total piece = []
+late_of length total piece = others_of length (2 ^ 32 - 1 - total) piece
 
 -- what a reader has after `size` more bytes is no more than it had before and these
 pub record IsSoundOn (l : Length) (s : State) (size : ℕ) (t : State) (passed : Option Passed) (held : List ℕ) : Type 0 where
@@ -142,7 +157,49 @@ abbrev pub IsGoneOn : Length → State → ℕ → State → Option Passed → L
 IsGoneOn l s size t passed held None = IsSoundOn l s size t passed held
 IsGoneOn l s size t passed held (Some flaw) = Unit {0}
 
+-- so many more bytes may be read on, after a reader came so far
+abbrev pub MayReadOn : Length → State → Option Passed → List ℕ → Option Flaw → ℕ → Type 0
+MayReadOn l t passed held None size = HasRoom passed × (length held < 2 ^ 20) × MayCome l (t.count + (length held + size))
+MayReadOn l t passed held (Some flaw) size = Unit {0}
+
+-- how long a block is, as far as its head shows: 12 bytes at least. One that is passed over is let go as soon as its head stands.
+abbrev pub size_by : Head → ℕ
+size_by Short = 12
+size_by (Flawed flaw) = 12
+size_by (Stands order SectionHeader total) = total
+size_by (Stands order InterfaceDescription total) = total
+size_by (Stands order EnhancedPacket total) = total
+size_by (Stands order SimplePacket total) = total
+size_by (Stands order Other total) = 12
+
+-- how many bytes more the block needs that hung over, as far as its head shows with those that come: where bytes of it were let go,
+-- those of its last field
+abbrev pub missing_of : Option Order → Option Passed → List ℕ → List ℕ → ℕ
+missing_of section passed [] more = 0
+missing_of section (Some block) (byte ∷ held) more = 4 - length (byte ∷ held)
+missing_of section None (byte ∷ held) more = size_by (head_of section (take 12 ((byte ∷ held) ++ more))) - length (byte ∷ held)
+
 -- one more byte may come
 abbrev pub MayGoOn : Length → State → Option Passed → List ℕ → Option Flaw → Type 0
 MayGoOn l t passed held None = HasRoom passed × MayCome l (t.count + length held + 1)
 MayGoOn l t passed held (Some flaw) = Unit {0}
+
+-- of these bytes, from a state, that was read
+abbrev pub Gave : Scope → State → List ℕ → Given → Type 0
+Gave scope s bytes given = AreReadOn scope s bytes given.frames.items (state_of given.position) given.passed given.held.items given.flaw
+
+-- of the bytes after those of a block at hand that were let go that was read, after these frames
+abbrev pub GaveAfter : Scope → State → Option Passed → List ℕ → List FrameValue → Given → Type 0
+GaveAfter scope s passed bytes before given =
+    AreReadOnAfter scope s passed bytes before given.frames.items (state_of given.position) given.passed given.held.items given.flaw
+
+-- what a reader has then is no more than it had in a state and `size` bytes
+abbrev pub IsFew : Length → State → ℕ → Given → Type 0
+IsFew l s size given = IsGoneOn l s size (state_of given.position) given.passed given.held.items given.flaw
+
+-- what was read gives the same frames, where a block that is only passed over is let go up to its last field
+abbrev pub LetsGo : Read → Given → Type 0
+LetsGo read given = (given.frames.items ≡ read.frames.items)
+    × ((scope : Scope) (s : State) (bytes : List ℕ) (frames : List FrameValue)
+    → AreRead scope s bytes frames (state_of read.position) read.rest.now read.flaw
+    → AreReadOn scope s bytes frames (state_of given.position) given.passed given.held.items given.flaw)

@@ -2,7 +2,7 @@
 ghost use Rattle.std.specs.Prelude.{◌≡◌, ◌+◌, ◌<◌, ◌≤◌, ◌^◌, length, IfOk};
 ghost use Rattle.cf_stream.specs.Limits.{HasRoom};
 ghost use Rattle.cf_pcapng.specs.Position.{state_of};
-ghost use Rattle.cf_pcapng.specs.Reading.{next_of as next_block, IsNextIn, AreRead};
+ghost use Rattle.cf_pcapng.specs.Reading.{next_of as next_block, IsNextIn, AreReadAfter};
 
 use crate::content::{Content, content_of};
 use crate::fault::Flaw;
@@ -21,12 +21,12 @@ pub(crate) enum Next {
     Block(u32, Content),
 }
 
-/// What was read of some bytes: the frames, the bytes after the blocks, and the flaw that stands there.
+/// What was read of some bytes: the frames, with those before them, the bytes after the blocks, and the flaw that stands there.
 #[derive(Drop)]
-pub(crate) struct Read<'a> {
+pub(crate) struct Read<'a, 'b> {
     pub position: Position<'a>,
     pub frames: Vec<Frame>,
-    pub rest: Vec<u8>,
+    pub rest: &'b [u8],
     pub flaw: Option<Flaw>,
 }
 
@@ -52,36 +52,37 @@ fn next_of(links: LinkSet, position: &Position<'_>, bytes: &[u8]) -> Next
 }
 
 // What was read, where the blocks end.
-fn stopped<'a>(
-    alloc: Global,
+fn stopped<'a, 'b>(
     position: Position<'a>,
     frames: Vec<Frame>,
-    left: &[u8],
+    rest: &'b [u8],
     flaw: Option<Flaw>,
-) -> Result<Read<'a>, AllocError>
-    ensures { IfOk result (λ read. (read.position ≡ position.entry) × (read.frames.items ≡ frames.items) × (read.rest.items ≡ left.now) × (read.flaw ≡ flaw)) }
+) -> Read<'a, 'b>
+    ensures position { result.position ≡ position.entry }
+    ensures frames { result.frames.items ≡ frames.items }
+    ensures rest { result.rest.now ≡ rest.now }
+    ensures flaw { result.flaw ≡ flaw }
 {
-    let rest = left.to_vec(alloc)?;
-    Ok(Read {
+    Read {
         position,
         frames,
         rest,
         flaw,
-    })
+    }
 }
 
-// Reads the blocks at the front.
-pub(crate) fn read_blocks<'a>(
+// Reads the blocks at the front, and adds their frames to those before them.
+pub(crate) fn read_blocks<'a, 'b>(
     alloc: Global,
     scope: Scope,
     mut position: Position<'a>,
-    bytes: &[u8],
-) -> Result<Read<'a>, AllocError>
+    mut frames: Vec<Frame>,
+    bytes: &'b [u8],
+) -> Result<Read<'a, 'b>, AllocError>
     requires { HasRoom scope.length (position.count + length bytes.now) }
-    ensures read { IfOk result (λ read. AreRead scope (state_of position.entry) bytes.now read.frames.items (state_of read.position) read.rest.items read.flaw) }
+    ensures read { IfOk result (λ read. AreReadAfter scope (state_of position.entry) bytes.now frames.items read.frames.items (state_of read.position) read.rest.now read.flaw) }
     ensures had { IfOk result (λ read. read.position.listed.had ≡ position.entry.listed.had) }
 {
-    let mut frames = Vec::new(alloc);
     let mut left = bytes;
     loop {
         match next_of(scope.links, &position, left) {
@@ -90,8 +91,8 @@ pub(crate) fn read_blocks<'a>(
                 position.pass(alloc, scope.length, content, block, &mut frames)?;
                 left = after;
             }
-            Next::Wants => return stopped(alloc, position, frames, left, None),
-            Next::Flawed(flaw) => return stopped(alloc, position, frames, left, Some(flaw)),
+            Next::Wants => return Ok(stopped(position, frames, left, None)),
+            Next::Flawed(flaw) => return Ok(stopped(position, frames, left, Some(flaw))),
         }
     }
 }

@@ -1,7 +1,8 @@
 // What a whole block states.
 ghost use Rattle.std.specs.Prelude.{◌≡◌, ◌≤◌, ◌+◌, ◌-◌, ◌*◌, ◌<◌, ◌^◌, length, drop, IfOk, slice_get};
 ghost use Rattle.cf_pcap.specs.Capture.{number_in};
-ghost use Rattle.cf_pcapng.specs.Blocks.{interface_at, packet_of as packet_by_rules, time_at, enhanced_of, simple_caplen as simple_caplen_of, simple_of, stated as stated_by, content_of as content_by_rules, least};
+ghost use Rattle.cf_pcapng.specs.Blocks.{interface_at, packet_of as packet_by_rules, time_at, enhanced_of};
+ghost use Rattle.cf_pcapng.specs.Blocks.{simple_caplen as simple_caplen_of, simple_of, stated as stated_by, content_of as content_by_rules, least};
 ghost use Rattle.cf_pcapng.specs.Position.{interfaces_of};
 ghost use Rattle.cf_pcapng.specs.Reading.{LiesIn};
 

@@ -4,14 +4,23 @@ ghost use Rattle.cf_stream.specs.Limits.{HasRoom as MayCome};
 ghost use Rattle.cf_pcap.specs.declared.scope.Scope.{Scope};
 ghost use Rattle.cf_pcapng.specs.File.{State};
 ghost use Rattle.cf_pcapng.specs.Position.{state_of};
-ghost use Rattle.cf_pcapng.specs.Reading.{WasPassed, AreReadOn, AreRead, IsResumed, IsLetGo, IsPassedAt, HasRoom, IsGoneOn};
+ghost use Rattle.cf_pcapng.specs.Blocks.{head_of as head_at};
+ghost use Rattle.cf_pcap.specs.Capture.{FrameValue};
+ghost use Rattle.cf_pcapng.specs.Reading.{WasPassed, IsResumed, IsLetGo, IsPassedAt, HasRoom, MayReadOn, Gave, GaveAfter, IsFew, LetsGo, size_by, missing_of};
 
 use crate::blocks::{Read, read_blocks};
 use crate::fault::Flaw;
 use crate::head::{Head, Kind, head_of};
 use crate::position::Position;
 use cf_pcap::{Frame, Order, Scope};
+use cf_stream::cut_at;
 use std::alloc::{AllocError, Global};
+
+/// So many bytes show the head of any block, and no block has fewer.
+const HEAD: usize = 12;
+
+/// The length of a block's last field.
+const LAST_FIELD: usize = 4;
 
 /// A block at hand that is only passed over, and may be very long: its bytes are let go up to the last field.
 #[derive(Clone, Copy, Debug, PartialEq, Eq)]
@@ -90,9 +99,50 @@ fn passed_at(section: Option<Order>, rest: &[u8]) -> Option<Passed>
     }
 }
 
+// The bytes that are held and those that come.
+fn joined(alloc: Global, held: &[u8], more: &[u8]) -> Result<Vec<u8>, AllocError>
+    ensures { IfOk result (λ bytes. bytes.items ≡ held.now ++ more.now) }
+{
+    let mut bytes = held.to_vec(alloc)?;
+    bytes.extend_from_slice(more)?;
+    Ok(bytes)
+}
+
+// How long the block is that begins so, as far as its head shows. One that is passed over is let go at its head.
+fn size_of(section: Option<Order>, bytes: &[u8]) -> usize
+    ensures { result ≡ size_by (head_at section bytes.now) }
+{
+    match head_of(section, bytes) {
+        Head::Stands(_, Kind::Other, _) => HEAD,
+        Head::Stands(_, _, total) => total as usize,
+        _ => HEAD,
+    }
+}
+
+// How many bytes more the block needs that hung over, as far as its head shows with those that come.
+fn missing(
+    alloc: Global,
+    section: Option<Order>,
+    passed: Option<Passed>,
+    held: &[u8],
+    more: &[u8],
+) -> Result<usize, AllocError>
+    ensures { IfOk result (λ count. count ≡ missing_of section passed held.now more.now) }
+{
+    if held.is_empty() {
+        return Ok(0);
+    }
+    if passed.is_some() {
+        return Ok(LAST_FIELD.saturating_sub(held.len()));
+    }
+    let first = cut_at(more, HEAD.saturating_sub(held.len())).0;
+    let seen = joined(alloc, cut_at(held, HEAD).0, first)?;
+    Ok(size_of(section, &seen).saturating_sub(held.len()))
+}
+
 // Lets go of a block that is only passed over.
-fn let_go<'a>(alloc: Global, read: Read<'a>) -> Result<Given<'a>, AllocError>
-    ensures read { IfOk result (λ given. (scope : Scope) (s : State) (bytes : List ℕ) → AreRead scope s bytes read.entry.frames.items (state_of read.entry.position) read.entry.rest.items read.entry.flaw → AreReadOn scope s bytes given.frames.items (state_of given.position) given.passed given.held.items given.flaw) }
+fn let_go<'a>(alloc: Global, read: Read<'a, '_>) -> Result<Given<'a>, AllocError>
+    ensures read { IfOk result (LetsGo read.entry) }
     ensures had { IfOk result (λ given. given.position.listed.had ≡ read.entry.position.listed.had) }
 {
     let Read {
@@ -110,17 +160,20 @@ fn let_go<'a>(alloc: Global, read: Read<'a>) -> Result<Given<'a>, AllocError>
             flaw,
         });
     }
-    match passed_at(position.order(), &rest) {
-        None => Ok(Given {
-            position,
-            frames,
-            passed: None,
-            held: rest,
-            flaw,
-        }),
+    match passed_at(position.order(), rest) {
+        None => {
+            let held = rest.to_vec(alloc)?;
+            Ok(Given {
+                position,
+                frames,
+                passed: None,
+                held,
+                flaw,
+            })
+        }
         Some(block) => {
-            let (passed, some) = block.within(&rest);
-            let held = rest.as_slice().split_at(some).1.to_vec(alloc)?;
+            let (passed, some) = block.within(rest);
+            let held = rest.split_at(some).1.to_vec(alloc)?;
             Ok(Given {
                 position,
                 frames,
@@ -137,25 +190,26 @@ fn go_past<'a>(
     alloc: Global,
     scope: Scope,
     position: Position<'a>,
+    frames: Vec<Frame>,
     block: Passed,
     bytes: &[u8],
 ) -> Result<Given<'a>, AllocError>
     requires block { block.gone + 4 ≤ block.total }
     requires room { MayCome scope.length (position.count + length bytes.now) }
-    ensures sound { IfOk result (λ given. IsGoneOn scope.length (state_of position.entry) (length bytes.now) (state_of given.position) given.passed given.held.items given.flaw) }
-    ensures read { IfOk result (λ given. (gone : List ℕ) → WasPassed position.entry.order (Some block) gone → AreReadOn scope (state_of position.entry) (gone ++ bytes.now) given.frames.items (state_of given.position) given.passed given.held.items given.flaw) }
+    ensures sound { IfOk result (IsFew scope.length (state_of position.entry) (length bytes.now)) }
+    ensures read { IfOk result (GaveAfter scope (state_of position.entry) (Some block) bytes.now frames.items) }
     ensures had { IfOk result (λ given. given.position.listed.had ≡ position.entry.listed.had) }
 {
     match block.resume(bytes) {
         Resumed::Over(left) => {
-            let read = read_blocks(alloc, scope, position, bytes.split_at(left).1)?;
+            let read = read_blocks(alloc, scope, position, frames, bytes.split_at(left).1)?;
             let_go(alloc, read)
         }
         Resumed::Within(passed, some) => {
             let held = bytes.split_at(some).1.to_vec(alloc)?;
             Ok(Given {
                 position,
-                frames: Vec::new(alloc),
+                frames,
                 passed: Some(passed),
                 held,
                 flaw: None,
@@ -163,7 +217,7 @@ fn go_past<'a>(
         }
         Resumed::Flawed => Ok(Given {
             position,
-            frames: Vec::new(alloc),
+            frames,
             passed: None,
             held: Vec::new(alloc),
             flaw: Some(Flaw::BadLength),
@@ -171,25 +225,78 @@ fn go_past<'a>(
     }
 }
 
-// Reads the bytes after those that were let go.
-pub(crate) fn go_on<'a>(
+// Reads the bytes after those that were let go, and adds their frames to those before them.
+fn read_next<'a>(
     alloc: Global,
     scope: Scope,
     position: Position<'a>,
+    frames: Vec<Frame>,
     passed: Option<Passed>,
     bytes: &[u8],
 ) -> Result<Given<'a>, AllocError>
     requires block { HasRoom passed }
     requires room { MayCome scope.length (position.count + length bytes.now) }
-    ensures sound { IfOk result (λ given. IsGoneOn scope.length (state_of position.entry) (length bytes.now) (state_of given.position) given.passed given.held.items given.flaw) }
-    ensures read { IfOk result (λ given. (gone : List ℕ) → WasPassed position.entry.order passed gone → AreReadOn scope (state_of position.entry) (gone ++ bytes.now) given.frames.items (state_of given.position) given.passed given.held.items given.flaw) }
+    ensures sound { IfOk result (IsFew scope.length (state_of position.entry) (length bytes.now)) }
+    ensures read { IfOk result (GaveAfter scope (state_of position.entry) passed bytes.now frames.items) }
     ensures had { IfOk result (λ given. given.position.listed.had ≡ position.entry.listed.had) }
 {
     match passed {
-        Some(block) => go_past(alloc, scope, position, block, bytes),
+        Some(block) => go_past(alloc, scope, position, frames, block, bytes),
         None => {
-            let read = read_blocks(alloc, scope, position, bytes)?;
+            let read = read_blocks(alloc, scope, position, frames, bytes)?;
             let_go(alloc, read)
         }
     }
+}
+
+// Reads on, where the bytes lie if none are held.
+fn read_on<'a>(
+    alloc: Global,
+    scope: Scope,
+    given: Given<'a>,
+    more: &[u8],
+) -> Result<Given<'a>, AllocError>
+    requires { MayReadOn scope.length (state_of given.position) given.passed given.held.items given.flaw (length more.now) }
+    ensures sound { IfOk result (λ after. (s : State) (size : ℕ) → IsFew scope.length s size given.entry → IsFew scope.length s (size + length more.now) after) }
+    ensures read { IfOk result (λ after. (s : State) (bytes : List ℕ) → Gave scope s bytes given.entry → Gave scope s (bytes ++ more.now) after) }
+    ensures had { IfOk result (λ after. after.position.listed.had ≡ given.entry.position.listed.had) }
+{
+    if given.flaw.is_some() || more.is_empty() {
+        return Ok(given);
+    }
+    let Given {
+        position,
+        frames,
+        passed,
+        held,
+        ..
+    } = given;
+    if held.is_empty() {
+        return read_next(alloc, scope, position, frames, passed, more);
+    }
+    let bytes = joined(alloc, &held, more)?;
+    read_next(alloc, scope, position, frames, passed, &bytes)
+}
+
+// Reads the bytes that are held and those that come. Of these no more is copied than the block needs that hung over.
+pub(crate) fn go_on<'a>(
+    alloc: Global,
+    scope: Scope,
+    position: Position<'a>,
+    passed: Option<Passed>,
+    held: &[u8],
+    more: &[u8],
+) -> Result<Given<'a>, AllocError>
+    requires block { HasRoom passed }
+    requires room { MayCome scope.length (position.count + length (held.now ++ more.now)) }
+    ensures sound { IfOk result (IsFew scope.length (state_of position.entry) (length (held.now ++ more.now))) }
+    ensures read { IfOk result (λ given. (gone : List ℕ) → WasPassed position.entry.order passed gone
+        → Gave scope (state_of position.entry) (gone ++ (held.now ++ more.now)) given) }
+    ensures had { IfOk result (λ given. given.position.listed.had ≡ position.entry.listed.had) }
+{
+    let count = missing(alloc, position.order(), passed, held, more)?;
+    let (first, others) = cut_at(more, count);
+    let bytes = joined(alloc, held, first)?;
+    let given = read_next(alloc, scope, position, Vec::new(alloc), passed, &bytes)?;
+    read_on(alloc, scope, given, others)
 }

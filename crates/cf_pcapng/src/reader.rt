@@ -3,13 +3,13 @@ ghost use Rattle.std.specs.Prelude.{◌≡◌, ◌≢◌, ℕ, List, [], ◌++�
 ghost use Rattle.cf_pcap.specs.Capture.{FrameValue};
 ghost use Rattle.cf_pcap.specs.declared.links.LinkSet.TheVariants.{Basic};
 ghost use Rattle.cf_pcap.specs.Links.{limited};
-ghost use Rattle.cf_stream.specs.Limits.{IsShort, HasRoom as MayCome};
+ghost use Rattle.cf_stream.specs.Limits.{HasRoom as MayCome};
 ghost use Rattle.cf_stream.specs.Stream.{AreGiven};
 ghost use Rattle.cf_stream.specs.declared.stage.Stage.TheVariants.{Running};
 ghost use Rattle.cf_pcapng.specs.File.{pcapng};
 ghost use Rattle.cf_pcapng.specs.Position.{listed, state_of};
 ghost use Rattle.cf_pcapng.specs.Reading.{HasRoom, MayGoOn, early_of, late_of};
-ghost use Rattle.cf_pcapng.specs.Reader.{IsStateOf, IsFed, IsEnded, AnswersFound, IsStageAtLimit, IsStageAfter, IsCalled, state_after};
+ghost use Rattle.cf_pcapng.specs.Reader.{IsStateOf, IsFed, IsEnded, AnswersFound, IsStageAtLimit, IsStageAfter, IsCalled, reader_after};
 ghost use Rattle.cf_stream.specs.Stages.{found_at, kept_at};
 ghost use Rattle.cf_pcapng.specs.Truncated.{Says, Breaks};
 
@@ -18,12 +18,12 @@ use crate::interfaces::Interface;
 use crate::passed::{Given, Passed, go_on};
 use crate::position::{Position, Reached};
 use cf_pcap::{Frame, LinkSet, Order, Scope};
-use cf_stream::{Length, Stage, cut_at};
+use cf_stream::{LIMIT, Length, Stage};
 use std::alloc::{AllocError, Global};
 use std::marker::Model;
 
 /// The most bytes of a limited capture.
-const LAST: usize = (1 << 32) - 1;
+const LAST: usize = LIMIT - 1;
 
 /// A reader of one capture. It keeps no more of the stream than the begin of a block that is read, and the interfaces of
 /// the section. Contracts speak of every stream whose state it has.
@@ -50,9 +50,23 @@ impl Model for PcapNg {
 
     ghost Value = { PcapNgValue };
 
-    ghost view = { λ p. record { scope = p.scope; stage = p.stage; total = p.total; state = record { order = p.order; interfaces = p.interfaces.items; count = p.count }; passed = p.passed; held = p.held.items } };
+    ghost view = { λ p. record {
+      scope = p.scope;
+      stage = p.stage;
+      total = p.total;
+      passed = p.passed;
+      held = p.held.items;
+      state = record { order = p.order; interfaces = p.interfaces.items; count = p.count };
+    } };
 
-    ghost invariant = { λ p. IsSound (record { scope = p.scope; stage = p.stage; total = p.total; state = record { order = p.order; interfaces = p.interfaces.items; count = p.count }; passed = p.passed; held = p.held.items }) };
+    ghost invariant = { λ p. IsSound (record {
+      scope = p.scope;
+      stage = p.stage;
+      total = p.total;
+      passed = p.passed;
+      held = p.held.items;
+      state = record { order = p.order; interfaces = p.interfaces.items; count = p.count };
+    }) };
 }
 
 /// What a call that takes a piece comes to: the frames that it gives, and the reader after it.
@@ -64,15 +78,6 @@ struct Called {
     passed: Option<Passed>,
     held: Vec<u8>,
     frames: Vec<Frame>,
-}
-
-// The bytes that are held and those that come.
-fn joined(alloc: Global, held: &[u8], more: &[u8]) -> Result<Vec<u8>, AllocError>
-    ensures { IfOk result (λ bytes. bytes.items ≡ held.now ++ more.now) }
-{
-    let mut bytes = held.to_vec(alloc)?;
-    bytes.extend_from_slice(more)?;
-    Ok(bytes)
 }
 
 // The stage where a byte comes that makes the stream 2^32 bytes long.
@@ -87,9 +92,8 @@ fn stage_at_limit(
     requires room { MayCome scope.length (given.now.position.count + length given.now.held.items + 1) }
     ensures { IfOk result (IsStageAtLimit scope (state_of given.now.position) given.now.passed given.now.held.items byte.now) }
 {
-    let bytes = joined(alloc, &given.held, byte)?;
     let position = given.position.copy(alloc)?;
-    let last = go_on(alloc, scope, position, given.passed, &bytes)?;
+    let last = go_on(alloc, scope, position, given.passed, &given.held, byte)?;
     match last.flaw {
         Some(flaw) => Ok(Stage::Stopped(flaw.after(last.position.count()))),
         None => Ok(Stage::Stopped(NgFault::TooManyBytes)),
@@ -117,14 +121,10 @@ fn stage_after(
 
 // The bytes of a piece that come early enough for a frame, where so many came before, and the others.
 fn cut(limit: Length, total: usize, piece: &[u8]) -> (&[u8], &[u8])
-    requires { IsShort limit total }
     ensures early { result.0.now ≡ early_of limit total piece.now }
     ensures late { result.1.now ≡ late_of limit total piece.now }
 {
-    match limit {
-        Length::Any => (piece, &[]),
-        Length::Limited => cut_at(piece, LAST - total),
-    }
+    limit.cut(piece, LAST.saturating_sub(total))
 }
 
 // The bytes that a reader keeps at a stage.
@@ -227,13 +227,19 @@ impl PcapNg {
     // What a call that takes a piece comes to.
     fn call(&self, piece: &[u8]) -> Result<Called, AllocError>
         requires { self.now.stage ≡ Running }
-        ensures { IfOk result (λ called. IsCalled self.now piece.now called.frames.items (record { scope = self.now.scope; stage = called.stage; total = called.total; state = state_after self.now.state.interfaces called.reached; passed = called.passed; held = called.held.items })) }
+        ensures { IfOk result (λ called. IsCalled self.now piece.now called.frames.items (reader_after self.now called)) }
     {
         let limit = self.scope.length;
         let (early, late) = cut(limit, self.total, piece);
-        let bytes = joined(self.alloc, &self.held, early)?;
         let position = Position::new(self.alloc, self.order, &self.interfaces, self.count);
-        let given = go_on(self.alloc, self.scope, position, self.passed, &bytes)?;
+        let given = go_on(
+            self.alloc,
+            self.scope,
+            position,
+            self.passed,
+            &self.held,
+            early,
+        )?;
         let stage = stage_after(self.alloc, self.scope, &given, late)?;
         Ok(Called {
             stage,

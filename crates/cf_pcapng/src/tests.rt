@@ -489,8 +489,8 @@ fn end_truncated(
 
 /// What the end of so many bytes of two sections answers where they are read as truncated. Each section has a header of 28 bytes, an
 /// interface of 20 and packets of 36 and 20, and a block of 20 that gives none is between them.
-fn truncated_after(n: usize) -> Result<Option<u32>, NgFault> {
-    match n {
+fn truncated_after(bytes: usize) -> Result<Option<u32>, NgFault> {
+    match bytes {
         0..=27 => Err(NgFault::Cut(0)),
         28 | 48 | 84 | 104 | 124 | 152 | 172 | 208 | 228 => Ok(None),
         29..=83 => Ok(Some(0)),

@@ -1,5 +1,5 @@
 -- How long a file may be, and how what comes in it is counted.
-use Rattle.std.specs.Prelude.{◌≡◌, ℕ, ◌+◌, ◌-◌, ◌^◌, ◌<◌, ◌≤◌, max, min}
+use Rattle.std.specs.Prelude.{◌≡◌, ℕ, ◌+◌, ◌-◌, ◌^◌, ◌<◌, ◌≤◌, max, min, List, [], take, drop}
 use Rattle.cf_stream.specs.declared.limit.Length.{Length}
 use Rattle.cf_stream.specs.declared.limit.Length.TheVariants.{Limited, Any}
 
@@ -22,6 +22,16 @@ IsAtLimit Any n = ⊥
 abbrev pub HasRoom : Length → ℕ → Type 0
 HasRoom Limited n = n ≤ 2 ^ 32
 HasRoom Any n = Unit {0}
+
+-- the first bytes of a piece: so many at most where a stream's bytes are limited, and all where any number may come
+abbrev pub first_of : Length → ℕ → List ℕ → List ℕ
+first_of Limited most piece = take most piece
+first_of Any most piece = piece
+
+-- and the others
+abbrev pub others_of : Length → ℕ → List ℕ → List ℕ
+others_of Limited most piece = drop most piece
+others_of Any most piece = []
 
 -- the count of a stream's bytes, after so many and n more. Where any number may come, they are not counted.
 abbrev pub total_on : Length → ℕ → ℕ → ℕ

@@ -8,7 +8,7 @@ mod limit;
 mod stage;
 
 pub use cut::cut_at;
-pub use limit::Length;
+pub use limit::{LIMIT, Length};
 pub use stage::Stage;
 
 #[cfg(test)]

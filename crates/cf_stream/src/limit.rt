@@ -1,6 +1,11 @@
 // How long a stream may be, and how what comes in it is counted.
 ghost use Rattle.std.specs.Prelude.{◌≡◌, ◌+◌};
-ghost use Rattle.cf_stream.specs.Limits.{IsShort, HasRoom, total_on, count_on};
+ghost use Rattle.cf_stream.specs.Limits.{IsShort, HasRoom, first_of, others_of, total_on, count_on};
+
+use crate::cut_at;
+
+/// A limited stream has fewer bytes.
+pub const LIMIT: usize = 1 << 32;
 
 /// How long a file or a stream may be.
 #[derive(Clone, Copy, Debug, PartialEq, Eq)]
@@ -12,6 +17,17 @@ pub enum Length {
 }
 
 impl Length {
+    /// The first bytes of a piece and the others: where a stream's bytes are limited that many at most, and all where they are not.
+    pub fn cut(self, piece: &[u8], most: usize) -> (&[u8], &[u8])
+        ensures first { result.0.now ≡ first_of self most piece.now }
+        ensures others { result.1.now ≡ others_of self most piece.now }
+    {
+        match self {
+            Length::Any => (piece, &[]),
+            Length::Limited => cut_at(piece, most),
+        }
+    }
+
     /// How many bytes a stream has after `more` of them: counted where their number is limited.
     pub fn total_after(self, total: usize, more: usize) -> usize
         requires { HasRoom self (total + more) }

@@ -30,3 +30,21 @@ fn bytes_are_counted_where_they_are_limited(rt: HostRuntime) -> Result<(), Fail>
     }
     Ok(())
 }
+
+#[test]
+fn pieces_are_cut_where_bytes_are_limited(rt: HostRuntime) -> Result<(), Fail> {
+    let piece = [7, 8, 9];
+    let cuts = [
+        (Length::Limited, 0, 0),
+        (Length::Limited, 2, 2),
+        (Length::Limited, 3, 3),
+        (Length::Limited, 4_294_967_295, 3),
+        (Length::Any, 0, 3),
+    ];
+    for (length, most, size) in cuts {
+        let (first, others) = length.cut(&piece, most);
+        assert_eq!(rt; first, &piece[..size]);
+        assert_eq!(rt; others, &piece[size..]);
+    }
+    Ok(())
+}
