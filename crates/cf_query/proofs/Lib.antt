@@ -1,4 +1,5 @@
 pub mod Asked
 pub mod Loaded
 pub mod Sealing
+pub mod Selecting
 pub mod Walking

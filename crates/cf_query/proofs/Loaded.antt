@@ -81,49 +81,45 @@ row_is (x ∷ xs) (suc o) e at = row_is xs o e at
 abbrev holds_at : List (List Atom) → List Entry → ℕ → Bool
 holds_at expr seen place = holds_of expr (row_at (rows_in seen) place)
 
-scanned_more : (expr : List (List Atom)) (seen : List Entry) (o : ℕ) (e : Entry) (b : Bool) (found : List ℕ) → slice_get seen o ≡ Some e
-    → b ≡ holds_of expr e.row → found ≡ filter (holds_at expr seen) (range_with_len 0 o)
-    → found ++ cond b (o ∷ []) [] ≡ filter (holds_at expr seen) (range_with_len 0 (o + 1))
-scanned_more expr seen o e b found at holds is =
-    ap₂ (λ (xs : List ℕ) (t : Bool). xs ++ cond t (o ∷ []) []) is (holds ∙ ap (λ (row : RowValue). holds_of expr row) (row_is seen o e at))
-    ∙ sym (place_more (holds_at expr seen) o)
+scanned_more : (expr : List (List Atom)) (seen : List Entry) (o : ℕ) (b : Bool) (found : List ℕ) → b ≡ holds_at expr seen o
+    → found ≡ filter (holds_at expr seen) (range_with_len 0 o) → found ++ cond b (o ∷ []) [] ≡ filter (holds_at expr seen) (range_with_len 0 (o + 1))
+scanned_more expr seen o b found holds is =
+    ap₂ (λ (xs : List ℕ) (t : Bool). xs ++ cond t (o ∷ []) []) is holds ∙ sym (place_more (holds_at expr seen) o)
 
-pub scanned_one : (expr : List (List Atom)) (seen : List Entry) (o : ℕ) (e : Entry) (b : Bool) (found after : List ℕ) → slice_get seen o ≡ Some e
-    → b ≡ holds_of expr e.row → b ≡ true → found ≡ filter (holds_at expr seen) (range_with_len 0 o) → after ≡ found ++ o ∷ []
-    → after ≡ filter (holds_at expr seen) (range_with_len 0 (o + 1))
-scanned_one expr seen o e b found after at holds passes is push = push
-    ∙ (ap (λ (t : Bool). found ++ cond t (o ∷ []) []) (sym passes) ∙ scanned_more expr seen o e b found at holds is)
+pub scanned_one : (expr : List (List Atom)) (seen : List Entry) (o : ℕ) (b : Bool) (found after : List ℕ) → b ≡ holds_at expr seen o → b ≡ true
+    → found ≡ filter (holds_at expr seen) (range_with_len 0 o) → after ≡ found ++ o ∷ [] → after ≡ filter (holds_at expr seen) (range_with_len 0 (o + 1))
+scanned_one expr seen o b found after holds passes is push = push
+    ∙ (ap (λ (t : Bool). found ++ cond t (o ∷ []) []) (sym passes) ∙ scanned_more expr seen o b found holds is)
 
-pub scanned_none : (expr : List (List Atom)) (seen : List Entry) (o : ℕ) (e : Entry) (b : Bool) (found : List ℕ) → slice_get seen o ≡ Some e
-    → b ≡ holds_of expr e.row → b ≡ false → found ≡ filter (holds_at expr seen) (range_with_len 0 o)
-    → found ≡ filter (holds_at expr seen) (range_with_len 0 (o + 1))
-scanned_none expr seen o e b found at holds fails is = sym (append-nil found)
-    ∙ (ap (λ (t : Bool). found ++ cond t (o ∷ []) []) (sym fails) ∙ scanned_more expr seen o e b found at holds is)
-
--- an entry that is there, by its place
-at_place : (seen : List Entry) (o : ℕ) (e : Entry) → slice_get seen o ≡ Some e → (o < length seen) × (get_or seen o e ≡ e)
-at_place [] zero e at = absurd (cc at)
-at_place [] (suc o) e at = absurd (cc at)
-at_place (x ∷ xs) zero e at = (omega arith, cc at)
-at_place (x ∷ xs) (suc o) e at = let rest = at_place xs o e at in (omega (arith, rest.0), rest.1)
+pub scanned_none : (expr : List (List Atom)) (seen : List Entry) (o : ℕ) (b : Bool) (found : List ℕ) → b ≡ holds_at expr seen o → b ≡ false
+    → found ≡ filter (holds_at expr seen) (range_with_len 0 o) → found ≡ filter (holds_at expr seen) (range_with_len 0 (o + 1))
+scanned_none expr seen o b found holds fails is = sym (append-nil found)
+    ∙ (ap (λ (t : Bool). found ++ cond t (o ∷ []) []) (sym fails) ∙ scanned_more expr seen o b found holds is)
 
 -- What is added up of the entries of which an expression holds, and of one entry more.
-module _ (attr : ℕ) (expr : List (List Atom)) (seen : List Entry) (o : ℕ) (e : Entry) (at : slice_get seen o ≡ Some e) where
-  amounts_with : amounts_in attr expr (take (o + 1) seen) ≡ amounts_in attr expr (take o seen) ++ cond (holds_of expr e.row) (number_at e.row attr ∷ []) []
-  amounts_with =
-      let here = at_place seen o e at in
-      amounts_more attr expr seen o e here.0
-      ∙ ap (λ (x : Entry). amounts_in attr expr (take o seen) ++ cond (holds_of expr x.row) (number_at x.row attr ∷ []) []) here.1
+module _ (attr : ℕ) (expr : List (List Atom)) (seen : List Entry) (o : ℕ) (lt : o < length seen) where
+  abbrev here : RowValue
+  here = row_at (rows_in seen) o
 
-  pub summed_one : (b : Bool) (before after : QuadValue) → b ≡ holds_of expr e.row → b ≡ true → before ≡ total attr expr (rows_in (take o seen))
-      → ((xs : List ℕ) → before ≡ quad_of xs → after ≡ quad_of (xs ++ number_at e.row attr ∷ [])) → after ≡ total attr expr (rows_in (take (o + 1) seen))
+  amounts_with : amounts_in attr expr (take (o + 1) seen) ≡ amounts_in attr expr (take o seen) ++ cond (holds_of expr here) (number_at here attr ∷ []) []
+  amounts_with =
+      let row = row_is seen o (get_or seen o no_entry) (slice_get-get_or seen o no_entry lt) in
+      amounts_more attr expr seen o no_entry lt
+      ∙ ap (λ (r : RowValue). amounts_in attr expr (take o seen) ++ cond (holds_of expr r) (number_at r attr ∷ []) []) row
+
+  pub summed_one : (b : Bool) (before after : QuadValue) → b ≡ holds_of expr here → b ≡ true → before ≡ total attr expr (rows_in (take o seen))
+      → ((xs : List ℕ) → before ≡ quad_of xs → after ≡ quad_of (xs ++ number_at here attr ∷ [])) → after ≡ total attr expr (rows_in (take (o + 1) seen))
   summed_one b before after holds passes is added =
       added (amounts_in attr expr (take o seen)) is
-      ∙ ap quad_of (ap (λ (t : Bool). amounts_in attr expr (take o seen) ++ cond t (number_at e.row attr ∷ []) []) (sym passes ∙ holds) ∙ sym amounts_with)
+      ∙ ap quad_of (ap (λ (t : Bool). amounts_in attr expr (take o seen) ++ cond t (number_at here attr ∷ []) []) (sym passes ∙ holds) ∙ sym amounts_with)
 
-  pub summed_none : (b : Bool) (before : QuadValue) → b ≡ holds_of expr e.row → b ≡ false → before ≡ total attr expr (rows_in (take o seen))
+  pub summed_none : (b : Bool) (before : QuadValue) → b ≡ holds_of expr here → b ≡ false → before ≡ total attr expr (rows_in (take o seen))
       → before ≡ total attr expr (rows_in (take (o + 1) seen))
   summed_none b before holds fails is =
       is ∙ ap quad_of
       (sym (append-nil (amounts_in attr expr (take o seen)))
-      ∙ ap (λ (t : Bool). amounts_in attr expr (take o seen) ++ cond t (number_at e.row attr ∷ []) []) (sym fails ∙ holds) ∙ sym amounts_with)
+      ∙ ap (λ (t : Bool). amounts_in attr expr (take o seen) ++ cond t (number_at here attr ∷ []) []) (sym fails ∙ holds) ∙ sym amounts_with)
+
+-- what fits still does where words were looked at since
+pub still_fit : (shape : ShapeValue) (m n : PassValue) → AreFit shape m.view → OnlyLooked m n → AreFit shape n.view
+still_fit shape m n fit looked = subst (λ (h : PassValue). AreFit shape h.view) (sym looked) fit

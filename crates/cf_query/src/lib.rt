@@ -1,7 +1,7 @@
 //! Questions are asked of a shared log by any pass, while writers append.
 //!
-//! A list and a total go over the words of all entries below their read tail. All other questions walk the tree and chains of
-//! their lane.
+//! A list and a total go over all entries below their read tail, by the words that their expression compares. All other
+//! questions walk the tree and chains of their lane.
 #![tactic(auto)]
 
 mod asks;
@@ -9,6 +9,7 @@ mod findings;
 mod history;
 mod rows;
 mod scans;
+mod selection;
 
 pub use asks::{ask, ask_seen, groups, measure, tail};
 pub use findings::{finding, finding_seen};

@@ -7,15 +7,15 @@ ghost use Rattle.cf_table.specs.Moves.{OnlyLooked, AreFit};
 ghost use Rattle.cf_plain.specs.Asks.{places, rows_in};
 ghost use Rattle.cf_plain.specs.Totals.{IsNarrow, total};
 
-use crate::rows::load_entry;
+use crate::selection::Selection;
 use cf_fold::Quad;
-use cf_plain::{Places, amount};
-use cf_row::{Expr, Memory, holds};
+use cf_plain::Places;
+use cf_row::{Expr, Memory};
 use cf_table::{MultiLog, Pass, Steps};
 use std::alloc::Global;
 use std::sync::ledger::Ledger;
 
-// The places of the entries of which the expression holds. They are read one after the other, and none is kept.
+// The places of the entries of which the expression holds. They are asked one after the other, and none is kept.
 pub(crate) fn scan<P: Pass, L: Ledger>(
     log: &MultiLog,
     alloc: Global,
@@ -30,18 +30,17 @@ pub(crate) fn scan<P: Pass, L: Ledger>(
     ensures looked { OnlyLooked (P.held pass.old) (P.held pass.new) }
     ensures loads { CountsLoads (P.held pass.old) (P.held pass.new) steps.old steps.new }
 {
-    let schema = log.shape().schema();
+    let selection = Selection::new(log, alloc, expr);
     let mut found = Vec::new(alloc);
     for offset in 0..pass.covered() {
-        let entry = load_entry(log, alloc, pass, offset, steps)?;
-        if holds(schema, expr, &entry.row) {
+        if selection.selects(pass, offset, steps)? {
             found.push(offset)?;
         }
     }
     Ok(Places::new(found))
 }
 
-// The quad of the attribute over the entries of which the expression holds. They are read one after the other, and none is
+// The quad of the attribute over the entries of which the expression holds. They are asked one after the other, and none is
 // kept.
 pub(crate) fn total_of<P: Pass, L: Ledger>(
     log: &MultiLog,
@@ -60,12 +59,11 @@ pub(crate) fn total_of<P: Pass, L: Ledger>(
     ensures looked { OnlyLooked (P.held pass.old) (P.held pass.new) }
     ensures loads { CountsLoads (P.held pass.old) (P.held pass.new) steps.old steps.new }
 {
-    let schema = log.shape().schema();
+    let selection = Selection::new(log, alloc, expr);
     let mut total = Quad::EMPTY;
     for place in 0..pass.covered() {
-        let entry = load_entry(log, alloc, pass, place, steps)?;
-        if holds(schema, expr, &entry.row) {
-            total = total.add(amount(schema, attr, &entry.row));
+        if selection.selects(pass, place, steps)? {
+            total = total.add(selection.number(pass, place, attr, steps) as u32);
         }
     }
     Ok(total)

@@ -1,32 +1,37 @@
-use Rattle.std.proofs.Common.{◌≡◌, ◌∙◌, ℕ, Some, Vec, Global, slice_get, ap, sym, arith}
-use Rattle.cf_shape.specs.Lanes.{ShapeValue}
-use Rattle.cf_table.specs.Values.{PassValue}
+use Rattle.std.proofs.Common.{◌∙◌, ℕ, List, Vec, Global, ap, sym, subst, arith}
+use Rattle.cf_row.specs.declared.expr.Atom.{Atom}
+use Rattle.cf_row.specs.Expr.{holds_of}
+use Rattle.cf_plain.specs.Asks.{row_at, rows_in}
+use Rattle.cf_table.specs.Moves.{AreFit}
+use Rattle.cf_table.specs.Values.{LogValue, PassValue}
 use Rattle.cf_table.proofs.Reading.{looked_then}
-use Rattle.cf_query.proofs.Loaded.{held_fits, scanned_one, scanned_none}
+use Rattle.cf_query.proofs.Loaded.{scanned_one, scanned_none, still_fit}
 use Rattle.cf_query.proofs.scans.scan.Goals as goal
-use Rattle.cf_query.proofs.scans.scan.Goals.{then-holds+in_ok-push, else-holds}
+use Rattle.cf_query.proofs.scans.scan.Goals.{then-branch+in_ok-push, else-branch}
 
-pub holds-requires-clause-fits : goal.holds-requires-clause-fits
-holds-requires-clause-fits g c =
-    held_fits c.args.log.now.shape c.schema-schema.result.now (g.P.Pass.held c.args.pass.now)
-    (g.P.Pass.held c.loop-offset.pass) c.loop-offset.offset c.in_ok-entry.entry c.requires.fit c.loop-offset.invariant.looked
-    (c.schema-schema.ensures ∙ ap (λ (x : ShapeValue). x.schema) c.shape.ensures.shape) c.in_ok-entry.ensures.entry
+pub selects-requires-clause-fit : goal.selects-requires-clause-fit
+selects-requires-clause-fit g c =
+    let m = g.P.Pass.held c.loop-offset.pass in
+    subst (λ (log : LogValue). AreFit log.shape m.view) (sym c.new-selection.ensures.log)
+    (still_fit c.args.log.now.shape (g.P.Pass.held c.args.pass.now) m c.requires.fit c.loop-offset.invariant.looked)
 
 pub loop-offset-preserved : goal.loop-offset-preserved
 loop-offset-preserved g c =
-    let e = c.in_ok-entry.entry in
     let o = c.loop-offset.offset in
     let v = c.loop-offset.invariant in
     let f = g.P.Pass.held c.args.pass.now in
-    let seen = (f.view).seen in
-    let at : slice_get seen o ≡ Some e = sym (ap (λ (h : PassValue). slice_get (h.view).seen o) v.looked) ∙ c.in_ok-entry.ensures.entry in
+    let expr = c.args.expr.now in
+    let b = c.in_ok-selects.field-0 in
+    let holds = c.in_ok-selects.ensures.holds
+    ∙ (ap (λ (h : PassValue). holds_of c.new-selection.result.expr (row_at (rows_in (h.view).seen) o)) v.looked
+    ∙ ap (λ (e : List (List Atom)). holds_of e (row_at (rows_in (f.view).seen) o)) c.new-selection.ensures.expr) in
     record {
-      found = elim c.if-holds.branch [
-        | then-holds+in_ok-push w ↦ scanned_one c.args.expr.now seen o e c.holds.result (c.loop-offset.found).items
-            (c.if-holds.found).items at c.holds.ensures w.if-holds.true v.found (ap (λ (x : Vec ℕ Global). x.items) w.found-is ∙ w.in_ok-push.ensures.items)
-        | else-holds w ↦ ap (λ (x : Vec ℕ Global). x.items) w.found-is
-            ∙ scanned_none c.args.expr.now seen o e c.holds.result (c.loop-offset.found).items at c.holds.ensures w.if-holds.false v.found
+      found = elim c.if-branch.branch [
+        | then-branch+in_ok-push w ↦ scanned_one expr (f.view).seen o b (c.loop-offset.found).items (c.if-branch.found).items holds w.if-branch.true v.found
+            (ap (λ (x : Vec ℕ Global). x.items) w.found-is ∙ w.in_ok-push.ensures.items)
+        | else-branch w ↦ ap (λ (x : Vec ℕ Global). x.items) w.found-is
+            ∙ scanned_none expr (f.view).seen o b (c.loop-offset.found).items holds w.if-branch.false v.found
       ];
-      loads = let least = v.loads in let loads = c.load_entry.ensures.loads in omega (arith, least, loads);
-      looked = looked_then f (g.P.Pass.held c.loop-offset.pass) (g.P.Pass.held c.load_entry.new.pass) v.looked c.load_entry.ensures.looked;
+      loads = let least = v.loads in let loads = c.selects.ensures.loads in omega (arith, least, loads);
+      looked = looked_then f (g.P.Pass.held c.loop-offset.pass) (g.P.Pass.held c.selects.new.pass) v.looked c.selects.ensures.looked;
     }
