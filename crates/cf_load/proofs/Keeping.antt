@@ -1,13 +1,14 @@
 -- A root at home asks, and holds what it held.
 use Rattle.std.proofs.Common.{refl, ◌≡◌, ◌∷◌, [], ◌++◌, ◌<◌, ◌+◌, ℕ, List, length, map, take, get_or, slice_get, sym, ap, ap₂, ◌∙◌}
 use Rattle.std.proofs.lemmas.List.{map_push, take_more}
-use Rattle.cf_law.specs.Passes.{Book}
+use Rattle.cf_law.specs.Passes.{Book, Pass}
 use Rattle.cf_law.specs.Readers.{mine_from}
 use Rattle.cf_shape.specs.Lanes.{ShapeValue}
 use Rattle.cf_row.specs.Row.{RowValue}
 use Rattle.cf_table.specs.Values.{PassValue, LogValue, IsOf}
 use Rattle.cf_table.specs.Moves.{HoldsAllBooks}
 use Rattle.cf_query.specs.Asking.{HasAsked}
+use Rattle.cf_walk.specs.Walks.{OnlyWalked}
 use Rattle.cf_load.specs.Loading.{HasLoaded}
 use Rattle.cf_load.specs.Segments.{Keeps}
 use Rattle.cf_load.proofs.Batches.{still_loaded}
@@ -26,6 +27,18 @@ keeps_then m n o a b = record {
 -- after an ask of the root, also one that was refused
 pub keeps_asked : (shape : ShapeValue) (m n : PassValue) → HasAsked shape m n → HoldsAllBooks shape m.view → Keeps m n
 keeps_asked shape m n asked settled = record { same = asked.same; seen = asked.stays settled; books = asked.books; told = asked.told }
+
+-- after walks of the root
+pub keeps_walked : (m n : PassValue) → OnlyWalked m n → Keeps m n
+keeps_walked m n walked =
+    let view : n.view ≡ record m.view { look = (n.view).look; known = (n.view).known; cursor = (n.view).cursor } =
+    ap (λ (h : PassValue). h.view) walked.same in
+    record {
+      same = walked.same ∙ ap (λ (q : Pass). record m { view = q }) (sym view);
+      seen = ap (λ (q : Pass). q.seen) view;
+      books = ap (λ (q : Pass). q.books) view;
+      told = ap (λ (q : Pass). q.told) view;
+    }
 
 -- the books are still home
 pub settled_kept : (shape : ShapeValue) (m n : PassValue) → Keeps m n → HoldsAllBooks shape m.view → HoldsAllBooks shape n.view

@@ -164,6 +164,13 @@ pub kept_current : (most : ℕ) (closed others : List Segment) (current : Segmen
     → KeepsAll (segments_of most closed current) (segments_of most others (record { log = current.log; root = n }))
 kept_current most closed others current n zip last = record { same = refl; closed = zip; current = last }
 
+-- and where each was kept
+pub kept_both : (most : ℕ) (closed others : List Segment) (f g : Segment) → AllZip KeepsSegment closed others → KeepsSegment f g
+    → KeepsAll (segments_of most closed f) (segments_of most others g)
+kept_both most closed others f g zip last =
+    let with_log : LogValue → SegmentsValue = λ l. record { shape = l.shape; most = most; closed = others; current = g } in
+    record { same = ap with_log last.log; closed = zip; current = last }
+
 -- segments of the shape that keep what they hold
 pub kept_segments : (shape : ShapeValue) (gs hs : List Segment) → AllZip KeepsSegment gs hs → All (IsSegment shape) gs → All (IsSegment shape) hs
 kept_segments shape gs hs zip all k d lt =

@@ -19,3 +19,5 @@ pub mod Kept
 pub mod Filled
 pub mod Costs
 pub mod Tagging
+pub mod Asking
+pub mod Turned

@@ -6,8 +6,7 @@ use Rattle.cf_plain.specs.Asks.{eval}
 use Rattle.cf_plain.specs.declared.ask.Ask.{Ask}
 use Rattle.cf_query.specs.Walking.{lane_of, steps_of_one, steps_of_bucket}
 use Rattle.cf_shape.specs.Lanes.{ShapeValue}
-use Rattle.cf_load.specs.Segments.{seen_of}
-use Rattle.cf_load.specs.declared.segments.Segment.{Segment}
+use Rattle.cf_table.specs.Values.{PassValue}
 
 -- the most steps of a question for the entries of one key, in a log of these entries: its answer is that on them alone
 abbrev pub key_steps : ShapeValue → Ask → List Entry → ℕ
@@ -17,17 +16,17 @@ key_steps shape ask entries = steps_of_one shape (lane_of ask) (eval shape ask e
 abbrev pub bucket_steps : ShapeValue → Ask → List Entry → ℕ
 bucket_steps shape ask entries = steps_of_bucket shape (lane_of ask) (length entries)
 
--- the same of segments, each asked once
-abbrev pub key_steps_in : ShapeValue → Ask → List Segment → ℕ
-key_steps_in shape ask segments = sum_by (λ segment. key_steps shape ask (seen_of segment)) segments
+-- the same of passes over several logs, each asked once of what it has seen
+abbrev pub key_steps_in : ShapeValue → Ask → List PassValue → ℕ
+key_steps_in shape ask passes = sum_by (λ (pass : PassValue). key_steps shape ask (pass.view).seen) passes
 
-abbrev pub bucket_steps_in : ShapeValue → Ask → List Segment → ℕ
-bucket_steps_in shape ask segments = sum_by (λ segment. bucket_steps shape ask (seen_of segment)) segments
+abbrev pub bucket_steps_in : ShapeValue → Ask → List PassValue → ℕ
+bucket_steps_in shape ask passes = sum_by (λ (pass : PassValue). bucket_steps shape ask (pass.view).seen) passes
 
--- how many words a segment's root has loaded
-abbrev pub loads_of : Segment → ℕ
-loads_of segment = ((segment.root.view).look).count
+-- how many words a pass has loaded
+abbrev pub loads_of : PassValue → ℕ
+loads_of pass = ((pass.view).look).count
 
--- No word was loaded beside the steps: the roots of the segments made no more loads than the steps grew by.
-abbrev pub CountLoads : List Segment → List Segment → ℕ → ℕ → Type 0
+-- No word was loaded beside the steps: the passes made no more loads than the steps grew by.
+abbrev pub CountLoads : List PassValue → List PassValue → ℕ → ℕ → Type 0
 CountLoads old new before after = sum_by loads_of new + before ≤ sum_by loads_of old + after

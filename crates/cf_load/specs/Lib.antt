@@ -9,3 +9,5 @@ pub mod Priors
 pub mod Loads
 pub mod Loaders
 pub mod Tags
+pub mod Readers
+pub mod Rounds

@@ -6,7 +6,12 @@ use Rattle.cf_shape.specs.Lanes.{ShapeValue}
 use Rattle.cf_plain.specs.Asks.{Suits, SuitsTrigger, rows_in, marks_over}
 use Rattle.cf_plain.specs.Answered.{no_ask}
 use Rattle.cf_plain.specs.Segments.{finding_in}
+use Rattle.cf_plain.specs.declared.answer.Answer.{Answer}
+use Rattle.cf_plain.specs.declared.answer.Body.{Body}
+use Rattle.cf_plain.specs.declared.answer.Body.TheVariants as bodies
 use Rattle.cf_plain.specs.declared.answer.Fired.{Fired}
+use Rattle.cf_plain.specs.declared.ask.Ask.{Ask}
+use Rattle.cf_plain.specs.declared.ask.Ask.TheVariants as asks
 use Rattle.cf_plain.specs.declared.finding.Finding.{Finding}
 use Rattle.cf_plain.specs.declared.loaded.Live.{Live}
 use Rattle.cf_table.specs.Values.{PassValue}
@@ -25,9 +30,24 @@ pub record IsSamePlan (plan other : LivePlan) : Type 0 where
   pub lives : other.lives.items ≡ plan.lives.items
   pub rounds : other.rounds ≡ plan.rounds
 
+-- all that is asked at the end: each question, and then what each trigger found
+abbrev pub asks_of : LivePlan → List Ask
+asks_of plan = plan.asks.items ++ map (λ trigger. asks.Fired trigger) plan.triggers.items
+
 -- the marks of a trigger on some entries
 abbrev pub marks_on : ShapeValue → List Entry → Trigger → List Fired
 marks_on shape entries trigger = marks_over shape trigger (rows_in entries)
+
+-- what an answer says beside its tail, and marks as such
+abbrev pub body_of : Answer → Body
+body_of answer = answer.body
+
+abbrev pub as_marks : List Fired → Body
+as_marks marks = bodies.Marks marks
+
+-- it is an answer about a trigger
+abbrev pub IsMarks : Answer → Type 0
+IsMarks answer = (marks : List Fired) × (answer.body ≡ as_marks marks)
 
 -- how much of the log each answer saw
 abbrev pub tails_of : List Live → List ℕ

@@ -1,100 +1,182 @@
-// The answers on all entries.
-ghost use Rattle.std.specs.Prelude.{◌≡◌, ◌+◌, ◌<◌, ◌≤◌, All, map, length, IfOk};
-ghost use Rattle.cf_plain.specs.Asks.{Suits, SuitsTrigger, rows_in, marks_over};
+// The answers on all entries: the questions are asked in threads of their own.
+ghost use Rattle.std.specs.Prelude.{◌≡◌, ◌+◌, ◌<◌, ◌≤◌, ℕ, All, Ok, map, length, IfOk, slice_index_or};
+ghost use Rattle.std.specs.List.{AllZip, flat_map};
+ghost use Rattle.cf_plain.specs.Asks.{Suits};
 ghost use Rattle.cf_plain.specs.Answered.{answer_on};
-ghost use Rattle.cf_load.specs.Planned.{IsPlan, marks_on};
-ghost use Rattle.cf_load.specs.Costs.{CountLoads};
-ghost use Rattle.cf_load.specs.Segments.{KeepsAll, all_of, entries_of};
+ghost use Rattle.cf_query.specs.Walking.{AsksOne, AsksBucket};
+ghost use Rattle.cf_load.specs.Costs.{CountLoads, bucket_steps_in, key_steps_in};
+ghost use Rattle.cf_load.specs.Planned.{IsMarks, IsPlan, as_marks, body_of, marks_on};
+ghost use Rattle.cf_load.specs.Readers.{AreReaders, CanBeAsked, IsQuestion, answer_by, seen_by};
+ghost use Rattle.cf_load.specs.Segments.{KeepsAll, entries_of};
 
+use crate::prior::{find_behind, nothing};
 use crate::{LivePlan, Segments};
-use cf_fold::Trigger;
 use cf_plain::{Answer, Ask, Body, Live, Loaded, Marks};
 use cf_row::Memory;
-use cf_table::Steps;
+use cf_shape::Shape;
+use cf_table::{MultiLog, ReaderPass, Steps};
 use std::alloc::Global;
 use std::marker::Brand;
 use std::sync::ledger::{Blank, Ledger};
+use std::thread::{Threads, map_vec};
 
-fn finals_of<L: Ledger>(
-    segments: &mut Segments,
-    alloc: Global,
-    asks: &[Ask],
-    steps: &mut Steps<L>,
-) -> Result<Vec<Answer>, Memory>
-    requires suit { All (Suits segments.old.shape) asks.now }
-    ensures keeps { KeepsAll segments.old segments.new }
-    ensures answers { IfOk result (λ finals. finals.items ≡ map (answer_on segments.old.shape (entries_of segments.old)) asks.now) }
-    ensures loads { CountLoads (all_of segments.old) (all_of segments.new) steps.old steps.new }
-{
-    let mut finals = Vec::new(alloc);
-    for question in asks {
-        finals.push(segments.ask(alloc, question, steps)?)?;
-    }
-    Ok(finals)
+// A question, and a pass for each segment by which it is asked.
+#[derive(Drop)]
+struct Question {
+    ask: Ask,
+    readers: Vec<ReaderPass>,
 }
 
-// The marks of a trigger.
-fn marks_of<L: Ledger>(
-    segments: &mut Segments,
+// The question's answer on all that the passes have seen, each in its log.
+fn ask_all<L: Ledger>(
+    shape: &Shape,
+    logs: &[&MultiLog],
     alloc: Global,
-    trigger: Trigger,
+    readers: &mut [ReaderPass],
+    ask: &Ask,
     steps: &mut Steps<L>,
-) -> Result<Marks, Memory>
-    requires suits { SuitsTrigger segments.old.shape trigger }
-    ensures keeps { KeepsAll segments.old segments.new }
-    ensures marks { IfOk result (λ marks. marks ≡ marks_over segments.old.shape trigger (rows_in (entries_of segments.old))) }
-    ensures loads { CountLoads (all_of segments.old) (all_of segments.new) steps.old steps.new }
+) -> Result<Answer, Memory>
+    requires suits { Suits shape.now ask.now }
+    requires readers { AreReaders shape.now logs.now readers.old }
+    ensures answer { IfOk result (λ answer. answer ≡ answer_on shape.now (flat_map seen_by readers.old) ask.now) }
+    ensures steps { AsksOne ask.now → IfOk result (λ _. steps.new + length readers.old ≤ steps.old + key_steps_in shape.now ask.now readers.old) }
+    ensures bucket { AsksBucket ask.now → IfOk result (λ _. steps.new + length readers.old ≤ steps.old + bucket_steps_in shape.now ask.now readers.old) }
+    ensures loads { CountLoads readers.old readers.new steps.old steps.new }
 {
-    let answer = segments.ask(alloc, &Ask::Fired(trigger), steps)?;
-    match answer.body {
-        Body::Marks(marks) => Ok(marks),
-        Body::Places(_) => unreachable!(),
-        Body::Total(_) => unreachable!(),
-        Body::Tops(_) => unreachable!(),
+    let _shape = shape;
+    let mut found = (0, nothing(alloc, ask));
+    let mut place = 0;
+    for reader in readers.iter_mut() {
+        let log = logs[place];
+        found = find_behind(log, alloc, reader, ask, found, steps)?;
+        place += 1;
     }
+    let (tail, finding) = found;
+    let body = finding.body(alloc, ask)?;
+    Ok(Answer { tail, body })
 }
 
-fn alerts_of<L: Ledger>(
-    segments: &mut Segments,
+// The question's answer. Nobody reads how many steps it made.
+fn ask_counted<L: Ledger>(
+    shape: &Shape,
+    logs: &[&MultiLog],
     alloc: Global,
-    triggers: &[Trigger],
-    steps: &mut Steps<L>,
-) -> Result<Vec<Marks>, Memory>
-    requires suit { All (SuitsTrigger segments.old.shape) triggers.now }
-    ensures keeps { KeepsAll segments.old segments.new }
-    ensures marks { IfOk result (λ alerts. alerts.items ≡ map (marks_on segments.old.shape (entries_of segments.old)) triggers.now) }
-    ensures loads { CountLoads (all_of segments.old) (all_of segments.new) steps.old steps.new }
-{
-    let mut alerts = Vec::new(alloc);
-    for trigger in triggers {
-        alerts.push(marks_of(segments, alloc, *trigger, steps)?)?;
-    }
-    Ok(alerts)
-}
-
-// The answers of all questions and triggers. Nobody reads how many steps they made.
-fn answer_counted<L: Ledger>(
-    segments: &mut Segments,
-    alloc: Global,
-    plan: &LivePlan,
-    lives: Vec<Live>,
+    question: Question,
     blank: Blank,
-) -> Result<Loaded, Memory>
-    requires plan { IsPlan segments.old.shape plan.now }
+) -> Result<Answer, Memory>
+    requires can { CanBeAsked shape.now logs.now question }
     requires blank { (blank.name ≡ L.name) × (blank.parts ≡ L.parts) × (0 < L.parts) }
-    ensures keeps { KeepsAll segments.old segments.new }
-    ensures finals { IfOk result (λ loaded. loaded.finals ≡ map (answer_on segments.old.shape (entries_of segments.old)) plan.now.asks.items) }
-    ensures alerts { IfOk result (λ loaded. loaded.alerts ≡ map (marks_on segments.old.shape (entries_of segments.old)) plan.now.triggers.items) }
-    ensures lives { IfOk result (λ loaded. loaded.lives ≡ lives.items) }
+    ensures { IfOk result (λ answer. answer ≡ answer_by shape.now question) }
 {
     let mut steps = Steps::<L>::new(blank);
-    let finals = finals_of(segments, alloc, &plan.asks, &mut steps)?;
-    let alerts = alerts_of(segments, alloc, &plan.triggers, &mut steps)?;
-    Ok(Loaded::new(finals, alerts, lives))
+    let Question { ask, mut readers } = question;
+    ask_all(shape, logs, alloc, readers.as_mut_slice(), &ask, &mut steps)
+}
+
+// The question's answer, as `ask_counted` gives it.
+fn ask_one(
+    shape: &Shape,
+    logs: &[&MultiLog],
+    alloc: Global,
+    question: Question,
+) -> Result<Answer, Memory>
+    requires can { CanBeAsked shape.now logs.now question }
+    ensures { IfOk result (λ answer. answer ≡ answer_by shape.now question) }
+{
+    ask_counted::<Brand>(shape, logs, alloc, question, Blank::new(1))
+}
+
+// Asks each question in a thread of its own where one can be made.
+fn ask_each<R: Threads + Sync>(
+    rt: &R,
+    shape: &Shape,
+    logs: &[&MultiLog],
+    alloc: Global,
+    questions: Vec<Question>,
+) -> Result<Vec<Result<Answer, Memory>>, Memory>
+    requires can { All (CanBeAsked shape.now logs.now) questions.items }
+    ensures long { IfOk result (λ answers. length answers.items ≡ length questions.items) }
+    ensures each { IfOk result (λ answers. (k : ℕ) (one : _) (question : _) → k < length questions.items
+        → IfOk (slice_index_or answers.items k one) (λ answer. answer ≡ answer_by shape.now (slice_index_or questions.items k question))) }
+{
+    map_vec(
+        rt,
+        questions,
+        &|question: Question| -> Result<Answer, Memory>
+            requires { CanBeAsked shape.now logs.now question }
+            ensures { IfOk result (λ answer. answer ≡ answer_by shape.entry.now question) }
+        { ask_one(shape, logs, alloc, question) },
+    )
+}
+
+// The answers, where there are all.
+fn all_given(alloc: Global, answers: Vec<Result<Answer, Memory>>) -> Result<Vec<Answer>, Memory>
+    ensures { IfOk result (λ given. answers.items ≡ map (λ answer. Ok answer) given.items) }
+{
+    let mut given = Vec::with_capacity(alloc, answers.len())?;
+    for answer in answers {
+        given.push(answer?)?;
+    }
+    Ok(given)
+}
+
+// The questions, each with passes of its own.
+fn questions_of<L: Ledger>(
+    segments: &mut Segments,
+    alloc: Global,
+    asks: Vec<Ask>,
+    blank: Blank,
+) -> Result<Vec<Question>, Memory>
+    requires blank { (blank.name ≡ L.name) × (blank.parts ≡ L.parts) × (0 < L.parts) }
+    ensures keeps { KeepsAll segments.old segments.new }
+    ensures are { IfOk result (λ questions. AllZip (IsQuestion segments.old) asks.items questions.items) }
+{
+    let mut steps = Steps::<L>::new(blank);
+    let mut questions = Vec::with_capacity(alloc, asks.len())?;
+    for ask in asks {
+        let readers = segments.readers(alloc, &mut steps)?;
+        questions.push(Question { ask, readers })?;
+    }
+    Ok(questions)
+}
+
+// The questions' answers on all entries.
+fn answers_to<R: Threads + Sync>(
+    rt: &R,
+    segments: &mut Segments,
+    alloc: Global,
+    asks: Vec<Ask>,
+) -> Result<Vec<Answer>, Memory>
+    requires suit { All (Suits segments.old.shape) asks.items }
+    ensures keeps { KeepsAll segments.old segments.new }
+    ensures answers { IfOk result (λ answers. answers.items ≡ map (answer_on segments.old.shape (entries_of segments.old)) asks.items) }
+{
+    let questions = questions_of::<Brand>(segments, alloc, asks, Blank::new(1))?;
+    let logs = segments.logs(alloc)?;
+    let answers = ask_each(rt, segments.shape(), logs.as_slice(), alloc, questions)?;
+    all_given(alloc, answers)
+}
+
+// The marks of triggers, from the answers about them.
+fn marks_in(alloc: Global, answers: Vec<Answer>) -> Result<Vec<Marks>, Memory>
+    requires marks { All IsMarks answers.items }
+    ensures { IfOk result (λ all. map body_of answers.items ≡ map as_marks all.items) }
+{
+    let mut all = Vec::with_capacity(alloc, answers.len())?;
+    for answer in answers {
+        match answer.body {
+            Body::Marks(marks) => all.push(marks)?,
+            Body::Places(_) => unreachable!(),
+            Body::Total(_) => unreachable!(),
+            Body::Tops(_) => unreachable!(),
+        }
+    }
+    Ok(all)
 }
 
 // The answers of all questions and triggers on all entries, with the live ones that came before.
-pub(crate) fn answers_on_all(
+pub(crate) fn answers_on_all<R: Threads + Sync>(
+    rt: &R,
     segments: &mut Segments,
     alloc: Global,
     plan: &LivePlan,
@@ -106,5 +188,9 @@ pub(crate) fn answers_on_all(
     ensures alerts { IfOk result (λ loaded. loaded.alerts ≡ map (marks_on segments.old.shape (entries_of segments.old)) plan.now.triggers.items) }
     ensures lives { IfOk result (λ loaded. loaded.lives ≡ lives.items) }
 {
-    answer_counted::<Brand>(segments, alloc, plan, lives, Blank::new(1))
+    let asks = plan.questions(alloc)?;
+    let mut finals = answers_to(rt, segments, alloc, asks)?;
+    let fired = finals.split_off(plan.asks.len())?;
+    let alerts = marks_in(alloc, fired)?;
+    Ok(Loaded::new(finals, alerts, lives))
 }

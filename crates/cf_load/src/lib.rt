@@ -11,6 +11,7 @@ mod loads;
 mod plan;
 mod prior;
 mod reader;
+mod readers;
 mod segment_asks;
 mod segments;
 mod tags;

@@ -4,9 +4,11 @@ ghost use Rattle.cf_row.specs.Row.{Fits, RowValue};
 ghost use Rattle.cf_load.specs.Segments.{SegmentsValue, HoldsRows, KeepsAll};
 ghost use Rattle.cf_load.specs.Loaders.{IsFresh, IsLoading, IsBatched, IsRefused, IsFinished};
 ghost use Rattle.cf_load.specs.Planned.{IsPlan};
+ghost use Rattle.cf_load.specs.Priors.{KnowsBefore};
 
 use crate::finals::answers_on_all;
 use crate::prior::FoundBefore;
+use crate::reader::Beside;
 use crate::{LivePlan, LoadFault, Segments};
 use cf_outside::Gate;
 use cf_plain::{Live, Loaded};
@@ -54,7 +56,7 @@ impl Loader {
         })
     }
 
-    // Loads a batch. Refused, the loader is as it was but for what the live questions found before the current segment.
+    // Loads a batch. Refused, the loader is as it was, but for what the live questions found before the segment that is current now.
     fn append<R: Threads + Sync, G: Gate>(
         &mut self,
         rt: &R,
@@ -71,13 +73,20 @@ impl Loader {
         ensures batched { (before : List RowValue) → IsLoading segments.old before self.old
             → MatchResult result (λ _. IsBatched before rows.now self.old self.new segments.old segments.new) (IsRefused before rows.now segments.old segments.new) }
         ensures stopped { OnErr result (self.new ≡ record self.old { found = self.new.found }) }
+        ensures known { (before : List RowValue) → IsLoading segments.old before self.old → KnowsBefore segments.new self.new.plan self.new.found }
     {
         if self.count as usize + rows.len() > segments.room() as usize {
             return Err(LoadFault::Full);
         }
         segments.make_ready(alloc, self.count, &self.plan, &mut self.found)?;
-        let batch = self.count / 4096;
-        let mut more = segments.load(rt, alloc, rows, &self.plan, &self.found, gate, batch)?;
+        let beside = Beside {
+            alloc,
+            gate,
+            plan: &self.plan,
+            prior: &self.found,
+            batch: self.count / 4096,
+        };
+        let mut more = segments.load(rt, rows, &beside)?;
         self.lives.append(&mut more)?;
         self.count += rows.len() as u32;
         Ok(())
@@ -88,7 +97,7 @@ impl Loader {
     /// segment is full, it is closed first. Beside the batch a reader makes the plan's rounds, each asking the live questions
     /// once, of all entries so far, anywhere among the batch's appends. A writer calls the gate before each append, and the
     /// reader after each round, also if no question is live. It waits for its own workers. After a refusal the loader is
-    /// stopped.
+    /// stopped, and still knows what the live questions found in the closed segments.
     pub fn batch<R: Threads + Sync, G: Gate>(
         &mut self,
         rt: &R,
@@ -105,6 +114,7 @@ impl Loader {
         ensures batched { (before : List RowValue) → IsLoading segments.old before self.old
             → MatchResult result (λ _. IsBatched before rows.now self.old self.new segments.old segments.new) (IsRefused before rows.now segments.old segments.new) }
         ensures stopped { OnErr result (self.new ≡ record self.old { stopped = true; found = self.new.found }) }
+        ensures known { (before : List RowValue) → IsLoading segments.old before self.old → KnowsBefore segments.new self.new.plan self.new.found }
     {
         let answer = self.append(rt, alloc, segments, rows, gate);
         self.stopped = answer.is_err();
@@ -118,14 +128,20 @@ impl Loader {
         self.stopped
     }
 
-    /// Asks every question and every trigger of all entries. It answers with the live answers of all batches.
-    pub fn finish(self, alloc: Global, segments: &mut Segments) -> Result<Loaded, Memory>
+    /// Asks every question and every trigger of all entries, each in a thread of its own where one can be made. It answers with
+    /// the live answers of all batches.
+    pub fn finish<R: Threads + Sync>(
+        self,
+        rt: &R,
+        alloc: Global,
+        segments: &mut Segments,
+    ) -> Result<Loaded, Memory>
         requires loading { (rows : List RowValue) × IsLoading segments.old rows self }
         ensures { (rows : List RowValue) → IsLoading segments.old rows self
             → MatchResult result (IsFinished rows self segments.old segments.new) (λ _. KeepsAll segments.old segments.new × HoldsRows segments.new rows) }
     {
         let _lawful = segments.shape();
         let Loader { plan, lives, .. } = self;
-        answers_on_all(segments, alloc, &plan, lives)
+        answers_on_all(rt, segments, alloc, &plan, lives)
     }
 }

@@ -73,7 +73,8 @@ fn load_batches<R: Threads + Sync, G: Gate>(
 /// batch. Beside each batch a reader makes the plan's rounds, each asking the live questions once, of all entries so far. The rounds
 /// of a batch come after the appends of the batches before it and before those of the batches behind it, anywhere among its own. A
 /// writer calls the gate before each append, and the reader after each round, also if no question is live. At the end every
-/// question and every trigger is asked of all entries. It waits for its own workers.
+/// question and every trigger is asked of all entries, each in a thread of its own where one can be made. It waits for its own
+/// workers.
 pub fn load<R: Threads + Sync, G: Gate>(
     rt: &R,
     alloc: Global,
@@ -92,5 +93,5 @@ pub fn load<R: Threads + Sync, G: Gate>(
     }
     let mut loader = Loader::new(alloc, segments, plan)?;
     load_batches(rt, alloc, segments, rows, &mut loader, gate)?;
-    Ok(loader.finish(alloc, segments)?)
+    Ok(loader.finish(rt, alloc, segments)?)
 }

@@ -1,7 +1,7 @@
 // What is asked of a log that is loaded.
 ghost use Rattle.std.specs.Prelude.{◌≡◌, ◌<◌, ◌↔◌, IsTrue, IfOk, All};
 ghost use Rattle.cf_plain.specs.Asks.{Suits, SuitsTrigger};
-ghost use Rattle.cf_load.specs.Planned.{IsPlan, IsSamePlan};
+ghost use Rattle.cf_load.specs.Planned.{IsPlan, IsSamePlan, asks_of};
 
 use cf_fold::Trigger;
 use cf_plain::{Ask, suits};
@@ -66,6 +66,17 @@ impl LivePlan {
         ensures { IsTrue result ↔ (self.now.rounds ≡ 0) }
     {
         self.rounds == 0
+    }
+
+    // All that is asked at the end.
+    pub(crate) fn questions(&self, alloc: Global) -> Result<Vec<Ask>, Memory>
+        ensures { IfOk result (λ asks. asks.items ≡ asks_of self.now) }
+    {
+        let mut asks = copies(alloc, &self.asks)?;
+        for trigger in &self.triggers {
+            asks.push(Ask::Fired(*trigger))?;
+        }
+        Ok(asks)
     }
 
     /// One more of the same.

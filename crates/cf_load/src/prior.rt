@@ -1,31 +1,33 @@
 // What questions find in logs that stand one behind the other.
-ghost use Rattle.std.specs.Prelude.{◌≡◌, ◌+◌, ◌*◌, ◌<◌, ◌≤◌, ◌^◌, ◌++◌, [], All, List, length, IfOk, IfErr};
-ghost use Rattle.std.specs.List.{AllZip, flat_map};
+ghost use Rattle.std.specs.Prelude.{◌≡◌, ◌+◌, ◌<◌, ◌≤◌, ◌^◌, ◌++◌, [], List, IfOk};
 ghost use Rattle.cf_row.specs.declared.row.Entry.{Entry};
 ghost use Rattle.cf_shape.specs.Lanes.{ShapeValue};
 ghost use Rattle.cf_plain.specs.Asks.{Suits};
 ghost use Rattle.cf_plain.specs.Answered.{answer_on};
 ghost use Rattle.cf_plain.specs.Segments.{finding_in};
 ghost use Rattle.cf_table.specs.Values.{IsOf};
+ghost use Rattle.cf_table.specs.Moves.{HoldsAllBooks};
 ghost use Rattle.cf_table.specs.Loads.{CountsLoads};
+ghost use Rattle.cf_walk.specs.Walks.{OnlyWalked};
 ghost use Rattle.cf_query.specs.Asking.{HasAsked};
 ghost use Rattle.cf_query.specs.Walking.{AsksOne, AsksBucket};
-ghost use Rattle.cf_load.specs.Costs.{CountLoads, bucket_steps, bucket_steps_in, key_steps, key_steps_in};
+ghost use Rattle.cf_load.specs.Costs.{bucket_steps, key_steps};
 ghost use Rattle.cf_load.specs.Planned.{IsPlan, findings_on};
-ghost use Rattle.cf_load.specs.Priors.{HasFound, entries_before};
-ghost use Rattle.cf_load.specs.Segments.{IsSegment, KeepsSegment, seen_of};
+ghost use Rattle.cf_load.specs.Priors.{HasFound, IsFoundBefore, entries_before};
+ghost use Rattle.cf_load.specs.Readers.{IsReader};
+ghost use Rattle.cf_load.specs.Segments.{Keeps};
 
 use crate::LivePlan;
 use crate::segments::Segment;
 use cf_fold::Quad;
 use cf_plain::{Answer, Ask, Finding, Groups, Places};
-use cf_query::finding;
+use cf_query::{finding_seen, tail};
 use cf_row::Memory;
 use cf_shape::Shape;
-use cf_table::{MultiLog, Pass, Steps};
+use cf_table::{MultiLog, Pass, Root, Steps};
 use std::alloc::Global;
 use std::snapshot::Snapshot;
-use std::sync::ledger::Ledger;
+use std::sync::ledger::{Blank, Ledger};
 
 // What each live question found in the segments before the current one.
 #[derive(Drop)]
@@ -39,7 +41,7 @@ pub(crate) struct FoundBefore {
 }
 
 // What the question finds in no row.
-fn nothing(alloc: Global, ask: &Ask) -> Finding
+pub(crate) fn nothing(alloc: Global, ask: &Ask) -> Finding
     ensures { (shape : ShapeValue) → result ≡ finding_in shape ask.now [] }
 {
     match ask {
@@ -81,8 +83,9 @@ impl FoundBefore {
     }
 }
 
-// What the question finds in some entries and in those of the log behind them, where it found that in the first.
-fn find_behind<P: Pass, L: Ledger>(
+// What the question finds in some entries and in those of the log behind them that the pass has seen, where it found that in the
+// first.
+pub(crate) fn find_behind<P: Pass, L: Ledger>(
     log: &MultiLog,
     alloc: Global,
     pass: &mut P,
@@ -90,23 +93,24 @@ fn find_behind<P: Pass, L: Ledger>(
     before: (u32, Finding),
     steps: &mut Steps<L>,
 ) -> Result<(u32, Finding), Memory>
-    requires of { IsOf (P.held pass.old) log.now }
+    requires reader { IsReader log.now (P.held pass.old) }
     requires suits { Suits log.now.shape ask.now }
     requires few { before.0 + log.now.shape.capacity ≤ 2 ^ 20 }
     requires found { (entries : List Entry) × HasFound log.now.shape ask.now entries before.0 before.1 }
-    ensures asked { HasAsked log.now.shape (P.held pass.old) (P.held pass.new) }
-    ensures found { (entries : List Entry) → HasFound log.now.shape ask.now entries before.0 before.1 → IfOk result (λ found. HasFound log.now.shape ask.now (entries ++ (P.held pass.new).view.seen) found.0 found.1) }
-    ensures steps { AsksOne ask.now → IfOk result (λ _. steps.new ≤ steps.old + key_steps log.now.shape ask.now (P.held pass.new).view.seen) }
-    ensures bucket { AsksBucket ask.now → IfOk result (λ _. steps.new ≤ steps.old + bucket_steps log.now.shape ask.now (P.held pass.new).view.seen) }
+    ensures walked { OnlyWalked (P.held pass.old) (P.held pass.new) }
+    ensures found { (entries : List Entry) → HasFound log.now.shape ask.now entries before.0 before.1
+        → IfOk result (λ found. HasFound log.now.shape ask.now (entries ++ (P.held pass.old).view.seen) found.0 found.1) }
+    ensures steps { AsksOne ask.now → IfOk result (λ _. steps.new + 1 ≤ steps.old + key_steps log.now.shape ask.now (P.held pass.old).view.seen) }
+    ensures bucket { AsksBucket ask.now → IfOk result (λ _. steps.new + 1 ≤ steps.old + bucket_steps log.now.shape ask.now (P.held pass.old).view.seen) }
     ensures loads { CountsLoads (P.held pass.old) (P.held pass.new) steps.old steps.new }
 {
     let (base, start) = before;
-    let (tail, more) = finding(log, alloc, pass, ask, steps)?;
+    let more = finding_seen(log, alloc, pass, ask, steps)?;
     let found = start.join(alloc, base, more)?;
-    Ok((base + tail, found))
+    Ok((base + pass.covered(), found))
 }
 
-// The question's answer on some entries and those of the log behind them.
+// The question's answer on some entries and those of the log behind them, of which the read tail tells.
 pub(crate) fn answer_behind<P: Pass, L: Ledger>(
     log: &MultiLog,
     alloc: Global,
@@ -120,83 +124,47 @@ pub(crate) fn answer_behind<P: Pass, L: Ledger>(
     requires few { before.0 + log.now.shape.capacity ≤ 2 ^ 20 }
     requires found { (entries : List Entry) × HasFound log.now.shape ask.now entries before.0 before.1 }
     ensures asked { HasAsked log.now.shape (P.held pass.old) (P.held pass.new) }
-    ensures answer { (entries : List Entry) → HasFound log.now.shape ask.now entries before.0 before.1 → IfOk result (λ answer. answer ≡ answer_on log.now.shape (entries ++ (P.held pass.new).view.seen) ask.now) }
+    ensures answer { (entries : List Entry) → HasFound log.now.shape ask.now entries before.0 before.1
+        → IfOk result (λ answer. answer ≡ answer_on log.now.shape (entries ++ (P.held pass.new).view.seen) ask.now) }
     ensures steps { AsksOne ask.now → IfOk result (λ _. steps.new ≤ steps.old + key_steps log.now.shape ask.now (P.held pass.new).view.seen) }
     ensures bucket { AsksBucket ask.now → IfOk result (λ _. steps.new ≤ steps.old + bucket_steps log.now.shape ask.now (P.held pass.new).view.seen) }
     ensures loads { CountsLoads (P.held pass.old) (P.held pass.new) steps.old steps.new }
 {
+    tail(log, pass, steps);
     let (tail, found) = find_behind(log, alloc, pass, ask, before, steps)?;
     let body = found.body(alloc, ask)?;
     Ok(Answer { tail, body })
 }
 
-// What the question finds in the segments, and how many entries they have.
-pub(crate) fn found_in<L: Ledger>(
+// What each live question finds in what was before and in the entries of the log behind it, which the root has seen, where a round
+// asks them. Nobody reads how many steps it made.
+pub(crate) fn findings_behind<L: Ledger>(
+    log: &MultiLog,
     alloc: Global,
-    shape: &Shape,
-    segments: &mut [Segment],
-    ask: &Ask,
-    steps: &mut Steps<L>,
-) -> Result<(u32, Finding), Memory>
-    requires each { All (IsSegment shape.now) segments.old }
-    requires suits { Suits shape.now ask.now }
-    requires few { shape.now.capacity * length segments.old ≤ 2 ^ 20 }
-    ensures kept { AllZip KeepsSegment segments.old segments.new }
-    ensures found { IfOk result (λ found. HasFound shape.now ask.now (flat_map seen_of segments.old) found.0 found.1) }
-    ensures few { IfOk result (λ found. found.0 ≤ shape.now.capacity * length segments.old) }
-    ensures steps { AsksOne ask.now → IfOk result (λ _. steps.new ≤ steps.old + key_steps_in shape.now ask.now segments.old) }
-    ensures bucket { AsksBucket ask.now → IfOk result (λ _. steps.new ≤ steps.old + bucket_steps_in shape.now ask.now segments.old) }
-    ensures loads { CountLoads segments.old segments.new steps.old steps.new }
-{
-    let _shape = shape;
-    let mut found = (0, nothing(alloc, ask));
-    for segment in segments.iter_mut() {
-        found = find_behind(&segment.log, alloc, &mut segment.root, ask, found, steps)?;
-    }
-    Ok(found)
-}
-
-// What each live question finds in the segments.
-fn findings_in<L: Ledger>(
-    alloc: Global,
-    shape: &Shape,
-    segments: &mut [Segment],
+    root: &mut Root,
     plan: &LivePlan,
-    steps: &mut Steps<L>,
+    prior: &FoundBefore,
+    blank: Blank,
 ) -> Result<Vec<Finding>, Memory>
-    requires each { All (IsSegment shape.now) segments.old }
-    requires plan { IsPlan shape.now plan.now }
-    requires few { shape.now.capacity * length segments.old ≤ 2 ^ 20 }
-    ensures kept { AllZip KeepsSegment segments.old segments.new }
-    ensures found { IfOk result (λ found. found.items ≡ findings_on shape.now plan.now (flat_map seen_of segments.old)) }
-    ensures loads { CountLoads segments.old segments.new steps.old steps.new }
+    requires of { IsOf root.old log.now × HoldsAllBooks log.now.shape root.old.view }
+    requires plan { IsPlan log.now.shape plan.now }
+    requires prior { IsFoundBefore log.now.shape plan.now prior.now }
+    requires blank { (blank.name ≡ L.name) × (blank.parts ≡ L.parts) × (0 < L.parts) }
+    ensures keeps { Keeps root.old root.new }
+    ensures found { 0 < plan.now.rounds → IfOk result (λ found. found.items ≡ findings_on log.now.shape plan.now (entries_before prior.now ++ root.old.view.seen)) }
 {
+    let mut steps = Steps::<L>::new(blank);
     let mut findings = Vec::new(alloc);
-    for place in &plan.lives {
-        let question = &plan.asks[*place as usize];
-        let (_, found) = found_in(alloc, shape, segments, question, steps)?;
+    if plan.makes_no_round() {
+        return Ok(findings);
+    }
+    tail(log, root, &mut steps);
+    for turn in 0..plan.lives.len() {
+        let place = plan.lives[turn];
+        let question = &plan.asks[place as usize];
+        let before = (prior.base, prior.findings[turn].copy(alloc)?);
+        let (_, found) = find_behind(log, alloc, root, question, before, &mut steps)?;
         findings.push(found)?;
     }
     Ok(findings)
-}
-
-// What each live question finds in the segments, where a round asks them.
-pub(crate) fn findings_due<L: Ledger>(
-    alloc: Global,
-    shape: &Shape,
-    segments: &mut [Segment],
-    plan: &LivePlan,
-    steps: &mut Steps<L>,
-) -> Result<Vec<Finding>, Memory>
-    requires each { All (IsSegment shape.now) segments.old }
-    requires plan { IsPlan shape.now plan.now }
-    requires few { shape.now.capacity * length segments.old ≤ 2 ^ 20 }
-    ensures kept { AllZip KeepsSegment segments.old segments.new }
-    ensures found { 0 < plan.now.rounds → IfOk result (λ found. found.items ≡ findings_on shape.now plan.now (flat_map seen_of segments.old)) }
-    ensures loads { CountLoads segments.old segments.new steps.old steps.new }
-{
-    if plan.makes_no_round() {
-        return Ok(Vec::new(alloc));
-    }
-    findings_in(alloc, shape, segments, plan, steps)
 }

@@ -1,10 +1,10 @@
 // The reader asks its live questions while the writers append a batch.
-ghost use Rattle.std.specs.Prelude.{◌≡◌, ◌+◌, ◌<◌, ◌++◌, IfOk};
+ghost use Rattle.std.specs.Prelude.{◌≡◌, ◌+◌, ◌<◌, IfOk};
 ghost use Rattle.cf_table.specs.Loads.{CountsLoads};
-ghost use Rattle.cf_table.specs.Values.{IsOf};
-ghost use Rattle.cf_load.specs.Loading.{AsksBatch, AsksSome};
-ghost use Rattle.cf_load.specs.Planned.{IsPlan, HasRead};
-ghost use Rattle.cf_load.specs.Priors.{IsFoundBefore, entries_before};
+ghost use Rattle.cf_table.specs.Values.{IsOf, PassValue};
+ghost use Rattle.cf_load.specs.Planned.{IsPlan};
+ghost use Rattle.cf_load.specs.Priors.{IsFoundBefore};
+ghost use Rattle.cf_load.specs.Rounds.{HasAskedAll, HasAskedSome};
 
 use crate::LivePlan;
 use crate::prior::{FoundBefore, answer_behind};
@@ -13,42 +13,48 @@ use cf_plain::Live;
 use cf_row::Memory;
 use cf_table::{MultiLog, ReaderPass, Steps};
 use std::alloc::Global;
-use std::snapshot::Snapshot;
 use std::sync::ledger::{Blank, Ledger};
 
+// What is asked beside a batch.
+#[derive(Drop)]
+pub(crate) struct Beside<'a, G: Gate> {
+    pub(crate) alloc: Global,
+    pub(crate) gate: &'a G,
+    pub(crate) plan: &'a LivePlan,
+    // What the live questions found before the log's first entry.
+    pub(crate) prior: &'a FoundBefore,
+    // The number of the batch.
+    pub(crate) batch: u32,
+}
+
 // Asks each live question once, as that round beside a batch, of the entries before the log and of those in it. The answers come
-// after those of earlier rounds, which began with the reader as it was at `start`.
-fn ask_round<L: Ledger>(
+// after those of earlier rounds.
+fn ask_round<G: Gate, L: Ledger>(
     log: &MultiLog,
-    alloc: Global,
-    plan: &LivePlan,
-    prior: &FoundBefore,
-    at: (u32, u32),
-    start: &Snapshot<ReaderPass>,
+    beside: &Beside<G>,
+    round: u32,
     reader: &mut ReaderPass,
     answers: &mut Vec<Live>,
     steps: &mut Steps<L>,
 ) -> Result<(), Memory>
     requires of { IsOf reader.old log.now }
-    requires plan { IsPlan log.now.shape plan.now }
-    requires prior { IsFoundBefore log.now.shape plan.now prior.now }
-    requires due { 0 < plan.now.rounds }
-    requires asks { AsksSome log.now.shape plan.now.asks.items plan.now.lives.items at.1 0 at.0 (entries_before prior.now ++ start.now.value.view.seen) (entries_before prior.now ++ reader.old.view.seen) answers.old.items }
-    requires read { HasRead prior.now.base start.now.value reader.old answers.old.items }
+    requires plan { IsPlan log.now.shape beside.now.plan.now }
+    requires prior { IsFoundBefore log.now.shape beside.now.plan.now beside.now.prior.now }
+    requires due { 0 < beside.now.plan.now.rounds }
     ensures of { IsOf reader.new log.now }
-    ensures asks { IfOk result (λ _. AsksSome log.now.shape plan.now.asks.items plan.now.lives.items (at.1 + 1) 0 at.0 (entries_before prior.now ++ start.now.value.view.seen) (entries_before prior.now ++ reader.new.view.seen) answers.new.items) }
-    ensures read { IfOk result (λ _. HasRead prior.now.base start.now.value reader.new answers.new.items) }
+    ensures asked { (start : PassValue) → HasAskedSome log.now.shape beside.now.plan.now beside.now.prior.now beside.now.batch round 0 start reader.old answers.old.items
+        → IfOk result (λ _. HasAskedSome log.now.shape beside.now.plan.now beside.now.prior.now beside.now.batch (round + 1) 0 start reader.new answers.new.items) }
     ensures loads { CountsLoads reader.old reader.new steps.old steps.new }
 {
-    let (batch, round) = at;
-    let _start = start;
+    let plan = beside.plan;
+    let prior = beside.prior;
     for turn in 0..plan.lives.len() {
         let place = plan.lives[turn];
         let question = &plan.asks[place as usize];
-        let before = (prior.base, prior.findings[turn].copy(alloc)?);
-        let answer = answer_behind(log, alloc, reader, question, before, steps)?;
+        let before = (prior.base, prior.findings[turn].copy(beside.alloc)?);
+        let answer = answer_behind(log, beside.alloc, reader, question, before, steps)?;
         answers.push(Live {
-            batch,
+            batch: beside.batch,
             round,
             ask: place,
             answer,
@@ -60,37 +66,21 @@ fn ask_round<L: Ledger>(
 // Makes all rounds beside a batch.
 fn ask_rounds<G: Gate, L: Ledger>(
     log: &MultiLog,
-    alloc: Global,
-    gate: &G,
-    plan: &LivePlan,
-    prior: &FoundBefore,
-    batch: u32,
+    beside: &Beside<G>,
     reader: &mut ReaderPass,
     steps: &mut Steps<L>,
 ) -> Result<Vec<Live>, Memory>
     requires of { IsOf reader.old log.now }
-    requires plan { IsPlan log.now.shape plan.now }
-    requires prior { IsFoundBefore log.now.shape plan.now prior.now }
+    requires plan { IsPlan log.now.shape beside.now.plan.now }
+    requires prior { IsFoundBefore log.now.shape beside.now.plan.now beside.now.prior.now }
     ensures of { IsOf reader.new log.now }
-    ensures asks { IfOk result (λ more. AsksBatch log.now.shape plan.now.asks.items plan.now.lives.items plan.now.rounds batch (entries_before prior.now ++ reader.old.view.seen) (entries_before prior.now ++ reader.new.view.seen) more.items) }
-    ensures read { IfOk result (λ more. HasRead prior.now.base reader.old reader.new more.items) }
+    ensures asked { IfOk result (λ more. HasAskedAll log.now.shape beside.now.plan.now beside.now.prior.now beside.now.batch reader.old reader.new more.items) }
     ensures loads { CountsLoads reader.old reader.new steps.old steps.new }
 {
-    let start = Snapshot::of(reader);
-    let mut answers = Vec::new(alloc);
-    for round in 0..plan.rounds {
-        ask_round(
-            log,
-            alloc,
-            plan,
-            prior,
-            (batch, round),
-            &start,
-            reader,
-            &mut answers,
-            steps,
-        )?;
-        gate.after_ask(round);
+    let mut answers = Vec::new(beside.alloc);
+    for round in 0..beside.plan.rounds {
+        ask_round(log, beside, round, reader, &mut answers, steps)?;
+        beside.gate.after_ask(round);
     }
     Ok(answers)
 }
@@ -98,22 +88,17 @@ fn ask_rounds<G: Gate, L: Ledger>(
 // As `ask_rounds`. Nobody reads how many steps it made.
 pub(crate) fn ask_counted<G: Gate, L: Ledger>(
     log: &MultiLog,
-    alloc: Global,
-    gate: &G,
-    plan: &LivePlan,
-    prior: &FoundBefore,
-    batch: u32,
+    beside: &Beside<G>,
     reader: &mut ReaderPass,
     blank: Blank,
 ) -> Result<Vec<Live>, Memory>
     requires of { IsOf reader.old log.now }
-    requires plan { IsPlan log.now.shape plan.now }
-    requires prior { IsFoundBefore log.now.shape plan.now prior.now }
+    requires plan { IsPlan log.now.shape beside.now.plan.now }
+    requires prior { IsFoundBefore log.now.shape beside.now.plan.now beside.now.prior.now }
     requires blank { (blank.name ≡ L.name) × (blank.parts ≡ L.parts) × (0 < L.parts) }
     ensures of { IsOf reader.new log.now }
-    ensures asks { IfOk result (λ more. AsksBatch log.now.shape plan.now.asks.items plan.now.lives.items plan.now.rounds batch (entries_before prior.now ++ reader.old.view.seen) (entries_before prior.now ++ reader.new.view.seen) more.items) }
-    ensures read { IfOk result (λ more. HasRead prior.now.base reader.old reader.new more.items) }
+    ensures asked { IfOk result (λ more. HasAskedAll log.now.shape beside.now.plan.now beside.now.prior.now beside.now.batch reader.old reader.new more.items) }
 {
     let mut steps = Steps::<L>::new(blank);
-    ask_rounds(log, alloc, gate, plan, prior, batch, reader, &mut steps)
+    ask_rounds(log, beside, reader, &mut steps)
 }

@@ -269,11 +269,27 @@ impl Segments {
         if self.closed.len() + 1 == self.most as usize {
             return Err(TurnFault::Spent);
         }
-        let shape = self.current.log.shape().copy(alloc)?;
-        let next = Segment::open(alloc, shape)?;
+        let next = self.open_next(alloc)?;
+        self.turn_to(next);
+        Ok(())
+    }
+
+    // A segment of the same shape, with no row.
+    pub(crate) fn open_next(&self, alloc: Global) -> Result<Segment, Memory>
+        ensures { IfOk result (IsOpened self.now.shape) }
+    {
+        let shape = self.shape().copy(alloc)?;
+        Segment::open(alloc, shape)
+    }
+
+    // Closes the current segment, and goes on in the next, which has no row.
+    pub(crate) fn turn_to(&mut self, next: Segment)
+        requires next { IsOpened self.old.shape next }
+        requires room { length self.old.closed + 1 < self.old.most }
+        ensures { HasTurned self.old self.new }
+    {
         let last = mem::replace(&mut self.current, next);
         self.closed.push_reserved(last);
-        Ok(())
     }
 
     // All entries, and room for as many seals as there are segments.
@@ -324,7 +340,8 @@ impl Segments {
     /// Reads the tag of each entry and no other word of it: the entries' numbers and writers, end to end, and a seal of each
     /// segment. After want of memory the segments come back, and only their roots' last looks are others.
     pub fn seal(mut self, alloc: Global) -> Result<Sealing, Segments>
-        ensures { MatchResult result (λ sealing. (sealing.nums.items ≡ nums_of (entries_of self)) × (sealing.writers.items ≡ order_of (entries_of self)) × (sealing.seals.items ≡ map sealed (all_of self))) (HaveLooked self) }
+        ensures { MatchResult result (λ sealing. (sealing.nums.items ≡ nums_of (entries_of self)) × (sealing.writers.items ≡ order_of (entries_of self))
+            × (sealing.seals.items ≡ map sealed (all_of self))) (HaveLooked self) }
     {
         let Ok(read) = self.read_columns::<Brand>(alloc, Blank::new(1)) else {
             return Err(self);

@@ -413,7 +413,7 @@ fn load_in_two<R: Threads + Sync + Abort>(
     answer.expect(rt, "the first batch");
     let answer = loader.batch(rt, alloc, &mut segments, rest, &FreeGate);
     answer.expect(rt, "the second batch");
-    let loaded = loader.finish(alloc, &mut segments)?;
+    let loaded = loader.finish(rt, alloc, &mut segments)?;
     Ok((segments, loaded))
 }
 

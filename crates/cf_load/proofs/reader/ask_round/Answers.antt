@@ -16,19 +16,21 @@ use Rattle.cf_load.proofs.Tails.{asks_more, asks_round}
 use Rattle.cf_load.proofs.Reading.{get_there, read_more}
 use Rattle.cf_load.proofs.reader.ask_round.Goals as goal
 
+pub loop-turn-init : goal.loop-turn-init
+loop-turn-init g c = record { of = c.requires.of; asked = λ start had. had; loads = omega arith }
+
 pub loop-turn-preserved : goal.loop-turn-preserved
 loop-turn-preserved g c =
     let log = c.args.log.now in
-    let plan = c.args.plan.now in
-    let prior = c.args.prior.now in
+    let plan = c.args.beside.now.plan.now in
+    let prior = c.args.beside.now.prior.now in
     let before : List Entry = entries_before prior in
-    let start = c.args.start.now.value in
     let i = c.loop-turn.turn in
     let m = c.loop-turn.reader in
     let n = c.answer_behind.new.pass in
     let seen : List Entry = (n.view).seen in
     let question : Ask = c.index-question.result.now in
-    let live : Live = record { batch = c.args.at.0; round = c.args.at.1; ask = c.index-place.result.now; answer = c.in_ok-answer.answer } in
+    let live : Live = record { batch = c.args.beside.now.batch; round = c.args.round; ask = c.index-place.result.now; answer = c.in_ok-answer.answer } in
     let items : c.push.new.self.items ≡ c.loop-turn.answers.items ++ live ∷ [] = search rules in
     let there : i < length plan.lives.items = search rules in
     let place : live.ask ≡ get_or plan.lives.items i live.ask = c.index-place.ensures in
@@ -52,25 +54,30 @@ loop-turn-preserved g c =
     record {
       of = search rules;
       loads = (let now = c.loop-turn.invariant.loads in let more = c.in_ok-answer.ensures.loads in omega (arith, now, more));
-      asks = subst (λ (xs : List Live). AsksSome log.shape plan.asks.items plan.lives.items c.args.at.1 (i + 1) c.args.at.0 (before ++ (start.view).seen)
-          (before ++ seen) xs) (sym items)
-          (asks_more log.shape plan.asks.items plan.lives.items c.args.at.1 i c.args.at.0 (before ++ (start.view).seen) (before ++ (m.view).seen)
-          (before ++ seen) c.loop-turn.answers.items live c.loop-turn.invariant.asks there
-          (begins_behind before (m.view).seen seen made.longer) refl refl place tail body);
-      read = subst (HasRead prior.base start n) (sym items)
-          (read_more log.shape prior.base start m n c.loop-turn.answers.items live c.loop-turn.invariant.read made
-          (tail ∙ (length-append before seen ∙ ap (λ (k : ℕ). k + length seen) (sym c.requires.prior.base_is))));
+      asked = λ start had. let v = c.loop-turn.invariant.asked start had in record {
+        asks = subst (λ (xs : List Live). AsksSome log.shape plan.asks.items plan.lives.items c.args.round (i + 1) c.args.beside.now.batch
+            (before ++ (start.view).seen) (before ++ seen) xs) (sym items)
+            (asks_more log.shape plan.asks.items plan.lives.items c.args.round i c.args.beside.now.batch (before ++ (start.view).seen)
+            (before ++ (m.view).seen) (before ++ seen) c.loop-turn.answers.items live v.asks there
+            (begins_behind before (m.view).seen seen made.longer) refl refl place tail body);
+        read = subst (HasRead prior.base start n) (sym items)
+            (read_more log.shape prior.base start m n c.loop-turn.answers.items live v.read made
+            (tail ∙ (length-append before seen ∙ ap (λ (k : ℕ). k + length seen) (sym c.requires.prior.base_is))));
+      };
     }
 
-pub returns-clause-asks : goal.returns-clause-asks
-returns-clause-asks g c =
+pub returns-clause-asked : goal.returns-clause-asked
+returns-clause-asked g c start had =
     let log = c.args.log.now in
-    let plan = c.args.plan.now in
-    let before : List Entry = entries_before c.args.prior.now in
-    let start = c.args.start.now.value in
+    let plan = c.args.beside.now.plan.now in
+    let before : List Entry = entries_before c.args.beside.now.prior.now in
     let i = c.loop-turn.turn in
     let whole : i ≡ length plan.lives.items = search rules in
-    asks_round log.shape plan.asks.items plan.lives.items c.args.at.1 c.args.at.0 (before ++ (start.view).seen)
-    (before ++ (c.loop-turn.reader.view).seen) c.loop-turn.answers.items
-    (subst (λ k. AsksSome log.shape plan.asks.items plan.lives.items c.args.at.1 k c.args.at.0 (before ++ (start.view).seen)
-    (before ++ (c.loop-turn.reader.view).seen) c.loop-turn.answers.items) whole c.loop-turn.invariant.asks)
+    let v = c.loop-turn.invariant.asked start had in
+    record {
+      asks = asks_round log.shape plan.asks.items plan.lives.items c.args.round c.args.beside.now.batch (before ++ (start.view).seen)
+          (before ++ (c.loop-turn.reader.view).seen) c.loop-turn.answers.items
+          (subst (λ k. AsksSome log.shape plan.asks.items plan.lives.items c.args.round k c.args.beside.now.batch (before ++ (start.view).seen)
+          (before ++ (c.loop-turn.reader.view).seen) c.loop-turn.answers.items) whole v.asks);
+      read = v.read;
+    }

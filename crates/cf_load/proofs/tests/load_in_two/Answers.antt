@@ -53,4 +53,4 @@ finish-requires g c =
     rw c.expect.ensures at (c.batch-answer.ensures.batched [] begun) in
     let more : IsBatched first rest c.batch-answer.new.self c.batch-answer-2.new.self c.batch-answer.new.segments c.batch-answer-2.new.segments =
     rw c.expect-2.ensures at (c.batch-answer-2.ensures.batched first made.loading) in
-    record { loading = (first ++ rest, more.loading) }
+    (search rules, (first ++ rest, more.loading))

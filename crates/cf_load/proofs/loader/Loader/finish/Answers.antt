@@ -5,7 +5,7 @@ use Rattle.cf_load.proofs.Loaders.{finishes_if}
 use Rattle.cf_load.proofs.loader.Loader.finish.Goals as goal
 
 pub returns : goal.returns
-returns c rows is =
+returns g c rows is =
     let inside = c.self.inside in
     let s = c.args.segments.now in
     let t = c.answers_on_all.new.segments in
