@@ -1,8 +1,8 @@
 -- A log is filled row by row.
-use Rattle.std.proofs.Common.{append-nil, ◌≡◌, ◌⊎◌, inl, inr, ℕ, ◌+◌, ◌*◌, ◌<◌, ◌≤◌, ◌%◌, min, Bool, true, false, List, [], ◌∷◌, ◌++◌, length, map, All, Result, Ok, Err, MatchResult, refl, sym, ap, ap₂, subst, ◌∙◌, arith, length-append, mul_comm, ◌^◌}
+use Rattle.std.proofs.Common.{append-nil, ◌≡◌, ◌⊎◌, inl, inr, ℕ, ◌+◌, ◌*◌, ◌<◌, ◌≤◌, ◌%◌, Bool, true, false, List, [], ◌++◌, length, map, All, Result, Ok, Err, MatchResult, refl, sym, ap, ap₂, subst, ◌∙◌, arith, length-append, mul_comm, ◌^◌}
 use Rattle.std.proofs.lemmas.Bool.{both_ways, false_from_ne_true}
 use Rattle.std.proofs.lemmas.Bool.Decides.{leb_tells}
-use Rattle.std.proofs.lemmas.List.{append_assoc, drop_at}
+use Rattle.std.proofs.lemmas.List.{drop_at}
 use Rattle.std.proofs.lemmas.List.Elements.{All-nil, All-drop}
 use Rattle.cf_row.specs.declared.row.Entry.{Entry}
 use Rattle.cf_row.specs.Row.{RowValue, Fits}
@@ -14,26 +14,26 @@ use Rattle.cf_table.specs.Moves.{SealValue}
 use Rattle.cf_history.specs.Order.{IsLogOf}
 use Rattle.cf_load.specs.Loaders.{LoaderValue, IsFresh, IsLoading, IsBatched, IsRefused, IsFinished}
 use Rattle.cf_load.specs.Loading.{HasAnswered}
-use Rattle.cf_load.specs.Loads.{LacksNodes, room_of}
+use Rattle.cf_load.specs.Loads.{room_of}
 use Rattle.cf_load.specs.Planned.{tails_of, marks_on}
-use Rattle.cf_load.specs.Segments.{SegmentsValue, AllowsSegments, SegmentsGoOn, HoldsRows, KeepsSegment, all_of, entries_of, sealed, told_of}
+use Rattle.cf_load.specs.Segments.{SegmentsValue, SegmentsGoOn, HoldsRows, KeepsSegment, all_of, entries_of, sealed, told_of}
 use Rattle.cf_load.specs.declared.plan.LivePlan.{LivePlan}
+use Rattle.cf_load.specs.declared.segments.Sealing.{Sealing}
 use Rattle.cf_load.specs.declared.loads.LoadFault.{LoadFault}
 use Rattle.cf_load.specs.declared.loads.LoadFault.TheVariants.{Full, NodesFull}
 use Rattle.cf_load.proofs.Batches.{zip_long}
 use Rattle.cf_load.proofs.Chains.{rows_are_log}
 use Rattle.cf_load.proofs.Kept.{kept_base, kept_shape}
-use Rattle.cf_load.proofs.Loaders.{lacks_more, refused_goes}
+use Rattle.cf_load.proofs.Loaders.{refused_goes}
 use Rattle.cf_load.proofs.Loading.{told_more}
 use Rattle.cf_command.specs.declared.words.LogSizes.{LogSizes}
 use Rattle.cf_setup.specs.Setups.{SetupValue}
-use Rattle.cf_run.specs.Filling.{FillingValue, KeepsLog, IsLoadedSo, AreLoaded, HasBatch, AwaitsBatch, IsFilled, LoadsWaiting, IsFilledFor, most_waiting, rows_waiting}
-use Rattle.cf_run.specs.Logs.{IsPlanOf, IsLogClosed, IsUnmade}
+use Rattle.cf_run.specs.Filling.{FillingValue, KeepsLog, IsLoadedSo, AreLoaded, HasBatch, IsFilled, LoadsWaiting, IsFilledFor, most_waiting, rows_waiting}
+use Rattle.cf_run.specs.Logs.{IsPlanOf, IsLogClosed, IsLogSealed, IsUnmade}
 use Rattle.cf_run.specs.Needs.{NeedsMore}
 use Rattle.cf_run.specs.Seals.{AreSeals}
 use Rattle.cf_run.specs.Work.{shape_for}
 use Rattle.cf_run.specs.declared.log.Unmade.{Unmade}
-use Rattle.cf_intake.proofs.MoreRows.{fits_more}
 use Rattle.cf_run.proofs.Sealing.{are_seals, needs_at_most, needs_more}
 
 -- a log just opened has no rows
@@ -99,7 +99,7 @@ module _ (waiting : List RowValue) (s t : SegmentsValue) (old new : LoaderValue)
 pub batch_whole : (s : SegmentsValue) (waiting : List RowValue) (loader : LoaderValue) → HasBatch s waiting loader → loader.count % 4096 ≡ 0
 batch_whole s waiting loader due = ap (λ (n : ℕ). n % 4096) due.loaded.loading.count ∙ due.whole
 
-fit_after : (attrs : List Attr) (before waiting : List RowValue) → All (Fits attrs) (before ++ waiting) → All (Fits attrs) waiting
+pub fit_after : (attrs : List Attr) (before waiting : List RowValue) → All (Fits attrs) (before ++ waiting) → All (Fits attrs) waiting
 fit_after attrs before waiting fit =
     subst (λ (rs : List RowValue). All (Fits attrs) rs) (drop_at before waiting (length before) refl)
     (All-drop (Fits attrs) (length before) (before ++ waiting) fit)
@@ -159,140 +159,6 @@ lack_of s rows loader (inr lacks) stopped = let l = lacks.1.1 in needs_more s.sh
 pub loaded_of : (s : SegmentsValue) (rows : List RowValue) (loader : LoaderValue) → AreLoaded s rows loader → loader.stopped ≡ false → IsLoadedSo s rows loader
 loaded_of s rows loader (inl so) going = so
 loaded_of s rows loader (inr lacks) going = absurd (both_ways loader.stopped going lacks.0)
-
--- one more row
-module _ (f : FillingValue) (rows : List RowValue) (row : RowValue) (is : IsFilled f rows) (fits : Fits (f.segments.shape).schema row) where
-  longer : length (rows ++ row ∷ []) ≡ length rows + 1
-  longer = length-append rows (row ∷ [])
-
-  fit_now : All (Fits (f.segments.shape).schema) (rows ++ row ∷ [])
-  fit_now = fits_more (f.segments.shape).schema rows row is.fit fits
-
-  more_lacks : f.loader.stopped ≡ true → (writer : ℕ) × LacksNodes f.segments (rows ++ row ∷ []) writer
-  more_lacks stopped = let lacks = is.lacking stopped in (lacks.0, lacks_more f.segments rows (row ∷ []) lacks.0 lacks.1)
-
-  -- that is not counted
-  pub over_full : (left : List RowValue) → left ≡ [] → room_of f.segments < f.count → IsFilled (record f { waiting = left }) (rows ++ row ∷ [])
-  over_full left none many =
-      let counted = is.count_is in
-      let long = longer in record {
-        allowed = is.allowed;
-        count_is = omega (arith, many, counted, long);
-        fit = fit_now;
-        going = λ going few. absurd (omega (arith, many, counted, long, few));
-        lacking = more_lacks;
-        idle = λ _. none;
-      }
-
-  -- that is counted, and does not wait
-  pub passes_on : (left : List RowValue) → left ≡ [] → f.count ≤ room_of f.segments → (room_of f.segments < f.count + 1) ⊎ (f.loader.stopped ≡ true)
-      → IsFilled (record f { waiting = left; count = f.count + 1 }) (rows ++ row ∷ [])
-  passes_on left none low why =
-      let counted = is.count_is in
-      let long = longer in record {
-        allowed = is.allowed;
-        count_is = omega (arith, low, counted, long);
-        fit = fit_now;
-        going = λ going few. elim why [
-          | inl many ↦ absurd (omega (arith, many, counted, long, few))
-          | inr stopped ↦ absurd (both_ways f.loader.stopped going stopped)
-        ];
-        lacking = more_lacks;
-        idle = λ _. none;
-      }
-
-  -- that waits
-  module _ (now : List RowValue) (low : f.count + 1 ≤ room_of f.segments) (going : f.loader.stopped ≡ false) (grown : now ≡ f.waiting ++ row ∷ []) where
-    few : length rows + 1 ≤ room_of f.segments
-    few = let counted = is.count_is in omega (arith, counted, low)
-
-    awaits : AwaitsBatch f.segments rows f.waiting f.loader
-    awaits = let less = few in is.going going (omega (arith, less))
-
-    is_next : f.count + 1 ≡ min (length (rows ++ row ∷ [])) (room_of f.segments + 1)
-    is_next = let counted = is.count_is in let long = longer in omega (arith, counted, long, low)
-
-    rows_now : rows ++ row ∷ [] ≡ awaits.before ++ now
-    rows_now = ap (λ (rs : List RowValue). rs ++ row ∷ []) awaits.rows_are ∙ append_assoc awaits.before f.waiting (row ∷ [])
-        ∙ ap (λ (rs : List RowValue). awaits.before ++ rs) (sym grown)
-
-    size_now : length rows + 1 ≡ length awaits.before + length now
-    size_now = sym longer ∙ ap (λ (rs : List RowValue). length rs) rows_now ∙ length-append awaits.before now
-
-    pub waits : length now < 4096 → IsFilled (record f { waiting = now; count = f.count + 1 }) (rows ++ row ∷ [])
-    waits short = record {
-      allowed = is.allowed;
-      count_is = is_next;
-      fit = fit_now;
-      going = λ _ _. record { before = awaits.before; rows_are = rows_now; whole = awaits.whole; few = short; loaded = awaits.loaded };
-      lacking = λ stopped. absurd (both_ways f.loader.stopped going stopped);
-      idle = λ why. elim why [
-        | inl stopped ↦ absurd (both_ways f.loader.stopped going stopped)
-        | inr many ↦ let less = few in let long = longer in absurd (omega (arith, many, less, long))
-      ];
-    }
-
-    now_long : length now ≡ length f.waiting + 1
-    now_long = ap (λ (rs : List RowValue). length rs) grown ∙ length-append f.waiting (row ∷ [])
-
-    pub batch_due : 4096 ≤ length now → HasBatch f.segments now f.loader
-    batch_due full =
-        let short = awaits.few in
-        let size = size_now in
-        let long = now_long in
-        let less = few in
-        record {
-          before = awaits.before;
-          loaded = awaits.loaded;
-          whole = awaits.whole;
-          some = omega (arith, full);
-          few = omega (arith, long, short);
-          room = omega (arith, size, less);
-          fit = fit_after (f.segments.shape).schema awaits.before now
-              (subst (λ (rs : List RowValue). All (Fits (f.segments.shape).schema) rs) rows_now fit_now);
-        }
-
-    whole_now : 4096 ≤ length now → length (rows ++ row ∷ []) % 4096 ≡ 0
-    whole_now full =
-        let whole = awaits.whole in
-        let size = size_now in
-        let long = longer in
-        let length_now = now_long in
-        let short = awaits.few in
-        omega (arith, whole, size, long, full, length_now, short)
-
-    module _ (t : SegmentsValue) (new : LoaderValue) (left : List RowValue) (full : 4096 ≤ length now) (same_shape : t.shape ≡ f.segments.shape)
-        (same_most : t.most ≡ f.segments.most) (none : left ≡ [])
-        (loads_now : LoadsWaiting now f.segments t f.loader new) where
-      loads_at : AreLoaded t (rows ++ row ∷ []) new
-      loads_at = subst (λ (rs : List RowValue). AreLoaded t rs new) (sym rows_now) (loads_now awaits.before awaits.loaded)
-
-      going_on : new.stopped ≡ false → AwaitsBatch t (rows ++ row ∷ []) [] new
-      going_on goes = record {
-        before = rows ++ row ∷ [];
-        rows_are = sym (append-nil (rows ++ row ∷ []));
-        whole = whole_now full;
-        few = omega arith;
-        loaded = loaded_of t (rows ++ row ∷ []) new loads_at goes;
-      }
-
-      lacking_then : AreLoaded t (rows ++ row ∷ []) new → new.stopped ≡ true → (writer : ℕ) × LacksNodes t (rows ++ row ∷ []) writer
-      lacking_then (inl so) stopped = absurd (both_ways new.stopped so.loading.going stopped)
-      lacking_then (inr lacks) stopped = lacks.1
-
-      same_room : room_of t ≡ room_of f.segments
-      same_room = ap₂ (λ (n : ℕ) (h : ShapeValue). n * h.capacity) same_most same_shape
-
-      pub loads : IsFilled (record { segments = t; loader = new; waiting = left; count = f.count + 1 }) (rows ++ row ∷ [])
-      loads = record {
-        allowed = subst (λ (h : ShapeValue). AllowsSegments h t.most) (sym same_shape)
-            (subst (λ (n : ℕ). AllowsSegments f.segments.shape n) (sym same_most) is.allowed);
-        count_is = is_next ∙ ap (λ (n : ℕ). min (length (rows ++ row ∷ [])) (n + 1)) (sym same_room);
-        fit = subst (λ (h : ShapeValue). All (Fits h.schema) (rows ++ row ∷ [])) (sym same_shape) fit_now;
-        going = λ goes _. subst (λ (rs : List RowValue). AwaitsBatch t (rows ++ row ∷ []) rs new) (sym none) (going_on goes);
-        lacking = lacking_then loads_at;
-        idle = λ _. none;
-      }
 
 -- what is told of a log that was finished and closed
 pub log_closed : (s t : SegmentsValue) (rows : List RowValue) (loader : LoaderValue) (answered : LoadedValue) (entries : List Entry) (seals : List SealValue)
@@ -421,15 +287,11 @@ module _ (setup : SetupValue) (sizes : LogSizes) (rounds : ℕ) (f : FillingValu
   filled_few few = let counted = is.filled.count_is in let same = room_for in omega (arith, counted, few, same)
 
   -- then it is closed
-  pub filled_closed : (entries : List Entry) (seals : List SealValue) (answered : LoadedValue)
-      → ((all : List RowValue) → IsFilled f all → IsLogClosed f.segments.shape f.loader.plan all entries seals answered)
-      → IsLogClosed (shape_for setup sizes) f.loader.plan rows entries seals answered
-  filled_closed entries seals answered closed =
-      subst (λ (h : ShapeValue). IsLogClosed h f.loader.plan rows entries seals answered) is.shape (closed rows is.filled)
-
-  -- and its rows fit
-  pub filled_fit : All (Fits setup.schema) rows
-  filled_fit = subst (λ (h : ShapeValue). All (Fits h.schema) rows) is.shape is.filled.fit
+  pub filled_sealed : (sealing : Sealing) (answered : LoadedValue)
+      → ((all : List RowValue) → IsFilled f all → IsLogSealed f.segments.shape f.loader.plan all sealing answered)
+      → IsLogSealed (shape_for setup sizes) f.loader.plan rows sealing answered
+  filled_sealed sealing answered made =
+      subst (λ (h : ShapeValue). IsLogSealed h f.loader.plan rows sealing answered) is.shape (made rows is.filled)
 
   -- or lacks nodes, or memory
   pub filled_unmade : (why : Unmade) → ((all : List RowValue) → IsFilled f all → IsUnmade f.segments.shape all why) → IsUnmade (shape_for setup sizes) rows why

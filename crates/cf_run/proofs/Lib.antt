@@ -1,8 +1,8 @@
 pub mod Drawing
-pub mod Completed
 pub mod Logs
 pub mod Sealing
 pub mod Filled
+pub mod Taken
 pub mod OneHost
 pub mod Deciding
 pub mod Ending

@@ -1,8 +1,8 @@
 -- From a log that is loaded and closed to what is told of it.
-use Rattle.std.proofs.Common.{◌≡◌, ℕ, ◌<◌, List, [], ◌∷◌, length, map, get_or, All, Result, Ok, Err, MatchResult, refl, sym, ap, subst, ◌∙◌, ◌≤◌, ◌^◌, mul_comm}
+use Rattle.std.proofs.Common.{◌≡◌, ℕ, ◌<◌, nat_lt, List, [], ◌∷◌, length, map, get_or, All, Result, Ok, Err, MatchResult, refl, sym, ap, ap₂, subst, ◌∙◌, ◌≤◌, ◌^◌, mul_comm}
 use Rattle.std.specs.List.{flat_map, range_with_len}
+use Rattle.std.proofs.lemmas.Bool.{ltb-true}
 use Rattle.std.proofs.lemmas.List.{length-map}
-use Rattle.std.proofs.lemmas.List.Elements.{All-map}
 use Rattle.std.proofs.lemmas.List.Sums.{AllPass-from_list_all}
 use Rattle.cf_row.specs.Row.{RowValue}
 use Rattle.cf_row.specs.declared.row.Entry.{Entry}
@@ -10,28 +10,31 @@ use Rattle.cf_fold.specs.declared.trigger.Trigger.{Trigger}
 use Rattle.cf_history.specs.Order.{IsOrder, log_of, order_of}
 use Rattle.cf_history.specs.Tails.{Turn, AreTails, turns_of, batches_of}
 use Rattle.cf_history.proofs.Orders.{log_of_order, order_of_log}
+use Rattle.cf_shape.specs.Lanes.{ShapeValue}
 use Rattle.cf_plain.specs.Asks.{Suits, SuitsTrigger, suits_of, suits_trigger}
 use Rattle.cf_plain.specs.declared.ask.Ask.{Ask}
 use Rattle.cf_setup.specs.Setups.{SetupValue, IsSetup, shaped}
 use Rattle.cf_plain.specs.declared.loaded.Live.{Live}
 use Rattle.cf_report.specs.declared.text.Form.{Form}
 use Rattle.cf_report.specs.declared.text.Form.TheVariants as forms
-use Rattle.cf_plain.specs.Answered.{LoadedValue, no_ask, turn_of}
-use Rattle.cf_scan.specs.Split.{logged_places}
-use Rattle.cf_scan.proofs.Splitting.{logged_exist}
+use Rattle.cf_plain.specs.Answered.{LoadedValue, answer_on, turn_of}
 use Rattle.cf_report.specs.Answered.{tolds_of}
 use Rattle.cf_report.specs.Meaning.{IsReport, AreMeant}
 use Rattle.cf_report.specs.Report.{report_text}
+use Rattle.cf_report.specs.Tags.{bare_log}
 use Rattle.cf_report.specs.Text.{text_of}
+use Rattle.cf_report.proofs.Bare.{bare_long, bare_of}
 use Rattle.cf_report.proofs.Legal.{finals_meant, report_told, report_history}
 use Rattle.cf_report.proofs.Reported.{final_is}
 use Rattle.cf_table.specs.Moves.{SealValue}
-use Rattle.cf_load.specs.Planned.{IsPlan, tails_of}
+use Rattle.cf_load.specs.Loading.{HasAnswered}
+use Rattle.cf_load.specs.Planned.{IsPlan, marks_on, tails_of}
 use Rattle.cf_load.specs.Segments.{AllowsSegments}
 use Rattle.cf_load.specs.declared.plan.LivePlan.{LivePlan}
+use Rattle.cf_load.specs.declared.segments.Sealing.{Sealing}
 use Rattle.cf_command.specs.Call.{AreSizes}
 use Rattle.cf_command.specs.declared.words.LogSizes.{LogSizes}
-use Rattle.cf_run.specs.Logs.{IsPlanOf, IsLogClosed}
+use Rattle.cf_run.specs.Logs.{IsPlanOf, IsLogClosed, IsLogSealed, IsTagged}
 use Rattle.cf_run.specs.Work.{shape_for}
 use Rattle.cf_run.specs.Seals.{AreSeals, IsClosed, IsSealedReport, IsSealedFinal, IsSealedIn}
 
@@ -40,22 +43,21 @@ pub asks_suit : (setup : SetupValue) (capacity writers nodes : ℕ) → IsSetup 
 asks_suit setup capacity writers nodes lawful =
     AllPass-from_list_all (suits_of (shaped setup capacity writers nodes)) setup.asks (lawful.asks capacity writers nodes)
 
+-- a live question is one of them
+lives_exist : (setup : SetupValue) → IsSetup setup → All (λ place. place < length setup.asks) setup.lives
+lives_exist setup lawful = λ k d lt. ltb-true (get_or setup.lives k d) (length setup.asks)
+    (AllPass-from_list_all (λ live. nat_lt live (length setup.asks)) setup.lives lawful.lives k d lt)
+
 pub plan_suits : (setup : SetupValue) (capacity writers nodes rounds : ℕ) (plan : LivePlan) → IsSetup setup → IsPlanOf setup rounds plan
     → IsPlan (shaped setup capacity writers nodes) plan
-plan_suits setup capacity writers nodes rounds plan lawful of =
-    let places = logged_places setup.asks setup.lives in
-    let suits = Suits (shaped setup capacity writers nodes) in
-    let exist = logged_exist setup.asks setup.lives in
-    let many : length plan.asks.items ≡ length places = ap (λ (qs : List Ask). length qs) of.asks
-    ∙ length-map places (λ place. get_or setup.asks place no_ask) in
-    record {
-      asks = subst (λ (qs : List Ask). All suits qs) (sym of.asks)
-          (All-map suits (λ place. get_or setup.asks place no_ask) places
-          (λ k d lt. asks_suit setup capacity writers nodes lawful (get_or places k d) no_ask (exist k d lt)));
-      triggers = subst (λ (ts : List Trigger). All (SuitsTrigger (shaped setup capacity writers nodes)) ts) (sym of.triggers)
-          (AllPass-from_list_all (suits_trigger (shaped setup capacity writers nodes)) setup.triggers (lawful.triggers capacity writers nodes));
-      lives = subst (λ (n : ℕ). All (λ place. place < n) plan.lives.items) (sym many) of.within;
-    }
+plan_suits setup capacity writers nodes rounds plan lawful of = record {
+  asks = subst (λ (qs : List Ask). All (Suits (shaped setup capacity writers nodes)) qs) (sym of.asks)
+      (asks_suit setup capacity writers nodes lawful);
+  triggers = subst (λ (ts : List Trigger). All (SuitsTrigger (shaped setup capacity writers nodes)) ts) (sym of.triggers)
+      (AllPass-from_list_all (suits_trigger (shaped setup capacity writers nodes)) setup.triggers (lawful.triggers capacity writers nodes));
+  lives = subst (λ (qs : List Ask). All (λ place. place < length qs) plan.lives.items) (sym of.asks)
+      (subst (λ (ls : List ℕ). All (λ place. place < length setup.asks) ls) (sym of.lives) (lives_exist setup lawful));
+}
 
 -- a log of the setup's shape may have so many segments
 pub segments_allowed : (setup : SetupValue) (sizes : LogSizes) → AreSizes sizes → AllowsSegments (shape_for setup sizes) sizes.segments
@@ -66,17 +68,49 @@ segments_allowed setup sizes are = record {
   whole = are.whole;
 }
 
--- with all answers that are meant, a log of the setup's plan is closed
-pub closed_of : (setup : SetupValue) (capacity writers nodes rounds : ℕ) (plan : LivePlan) (rows : List RowValue) (entries : List Entry)
-    (seals : List SealValue) (answered all : LoadedValue) → IsLogClosed (shaped setup capacity writers nodes) plan rows entries seals answered
-    → AreMeant setup (shaped setup capacity writers nodes) rounds entries all → tails_of all.lives ≡ tails_of answered.lives
-    → IsClosed setup capacity writers nodes rounds rows entries seals all
-closed_of setup capacity writers nodes rounds plan rows entries seals answered all closed meant tails = record {
-  is = closed.is;
-  meant = meant;
-  seals_are = subst (λ (ts : List ℕ). AreSeals capacity entries ts seals) (sym tails) closed.seals_are;
-  few_nodes = closed.few_nodes;
+-- what a closed log answers to the setup's plan is meant
+meant_of : (setup : SetupValue) (shape : ShapeValue) (rounds : ℕ) (plan : LivePlan) (rows : List RowValue) (entries : List Entry) (seals : List SealValue)
+    (answered : LoadedValue) → IsPlanOf setup rounds plan → IsLogClosed shape plan rows entries seals answered → AreMeant setup shape rounds entries answered
+meant_of setup shape rounds plan rows entries seals answered of closed =
+    let asked = subst (λ (qs : List Ask). HasAnswered shape qs plan.lives.items plan.rounds (length rows) entries answered.lives) of.asks closed.lives in
+    let live = subst (λ (ls : List ℕ). HasAnswered shape setup.asks ls plan.rounds (length rows) entries answered.lives) of.lives asked in
+    let often = subst (λ (n : ℕ). HasAnswered shape setup.asks setup.lives n (length rows) entries answered.lives) of.rounds_are live in
+    let lives = subst (λ (n : ℕ). HasAnswered shape setup.asks setup.lives rounds n entries answered.lives) (sym closed.is.size) often in
+    record {
+      finals = closed.finals ∙ ap (λ (qs : List Ask). map (answer_on shape entries) qs) of.asks;
+      alerts = closed.alerts ∙ ap (λ (ts : List Trigger). map (marks_on shape entries) ts) of.triggers;
+      tails = lives.tails;
+      lives = lives.bodies;
+    }
+
+-- a log of the setup's plan is closed, and its tags are known
+pub tagged_of : (setup : SetupValue) (capacity writers nodes rounds : ℕ) (plan : LivePlan) (rows : List RowValue) (sealing : Sealing) (tags : List Entry)
+    (answered : LoadedValue) → IsPlanOf setup rounds plan → IsLogSealed (shaped setup capacity writers nodes) plan rows sealing answered
+    → tags ≡ bare_log sealing.nums.items sealing.writers.items
+    → IsTagged setup capacity writers nodes rounds rows tags sealing.seals.items answered
+tagged_of setup capacity writers nodes rounds plan rows sealing tags answered of made are = record {
+  entries = made.entries;
+  tags_are = are ∙ ap₂ bare_log made.nums made.writers ∙ bare_of made.entries;
+  closed = record {
+    is = made.closed.is;
+    meant = meant_of setup (shaped setup capacity writers nodes) rounds plan rows made.entries sealing.seals.items answered of made.closed;
+    seals_are = made.closed.seals_are;
+    few_nodes = made.closed.few_nodes;
+  };
 }
+
+-- as many writers as numbers were read
+pub sealed_even : (shape : ShapeValue) (plan : LivePlan) (rows : List RowValue) (sealing : Sealing) (answered : LoadedValue)
+    → IsLogSealed shape plan rows sealing answered → length sealing.writers.items ≡ length sealing.nums.items
+sealed_even shape plan rows sealing answered made =
+    ap (λ (ws : List ℕ). length ws) made.writers ∙ length-map made.entries (λ (entry : Entry). entry.writer)
+    ∙ sym (ap (λ (ns : List ℕ). length ns) made.nums ∙ length-map made.entries (λ (entry : Entry). entry.row.num))
+
+-- there are as many tags as entries
+pub tags_long : (setup : SetupValue) (capacity writers nodes rounds : ℕ) (rows : List RowValue) (tags : List Entry) (seals : List SealValue)
+    (answered : LoadedValue) (made : IsTagged setup capacity writers nodes rounds rows tags seals answered) → length tags ≡ length made.entries
+tags_long setup capacity writers nodes rounds rows tags seals answered made =
+    ap (λ (es : List Entry). length es) made.tags_are ∙ bare_long made.entries
 
 no_rounds : (batches lives : List ℕ)
     → ◌≡◌ {A = List Turn}

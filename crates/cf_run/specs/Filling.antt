@@ -1,5 +1,5 @@
 -- A log that rows fill as they come.
-use Rattle.std.specs.Prelude.{◌≡◌, ◌⊎◌, ℕ, ◌+◌, ◌<◌, ◌≤◌, ◌%◌, min, true, false, List, [], ◌++◌, length, All}
+use Rattle.std.specs.Prelude.{◌≡◌, ◌⊎◌, ℕ, ◌+◌, ◌<◌, ◌≤◌, ◌%◌, min, true, false, List, [], ◌++◌, length, take, All}
 use Rattle.cf_row.specs.Row.{RowValue, Fits}
 use Rattle.cf_load.specs.Segments.{SegmentsValue, AllowsSegments, base_of, told_of}
 use Rattle.cf_load.specs.Loaders.{LoaderValue, IsLoading}
@@ -50,6 +50,21 @@ pub record HasBatch (s : SegmentsValue) (waiting : List RowValue) (loader : Load
 abbrev pub LoadsWaiting : List RowValue → SegmentsValue → SegmentsValue → LoaderValue → LoaderValue → Type 0
 LoadsWaiting waiting s t old new = (before : List RowValue) → IsLoadedSo s before old → AreLoaded t (before ++ waiting) new
 
+-- Rows wait for the loader, which has loaded whole batches before them. They fit, and there is room for them.
+pub record HasRows (segments : SegmentsValue) (waiting : List RowValue) (loader : LoaderValue) : Type 0 where
+  pub before : List RowValue
+  pub loaded : IsLoadedSo segments before loader
+  pub whole : length before % 4096 ≡ 0
+  pub room : length before + length waiting ≤ room_of segments
+  pub fit : All (Fits (segments.shape).schema) waiting
+
+-- So many of the rows that wait were loaded, in whole batches. Those behind them are fewer than a batch, or the loader was stopped.
+pub record LoadsWhole (count : ℕ) (waiting : List RowValue) (segments segments_then : SegmentsValue) (old new : LoaderValue) : Type 0 where
+  pub within : count ≤ length waiting
+  pub whole : count % 4096 ≡ 0
+  pub few : new.stopped ≡ false → length waiting < count + 4096
+  pub loads : LoadsWaiting (take count waiting) segments segments_then old new
+
 -- all rows but those that wait are loaded, in whole batches
 pub record AwaitsBatch (s : SegmentsValue) (rows waiting : List RowValue) (loader : LoaderValue) : Type 0 where
   pub before : List RowValue
@@ -67,6 +82,18 @@ pub record IsFilled (filling : FillingValue) (rows : List RowValue) : Type 0 whe
   pub going : filling.loader.stopped ≡ false → length rows ≤ room_of filling.segments → AwaitsBatch filling.segments rows filling.waiting filling.loader
   pub lacking : filling.loader.stopped ≡ true → (writer : ℕ) × LacksNodes filling.segments rows writer
   pub idle : (filling.loader.stopped ≡ true) ⊎ (room_of filling.segments < length rows) → filling.waiting ≡ []
+
+-- These rows came, and there is room for them. All but those that wait are loaded, in whole batches, and the loader goes on.
+pub record IsWaiting (filling : FillingValue) (rows : List RowValue) : Type 0 where
+  pub allowed : AllowsSegments filling.segments.shape filling.segments.most
+  pub count_is : filling.count ≡ length rows
+  pub few : length rows ≤ room_of filling.segments
+  pub fit : All (Fits (filling.segments.shape).schema) rows
+  pub going : filling.loader.stopped ≡ false
+  pub before : List RowValue
+  pub rows_are : rows ≡ before ++ filling.waiting
+  pub whole : length before % 4096 ≡ 0
+  pub loaded : IsLoadedSo filling.segments before filling.loader
 
 -- some rows came
 abbrev pub IsFilling : FillingValue → Type 0

@@ -1,14 +1,14 @@
 // A log that rows fill as they come.
-ghost use Rattle.std.specs.Prelude.{◌≡◌, ◌⊎◌, ◌<◌, ◌≤◌, ◌+◌, ◌%◌, ◌++◌, ◌∷◌, List, [], All, length, true, false, IfOk, IsTrue, MatchResult};
+ghost use Rattle.std.specs.Prelude.{◌≡◌, ◌⊎◌, ◌<◌, ◌≤◌, ◌+◌, ◌%◌, ◌++◌, List, [], All, length, min, true, false, IfOk, IsTrue, MatchResult, OnOk};
 ghost use Rattle.cf_row.specs.Row.{Fits, RowValue};
 ghost use Rattle.cf_load.specs.Loads.{room_of};
 ghost use Rattle.cf_load.specs.Planned.{IsPlan, IsSamePlan};
 ghost use Rattle.cf_load.specs.Segments.{AllowsSegments};
-ghost use Rattle.cf_run.specs.Filling.{AreLoaded, Fills, HasBatch, IsFilled, IsFilling, KeepsLog, LoadsWaiting};
-ghost use Rattle.cf_run.specs.Logs.{IsLogClosed, IsUnmade};
+ghost use Rattle.cf_run.specs.Filling.{AreLoaded, Fills, HasBatch, HasRows, IsFilled, IsFilling, IsWaiting, KeepsLog, LoadsWaiting, LoadsWhole};
+ghost use Rattle.cf_run.specs.Logs.{IsLogSealed, IsUnmade};
 
 use crate::log::Unmade;
-use cf_load::{Closing, LivePlan, LoadFault, Loader, Segments};
+use cf_load::{LivePlan, LoadFault, Loader, Sealing, Segments};
 use cf_outside::Gate;
 use cf_report::Loaded;
 use cf_row::{Memory, Row};
@@ -41,31 +41,72 @@ impl Model for Filling {
     ghost view = { λ f. record { segments = f.segments; loader = f.loader; waiting = f.waiting.items; count = f.count } };
 }
 
-// Loads the rows that wait.
+// Puts rows behind those that wait. Where none waits, none is moved.
+fn put_behind(waiting: &mut Vec<Row>, mut rows: Vec<Row>) -> Result<(), Memory>
+    ensures { OnOk result (waiting.new.items ≡ waiting.old.items ++ rows.items) }
+{
+    if waiting.is_empty() {
+        *waiting = rows;
+        return Ok(());
+    }
+    waiting.append(&mut rows)
+}
+
+// Loads a batch.
 fn load<R: Threads + Sync, G: Gate>(
     rt: &R,
     alloc: Global,
     segments: &mut Segments,
     loader: &mut Loader,
-    waiting: &mut Vec<Row>,
+    rows: &[Row],
     gate: &G,
 ) -> Result<(), Memory>
-    requires { HasBatch segments.old waiting.old.items loader.old }
+    requires { HasBatch segments.old rows.now loader.old }
     ensures shape { segments.new.shape ≡ segments.old.shape }
     ensures most { segments.new.most ≡ segments.old.most }
     ensures plan { loader.new.plan ≡ loader.old.plan }
-    ensures none { waiting.new.items ≡ [] }
-    ensures loaded { IfOk result (λ _. LoadsWaiting waiting.old.items segments.old segments.new loader.old loader.new) }
+    ensures loaded { IfOk result (λ _. LoadsWaiting rows.now segments.old segments.new loader.old loader.new) }
 {
-    let loaded = loader.batch(rt, alloc, segments, waiting, gate);
-    waiting.clear();
-    match loaded {
+    match loader.batch(rt, alloc, segments, rows, gate) {
         Ok(()) => Ok(()),
         // This stopped the loader.
         Err(LoadFault::NodesFull(_)) => Ok(()),
         Err(LoadFault::Memory) => Err(AllocError),
         Err(LoadFault::Full) => unreachable!(),
     }
+}
+
+// Loads the whole batches with which the rows begin, while the loader goes on. The answer is how many rows they have.
+fn load_whole<R: Threads + Sync, G: Gate>(
+    rt: &R,
+    alloc: Global,
+    segments: &mut Segments,
+    loader: &mut Loader,
+    rows: &[Row],
+    gate: &G,
+) -> Result<usize, Memory>
+    requires { HasRows segments.old rows.now loader.old }
+    ensures shape { segments.new.shape ≡ segments.old.shape }
+    ensures most { segments.new.most ≡ segments.old.most }
+    ensures plan { loader.new.plan ≡ loader.old.plan }
+    ensures whole { IfOk result (λ count. LoadsWhole count rows.now segments.old segments.new loader.old loader.new) }
+{
+    let mut count = 0;
+    while rows.len() - count >= BATCH {
+        if loader.stopped() {
+            return Ok(count);
+        }
+        load(
+            rt,
+            alloc,
+            segments,
+            loader,
+            &rows[count..count + BATCH],
+            gate,
+        )?;
+        count += BATCH;
+    }
+    Ok(count)
 }
 
 impl Filling {
@@ -114,36 +155,41 @@ impl Filling {
         BATCH - (self.waiting.len() % BATCH + more % BATCH) % BATCH
     }
 
-    // Takes the next row. Where it ends a batch, the batch is loaded. Once no more is loaded, none waits.
-    fn push<R: Threads + Sync, G: Gate>(&mut self, rt: &R, gate: &G, row: Row) -> Result<(), Memory>
-        requires fits { Fits self.old.segments.shape.schema row }
+    // Counts rows that came. The answer is whether they are counted alone: there is no room for all, or the loader was stopped.
+    fn counts_alone(&mut self, more: usize) -> bool
         requires filled { IsFilling self.old }
-        ensures keeps { KeepsLog self.old self.new }
-        ensures stops { self.old.loader.stopped ≡ true → self.new.loader.stopped ≡ true }
-        ensures filled { IfOk result (λ _. Fills self.old self.new (row ∷ [])) }
+        ensures counted { self.new ≡ record self.old { count = min (self.old.count + more) (room_of self.old.segments + 1) } }
+        ensures alone { IsTrue result → (room_of self.old.segments < self.old.count + more) ⊎ (self.old.loader.stopped ≡ true) }
+        ensures due { result ≡ false → (self.old.count + more ≤ room_of self.old.segments) × (self.old.loader.stopped ≡ false) }
     {
-        let room = self.segments.room();
-        if self.count > room {
-            self.waiting.clear();
-            return Ok(());
-        }
-        self.count += 1;
-        if self.count > room || self.loader.stopped() {
-            self.waiting.clear();
-            return Ok(());
-        }
-        self.waiting.push(row)?;
-        if self.waiting.len() < BATCH {
-            return Ok(());
-        }
-        load(
+        let room = self.segments.room() as usize;
+        let count = (self.count as usize).saturating_add(more);
+        self.count = count.min(room + 1) as u32;
+        count > room || self.loader.stopped()
+    }
+
+    // Loads the whole batches that wait. Once no more is loaded, none waits.
+    fn load_batches<R: Threads + Sync, G: Gate>(&mut self, rt: &R, gate: &G) -> Result<(), Memory>
+        requires waiting { (rows : List RowValue) × IsWaiting self.old rows }
+        ensures keeps { KeepsLog self.old self.new }
+        ensures filled { IfOk result (λ _. (rows : List RowValue) → IsWaiting self.old rows → IsFilled self.new rows) }
+    {
+        let count = load_whole(
             rt,
             self.alloc,
             &mut self.segments,
             &mut self.loader,
-            &mut self.waiting,
+            &self.waiting,
             gate,
-        )
+        )?;
+        if self.loader.stopped() {
+            self.waiting.clear();
+            return Ok(());
+        }
+        // What is left is put where the batches were, whose room is kept.
+        let mut rest = self.waiting.split_off(count)?;
+        self.waiting.clear();
+        self.waiting.append(&mut rest)
     }
 
     /// Takes the next rows out of the list. Each batch that they end is loaded.
@@ -161,29 +207,12 @@ impl Filling {
         ensures none { rows.new.items ≡ [] }
     {
         let taken = mem::replace(rows, Vec::new(self.alloc()));
-        for row in taken {
-            self.push(rt, gate, row)?;
+        if self.counts_alone(taken.len()) {
+            self.waiting.clear();
+            return Ok(());
         }
-        Ok(())
-    }
-
-    /// Takes copies of the next rows.
-    pub(crate) fn take_copies<R: Threads + Sync, G: Gate>(
-        &mut self,
-        rt: &R,
-        gate: &G,
-        rows: &[Row],
-    ) -> Result<(), Memory>
-        requires fit { All (Fits self.old.segments.shape.schema) rows.now }
-        requires filled { IsFilling self.old }
-        ensures keeps { KeepsLog self.old self.new }
-        ensures filled { IfOk result (λ _. Fills self.old self.new rows.now) }
-    {
-        for row in rows {
-            let copied = row.copy(self.alloc())?;
-            self.push(rt, gate, copied)?;
-        }
-        Ok(())
+        put_behind(&mut self.waiting, taken)?;
+        self.load_batches(rt, gate)
     }
 
     // Whether no rows wait to be loaded, or none can be.
@@ -209,21 +238,22 @@ impl Filling {
             self.alloc,
             &mut self.segments,
             &mut self.loader,
-            &mut self.waiting,
+            &self.waiting,
             gate,
         )
     }
 
-    /// Loads the last rows, asks all questions of the whole log, and closes it.
+    /// Loads the last rows, asks all questions of the whole log, and closes it: the numbers and writers of its entries are read, and
+    /// no other word of them.
     pub(crate) fn finish<R: Threads + Sync, G: Gate>(
         mut self,
         rt: &R,
         gate: &G,
-    ) -> Result<(Closing, Loaded), Unmade>
+    ) -> Result<(Sealing, Loaded), Unmade>
         requires filled { IsFilling self }
         requires few { self.count ≤ room_of self.segments }
         ensures { (rows : List RowValue) → IsFilled self rows
-            → MatchResult result (λ made. IsLogClosed self.segments.shape self.loader.plan rows made.0.entries.items made.0.seals.items made.1)
+            → MatchResult result (λ made. IsLogSealed self.segments.shape self.loader.plan rows made.0 made.1)
             (IsUnmade self.segments.shape rows) }
     {
         self.load_last(rt, gate)?;
@@ -236,9 +266,9 @@ impl Filling {
             loader,
             ..
         } = self;
-        let answers = loader.finish(alloc, &mut segments)?;
-        match segments.close(alloc) {
-            Ok(closing) => Ok((closing, answers)),
+        let answers = loader.finish(rt, alloc, &mut segments)?;
+        match segments.seal(alloc) {
+            Ok(sealing) => Ok((sealing, answers)),
             Err(_) => Err(Unmade::Memory),
         }
     }

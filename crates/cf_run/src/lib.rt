@@ -8,7 +8,6 @@
 mod asked;
 mod draft;
 mod drawn;
-mod dumping;
 mod fill;
 mod filling;
 mod log;

@@ -1,25 +1,26 @@
 // The log of some rows, and what is told of it.
 ghost use Rattle.std.specs.Prelude.{◌≡◌, ◌≤◌, ℕ, List, [], IfOk, MatchResult};
 ghost use Rattle.cf_row.specs.Row.{RowValue};
-ghost use Rattle.cf_setup.specs.Setups.{IsSetup, shaped};
+ghost use Rattle.cf_setup.specs.Setups.{IsSetup, SetupValue, shaped};
 ghost use Rattle.cf_load.specs.Loads.{room_of};
 ghost use Rattle.cf_command.specs.Call.{AreSizes};
 ghost use Rattle.cf_command.specs.declared.words.LogSizes.{LogSizes};
-ghost use Rattle.cf_run.specs.Filling.{IsFilledFor, IsFillingFor};
-ghost use Rattle.cf_run.specs.Logs.{IsUnmade, halt_of};
-ghost use Rattle.cf_run.specs.Seals.{IsClosed, IsSealedReport, IsSealedFinal, IsSealedIn};
+ghost use Rattle.cf_run.specs.Filling.{IsFilledFor, IsFilling, IsFillingFor};
+ghost use Rattle.cf_run.specs.Logs.{IsTagged, IsUnmade, halt_of};
+ghost use Rattle.cf_run.specs.Seals.{IsSealedReport, IsSealedFinal, IsSealedIn};
 ghost use Rattle.cf_run.specs.declared.log.Unmade.TheVariants as unmade;
 
-use crate::asked::{complete, plan_of};
+use crate::asked::plan_of;
 use crate::draft::Product;
 use crate::filling::Filling;
 use cf_command::LogSizes;
 use cf_intake::{Halt, Refusal, Stop};
-use cf_load::Closing;
+use cf_load::Sealing;
 use cf_outside::Gate;
-use cf_report::{Form, Loaded, report};
+use cf_report::{Form, Loaded, Tags, report_by_tags};
 use cf_row::Memory;
 use cf_setup::{Setup, shape_of};
+use cf_table::Seal;
 use std::alloc::{AllocError, Global};
 use std::thread::Threads;
 
@@ -67,24 +68,26 @@ pub(crate) fn opened(
     Filling::new(alloc, shape, sizes.segments, &plan)
 }
 
-/// The closed log of the rows that filled it, and the answers to all that the setup asks.
+/// Closes the log of the rows that filled it: the numbers and writers of its entries, a seal of each segment, and the answers to
+/// all that its setup asks.
 pub(crate) fn closed_log<R: Threads + Sync, G: Gate>(
     rt: &R,
-    alloc: Global,
-    setup: &Setup,
     filling: Filling,
     gate: &G,
-) -> Result<(Closing, Loaded), Unmade>
-    requires lawful { IsSetup setup.now }
-    requires filled { IsFillingFor setup.now filling }
+) -> Result<(Tags, Vec<Seal>, Loaded), Unmade>
+    requires filled { IsFilling filling }
     requires few { filling.count ≤ room_of filling.segments }
-    ensures { (sizes : LogSizes) (rounds : ℕ) (rows : List RowValue) → AreSizes sizes → IsFilledFor setup.now sizes rounds filling rows
-        → MatchResult result (λ made. IsClosed setup.now sizes.capacity sizes.writers sizes.nodes rounds rows made.0.entries.items made.0.seals.items made.1)
-        (IsUnmade (shaped setup.now sizes.capacity sizes.writers sizes.nodes) rows) }
+    ensures { (setup : SetupValue) (sizes : LogSizes) (rounds : ℕ) (rows : List RowValue) → IsFilledFor setup sizes rounds filling rows
+        → MatchResult result (λ made. IsTagged setup sizes.capacity sizes.writers sizes.nodes rounds rows made.0 made.1.items made.2)
+        (IsUnmade (shaped setup sizes.capacity sizes.writers sizes.nodes) rows) }
 {
-    let (closing, answers) = filling.finish(rt, gate)?;
-    let answers = complete(rt, alloc, setup, &closing.entries, answers)?;
-    Ok((closing, answers))
+    let (sealing, answers) = filling.finish(rt, gate)?;
+    let Sealing {
+        nums,
+        writers,
+        seals,
+    } = sealing;
+    Ok((Tags::new(nums, writers), seals, answers))
 }
 
 // The report of a setup in that form, over the rows that filled a log.
@@ -103,12 +106,9 @@ fn report_in<R: Threads + Sync, G: Gate>(
         → MatchResult result (λ made. IsSealedIn form setup.now sizes.capacity sizes.writers sizes.nodes rounds rows made.text.items made.seals.items)
         (IsUnmade (shaped setup.now sizes.capacity sizes.writers sizes.nodes) rows) }
 {
-    let (closing, answers) = closed_log(rt, alloc, setup, filling, gate)?;
-    let text = report(alloc, setup, &closing.entries, &answers, form)?;
-    Ok(Product {
-        text,
-        seals: closing.seals,
-    })
+    let (tags, seals, answers) = closed_log(rt, filling, gate)?;
+    let text = report_by_tags(alloc, setup, &tags, &answers, form)?;
+    Ok(Product { text, seals })
 }
 
 /// The report of a setup over the rows that filled a log, with the live answers and the order of the writers.

@@ -9,12 +9,12 @@ ghost use Rattle.cf_run.specs.Work.{draws as draws_from};
 
 use crate::draft::{Draft, Product, refused};
 use crate::drawn::fill_drawn;
-use crate::dumping::dump_of;
 use crate::fill::fill_rows;
 use crate::log::{final_of, opened, report_of};
 use crate::snapshot::{cut_text, is_some_full, load_hosts};
 use crate::truncated::with_truncated;
 use cf_command::{Command, DumpCommand, LogSizes, RunCommand, SnapshotCommand, SynthCommand};
+use cf_dump::dump;
 use cf_intake::{
     Format, Halt, Manner, Refusal, Stop, collect_rows, format_of, read_hosts, read_setup,
 };
@@ -114,8 +114,8 @@ fn dump_listing<F: Shelf>(
         truncated: command.truncated,
     };
     let captured = collect_rows(alloc, shelf, command.capture, manner)?;
-    let listing = dump_of(alloc, &schema, &captured.rows)?;
-    let text = with_truncated(alloc, listing, captured.cut)?;
+    let listing = dump(alloc, &schema, &captured.rows)?;
+    let text = with_truncated(alloc, listing.into_bytes(), captured.cut)?;
     let seals = Vec::new(alloc);
     Ok(Product { text, seals })
 }

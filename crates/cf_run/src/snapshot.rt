@@ -21,7 +21,7 @@ use cf_command::{LogSizes, SnapshotCommand};
 use cf_intake::Captured;
 use cf_load::LivePlan;
 use cf_outside::Gate;
-use cf_report::{push_cut, push_host};
+use cf_report::{push_cut, push_host_by_tags};
 use cf_row::{Memory, Row};
 use cf_setup::{Setup, shape_of};
 use cf_snapshot::cut_of_turns;
@@ -39,6 +39,17 @@ pub(crate) fn is_some_full(hosts: &[Captured], capacity: u32) -> bool
         }
     }
     false
+}
+
+// The same rows once more.
+fn copies(alloc: Global, rows: &[Row]) -> Result<Vec<Row>, Memory>
+    ensures { IfOk result (λ copied. copied.items ≡ rows.now) }
+{
+    let mut copied = Vec::with_capacity(alloc, rows.len())?;
+    for row in rows {
+        copied.push(row.copy(alloc)?)?;
+    }
+    Ok(copied)
 }
 
 // Loads rows into a log of one segment, of which nothing is asked.
@@ -64,7 +75,8 @@ fn load_silently<R: Threads + Sync, G: Gate>(
         rounds: 0,
     };
     let mut filling = Filling::new(alloc, shape, 1, &plan)?;
-    filling.take_copies(rt, gate, rows)?;
+    let mut copied = copies(alloc, rows)?;
+    filling.take_rows(rt, gate, &mut copied)?;
     filling.finish(rt, gate)?;
     Ok(())
 }
@@ -136,9 +148,10 @@ fn push_answers<R: Threads + Sync, G: Gate>(
     ensures unmade { MatchResult result (λ _. Unit {0}) (IsUnmadeAlone (shape_for setup.now sizes) rows.now) }
 {
     let mut filling = opened(alloc, setup, sizes, 0)?;
-    filling.take_copies(rt, gate, rows)?;
-    let (closing, answers) = closed_log(rt, alloc, setup, filling, gate)?;
-    push_host(alloc, text, setup, host, &closing.entries, answers.finals())?;
+    let mut copied = copies(alloc, rows)?;
+    filling.take_rows(rt, gate, &mut copied)?;
+    let (tags, _seals, answers) = closed_log(rt, filling, gate)?;
+    push_host_by_tags(alloc, text, setup, host, &tags, answers.finals())?;
     Ok(())
 }
 

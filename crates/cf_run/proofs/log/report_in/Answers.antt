@@ -1,29 +1,45 @@
-use Rattle.std.proofs.Common.{◌≡◌, Err, rules}
+use Rattle.std.proofs.Common.{◌≡◌, ℕ, List, Err, sym, ap, subst, ◌∙◌, rules}
 use Rattle.std.proofs.lemmas.Result.{err_from_is_err_and}
+use Rattle.cf_row.specs.declared.row.Entry.{Entry}
+use Rattle.cf_report.specs.Answered.{IsAnswering}
+use Rattle.cf_report.specs.Text.{text_of}
 use Rattle.cf_report.proofs.Answering.{are_answering}
+use Rattle.cf_report.proofs.Bare.{text_bare}
 use Rattle.cf_setup.specs.Setups.{shaped}
-use Rattle.cf_run.proofs.Logs.{sealed_in}
+use Rattle.cf_run.proofs.Logs.{sealed_in, tags_long}
 use Rattle.cf_run.proofs.log.report_in.Goals as goal
 
-pub report-requires : goal.report-requires
-report-requires g c =
+pub closed_log-requires-clause-filled : goal.closed_log-requires-clause-filled
+closed_log-requires-clause-filled g c κs within = let given = c.requires.filled in (given.2, given.4.filled)
+
+pub report_by_tags-requires : goal.report_by_tags-requires
+report_by_tags-requires g c =
     let setup = c.args.setup.now in
     let given = c.requires.filled in
     let sizes = given.0 in
-    let made = c.in_ok-closing.ensures sizes given.1 given.2 given.3 given.4 in
-    rw c.deref.ensures.value
-    (are_answering setup
-    (shaped setup sizes.capacity sizes.writers sizes.nodes) given.1 c.in_ok-closing.closing.entries.items c.in_ok-closing.answers c.requires.lawful made.meant)
+    let tags = c.in_ok-tags.tags in
+    let seals = c.in_ok-tags.seals.items in
+    let answers = c.in_ok-tags.answers in
+    let made = c.in_ok-tags.ensures setup sizes given.1 given.2 given.4 in
+    subst (λ (n : ℕ). IsAnswering setup n answers)
+    (sym (tags_long setup sizes.capacity sizes.writers sizes.nodes given.1 given.2 tags seals answers made))
+    (are_answering setup (shaped setup sizes.capacity sizes.writers sizes.nodes) given.1 made.entries answers c.requires.lawful made.closed.meant)
 
 pub returns : goal.returns
 returns g c = λ sizes rounds rows lawful is.
-    let closing = c.in_ok-closing.closing in
-    sealed_in c.args.setup.now sizes.capacity sizes.writers sizes.nodes rounds rows closing.entries.items closing.seals.items c.in_ok-closing.answers lawful.writers.0 (c.in_ok-closing.ensures sizes rounds rows lawful is) c.args.form c.in_ok-text.text.items (rw c.deref.ensures.value at c.in_ok-text.ensures)
+    let setup = c.args.setup.now in
+    let form = c.args.form in
+    let seals = c.in_ok-tags.seals.items in
+    let answers = c.in_ok-tags.answers in
+    let made = c.in_ok-tags.ensures setup sizes rounds rows is in
+    let told = c.in_ok-text.ensures ∙ ap (λ (es : List Entry). text_of form setup es answers) made.tags_are ∙ text_bare setup made.entries form answers in
+    sealed_in setup sizes.capacity sizes.writers sizes.nodes rounds rows made.entries seals answers lawful.writers.0 made.closed form c.in_ok-text.text.items
+    told
 
-pub returns-in_err-closing : goal.returns-in_err-closing
-returns-in_err-closing g c = λ sizes rounds rows lawful is.
-    let same : c.from_residual.result ≡ Err c.in_err-closing.field-0.0 = search rules in
-    rw same (c.in_err-closing.ensures sizes rounds rows lawful is)
+pub returns-in_err-tags : goal.returns-in_err-tags
+returns-in_err-tags g c = λ sizes rounds rows lawful is.
+    let same : c.from_residual.result ≡ Err c.in_err-tags.field-0.0 = search rules in
+    rw same (c.in_err-tags.ensures c.args.setup.now sizes rounds rows is)
 
 pub returns-in_err-text : goal.returns-in_err-text
 returns-in_err-text g c = λ sizes rounds rows lawful is.

@@ -1,4 +1,4 @@
-use Rattle.std.proofs.Common.{ℕ, ◌++◌, ◌∙◌, List, ap, ap₂}
+use Rattle.std.proofs.Common.{rules, ◌≡◌, ℕ, ◌++◌, ◌∙◌, List, ap, ap₂, string_bytes}
 use Rattle.std.proofs.lemmas.Result.{err_from_is_err_and}
 use Rattle.cf_command.specs.Call.{dump_by}
 use Rattle.cf_dump.specs.Dump.{dump_text}
@@ -32,7 +32,8 @@ returns-in_err-text-clause-ends g c =
 
 pub returns-clause-ends : goal.returns-clause-ends
 returns-clause-ends g c =
-    let listed = c.in_ok-listing.ensures
+    let bytes : c.into_bytes.result.items ≡ string_bytes c.in_ok-listing.listing = search rules in
+    let listed = bytes ∙ c.in_ok-listing.ensures
     ∙ ap₂ (λ (attrs : List Attr) (rows : List RowValue). dump_text attrs rows) c.in_ok-schema.ensures c.deref.ensures.value in
     dump_gives (g.F.Shelf.files c.args.shelf.now) (dump_by c.args.command.now) (g.F.Shelf.rest c.args.shelf.now)
     (g.F.Shelf.rest c.collect_rows.new.shelf) (captured c.in_ok-captured.captured) c.in_ok-captured.ensures.read c.in_ok-text.text.items _

@@ -1,6 +1,7 @@
-use Rattle.std.proofs.Common.{rules, ◌≡◌, false, true, sym, ap, subst, ◌∙◌}
+use Rattle.std.proofs.Common.{rules, ◌≡◌, false, true, refl, sym, ap, subst, ◌∙◌}
 use Rattle.std.proofs.lemmas.Result.{err_from_is_err_and}
 use Rattle.cf_shape.specs.Lanes.{ShapeValue}
+use Rattle.cf_load.specs.Segments.{entries_of}
 use Rattle.cf_run.specs.Filling.{AreLoaded, FillingValue}
 use Rattle.cf_run.specs.Needs.{NeedsMore}
 use Rattle.cf_run.proofs.Filled.{closed_at, lack_of, loaded_of}
@@ -22,7 +23,7 @@ finish-requires g c =
     let going : i.loader.stopped ≡ false = search rules in
     let loaded : AreLoaded i.segments rows i.loader =
     subst (λ (v : FillingValue). AreLoaded v.segments rows v.loader) (sym c.self.view_is) (c.in_ok-load_last.ensures.loaded rows c.requires.filled.1) in
-    record { loading = (rows, (loaded_of i.segments rows i.loader loaded going).loading) }
+    (search rules, (rows, (loaded_of i.segments rows i.loader loaded going).loading))
 
 pub returns-in-Ok : goal.returns-in-Ok
 returns-in-Ok g c rows is =
@@ -31,11 +32,17 @@ returns-in-Ok g c rows is =
     let going : i.loader.stopped ≡ false = search rules in
     let loaded : AreLoaded i.segments rows i.loader =
     subst (λ (v : FillingValue). AreLoaded v.segments rows v.loader) (sym c.self.view_is) (c.in_ok-load_last.ensures.loaded rows is) in
-    let closing = c.in-Ok.closing in
-    closed_at before.segments.shape before.loader.plan i.segments c.finish.new.segments rows i.loader c.in_ok-answers.answers closing.entries.items closing.seals.items
-    (ap (λ (v : FillingValue). v.segments.shape) c.self.view_is ∙ c.load_last.ensures.keeps.shape)
-    (ap (λ (v : FillingValue). v.loader.plan) c.self.view_is ∙ c.load_last.ensures.keeps.plan)
-    loaded going (λ all at. c.in_ok-answers.ensures all at) c.in-Ok.ensures.0 c.in-Ok.ensures.1
+    let sealing = c.in-Ok.sealing in
+    let entries = entries_of c.finish.new.segments in
+    let shape = ap (λ (v : FillingValue). v.segments.shape) c.self.view_is ∙ c.load_last.ensures.keeps.shape in
+    let plan = ap (λ (v : FillingValue). v.loader.plan) c.self.view_is ∙ c.load_last.ensures.keeps.plan in
+    record {
+      entries = entries;
+      nums = c.in-Ok.ensures.0;
+      writers = c.in-Ok.ensures.1;
+      closed = closed_at before.segments.shape before.loader.plan i.segments c.finish.new.segments rows i.loader c.in_ok-answers.answers entries
+          sealing.seals.items shape plan loaded going (λ all at. c.in_ok-answers.ensures all at) refl c.in-Ok.ensures.2;
+    }
 
 pub returns-in_err-load_last : goal.returns-in_err-load_last
 returns-in_err-load_last g c rows is =

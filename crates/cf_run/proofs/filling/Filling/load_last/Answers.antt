@@ -1,7 +1,8 @@
-use Rattle.std.proofs.Common.{◌≡◌, ◌<◌, ◌≤◌, false, length, sym, ap, subst, ◌∙◌}
+use Rattle.std.proofs.Common.{◌≡◌, ◌<◌, ◌≤◌, false, List, length, sym, ap, subst, ◌∙◌}
 use Rattle.std.proofs.lemmas.Result.{IfOk-weaker}
 use Rattle.cf_load.specs.Loads.{room_of}
-use Rattle.cf_run.specs.Filling.{FillingValue, IsFilled}
+use Rattle.cf_row.specs.Row.{RowValue}
+use Rattle.cf_run.specs.Filling.{FillingValue, HasBatch, IsFilled, LoadsWaiting}
 use Rattle.cf_run.proofs.Filled.{all_loaded, keeps_all, last_batch, last_loaded}
 use Rattle.cf_run.proofs.filling.Filling.load_last.Goals as goal
 
@@ -20,7 +21,8 @@ load-requires-after_bounds g c κs within =
     let few : f.count ≤ room_of f.segments = subst (λ (v : FillingValue). v.count ≤ room_of v.segments) (sym c.self.view_is) c.requires.few in
     let going : f.loader.stopped ≡ false = ap (λ (v : FillingValue). v.loader.stopped) c.self.view_is ∙ waits.0 in
     let some : 0 < length f.waiting = subst (λ (v : FillingValue). 0 < length v.waiting) (sym c.self.view_is) waits.1 in
-    last_batch f c.requires.filled.0 here few going some
+    subst (λ (rs : List RowValue). HasBatch f.segments rs f.loader) (sym c.deref.ensures.value)
+    (last_batch f c.requires.filled.0 here few going some)
 
 pub returns-clause-loaded : goal.returns-clause-loaded
 returns-clause-loaded g c =
@@ -30,8 +32,9 @@ returns-clause-loaded g c =
     let few : f.count ≤ room_of f.segments = subst (λ (v : FillingValue). v.count ≤ room_of v.segments) (sym c.self.view_is) c.requires.few in
     let going : f.loader.stopped ≡ false = ap (λ (v : FillingValue). v.loader.stopped) c.self.view_is ∙ waits.0 in
     IfOk-weaker c.load.result _ _ (λ _ loaded rows is.
-    all_loaded f rows
-    (subst (λ (v : FillingValue). IsFilled v rows) (sym c.self.view_is) is) c.load.new.segments c.load.new.loader few going loaded) c.load.ensures.loaded
+    all_loaded f rows (subst (λ (v : FillingValue). IsFilled v rows) (sym c.self.view_is) is) c.load.new.segments c.load.new.loader few going
+    (subst (λ (rs : List RowValue). LoadsWaiting rs f.segments c.load.new.segments f.loader c.load.new.loader) c.deref.ensures.value loaded))
+    c.load.ensures.loaded
 
 pub returns-clause-keeps : goal.returns-clause-keeps
 returns-clause-keeps g c =
