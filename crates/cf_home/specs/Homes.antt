@@ -1,0 +1,67 @@
+-- Passes that leave the places of a log's writers, and come home.
+use Rattle.std.specs.Prelude.{◌≡◌, ◌⊎◌, ℕ, ◌<◌, List, [], ◌∷◌, ◌++◌, Option, Some, None, slice_get}
+use Rattle.std.specs.List.{AllZip}
+use Rattle.rtrb.specs.declared.consumer.Consumer.{Consumer}
+use Rattle.rtrb.specs.Ring.{received}
+use Rattle.cf_table.specs.Values.{PassValue, book_of}
+use Rattle.cf_append.specs.Appends.{Rests}
+
+-- the pass is one of the same table and the same writer as the first, at rest
+pub record IsSuccessor (first pass : PassValue) : Type 0 where
+  pub table : pass.table ≡ first.table
+  pub nodes : pass.nodes ≡ first.nodes
+  pub writer : (book_of pass.view).writer ≡ (book_of first.view).writer
+  pub rest : Rests pass.view
+
+-- a pass that comes home follows the one that was taken
+abbrev pub MayCome : List PassValue → PassValue → Type 0
+MayCome came pass = (first : PassValue) → slice_get came 0 ≡ Some first → IsSuccessor first pass
+
+-- the pass that is at home, and those that came by the last way, the first of which is the one that was taken
+pub record PlaceValue : Type 0 where
+  pub home : Option PassValue
+  pub came : List PassValue
+
+-- the place of a pass that was never taken
+abbrev pub at_home : PassValue → PlaceValue
+at_home pass = record { home = Some pass; came = [] }
+
+module _ {A P : Type 0} where
+  abbrev pub came_by : Option (Consumer PassValue A P) → List PassValue
+  came_by None = []
+  came_by (Some way) = received way
+
+-- The pass that was away came home; or all is as it was.
+abbrev pub HasLooked : PlaceValue → PlaceValue → Type 0
+HasLooked m n =
+    (n ≡ m)
+    ⊎ ((m.home ≡ None) × ((pass : PassValue) × (n ≡ record { home = Some pass; came = m.came ++ pass ∷ [] }) × MayCome m.came pass))
+
+-- at each place the pass came home that was on its way, or all is as it was
+abbrev pub HaveLooked : List PlaceValue → List PlaceValue → Type 0
+HaveLooked = AllZip HasLooked
+
+-- no pass is at home
+abbrev pub AreAway : List PlaceValue → Type 0
+AreAway places = (k : ℕ) (place : PlaceValue) → slice_get places k ≡ Some place → place.home ≡ None
+
+-- the pass of that place is at home, and none behind it
+pub record IsHomeAt (places : List PlaceValue) (k : ℕ) : Type 0 where
+  pub place : PlaceValue
+  pub pass : PassValue
+  pub at : slice_get places k ≡ Some place
+  pub home : place.home ≡ Some pass
+  pub behind : (j : ℕ) (other : PlaceValue) → k < j → slice_get places j ≡ Some other → other.home ≡ None
+
+-- the pass is at home, or comes home
+abbrev pub Comes : PlaceValue → PassValue → Type 0
+Comes place pass = (place.home ≡ Some pass) ⊎ ((place.home ≡ None) × MayCome place.came pass)
+
+-- All is as it was; or a pass is at home, which was so or came home.
+abbrev pub Keeps : PlaceValue → PlaceValue → Type 0
+Keeps m n = (n ≡ m) ⊎ ((pass : PassValue) × Comes m pass × (n.home ≡ Some pass))
+
+-- The pass was taken from the place, with its way home; or it stays there, since there was no memory.
+abbrev pub Takes : PlaceValue → PlaceValue → Option (PassValue × List PassValue) → Type 0
+Takes m n (Some taken) = (m.home ≡ Some taken.0) × (taken.1 ≡ taken.0 ∷ []) × (n ≡ record { home = None; came = taken.0 ∷ [] })
+Takes m n None = n ≡ m

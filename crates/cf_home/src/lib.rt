@@ -1,0 +1,10 @@
+//! The places of a log's writers. A pass leaves its place with a way home, and comes back to it when it is sent, from any thread.
+#![tactic(auto)]
+
+mod place;
+mod places;
+mod way;
+
+pub use place::Place;
+pub use places::{find_home, places_of};
+pub use way::{Homeward, Way};

@@ -1,0 +1,86 @@
+// A place of a writer.
+ghost use Rattle.std.specs.Prelude.{◌≡◌, [], Some, true};
+ghost use Rattle.std.specs.Option.{is_some as is_some_of};
+ghost use Rattle.cf_home.specs.Homes.{HasLooked, Takes};
+
+use crate::way::{Homeward, Way, way_for};
+use cf_table::WriterPass;
+use rtrb::Consumer;
+use std::alloc::Global;
+use std::marker::Model;
+
+/// The place of a writer: its pass is at home, or it is away, or has come home since. Contracts see the pass that is at home, and those that
+/// came by the last way, the first of which is the one that was taken.
+#[derive(Drop)]
+pub struct Place {
+    home: Option<WriterPass>,
+    way: Option<Consumer<WriterPass, Global, Homeward>>,
+}
+
+impl Model for Place {
+    ghost use Rattle.cf_home.specs.Homes.{PlaceValue, came_by};
+
+    ghost Value = { PlaceValue };
+
+    ghost view = { λ p. record { home = p.home; came = came_by p.way } };
+}
+
+impl Place {
+    /// The place of a pass that is at home.
+    pub fn of(pass: WriterPass) -> Place
+        ensures { result ≡ record { home = Some pass; came = [] } }
+    {
+        Place {
+            home: Some(pass),
+            way: None,
+        }
+    }
+
+    /// Whether the pass is at home.
+    pub fn is_home(&self) -> bool
+        ensures { result ≡ is_some_of self.now.home }
+    {
+        self.home.is_some()
+    }
+
+    /// A pass that has come since is at home then.
+    pub fn look(&mut self)
+        ensures { HasLooked self.old self.new }
+    {
+        if self.home.is_some() {
+            return;
+        }
+        if let Some(way) = &mut self.way {
+            if let Ok(pass) = way.pop() {
+                self.home = Some(pass);
+            }
+        }
+    }
+
+    /// Takes the pass, with its way home, if it is at home. Without memory it stays at home.
+    pub fn take(&mut self, alloc: Global) -> Option<(WriterPass, Way)>
+        requires { is_some_of self.old.home ≡ true }
+        ensures { Takes self.old self.new result }
+    {
+        let Some(pass) = self.home.take() else {
+            unreachable!();
+        };
+        match way_for(alloc, pass) {
+            Ok((pass, way, home)) => {
+                self.way = Some(home);
+                Some((pass, way))
+            }
+            Err(pass) => {
+                self.home = Some(pass);
+                None
+            }
+        }
+    }
+
+    /// Puts a pass there that was taken from there, and was not sent.
+    pub fn put(&mut self, pass: WriterPass)
+        ensures { self.new ≡ record self.old { home = Some pass } }
+    {
+        self.home = Some(pass);
+    }
+}
