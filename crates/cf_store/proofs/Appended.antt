@@ -1,5 +1,5 @@
 -- The row of a frame was appended, and so the frame was.
-use Rattle.std.proofs.Common.{◌≡◌, ℕ, List, true, Result, Ok, Err, ap, subst}
+use Rattle.std.proofs.Common.{◌≡◌, ℕ, List, true, Result, Ok, Err, subst}
 use Rattle.std.specs.List.{list_all}
 use Rattle.cf_store.specs.Values.{is_value, plain_row}
 use Rattle.std.specs.Arc.{arc_value}

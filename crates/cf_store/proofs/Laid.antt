@@ -1,5 +1,5 @@
 -- Values of rows are shown.
-use Rattle.std.proofs.Common.{◌≡◌, ◌∙◌, ◌<◌, ◌+◌, ℕ, List, [], ◌∷◌, true, Some, length, map, slice_get, slice_index_or, zero, suc, ap, refl, sym, arith}
+use Rattle.std.proofs.Common.{◌≡◌, ◌<◌, ℕ, List, [], ◌∷◌, true, Some, length, map, slice_get, slice_index_or, zero, suc, refl, arith}
 use Rattle.cf_row.specs.declared.schema.Attr.{Attr}
 use Rattle.cf_row.specs.declared.row.Value.{Value}
 use Rattle.cf_row.specs.Row.{is_of_kind, values_fit}

@@ -5,3 +5,6 @@ pub mod Opened
 pub mod Suited
 pub mod Merged
 pub mod Laid
+pub mod Homeward
+pub mod Taken
+pub mod Lined

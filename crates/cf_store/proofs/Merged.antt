@@ -1,10 +1,9 @@
 -- Groups that are read from words, one by one.
-use Rattle.std.proofs.Common.{◌≡◌, ◌∙◌, ◌<◌, ◌≤◌, ◌+◌, ℕ, List, [], ◌∷◌, ◌++◌, Some, length, map, slice_get, get_or, take, zero, suc, inl, inr, ap, subst, arith}
-use Rattle.std.specs.List.{range_with_len, sum_by}
+use Rattle.std.proofs.Common.{◌≡◌, ◌<◌, ◌≤◌, ◌+◌, ℕ, List, [], ◌∷◌, ◌++◌, Some, map, slice_get, take, zero, suc, inl, inr, ap, subst, arith}
+use Rattle.std.specs.List.{range_with_len}
 use Rattle.std.proofs.lemmas.List.Sums.{sum_by-cons}
 use Rattle.std.proofs.lemmas.List.FromFn.{map-range_with_len_more}
 use Rattle.std.proofs.lemmas.Bool.{cases_lt}
-use Rattle.cf_fold.specs.Quads.{QuadValue}
 use Rattle.cf_plain.specs.declared.answer.Group.{Group}
 use Rattle.cf_plain.specs.Groups.{pair_of}
 use Rattle.cf_plain.specs.Segments.{numbers_in}

@@ -1,12 +1,14 @@
 -- A log was opened, and all its books are dealt.
-use Rattle.std.proofs.Common.{◌≡◌, ◌∙◌, get_or, ℕ, List, [], ◌∷◌, length, Some, slice_get, All, Result, Ok, Err, IfOk, IfErr, ap, sym, subst}
+use Rattle.std.proofs.Common.{◌≡◌, ◌∙◌, get_or, ℕ, List, [], ◌∷◌, zero, suc, length, map, Some, slice_get, All, Result, Ok, Err, IfOk, IfErr, ap, refl, sym, subst}
 use Rattle.std.proofs.lemmas.Option.{slice_get-get_or}
+use Rattle.std.proofs.lemmas.List.{length-map}
 use Rattle.cf_law.specs.Passes.{Book, Pass}
 use Rattle.cf_law.specs.Steps.{new_pass}
 use Rattle.cf_law.specs.Events.{no_book}
-use Rattle.cf_table.specs.Values.{PassValue, LogValue, IsOf, book_of}
+use Rattle.cf_table.specs.Values.{PassValue, LogValue, book_of}
 use Rattle.cf_table.specs.Rule.{root_pass}
 use Rattle.cf_table.specs.Moves.{AreDealt, HoldsAllBooks}
+use Rattle.cf_home.specs.Homes.{PlaceValue, at_home}
 use Rattle.cf_table.proofs.Played.{dealt_new}
 use Rattle.cf_setup.specs.Setups.{SetupValue}
 use Rattle.cf_setup.specs.SetupText.{SetupText}
@@ -15,7 +17,7 @@ use Rattle.cf_setup.specs.declared.parse.SetupFault.{SetupFault}
 use Rattle.cf_setup.specs.declared.parse.SetupFault.TheVariants.{Bad, Memory as FaultMemory}
 use Rattle.std.specs.Arc.{arc_value}
 use Rattle.cf_store.specs.Parts.{IsReady}
-use Rattle.cf_store.specs.Opens.{AreSizes, BySetup, IsNew, refusal_by, sized}
+use Rattle.cf_store.specs.Opens.{BySetup, IsNew, refusal_by, sized}
 use Rattle.cf_store.specs.declared.held.Log.{Log}
 use Rattle.cf_store.specs.declared.held.Shared.{Shared}
 use Rattle.cf_store.specs.declared.shown.Sizes.{Sizes}
@@ -47,21 +49,31 @@ pub all_new : (log : LogValue) (m n : PassValue) (hs : List PassValue) → m.vie
     → h.view ≡ new_pass (no_book k ∷ []) []
 all_new log m n hs is dealt k h at = (dealt_new log m n hs is dealt k h at).view
 
+at_home_new : (hs : List PassValue) (k : ℕ) (place : PlaceValue) → slice_get (map at_home hs) k ≡ Some place
+    → (h : PassValue) × (place ≡ at_home h) × (slice_get hs k ≡ Some h)
+at_home_new [] k place at = absurd (cc at)
+at_home_new (h ∷ hs) zero place at = (h, cc at, refl)
+at_home_new (h ∷ hs) (suc k) place at = at_home_new hs k place at
+
 -- The parts of the log are new ones of the setup, and so the log is.
-pub new_log : (setup : SetupValue) (sizes : Sizes) (shared : Shared) (root : PassValue) (passes : List PassValue) (r : Result Log OpenRefusal)
-    → IfOk r (λ log. (arc_value log.of ≡ shared) × (log.root ≡ root) × (log.writers.items ≡ passes)) → shared.setup ≡ setup
+pub new_log : (setup : SetupValue) (sizes : Sizes) (shared : Shared) (root : PassValue) (passes : List PassValue) (places : List PlaceValue)
+    (r : Result Log OpenRefusal)
+    → IfOk r (λ log. (arc_value log.of ≡ shared) × (log.root ≡ root) × (log.places.items ≡ places)) → shared.setup ≡ setup
     → shared.log.shape ≡ sized setup sizes
-    → root.view ≡ new_pass [] [] → length passes ≡ sizes.writers
+    → root.view ≡ new_pass [] [] → places ≡ map at_home passes → length passes ≡ sizes.writers
     → ((k : ℕ) (h : PassValue) → slice_get passes k ≡ Some h → h.view ≡ new_pass (no_book k ∷ []) [])
-    → IfOk r (IsNew setup sizes)
-new_log setup sizes shared root passes (Ok log) made of shape view count each = record {
+    → IfOk r (IsNew shared.text.items setup sizes)
+new_log setup sizes shared root passes places (Ok log) made of shape view home count each = record {
   setup_is = ap (λ (s : Shared). s.setup) made.0 ∙ of;
+  text_is = ap (λ (s : Shared). s.text.items) made.0;
   shape = ap (λ (s : Shared). s.log.shape) made.0 ∙ shape;
   root = ap (λ (p : PassValue). p.view) made.1 ∙ view;
-  all = ap (λ (ps : List PassValue). length ps) made.2 ∙ count;
-  each = subst (λ (ps : List PassValue). (k : ℕ) (h : PassValue) → slice_get ps k ≡ Some h → h.view ≡ new_pass (no_book k ∷ []) []) (sym made.2) each;
+  all = ap (λ (ps : List PlaceValue). length ps) (made.2 ∙ home) ∙ (length-map passes at_home ∙ count);
+  each = λ k place at.
+      (let found = at_home_new passes k place (sym (ap (λ (ps : List PlaceValue). slice_get ps k) (made.2 ∙ home)) ∙ at) in
+      (found.0, found.1, each k found.0 found.2));
 }
-new_log setup sizes shared root passes (Err e) made of shape view count each = tt
+new_log setup sizes shared root passes places (Err e) made of shape view home count each = tt
 
 -- what reading a text answered is what the text is
 pub lawful : (text : List ℕ) (setup : SetupValue) (r : Result SetupValue SetupFault)

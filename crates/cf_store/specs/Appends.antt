@@ -1,5 +1,5 @@
 -- What comes of appending rows by a writer.
-use Rattle.std.specs.Prelude.{◌≡◌, ◌⊎◌, ℕ, ◌+◌, ◌<◌, ◌≤◌, ◌^◌, Bool, Option, List, true, false, length, map, take, drop, Result, Ok, Err, IfOk}
+use Rattle.std.specs.Prelude.{◌≡◌, ℕ, ◌+◌, ◌<◌, ◌≤◌, ◌^◌, Bool, Option, List, true, length, map, take, drop, Result, Ok, Err}
 use Rattle.std.specs.Arc.{arc_value}
 use Rattle.std.specs.List.{list_all}
 use Rattle.cf_row.specs.declared.row.Value.TheVariants.{Num}
@@ -60,9 +60,9 @@ row_by Records = packet_row_of
 abbrev pub frame_row : SetupValue → FrameValue → RowValue
 frame_row setup frame = row_by setup.source frame
 
--- The row was appended by a writer, which stays one of its log, or why it was not.
+-- The row was appended by a writer, which stays one of its log, with its way home, or why it was not.
 abbrev pub HasWritten : RowValue → Writer → Writer → Result ℕ AppendFault → Type 0
-HasWritten row m n r = (n.of ≡ m.of) × HasAppended (arc_value m.of).log.shape row m.pass n.pass r
+HasWritten row m n r = (n.of ≡ m.of) × (n.way ≡ m.way) × HasAppended (arc_value m.of).log.shape row m.pass n.pass r
 
 -- What appending a row answers: its offset; or the log or the writer's nodes are full; or the row does not fit the schema, and then the
 -- writer is as it was.

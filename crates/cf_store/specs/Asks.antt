@@ -1,6 +1,6 @@
 -- What comes of asking questions by a reader.
-use Rattle.std.specs.Prelude.{◌≡◌, ℕ, ◌<◌, ◌≤◌, List, [], ◌∷◌, true, length, map, slice_get, Some, None, Result, Ok, Err, Vec}
-use Rattle.std.specs.List.{flat_map}
+use Rattle.std.specs.Prelude.{◌≡◌, ◌⊎◌, ℕ, ◌+◌, ◌<◌, ◌≤◌, ◌==◌, List, [], ◌∷◌, ◌++◌, true, false, length, slice_get, Some, None, Result, Ok, Err, Vec}
+use Rattle.std.specs.List.{flat_map, list_any}
 use Rattle.std.specs.Global.{Global}
 use Rattle.std.specs.Arc.{arc_value}
 use Rattle.cf_plain.specs.declared.ask.Ask.{Ask}
@@ -11,7 +11,9 @@ use Rattle.cf_plain.specs.declared.answer.Body.TheVariants as bodies
 use Rattle.cf_fold.specs.Quads.{QuadValue}
 use Rattle.cf_row.specs.Row.{Fits, RowValue}
 use Rattle.cf_shape.specs.Uses.{is_measured}
-use Rattle.cf_plain.specs.Asks.{eval, row_at, rows_in}
+use Rattle.cf_setup.specs.Setups.{SetupValue}
+use Rattle.cf_setup.specs.SetupText.{SetupText}
+use Rattle.cf_plain.specs.Asks.{Suits, eval, row_at, rows_in}
 use Rattle.cf_plain.specs.Groups.{groups}
 use Rattle.cf_walk.specs.Walks.{OnlyWalked}
 use Rattle.cf_table.specs.Moves.{OnlyLooked}
@@ -25,6 +27,8 @@ use Rattle.cf_store.specs.declared.shown.PlainValue.{PlainValue}
 use Rattle.cf_store.specs.declared.shown.Shown.{Shown}
 use Rattle.cf_store.specs.declared.refusals.AskRefusal.{AskRefusal}
 use Rattle.cf_store.specs.declared.refusals.AskRefusal.TheVariants.{NoQuestion, Memory}
+use Rattle.cf_store.specs.declared.refusals.LineRefusal.{LineRefusal}
+use Rattle.cf_store.specs.declared.refusals.LineRefusal.TheVariants as said
 use Rattle.cf_store.specs.declared.refusals.LaneRefusal.{LaneRefusal}
 use Rattle.cf_store.specs.declared.refusals.LaneRefusal.TheVariants as lanes
 use Rattle.cf_store.specs.declared.refusals.RowRefusal.{RowRefusal}
@@ -63,6 +67,47 @@ Answers shared question m n (Ok answer) = IsAnswer shared question m n answer
 Answers shared question m n (Err NoQuestion) = (n ≡ m) × (slice_get shared.setup.asks question ≡ None)
 Answers shared question m n (Err Memory) = HasAsked shared.log.shape m n
 
+-- the text with one line more
+abbrev pub with_line : List ℕ → List ℕ → List ℕ
+with_line text line = text ++ 10 ∷ line
+
+-- what reading the text with one line more answers
+abbrev pub ReadsLine : List ℕ → List ℕ → Result SetupValue LineRefusal → Type 0
+ReadsLine text line (Ok longer) = SetupText (with_line text line) (Ok longer)
+    × ((other : SetupValue) → SetupText (with_line text line) (Ok other) → other ≡ longer)
+ReadsLine text line (Err (said.Setup number code)) = SetupText (with_line text line) (Err (number, code))
+    × ((other : SetupValue) → SetupText (with_line text line) (Ok other) → ⊥)
+ReadsLine text line (Err said.NoQuestion) = ⊥
+ReadsLine text line (Err said.Memory) = Unit {0}
+
+-- the longer setup has this question more, which suits the log
+pub record IsNewQuestion (shared : Shared) (longer : SetupValue) (ask : Ask) : Type 0 where
+  pub more : length longer.asks ≡ length shared.setup.asks + 1
+  pub last : slice_get longer.asks (length shared.setup.asks) ≡ Some ask
+  pub suits : Suits shared.log.shape ask
+
+-- The line says a question: it is one line, and behind the text of the log's setup it makes the text of a setup with one question more,
+-- which is this one. It suits the log.
+pub record SaysQuestion (shared : Shared) (line : List ℕ) (ask : Ask) : Type 0 where
+  pub one : list_any (λ b. b == 10) line ≡ false
+  pub longer : SetupValue
+  pub text : SetupText (with_line shared.text.items line) (Ok longer)
+  pub new : IsNewQuestion shared longer ask
+
+-- the question was asked, and the body is its meaning on all that the pass has seen then
+pub record IsAnswerTo (shared : Shared) (ask : Ask) (m n : PassValue) (answer : Answer) : Type 0 where
+  pub asked : HasAsked shared.log.shape m n
+  pub tail : answer.tail ≡ length (n.view).seen
+  pub body : answer.body ≡ eval shared.log.shape ask (n.view).seen
+
+-- What asking the question that a line says answers. If the line is faulty behind the setup's text, its code is that of such a text; if it
+-- says no question, nothing is asked. If there is no memory, the pass has asked, or all is as it was.
+abbrev pub AnswersLine : Shared → List ℕ → PassValue → PassValue → Result Answer LineRefusal → Type 0
+AnswersLine shared line m n (Ok answer) = (ask : Ask) × SaysQuestion shared line ask × IsAnswerTo shared ask m n answer
+AnswersLine shared line m n (Err (said.Setup number code)) = (n ≡ m) × SetupText (with_line shared.text.items line) (Err (number, code))
+AnswersLine shared line m n (Err said.NoQuestion) = (n ≡ m) × ((ask : Ask) → SaysQuestion shared line ask → ⊥)
+AnswersLine shared line m n (Err said.Memory) = (n ≡ m) ⊎ HasAsked shared.log.shape m n
+
 -- the question of that number was asked of what the pass had seen, and the body is its meaning on that
 pub record IsSeenAnswer (shared : Shared) (question : ℕ) (m n : PassValue) (answer : Answer) : Type 0 where
   pub ask : Ask
@@ -85,13 +130,17 @@ pub record IsTold (answer : Answer) (head : Head) (words : List ℕ) : Type 0 wh
   pub words_are : words ≡ body_words answer.body
 
 -- The reader stays one of its log. It keeps the words of the answer that its pass was told; refused, those that it had.
-abbrev pub Keeps : (PassValue → PassValue → Result Answer AskRefusal → Type 0) → Reader → Reader → Result Head AskRefusal → Type 0
+abbrev pub Keeps : {E : Type 0} → (PassValue → PassValue → Result Answer E → Type 0) → Reader → Reader → Result Head E → Type 0
 Keeps Asked m n (Ok head) = (n.of ≡ m.of) × ((answer : Answer) × Asked m.pass n.pass (Ok answer) × IsTold answer head n.words.items)
 Keeps Asked m n (Err refusal) = (n.of ≡ m.of) × (n.words.items ≡ m.words.items) × Asked m.pass n.pass (Err refusal)
 
 -- a question of the setup, at the tail
 abbrev pub AsksAt : ℕ → Reader → Reader → Result Head AskRefusal → Type 0
 AsksAt question m n r = Keeps (Answers (arc_value m.of) question) m n r
+
+-- the question that a line says, at the tail
+abbrev pub AsksLine : List ℕ → Reader → Reader → Result Head LineRefusal → Type 0
+AsksLine line m n r = Keeps (AnswersLine (arc_value m.of) line) m n r
 
 -- a question of the setup, of what the reader has seen
 abbrev pub AsksSeen : ℕ → Reader → Reader → Result Head AskRefusal → Type 0

@@ -10,6 +10,8 @@ use Rattle.cf_store.specs.declared.refusals.AppendRefusal.{AppendRefusal}
 use Rattle.cf_store.specs.declared.refusals.AppendRefusal.TheVariants as appends
 use Rattle.cf_store.specs.declared.refusals.AskRefusal.{AskRefusal}
 use Rattle.cf_store.specs.declared.refusals.AskRefusal.TheVariants as asks
+use Rattle.cf_store.specs.declared.refusals.LineRefusal.{LineRefusal}
+use Rattle.cf_store.specs.declared.refusals.LineRefusal.TheVariants as lines
 use Rattle.cf_store.specs.declared.refusals.LaneRefusal.{LaneRefusal}
 use Rattle.cf_store.specs.declared.refusals.LaneRefusal.TheVariants as lanes
 use Rattle.cf_store.specs.declared.refusals.MergeRefusal.{MergeRefusal}
@@ -58,6 +60,12 @@ abbrev pub stop_code : Option AppendRefusal → Code
 stop_code (Some refusal) = append_code refusal
 stop_code None = Done
 
+-- the code of a line whose question was not answered
+abbrev pub line_code : LineRefusal → Code
+line_code (lines.Setup number code) = Setup
+line_code lines.NoQuestion = NoQuestion
+line_code lines.Memory = Memory
+
 -- the code of groups that were not told
 abbrev pub lane_code : LaneRefusal → Code
 lane_code lanes.NoLane = NoLane
@@ -86,12 +94,12 @@ text_of n =
     else (if n == 2 then codes "a size is out of range, or an array is too short"
     else (if n == 3 then codes "the setup is faulty"
     else (if n == 4 then codes "the handle leads to nothing"
-    else (if n == 5 then codes "all writers were taken"
+    else (if n == 5 then codes "all writers are taken"
     else (if n == 6 then codes "the log is full"
     else (if n == 7 then codes "the writer's nodes are used"
     else (if n == 8 then codes "the row does not fit the log's schema"
     else (if n == 9 then codes "the frame is too long, not in the buffer, or of a link not read"
-    else (if n == 10 then codes "the setup has no such question"
+    else (if n == 10 then codes "the setup has no such question, or the line says none"
     else (if n == 11 then codes "the setup has no such lane, or it measures nothing"
     else (if n == 12 then codes "the reader has seen no record at that offset"
     else (if n == 13 then codes "the setup has nothing of that sort and number"

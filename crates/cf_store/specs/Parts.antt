@@ -1,8 +1,9 @@
--- What is true of the passes that writers and readers hold.
-use Rattle.std.specs.Prelude.{◌≤◌, length}
+-- What is true of the passes that writers and readers hold, and of the places of writers.
+use Rattle.std.specs.Prelude.{◌≡◌, ◌≤◌, Some, None, length, slice_get}
 use Rattle.cf_table.specs.Values.{PassValue, LogValue, IsOf}
 use Rattle.cf_table.specs.Moves.{AreFit}
 use Rattle.cf_append.specs.Appends.{Rests}
+use Rattle.cf_home.specs.Homes.{PlaceValue}
 
 -- the pass is one of the log's, with one book and no ticket in flight
 pub record IsReady (log : LogValue) (pass : PassValue) : Type 0 where
@@ -14,3 +15,9 @@ pub record IsAware (log : LogValue) (pass : PassValue) : Type 0 where
   pub of : IsOf pass log
   pub few : length (pass.view).seen ≤ log.shape.capacity
   pub fit : AreFit log.shape pass.view
+
+-- the place is that of a writer of the log: its pass is ready, or it was taken from there
+pub record IsPlaceOf (log : LogValue) (place : PlaceValue) : Type 0 where
+  pub home : (pass : PassValue) → place.home ≡ Some pass → IsReady log pass
+  pub away : place.home ≡ None → 1 ≤ length place.came
+  pub first : place.home ≡ None → (first : PassValue) → slice_get place.came 0 ≡ Some first → IsOf first log

@@ -1,9 +1,10 @@
 // The codes that calls answer, and their texts.
 ghost use Rattle.std.specs.Prelude.{◌≡◌};
-ghost use Rattle.cf_store.specs.Codes.{code_number, text_of, open_code, take_code, append_code, ask_code, lane_code, merge_code, row_code, stop_code};
+ghost use Rattle.cf_store.specs.Codes.{code_number, text_of, open_code, take_code, append_code, ask_code, lane_code, line_code, merge_code, row_code, stop_code};
 
 use crate::refusals::{
-    AppendRefusal, AskRefusal, LaneRefusal, MergeRefusal, OpenRefusal, RowRefusal, TakeRefusal,
+    AppendRefusal, AskRefusal, LaneRefusal, LineRefusal, MergeRefusal, OpenRefusal, RowRefusal,
+    TakeRefusal,
 };
 
 /// What came of a call.
@@ -19,7 +20,7 @@ pub enum Code {
     Setup = 3,
     /// The handle leads to nothing.
     Nothing = 4,
-    /// All writers were taken.
+    /// All writers are taken.
     NoWriter = 5,
     /// The log is full.
     Full = 6,
@@ -29,7 +30,7 @@ pub enum Code {
     Unfit = 8,
     /// The frame is too long, not in the buffer, or of a link that the schema does not read.
     Frame = 9,
-    /// The setup has no such question.
+    /// The setup has no such question, or the line says none.
     NoQuestion = 10,
     /// The setup has no such lane, or it measures nothing.
     NoLane = 11,
@@ -93,6 +94,17 @@ impl Code {
         }
     }
 
+    /// Of a line whose question was not answered.
+    pub fn of_line(refusal: LineRefusal) -> Code
+        ensures { result ≡ line_code refusal }
+    {
+        match refusal {
+            LineRefusal::Setup(_, _) => Code::Setup,
+            LineRefusal::NoQuestion => Code::NoQuestion,
+            LineRefusal::Memory => Code::Memory,
+        }
+    }
+
     /// Of groups that were not told.
     pub fn of_lane(refusal: LaneRefusal) -> Code
         ensures { result ≡ lane_code refusal }
@@ -144,12 +156,12 @@ pub fn message_of(number: u32) -> &'static [u8]
         2 => b"a size is out of range, or an array is too short",
         3 => b"the setup is faulty",
         4 => b"the handle leads to nothing",
-        5 => b"all writers were taken",
+        5 => b"all writers are taken",
         6 => b"the log is full",
         7 => b"the writer's nodes are used",
         8 => b"the row does not fit the log's schema",
         9 => b"the frame is too long, not in the buffer, or of a link not read",
-        10 => b"the setup has no such question",
+        10 => b"the setup has no such question, or the line says none",
         11 => b"the setup has no such lane, or it measures nothing",
         12 => b"the reader has seen no record at that offset",
         13 => b"the setup has nothing of that sort and number",

@@ -1,41 +1,66 @@
 // A log, its writers and its readers, as a program holds them.
-ghost use Rattle.std.specs.Prelude.{◌≡◌, [], All, Ok, true};
+ghost use Rattle.std.specs.Prelude.{◌≡◌, [], All, true};
 ghost use Rattle.std.specs.List.{list_all};
 ghost use Rattle.std.specs.Arc.{arc_value};
 ghost use Rattle.cf_law.specs.Steps.{new_pass};
 ghost use Rattle.cf_table.specs.Values.{IsOf};
 ghost use Rattle.cf_plain.specs.Asks.{suits_of};
-ghost use Rattle.cf_store.specs.Parts.{IsReady, IsAware};
+ghost use Rattle.cf_home.specs.Homes.{MayCome};
+ghost use Rattle.cf_store.specs.Parts.{IsReady, IsAware, IsPlaceOf};
 
+use cf_home::{Place, Way};
 use cf_setup::Setup;
 use cf_table::{MultiLog, ReaderPass, Root, WriterPass};
 use std::sync::Arc;
 
-/// A log and its setup, which the log, its writers and its readers share.
+/// A log, its setup and the text of that, which the log, its writers and its readers share.
 #[derive(Drop)]
 pub struct Shared {
     pub(crate) log: MultiLog,
     pub(crate) setup: Setup,
+    pub(crate) text: Vec<u8>,
     ghost suited: { list_all (suits_of log.shape) setup.asks ≡ true },
 }
 
-/// A log, with the passes of writers that were not taken yet.
+/// A log, with the places of its writers. The pass of a writer that is freed, in whatever thread, comes back to its place.
 #[derive(Drop)]
 pub struct Log {
     pub(crate) of: Arc<Shared>,
     pub(crate) root: Root,
-    pub(crate) writers: Vec<WriterPass>,
+    pub(crate) places: Vec<Place>,
     ghost root_of: { IsOf root (arc_value of).log },
     ghost root_new: { root.view ≡ new_pass [] [] },
-    ghost ready: { All (IsReady (arc_value of).log) writers.items },
+    ghost placed: { All (IsPlaceOf (arc_value of).log) places.items },
 }
 
-/// A writer of a log.
-#[derive(Drop)]
+/// A writer of a log. When it is let go, its pass goes back to its place in the log, where it is taken again.
 pub struct Writer {
     pub(crate) of: Arc<Shared>,
     pub(crate) pass: WriterPass,
+    pub(crate) way: Way,
     ghost ready: { IsReady (arc_value of).log pass },
+    ghost homeward: { MayCome way pass },
+}
+
+impl Writer {
+    // Its pass, which is not sent home.
+    pub(crate) fn into_pass(self) -> WriterPass
+        ensures { result ≡ self.pass }
+    {
+        let Writer {
+            of: _of,
+            pass,
+            way: _way,
+        } = self;
+        pass
+    }
+}
+
+impl Drop for Writer {
+    fn drop(self) {
+        let Writer { of: _of, pass, way } = self;
+        drop(way.send(pass));
+    }
 }
 
 /// A reader of a log, with the words of its last answer.

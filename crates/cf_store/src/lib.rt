@@ -3,6 +3,7 @@
 
 mod code;
 mod held;
+mod line;
 mod log;
 mod merges;
 mod reader;
@@ -16,6 +17,7 @@ pub use held::{Log, Reader, Writer};
 pub use log::measure;
 pub use merges::merge;
 pub use refusals::{
-    AppendRefusal, AskRefusal, LaneRefusal, MergeRefusal, OpenRefusal, RowRefusal, TakeRefusal,
+    AppendRefusal, AskRefusal, LaneRefusal, LineRefusal, MergeRefusal, OpenRefusal, RowRefusal,
+    TakeRefusal,
 };
 pub use shown::{Capture, Fault, Framed, Head, PlainValue, Room, Shown, Sizes};

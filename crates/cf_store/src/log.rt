@@ -1,22 +1,25 @@
 // A log is opened, and its writers and readers are taken.
 ghost use Rattle.std.specs.Prelude.{◌≡◌, ◌*◌, ◌↔◌, [], All, true, IfOk, IfErr};
 ghost use Rattle.std.specs.Result.{result_map_both};
+ghost use Rattle.std.specs.Option.{option_map};
 ghost use Rattle.std.specs.Box.{box_value};
 ghost use Rattle.std.specs.Arc.{arc_value};
 ghost use Rattle.cf_shape.specs.Places.{sizes_of, word_total as word_total_of};
 ghost use Rattle.cf_law.specs.Steps.{new_pass};
 ghost use Rattle.cf_table.specs.Values.{IsOf};
-ghost use Rattle.cf_store.specs.Parts.{IsReady};
+ghost use Rattle.cf_home.specs.Homes.{IsHomeAt};
+ghost use Rattle.cf_store.specs.Parts.{IsPlaceOf};
 ghost use Rattle.cf_store.specs.declared.refusals.OpenRefusal.TheVariants.{Memory as NoMemory};
-ghost use Rattle.cf_store.specs.Opens.{AreSizes, IsNew, IsLogWith, BySetup, Opens, Measures, Takes, Forks, refusal_by, sized};
+ghost use Rattle.cf_store.specs.Opens.{AreSizes, IsNew, BySetup, Opens, Measures, Takes, TakesAt, Forks, refusal_by, sized};
 
 use crate::held::{Log, Reader, Shared, Writer};
 use crate::refusals::{OpenRefusal, TakeRefusal};
 use crate::shown::Sizes;
+use cf_home::{Place, find_home, places_of};
 use cf_row::Memory;
 use cf_setup::{Setup, SetupFault, parse_setup, shape_of};
 use cf_shape::{Shape, word_total};
-use cf_table::{MultiLog, Root, WriterPass};
+use cf_table::{MultiLog, Root};
 use std::alloc::Global;
 use std::sync::Arc;
 
@@ -90,33 +93,41 @@ impl Log {
         alloc: Global,
         shared: Shared,
         root: Root,
-        writers: Vec<WriterPass>,
+        places: Vec<Place>,
     ) -> Result<Log, OpenRefusal>
         requires root_of { IsOf root shared.log }
         requires root_new { root.view ≡ new_pass [] [] }
-        requires ready { All (IsReady shared.log) writers.items }
-        ensures ok { IfOk result (λ log. (arc_value log.of ≡ shared) × (log.root ≡ root) × (log.writers.items ≡ writers.items)) }
+        requires placed { All (IsPlaceOf shared.log) places.items }
+        ensures ok { IfOk result (λ log. (arc_value log.of ≡ shared) × (log.root ≡ root) × (log.places.items ≡ places.items)) }
         ensures refused { IfErr result (λ refusal. refusal ≡ NoMemory) }
     {
         let Ok(of) = Arc::new(alloc, shared) else {
             return Err(OpenRefusal::Memory);
         };
-        Ok(Log { of, root, writers })
+        Ok(Log { of, root, places })
     }
 
-    fn of_setup(alloc: Global, setup: Setup, sizes: Sizes) -> Result<Log, OpenRefusal>
+    fn of_setup(
+        alloc: Global,
+        text: Vec<u8>,
+        setup: Setup,
+        sizes: Sizes,
+    ) -> Result<Log, OpenRefusal>
         requires sizes { AreSizes sizes }
-        ensures ok { IfOk result (IsNew setup sizes) }
+        ensures ok { IfOk result (IsNew text.items setup sizes) }
         ensures refused { IfErr result (λ refusal. refusal ≡ NoMemory) }
     {
         let shape = sized_shape(alloc, &setup, sizes)?;
         let Ok((log, mut root)) = MultiLog::open(alloc, shape) else {
             return Err(OpenRefusal::Memory);
         };
-        let Ok(writers) = log.deal(alloc, &mut root) else {
+        let Ok(passes) = log.deal(alloc, &mut root) else {
             return Err(OpenRefusal::Memory);
         };
-        Log::of_parts(alloc, Shared { log, setup }, root, writers)
+        let Ok(places) = places_of(alloc, passes) else {
+            return Err(OpenRefusal::Memory);
+        };
+        Log::of_parts(alloc, Shared { log, setup, text }, root, places)
     }
 
     /// An empty log of the setup that the bytes are the text of.
@@ -124,7 +135,10 @@ impl Log {
         ensures { Opens text.now sizes result }
     {
         let setup = setup_of(alloc, text, sizes)?;
-        Log::of_setup(alloc, setup, sizes)
+        let Ok(kept) = Vec::from_slice(alloc, text) else {
+            return Err(OpenRefusal::Memory);
+        };
+        Log::of_setup(alloc, kept, setup, sizes)
     }
 
     /// The setup of the log.
@@ -134,23 +148,36 @@ impl Log {
         &self.of.setup
     }
 
-    /// A writer that was not taken yet.
+    // Takes the writer of a place whose pass is at home. Without memory the pass stays at home.
+    fn take_at(&mut self, alloc: Global, k: usize) -> Option<Box<Writer>>
+        requires { IsHomeAt self.old.places.items k }
+        ensures { TakesAt k self.old self.new (option_map box_value result) }
+    {
+        let Ok(of) = Arc::try_clone(&self.of) else {
+            return None;
+        };
+        let Some((pass, way)) = self.places[k].take(alloc) else {
+            return None;
+        };
+        match Box::new(alloc, Writer { of, pass, way }) {
+            Ok(writer) => Some(writer),
+            Err(refused) => {
+                self.places[k].put(refused.value.into_pass());
+                None
+            }
+        }
+    }
+
+    /// A writer that is not taken: that of the last place whose pass is at home, or has come home from a writer that was freed.
     pub fn next_writer(&mut self, alloc: Global) -> Result<Box<Writer>, TakeRefusal>
         ensures { Takes self.old self.new (result_map_both box_value (λ refusal. refusal) result) }
     {
-        let Ok(of) = Arc::try_clone(&self.of) else {
-            return Err(TakeRefusal::Memory);
-        };
-        let Some(pass) = self.writers.pop() else {
+        let Some(k) = find_home(&mut self.places) else {
             return Err(TakeRefusal::NoWriter);
         };
-        match Box::new(alloc, Writer { of, pass }) {
-            Ok(writer) => Ok(writer),
-            Err(refused) => {
-                let Writer { of: _of, pass } = refused.value;
-                self.writers.push_reserved(pass);
-                Err(TakeRefusal::Memory)
-            }
+        match self.take_at(alloc, k) {
+            Some(writer) => Ok(writer),
+            None => Err(TakeRefusal::Memory),
         }
     }
 

@@ -159,7 +159,7 @@ fn groups_of(
 }
 
 impl Reader {
-    fn keep(&mut self, alloc: Global, answer: &Answer) -> Result<Head, AskRefusal>
+    pub(crate) fn keep(&mut self, alloc: Global, answer: &Answer) -> Result<Head, AskRefusal>
         ensures same { (self.new.of ≡ self.old.of) × (self.new.pass ≡ self.old.pass) }
         ensures told { IfOk result (λ head. IsTold answer.now head self.new.words.items) }
         ensures memory { IfErr result (λ refusal. (refusal ≡ Memory) × (self.new.words.items ≡ self.old.words.items)) }

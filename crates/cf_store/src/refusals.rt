@@ -13,7 +13,7 @@ pub enum OpenRefusal {
 /// Why no writer is taken.
 #[derive(Clone, Copy)]
 pub enum TakeRefusal {
-    /// All were taken.
+    /// All are taken.
     NoWriter,
     Memory,
 }
@@ -36,6 +36,16 @@ pub enum AppendRefusal {
 #[derive(Clone, Copy)]
 pub enum AskRefusal {
     /// The setup has no such question.
+    NoQuestion,
+    Memory,
+}
+
+/// Why the question of a line is not answered.
+#[derive(Clone, Copy)]
+pub enum LineRefusal {
+    /// Behind the text of the setup, of whose lines it is then the one of that number, the line is faulty, with that code.
+    Setup(u32, u8),
+    /// The line says no question: it is another statement, or none, or several lines.
     NoQuestion,
     Memory,
 }

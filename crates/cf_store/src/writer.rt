@@ -120,7 +120,7 @@ impl Writer {
     fn append_fitting(&mut self, row: &Row, leaves: &mut Leaves) -> Result<u32, AppendFault>
         requires fits { Fits (arc_value self.old.of).log.shape.schema row.now }
         requires near { Remembers (arc_value self.old.of).log.shape self.old.pass.view leaves.old }
-        ensures of { self.new.of ≡ self.old.of }
+        ensures of { (self.new.of ≡ self.old.of) × (self.new.way ≡ self.old.way) }
         ensures appended { HasAppended (arc_value self.old.of).log.shape row.now self.old.pass self.new.pass result }
         ensures near { Remembers (arc_value self.old.of).log.shape self.new.pass.view leaves.new }
     {

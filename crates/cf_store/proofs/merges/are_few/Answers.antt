@@ -1,4 +1,4 @@
-use Rattle.std.proofs.Common.{◌≤◌, arith}
+use Rattle.std.proofs.Common.{arith}
 use Rattle.cf_log.proofs.Chained.{found_at}
 use Rattle.cf_store.proofs.Merged.{few_more}
 use Rattle.cf_store.proofs.merges.are_few.Goals as goal

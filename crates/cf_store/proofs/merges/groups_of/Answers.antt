@@ -1,7 +1,6 @@
-use Rattle.std.proofs.Common.{◌≡◌, ◌∙◌, ◌<◌, ◌++◌, ◌∷◌, [], ℕ, List, map, ap, ap₂, sym, subst, arith}
+use Rattle.std.proofs.Common.{◌∙◌, ◌++◌, ◌∷◌, [], ℕ, List, map, ap, ap₂, sym}
 use Rattle.std.proofs.lemmas.List.{map-append}
 use Rattle.cf_fold.specs.Quads.{QuadValue}
-use Rattle.cf_plain.specs.declared.answer.Group.{Group}
 use Rattle.cf_plain.specs.Groups.{pair_of}
 use Rattle.cf_store.specs.Merges.{IsToldQuad, group_at, quad_at}
 use Rattle.cf_store.proofs.Merged.{each_more, range_map_more}

@@ -1,4 +1,4 @@
-use Rattle.std.proofs.Common.{◌≡◌, ◌∙◌, ◌<◌, ◌++◌, ◌∷◌, [], ℕ, List, Some, length, map, min, take, drop, slice_get, ap, ap₂, sym, subst, arith, length-set}
+use Rattle.std.proofs.Common.{◌≡◌, ◌∙◌, ◌++◌, ◌∷◌, [], ℕ, List, Some, length, map, min, take, drop, slice_get, ap, ap₂, sym, subst, arith, length-set}
 use Rattle.std.proofs.lemmas.List.{take-append-drop}
 use Rattle.cf_log.proofs.Chained.{took_more, stored_more, rest_more}
 use Rattle.cf_row.specs.declared.schema.Attr.{Attr}

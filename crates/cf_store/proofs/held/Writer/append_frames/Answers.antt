@@ -1,4 +1,4 @@
-use Rattle.std.proofs.Common.{◌≡◌, ◌∙◌, ◌<◌, ℕ, Ok, refl, length, take, drop, get_or, ap, arith, length-set, subst, sym}
+use Rattle.std.proofs.Common.{◌≡◌, ◌∙◌, ℕ, Ok, refl, length, take, drop, get_or, ap, arith, length-set, subst, sym}
 use Rattle.std.specs.Arc.{arc_value}
 use Rattle.std.proofs.lemmas.Option.{slice_get-get_or}
 use Rattle.cf_append.specs.Paths.{Remembers}
