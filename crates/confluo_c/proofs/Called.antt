@@ -1,11 +1,15 @@
 -- Calls by handles are those of what they lead to.
 use Rattle.std.proofs.Common.{◌≡◌, ◌∙◌, ℕ, List, Result, Option, Some, None, Ok, Err, ap, refl, sym, subst}
+use Rattle.cf_store.specs.declared.held.Reader.{Reader}
 use Rattle.cf_store.specs.declared.held.Writer.{Writer}
 use Rattle.cf_store.specs.declared.shown.Framed.{Framed}
+use Rattle.cf_store.specs.declared.shown.Head.{Head}
+use Rattle.cf_store.specs.declared.refusals.LineRefusal.{LineRefusal}
+use Rattle.cf_store.specs.Asks.{AsksLine}
 use Rattle.cf_store.specs.declared.code.Code.{Code}
 use Rattle.cf_store.specs.declared.code.Code.TheVariants.{Nothing}
 use Rattle.cf_store.specs.Codes.{code_number}
-use Rattle.confluo_c.specs.Calls.{AppendsBatch, BatchBy, ByHandle, IsCoded, Tells, coded, number_of, told_or}
+use Rattle.confluo_c.specs.Calls.{AppendsBatch, BatchBy, ByHandle, IsCoded, LineBy, Tells, coded, number_of, told_or}
 
 pub by_handle : {T A : Type 0} (Does : T → T → Result A Code → Type 0) (a b : Option T) (m k n : T) (r : Result A Code) → a ≡ Some m → k ≡ m → b ≡ Some n
     → Does k n r
@@ -37,3 +41,10 @@ pub told : {T A : Type 0} (Does : T → T → Result A Code → Type 0) (a b : O
     → b ≡ Some m → Does m m r → number ≡ number_of r → out' ≡ told_or r out
     → Tells Does a b out out' number
 told Does a b m r out out' number is put did same out_is = (r, by_handle Does a b m m m r is refl put did, same, out_is)
+
+pub line_by : (line : List ℕ) (a b : Option Reader) (m k n : Reader) (made : Result Head LineRefusal) → a ≡ Some m → k ≡ m → b ≡ Some n
+    → AsksLine line k n made
+    → LineBy line a b (Some made)
+line_by line a b m k n made is same put did =
+    subst (λ (x : Option Reader). LineBy line x b (Some made)) (sym is)
+    (n, put, (made, refl, subst (λ (x : Reader). AsksLine line x n made) same did))

@@ -9,19 +9,22 @@ use Rattle.cf_store.specs.declared.held.Writer.{Writer}
 use Rattle.cf_store.specs.declared.held.Reader.{Reader}
 use Rattle.cf_store.specs.declared.shown.Sizes.{Sizes}
 use Rattle.cf_store.specs.declared.shown.Fault.{Fault}
+use Rattle.cf_store.specs.declared.shown.Head.{Head}
 use Rattle.std.specs.Global.{Global}
 use Rattle.cf_store.specs.declared.refusals.MergeRefusal.{MergeRefusal}
 use Rattle.cf_store.specs.declared.shown.Room.{Room}
 use Rattle.cf_store.specs.declared.shown.Framed.{Framed}
 use Rattle.cf_store.specs.declared.shown.Shown.{Shown}
+use Rattle.cf_store.specs.declared.refusals.LineRefusal.{LineRefusal}
+use Rattle.cf_store.specs.declared.refusals.LineRefusal.TheVariants as said
 use Rattle.cf_store.specs.declared.refusals.OpenRefusal.{OpenRefusal}
 use Rattle.cf_store.specs.declared.refusals.OpenRefusal.TheVariants as opens
-use Rattle.cf_store.specs.Codes.{code_number, merge_code, open_code, stop_code, take_code}
+use Rattle.cf_store.specs.Codes.{code_number, line_code, merge_code, open_code, stop_code, take_code}
 use Rattle.confluo_c.specs.Copied.{Copies}
 use Rattle.cf_store.specs.Opens.{Opens, Takes, Forks}
 use Rattle.cf_store.specs.declared.refusals.AppendRefusal.{AppendRefusal}
 use Rattle.cf_store.specs.Appends.{AppendsFrames, HasRoom}
-use Rattle.cf_store.specs.Asks.{AsksTail}
+use Rattle.cf_store.specs.Asks.{AsksLine, AsksTail}
 
 -- the number that a call answers: 0, or that of its code
 abbrev pub number_of : {A : Type 0} → Result A Code → ℕ
@@ -91,6 +94,34 @@ Tells {T} {A} Does before after out out' number = (r : Result A Code) × ByHandl
 -- the number of a setup's code, with what the fault is then
 abbrev pub TellsFault : {A : Type 0} → Result A OpenRefusal → Fault → Fault → ℕ → Type 0
 TellsFault r fault fault' number = (number ≡ number_of (coded open_code r)) × (fault' ≡ fault_or r fault)
+
+-- The question of a line was asked by a handle of a reader, or of nothing.
+abbrev pub LineBy : List ℕ → Option Reader → Option Reader → Option (Result Head LineRefusal) → Type 0
+LineBy line None after r = (after ≡ None) × (r ≡ None)
+LineBy line (Some m) after r = (n : Reader) × (after ≡ Some n) × ((made : Result Head LineRefusal) × (r ≡ Some made) × AsksLine line m n made)
+
+-- the head of its answer, or what stood there before
+abbrev pub line_head : Option (Result Head LineRefusal) → Head → Head
+line_head (Some (Ok head)) before = head
+line_head (Some (Err refusal)) before = before
+line_head None before = before
+
+-- the fault of the line, if it was refused for one, or what stood there before
+abbrev pub line_fault_after : LineRefusal → Fault → Fault
+line_fault_after (said.Setup line code) before = record { line = line; code = code }
+line_fault_after said.NoQuestion before = before
+line_fault_after said.Memory before = before
+
+abbrev pub line_fault : Option (Result Head LineRefusal) → Fault → Fault
+line_fault (Some (Ok head)) before = before
+line_fault (Some (Err refusal)) before = line_fault_after refusal before
+line_fault None before = before
+
+-- and its number
+abbrev pub line_number : Option (Result Head LineRefusal) → ℕ
+line_number (Some (Ok head)) = 0
+line_number (Some (Err refusal)) = code_number (line_code refusal)
+line_number None = code_number codes.Nothing
 
 -- A batch by a writer: with too little room for the offsets nothing is done; else the frames' rows are appended in order, and the code says
 -- why it stopped.

@@ -4,11 +4,13 @@ ghost use Rattle.cf_store.specs.Codes.{append_code, ask_code, lane_code, row_cod
 ghost use Rattle.cf_store.specs.Appends.{AppendsFrame, AppendsPlain, AppendsValues, HasRoom};
 ghost use Rattle.cf_store.specs.Asks.{AsksAt, AsksSeen, AsksTail, ShowsRowAt, TellsGroups};
 ghost use Rattle.confluo_c.specs.Copied.{Copies};
-ghost use Rattle.confluo_c.specs.Calls.{BatchBy, ByHandle, ForksTo, IsCoded, IsRoom, IsTail, OpensAt, TakesTo};
+ghost use Rattle.confluo_c.specs.Calls.{BatchBy, ByHandle, ForksTo, IsCoded, IsRoom, IsTail, LineBy, OpensAt, TakesTo};
 
 use crate::copies::copy_part;
 use crate::handles::{LogHandle, ReaderHandle, WriterHandle};
-use cf_store::{Capture, Code, Framed, Head, Log, OpenRefusal, PlainValue, Room, Shown, Sizes};
+use cf_store::{
+    Capture, Code, Framed, Head, LineRefusal, Log, OpenRefusal, PlainValue, Room, Shown, Sizes,
+};
 use std::alloc::Global;
 
 impl LogHandle {
@@ -167,6 +169,18 @@ impl ReaderHandle {
             Ok(head) => Ok(head),
             Err(refusal) => Err(Code::of_ask(refusal)),
         }
+    }
+
+    /// Asks the question that the line says, behind the text of the setup. There is no answer if the handle leads to nothing.
+    pub fn ask_line(&mut self, alloc: Global, line: &[u8]) -> Option<Result<Head, LineRefusal>>
+        ensures { LineBy line.now self.old.seat.held self.new.seat.held result }
+    {
+        let Some(mut reader) = self.take(alloc) else {
+            return None;
+        };
+        let answer = reader.ask_line(alloc, line);
+        self.put(reader);
+        Some(answer)
     }
 
     /// Asks the question of that number in the setup of what the reader has seen.

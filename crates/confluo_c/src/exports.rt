@@ -1,32 +1,34 @@
 // What C calls. `bindings/confluo.h` declares these for C, with what each call answers and what its caller owes.
-ghost use Rattle.std.specs.Prelude.{◌≡◌, ℕ, IfErr, MatchOption, None, Result, Vec};
+ghost use Rattle.std.specs.Prelude.{◌≡◌, ℕ, IfErr, MatchOption, None, Option, Result, Vec};
 ghost use Rattle.cf_store.specs.declared.code.Code.{Code as CodeValue};
 ghost use Rattle.cf_store.specs.declared.refusals.OpenRefusal.{OpenRefusal as OpenRefusalValue};
+ghost use Rattle.cf_store.specs.declared.refusals.LineRefusal.{LineRefusal as LineRefusalValue};
+ghost use Rattle.cf_store.specs.declared.shown.Head.{Head as HeadValue};
 ghost use Rattle.std.specs.Global.{Global as GlobalValue};
 ghost use Rattle.cf_store.specs.declared.refusals.MergeRefusal.{MergeRefusal as MergeRefusalValue};
 ghost use Rattle.cf_store.specs.declared.shown.Shown.{Shown as ShownValue};
 ghost use Rattle.cf_store.specs.Merges.{Merges};
-ghost use Rattle.cf_store.specs.Codes.{append_code, ask_code, code_number, lane_code, open_code, row_code, text_of};
+ghost use Rattle.cf_store.specs.Codes.{append_code, ask_code, code_number, lane_code, line_code, open_code, row_code, text_of};
 ghost use Rattle.cf_store.specs.Opens.{Measures};
 ghost use Rattle.cf_store.specs.Appends.{AppendsFrame, AppendsPlain, AppendsValues};
 ghost use Rattle.cf_store.specs.Asks.{AsksAt, AsksSeen, ShowsRowAt, TellsGroups};
 ghost use Rattle.confluo_c.specs.Copied.{Copies};
-ghost use Rattle.confluo_c.specs.Calls.{BatchBy, ByHandle, ForksTo, IsCoded, IsRoom, IsTail, MergesTo, OpensAt, TakesTo, Tells, TellsFault, coded, count_or, fault_after, number_of, number_or, told_or};
+ghost use Rattle.confluo_c.specs.Calls.{BatchBy, ByHandle, ForksTo, IsCoded, IsRoom, IsTail, LineBy, MergesTo, OpensAt, TakesTo, Tells, TellsFault, coded, count_or, fault_after, line_fault, line_fault_after, line_head, line_number, number_of, number_or, told_or};
 
 use crate::copies::{copy_part, put_all};
 use crate::handles::{LogHandle, ReaderHandle, WriterHandle};
 use cf_store::{
-    Capture, Code, Fault, Framed, Head, OpenRefusal, PlainValue, Room, Sizes, measure, merge,
-    message_of,
+    Capture, Code, Fault, Framed, Head, LineRefusal, OpenRefusal, PlainValue, Room, Sizes, measure,
+    merge, message_of,
 };
 use std::alloc::Global;
 
 /// The version of these calls: 1,000,000 for the major number, 1,000 for the minor one, 1 for the patch.
 #[unsafe(no_mangle)]
 pub extern "C" fn confluo_version() -> u32
-    ensures { result ≡ 2000 }
+    ensures { result ≡ 3000 }
 {
-    2_000
+    3_000
 }
 
 /// Copies the text of the code of that number, from that byte on, as far as there is room. Answers how many bytes.
@@ -87,7 +89,7 @@ pub extern "C" fn confluo_open(
     }
 }
 
-/// Takes a writer of the log that was not taken yet, puts it at the second handle, and says its number.
+/// Takes a writer of the log that is not taken, or was freed, puts it at the second handle, and says its number.
 #[unsafe(no_mangle)]
 pub extern "C" fn confluo_take_writer(
     alloc: Global,
@@ -191,6 +193,40 @@ pub extern "C" fn confluo_ask(
             0
         }
         Err(code) => code.number(),
+    }
+}
+
+// Shows the fault of a refused line, and answers the number of the code.
+fn show_line_fault(refusal: LineRefusal, fault: &mut Fault) -> u32
+    ensures number { result ≡ code_number (line_code refusal) }
+    ensures fault { fault.new ≡ line_fault_after refusal fault.old }
+{
+    if let LineRefusal::Setup(line, code) = refusal {
+        let code = u32::from(code);
+        *fault = Fault { line, code };
+    }
+    Code::of_line(refusal).number()
+}
+
+/// Asks the question that the line says, behind the text of the setup, by a reader, and says the head of the answer, whose words the reader
+/// keeps.
+#[unsafe(no_mangle)]
+pub extern "C" fn confluo_ask_text(
+    alloc: Global,
+    reader: &mut ReaderHandle,
+    line: &[u8],
+    head: &mut Head,
+    fault: &mut Fault,
+) -> u32
+    ensures { (r : Option (Result HeadValue LineRefusalValue)) × LineBy line.now reader.old.seat.held reader.new.seat.held r × (head.new ≡ line_head r head.old) × (fault.new ≡ line_fault r fault.old) × (result ≡ line_number r) }
+{
+    match reader.ask_line(alloc, line) {
+        None => Code::Nothing.number(),
+        Some(Ok(found)) => {
+            *head = found;
+            0
+        }
+        Some(Err(refusal)) => show_line_fault(refusal, fault),
     }
 }
 
@@ -344,7 +380,7 @@ pub extern "C" fn confluo_free_log(alloc: Global, log: &mut LogHandle)
     drop(log.take(alloc));
 }
 
-/// Frees the writer. The handle leads to nothing then.
+/// Frees the writer, whose place in the log can be taken again. The handle leads to nothing then.
 #[unsafe(no_mangle)]
 pub extern "C" fn confluo_free_writer(alloc: Global, writer: &mut WriterHandle)
     ensures { writer.new.seat.held ≡ None }

@@ -1,8 +1,9 @@
 use crate::exports::{
     confluo_append, confluo_append_many, confluo_append_row, confluo_append_values, confluo_ask,
-    confluo_ask_seen, confluo_check, confluo_free_log, confluo_free_reader, confluo_free_writer,
-    confluo_groups, confluo_merge, confluo_message, confluo_open, confluo_room_of, confluo_row,
-    confluo_tail, confluo_take_reader, confluo_take_writer, confluo_version, confluo_words,
+    confluo_ask_seen, confluo_ask_text, confluo_check, confluo_free_log, confluo_free_reader,
+    confluo_free_writer, confluo_groups, confluo_merge, confluo_message, confluo_open,
+    confluo_room_of, confluo_row, confluo_tail, confluo_take_reader, confluo_take_writer,
+    confluo_version, confluo_words,
 };
 use crate::handles::{LogHandle, ReaderHandle, WriterHandle};
 use crate::names::{confluo_name, confluo_question, confluo_tell, confluo_width};
@@ -47,7 +48,7 @@ fn handles_cross_threads(rt: HostRuntime) {
 #[test]
 fn codes_have_texts(rt: HostRuntime) {
     let mut out = [b'.'; 6];
-    assert_eq!(rt; confluo_version(), 2_000);
+    assert_eq!(rt; confluo_version(), 3_000);
     assert_eq!(rt; confluo_message(0, 0, &mut out), 4);
     assert_eq!(rt; &out[..], b"done..".as_slice());
     assert_eq!(rt; confluo_message(6, 4, &mut out), 6);
@@ -344,6 +345,74 @@ fn rows_are_read_back(rt: HostRuntime) {
     assert_eq!(rt; (shown[2].kind, shown[2].length), (1, 3));
     assert_eq!(rt; shown[2].bytes[0], b'x');
     assert_eq!(rt; shown[3].number, 7);
+    confluo_free_writer(alloc, &mut writer);
+    confluo_free_reader(alloc, &mut reader);
+}
+
+#[test]
+fn a_writer_comes_back(rt: HostRuntime) {
+    let alloc = rt.alloc();
+    let mut log = LogHandle::none(alloc);
+    let mut writer = WriterHandle::none(alloc);
+    let mut other = WriterHandle::none(alloc);
+    let mut fault = Fault { line: 0, code: 0 };
+    let (mut number, mut offset) = (9, 9);
+    assert_eq!(rt;
+        confluo_open(alloc, &mut log, SETUP, &sizes_of(4, 1), &mut fault),
+        0
+    );
+    for place in 0..2 {
+        assert_eq!(rt;
+            confluo_take_writer(alloc, &mut log, &mut writer, &mut number),
+            0
+        );
+        assert_eq!(rt;
+            confluo_take_writer(alloc, &mut log, &mut other, &mut number),
+            5
+        );
+        assert_eq!(rt;
+            confluo_append(alloc, &mut writer, &capture_of(5, 1), &[0], &mut offset),
+            0
+        );
+        assert_eq!(rt; (number, offset), (0, place));
+        confluo_free_writer(alloc, &mut writer);
+    }
+    confluo_free_log(alloc, &mut log);
+}
+
+#[test]
+fn a_line_says_a_question(rt: HostRuntime) {
+    let alloc = rt.alloc();
+    let mut writer = WriterHandle::none(alloc);
+    let mut reader = ReaderHandle::none(alloc);
+    let cases = [
+        (&b"ask some list len>50"[..], 0, (9, 9), 1),
+        (b"ask all list *", 3, (7, 5), 9),
+        (b"ask some find len 1 2", 3, (7, 6), 9),
+        (b"index i len", 10, (9, 9), 9),
+        (b"ask a list *\nask b list *", 10, (9, 9), 9),
+    ];
+    opened(&rt, alloc, ROWS, &mut writer, &mut reader);
+    let mut offset = 9;
+    let row = [number_of(25), number_of(60), string_of(3, 1)];
+    assert_eq!(rt;
+        confluo_append_row(alloc, &mut writer, 6, &row, &mut offset),
+        0
+    );
+    for (line, code, place, tail) in cases {
+        let mut fault = Fault { line: 9, code: 9 };
+        let mut head = Head {
+            tail: 9,
+            kind: 9,
+            count: 9,
+        };
+        assert_eq!(rt;
+            confluo_ask_text(alloc, &mut reader, line, &mut head, &mut fault),
+            code
+        );
+        assert_eq!(rt; (fault.line, fault.code), place);
+        assert_eq!(rt; head.tail, tail);
+    }
     confluo_free_writer(alloc, &mut writer);
     confluo_free_reader(alloc, &mut reader);
 }
