@@ -4,7 +4,7 @@
 **
 **   A log is opened from the text of a setup (docs/FORMATS.md, "Setup"): a schema, indexes, filters, aggregates, tallies, triggers and
 **   questions. It takes a fixed number of records, at most 65,536.
-**   A writer appends records. A log has 1 to 15 writers; each is taken once, and is for one thread at a time.
+**   A writer appends records. A log has 1 to 15 writers, each for one thread at a time. A writer that is freed can be taken again.
 **   A reader asks the questions of the setup, numbered from 0 in the order of their lines. Take as many readers as you like.
 **   Writers and readers of one log run at the same time in different threads. None takes a lock.
 **   Each record has an offset, 0, 1, 2 and so on. A reader sees all records below the tail, which only rises. A finished record may wait
@@ -83,7 +83,7 @@ extern "C" {
 #endif
 
 /* The version of these calls, apart from that of the program: 1,000,000 for the major number, 1,000 for the minor one, 1 for the patch. */
-#define CONFLUO_VERSION 2000
+#define CONFLUO_VERSION 3000
 
 /* A log, a writer or a reader; or nothing, if all bytes are 0. The fields are the library's. */
 typedef struct confluo_log { bool full; void *at; } confluo_log;
@@ -101,12 +101,12 @@ enum {
     CONFLUO_SIZES = 2,        /* a size is out of range, a reserved field is not 0, or an array is too short */
     CONFLUO_SETUP = 3,        /* the setup is faulty; confluo_fault says where */
     CONFLUO_NOTHING = 4,      /* the handle leads to nothing */
-    CONFLUO_NO_WRITER = 5,    /* all writers of the log were taken */
+    CONFLUO_NO_WRITER = 5,    /* all writers of the log are taken */
     CONFLUO_FULL = 6,         /* the log is full: it has taken as many records as it can */
     CONFLUO_NODES = 7,        /* the writer has too few nodes left for this row; another row may still fit */
     CONFLUO_UNFIT = 8,        /* the row does not fit the schema of the log */
     CONFLUO_FRAME = 9,        /* the frame has 2^32 bytes or more, its link is not read, it is not in the buffer, or a reserved field is not 0 */
-    CONFLUO_NO_QUESTION = 10, /* the setup has no question of that number or name */
+    CONFLUO_NO_QUESTION = 10, /* the setup has no question of that number or name, or the line says none */
     CONFLUO_NO_LANE = 11,     /* the setup has no lane of that number, or it measures nothing */
     CONFLUO_NO_ROW = 12,      /* the reader has seen no record at that offset */
     CONFLUO_NO_NAME = 13,     /* the setup has nothing of that sort and number */
@@ -227,12 +227,13 @@ CONFLUO_CHECKED uint32_t confluo_check(const uint8_t *setup, size_t setup_len, c
 CONFLUO_CHECKED uint32_t confluo_open(confluo_log *log, const uint8_t *setup, size_t setup_len, const confluo_sizes *sizes,
                                       confluo_fault *fault);
 
-/* Takes a writer of the log that was not taken yet to `writer`, and says its number, from writers - 1 down to 0. What `writer` led to is
-** freed. A writer that is freed is not given back. The thread that has `log`.
+/* Takes a writer of the log that is not taken to `writer`, and says its number: the greatest that is free, from writers - 1 down to 0. What
+** `writer` led to is freed after that. A writer that was freed, in whatever thread, can be taken again: it goes on with the nodes that it
+** had used. The thread that has `log`.
 **
 **   CONFLUO_NOTHING    `log` leads to nothing
-**   CONFLUO_NO_WRITER  all were taken
-**   CONFLUO_MEMORY     may come in place of CONFLUO_NO_WRITER */
+**   CONFLUO_NO_WRITER  all are taken
+**   CONFLUO_MEMORY */
 CONFLUO_CHECKED uint32_t confluo_take_writer(confluo_log *log, confluo_writer *writer, uint32_t *number);
 
 /* Takes a reader of the log to `reader`. What `reader` led to is freed. The thread that has `log`.
@@ -303,8 +304,20 @@ CONFLUO_CHECKED uint32_t confluo_room_of(confluo_writer *writer, confluo_room *r
 **   CONFLUO_MEMORY */
 CONFLUO_CHECKED uint32_t confluo_ask(confluo_reader *reader, uint32_t question, confluo_head *head);
 
-/* Asks a question of the setup on the records that the reader has seen: those below the tail that its last confluo_ask or confluo_tail
-** found, which is 0 at first. The tail is not looked at again, so that all questions of a report have one tail: call
+/* Asks the question that a line of the setup's language says, such as "ask late find sources 10.0.0.1 10.0.0.1", without an end of line.
+** It is read behind the text of the log's setup, whose names it may use, and its own name must be new; so a setup that has 32 questions
+** has no room for it. The setup and the numbers of its questions stay as they are. All else is as for confluo_ask.
+** Each call reads the setup's text again.
+**
+**   CONFLUO_NOTHING      `reader` leads to nothing
+**   CONFLUO_NO_QUESTION  the line is more than one line, says nothing, or states something else
+**   CONFLUO_SETUP        the line is faulty; `fault` says what is wrong with it, and which line behind the setup's text it is
+**   CONFLUO_MEMORY */
+CONFLUO_CHECKED uint32_t confluo_ask_text(confluo_reader *reader, const uint8_t *line, size_t line_len, confluo_head *head,
+                                          confluo_fault *fault);
+
+/* Asks a question of the setup on the records that the reader has seen: those below the tail that its last confluo_ask, confluo_ask_text
+** or confluo_tail found, which is 0 at first. The tail is not looked at again, so that all questions of a report have one tail: call
 ** confluo_tail once, and then this for each question. All else is as for confluo_ask, with the same codes. */
 CONFLUO_CHECKED uint32_t confluo_ask_seen(confluo_reader *reader, uint32_t question, confluo_head *head);
 
@@ -370,7 +383,7 @@ CONFLUO_CHECKED uint32_t confluo_question(confluo_log *log, const uint8_t *name,
 CONFLUO_CHECKED uint32_t confluo_width(confluo_log *log, uint64_t *width);
 
 /* Frees what the handle leads to, which may be nothing, and leaves nothing there. Handles of one log are freed in any order: its memory goes
-** with the last of them. The thread that has the handle. */
+** with the last of them. A writer that is freed can be taken again, by confluo_take_writer. The thread that has the handle. */
 void confluo_free_log(confluo_log *log);
 void confluo_free_writer(confluo_writer *writer);
 void confluo_free_reader(confluo_reader *reader);

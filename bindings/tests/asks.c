@@ -71,6 +71,62 @@ static void groups(void) {
     free_parts(&it);
 }
 
+/* Questions of lines. */
+static void lines(void) {
+    static const char setup[] =
+        "schema records ts:u64,key:u16,len:u32\nindex keys key\nfilter every *\naggregate sums every len\ntrigger large sums sum > 40\n"
+        "tally kinds key len *\nask all list *";
+    static const struct {
+        const char *line;
+        uint32_t code, fault, kind;
+        size_t count;
+        uint64_t words[4];
+    } cases[] = {
+        {"ask some find keys 7 7", CONFLUO_OK, 7, CONFLUO_PLACES, 2, {0, 2}},
+        {"  ask long list len>20", CONFLUO_OK, 7, CONFLUO_PLACES, 1, {1}},
+        {"ask whole total len key==7", CONFLUO_OK, 7, CONFLUO_QUAD, 4, {2, 30, 10, 20}},
+        {"ask seconds measure sums 0 9", CONFLUO_OK, 7, CONFLUO_QUAD, 4, {3, 55, 10, 25}},
+        {"ask marks fired large", CONFLUO_OK, 7, CONFLUO_MARKS, 2, {0, 55}},
+        {"ask best top kinds sum 1", CONFLUO_OK, 7, CONFLUO_TOPS, 2, {7, 30}},
+        {"ask all list *", CONFLUO_SETUP, 5, 0, 0, {0}},
+        {"ask other find lost 7 7", CONFLUO_SETUP, 6, 0, 0, {0}},
+        {"ask other find keys 7", CONFLUO_SETUP, 3, 0, 0, {0}},
+        {"ask other list nothing==7", CONFLUO_SETUP, 11, 0, 0, {0}},
+        {"nonsense", CONFLUO_SETUP, 2, 0, 0, {0}},
+        {"", CONFLUO_NO_QUESTION, 7, 0, 0, {0}},
+        {"# ask some list *", CONFLUO_NO_QUESTION, 7, 0, 0, {0}},
+        {"index lens len", CONFLUO_NO_QUESTION, 7, 0, 0, {0}},
+        {"live all", CONFLUO_NO_QUESTION, 7, 0, 0, {0}},
+        {"ask one list *\nask two list *", CONFLUO_NO_QUESTION, 7, 0, 0, {0}},
+        {"ask one list *\n", CONFLUO_NO_QUESTION, 7, 0, 0, {0}},
+    };
+    static const uint64_t rows[3][3] = {{1, 7, 10}, {2, 8, 25}, {3, 7, 20}};
+    parts it = parts_of(setup, 8, 64);
+    uint64_t words[4];
+    uint32_t offset;
+    for (uint32_t k = 0; k < 3; k++) is(confluo_append_values(&it.writer, k, rows[k], 3, &offset), CONFLUO_OK, "append");
+    for (int twice = 0; twice < 2; twice++)
+        for (size_t k = 0; k < sizeof cases / sizeof *cases; k++) {
+            confluo_head head = {9, 9, 9};
+            confluo_fault fault = {7, 7};
+            size_t kept = confluo_words(&it.reader, 0, words, 4);
+            is(confluo_ask_text(&it.reader, text_of(cases[k].line), strlen(cases[k].line), &head, &fault), cases[k].code, cases[k].line);
+            is(fault.code, cases[k].fault, cases[k].line);
+            is(fault.line, fault.code == 7 ? 7 : 8, "behind the seven lines of the setup");
+            if (cases[k].code == CONFLUO_OK) {
+                is(head.tail == 3 && head.kind == cases[k].kind && head.count == cases[k].count, 1, cases[k].line);
+                is(confluo_words(&it.reader, 0, words, 4), cases[k].count, cases[k].line);
+                is(memcmp(words, cases[k].words, cases[k].count * sizeof *words), 0, cases[k].line);
+            } else {
+                is(head.tail == 9 && head.count == 9, 1, "what a refused line leaves");
+                is(confluo_words(&it.reader, 0, words, 4), kept, "the words that it keeps");
+            }
+        }
+    confluo_head head;
+    is(confluo_ask(&it.reader, 1, &head), CONFLUO_NO_QUESTION, "the setup has no more questions than before");
+    free_parts(&it);
+}
+
 static void merges(void) {
     static const struct {
         uint64_t one[10], other[10], out[15];
@@ -89,7 +145,9 @@ static void merges(void) {
         {{1, 0, 1, 0, 0}, {0}, {0}, 5, 0, 10, CONFLUO_NO_GROUPS, 9},
         {{1, 1, UINT64_C(1) << 32, 5, 5}, {0}, {0}, 5, 0, 10, CONFLUO_NO_GROUPS, 9},
         {{0}, {1, 1, 5, UINT64_C(1) << 32, 5}, {0}, 0, 5, 10, CONFLUO_NO_GROUPS, 9},
+        {{1, (1 << 20) - 1, 1 << 20, 1, 2}, {1, 1, 5, 5, 5}, {1, 1 << 20, (1 << 20) + 5, 1, 5}, 5, 5, 10, CONFLUO_OK, 5},
         {{1, 1 << 20, 1 << 20, 1, 1}, {1, 1, 5, 5, 5}, {0}, 5, 5, 10, CONFLUO_NO_GROUPS, 9},
+        {{1, 1 << 20, 1 << 20, 1, 1}, {2, 1, 5, 5, 5}, {0}, 5, 5, 10, CONFLUO_NO_GROUPS, 9},
     };
     for (size_t k = 0; k < sizeof cases / sizeof *cases; k++) {
         uint64_t out[15] = {0};
@@ -105,6 +163,7 @@ static void *all(void *given) {
     one_tail();
     groups();
     merges();
+    lines();
     return given;
 }
 

@@ -60,6 +60,7 @@ static void nothing(void) {
     confluo_capture capture = {1000, 5, 60, 1, 0};
     confluo_head head = {7, 7, 7};
     confluo_room room = {7, 7, 7, 7};
+    confluo_fault fault = {7, 7};
     uint64_t words[2] = {7, 7};
     uint32_t out = 7;
     is(confluo_take_writer(&log, &writer, &out), CONFLUO_NOTHING, "a writer of nothing");
@@ -68,9 +69,10 @@ static void nothing(void) {
     is(confluo_append_values(&writer, 1, words, 2, &out), CONFLUO_NOTHING, "values by nothing");
     is(confluo_room_of(&writer, &room), CONFLUO_NOTHING, "room of nothing");
     is(confluo_ask(&reader, 0, &head), CONFLUO_NOTHING, "an ask by nothing");
+    is(confluo_ask_text(&reader, (const uint8_t *)"ask a list *", 12, &head, &fault), CONFLUO_NOTHING, "a line by nothing");
     is(confluo_tail(&reader, &out), CONFLUO_NOTHING, "the tail of nothing");
     is(confluo_words(&reader, 0, words, 2), 0, "words of nothing");
-    is(out + head.tail + head.kind + head.count + room.covered + words[0], 7 + 7 + 7 + 7 + 7 + 7, "what refused calls leave");
+    is(out + head.tail + head.kind + head.count + room.covered + words[0] + fault.line, 7 * 7, "what refused calls leave");
     confluo_free_log(&log);
     confluo_free_writer(&writer);
     confluo_free_reader(&reader);
@@ -203,6 +205,44 @@ static void addresses(void) {
     confluo_free_log(&log);
 }
 
+static void *append_and_free(void *given) {
+    confluo_writer *writer = given;
+    uint64_t row[3] = {1, 7, 10};
+    uint32_t out;
+    is(confluo_append_values(writer, 0, row, 3, &out), CONFLUO_OK, "append in a thread");
+    confluo_free_writer(writer);
+    return NULL;
+}
+
+/* Writers that are freed are taken again, wherever they were freed, and go on with their nodes. */
+static void writers_come_back(void) {
+    confluo_log log = CONFLUO_LOG_INIT;
+    confluo_writer writers[2] = {CONFLUO_WRITER_INIT, CONFLUO_WRITER_INIT}, third = CONFLUO_WRITER_INIT;
+    confluo_room room;
+    pthread_t thread;
+    uint32_t number = 7;
+    is(opened(&log, records, 64, 2, 34), CONFLUO_OK, "open");
+    for (int k = 0; k < 2; k++) is(confluo_take_writer(&log, &writers[k], &number), CONFLUO_OK, "writer");
+    is(confluo_take_writer(&log, &third, &number), CONFLUO_NO_WRITER, "a third writer");
+    for (int k = 0; k < 40; k++) {
+        int freed = k % 2;
+        is(pthread_create(&thread, NULL, append_and_free, &writers[freed]), 0, "thread");
+        pthread_join(thread, NULL);
+        is(confluo_take_writer(&log, &writers[freed], &number), CONFLUO_OK, "a writer that was freed");
+        is(number, freed ? 0 : 1, "its number");
+        is(confluo_take_writer(&log, &third, &number), CONFLUO_NO_WRITER, "a third writer still");
+    }
+    is(confluo_room_of(&writers[0], &room), CONFLUO_OK, "room");
+    is(room.nodes_left < 34, 1, "the nodes that it had used are used");
+    is(confluo_take_writer(&log, &writers[0], &number), CONFLUO_NO_WRITER, "none is free while it is held");
+    confluo_free_writer(&writers[0]);
+    confluo_free_writer(&writers[1]);
+    is(confluo_take_writer(&log, &third, &number), CONFLUO_OK, "one of two that were freed");
+    is(number, 1, "the greater number");
+    confluo_free_log(&log);
+    confluo_free_writer(&third);
+}
+
 static void *all(void *given) {
     versions_and_texts();
     setups();
@@ -210,6 +250,7 @@ static void *all(void *given) {
     frames();
     rows();
     addresses();
+    writers_come_back();
     return given;
 }
 

@@ -30,7 +30,7 @@ typedef struct parts {
     confluo_value row[20];
 } parts;
 
-enum { STEPS = 13 };
+enum { STEPS = 14 };
 
 /* Frames 2 and 3 of the log, but for what is appended of them. */
 static uint32_t append_batch(parts *at) {
@@ -73,6 +73,7 @@ static uint32_t call(parts *at, int step) {
     case 9: return confluo_ask(&at->reader, 0, &at->head);
     case 10: return confluo_groups(&at->reader, 1, &at->head);
     case 11: return merged();
+    case 12: return confluo_ask_text(&at->reader, (const uint8_t *)"ask new list *", 14, &at->head, &fault);
     default: return confluo_ask_seen(&at->reader, 1, &at->head);
     }
 }

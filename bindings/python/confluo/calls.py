@@ -68,6 +68,7 @@ CALLS = {
     "room_of": (WORD, [TO(Handle), TO(RoomOf)]),
     "ask": (WORD, [TO(Handle), WORD, TO(Head)]),
     "ask_seen": (WORD, [TO(Handle), WORD, TO(Head)]),
+    "ask_text": (WORD, [TO(Handle), TEXT, SIZE, TO(Head), TO(Fault)]),
     "groups": (WORD, [TO(Handle), WORD, TO(Head)]),
     "merge": (WORD, [TO(LONG), SIZE, TO(LONG), SIZE, TO(LONG), SIZE, TO(SIZE)]),
     "row": (WORD, [TO(Handle), WORD, TO(WORD), TO(ValueOf), SIZE, TO(SIZE)]),

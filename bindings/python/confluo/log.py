@@ -93,7 +93,7 @@ class Log(Part):
         return found.value
 
     def writer(self):
-        """A writer that was not taken yet; Error with NO_WRITER if all were. A writer that is closed is not given back."""
+        """A writer that is not taken; Error with NO_WRITER if all are. A writer that is closed can be taken again."""
         writer, taken = Writer(), WORD()
         self._call("take_writer", writer._handle, taken)
         writer.number = taken.value
@@ -225,6 +225,12 @@ class Reader(Part):
         """The answer to a question of the setup, given by its name or its number, on all records below the tail."""
         return self._answer("ask", self.names.number("questions", question))
 
+    def ask_text(self, line):
+        """The answer to the question that a line of the setup's language says, behind the text of the setup, whose 32 questions at most it
+        is one of; its name must be new. SetupError if the line is faulty, Error with NO_QUESTION if it is no question."""
+        text = text_of(line)
+        return self._answer("ask_text", text, len(text), fault=calls.Fault())
+
     def ask_seen(self, question):
         """The same on the records that the reader has seen: those below the tail that `tail` or `ask` found last."""
         return self._answer("ask_seen", self.names.number("questions", question))
@@ -240,11 +246,11 @@ class Reader(Part):
         found = [bytes(it.bytes[: it.length]) if it.kind else it.number for it in values[: count.value]]
         return Row(number.value, dict(zip((it.name for it in self.names.attributes), found)))
 
-    def _answer(self, name, *words):
+    def _answer(self, name, *words, fault=None):
         self._check()
         head = calls.Head()
         with self._lock:
-            wanted(call(name)(self._handle, *words, head))
+            wanted(call(name)(self._handle, *words, head, *([] if fault is None else [fault])), fault)
             found = (LONG * max(1, head.count))()
             count = call("words")(self._handle, 0, found, head.count)
         return Answer(head.tail, head.kind, found[:count])

@@ -27,7 +27,7 @@ FRAME = bytes([0] * 12 + [8, 0, 0x45, 0, 0, 20] + [0] * 8 + [10, 0, 0, 1] + [0] 
 
 class Calls(unittest.TestCase):
     def test_version(self):
-        self.assertEqual(confluo.version(), 2000)
+        self.assertEqual(confluo.version(), 3000)
 
     def test_the_example_of_the_documents(self):
         page = (HERE.parents[2] / "docs" / "LIBRARY.md").read_text()
@@ -62,6 +62,29 @@ class Calls(unittest.TestCase):
             confluo.check("schema packet\nindex\n")
         self.assertEqual((caught.exception.line, caught.exception.fault), (2, 3))
         self.assertRaises(KeyError, reader.ask, "other")
+
+    def test_writers_come_back(self):
+        log = confluo.Log(RECORDS, capacity=64)
+        for k in range(20):
+            with log.writer() as writer:
+                self.assertEqual(writer.append_values(k, [1, 1, 1]), k)
+                with self.assertRaises(confluo.Error) as caught:
+                    log.writer()
+                self.assertEqual(caught.exception.code, confluo.Code.NO_WRITER)
+
+    def test_lines(self):
+        log = confluo.Log(RECORDS, capacity=8)
+        writer, reader = log.writer(), log.reader()
+        for row in ([1, 1, 10], [2, 7, 25], [3, 1, 20]):
+            writer.append_values(0, row)
+        self.assertEqual(reader.ask_text("ask late list len>15").words, [1, 2])
+        self.assertEqual(reader.ask_text("ask seven find hosts 7 7").words, [1])
+        with self.assertRaises(confluo.SetupError) as caught:
+            reader.ask_text("ask one list *")
+        self.assertEqual((caught.exception.line, caught.exception.fault), (6, 5))
+        with self.assertRaises(confluo.Error) as caught:
+            reader.ask_text("index lens len")
+        self.assertEqual(caught.exception.code, confluo.Code.NO_QUESTION)
 
     def test_numbers_that_do_not_fit(self):
         log = confluo.Log(RECORDS, capacity=8)

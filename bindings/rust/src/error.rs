@@ -67,7 +67,7 @@ errors! {
     TakeError {
         /// Out of memory.
         Memory = MEMORY,
-        /// All writers of the log were taken.
+        /// All writers of the log are taken.
         NoWriter = NO_WRITER,
     }
     /// Why a record was not appended.
@@ -148,6 +148,42 @@ impl Display for OpenError {
 }
 
 impl Error for OpenError {}
+
+/// Why the question of a line was not answered.
+#[derive(Clone, Copy, Debug, PartialEq, Eq, Hash)]
+#[non_exhaustive]
+pub enum LineError {
+    /// Out of memory.
+    Memory,
+    /// The line is more than one line, says nothing, or states something else.
+    NoQuestion,
+    /// The line is faulty, behind the text of the setup.
+    Line(Fault),
+}
+
+impl LineError {
+    pub(crate) fn check(code: u32, fault: &raw::Fault) -> Result<(), Self> {
+        match code {
+            raw::OK => Ok(()),
+            raw::MEMORY => Err(LineError::Memory),
+            raw::NO_QUESTION => Err(LineError::NoQuestion),
+            raw::SETUP => Err(LineError::Line(Fault::of(fault))),
+            _ => unknown(code),
+        }
+    }
+}
+
+impl Display for LineError {
+    fn fmt(&self, out: &mut Formatter<'_>) -> fmt::Result {
+        match self {
+            LineError::Memory => out.write_str(&message(raw::MEMORY)),
+            LineError::NoQuestion => out.write_str(&message(raw::NO_QUESTION)),
+            LineError::Line(fault) => write!(out, "{}: {fault}", message(raw::SETUP)),
+        }
+    }
+}
+
+impl Error for LineError {}
 
 /// What a code means that the call never answers: what is linked is another version of the library.
 fn unknown(code: u32) -> ! {

@@ -61,7 +61,7 @@ mod row;
 mod writer;
 
 pub use answer::{merge, Answer, Body, Group, Groups, Mark, Quad, Top};
-pub use error::{AppendError, AskError, Fault, GroupsError, MergeError, OpenError, RowError, TakeError};
+pub use error::{AppendError, AskError, Fault, GroupsError, LineError, MergeError, OpenError, RowError, TakeError};
 pub use log::{check, Log, Sizes};
 pub use names::{Asks, Attribute, Lane, LaneKind, Op, Part, Question, Trigger};
 pub use reader::Reader;

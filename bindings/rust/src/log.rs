@@ -82,11 +82,22 @@ impl Log {
         Ok(Log { held })
     }
 
-    /// Takes a writer that was not taken yet. A writer that is dropped is not given back.
+    /// Takes a writer that is not taken, that of the greatest number. A writer that is dropped, in whatever thread, can be taken again.
     ///
     /// # Errors
     ///
-    /// [`TakeError::NoWriter`] if all were taken; [`TakeError::Memory`], which may come in its place.
+    /// [`TakeError::NoWriter`] if all are taken; [`TakeError::Memory`].
+    ///
+    /// ```
+    /// use confluo::{Log, Sizes, TakeError};
+    ///
+    /// let mut log = Log::open("schema records ts:u64\n", Sizes::default())?;
+    /// let mut writer = log.writer()?;
+    /// assert_eq!(log.writer().err(), Some(TakeError::NoWriter));
+    /// std::thread::spawn(move || writer.append_values(0, &[1_000])).join().unwrap()?;
+    /// assert_eq!(log.writer()?.append_values(1, &[2_000])?, 1);
+    /// # Ok::<(), Box<dyn std::error::Error>>(())
+    /// ```
     pub fn writer(&mut self) -> Result<Writer, TakeError> {
         let (mut writer, mut number) = (Held::nothing(), 0);
         // SAFETY: the handles are two, and the number is ours.

@@ -195,6 +195,13 @@ extern "C" {
     pub fn confluo_room_of(writer: *mut Writer, room: *mut Room) -> u32;
     pub fn confluo_ask(reader: *mut Reader, question: u32, head: *mut Head) -> u32;
     pub fn confluo_ask_seen(reader: *mut Reader, question: u32, head: *mut Head) -> u32;
+    pub fn confluo_ask_text(
+        reader: *mut Reader,
+        line: *const u8,
+        line_len: usize,
+        head: *mut Head,
+        fault: *mut Fault,
+    ) -> u32;
     pub fn confluo_groups(reader: *mut Reader, lane: u32, head: *mut Head) -> u32;
     pub fn confluo_merge(
         one: *const u64,

@@ -1,6 +1,6 @@
 //! Readers.
 use crate::answer::{Answer, Body, Groups};
-use crate::error::{AskError, GroupsError, RowError};
+use crate::error::{AskError, GroupsError, LineError, RowError};
 use crate::handle::Held;
 use crate::raw;
 use crate::row::{Row, Value};
@@ -28,6 +28,36 @@ impl Reader {
             .held
             .call(|reader| unsafe { raw::confluo_ask(reader, question, &mut head) });
         AskError::check(code)?;
+        Ok(self.answer(&head))
+    }
+
+    /// Asks the question that a line of the setup's language says, behind the text of the setup, on all records below the tail. Its name
+    /// must be new, and the setup has fewer than 32 questions.
+    ///
+    /// # Errors
+    ///
+    /// [`LineError::NoQuestion`] if it is more than one line, says nothing or states something else, [`LineError::Line`] if it is
+    /// faulty; [`LineError::Memory`].
+    ///
+    /// ```
+    /// use confluo::{Body, LineError, Log, Sizes};
+    ///
+    /// let mut log = Log::open("schema records ts:u64,len:u32\n", Sizes::default())?;
+    /// let (mut writer, mut reader) = (log.writer()?, log.reader()?);
+    /// writer.append_values(0, &[1_000, 60])?;
+    /// writer.append_values(1, &[2_000, 90])?;
+    /// assert_eq!(reader.ask_text("ask long list len>80")?.body, Body::Places(vec![1]));
+    /// assert_eq!(reader.ask_text("index lens len"), Err(LineError::NoQuestion));
+    /// assert!(matches!(reader.ask_text("ask long"), Err(LineError::Line(fault)) if fault.code == 3));
+    /// # Ok::<(), Box<dyn std::error::Error>>(())
+    /// ```
+    pub fn ask_text(&mut self, line: &str) -> Result<Answer, LineError> {
+        let (mut head, mut fault) = (raw::Head::default(), raw::Fault::default());
+        // SAFETY: the memory is ours, and the line as long as said.
+        let code = self
+            .held
+            .call(|reader| unsafe { raw::confluo_ask_text(reader, line.as_ptr(), line.len(), &mut head, &mut fault) });
+        LineError::check(code, &fault)?;
         Ok(self.answer(&head))
     }
 

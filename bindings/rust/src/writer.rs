@@ -104,7 +104,7 @@ impl Writer {
         Writer { held, number }
     }
 
-    /// Its own number, from the number of writers less 1 down to 0 in the order in which they are taken.
+    /// Its own number: the greatest that was free when it was taken, from the number of writers less 1 down to 0.
     #[must_use]
     pub fn number(&self) -> u32 {
         self.number
