@@ -41,6 +41,7 @@ impl Values {
     }
 
     // These values, without a block of memory where they lie within a row.
+    #[inline(always)]
     pub(crate) fn of(alloc: Global, values: &[Value]) -> Result<Values, Memory>
         ensures same { IfOk result (λ kept. values_of kept ≡ values.now) }
         ensures free { lie_within values.now ≡ true → IsOk result }
@@ -155,6 +156,7 @@ impl Spelling {
     }
 
     // These values, where they are few enough and each is a number or has 1 to 16 bytes.
+    #[inline(always)]
     pub(crate) fn of(values: &[Value]) -> Option<Spelling>
         ensures same { IfSome result (λ spelling. spelling ≡ values.now) }
         ensures none { IfNone result (lie_within values.now ≡ false) }

@@ -38,24 +38,24 @@ pub fn word_total(shape: &Shape) -> u64
     nodes_at(shape) + nodes * (1 + 16 * u64::from(shape.writers()))
 }
 
-/// The place of word i of a ticket, its cells and its done word among them.
+/// The place of word `index` of a ticket, its cells and its done word among them.
 #[tactic(auto, unfolding(crate::specs::Places::place))]
-pub fn place_ticket(shape: &Shape, offset: u32, i: u64) -> u64
+pub fn place_ticket(shape: &Shape, offset: u32, index: u64) -> u64
     requires offset { offset < shape.now.capacity }
-    requires i { i < ticket_words shape.now }
-    ensures { result ≡ place (sizes_of shape.now) (cell offset i) }
+    requires index { index < ticket_words shape.now }
+    ensures { result ≡ place (sizes_of shape.now) (cell offset index) }
 {
-    2 + (u64::from(offset) * shape.ticket_words() + i)
+    2 + (u64::from(offset) * shape.ticket_words() + index)
 }
 
-// Word j of a node, of which 0 is its label.
+// Word `index` of a node, of which 0 is its label.
 #[tactic(auto, unfolding(crate::specs::Places::place))]
-fn node_at(shape: &Shape, node: u32, j: u64) -> u64
+fn node_at(shape: &Shape, node: u32, index: u64) -> u64
     requires node { node < shape.now.writers * shape.now.nodes }
-    requires j { j < 1 + 16 * shape.now.writers }
-    ensures { result ≡ place (sizes_of shape.now) (body node j) }
+    requires index { index < 1 + 16 * shape.now.writers }
+    ensures { result ≡ place (sizes_of shape.now) (body node index) }
 {
-    nodes_at(shape) + (u64::from(node) * (1 + 16 * u64::from(shape.writers())) + j)
+    nodes_at(shape) + (u64::from(node) * (1 + 16 * u64::from(shape.writers())) + index)
 }
 
 /// The place of the write tail.
@@ -74,25 +74,25 @@ pub fn place_read_tail(_shape: &Shape) -> u64
     1
 }
 
-/// The place of word i of a ticket's attributes and tag.
-pub fn place_word(shape: &Shape, offset: u32, i: u8) -> u64
+/// The place of word `index` of a ticket's attributes and tag.
+pub fn place_word(shape: &Shape, offset: u32, index: u8) -> u64
     requires offset { offset < shape.now.capacity }
-    requires word { i < word_count shape.now.schema + 1 }
-    ensures { result ≡ place_of shape.now (word offset i) }
+    requires word { index < word_count shape.now.schema + 1 }
+    ensures { result ≡ place_of shape.now (word offset index) }
 {
-    place_ticket(shape, offset, u64::from(i))
+    place_ticket(shape, offset, u64::from(index))
 }
 
-/// The place of word i of a lane's cell of a ticket.
-pub fn place_cell(shape: &Shape, offset: u32, lane: u8, i: u8) -> u64
+/// The place of word `index` of a lane's cell of a ticket.
+pub fn place_cell(shape: &Shape, offset: u32, lane: u8, index: u8) -> u64
     requires offset { offset < shape.now.capacity }
     requires lane { lane < length shape.now.lanes }
-    requires word { i < cell_words (lane_at shape.now lane) }
-    ensures { result ≡ place_of shape.now (version offset lane i) }
+    requires word { index < cell_words (lane_at shape.now lane) }
+    ensures { result ≡ place_of shape.now (version offset lane index) }
 {
     let before = cell_count(&shape.lanes()[..lane as usize]);
     let cells = word_count(shape.schema()) as u64 + 1;
-    place_ticket(shape, offset, cells + before + u64::from(i))
+    place_ticket(shape, offset, cells + before + u64::from(index))
 }
 
 /// The place of a ticket's done word.
@@ -103,14 +103,14 @@ pub fn place_done(shape: &Shape, offset: u32) -> u64
     place_ticket(shape, offset, shape.ticket_words() - 1)
 }
 
-/// The place of child d of a lane's root.
+/// The place of child `nibble` of a lane's root.
 #[tactic(auto, unfolding(crate::specs::Places::place))]
-pub fn place_root(shape: &Shape, lane: u8, d: u8) -> u64
+pub fn place_root(shape: &Shape, lane: u8, nibble: u8) -> u64
     requires lane { lane < length shape.now.lanes }
-    requires nibble { d < 16 }
-    ensures { result ≡ place_of shape.now (root_child lane d) }
+    requires nibble { nibble < 16 }
+    ensures { result ≡ place_of shape.now (root_child lane nibble) }
 {
-    roots_at(shape) + (u64::from(lane) * 16 + u64::from(d))
+    roots_at(shape) + (u64::from(lane) * 16 + u64::from(nibble))
 }
 
 /// The place of a node's label.
@@ -121,25 +121,25 @@ pub fn place_label(shape: &Shape, node: u32) -> u64
     node_at(shape, node, 0)
 }
 
-/// The place of child d of a node above the last level.
-pub fn place_child(shape: &Shape, node: u32, d: u8) -> u64
+/// The place of child `nibble` of a node above the last level.
+pub fn place_child(shape: &Shape, node: u32, nibble: u8) -> u64
     requires node { node < shape.now.writers * shape.now.nodes }
-    requires nibble { d < 16 }
-    ensures { result ≡ place_of shape.now (child node d) }
+    requires nibble { nibble < 16 }
+    ensures { result ≡ place_of shape.now (child node nibble) }
 {
-    node_at(shape, node, 1 + u64::from(d))
+    node_at(shape, node, 1 + u64::from(nibble))
 }
 
-/// The place of a writer's head of nibble d at a node of the last level.
-pub fn place_head(shape: &Shape, node: u32, d: u8, writer: u8) -> u64
+/// The place of a writer's head of `nibble` at a node of the last level.
+pub fn place_head(shape: &Shape, node: u32, nibble: u8, writer: u8) -> u64
     requires node { node < shape.now.writers * shape.now.nodes }
-    requires nibble { d < 16 }
+    requires nibble { nibble < 16 }
     requires writer { writer < shape.now.writers }
-    ensures { result ≡ place_of shape.now (head node d writer) }
+    ensures { result ≡ place_of shape.now (head node nibble writer) }
 {
     node_at(
         shape,
         node,
-        1 + (u64::from(d) * u64::from(shape.writers()) + u64::from(writer)),
+        1 + (u64::from(nibble) * u64::from(shape.writers()) + u64::from(writer)),
     )
 }

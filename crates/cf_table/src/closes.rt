@@ -41,14 +41,14 @@ pub struct Closed {
 }
 
 impl MultiLog {
-    fn word_token(&self, token: &mut Token, offset: u32, i: u64) -> u64
+    fn word_token(&self, token: &mut Token, offset: u32, index: u64) -> u64
         requires of { IsOf token.old self.now }
-        requires place { (offset < self.now.shape.capacity) × (i < ticket_words self.now.shape) }
+        requires place { (offset < self.now.shape.capacity) × (index < ticket_words self.now.shape) }
         requires seen { offset < length token.old.view.seen }
-        ensures made { HasStepped self.now.shape (word_effect self.now.shape token.old.view offset i) token.old result token.new }
+        ensures made { HasStepped self.now.shape (word_effect self.now.shape token.old.view offset index) token.old result token.new }
     {
-        let word = place_ticket(&self.shape, offset, i);
-        word_as::<Brand>(self, token, offset, i, word)
+        let word = place_ticket(&self.shape, offset, index);
+        word_as::<Brand>(self, token, offset, index, word)
     }
 
     // The words of attributes and tag of an entry that was seen.

@@ -19,15 +19,15 @@ use std::marker::Brand;
 use std::sync::ledger::Ledger;
 
 impl MultiLog {
-    /// Moves the read tail from t, where it stands there. Nothing new is seen while all books are home.
-    pub fn advance<P: Pass, L: Ledger>(&self, pass: &mut P, t: u32, steps: &mut Steps<L>)
+    /// Moves the read tail from `tail`, where it stands there. Nothing new is seen while all books are home.
+    pub fn advance<P: Pass, L: Ledger>(&self, pass: &mut P, tail: u32, steps: &mut Steps<L>)
         requires of { IsOf (P.held pass.old) self.now }
-        requires lawful { IsLawfulStep self.now.shape (P.held pass.old).view (advances t) (advance_effect (P.held pass.old).view t) }
-        ensures made { HasSteppedUnseen self.now.shape (advance_effect (P.held pass.old).view t) (P.held pass.old) (P.held pass.new) }
+        requires lawful { IsLawfulStep self.now.shape (P.held pass.old).view (advances tail) (advance_effect (P.held pass.old).view tail) }
+        ensures made { HasSteppedUnseen self.now.shape (advance_effect (P.held pass.old).view tail) (P.held pass.old) (P.held pass.new) }
         ensures stays { HoldsAllBooks self.now.shape (P.held pass.old).view → (P.held pass.new).view.seen ≡ (P.held pass.old).view.seen }
         ensures steps { steps.new ≡ steps.old + 1 }
     {
-        pass.advance_by(self, t, steps);
+        pass.advance_by(self, tail, steps);
     }
 
     /// Loads the read tail, for an ask where `asked`. What was seen grows to it, and stays where all books are home.

@@ -40,11 +40,11 @@ pub trait Pass {
         ensures made { HasStepped log.now.shape (tail_effect (held self.old).view asked) (held self.old) result (held self.new) }
         ensures steps { steps.new ≡ steps.old + 1 };
 
-    /// Moves the read tail from t.
-    fn advance_by<L: Ledger>(&mut self, log: &MultiLog, t: u32, steps: &mut Steps<L>)
+    /// Moves the read tail from `tail`.
+    fn advance_by<L: Ledger>(&mut self, log: &MultiLog, tail: u32, steps: &mut Steps<L>)
         requires of { IsOf (held self.old) log.now }
-        requires lawful { IsLawfulStep log.now.shape (held self.old).view (advance t) (advance_effect (held self.old).view t) }
-        ensures made { HasSteppedUnseen log.now.shape (advance_effect (held self.old).view t) (held self.old) (held self.new) }
+        requires lawful { IsLawfulStep log.now.shape (held self.old).view (advance tail) (advance_effect (held self.old).view tail) }
+        ensures made { HasSteppedUnseen log.now.shape (advance_effect (held self.old).view tail) (held self.old) (held self.new) }
         ensures steps { steps.new ≡ steps.old + 1 };
 }
 
@@ -175,9 +175,9 @@ impl Pass for WriterPass {
         log.load_tail_token(&mut self.token, asked)
     }
 
-    fn advance_by<L: Ledger>(&mut self, log: &MultiLog, t: u32, steps: &mut Steps<L>) {
+    fn advance_by<L: Ledger>(&mut self, log: &MultiLog, tail: u32, steps: &mut Steps<L>) {
         steps.tick();
-        log.advance_token(&mut self.token, t);
+        log.advance_token(&mut self.token, tail);
     }
 }
 
@@ -208,9 +208,9 @@ impl Pass for ReaderPass {
         log.load_tail_token(&mut self.token, asked)
     }
 
-    fn advance_by<L: Ledger>(&mut self, log: &MultiLog, t: u32, steps: &mut Steps<L>) {
+    fn advance_by<L: Ledger>(&mut self, log: &MultiLog, tail: u32, steps: &mut Steps<L>) {
         steps.tick();
-        log.advance_token(&mut self.token, t);
+        log.advance_token(&mut self.token, tail);
     }
 }
 
@@ -241,8 +241,8 @@ impl Pass for Root {
         log.load_tail_token(&mut self.token, asked)
     }
 
-    fn advance_by<L: Ledger>(&mut self, log: &MultiLog, t: u32, steps: &mut Steps<L>) {
+    fn advance_by<L: Ledger>(&mut self, log: &MultiLog, tail: u32, steps: &mut Steps<L>) {
         steps.tick();
-        log.advance_token(&mut self.token, t);
+        log.advance_token(&mut self.token, tail);
     }
 }

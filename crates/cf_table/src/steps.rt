@@ -62,13 +62,13 @@ impl MultiLog {
         tail_as::<Brand>(self, token, asked)
     }
 
-    pub(crate) fn advance_token(&self, token: &mut Token, t: u32)
+    pub(crate) fn advance_token(&self, token: &mut Token, tail: u32)
         requires of { IsOf token.old self.now }
-        requires lawful { IsLawfulStep self.now.shape token.old.view (advance t) (advance_effect token.old.view t) }
-        ensures made { HasSteppedUnseen self.now.shape (advance_effect token.old.view t) token.old token.new }
+        requires lawful { IsLawfulStep self.now.shape token.old.view (advance tail) (advance_effect token.old.view tail) }
+        ensures made { HasSteppedUnseen self.now.shape (advance_effect token.old.view tail) token.old token.new }
         ensures books { token.new.view.books ≡ token.old.view.books }
     {
-        advance_as::<Brand>(self, token, t);
+        advance_as::<Brand>(self, token, tail);
     }
 }
 
@@ -84,15 +84,15 @@ fn tail_as<N: Gives>(log: &MultiLog, token: &mut Token, asked: bool) -> u32
     found as u32
 }
 
-fn advance_as<N: Gives>(log: &MultiLog, token: &mut Token, t: u32)
+fn advance_as<N: Gives>(log: &MultiLog, token: &mut Token, tail: u32)
     requires of { IsOf token.old log.now }
-    requires given { N.given ≡ given_advance log.now.shape token.old.view t }
-    requires lawful { IsLawfulStep log.now.shape token.old.view (advance t) (advance_effect token.old.view t) }
-    ensures made { HasSteppedUnseen log.now.shape (advance_effect token.old.view t) token.old token.new }
+    requires given { N.given ≡ given_advance log.now.shape token.old.view tail }
+    requires lawful { IsLawfulStep log.now.shape token.old.view (advance tail) (advance_effect token.old.view tail) }
+    ensures made { HasSteppedUnseen log.now.shape (advance_effect token.old.view tail) token.old token.new }
     ensures books { token.new.view.books ≡ token.old.view.books }
 {
     log.table
         .shared
-        .compare_exchange::<Stores<N>>(&mut token.seat, 1, t as u64, t as u64 + 1);
-    token.covered = token.covered.max(t + 1);
+        .compare_exchange::<Stores<N>>(&mut token.seat, 1, tail as u64, tail as u64 + 1);
+    token.covered = token.covered.max(tail + 1);
 }

@@ -21,20 +21,20 @@ compare_exchange-requires g c =
     let there : 1 < word_total (sizes_of s) = omega arith in (
       ap (λ (h : PassValue). h.table) c.token.view_is ∙ (c.requires.of.table ∙ sym (ap (λ (m : LogValue). m.table) c.log.view_is)),
       rw (c.log.invariant.2, shape) there,
-      subst (λ (w : StepGiven). Allows (IsLawfulState log.table.shared.key) t.slots seat.id seat.me 1 (λ n. either (n == c.args.t) (c.args.t + 1) n)
+      subst (λ (w : StepGiven). Allows (IsLawfulState log.table.shared.key) t.slots seat.id seat.me 1 (λ n. either (n == c.args.tail) (c.args.tail + 1) n)
           (λ found n. TellsSome w seat.me n)) (sym c.requires.given)
-          (advance_allowed log.table.shared.key s t.slots seat.id seat.me p c.args.t (c.log.invariant.0 ∙ shape)
+          (advance_allowed log.table.shared.key s t.slots seat.id seat.me p c.args.tail (c.log.invariant.0 ∙ shape)
           (ap (λ (h : PassValue). h.view) c.token.view_is) (rw c.log.invariant.0 c.log.invariant.1) c.token.invariant.0 c.requires.lawful),
     )
 
-pub overflow_add-t-2 : goal.overflow_add-t-2
-overflow_add-t-2 g c =
+pub overflow_add-tail-2 : goal.overflow_add-tail-2
+overflow_add-tail-2 g c =
     let s = c.args.log.now.shape in
     let p = c.args.token.now.view in
     let shape : c.log.inside.shape ≡ s = ap (λ (m : LogValue). m.shape) c.log.view_is in
     let is : IsShape s = subst IsShape shape c.log.invariant.1 in
     let room = is.capacity in
-    let asks = advance_asks (layout s) p c.args.t _ _ _ c.requires.lawful in
+    let asks = advance_asks (layout s) p c.args.tail _ _ _ c.requires.lawful in
     omega (arith, asks)
 
 pub invariant_of-token : goal.invariant_of-token
@@ -43,5 +43,5 @@ invariant_of-token g c =
     let p = c.args.token.now.view in
     let seat = c.token.inside.seat in
     let some = subst (λ (w : StepGiven). TellsSome w seat.me c.compare_exchange.new.seat.me) c.requires.given c.compare_exchange.ensures.2 in
-    advance_kept s c.args.t c.token.inside.covered c.max-token-inside.result seat.me c.compare_exchange.new.seat.me p
+    advance_kept s c.args.tail c.token.inside.covered c.max-token-inside.result seat.me c.compare_exchange.new.seat.me p
     (ap (λ (h : PassValue). h.view) c.token.view_is) c.requires.lawful some c.token.invariant.1 c.max-token-inside.ensures c.token.invariant.2

@@ -11,5 +11,5 @@ word_as-requires-clause-lawful c =
     let s = c.args.self.now.shape in
     let p = c.args.token.now.view in
     let shape : c.self.inside.shape ≡ s = ap (λ (m : LogValue). m.shape) c.self.view_is in
-    calls_word s p c.args.offset c.args.i c.place_ticket-word.result c.requires.place.0 c.requires.place.1 c.requires.seen
-    (subst (λ (x : ShapeValue). c.place_ticket-word.result ≡ place (sizes_of x) (cell c.args.offset c.args.i)) shape c.place_ticket-word.ensures)
+    calls_word s p c.args.offset c.args.index c.place_ticket-word.result c.requires.place.0 c.requires.place.1 c.requires.seen
+    (subst (λ (x : ShapeValue). c.place_ticket-word.result ≡ place (sizes_of x) (cell c.args.offset c.args.index)) shape c.place_ticket-word.ensures)
