@@ -1,6 +1,6 @@
 -- A spot on a row's path is one of the distinct nodes that the row needs.
-use Rattle.std.proofs.Common.{◌≡◌, ℕ, ◌+◌, ◌-◌, ◌/◌, ◌^◌, ◌<◌, zero, suc, List, [], ◌∷◌, ◌++◌, length, length-append, drop, map, Bool, true, cond, Some, slice_get, refl, ap, sym, subst, ◌∙◌, arith}
-use Rattle.std.specs.List.{flat_map, range_with_len}
+use Rattle.std.proofs.Common.{◌≡◌, ℕ, ◌+◌, ◌-◌, ◌/◌, ◌^◌, ◌<◌, List, [], ◌∷◌, ◌++◌, length, length-append, drop, Bool, true, cond, Some, slice_get, refl, ap, sym, ◌∙◌, arith}
+use Rattle.std.specs.List.{range_with_len}
 use Rattle.cf_lemmas.proofs.Lists.{Has, has_flat, has_map, has_range}
 use Rattle.cf_row.specs.Row.{RowValue}
 use Rattle.cf_shape.specs.Lanes.{ShapeValue, IsShape, selected_by, key_of}

@@ -2,7 +2,7 @@
 use Rattle.std.specs.Prelude.{ℕ, ◌+◌, ◌-◌, ◌*◌, ◌/◌, ◌%◌, ◌<◌, ◌≤◌, ◌≡◌, zero, suc, List, [], ◌∷◌, length, map, take, Some, slice_get, true, cond}
 use Rattle.cf_row.specs.Row.{RowValue}
 use Rattle.cf_row.specs.Words.{word_count}
-use Rattle.cf_shape.specs.Lanes.{ShapeValue, selected_by, measure_of}
+use Rattle.cf_shape.specs.Lanes.{ShapeValue, selected_by, key_of, measure_of}
 use Rattle.cf_shape.specs.Nodes.{levels_of}
 use Rattle.cf_shape.specs.Uses.{cells_before, ticket_words, use_at}
 use Rattle.cf_words.specs.Words.{Spot, spot, Layout, fresh_ticket, version_word}
@@ -47,6 +47,10 @@ key_path shape lane key = key % 16 ∷ nibbles (levels_of shape lane - 1) (key /
 -- a writer's finished records that the lane files in that leaf, newest first
 abbrev pub leaf_chain : ShapeValue → ℕ → ℕ → Book → List (ℕ × RowValue)
 leaf_chain shape lane key b = mine_chain (layout shape) (spot lane (key_path shape lane key)) b.mine
+
+-- those in the leaf of the row
+abbrev pub row_chain : ShapeValue → ℕ → RowValue → Book → List (ℕ × RowValue)
+row_chain shape lane row b = leaf_chain shape lane (key_of shape lane row) b
 
 -- the book is one of the log's: its writer, and what it has finished
 pub record IsBookOf (shape : ShapeValue) (book : Book) : Type 0 where

@@ -5,8 +5,7 @@ ghost use Rattle.cf_row.specs.Words.{word_count as word_count_of, spelled};
 ghost use Rattle.cf_table.specs.Loads.{CountsLoads};
 ghost use Rattle.cf_table.specs.Values.{IsOf, book_of};
 ghost use Rattle.cf_table.specs.Moves.{HasAll, SeenFirst};
-ghost use Rattle.cf_append.specs.Appends.{PassGoesOn, Stops, Rests, HasAppendAnswer, flying};
-ghost use Rattle.cf_append.specs.Linking.{lane_steps};
+ghost use Rattle.cf_append.specs.Appends.{PassGoesOn, Stops, Rests, HasAppendAnswer, append_steps, flying};
 ghost use Rattle.cf_append.specs.Paths.{Remembers, KeepsLeaves};
 
 use crate::leaves::Leaves;
@@ -99,7 +98,7 @@ pub fn append<L: Ledger>(
     ensures begins { (((book_of pass.old.view).over ≡ false) ⊎ SeenFirst pass.old.view) → SeenFirst pass.new.view }
     ensures stops { IfOk result (λ _. Stops log.now.shape pass.old.view pass.new.view) }
     ensures alone { log.now.shape.writers ≡ 1 → IfOk result (λ _. HasAll pass.new.view) }
-    ensures steps { steps.new ≤ steps.old + word_count_of log.now.shape.schema + 3 + lane_steps log.now.shape (length log.now.shape.lanes) + 2 * (length pass.new.view.seen - length pass.old.view.seen + 1) }
+    ensures steps { steps.new ≤ steps.old + append_steps log.now.shape pass.old.view pass.new.view }
     ensures loads { CountsLoads pass.old pass.new steps.old steps.new }
 {
     append_near(log, pass, row, &mut Leaves::new(), steps)
@@ -128,8 +127,9 @@ pub fn append_near<L: Ledger>(
     ensures alone { log.now.shape.writers ≡ 1 → IfOk result (λ _. HasAll pass.new.view) }
     ensures near { Remembers log.now.shape pass.new.view leaves.new }
     ensures kept { IfOk result (λ _. KeepsLeaves log.now.shape row.now leaves.new (length log.now.shape.lanes)) }
-    ensures near_steps { KeepsLeaves log.now.shape row.now leaves.old (length log.now.shape.lanes) → steps.new ≤ steps.old + word_count_of log.now.shape.schema + 3 + 8 * length log.now.shape.lanes + 2 * (length pass.new.view.seen - length pass.old.view.seen + 1) }
-    ensures steps { steps.new ≤ steps.old + word_count_of log.now.shape.schema + 3 + lane_steps log.now.shape (length log.now.shape.lanes) + 2 * (length pass.new.view.seen - length pass.old.view.seen + 1) }
+    ensures near_steps { KeepsLeaves log.now.shape row.now leaves.old (length log.now.shape.lanes)
+        → steps.new ≤ steps.old + word_count_of log.now.shape.schema + 3 + 8 * length log.now.shape.lanes + 2 * (length pass.new.view.seen - length pass.old.view.seen + 1) }
+    ensures steps { steps.new ≤ steps.old + append_steps log.now.shape pass.old.view pass.new.view }
     ensures loads { CountsLoads pass.old pass.new steps.old steps.new }
 {
     if pass.over() {

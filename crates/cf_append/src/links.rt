@@ -2,7 +2,7 @@
 ghost use Rattle.std.specs.Prelude.{ℕ, ◌≡◌, ◌+◌, ◌*◌, ◌%◌, ◌<◌, ◌≤◌, List, ◌∷◌, [], suc, true, length};
 ghost use Rattle.cf_row.specs.Row.{Fits};
 ghost use Rattle.cf_row.specs.Words.{word_count as word_count_of};
-ghost use Rattle.cf_shape.specs.Lanes.{measure_of};
+ghost use Rattle.cf_shape.specs.Lanes.{key_of, measure_of};
 ghost use Rattle.cf_shape.specs.Nodes.{levels_of};
 ghost use Rattle.cf_fold.specs.Quads.{quad_of};
 ghost use Rattle.cf_shape.specs.Uses.{cell_count, is_measured};
@@ -15,7 +15,7 @@ ghost use Rattle.cf_table.specs.Loads.{CountsLoads};
 ghost use Rattle.cf_table.specs.Values.{IsOf, book_of};
 ghost use Rattle.cf_table.specs.Effects.{IsLawfulStep, HasSteppedUnseen, head_effect};
 ghost use Rattle.cf_append.specs.Paths.{KeepsSeen, IsNodeOf, IsFiledIn, HasFilings};
-ghost use Rattle.cf_append.specs.Linking.{HasFilled, HasLinked, IsBookOf, IsNewest, IsCell, amounts_in_chain, key_path, leaf_chain, cell_from};
+ghost use Rattle.cf_append.specs.Linking.{HasFilled, HasLinked, IsBookOf, IsNewest, IsCell, amounts_in_chain, key_path, row_chain, cell_from};
 
 use crate::paths::Filing;
 use cf_fold::Quad;
@@ -23,6 +23,21 @@ use cf_row::{Row, word_count};
 use cf_shape::{cell_size, measure, measures};
 use cf_table::{MultiLog, Steps, WriterPass};
 use std::sync::ledger::Ledger;
+
+// A lane's cell in the ticket in flight: the ticket's offset, the lane, and the word of the ticket where the cell begins.
+#[derive(Clone, Copy, Drop)]
+struct Cell {
+    offset: u32,
+    lane: u8,
+    from: u8,
+}
+
+// What files the row in a lane, if that selects it.
+#[derive(Clone, Copy, Drop)]
+struct Filed {
+    lane: u8,
+    filing: Option<Filing>,
+}
 
 // The own head of a key in a leaf, which stands for the spot `at`. `_lane` is for the proof.
 fn own_head<L: Ledger>(
@@ -50,12 +65,12 @@ fn own_head<L: Ledger>(
     log.load_head(pass, leaf, (key % 16) as u8, writer, steps)
 }
 
-// The quad in the cell of an own record, which is the newest in a leaf. `_key` is for the proof.
+// The quad in the cell of an own record, which is the newest in a leaf. `_row` is for the proof.
 fn cell_quad<L: Ledger>(
     log: &MultiLog,
     pass: &mut WriterPass,
+    _row: &Row,
     lane: u8,
-    _key: u64,
     offset: u32,
     steps: &mut Steps<L>,
 ) -> Quad
@@ -91,7 +106,6 @@ fn quad_with<L: Ledger>(
     pass: &mut WriterPass,
     row: &Row,
     lane: u8,
-    key: u64,
     previous: u64,
     steps: &mut Steps<L>,
 ) -> Quad
@@ -101,11 +115,11 @@ fn quad_with<L: Ledger>(
     requires book { IsBookOf log.now.shape (book_of pass.old.view) }
     requires lane { lane < length log.now.shape.lanes }
     requires measured { is_measured log.now.shape lane ≡ true }
-    requires previous { previous ≡ link_to_newest (leaf_chain log.now.shape lane key (book_of pass.old.view)) }
+    requires previous { previous ≡ link_to_newest (row_chain log.now.shape lane row.now (book_of pass.old.view)) }
     ensures of { IsOf pass.new log.now }
     ensures strides { KeepsSeen pass.old pass.new }
     ensures books { pass.new.view.books ≡ pass.old.view.books }
-    ensures quad { result ≡ quad_of (measure_of log.now.shape lane row.now ∷ amounts_in_chain log.now.shape lane (leaf_chain log.now.shape lane key (book_of pass.old.view))) }
+    ensures quad { result ≡ quad_of (measure_of log.now.shape lane row.now ∷ amounts_in_chain log.now.shape lane (row_chain log.now.shape lane row.now (book_of pass.old.view))) }
     ensures steps { steps.new ≤ steps.old + 3 }
     ensures loads { CountsLoads pass.old pass.new steps.old steps.new }
 {
@@ -113,82 +127,78 @@ fn quad_with<L: Ledger>(
     if previous == 0 {
         return value;
     }
-    let before = cell_quad(log, pass, lane, key, (previous - 1) as u32, steps);
+    let before = cell_quad(log, pass, row, lane, (previous - 1) as u32, steps);
     value.merge(before)
 }
 
-// Stores the three words of a measured lane's cell of the ticket in flight, from word i on.
+// Stores the three words of a measured lane's cell of the ticket in flight. `_row` is for the proof.
 fn store_three<L: Ledger>(
     log: &MultiLog,
     pass: &mut WriterPass,
-    offset: u32,
     _row: &Row,
-    _leaf: (u8, u64),
-    i: u8,
+    cell: Cell,
     words: (u64, u64, u64),
     steps: &mut Steps<L>,
 )
     requires of { IsOf pass.old log.now }
-    requires place { offset < log.now.shape.capacity }
-    requires lane { (_leaf.0 < length log.now.shape.lanes) × (is_measured log.now.shape _leaf.0 ≡ true) }
-    requires at { i ≡ cell_from log.now.shape _leaf.0 }
-    requires leads { path_in log.now.shape _row.now _leaf.0 ≡ Some (key_path log.now.shape _leaf.0 _leaf.1) }
-    requires filled { HasFilled log.now.shape offset _row.now (cell_from log.now.shape _leaf.0) pass.old pass.old }
-    requires words { IsCell log.now.shape _leaf.0 (leaf_chain log.now.shape _leaf.0 _leaf.1 (book_of pass.old.view)) _row.now words.0 words.1 words.2 }
+    requires place { cell.offset < log.now.shape.capacity }
+    requires lane { (cell.lane < length log.now.shape.lanes) × (is_measured log.now.shape cell.lane ≡ true) }
+    requires at { cell.from ≡ cell_from log.now.shape cell.lane }
+    requires leads { path_in log.now.shape _row.now cell.lane ≡ Some (key_path log.now.shape cell.lane (key_of log.now.shape cell.lane _row.now)) }
+    requires filled { HasFilled log.now.shape cell.offset _row.now (cell_from log.now.shape cell.lane) pass.old pass.old }
+    requires words { IsCell log.now.shape cell.lane (row_chain log.now.shape cell.lane _row.now (book_of pass.old.view)) _row.now words.0 words.1 words.2 }
     ensures of { IsOf pass.new log.now }
     ensures strides { KeepsSeen pass.old pass.new }
-    ensures filled { HasFilled log.now.shape offset _row.now (cell_from log.now.shape (_leaf.0 + 1)) pass.old pass.new }
+    ensures filled { HasFilled log.now.shape cell.offset _row.now (cell_from log.now.shape (cell.lane + 1)) pass.old pass.new }
     ensures steps { steps.new ≡ steps.old + 3 }
     ensures loads { CountsLoads pass.old pass.new steps.old steps.new }
 {
     let _lawful = log.shape();
-    log.store_cell(pass, offset, i, words.0, steps);
-    log.store_cell(pass, offset, i + 1, words.1, steps);
-    log.store_cell(pass, offset, i + 2, words.2, steps);
+    log.store_cell(pass, cell.offset, cell.from, words.0, steps);
+    log.store_cell(pass, cell.offset, cell.from + 1, words.1, steps);
+    log.store_cell(pass, cell.offset, cell.from + 2, words.2, steps);
 }
 
-// Stores the cell of a lane of the ticket in flight, from word i on: it names the newest record of the writer in the row's
-// leaf. It is passed over where the lane doesn't select the row. Answers where the next cell begins.
+// Stores the cell of a lane of the ticket in flight: it names the newest record of the writer in the row's leaf. It is passed
+// over where the lane doesn't select the row. Answers where the next cell begins.
 fn store_version<L: Ledger>(
     log: &MultiLog,
     pass: &mut WriterPass,
-    offset: u32,
     row: &Row,
-    lane: u8,
+    cell: Cell,
     filing: Option<Filing>,
-    i: u8,
     steps: &mut Steps<L>,
 ) -> u8
     requires of { IsOf pass.old log.now }
     requires fits { Fits log.now.shape.schema row.now }
-    requires place { offset < log.now.shape.capacity }
-    requires lane { lane < length log.now.shape.lanes }
-    requires at { i ≡ cell_from log.now.shape lane }
+    requires place { cell.offset < log.now.shape.capacity }
+    requires lane { cell.lane < length log.now.shape.lanes }
+    requires at { cell.from ≡ cell_from log.now.shape cell.lane }
     requires book { IsBookOf log.now.shape (book_of pass.old.view) }
-    requires filled { HasFilled log.now.shape offset row.now (cell_from log.now.shape lane) pass.old pass.old }
-    requires filing { IsFiledIn log.now.shape row.now pass.old.view lane filing }
+    requires filled { HasFilled log.now.shape cell.offset row.now (cell_from log.now.shape cell.lane) pass.old pass.old }
+    requires filing { IsFiledIn log.now.shape row.now pass.old.view cell.lane filing }
     ensures of { IsOf pass.new log.now }
     ensures strides { KeepsSeen pass.old pass.new }
-    ensures filled { HasFilled log.now.shape offset row.now (cell_from log.now.shape (lane + 1)) pass.old pass.new }
-    ensures next { result ≡ cell_from log.now.shape (lane + 1) }
+    ensures filled { HasFilled log.now.shape cell.offset row.now (cell_from log.now.shape (cell.lane + 1)) pass.old pass.new }
+    ensures next { result ≡ cell_from log.now.shape (cell.lane + 1) }
     ensures steps { steps.new ≤ steps.old + 7 }
     ensures loads { CountsLoads pass.old pass.new steps.old steps.new }
 {
     let shape = log.shape();
     let Some(at) = filing else {
-        return i + cell_size(shape, lane);
+        return cell.from + cell_size(shape, cell.lane);
     };
-    let previous = own_head(log, pass, lane, at.key, at.leaf, steps);
-    if measures(shape, lane) {
-        let quad = quad_with(log, pass, row, lane, at.key, previous, steps);
+    let previous = own_head(log, pass, cell.lane, at.key, at.leaf, steps);
+    if measures(shape, cell.lane) {
+        let quad = quad_with(log, pass, row, cell.lane, previous, steps);
         let first = previous + quad.count() * 4_294_967_296;
         let ends = quad.least() + quad.greatest() * 4_294_967_296;
         let words = (first, quad.sum(), ends);
-        store_three(log, pass, offset, row, (lane, at.key), i, words, steps);
-        return i + 3;
+        store_three(log, pass, row, cell, words, steps);
+        return cell.from + 3;
     }
-    log.store_cell(pass, offset, i, previous, steps);
-    i + 1
+    log.store_cell(pass, cell.offset, cell.from, previous, steps);
+    cell.from + 1
 }
 
 /// Stores the cells of the ticket in flight, in the order of the lanes.
@@ -214,40 +224,31 @@ pub(crate) fn fill_cells<L: Ledger>(
 {
     let shape = log.shape();
     let lanes = shape.lanes().len() as u8;
-    let mut i = word_count(shape.schema()) as u8 + 1;
+    let mut from = word_count(shape.schema()) as u8 + 1;
     for lane in 0..lanes {
-        i = store_version(
-            log,
-            pass,
-            offset,
-            row,
-            lane,
-            filed[usize::from(lane)],
-            i,
-            steps,
-        );
+        let cell = Cell { offset, lane, from };
+        from = store_version(log, pass, row, cell, filed[usize::from(lane)], steps);
     }
 }
 
-// Links the ticket in flight in a lane, at the row's leaf. `lane` is for the proof.
+// Links the ticket in flight in a lane, at the row's leaf. `_lane` is for the proof.
 fn store_top<L: Ledger>(
     log: &MultiLog,
     pass: &mut WriterPass,
     offset: u32,
     _lane: u8,
-    key: u64,
-    leaf: u32,
+    at: Filing,
     steps: &mut Steps<L>,
 )
     ghost lane: { ℕ }
     requires of { IsOf pass.old log.now }
-    requires place { (leaf < log.now.shape.writers * log.now.shape.nodes) × ((book_of pass.old.view).writer < log.now.shape.writers) }
-    requires lawful { IsLawfulStep log.now.shape pass.old.view (stores_head lane leaf (key % 16) offset) (head_effect log.now.shape pass.old.view lane leaf (key % 16) offset) }
-    ensures made { HasSteppedUnseen log.now.shape (head_effect log.now.shape pass.old.view lane leaf (key % 16) offset) pass.old pass.new }
+    requires place { (at.leaf < log.now.shape.writers * log.now.shape.nodes) × ((book_of pass.old.view).writer < log.now.shape.writers) }
+    requires lawful { IsLawfulStep log.now.shape pass.old.view (stores_head lane at.leaf (at.key % 16) offset) (head_effect log.now.shape pass.old.view lane at.leaf (at.key % 16) offset) }
+    ensures made { HasSteppedUnseen log.now.shape (head_effect log.now.shape pass.old.view lane at.leaf (at.key % 16) offset) pass.old pass.new }
     ensures steps { steps.new ≡ steps.old + 1 }
     ensures loads { CountsLoads pass.old pass.new steps.old steps.new }
 {
-    log.store_head(pass, leaf, (key % 16) as u8, offset, steps);
+    log.store_head(pass, at.leaf, (at.key % 16) as u8, offset, steps);
 }
 
 // Links the ticket in flight in a lane, where that selects the row. `_row` is for the proof.
@@ -256,26 +257,25 @@ fn link_in<L: Ledger>(
     pass: &mut WriterPass,
     offset: u32,
     _row: &Row,
-    lane: u8,
-    filing: Option<Filing>,
+    filed: Filed,
     steps: &mut Steps<L>,
 )
     requires of { IsOf pass.old log.now }
-    requires lane { lane < length log.now.shape.lanes }
+    requires lane { filed.lane < length log.now.shape.lanes }
     requires writer { (book_of pass.old.view).writer < log.now.shape.writers }
-    requires linked { HasLinked log.now.shape offset _row.now lane pass.old pass.old }
-    requires filing { IsFiledIn log.now.shape _row.now pass.old.view lane filing }
+    requires linked { HasLinked log.now.shape offset _row.now filed.lane pass.old pass.old }
+    requires filing { IsFiledIn log.now.shape _row.now pass.old.view filed.lane filed.filing }
     ensures of { IsOf pass.new log.now }
     ensures strides { KeepsSeen pass.old pass.new }
-    ensures linked { HasLinked log.now.shape offset _row.now (lane + 1) pass.old pass.new }
+    ensures linked { HasLinked log.now.shape offset _row.now (filed.lane + 1) pass.old pass.new }
     ensures steps { steps.new ≤ steps.old + 1 }
     ensures loads { CountsLoads pass.old pass.new steps.old steps.new }
 {
     let _lawful = log.shape();
-    let Some(at) = filing else {
+    let Some(at) = filed.filing else {
         return;
     };
-    store_top(log, pass, offset, lane, at.key, at.leaf, steps);
+    store_top(log, pass, offset, filed.lane, at, steps);
 }
 
 /// Links the ticket in flight in each lane that selects its row.
@@ -299,14 +299,7 @@ pub(crate) fn link_all<L: Ledger>(
 {
     let lanes = log.shape().lanes().len() as u8;
     for lane in 0..lanes {
-        link_in(
-            log,
-            pass,
-            offset,
-            row,
-            lane,
-            filed[usize::from(lane)],
-            steps,
-        );
+        let filing = filed[usize::from(lane)];
+        link_in(log, pass, offset, row, Filed { lane, filing }, steps);
     }
 }

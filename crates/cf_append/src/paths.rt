@@ -222,7 +222,8 @@ pub(crate) fn make_paths<L: Ledger>(
     ensures rest { Rests pass.new.view }
     ensures strides { KeepsSeen pass.old pass.new }
     ensures used { HasUsed (IsOnPath log.now.shape row.now) pass.old pass.new }
-    ensures answer { MatchOption result (LacksNode log.now.shape (IsOnPath log.now.shape row.now) pass.old pass.new) (λ filed. HasFilings log.now.shape row.now pass.new.view filed (length log.now.shape.lanes)) }
+    ensures answer { MatchOption result (LacksNode log.now.shape (IsOnPath log.now.shape row.now) pass.old pass.new)
+        (λ filed. HasFilings log.now.shape row.now pass.new.view filed (length log.now.shape.lanes)) }
     ensures near { Remembers log.now.shape pass.new.view leaves.new }
     ensures begins { IfNone result (SeenFirst pass.new.view) }
     ensures kept { IfSome result (λ _. KeepsLeaves log.now.shape row.now leaves.new (length log.now.shape.lanes)) }

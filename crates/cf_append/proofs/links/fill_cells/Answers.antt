@@ -18,7 +18,7 @@ loop-lane-init g c =
       loads = omega arith;
     }
 
-pub store_version-i-requires-clause-book : goal.store_version-i-requires-clause-book
-store_version-i-requires-clause-book g c =
+pub store_version-from-requires-clause-book : goal.store_version-from-requires-clause-book
+store_version-from-requires-clause-book g c =
     filled_book c.args.log.now.shape c.args.offset c.args.row.now
     (cell_from c.args.log.now.shape c.loop-lane.lane) c.args.pass.now c.loop-lane.pass c.loop-lane.invariant.filled c.requires.book

@@ -1,6 +1,6 @@
 use Rattle.std.proofs.Common.{◌≡◌, ◌∙◌, ◌∷◌, ◌++◌, ◌-◌, ◌≤◌, [], length, ap, sym, subst, refl, arith, rules}
 use Rattle.cf_fold.specs.Quads.{QuadValue, quad_of}
-use Rattle.cf_shape.specs.Lanes.{ShapeValue, measure_of}
+use Rattle.cf_shape.specs.Lanes.{ShapeValue, key_of, measure_of}
 use Rattle.cf_words.specs.Words.{spot, link_to_newest}
 use Rattle.cf_law.specs.Shapes.{layout}
 use Rattle.cf_table.specs.Values.{book_of}
@@ -11,7 +11,8 @@ use Rattle.cf_append.proofs.links.quad_with.Goals as goal
 pub overflow_cast-previous : goal.overflow_cast-previous
 overflow_cast-previous g c =
     let s = c.args.log.now.shape in
-    let few = top_few s (spot c.args.lane (key_path s c.args.lane c.args.key)) (book_of c.args.pass.now.view) c.requires.book in
+    let key = key_of s c.args.lane c.args.row.now in
+    let few = top_few s (spot c.args.lane (key_path s c.args.lane key)) (book_of c.args.pass.now.view) c.requires.book in
     let is = c.requires.previous in
     let room = c.shape.ensures.lawful.capacity in
     omega (arith, few, is, room)
@@ -19,10 +20,11 @@ overflow_cast-previous g c =
 pub cell_quad-before-requires : goal.cell_quad-before-requires
 cell_quad-before-requires g c κs within =
     let s = c.args.log.now.shape in
+    let key = key_of s c.args.lane c.args.row.now in
     let b = book_of c.args.pass.now.view in
     let is = c.requires.previous in
     let some = c.if-previous-eq0.false in
-    let at : link_to_newest (leaf_chain s c.args.lane c.args.key b) ≡ Rattle.std.proofs.Common.suc (c.args.previous - 1) = omega (arith, is, some) in (
+    let at : link_to_newest (leaf_chain s c.args.lane key b) ≡ Rattle.std.proofs.Common.suc (c.args.previous - 1) = omega (arith, is, some) in (
       within,
       (
         c.requires.of,
@@ -30,7 +32,7 @@ cell_quad-before-requires g c κs within =
           c.requires.one,
           (
             c.requires.book,
-            ((c.requires.lane, c.requires.measured), newest (layout s) (spot c.args.lane (key_path s c.args.lane c.args.key)) b.mine (c.args.previous - 1) at),
+            ((c.requires.lane, c.requires.measured), newest (layout s) (spot c.args.lane (key_path s c.args.lane key)) b.mine (c.args.previous - 1) at),
           ),
         ),
       ),
@@ -39,8 +41,9 @@ cell_quad-before-requires g c κs within =
 pub merge-requires : goal.merge-requires
 merge-requires g c =
     let s = c.args.log.now.shape in
+    let key = key_of s c.args.lane c.args.row.now in
     let b = book_of c.args.pass.now.view in
-    let few = amounts_few s c.args.lane (spot c.args.lane (key_path s c.args.lane c.args.key)) b c.requires.book in
+    let few = amounts_few s c.args.lane (spot c.args.lane (key_path s c.args.lane key)) b c.requires.book in
     let one = c.add-value.ensures.count in
     let is = ap (λ (q : QuadValue). q.count) c.cell_quad-before.ensures.quad in
     let room = c.shape.ensures.lawful.capacity in
@@ -49,8 +52,9 @@ merge-requires g c =
 pub returns-clause-quad : goal.returns-clause-quad
 returns-clause-quad g c =
     let s = c.args.log.now.shape in
+    let key = key_of s c.args.lane c.args.row.now in
     let b = book_of c.args.pass.now.view in
     let l = c.args.lane in
     let value = c.measure.ensures ∙ ap (λ (h : ShapeValue). measure_of h l c.args.row.now) c.shape.ensures.shape in
-    c.merge.ensures.merged (measure_of s l c.args.row.now ∷ []) (amounts_in_chain s l (leaf_chain s l c.args.key b))
+    c.merge.ensures.merged (measure_of s l c.args.row.now ∷ []) (amounts_in_chain s l (leaf_chain s l key b))
     (c.add-value.ensures.added [] refl ∙ ap (λ v. quad_of (v ∷ [])) value) c.cell_quad-before.ensures.quad

@@ -1,5 +1,6 @@
 use Rattle.std.proofs.Common.{◌∙◌, ◌+◌, suc, List, ap, sym, arith}
 use Rattle.cf_shape.proofs.Bounds.{ticket_few}
+use Rattle.cf_shape.specs.Lanes.{key_of}
 use Rattle.cf_words.specs.Words.{spot, version_word}
 use Rattle.cf_law.specs.Passes.{Own}
 use Rattle.cf_law.specs.Steps.{mine_chain}
@@ -14,10 +15,10 @@ pub store_cell-requires-clause-place : goal.store_cell-requires-clause-place
 store_cell-requires-clause-place g c =
     let s = c.args.log.now.shape in
     let row = c.args._row.now in
-    let o = c.args.offset in
-    let l = c.args._leaf.0 in
-    let i = c.args.i in
-    let q = key_path s l c.args._leaf.1 in
+    let o = c.args.cell.offset in
+    let l = c.args.cell.lane in
+    let i = c.args.cell.from in
+    let q = key_path s l (key_of s l row) in
     let at = c.requires.at in
     let there = c.requires.lane.0 in
     let three = three_words s l c.requires.lane.1 in
@@ -30,10 +31,10 @@ pub store_cell-requires-clause-lawful : goal.store_cell-requires-clause-lawful
 store_cell-requires-clause-lawful g c =
     let s = c.args.log.now.shape in
     let row = c.args._row.now in
-    let o = c.args.offset in
-    let l = c.args._leaf.0 in
-    let i = c.args.i in
-    let q = key_path s l c.args._leaf.1 in
+    let o = c.args.cell.offset in
+    let l = c.args.cell.lane in
+    let i = c.args.cell.from in
+    let q = key_path s l (key_of s l row) in
     let at = c.requires.at in
     let there = c.requires.lane.0 in
     let three = three_words s l c.requires.lane.1 in
@@ -46,10 +47,10 @@ pub store_cell-requires-2-clause-place : goal.store_cell-requires-2-clause-place
 store_cell-requires-2-clause-place g c =
     let s = c.args.log.now.shape in
     let row = c.args._row.now in
-    let o = c.args.offset in
-    let l = c.args._leaf.0 in
-    let i = c.args.i in
-    let q = key_path s l c.args._leaf.1 in
+    let o = c.args.cell.offset in
+    let l = c.args.cell.lane in
+    let i = c.args.cell.from in
+    let q = key_path s l (key_of s l row) in
     let at = c.requires.at in
     let there = c.requires.lane.0 in
     let three = three_words s l c.requires.lane.1 in
@@ -62,10 +63,10 @@ pub store_cell-requires-2-clause-lawful : goal.store_cell-requires-2-clause-lawf
 store_cell-requires-2-clause-lawful g c =
     let s = c.args.log.now.shape in
     let row = c.args._row.now in
-    let o = c.args.offset in
-    let l = c.args._leaf.0 in
-    let i = c.args.i in
-    let q = key_path s l c.args._leaf.1 in
+    let o = c.args.cell.offset in
+    let l = c.args.cell.lane in
+    let i = c.args.cell.from in
+    let q = key_path s l (key_of s l row) in
     let at = c.requires.at in
     let there = c.requires.lane.0 in
     let three = three_words s l c.requires.lane.1 in
@@ -83,10 +84,10 @@ pub store_cell-requires-3-clause-place : goal.store_cell-requires-3-clause-place
 store_cell-requires-3-clause-place g c =
     let s = c.args.log.now.shape in
     let row = c.args._row.now in
-    let o = c.args.offset in
-    let l = c.args._leaf.0 in
-    let i = c.args.i in
-    let q = key_path s l c.args._leaf.1 in
+    let o = c.args.cell.offset in
+    let l = c.args.cell.lane in
+    let i = c.args.cell.from in
+    let q = key_path s l (key_of s l row) in
     let at = c.requires.at in
     let there = c.requires.lane.0 in
     let three = three_words s l c.requires.lane.1 in
@@ -99,10 +100,10 @@ pub store_cell-requires-3-clause-lawful : goal.store_cell-requires-3-clause-lawf
 store_cell-requires-3-clause-lawful g c =
     let s = c.args.log.now.shape in
     let row = c.args._row.now in
-    let o = c.args.offset in
-    let l = c.args._leaf.0 in
-    let i = c.args.i in
-    let q = key_path s l c.args._leaf.1 in
+    let o = c.args.cell.offset in
+    let l = c.args.cell.lane in
+    let i = c.args.cell.from in
+    let q = key_path s l (key_of s l row) in
     let at = c.requires.at in
     let there = c.requires.lane.0 in
     let three = three_words s l c.requires.lane.1 in
@@ -124,10 +125,10 @@ pub returns-clause-filled : goal.returns-clause-filled
 returns-clause-filled g c =
     let s = c.args.log.now.shape in
     let row = c.args._row.now in
-    let o = c.args.offset in
-    let l = c.args._leaf.0 in
-    let i = c.args.i in
-    let q = key_path s l c.args._leaf.1 in
+    let o = c.args.cell.offset in
+    let l = c.args.cell.lane in
+    let i = c.args.cell.from in
+    let q = key_path s l (key_of s l row) in
     let at = c.requires.at in
     let there = c.requires.lane.0 in
     let three = three_words s l c.requires.lane.1 in
@@ -151,9 +152,9 @@ pub returns-clause-strides : goal.returns-clause-strides
 returns-clause-strides g c =
     let s = c.args.log.now.shape in
     let row = c.args._row.now in
-    let o = c.args.offset in
-    let l = c.args._leaf.0 in
-    let i = c.args.i in
+    let o = c.args.cell.offset in
+    let l = c.args.cell.lane in
+    let i = c.args.cell.from in
     let p = c.args.pass.now in
     let m = c.store_cell.new.pass in
     let n = c.store_cell-2.new.pass in
@@ -162,18 +163,18 @@ returns-clause-strides g c =
     (strides_then m n z (store_strides s m n o (i + 1) c.args.words.1 c.store_cell-2.ensures.made)
     (store_strides s n z o (i + 2) c.args.words.2 c.store_cell-3.ensures.made))
 
-pub overflow_add-i : goal.overflow_add-i
-overflow_add-i g c =
+pub overflow_add-cell : goal.overflow_add-cell
+overflow_add-cell g c =
     let s = c.args.log.now.shape in
-    let l = c.args._leaf.0 in
+    let l = c.args.cell.lane in
     let at = c.requires.at in
     let three = three_words s l c.requires.lane.1 in
     omega (arith, at, three, cell_low s l c.requires.lane.0, ticket_few s c.shape-lawful.ensures.lawful)
 
-pub overflow_add-i-2 : goal.overflow_add-i-2
-overflow_add-i-2 g c =
+pub overflow_add-cell-2 : goal.overflow_add-cell-2
+overflow_add-cell-2 g c =
     let s = c.args.log.now.shape in
-    let l = c.args._leaf.0 in
+    let l = c.args.cell.lane in
     let at = c.requires.at in
     let three = three_words s l c.requires.lane.1 in
     omega (arith, at, three, cell_low s l c.requires.lane.0, ticket_few s c.shape-lawful.ensures.lawful)

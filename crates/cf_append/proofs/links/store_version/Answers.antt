@@ -1,4 +1,4 @@
-use Rattle.std.proofs.Common.{ℕ, List, ◌*◌, ◌∙◌, ap₂, ◌≡◌, ◌+◌, ◌-◌, ◌/◌, ◌%◌, ◌∷◌, false, true, ap, sym, arith}
+use Rattle.std.proofs.Common.{ℕ, List, ◌*◌, ◌∙◌, ap₂, ◌≡◌, ◌+◌, ◌-◌, ◌/◌, ◌%◌, ◌∷◌, Some, false, true, ap, sym, subst, arith}
 use Rattle.cf_shape.proofs.Bounds.{ticket_few}
 use Rattle.cf_shape.specs.Nodes.{levels_of}
 use Rattle.cf_law.specs.Nibbles.{nibbles}
@@ -6,10 +6,11 @@ use Rattle.cf_law.proofs.Nibbles.{length-nibbles}
 use Rattle.cf_append.proofs.Walking.{strides_then, one_book, same_book}
 use Rattle.cf_row.specs.Row.{RowValue}
 use Rattle.cf_fold.specs.Quads.{QuadValue, quad_of}
-use Rattle.cf_shape.specs.Lanes.{ShapeValue, lane_at, measure_of}
+use Rattle.cf_shape.specs.Lanes.{ShapeValue, lane_at, key_of, measure_of}
 use Rattle.cf_shape.specs.Uses.{cell_words, is_measured}
 use Rattle.cf_words.specs.Words.{spot, link_to_newest}
 use Rattle.cf_law.specs.Passes.{Book}
+use Rattle.cf_law.specs.Shapes.{path_in}
 use Rattle.cf_table.specs.Values.{book_of}
 use Rattle.cf_append.specs.Linking.{amounts_in_chain, key_path, leaf_chain, cell_from}
 use Rattle.cf_append.proofs.Newest.{amounts_few, top_few, quad_cell, three_words}
@@ -22,40 +23,40 @@ pub overflow_add-result : goal.overflow_add-result
 overflow_add-result g c =
     let s = c.args.log.now.shape in
     let at = c.requires.at in
-    let wide = c.cell_size.ensures ∙ ap (λ (h : ShapeValue). cell_words (lane_at h c.args.lane)) c.shape-shape.ensures.shape in
-    omega (arith, at, wide, cell_low s c.args.lane c.requires.lane, ticket_few s c.shape-shape.ensures.lawful)
+    let wide = c.cell_size.ensures ∙ ap (λ (h : ShapeValue). cell_words (lane_at h c.args.cell.lane)) c.shape-shape.ensures.shape in
+    omega (arith, at, wide, cell_low s c.args.cell.lane c.requires.lane, ticket_few s c.shape-shape.ensures.lawful)
 
 pub overflow_add-result-2 : goal.overflow_add-result-2
 overflow_add-result-2 g c =
     let s = c.args.log.now.shape in
     let at = c.requires.at in
-    omega (arith, at, cell_low s c.args.lane c.requires.lane, ticket_few s c.shape-shape.ensures.lawful)
+    omega (arith, at, cell_low s c.args.cell.lane c.requires.lane, ticket_few s c.shape-shape.ensures.lawful)
 
 pub returns-in_default-clause-filled : goal.returns-in_default-clause-filled
 returns-in_default-clause-filled g c =
     let s = c.args.log.now.shape in
-    filled_skip s c.args.offset c.args.row.now c.args.lane c.args.pass.now c.args.pass.now c.requires.lane
-    (filed_none s c.args.row.now c.args.pass.now.view c.args.lane c.args.filing c.in_default.is c.requires.filing) c.requires.filled
+    filled_skip s c.args.cell.offset c.args.row.now c.args.cell.lane c.args.pass.now c.args.pass.now c.requires.lane
+    (filed_none s c.args.row.now c.args.pass.now.view c.args.cell.lane c.args.filing c.in_default.is c.requires.filing) c.requires.filled
 
 pub returns-in_default-clause-next : goal.returns-in_default-clause-next
 returns-in_default-clause-next g c =
     let s = c.args.log.now.shape in
     let at = c.requires.at in
-    let wide = c.cell_size.ensures ∙ ap (λ (h : ShapeValue). cell_words (lane_at h c.args.lane)) c.shape-shape.ensures.shape in
-    omega (arith, at, wide, cell_next s c.args.lane c.requires.lane)
+    let wide = c.cell_size.ensures ∙ ap (λ (h : ShapeValue). cell_words (lane_at h c.args.cell.lane)) c.shape-shape.ensures.shape in
+    omega (arith, at, wide, cell_next s c.args.cell.lane c.requires.lane)
 
 pub returns-clause-next : goal.returns-clause-next
 returns-clause-next g c =
     let s = c.args.log.now.shape in
     let at = c.requires.at in
-    let bare : is_measured s c.args.lane ≡ false = ap (λ (h : ShapeValue). is_measured h c.args.lane) (sym c.shape-shape.ensures.shape)
+    let bare : is_measured s c.args.cell.lane ≡ false = ap (λ (h : ShapeValue). is_measured h c.args.cell.lane) (sym c.shape-shape.ensures.shape)
     ∙ (sym c.measures.ensures ∙ c.if-measures.false) in
-    omega (arith, at, unmeasured_next s c.args.lane c.requires.lane bare)
+    omega (arith, at, unmeasured_next s c.args.cell.lane c.requires.lane bare)
 
 pub own_head-previous-requires : goal.own_head-previous-requires
 own_head-previous-requires g c κs within =
     let s = c.args.log.now.shape in
-    let l = c.args.lane in
+    let l = c.args.cell.lane in
     let row = c.args.row.now in
     let key = c.in-Some.at.key in
     let many = levels_two s l c.shape-shape.ensures.lawful c.requires.lane in
@@ -77,53 +78,55 @@ pub store_cell-requires-clause-place : goal.store_cell-requires-clause-place
 store_cell-requires-clause-place g c =
     let s = c.args.log.now.shape in
     let at = c.requires.at in
-    (c.requires.place, omega (arith, at, cell_low s c.args.lane c.requires.lane))
+    (c.requires.place, omega (arith, at, cell_low s c.args.cell.lane c.requires.lane))
 
 pub store_cell-requires-clause-lawful : goal.store_cell-requires-clause-lawful
 store_cell-requires-clause-lawful g c =
     let s = c.args.log.now.shape in
-    let bare : is_measured s c.args.lane ≡ false = ap (λ (h : ShapeValue). is_measured h c.args.lane) (sym c.shape-shape.ensures.shape)
+    let bare : is_measured s c.args.cell.lane ≡ false = ap (λ (h : ShapeValue). is_measured h c.args.cell.lane) (sym c.shape-shape.ensures.shape)
     ∙ (sym c.measures.ensures ∙ c.if-measures.false) in
-    let l = c.args.lane in
+    let l = c.args.cell.lane in
     let row = c.args.row.now in
     let key = c.in-Some.at.key in
     let many = levels_two s l c.shape-shape.ensures.lawful c.requires.lane in
     let filed = filed_some s row c.args.pass.now.view l c.args.filing c.in-Some.at c.in-Some.is c.requires.filing in
     let leads = filed_path s row l c.args.pass.now.view c.in-Some.at many filed in
-    may_version s c.args.pass.now c.own_head-previous.new.pass c.args.offset l c.args.i c.own_head-previous.result row
+    may_version s c.args.pass.now c.own_head-previous.new.pass c.args.cell.offset l c.args.cell.from c.own_head-previous.result row
     (key % 16 ∷ nibbles (levels_of s l - 1) (key / 16)) c.requires.filled c.own_head-previous.ensures.books c.requires.lane bare c.requires.at
     leads c.own_head-previous.ensures.head
 
 pub returns-clause-strides : goal.returns-clause-strides
 returns-clause-strides g c =
     strides_then c.args.pass.now c.own_head-previous.new.pass c.store_cell.new.pass c.own_head-previous.ensures.strides
-    (store_strides c.args.log.now.shape c.own_head-previous.new.pass c.store_cell.new.pass c.args.offset c.args.i c.own_head-previous.result c.store_cell.ensures.made)
+    (store_strides c.args.log.now.shape c.own_head-previous.new.pass c.store_cell.new.pass c.args.cell.offset c.args.cell.from c.own_head-previous.result c.store_cell.ensures.made)
 
 pub returns-clause-filled : goal.returns-clause-filled
 returns-clause-filled g c =
     let s = c.args.log.now.shape in
-    let bare : is_measured s c.args.lane ≡ false = ap (λ (h : ShapeValue). is_measured h c.args.lane) (sym c.shape-shape.ensures.shape)
+    let bare : is_measured s c.args.cell.lane ≡ false = ap (λ (h : ShapeValue). is_measured h c.args.cell.lane) (sym c.shape-shape.ensures.shape)
     ∙ (sym c.measures.ensures ∙ c.if-measures.false) in
-    filled_more c.args.log.now.shape c.args.pass.now c.own_head-previous.new.pass c.store_cell.new.pass c.args.offset c.args.lane c.args.i c.own_head-previous.result c.args.row.now c.requires.filled c.own_head-previous.ensures.books c.requires.lane bare c.requires.at c.store_cell.ensures.made
+    filled_more c.args.log.now.shape c.args.pass.now c.own_head-previous.new.pass c.store_cell.new.pass c.args.cell.offset c.args.cell.lane c.args.cell.from c.own_head-previous.result c.args.row.now c.requires.filled c.own_head-previous.ensures.books c.requires.lane bare c.requires.at c.store_cell.ensures.made
 
 pub quad_with-quad-requires-clause-previous : goal.quad_with-quad-requires-clause-previous
 quad_with-quad-requires-clause-previous g c =
     let s = c.args.log.now.shape in
-    let l = c.args.lane in
+    let l = c.args.cell.lane in
     let row = c.args.row.now in
-    let key = c.in-Some.at.key in
+    let filed = filed_some s row c.args.pass.now.view l c.args.filing c.in-Some.at c.in-Some.is c.requires.filing in
+    let key = key_of s l row in
     let m = c.args.pass.now in
     let n = c.own_head-previous.new.pass in
     let previous =
-    head_chain s m n c.args.offset (cell_from s l) c.own_head-previous.result row
-    (spot l (key_path s l key)) c.requires.filled c.own_head-previous.ensures.books c.own_head-previous.ensures.head in
+    subst (λ (k : ℕ). c.own_head-previous.result ≡ link_to_newest (leaf_chain s l k (book_of n.view))) filed.key
+    (head_chain s m n c.args.cell.offset (cell_from s l) c.own_head-previous.result row
+    (spot l (key_path s l c.in-Some.at.key)) c.requires.filled c.own_head-previous.ensures.books c.own_head-previous.ensures.head) in
     previous
 
 pub overflow_mul-first : goal.overflow_mul-first
 overflow_mul-first g c =
     let s = c.args.log.now.shape in
-    let l = c.args.lane in
-    let key = c.in-Some.at.key in
+    let l = c.args.cell.lane in
+    let key = key_of s l c.args.row.now in
     let m = c.args.pass.now in
     let n = c.own_head-previous.new.pass in
     let own = book_same s m n c.requires.book c.own_head-previous.ensures.books in
@@ -137,14 +140,16 @@ overflow_mul-first g c =
 pub overflow_add-first : goal.overflow_add-first
 overflow_add-first g c =
     let s = c.args.log.now.shape in
-    let l = c.args.lane in
+    let l = c.args.cell.lane in
     let row = c.args.row.now in
-    let key = c.in-Some.at.key in
+    let filed = filed_some s row c.args.pass.now.view l c.args.filing c.in-Some.at c.in-Some.is c.requires.filing in
+    let key = key_of s l row in
     let m = c.args.pass.now in
     let n = c.own_head-previous.new.pass in
     let previous =
-    head_chain s m n c.args.offset (cell_from s l) c.own_head-previous.result row
-    (spot l (key_path s l key)) c.requires.filled c.own_head-previous.ensures.books c.own_head-previous.ensures.head in
+    subst (λ (k : ℕ). c.own_head-previous.result ≡ link_to_newest (leaf_chain s l k (book_of n.view))) filed.key
+    (head_chain s m n c.args.cell.offset (cell_from s l) c.own_head-previous.result row
+    (spot l (key_path s l c.in-Some.at.key)) c.requires.filled c.own_head-previous.ensures.books c.own_head-previous.ensures.head) in
     let own = book_same s m n c.requires.book c.own_head-previous.ensures.books in
     let quad = c.quad_with-quad.ensures.quad in
     let count = ap (λ (q : QuadValue). q.count) quad in
@@ -157,24 +162,26 @@ overflow_add-first g c =
 pub store_three-requires-clause-leads : goal.store_three-requires-clause-leads
 store_three-requires-clause-leads g c =
     let s = c.args.log.now.shape in
-    let l = c.args.lane in
+    let l = c.args.cell.lane in
     let row = c.args.row.now in
     let many = levels_two s l c.shape-shape.ensures.lawful c.requires.lane in
     let filed = filed_some s row c.args.pass.now.view l c.args.filing c.in-Some.at c.in-Some.is c.requires.filing in
-    filed_path s row l c.args.pass.now.view c.in-Some.at many filed
+    subst (λ (k : ℕ). path_in s row l ≡ Some (key_path s l k)) filed.key (filed_path s row l c.args.pass.now.view c.in-Some.at many filed)
 
 pub store_three-requires-clause-words : goal.store_three-requires-clause-words
 store_three-requires-clause-words g c =
     let s = c.args.log.now.shape in
-    let l = c.args.lane in
+    let l = c.args.cell.lane in
     let row = c.args.row.now in
-    let key = c.in-Some.at.key in
+    let filed = filed_some s row c.args.pass.now.view l c.args.filing c.in-Some.at c.in-Some.is c.requires.filing in
+    let key = key_of s l row in
     let same = c.shape-shape.ensures.shape in
     let m = c.args.pass.now in
     let n = c.own_head-previous.new.pass in
     let previous =
-    head_chain s m n c.args.offset (cell_from s l) c.own_head-previous.result row
-    (spot l (key_path s l key)) c.requires.filled c.own_head-previous.ensures.books c.own_head-previous.ensures.head in
+    subst (λ (k : ℕ). c.own_head-previous.result ≡ link_to_newest (leaf_chain s l k (book_of n.view))) filed.key
+    (head_chain s m n c.args.cell.offset (cell_from s l) c.own_head-previous.result row
+    (spot l (key_path s l c.in-Some.at.key)) c.requires.filled c.own_head-previous.ensures.books c.own_head-previous.ensures.head) in
     let z = c.quad_with-quad.new.pass in
     let measured : is_measured s l ≡ true = ap (λ (x : ShapeValue). is_measured x l) (sym same) ∙ (sym c.measures.ensures ∙ c.if-measures.true) in
     let kept = same_book n z c.quad_with-quad.ensures.books in
@@ -189,14 +196,14 @@ pub overflow_add-result-then-measures : goal.overflow_add-result-then-measures
 overflow_add-result-then-measures g c =
     let s = c.args.log.now.shape in
     let at = c.requires.at in
-    let measured : is_measured s c.args.lane ≡ true = ap (λ (x : ShapeValue). is_measured x c.args.lane) (sym c.shape-shape.ensures.shape)
+    let measured : is_measured s c.args.cell.lane ≡ true = ap (λ (x : ShapeValue). is_measured x c.args.cell.lane) (sym c.shape-shape.ensures.shape)
     ∙ (sym c.measures.ensures ∙ c.if-measures.true) in
-    omega (arith, at, three_words s c.args.lane measured, cell_low s c.args.lane c.requires.lane, ticket_few s c.shape-shape.ensures.lawful)
+    omega (arith, at, three_words s c.args.cell.lane measured, cell_low s c.args.cell.lane c.requires.lane, ticket_few s c.shape-shape.ensures.lawful)
 
 pub returns-then-measures-clause-next : goal.returns-then-measures-clause-next
 returns-then-measures-clause-next g c =
     let s = c.args.log.now.shape in
     let at = c.requires.at in
-    let measured : is_measured s c.args.lane ≡ true = ap (λ (x : ShapeValue). is_measured x c.args.lane) (sym c.shape-shape.ensures.shape)
+    let measured : is_measured s c.args.cell.lane ≡ true = ap (λ (x : ShapeValue). is_measured x c.args.cell.lane) (sym c.shape-shape.ensures.shape)
     ∙ (sym c.measures.ensures ∙ c.if-measures.true) in
-    omega (arith, at, three_words s c.args.lane measured, cell_next s c.args.lane c.requires.lane)
+    omega (arith, at, three_words s c.args.cell.lane measured, cell_next s c.args.cell.lane c.requires.lane)
