@@ -30,7 +30,8 @@ pub(crate) fn begin<P: Pass, L: Ledger>(
     ghost above: { Spot }
     requires of { IsOf (P.held pass.old) log.now }
     requires place { (leaf.node < log.now.shape.writers * log.now.shape.nodes) × (writer < log.now.shape.writers) }
-    requires lawful { IsLawfulStep log.now.shape (P.held pass.old).view (load_head leaf.node (leaf.key % 16) writer) (walk_effect log.now.shape (P.held pass.old).view above leaf.node (leaf.key % 16) writer) }
+    requires lawful { IsLawfulStep log.now.shape (P.held pass.old).view (load_head leaf.node (leaf.key % 16) writer)
+        (walk_effect log.now.shape (P.held pass.old).view above leaf.node (leaf.key % 16) writer) }
     ensures made { HasStepped log.now.shape (walk_effect log.now.shape (P.held pass.old).view above leaf.node (leaf.key % 16) writer) (P.held pass.old) result (P.held pass.new) }
     ensures steps { steps.new ≡ steps.old + 1 }
 {
@@ -51,7 +52,8 @@ pub(crate) fn collect_chain<P: Pass, L: Ledger>(
     requires writer { writer < log.now.shape.writers }
     ensures found { OnOk result (found.new.items ≡ found.old.items ++ chain_places log.now.shape leaf.lane leaf.key (P.held pass.old).view.seen writer) }
     ensures walked { OnlyWalked (P.held pass.old) (P.held pass.new) }
-    ensures steps { OnOk result (ChainSteps log.now.shape writer (P.held pass.old) (P.held pass.new) (length (chain_places log.now.shape leaf.lane leaf.key (P.held pass.old).view.seen writer)) steps.old steps.new) }
+    ensures steps { OnOk result (ChainSteps log.now.shape writer (P.held pass.old) (P.held pass.new)
+        (length (chain_places log.now.shape leaf.lane leaf.key (P.held pass.old).view.seen writer)) steps.old steps.new) }
     ensures loads { CountsLoads (P.held pass.old) (P.held pass.new) steps.old steps.new }
 {
     let _lawful = log.shape();
@@ -78,7 +80,8 @@ pub(crate) fn collect_leaf<P: Pass, L: Ledger>(
     requires above { IsAbove log.now.shape leaf.lane leaf.key leaf.node (P.held pass.old).view }
     ensures found { OnOk result (found.new.items ≡ found.old.items ++ leaf_places log.now.shape leaf.lane leaf.key (P.held pass.old).view.seen log.now.shape.writers) }
     ensures walked { OnlyWalked (P.held pass.old) (P.held pass.new) }
-    ensures steps { OnOk result (steps.new ≤ steps.old + log.now.shape.writers + length (leaf_places log.now.shape leaf.lane leaf.key (P.held pass.old).view.seen log.now.shape.writers) + (log.now.shape.capacity - length (P.held pass.old).view.seen)) }
+    ensures steps { OnOk result (steps.new ≤ steps.old + log.now.shape.writers
+        + length (leaf_places log.now.shape leaf.lane leaf.key (P.held pass.old).view.seen log.now.shape.writers) + (log.now.shape.capacity - length (P.held pass.old).view.seen)) }
     ensures loads { CountsLoads (P.held pass.old) (P.held pass.new) steps.old steps.new }
 {
     for writer in 0..log.shape().writers() {

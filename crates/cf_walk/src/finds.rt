@@ -40,7 +40,8 @@ pub fn find<P: Pass, L: Ledger>(
     requires fit { AreFit log.now.shape (P.held pass.old).view }
     ensures found { IfOk result (λ found. found ≡ places (is_keyed_between log.now.shape lane range.0 range.1) (rows_in (P.held pass.old).view.seen)) }
     ensures walked { OnlyWalked (P.held pass.old) (P.held pass.new) }
-    ensures steps { range.0 ≡ range.1 → IfOk result (λ found. steps.new ≤ steps.old + (levels_of log.now.shape lane - 1) + log.now.shape.writers + length found + (log.now.shape.capacity - length (P.held pass.old).view.seen)) }
+    ensures steps { range.0 ≡ range.1 → IfOk result (λ found. steps.new ≤ steps.old + (levels_of log.now.shape lane - 1) + log.now.shape.writers
+        + length found + (log.now.shape.capacity - length (P.held pass.old).view.seen)) }
     ensures loads { CountsLoads (P.held pass.old) (P.held pass.new) steps.old steps.new }
 {
     let (low, high) = range;

@@ -12,6 +12,7 @@ ghost use Rattle.cf_walk.specs.Measures.{HasGrouped};
 ghost use Rattle.cf_walk.specs.Reached.{IsPath};
 
 use crate::finds::greatest_key;
+use crate::key_range::KeyRange;
 use crate::measures::measure_key;
 use crate::tree::{Path, no_path};
 use cf_plain::Group;
@@ -24,29 +25,31 @@ use std::sync::ledger::Ledger;
 fn add_group<P: Pass, L: Ledger>(
     log: &MultiLog,
     pass: &mut P,
-    lane: u8,
-    range: (u64, u64),
+    keys: KeyRange,
     path: &mut Path,
     groups: &mut Vec<Group>,
     steps: &mut Steps<L>,
 ) -> Result<u64, Memory>
     requires of { IsOf (P.held pass.old) log.now }
-    requires lane { lane < length log.now.shape.lanes }
-    requires range { range.0 ≤ range.1 }
-    requires top { range.1 < 16 ^ levels_of log.now.shape lane }
-    requires measured { is_measured log.now.shape lane ≡ true }
+    requires lane { keys.lane < length log.now.shape.lanes }
+    requires range { keys.low ≤ keys.high }
+    requires top { keys.high < 16 ^ levels_of log.now.shape keys.lane }
+    requires measured { is_measured log.now.shape keys.lane ≡ true }
     requires fit { AreFit log.now.shape (P.held pass.old).view }
     requires few { length (P.held pass.old).view.seen ≤ log.now.shape.capacity }
-    requires path { IsPath log.now.shape lane path.old (P.held pass.old).view }
-    ensures path { IfOk result (λ _. IsPath log.now.shape lane path.new (P.held pass.new).view) }
-    ensures found { IfOk result (HasGrouped log.now.shape lane range.0 range.1 (rows_in (P.held pass.old).view.seen) groups.old.items groups.new.items) }
+    requires path { IsPath log.now.shape keys.lane path.old (P.held pass.old).view }
+    ensures path { IfOk result (λ _. IsPath log.now.shape keys.lane path.new (P.held pass.new).view) }
+    ensures found { IfOk result (HasGrouped log.now.shape keys.lane keys.low keys.high (rows_in (P.held pass.old).view.seen) groups.old.items groups.new.items) }
     ensures walked { OnlyWalked (P.held pass.old) (P.held pass.new) }
     ensures loads { CountsLoads (P.held pass.old) (P.held pass.new) steps.old steps.new }
 {
     let _lawful = log.shape();
-    let (last, quad) = measure_key(log, pass, lane, range, path, steps);
+    let (last, quad) = measure_key(log, pass, keys, path, steps);
     if quad.count() > 0 {
-        groups.push(Group { key: range.0, quad })?;
+        groups.push(Group {
+            key: keys.low,
+            quad,
+        })?;
     }
     Ok(last)
 }
@@ -72,17 +75,12 @@ pub fn groups<P: Pass, L: Ledger>(
     let high = greatest_key(log.shape(), lane);
     let mut groups = Vec::new(alloc);
     let mut path = no_path();
-    let mut last = add_group(log, pass, lane, (0, high), &mut path, &mut groups, steps)?;
+    let all = KeyRange { lane, low: 0, high };
+    let mut last = add_group(log, pass, all, &mut path, &mut groups, steps)?;
     while last < high {
-        last = add_group(
-            log,
-            pass,
-            lane,
-            (last + 1, high),
-            &mut path,
-            &mut groups,
-            steps,
-        )?;
+        let low = last + 1;
+        let rest = KeyRange { lane, low, high };
+        last = add_group(log, pass, rest, &mut path, &mut groups, steps)?;
     }
     Ok(groups)
 }

@@ -4,6 +4,7 @@
 
 mod chain;
 mod finds;
+mod key_range;
 mod leaves;
 mod measures;
 mod quads;

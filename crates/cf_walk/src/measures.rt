@@ -13,6 +13,7 @@ ghost use Rattle.cf_walk.specs.Reached.{IsPath};
 
 use crate::chain::Leaf;
 use crate::finds::greatest_key;
+use crate::key_range::KeyRange;
 use crate::quads::leaf_quad;
 use crate::tree::{Descent, Path, no_path, reach};
 use cf_fold::Quad;
@@ -24,32 +25,34 @@ use std::sync::ledger::Ledger;
 pub(crate) fn measure_key<P: Pass, L: Ledger>(
     log: &MultiLog,
     pass: &mut P,
-    lane: u8,
-    range: (u64, u64),
+    keys: KeyRange,
     path: &mut Path,
     steps: &mut Steps<L>,
 ) -> (u64, Quad)
     requires of { IsOf (P.held pass.old) log.now }
-    requires lane { lane < length log.now.shape.lanes }
-    requires range { range.0 ≤ range.1 }
-    requires measured { is_measured log.now.shape lane ≡ true }
+    requires lane { keys.lane < length log.now.shape.lanes }
+    requires range { keys.low ≤ keys.high }
+    requires measured { is_measured log.now.shape keys.lane ≡ true }
     requires fit { AreFit log.now.shape (P.held pass.old).view }
     requires few { length (P.held pass.old).view.seen ≤ log.now.shape.capacity }
-    requires path { IsPath log.now.shape lane path.old (P.held pass.old).view }
-    ensures path { IsPath log.now.shape lane path.new (P.held pass.new).view }
-    ensures quad { HasMeasured log.now.shape lane range.0 range.1 (P.held pass.old).view.seen result.1 result.0 }
-    ensures one { 0 < result.1.count → result.0 ≡ range.0 }
+    requires path { IsPath log.now.shape keys.lane path.old (P.held pass.old).view }
+    ensures path { IsPath log.now.shape keys.lane path.new (P.held pass.new).view }
+    ensures quad { HasMeasured log.now.shape keys.lane keys.low keys.high (P.held pass.old).view.seen result.1 result.0 }
+    ensures one { 0 < result.1.count → result.0 ≡ keys.low }
     ensures walked { OnlyWalked (P.held pass.old) (P.held pass.new) }
-    ensures steps { steps.new ≤ steps.old + (levels_of log.now.shape lane - 1) + 4 * log.now.shape.writers + (log.now.shape.capacity - length (P.held pass.old).view.seen) }
+    ensures steps { steps.new ≤ steps.old + (levels_of log.now.shape keys.lane - 1) + 4 * log.now.shape.writers + (log.now.shape.capacity - length (P.held pass.old).view.seen) }
     ensures loads { CountsLoads (P.held pass.old) (P.held pass.new) steps.old steps.new }
 {
-    let (key, high) = range;
-    match reach(log, pass, lane, key, path, steps) {
-        Descent::Leaf(node) => (key, leaf_quad(log, pass, Leaf { lane, key, node }, steps)),
-        Descent::Gap(span) => {
-            let rest = span - 1 - key % span;
-            (key + rest.min(high - key), Quad::EMPTY)
+    match reach(log, pass, keys.lane, keys.low, path, steps) {
+        Descent::Leaf(node) => {
+            let leaf = Leaf {
+                lane: keys.lane,
+                key: keys.low,
+                node,
+            };
+            (keys.low, leaf_quad(log, pass, leaf, steps))
         }
+        Descent::Gap(span) => (keys.last_alike(span), Quad::EMPTY),
     }
 }
 
@@ -76,9 +79,12 @@ fn measure_keys<P: Pass, L: Ledger>(
     let (low, high) = range;
     let _lawful = log.shape();
     let mut path = no_path();
-    let (mut last, mut total) = measure_key(log, pass, lane, (low, high), &mut path, steps);
+    let all = KeyRange { lane, low, high };
+    let (mut last, mut total) = measure_key(log, pass, all, &mut path, steps);
     while last < high {
-        let (next, quad) = measure_key(log, pass, lane, (last + 1, high), &mut path, steps);
+        let low = last + 1;
+        let rest = KeyRange { lane, low, high };
+        let (next, quad) = measure_key(log, pass, rest, &mut path, steps);
         total = total.merge(quad);
         last = next;
     }

@@ -7,6 +7,7 @@ ghost use Rattle.cf_walk.specs.Walks.{OnlyWalked, range_places, WentOver};
 ghost use Rattle.cf_walk.specs.Reached.{IsPath};
 
 use crate::chain::{Leaf, collect_leaf};
+use crate::key_range::KeyRange;
 use crate::tree::{Descent, Path, no_path, reach};
 use cf_row::Memory;
 use cf_table::{MultiLog, Pass, Steps};
@@ -17,32 +18,33 @@ use std::sync::ledger::Ledger;
 fn collect_key<P: Pass, L: Ledger>(
     log: &MultiLog,
     pass: &mut P,
-    lane: u8,
-    range: (u64, u64),
+    keys: KeyRange,
     path: &mut Path,
     found: &mut Vec<u32>,
     steps: &mut Steps<L>,
 ) -> Result<u64, Memory>
     requires of { IsOf (P.held pass.old) log.now }
-    requires lane { lane < length log.now.shape.lanes }
-    requires range { range.0 ≤ range.1 }
-    requires path { IsPath log.now.shape lane path.old (P.held pass.old).view }
-    ensures path { IfOk result (λ _. IsPath log.now.shape lane path.new (P.held pass.new).view) }
-    ensures found { IfOk result (WentOver log.now.shape lane range.0 range.1 (P.held pass.old).view.seen found.old.items found.new.items) }
+    requires lane { keys.lane < length log.now.shape.lanes }
+    requires range { keys.low ≤ keys.high }
+    requires path { IsPath log.now.shape keys.lane path.old (P.held pass.old).view }
+    ensures path { IfOk result (λ _. IsPath log.now.shape keys.lane path.new (P.held pass.new).view) }
+    ensures found { IfOk result (WentOver log.now.shape keys.lane keys.low keys.high (P.held pass.old).view.seen found.old.items found.new.items) }
     ensures walked { OnlyWalked (P.held pass.old) (P.held pass.new) }
-    ensures steps { IfOk result (λ _. steps.new ≤ steps.old + (levels_of log.now.shape lane - 1) + log.now.shape.writers + (length found.new.items - length found.old.items) + (log.now.shape.capacity - length (P.held pass.old).view.seen)) }
+    ensures steps { IfOk result (λ _. steps.new ≤ steps.old + (levels_of log.now.shape keys.lane - 1) + log.now.shape.writers
+        + (length found.new.items - length found.old.items) + (log.now.shape.capacity - length (P.held pass.old).view.seen)) }
     ensures loads { CountsLoads (P.held pass.old) (P.held pass.new) steps.old steps.new }
 {
-    let (key, high) = range;
-    match reach(log, pass, lane, key, path, steps) {
+    match reach(log, pass, keys.lane, keys.low, path, steps) {
         Descent::Leaf(node) => {
-            collect_leaf(log, pass, Leaf { lane, key, node }, found, steps)?;
-            Ok(key)
+            let leaf = Leaf {
+                lane: keys.lane,
+                key: keys.low,
+                node,
+            };
+            collect_leaf(log, pass, leaf, found, steps)?;
+            Ok(keys.low)
         }
-        Descent::Gap(span) => {
-            let rest = span - 1 - key % span;
-            Ok(key + rest.min(high - key))
-        }
+        Descent::Gap(span) => Ok(keys.last_alike(span)),
     }
 }
 
@@ -60,15 +62,19 @@ pub(crate) fn collect_range<P: Pass, L: Ledger>(
     requires range { range.0 ≤ range.1 }
     ensures found { OnOk result (found.new.items ≡ found.old.items ++ range_places log.now.shape lane range.0 (P.held pass.old).view.seen (range.1 - range.0 + 1)) }
     ensures walked { OnlyWalked (P.held pass.old) (P.held pass.new) }
-    ensures steps { range.0 ≡ range.1 → OnOk result (steps.new ≤ steps.old + (levels_of log.now.shape lane - 1) + log.now.shape.writers + (length found.new.items - length found.old.items) + (log.now.shape.capacity - length (P.held pass.old).view.seen)) }
+    ensures steps { range.0 ≡ range.1 → OnOk result (steps.new ≤ steps.old + (levels_of log.now.shape lane - 1) + log.now.shape.writers
+        + (length found.new.items - length found.old.items) + (log.now.shape.capacity - length (P.held pass.old).view.seen)) }
     ensures loads { CountsLoads (P.held pass.old) (P.held pass.new) steps.old steps.new }
 {
     let (low, high) = range;
     let _lawful = log.shape();
     let mut path = no_path();
-    let mut last = collect_key(log, pass, lane, (low, high), &mut path, found, steps)?;
+    let all = KeyRange { lane, low, high };
+    let mut last = collect_key(log, pass, all, &mut path, found, steps)?;
     while last < high {
-        last = collect_key(log, pass, lane, (last + 1, high), &mut path, found, steps)?;
+        let low = last + 1;
+        let rest = KeyRange { lane, low, high };
+        last = collect_key(log, pass, rest, &mut path, found, steps)?;
     }
     Ok(())
 }

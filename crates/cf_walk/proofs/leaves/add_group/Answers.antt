@@ -6,7 +6,7 @@ pub returns-in_ok-push-clause-found : goal.returns-in_ok-push-clause-found
 returns-in_ok-push-clause-found g c =
     let some = c.if-count-gt0.true in
     let count = c.count.ensures in
-    one_found c.args.log.now.shape c.args.lane c.args.range.0 c.args.range.1 c.measure_key-last.result.0
+    one_found c.args.log.now.shape c.args.keys.lane c.args.keys.low c.args.keys.high c.measure_key-last.result.0
     ((g.P.Pass.held c.args.pass.now).view).seen c.measure_key-last.result.1 c.args.groups.now.items
     (c.push.new.self).items c.shape-lawful.ensures.lawful c.requires.lane c.requires.fit c.requires.top
     c.measure_key-last.ensures.quad (omega (arith, some, count)) (c.measure_key-last.ensures.one (omega (arith, some, count))) c.in_ok-push.ensures.items
@@ -15,6 +15,6 @@ pub returns-else-count-gt0-clause-found : goal.returns-else-count-gt0-clause-fou
 returns-else-count-gt0-clause-found g c =
     let none = c.if-count-gt0.false in
     let count = c.count.ensures in
-    none_found c.args.log.now.shape c.args.lane c.args.range.0 c.args.range.1 c.measure_key-last.result.0
+    none_found c.args.log.now.shape c.args.keys.lane c.args.keys.low c.args.keys.high c.measure_key-last.result.0
     ((g.P.Pass.held c.args.pass.now).view).seen c.measure_key-last.result.1 c.args.groups.now.items c.shape-lawful.ensures.lawful c.requires.lane c.requires.fit c.requires.top
     c.measure_key-last.ensures.quad (omega (arith, none, count))
