@@ -28,25 +28,25 @@ fn cell_words(lane: &Lane) -> u8
 }
 
 // Whether the lane has that word of a cell.
-pub(crate) fn has_cell(shape: &Shape, lane: u8, i: u8) -> bool
-    ensures { IsTrue result ↔ HasCell shape.now lane i }
+pub(crate) fn has_cell(shape: &Shape, lane: u8, index: u8) -> bool
+    ensures { IsTrue result ↔ HasCell shape.now lane index }
 {
     match shape.lanes().get(lane as usize) {
-        Some(lane) => i < cell_words(lane),
+        Some(lane) => index < cell_words(lane),
         None => false,
     }
 }
 
-// The lane and the word of its cell that word i of a ticket is, where it is one.
-fn cell_of(shape: &Shape, i: u32) -> Option<(u8, u8)>
-    requires { i + 1 < ticket_words shape.now }
-    ensures { MatchOption result (IsPlainUse shape.now i) (λ r. IsCellUse shape.now i r.0 r.1) }
+// The lane and the word of its cell that word `index` of a ticket is, where it is one.
+fn cell_of(shape: &Shape, index: u32) -> Option<(u8, u8)>
+    requires { index + 1 < ticket_words shape.now }
+    ensures { MatchOption result (IsPlainUse shape.now index) (λ r. IsCellUse shape.now index r.0 r.1) }
 {
     let plain = word_count(shape.schema()) as u32 + 1;
-    if i < plain {
+    if index < plain {
         return None;
     }
-    let mut left = i - plain;
+    let mut left = index - plain;
     let lanes = shape.lanes();
     for lane in 0..lanes.len() {
         let count = u32::from(cell_words(&lanes[lane]));
@@ -58,13 +58,13 @@ fn cell_of(shape: &Shape, i: u32) -> Option<(u8, u8)>
     None
 }
 
-// Whether word i of a ticket of the row is passed over: its lane doesn't select the row.
-fn is_passed(shape: &Shape, row: &Row, i: u32) -> bool
+// Whether word `index` of a ticket of the row is passed over: its lane doesn't select the row.
+fn is_passed(shape: &Shape, row: &Row, index: u32) -> bool
     requires fits { Fits shape.now.schema row.now }
-    requires word { i + 1 < ticket_words shape.now }
-    ensures { IsTrue result ↔ IsPassed shape.now row.now i }
+    requires word { index + 1 < ticket_words shape.now }
+    ensures { IsTrue result ↔ IsPassed shape.now row.now index }
 {
-    match cell_of(shape, i) {
+    match cell_of(shape, index) {
         Some((lane, _)) => !selects(shape, lane, row),
         None => false,
     }
@@ -84,15 +84,15 @@ fn are_passed(shape: &Shape, row: &Row, from: u32, to: u32) -> bool
     true
 }
 
-// Whether word i is the next of a ticket of the row, which is filled so far.
-pub(crate) fn is_next(shape: &Shape, row: &Row, filled: u32, i: u32) -> bool
+// Whether word `index` is the next of a ticket of the row, which is filled so far.
+pub(crate) fn is_next(shape: &Shape, row: &Row, filled: u32, index: u32) -> bool
     requires { Fits shape.now.schema row.now }
-    ensures { IsTrue result ↔ IsNext (layout shape.now) (draft row.now filled) i }
+    ensures { IsTrue result ↔ IsNext (layout shape.now) (draft row.now filled) index }
 {
-    if u64::from(i) + 1 >= shape.ticket_words() || i < filled {
+    if u64::from(index) + 1 >= shape.ticket_words() || index < filled {
         return false;
     }
-    !is_passed(shape, row, i) && are_passed(shape, row, filled, i)
+    !is_passed(shape, row, index) && are_passed(shape, row, filled, index)
 }
 
 // Whether a ticket of the row, which is filled so far, is filled but for its done word.
@@ -219,13 +219,13 @@ fn chained(
 }
 
 // Word j of a cell: the previous link and the count, the sum, and the least and greatest.
-fn cell_word(measured: bool, previous: u64, quad: Quad, j: u8) -> u64
+fn cell_word(measured: bool, previous: u64, quad: Quad, index: u8) -> u64
     requires previous { previous ≤ 65536 }
     requires few { quad.count ≤ 65537 }
     requires quad { IsQuad quad }
-    ensures { result ≡ cell_word_of measured previous quad j }
+    ensures { result ≡ cell_word_of measured previous quad index }
 {
-    match j {
+    match index {
         0 => {
             if measured {
                 previous + (1 << 32) * quad.count()
@@ -245,50 +245,56 @@ fn version(
     book: &WriterBook,
     row: &Row,
     lane: u8,
-    j: u8,
+    index: u8,
 ) -> Result<u64, Memory>
     requires exists { lane < length shape.now.lanes }
     requires fits { Fits shape.now.schema row.now }
     requires own { AreOwn shape.now book.now.mine }
-    ensures { IfOk result (λ word. word ≡ own_lane_word (layout shape.now) book.now row.now lane j (path_in shape.now row.now lane)) }
+    ensures { IfOk result (λ word. word ≡ own_lane_word (layout shape.now) book.now row.now lane index (path_in shape.now row.now lane)) }
 {
     let _held = shape.lanes();
     let Some(path) = path_of(alloc, shape, row, lane)? else {
         return Ok(0);
     };
     let (previous, quad) = chained(alloc, shape, book.mine(), row, lane, &path)?;
-    Ok(cell_word(measures(shape, lane), previous, quad, j))
+    Ok(cell_word(measures(shape, lane), previous, quad, index))
 }
 
 // Word i of the entry of the row and the writer.
-fn plain_word(alloc: Global, shape: &Shape, row: &Row, writer: u8, i: u32) -> Result<u64, Memory>
+fn plain_word(
+    alloc: Global,
+    shape: &Shape,
+    row: &Row,
+    writer: u8,
+    index: u32,
+) -> Result<u64, Memory>
     requires fits { Fits shape.now.schema row.now }
     requires writer { writer < 16 }
-    requires word { i < word_total_of shape.now.schema + 1 }
-    ensures { IfOk result (λ word. word ≡ slice_index_or (spelled (record { writer = writer; row = row.now })) i 0) }
+    requires word { index < word_total_of shape.now.schema + 1 }
+    ensures { IfOk result (λ word. word ≡ slice_index_or (spelled (record { writer = writer; row = row.now })) index 0) }
 {
     let schema = shape.schema();
     let mut words = vec![in alloc; 0; word_count(schema) + 1]?;
     words_of(schema, row, writer, &mut words);
-    Ok(words[i as usize])
+    Ok(words[index as usize])
 }
 
-// What word i of a ticket of the row has to be.
+// What word `index` of a ticket of the row has to be.
 pub(crate) fn own_word(
     alloc: Global,
     shape: &Shape,
     book: &WriterBook,
     row: &Row,
-    i: u32,
+    index: u32,
 ) -> Result<u64, Memory>
     requires fits { Fits shape.now.schema row.now }
     requires writer { book.now.writer < 16 }
     requires own { AreOwn shape.now book.now.mine }
-    requires word { i + 1 < ticket_words shape.now }
-    ensures { IfOk result (λ word. word ≡ own_word_of (layout shape.now) book.now row.now (use_at shape.now i)) }
+    requires word { index + 1 < ticket_words shape.now }
+    ensures { IfOk result (λ word. word ≡ own_word_of (layout shape.now) book.now row.now (use_at shape.now index)) }
 {
-    match cell_of(shape, i) {
+    match cell_of(shape, index) {
         Some((lane, j)) => version(alloc, shape, book, row, lane, j),
-        None => plain_word(alloc, shape, row, book.writer(), i),
+        None => plain_word(alloc, shape, row, book.writer(), index),
     }
 }

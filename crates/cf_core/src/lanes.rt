@@ -63,8 +63,8 @@ impl World {
     }
 
     // The known node that the child word at the place is of, and its nibble.
-    fn below<'a>(&self, k: u32, pass: &'a PassState, place: u64) -> Option<(&'a KnownNode, u8)>
-        requires { IsLivePass self.now k pass.now }
+    fn below<'a>(&self, number: u32, pass: &'a PassState, place: u64) -> Option<(&'a KnownNode, u8)>
+        requires { IsLivePass self.now number pass.now }
         ensures { MatchOption result (NoneBelow self.now pass.now place) (λ r. IsBelow self.now pass.now place r.0.now r.1) }
     {
         let _held = self.shape();
@@ -80,11 +80,11 @@ impl World {
     pub(crate) fn child_at(
         &self,
         alloc: Global,
-        k: u32,
+        number: u32,
         pass: &PassState,
         place: u64,
     ) -> Result<Option<NodeSpot>, Memory>
-        requires { IsLivePass self.now k pass.now }
+        requires { IsLivePass self.now number pass.now }
         ensures { IfOk result (λ found. MatchOption found (NoChildAt self.now pass.now place) (IsChildAt self.now pass.now place)) }
     {
         let _held = self.shape();
@@ -92,36 +92,47 @@ impl World {
             let path = vec![in alloc; nibble; 1]?;
             return Ok(Some(NodeSpot::new(lane, path)));
         }
-        let Some((known, nibble)) = self.below(k, pass, place) else {
+        let Some((known, nibble)) = self.below(number, pass, place) else {
             return Ok(None);
         };
         Ok(Some(known.spot().child(alloc, nibble)?))
     }
 
-    pub(crate) fn load_child(&mut self, alloc: Global, k: u32, place: u64) -> Result<bool, Memory>
-        ensures { MatchResult result (Answers self.old k (acts (load_child place)) self.new) (λ _. self.new ≡ self.old) }
+    pub(crate) fn load_child(
+        &mut self,
+        alloc: Global,
+        number: u32,
+        place: u64,
+    ) -> Result<bool, Memory>
+        ensures { MatchResult result (Answers self.old number (acts (load_child place)) self.new) (λ _. self.new ≡ self.old) }
     {
         let _held = self.shape();
-        let Some(pass) = self.live(k) else {
+        let Some(pass) = self.live(number) else {
             return Ok(false);
         };
-        let Some(spot) = self.child_at(alloc, k, pass, place)? else {
+        let Some(spot) = self.child_at(alloc, number, pass, place)? else {
             return Ok(false);
         };
         let found = self.word(place);
         let after = pass.child_loaded(alloc, place, spot, found)?;
-        self.put(k, place, found, after);
+        self.put(number, place, found, after);
         Ok(true)
     }
 
     // Whether the label names a child word that the pass may label.
-    fn is_label(&self, alloc: Global, k: u32, pass: &PassState, value: u64) -> Result<bool, Memory>
-        requires { IsLivePass self.now k pass.now }
+    fn is_label(
+        &self,
+        alloc: Global,
+        number: u32,
+        pass: &PassState,
+        value: u64,
+    ) -> Result<bool, Memory>
+        requires { IsLivePass self.now number pass.now }
         ensures some { IfOk result (λ named. named ≡ true → (s : Spot) × IsLabelOf self.now pass.now value s) }
         ensures none { IfOk result (λ named. named ≡ false → NoLabel self.now pass.now value) }
     {
         let _held = self.shape();
-        let Some(spot) = self.child_at(alloc, k, pass, value / 32)? else {
+        let Some(spot) = self.child_at(alloc, number, pass, value / 32)? else {
             return Ok(false);
         };
         Ok(spot.level() as u64 == value % 32)
@@ -130,45 +141,45 @@ impl World {
     pub(crate) fn label(
         &mut self,
         alloc: Global,
-        k: u32,
+        number: u32,
         node: u32,
         value: u64,
     ) -> Result<bool, Memory>
-        ensures { MatchResult result (Answers self.old k (acts (label node value)) self.new) (λ _. self.new ≡ self.old) }
+        ensures { MatchResult result (Answers self.old number (acts (label node value)) self.new) (λ _. self.new ≡ self.old) }
     {
         let shape = self.shape();
-        let Some(pass) = self.live(k) else {
+        let Some(pass) = self.live(number) else {
             return Ok(false);
         };
         let Some((at, book)) = pass.free(shape.nodes(), node) else {
             return Ok(false);
         };
-        if !self.is_label(alloc, k, pass, value)? {
+        if !self.is_label(alloc, number, pass, value)? {
             return Ok(false);
         }
         let place = place_label(shape, node);
         let after = pass.at_book(alloc, at, book.labelled(alloc, value)?)?;
-        self.put(k, place, value, after);
+        self.put(number, place, value, after);
         Ok(true)
     }
 
     pub(crate) fn link(
         &mut self,
         alloc: Global,
-        k: u32,
+        number: u32,
         place: u64,
         node: u32,
     ) -> Result<bool, Memory>
-        ensures { MatchResult result (Answers self.old k (acts (link place node)) self.new) (λ _. self.new ≡ self.old) }
+        ensures { MatchResult result (Answers self.old number (acts (link place node)) self.new) (λ _. self.new ≡ self.old) }
     {
         let shape = self.shape();
-        let Some(pass) = self.live(k) else {
+        let Some(pass) = self.live(number) else {
             return Ok(false);
         };
         let Some((at, book)) = pass.free(shape.nodes(), node) else {
             return Ok(false);
         };
-        let Some(spot) = self.child_at(alloc, k, pass, place)? else {
+        let Some(spot) = self.child_at(alloc, number, pass, place)? else {
             return Ok(false);
         };
         if !book.is_labelled(place, &spot) {
@@ -176,7 +187,7 @@ impl World {
         }
         let found = self.word(place);
         let after = pass.link_tried(alloc, at, spot, node, found)?;
-        self.put(k, place, linked_word(found, node), after);
+        self.put(number, place, linked_word(found, node), after);
         Ok(true)
     }
 
@@ -191,15 +202,15 @@ impl World {
     pub(crate) fn load_head(
         &mut self,
         alloc: Global,
-        k: u32,
+        number: u32,
         node: u32,
         d: u8,
         writer: u8,
     ) -> Result<bool, Memory>
-        ensures { MatchResult result (Answers self.old k (acts (load_head node d writer)) self.new) (λ _. self.new ≡ self.old) }
+        ensures { MatchResult result (Answers self.old number (acts (load_head node d writer)) self.new) (λ _. self.new ≡ self.old) }
     {
         let shape = self.shape();
-        let Some(pass) = self.live(k) else {
+        let Some(pass) = self.live(number) else {
             return Ok(false);
         };
         let Some(above) = pass.spot_of(node) else {
@@ -212,34 +223,34 @@ impl World {
         let found = self.word(place);
         let leaf = above.child(alloc, d)?;
         let after = pass.head_loaded(alloc, place, writer, leaf, found)?;
-        self.put(k, place, found, after);
+        self.put(number, place, found, after);
         Ok(true)
     }
 
     pub(crate) fn load_cell(
         &mut self,
         alloc: Global,
-        k: u32,
+        number: u32,
         offset: u32,
         lane: u8,
-        i: u8,
+        index: u8,
     ) -> Result<bool, Memory>
-        ensures { MatchResult result (Answers self.old k (acts (load_cell offset lane i)) self.new) (λ _. self.new ≡ self.old) }
+        ensures { MatchResult result (Answers self.old number (acts (load_cell offset lane index)) self.new) (λ _. self.new ≡ self.old) }
     {
         let shape = self.shape();
-        let Some(pass) = self.live(k) else {
+        let Some(pass) = self.live(number) else {
             return Ok(false);
         };
-        if offset >= shape.capacity() || !has_cell(shape, lane, i) {
+        if offset >= shape.capacity() || !has_cell(shape, lane, index) {
             return Ok(false);
         }
         if !pass.may_read(offset, lane) {
             return Ok(false);
         }
-        let place = place_cell(shape, offset, lane, i);
+        let place = place_cell(shape, offset, lane, index);
         let found = self.word(place);
-        let after = pass.cell_loaded(alloc, place, offset, lane, i, found)?;
-        self.put(k, place, found, after);
+        let after = pass.cell_loaded(alloc, place, offset, lane, index, found)?;
+        self.put(number, place, found, after);
         Ok(true)
     }
 
@@ -247,14 +258,14 @@ impl World {
     fn leads(
         &self,
         alloc: Global,
-        k: u32,
+        number: u32,
         pass: &PassState,
         row: &Row,
         lane: u8,
         node: u32,
         d: u8,
     ) -> Result<bool, Memory>
-        requires live { IsLivePass self.now k pass.now }
+        requires live { IsLivePass self.now number pass.now }
         requires fits { Fits self.now.shape.schema row.now }
         ensures some { IfOk result (λ leads. leads ≡ true → LeadsTo self.now pass.now row.now lane node d) }
         ensures none { IfOk result (λ leads. leads ≡ false → LeadsTo self.now pass.now row.now lane node d → ⊥) }
@@ -276,16 +287,16 @@ impl World {
     pub(crate) fn store_head(
         &mut self,
         alloc: Global,
-        k: u32,
+        number: u32,
         lane: u8,
         node: u32,
         d: u8,
         offset: u32,
     ) -> Result<bool, Memory>
-        ensures { MatchResult result (Answers self.old k (acts (store_head lane node d offset)) self.new) (λ _. self.new ≡ self.old) }
+        ensures { MatchResult result (Answers self.old number (acts (store_head lane node d offset)) self.new) (λ _. self.new ≡ self.old) }
     {
         let shape = self.shape();
-        let Some(pass) = self.live(k) else {
+        let Some(pass) = self.live(number) else {
             return Ok(false);
         };
         let Some((at, book, ticket)) = pass.flying(offset) else {
@@ -298,12 +309,12 @@ impl World {
         if !is_whole(shape, row, ticket.filled()) {
             return Ok(false);
         }
-        if !self.leads(alloc, k, pass, row, lane, node, d)? {
+        if !self.leads(alloc, number, pass, row, lane, node, d)? {
             return Ok(false);
         }
         let place = place_head(shape, node, d, book.writer());
         let after = pass.at_book(alloc, at, book.headed(alloc, ticket, lane)?)?;
-        self.put(k, place, u64::from(offset) + 1, after);
+        self.put(number, place, u64::from(offset) + 1, after);
         Ok(true)
     }
 }

@@ -55,24 +55,24 @@ impl World {
     }
 
     // The pass of that number, where it is there and not spent.
-    pub(crate) fn live(&self, k: u32) -> Option<&PassState>
-        ensures { MatchOption result (NoPass self.now k) (λ p. IsLivePass self.now k p.now) }
+    pub(crate) fn live(&self, number: u32) -> Option<&PassState>
+        ensures { MatchOption result (NoPass self.now number) (λ p. IsLivePass self.now number p.now) }
     {
-        match self.passes.get(k as usize) {
+        match self.passes.get(number as usize) {
             Some(pass) => { if pass.is_spent() { None } else { Some(pass) } }
             None => None,
         }
     }
 
     // The word becomes the value, and the pass that pass.
-    pub(crate) fn put(&mut self, k: u32, place: u64, value: u64, pass: PassState)
-        requires pass { k < length self.old.passes }
+    pub(crate) fn put(&mut self, number: u32, place: u64, value: u64, pass: PassState)
+        requires pass { number < length self.old.passes }
         requires word { place < length self.old.words }
-        requires lawful { Lawful (layout self.old.shape) (set self.old.words place value) (set self.old.passes k pass) }
-        ensures { self.new ≡ record { shape = self.old.shape; words = set self.old.words place value; passes = set self.old.passes k pass } }
+        requires lawful { Lawful (layout self.old.shape) (set self.old.words place value) (set self.old.passes number pass) }
+        ensures { self.new ≡ record { shape = self.old.shape; words = set self.old.words place value; passes = set self.old.passes number pass } }
     {
         self.words[place as usize] = value;
-        self.passes[k as usize] = pass;
+        self.passes[number as usize] = pass;
     }
 
     pub(crate) fn word(&self, place: u64) -> u64
@@ -82,20 +82,20 @@ impl World {
         self.words[place as usize]
     }
 
-    // The place of word i of a ticket.
-    pub(crate) fn ticket_place(&self, offset: u32, i: u64) -> u64
+    // The place of word `index` of a ticket.
+    pub(crate) fn ticket_place(&self, offset: u32, index: u64) -> u64
         requires offset { offset < self.now.shape.capacity }
-        requires word { i < ticket_words self.now.shape }
-        ensures at { result ≡ place (layout self.now.shape).sizes (cell offset i) }
+        requires word { index < ticket_words self.now.shape }
+        ensures at { result ≡ place (layout self.now.shape).sizes (cell offset index) }
         ensures there { result < length self.now.words }
     {
-        place_ticket(self.shape(), offset, i)
+        place_ticket(self.shape(), offset, index)
     }
 
-    fn look_done(&mut self, alloc: Global, k: u32, offset: u32) -> Result<bool, Memory>
-        ensures { MatchResult result (Answers self.old k (acts (look_done offset)) self.new) (λ _. self.new ≡ self.old) }
+    fn look_done(&mut self, alloc: Global, number: u32, offset: u32) -> Result<bool, Memory>
+        ensures { MatchResult result (Answers self.old number (acts (look_done offset)) self.new) (λ _. self.new ≡ self.old) }
     {
-        let Some(pass) = self.live(k) else {
+        let Some(pass) = self.live(number) else {
             return Ok(false);
         };
         let shape = self.shape();
@@ -105,34 +105,40 @@ impl World {
         let place = self.ticket_place(offset, shape.ticket_words() - 1);
         let found = self.word(place);
         let after = pass.looked(alloc, place, found)?;
-        self.put(k, place, found, after);
+        self.put(number, place, found, after);
         Ok(true)
     }
 
-    fn load_word(&mut self, alloc: Global, k: u32, offset: u32, i: u32) -> Result<bool, Memory>
-        ensures { MatchResult result (Answers self.old k (acts (load_word offset i)) self.new) (λ _. self.new ≡ self.old) }
+    fn load_word(
+        &mut self,
+        alloc: Global,
+        number: u32,
+        offset: u32,
+        index: u32,
+    ) -> Result<bool, Memory>
+        ensures { MatchResult result (Answers self.old number (acts (load_word offset index)) self.new) (λ _. self.new ≡ self.old) }
     {
-        let Some(pass) = self.live(k) else {
+        let Some(pass) = self.live(number) else {
             return Ok(false);
         };
-        if offset as usize >= pass.covered() || u64::from(i) >= self.shape().ticket_words() {
+        if offset as usize >= pass.covered() || u64::from(index) >= self.shape().ticket_words() {
             return Ok(false);
         }
-        let place = self.ticket_place(offset, u64::from(i));
+        let place = self.ticket_place(offset, u64::from(index));
         let found = self.word(place);
         let after = pass.looked(alloc, place, found)?;
-        self.put(k, place, found, after);
+        self.put(number, place, found, after);
         Ok(true)
     }
 
-    // The entries that the words of the first n places spell.
-    fn entries(&self, alloc: Global, n: u32) -> Result<Vec<Entry>, Memory>
-        requires within { n ≤ self.now.shape.capacity }
-        requires readable { AreReadable self.now n }
-        ensures { IfOk result (λ entries. entries.items ≡ entries_spelled (layout self.now.shape) self.now.words n) }
+    // The entries that the words of the first `count` places spell.
+    fn entries(&self, alloc: Global, count: u32) -> Result<Vec<Entry>, Memory>
+        requires within { count ≤ self.now.shape.capacity }
+        requires readable { AreReadable self.now count }
+        ensures { IfOk result (λ entries. entries.items ≡ entries_spelled (layout self.now.shape) self.now.words count) }
     {
         let mut entries = Vec::new(alloc);
-        for offset in 0..n {
+        for offset in 0..count {
             entries.push(self.entry(alloc, offset)?)?;
         }
         Ok(entries)
@@ -158,16 +164,16 @@ impl World {
         part(self.words(), start, count)
     }
 
-    fn load_tail(&mut self, alloc: Global, k: u32, asked: bool) -> Result<bool, Memory>
-        ensures { MatchResult result (Answers self.old k (acts (load_tail asked)) self.new) (λ _. self.new ≡ self.old) }
+    fn load_tail(&mut self, alloc: Global, number: u32, asked: bool) -> Result<bool, Memory>
+        ensures { MatchResult result (Answers self.old number (acts (load_tail asked)) self.new) (λ _. self.new ≡ self.old) }
     {
-        let Some(pass) = self.live(k) else {
+        let Some(pass) = self.live(number) else {
             return Ok(false);
         };
         let tail = self.read_tail();
         let entries = self.entries(alloc, tail as u32)?;
         let after = pass.tail_loaded(alloc, asked, tail, entries)?;
-        self.put(k, 1, tail, after);
+        self.put(number, 1, tail, after);
         Ok(true)
     }
 
@@ -182,24 +188,24 @@ impl World {
         self.words()[1]
     }
 
-    fn advance(&mut self, alloc: Global, k: u32, t: u32) -> Result<bool, Memory>
-        ensures { MatchResult result (Answers self.old k (acts (advance t)) self.new) (λ _. self.new ≡ self.old) }
+    fn advance(&mut self, alloc: Global, number: u32, tail: u32) -> Result<bool, Memory>
+        ensures { MatchResult result (Answers self.old number (acts (advance tail)) self.new) (λ _. self.new ≡ self.old) }
     {
-        let Some(pass) = self.live(k) else {
+        let Some(pass) = self.live(number) else {
             return Ok(false);
         };
         let shape = self.shape();
-        if t as usize > pass.covered() || t >= shape.capacity() {
+        if tail as usize > pass.covered() || tail >= shape.capacity() {
             return Ok(false);
         }
-        let place = self.ticket_place(t, shape.ticket_words() - 1);
+        let place = self.ticket_place(tail, shape.ticket_words() - 1);
         if !pass.found_one(place) {
             return Ok(false);
         }
-        let left = advanced(self.read_tail(), u64::from(t));
-        let entries = self.entries(alloc, t + 1)?;
-        let after = pass.advanced(alloc, t, entries)?;
-        self.put(k, 1, left, after);
+        let left = advanced(self.read_tail(), u64::from(tail));
+        let entries = self.entries(alloc, tail + 1)?;
+        let after = pass.advanced(alloc, tail, entries)?;
+        self.put(number, 1, left, after);
         Ok(true)
     }
 
@@ -212,10 +218,10 @@ impl World {
         self.words()[0]
     }
 
-    fn take_ticket(&mut self, alloc: Global, k: u32, row: &Row) -> Result<bool, Memory>
-        ensures { MatchResult result (Answers self.old k (acts (take_ticket row.now)) self.new) (λ _. self.new ≡ self.old) }
+    fn take_ticket(&mut self, alloc: Global, number: u32, row: &Row) -> Result<bool, Memory>
+        ensures { MatchResult result (Answers self.old number (acts (take_ticket row.now)) self.new) (λ _. self.new ≡ self.old) }
     {
-        let Some(pass) = self.live(k) else {
+        let Some(pass) = self.live(number) else {
             return Ok(false);
         };
         let shape = self.shape();
@@ -224,21 +230,21 @@ impl World {
         }
         let tail = self.write_tail();
         let after = pass.ticketed(alloc, shape.capacity(), tail as u32, row)?;
-        self.put(k, 0, tail + 1, after);
+        self.put(number, 0, tail + 1, after);
         Ok(true)
     }
 
     fn store_cell(
         &mut self,
         alloc: Global,
-        k: u32,
+        number: u32,
         offset: u32,
-        i: u32,
+        index: u32,
         value: u64,
     ) -> Result<bool, Memory>
-        ensures { MatchResult result (Answers self.old k (acts (store_cell offset i value)) self.new) (λ _. self.new ≡ self.old) }
+        ensures { MatchResult result (Answers self.old number (acts (store_cell offset index value)) self.new) (λ _. self.new ≡ self.old) }
     {
-        let Some(pass) = self.live(k) else {
+        let Some(pass) = self.live(number) else {
             return Ok(false);
         };
         let Some((place, book, ticket)) = pass.flying(offset) else {
@@ -246,22 +252,22 @@ impl World {
         };
         let shape = self.shape();
         let row = ticket.row();
-        if !is_next(shape, row, ticket.filled(), i) {
+        if !is_next(shape, row, ticket.filled(), index) {
             return Ok(false);
         }
-        if value != own_word(alloc, shape, book, row, i)? {
+        if value != own_word(alloc, shape, book, row, index)? {
             return Ok(false);
         }
-        let at = self.ticket_place(offset, u64::from(i));
-        let after = pass.at_book(alloc, place, book.filled(alloc, ticket, i)?)?;
-        self.put(k, at, value, after);
+        let at = self.ticket_place(offset, u64::from(index));
+        let after = pass.at_book(alloc, place, book.filled(alloc, ticket, index)?)?;
+        self.put(number, at, value, after);
         Ok(true)
     }
 
-    fn finish_record(&mut self, alloc: Global, k: u32, offset: u32) -> Result<bool, Memory>
-        ensures { MatchResult result (Answers self.old k (acts (finish_record offset)) self.new) (λ _. self.new ≡ self.old) }
+    fn finish_record(&mut self, alloc: Global, number: u32, offset: u32) -> Result<bool, Memory>
+        ensures { MatchResult result (Answers self.old number (acts (finish_record offset)) self.new) (λ _. self.new ≡ self.old) }
     {
-        let Some(pass) = self.live(k) else {
+        let Some(pass) = self.live(number) else {
             return Ok(false);
         };
         let Some((place, book, ticket)) = pass.flying(offset) else {
@@ -277,33 +283,33 @@ impl World {
         }
         let at = self.ticket_place(offset, shape.ticket_words() - 1);
         let after = pass.at_book(alloc, place, book.finished(alloc, ticket)?)?;
-        self.put(k, at, 1, after);
+        self.put(number, at, 1, after);
         Ok(true)
     }
 
     // The pass of that number becomes the one on the left, and the one on the right is the next.
-    fn part(&mut self, k: u32, left: PassState, right: PassState) -> Result<(), Memory>
-        requires pass { k < length self.old.passes }
-        requires lawful { Lawful (layout self.old.shape) self.old.words (set self.old.passes k left ++ right ∷ []) }
-        ensures { MatchResult result (λ _. self.new ≡ record { shape = self.old.shape; words = self.old.words; passes = set self.old.passes k left ++ right ∷ [] }) (λ _. self.new ≡ self.old) }
+    fn part(&mut self, number: u32, left: PassState, right: PassState) -> Result<(), Memory>
+        requires pass { number < length self.old.passes }
+        requires lawful { Lawful (layout self.old.shape) self.old.words (set self.old.passes number left ++ right ∷ []) }
+        ensures { MatchResult result (λ _. self.new ≡ record { shape = self.old.shape; words = self.old.words; passes = set self.old.passes number left ++ right ∷ [] }) (λ _. self.new ≡ self.old) }
     {
         self.passes.push(right)?;
-        self.passes[k as usize] = left;
+        self.passes[number as usize] = left;
         Ok(())
     }
 
-    fn split(&mut self, alloc: Global, k: u32, writer: Option<u8>) -> Result<bool, Memory>
-        ensures { MatchResult result (Answers self.old k (splits writer) self.new) (λ _. self.new ≡ self.old) }
+    fn split(&mut self, alloc: Global, number: u32, writer: Option<u8>) -> Result<bool, Memory>
+        ensures { MatchResult result (Answers self.old number (splits writer) self.new) (λ _. self.new ≡ self.old) }
     {
         let _held = self.shape();
-        let Some(pass) = self.live(k) else {
+        let Some(pass) = self.live(number) else {
             return Ok(false);
         };
         match writer {
             None => {
                 let right = pass.fellow(alloc)?;
                 let left = pass.copy(alloc)?;
-                self.part(k, left, right)?;
+                self.part(number, left, right)?;
                 Ok(true)
             }
             Some(writer) => {
@@ -311,38 +317,38 @@ impl World {
                     return Ok(false);
                 };
                 let (left, right) = pass.handed(alloc, place)?;
-                self.part(k, left, right)?;
+                self.part(number, left, right)?;
                 Ok(true)
             }
         }
     }
 
     // The one pass becomes the joined one, and the other is spent.
-    fn unite(&mut self, k: u32, other: u32, joined: PassState, spent: PassState)
-        requires pass { k < length self.old.passes }
+    fn unite(&mut self, number: u32, other: u32, joined: PassState, spent: PassState)
+        requires pass { number < length self.old.passes }
         requires other { other < length self.old.passes }
-        requires lawful { Lawful (layout self.old.shape) self.old.words (set (set self.old.passes k joined) other spent) }
-        ensures { self.new ≡ record { shape = self.old.shape; words = self.old.words; passes = set (set self.old.passes k joined) other spent } }
+        requires lawful { Lawful (layout self.old.shape) self.old.words (set (set self.old.passes number joined) other spent) }
+        ensures { self.new ≡ record { shape = self.old.shape; words = self.old.words; passes = set (set self.old.passes number joined) other spent } }
     {
-        self.passes[k as usize] = joined;
+        self.passes[number as usize] = joined;
         self.passes[other as usize] = spent;
     }
 
-    fn join(&mut self, alloc: Global, k: u32, other: u32) -> Result<bool, Memory>
-        ensures { MatchResult result (Answers self.old k (joins other) self.new) (λ _. self.new ≡ self.old) }
+    fn join(&mut self, alloc: Global, number: u32, other: u32) -> Result<bool, Memory>
+        ensures { MatchResult result (Answers self.old number (joins other) self.new) (λ _. self.new ≡ self.old) }
     {
         let _held = self.shape();
-        let Some(pass) = self.live(k) else {
+        let Some(pass) = self.live(number) else {
             return Ok(false);
         };
         let Some(there) = self.live(other) else {
             return Ok(false);
         };
-        if other == k || !there.is_at_rest() {
+        if other == number || !there.is_at_rest() {
             return Ok(false);
         }
         let joined = pass.joined(alloc, there)?;
-        self.unite(k, other, joined, PassState::spent(alloc));
+        self.unite(number, other, joined, PassState::spent(alloc));
         Ok(true)
     }
 
@@ -404,10 +410,10 @@ fn part(words: &[u64], start: usize, count: usize) -> &[u64]
     &words[start..start + count]
 }
 
-// The read tail after it was moved from t, if it stood there.
-fn advanced(tail: u64, t: u64) -> u64
+// The read tail after it was moved from `from`, if it stood there.
+fn advanced(tail: u64, from: u64) -> u64
     requires { tail ≤ 65536 }
-    ensures { result ≡ cond (tail == t) (t + 1) tail }
+    ensures { result ≡ cond (tail == from) (from + 1) tail }
 {
-    if tail == t { t + 1 } else { tail }
+    if tail == from { from + 1 } else { tail }
 }

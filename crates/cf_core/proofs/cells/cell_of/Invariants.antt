@@ -4,4 +4,4 @@ use Rattle.cf_shape.specs.Uses.{cells_before}
 use Rattle.cf_core.proofs.cells.cell_of.Given as goal
 
 abbrev pub invariant-loop-lane : goal.invariant-loop-lane
-invariant-loop-lane l = l.fn.i ≡ word_count l.fn.shape.schema + 1 + cells_before l.fn.shape l.lane + l.left
+invariant-loop-lane l = l.fn.index ≡ word_count l.fn.shape.schema + 1 + cells_before l.fn.shape l.lane + l.left

@@ -11,7 +11,7 @@ use Rattle.cf_core.proofs.cells.version.Goals as goal
 pub returns-in_default : goal.returns-in_default
 returns-in_default c =
     let none : path_in c.args.shape.now c.args.row.now c.args.lane ≡ None = rw c.in_default.is at c.in_ok-path.ensures in
-    version_none c.args.shape.now c.args.book.now c.args.row.now c.args.lane c.args.j none
+    version_none c.args.shape.now c.args.book.now c.args.row.now c.args.lane c.args.index none
 
 pub cell_word-requires-clause-previous : goal.cell_word-requires-clause-previous
 cell_word-requires-clause-previous c =
@@ -76,4 +76,4 @@ returns c =
     g ∙ ap₂ (λ (q : List ℕ) (xs : List Own). quad_of
     (amounts_with_row c.args.shape.now c.args.lane c.args.row.now (mine_chain sh (spot c.args.lane q) xs))) c.deref.ensures.value c.mine.ensures) in
     let leads : path_in c.args.shape.now c.args.row.now c.args.lane ≡ Some c.in-Some.path.items = rw c.in-Some.is at c.in_ok-path.ensures in
-    version_is_word c.args.shape.now c.args.book.now c.args.row.now c.args.lane c.args.j c.cell_word.result c.in-Some.path.items c.measures.result c.in_ok-previous.previous c.in_ok-previous.quad leads c.measures.ensures previous quad c.cell_word.ensures
+    version_is_word c.args.shape.now c.args.book.now c.args.row.now c.args.lane c.args.index c.cell_word.result c.in-Some.path.items c.measures.result c.in_ok-previous.previous c.in_ok-previous.quad leads c.measures.ensures previous quad c.cell_word.ensures

@@ -8,7 +8,7 @@ use Rattle.cf_core.proofs.world.World.below.Goals as goal
 
 pub child_of-requires : goal.child_of-requires
 child_of-requires c =
-    node_is c.args.self.now c.args.k c.loop-known.known-index c.args.pass.now c.known-item.result c.shape-held.ensures.lawful c.requires
+    node_is c.args.self.now c.args.number c.loop-known.known-index c.args.pass.now c.known-item.result c.shape-held.ensures.lawful c.requires
     (item_is c.args.pass.now.known c.known-known-items.result.now c.loop-known.known-index c.known-item.result c.known-known-items.ensures c.loop-known-test.true c.known-item.is)
 
 pub loop-known-preserved : goal.loop-known-preserved

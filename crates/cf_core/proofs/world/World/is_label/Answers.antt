@@ -15,5 +15,5 @@ pub returns-clause-none : goal.returns-clause-none
 returns-clause-none c =
     let child : IsChildAt c.args.self.now c.args.pass.now (c.args.value / 32) c.in-Some.spot = rw c.in-Some.is at c.in_ok-spot.ensures in
     let level = c.level.ensures.level in
-    λ e. label_none_level c.args.self.now c.args.k c.args.value c.args.pass.now c.in-Some.spot c.shape-held.ensures.lawful c.requires child
+    λ e. label_none_level c.args.self.now c.args.number c.args.value c.args.pass.now c.in-Some.spot c.shape-held.ensures.lawful c.requires child
     (λ same. nat_ne c.level.result (c.args.value % 32) e (level ∙ same))

@@ -23,5 +23,5 @@ returns-clause-none c =
     rw c.shape-shape.ensures.shape at raw) in
     let leaf : c.in_ok-leaf.leaf ≡ spot c.in-Some.above.now.lane (c.args.d ∷ c.in-Some.above.now.path) = search (rules, c.in_ok-leaf.ensures) in
     let items : c.deref.result.now ≡ c.in-Some-2.path.items = c.deref.ensures.value in
-    λ e leads. (let same = leads_only c.args.self.now c.args.k c.args.pass.now c.args.row.now c.args.lane c.args.node c.args.d c.in-Some.above.now c.in-Some-2.path.items c.shape-shape.ensures.lawful c.requires.live c.in-Some.ensures there leads in
+    λ e leads. (let same = leads_only c.args.self.now c.args.number c.args.pass.now c.args.row.now c.args.lane c.args.node c.args.d c.in-Some.above.now c.in-Some-2.path.items c.shape-shape.ensures.lawful c.requires.live c.in-Some.ensures there leads in
     let found : c.is.result ≡ true = (c.is.ensures).1 (leaf ∙ (same ∙ ap (spot c.args.lane) (sym items))) in absurd (cc (found, e)))

@@ -14,12 +14,12 @@ pub returns-in_default-free : goal.returns-in_default-free
 returns-in_default-free c =
     let none : NoneFree c.args.self.now.shape.nodes c.in-Some.pass.now c.args.node =
     rw c.shape-shape.ensures.shape at (rw c.nodes.ensures.nodes at c.in_default-free.ensures) in
-    (refl, λ y does. link_free c.args.self.now c.args.k c.args.place c.args.node c.in-Some.pass.now y c.in-Some.ensures none does)
+    (refl, λ y does. link_free c.args.self.now c.args.number c.args.place c.args.node c.in-Some.pass.now y c.in-Some.ensures none does)
 
 pub returns-in_default-2 : goal.returns-in_default-2
 returns-in_default-2 c =
     let none : NoChildAt c.args.self.now c.in-Some.pass.now c.args.place = rw c.in_default-2.is at c.in_ok-spot.ensures in
-    (refl, λ y does. link_child c.args.self.now c.args.k c.args.place c.args.node c.in-Some.pass.now y c.in-Some.ensures none does)
+    (refl, λ y does. link_child c.args.self.now c.args.number c.args.place c.args.node c.in-Some.pass.now y c.in-Some.ensures none does)
 
 pub returns-then-not-is_labelled : goal.returns-then-not-is_labelled
 returns-then-not-is_labelled c =
@@ -27,7 +27,7 @@ returns-then-not-is_labelled c =
     let free : IsFree c.args.self.now.shape.nodes c.in-Some.pass.now c.args.node c.in-Some-free.at c.in-Some-free.book.now =
     rw c.shape-shape.ensures.shape at (rw c.nodes.ensures.nodes at c.in-Some-free.ensures) in (
       refl,
-      λ y does. (let o = link_label c.args.self.now c.args.k c.args.place c.args.node c.in-Some-free.at c.in-Some.pass.now c.in-Some-free.book.now c.in-Some-2.spot y c.shape-shape.ensures.lawful c.in-Some.ensures free child does in
+      λ y does. (let o = link_label c.args.self.now c.args.number c.args.place c.args.node c.in-Some-free.at c.in-Some.pass.now c.in-Some-free.book.now c.in-Some-2.spot y c.shape-shape.ensures.lawful c.in-Some.ensures free child does in
           let found : c.is_labelled.result ≡ true = (c.is_labelled.ensures).1 o in absurd (cc (found, c.if-not-is_labelled.true))),
     )
 
@@ -40,7 +40,7 @@ pub link_tried-requires : goal.link_tried-requires
 link_tried-requires c = slice_get_within c.in-Some.pass.now.books c.in-Some-free.at c.in-Some-free.book.now c.in-Some-free.ensures.0
 
 pub put-requires-clause-pass : goal.put-requires-clause-pass
-put-requires-clause-pass c = pass_there c.args.self.now c.args.k c.in-Some.pass.now c.in-Some.ensures
+put-requires-clause-pass c = pass_there c.args.self.now c.args.number c.in-Some.pass.now c.in-Some.ensures
 
 pub put-requires-clause-word : goal.put-requires-clause-word
 put-requires-clause-word c =
@@ -53,8 +53,8 @@ put-requires-clause-lawful c =
     let free : IsFree c.args.self.now.shape.nodes c.in-Some.pass.now c.args.node c.in-Some-free.at c.in-Some-free.book.now =
     rw c.shape-shape.ensures.shape at (rw c.nodes.ensures.nodes at c.in-Some-free.ensures) in
     let after : c.in_ok-after.after ≡ pass_with_link c.in-Some-free.at c.in-Some-free.book.now c.in-Some-2.spot c.args.node c.in-Some.pass.now c.word-found.result = search (rules, c.in_ok-after.ensures c.in-Some-free.book.now free.0) in
-    let does = link_does c.args.self.now c.args.k c.args.place c.args.node c.word-found.result c.linked_word.result c.in-Some-free.at c.in-Some.pass.now c.in_ok-after.after c.in-Some-free.book.now c.in-Some-2.spot c.in-Some.ensures free child ((c.is_labelled.ensures).0 c.if-not-is_labelled.false) c.word-found.ensures c.linked_word.ensures after in
-    made_lawful c.args.self.now c.args.k (acts (link c.args.place c.args.node)) _ c.shape-shape.ensures.lawful does
+    let does = link_does c.args.self.now c.args.number c.args.place c.args.node c.word-found.result c.linked_word.result c.in-Some-free.at c.in-Some.pass.now c.in_ok-after.after c.in-Some-free.book.now c.in-Some-2.spot c.in-Some.ensures free child ((c.is_labelled.ensures).0 c.if-not-is_labelled.false) c.word-found.ensures c.linked_word.ensures after in
+    made_lawful c.args.self.now c.args.number (acts (link c.args.place c.args.node)) _ c.shape-shape.ensures.lawful does
 
 pub returns : goal.returns
 returns c =
@@ -62,5 +62,5 @@ returns c =
     let free : IsFree c.args.self.now.shape.nodes c.in-Some.pass.now c.args.node c.in-Some-free.at c.in-Some-free.book.now =
     rw c.shape-shape.ensures.shape at (rw c.nodes.ensures.nodes at c.in-Some-free.ensures) in
     let after : c.in_ok-after.after ≡ pass_with_link c.in-Some-free.at c.in-Some-free.book.now c.in-Some-2.spot c.args.node c.in-Some.pass.now c.word-found.result = search (rules, c.in_ok-after.ensures c.in-Some-free.book.now free.0) in
-    let does = link_does c.args.self.now c.args.k c.args.place c.args.node c.word-found.result c.linked_word.result c.in-Some-free.at c.in-Some.pass.now c.in_ok-after.after c.in-Some-free.book.now c.in-Some-2.spot c.in-Some.ensures free child ((c.is_labelled.ensures).0 c.if-not-is_labelled.false) c.word-found.ensures c.linked_word.ensures after in
-    made c.args.self.now c.put.new.self c.args.k (acts (link c.args.place c.args.node)) _ _ c.put.ensures does
+    let does = link_does c.args.self.now c.args.number c.args.place c.args.node c.word-found.result c.linked_word.result c.in-Some-free.at c.in-Some.pass.now c.in_ok-after.after c.in-Some-free.book.now c.in-Some-2.spot c.in-Some.ensures free child ((c.is_labelled.ensures).0 c.if-not-is_labelled.false) c.word-found.ensures c.linked_word.ensures after in
+    made c.args.self.now c.put.new.self c.args.number (acts (link c.args.place c.args.node)) _ _ c.put.ensures does

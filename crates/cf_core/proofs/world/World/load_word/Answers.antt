@@ -11,21 +11,21 @@ put-requires-clause-lawful c =
     let words = rw c.shape.ensures.shape at c.ticket_words.ensures.words in
     let after : c.in_ok-after.after ≡ pass_with_look c.ticket_place-place.result c.word-found.result c.in-Some.pass.now =
     search (rules, c.in_ok-after.ensures) in
-    let does = load_does c.args.self.now c.args.k c.args.offset c.ticket_place-place.result c.args.i c.word-found.result c.in-Some.pass.now c.in_ok-after.after c.in-Some.ensures (omega (arith, c.if-offset-covered.false, c.covered.ensures)) (omega (arith, words, c.if-from-ticket_words.false, c.from.ensures)) (search (rules, c.ticket_place-place.ensures.at, c.from-2.ensures)) c.word-found.ensures after in
-    made_lawful c.args.self.now c.args.k (acts (load_word c.args.offset c.args.i)) _ c.shape.ensures.lawful does
+    let does = load_does c.args.self.now c.args.number c.args.offset c.ticket_place-place.result c.args.index c.word-found.result c.in-Some.pass.now c.in_ok-after.after c.in-Some.ensures (omega (arith, c.if-offset-covered.false, c.covered.ensures)) (omega (arith, words, c.if-from-ticket_words.false, c.from.ensures)) (search (rules, c.ticket_place-place.ensures.at, c.from-2.ensures)) c.word-found.ensures after in
+    made_lawful c.args.self.now c.args.number (acts (load_word c.args.offset c.args.index)) _ c.shape.ensures.lawful does
 
 pub returns : goal.returns
 returns c =
     let words = rw c.shape.ensures.shape at c.ticket_words.ensures.words in
     let after : c.in_ok-after.after ≡ pass_with_look c.ticket_place-place.result c.word-found.result c.in-Some.pass.now =
     search (rules, c.in_ok-after.ensures) in
-    let does = load_does c.args.self.now c.args.k c.args.offset c.ticket_place-place.result c.args.i c.word-found.result c.in-Some.pass.now c.in_ok-after.after c.in-Some.ensures (omega (arith, c.if-offset-covered.false, c.covered.ensures)) (omega (arith, words, c.if-from-ticket_words.false, c.from.ensures)) (search (rules, c.ticket_place-place.ensures.at, c.from-2.ensures)) c.word-found.ensures after in
-    made c.args.self.now c.put.new.self c.args.k (acts (load_word c.args.offset c.args.i)) _ _ c.put.ensures does
+    let does = load_does c.args.self.now c.args.number c.args.offset c.ticket_place-place.result c.args.index c.word-found.result c.in-Some.pass.now c.in_ok-after.after c.in-Some.ensures (omega (arith, c.if-offset-covered.false, c.covered.ensures)) (omega (arith, words, c.if-from-ticket_words.false, c.from.ensures)) (search (rules, c.ticket_place-place.ensures.at, c.from-2.ensures)) c.word-found.ensures after in
+    made c.args.self.now c.put.new.self c.args.number (acts (load_word c.args.offset c.args.index)) _ _ c.put.ensures does
 
 pub returns-then-offset-covered : goal.returns-then-offset-covered
 returns-then-offset-covered c = (
   refl,
-  λ y does. (let o = load_only c.args.self.now c.args.k c.args.offset c.args.i c.in-Some.pass.now y c.in-Some.ensures does in
+  λ y does. (let o = load_only c.args.self.now c.args.number c.args.offset c.args.index c.in-Some.pass.now y c.in-Some.ensures does in
       elim c.then-offset-covered.branch [
         | then-offset-covered-via-then-offset-covered w ↦ absurd (let l = o.0 in omega (arith, l, w.if-offset-covered.true, c.covered.ensures))
         | then-offset-covered-via-else-offset-covered+then-from-ticket_words w ↦
@@ -35,4 +35,4 @@ returns-then-offset-covered c = (
 )
 
 pub put-requires-clause-pass : goal.put-requires-clause-pass
-put-requires-clause-pass c = pass_there c.args.self.now c.args.k c.in-Some.pass.now c.in-Some.ensures
+put-requires-clause-pass c = pass_there c.args.self.now c.args.number c.in-Some.pass.now c.in-Some.ensures
