@@ -1,5 +1,5 @@
 -- The passes by which questions are asked of what the segments' roots have seen.
-use Rattle.std.proofs.Common.{◌≡◌, ◌<◌, ◌≤◌, ◌+◌, ◌*◌, ℕ, zero, suc, List, [], ◌∷◌, ◌++◌, length, get_or, map, Some, Ok, IfOk, slice_get, refl, sym, ap, ap₂, subst, ◌∙◌, arith, length-append, mul_comm, mul-le-mul_left}
+use Rattle.std.proofs.Common.{◌≡◌, ◌<◌, ◌≤◌, ◌+◌, ◌*◌, ℕ, List, [], ◌∷◌, ◌++◌, length, get_or, map, Some, Ok, IfOk, slice_get, refl, sym, ap, ap₂, subst, ◌∙◌, arith, length-append, mul_comm, mul-le-mul_left}
 use Rattle.std.proofs.lemmas.List.{ext_get_or, get_or-map, length-map}
 use Rattle.std.proofs.lemmas.List.Elements.{All-map}
 use Rattle.std.proofs.lemmas.Option.{slice_get-get_or}
@@ -9,8 +9,6 @@ use Rattle.std.specs.List.{All, AllZip, flat_map}
 use denote.Ref.{Bor}
 use Rattle.cf_row.specs.declared.row.Entry.{Entry}
 use Rattle.cf_shape.specs.Lanes.{ShapeValue}
-use Rattle.cf_law.specs.Passes.{Pass}
-use Rattle.cf_law.specs.Steps.{new_pass}
 use Rattle.cf_plain.specs.Asks.{Suits}
 use Rattle.cf_plain.specs.Answered.{answer_on, no_ask}
 use Rattle.cf_plain.specs.declared.answer.Answer.{Answer}
@@ -19,18 +17,17 @@ use Rattle.cf_plain.specs.declared.answer.Body.{Body}
 use Rattle.cf_plain.specs.declared.answer.Fired.{Fired}
 use Rattle.cf_plain.specs.declared.ask.Ask.{Ask}
 use Rattle.cf_plain.specs.declared.ask.Ask.TheVariants as asks_are
-use Rattle.cf_table.specs.Values.{PassValue, LogValue, IsOf}
-use Rattle.cf_table.specs.Moves.{HoldsAllBooks}
+use Rattle.cf_table.specs.Values.{PassValue, LogValue}
 use Rattle.cf_walk.specs.Walks.{OnlyWalked}
-use Rattle.cf_query.specs.Asking.{HasAsked}
 use Rattle.cf_query.proofs.Walking.{walked_seen}
 use Rattle.cf_load.specs.Planned.{IsMarks, as_marks, body_of, marks_on}
-use Rattle.cf_load.specs.Readers.{AreReaders, CanBeAsked, IsQuestion, IsReader, Reads, answer_by, behind, log_of, seen_by}
-use Rattle.cf_load.specs.Segments.{SegmentsValue, IsSegment, IsSegments, KeepsAll, KeepsSegment, all_of, entries_of, seen_of}
+use Rattle.cf_load.specs.Readers.{AreReaders, CanBeAsked, IsQuestion, answer_by, seen_by}
+use Rattle.cf_segments.specs.Readers.{IsReader, Reads, behind, log_of}
+use Rattle.cf_segments.specs.Segments.{SegmentsValue, IsSegments, KeepsAll, KeepsSegment, all_of, entries_of, seen_of}
 use Rattle.cf_load.specs.declared.finals.Question.{Question}
-use Rattle.cf_load.specs.declared.segments.Segment.{Segment}
-use Rattle.cf_load.proofs.Batches.{zip_at, zip_long}
-use Rattle.cf_load.proofs.Kept.{kept_each}
+use Rattle.cf_segments.specs.declared.segments.Segment.{Segment}
+use Rattle.cf_segments.proofs.Zips.{zip_at, zip_long, zip_get}
+use Rattle.cf_segments.proofs.Kept.{kept_each}
 
 -- a pass that walked reads the log as before
 pub reader_walked : (log : LogValue) (m n : PassValue) → IsReader log m → OnlyWalked m n → IsReader log n
@@ -42,19 +39,6 @@ reader_walked log m n is walked =
       };
       few = subst (λ (es : List Entry). length es ≤ log.shape.capacity) seen is.few;
       fit = λ o e at. is.fit o e (ap (λ (es : List Entry). slice_get es o) seen ∙ at);
-    }
-
--- a pass that was forked off a segment's root, when that had loaded the read tail
-pub forked : (shape : ShapeValue) (g : Segment) (n r : PassValue) → IsSegment shape g → HasAsked (g.log).shape g.root n → IsOf r g.log
-    → r.view ≡ new_pass [] (n.view).seen → Reads g r
-forked shape g n r is asked of view =
-    let seen : (r.view).seen ≡ (n.view).seen = ap (λ (p : Pass). p.seen) view in record {
-      is = record {
-        of = of;
-        few = subst (λ (es : List Entry). length es ≤ ((g.log).shape).capacity) (sym seen) asked.few;
-        fit = λ o e at. asked.fit o e (ap (λ (es : List Entry). slice_get es o) (sym seen) ∙ at);
-      };
-      seen = seen ∙ asked.stays (subst (λ (h : ShapeValue). HoldsAllBooks h g.root.view) (sym is.shape_is) is.settled);
     }
 
 -- what reads a segment read it before too, where the segment keeps what it holds
@@ -74,15 +58,6 @@ all_seen [] [] reads = refl
 all_seen [] (r ∷ rs) reads = absurd reads
 all_seen (g ∷ gs) [] reads = absurd reads
 all_seen (g ∷ gs) (r ∷ rs) reads = ap₂ (λ (es fs : List Entry). es ++ fs) (reads.0).seen (all_seen gs rs reads.1)
-
--- what stands at one place of both
-zip_get : {A B : Type 0} (R : A → B → Type 0) (xs : List A) (ys : List B) (k : ℕ) (d : A) (e : B) → AllZip R xs ys → k < length ys
-    → R (get_or xs k d) (get_or ys k e)
-zip_get R [] [] k d e all lt = absurd (omega (arith, lt))
-zip_get R [] (y ∷ ys) k d e all lt = absurd all
-zip_get R (x ∷ xs) [] k d e all lt = absurd all
-zip_get R (x ∷ xs) (y ∷ ys) zero d e all lt = all.0
-zip_get R (x ∷ xs) (y ∷ ys) (suc k) d e all lt = zip_get R xs ys k d e all.1 (omega (arith, lt))
 
 module _ (s : SegmentsValue) (is : IsSegments s) (logs : List (Bor LogValue)) (same : map behind logs ≡ map log_of (all_of s)) where
   -- there is a log for each segment

@@ -1,7 +1,7 @@
 -- The writers' passes come home after a batch: the log has the rows of the batch, each once.
 use Rattle.std.proofs.Common.{◌≡◌, ℕ, zero, suc, ◌+◌, ◌*◌, ◌<◌, ◌≤◌, Bool, true, List, [], ◌∷◌, ◌++◌, length, get_or, take, drop, map, ◌==◌, Some, slice_get, fold, refl, sym, ap, ap₂, subst, ◌∙◌, inl, inr, arith, length-append, append_assoc}
 use Rattle.std.proofs.lemmas.Bool.{cases_Bool}
-use Rattle.std.proofs.lemmas.List.{append-nil, append_cancel_left, take-append-drop, take_all, drop_all}
+use Rattle.std.proofs.lemmas.List.{append-nil, append_cancel_left, take-append-drop}
 use Rattle.std.proofs.lemmas.List.Concat.{flat_map-append}
 use Rattle.std.proofs.lemmas.List.Sums.{fold-append}
 use Rattle.std.proofs.lemmas.Option.{slice_get_within, slice_get-get_or}
@@ -13,23 +13,24 @@ use Rattle.cf_history.specs.Order.{rows_of, written_by}
 use Rattle.cf_shape.specs.Lanes.{ShapeValue, IsShape}
 use Rattle.cf_shape.specs.Nodes.{Node, nodes_for, nodes_of, same_node, add_node, distinct}
 use Rattle.cf_words.specs.Words.{Spot}
-use Rattle.cf_law.specs.Events.{tabulated, no_book}
-use Rattle.cf_law.proofs.Fronts.{table_length, table_at}
 use Rattle.cf_law.specs.Passes.{Own, Book, Pass}
 use Rattle.cf_law.specs.Steps.{Holds, IsAtRest}
 use Rattle.cf_law.specs.Readers.{mine_from}
 use Rattle.cf_table.specs.Values.{PassValue, LogValue, IsOf, book_of}
-use Rattle.cf_table.specs.Rule.{root_pass}
-use Rattle.cf_table.specs.Moves.{Begins, HoldsAllBooks, AreDealt, AreAll, AreFit, HasGathered, books_of, told_by}
-use Rattle.cf_table.proofs.Homing.{still_one, get_front, opened as opened_settled}
+use Rattle.cf_table.specs.Moves.{Begins, AreDealt, AreAll, HasGathered, books_of, told_by}
+use Rattle.cf_table.proofs.Homing.{still_one, get_front}
 use Rattle.cf_append.specs.Appends.{Rests}
-use Rattle.cf_load.specs.Needed.{IsNeeded, IsOut, HasNodes, HasRunOut}
+use Rattle.cf_segments.specs.Needed.{IsNeeded, IsOut, HasNodes, HasRunOut}
 use Rattle.cf_load.specs.Writing.{rows_of_book, IsReady, RanOut, RunsOut, Wrote}
-use Rattle.cf_load.specs.Loading.{IsLogFrom, HasLoaded, IsShort}
-use Rattle.cf_load.proofs.Alls.{all_drop}
-use Rattle.cf_load.proofs.Written.{written_append, rows_append, WrotePart, all_written, log_more}
-use Rattle.cf_load.proofs.Pigeons.{in_either}
-use Rattle.cf_load.proofs.Nodes.{too_many}
+use Rattle.cf_segments.specs.Loaded.{IsLogFrom, HasLoaded}
+use Rattle.cf_load.specs.Loading.{IsShort}
+use Rattle.cf_segments.proofs.Alls.{all_drop}
+use Rattle.cf_segments.proofs.Parts.{written_append, rows_append}
+use Rattle.cf_load.proofs.Written.{WrotePart, all_written, log_more}
+use Rattle.cf_segments.proofs.Pigeons.{in_either}
+use Rattle.cf_segments.proofs.Nodes.{too_many}
+use Rattle.cf_segments.proofs.Zips.{zip_at, zip_back, zip_long}
+use Rattle.cf_segments.proofs.Loaded.{settled_still}
 
 -- the rows of a book's tickets are what its writer wrote
 pub mine_rows : (w k : ℕ) (es : List Entry) → map (λ (own : Own). own.row) (mine_from w k es) ≡ written_by w es
@@ -63,30 +64,6 @@ book_in (x ∷ xs) zero h b at holds =
 book_in (x ∷ xs) (suc k) h b at holds =
     let r = book_in xs k h b at holds in
     (length (x.view).books + r.0, get_back (x.view).books (books_of xs) r.0 b r.1)
-
--- what stands beside an element of the first list
-pub zip_at : {A B : Type 0} (R : A → B → Type 0) (xs : List A) (ys : List B) (k : ℕ) (x : A) → AllZip R xs ys → slice_get xs k ≡ Some x → (y : B)
-    × (slice_get ys k ≡ Some y) × R x y
-zip_at R [] ys k x all at = absurd (cc at)
-zip_at R (a ∷ xs) [] k x all at = absurd all
-zip_at R (a ∷ xs) (b ∷ ys) zero x all at = (let e : a ≡ x = cc at in (b, refl, subst (λ c. R c b) e all.0))
-zip_at R (a ∷ xs) (b ∷ ys) (suc k) x all at = zip_at R xs ys k x all.1 at
-
--- what stands beside an element of the second list
-pub zip_back : {A B : Type 0} (R : A → B → Type 0) (xs : List A) (ys : List B) (k : ℕ) (y : B) → AllZip R xs ys → slice_get ys k ≡ Some y → (x : A)
-    × (slice_get xs k ≡ Some x) × R x y
-zip_back R [] [] k y all at = absurd (cc at)
-zip_back R [] (b ∷ ys) k y all at = absurd all
-zip_back R (a ∷ xs) [] k y all at = absurd all
-zip_back R (a ∷ xs) (b ∷ ys) zero y all at = (let e : b ≡ y = cc at in (a, refl, subst (λ c. R a c) e all.0))
-zip_back R (a ∷ xs) (b ∷ ys) (suc k) y all at = zip_back R xs ys k y all.1 at
-
--- both lists are as long
-pub zip_long : {A B : Type 0} (R : A → B → Type 0) (xs : List A) (ys : List B) → AllZip R xs ys → length xs ≡ length ys
-zip_long R [] [] all = refl
-zip_long R [] (b ∷ ys) all = absurd all
-zip_long R (a ∷ xs) [] all = absurd all
-zip_long R (a ∷ xs) (b ∷ ys) all = ap suc (zip_long R xs ys all.1)
 
 -- each entry that was seen is of a writer
 pub fit_exist : (writers : ℕ) (es : List Entry) → ((o : ℕ) (e : Entry) → slice_get es o ≡ Some e → e.writer < writers)
@@ -166,38 +143,6 @@ pub told_home : (whole : Bool) (log : LogValue) (first : ℕ) (batch : List RowV
 told_home whole log first batch m r passes after dealt wrote told =
     quiet whole log first batch passes after told wrote
     (λ k h at. (let d = dealt.each k h at in (ap (λ (p : Pass). p.tails) d.view, ap (λ (p : Pass). p.told) d.view)))
-
--- no part of an empty list has anything
-pub nothing : (X : Type 0) (j : ℕ) → take 4096 (drop {A = X} j []) ≡ []
-nothing X j = ap (take 4096) (drop_all {X = X} j [] (omega arith)) ∙ take_all 4096 [] (omega arith)
-
--- a log just opened has no rows yet
-pub opened : (log : LogValue) (first : ℕ) (m : PassValue) → IsOf m log → m.view ≡ root_pass log.shape → HasLoaded log first [] m
-opened log first m of is = record {
-  of = of;
-  settled = subst (HoldsAllBooks log.shape) (sym is) (opened_settled log.shape);
-  is = subst (λ (p : Pass). IsLogFrom first [] (log.shape).writers p.seen) (sym is) none;
-  own = λ w lt. ap (λ (p : Pass). written_by w p.seen) is;
-  nodes = subst (λ (p : Pass). HasNodes log.shape [] p) (sym is) (record {
-    needed = λ k j b s held used. absurd
-        (let e = new_book k b held in let f : slice_get {X = Spot} [] j ≡ Some s = ap (λ (c : Book). slice_get c.used j) e ∙ used in cc f);
-    room = λ k b held. (let e = ap (λ (c : Book). length c.used) (new_book k b held) in omega (arith, e));
-    paths = λ o l d e xs q x at path. absurd (cc at);
-  });
-}
-  where
-    new_book : (k : ℕ) (b : Book) → slice_get (tabulated no_book (log.shape).writers) k ≡ Some b → no_book k ≡ b
-    new_book k b at =
-        let lt : k < (log.shape).writers =
-        omega (arith, slice_get_within (tabulated no_book (log.shape).writers) k b at, table_length no_book (log.shape).writers) in
-        let f : Some (no_book k) ≡ Some b = sym (table_at no_book (log.shape).writers k lt) ∙ at in cc f
-
-    none : IsLogFrom first [] (log.shape).writers []
-    none = record {
-      size = refl;
-      exist = tt;
-      own = λ b w lt. ap (written_by w) (nothing Entry (4096 * b)) ∙ ap (rows_of (log.shape).writers w (first + 4096 * b)) (sym (nothing RowValue (4096 * b)));
-    }
 
 -- rows that are needed are so among more
 pub needed_left : (shape : ShapeValue) (rows more : List RowValue) (s : Spot) → IsNeeded shape rows s → IsNeeded shape (rows ++ more) s
@@ -386,33 +331,6 @@ pub told_same : (whole : Bool) (log : LogValue) (first : ℕ) (batch : List RowV
     → AreDealt log m passes r → AllZip (Wrote whole log first batch) passes after → HasGathered log.shape r after n → (n.view).told ≡ (m.view).told
 told_same whole log first batch m r n passes after dealt wrote g = g.told
     ∙ (told_home whole log first batch m r passes after dealt wrote (r.view).told ∙ ap (λ (h : PassValue). (h.view).told) dealt.root)
-
--- a root that has its books and has seen the same is settled
-pub settled_still : (shape : ShapeValue) (m n : PassValue) → HoldsAllBooks shape m.view → (n.view).books ≡ (m.view).books → (n.view).seen ≡ (m.view).seen
-    → HoldsAllBooks shape n.view
-settled_still shape m n settled books seen_is = record {
-  home = λ w lt. (let h = settled.home w lt in (h.0, h.1, ap (λ (bs : List Book). slice_get bs h.0) books ∙ h.2, h.3, h.4));
-  rest = λ k b at. settled.rest k b (ap (λ (bs : List Book). slice_get bs k) (sym books) ∙ at);
-  count = ap length books ∙ settled.count;
-  all = λ k b at. settled.all k b (ap (λ (bs : List Book). slice_get bs k) (sym books) ∙ at) ∙ ap (mine_from b.writer 0) (sym seen_is);
-}
-
--- and still holds what was loaded
-pub still_loaded : (log : LogValue) (first : ℕ) (rows : List RowValue) (m n : PassValue) → HasLoaded log first rows m → IsOf n log
-    → (n.view).books ≡ (m.view).books → (n.view).seen ≡ (m.view).seen → HasLoaded log first rows n
-still_loaded log first rows m n has of books seen_is = record {
-  of = of;
-  settled = settled_still log.shape m n has.settled books seen_is;
-  is = subst (IsLogFrom first rows (log.shape).writers) (sym seen_is) has.is;
-  own = λ w lt. ap (written_by w) seen_is ∙ has.own w lt;
-  nodes = record {
-    needed = λ k j b s at used. has.nodes.needed k j b s (ap (λ (bs : List Book). slice_get bs k) (sym books) ∙ at) used;
-    room = λ k b at. has.nodes.room k b (ap (λ (bs : List Book). slice_get bs k) (sym books) ∙ at);
-    paths = λ o l d e xs q x at path.
-        (let h = has.nodes.paths o l d e xs q x (ap (λ (es : List Entry). slice_get es o) (sym seen_is) ∙ at) path in
-        (h.0, h.1, h.2, ap (λ (bs : List Book). slice_get bs h.0) books ∙ h.3, h.4));
-  };
-}
 
 -- A writer ran out of nodes in that batch: the rows before it and its own need more different ones than it has, and each writer's
 -- entries are the first of its rows.

@@ -1,6 +1,5 @@
 -- A batch is done: the writers and the reader came home.
-use Rattle.std.proofs.Common.{◌≡◌, ◌≤◌, ◌+◌, ◌*◌, ℕ, Bool, true, List, [], Option, Some, None, ◌++◌, length, take, drop, append-nil, refl, ap, ◌∙◌, Result, Ok, Err, IfOk, MatchResult}
-use Rattle.std.proofs.Math.Seq.{take-length, drop-length}
+use Rattle.std.proofs.Common.{◌≡◌, ◌≤◌, ◌+◌, ◌*◌, ℕ, Bool, true, List, [], Option, Some, None, ◌++◌, length, append-nil, refl, ap, ◌∙◌, Result, Ok, Err, IfOk, MatchResult}
 use Rattle.std.specs.List.{AllZip}
 use Rattle.cf_row.specs.Row.{RowValue}
 use Rattle.cf_shape.specs.Lanes.{IsShape}
@@ -8,19 +7,14 @@ use Rattle.cf_law.specs.Passes.{Pass}
 use Rattle.cf_table.specs.Values.{PassValue, LogValue, IsOf}
 use Rattle.cf_table.specs.Moves.{AreDealt, HasFolded, HasGathered, HoldsAllBooks}
 use Rattle.std.specs.declared.alloc.AllocError.{AllocError}
-use Rattle.cf_load.specs.Loading.{HasLoaded, IsShort}
+use Rattle.cf_segments.specs.Loaded.{HasLoaded}
+use Rattle.cf_load.specs.Loading.{IsShort}
 use Rattle.cf_load.specs.Loads.{outcome_of}
 use Rattle.cf_load.specs.declared.loads.LoadFault.{LoadFault}
 use Rattle.cf_load.specs.declared.loads.LoadFault.TheVariants.{NodesFull, Memory}
 use Rattle.cf_load.specs.Writing.{Wrote}
-use Rattle.cf_load.proofs.Batches.{batch_loaded, still_loaded, told_same, short_kept}
-
--- what was lent out of a vector and written is all of it
-pub written_back : {X : Type 0} (new items : List X) (len : ℕ) → length new ≡ length items → len ≡ length items
-    → take len (new ++ drop (length new) items) ≡ new
-written_back new items len e f =
-    let none : drop (length new) items ≡ [] = ap (λ n. drop n items) e ∙ drop-length items in
-    rw (none, append-nil new, f, ← e) (take-length new)
+use Rattle.cf_load.proofs.Batches.{batch_loaded, told_same, short_kept}
+use Rattle.cf_segments.proofs.Loaded.{still_loaded}
 
 -- what a batch comes to
 pub ok_answers : {T : Type 0} (out : Option ℕ) (answers : Result T AllocError) (Q : T → Type 0) → IfOk answers Q → IfOk (outcome_of out answers) Q

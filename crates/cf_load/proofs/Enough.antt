@@ -10,8 +10,8 @@ use Rattle.cf_shape.specs.Nodes.{distinct}
 use Rattle.cf_history.specs.Order.{rows_of, written_by}
 use Rattle.cf_history.proofs.Logs.{written_own, written_other}
 use Rattle.cf_table.specs.Values.{PassValue, LogValue}
-use Rattle.cf_load.specs.Loading.{HasLoaded}
-use Rattle.cf_load.proofs.Nodes.{few_enough}
+use Rattle.cf_segments.specs.Loaded.{HasLoaded}
+use Rattle.cf_segments.proofs.Nodes.{few_enough}
 
 -- each row is one of a writer's
 of_rows : (writers w k : ℕ) (rows : List RowValue) (i : ℕ) (row : RowValue) → slice_get rows i ≡ Some row → (k + i) % writers ≡ w

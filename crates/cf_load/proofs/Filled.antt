@@ -14,17 +14,18 @@ use Rattle.cf_shape.specs.Lanes.{ShapeValue}
 use Rattle.cf_shape.specs.Nodes.{distinct}
 use Rattle.cf_table.specs.Values.{PassValue, LogValue, IsOf}
 use Rattle.cf_table.specs.Moves.{HoldsAllBooks}
-use Rattle.cf_load.specs.Blocks.{block}
-use Rattle.cf_load.specs.Loading.{HasLoaded, IsShort, HasStopped}
+use Rattle.cf_segments.specs.Blocks.{block}
+use Rattle.cf_segments.specs.Loaded.{HasLoaded}
+use Rattle.cf_load.specs.Loading.{IsShort, HasStopped}
 use Rattle.cf_load.specs.Loads.{LacksNodes, HaveStopped}
-use Rattle.cf_load.specs.Needed.{HasRunOut}
-use Rattle.cf_load.specs.Segments.{SegmentsValue, all_of, seen_of, entries_of, base_of, told_from, told_of, IsSegment, IsSegments, HoldsRows, IsSameSegment, AreFirst, SegmentsGoOn, KeepsAll}
+use Rattle.cf_segments.specs.Needed.{HasRunOut}
+use Rattle.cf_segments.specs.Segments.{SegmentsValue, all_of, seen_of, entries_of, base_of, told_from, told_of, IsSegment, IsSegments, HoldsRows, IsSameSegment, AreFirst, SegmentsGoOn, KeepsAll}
 use Rattle.cf_load.specs.declared.loads.LoadFault.{LoadFault}
 use Rattle.cf_load.specs.declared.loads.LoadFault.TheVariants.{Full, NodesFull, Memory}
-use Rattle.cf_load.specs.declared.segments.Segment.{Segment}
-use Rattle.cf_load.proofs.Chains.{rows_are_log, told_push}
-use Rattle.cf_load.proofs.Kept.{kept_base, kept_holds}
-use Rattle.cf_load.proofs.Written.{part_before, rows_append, written_append}
+use Rattle.cf_segments.specs.declared.segments.Segment.{Segment}
+use Rattle.cf_segments.proofs.Chains.{rows_are_log, told_push}
+use Rattle.cf_segments.proofs.Kept.{kept_base, kept_holds}
+use Rattle.cf_segments.proofs.Parts.{part_before, rows_append, written_append}
 
 -- the segments, with that root in the current one
 abbrev pub filled : SegmentsValue → PassValue → SegmentsValue

@@ -1,6 +1,6 @@
 -- What questions find in logs that stand one behind the other.
-use Rattle.std.proofs.Common.{◌≡◌, ◌≤◌, ◌+◌, ◌^◌, ℕ, List, ◌++◌, length, take, sym, ap, ap₂, subst, ◌∙◌, arith, length-append}
-use Rattle.std.proofs.lemmas.List.{length-map, map-append}
+use Rattle.std.proofs.Common.{◌≡◌, ◌≤◌, ◌+◌, ◌^◌, ℕ, List, ◌++◌, length, take, sym, ap, ap₂, subst, ◌∙◌, arith, length-append, ◌∷◌, [], ◌<◌, map, get_or}
+use Rattle.std.proofs.lemmas.List.{length-map, map-append, map_push, take_more}
 use Rattle.std.proofs.Math.Seq.{take-append-add}
 use Rattle.cf_row.specs.declared.row.Entry.{Entry}
 use Rattle.cf_shape.specs.Lanes.{ShapeValue}
@@ -46,3 +46,9 @@ module _ (shape : ShapeValue) (ask : Ask) (entries : List Entry) (count : ℕ) (
 pub begins_behind : (before xs ys : List Entry) → Begins xs ys → Begins (before ++ xs) (before ++ ys)
 begins_behind before xs ys begins =
     ap (λ (n : ℕ). take n (before ++ ys)) (length-append before xs) ∙ (take-append-add before ys (length xs) ∙ ap (λ (es : List Entry). before ++ es) begins)
+
+-- one more of what is made of each
+pub made_more : {X Y : Type 0} (f : X → Y) (xs : List X) (ys zs : List Y) (i : ℕ) (d : X) (y : Y) → ys ≡ map f (take i xs) → i < length xs
+    → y ≡ f (get_or xs i d) → zs ≡ ys ++ y ∷ [] → zs ≡ map f (take (i + 1) xs)
+made_more f xs ys zs i d y is lt one more = more
+    ∙ (ap₂ (λ made a. made ++ a ∷ []) is one ∙ (sym (map_push f (take i xs) (get_or xs i d)) ∙ ap (map f) (sym (take_more xs i d lt))))

@@ -21,22 +21,22 @@ use Rattle.cf_table.proofs.Settling.{begins_then}
 use Rattle.cf_load.specs.declared.plan.LivePlan.{LivePlan}
 use Rattle.cf_load.specs.declared.loads.LoadFault.{LoadFault}
 use Rattle.cf_load.specs.declared.loads.LoadFault.TheVariants.{Full, NodesFull, Memory}
-use Rattle.cf_load.specs.declared.segments.Segment.{Segment}
-use Rattle.cf_load.specs.Blocks.{block}
+use Rattle.cf_segments.specs.declared.segments.Segment.{Segment}
+use Rattle.cf_segments.specs.Blocks.{block}
 use Rattle.cf_load.specs.Loading.{HasAnswered, AsksBeside}
-use Rattle.cf_load.specs.Needed.{HasRunOut}
-use Rattle.cf_load.specs.Loads.{LacksNodes, HasSome, HaveStopped, IsLoaded, room_of}
+use Rattle.cf_segments.specs.Needed.{HasRunOut}
+use Rattle.cf_load.specs.Loads.{LacksNodes, HasSome, HaveStopped, IsLoaded}
+use Rattle.cf_segments.specs.Segments.{SegmentsValue, all_of, base_of, entries_of, room_of, told_of, IsSegments, HoldsRows, SegmentsGoOn, KeepsAll}
 use Rattle.cf_load.specs.Loaders.{LoaderValue, IsFresh, IsLoading, IsBatched, IsRefused, IsFinished}
 use Rattle.cf_load.specs.Planned.{IsPlan, IsSamePlan, marks_on, tails_of}
 use Rattle.cf_load.specs.Priors.{KnowsBefore}
-use Rattle.cf_load.specs.Segments.{SegmentsValue, all_of, base_of, entries_of, told_of, IsSegments, HoldsRows, SegmentsGoOn, KeepsAll}
 use Rattle.cf_load.proofs.Batches.{distinct_more, run_out_more}
-use Rattle.cf_load.proofs.Chains.{base_whole, rows_are_log}
+use Rattle.cf_segments.proofs.Chains.{base_whole, rows_are_log}
 use Rattle.cf_load.proofs.Enough.{loaded_few}
-use Rattle.cf_load.proofs.Kept.{kept_entries, kept_goes, kept_holds, kept_told, goes_none, goes_then}
+use Rattle.cf_segments.proofs.Kept.{kept_entries, kept_goes, kept_holds, kept_told, goes_none, goes_then}
 use Rattle.cf_load.proofs.Loading.{answered_beside}
 use Rattle.cf_load.proofs.Tails.{answered_none}
-use Rattle.cf_load.proofs.Written.{part_after, rows_append}
+use Rattle.cf_segments.proofs.Parts.{part_after, rows_append}
 
 -- a plan that asks the same suits the same shapes
 pub same_suits : (shape : ShapeValue) (plan other : LivePlan) → IsSamePlan plan other → IsPlan shape plan → IsPlan shape other

@@ -21,9 +21,10 @@ use Rattle.cf_append.specs.Appends.{PassGoesOn, Rests, IsAppended, IsNodesFull, 
 use Rattle.cf_append.specs.declared.appends.AppendFault.{AppendFault}
 use Rattle.cf_append.specs.declared.appends.AppendFault.TheVariants.{Full, NodesFull}
 use Rattle.cf_history.specs.Order.{rows_of}
-use Rattle.cf_load.specs.Needed.{IsNeeded, IsOut}
+use Rattle.cf_segments.specs.Needed.{IsNeeded}
 use Rattle.cf_load.specs.Writing.{rows_of_book, IsReady, RanOut, RunsOut, Wrote}
-use Rattle.cf_load.proofs.Pigeons.{in_either}
+use Rattle.cf_segments.proofs.Pigeons.{in_either}
+use Rattle.cf_segments.proofs.Zips.{zip_append}
 
 -- the writer's rows of the part of a batch from row i on, which is number k
 abbrev pub left_of : LogValue → List RowValue → PassValue → ℕ → ℕ → List RowValue
@@ -249,14 +250,6 @@ stops_out log first batch m k i n p answer row goes low at on rest answered err 
         wants = out.stuck.on;
       }),
     )
-
--- what holds of the halves of two lists holds of the lists
-pub zip_append : {A B : Type 0} (R : A → B → Type 0) (xs more : List A) (ys others : List B) → AllZip R xs ys → AllZip R more others
-    → AllZip R (xs ++ more) (ys ++ others)
-zip_append R [] more [] others first second = second
-zip_append R [] more (y ∷ ys) others first second = absurd first
-zip_append R (x ∷ xs) more [] others first second = absurd first
-zip_append R (x ∷ xs) more (y ∷ ys) others first second = (first.0, zip_append R xs more ys others first.1 second)
 
 -- a batch of which no more is said
 pub less_said : (whole : Bool) (log : LogValue) (first : ℕ) (batch : List RowValue) (m n : PassValue) → Wrote whole log first batch m n

@@ -15,7 +15,7 @@ use Rattle.cf_plain.specs.declared.loaded.Live.{Live}
 use Rattle.cf_plain.specs.Answered.{no_ask, turn_of}
 use Rattle.cf_table.specs.Moves.{Begins}
 use Rattle.cf_table.proofs.Settling.{begins_then}
-use Rattle.cf_load.proofs.Alls.{every, all_append, all_weaker, all_both, all_map, all_unmap, all_flat}
+use Rattle.cf_segments.proofs.Alls.{every, all_append, all_weaker, all_both, all_map, all_unmap, all_flat}
 use Rattle.cf_load.specs.Loading.{AsksBatch, AsksSome, HasAnswered}
 
 -- what is made of what was made

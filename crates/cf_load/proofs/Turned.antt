@@ -5,15 +5,14 @@ use Rattle.std.specs.List.{flat_map}
 use Rattle.cf_row.specs.Row.{RowValue}
 use Rattle.cf_row.specs.declared.row.Entry.{Entry}
 use Rattle.cf_shape.specs.Lanes.{ShapeValue}
-use Rattle.cf_load.specs.Loads.{room_of}
+use Rattle.cf_segments.specs.Segments.{SegmentsValue, HasTurned, HoldsRows, KeepsAll, base_of, entries_of, room_of, seen_of}
 use Rattle.cf_load.specs.Planned.{findings_on}
 use Rattle.cf_load.specs.Priors.{IsFoundBefore, KnowsBefore, entries_before}
-use Rattle.cf_load.specs.Segments.{SegmentsValue, HasTurned, HoldsRows, KeepsAll, base_of, entries_of, seen_of}
 use Rattle.cf_load.specs.declared.plan.LivePlan.{LivePlan}
 use Rattle.cf_load.specs.declared.prior.FoundBefore.{FoundBefore}
-use Rattle.cf_load.proofs.Chains.{room_few}
+use Rattle.cf_segments.proofs.Chains.{room_few}
 use Rattle.cf_load.proofs.Filled.{closed_long}
-use Rattle.cf_load.proofs.Kept.{kept_base, kept_shape, segments_seen}
+use Rattle.cf_segments.proofs.Kept.{kept_base, kept_shape, segments_seen}
 
 -- segments that keep what they hold have the same closed ones
 pub knows_kept : (s t : SegmentsValue) (plan : LivePlan) (prior : FoundBefore) → KeepsAll s t → KnowsBefore s plan prior → KnowsBefore t plan prior

@@ -1,15 +1,16 @@
 -- What the writers wrote of a batch, and the log with it: lemmas on lists alone.
 use Rattle.std.proofs.Common.{◌≡◌, ◌⊎◌, ℕ, zero, suc, ◌+◌, ◌*◌, ◌%◌, ◌<◌, ◌≤◌, Bool, true, List, [], ◌∷◌, ◌++◌, length, take, drop, refl, sym, ap, ap₂, subst, ◌∙◌, inl, inr, arith, length-append}
 use Rattle.std.proofs.lemmas.Bool.{eq-eqb, ne_eqb, cases_eq, cases_lt}
-use Rattle.std.proofs.lemmas.List.{length-drop, take_all, take-append-le, drop_at, drop_all, drop-append-le, append-nil, nil_from_length}
+use Rattle.std.proofs.lemmas.List.{append-nil, nil_from_length}
 use Rattle.std.specs.List.{AllByRecursion}
 use Rattle.cf_lemmas.proofs.Sums.{more_at, more_elsewhere, more_there, total, total_more, total_most, total_none, total_same}
 use Rattle.cf_row.specs.Row.{RowValue}
 use Rattle.cf_row.specs.declared.row.Entry.{Entry}
 use Rattle.cf_history.specs.Order.{rows_of, written_by}
 use Rattle.cf_history.proofs.Logs.{written_own, written_other}
-use Rattle.cf_load.specs.Loading.{IsLogFrom}
-use Rattle.cf_load.proofs.Alls.{all_append}
+use Rattle.cf_segments.specs.Loaded.{IsLogFrom}
+use Rattle.cf_segments.proofs.Alls.{all_append}
+use Rattle.cf_segments.proofs.Parts.{part_after, part_before, part_there}
 
 -- where no number is more than its fellow and the sums are as large, each is its fellow
 pub total_even : (n : ℕ) (f g : ℕ → ℕ) → ((w : ℕ) → w < n → f w ≤ g w) → total n g ≤ total n f → (w : ℕ) → w < n → f w ≡ g w
@@ -51,26 +52,6 @@ rows_counted writers k (row ∷ rows) some =
     total_same writers _ (more_at (k % writers) (λ v. length (rows_of writers v (k + 1) rows))) (λ w lt. one_row writers w k row rows)
     ∙ (total_more writers (k % writers) (λ v. length (rows_of writers v (k + 1) rows)) (omega (arith, some)) ∙ ap suc (rows_counted writers (k + 1) rows some))
 
--- what a writer wrote in two parts of a log
-pub written_append : (w : ℕ) (es fs : List Entry) → written_by w (es ++ fs) ≡ written_by w es ++ written_by w fs
-written_append w [] fs = refl
-written_append w (e ∷ es) fs = elim (cases_eq e.writer w) [
-  | inl own ↦ written_own w e (es ++ fs) own ∙ rw (written_own w e es own) (ap (λ rs. e.row ∷ rs) (written_append w es fs))
-  | inr other ↦ written_other w e (es ++ fs) other ∙ rw (written_other w e es other) (written_append w es fs)
-]
-
--- a writer's rows of two parts
-pub rows_append : (writers w k : ℕ) (rows more : List RowValue)
-    → rows_of writers w k (rows ++ more) ≡ rows_of writers w k rows ++ rows_of writers w (k + length rows) more
-rows_append writers w k [] more = ap (λ (n : ℕ). rows_of writers w n more) (let e : k ≡ k + 0 = omega arith in e)
-rows_append writers w k (row ∷ rows) more =
-    let next : k + 1 + length rows ≡ k + suc (length rows) = omega arith in
-    let rest = rows_append writers w (k + 1) rows more ∙ ap (λ (n : ℕ). rows_of writers w (k + 1) rows ++ rows_of writers w n more) next in
-    elim (cases_eq (k % writers) w) [
-      | inl own ↦ rw (eq-eqb (k % writers) w own) (ap (λ rs. row ∷ rs) rest)
-      | inr other ↦ rw (ne_eqb (k % writers) w other) rest
-    ]
-
 -- A writer wrote the first of its rows of a batch. Where some are left of a whole one, as many entries came as the batch has rows.
 pub record WrotePart (whole : Bool) (writers first : ℕ) (batch : List RowValue) (new : List Entry) (w : ℕ) : Type 0 where
   pub left : List RowValue
@@ -104,19 +85,6 @@ module _ (writers first : ℕ) (batch : List RowValue) (new : List Entry) (some 
   as_many own =
       sym (entries_counted writers new exist)
       ∙ (total_same writers _ (λ w. length (rows_of writers w first batch)) (λ w lt. ap length (own w lt)) ∙ rows_counted writers first batch some)
-
--- a part of a list that goes on, before its end
-pub part_before : {X : Type 0} (m j : ℕ) (xs ys : List X) → j + m ≤ length xs → take m (drop j (xs ++ ys)) ≡ take m (drop j xs)
-part_before m j xs ys within =
-    ap (take m) (drop-append-le j xs ys (omega (arith, within))) ∙ take-append-le m (drop j xs) ys (omega (arith, within, length-drop j xs))
-
--- the part at its end
-pub part_there : {X : Type 0} (m j : ℕ) (xs ys : List X) → length xs ≡ j → length ys ≤ m → take m (drop j (xs ++ ys)) ≡ ys
-part_there m j xs ys long few = ap (take m) (drop_at xs ys j long) ∙ take_all m ys few
-
--- and after all
-pub part_after : {X : Type 0} (m j : ℕ) (xs : List X) → length xs ≤ j → take m (drop j xs) ≡ []
-part_after m j xs past = ap (take m) (drop_all j xs past) ∙ take_all m [] (omega arith)
 
 module _ (first : ℕ) (rows batch : List RowValue) (writers b m : ℕ) (log new : List Entry) (apart : (c d : ℕ) → c < d → m * c + m ≤ m * d) where
   -- batch by batch what each writer wrote are its rows

@@ -1,13 +1,9 @@
-pub mod Blocks
-pub mod Needed
 pub mod Writing
 pub mod Loading
-pub mod Segments
 pub mod Costs
 pub mod Planned
 pub mod Priors
 pub mod Loads
 pub mod Loaders
-pub mod Tags
 pub mod Readers
 pub mod Rounds

@@ -9,12 +9,12 @@ use Rattle.cf_load.specs.declared.plan.LivePlan.{LivePlan}
 use Rattle.cf_load.specs.declared.loads.LoadFault.{LoadFault}
 use Rattle.cf_load.specs.declared.prior.FoundBefore.{FoundBefore}
 use Rattle.cf_load.specs.declared.loads.LoadFault.TheVariants.{Full, NodesFull, Memory}
-use Rattle.cf_load.specs.Blocks.{block}
+use Rattle.cf_segments.specs.Blocks.{block}
 use Rattle.cf_load.specs.Loading.{HasAnswered}
-use Rattle.cf_load.specs.Loads.{LacksNodes, room_of}
+use Rattle.cf_load.specs.Loads.{LacksNodes}
+use Rattle.cf_segments.specs.Segments.{SegmentsValue, HoldsRows, SegmentsGoOn, KeepsAll, base_of, entries_of, room_of, told_of}
 use Rattle.cf_load.specs.Planned.{IsPlan, IsSamePlan, marks_on, tails_of}
 use Rattle.cf_load.specs.Priors.{KnowsBefore}
-use Rattle.cf_load.specs.Segments.{SegmentsValue, HoldsRows, SegmentsGoOn, KeepsAll, base_of, entries_of, told_of}
 
 -- what it asks, how many rows it has loaded, the live answers so far, whether a batch was refused, and what the live questions found
 -- before the current segment

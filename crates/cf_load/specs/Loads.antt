@@ -8,15 +8,11 @@ use Rattle.cf_plain.specs.Answered.{LoadedValue, answer_on}
 use Rattle.cf_load.specs.declared.plan.LivePlan.{LivePlan}
 use Rattle.cf_load.specs.declared.loads.LoadFault.{LoadFault}
 use Rattle.cf_load.specs.declared.loads.LoadFault.TheVariants.{Full, NodesFull, Memory}
-use Rattle.cf_load.specs.Blocks.{block}
+use Rattle.cf_segments.specs.Blocks.{block}
 use Rattle.cf_load.specs.Loading.{HasAnswered}
-use Rattle.cf_load.specs.Needed.{HasRunOut}
+use Rattle.cf_segments.specs.Needed.{HasRunOut}
 use Rattle.cf_load.specs.Planned.{marks_on, tails_of}
-use Rattle.cf_load.specs.Segments.{SegmentsValue, IsSegments, HoldsRows, SegmentsGoOn, base_of, entries_of, told_of}
-
--- how many rows all segments have room for
-abbrev pub room_of : SegmentsValue → ℕ
-room_of s = s.most * (s.shape).capacity
+use Rattle.cf_segments.specs.Segments.{SegmentsValue, IsSegments, HoldsRows, SegmentsGoOn, base_of, entries_of, room_of, told_of}
 
 -- All rows are in the segments, each once, the books are home, and each answer is its question's meaning: the final ones and the
 -- marks on all entries, the live ones, in their turns, on as many of them as they saw. The roots were told of the live ones.

@@ -10,7 +10,7 @@ use Rattle.cf_shape.specs.Lanes.{ShapeValue}
 use Rattle.cf_load.specs.declared.plan.LivePlan.{LivePlan}
 use Rattle.cf_load.specs.declared.prior.FoundBefore.{FoundBefore}
 use Rattle.cf_load.specs.Planned.{findings_on}
-use Rattle.cf_load.specs.Segments.{SegmentsValue, base_of, seen_of}
+use Rattle.cf_segments.specs.Segments.{SegmentsValue, base_of, seen_of}
 
 -- the entries before the log's first one
 abbrev pub entries_before : FoundBefore → List Entry

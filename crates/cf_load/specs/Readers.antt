@@ -1,5 +1,5 @@
 -- The passes by which questions are asked of what the segments' roots have seen.
-use Rattle.std.specs.Prelude.{◌≡◌, ◌<◌, ◌≤◌, ◌*◌, ◌^◌, ℕ, List, length, map, slice_index_or}
+use Rattle.std.specs.Prelude.{◌≡◌, ◌<◌, ◌≤◌, ◌*◌, ◌^◌, ℕ, List, length, slice_index_or}
 use Rattle.std.specs.List.{flat_map, AllZip}
 use denote.Ref.{Bor}
 use Rattle.cf_row.specs.declared.row.Entry.{Entry}
@@ -8,29 +8,10 @@ use Rattle.cf_plain.specs.Asks.{Suits}
 use Rattle.cf_plain.specs.Answered.{answer_on}
 use Rattle.cf_plain.specs.declared.answer.Answer.{Answer}
 use Rattle.cf_plain.specs.declared.ask.Ask.{Ask}
-use Rattle.cf_table.specs.Values.{PassValue, LogValue, IsOf}
-use Rattle.cf_table.specs.Moves.{AreFit}
-use Rattle.cf_load.specs.Segments.{SegmentsValue, all_of, seen_of}
+use Rattle.cf_table.specs.Values.{PassValue, LogValue}
+use Rattle.cf_segments.specs.Readers.{IsReader, Reads}
+use Rattle.cf_segments.specs.Segments.{SegmentsValue, all_of}
 use Rattle.cf_load.specs.declared.finals.Question.{Question}
-use Rattle.cf_load.specs.declared.segments.Segment.{Segment}
-
--- The pass is one of the log's, and can be asked of what it has seen: no more entries than the log has places, all of them lawful.
-pub record IsReader (log : LogValue) (pass : PassValue) : Type 0 where
-  pub of : IsOf pass log
-  pub few : length (pass.view).seen ≤ log.shape.capacity
-  pub fit : AreFit log.shape pass.view
-
--- it reads the segment's log, and has seen what the segment's root has
-pub record Reads (segment : Segment) (pass : PassValue) : Type 0 where
-  pub is : IsReader segment.log pass
-  pub seen : (pass.view).seen ≡ seen_of segment
-
--- the log of a segment, and the one behind a reference
-abbrev pub log_of : Segment → LogValue
-log_of segment = segment.log
-
-abbrev pub behind : Bor LogValue → LogValue
-behind log = log.now
 
 -- the entries that a pass has seen
 abbrev pub seen_by : PassValue → List Entry

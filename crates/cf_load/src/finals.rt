@@ -7,7 +7,7 @@ ghost use Rattle.cf_query.specs.Walking.{AsksOne, AsksBucket};
 ghost use Rattle.cf_load.specs.Costs.{CountLoads, bucket_steps_in, key_steps_in};
 ghost use Rattle.cf_load.specs.Planned.{IsMarks, IsPlan, as_marks, body_of, marks_on};
 ghost use Rattle.cf_load.specs.Readers.{AreReaders, CanBeAsked, IsQuestion, answer_by, seen_by};
-ghost use Rattle.cf_load.specs.Segments.{KeepsAll, entries_of};
+ghost use Rattle.cf_segments.specs.Segments.{KeepsAll, entries_of};
 
 use crate::prior::{find_behind, nothing};
 use crate::{LivePlan, Segments};

@@ -11,15 +11,12 @@ mod loads;
 mod plan;
 mod prior;
 mod reader;
-mod readers;
 mod segment_asks;
-mod segments;
-mod tags;
 #[cfg(test)]
 mod tests;
 mod writers;
 
+pub use cf_segments::{Closing, Sealing, Segments, TurnFault};
 pub use loader::Loader;
 pub use loads::{LoadFault, load};
 pub use plan::LivePlan;
-pub use segments::{Closing, Sealing, Segments, TurnFault};

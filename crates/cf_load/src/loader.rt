@@ -1,7 +1,7 @@
 // A log is loaded batch by batch, as its rows come.
 ghost use Rattle.std.specs.Prelude.{◌≡◌, ◌+◌, ◌<◌, ◌≤◌, ◌%◌, List, [], All, length, IfOk, MatchResult, OnErr, true};
 ghost use Rattle.cf_row.specs.Row.{Fits, RowValue};
-ghost use Rattle.cf_load.specs.Segments.{SegmentsValue, HoldsRows, KeepsAll};
+ghost use Rattle.cf_segments.specs.Segments.{SegmentsValue, HoldsRows, KeepsAll};
 ghost use Rattle.cf_load.specs.Loaders.{IsFresh, IsLoading, IsBatched, IsRefused, IsFinished};
 ghost use Rattle.cf_load.specs.Planned.{IsPlan};
 ghost use Rattle.cf_load.specs.Priors.{KnowsBefore};
@@ -9,6 +9,7 @@ ghost use Rattle.cf_load.specs.Priors.{KnowsBefore};
 use crate::finals::answers_on_all;
 use crate::prior::FoundBefore;
 use crate::reader::Beside;
+use crate::segment_asks::{load_current, make_ready};
 use crate::{LivePlan, LoadFault, Segments};
 use cf_outside::Gate;
 use cf_plain::{Live, Loaded};
@@ -78,7 +79,7 @@ impl Loader {
         if self.count as usize + rows.len() > segments.room() as usize {
             return Err(LoadFault::Full);
         }
-        segments.make_ready(alloc, self.count, &self.plan, &mut self.found)?;
+        make_ready(segments, alloc, self.count, &self.plan, &mut self.found)?;
         let beside = Beside {
             alloc,
             gate,
@@ -86,7 +87,7 @@ impl Loader {
             prior: &self.found,
             batch: self.count / 4096,
         };
-        let mut more = segments.load(rt, rows, &beside)?;
+        let mut more = load_current(rt, segments, rows, &beside)?;
         self.lives.append(&mut more)?;
         self.count += rows.len() as u32;
         Ok(())

@@ -3,8 +3,8 @@ ghost use Rattle.std.specs.Prelude.{◌≡◌, ◌≤◌, ◌++◌, [], All, len
 ghost use Rattle.cf_row.specs.Row.{Fits};
 ghost use Rattle.cf_load.specs.Loaders.{IsLoading};
 ghost use Rattle.cf_load.specs.Planned.{IsPlan, tails_of};
-ghost use Rattle.cf_load.specs.Loads.{HasSome, Loads, room_of};
-ghost use Rattle.cf_load.specs.Segments.{SegmentsGoOn, HoldsRows, told_of};
+ghost use Rattle.cf_load.specs.Loads.{HasSome, Loads};
+ghost use Rattle.cf_segments.specs.Segments.{SegmentsGoOn, HoldsRows, room_of, told_of};
 ghost use Rattle.cf_load.specs.declared.loads.LoadFault.TheVariants.{Memory as NoMemory};
 
 use crate::{LivePlan, Loader, Segments};

@@ -14,15 +14,15 @@ ghost use Rattle.cf_query.specs.Walking.{AsksOne, AsksBucket};
 ghost use Rattle.cf_load.specs.Costs.{bucket_steps, key_steps};
 ghost use Rattle.cf_load.specs.Planned.{IsPlan, findings_on};
 ghost use Rattle.cf_load.specs.Priors.{HasFound, IsFoundBefore, entries_before};
-ghost use Rattle.cf_load.specs.Readers.{IsReader};
-ghost use Rattle.cf_load.specs.Segments.{Keeps};
+ghost use Rattle.cf_segments.specs.Readers.{IsReader};
+ghost use Rattle.cf_segments.specs.Segments.{Keeps};
 
 use crate::LivePlan;
-use crate::segments::Segment;
 use cf_fold::Quad;
 use cf_plain::{Answer, Ask, Finding, Groups, Places};
 use cf_query::{finding_seen, tail};
 use cf_row::Memory;
+use cf_segments::Segment;
 use cf_shape::Shape;
 use cf_table::{MultiLog, Pass, Root, Steps};
 use std::alloc::Global;

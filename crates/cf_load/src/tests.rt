@@ -4,12 +4,12 @@ ghost use Rattle.cf_table.specs.Values.{IsOf};
 ghost use Rattle.cf_law.specs.Readers.{AtHome};
 ghost use Rattle.cf_law.specs.Shapes.{layout};
 ghost use Rattle.cf_table.specs.Moves.{AreAll};
-ghost use Rattle.cf_load.specs.Segments.{AllowsSegments, HoldsRows};
+ghost use Rattle.cf_segments.specs.Segments.{AllowsSegments, HoldsRows};
 ghost use Rattle.cf_load.specs.Writing.{IsReady};
 
 use crate::gates::{NoteGate, SecondGate};
 use crate::writers::run_writers;
-use crate::{Closing, LivePlan, LoadFault, Loader, Segments, TurnFault, load};
+use crate::{Closing, LivePlan, LoadFault, Loader, Segments, load};
 use cf_fold::{Part, Trigger};
 use cf_outside::{FreeGate, Gate, Held};
 use cf_plain::{Answer, Ask, Body, Fired, Loaded};
@@ -246,28 +246,6 @@ fn open_segments<R: Abort>(rt: &R, alloc: Global, sizes: Sizes) -> Result<Segmen
     let shape = shape(rt, alloc, sizes.capacity, sizes.writers, sizes.nodes)?;
     assert!(rt; allows(&shape, sizes.most));
     Ok(Segments::open(alloc, shape, sizes.most)?)
-}
-
-#[test]
-fn segments_turn_until_they_are_spent(rt: HostRuntime) -> Result<(), Fail> {
-    let alloc = rt.alloc();
-    for (capacity, most) in [(1, 1), (4096, 1), (4096, 2), (4096, 256)] {
-        let sizes = Sizes {
-            most,
-            capacity,
-            writers: 1,
-            nodes: 30,
-        };
-        let mut segments = open_segments(&rt, alloc, sizes)?;
-        for _ in 1..most {
-            assert!(rt; segments.turn(alloc).is_ok());
-        }
-        assert_eq!(rt; segments.turn(alloc), Err(TurnFault::Spent));
-        let closing = segments.close(alloc).ok().expect(&rt, "memory");
-        assert_eq!(rt; closing.entries.len(), 0);
-        assert_eq!(rt; closing.seals.len(), most as usize);
-    }
-    Ok(())
 }
 
 // The rows are loaded, beside a reader.

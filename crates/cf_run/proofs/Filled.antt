@@ -14,16 +14,15 @@ use Rattle.cf_table.specs.Moves.{SealValue}
 use Rattle.cf_history.specs.Order.{IsLogOf}
 use Rattle.cf_load.specs.Loaders.{LoaderValue, IsFresh, IsLoading, IsBatched, IsRefused, IsFinished}
 use Rattle.cf_load.specs.Loading.{HasAnswered}
-use Rattle.cf_load.specs.Loads.{room_of}
+use Rattle.cf_segments.specs.Segments.{SegmentsValue, SegmentsGoOn, HoldsRows, KeepsSegment, all_of, entries_of, room_of, sealed, told_of}
 use Rattle.cf_load.specs.Planned.{tails_of, marks_on}
-use Rattle.cf_load.specs.Segments.{SegmentsValue, SegmentsGoOn, HoldsRows, KeepsSegment, all_of, entries_of, sealed, told_of}
 use Rattle.cf_load.specs.declared.plan.LivePlan.{LivePlan}
-use Rattle.cf_load.specs.declared.segments.Sealing.{Sealing}
+use Rattle.cf_segments.specs.declared.segments.Sealing.{Sealing}
 use Rattle.cf_load.specs.declared.loads.LoadFault.{LoadFault}
 use Rattle.cf_load.specs.declared.loads.LoadFault.TheVariants.{Full, NodesFull}
-use Rattle.cf_load.proofs.Batches.{zip_long}
-use Rattle.cf_load.proofs.Chains.{rows_are_log}
-use Rattle.cf_load.proofs.Kept.{kept_base, kept_shape}
+use Rattle.cf_segments.proofs.Zips.{zip_long}
+use Rattle.cf_segments.proofs.Chains.{rows_are_log}
+use Rattle.cf_segments.proofs.Kept.{kept_base, kept_shape}
 use Rattle.cf_load.proofs.Loaders.{refused_goes}
 use Rattle.cf_load.proofs.Loading.{told_more}
 use Rattle.cf_command.specs.declared.words.LogSizes.{LogSizes}

@@ -29,9 +29,9 @@ use Rattle.cf_report.proofs.Reported.{final_is}
 use Rattle.cf_table.specs.Moves.{SealValue}
 use Rattle.cf_load.specs.Loading.{HasAnswered}
 use Rattle.cf_load.specs.Planned.{IsPlan, marks_on, tails_of}
-use Rattle.cf_load.specs.Segments.{AllowsSegments}
+use Rattle.cf_segments.specs.Segments.{AllowsSegments}
 use Rattle.cf_load.specs.declared.plan.LivePlan.{LivePlan}
-use Rattle.cf_load.specs.declared.segments.Sealing.{Sealing}
+use Rattle.cf_segments.specs.declared.segments.Sealing.{Sealing}
 use Rattle.cf_command.specs.Call.{AreSizes}
 use Rattle.cf_command.specs.declared.words.LogSizes.{LogSizes}
 use Rattle.cf_run.specs.Logs.{IsPlanOf, IsLogClosed, IsLogSealed, IsTagged}

@@ -14,12 +14,12 @@ use Rattle.cf_row.specs.declared.row.Entry.{Entry}
 use Rattle.cf_shape.specs.Lanes.{ShapeValue}
 use Rattle.cf_shape.specs.Nodes.{distinct}
 use Rattle.cf_table.specs.Moves.{SealValue}
-use Rattle.cf_load.specs.Blocks.{block}
-use Rattle.cf_load.specs.Segments.{SegmentsValue, HoldsRows, all_of, base_of, entries_of, seen_of, sealed, told_from, told_of}
-use Rattle.cf_load.specs.declared.segments.Segment.{Segment}
-use Rattle.cf_load.proofs.Blocks.{blocks_one, first_block, next_block, whole_block}
+use Rattle.cf_segments.specs.Blocks.{block}
+use Rattle.cf_segments.specs.Segments.{SegmentsValue, HoldsRows, all_of, base_of, entries_of, seen_of, sealed, told_from, told_of}
+use Rattle.cf_segments.specs.declared.segments.Segment.{Segment}
+use Rattle.cf_segments.proofs.Blocks.{blocks_one, first_block, next_block, whole_block}
 use Rattle.cf_load.proofs.Loaders.{entries_long}
-use Rattle.cf_load.proofs.Pigeons.{from_map}
+use Rattle.cf_segments.proofs.Pigeons.{from_map}
 use Rattle.cf_run.specs.Needs.{NeedsAtMost, NeedsMore}
 use Rattle.cf_run.specs.Seals.{AreSeals, told_in}
 

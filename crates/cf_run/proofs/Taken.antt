@@ -8,8 +8,8 @@ use Rattle.std.proofs.lemmas.List.Elements.{All-append, All-drop, All-take}
 use Rattle.cf_row.specs.Row.{RowValue, Fits}
 use Rattle.cf_shape.specs.Lanes.{ShapeValue}
 use Rattle.cf_load.specs.Loaders.{LoaderValue}
-use Rattle.cf_load.specs.Loads.{LacksNodes, room_of}
-use Rattle.cf_load.specs.Segments.{SegmentsValue, AllowsSegments}
+use Rattle.cf_load.specs.Loads.{LacksNodes}
+use Rattle.cf_segments.specs.Segments.{SegmentsValue, AllowsSegments, room_of}
 use Rattle.cf_load.proofs.Loaders.{lacks_more}
 use Rattle.cf_run.specs.Filling.{FillingValue, IsLoadedSo, AreLoaded, HasBatch, HasRows, IsFilled, IsWaiting, LoadsWaiting, LoadsWhole}
 use Rattle.cf_run.proofs.Filled.{fit_after, loaded_of}

@@ -1,9 +1,9 @@
 -- A log that rows fill as they come.
 use Rattle.std.specs.Prelude.{◌≡◌, ◌⊎◌, ℕ, ◌+◌, ◌<◌, ◌≤◌, ◌%◌, min, true, false, List, [], ◌++◌, length, take, All}
 use Rattle.cf_row.specs.Row.{RowValue, Fits}
-use Rattle.cf_load.specs.Segments.{SegmentsValue, AllowsSegments, base_of, told_of}
+use Rattle.cf_segments.specs.Segments.{SegmentsValue, AllowsSegments, base_of, room_of, told_of}
 use Rattle.cf_load.specs.Loaders.{LoaderValue, IsLoading}
-use Rattle.cf_load.specs.Loads.{LacksNodes, room_of}
+use Rattle.cf_load.specs.Loads.{LacksNodes}
 use Rattle.cf_load.specs.Planned.{tails_of}
 use Rattle.cf_command.specs.Call.{AreSizes}
 use Rattle.cf_command.specs.declared.words.LogSizes.{LogSizes}

@@ -3,7 +3,7 @@ use Rattle.std.specs.Prelude.{ℕ, ◌<◌, ◌≤◌, List, All, Any}
 use Rattle.cf_row.specs.Row.{RowValue}
 use Rattle.cf_shape.specs.Lanes.{ShapeValue}
 use Rattle.cf_shape.specs.Nodes.{distinct}
-use Rattle.cf_load.specs.Blocks.{blocks}
+use Rattle.cf_segments.specs.Blocks.{blocks}
 
 -- the paths of each block need no more different nodes than that
 abbrev pub NeedsAtMost : ShapeValue → ℕ → List RowValue → Type 0

@@ -9,9 +9,9 @@ use Rattle.cf_report.specs.Meaning.{IsReport, AreMeant, final_text}
 use Rattle.cf_report.specs.declared.text.Form.{Form}
 use Rattle.cf_report.specs.declared.text.Form.TheVariants.{Whole, Final}
 use Rattle.cf_table.specs.Moves.{SealValue}
-use Rattle.cf_load.specs.Blocks.{block}
+use Rattle.cf_segments.specs.Blocks.{block}
 use Rattle.cf_load.specs.Planned.{tails_of}
-use Rattle.cf_load.specs.Segments.{laid_end_to_end}
+use Rattle.cf_segments.specs.Segments.{laid_end_to_end}
 use Rattle.cf_run.specs.Needs.{NeedsAtMost}
 
 -- the tails that the roots of segments were told of, end to end, by their seals

@@ -1,9 +1,8 @@
 // A log that rows fill as they come.
 ghost use Rattle.std.specs.Prelude.{◌≡◌, ◌⊎◌, ◌<◌, ◌≤◌, ◌+◌, ◌%◌, ◌++◌, List, [], All, length, min, true, false, IfOk, IsTrue, MatchResult, OnOk};
 ghost use Rattle.cf_row.specs.Row.{Fits, RowValue};
-ghost use Rattle.cf_load.specs.Loads.{room_of};
+ghost use Rattle.cf_segments.specs.Segments.{AllowsSegments, room_of};
 ghost use Rattle.cf_load.specs.Planned.{IsPlan, IsSamePlan};
-ghost use Rattle.cf_load.specs.Segments.{AllowsSegments};
 ghost use Rattle.cf_run.specs.Filling.{AreLoaded, Fills, HasBatch, HasRows, IsFilled, IsFilling, IsWaiting, KeepsLog, LoadsWaiting, LoadsWhole};
 ghost use Rattle.cf_run.specs.Logs.{IsLogSealed, IsUnmade};
 

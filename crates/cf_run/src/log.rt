@@ -2,7 +2,7 @@
 ghost use Rattle.std.specs.Prelude.{◌≡◌, ◌≤◌, ℕ, List, [], IfOk, MatchResult};
 ghost use Rattle.cf_row.specs.Row.{RowValue};
 ghost use Rattle.cf_setup.specs.Setups.{IsSetup, SetupValue, shaped};
-ghost use Rattle.cf_load.specs.Loads.{room_of};
+ghost use Rattle.cf_segments.specs.Segments.{room_of};
 ghost use Rattle.cf_command.specs.Call.{AreSizes};
 ghost use Rattle.cf_command.specs.declared.words.LogSizes.{LogSizes};
 ghost use Rattle.cf_run.specs.Filling.{IsFilledFor, IsFilling, IsFillingFor};

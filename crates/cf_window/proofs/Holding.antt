@@ -8,8 +8,8 @@ use Rattle.cf_lemmas.proofs.Lists.{get_push_same}
 use Rattle.cf_row.specs.Row.{RowValue}
 use Rattle.cf_shape.specs.Lanes.{ShapeValue, IsShape, selected_by, key_of}
 use Rattle.cf_shape.specs.Nodes.{Node, levels_of, path_of, nodes_in, nodes_for, add_node, distinct}
-use Rattle.cf_load.proofs.Nodes.{fold_apart, fold_from, nothing_apart}
-use Rattle.cf_load.proofs.Pigeons.{no_more}
+use Rattle.cf_segments.proofs.Nodes.{fold_apart, fold_from, nothing_apart}
+use Rattle.cf_segments.proofs.Pigeons.{no_more}
 use Rattle.cf_window.specs.Segments.{SegmentValue, with_row}
 use Rattle.cf_window.specs.Held.{IsOfShape, IsOpenLast, IsWindow}
 use Rattle.cf_window.specs.Windows.{takes}

@@ -22,9 +22,9 @@ use Rattle.cf_append.specs.declared.appends.AppendFault.{AppendFault}
 use Rattle.cf_append.specs.declared.appends.AppendFault.TheVariants.{Full, NodesFull}
 use Rattle.cf_append.specs.Paths.{IsOnPath}
 use Rattle.cf_plain.specs.Asks.{rows_in}
-use Rattle.cf_load.specs.Needed.{IsNeeded, IsOut, HasNodes}
-use Rattle.cf_load.proofs.Nodes.{too_many, few_enough}
-use Rattle.cf_load.proofs.Pigeons.{in_either, from_map}
+use Rattle.cf_segments.specs.Needed.{IsNeeded, IsOut, HasNodes}
+use Rattle.cf_segments.proofs.Nodes.{too_many, few_enough}
+use Rattle.cf_segments.proofs.Pigeons.{in_either, from_map}
 use Rattle.cf_snapshot.specs.Hosts.{IsAlone, HasCovered, HasUsedFor}
 use Rattle.std.specs.declared.alloc.AllocError.{AllocError}
 use Rattle.cf_plain.specs.Segments.{finding_in}

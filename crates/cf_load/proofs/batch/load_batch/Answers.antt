@@ -5,14 +5,17 @@ use Rattle.std.specs.List.{AllZip}
 use Rattle.cf_row.specs.Row.{RowValue}
 use Rattle.cf_table.specs.Moves.{AreAll, HasGathered}
 use Rattle.cf_row.specs.declared.row.Entry.{Entry}
-use Rattle.cf_load.specs.Loading.{AsksBatch, HasLoaded, HasStopped, IsShort}
+use Rattle.cf_load.specs.Loading.{AsksBatch, HasStopped, IsShort}
+use Rattle.cf_segments.specs.Loaded.{HasLoaded}
 use Rattle.cf_load.specs.Priors.{entries_before}
 use Rattle.cf_load.proofs.Findings.{begins_behind}
 use Rattle.cf_law.specs.Passes.{Pass}
 use Rattle.cf_load.specs.Planned.{tails_of}
 use Rattle.cf_load.specs.Writing.{RanOut, Wrote}
-use Rattle.cf_load.proofs.Batches.{ready_passes, homeward, batch_out, root_away, zip_long}
-use Rattle.cf_load.proofs.Beside.{written_back, outcome_by, ok_answers, batch_home, batch_told, out_home}
+use Rattle.cf_load.proofs.Batches.{ready_passes, homeward, batch_out, root_away}
+use Rattle.cf_segments.proofs.Zips.{zip_long}
+use Rattle.cf_segments.proofs.Changing.{written_back}
+use Rattle.cf_load.proofs.Beside.{outcome_by, ok_answers, batch_home, batch_told, out_home}
 use Rattle.cf_load.proofs.batch.load_batch.Given.{Over}
 use Rattle.cf_load.proofs.batch.load_batch.Goals as goal
 

@@ -10,9 +10,9 @@ use Rattle.cf_plain.specs.declared.answer.Answer.{Answer}
 use Rattle.cf_plain.specs.declared.ask.Ask.{Ask}
 use Rattle.cf_plain.specs.declared.ask.Ask.TheVariants.{Fired}
 use Rattle.cf_load.specs.Planned.{body_of, marks_on}
-use Rattle.cf_load.specs.Segments.{entries_of}
+use Rattle.cf_segments.specs.Segments.{entries_of}
 use Rattle.cf_load.proofs.Asking.{are_marks, marks_same, marks_told}
-use Rattle.cf_load.proofs.Kept.{all_none}
+use Rattle.cf_segments.proofs.Kept.{all_none}
 use Rattle.cf_load.proofs.finals.answers_on_all.Goals as goal
 
 -- what each trigger asks

@@ -7,9 +7,9 @@ use Rattle.cf_plain.specs.Asks.{Suits}
 use Rattle.cf_plain.specs.Answered.{answer_on}
 use Rattle.cf_plain.specs.declared.ask.Ask.{Ask}
 use Rattle.cf_load.specs.Readers.{CanBeAsked}
-use Rattle.cf_load.specs.Segments.{SegmentsValue, entries_of}
+use Rattle.cf_segments.specs.Segments.{SegmentsValue, entries_of}
 use Rattle.cf_load.proofs.Asking.{all_answers, can_ask, questions_after}
-use Rattle.cf_load.proofs.Kept.{kept_entries, kept_shape}
+use Rattle.cf_segments.proofs.Kept.{kept_entries, kept_shape}
 use Rattle.cf_load.proofs.finals.answers_to.Goals as goal
 
 pub ask_each-requires : goal.ask_each-requires

@@ -8,9 +8,10 @@ use Rattle.cf_table.specs.Values.{LogValue, PassValue}
 use Rattle.cf_walk.specs.Walks.{OnlyWalked}
 use Rattle.cf_load.specs.Costs.{bucket_steps, key_steps}
 use Rattle.cf_load.specs.Priors.{HasFound}
-use Rattle.cf_load.specs.Readers.{IsReader, seen_by}
+use Rattle.cf_segments.specs.Readers.{IsReader}
+use Rattle.cf_load.specs.Readers.{seen_by}
 use Rattle.cf_load.proofs.Costs.{costs_more, loads_more}
-use Rattle.cf_load.proofs.Changing.{changed_at, changed_long, changed_more}
+use Rattle.cf_segments.proofs.Changing.{changed_at, changed_long, changed_more}
 use Rattle.cf_load.proofs.finals.ask_all.Goals as goal
 
 pub find_behind-requires-clause-reader : goal.find_behind-requires-clause-reader

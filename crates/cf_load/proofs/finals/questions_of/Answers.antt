@@ -1,11 +1,11 @@
 use Rattle.std.proofs.Common.{◌≡◌, ◌++◌, ◌∷◌, [], List, refl, sym, subst}
 use Rattle.std.specs.List.{AllZip}
 use Rattle.cf_load.specs.Readers.{IsQuestion}
-use Rattle.cf_load.specs.Segments.{SegmentsValue, all_of}
+use Rattle.cf_segments.specs.Segments.{SegmentsValue, all_of}
 use Rattle.cf_load.specs.declared.finals.Question.{Question}
 use Rattle.cf_load.proofs.Asking.{all_before}
-use Rattle.cf_load.proofs.Kept.{all_none, all_then, kept_each}
-use Rattle.cf_load.proofs.Progress.{zip_append}
+use Rattle.cf_segments.proofs.Kept.{all_none, all_then, kept_each}
+use Rattle.cf_segments.proofs.Zips.{zip_append}
 use Rattle.cf_load.proofs.finals.questions_of.Goals as goal
 
 pub returns-in_err-questions-clause-keeps : goal.returns-in_err-questions-clause-keeps

@@ -1,6 +1,6 @@
 use Rattle.std.specs.List.{AllZip}
 use Rattle.cf_load.specs.Readers.{IsQuestion}
-use Rattle.cf_load.specs.Segments.{KeepsAll}
+use Rattle.cf_segments.specs.Segments.{KeepsAll}
 use Rattle.cf_load.proofs.finals.questions_of.Given as goal
 
 abbrev pub invariant-loop-ask : goal.invariant-loop-ask

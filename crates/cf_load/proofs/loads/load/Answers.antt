@@ -1,10 +1,9 @@
 use Rattle.std.proofs.Common.{◌≡◌, ◌≤◌, Err, length, sym, subst, arith, rules}
 use Rattle.std.proofs.Math.Seq.{take-length}
-use Rattle.cf_load.specs.Loads.{room_of}
+use Rattle.cf_segments.specs.Segments.{HoldsRows, room_of}
 use Rattle.cf_load.specs.Planned.{IsSamePlan}
-use Rattle.cf_load.specs.Segments.{HoldsRows}
 use Rattle.cf_load.specs.declared.loads.LoadFault.TheVariants.{Memory}
-use Rattle.cf_load.proofs.Kept.{goes_none, goes_then, kept_goes}
+use Rattle.cf_segments.proofs.Kept.{goes_none, goes_then, kept_goes}
 use Rattle.cf_load.proofs.Loaders.{loads}
 use Rattle.cf_load.proofs.loads.load.Goals as goal
 

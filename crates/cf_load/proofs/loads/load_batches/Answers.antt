@@ -1,11 +1,10 @@
 use Rattle.std.proofs.Common.{rules, arith, ◌≡◌, ◌<◌, ◌≤◌, ◌+◌, ◌-◌, ◌*◌, ◌++◌, List, Err, length, take, drop, refl, sym, ap, subst, ◌∙◌, append-nil}
 use Rattle.cf_row.specs.Row.{RowValue}
 use Rattle.cf_plain.specs.declared.loaded.Live.{Live}
-use Rattle.cf_load.specs.Loads.{room_of}
+use Rattle.cf_segments.specs.Segments.{room_of, told_of}
 use Rattle.cf_load.specs.Loaders.{LoaderValue, IsLoading, IsBatched}
 use Rattle.cf_load.specs.Planned.{tails_of}
-use Rattle.cf_load.specs.Segments.{told_of}
-use Rattle.cf_load.proofs.Kept.{goes_none, goes_then}
+use Rattle.cf_segments.proofs.Kept.{goes_none, goes_then}
 use Rattle.cf_load.proofs.Loading.{told_more}
 use Rattle.cf_load.proofs.Loaders.{part_is, more_of, refused_goes, same_room, some_of}
 use Rattle.cf_load.proofs.loads.load_batches.Goals as goal

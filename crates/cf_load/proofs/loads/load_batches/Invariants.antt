@@ -1,7 +1,7 @@
 use Rattle.std.proofs.Common.{◌≡◌, ◌*◌, ◌++◌, take}
 use Rattle.cf_load.specs.Loaders.{IsLoading}
 use Rattle.cf_load.specs.Planned.{tails_of}
-use Rattle.cf_load.specs.Segments.{SegmentsGoOn, told_of}
+use Rattle.cf_segments.specs.Segments.{SegmentsGoOn, told_of}
 use Rattle.cf_load.proofs.loads.load_batches.Given as goal
 
 abbrev pub invariant-loop-number : goal.invariant-loop-number

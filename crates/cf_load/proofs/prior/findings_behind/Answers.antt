@@ -8,10 +8,10 @@ use Rattle.cf_plain.specs.declared.ask.Ask.{Ask}
 use Rattle.cf_plain.specs.declared.finding.Finding.{Finding}
 use Rattle.cf_query.proofs.Walking.{walked_seen}
 use Rattle.cf_load.specs.Priors.{HasFound, entries_before}
-use Rattle.cf_load.specs.Readers.{IsReader}
-use Rattle.cf_load.specs.Segments.{Keeps}
-use Rattle.cf_load.proofs.Keeping.{keeps_asked, keeps_none, keeps_then, keeps_walked}
-use Rattle.cf_load.proofs.Keeping.{made_more}
+use Rattle.cf_segments.specs.Readers.{IsReader}
+use Rattle.cf_segments.specs.Segments.{Keeps}
+use Rattle.cf_segments.proofs.Keeping.{keeps_asked, keeps_none, keeps_then, keeps_walked}
+use Rattle.cf_load.proofs.Findings.{made_more}
 use Rattle.cf_load.proofs.Reading.{get_there}
 use Rattle.cf_load.proofs.Asking.{reader_walked}
 use Rattle.cf_load.proofs.prior.findings_behind.Goals as goal

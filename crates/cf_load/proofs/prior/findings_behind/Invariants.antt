@@ -3,8 +3,8 @@ use Rattle.cf_plain.specs.Answered.{no_ask}
 use Rattle.cf_plain.specs.Asks.{rows_in}
 use Rattle.cf_plain.specs.Segments.{finding_in}
 use Rattle.cf_load.specs.Priors.{entries_before}
-use Rattle.cf_load.specs.Readers.{IsReader}
-use Rattle.cf_load.specs.Segments.{Keeps}
+use Rattle.cf_segments.specs.Readers.{IsReader}
+use Rattle.cf_segments.specs.Segments.{Keeps}
 use Rattle.cf_load.proofs.prior.findings_behind.Given as goal
 
 abbrev pub invariant-loop-turn : goal.invariant-loop-turn

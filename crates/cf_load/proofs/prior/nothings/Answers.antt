@@ -3,7 +3,7 @@ use Rattle.cf_plain.specs.Answered.{no_ask}
 use Rattle.cf_plain.specs.Asks.{rows_in}
 use Rattle.cf_plain.specs.Segments.{finding_in}
 use Rattle.cf_plain.specs.declared.ask.Ask.{Ask}
-use Rattle.cf_load.proofs.Keeping.{made_more}
+use Rattle.cf_load.proofs.Findings.{made_more}
 use Rattle.cf_load.proofs.Reading.{ask_found}
 use Rattle.cf_load.proofs.prior.nothings.Goals as goal
 

@@ -1,6 +1,7 @@
 use Rattle.std.proofs.Common.{[], ap, sym, rules}
 use Rattle.cf_table.specs.Values.{PassValue, IsOf}
-use Rattle.cf_load.proofs.Batches.{opened, ready_passes}
+use Rattle.cf_segments.proofs.Loaded.{opened}
+use Rattle.cf_load.proofs.Batches.{ready_passes}
 use Rattle.cf_load.proofs.tests.cover.Goals as goal
 
 pub run_home-covered-requires-clause-ready : goal.run_home-covered-requires-clause-ready

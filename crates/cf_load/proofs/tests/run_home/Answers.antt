@@ -1,6 +1,6 @@
 use Rattle.std.proofs.Common.{◌≡◌, is_none, length, rules}
 use Rattle.cf_load.proofs.Batches.{homeward}
-use Rattle.cf_load.proofs.Beside.{written_back}
+use Rattle.cf_segments.proofs.Changing.{written_back}
 use Rattle.cf_load.proofs.tests.run_home.Goals as goal
 
 pub gather-requires-clause-all : goal.gather-requires-clause-all

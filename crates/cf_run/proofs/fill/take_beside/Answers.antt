@@ -2,7 +2,7 @@ use Rattle.std.proofs.Common.{rules, ◌+◌, ◌<◌, length, IfOk}
 use Rattle.std.proofs.lemmas.Result.{IfOk-weaker}
 use denote.Param.Send.{IsSend, param_send, sendable}
 use Rattle.std.proofs.Crossing.{crosses}
-use Rattle.cf_load.proofs.segments.Segments.TheSendSync.{the_send as segments_send}
+use Rattle.cf_segments.proofs.segments.Segments.TheSendSync.{the_send as segments_send}
 use Rattle.cf_load.specs.contracts.loader.Loader as loader
 use Rattle.cf_row.specs.contracts.row.Row as row
 use Rattle.cf_run.specs.contracts.filling.Filling as filling

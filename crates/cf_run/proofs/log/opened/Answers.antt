@@ -1,7 +1,7 @@
 use Rattle.std.proofs.Common.{sym, subst}
 use Rattle.cf_shape.specs.Lanes.{ShapeValue}
 use Rattle.cf_load.specs.Planned.{IsPlan}
-use Rattle.cf_load.specs.Segments.{AllowsSegments}
+use Rattle.cf_segments.specs.Segments.{AllowsSegments}
 use Rattle.cf_run.proofs.Logs.{plan_suits, segments_allowed}
 use Rattle.cf_run.proofs.log.opened.Goals as goal
 

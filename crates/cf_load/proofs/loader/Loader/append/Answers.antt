@@ -3,13 +3,12 @@ use Rattle.cf_row.specs.declared.row.Entry.{Entry}
 use Rattle.cf_shape.specs.Lanes.{ShapeValue}
 use Rattle.cf_plain.specs.declared.loaded.Live.{Live}
 use Rattle.cf_load.specs.Loading.{AsksBeside}
-use Rattle.cf_load.specs.Loads.{room_of}
+use Rattle.cf_segments.specs.Segments.{SegmentsValue, HoldsRows, entries_of, room_of, told_of}
 use Rattle.cf_load.specs.Loaders.{LoaderValue, IsLoading, IsBatched}
 use Rattle.cf_load.specs.Planned.{tails_of}
 use Rattle.cf_load.specs.Priors.{KnowsBefore}
-use Rattle.cf_load.specs.Segments.{SegmentsValue, HoldsRows, entries_of, told_of}
 use Rattle.cf_load.specs.declared.loads.LoadFault.TheVariants.{Memory}
-use Rattle.cf_load.proofs.Kept.{goes_then}
+use Rattle.cf_segments.proofs.Kept.{goes_then}
 use Rattle.cf_load.proofs.Loaders.{batch_room, goes_on, refused, same_room}
 use Rattle.cf_load.proofs.loader.Loader.append.Goals as goal
 
@@ -18,11 +17,11 @@ make_ready-requires-clause-known g c =
     let s : SegmentsValue = c.args.segments.now in
     subst (λ (l : LoaderValue). KnowsBefore s l.plan l.found) (sym c.self.view_is) c.requires.loading.1.known
 
-pub load-requires-clause-room : goal.load-requires-clause-room
-load-requires-clause-room g c κs within =
+pub load_current-requires-clause-room : goal.load_current-requires-clause-room
+load_current-requires-clause-room g c κs within =
     let inside = c.self.inside in
     let s : SegmentsValue = c.args.segments.now in
-    let u : SegmentsValue = c.make_ready.new.self in
+    let u : SegmentsValue = c.make_ready.new.segments in
     let had = c.requires.loading in
     let start : inside.count ≡ length had.0 = ap (λ (l : LoaderValue). l.count) c.self.view_is ∙ had.1.count in
     let whole : inside.count % 4096 ≡ 0 = subst (λ (l : LoaderValue). l.count % 4096 ≡ 0) (sym c.self.view_is) c.requires.whole in
@@ -38,8 +37,8 @@ pub returns-in_err-more-clause-batched : goal.returns-in_err-more-clause-batched
 returns-in_err-more-clause-batched g c before is =
     let inside = c.self.inside in
     let s : SegmentsValue = c.args.segments.now in
-    let u : SegmentsValue = c.make_ready.new.self in
-    let t : SegmentsValue = c.load.new.self in
+    let u : SegmentsValue = c.make_ready.new.segments in
+    let t : SegmentsValue = c.load_current.new.segments in
     let rows = c.args.rows.now in
     let start : inside.count ≡ length before = ap (λ (l : LoaderValue). l.count) c.self.view_is ∙ is.count in
     let whole : inside.count % 4096 ≡ 0 = subst (λ (l : LoaderValue). l.count % 4096 ≡ 0) (sym c.self.view_is) c.requires.whole in
@@ -56,8 +55,8 @@ pub returns-in_err-append-clause-batched : goal.returns-in_err-append-clause-bat
 returns-in_err-append-clause-batched g c before is =
     let inside = c.self.inside in
     let s : SegmentsValue = c.args.segments.now in
-    let u : SegmentsValue = c.make_ready.new.self in
-    let t : SegmentsValue = c.load.new.self in
+    let u : SegmentsValue = c.make_ready.new.segments in
+    let t : SegmentsValue = c.load_current.new.segments in
     let rows = c.args.rows.now in
     let start : inside.count ≡ length before = ap (λ (l : LoaderValue). l.count) c.self.view_is ∙ is.count in
     let whole : inside.count % 4096 ≡ 0 = subst (λ (l : LoaderValue). l.count % 4096 ≡ 0) (sym c.self.view_is) c.requires.whole in
@@ -74,8 +73,8 @@ pub returns-clause-batched : goal.returns-clause-batched
 returns-clause-batched g c before is =
     let inside = c.self.inside in
     let s : SegmentsValue = c.args.segments.now in
-    let u : SegmentsValue = c.make_ready.new.self in
-    let t : SegmentsValue = c.load.new.self in
+    let u : SegmentsValue = c.make_ready.new.segments in
+    let t : SegmentsValue = c.load_current.new.segments in
     let rows = c.args.rows.now in
     let more = c.in_ok-more.more.items in
     let b = inside.count / 4096 in

@@ -1,5 +1,5 @@
 use Rattle.std.proofs.Common.{MatchResult, sym, subst}
-use Rattle.cf_load.specs.Segments.{HoldsRows, KeepsAll}
+use Rattle.cf_segments.specs.Segments.{HoldsRows, KeepsAll}
 use Rattle.cf_load.specs.Loaders.{LoaderValue, IsLoading, IsFinished}
 use Rattle.cf_load.proofs.Loaders.{finishes_if}
 use Rattle.cf_load.proofs.loader.Loader.finish.Goals as goal

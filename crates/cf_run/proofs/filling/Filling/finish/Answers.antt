@@ -1,7 +1,7 @@
 use Rattle.std.proofs.Common.{rules, ◌≡◌, false, true, refl, sym, ap, subst, ◌∙◌}
 use Rattle.std.proofs.lemmas.Result.{err_from_is_err_and}
 use Rattle.cf_shape.specs.Lanes.{ShapeValue}
-use Rattle.cf_load.specs.Segments.{entries_of}
+use Rattle.cf_segments.specs.Segments.{entries_of}
 use Rattle.cf_run.specs.Filling.{AreLoaded, FillingValue}
 use Rattle.cf_run.specs.Needs.{NeedsMore}
 use Rattle.cf_run.proofs.Filled.{closed_at, lack_of, loaded_of}

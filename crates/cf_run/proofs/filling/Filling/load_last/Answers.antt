@@ -1,6 +1,6 @@
 use Rattle.std.proofs.Common.{◌≡◌, ◌<◌, ◌≤◌, false, List, length, sym, ap, subst, ◌∙◌}
 use Rattle.std.proofs.lemmas.Result.{IfOk-weaker}
-use Rattle.cf_load.specs.Loads.{room_of}
+use Rattle.cf_segments.specs.Segments.{room_of}
 use Rattle.cf_row.specs.Row.{RowValue}
 use Rattle.cf_run.specs.Filling.{FillingValue, HasBatch, IsFilled, LoadsWaiting}
 use Rattle.cf_run.proofs.Filled.{all_loaded, keeps_all, last_batch, last_loaded}

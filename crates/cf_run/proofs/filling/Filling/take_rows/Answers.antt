@@ -1,7 +1,7 @@
 use Rattle.std.proofs.Common.{rules, ◌≡◌, ◌⊎◌, ◌∙◌, ◌+◌, ◌<◌, ◌≤◌, ◌++◌, true, false, ℕ, List, length, sym, ap, ap₂, subst}
 use Rattle.std.proofs.lemmas.Result.{IfOk-weaker}
 use Rattle.cf_row.specs.Row.{RowValue}
-use Rattle.cf_load.specs.Loads.{room_of}
+use Rattle.cf_segments.specs.Segments.{room_of}
 use Rattle.cf_run.specs.Filling.{FillingValue, IsFilled, IsWaiting}
 use Rattle.cf_run.proofs.Taken.{all_wait, counted_as, pass_on}
 use Rattle.cf_run.proofs.filling.Filling.take_rows.Goals as goal

@@ -1,0 +1,12 @@
+pub mod Zips
+pub mod Pigeons
+pub mod Nodes
+pub mod Alls
+pub mod Parts
+pub mod Loaded
+pub mod Keeping
+pub mod Blocks
+pub mod Chains
+pub mod Changing
+pub mod Kept
+pub mod Tagging
