@@ -35,7 +35,7 @@ zip_append R (x ∷ xs) more [] others first second = absurd first
 zip_append R (x ∷ xs) more (y ∷ ys) others first second = (first.0, zip_append R xs more ys others first.1 second)
 
 -- what stands at one place of both
-zip_get : {A B : Type 0} (R : A → B → Type 0) (xs : List A) (ys : List B) (k : ℕ) (d : A) (e : B) → AllZip R xs ys → k < length ys
+pub zip_get : {A B : Type 0} (R : A → B → Type 0) (xs : List A) (ys : List B) (k : ℕ) (d : A) (e : B) → AllZip R xs ys → k < length ys
     → R (get_or xs k d) (get_or ys k e)
 zip_get R [] [] k d e all lt = absurd (omega (arith, lt))
 zip_get R [] (y ∷ ys) k d e all lt = absurd all
