@@ -1,6 +1,6 @@
-use Rattle.std.proofs.Common.{◌≡◌, ◌∷◌, ◌++◌, [], map, arith, sym, ◌∙◌}
+use Rattle.std.proofs.Common.{arith, ◌∙◌}
 use Rattle.std.proofs.lemmas.List.{map_push}
-use Rattle.cf_segments.specs.Segments.{SegmentsValue, HasLooked, all_of, sealed}
+use Rattle.cf_segments.specs.Segments.{SegmentsValue, HasLooked, sealed}
 use Rattle.cf_segments.proofs.Zips.{zip_long}
 use Rattle.cf_segments.proofs.Chains.{all_sealed}
 use Rattle.cf_segments.proofs.segments.Segments.seal.Goals as goal

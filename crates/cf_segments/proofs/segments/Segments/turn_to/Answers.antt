@@ -1,4 +1,4 @@
-use Rattle.std.proofs.Common.{◌≡◌, ◌<◌, ◌≤◌, ◌+◌, ◌∷◌, ◌++◌, [], length, ap, sym, subst, vec_capacity}
+use Rattle.std.proofs.Common.{◌<◌, ◌≤◌, ◌+◌, ◌∷◌, ◌++◌, [], length, ap, sym, subst, vec_capacity}
 use Rattle.cf_shape.specs.Lanes.{ShapeValue}
 use Rattle.cf_segments.specs.Segments.{SegmentsValue, segments_of, IsOpened, IsSegments, HasTurned}
 use Rattle.cf_segments.proofs.Chains.{has_turned, turn_lawful}
