@@ -1,8 +1,7 @@
-use Rattle.std.proofs.Common.{◌≡◌, ℕ, IfOk, List, ◌++◌, length, map, take, drop, refl, sym, ap, subst, ◌∙◌, rules}
+use Rattle.std.proofs.Common.{◌≡◌, ℕ, List, ◌++◌, length, map, take, drop, refl, sym, ap, ◌∙◌, rules}
 use Rattle.std.proofs.lemmas.List.{drop_at, length-map, map-append}
 use Rattle.std.proofs.lemmas.List.Elements.{All-append, All-map}
 use Rattle.std.proofs.Math.Seq.{take-append_seam}
-use Rattle.std.specs.List.{All}
 use Rattle.cf_fold.specs.declared.trigger.Trigger.{Trigger}
 use Rattle.cf_plain.specs.Asks.{Suits}
 use Rattle.cf_plain.specs.Answered.{LoadedValue, answer_on}

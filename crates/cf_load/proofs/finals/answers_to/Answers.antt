@@ -1,4 +1,4 @@
-use Rattle.std.proofs.Common.{◌≡◌, ◌<◌, ℕ, IfOk, List, Ok, length, map, sym, ap, ap₂, subst, ◌∙◌, rules}
+use Rattle.std.proofs.Common.{List, map, sym, ap₂, subst, ◌∙◌, rules}
 use Rattle.std.proofs.lemmas.Result.{IfOk-weaker}
 use Rattle.std.specs.List.{All}
 use Rattle.cf_row.specs.declared.row.Entry.{Entry}
@@ -6,8 +6,7 @@ use Rattle.cf_shape.specs.Lanes.{ShapeValue}
 use Rattle.cf_plain.specs.Asks.{Suits}
 use Rattle.cf_plain.specs.Answered.{answer_on}
 use Rattle.cf_plain.specs.declared.ask.Ask.{Ask}
-use Rattle.cf_load.specs.Readers.{CanBeAsked}
-use Rattle.cf_segments.specs.Segments.{SegmentsValue, entries_of}
+use Rattle.cf_segments.specs.Segments.{SegmentsValue}
 use Rattle.cf_load.proofs.Asking.{all_answers, can_ask, questions_after}
 use Rattle.cf_segments.proofs.Kept.{kept_entries, kept_shape}
 use Rattle.cf_load.proofs.finals.answers_to.Goals as goal

@@ -1,4 +1,4 @@
-use Rattle.std.proofs.Common.{◌≡◌, ◌++◌, ◌∷◌, [], List, refl, sym, subst}
+use Rattle.std.proofs.Common.{◌++◌, ◌∷◌, [], List, refl, sym, subst}
 use Rattle.std.specs.List.{AllZip}
 use Rattle.cf_load.specs.Readers.{IsQuestion}
 use Rattle.cf_segments.specs.Segments.{SegmentsValue, all_of}

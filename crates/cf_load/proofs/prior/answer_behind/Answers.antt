@@ -1,4 +1,4 @@
-use Rattle.std.proofs.Common.{◌≡◌, ◌≤◌, ◌+◌, ◌++◌, List, length, ap, subst, ◌∙◌, arith, rules}
+use Rattle.std.proofs.Common.{◌≤◌, ◌+◌, ◌++◌, List, ap, subst, ◌∙◌, arith, rules}
 use Rattle.cf_row.specs.declared.row.Entry.{Entry}
 use Rattle.cf_plain.specs.Answered.{answer_on}
 use Rattle.cf_query.proofs.Walking.{asked_walked, walked_seen}

@@ -1,15 +1,12 @@
-use Rattle.std.proofs.Common.{refl, ◌≡◌, ◌<◌, ◌+◌, ◌++◌, ℕ, List, length, get_or, ap, sym, subst, ◌∙◌, arith, rules}
+use Rattle.std.proofs.Common.{◌≡◌, ◌<◌, ◌++◌, ℕ, List, length, get_or, ap, sym, subst, ◌∙◌, rules}
 use Rattle.std.proofs.lemmas.List.{get_or-map}
 use Rattle.cf_row.specs.declared.row.Entry.{Entry}
 use Rattle.cf_plain.specs.Answered.{no_ask}
-use Rattle.cf_plain.specs.Asks.{Suits, rows_in}
+use Rattle.cf_plain.specs.Asks.{rows_in}
 use Rattle.cf_plain.specs.Segments.{finding_in}
 use Rattle.cf_plain.specs.declared.ask.Ask.{Ask}
 use Rattle.cf_plain.specs.declared.finding.Finding.{Finding}
-use Rattle.cf_query.proofs.Walking.{walked_seen}
 use Rattle.cf_load.specs.Priors.{HasFound, entries_before}
-use Rattle.cf_segments.specs.Readers.{IsReader}
-use Rattle.cf_segments.specs.Segments.{Keeps}
 use Rattle.cf_segments.proofs.Keeping.{keeps_asked, keeps_none, keeps_then, keeps_walked}
 use Rattle.cf_load.proofs.Findings.{made_more}
 use Rattle.cf_load.proofs.Reading.{get_there}

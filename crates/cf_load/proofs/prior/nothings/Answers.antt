@@ -1,4 +1,4 @@
-use Rattle.std.proofs.Common.{◌≡◌, ◌<◌, [], ℕ, List, length, get_or, ap, ◌∙◌, rules}
+use Rattle.std.proofs.Common.{◌≡◌, ◌<◌, [], ℕ, length, get_or, ap, ◌∙◌, rules}
 use Rattle.cf_plain.specs.Answered.{no_ask}
 use Rattle.cf_plain.specs.Asks.{rows_in}
 use Rattle.cf_plain.specs.Segments.{finding_in}

@@ -1,9 +1,8 @@
-use Rattle.std.proofs.Common.{◌≡◌, ◌<◌, ◌++◌, IfOk, List, refl, ap, sym, subst, ◌∙◌}
-use Rattle.std.specs.List.{flat_map}
+use Rattle.std.proofs.Common.{◌≡◌, ◌++◌, IfOk, List, refl, ap, sym, subst, ◌∙◌}
 use Rattle.cf_row.specs.declared.row.Entry.{Entry}
 use Rattle.cf_load.specs.Planned.{findings_on}
 use Rattle.cf_load.specs.Priors.{IsFoundBefore, KnowsBefore, entries_before}
-use Rattle.cf_segments.specs.Segments.{SegmentsValue, KeepsAll, KeepsSegment, entries_of, seen_of, segments_of}
+use Rattle.cf_segments.specs.Segments.{SegmentsValue, KeepsAll, entries_of, seen_of, segments_of}
 use Rattle.cf_segments.proofs.Chains.{current_is}
 use Rattle.cf_load.proofs.Filled.{entries_split}
 use Rattle.cf_segments.proofs.Kept.{kept_current, kept_lawful, segments_none}

@@ -11,7 +11,7 @@ use Rattle.cf_load.specs.Priors.{IsFoundBefore, KnowsBefore, entries_before}
 use Rattle.cf_segments.specs.Segments.{SegmentsValue, HoldsRows, KeepsAll, base_of, entries_of, seen_of, segments_of}
 use Rattle.cf_segments.proofs.Chains.{base_whole}
 use Rattle.cf_load.proofs.Filled.{entries_split, filled, filled_goes, filled_lawful, filled_result, filled_told, home_after, own_rows, still, still_has, still_long}
-use Rattle.cf_segments.proofs.Kept.{all_none, goes_then, kept_base, kept_entries, kept_goes, kept_holds, kept_shape, kept_told, segments_seen}
+use Rattle.cf_segments.proofs.Kept.{all_none, goes_then, kept_base, kept_entries, kept_goes, kept_shape, kept_told, segments_seen}
 use Rattle.cf_load.proofs.segment_asks.load_current.Given.{Over}
 use Rattle.cf_load.proofs.segment_asks.load_current.Goals as goal
 

@@ -1,11 +1,10 @@
-use Rattle.std.proofs.Common.{◌≡◌, ◌+◌, ◌*◌, ◌<◌, ℕ, List, refl, length, ap, ap₂, sym, ◌∙◌, arith, rules}
+use Rattle.std.proofs.Common.{◌≡◌, ◌*◌, ◌<◌, ℕ, ap, ap₂, sym, ◌∙◌, arith}
 use Rattle.std.specs.List.{flat_map}
-use Rattle.cf_row.specs.Row.{RowValue}
 use Rattle.cf_shape.specs.Lanes.{ShapeValue}
-use Rattle.cf_segments.specs.Segments.{SegmentsValue, HoldsRows, KeepsSegment, base_of, entries_of, room_of, seen_of}
+use Rattle.cf_segments.specs.Segments.{SegmentsValue, KeepsSegment, entries_of, room_of, seen_of}
 use Rattle.cf_load.specs.Planned.{findings_on}
 use Rattle.cf_segments.proofs.Zips.{zip_long}
-use Rattle.cf_segments.proofs.Kept.{goes_none, goes_then, goes_turned, kept_base, kept_entries, kept_goes, kept_holds, kept_most, kept_shape, kept_told}
+use Rattle.cf_segments.proofs.Kept.{goes_none, goes_then, goes_turned, kept_entries, kept_goes, kept_holds, kept_most, kept_shape, kept_told}
 use Rattle.cf_load.proofs.Turned.{knows_kept, knows_turned, may_turn, turned_full, turned_room}
 use Rattle.cf_load.proofs.segment_asks.make_ready.Goals as goal
 
