@@ -1,9 +1,9 @@
 #!/usr/bin/env python3
-"""Breaks long lines of definitions and proofs (.antt), which rt fmt leaves as they are.
+"""Breaks long lines of definitions and proofs (.antt) and of clauses (.rt), which rt fmt leaves as they are.
 
     tools/break_lines.py [--check] FILE..
 
-A line of more than 160 columns goes on below, where rt fmt then indents it: before an arrow, a product, a sum or a step of an
+A line of more than 160 columns, or a clause of more than 200, goes on below, where rt fmt then indents it: before an arrow, a product, a sum or a step of an
 equation, behind a comma, a semicolon, `in` or `=`, or before an argument in parentheses, as far out as one fits. Comments are
 broken between words; a line of `use` stays. With --check nothing is written: ends with 1 if a line would be broken. Needs the
 standard library alone.
@@ -14,7 +14,9 @@ import re
 import sys
 
 WIDEST = 160
+WIDEST_CLAUSE = 200
 INDENT = 4
+CLAUSE = re.compile(r"\s*(requires|ensures)\b")
 OPEN, CLOSE = "([{", ")]}"
 BEFORE = re.compile(r" (?=(→|×|⊎|↔|∙) )")
 BEHIND = re.compile(r"(?<=[,;]) (?=\S)|(?<= in) (?=\S)|(?<= =) (?=\S)")
@@ -31,12 +33,12 @@ def depths_of(line):
     return depths
 
 
-def place_to_break(line, indent):
+def place_to_break(line, indent, widest):
     """The column of a space at which the line is broken best, or None."""
     depths = depths_of(line)
     ranked = []
     for rank, kind in enumerate((BEFORE, BEHIND, ARGUMENT)):
-        for found in kind.finditer(line[: WIDEST + 1]):
+        for found in kind.finditer(line[: widest + 1]):
             at = found.start()
             if line[at - 1] == "=" and depths[at]:
                 continue
@@ -56,16 +58,11 @@ def broken_comment(line, indent):
     return [*lines, current.rstrip()]
 
 
-def broken(line):
-    """The line as lines of at most 160 columns, where that is possible."""
-    indent = len(line) - len(line.lstrip())
-    if len(line) <= WIDEST or line.lstrip().startswith(("use ", "pub use ", "--- ")):
-        return [line]
-    if line.lstrip().startswith("-- "):
-        return broken_comment(line, indent)
+def continued(line, indent, widest):
+    """The line as lines of at most so many columns, where that is possible."""
     lines = []
-    while len(line) > WIDEST:
-        at = place_to_break(line, len(line) - len(line.lstrip()))
+    while len(line) > widest:
+        at = place_to_break(line, len(line) - len(line.lstrip()), widest)
         if at is None:
             break
         lines.append(line[:at].rstrip())
@@ -73,8 +70,26 @@ def broken(line):
     return [*lines, line]
 
 
-def laid_out(text):
-    return "\n".join(it for line in text.split("\n") for it in broken(line))
+def broken(line):
+    """A line of a definition or a proof as lines of at most 160 columns, where that is possible."""
+    indent = len(line) - len(line.lstrip())
+    if len(line) <= WIDEST or line.lstrip().startswith(("use ", "pub use ", "--- ")):
+        return [line]
+    if line.lstrip().startswith("-- "):
+        return broken_comment(line, indent)
+    return continued(line, indent, WIDEST)
+
+
+def broken_clause(line):
+    """A clause as lines of at most 200 columns, where that is possible. Other lines of a program stay."""
+    if not CLAUSE.match(line):
+        return [line]
+    return continued(line, len(line) - len(line.lstrip()), WIDEST_CLAUSE)
+
+
+def laid_out(text, is_code=False):
+    breaks = broken_clause if is_code else broken
+    return "\n".join(it for line in text.split("\n") for it in breaks(line))
 
 
 def main():
@@ -86,12 +101,12 @@ def main():
     other = 0
     for file in files:
         text = file.read_text()
-        new = laid_out(text)
+        new = laid_out(text, file.suffix == ".rt")
         if new == text:
             continue
         other += 1
         if check:
-            print(f"{file}: lines of more than {WIDEST} columns that can be broken")
+            print(f"{file}: lines that can be broken")
         else:
             file.write_text(new)
     sys.exit(1 if check and other else 0)

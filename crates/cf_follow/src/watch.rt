@@ -85,7 +85,8 @@ fn step<R: Threads, F: Shelf, K: Sink>(
     sink: &mut K,
 ) -> Result<bool, Ending>
     requires packets { rounds.old.window.shape.schema ≡ attrs_by reads.old.schema }
-    requires going { (begun : RoundsValue) × (before : Option (List ℕ)) × (held : Option (List ℕ)) × (schema : PacketSchema) × IsGoingOn schema begun rounds.old reads.old before (F.rest shelf.old) held (K.held sink.old) }
+    requires going { (begun : RoundsValue) × (before : Option (List ℕ)) × (held : Option (List ℕ)) × (schema : PacketSchema)
+        × IsGoingOn schema begun rounds.old reads.old before (F.rest shelf.old) held (K.held sink.old) }
     ensures packets { OnOk result (rounds.new.window.shape.schema ≡ attrs_by reads.new.schema) }
     ensures files { F.files shelf.new ≡ F.files shelf.old }
     ensures goes { (schema : PacketSchema) (begun : RoundsValue) (before held : Option (List ℕ)) → IsGoingOn schema begun rounds.old reads.old before (F.rest shelf.old) held (K.held sink.old)

@@ -31,7 +31,9 @@ pub fn ask<P: Pass>(
 ) -> Result<Answer, Memory>
     requires of { IsOf (P.held pass.old) log.now }
     requires suits { Suits log.now.shape question.now }
-    ensures ok { IfOk result (λ answer. HasAsked log.now.shape (P.held pass.old) (P.held pass.new) × (answer.tail ≡ length (P.held pass.new).view.seen) × (answer.body ≡ eval log.now.shape question.now (P.held pass.new).view.seen)) }
+    ensures ok { IfOk result
+        (λ answer. HasAsked log.now.shape (P.held pass.old) (P.held pass.new) × (answer.tail ≡ length (P.held pass.new).view.seen)
+        × (answer.body ≡ eval log.now.shape question.now (P.held pass.new).view.seen)) }
     ensures memory { IfErr result (λ _. HasAsked log.now.shape (P.held pass.old) (P.held pass.new)) }
 {
     ask_by::<P, Brand>(log, alloc, pass, question, Blank::new(1))
@@ -65,7 +67,9 @@ pub fn finding<P: Pass>(
 ) -> Result<(u32, Finding), Memory>
     requires of { IsOf (P.held pass.old) log.now }
     requires suits { Suits log.now.shape question.now }
-    ensures ok { IfOk result (λ found. HasAsked log.now.shape (P.held pass.old) (P.held pass.new) × (found.0 ≡ length (P.held pass.new).view.seen) × (found.1 ≡ finding_in log.now.shape question.now (rows_in (P.held pass.new).view.seen))) }
+    ensures ok { IfOk result
+        (λ found. HasAsked log.now.shape (P.held pass.old) (P.held pass.new) × (found.0 ≡ length (P.held pass.new).view.seen)
+        × (found.1 ≡ finding_in log.now.shape question.now (rows_in (P.held pass.new).view.seen))) }
     ensures memory { IfErr result (λ _. HasAsked log.now.shape (P.held pass.old) (P.held pass.new)) }
 {
     finding_by::<P, Brand>(log, alloc, pass, question, Blank::new(1))
@@ -120,7 +124,9 @@ pub fn groups<P: Pass>(
     requires of { IsOf (P.held pass.old) log.now }
     requires lane { lane < length log.now.shape.lanes }
     requires measured { is_measured log.now.shape lane ≡ true }
-    ensures ok { IfOk result (λ found. HasAsked log.now.shape (P.held pass.old) (P.held pass.new) × (found.0 ≡ length (P.held pass.new).view.seen) × (found.1.items ≡ map as_group (groups_by log.now.shape lane (rows_in (P.held pass.new).view.seen)))) }
+    ensures ok { IfOk result
+        (λ found. HasAsked log.now.shape (P.held pass.old) (P.held pass.new) × (found.0 ≡ length (P.held pass.new).view.seen)
+        × (found.1.items ≡ map as_group (groups_by log.now.shape lane (rows_in (P.held pass.new).view.seen)))) }
     ensures memory { IfErr result (λ _. HasAsked log.now.shape (P.held pass.old) (P.held pass.new)) }
 {
     groups_by_steps::<P, Brand>(log, alloc, pass, lane, Blank::new(1))

@@ -66,7 +66,9 @@ pub(crate) fn ask_by<P: Pass, L: Ledger>(
     requires of { IsOf (P.held pass.old) log.now }
     requires suits { Suits log.now.shape question.now }
     requires blank { (blank.name ≡ L.name) × (blank.parts ≡ L.parts) × (0 < L.parts) }
-    ensures ok { IfOk result (λ answer. HasAsked log.now.shape (P.held pass.old) (P.held pass.new) × (answer.tail ≡ length (P.held pass.new).view.seen) × (answer.body ≡ eval log.now.shape question.now (P.held pass.new).view.seen)) }
+    ensures ok { IfOk result
+        (λ answer. HasAsked log.now.shape (P.held pass.old) (P.held pass.new) × (answer.tail ≡ length (P.held pass.new).view.seen)
+        × (answer.body ≡ eval log.now.shape question.now (P.held pass.new).view.seen)) }
     ensures memory { IfErr result (λ _. HasAsked log.now.shape (P.held pass.old) (P.held pass.new)) }
 {
     let mut steps = Steps::<L>::new(blank);
@@ -102,7 +104,9 @@ pub(crate) fn finding_by<P: Pass, L: Ledger>(
     requires of { IsOf (P.held pass.old) log.now }
     requires suits { Suits log.now.shape question.now }
     requires blank { (blank.name ≡ L.name) × (blank.parts ≡ L.parts) × (0 < L.parts) }
-    ensures ok { IfOk result (λ found. HasAsked log.now.shape (P.held pass.old) (P.held pass.new) × (found.0 ≡ length (P.held pass.new).view.seen) × (found.1 ≡ finding_in log.now.shape question.now (rows_in (P.held pass.new).view.seen))) }
+    ensures ok { IfOk result
+        (λ found. HasAsked log.now.shape (P.held pass.old) (P.held pass.new) × (found.0 ≡ length (P.held pass.new).view.seen)
+        × (found.1 ≡ finding_in log.now.shape question.now (rows_in (P.held pass.new).view.seen))) }
     ensures memory { IfErr result (λ _. HasAsked log.now.shape (P.held pass.old) (P.held pass.new)) }
 {
     let mut steps = Steps::<L>::new(blank);
@@ -168,7 +172,9 @@ pub(crate) fn groups_by_steps<P: Pass, L: Ledger>(
     requires lane { lane < length log.now.shape.lanes }
     requires measured { is_measured log.now.shape lane ≡ true }
     requires blank { (blank.name ≡ L.name) × (blank.parts ≡ L.parts) × (0 < L.parts) }
-    ensures ok { IfOk result (λ found. HasAsked log.now.shape (P.held pass.old) (P.held pass.new) × (found.0 ≡ length (P.held pass.new).view.seen) × (found.1.items ≡ map as_group (groups_by log.now.shape lane (rows_in (P.held pass.new).view.seen)))) }
+    ensures ok { IfOk result
+        (λ found. HasAsked log.now.shape (P.held pass.old) (P.held pass.new) × (found.0 ≡ length (P.held pass.new).view.seen)
+        × (found.1.items ≡ map as_group (groups_by log.now.shape lane (rows_in (P.held pass.new).view.seen)))) }
     ensures memory { IfErr result (λ _. HasAsked log.now.shape (P.held pass.old) (P.held pass.new)) }
 {
     let mut steps = Steps::<L>::new(blank);

@@ -48,7 +48,8 @@ pub(crate) fn push_asks(
 ) -> Result<(), Memory>
     requires answered { length finals.now ≡ length setup.now.asks }
     requires places { All (λ answer. IsWithin (length entries.now) answer.body) finals.now }
-    ensures { OnOk result (string_bytes text.new ≡ string_bytes text.old ++ flat_map (ask_line_at setup.now (rows_in entries.now) (tolds_of setup.now.asks finals.now)) (range_with_len 0 (length setup.now.asks))) }
+    ensures { OnOk result
+        (string_bytes text.new ≡ string_bytes text.old ++ flat_map (ask_line_at setup.now (rows_in entries.now) (tolds_of setup.now.asks finals.now)) (range_with_len 0 (length setup.now.asks))) }
 {
     let names = setup.ask_names();
     let asks = setup.asks();

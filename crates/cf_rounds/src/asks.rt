@@ -34,7 +34,8 @@ fn push_ask(
     requires exists { place < length setup.now.asks }
     requires rounds { IsRounds setup.now window.old }
     ensures stays { window.new ≡ window.old }
-    ensures line { OnOk result (string_bytes text.new ≡ string_bytes text.old ++ ask_line (ask_name setup.now place) (view_in window.old).rows (told_on window.old.shape (view_in window.old).rows (ask_at setup.now place))) }
+    ensures line { OnOk result
+        (string_bytes text.new ≡ string_bytes text.old ++ ask_line (ask_name setup.now place) (view_in window.old).rows (told_on window.old.shape (view_in window.old).rows (ask_at setup.now place))) }
 {
     let from = window.from();
     let body = answer_at(alloc, setup, window, place)?;
@@ -53,7 +54,9 @@ fn push_asks(
 ) -> Result<(), Memory>
     requires rounds { IsRounds setup.now window.old }
     ensures stays { window.new ≡ window.old }
-    ensures lines { OnOk result (string_bytes text.new ≡ string_bytes text.old ++ flat_map (ask_line_at setup.now (view_in window.old).rows (finals_on window.old.shape setup.now (view_in window.old).rows)) (range_with_len 0 (length setup.now.asks))) }
+    ensures lines { OnOk result
+        (string_bytes text.new ≡ string_bytes text.old ++ flat_map (ask_line_at setup.now (view_in window.old).rows (finals_on window.old.shape setup.now (view_in window.old).rows))
+        (range_with_len 0 (length setup.now.asks))) }
 {
     let asks = setup.asks();
     for place in 0..asks.len() {

@@ -76,7 +76,15 @@ impl Rounds {
         requires shaped { shape ≡ shaped setup shape.capacity 1 shape.nodes }
         requires some { 0 < most }
         requires bounded { most * shape.capacity ≤ 2 ^ 20 }
-        ensures begun { IfOk result (λ rounds. rounds ≡ record { setup = setup; window = record { shape = shape; most = most; from = 0; segments = []; is_spent = false }; every = every; limit = limit; marks = []; asked = 0 }) }
+        ensures begun { IfOk result
+            (λ rounds. rounds ≡ record {
+              setup = setup;
+              window = record { shape = shape; most = most; from = 0; segments = []; is_spent = false };
+              every = every;
+              limit = limit;
+              marks = [];
+              asked = 0;
+            }) }
         ensures at { IfOk result (λ rounds. IsAt rounds [] start []) }
     {
         Ok(Rounds {

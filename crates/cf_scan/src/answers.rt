@@ -54,10 +54,12 @@ fn completed(
     entries: &[Entry],
     logged: Vec<Answer>,
 ) -> Result<Vec<Answer>, Memory>
-    requires answered { (shape : ShapeValue) × (shape.schema ≡ schema.now) × All (Suits shape) asks.now × (logged.items ≡ map (answer_on shape entries.now) (asks_at asks.now (logged_places_of asks.now lives.now))) }
+    requires answered { (shape : ShapeValue) × (shape.schema ≡ schema.now) × All (Suits shape) asks.now
+        × (logged.items ≡ map (answer_on shape entries.now) (asks_at asks.now (logged_places_of asks.now lives.now))) }
     requires fit { FitAll schema.now entries.now }
     requires few { length entries.now ≤ 2 ^ 20 }
-    ensures { (shape : ShapeValue) → logged.items ≡ map (answer_on shape entries.now) (asks_at asks.now (logged_places_of asks.now lives.now)) → IfOk result (λ all. all.items ≡ map (answer_on shape entries.now) asks.now) }
+    ensures { (shape : ShapeValue) → logged.items ≡ map (answer_on shape entries.now) (asks_at asks.now (logged_places_of asks.now lives.now))
+        → IfOk result (λ all. all.items ≡ map (answer_on shape entries.now) asks.now) }
 {
     let mut all = logged;
     for place in 0..asks.len() {
@@ -93,12 +95,14 @@ pub fn answer_all(
     entries: &[Entry],
     loaded: Loaded,
 ) -> Result<Loaded, Memory>
-    requires answered { (shape : ShapeValue) × (shape.schema ≡ schema.now) × All (Suits shape) asks.now × (loaded.finals ≡ map (answer_on shape entries.now) (asks_at asks.now (logged_places_of asks.now lives.now))) }
+    requires answered { (shape : ShapeValue) × (shape.schema ≡ schema.now) × All (Suits shape) asks.now
+        × (loaded.finals ≡ map (answer_on shape entries.now) (asks_at asks.now (logged_places_of asks.now lives.now))) }
     requires within { All (λ live. live.ask < length (logged_places_of asks.now lives.now)) loaded.lives }
     requires few { length asks.now ≤ 256 }
     requires fit { FitAll schema.now entries.now }
     requires short { length entries.now ≤ 2 ^ 20 }
-    ensures finals { (shape : ShapeValue) → loaded.finals ≡ map (answer_on shape entries.now) (asks_at asks.now (logged_places_of asks.now lives.now)) → IfOk result (λ all. all.finals ≡ map (answer_on shape entries.now) asks.now) }
+    ensures finals { (shape : ShapeValue) → loaded.finals ≡ map (answer_on shape entries.now) (asks_at asks.now (logged_places_of asks.now lives.now))
+        → IfOk result (λ all. all.finals ≡ map (answer_on shape entries.now) asks.now) }
     ensures alerts { IfOk result (λ all. all.alerts ≡ loaded.alerts) }
     ensures lives { IfOk result (λ all. all.lives ≡ map (numbered_by (logged_places_of asks.now lives.now)) loaded.lives) }
 {
