@@ -3,7 +3,6 @@ use Rattle.std.proofs.Common.{◌≡◌, ◌⊎◌, inl, inr, ℕ, ◌<◌, ◌�
 use Rattle.std.proofs.lemmas.List.{drop-append-le, take-append-drop, take-append-le, take_all, nil_from_length}
 use Rattle.cf_stream.specs.Limits.{IsShort, count_on, number_of}
 use Rattle.cf_stream.proofs.Limits.{short_less, count_first}
-use Rattle.cf_stream.proofs.Feeding as streams
 use Rattle.cf_stream.specs.Format.{Found, Wants, Bad, Takes, Format, Part, items_of, AreUnitsThen, ReadsTo, IsWhole, IsCut, IsFound}
 use Rattle.cf_stream.specs.Stream.{IsStepper, AreGiven, Runs}
 use Rattle.cf_stream.proofs.Units.{NoUnit, sizes, more_after, reads_count, one_read, wants_none}
@@ -203,21 +202,12 @@ ends_begun f file items s rest e runs none_so =
     (wants_none f s rest runs.part) in
     both (f.may_end s) (ap f.may_end (sym same.state) ∙ e.begun) none_so
 
--- or of one that may end here, and has more
-pub runs_in : {S I F : Type 0} (f : Format S I F) (file : List ℕ) (s : S) (rest : List ℕ) (runs : Runs f s rest file) → f.may_end s ≡ true → 0 < length rest
-    → EndsIn f file runs.items
-runs_in f file s rest runs so_far some = record { size = runs.size; last = s; rest = rest; read = runs.read; part = runs.part; begun = so_far; left = some }
-
 pub ends_count : {S I F : Type 0} (f : Format S I F) (is : IsStepper f) (file : List ℕ) (items : List I) (e : EndsIn f file items)
     → f.count e.last ≡ number_of f.length (length items)
 ends_count f is file items e =
     reads_count f is f.start file items e.last e.rest e.read
     ∙ ap (λ k. count_on f.length k (length items)) is.none
     ∙ count_first f.length (length items)
-
-pub runs_count : {S I F : Type 0} (f : Format S I F) (is : IsStepper f) (file : List ℕ) (s : S) (rest : List ℕ) (runs : Runs f s rest file)
-    → f.count s ≡ number_of f.length (length runs.items)
-runs_count f is file s rest runs = streams.runs_count f is s rest file runs
 
 -- a file that is cut where it may end after some units ends within the next
 pub cut_begun : {S I F : Type 0} (f : Format S I F) (file : List ℕ) (last : S) (cut : IsCut f file last) → f.may_end last ≡ true → EndsIn f file cut.items

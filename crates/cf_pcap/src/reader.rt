@@ -134,18 +134,20 @@ impl Pcap {
         }
     }
 
-    /// The same where a stream that ends within a record is one of the records before it: how many they are then, and nothing where
-    /// the stream ends well. One that ends within its file header has its fault.
-    pub fn finish_truncated(self) -> Result<Option<u32>, PcapFault>
+    /// What the end of the stream says: nothing where it ends well, or its fault. Where it may be truncated, a stream that ends within a
+    /// record is one of the records before it: how many they are then. One that ends within its file header has its fault.
+    pub fn finish_as(self, truncated: bool) -> Result<Option<u32>, PcapFault>
         ensures ended { (stream : List ℕ) (frames : List FrameValue) → IsStateOf self stream → AreGiven self.scope stream frames
-            → MatchResult result (Says self.scope stream frames) (Breaks self.scope stream) }
+            → MatchResult result (Says truncated self.scope stream frames) (Breaks truncated self.scope stream) }
         ensures no_memory { result ≢ Err PcapFault.Memory }
     {
-        match self.stage {
-            Stage::Stopped(found) => Err(found),
-            Stage::Running if self.header.is_none() => Err(PcapFault::Cut(self.count)),
-            Stage::Running if self.held.is_empty() => Ok(None),
-            Stage::Running => Ok(Some(self.count)),
+        let has_begun = self.header.is_some();
+        let Err(fault) = self.finish() else {
+            return Ok(None);
+        };
+        match fault {
+            PcapFault::Cut(count) if truncated && has_begun => Ok(Some(count)),
+            _ => Err(fault),
         }
     }
 }

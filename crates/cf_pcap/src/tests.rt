@@ -171,7 +171,7 @@ fn end_truncated(
     for piece in stream.chunks(size.max(1)) {
         let _ = feed_again(&mut pcap, piece, out);
     }
-    Ok(pcap.finish_truncated())
+    Ok(pcap.finish_as(true))
 }
 
 #[test]

@@ -6,13 +6,13 @@ use Rattle.cf_stream.specs.Format.{Wants, Bad, Takes, Part, AreUnitsThen, ReadsT
 use Rattle.cf_stream.specs.Limits.{number_of}
 use Rattle.cf_stream.proofs.Limits.{count_first}
 use Rattle.cf_stream.proofs.Units.{reads_count}
-use Rattle.cf_stream.proofs.Cases.{one_case}
+use Rattle.cf_pcap.proofs.ByKind.{one_case}
 use Rattle.cf_pcapng.specs.declared.fault.Flaw.{Flaw}
 use Rattle.cf_pcapng.specs.declared.fault.Flaw.TheVariants.{BadMagic, BadVersion, BadLink, FrameTooLong, BadLength, NoInterface}
 use Rattle.cf_pcapng.specs.declared.fault.NgFault.{NgFault}
 use Rattle.cf_pcapng.specs.declared.fault.NgFault.TheVariants as faults
 use Rattle.cf_pcapng.specs.File.{State, fault_of, step, pcapng, IsNg, HasNgFault}
-use Rattle.cf_pcapng.specs.Rules.{AreBlocksThen, BeginsWith, IsFileOf, ShowsFlaw, IsPart, EndsWithin, IsTooLong, HasFaultOf, FileByRules}
+use Rattle.cf_pcapng.specs.Rules.{AreBlocksThen, BeginsWith, IsFileOf, ShowsFlaw, IsPart, EndsWithin, IsTooLong, HasFaultOf, FileByRules, blocks}
 use Rattle.cf_pcapng.specs.Laws.{OneCase}
 use Rattle.cf_pcapng.proofs.Steps.{Shown, stepper}
 use Rattle.cf_pcapng.proofs.Ruling.{steps_by_rules}
@@ -167,20 +167,5 @@ pub file_by_rules : (scope : Scope) (file : List ℕ) → FileByRules scope file
 file_by_rules scope file =
     record { capture = file_of scope file; is_capture = capture_of scope file; fault = fault_by_rules scope file; is_fault = rules_by_fault scope file }
 
--- Each file is in one case.
-
-some_case : (scope : Scope) (file : List ℕ) → FileByRules scope file → ((frames : List FrameValue) × IsWhole (pcapng scope) file frames)
-    ⊎ ((fault : NgFault) × HasFault (pcapng scope) file fault) → ((frames : List FrameValue) × IsFileOf scope file frames)
-    ⊎ ((fault : NgFault) × HasFaultOf scope file fault)
-some_case scope file by (inl h) = inl (h.0, by.capture h.0 h.1)
-some_case scope file by (inr h) = inr (h.0, by.fault h.0 h.1)
-
 pub one_case_of : (scope : Scope) (file : List ℕ) → OneCase scope file
-one_case_of scope file =
-    let one = one_case (pcapng scope) (stepper scope) file in
-    let by : FileByRules scope file = file_by_rules scope file in record {
-      some = some_case scope file by one.some;
-      either = λ frames fault p q. one.either frames fault (by.is_capture frames p) (by.is_fault fault q);
-      one_capture = λ a b p q. one.one_whole a b (by.is_capture a p) (by.is_capture b q);
-      one_fault = λ a b p q. one.one_fault a b (by.is_fault a p) (by.is_fault b q);
-    }
+one_case_of scope file = one_case (blocks scope) (pcapng scope) (stepper scope) file (file_by_rules scope file)

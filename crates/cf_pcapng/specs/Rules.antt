@@ -6,6 +6,7 @@ use Rattle.cf_pcap.specs.declared.scope.Scope.{Scope}
 use Rattle.cf_stream.specs.Limits.{IsShort, IsLong, number_of}
 use Rattle.cf_pcap.specs.declared.form.Order.{Order}
 use Rattle.cf_pcap.specs.Capture.{FrameValue, number_in}
+use Rattle.cf_pcap.specs.Kinds as kinds
 use Rattle.cf_pcap.specs.Links.{is_link, longest}
 use Rattle.cf_stream.specs.Format.{Bad, Takes, Part, items_of, seen}
 use Rattle.cf_pcapng.specs.declared.fault.Flaw.{Flaw}
@@ -19,7 +20,7 @@ use Rattle.cf_pcapng.specs.declared.content.Packet.{Packet}
 use Rattle.cf_pcapng.specs.declared.content.Content.{Content}
 use Rattle.cf_pcapng.specs.declared.content.Content.TheVariants.{NewSection, NewInterface, Captures, Nothing}
 use Rattle.cf_pcapng.specs.Blocks.{order_at, least, total_at, last_total, interface_at, enhanced_packet, simple_packet}
-use Rattle.cf_pcapng.specs.File.{State, fault_of, frames_of, after, pcapng, IsNg, HasNgFault}
+use Rattle.cf_pcapng.specs.File.{State, fault_of, frames_of, after, pcapng}
 
 -- a section header's type
 abbrev pub IsSectionType : List ℕ → Type 0
@@ -247,9 +248,10 @@ HasFaultOf scope file (faults.BadLength k) = ShowsFlaw scope (seen scope.length 
 HasFaultOf scope file (faults.NoInterface k) = ShowsFlaw scope (seen scope.length file) k NoInterface
 HasFaultOf scope file faults.Memory = ⊥
 
+-- captures of blocks, of this scope
+abbrev pub blocks : Scope → kinds.Kind NgFault
+blocks scope = record { longest = scope.length; Is = IsFileOf scope; Has = HasFaultOf scope; cut = faults.Cut }
+
 -- the two ways to say what a file is, agree
-pub record FileByRules (scope : Scope) (file : List ℕ) : Type 0 where
-  pub capture : (frames : List FrameValue) → IsNg scope file frames → IsFileOf scope file frames
-  pub is_capture : (frames : List FrameValue) → IsFileOf scope file frames → IsNg scope file frames
-  pub fault : (fault : NgFault) → HasNgFault scope file fault → HasFaultOf scope file fault
-  pub is_fault : (fault : NgFault) → HasFaultOf scope file fault → HasNgFault scope file fault
+abbrev pub FileByRules : Scope → List ℕ → Type 0
+FileByRules scope file = kinds.JudgedAlike (blocks scope) (pcapng scope) file

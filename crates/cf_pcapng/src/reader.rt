@@ -286,19 +286,20 @@ impl PcapNg {
         }
     }
 
-    /// The same where a stream that ends within a block is one of the blocks before it: how many frames they have then, and nothing
-    /// where the stream ends well. One that ends within its first section header has its fault.
-    pub fn finish_truncated(self) -> Result<Option<u32>, NgFault>
+    /// What the end of the stream says: nothing where it ends well, or its fault. Where it may be truncated, a stream that ends within a
+    /// block is one of the blocks before it: how many frames they have then. One that ends within its first section header has its fault.
+    pub fn finish_as(self, truncated: bool) -> Result<Option<u32>, NgFault>
         ensures ended { (stream : List ℕ) (frames : List FrameValue) → IsStateOf self stream → AreGiven (pcapng self.scope) stream frames
-            → MatchResult result (Says self.scope stream frames) (Breaks self.scope stream) }
+            → MatchResult result (Says truncated self.scope stream frames) (Breaks truncated self.scope stream) }
         ensures no_memory { result ≢ Err NgFault.Memory }
     {
-        match self.stage {
-            Stage::Stopped(found) => Err(found),
-            Stage::Running if self.order.is_none() => Err(NgFault::Cut(self.count)),
-            Stage::Running if self.passed.is_some() => Ok(Some(self.count)),
-            Stage::Running if !self.held.is_empty() => Ok(Some(self.count)),
-            Stage::Running => Ok(None),
+        let has_begun = self.order.is_some();
+        let Err(fault) = self.finish() else {
+            return Ok(None);
+        };
+        match fault {
+            NgFault::Cut(count) if truncated && has_begun => Ok(Some(count)),
+            _ => Err(fault),
         }
     }
 }

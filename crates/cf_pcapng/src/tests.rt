@@ -484,7 +484,7 @@ fn end_truncated(
     for piece in stream.chunks(size.max(1)) {
         let _ = feed_again(&mut pcapng, piece, out);
     }
-    Ok(pcapng.finish_truncated())
+    Ok(pcapng.finish_as(true))
 }
 
 /// What the end of so many bytes of two sections answers where they are read as truncated. Each section has a header of 28 bytes, an

@@ -1,7 +1,7 @@
-use Rattle.std.proofs.Common.{rules, ◌≡◌, ℕ, List, [], ◌∷◌, ◌++◌, drop, Option, Some, sym, ap, subst, ◌∙◌}
+use Rattle.std.proofs.Common.{rules, ◌≡◌, ℕ, List, ◌∷◌, ◌++◌, drop, Option, Some, sym, ap, subst, ◌∙◌}
 use Rattle.cf_stream.specs.Limits.{count_on}
 use Rattle.cf_pcap.specs.declared.form.FileHeader.{FileHeader}
-use Rattle.cf_pcap.specs.Capture.{FrameValue, frame_at}
+use Rattle.cf_pcap.specs.Capture.{frame_at}
 use Rattle.cf_pcap.specs.Reading.{state_of, AreTaken, IsOneRecord}
 use Rattle.cf_pcap.proofs.Joining.{record_then}
 use Rattle.cf_pcap.proofs.taking.take_after.Goals as goal
