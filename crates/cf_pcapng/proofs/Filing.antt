@@ -1,8 +1,8 @@
 -- What a file is, by the rules.
-use Rattle.std.proofs.Common.{◌≡◌, ◌⊎◌, inl, inr, ℕ, List, [], ◌∷◌, length, drop, refl, sym, ap, subst, ◌∙◌}
+use Rattle.std.proofs.Common.{◌≡◌, inl, inr, ℕ, List, [], ◌∷◌, length, drop, refl, sym, ap, subst, ◌∙◌}
 use Rattle.cf_pcap.specs.declared.scope.Scope.{Scope}
 use Rattle.cf_pcap.specs.Capture.{FrameValue}
-use Rattle.cf_stream.specs.Format.{Wants, Bad, Takes, Part, AreUnitsThen, ReadsTo, Shows, seen, HasTooManyBytes, IsCut, IsWhole, HasFault}
+use Rattle.cf_stream.specs.Format.{Wants, Bad, Takes, Part, AreUnitsThen, ReadsTo, Shows, seen, HasTooManyBytes, IsCut}
 use Rattle.cf_stream.specs.Limits.{number_of}
 use Rattle.cf_stream.proofs.Limits.{count_first}
 use Rattle.cf_stream.proofs.Units.{reads_count}

@@ -1,6 +1,7 @@
 -- The blocks of the PCAP Next Generation capture file format (draft-ietf-opsawg-pcapng-02): what stands at the front of some
 -- bytes, and what a whole block states.
-use Rattle.std.specs.Prelude.{ℕ, ◌+◌, ◌-◌, ◌*◌, ◌/◌, ◌%◌, ◌^◌, ◌==◌, ◌&&◌, min, nat_lt, nat_le, if◌then◌else◌, Bool, true, false, List, length, drop, slice_range, slice_index, slice_get, Option, Some, None, Result, Ok, Err, zero, suc}
+use Rattle.std.specs.Prelude.{ℕ, zero, suc, ◌+◌, ◌-◌, ◌*◌, ◌/◌, ◌%◌, ◌^◌, ◌==◌, ◌&&◌, min, nat_lt, nat_le, if◌then◌else◌, Bool, true, false}
+use Rattle.std.specs.Prelude.{List, length, drop, slice_range, slice_index, slice_get, Option, Some, None, Result, Ok, Err}
 use Rattle.byteorder.specs.Endian.{little_number, big_number}
 use Rattle.cf_pcap.specs.declared.links.LinkSet.{LinkSet}
 use Rattle.cf_pcap.specs.declared.form.Order.{Order}
