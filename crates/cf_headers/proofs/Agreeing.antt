@@ -1,18 +1,18 @@
 -- A packet's row is the begin of its row with IPv6 addresses.
-use Rattle.std.proofs.Common.{◌≡◌, ◌⊎◌, inl, inr, ℕ, ◌+◌, ◌%◌, ◌^◌, ◌<◌, ◌≤◌, Bool, true, false, ◌&&◌, ◌==◌, nat_le, List, [], ◌∷◌, ◌++◌, length, drop, take, if◌then◌else◌, Option, Some, None, refl, sym, ap, subst, ◌∙◌, arith}
-use Rattle.std.proofs.lemmas.Bool.{cases_eq, and_from, and_parts, eqb-true, eq-eqb, leb-true, le-leb}
+use Rattle.std.proofs.Common.{◌≡◌, ◌⊎◌, inl, inr, ℕ, ◌+◌, ◌%◌, ◌^◌, ◌<◌, ◌≤◌, Bool, true, false, ◌&&◌, ◌==◌, nat_le, List, [], ◌∷◌, ◌++◌, length, drop, take, if◌then◌else◌, Some, None, refl, sym, ap, subst, ◌∙◌, arith}
+use Rattle.std.proofs.lemmas.Bool.{cases_eq, and_parts, eqb-true, leb-true, le-leb}
 use Rattle.std.proofs.lemmas.Bool.Decides.{nat_tests}
 use Rattle.byteorder.specs.Endian.{big_number}
 use Rattle.cf_row.specs.declared.row.Value.{Value}
 use Rattle.cf_row.specs.declared.row.Value.TheVariants.{Num}
-use Rattle.cf_pcap.specs.declared.links.Link.TheVariants.{Ethernet, LinuxCooked, LinuxCookedV2, RawIp, Ipv4, Ipv6, Null, Loop}
+use Rattle.cf_pcap.specs.declared.links.Link.TheVariants.{LinuxCookedV2, RawIp, Ipv4, Ipv6, Null, Loop}
 use Rattle.cf_pcap.specs.declared.links.LinkSet.TheVariants.{Basic}
 use Rattle.cf_pcap.specs.Links.{has_some, is_link}
 use Rattle.cf_pcap.specs.Capture.{FrameValue}
 use Rattle.cf_headers.specs.declared.layer.Layer.{Layer}
 use Rattle.cf_headers.specs.declared.transport.Transport.{Transport}
 use Rattle.cf_headers.specs.declared.transport.Transport.TheVariants.{Unread, Tcp, Udp}
-use Rattle.cf_headers.specs.Packet.{type_at, is_tagged, network_at, etype_of, vlan_of, has_ipv4, transport_in, kind_of, address_values, network_values, transport_values, is_ipv4, transport_of}
+use Rattle.cf_headers.specs.Packet.{type_at, is_tagged, network_at, etype_of, vlan_of, has_ipv4, transport_in, kind_of, address_values, network_values, transport_values, is_ipv4}
 use Rattle.cf_headers.specs.Layers.{type_or_0, link_layer, has_tag, past_tag, vlan_in, network_layer}
 use Rattle.cf_headers.specs.Ipv6.{has_ipv6}
 use Rattle.cf_headers.specs.Packet6.{values_by, values_at, Agrees}

@@ -1,9 +1,8 @@
 -- The row of a packet with IPv6 addresses fits its schema.
-use Rattle.std.proofs.Common.{◌≡◌, ℕ, zero, suc, ◌+◌, ◌*◌, ◌/◌, ◌%◌, ◌^◌, ◌<◌, Bool, true, false, nat_lt, nat_le, ◌||◌, min, List, [], ◌∷◌, ◌++◌, length, drop, slice_index, get_or, if◌then◌else◌, Option, Some, None, refl, arith}
+use Rattle.std.proofs.Common.{◌≡◌, ℕ, zero, suc, ◌+◌, ◌/◌, ◌^◌, ◌<◌, Bool, true, false, nat_lt, nat_le, ◌||◌, min, List, ◌∷◌, ◌++◌, length, drop, slice_index, if◌then◌else◌, Option, Some, None, refl, arith}
 use Rattle.std.proofs.lemmas.Bool.{and_from, lt-ltb}
 use Rattle.byteorder.specs.Endian.{big_number, little_number}
-use Rattle.byteorder.specs.Numbers.{big_from-lt}
-use Rattle.cf_row.specs.declared.schema.Kind.TheVariants.{U8, U16, U64}
+use Rattle.cf_row.specs.declared.schema.Kind.TheVariants.{U64}
 use Rattle.cf_row.specs.declared.row.Value.{Value}
 use Rattle.cf_row.specs.declared.row.Value.TheVariants.{Num}
 use Rattle.cf_row.specs.Row.{Fits, values_fit, is_of_kind}
@@ -16,8 +15,8 @@ use Rattle.cf_headers.specs.declared.extension.Upper.{Upper}
 use Rattle.cf_headers.specs.declared.layer.Layer.{Layer}
 use Rattle.cf_headers.specs.declared.transport.Transport.{Transport}
 use Rattle.cf_headers.specs.declared.transport.Transport.TheVariants.{Unread, Tcp, Udp}
-use Rattle.cf_headers.specs.Packet.{has_ipv4, has_addresses, kind_of, transport_values, byte_at, number_at}
-use Rattle.cf_headers.specs.Layers.{type_or_0, type_of_version, version_type, is_family6, type_of_family, family_type, layer_of, link_layer, has_tag, past_tag, vlan_in, network_layer}
+use Rattle.cf_headers.specs.Packet.{has_ipv4, has_addresses, transport_values, number_at}
+use Rattle.cf_headers.specs.Layers.{type_or_0, type_of_version, version_type, type_of_family, family_type, layer_of, link_layer, has_tag, past_tag, vlan_in, network_layer}
 use Rattle.cf_headers.specs.Ipv6.{has_ipv6, traffic_class, payload_length, packet6_end, has_extension, is_later_part, extension_length, upper_after, upper_of}
 use Rattle.cf_headers.specs.Packet6.{transport_behind, network_values_in, address6_if, packet6_row_of}
 use Rattle.cf_headers.proofs.Fitting.{HoldsBytes, byte_at_fits, u16_at_fits, u32_at_fits, byte_fits, u16_fits, u32_fits, kind_fits, address_fits, addresses_room, number_low, tag_low}

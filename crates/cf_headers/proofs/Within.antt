@@ -1,5 +1,5 @@
 -- The values of a packet have room within a row.
-use Rattle.std.proofs.Common.{◌≡◌, ◌∙◌, ℕ, suc, zero, ◌≤◌, ◌^◌, Bool, true, nat_lt, ◌==◌, List, [], ◌∷◌, length, refl, ap, arith}
+use Rattle.std.proofs.Common.{◌≡◌, ◌∙◌, ℕ, suc, zero, ◌≤◌, ◌^◌, true, nat_lt, ◌==◌, List, [], ◌∷◌, length, refl, ap, arith}
 use Rattle.std.specs.List.{list_all}
 use Rattle.std.proofs.lemmas.Bool.{and_from, and_parts, lt-ltb, ltb-true, le-leb, eq-eqb, eqb-true}
 use Rattle.cf_row.specs.declared.schema.Attr.{Attr}

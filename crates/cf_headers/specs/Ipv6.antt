@@ -1,6 +1,6 @@
 -- The IPv6 header (RFC 8200, section 3), which would stand at a place, and the headers behind it: hop-by-hop options (0), routing (43),
 -- fragment (44) and destination options (60) of RFC 8200, section 4, and the authentication header (51) of RFC 4302, section 2.
-use Rattle.std.specs.Prelude.{◌≡◌, ℕ, zero, suc, ◌+◌, ◌*◌, ◌/◌, ◌%◌, Bool, true, false, ◌&&◌, ◌||◌, ◌==◌, not, nat_le, min, List, length, drop, slice_index, if◌then◌else◌}
+use Rattle.std.specs.Prelude.{ℕ, zero, suc, ◌+◌, ◌*◌, ◌/◌, ◌%◌, Bool, true, false, ◌&&◌, ◌||◌, ◌==◌, not, nat_le, min, List, length, drop, slice_index, if◌then◌else◌}
 use Rattle.byteorder.specs.Endian.{big_number}
 use Rattle.cf_headers.specs.declared.extension.Upper.{Upper}
 use Rattle.cf_headers.specs.declared.transport.Transport.{Transport}

@@ -1,6 +1,7 @@
 // The headers behind an IPv6 header.
 ghost use Rattle.std.specs.Prelude.{◌≡◌, ◌+◌, ◌≤◌, ◌<◌, length, IsTrue};
-ghost use Rattle.cf_headers.specs.Ipv6.{is_extension as is_extension_of, extension_length as length_of, has_extension as has_extension_of, is_later_part as is_later_part_of, upper_after as upper_by};
+ghost use Rattle.cf_headers.specs.Ipv6.{is_extension as is_extension_of, extension_length as length_of, has_extension as has_extension_of};
+ghost use Rattle.cf_headers.specs.Ipv6.{is_later_part as is_later_part_of, upper_after as upper_by};
 
 use byteorder::{BigEndian, ByteOrder};
 

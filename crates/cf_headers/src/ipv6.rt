@@ -1,7 +1,8 @@
 // The IPv6 header, which would stand at a place of a frame.
 ghost use Rattle.std.specs.Prelude.{◌≡◌, ◌+◌, ◌≤◌, ◌<◌, ◌^◌, length, IsTrue};
 ghost use Rattle.cf_headers.specs.Packet.{IsWithin};
-ghost use Rattle.cf_headers.specs.Ipv6.{has_ipv6 as has_ipv6_of, traffic_class as traffic_class_of, payload_length as payload_length_of, packet6_end as packet6_end_of, upper_of as upper_at, transport6_in};
+ghost use Rattle.cf_headers.specs.Ipv6.{has_ipv6 as has_ipv6_of, traffic_class as traffic_class_of, payload_length as payload_length_of};
+ghost use Rattle.cf_headers.specs.Ipv6.{packet6_end as packet6_end_of, upper_of as upper_at, transport6_in};
 ghost use Rattle.cf_headers.specs.Packet6.{network6_values as network6_values_of, address6_values as address6_values_of};
 
 use crate::extension::{Upper, upper_after};

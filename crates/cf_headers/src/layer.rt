@@ -1,6 +1,7 @@
 // What comes after the link header and the tags of a frame.
 ghost use Rattle.std.specs.Prelude.{◌≡◌, ◌+◌, ◌≤◌, length, IsTrue};
-ghost use Rattle.cf_headers.specs.Layers.{version_type as type_by_version, family_type as type_by_family, is_family6 as is_family6_of, link_layer as link_layer_of, has_tag as has_tag_of, past_tag as past_tag_of, vlan_in};
+ghost use Rattle.cf_headers.specs.Layers.{version_type as type_by_version, family_type as type_by_family, is_family6 as is_family6_of};
+ghost use Rattle.cf_headers.specs.Layers.{link_layer as link_layer_of, has_tag as has_tag_of, past_tag as past_tag_of, vlan_in};
 
 use crate::link::number_or_0;
 use byteorder::{BigEndian, ByteOrder, LittleEndian};

@@ -2,7 +2,9 @@
 ghost use Rattle.std.specs.Prelude.{◌≡◌, ◌+◌, ◌≤◌, length, IfOk, IsOk, IsTrue};
 ghost use Rattle.cf_row.specs.Row.{Fits};
 ghost use Rattle.cf_row.specs.Schema.{packet_attrs};
-ghost use Rattle.cf_headers.specs.Packet.{packet_row_of, address_values as address_values_of, network_values as network_values_of, transport_values as transport_values_of, IsWithin};
+ghost use Rattle.cf_headers.specs.Frames.{frame_of};
+ghost use Rattle.cf_headers.specs.Packet.{packet_row_of, address_values as address_values_of, network_values as network_values_of};
+ghost use Rattle.cf_headers.specs.Packet.{transport_values as transport_values_of, IsWithin};
 
 use crate::fields::{address_if, byte_at, byte_if, u16_at, u16_if, u32_at, u32_if};
 use crate::link::{has_addresses, link_header};
@@ -11,6 +13,30 @@ use crate::transport::{Transport, kind_of, transport_of};
 use cf_pcap::Frame;
 use cf_row::{Memory, Row, Value};
 use std::alloc::Global;
+
+/// What a frame is beside its bytes.
+#[derive(Clone, Copy)]
+pub(crate) struct Head {
+    pub num: u32,
+    pub ts: u64,
+    pub caplen: u32,
+    pub len: u32,
+    pub link: u16,
+}
+
+impl Head {
+    pub(crate) fn of(frame: &Frame) -> Head
+        ensures { frame_of result frame.now.bytes ≡ frame.now }
+    {
+        Head {
+            num: frame.num,
+            ts: frame.ts,
+            caplen: frame.caplen,
+            len: frame.len,
+            link: frame.link,
+        }
+    }
+}
 
 // dmac and smac.
 pub(crate) fn address_values(link: u16, frame: &[u8]) -> [Value; 2]
@@ -66,22 +92,22 @@ pub(crate) fn transport_values(transport: Transport, frame: &[u8]) -> [Value; 6]
 }
 
 // All values of a packet's row.
-fn packet_values(ts: u64, caplen: u32, len: u32, link: u16, bytes: &[u8]) -> [Value; 20]
-    ensures { result ≡ (packet_row_of (record { num = 0; ts = ts; caplen = caplen; len = len; link = link; bytes = bytes.now })).values }
+fn packet_values(head: Head, bytes: &[u8]) -> [Value; 20]
+    ensures { result ≡ (packet_row_of (frame_of head bytes.now)).values }
 {
-    let header = link_header(link, bytes);
+    let header = link_header(head.link, bytes);
     let ipv4 = has_ipv4(header.etype, header.network, bytes);
     let transport = transport_of(ipv4, header.network, bytes);
-    let [dmac, smac] = address_values(link, bytes);
+    let [dmac, smac] = address_values(head.link, bytes);
     let [tos, iplen, ttl, proto, src, dst] = network_values(ipv4, header.network, bytes);
     let [sport, dport, seq, ack, flags, win] = transport_values(transport, bytes);
     let etype = Value::Num(u64::from(header.etype));
     let kind = Value::Num(u64::from(kind_of(ipv4, transport)));
     let vlan = Value::Num(u64::from(header.vlan));
     [
-        Value::Num(ts),
-        Value::Num(u64::from(caplen)),
-        Value::Num(u64::from(len)),
+        Value::Num(head.ts),
+        Value::Num(u64::from(head.caplen)),
+        Value::Num(u64::from(head.len)),
         dmac,
         smac,
         etype,
@@ -102,20 +128,12 @@ fn packet_values(ts: u64, caplen: u32, len: u32, link: u16, bytes: &[u8]) -> [Va
     ]
 }
 
-fn row_of(
-    alloc: Global,
-    num: u32,
-    ts: u64,
-    caplen: u32,
-    len: u32,
-    link: u16,
-    bytes: &[u8],
-) -> Result<Row, Memory>
-    ensures row { IfOk result (λ row. row ≡ packet_row_of (record { num = num; ts = ts; caplen = caplen; len = len; link = link; bytes = bytes.now })) }
+fn row_of(alloc: Global, head: Head, bytes: &[u8]) -> Result<Row, Memory>
+    ensures row { IfOk result (λ row. row ≡ packet_row_of (frame_of head bytes.now)) }
     ensures fits { IfOk result (Fits packet_attrs) }
     ensures free { IsOk result }
 {
-    Row::packed(alloc, num, &packet_values(ts, caplen, len, link, bytes))
+    Row::packed(alloc, head.num, &packet_values(head, bytes))
 }
 
 /// The row of a captured packet, of the packet schema, with the packet's number. What isn't read is 0,
@@ -129,13 +147,5 @@ pub fn packet_row(alloc: Global, frame: &Frame) -> Result<Row, Memory>
     ensures fits { IfOk result (Fits packet_attrs) }
     ensures free { IsOk result }
 {
-    row_of(
-        alloc,
-        frame.num,
-        frame.ts,
-        frame.caplen,
-        frame.len,
-        frame.link,
-        &frame.bytes,
-    )
+    row_of(alloc, Head::of(frame), &frame.bytes)
 }

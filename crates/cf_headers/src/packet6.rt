@@ -3,13 +3,14 @@ ghost use Rattle.std.specs.Prelude.{◌≡◌, ◌+◌, ◌≤◌, length, IfOk,
 ghost use Rattle.cf_row.specs.Row.{Fits};
 ghost use Rattle.cf_packet6.specs.Schema6.{packet6_attrs};
 ghost use Rattle.cf_pcap.specs.Capture.{FrameValue};
+ghost use Rattle.cf_headers.specs.Frames.{frame_of};
 ghost use Rattle.cf_headers.specs.Packet.{IsWithin};
 ghost use Rattle.cf_headers.specs.Packet6.{packet6_row_of, network_values_in as network_values_of, transport_behind as transport_behind_of, address6_if as address6_if_of, Agrees};
 
 use crate::ipv6::{address6_values, has_ipv6, network6_values, transport6_of};
 use crate::layer::{link_layer, past_tag, vlan_of};
 use crate::network::has_ipv4;
-use crate::packet::{address_values, network_values, transport_values};
+use crate::packet::{Head, address_values, network_values, transport_values};
 use crate::transport::{Transport, kind_of, transport_of};
 use cf_pcap::Frame;
 use cf_row::{Memory, Row, Value};
@@ -56,23 +57,23 @@ fn address6_if(ipv6: bool, at: usize, frame: &[u8]) -> [Value; 4]
 }
 
 // All values of a packet's row.
-fn packet6_values(ts: u64, caplen: u32, len: u32, link: u16, bytes: &[u8]) -> [Value; 24]
-    ensures { result ≡ (packet6_row_of (record { num = 0; ts = ts; caplen = caplen; len = len; link = link; bytes = bytes.now })).values }
+fn packet6_values(head: Head, bytes: &[u8]) -> [Value; 24]
+    ensures { result ≡ (packet6_row_of (frame_of head bytes.now)).values }
 {
-    let first = link_layer(link, bytes);
+    let first = link_layer(head.link, bytes);
     let layer = past_tag(past_tag(first, bytes), bytes);
     let (etype, at) = (layer.etype, layer.place);
     let ipv6 = has_ipv6(etype, at, bytes);
     let transport = transport_behind(ipv6, etype, at, bytes);
     let kind = kind_of(ipv6 || has_ipv4(etype, at, bytes), transport);
-    let [dmac, smac] = address_values(link, bytes);
+    let [dmac, smac] = address_values(head.link, bytes);
     let [tos, iplen, ttl, proto, src, dst] = network_values_in(ipv6, etype, at, bytes);
     let [sport, dport, seq, ack, flags, win] = transport_values(transport, bytes);
     let [src6, src6_low, dst6, dst6_low] = address6_if(ipv6, at, bytes);
     [
-        Value::Num(ts),
-        Value::Num(u64::from(caplen)),
-        Value::Num(u64::from(len)),
+        Value::Num(head.ts),
+        Value::Num(u64::from(head.caplen)),
+        Value::Num(u64::from(head.len)),
         dmac,
         smac,
         Value::Num(u64::from(etype)),
@@ -97,19 +98,11 @@ fn packet6_values(ts: u64, caplen: u32, len: u32, link: u16, bytes: &[u8]) -> [V
     ]
 }
 
-fn row6_of(
-    alloc: Global,
-    num: u32,
-    ts: u64,
-    caplen: u32,
-    len: u32,
-    link: u16,
-    bytes: &[u8],
-) -> Result<Row, Memory>
-    ensures row { IfOk result (λ row. row ≡ packet6_row_of (record { num = num; ts = ts; caplen = caplen; len = len; link = link; bytes = bytes.now })) }
+fn row6_of(alloc: Global, head: Head, bytes: &[u8]) -> Result<Row, Memory>
+    ensures row { IfOk result (λ row. row ≡ packet6_row_of (frame_of head bytes.now)) }
     ensures fits { IfOk result (Fits packet6_attrs) }
 {
-    Row::packed(alloc, num, &packet6_values(ts, caplen, len, link, bytes))
+    Row::packed(alloc, head.num, &packet6_values(head, bytes))
 }
 
 /// The row of a captured packet, of the packet schema with IPv6 addresses, with the packet's number. What isn't read is 0, or zero
@@ -120,15 +113,7 @@ pub fn packet6_row(alloc: Global, frame: &Frame) -> Result<Row, Memory>
     ensures row { IfOk result (λ row. row ≡ packet6_row_of frame.now) }
     ensures fits { IfOk result (Fits packet6_attrs) }
 {
-    row6_of(
-        alloc,
-        frame.num,
-        frame.ts,
-        frame.caplen,
-        frame.len,
-        frame.link,
-        &frame.bytes,
-    )
+    row6_of(alloc, Head::of(frame), &frame.bytes)
 }
 
 /// The row of a packet of kind 1, 2 or 3 from a basic link is the begin of its row with IPv6 addresses.
