@@ -63,7 +63,8 @@ fn values_of(
 ) -> Result<Vec<Value>, RecordFault>
     requires few { length attrs.now < 256 }
     requires counted { length (fields_of line.now) ≡ length attrs.now }
-    ensures { MatchResult result (λ values. HaveValues attrs.now (fields_of line.now) values.items) (λ fault. (fault ≡ RecordFault.Memory) ⊎ HasRecordFault attrs.now (fields_of line.now) num fault) }
+    ensures { MatchResult result (λ values. HaveValues attrs.now (fields_of line.now) values.items)
+        (λ fault. (fault ≡ RecordFault.Memory) ⊎ HasRecordFault attrs.now (fields_of line.now) num fault) }
 {
     let mut values = Vec::with_capacity(alloc, attrs.len())?;
     for column in 0..attrs.len() {
@@ -82,7 +83,8 @@ pub(crate) fn row_of(
     num: u32,
     line: &ByteRecord,
 ) -> Result<Row, RecordFault>
-    ensures row { MatchResult result (λ row. (row.num ≡ num) × HaveValues schema.now (fields_of line.now) row.values) (λ fault. (fault ≡ RecordFault.Memory) ⊎ HasRecordFault schema.now (fields_of line.now) num fault) }
+    ensures row { MatchResult result (λ row. (row.num ≡ num) × HaveValues schema.now (fields_of line.now) row.values)
+        (λ fault. (fault ≡ RecordFault.Memory) ⊎ HasRecordFault schema.now (fields_of line.now) num fault) }
     ensures fits { IfOk result (Fits schema.now) }
 {
     let attrs = schema.attrs();
