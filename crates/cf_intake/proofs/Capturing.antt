@@ -3,7 +3,7 @@ use Rattle.std.proofs.Common.{◌≡◌, ◌⊎◌, inl, inr, ℕ, ◌<◌, ◌�
 use Rattle.std.proofs.lemmas.List.{take-append-le}
 use Rattle.cf_row.specs.Row.{RowValue}
 use Rattle.cf_row.specs.declared.schema.Attr.{Attr}
-use Rattle.cf_pcap.specs.Capture.{FrameValue, HasPcapFault}
+use Rattle.cf_pcap.specs.Capture.{FrameValue}
 use Rattle.cf_pcap.specs.Links.{limited}
 use Rattle.cf_pcap.specs.declared.links.LinkSet.{LinkSet}
 use Rattle.cf_pcap.specs.declared.scope.Scope.{Scope}
@@ -13,31 +13,23 @@ use Rattle.cf_stream.specs.declared.limit.Length.TheVariants.{Limited}
 use Rattle.cf_packet6.specs.declared.PacketSchema.{PacketSchema}
 use Rattle.cf_setup.specs.declared.source.Source.{Source}
 use Rattle.cf_setup.specs.declared.source.Source.TheVariants.{Packets, Records}
-use Rattle.cf_pcap.specs.declared.fault.PcapFault.{PcapFault}
 use Rattle.cf_pcap.specs.declared.fault.PcapFault.TheVariants as faults
 use Rattle.cf_pcap.proofs.Ending.{fault_of_front}
-use Rattle.cf_pcap.proofs.Verdict as pcap
+use Rattle.cf_pcap.proofs.Verdict.{one_case as records_one}
 use Rattle.cf_pcap.specs.Truncated as records
 use Rattle.cf_pcap.proofs.Truncating.{truncated_case as records_case}
 use Rattle.cf_pcapng.specs.Truncated as blocks
 use Rattle.cf_pcapng.proofs.Truncating.{truncated_case as blocks_case}
 use Rattle.cf_pcapng.specs.File.{pcapng}
-use Rattle.cf_pcapng.specs.Rules.{HasFaultOf}
-use Rattle.cf_pcapng.specs.declared.fault.NgFault.{NgFault}
 use Rattle.cf_pcapng.specs.declared.fault.NgFault.TheVariants as ng
 use Rattle.cf_pcapng.proofs.Filing.{file_by_rules, one_case_of}
 use Rattle.cf_pcapng.proofs.Steps.{stepper}
 use Rattle.cf_stream.proofs.Ending as streams
-use Rattle.cf_intake.specs.Faults.{HasRecordFault, HasBlockFault, HasFaultIn, HasPacketFault, HasPacketFaultTo, HasFaultTo, code_of, record_of, block_code_of, frame_of}
+use Rattle.cf_intake.specs.Faults.{HasFaultIn, HasPacketFault, HasPacketFaultTo, HasFaultTo, code_of, record_of}
 use Rattle.cf_intake.specs.Formats.{begins_section}
 use Rattle.cf_intake.specs.Laws.{OneCase}
-use Rattle.cf_intake.specs.Parts.{IsBad}
-use Rattle.cf_intake.specs.Reading.{IsCutAt, HasFaultUncut}
 use Rattle.cf_intake.specs.Rows.{CaptureValue, links_by, packet_rows, scope_by, limit_by, AreFramesBy, AreFramesBefore, ArePackets, ArePacketsBefore, ArePacketsTo, IsTruncatedAt, AreRowsTo}
-use Rattle.cf_intake.specs.declared.refusal.Halt.{Halt}
-use Rattle.cf_intake.specs.declared.refusal.Halt.TheVariants.{Refused, Stopped}
-use Rattle.cf_intake.specs.declared.refusal.Refusal.TheVariants as refusals
-use Rattle.cf_intake.specs.declared.refusal.Stop.TheVariants as stops
+use Rattle.cf_intake.specs.declared.faults.Fault.TheVariants.{Pcap, PcapNg}
 
 -- Below 2^32 bytes.
 
@@ -82,66 +74,6 @@ packets_longer schema bytes rest at code whole has =
     subst (λ (b : Bool). HasFaultIn (scope_by Limited schema) b (bytes ++ rest) at code) (sym (begins_front bytes rest whole))
     (longer_in (links_by schema) (begins_section bytes) bytes rest at code whole has)
 
--- A fault of the bytes refuses them, and want of memory is none.
-
-record_faulty : (scope : Scope) (bytes : List ℕ) (fault : PcapFault) (halt : Halt) → (fault ≡ faults.Memory → ⊥)
-    → ((fault ≡ faults.Memory → ⊥) → halt ≡ Refused (refusals.Capture (record_of fault) (code_of fault)))
-    → ((fault ≡ faults.Memory → ⊥) → HasPcapFault scope bytes fault) → IsBad (HasRecordFault scope bytes) halt
-record_faulty scope bytes fault halt none other has =
-    subst (λ (h : Halt). IsBad (HasRecordFault scope bytes) h) (sym (other none))
-    (record_of fault, code_of fault, refl, record { fault = fault; fault_is = has none; record_is = refl; code_is = refl })
-
-pub bad_record : (scope : Scope) (bytes : List ℕ) (fault : PcapFault) (halt : Halt) → (fault ≡ faults.Memory → halt ≡ Stopped stops.Memory)
-    → ((fault ≡ faults.Memory → ⊥) → halt ≡ Refused (refusals.Capture (record_of fault) (code_of fault)))
-    → ((fault ≡ faults.Memory → ⊥) → HasPcapFault scope bytes fault) → IsBad (HasRecordFault scope bytes) halt
-bad_record scope bytes faults.Memory halt memory other has = subst (λ (h : Halt). IsBad (HasRecordFault scope bytes) h) (sym (memory refl)) tt
-bad_record scope bytes faults.BadMagic halt memory other has = record_faulty scope bytes faults.BadMagic halt (λ e. cc e) other has
-bad_record scope bytes faults.BadVersion halt memory other has = record_faulty scope bytes faults.BadVersion halt (λ e. cc e) other has
-bad_record scope bytes faults.BadLink halt memory other has = record_faulty scope bytes faults.BadLink halt (λ e. cc e) other has
-bad_record scope bytes (faults.FrameTooLong k) halt memory other has = record_faulty scope bytes (faults.FrameTooLong k) halt (λ e. cc e) other has
-bad_record scope bytes (faults.Cut k) halt memory other has = record_faulty scope bytes (faults.Cut k) halt (λ e. cc e) other has
-bad_record scope bytes faults.TooManyBytes halt memory other has = record_faulty scope bytes faults.TooManyBytes halt (λ e. cc e) other has
-
-block_faulty : (scope : Scope) (bytes : List ℕ) (fault : NgFault) (halt : Halt) → (fault ≡ ng.Memory → ⊥)
-    → ((fault ≡ ng.Memory → ⊥) → halt ≡ Refused (refusals.Capture (frame_of fault) (block_code_of fault)))
-    → ((fault ≡ ng.Memory → ⊥) → HasFaultOf scope bytes fault) → IsBad (HasBlockFault scope bytes) halt
-block_faulty scope bytes fault halt none other has =
-    subst (λ (h : Halt). IsBad (HasBlockFault scope bytes) h) (sym (other none))
-    (frame_of fault, block_code_of fault, refl, record { fault = fault; fault_is = has none; record_is = refl; code_is = refl })
-
-pub bad_block : (scope : Scope) (bytes : List ℕ) (fault : NgFault) (halt : Halt) → (fault ≡ ng.Memory → halt ≡ Stopped stops.Memory)
-    → ((fault ≡ ng.Memory → ⊥) → halt ≡ Refused (refusals.Capture (frame_of fault) (block_code_of fault)))
-    → ((fault ≡ ng.Memory → ⊥) → HasFaultOf scope bytes fault) → IsBad (HasBlockFault scope bytes) halt
-bad_block scope bytes ng.Memory halt memory other has = subst (λ (h : Halt). IsBad (HasBlockFault scope bytes) h) (sym (memory refl)) tt
-bad_block scope bytes (ng.BadMagic k) halt memory other has = block_faulty scope bytes (ng.BadMagic k) halt (λ e. cc e) other has
-bad_block scope bytes (ng.BadVersion k) halt memory other has = block_faulty scope bytes (ng.BadVersion k) halt (λ e. cc e) other has
-bad_block scope bytes (ng.BadLink k) halt memory other has = block_faulty scope bytes (ng.BadLink k) halt (λ e. cc e) other has
-bad_block scope bytes (ng.FrameTooLong k) halt memory other has = block_faulty scope bytes (ng.FrameTooLong k) halt (λ e. cc e) other has
-bad_block scope bytes (ng.Cut k) halt memory other has = block_faulty scope bytes (ng.Cut k) halt (λ e. cc e) other has
-bad_block scope bytes ng.TooManyBytes halt memory other has = block_faulty scope bytes ng.TooManyBytes halt (λ e. cc e) other has
-bad_block scope bytes (ng.BadLength k) halt memory other has = block_faulty scope bytes (ng.BadLength k) halt (λ e. cc e) other has
-bad_block scope bytes (ng.NoInterface k) halt memory other has = block_faulty scope bytes (ng.NoInterface k) halt (λ e. cc e) other has
-
--- the same of one that is not truncated
-uncut : (truncated : Bool) (scope : Scope) (blocks : Bool) (stream : List ℕ) (halt : Halt) → IsBad (HasFaultIn scope blocks stream) halt
-    → ((frames : List FrameValue) (k : ℕ) → IsCutAt truncated scope blocks stream frames k → ⊥) → IsBad (HasFaultUncut truncated scope blocks stream) halt
-uncut truncated scope blocks stream (Refused why) bad never = (bad.0, bad.1, bad.2, (bad.3, never))
-uncut truncated scope blocks stream (Stopped stops.ReadFault) bad never = bad
-uncut truncated scope blocks stream (Stopped stops.Memory) bad never = bad
-
-pub uncut_record : (truncated : Bool) (scope : Scope) (stream : List ℕ) (fault : PcapFault) (halt : Halt)
-    → (fault ≡ faults.Memory → halt ≡ Stopped stops.Memory)
-    → ((fault ≡ faults.Memory → ⊥) → halt ≡ Refused (refusals.Capture (record_of fault) (code_of fault))) → HasPcapFault scope stream fault
-    × ((frames : List FrameValue) (k : ℕ) → IsCutAt truncated scope false stream frames k → ⊥) → IsBad (HasFaultUncut truncated scope false stream) halt
-uncut_record truncated scope stream fault halt memory other has =
-    uncut truncated scope false stream halt (bad_record scope stream fault halt memory other (λ none. has.0)) has.1
-
-pub uncut_block : (truncated : Bool) (scope : Scope) (stream : List ℕ) (fault : NgFault) (halt : Halt) → (fault ≡ ng.Memory → halt ≡ Stopped stops.Memory)
-    → ((fault ≡ ng.Memory → ⊥) → halt ≡ Refused (refusals.Capture (frame_of fault) (block_code_of fault))) → HasFaultOf scope stream fault
-    × ((frames : List FrameValue) (k : ℕ) → IsCutAt truncated scope true stream frames k → ⊥) → IsBad (HasFaultUncut truncated scope true stream) halt
-uncut_block truncated scope stream fault halt memory other has =
-    uncut truncated scope true stream halt (bad_block scope stream fault halt memory other (λ none. has.0)) has.1
-
 -- One case.
 
 faults_same : (scope : Scope) (b : Bool) (bytes : List ℕ) (at code at' code' : ℕ) → HasFaultIn scope b bytes at code → HasFaultIn scope b bytes at' code'
@@ -149,19 +81,19 @@ faults_same : (scope : Scope) (b : Bool) (bytes : List ℕ) (at code at' code' :
     × (code ≡ code')
 faults_same scope true bytes at code at' code' p q =
     let one : p.fault ≡ q.fault = (one_case_of scope bytes).one_fault p.fault q.fault p.fault_is q.fault_is in
-    (p.record_is ∙ ap frame_of one ∙ sym q.record_is, p.code_is ∙ ap block_code_of one ∙ sym q.code_is)
+    (p.record_is ∙ ap (λ f. record_of (PcapNg f)) one ∙ sym q.record_is, p.code_is ∙ ap (λ f. code_of (PcapNg f)) one ∙ sym q.code_is)
 faults_same scope false bytes at code at' code' p q =
-    let one : p.fault ≡ q.fault = pcap.one_fault scope bytes p.fault q.fault p.fault_is q.fault_is in
-    (p.record_is ∙ ap record_of one ∙ sym q.record_is, p.code_is ∙ ap code_of one ∙ sym q.code_is)
+    let one : p.fault ≡ q.fault = (records_one scope bytes).one_fault p.fault q.fault p.fault_is q.fault_is in
+    (p.record_is ∙ ap (λ f. record_of (Pcap f)) one ∙ sym q.record_is, p.code_is ∙ ap (λ f. code_of (Pcap f)) one ∙ sym q.code_is)
 
 frames_either : (scope : Scope) (b : Bool) (bytes : List ℕ) (frames : List FrameValue) (at code : ℕ) → AreFramesBy scope b bytes frames
     → HasFaultIn scope b bytes at code → ⊥
 frames_either scope true bytes frames at code are has = (one_case_of scope bytes).either frames has.fault are has.fault_is
-frames_either scope false bytes frames at code are has = pcap.either scope bytes frames has.fault are has.fault_is
+frames_either scope false bytes frames at code are has = (records_one scope bytes).either frames has.fault are has.fault_is
 
 frames_same : (scope : Scope) (b : Bool) (bytes : List ℕ) (p q : List FrameValue) → AreFramesBy scope b bytes p → AreFramesBy scope b bytes q → p ≡ q
 frames_same scope true bytes p q are also = (one_case_of scope bytes).one_capture p q are also
-frames_same scope false bytes p q are also = pcap.one_capture scope bytes p q are also
+frames_same scope false bytes p q are also = (records_one scope bytes).one_capture p q are also
 
 pub packet_faults_same : (schema : PacketSchema) (bytes : List ℕ) (at code at' code' : ℕ) → HasPacketFault Limited schema bytes at code
     → HasPacketFault Limited schema bytes at' code' → (at ≡ at') × (code ≡ code')
@@ -185,11 +117,11 @@ some_case : (scope : Scope) (b : Bool) (bytes : List ℕ) → ((frames : List Fr
 some_case scope true bytes = elim (one_case_of scope bytes).some [
   | inl whole ↦ inl (whole.0, whole.1)
   | inr bad ↦ inr
-      (record { place = frame_of bad.0; code = block_code_of bad.0; has = record { fault = bad.0; fault_is = bad.1; record_is = refl; code_is = refl } })
+      (record { place = record_of (PcapNg bad.0); code = code_of (PcapNg bad.0); has = record { fault = bad.0; fault_is = bad.1; record_is = refl; code_is = refl } })
 ]
-some_case scope false bytes = elim (pcap.one_case scope bytes).some [
+some_case scope false bytes = elim (records_one scope bytes).some [
   | inl whole ↦ inl (whole.0, whole.1)
-  | inr bad ↦ inr (record { place = record_of bad.0; code = code_of bad.0; has = record { fault = bad.0; fault_is = bad.1; record_is = refl; code_is = refl } })
+  | inr bad ↦ inr (record { place = record_of (Pcap bad.0); code = code_of (Pcap bad.0); has = record { fault = bad.0; fault_is = bad.1; record_is = refl; code_is = refl } })
 ]
 
 -- Where it may be truncated.
@@ -266,19 +198,19 @@ before_or_not : (scope : Scope) (b : Bool) (bytes : List ℕ) → ((frames : Lis
     ⊎ ((frames : List FrameValue) → AreFramesBefore scope b bytes frames → ⊥)
 before_or_not scope true bytes = elim (blocks_case scope bytes).some [
   | inl says ↦ blocks_said says.0 says.1 says.2
-  | inr bad ↦ inr bad.1.1
+  | inr bad ↦ inr (λ frames is. bad.1.1 frames (number_of scope.length (length frames)) (is, refl))
 ] where
-  blocks_said : (frames : List FrameValue) (cut : Option ℕ) → blocks.Says scope bytes frames cut
+  blocks_said : (frames : List FrameValue) (cut : Option ℕ) → blocks.Says true scope bytes frames cut
       → ((frames : List FrameValue) × AreFramesBefore scope true bytes frames) ⊎ ((frames : List FrameValue) → AreFramesBefore scope true bytes frames → ⊥)
   blocks_said frames None are = inr (λ others is. (one_case_of scope bytes).either frames (ng.Cut (number_of scope.length (length others))) are is.fault)
   blocks_said frames (Some k) is = inl (frames, is.0)
 before_or_not scope false bytes = elim (records_case scope bytes).some [
   | inl says ↦ records_said says.0 says.1 says.2
-  | inr bad ↦ inr bad.1.1
+  | inr bad ↦ inr (λ frames is. bad.1.1 frames (number_of scope.length (length frames)) (is, refl))
 ] where
-  records_said : (frames : List FrameValue) (cut : Option ℕ) → records.Says scope bytes frames cut
+  records_said : (frames : List FrameValue) (cut : Option ℕ) → records.Says true scope bytes frames cut
       → ((frames : List FrameValue) × AreFramesBefore scope false bytes frames) ⊎ ((frames : List FrameValue) → AreFramesBefore scope false bytes frames → ⊥)
-  records_said frames None are = inr (λ others is. pcap.either scope bytes frames (faults.Cut (number_of scope.length (length others))) are is.fault)
+  records_said frames None are = inr (λ others is. (records_one scope bytes).either frames (faults.Cut (number_of scope.length (length others))) are is.fault)
   records_said frames (Some k) is = inl (frames, is.0)
 
 fault_to : (schema : PacketSchema) (truncated : Bool) (attrs : List Attr) (bytes : List ℕ) → Fault (scope_by Limited schema) (begins_section bytes) bytes

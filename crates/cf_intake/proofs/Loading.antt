@@ -1,5 +1,5 @@
 -- From a file that is read to what it says.
-use Rattle.std.proofs.Common.{◌≡◌, ◌⊎◌, ℕ, ◌+◌, ◌<◌, ◌^◌, Bool, true, false, List, [], ◌++◌, length, Option, Some, None, Result, Ok, Err, refl, ap, sym, ◌∙◌, inl, inr, MatchResult, subst, arith, append-nil, length-append, Vec}
+use Rattle.std.proofs.Common.{◌≡◌, ◌⊎◌, ℕ, ◌+◌, ◌<◌, ◌^◌, Bool, false, List, [], ◌++◌, length, Option, Some, None, Result, Ok, Err, refl, ap, sym, ◌∙◌, inl, inr, MatchResult, subst, arith, append-nil, length-append, Vec}
 use Rattle.std.specs.declared.alloc.Global.{Global}
 use Rattle.cf_row.specs.Row.{RowValue}
 use Rattle.cf_packet6.specs.declared.PacketSchema.{PacketSchema}
@@ -12,22 +12,23 @@ use Rattle.cf_records.specs.Records.{HasRecordsFault, IsRecordFile}
 use Rattle.cf_records.specs.declared.fault.RecordFault.{RecordFault}
 use Rattle.cf_records.specs.declared.fault.RecordFault.TheVariants as records
 use Rattle.cf_intake.specs.Devices.{IsFileRead, ReadsFile}
-use Rattle.cf_intake.specs.Faults.{HasLineFault, HasFaultBy, HasFaultTo, line_code_of, record_of_lines}
+use Rattle.cf_intake.specs.Faults.{HasLineFault, HasFaultBy, HasFaultTo, code_of, record_of, halt_of}
 use Rattle.cf_intake.specs.Files.{HasFile, HasLeft, Grammar, captures, IsReadAs, IsFileRefused, Halts}
 use Rattle.cf_intake.specs.Files.IsFileRefused.{missing, broken}
 use Rattle.cf_intake.specs.Parts.{IsBad, captured}
 use Rattle.cf_intake.specs.Reading.{TakesPackets, ReadsRows}
 use Rattle.cf_intake.specs.Refusals.{unread}
 use Rattle.cf_intake.specs.Rows.{CaptureValue, AreRowsTo, IsTruncatedAt, limit_by}
+use Rattle.cf_intake.specs.declared.faults.Fault.TheVariants.{Lines}
 use Rattle.cf_intake.specs.declared.rows.Captured.{Captured}
 use Rattle.cf_intake.proofs.Capturing.{packets_end, packets_longer, truncated_end}
+use Rattle.cf_intake.proofs.Streams.{bad, told}
 use Rattle.cf_intake.proofs.Taking.{left_after, stopped_read, file_read, file_stopped}
 use Rattle.cf_intake.specs.declared.devices.ReadError.{ReadError}
 use Rattle.cf_intake.specs.declared.devices.ReadError.TheVariants as errors
 use Rattle.cf_intake.specs.declared.refusal.Halt.{Halt}
 use Rattle.cf_intake.specs.declared.refusal.Halt.TheVariants.{Refused, Stopped}
 use Rattle.cf_intake.specs.declared.refusal.Refusal.{Refusal}
-use Rattle.cf_intake.specs.declared.refusal.Refusal.TheVariants as refusals
 use Rattle.cf_intake.specs.declared.refusal.Stop.{Stop}
 use Rattle.cf_intake.specs.declared.refusal.Stop.TheVariants as stops
 
@@ -185,27 +186,9 @@ packets_kept schema truncated told name before mid now (Err (Refused why)) opene
 packets_kept schema truncated told name before mid now (Err (Stopped stop)) opened takes = file_stopped told name (2 ^ 32) before mid now opened takes
 
 -- a fault of the bytes refuses them, and want of memory is none
-line_faulty : (attrs : List Attr) (bytes : List ℕ) (fault : RecordFault) (halt : Halt) → (fault ≡ records.Memory → ⊥)
-    → ((fault ≡ records.Memory → ⊥) → halt ≡ Refused (refusals.Capture (record_of_lines fault) (line_code_of fault))) → HasRecordsFault attrs bytes fault
-    → IsBad (HasLineFault attrs bytes) halt
-line_faulty attrs bytes fault halt none other has =
-    subst (λ (h : Halt). IsBad (HasLineFault attrs bytes) h) (sym (other none))
-    (record_of_lines fault, line_code_of fault, refl, record { fault = fault; fault_is = has; record_is = refl; code_is = refl })
-
-found_line : (attrs : List Attr) (bytes : List ℕ) (fault : RecordFault) (halt : Halt)
-    → ((fault ≡ records.Memory → ⊥) → halt ≡ Refused (refusals.Capture (record_of_lines fault) (line_code_of fault))) → HasRecordsFault attrs bytes fault
-    → IsBad (HasLineFault attrs bytes) halt
-found_line attrs bytes records.Memory halt other has = absurd has
-found_line attrs bytes records.NoHeader halt other has = line_faulty attrs bytes records.NoHeader halt (λ e. cc e) other has
-found_line attrs bytes records.BadHeader halt other has = line_faulty attrs bytes records.BadHeader halt (λ e. cc e) other has
-found_line attrs bytes (records.BadCount k) halt other has = line_faulty attrs bytes (records.BadCount k) halt (λ e. cc e) other has
-found_line attrs bytes (records.BadValue k column) halt other has = line_faulty attrs bytes (records.BadValue k column) halt (λ e. cc e) other has
-found_line attrs bytes records.TooManyBytes halt other has = line_faulty attrs bytes records.TooManyBytes halt (λ e. cc e) other has
-
-pub bad_records : (attrs : List Attr) (bytes : List ℕ) (fault : RecordFault) (halt : Halt) → (fault ≡ records.Memory → halt ≡ Stopped stops.Memory)
-    → ((fault ≡ records.Memory → ⊥) → halt ≡ Refused (refusals.Capture (record_of_lines fault) (line_code_of fault))) → (fault ≡ records.Memory)
-    ⊎ HasRecordsFault attrs bytes fault → IsBad (HasLineFault attrs bytes) halt
-bad_records attrs bytes fault halt memory other has = elim has [
-  | inl want ↦ subst (λ (h : Halt). IsBad (HasLineFault attrs bytes) h) (sym (memory want)) tt
-  | inr found ↦ found_line attrs bytes fault halt other found
+pub bad_records : (attrs : List Attr) (bytes : List ℕ) (fault : RecordFault) → (fault ≡ records.Memory) ⊎ HasRecordsFault attrs bytes fault
+    → IsBad (HasLineFault attrs bytes) (halt_of (Lines fault))
+bad_records attrs bytes fault has = elim has [
+  | inl want ↦ subst (λ (f : RecordFault). IsBad (HasLineFault attrs bytes) (halt_of (Lines f))) (sym want) tt
+  | inr found ↦ bad (HasLineFault attrs bytes) (record_of (Lines fault)) (code_of (Lines fault)) (told (HasRecordsFault attrs bytes) Lines fault found)
 ]

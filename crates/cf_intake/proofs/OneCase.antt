@@ -1,14 +1,15 @@
 -- A file of records is in just one case too.
-use Rattle.std.proofs.Common.{◌≡◌, ◌⊎◌, inl, inr, ℕ, Bool, true, false, List, Option, Some, None, Result, Ok, Err, refl, ap, sym, ◌∙◌}
+use Rattle.std.proofs.Common.{◌≡◌, ◌⊎◌, inl, inr, ℕ, Bool, false, List, Option, Some, None, Result, Ok, Err, refl, ap, sym, ◌∙◌}
 use Rattle.cf_row.specs.Row.{RowValue}
 use Rattle.cf_row.specs.declared.schema.Attr.{Attr}
 use Rattle.cf_records.specs.Records.{RecordsText}
 use Rattle.cf_records.specs.declared.fault.RecordFault.{RecordFault}
 use Rattle.cf_records.proofs.OneOutcome.{one_records}
 use Rattle.cf_records.proofs.SomeOutcome.{some_records}
-use Rattle.cf_intake.specs.Faults.{HasFaultTo, line_code_of, record_of_lines}
+use Rattle.cf_intake.specs.Faults.{HasFaultTo, code_of, record_of}
 use Rattle.cf_setup.specs.declared.source.Source.{Source}
 use Rattle.cf_setup.specs.declared.source.Source.TheVariants.{Packets, Records}
+use Rattle.cf_intake.specs.declared.faults.Fault.TheVariants.{Lines}
 use Rattle.cf_intake.specs.Laws.{OneCase}
 use Rattle.cf_intake.specs.Rows.{CaptureValue, AreRowsTo}
 use Rattle.cf_intake.proofs.Capturing.{one_packet_case}
@@ -18,7 +19,7 @@ some_of : (attrs : List Attr) (bytes : List ℕ) (answer : Result (List RowValue
     ⊎ ((record_at : ℕ) × (code : ℕ) × HasFaultTo Records false attrs bytes record_at code)
 some_of attrs bytes (Ok rows) is = inl (record { rows = rows; cut = None }, is)
 some_of attrs bytes (Err fault) is =
-    inr (record_of_lines fault, line_code_of fault, (record { fault = fault; fault_is = is; record_is = refl; code_is = refl }, λ rows k none. none))
+    inr (record_of (Lines fault), code_of (Lines fault), (record { fault = fault; fault_is = is; record_is = refl; code_is = refl }, λ rows k none. none))
 
 same_rows : (a b : List RowValue) → ◌≡◌ {A = Result (List RowValue) RecordFault} (Ok a) (Ok b) → a ≡ b
 same_rows a b e = cc e
@@ -48,7 +49,7 @@ one_record_case attrs bytes = record {
   one = λ a b p q. lines_same attrs bytes a.rows b.rows a.cut b.cut p q;
   one_fault = λ record_at code other other_code x y. (
       let e = same_fault x.0.fault y.0.fault (one_records attrs bytes (Err x.0.fault) (Err y.0.fault) x.0.fault_is y.0.fault_is) in
-      (x.0.record_is ∙ (ap record_of_lines e ∙ sym y.0.record_is), x.0.code_is ∙ (ap line_code_of e ∙ sym y.0.code_is)));
+      (x.0.record_is ∙ (ap (λ f. record_of (Lines f)) e ∙ sym y.0.record_is), x.0.code_is ∙ (ap (λ f. code_of (Lines f)) e ∙ sym y.0.code_is)));
 }
 
 pub one_case : (source : Source) (truncated : Bool) (attrs : List Attr) (bytes : List ℕ) → OneCase source truncated attrs bytes

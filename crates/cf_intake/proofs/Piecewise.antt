@@ -15,7 +15,7 @@ use Rattle.cf_pcap.specs.Capture.{FrameValue}
 use Rattle.cf_row.specs.Row.{RowValue}
 use Rattle.cf_intake.specs.Devices.{TakesUpTo, TakesAtMost}
 use Rattle.cf_setup.specs.declared.source.Source.TheVariants.{Packets}
-use Rattle.cf_intake.specs.Faults.{HasFaultIn, HasFaultTo, HasPacketFaultTo}
+use Rattle.cf_intake.specs.Faults.{HasFaultIn, HasPacketFaultTo}
 use Rattle.cf_intake.specs.Formats.{begins_section}
 use Rattle.cf_intake.specs.Parts.{IsBad}
 use Rattle.cf_intake.specs.Reading.{AddsFew, AreFramesTo, Feeds, Finishes, HasFaultUncut, IsCutAt, IsReaderAt, IsReadOn, IsLast, TakesPackets, reads_blocks, reads_scope}
@@ -24,7 +24,6 @@ use Rattle.cf_intake.specs.declared.pieces.Pieces.{Pieces}
 use Rattle.cf_intake.specs.declared.reader.Reader.{Reader}
 use Rattle.cf_intake.specs.declared.refusal.Halt.{Halt}
 use Rattle.cf_intake.specs.declared.refusal.Halt.TheVariants.{Refused, Stopped}
-use Rattle.cf_intake.specs.declared.refusal.Refusal.{Refusal}
 use Rattle.cf_intake.specs.declared.refusal.Stop.TheVariants as stops
 use Rattle.cf_intake.proofs.Capturing.{begins_same}
 

@@ -1,7 +1,6 @@
 -- A capture is read by single reads.
-use Rattle.std.proofs.Common.{◌≡◌, ◌⊎◌, inl, inr, ℕ, ◌+◌, ◌*◌, ◌<◌, ◌≤◌, suc, zero, take, drop, Bool, true, false, List, [], ◌∷◌, ◌++◌, length, Option, Some, None, Result, Ok, Err, MatchResult, refl, sym, ap, ap₂, subst, ◌∙◌, arith, length-append, append-nil}
+use Rattle.std.proofs.Common.{◌≡◌, inl, inr, ℕ, ◌+◌, ◌<◌, ◌≤◌, suc, zero, drop, Bool, true, false, List, [], ◌∷◌, ◌++◌, length, Option, Some, None, Result, MatchResult, refl, sym, ap, ap₂, subst, ◌∙◌, arith, length-append}
 use Rattle.std.specs.List.{slice_get}
-use Rattle.std.specs.Io.KnownBytes.{Consumes, IsAtEnd}
 use Rattle.std.proofs.lemmas.List.{map-append}
 use Rattle.cf_packet6.specs.declared.PacketSchema.{PacketSchema}
 use Rattle.cf_packet6.specs.declared.PacketSchema.TheVariants.{Packet, Packet6}
@@ -16,7 +15,7 @@ use Rattle.cf_pcapng.specs.File as blocks
 use Rattle.cf_pcapng.proofs.Heads.{head_short}
 use Rattle.cf_pcapng.proofs.Numbers.{IsNumbered, numbered}
 use Rattle.cf_pcapng.proofs.Steps as blocks_steps
-use Rattle.cf_stream.specs.Format.{Format, Part, Takes, Wants, AreUnitsThen, items_of}
+use Rattle.cf_stream.specs.Format.{Format, Part, Takes, AreUnitsThen, items_of}
 use Rattle.cf_stream.specs.Stream.{IsStepper, AreGiven, early}
 use Rattle.cf_stream.specs.Limits.{IsShort, count_on, number_of}
 use Rattle.cf_stream.specs.declared.limit.Length.{Length}

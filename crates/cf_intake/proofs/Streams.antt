@@ -1,40 +1,41 @@
 -- A reader of one of the two formats, over a stream.
-use Rattle.std.proofs.Common.{◌≡◌, ℕ, ◌+◌, ◌*◌, ◌≤◌, List, [], ◌++◌, length, length-append, true, false, Option, Some, None, Result, Ok, Err, MatchResult, subst, sym, ap, ◌∙◌, arith}
+use Rattle.std.proofs.Common.{◌≡◌, ◌==◌, if◌then◌else◌, ℕ, ◌+◌, ◌*◌, ◌≤◌, List, [], ◌++◌, length, length-append, Bool, true, false, Option, Some, None, Result, refl, subst, sym, ap, ◌∙◌, arith}
 use Rattle.cf_pcap.specs.declared.scope.Scope.{Scope}
 use Rattle.cf_pcap.specs.declared.fault.PcapFault.{PcapFault}
-use Rattle.cf_pcap.specs.Capture.{FrameValue, IsCapture, HasPcapFault}
+use Rattle.cf_pcap.specs.Capture.{FrameValue, HasPcapFault}
+use Rattle.cf_pcap.specs.Kinds.{Kind}
+use Rattle.cf_pcap.specs.Kinds as kinds
+use Rattle.cf_pcap.specs.Laws.{records as records_kind}
 use Rattle.cf_pcap.specs.Truncated as records_cut
 use Rattle.cf_pcap.specs.File.{pcap}
 use Rattle.cf_pcap.specs.Stream as records
-use Rattle.cf_pcap.proofs.Judging.{judged_alike}
 use Rattle.cf_pcap.proofs.Steps as records_steps
 use Rattle.cf_pcapng.specs.declared.fault.NgFault.{NgFault}
 use Rattle.cf_pcapng.specs.File.{pcapng}
 use Rattle.cf_pcapng.specs.Reader as blocks
-use Rattle.cf_pcapng.specs.Rules.{IsFileOf, HasFaultOf}
+use Rattle.cf_pcapng.specs.Rules.{HasFaultOf, blocks as blocks_kind}
 use Rattle.cf_pcapng.specs.Truncated as blocks_cut
-use Rattle.cf_pcapng.proofs.Filing.{file_by_rules}
 use Rattle.cf_pcapng.proofs.Steps as blocks_steps
-use Rattle.cf_stream.specs.Format.{Format, IsWhole}
-use Rattle.cf_stream.specs.Stream.{IsStepper, AreGiven}
-use Rattle.cf_stream.proofs.Ending.{whole_gives}
+use Rattle.cf_stream.specs.Format.{Format}
+use Rattle.cf_stream.specs.Limits.{number_of}
+use Rattle.cf_stream.specs.Stream.{IsStepper, AreGiven, IsFed}
 use Rattle.cf_stream.proofs.Given.{given_of, one_given}
 use Rattle.cf_stream.proofs.Limits.{none_short}
 use Rattle.cf_stream.proofs.Seen.{early_short}
 use Rattle.cf_stream.proofs.Units.{reads_nothing, wants_none}
-use Rattle.cf_intake.specs.Reading.{AddsFew, AreFramesTo, IsCutAt, IsReaderAt}
+use Rattle.cf_intake.specs.Faults.{IsTold, code_of, record_of, refusal_by, halt_by, halt_of}
+use Rattle.cf_intake.specs.Parts.{IsBad}
+use Rattle.cf_intake.specs.Reading.{AddsFew, AreFramesTo, HasFaultUncut, IsCutAt, IsReaderAt}
+use Rattle.cf_intake.specs.Rows.{AreFramesBefore}
+use Rattle.cf_intake.specs.declared.faults.Fault.{Fault}
+use Rattle.cf_intake.specs.declared.faults.Fault.TheVariants as faults
+use Rattle.cf_intake.specs.declared.refusal.Refusal.TheVariants.{Capture}
 use Rattle.cf_intake.specs.declared.reader.Reader.TheVariants.{Pcap, PcapNg}
 
 -- of a stream of no bytes no item is given
 nothing_given : {S I F : Type 0} (f : Format S I F) → IsStepper f → AreGiven f [] []
 nothing_given f is =
     given_of f [] [] [] f.start [] (early_short f.length [] (none_short f.length)) (reads_nothing f f.start []) (wants_none f f.start [] (is.nothing f.start))
-
--- the items of a whole file are those that were given
-whole_given : {S I F : Type 0} (f : Format S I F) → IsStepper f → (stream : List ℕ) (items given : List I) → IsWhole f stream items → AreGiven f stream given
-    → IsWhole f stream given
-whole_given {S} {I} f is stream items given whole are =
-    subst (λ (xs : List I). IsWhole f stream xs) (one_given f stream items given (whole_gives f is stream items whole) are) whole
 
 -- A new reader has given no frame.
 
@@ -46,23 +47,27 @@ blocks_begin reader state = (state, nothing_given (pcapng reader.scope) (blocks_
 
 -- It gives those of one more piece.
 
+fed_on : {S I F : Type 0} (f : Format S I F) (Old New : List ℕ → Type 0) (piece : List ℕ) (given : List I) (answer : Result (Unit {0}) F)
+    → ((stream : List ℕ) → Old stream → IsFed f stream piece given answer New)
+    → (stream : List ℕ) (items : List I) → Old stream × AreGiven f stream items → New (stream ++ piece) × AreGiven f (stream ++ piece) (items ++ given)
+fed_on {S} {I} f Old New piece given answer feeds stream items at =
+    let fed = feeds stream at.0 in
+    let same : fed.before ≡ items = one_given f stream fed.before items fed.given_before at.1 in
+    (fed.state, subst (λ (xs : List I). AreGiven f (stream ++ piece) (xs ++ given)) same fed.given_now)
+
 pub records_fed : (old new : records.PcapValue) → new.scope ≡ old.scope → (piece : List ℕ) (given : List FrameValue) (answer : Result (Unit {0}) PcapFault)
     → ((stream : List ℕ) → records.IsStateOf old stream → records.IsFed stream piece given answer new)
     → (stream : List ℕ) (frames : List FrameValue) → IsReaderAt (Pcap old) stream frames → IsReaderAt (Pcap new) (stream ++ piece) (frames ++ given)
 records_fed old new scope piece given answer feeds stream frames at =
-    let fed = feeds stream at.0 in
-    let had : AreGiven (pcap new.scope) stream frames = subst (λ (ls : Scope). AreGiven (pcap ls) stream frames) (sym scope) at.1 in
-    let same : fed.before ≡ frames = one_given (pcap new.scope) stream fed.before frames fed.given_before had in
-    (fed.state, subst (λ (fs : List FrameValue). AreGiven (pcap new.scope) (stream ++ piece) (fs ++ given)) same fed.given_now)
+    fed_on (pcap new.scope) (records.IsStateOf old) (records.IsStateOf new) piece given answer feeds stream frames
+    (at.0, subst (λ (s : Scope). AreGiven (pcap s) stream frames) (sym scope) at.1)
 
 pub blocks_fed : (old new : blocks.PcapNgValue) → new.scope ≡ old.scope → (piece : List ℕ) (given : List FrameValue) (answer : Result (Unit {0}) NgFault)
     → ((stream : List ℕ) → blocks.IsStateOf old stream → blocks.IsFed stream piece given answer new)
     → (stream : List ℕ) (frames : List FrameValue) → IsReaderAt (PcapNg old) stream frames → IsReaderAt (PcapNg new) (stream ++ piece) (frames ++ given)
 blocks_fed old new scope piece given answer feeds stream frames at =
-    let fed = feeds stream at.0 in
-    let had : AreGiven (pcapng new.scope) stream frames = subst (λ (ls : Scope). AreGiven (pcapng ls) stream frames) (sym scope) at.1 in
-    let same : fed.before ≡ frames = one_given (pcapng new.scope) stream fed.before frames fed.given_before had in
-    (fed.state, subst (λ (fs : List FrameValue). AreGiven (pcapng new.scope) (stream ++ piece) (fs ++ given)) same fed.given_now)
+    fed_on (pcapng new.scope) (blocks.IsStateOf old) (blocks.IsStateOf new) piece given answer feeds stream frames
+    (at.0, subst (λ (s : Scope). AreGiven (pcapng s) stream frames) (sym scope) at.1)
 
 -- These are few.
 
@@ -81,54 +86,63 @@ pub blocks_few : (old new : blocks.PcapNgValue) (piece : List ℕ) (given before
     → (stream : List ℕ) (frames : List FrameValue) → IsReaderAt (PcapNg old) stream frames → AddsFew piece before after
 blocks_few old new piece given before after answer grown feeds stream frames at = adds_few piece before after given grown (feeds stream at.0).few
 
--- At the end they are those of the capture.
+-- What the end says of the frames.
 
-pub records_end : (reader : records.PcapValue) (count : ℕ) (stream : List ℕ) (frames : List FrameValue) → IsReaderAt (Pcap reader) stream frames
-    → ((s : List ℕ) → records.IsStateOf reader s → records.IsEnded reader.scope s (Ok count)) → IsCapture reader.scope stream frames
-records_end reader count stream frames at ended =
-    let found = ended stream at.0 in
-    (judged_alike reader.scope stream).capture frames
-    (whole_given (pcap reader.scope) (records_steps.stepper reader.scope) stream found.0 frames found.1 at.1)
+pub records_said : (truncated : Bool) (scope : Scope) (stream : List ℕ) (frames : List FrameValue) (cut : Option ℕ)
+    → records_cut.Says truncated scope stream frames cut → AreFramesTo truncated scope false stream frames cut
+records_said truncated scope stream frames None is = is
+records_said true scope stream frames (Some k) is = is
+records_said false scope stream frames (Some k) is = is
 
-pub blocks_end : (reader : blocks.PcapNgValue) (count : ℕ) (stream : List ℕ) (frames : List FrameValue) → IsReaderAt (PcapNg reader) stream frames
-    → ((s : List ℕ) → blocks.IsStateOf reader s → blocks.IsEnded reader.scope s (Ok count)) → IsFileOf reader.scope stream frames
-blocks_end reader count stream frames at ended =
-    let found = ended stream at.0 in
-    (file_by_rules reader.scope stream).capture frames
-    (whole_given (pcapng reader.scope) (blocks_steps.stepper reader.scope) stream found.0 frames found.1 at.1)
+pub blocks_said : (truncated : Bool) (scope : Scope) (stream : List ℕ) (frames : List FrameValue) (cut : Option ℕ)
+    → blocks_cut.Says truncated scope stream frames cut → AreFramesTo truncated scope true stream frames cut
+blocks_said truncated scope stream frames None is = is
+blocks_said true scope stream frames (Some k) is = is
+blocks_said false scope stream frames (Some k) is = is
 
--- what the end says where the stream may not be truncated, and where it may
+-- Or it has a fault, by which it is refused, and want of memory is none.
 
-pub records_kept : (reader : records.PcapValue) (count : ℕ) (stream : List ℕ) (frames : List FrameValue) → IsReaderAt (Pcap reader) stream frames
-    → ((s : List ℕ) → records.IsStateOf reader s → records.IsEnded reader.scope s (Ok count)) → AreFramesTo false reader.scope false stream frames None
-records_kept reader count stream frames at ended = records_end reader count stream frames at ended
+-- a fault of that record and code is what its halt tells
+bad_or_none : (Breaks : ℕ → ℕ → Type 0) (at code : ℕ) (none : Bool) → Breaks at code
+    → IsBad Breaks (halt_by (if none then None else Some (Capture at code)))
+bad_or_none Breaks at code true breaks = tt
+bad_or_none Breaks at code false breaks = (at, code, refl, breaks)
 
-pub records_refused : (reader : records.PcapValue) (fault : PcapFault) (stream : List ℕ) (frames : List FrameValue) → IsReaderAt (Pcap reader) stream frames
-    → ((s : List ℕ) → records.IsStateOf reader s → records.IsEnded reader.scope s (Err fault)) → HasPcapFault reader.scope stream fault
-    × ((others : List FrameValue) (k : ℕ) → IsCutAt false reader.scope false stream others k → ⊥)
-records_refused reader fault stream frames at ended = ((judged_alike reader.scope stream).fault fault (ended stream at.0), λ others k is. is)
+pub bad : (Breaks : ℕ → ℕ → Type 0) (at code : ℕ) → Breaks at code → IsBad Breaks (halt_by (refusal_by at code))
+bad Breaks at code = bad_or_none Breaks at code (code == 0)
 
-pub records_truncated : (scope : Scope) (stream : List ℕ) (frames : List FrameValue) (result : Result (Option ℕ) PcapFault)
-    → MatchResult result (records_cut.Says scope stream frames) (records_cut.Breaks scope stream)
-    → MatchResult result (AreFramesTo true scope false stream frames)
-    (λ fault. HasPcapFault scope stream fault × ((others : List FrameValue) (k : ℕ) → IsCutAt true scope false stream others k → ⊥))
-records_truncated scope stream frames (Ok None) says = says
-records_truncated scope stream frames (Ok (Some k)) says = says
-records_truncated scope stream frames (Err fault) breaks = (breaks.0, λ others k is. breaks.1 others is.0)
+pub told : {F : Type 0} (Has : F → Type 0) (of : F → Fault) (fault : F) → Has fault → IsTold Has of (record_of (of fault)) (code_of (of fault))
+told Has of fault has = record { fault = fault; fault_is = has; record_is = refl; code_is = refl }
 
-pub blocks_kept : (reader : blocks.PcapNgValue) (count : ℕ) (stream : List ℕ) (frames : List FrameValue) → IsReaderAt (PcapNg reader) stream frames
-    → ((s : List ℕ) → blocks.IsStateOf reader s → blocks.IsEnded reader.scope s (Ok count)) → AreFramesTo false reader.scope true stream frames None
-blocks_kept reader count stream frames at ended = blocks_end reader count stream frames at ended
+cut_in : {F : Type 0} (kind : Kind F) (truncated blocks : Bool) (scope : Scope) (stream : List ℕ)
+    → ((frames : List FrameValue) (k : ℕ) → kinds.IsCutAt kind truncated stream frames k → ⊥)
+    → ((frames : List FrameValue) → AreFramesBefore scope blocks stream frames → kinds.IsTruncated kind stream frames)
+    → (frames : List FrameValue) (k : ℕ) → IsCutAt truncated scope blocks stream frames k → ⊥
+cut_in kind false blocks scope stream never same frames k is = is
+cut_in kind true blocks scope stream never same frames k is = never frames (number_of kind.longest (length frames)) (same frames is.0, refl)
 
-pub blocks_refused : (reader : blocks.PcapNgValue) (fault : NgFault) (stream : List ℕ) (frames : List FrameValue) → IsReaderAt (PcapNg reader) stream frames
-    → ((s : List ℕ) → blocks.IsStateOf reader s → blocks.IsEnded reader.scope s (Err fault)) → HasFaultOf reader.scope stream fault
-    × ((others : List FrameValue) (k : ℕ) → IsCutAt false reader.scope true stream others k → ⊥)
-blocks_refused reader fault stream frames at ended = ((file_by_rules reader.scope stream).fault fault (ended stream at.0), λ others k is. is)
+pub records_uncut : (truncated : Bool) (scope : Scope) (stream : List ℕ) (fault : PcapFault) → records_cut.Breaks truncated scope stream fault
+    → HasFaultUncut truncated scope false stream (record_of (faults.Pcap fault)) (code_of (faults.Pcap fault))
+records_uncut truncated scope stream fault breaks = (
+  told (HasPcapFault scope stream) faults.Pcap fault breaks.0,
+  cut_in (records_kind scope) truncated false scope stream breaks.1 (λ frames is. is),
+)
 
-pub blocks_truncated : (scope : Scope) (stream : List ℕ) (frames : List FrameValue) (result : Result (Option ℕ) NgFault)
-    → MatchResult result (blocks_cut.Says scope stream frames) (blocks_cut.Breaks scope stream)
-    → MatchResult result (AreFramesTo true scope true stream frames)
-    (λ fault. HasFaultOf scope stream fault × ((others : List FrameValue) (k : ℕ) → IsCutAt true scope true stream others k → ⊥))
-blocks_truncated scope stream frames (Ok None) says = says
-blocks_truncated scope stream frames (Ok (Some k)) says = says
-blocks_truncated scope stream frames (Err fault) breaks = (breaks.0, λ others k is. breaks.1 others is.0)
+pub blocks_uncut : (truncated : Bool) (scope : Scope) (stream : List ℕ) (fault : NgFault) → blocks_cut.Breaks truncated scope stream fault
+    → HasFaultUncut truncated scope true stream (record_of (faults.PcapNg fault)) (code_of (faults.PcapNg fault))
+blocks_uncut truncated scope stream fault breaks = (
+  told (HasFaultOf scope stream) faults.PcapNg fault breaks.0,
+  cut_in (blocks_kind scope) truncated true scope stream breaks.1 (λ frames is. is),
+)
+
+pub records_refused : (truncated : Bool) (scope : Scope) (stream : List ℕ) (fault : PcapFault) → records_cut.Breaks truncated scope stream fault
+    → IsBad (HasFaultUncut truncated scope false stream) (halt_of (faults.Pcap fault))
+records_refused truncated scope stream fault breaks =
+    bad (HasFaultUncut truncated scope false stream) (record_of (faults.Pcap fault)) (code_of (faults.Pcap fault))
+    (records_uncut truncated scope stream fault breaks)
+
+pub blocks_refused : (truncated : Bool) (scope : Scope) (stream : List ℕ) (fault : NgFault) → blocks_cut.Breaks truncated scope stream fault
+    → IsBad (HasFaultUncut truncated scope true stream) (halt_of (faults.PcapNg fault))
+blocks_refused truncated scope stream fault breaks =
+    bad (HasFaultUncut truncated scope true stream) (record_of (faults.PcapNg fault)) (code_of (faults.PcapNg fault))
+    (blocks_uncut truncated scope stream fault breaks)

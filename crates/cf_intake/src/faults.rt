@@ -1,95 +1,117 @@
 // What the faults of captures come to.
 ghost use Rattle.std.specs.Prelude.{◌≡◌};
-ghost use Rattle.cf_pcap.specs.declared.fault.PcapFault.TheVariants as faults;
-ghost use Rattle.cf_pcapng.specs.declared.fault.NgFault.TheVariants as ng;
-ghost use Rattle.cf_intake.specs.Faults.{code_of as code_of_fault, record_of as record_of_fault, block_code_of as block_code_of_fault, frame_of as frame_of_fault};
-ghost use Rattle.cf_intake.specs.declared.refusal.Halt.TheVariants.{Refused, Stopped};
-ghost use Rattle.cf_intake.specs.declared.refusal.Refusal.TheVariants as refusals;
-ghost use Rattle.cf_intake.specs.declared.refusal.Stop.TheVariants as stops;
+ghost use Rattle.cf_intake.specs.Faults.{code_of, record_of, refusal_of, halt_of};
+ghost use Rattle.cf_intake.specs.declared.faults.Fault.TheVariants as faults;
 
 use crate::refusal::{Halt, Refusal, Stop};
 use cf_pcap::PcapFault;
 use cf_pcapng::NgFault;
+use cf_records::RecordFault;
 
-fn code_of(fault: PcapFault) -> u8
-    ensures { result ≡ code_of_fault fault }
-{
-    match fault {
-        PcapFault::BadMagic => 1,
-        PcapFault::BadVersion => 2,
-        PcapFault::BadLink => 3,
-        PcapFault::FrameTooLong(_) => 4,
-        PcapFault::Cut(_) => 5,
-        PcapFault::TooManyBytes => 6,
-        PcapFault::Memory => 0,
+/// The fault of a capture in pcap, in pcapng, or of a file of other records.
+#[derive(Clone, Copy, Debug)]
+pub(crate) enum Fault {
+    Pcap(PcapFault),
+    PcapNg(NgFault),
+    Lines(RecordFault),
+}
+
+impl Fault {
+    // Its code. Want of memory, which is no fault of the bytes, has 0.
+    fn code(self) -> u8
+        ensures { result ≡ code_of self }
+    {
+        match self {
+            Fault::Pcap(PcapFault::Memory) => 0,
+            Fault::Pcap(PcapFault::BadMagic) => 1,
+            Fault::Pcap(PcapFault::BadVersion) => 2,
+            Fault::Pcap(PcapFault::BadLink) => 3,
+            Fault::Pcap(PcapFault::FrameTooLong(_)) => 4,
+            Fault::Pcap(PcapFault::Cut(_)) => 5,
+            Fault::Pcap(PcapFault::TooManyBytes) => 6,
+            Fault::Lines(RecordFault::Memory) => 0,
+            Fault::Lines(RecordFault::NoHeader) => 11,
+            Fault::Lines(RecordFault::BadHeader) => 12,
+            Fault::Lines(RecordFault::BadCount(_)) => 13,
+            Fault::Lines(RecordFault::BadValue(_, _)) => 14,
+            Fault::Lines(RecordFault::TooManyBytes) => 15,
+            Fault::PcapNg(NgFault::Memory) => 0,
+            Fault::PcapNg(NgFault::BadMagic(_)) => 21,
+            Fault::PcapNg(NgFault::BadVersion(_)) => 22,
+            Fault::PcapNg(NgFault::BadLink(_)) => 23,
+            Fault::PcapNg(NgFault::FrameTooLong(_)) => 24,
+            Fault::PcapNg(NgFault::Cut(_)) => 25,
+            Fault::PcapNg(NgFault::TooManyBytes) => 26,
+            Fault::PcapNg(NgFault::BadLength(_)) => 27,
+            Fault::PcapNg(NgFault::NoInterface(_)) => 28,
+        }
+    }
+
+    // The record that it names, or 0.
+    fn record(self) -> u32
+        ensures { result ≡ record_of self }
+    {
+        match self {
+            Fault::Pcap(PcapFault::FrameTooLong(count) | PcapFault::Cut(count)) => count,
+            Fault::Lines(RecordFault::BadCount(count)) => count,
+            Fault::Lines(RecordFault::BadValue(count, _)) => count,
+            Fault::PcapNg(
+                NgFault::BadMagic(count)
+                | NgFault::BadVersion(count)
+                | NgFault::BadLink(count)
+                | NgFault::FrameTooLong(count)
+                | NgFault::Cut(count)
+                | NgFault::BadLength(count)
+                | NgFault::NoInterface(count),
+            ) => count,
+            _ => 0,
+        }
+    }
+
+    /// How it refuses the bytes, if it is one of theirs.
+    pub(crate) fn refusal(self) -> Option<Refusal>
+        ensures { result ≡ refusal_of self }
+    {
+        match self.code() {
+            0 => None,
+            code => Some(Refusal::Capture {
+                at: self.record(),
+                code,
+            }),
+        }
+    }
+
+    // What it comes to.
+    fn halt(self) -> Halt
+        ensures { result ≡ halt_of self }
+    {
+        match self.refusal() {
+            Some(why) => Halt::Refused(why),
+            None => Halt::Stopped(Stop::Memory),
+        }
     }
 }
 
-fn record_of(fault: PcapFault) -> u32
-    ensures { result ≡ record_of_fault fault }
-{
-    match fault {
-        PcapFault::FrameTooLong(count) => count,
-        PcapFault::Cut(count) => count,
-        _ => 0,
+impl From<PcapFault> for Halt {
+    ghost from_gives = { λ fault halt. halt ≡ halt_of (faults.Pcap fault) };
+
+    fn from(fault: PcapFault) -> Halt {
+        Fault::Pcap(fault).halt()
     }
 }
 
-/// What a fault comes to, in pcap.
-pub(crate) fn refused_pcap(fault: PcapFault) -> Halt
-    ensures memory { fault ≡ faults.Memory → result ≡ Stopped stops.Memory }
-    ensures other { (fault ≡ faults.Memory → ⊥) → result ≡ Refused (refusals.Capture (record_of_fault fault) (code_of_fault fault)) }
-{
-    match fault {
-        PcapFault::Memory => Halt::Stopped(Stop::Memory),
-        _ => Halt::Refused(Refusal::Capture {
-            at: record_of(fault),
-            code: code_of(fault),
-        }),
+impl From<NgFault> for Halt {
+    ghost from_gives = { λ fault halt. halt ≡ halt_of (faults.PcapNg fault) };
+
+    fn from(fault: NgFault) -> Halt {
+        Fault::PcapNg(fault).halt()
     }
 }
 
-fn block_code_of(fault: NgFault) -> u8
-    ensures { result ≡ block_code_of_fault fault }
-{
-    match fault {
-        NgFault::BadMagic(_) => 21,
-        NgFault::BadVersion(_) => 22,
-        NgFault::BadLink(_) => 23,
-        NgFault::FrameTooLong(_) => 24,
-        NgFault::Cut(_) => 25,
-        NgFault::TooManyBytes => 26,
-        NgFault::BadLength(_) => 27,
-        NgFault::NoInterface(_) => 28,
-        NgFault::Memory => 0,
-    }
-}
+impl From<RecordFault> for Halt {
+    ghost from_gives = { λ fault halt. halt ≡ halt_of (faults.Lines fault) };
 
-fn frame_of(fault: NgFault) -> u32
-    ensures { result ≡ frame_of_fault fault }
-{
-    match fault {
-        NgFault::BadMagic(count)
-        | NgFault::BadVersion(count)
-        | NgFault::BadLink(count)
-        | NgFault::FrameTooLong(count)
-        | NgFault::Cut(count)
-        | NgFault::BadLength(count)
-        | NgFault::NoInterface(count) => count,
-        NgFault::TooManyBytes | NgFault::Memory => 0,
-    }
-}
-
-/// What a fault comes to, in pcapng.
-pub(crate) fn refused_pcapng(fault: NgFault) -> Halt
-    ensures memory { fault ≡ ng.Memory → result ≡ Stopped stops.Memory }
-    ensures other { (fault ≡ ng.Memory → ⊥) → result ≡ Refused (refusals.Capture (frame_of_fault fault) (block_code_of_fault fault)) }
-{
-    match fault {
-        NgFault::Memory => Halt::Stopped(Stop::Memory),
-        _ => Halt::Refused(Refusal::Capture {
-            at: frame_of(fault),
-            code: block_code_of(fault),
-        }),
+    fn from(fault: RecordFault) -> Halt {
+        Fault::Lines(fault).halt()
     }
 }

@@ -3,19 +3,15 @@ ghost use Rattle.std.specs.Prelude.{◌≡◌, All, IfOk, MatchResult};
 ghost use Rattle.cf_row.specs.Row.{Fits};
 ghost use Rattle.cf_packet6.specs.Schema6.{attrs_by};
 ghost use Rattle.cf_records.specs.Records.{IsRecordFile};
-ghost use Rattle.cf_records.specs.declared.fault.RecordFault.TheVariants as record_faults;
-ghost use Rattle.cf_intake.specs.Faults.{HasLineFault, line_code_of as line_code_of_fault, record_of_lines};
+ghost use Rattle.cf_intake.specs.Faults.{HasLineFault};
 ghost use Rattle.cf_intake.specs.Parts.{IsBad, IsSetupRead, source_in, attrs_in};
 ghost use Rattle.cf_intake.specs.Rows.{packet_rows, row_by};
-ghost use Rattle.cf_intake.specs.declared.refusal.Halt.TheVariants.{Refused, Stopped};
-ghost use Rattle.cf_intake.specs.declared.refusal.Refusal.TheVariants as refusals;
-ghost use Rattle.cf_intake.specs.declared.refusal.Stop.TheVariants as stops;
 
-use crate::refusal::{Halt, Refusal, Stop};
+use crate::refusal::Halt;
 use cf_headers::{packet_row, packet6_row};
 use cf_packet6::PacketSchema;
 use cf_pcap::Frame;
-use cf_records::{RecordFault, read_records};
+use cf_records::read_records;
 use cf_row::{Memory, Row, Schema};
 use cf_setup::{Setup, Source};
 use std::alloc::Global;
@@ -83,50 +79,10 @@ pub(crate) fn rows_of(
     Ok(rows)
 }
 
-fn line_code_of(fault: RecordFault) -> u8
-    ensures { result ≡ line_code_of_fault fault }
-{
-    match fault {
-        RecordFault::NoHeader => 11,
-        RecordFault::BadHeader => 12,
-        RecordFault::BadCount(_) => 13,
-        RecordFault::BadValue(_, _) => 14,
-        RecordFault::TooManyBytes => 15,
-        RecordFault::Memory => 0,
-    }
-}
-
-fn record_of(fault: RecordFault) -> u32
-    ensures { result ≡ record_of_lines fault }
-{
-    match fault {
-        RecordFault::BadCount(num) => num,
-        RecordFault::BadValue(num, _) => num,
-        _ => 0,
-    }
-}
-
-// What a fault of a file of records comes to.
-fn refused_records(fault: RecordFault) -> Halt
-    ensures memory { fault ≡ record_faults.Memory → result ≡ Stopped stops.Memory }
-    ensures other { (fault ≡ record_faults.Memory → ⊥) → result ≡ Refused (refusals.Capture (record_of_lines fault) (line_code_of_fault fault)) }
-{
-    match fault {
-        RecordFault::Memory => Halt::Stopped(Stop::Memory),
-        _ => Halt::Refused(Refusal::Capture {
-            at: record_of(fault),
-            code: line_code_of(fault),
-        }),
-    }
-}
-
 /// The rows of a file of records.
 pub(crate) fn records_of(alloc: Global, schema: &Schema, bytes: &[u8]) -> Result<Vec<Row>, Halt>
     ensures rows { MatchResult result (λ rows. IsRecordFile schema.now bytes.now rows.items) (IsBad (HasLineFault schema.now bytes.now)) }
     ensures fit { IfOk result (λ rows. All (Fits schema.now) rows.items) }
 {
-    match read_records(alloc, schema, bytes) {
-        Ok(rows) => Ok(rows),
-        Err(fault) => Err(refused_records(fault)),
-    }
+    Ok(read_records(alloc, schema, bytes)?)
 }

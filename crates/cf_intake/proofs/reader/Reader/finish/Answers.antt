@@ -1,24 +1,35 @@
 use Rattle.std.proofs.Common.{◌≡◌, rules}
+use Rattle.std.proofs.lemmas.Result.{err_from_is_err_and}
 use Rattle.cf_intake.specs.declared.reader.Reader.TheVariants.{Pcap, PcapNg}
-use Rattle.cf_intake.proofs.Capturing.{uncut_record, uncut_block}
+use Rattle.cf_intake.proofs.Streams.{records_said, records_refused, blocks_said, blocks_refused}
 use Rattle.cf_intake.proofs.reader.Reader.finish.Goals as goal
 
-pub returns-in-Ok : goal.returns-in-Ok
-returns-in-Ok c =
+pub returns-in_err-finish_as-in-Pcap : goal.returns-in_err-finish_as-in-Pcap
+returns-in_err-finish_as-in-Pcap c =
     let is : c.args.self ≡ Pcap c.in-Pcap.pcap = search rules in
-    rw is (λ stream frames at. c.in-Ok.ensures stream frames at)
+    let p = err_from_is_err_and c.from_residual.result c.from_residual.ensures.1 in
+    rw (is, p.1, p.2)
+    (λ stream frames at. records_refused c.args.truncated c.in-Pcap.pcap.scope stream c.in_err-finish_as-in-Pcap.field-0.0
+    (c.in_err-finish_as-in-Pcap.ensures.ended stream frames at.0 at.1))
 
-pub returns-in-Err : goal.returns-in-Err
-returns-in-Err c =
+pub returns-in_ok-finish_as-in-Pcap : goal.returns-in_ok-finish_as-in-Pcap
+returns-in_ok-finish_as-in-Pcap c =
     let is : c.args.self ≡ Pcap c.in-Pcap.pcap = search rules in
-    rw is (λ stream frames at. uncut_record c.args.truncated c.in-Pcap.pcap.scope stream c.in-Err.fault c.refused_pcap.result c.refused_pcap.ensures.memory c.refused_pcap.ensures.other (c.in-Err.ensures stream frames at))
+    rw is
+    (λ stream frames at. records_said c.args.truncated c.in-Pcap.pcap.scope stream frames c.in_ok-finish_as-in-Pcap.field-0
+    (c.in_ok-finish_as-in-Pcap.ensures.ended stream frames at.0 at.1))
 
-pub returns-in-Ok-end_pcapng : goal.returns-in-Ok-end_pcapng
-returns-in-Ok-end_pcapng c =
+pub returns-in_err-finish_as-in-PcapNg : goal.returns-in_err-finish_as-in-PcapNg
+returns-in_err-finish_as-in-PcapNg c =
     let is : c.args.self ≡ PcapNg c.in-PcapNg.pcapng = search rules in
-    rw is (λ stream frames at. c.in-Ok-end_pcapng.ensures stream frames at)
+    let p = err_from_is_err_and c.from_residual-in_err-finish_as-in-PcapNg.result c.from_residual-in_err-finish_as-in-PcapNg.ensures.1 in
+    rw (is, p.1, p.2)
+    (λ stream frames at. blocks_refused c.args.truncated c.in-PcapNg.pcapng.scope stream c.in_err-finish_as-in-PcapNg.field-0.0
+    (c.in_err-finish_as-in-PcapNg.ensures.ended stream frames at.0 at.1))
 
-pub returns-in-Err-end_pcapng : goal.returns-in-Err-end_pcapng
-returns-in-Err-end_pcapng c =
+pub returns-in_ok-finish_as-in-PcapNg : goal.returns-in_ok-finish_as-in-PcapNg
+returns-in_ok-finish_as-in-PcapNg c =
     let is : c.args.self ≡ PcapNg c.in-PcapNg.pcapng = search rules in
-    rw is (λ stream frames at. uncut_block c.args.truncated c.in-PcapNg.pcapng.scope stream c.in-Err-end_pcapng.fault c.refused_pcapng.result c.refused_pcapng.ensures.memory c.refused_pcapng.ensures.other (c.in-Err-end_pcapng.ensures stream frames at))
+    rw is
+    (λ stream frames at. blocks_said c.args.truncated c.in-PcapNg.pcapng.scope stream frames c.in_ok-finish_as-in-PcapNg.field-0
+    (c.in_ok-finish_as-in-PcapNg.ensures.ended stream frames at.0 at.1))

@@ -1,4 +1,4 @@
-use Rattle.std.proofs.Common.{◌≡◌, ◌∙◌, ℕ, List, ap}
+use Rattle.std.proofs.Common.{◌∙◌, ℕ, List, ap}
 use Rattle.cf_pcap.specs.Links.{unlimited}
 use Rattle.cf_intake.specs.Reads.{IsOpening, IsUnderWay}
 use Rattle.cf_intake.proofs.SingleReads.{ended_way, ended_short}

@@ -1,4 +1,3 @@
-use Rattle.std.proofs.Common.{take}
 use Rattle.cf_intake.proofs.SingleReads.{numbered_behind}
 use Rattle.cf_intake.proofs.reads.Reads.next.Goals as goal
 
