@@ -1,6 +1,25 @@
 // The answers of several hosts at a cut. They share nothing, so each is loaded by itself: all its rows, which shows whether its log
 // has the nodes for them, and those that are in the cut, of which the questions are asked.
-ghost use Rattle.std.specs.Prelude.{◌≡◌, ◌<◌, ◌≤◌, ◌*◌, ◌++◌, All, Any, false, length, map, sum, take, IfOk, IsTrue, OnOk, MatchResult, string_bytes, slice_index_or};
+ghost use Rattle.std.specs.Prelude.{
+  ◌≡◌,
+  ◌<◌,
+  ◌≤◌,
+  ◌*◌,
+  ◌++◌,
+  All,
+  Any,
+  false,
+  length,
+  map,
+  sum,
+  take,
+  IfOk,
+  IsTrue,
+  OnOk,
+  MatchResult,
+  string_bytes,
+  slice_index_or,
+};
 ghost use Rattle.std.specs.List.{flat_map, range_with_len};
 ghost use Rattle.cf_command.specs.Call.{AreSizes, IsSnapshotInRange, snapshot_by};
 ghost use Rattle.cf_report.specs.Snapshot.{host_text};
@@ -127,26 +146,38 @@ fn total_of(cut: &[u32]) -> u32
     total
 }
 
+// What the log of each host is made by.
+#[derive(Clone, Copy)]
+struct HostLog<'a> {
+    alloc: Global,
+    setup: &'a Setup,
+    sizes: LogSizes,
+}
+
 // Writes the part of a host, with its answers on these rows, which are loaded into a log of one writer and one segment.
 fn push_answers<R: Threads + Sync, G: Gate>(
     rt: &R,
-    alloc: Global,
+    gate: &G,
     text: &mut String,
-    setup: &Setup,
+    log: &HostLog,
     host: usize,
     rows: &[Row],
-    sizes: LogSizes,
-    gate: &G,
 ) -> Result<(), Unmade>
-    requires lawful { IsSetup setup.now }
-    requires fit { All (Fits setup.now.schema) rows.now }
-    requires few { length rows.now ≤ sizes.capacity }
-    requires sizes { AreSizes sizes }
-    requires one { sizes.writers ≡ 1 }
-    requires undivided { sizes.segments ≡ 1 }
-    ensures told { OnOk result (string_bytes text.new ≡ string_bytes text.old ++ host_text (shape_for setup.now sizes) setup.now host rows.now) }
-    ensures unmade { MatchResult result (λ _. Unit {0}) (IsUnmadeAlone (shape_for setup.now sizes) rows.now) }
+    requires lawful { IsSetup log.now.setup.now }
+    requires fit { All (Fits log.now.setup.now.schema) rows.now }
+    requires few { length rows.now ≤ log.now.sizes.capacity }
+    requires sizes { AreSizes log.now.sizes }
+    requires one { log.now.sizes.writers ≡ 1 }
+    requires undivided { log.now.sizes.segments ≡ 1 }
+    ensures told { OnOk result
+        (string_bytes text.new ≡ string_bytes text.old ++ host_text (shape_for log.now.setup.now log.now.sizes) log.now.setup.now host rows.now) }
+    ensures unmade { MatchResult result (λ _. Unit {0}) (IsUnmadeAlone (shape_for log.now.setup.now log.now.sizes) rows.now) }
 {
+    let HostLog {
+        alloc,
+        setup,
+        sizes,
+    } = *log;
     let mut filling = opened(alloc, setup, sizes, 0)?;
     let mut copied = copies(alloc, rows)?;
     filling.take_rows(rt, gate, &mut copied)?;
@@ -159,30 +190,28 @@ fn push_answers<R: Threads + Sync, G: Gate>(
 // truncated.
 fn push_hosts<R: Threads + Sync, G: Gate>(
     rt: &R,
-    alloc: Global,
+    gate: &G,
     text: &mut String,
-    setup: &Setup,
+    log: &HostLog,
     hosts: &[Captured],
     cut: &[u32],
-    sizes: LogSizes,
-    gate: &G,
 ) -> Result<(), Memory>
-    requires lawful { IsSetup setup.now }
-    requires fit { All (All (Fits setup.now.schema)) (rows_each hosts.now) }
-    requires room { All (HasRoom sizes setup.now) (rows_each hosts.now) }
-    requires sizes { AreSizes sizes }
-    requires one { sizes.writers ≡ 1 }
-    requires undivided { sizes.segments ≡ 1 }
+    requires lawful { IsSetup log.now.setup.now }
+    requires fit { All (All (Fits log.now.setup.now.schema)) (rows_each hosts.now) }
+    requires room { All (HasRoom log.now.sizes log.now.setup.now) (rows_each hosts.now) }
+    requires sizes { AreSizes log.now.sizes }
+    requires one { log.now.sizes.writers ≡ 1 }
+    requires undivided { log.now.sizes.segments ≡ 1 }
     requires size { length cut.now ≡ length hosts.now }
     requires within { AreWithin cut.now (rows_each hosts.now) }
     ensures { OnOk result (string_bytes text.new ≡ string_bytes text.old
-        ++ flat_map (host_lines_at (shape_for setup.now sizes) setup.now cut.now (rows_each hosts.now) (ends_each hosts.now))
+        ++ flat_map (host_lines_at (shape_for log.now.setup.now log.now.sizes) log.now.setup.now cut.now (rows_each hosts.now) (ends_each hosts.now))
         (range_with_len 0 (length hosts.now))) }
 {
     for host in 0..hosts.len() {
         let captured = &hosts[host];
         let rows = &captured.rows[..cut[host] as usize];
-        match push_answers(rt, alloc, text, setup, host, rows, sizes, gate) {
+        match push_answers(rt, gate, text, log, host, rows) {
             Ok(()) => {}
             Err(Unmade::Memory) => return Err(AllocError),
             // There are nodes for all its rows.
@@ -213,15 +242,12 @@ pub(crate) fn cut_text<R: Threads + Sync, G: Gate>(
     let cut = cut_of_turns(alloc, &counts, command.turns, command.turn)?;
     let mut text = String::new(alloc);
     push_cut(&mut text, total_of(&cut))?;
-    push_hosts(
-        rt,
+    let sizes = command.sizes;
+    let log = HostLog {
         alloc,
-        &mut text,
         setup,
-        hosts,
-        &cut,
-        command.sizes,
-        gate,
-    )?;
+        sizes,
+    };
+    push_hosts(rt, gate, &mut text, &log, hosts, &cut)?;
     Ok(text.into_bytes())
 }

@@ -27,25 +27,31 @@ returns-in_err-copied-clause-unmade g c =
     rw (p.1, p.2) tt
 
 pub closed_log-requires-clause-filled : goal.closed_log-requires-clause-filled
-closed_log-requires-clause-filled g c κs within = (c.args.rows.now, copies_came c.take_rows.new.self c.in_ok-copied.copied.items c.args.rows.now c.in_ok-copied.ensures (c.in_ok-take_rows.ensures.filled [] c.in_ok-filling.ensures.filled))
+closed_log-requires-clause-filled g c κs within = (
+  c.args.rows.now,
+  copies_came c.take_rows.new.self c.in_ok-copied.copied.items c.args.rows.now c.in_ok-copied.ensures
+      (c.in_ok-take_rows.ensures.filled [] c.in_ok-filling.ensures.filled),
+)
 
 pub closed_log-requires-clause-few : goal.closed_log-requires-clause-few
 closed_log-requires-clause-few g c κs within =
-    let sizes = c.args.sizes in
+    let sizes = c.args.log.now.sizes in
     let one : sizes.capacity * sizes.segments ≡ sizes.capacity * 1 = ap (λ (n : ℕ). sizes.capacity * n) c.requires.undivided in
     let few = c.requires.few in
-    filled_few c.args.setup.now sizes 0 c.take_rows.new.self c.args.rows.now
-    (filled_on c.args.setup.now c.args.sizes 0 c.in_ok-filling.filling c.take_rows.new.self c.args.rows.now c.in_ok-filling.ensures c.take_rows.ensures.keeps
-    (copies_came c.take_rows.new.self c.in_ok-copied.copied.items c.args.rows.now c.in_ok-copied.ensures (c.in_ok-take_rows.ensures.filled [] c.in_ok-filling.ensures.filled))) (omega (arith, one, few))
+    filled_few c.args.log.now.setup.now sizes 0 c.take_rows.new.self c.args.rows.now
+    (filled_on c.args.log.now.setup.now c.args.log.now.sizes 0 c.in_ok-filling.filling c.take_rows.new.self c.args.rows.now c.in_ok-filling.ensures c.take_rows.ensures.keeps
+    (copies_came c.take_rows.new.self c.in_ok-copied.copied.items c.args.rows.now c.in_ok-copied.ensures
+    (c.in_ok-take_rows.ensures.filled [] c.in_ok-filling.ensures.filled))) (omega (arith, one, few))
 
 pub push_host_by_tags-requires-clause-places : goal.push_host_by_tags-requires-clause-places
 push_host_by_tags-requires-clause-places g c =
-    let setup = c.args.setup.now in
-    let sizes = c.args.sizes in
+    let setup = c.args.log.now.setup.now in
+    let sizes = c.args.log.now.sizes in
     let answers = c.in_ok-tags.answers in
     let made = c.in_ok-tags.ensures setup sizes 0 c.args.rows.now
     (filled_on setup sizes 0 c.in_ok-filling.filling c.take_rows.new.self c.args.rows.now c.in_ok-filling.ensures c.take_rows.ensures.keeps
-    (copies_came c.take_rows.new.self c.in_ok-copied.copied.items c.args.rows.now c.in_ok-copied.ensures (c.in_ok-take_rows.ensures.filled [] c.in_ok-filling.ensures.filled))) in
+    (copies_came c.take_rows.new.self c.in_ok-copied.copied.items c.args.rows.now c.in_ok-copied.ensures
+    (c.in_ok-take_rows.ensures.filled [] c.in_ok-filling.ensures.filled))) in
     let long = tags_long setup sizes.capacity sizes.writers sizes.nodes 0 c.args.rows.now c.in_ok-tags.tags c.in_ok-tags._seals.items answers made in
     rw c.finals.ensures
     (subst (λ (n : ℕ). All (λ answer. IsWithin n answer.body) answers.finals) (sym long)
@@ -53,31 +59,34 @@ push_host_by_tags-requires-clause-places g c =
 
 pub push_host_by_tags-requires-clause-answered : goal.push_host_by_tags-requires-clause-answered
 push_host_by_tags-requires-clause-answered g c =
-    let setup = c.args.setup.now in
-    let sizes = c.args.sizes in
+    let setup = c.args.log.now.setup.now in
+    let sizes = c.args.log.now.sizes in
     let answers = c.in_ok-tags.answers in
     let made = c.in_ok-tags.ensures setup sizes 0 c.args.rows.now
     (filled_on setup sizes 0 c.in_ok-filling.filling c.take_rows.new.self c.args.rows.now c.in_ok-filling.ensures c.take_rows.ensures.keeps
-    (copies_came c.take_rows.new.self c.in_ok-copied.copied.items c.args.rows.now c.in_ok-copied.ensures (c.in_ok-take_rows.ensures.filled [] c.in_ok-filling.ensures.filled))) in
+    (copies_came c.take_rows.new.self c.in_ok-copied.copied.items c.args.rows.now c.in_ok-copied.ensures
+    (c.in_ok-take_rows.ensures.filled [] c.in_ok-filling.ensures.filled))) in
     rw c.finals.ensures (are_answering setup (shape_for setup sizes) 0 made.entries answers c.requires.lawful made.closed.meant).finals
 
 pub returns-in_err-tags-clause-unmade : goal.returns-in_err-tags-clause-unmade
 returns-in_err-tags-clause-unmade g c =
     let why = c.in_err-tags.field-0.0 in
     let err : c.from_residual-in_err-tags.result ≡ Err why = search rules in
-    rw err (unmade_alone (shape_for c.args.setup.now c.args.sizes) c.args.rows.now why c.requires.few
-    (c.in_err-tags.ensures c.args.setup.now c.args.sizes 0 c.args.rows.now
-    (filled_on c.args.setup.now c.args.sizes 0 c.in_ok-filling.filling c.take_rows.new.self c.args.rows.now c.in_ok-filling.ensures c.take_rows.ensures.keeps
-    (copies_came c.take_rows.new.self c.in_ok-copied.copied.items c.args.rows.now c.in_ok-copied.ensures (c.in_ok-take_rows.ensures.filled [] c.in_ok-filling.ensures.filled)))))
+    rw err (unmade_alone (shape_for c.args.log.now.setup.now c.args.log.now.sizes) c.args.rows.now why c.requires.few
+    (c.in_err-tags.ensures c.args.log.now.setup.now c.args.log.now.sizes 0 c.args.rows.now
+    (filled_on c.args.log.now.setup.now c.args.log.now.sizes 0 c.in_ok-filling.filling c.take_rows.new.self c.args.rows.now c.in_ok-filling.ensures c.take_rows.ensures.keeps
+    (copies_came c.take_rows.new.self c.in_ok-copied.copied.items c.args.rows.now c.in_ok-copied.ensures
+    (c.in_ok-take_rows.ensures.filled [] c.in_ok-filling.ensures.filled)))))
 
 pub returns-clause-told : goal.returns-clause-told
 returns-clause-told g c =
-    let setup = c.args.setup.now in
-    let sizes = c.args.sizes in
+    let setup = c.args.log.now.setup.now in
+    let sizes = c.args.log.now.sizes in
     let answers = c.in_ok-tags.answers in
     let made = c.in_ok-tags.ensures setup sizes 0 c.args.rows.now
     (filled_on setup sizes 0 c.in_ok-filling.filling c.take_rows.new.self c.args.rows.now c.in_ok-filling.ensures c.take_rows.ensures.keeps
-    (copies_came c.take_rows.new.self c.in_ok-copied.copied.items c.args.rows.now c.in_ok-copied.ensures (c.in_ok-take_rows.ensures.filled [] c.in_ok-filling.ensures.filled))) in
+    (copies_came c.take_rows.new.self c.in_ok-copied.copied.items c.args.rows.now c.in_ok-copied.ensures
+    (c.in_ok-take_rows.ensures.filled [] c.in_ok-filling.ensures.filled))) in
     let same = one_log c.args.rows.now sizes.writers made.entries c.requires.one made.closed.is in
     let told = rw c.finals.ensures at c.in_ok-push_host_by_tags.ensures in
     told

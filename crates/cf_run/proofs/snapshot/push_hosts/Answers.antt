@@ -14,16 +14,16 @@ unreachable-requires g c =
     let rows = c.index-hosts-host.result.rows.items in
     let n = slice_index_or c.args.cut.now c.loop-host.host 0 in
     let room = one_of_all
-    (HasRoom c.args.sizes c.args.setup.now) c.args.hosts.now c.loop-host.host c.index-hosts-host.result c.loop-host-test.true c.index-hosts-host.is c.requires.room in
-    never_short (shape_for c.args.setup.now c.args.sizes) rows (take n c.deref.result.now) n c.in-Err-Nodes.field-0 c.in-Err-Nodes.field-0-is
+    (HasRoom c.args.log.now.sizes c.args.log.now.setup.now) c.args.hosts.now c.loop-host.host c.index-hosts-host.result c.loop-host-test.true c.index-hosts-host.is c.requires.room in
+    never_short (shape_for c.args.log.now.setup.now c.args.log.now.sizes) rows (take n c.deref.result.now) n c.in-Err-Nodes.field-0 c.in-Err-Nodes.field-0-is
     (ap (λ (rs : List RowValue). take n rs) c.deref.ensures.value) room.1 c.in-Err-Nodes.ensures.unmade
 
 pub loop-host-preserved : goal.loop-host-preserved
 loop-host-preserved g c =
-    let setup = c.args.setup.now in
+    let setup = c.args.log.now.setup.now in
     let cut = c.args.cut.now in
     let hosts = c.args.hosts.now in
-    let shape = shape_for setup c.args.sizes in
+    let shape = shape_for setup c.args.log.now.sizes in
     let host = c.loop-host.host in
     let rows_are = c.deref.ensures.value ∙ sym (at_host hosts host c.index-hosts-host.result [] c.loop-host-test.true c.index-hosts-host.is) in
     let end_is = end_of_host hosts host c.index-hosts-host.result None c.loop-host-test.true c.index-hosts-host.is in

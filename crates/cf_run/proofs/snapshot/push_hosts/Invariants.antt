@@ -7,5 +7,6 @@ use Rattle.cf_run.proofs.snapshot.push_hosts.Given as goal
 
 abbrev pub invariant-loop-host : goal.invariant-loop-host
 invariant-loop-host g l =
-    string_bytes l.text ≡ string_bytes l.fn.text ++ flat_map (host_lines_at (shape_for l.setup l.sizes) l.setup l.cut (rows_each l.hosts) (ends_each l.hosts))
+    string_bytes l.text ≡ string_bytes l.fn.text ++ flat_map
+    (host_lines_at (shape_for l.log.setup.now l.log.sizes) l.log.setup.now l.cut (rows_each l.hosts) (ends_each l.hosts))
     (range_with_len 0 l.host)
