@@ -5,6 +5,7 @@ ghost use Rattle.cf_table.specs.Values.{IsOf};
 ghost use Rattle.cf_append.specs.Appends.{Rests};
 ghost use Rattle.cf_append.specs.Paths.{Remembers, KeepsLeaves};
 ghost use Rattle.cf_log.specs.Appended.{AppendsAll, HasAppended, HasSettled};
+ghost use Rattle.cf_log.specs.Writers.{AppendsRows};
 
 use crate::counted::{append_by, settle_by};
 use cf_append::{AppendFault, Leaves, Settled};
@@ -65,6 +66,23 @@ pub fn append_all(
         }
     }
     (rows.len(), None)
+}
+
+/// Appends the rows in order, until one is refused, and keeps leaves on the way.
+pub fn append_rows(log: &MultiLog, pass: &mut WriterPass, rows: &[Row]) -> Result<(), AppendFault>
+    requires of { IsOf pass.old log.now }
+    requires fits { All (Fits log.now.shape.schema) rows.now }
+    requires rest { Rests pass.old.view }
+    ensures { AppendsRows log.now rows.now pass.old pass.new result }
+{
+    let mut leaves = Leaves::new();
+    for row in rows {
+        match append_near(log, pass, row, &mut leaves) {
+            Ok(_) => {}
+            Err(fault) => return Err(fault),
+        }
+    }
+    Ok(())
 }
 
 /// Moves the read tail over each finished record, up to the first that isn't. Says whether the record at that offset is covered

@@ -1,9 +1,10 @@
 // Questions are asked by callers that count no steps.
-ghost use Rattle.std.specs.Prelude.{◌≡◌, ◌<◌, ◌≤◌, length, map, true, IfOk, IfErr};
+ghost use Rattle.std.specs.Prelude.{◌≡◌, ◌<◌, ◌≤◌, All, length, map, true, IfOk, IfErr};
 ghost use Rattle.cf_shape.specs.Uses.{is_measured};
 ghost use Rattle.cf_table.specs.Values.{IsOf};
 ghost use Rattle.cf_table.specs.Moves.{AreFit, OnlyLooked};
 ghost use Rattle.cf_plain.specs.Asks.{Suits, eval, is_aggregate, is_keyed_between, row_at, rows_in, total_over};
+ghost use Rattle.cf_plain.specs.Answered.{answer_on};
 ghost use Rattle.cf_plain.specs.Groups.{groups as groups_by, as_group};
 ghost use Rattle.cf_plain.specs.Segments.{finding_in};
 ghost use Rattle.cf_walk.specs.Walks.{OnlyWalked};
@@ -55,6 +56,26 @@ pub fn ask_seen<P: Pass>(
     ensures walked { OnlyWalked (P.held pass.old) (P.held pass.new) }
 {
     ask_seen_by::<P, Brand>(log, alloc, pass, question, Blank::new(1))
+}
+
+/// The meanings of all questions on the records that are covered then, the same for each.
+pub fn ask_all<P: Pass>(
+    log: &MultiLog,
+    alloc: Global,
+    pass: &mut P,
+    questions: &[Ask],
+) -> Result<Vec<Answer>, Memory>
+    requires of { IsOf (P.held pass.old) log.now }
+    requires suit { All (Suits log.now.shape) questions.now }
+    ensures asked { HasAsked log.now.shape (P.held pass.old) (P.held pass.new) }
+    ensures answers { IfOk result (λ answers. answers.items ≡ map (answer_on log.now.shape (P.held pass.new).view.seen) questions.now) }
+{
+    let _tail = tail(log, pass);
+    let mut answers = Vec::with_capacity(alloc, questions.len())?;
+    for question in questions {
+        answers.push(ask_seen(log, alloc, pass, question)?)?;
+    }
+    Ok(answers)
 }
 
 /// What the question finds in the records that are covered then, and how many they are: in place of marks the groups of its lane, so that
