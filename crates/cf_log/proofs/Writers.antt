@@ -1,8 +1,8 @@
 -- A log's writers: their passes are dealt, append rows, and come home.
-use Rattle.std.proofs.Common.{◌≡◌, ◌∙◌, ◌+◌, ◌<◌, ◌≤◌, ◌++◌, ◌==◌, get_or, ℕ, zero, suc, List, [], ◌∷◌, length, map, take, drop, Some, slice_get, Result, Ok, Err, inl, inr, refl, ap, sym, subst, arith, append-nil, append_assoc, drop-cons, add-one}
+use Rattle.std.proofs.Common.{◌≡◌, ◌∙◌, ◌+◌, ◌<◌, ◌≤◌, ◌++◌, ◌==◌, get_or, ℕ, zero, suc, List, [], ◌∷◌, length, map, take, drop, Some, slice_get, Ok, Err, inl, inr, refl, ap, sym, arith, append-nil, append_assoc}
 use Rattle.std.proofs.lemmas.Bool.{cases_Bool}
-use Rattle.std.proofs.lemmas.List.{drop_all, map-append, take_all, take-append-drop}
-use Rattle.std.proofs.lemmas.Option.{slice_get_within, slice_get-get_or}
+use Rattle.std.proofs.lemmas.List.{drop_all, map-append, take-append-drop}
+use Rattle.std.proofs.lemmas.Option.{slice_get_within}
 use Rattle.std.specs.List.{AllByRecursion}
 use Rattle.cf_lemmas.proofs.Lists.{get_back}
 use Rattle.cf_row.specs.Row.{RowValue}
@@ -10,7 +10,7 @@ use Rattle.cf_row.specs.declared.row.Entry.{Entry}
 use Rattle.cf_shape.specs.Lanes.{ShapeValue}
 use Rattle.cf_history.specs.Order.{written_by}
 use Rattle.cf_law.specs.Passes.{Own, Book, Pass}
-use Rattle.cf_law.specs.Steps.{Holds, IsAtRest}
+use Rattle.cf_law.specs.Steps.{Holds}
 use Rattle.cf_law.specs.Events.{tabulated, no_book}
 use Rattle.cf_law.specs.Readers.{mine_from}
 use Rattle.cf_law.proofs.Fronts.{table_length, table_at}
@@ -19,7 +19,6 @@ use Rattle.cf_table.specs.Rule.{root_pass}
 use Rattle.cf_table.specs.Moves.{AreDealt, AreAll, HasGathered, books_of}
 use Rattle.cf_table.proofs.Homing.{get_front}
 use Rattle.cf_append.specs.Appends.{PassGoesOn, Rests, HasAppendAnswer}
-use Rattle.cf_append.specs.Paths.{Remembers}
 use Rattle.cf_append.specs.declared.appends.AppendFault.{AppendFault}
 use Rattle.cf_append.specs.declared.appends.AppendFault.TheVariants.{Full, NodesFull}
 use Rattle.cf_append.proofs.Appending.{rests_by, rests_all}

@@ -1,5 +1,5 @@
 -- Things that are done one after the other, as far as it goes.
-use Rattle.std.specs.Prelude.{◌≡◌, ℕ, ◌≤◌, List, [], ◌∷◌, ◌++◌, length, take, drop, slice_get, Option, Some, None}
+use Rattle.std.specs.Prelude.{◌≡◌, ℕ, ◌≤◌, List, [], ◌∷◌, length, take, drop, slice_get, Option, Some, None}
 
 -- from m to n all of them are done in order, with these answers
 abbrev pub Chain : {T A B : Type 0} → (A → T → T → B → Type 0) → List A → T → T → List B → Type 0

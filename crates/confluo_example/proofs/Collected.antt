@@ -1,5 +1,5 @@
 -- The rows of both writers are in the log.
-use Rattle.std.proofs.Common.{◌≡◌, ◌∙◌, ◌+◌, ◌<◌, ◌++◌, ℕ, zero, suc, List, [], ◌∷◌, All, Ok, length, map, take, slice_get, refl, ap, sym, subst, append-nil, Some, arith}
+use Rattle.std.proofs.Common.{◌≡◌, ◌∙◌, ◌+◌, ◌<◌, ◌++◌, ℕ, zero, suc, List, [], ◌∷◌, All, Ok, length, map, slice_get, refl, ap, sym, subst, append-nil, Some, arith}
 use Rattle.std.proofs.lemmas.List.Sums.{AllPass-from_list_all}
 use Rattle.std.specs.List.{range_with_len, AllByRecursion}
 use Rattle.cf_row.specs.Row.{RowValue, Fits}
@@ -9,7 +9,6 @@ use Rattle.cf_setup.specs.Setups.{SetupValue, IsSetup, shaped}
 use Rattle.cf_plain.specs.Answered.{answer_on}
 use Rattle.cf_plain.specs.Asks.{Suits, suits_of}
 use Rattle.cf_plain.specs.declared.ask.Ask.{Ask}
-use Rattle.cf_history.specs.Order.{written_by}
 use Rattle.cf_plain.specs.declared.answer.Answer.{Answer}
 use Rattle.cf_table.specs.Values.{PassValue, LogValue, IsOf}
 use Rattle.cf_table.specs.Moves.{Begins}
@@ -17,7 +16,7 @@ use Rattle.cf_table.proofs.Settling.{begins_then}
 use Rattle.cf_append.proofs.Answering.{of_then}
 use Rattle.cf_log.specs.Writers.{rows_by, IsWriter, AreWriters, IsOpened, AppendsRows, HasJoined}
 use Rattle.cf_log.specs.declared.passes.Opened.{Opened}
-use Rattle.confluo_example.specs.Example.{HasBoth, HasFound, HasWritten}
+use Rattle.confluo_example.specs.Example.{HasFound, HasWritten}
 use Rattle.confluo_example.specs.declared.Found.{Found}
 
 -- one number more

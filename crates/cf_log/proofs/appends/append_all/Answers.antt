@@ -1,4 +1,4 @@
-use Rattle.std.proofs.Common.{◌≡◌, ◌∙◌, ◌<◌, Ok, Some, ap, refl, sym, length, slice_get, arith, length-set}
+use Rattle.std.proofs.Common.{◌∙◌, Ok, ap, refl, arith, length-set}
 use Rattle.cf_table.specs.Values.{PassValue}
 use Rattle.cf_log.specs.Appended.{HasAppended}
 use Rattle.cf_log.proofs.Chained.{found_at, goes_more, rest_more}

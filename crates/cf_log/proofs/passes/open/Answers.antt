@@ -1,4 +1,4 @@
-use Rattle.std.proofs.Common.{◌≡◌, ◌∙◌}
+use Rattle.std.proofs.Common.{◌∙◌}
 use Rattle.cf_log.proofs.Writers.{opened}
 use Rattle.cf_log.proofs.passes.open.Goals as goal
 
