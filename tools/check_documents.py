@@ -5,6 +5,7 @@
 
 - Each relative link and its anchor exists.
 - docs/full_link.svg is what tools/draw_full_link.py draws, and the table of crates what tools/crate_table.py writes.
+- Each block of docs/LIBRARY.md in Rattle stands in crates/confluo_example.
 - docs/INCIDENTS.md shows each setup of examples/incidents, without its comments, and below each command the stored report.
 - VERSION is the newest version of CHANGELOG.md, the README has at most 900 words, WATCH.md 800, LIBRARY.md 1,200
   and the rest of docs/ 20,000.
@@ -171,6 +172,15 @@ def wrong_sessions(program):
                     yield f"{name}: {commands}\nprints\n{ran.stdout}"
 
 
+def wrong_examples():
+    """Blocks in Rattle of the library's page that the example does not have."""
+    page = (ROOT / "docs" / "LIBRARY.md").read_text()
+    program = (ROOT / "crates" / "confluo_example" / "src" / "main.rt").read_text()
+    for block in re.findall(r"(?ms)^```rust,ignore\n(.*?)^```$", page):
+        if block not in program:
+            yield f"crates/confluo_example does not have this block of docs/LIBRARY.md:\n{block}"
+
+
 def wrong_sizes():
     """Documents that are too long, and a version that is not the newest of the changes."""
     words = {
@@ -192,7 +202,7 @@ def wrong_sizes():
 def main():
     if len(sys.argv) > 2:
         sys.exit(__doc__)
-    wrong = [*broken_links(), *wrong_incidents(), *wrong_sizes(), *crate_table.wrong()]
+    wrong = [*broken_links(), *wrong_incidents(), *wrong_examples(), *wrong_sizes(), *crate_table.wrong()]
     if draw_full_link.PICTURE.read_text() != draw_full_link.drawn():
         wrong.append("docs/full_link.svg is not what tools/draw_full_link.py draws")
     if len(sys.argv) == 2:

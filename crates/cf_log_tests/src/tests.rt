@@ -256,7 +256,7 @@ fn a_number_of_two_writers_is_found(rt: HostRuntime) -> Result<(), Fail> {
     two_finders::<Brand, _>(&rt, rt.alloc(), Blank::new(1))
 }
 
-// A log for one writer, and readers who tell each other what they have seen. docs/LIBRARY.md shows this function.
+// A log for one writer, and readers who tell each other what they have seen.
 fn two_readers<L: Ledger, R: Abort>(rt: &R, alloc: Global, blank: Blank) -> Result<(), Fail>
     requires { (blank.name ≡ L.name) × (blank.parts ≡ L.parts) × (0 < L.parts) }
 {
