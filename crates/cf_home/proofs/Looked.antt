@@ -1,5 +1,5 @@
 -- Places are looked at one after the other.
-use Rattle.std.proofs.Common.{true, false, Option, ◌-◌, ◌≡◌, ◌∙◌, ◌<◌, ◌≤◌, ◌+◌, ℕ, List, [], ◌∷◌, length, zero, suc, Some, None, slice_get, get_or, set, refl, sym, ap, subst, inl, inr, arith}
+use Rattle.std.proofs.Common.{true, false, Bool, Option, ◌-◌, ◌≡◌, ◌∙◌, ◌<◌, ◌≤◌, ◌+◌, ℕ, List, [], ◌∷◌, length, zero, suc, Some, None, slice_get, get_or, set, refl, sym, ap, subst, inl, inr, arith, get_or-set_same}
 use Rattle.std.specs.Option.{is_some}
 use Rattle.std.proofs.lemmas.Option.{slice_get-get_or}
 use Rattle.std.proofs.lemmas.Bool.{cases_lt}
@@ -50,3 +50,18 @@ away_more ps n i p long lt none before k q le at = elim (cases_lt (n - 1 - i) k)
       (get_set_same ps (n - 1 - i) p _ (slice_get-get_or ps (n - 1 - i) p (omega (arith, lt, long)))) in
       ap (λ (x : PlaceValue). x.home) (some_is (sym at ∙ found)) ∙ none)
 ]
+
+-- whether the place that was put there is at home
+pub home_is : (ps : List PlaceValue) (k : ℕ) (p d : PlaceValue) {b : Bool} → k < length ps → is_some (get_or (set ps k p) k d).home ≡ b → is_some p.home ≡ b
+home_is ps k p d lt is = sym (ap (λ (q : PlaceValue). is_some q.home) (get_or-set_same ps k p d lt)) ∙ is
+
+-- up to the place, and at it, all passes are at home
+pub home_more : (ps : List PlaceValue) (k : ℕ) (p : PlaceValue) → k < length ps → is_some p.home ≡ true
+    → ((j : ℕ) (d : PlaceValue) → j < k → is_some (get_or ps j d).home ≡ true) → (j : ℕ) (d : PlaceValue) → j < k + 1
+    → is_some (get_or (set ps k p) j d).home ≡ true
+home_more [] k p lt is before j d low = absurd (omega (arith, lt))
+home_more (q ∷ ps) zero p lt is before zero d low = is
+home_more (q ∷ ps) zero p lt is before (suc j) d low = absurd (omega (arith, low))
+home_more (q ∷ ps) (suc k) p lt is before zero d low = before 0 d (omega arith)
+home_more (q ∷ ps) (suc k) p lt is before (suc j) d low =
+    home_more ps k p (omega (arith, lt)) is (λ i e less. before (suc i) e (omega (arith, less))) j d (omega (arith, low))

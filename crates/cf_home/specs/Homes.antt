@@ -1,5 +1,6 @@
 -- Passes that leave the places of a log's writers, and come home.
-use Rattle.std.specs.Prelude.{◌≡◌, ◌⊎◌, ℕ, ◌<◌, List, [], ◌∷◌, ◌++◌, Option, Some, None, slice_get}
+use Rattle.std.specs.Prelude.{◌≡◌, ◌⊎◌, ℕ, ◌<◌, List, [], ◌∷◌, ◌++◌, Option, Some, None, true, map, slice_get}
+use Rattle.std.specs.Option.{is_some}
 use Rattle.std.specs.List.{AllZip}
 use Rattle.rtrb.specs.declared.consumer.Consumer.{Consumer}
 use Rattle.rtrb.specs.Ring.{received}
@@ -65,3 +66,23 @@ Keeps m n = (n ≡ m) ⊎ ((pass : PassValue) × Comes m pass × (n.home ≡ Som
 abbrev pub Takes : PlaceValue → PlaceValue → Option (PassValue × List PassValue) → Type 0
 Takes m n (Some taken) = (m.home ≡ Some taken.0) × (taken.1 ≡ taken.0 ∷ []) × (n ≡ record { home = None; came = taken.0 ∷ [] })
 Takes m n None = n ≡ m
+
+-- the pass is at home
+abbrev pub IsHome : PlaceValue → Type 0
+IsHome place = is_some place.home ≡ true
+
+-- the pass of that place is away
+abbrev pub IsAwayAt : List PlaceValue → ℕ → Type 0
+IsAwayAt places k = (place : PlaceValue) × (slice_get places k ≡ Some place) × (place.home ≡ None)
+
+-- what is at home at a place
+abbrev pub home_at : PlaceValue → Option PassValue
+home_at place = place.home
+
+-- that is this pass
+abbrev pub some_pass : PassValue → Option PassValue
+some_pass pass = Some pass
+
+-- these passes are at home, place by place
+abbrev pub AreAtHome : List PlaceValue → List PassValue → Type 0
+AreAtHome places passes = map home_at places ≡ map some_pass passes

@@ -6,5 +6,5 @@ mod places;
 mod way;
 
 pub use place::Place;
-pub use places::{find_home, places_of};
+pub use places::{find_away, find_home, places_of, take_home};
 pub use way::{Homeward, Way};

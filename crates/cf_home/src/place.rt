@@ -1,7 +1,7 @@
 // A place of a writer.
 ghost use Rattle.std.specs.Prelude.{◌≡◌, [], Some, true};
 ghost use Rattle.std.specs.Option.{is_some as is_some_of};
-ghost use Rattle.cf_home.specs.Homes.{HasLooked, Takes};
+ghost use Rattle.cf_home.specs.Homes.{HasLooked, IsHome, Takes};
 
 use crate::way::{Homeward, Way, way_for};
 use cf_table::WriterPass;
@@ -75,6 +75,18 @@ impl Place {
                 None
             }
         }
+    }
+
+    /// Its pass, which is at home. The place ends.
+    pub fn into_pass(self) -> WriterPass
+        requires { IsHome self }
+        ensures { self.home ≡ Some result }
+    {
+        let Place { home, .. } = self;
+        let Some(pass) = home else {
+            unreachable!();
+        };
+        pass
     }
 
     /// Puts a pass there that was taken from there, and was not sent.

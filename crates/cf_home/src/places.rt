@@ -1,6 +1,6 @@
 // The places of all writers.
-ghost use Rattle.std.specs.Prelude.{◌≡◌, map, IfOk, MatchOption};
-ghost use Rattle.cf_home.specs.Homes.{AreAway, HaveLooked, IsHomeAt, at_home};
+ghost use Rattle.std.specs.Prelude.{◌≡◌, ◌≤◌, [], All, length, map, IfOk, MatchOption, vec_capacity};
+ghost use Rattle.cf_home.specs.Homes.{AreAtHome, AreAway, HaveLooked, IsAwayAt, IsHome, IsHomeAt, at_home};
 
 use crate::place::Place;
 use cf_row::Memory;
@@ -32,4 +32,30 @@ pub fn places_of(alloc: Global, passes: Vec<WriterPass>) -> Result<Vec<Place>, M
         places.push(Place::of(pass))?;
     }
     Ok(places)
+}
+
+/// The first place whose pass is away, after a look at it and at those before it. There is none if all passes are at home.
+pub fn find_away(places: &mut [Place]) -> Option<usize>
+    ensures looked { HaveLooked places.old places.new }
+    ensures found { MatchOption result (All IsHome places.new) (IsAwayAt places.new) }
+{
+    let count = places.len();
+    for k in 0..count {
+        places[k].look();
+        if !places[k].is_home() {
+            return Some(k);
+        }
+    }
+    None
+}
+
+/// Takes the passes out of these places, at which all are at home. There is room for them.
+pub fn take_home(places: Vec<Place>, passes: &mut Vec<WriterPass>)
+    requires home { All IsHome places.items }
+    requires room { (passes.old.items ≡ []) × (length places.items ≤ vec_capacity passes.old) }
+    ensures { AreAtHome places.items passes.new.items }
+{
+    for place in places {
+        passes.push_reserved(place.into_pass());
+    }
 }

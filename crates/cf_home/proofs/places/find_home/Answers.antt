@@ -1,16 +1,12 @@
-use Rattle.std.proofs.Common.{◌≡◌, ◌∙◌, ◌+◌, ◌-◌, ◌<◌, ◌≤◌, ℕ, Bool, List, Some, None, length, slice_get, get_or, set, refl, sym, ap, arith, length-set, get_or-set_same}
-use Rattle.std.specs.Option.{is_some}
+use Rattle.std.proofs.Common.{◌≡◌, ◌∙◌, ◌+◌, ◌-◌, ◌<◌, ◌≤◌, ℕ, List, Some, None, length, slice_get, set, refl, sym, arith, length-set}
 use Rattle.std.proofs.lemmas.Option.{slice_get-get_or, slice_get_past}
 use Rattle.cf_words.proofs.Heads.{get_set_other, get_set_same}
 use Rattle.cf_home.specs.Homes.{PlaceValue}
-use Rattle.cf_home.proofs.Looked.{away_more, home_of, none_of, looked_more, looked_none}
+use Rattle.cf_home.proofs.Looked.{away_more, home_is, home_of, none_of, looked_more, looked_none}
 use Rattle.cf_home.proofs.places.find_home.Goals as goal
 
 past : (ps : List PlaceValue) (k : ℕ) (place : PlaceValue) → length ps ≤ k → slice_get ps k ≡ Some place → ⊥
 past ps k place le at = absurd (cc (sym (slice_get_past ps k le) ∙ at))
-
-home_is : (ps : List PlaceValue) (k : ℕ) (p d : PlaceValue) {b : Bool} → k < length ps → is_some (get_or (set ps k p) k d).home ≡ b → is_some p.home ≡ b
-home_is ps k p d lt is = sym (ap (λ (q : PlaceValue). is_some q.home) (get_or-set_same ps k p d lt)) ∙ is
 
 away_of : (xs ps : List PlaceValue) (i : ℕ) (p : PlaceValue) → length xs ≡ length ps → i < length ps → p.home ≡ None
     → ((k : ℕ) (q : PlaceValue) → length xs ≤ k + i → slice_get ps k ≡ Some q → q.home ≡ None)
