@@ -10,8 +10,8 @@ use Rattle.cf_store.specs.declared.held.Writer.{Writer}
 use Rattle.cf_store.specs.declared.shown.Capture.{Capture}
 use Rattle.cf_store.specs.declared.shown.Framed.{Framed}
 use Rattle.cf_store.specs.declared.shown.PlainValue.{PlainValue}
-use Rattle.cf_store.specs.declared.refusals.AppendRefusal.{AppendRefusal}
-use Rattle.cf_store.specs.declared.refusals.AppendRefusal.TheVariants.{Full, Nodes, Unfit, Frame, Memory}
+use Rattle.cf_calls.specs.declared.refusals.AppendRefusal.{AppendRefusal}
+use Rattle.cf_calls.specs.declared.refusals.AppendRefusal.TheVariants.{Full, Nodes, Unfit, Frame, Memory}
 use Rattle.cf_store.specs.Appends.{AppendsFrame, AppendsPlain, AppendsRow, AppendsValues, IsFrame, frame_of, frame_row, numbers_row}
 
 of_row : (capture : Capture) (bytes : List ℕ) (m n : Writer) (r : Result ℕ AppendRefusal) → IsFrame (arc_value m.of).setup capture bytes

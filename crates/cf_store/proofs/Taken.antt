@@ -12,7 +12,7 @@ use Rattle.cf_store.specs.Opens.{IsLogWith, IsTakenFrom, Takes, TakesAt}
 use Rattle.cf_store.specs.declared.held.Log.{Log}
 use Rattle.cf_store.specs.declared.held.Shared.{Shared}
 use Rattle.cf_store.specs.declared.held.Writer.{Writer}
-use Rattle.cf_store.specs.declared.refusals.TakeRefusal.TheVariants.{Memory as NoMemory}
+use Rattle.cf_calls.specs.declared.refusals.TakeRefusal.TheVariants.{Memory as NoMemory}
 
 some_is : {X : Type 0} {x y : X} → Some x ≡ Some y → x ≡ y
 some_is e = cc e

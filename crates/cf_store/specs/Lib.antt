@@ -1,5 +1,4 @@
 pub mod Parts
-pub mod Codes
 pub mod Opens
 pub mod Values
 pub mod Appends

@@ -9,11 +9,11 @@ ghost use Rattle.cf_law.specs.Steps.{new_pass};
 ghost use Rattle.cf_table.specs.Values.{IsOf};
 ghost use Rattle.cf_home.specs.Homes.{IsHomeAt};
 ghost use Rattle.cf_store.specs.Parts.{IsPlaceOf};
-ghost use Rattle.cf_store.specs.declared.refusals.OpenRefusal.TheVariants.{Memory as NoMemory};
+ghost use Rattle.cf_calls.specs.declared.refusals.OpenRefusal.TheVariants.{Memory as NoMemory};
 ghost use Rattle.cf_store.specs.Opens.{AreSizes, IsNew, BySetup, Opens, Measures, Takes, TakesAt, Forks, refusal_by, sized};
 
 use crate::held::{Log, Reader, Shared, Writer};
-use crate::refusals::{OpenRefusal, TakeRefusal};
+use cf_calls::{OpenRefusal, TakeRefusal};
 use crate::shown::Sizes;
 use cf_home::{Place, find_home, places_of};
 use cf_row::Memory;

@@ -4,11 +4,11 @@ ghost use Rattle.std.specs.List.{flat_map};
 ghost use Rattle.std.specs.Arc.{arc_value};
 ghost use Rattle.cf_plain.specs.Groups.{pair_of};
 ghost use Rattle.cf_store.specs.Parts.{IsAware};
-ghost use Rattle.cf_store.specs.declared.refusals.AskRefusal.TheVariants.{Memory};
+ghost use Rattle.cf_calls.specs.declared.refusals.AskRefusal.TheVariants.{Memory};
 ghost use Rattle.cf_store.specs.Asks.{Answers, AnswersSeen, AsksAt, AsksSeen, AsksTail, FindsGroups, IsMeasured, IsTold, ReadsRow, ShowsRowAt, TellsGroups, groups_words, mark_words as mark_words_of, body_words as body_words_of, body_kind as body_kind_of};
 
 use crate::held::{Reader, Shared};
-use crate::refusals::{AskRefusal, LaneRefusal, RowRefusal};
+use cf_calls::{AskRefusal, LaneRefusal, RowRefusal};
 use crate::shown::{Head, PlainValue, Shown};
 use crate::values::show_row;
 use cf_fold::Quad;

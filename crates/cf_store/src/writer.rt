@@ -8,7 +8,7 @@ ghost use Rattle.cf_log.specs.Appended.{HasAppended};
 ghost use Rattle.cf_store.specs.Appends.{AppendsFrame, AppendsFramed, AppendsFrames, AppendsPlain, AppendsRow, AppendsValues, HasRoom, IsFrame, StandsIn, numbers_row, frame_of, frame_row, reads_link, bytes_in as bytes_in_of};
 
 use crate::held::Writer;
-use crate::refusals::AppendRefusal;
+use cf_calls::AppendRefusal;
 use crate::shown::{Capture, Framed, PlainValue, Room};
 use crate::values::{are_values, row_of_values};
 use cf_headers::{packet_row, packet6_row};

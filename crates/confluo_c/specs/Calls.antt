@@ -2,8 +2,8 @@
 use Rattle.std.specs.Prelude.{◌≡◌, ◌⊎◌, ℕ, ◌<◌, ◌≤◌, List, length, Option, Some, None, Result, Ok, Err, Vec}
 use Rattle.std.specs.declared.alloc.AllocError.{AllocError}
 use Rattle.cf_table.specs.Values.{book_of}
-use Rattle.cf_store.specs.declared.code.Code.{Code}
-use Rattle.cf_store.specs.declared.code.Code.TheVariants as codes
+use Rattle.cf_calls.specs.declared.code.Code.{Code}
+use Rattle.cf_calls.specs.declared.code.Code.TheVariants as codes
 use Rattle.cf_store.specs.declared.held.Log.{Log}
 use Rattle.cf_store.specs.declared.held.Writer.{Writer}
 use Rattle.cf_store.specs.declared.held.Reader.{Reader}
@@ -11,18 +11,18 @@ use Rattle.cf_store.specs.declared.shown.Sizes.{Sizes}
 use Rattle.cf_store.specs.declared.shown.Fault.{Fault}
 use Rattle.cf_store.specs.declared.shown.Head.{Head}
 use Rattle.std.specs.Global.{Global}
-use Rattle.cf_store.specs.declared.refusals.MergeRefusal.{MergeRefusal}
+use Rattle.cf_calls.specs.declared.refusals.MergeRefusal.{MergeRefusal}
 use Rattle.cf_store.specs.declared.shown.Room.{Room}
 use Rattle.cf_store.specs.declared.shown.Framed.{Framed}
 use Rattle.cf_store.specs.declared.shown.Shown.{Shown}
-use Rattle.cf_store.specs.declared.refusals.LineRefusal.{LineRefusal}
-use Rattle.cf_store.specs.declared.refusals.LineRefusal.TheVariants as said
-use Rattle.cf_store.specs.declared.refusals.OpenRefusal.{OpenRefusal}
-use Rattle.cf_store.specs.declared.refusals.OpenRefusal.TheVariants as opens
-use Rattle.cf_store.specs.Codes.{code_number, line_code, merge_code, open_code, stop_code, take_code}
-use Rattle.confluo_c.specs.Copied.{Copies}
+use Rattle.cf_calls.specs.declared.refusals.LineRefusal.{LineRefusal}
+use Rattle.cf_calls.specs.declared.refusals.LineRefusal.TheVariants as said
+use Rattle.cf_calls.specs.declared.refusals.OpenRefusal.{OpenRefusal}
+use Rattle.cf_calls.specs.declared.refusals.OpenRefusal.TheVariants as opens
+use Rattle.cf_calls.specs.Codes.{code_number, line_code, merge_code, open_code, stop_code, take_code}
+use Rattle.cf_calls.specs.Copied.{Puts}
 use Rattle.cf_store.specs.Opens.{Opens, Takes, Forks}
-use Rattle.cf_store.specs.declared.refusals.AppendRefusal.{AppendRefusal}
+use Rattle.cf_calls.specs.declared.refusals.AppendRefusal.{AppendRefusal}
 use Rattle.cf_store.specs.Appends.{AppendsFrames, HasRoom}
 use Rattle.cf_store.specs.Asks.{AsksLine, AsksTail}
 
@@ -144,12 +144,7 @@ abbrev pub count_or : Result Shown Code → ℕ → ℕ
 count_or (Ok shown) before = shown.count
 count_or (Err code) before = before
 
--- The merged words were put to the front of `out`, if there is room for them, and so many they are. Refused, all stays as it was.
-abbrev pub Puts : List ℕ → List ℕ → List ℕ → ℕ → ℕ → Code → Type 0
-Puts words before after count count' code =
-    ((length words ≤ length before) × Copies words 0 before after count' × (count' ≡ length words) × (code ≡ codes.Done))
-    ⊎ ((length before < length words) × (after ≡ before) × (count' ≡ count) × (code ≡ codes.Sizes))
-
+-- the merged words were put there, or why not
 abbrev pub MergesTo : Result (Vec ℕ Global) MergeRefusal → List ℕ → List ℕ → ℕ → ℕ → Code → Type 0
 MergesTo (Ok words) before after count count' code = Puts words.items before after count count' code
 MergesTo (Err refusal) before after count count' code = (after ≡ before) × (count' ≡ count) × (code ≡ merge_code refusal)

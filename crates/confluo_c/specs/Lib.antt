@@ -1,4 +1,3 @@
-pub mod Copied
 pub mod Seats
 pub mod Calls
 pub mod Named

@@ -7,9 +7,9 @@ use Rattle.cf_about.specs.declared.abouts.About.{About}
 use Rattle.cf_about.specs.Abouts.{about_of}
 use Rattle.cf_about.specs.Names.{name_of}
 use Rattle.cf_store.specs.declared.held.Log.{Log}
-use Rattle.cf_store.specs.declared.code.Code.{Code}
-use Rattle.cf_store.specs.declared.code.Code.TheVariants as codes
-use Rattle.confluo_c.specs.Copied.{Copies}
+use Rattle.cf_calls.specs.declared.code.Code.{Code}
+use Rattle.cf_calls.specs.declared.code.Code.TheVariants as codes
+use Rattle.cf_calls.specs.Copied.{Copies}
 
 -- the name was copied as far as there is room, and is so long; or there is none
 abbrev pub CopiesName : SetupValue → ℕ → ℕ → List ℕ → List ℕ → Option ℕ → Type 0

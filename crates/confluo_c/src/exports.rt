@@ -1,21 +1,21 @@
 // What C calls. `bindings/confluo.h` declares these for C, with what each call answers and what its caller owes.
 ghost use Rattle.std.specs.Prelude.{◌≡◌, ℕ, IfErr, MatchOption, None, Option, Result, Vec};
-ghost use Rattle.cf_store.specs.declared.code.Code.{Code as CodeValue};
-ghost use Rattle.cf_store.specs.declared.refusals.OpenRefusal.{OpenRefusal as OpenRefusalValue};
-ghost use Rattle.cf_store.specs.declared.refusals.LineRefusal.{LineRefusal as LineRefusalValue};
+ghost use Rattle.cf_calls.specs.declared.code.Code.{Code as CodeValue};
+ghost use Rattle.cf_calls.specs.declared.refusals.OpenRefusal.{OpenRefusal as OpenRefusalValue};
+ghost use Rattle.cf_calls.specs.declared.refusals.LineRefusal.{LineRefusal as LineRefusalValue};
 ghost use Rattle.cf_store.specs.declared.shown.Head.{Head as HeadValue};
 ghost use Rattle.std.specs.Global.{Global as GlobalValue};
-ghost use Rattle.cf_store.specs.declared.refusals.MergeRefusal.{MergeRefusal as MergeRefusalValue};
+ghost use Rattle.cf_calls.specs.declared.refusals.MergeRefusal.{MergeRefusal as MergeRefusalValue};
 ghost use Rattle.cf_store.specs.declared.shown.Shown.{Shown as ShownValue};
 ghost use Rattle.cf_store.specs.Merges.{Merges};
-ghost use Rattle.cf_store.specs.Codes.{append_code, ask_code, code_number, lane_code, line_code, open_code, row_code, text_of};
+ghost use Rattle.cf_calls.specs.Codes.{append_code, ask_code, code_number, lane_code, line_code, open_code, row_code, text_of};
 ghost use Rattle.cf_store.specs.Opens.{Measures};
 ghost use Rattle.cf_store.specs.Appends.{AppendsFrame, AppendsPlain, AppendsValues};
 ghost use Rattle.cf_store.specs.Asks.{AsksAt, AsksSeen, ShowsRowAt, TellsGroups};
-ghost use Rattle.confluo_c.specs.Copied.{Copies};
+ghost use Rattle.cf_calls.specs.Copied.{Copies};
 ghost use Rattle.confluo_c.specs.Calls.{BatchBy, ByHandle, ForksTo, IsCoded, IsRoom, IsTail, LineBy, MergesTo, OpensAt, TakesTo, Tells, TellsFault, coded, count_or, fault_after, line_fault, line_fault_after, line_head, line_number, number_of, number_or, told_or};
 
-use crate::copies::{copy_part, put_all};
+use cf_calls::{copy_part, put_all};
 use crate::handles::{LogHandle, ReaderHandle, WriterHandle};
 use cf_store::{
     Capture, Code, Fault, Framed, Head, LineRefusal, OpenRefusal, PlainValue, Room, Sizes, measure,

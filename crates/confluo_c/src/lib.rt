@@ -2,7 +2,6 @@
 #![tactic(auto)]
 
 mod calls;
-mod copies;
 mod exports;
 mod handles;
 mod names;

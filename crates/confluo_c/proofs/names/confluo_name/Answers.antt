@@ -1,7 +1,7 @@
 use Rattle.std.proofs.Common.{◌≡◌, Ok, Err, Some, None, refl, subst}
 use Rattle.std.specs.Arc.{arc_value}
 use Rattle.cf_store.specs.declared.held.Log.{Log}
-use Rattle.cf_store.specs.declared.code.Code.TheVariants as codes
+use Rattle.cf_calls.specs.declared.code.Code.TheVariants as codes
 use Rattle.confluo_c.specs.Named.{CopiesName, NamesTo}
 use Rattle.confluo_c.proofs.Called.{nothing_told, told}
 use Rattle.confluo_c.proofs.names.confluo_name.Goals as goal

@@ -1,4 +1,4 @@
-use Rattle.cf_store.specs.Codes.{row_code}
+use Rattle.cf_calls.specs.Codes.{row_code}
 use Rattle.cf_store.specs.Asks.{ShowsRowAt}
 use Rattle.confluo_c.specs.Calls.{IsCoded}
 use Rattle.confluo_c.proofs.Called.{by_handle, coded_ok, coded_err}

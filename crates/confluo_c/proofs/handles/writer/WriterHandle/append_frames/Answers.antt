@@ -1,5 +1,5 @@
 use Rattle.std.proofs.Common.{◌≤◌, inl, inr, length, arith, refl}
-use Rattle.cf_store.specs.declared.code.Code.TheVariants.{Sizes}
+use Rattle.cf_calls.specs.declared.code.Code.TheVariants.{Sizes}
 use Rattle.confluo_c.proofs.Called.{batch_by}
 use Rattle.confluo_c.proofs.handles.writer.WriterHandle.append_frames.Goals as goal
 

@@ -1,4 +1,4 @@
-use Rattle.cf_store.specs.Codes.{append_code}
+use Rattle.cf_calls.specs.Codes.{append_code}
 use Rattle.cf_store.specs.Appends.{AppendsPlain}
 use Rattle.confluo_c.specs.Calls.{IsCoded}
 use Rattle.confluo_c.proofs.Called.{by_handle, coded_ok, coded_err}

@@ -73,3 +73,11 @@ pub enum MergeRefusal {
     NoGroups,
     Memory,
 }
+
+/// Why a log is not closed.
+#[derive(Clone, Copy)]
+pub enum CloseRefusal {
+    /// A writer is taken.
+    Busy,
+    Memory,
+}

@@ -1,23 +1,25 @@
 -- The codes that calls answer, their numbers and their texts.
 use Rattle.std.specs.Prelude.{ℕ, ◌==◌, List, Option, Some, None, codes, if◌then◌else◌}
-use Rattle.cf_store.specs.declared.code.Code.{Code}
-use Rattle.cf_store.specs.declared.code.Code.TheVariants.{Done, Memory, Sizes, Setup, Nothing, NoWriter, Full, Nodes, Unfit, Frame, NoQuestion, NoLane, NoRow, NoName, NoGroups}
-use Rattle.cf_store.specs.declared.refusals.OpenRefusal.{OpenRefusal}
-use Rattle.cf_store.specs.declared.refusals.OpenRefusal.TheVariants as opens
-use Rattle.cf_store.specs.declared.refusals.TakeRefusal.{TakeRefusal}
-use Rattle.cf_store.specs.declared.refusals.TakeRefusal.TheVariants as takes
-use Rattle.cf_store.specs.declared.refusals.AppendRefusal.{AppendRefusal}
-use Rattle.cf_store.specs.declared.refusals.AppendRefusal.TheVariants as appends
-use Rattle.cf_store.specs.declared.refusals.AskRefusal.{AskRefusal}
-use Rattle.cf_store.specs.declared.refusals.AskRefusal.TheVariants as asks
-use Rattle.cf_store.specs.declared.refusals.LineRefusal.{LineRefusal}
-use Rattle.cf_store.specs.declared.refusals.LineRefusal.TheVariants as lines
-use Rattle.cf_store.specs.declared.refusals.LaneRefusal.{LaneRefusal}
-use Rattle.cf_store.specs.declared.refusals.LaneRefusal.TheVariants as lanes
-use Rattle.cf_store.specs.declared.refusals.MergeRefusal.{MergeRefusal}
-use Rattle.cf_store.specs.declared.refusals.MergeRefusal.TheVariants as merges
-use Rattle.cf_store.specs.declared.refusals.RowRefusal.{RowRefusal}
-use Rattle.cf_store.specs.declared.refusals.RowRefusal.TheVariants as rows
+use Rattle.cf_calls.specs.declared.code.Code.{Code}
+use Rattle.cf_calls.specs.declared.code.Code.TheVariants.{Done, Memory, Sizes, Setup, Nothing, NoWriter, Full, Nodes, Unfit, Frame, NoQuestion, NoLane, NoRow, NoName, NoGroups, Busy}
+use Rattle.cf_calls.specs.declared.refusals.OpenRefusal.{OpenRefusal}
+use Rattle.cf_calls.specs.declared.refusals.OpenRefusal.TheVariants as opens
+use Rattle.cf_calls.specs.declared.refusals.TakeRefusal.{TakeRefusal}
+use Rattle.cf_calls.specs.declared.refusals.TakeRefusal.TheVariants as takes
+use Rattle.cf_calls.specs.declared.refusals.AppendRefusal.{AppendRefusal}
+use Rattle.cf_calls.specs.declared.refusals.AppendRefusal.TheVariants as appends
+use Rattle.cf_calls.specs.declared.refusals.AskRefusal.{AskRefusal}
+use Rattle.cf_calls.specs.declared.refusals.AskRefusal.TheVariants as asks
+use Rattle.cf_calls.specs.declared.refusals.LineRefusal.{LineRefusal}
+use Rattle.cf_calls.specs.declared.refusals.LineRefusal.TheVariants as lines
+use Rattle.cf_calls.specs.declared.refusals.LaneRefusal.{LaneRefusal}
+use Rattle.cf_calls.specs.declared.refusals.LaneRefusal.TheVariants as lanes
+use Rattle.cf_calls.specs.declared.refusals.MergeRefusal.{MergeRefusal}
+use Rattle.cf_calls.specs.declared.refusals.MergeRefusal.TheVariants as merges
+use Rattle.cf_calls.specs.declared.refusals.CloseRefusal.{CloseRefusal}
+use Rattle.cf_calls.specs.declared.refusals.CloseRefusal.TheVariants as closes
+use Rattle.cf_calls.specs.declared.refusals.RowRefusal.{RowRefusal}
+use Rattle.cf_calls.specs.declared.refusals.RowRefusal.TheVariants as rows
 
 abbrev pub code_number : Code → ℕ
 code_number Done = 0
@@ -35,6 +37,7 @@ code_number NoLane = 11
 code_number NoRow = 12
 code_number NoName = 13
 code_number NoGroups = 14
+code_number Busy = 15
 
 -- the code of a setup or a log that was refused
 abbrev pub open_code : OpenRefusal → Code
@@ -76,6 +79,11 @@ abbrev pub merge_code : MergeRefusal → Code
 merge_code merges.NoGroups = NoGroups
 merge_code merges.Memory = Memory
 
+-- the code of a log that was not closed
+abbrev pub close_code : CloseRefusal → Code
+close_code closes.Busy = Busy
+close_code closes.Memory = Memory
+
 -- the code of a row that was not read
 abbrev pub row_code : RowRefusal → Code
 row_code rows.NoRow = NoRow
@@ -104,4 +112,5 @@ text_of n =
     else (if n == 12 then codes "the reader has seen no record at that offset"
     else (if n == 13 then codes "the setup has nothing of that sort and number"
     else (if n == 14 then codes "the words are no groups, or of too many numbers"
-    else codes "no code of confluo"))))))))))))))
+    else (if n == 15 then codes "a writer of the log is taken"
+    else codes "no code of confluo")))))))))))))))

@@ -1,10 +1,10 @@
 // The codes that calls answer, and their texts.
 ghost use Rattle.std.specs.Prelude.{◌≡◌};
-ghost use Rattle.cf_store.specs.Codes.{code_number, text_of, open_code, take_code, append_code, ask_code, lane_code, line_code, merge_code, row_code, stop_code};
+ghost use Rattle.cf_calls.specs.Codes.{code_number, text_of, open_code, take_code, append_code, ask_code, close_code, lane_code, line_code, merge_code, row_code, stop_code};
 
 use crate::refusals::{
-    AppendRefusal, AskRefusal, LaneRefusal, LineRefusal, MergeRefusal, OpenRefusal, RowRefusal,
-    TakeRefusal,
+    AppendRefusal, AskRefusal, CloseRefusal, LaneRefusal, LineRefusal, MergeRefusal, OpenRefusal,
+    RowRefusal, TakeRefusal,
 };
 
 /// What came of a call.
@@ -40,6 +40,8 @@ pub enum Code {
     NoName = 13,
     /// The words are no groups that can be merged.
     NoGroups = 14,
+    /// A writer of the log is taken.
+    Busy = 15,
 }
 
 impl Code {
@@ -125,6 +127,16 @@ impl Code {
         }
     }
 
+    /// Of a log that was not closed.
+    pub fn of_close(refusal: CloseRefusal) -> Code
+        ensures { result ≡ close_code refusal }
+    {
+        match refusal {
+            CloseRefusal::Busy => Code::Busy,
+            CloseRefusal::Memory => Code::Memory,
+        }
+    }
+
     /// Of a row that was not read.
     pub fn of_row(refusal: RowRefusal) -> Code
         ensures { result ≡ row_code refusal }
@@ -166,6 +178,7 @@ pub fn message_of(number: u32) -> &'static [u8]
         12 => b"the reader has seen no record at that offset",
         13 => b"the setup has nothing of that sort and number",
         14 => b"the words are no groups, or of too many numbers",
+        15 => b"a writer of the log is taken",
         _ => b"no code of confluo",
     }
 }

@@ -1,8 +1,7 @@
 // Parts of lists are copied to where C has room for them.
-ghost use Rattle.confluo_c.specs.Copied.{Copies};
-ghost use Rattle.confluo_c.specs.Calls.{Puts};
+ghost use Rattle.cf_calls.specs.Copied.{Copies, Puts};
 
-use cf_store::Code;
+use crate::code::Code;
 
 /// Copies the items from that place on, as far as there is room. Answers how many they are.
 pub fn copy_part<T: Copy>(items: &[T], from: usize, out: &mut [T]) -> usize
