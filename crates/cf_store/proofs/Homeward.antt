@@ -22,7 +22,7 @@ may_still shape row m n r way way' same may did first at =
       rest = did.rest;
     }
 
-one_first : (first other : PassValue) → slice_get (first ∷ []) 0 ≡ Some other → first ≡ other
+pub one_first : (first other : PassValue) → slice_get (first ∷ []) 0 ≡ Some other → first ≡ other
 one_first first other at = cc at
 
 -- the first pass may come home
@@ -35,7 +35,7 @@ may_first first way log is ready other at =
       rest = ready.rest;
     }
 
-first_in : (came : List PassValue) → 1 ≤ length came → (first : PassValue) × (slice_get came 0 ≡ Some first)
+pub first_in : (came : List PassValue) → 1 ≤ length came → (first : PassValue) × (slice_get came 0 ≡ Some first)
 first_in [] some = absurd (omega (arith, some))
 first_in (first ∷ others) some = (first, refl)
 

@@ -7,4 +7,6 @@ pub mod Merged
 pub mod Laid
 pub mod Homeward
 pub mod Taken
+pub mod Numbered
+pub mod Closed
 pub mod Lined

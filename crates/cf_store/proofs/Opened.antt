@@ -49,7 +49,7 @@ pub all_new : (log : LogValue) (m n : PassValue) (hs : List PassValue) → m.vie
     → h.view ≡ new_pass (no_book k ∷ []) []
 all_new log m n hs is dealt k h at = (dealt_new log m n hs is dealt k h at).view
 
-at_home_new : (hs : List PassValue) (k : ℕ) (place : PlaceValue) → slice_get (map at_home hs) k ≡ Some place
+pub at_home_new : (hs : List PassValue) (k : ℕ) (place : PlaceValue) → slice_get (map at_home hs) k ≡ Some place
     → (h : PassValue) × (place ≡ at_home h) × (slice_get hs k ≡ Some h)
 at_home_new [] k place at = absurd (cc at)
 at_home_new (h ∷ hs) zero place at = (h, cc at, refl)

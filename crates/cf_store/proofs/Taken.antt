@@ -14,7 +14,7 @@ use Rattle.cf_store.specs.declared.held.Shared.{Shared}
 use Rattle.cf_store.specs.declared.held.Writer.{Writer}
 use Rattle.cf_calls.specs.declared.refusals.TakeRefusal.TheVariants.{Memory as NoMemory}
 
-some_is : {X : Type 0} {x y : X} → Some x ≡ Some y → x ≡ y
+pub some_is : {X : Type 0} {x y : X} → Some x ≡ Some y → x ≡ y
 some_is e = cc e
 
 pub keeps_one : (m n : PlaceValue) → HasLooked m n → Keeps m n
@@ -28,12 +28,12 @@ keeps_all (m ∷ ms) [] looked = absurd looked
 keeps_all (m ∷ ms) (n ∷ ns) looked = (keeps_one m n looked.0, keeps_all ms ns looked.1)
 
 -- a pass that is at home after a look was there, or came
-looked_comes : (m n : PlaceValue) (pass : PassValue) → HasLooked m n → n.home ≡ Some pass → Comes m pass
+pub looked_comes : (m n : PlaceValue) (pass : PassValue) → HasLooked m n → n.home ≡ Some pass → Comes m pass
 looked_comes m n pass (inl same) home = inl (ap (λ (p : PlaceValue). p.home) (sym same) ∙ home)
 looked_comes m n pass (inr came) home =
     inr (came.0, subst (λ (p : PassValue). MayCome m.came p) (cc (sym (ap (λ (p : PlaceValue). p.home) came.1.1) ∙ home)) came.1.2)
 
-looked_at : (ms ns : List PlaceValue) (k : ℕ) (n : PlaceValue) → HaveLooked ms ns → slice_get ns k ≡ Some n
+pub looked_at : (ms ns : List PlaceValue) (k : ℕ) (n : PlaceValue) → HaveLooked ms ns → slice_get ns k ≡ Some n
     → (m : PlaceValue) × (slice_get ms k ≡ Some m) × HasLooked m n
 looked_at [] [] k n looked at = absurd (cc at)
 looked_at [] (l ∷ ns) k n looked at = absurd looked

@@ -4,3 +4,5 @@ pub mod Values
 pub mod Appends
 pub mod Asks
 pub mod Merges
+pub mod Closes
+pub mod Reports

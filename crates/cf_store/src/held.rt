@@ -4,9 +4,9 @@ ghost use Rattle.std.specs.List.{list_all};
 ghost use Rattle.std.specs.Arc.{arc_value};
 ghost use Rattle.cf_law.specs.Steps.{new_pass};
 ghost use Rattle.cf_table.specs.Values.{IsOf};
-ghost use Rattle.cf_plain.specs.Asks.{suits_of};
+ghost use Rattle.cf_plain.specs.Asks.{suits_of, suits_trigger};
 ghost use Rattle.cf_home.specs.Homes.{MayCome};
-ghost use Rattle.cf_store.specs.Parts.{IsReady, IsAware, IsPlaceOf};
+ghost use Rattle.cf_store.specs.Parts.{AreNumbered, IsReady, IsAware, IsPlaceOf};
 
 use cf_home::{Place, Way};
 use cf_setup::Setup;
@@ -20,6 +20,7 @@ pub struct Shared {
     pub(crate) setup: Setup,
     pub(crate) text: Vec<u8>,
     ghost suited: { list_all (suits_of log.shape) setup.asks ≡ true },
+    ghost armed: { list_all (suits_trigger log.shape) setup.triggers ≡ true },
 }
 
 /// A log, with the places of its writers. The pass of a writer that is freed, in whatever thread, comes back to its place.
@@ -31,6 +32,7 @@ pub struct Log {
     ghost root_of: { IsOf root (arc_value of).log },
     ghost root_new: { root.view ≡ new_pass [] [] },
     ghost placed: { All (IsPlaceOf (arc_value of).log) places.items },
+    ghost numbered: { AreNumbered (arc_value of).log places.items },
 }
 
 /// A writer of a log. When it is let go, its pass goes back to its place in the log, where it is taken again.

@@ -1,6 +1,7 @@
 //! A log of a setup, its writers and its readers, each of which a program holds by itself and hands to a thread.
 #![tactic(auto)]
 
+mod close;
 mod held;
 mod line;
 mod log;

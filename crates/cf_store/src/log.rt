@@ -8,7 +8,7 @@ ghost use Rattle.cf_shape.specs.Places.{sizes_of, word_total as word_total_of};
 ghost use Rattle.cf_law.specs.Steps.{new_pass};
 ghost use Rattle.cf_table.specs.Values.{IsOf};
 ghost use Rattle.cf_home.specs.Homes.{IsHomeAt};
-ghost use Rattle.cf_store.specs.Parts.{IsPlaceOf};
+ghost use Rattle.cf_store.specs.Parts.{AreNumbered, IsPlaceOf};
 ghost use Rattle.cf_calls.specs.declared.refusals.OpenRefusal.TheVariants.{Memory as NoMemory};
 ghost use Rattle.cf_store.specs.Opens.{AreSizes, IsNew, BySetup, Opens, Measures, Takes, TakesAt, Forks, refusal_by, sized};
 
@@ -98,6 +98,7 @@ impl Log {
         requires root_of { IsOf root shared.log }
         requires root_new { root.view ≡ new_pass [] [] }
         requires placed { All (IsPlaceOf shared.log) places.items }
+        requires numbered { AreNumbered shared.log places.items }
         ensures ok { IfOk result (λ log. (arc_value log.of ≡ shared) × (log.root ≡ root) × (log.places.items ≡ places.items)) }
         ensures refused { IfErr result (λ refusal. refusal ≡ NoMemory) }
     {

@@ -6,6 +6,7 @@ ghost use Rattle.cf_plain.specs.Groups.{pair_of};
 ghost use Rattle.cf_store.specs.Parts.{IsAware};
 ghost use Rattle.cf_calls.specs.declared.refusals.AskRefusal.TheVariants.{Memory};
 ghost use Rattle.cf_store.specs.Asks.{Answers, AnswersSeen, AsksAt, AsksSeen, AsksTail, FindsGroups, IsMeasured, IsTold, ReadsRow, ShowsRowAt, TellsGroups, groups_words, mark_words as mark_words_of, body_words as body_words_of, body_kind as body_kind_of};
+ghost use Rattle.cf_store.specs.Reports.{Reports};
 
 use crate::held::{Reader, Shared};
 use cf_calls::{AskRefusal, LaneRefusal, RowRefusal};
@@ -15,6 +16,7 @@ use cf_fold::Quad;
 use cf_log::{ask, ask_seen, groups_seen, row, tail};
 use cf_plain::{Answer, Body, Fired, Group};
 use cf_row::{Memory as NoMemory, Row};
+use cf_seen::report_seen;
 use cf_shape::measures;
 use cf_table::{Pass, ReaderPass};
 use std::alloc::Global;
@@ -236,6 +238,14 @@ impl Reader {
             number: row.num(),
             count: show_row(self.of.log.shape().schema(), &row, out),
         })
+    }
+
+    /// The text of the report of what the reader has seen: how many records they are, what each question and trigger of the setup means on
+    /// them, and the order in which their writers wrote them.
+    pub fn report(&mut self, alloc: Global) -> Result<Vec<u8>, NoMemory>
+        ensures { Reports self.old self.new result }
+    {
+        report_seen(&self.of.log, &self.of.setup, alloc, &mut self.pass)
     }
 
     /// How many records are covered.

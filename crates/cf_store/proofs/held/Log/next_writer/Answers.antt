@@ -2,8 +2,9 @@ use Rattle.std.proofs.Common.{All, List, refl, sym, subst}
 use Rattle.std.specs.Arc.{arc_value}
 use Rattle.std.specs.List.{AllZip}
 use Rattle.cf_home.specs.Homes.{AreAway, HaveLooked, IsHomeAt, Keeps, PlaceValue}
-use Rattle.cf_store.specs.Parts.{IsPlaceOf}
+use Rattle.cf_store.specs.Parts.{AreNumbered, IsPlaceOf}
 use Rattle.cf_store.proofs.Homeward.{looked_placed}
+use Rattle.cf_store.proofs.Numbered.{looked_numbered}
 use Rattle.cf_store.proofs.Taken.{keeps_all, took, took_none, written_back}
 use Rattle.cf_store.proofs.held.Log.next_writer.Goals as goal
 
@@ -17,6 +18,8 @@ invariant_of-self c =
       root_new = log.root_new;
       placed = subst (All (IsPlaceOf (arc_value log.of).log)) (sym (written_back log.places.items c.find_home.new.places log.places.len looked log.places.ok.0))
           (looked_placed (arc_value log.of).log log.places.items c.find_home.new.places looked log.placed);
+      numbered = subst (AreNumbered (arc_value log.of).log) (sym (written_back log.places.items c.find_home.new.places log.places.len looked log.places.ok.0))
+          (looked_numbered (arc_value log.of).log log.places.items c.find_home.new.places looked log.placed log.numbered);
     }
 
 pub returns-in_default : goal.returns-in_default

@@ -2,10 +2,11 @@ use Rattle.std.proofs.Common.{◌≡◌, ◌∙◌, All, ◌∷◌, [], Some, No
 use Rattle.std.specs.Arc.{arc_value}
 use Rattle.std.proofs.lemmas.Option.{slice_get_within}
 use Rattle.cf_home.specs.Homes.{PlaceValue}
-use Rattle.cf_store.specs.Parts.{IsPlaceOf, IsReady}
+use Rattle.cf_store.specs.Parts.{AreNumbered, IsOfWriter, IsPlaceOf, IsReady}
 use Rattle.cf_store.specs.declared.held.Shared.{Shared}
 use Rattle.cf_store.specs.declared.held.Writer.{Writer}
 use Rattle.cf_store.proofs.Homeward.{away_placed, home_placed, may_first, placed_at, set_placed}
+use Rattle.cf_store.proofs.Numbered.{away_numbered, home_numbered, set_numbered}
 use Rattle.cf_store.proofs.Taken.{set_here, set_over, some_home, stands}
 use Rattle.cf_store.proofs.held.Log.take_at.Goals as goal
 
@@ -47,6 +48,9 @@ invariant_of-self-in-Ok-new c =
       root_new = log.root_new;
       placed = set_placed (arc_value log.of).log log.places.items c.args.k c.take.new.self log.placed
           (subst (IsPlaceOf (arc_value log.of).log) (sym c.in-Some.ensures.2) (away_placed (arc_value log.of).log c.in-Some.pass ready));
+      numbered = set_numbered (arc_value log.of).log log.places.items c.args.k c.take.new.self log.numbered
+          (subst (IsOfWriter c.args.k) (sym c.in-Some.ensures.2) (away_numbered c.args.k c.in-Some.pass
+          ((log.numbered.each c.args.k c.requires.place c.requires.at).home c.in-Some.pass home)));
     }
 
 pub index_mut-requires-in-Err : goal.index_mut-requires-in-Err
@@ -67,6 +71,10 @@ invariant_of-self-in-Err c =
       placed = subst (All (IsPlaceOf (arc_value log.of).log)) (sym (set_over log.places.items c.args.k c.take.new.self c.put.new.self))
           (set_placed (arc_value log.of).log log.places.items c.args.k c.put.new.self log.placed
           (home_placed (arc_value log.of).log c.put.new.self c.in-Some.pass (ap (λ (p : PlaceValue). p.home) c.put.ensures ∙ ap Some back) ready));
+      numbered = subst (AreNumbered (arc_value log.of).log) (sym (set_over log.places.items c.args.k c.take.new.self c.put.new.self))
+          (set_numbered (arc_value log.of).log log.places.items c.args.k c.put.new.self log.numbered
+          (home_numbered c.args.k c.put.new.self c.in-Some.pass (ap (λ (p : PlaceValue). p.home) c.put.ensures ∙ ap Some back)
+          ((log.numbered.each c.args.k c.requires.place c.requires.at).home c.in-Some.pass home)));
     }
 
 pub returns-in-Ok-new : goal.returns-in-Ok-new

@@ -1,0 +1,123 @@
+-- A log is closed, and a reader reports.
+use Rattle.std.proofs.Common.{◌≡◌, ◌∙◌, ◌<◌, ◌≤◌, ℕ, List, Option, [], ◌∷◌, Some, Result, Ok, Err, Vec, IfOk, All, zero, suc, length, slice_get, get_or, ap, refl, sym, subst, arith}
+use Rattle.std.specs.Global.{Global}
+use Rattle.std.specs.Arc.{arc_value}
+use Rattle.std.specs.List.{AllZip}
+use Rattle.std.specs.declared.alloc.AllocError.{AllocError}
+use Rattle.std.proofs.lemmas.List.{length-map}
+use Rattle.std.proofs.lemmas.Option.{slice_get-get_or}
+use Rattle.cf_row.specs.declared.row.Entry.{Entry}
+use Rattle.cf_law.specs.Passes.{Book, Pass}
+use Rattle.cf_law.specs.Steps.{Holds, new_pass}
+use Rattle.cf_shape.specs.Lanes.{ShapeValue}
+use Rattle.cf_table.specs.Values.{IsOf, LogValue, PassValue, book_of}
+use Rattle.cf_table.specs.Moves.{AreAll, HasGathered}
+use Rattle.cf_append.proofs.Appending.{rests_all}
+use Rattle.cf_home.specs.Homes.{AreAtHome, Comes, HaveLooked, IsHome, Keeps, PlaceValue, home_at, some_pass}
+use Rattle.cf_seen.specs.Seen.{IsReading, seen_text}
+use Rattle.cf_store.specs.Closes.{IsClosed, IsEnd}
+use Rattle.cf_store.specs.Opens.{IsLogWith}
+use Rattle.cf_store.specs.Parts.{AreNumbered, IsAware, IsPlaceOf, IsReady}
+use Rattle.cf_store.specs.Reports.{HasWalked, Reports}
+use Rattle.cf_store.specs.declared.held.Log.{Log}
+use Rattle.cf_store.specs.declared.held.Reader.{Reader}
+use Rattle.cf_store.specs.declared.held.Shared.{Shared}
+use Rattle.cf_store.proofs.Homeward.{placed_at}
+use Rattle.cf_store.proofs.Taken.{keeps_all, looked_comes}
+
+pub reading : (log : LogValue) (pass : PassValue) → IsAware log pass → IsReading log pass
+reading log pass aware = record { of = aware.of; few = aware.few; fit = aware.fit }
+
+pub reported : (m n : Reader) (r : Result (Vec ℕ Global) AllocError) → HasWalked m n
+    → IfOk r (λ text. text.items ≡ seen_text (arc_value m.of).log.shape (arc_value m.of).setup (m.pass.view).seen) → Reports m n r
+reported m n (Ok text) walked is = (walked, is)
+reported m n (Err e) walked is = walked
+
+tail_is : {X : Type 0} {x y : X} {xs ys : List X} → x ∷ xs ≡ y ∷ ys → xs ≡ ys
+tail_is e = cc e
+
+head_is : {X : Type 0} {x y : X} {xs ys : List X} → x ∷ xs ≡ y ∷ ys → x ≡ y
+head_is e = cc e
+
+-- the place that a pass is at home at
+place_at : (ps : List PlaceValue) (hs : List PassValue) (k : ℕ) (h : PassValue) → AreAtHome ps hs → slice_get hs k ≡ Some h
+    → (p : PlaceValue) × (slice_get ps k ≡ Some p) × (p.home ≡ Some h)
+place_at [] [] k h home at = absurd (cc at)
+place_at [] (g ∷ hs) k h home at = absurd (cc home)
+place_at (p ∷ ps) [] k h home at = absurd (cc at)
+place_at (p ∷ ps) (g ∷ hs) zero h home at = (p, refl, head_is home ∙ at)
+place_at (p ∷ ps) (g ∷ hs) (suc k) h home at = place_at ps hs k h (tail_is home) at
+
+home_long : (ps : List PlaceValue) (hs : List PassValue) → AreAtHome ps hs → length hs ≡ length ps
+home_long ps hs home = sym (length-map hs some_pass) ∙ (ap (λ (os : List (Option PassValue)). length os) (sym home) ∙ length-map ps home_at)
+
+-- passes that are at home after a look came or were there
+pub all_come : (ms ns : List PlaceValue) (hs : List PassValue) → HaveLooked ms ns → AreAtHome ns hs → AllZip Comes ms hs
+all_come [] [] [] looked home = tt
+all_come [] [] (h ∷ hs) looked home = absurd (cc home)
+all_come [] (n ∷ ns) hs looked home = absurd looked
+all_come (m ∷ ms) [] hs looked home = absurd looked
+all_come (m ∷ ms) (n ∷ ns) [] looked home = absurd (cc home)
+all_come (m ∷ ms) (n ∷ ns) (h ∷ hs) looked home =
+    (looked_comes m n h looked.0 (head_is home), all_come ms ns hs looked.1 (tail_is home))
+
+-- all passes that are at home are those of all writers
+pub all_home : (log : LogValue) (ps : List PlaceValue) (hs : List PassValue) → All (IsPlaceOf log) ps → AreNumbered log ps → AreAtHome ps hs → AreAll log hs
+all_home log ps hs placed numbered home = record {
+  of = λ k h at. (ready k h at).of;
+  rest = λ k h at. rests_all h.view (ready k h at).rest;
+  count = home_long ps hs home ∙ numbered.count;
+  writers = λ w low. by_writer w low;
+}
+  where
+    ready : (k : ℕ) (h : PassValue) → slice_get hs k ≡ Some h → IsReady log h
+    ready k h at = (let found = place_at ps hs k h home at in (placed_at log ps k found.0 placed found.1).home h found.2)
+
+    by_writer : (w : ℕ) → w < log.shape.writers
+        → (k : ℕ) × (h : PassValue) × (j : ℕ) × (b : Book) × (slice_get hs k ≡ Some h) × Holds h.view j b × (b.writer ≡ w)
+    by_writer w low =
+        let long = home_long ps hs home ∙ numbered.count in
+        let none : PassValue = record { table = log.table; id = 0; nodes = 0; view = new_pass [] [] } in
+        let h = get_or hs w none in
+        let at : slice_get hs w ≡ Some h = slice_get-get_or hs w none (omega (arith, long, low)) in
+        let found = place_at ps hs w h home at in
+        (w, h, 0, book_of h.view, at, ap (λ (bs : List Book). slice_get bs 0) (ready w h at).rest.one, (numbered.each w found.0 found.1).home h found.2)
+
+-- a pass that has seen what the root has gathered
+pub gathered_aware : (log : LogValue) (m root n : PassValue) (hs : List PassValue) → HasGathered log.shape m hs root → IsOf n log
+    → n.view ≡ new_pass [] (root.view).seen → IsAware log n
+gathered_aware log m root n hs gathered of is =
+    let seen : (n.view).seen ≡ (root.view).seen = ap (λ (p : Pass). p.seen) is in
+    record {
+      of = of;
+      few = subst (λ (es : List Entry). length es ≤ log.shape.capacity) (sym seen) gathered.bounds.seen;
+      fit = λ o e at. gathered.fit o e (ap (λ (es : List Entry). slice_get es o) (sym seen) ∙ at);
+    }
+
+-- a log that is free comes back
+pub came_back : (m l n : Log) → IsLogWith l.places.items m l → HaveLooked m.places.items l.places.items → All IsHome l.places.items
+    → IsLogWith l.places.items l n → IsLogWith n.places.items m n × AllZip Keeps m.places.items n.places.items × All IsHome n.places.items
+came_back m l n before looked home after = (
+  record { of = after.of ∙ before.of; root = after.root ∙ before.root; places_are = refl },
+  subst (AllZip Keeps m.places.items) (sym after.places_are) (keeps_all m.places.items l.places.items looked),
+  subst (All IsHome) (sym after.places_are) home,
+)
+
+-- and one that is closed
+pub ended : (m l n : Log) (reader : Reader) (pass : PassValue) → IsLogWith l.places.items m l → HaveLooked m.places.items l.places.items
+    → IsLogWith l.places.items l n → IsEnd n pass → arc_value reader.of ≡ arc_value l.of → reader.pass ≡ pass → reader.words.items ≡ []
+    → IsClosed m reader
+ended m l n reader pass before looked after end of is words =
+    let same : n.of ≡ m.of = after.of ∙ before.of in
+    let shape : (arc_value n.of).log.shape ≡ (arc_value m.of).log.shape = ap (λ x. (arc_value {X = Shared} x).log.shape) same in
+    record {
+      passes = end.passes;
+      root = end.root;
+      come = all_come m.places.items n.places.items end.passes
+          (subst (λ (ps : List PlaceValue). HaveLooked m.places.items ps) (sym after.places_are) looked) end.home;
+      gathered = subst (λ (s : ShapeValue). HasGathered s m.root end.passes end.root) shape
+          (subst (λ (r : PassValue). HasGathered (arc_value n.of).log.shape r end.passes end.root) (after.root ∙ before.root) end.gathered);
+      of = of ∙ ap (arc_value {X = Shared}) before.of;
+      seen = ap (λ (h : PassValue). h.view) is ∙ end.seen;
+      words = words;
+    }
