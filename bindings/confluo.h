@@ -12,6 +12,7 @@
 **   An answer is exactly the question's meaning on the records below the tail that it was asked at (confluo_head.tail). It is as if one
 **   thread had appended these records and then asked.
 **   All questions of a report can have one tail: look at it once (confluo_tail), and ask of what was seen (confluo_ask_seen).
+**   When all writers are freed a log can be closed (confluo_close), which leaves a reader of all its records and their report.
 **   A log that is full stays open to readers. Open the next one and go on there. What an aggregate or a tally measured in several logs can
 **   be merged (confluo_groups, confluo_merge), as if one log had all records.
 **
@@ -83,7 +84,7 @@ extern "C" {
 #endif
 
 /* The version of these calls, apart from that of the program: 1,000,000 for the major number, 1,000 for the minor one, 1 for the patch. */
-#define CONFLUO_VERSION 3000
+#define CONFLUO_VERSION 4000
 
 /* A log, a writer or a reader; or nothing, if all bytes are 0. The fields are the library's. */
 typedef struct confluo_log { bool full; void *at; } confluo_log;
@@ -110,7 +111,8 @@ enum {
     CONFLUO_NO_LANE = 11,     /* the setup has no lane of that number, or it measures nothing */
     CONFLUO_NO_ROW = 12,      /* the reader has seen no record at that offset */
     CONFLUO_NO_NAME = 13,     /* the setup has nothing of that sort and number */
-    CONFLUO_NO_GROUPS = 14    /* the words are no list of groups, or both lists have more than 2^20 numbers together */
+    CONFLUO_NO_GROUPS = 14,   /* the words are no list of groups, or both lists have more than 2^20 numbers together */
+    CONFLUO_BUSY = 15         /* a writer of the log is taken */
 };
 
 /* How large a log is. */
@@ -242,6 +244,15 @@ CONFLUO_CHECKED uint32_t confluo_take_writer(confluo_log *log, confluo_writer *w
 **   CONFLUO_MEMORY */
 CONFLUO_CHECKED uint32_t confluo_take_reader(confluo_log *log, confluo_reader *reader);
 
+/* Closes the log, once all its writers are freed: no record comes to it any more. `log` leads to nothing then, and `reader` to a reader that
+** has seen every record of the log. confluo_ask_seen asks it for the final answers, and confluo_report tells them with the history of the
+** log. What `reader` led to is freed. Other readers may stay; they see the whole log when they ask next. The thread that has `log`.
+**
+**   CONFLUO_NOTHING    `log` leads to nothing
+**   CONFLUO_BUSY       a writer is taken; the log stays open
+**   CONFLUO_MEMORY     the log stays open */
+CONFLUO_CHECKED uint32_t confluo_close(confluo_log *log, confluo_reader *reader);
+
 /* Appends the record of a captured frame, and says its offset. `bytes` are the captured bytes of the frame; they are read within the call,
 ** and not kept. A frame whose headers cannot be read is a record all the same, with 0 in those fields. The schema `packet` reads the links
 ** 1 (Ethernet) and 113 (LINUX_SLL); `packet6` also 276 (LINUX_SLL2), 101 (RAW), 228 (IPV4), 229 (IPV6), 0 (NULL) and 108 (LOOP).
@@ -355,6 +366,16 @@ CONFLUO_CHECKED uint32_t confluo_row(confluo_reader *reader, uint32_t offset, ui
 /* Copies words of the reader's last answer to `out`, from word `from` on, as far as there is room. Answers how many: none if there was no
 ** answer yet, if `from` is past the last word, and if `reader` leads to nothing. The thread that has `reader`. */
 size_t confluo_words(confluo_reader *reader, size_t from, uint64_t *out, size_t out_len);
+
+/* Copies the report of the records that the reader has seen to `text`, as far as there is room, and says in `count` how many bytes it has.
+** It is the text that `confluo run` prints of these records: how many they are, what each question and trigger of the setup means on them
+** (records are shown by the numbers that they were appended with), and the order in which the writers appended them. The answers and that
+** order are one legal history of a list that one thread appends to and asks. The tail is not looked at again: call this with no room, and
+** then with as much as `count` says. The thread that has `reader`.
+**
+**   CONFLUO_NOTHING    `reader` leads to nothing
+**   CONFLUO_MEMORY */
+CONFLUO_CHECKED uint32_t confluo_report(confluo_reader *reader, uint8_t *text, size_t text_len, size_t *count);
 
 /* Says how many records are below the tail now. The thread that has `reader`.
 **

@@ -9,7 +9,7 @@ static const char records[] =
 static void versions_and_texts(void) {
     uint8_t out[64];
     is(confluo_version(), CONFLUO_VERSION, "version");
-    for (uint32_t code = 0; code <= CONFLUO_NO_GROUPS; code++) {
+    for (uint32_t code = 0; code <= CONFLUO_BUSY; code++) {
         size_t count = confluo_message(code, 0, out, sizeof out);
         is(count > 0 && count < sizeof out && confluo_message(code, count, out, sizeof out) == 0, 1, "length of a text");
     }

@@ -23,14 +23,16 @@ static const char setup[] =
 typedef struct parts {
     confluo_log log;
     confluo_writer writer;
-    confluo_reader reader;
+    confluo_reader reader, last;
     uint32_t number, offsets[4];
     size_t done; /* of a batch */
     confluo_head head;
     confluo_value row[20];
+    uint8_t text[200];
+    size_t long_is;
 } parts;
 
-enum { STEPS = 14 };
+enum { STEPS = 16 };
 
 /* Frames 2 and 3 of the log, but for what is appended of them. */
 static uint32_t append_batch(parts *at) {
@@ -74,7 +76,9 @@ static uint32_t call(parts *at, int step) {
     case 10: return confluo_groups(&at->reader, 1, &at->head);
     case 11: return merged();
     case 12: return confluo_ask_text(&at->reader, (const uint8_t *)"ask new list *", 14, &at->head, &fault);
-    default: return confluo_ask_seen(&at->reader, 1, &at->head);
+    case 13: return confluo_ask_seen(&at->reader, 1, &at->head);
+    case 14: return confluo_free_writer(&at->writer), confluo_close(&at->log, &at->last);
+    default: return confluo_report(&at->last, at->text, sizeof at->text, &at->long_is);
     }
 }
 
@@ -103,6 +107,7 @@ int main(void) {
         }
         const size_t count = confluo_words(&at.reader, 0, words, 5);
         int wrong = step != STEPS || at.head.tail != 4 || count != 4 || at.number != 5 || words[3] != 3;
+        wrong |= at.long_is < 9 || memcmp(at.text, "records 4", 9) != 0;
         for (uint32_t k = 0; k < 4; k++) wrong |= at.offsets[k] != k || words[k] != k;
         if (wrong) {
             fprintf(stderr, "refusals: allocation %ld, step %d\n", tries, step);
@@ -111,6 +116,7 @@ int main(void) {
         confluo_free_writer(&at.writer);
         confluo_free_log(&at.log);
         confluo_free_reader(&at.reader);
+        confluo_free_reader(&at.last);
     }
     printf("refusals: %ld allocations, each refused once; by call", tries);
     for (int k = 0; k < STEPS; k++) printf(" %ld", refused[k]);

@@ -24,6 +24,7 @@ class Code(enum.IntEnum):
     NO_ROW = 12
     NO_NAME = 13
     NO_GROUPS = 14
+    BUSY = 15
 
 
 def message_of(code):

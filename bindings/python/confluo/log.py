@@ -106,6 +106,15 @@ class Log(Part):
         reader.names = self.names
         return reader
 
+    def finish(self):
+        """Closes the log for good, once all its writers are closed: no record comes to it any more. Answers a reader that has seen every
+        record: `ask_seen` gives the final answers, and `report` their text with the history of the log. Other readers may stay. Error with
+        BUSY while a writer is taken; the log stays open then."""
+        reader = Reader()
+        self._call("close", reader._handle)
+        reader.names = self.names
+        return reader
+
 
 class Frame(NamedTuple):
     """A captured frame of a batch: a number of yours, when it was captured in nanoseconds, its bytes, its length on the
@@ -254,6 +263,17 @@ class Reader(Part):
             found = (LONG * max(1, head.count))()
             count = call("words")(self._handle, 0, found, head.count)
         return Answer(head.tail, head.kind, found[:count])
+
+    def report(self):
+        """The report of the records that the reader has seen, as `confluo run` prints it: how many they are, what each question and trigger
+        of the setup means on them, and the order in which the writers appended them."""
+        self._check()
+        count = SIZE()
+        with self._lock:
+            wanted(call("report")(self._handle, b"", 0, count))
+            text = ctypes.create_string_buffer(max(1, count.value))
+            wanted(call("report")(self._handle, text, count.value, count))
+        return text.raw[: count.value].decode("ascii")
 
     def tail(self):
         """How many records are below the tail now."""

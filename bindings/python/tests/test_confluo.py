@@ -27,7 +27,7 @@ FRAME = bytes([0] * 12 + [8, 0, 0x45, 0, 0, 20] + [0] * 8 + [10, 0, 0, 1] + [0] 
 
 class Calls(unittest.TestCase):
     def test_version(self):
-        self.assertEqual(confluo.version(), 3000)
+        self.assertEqual(confluo.version(), 4000)
 
     def test_the_example_of_the_documents(self):
         page = (HERE.parents[2] / "docs" / "LIBRARY.md").read_text()
@@ -190,6 +190,24 @@ class Calls(unittest.TestCase):
         self.assertEqual(caught.exception.code, confluo.Code.NO_GROUPS)
         self.assertRaises(ValueError, reader.ask("all").merge, groups)
         self.assertEqual(reader.row(2), (12, {"ts": 3, "host": 7, "len": 20, "mac": b"ghijkl"}))
+
+    def test_logs_are_closed(self):
+        log = confluo.Log("schema records ts:u64\nask all list *\n", capacity=4, writers=2, nodes=0)
+        first, second, early = log.writer(), log.writer(), log.reader()
+        first.append_values(8, [1])
+        second.append_values(7, [1])
+        first.close()
+        with self.assertRaises(confluo.Error) as caught:
+            log.finish()
+        self.assertEqual(caught.exception.code, confluo.Code.BUSY)
+        second.close()
+        last = log.finish()
+        with self.assertRaises(confluo.Error) as caught:
+            log.writer()
+        self.assertEqual(caught.exception.code, confluo.Code.NOTHING)
+        self.assertEqual(last.report(), "records 2\nask all list 2: 7 8\norder 1*1 0*1\n")
+        self.assertEqual(last.ask_seen("all").tail, 2)
+        self.assertEqual(early.report(), "records 0\nask all list 0:\norder\n")
 
     def test_frames_of_pandas(self):
         try:

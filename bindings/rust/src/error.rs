@@ -70,6 +70,18 @@ errors! {
         /// All writers of the log are taken.
         NoWriter = NO_WRITER,
     }
+    /// Why a log was not closed.
+    CloseError {
+        /// Out of memory.
+        Memory = MEMORY,
+        /// A writer of the log is taken.
+        Busy = BUSY,
+    }
+    /// Why a report was not made.
+    ReportError {
+        /// Out of memory.
+        Memory = MEMORY,
+    }
     /// Why a record was not appended.
     AppendError {
         /// Out of memory.

@@ -1,5 +1,5 @@
 //! Logs.
-use crate::error::{OpenError, TakeError};
+use crate::error::{CloseError, OpenError, TakeError};
 use crate::handle::Held;
 use crate::names::{Attribute, Lane, Question, Trigger};
 use crate::raw;
@@ -121,6 +121,39 @@ impl Log {
             .call(|log| reader.call(|reader| unsafe { raw::confluo_take_reader(log, reader) }));
         TakeError::check(code)?;
         Ok(Reader::new(reader))
+    }
+
+    /// Closes the log, once all its writers are dropped: no record comes to it any more. The reader that is left has seen every record;
+    /// [`Reader::ask_seen`] gives the final answers, and [`Reader::report`] their text with the history of the log. Other readers may
+    /// stay. A log that is not closed comes back.
+    ///
+    /// # Errors
+    ///
+    /// [`CloseError::Busy`] while a writer is taken; [`CloseError::Memory`].
+    ///
+    /// ```
+    /// use confluo::{CloseError, Log, Sizes};
+    ///
+    /// let mut log = Log::open("schema records n:u64\nask all list *\n", Sizes::default())?;
+    /// let mut writer = log.writer()?;
+    /// writer.append_values(7, &[1_000])?;
+    /// let (log, refused) = log.close().unwrap_err();
+    /// assert_eq!(refused, CloseError::Busy);
+    /// drop(writer);
+    /// let mut reader = log.close().map_err(|(_, refused)| refused)?;
+    /// assert_eq!(reader.report()?, "records 1\nask all list 1: 7\norder 0*1\n");
+    /// # Ok::<(), Box<dyn std::error::Error>>(())
+    /// ```
+    pub fn close(mut self) -> Result<Reader, (Log, CloseError)> {
+        let mut reader = Held::nothing();
+        // SAFETY: the handles are two.
+        let code = self
+            .held
+            .call(|log| reader.call(|reader| unsafe { raw::confluo_close(log, reader) }));
+        match CloseError::check(code) {
+            Ok(()) => Ok(Reader::new(reader)),
+            Err(refused) => Err((self, refused)),
+        }
     }
 
     /// The attributes of the schema, in its order.

@@ -128,6 +128,7 @@ pub const NO_QUESTION: u32 = 10;
 pub const NO_LANE: u32 = 11;
 pub const NO_ROW: u32 = 12;
 pub const NO_GROUPS: u32 = 14;
+pub const BUSY: u32 = 15;
 
 pub const PLACES: u32 = 0;
 pub const QUAD: u32 = 1;
@@ -161,6 +162,7 @@ extern "C" {
     ) -> u32;
     pub fn confluo_take_writer(log: *mut Log, writer: *mut Writer, number: *mut u32) -> u32;
     pub fn confluo_take_reader(log: *mut Log, reader: *mut Reader) -> u32;
+    pub fn confluo_close(log: *mut Log, reader: *mut Reader) -> u32;
     pub fn confluo_append(
         writer: *mut Writer,
         capture: *const Capture,
@@ -221,6 +223,7 @@ extern "C" {
         count: *mut usize,
     ) -> u32;
     pub fn confluo_words(reader: *mut Reader, from: usize, out: *mut u64, out_len: usize) -> usize;
+    pub fn confluo_report(reader: *mut Reader, text: *mut u8, text_len: usize, count: *mut usize) -> u32;
     pub fn confluo_tail(reader: *mut Reader, tail: *mut u32) -> u32;
     pub fn confluo_name(
         log: *mut Log,

@@ -1,6 +1,6 @@
 //! Readers.
 use crate::answer::{Answer, Body, Groups};
-use crate::error::{AskError, GroupsError, LineError, RowError};
+use crate::error::{AskError, GroupsError, LineError, ReportError, RowError};
 use crate::handle::Held;
 use crate::raw;
 use crate::row::{Row, Value};
@@ -131,6 +131,28 @@ impl Reader {
         RowError::check(code)?;
         let values = values[..count].iter().map(Value::of).collect();
         Ok(Row { number, values })
+    }
+
+    /// The report of the records that the reader has seen, as `confluo run` prints it: how many they are, what each question and trigger
+    /// of the setup means on them, and the order in which the writers appended them.
+    ///
+    /// # Errors
+    ///
+    /// [`ReportError::Memory`].
+    pub fn report(&mut self) -> Result<String, ReportError> {
+        let mut text = Vec::new();
+        loop {
+            let mut count = 0;
+            // SAFETY: the memory is ours, and as long as said.
+            let code = self
+                .held
+                .call(|reader| unsafe { raw::confluo_report(reader, text.as_mut_ptr(), text.len(), &mut count) });
+            ReportError::check(code)?;
+            if count <= text.len() {
+                return Ok(String::from_utf8_lossy(&text[..count]).into_owned());
+            }
+            text.resize(count, 0);
+        }
     }
 
     /// How many records are below the tail now.

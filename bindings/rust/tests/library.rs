@@ -2,8 +2,8 @@
 #![forbid(unsafe_code)]
 
 use confluo::{
-    check, merge, Answer, AppendError, AskError, Asks, Body, Capture, Fault, Group, Groups, GroupsError, LaneKind, Log,
-    Mark, MergeError, Op, OpenError, Part, Quad, Reader, Row, RowError, Sizes, TakeError, Top, Trigger, Value, Writer,
+    check, merge, Answer, AppendError, AskError, Asks, Body, Capture, CloseError, Fault, Group, Groups, GroupsError,
+    LaneKind, Log, Mark, MergeError, Op, OpenError, Part, Quad, Reader, Row, RowError, Sizes, TakeError, Top, Trigger, Value, Writer,
 };
 use std::error::Error;
 use std::sync::mpsc;
@@ -231,6 +231,27 @@ fn all_is_asked_at_one_tail() -> Result<(), Box<dyn Error>> {
     assert_eq!(reader.row(1), Err(RowError::NoRow));
     let long = [Value::Number(1), Value::Number(9), Value::Bytes(vec![0; 17])];
     assert_eq!(writer.append_row(9, &long), Err(AppendError::Unfit));
+    Ok(())
+}
+
+#[test]
+fn logs_are_closed() -> Result<(), Box<dyn Error>> {
+    let mut log = Log::open("schema records ts:u64\nask all list *\n", sizes(4, 2, 0))?;
+    let (mut first, mut second) = (log.writer()?, log.writer()?);
+    let mut early = log.reader()?;
+    first.append_values(8, &[1])?;
+    second.append_values(7, &[1])?;
+    drop(first);
+    let (log, refused) = log.close().unwrap_err();
+    assert_eq!(refused, CloseError::Busy);
+    assert_eq!(refused.to_string(), "a writer of the log is taken");
+    thread::spawn(move || drop(second)).join().unwrap();
+    let mut last = log.close().map_err(|(_, refused)| refused)?;
+    assert_eq!(last.report()?, "records 2\nask all list 2: 7 8\norder 1*1 0*1\n");
+    assert_eq!(last.ask_seen(0)?.tail, 2);
+    assert_eq!(early.report()?, "records 0\nask all list 0:\norder\n");
+    assert_eq!(early.tail(), 2);
+    assert_eq!(early.report()?, last.report()?);
     Ok(())
 }
 

@@ -2,6 +2,7 @@
 #![tactic(auto)]
 
 mod calls;
+mod ends;
 mod exports;
 mod handles;
 mod names;

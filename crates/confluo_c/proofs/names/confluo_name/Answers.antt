@@ -1,4 +1,4 @@
-use Rattle.std.proofs.Common.{◌≡◌, Ok, Err, Some, None, refl, subst}
+use Rattle.std.proofs.Common.{Ok, Err, Some, None, refl, subst}
 use Rattle.std.specs.Arc.{arc_value}
 use Rattle.cf_store.specs.declared.held.Log.{Log}
 use Rattle.cf_calls.specs.declared.code.Code.TheVariants as codes

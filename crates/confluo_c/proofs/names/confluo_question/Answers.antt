@@ -1,4 +1,4 @@
-use Rattle.std.proofs.Common.{◌≡◌, ◌∙◌, Ok, Err, ap, refl, sym, subst}
+use Rattle.std.proofs.Common.{◌∙◌, Ok, Err, ap, refl, sym}
 use Rattle.std.specs.Arc.{arc_value}
 use Rattle.cf_setup.specs.Setups.{SetupValue}
 use Rattle.cf_setup.specs.Named.{place_in}

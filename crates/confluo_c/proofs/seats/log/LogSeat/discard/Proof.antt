@@ -4,7 +4,7 @@ use mathlib.Core.List.{List, [], ◌∷◌, ◌++◌}
 use seplogic.Ra.Ura.{Ura}
 use mir.Syntax.{ty_ptr}
 use mir.Val.{Val, vunit, vstruct, vcons, vnil, of_list, has_ty}
-use base.Logic.{SProp, ent, id⊢}
+use base.Logic.{SProp, ent}
 use base.Fml.{ftrue, fsep}
 use prog.Memory.{Memory}
 use prog.Routine.{Routine}
@@ -15,21 +15,18 @@ use contract.Running.{tables, tables_of}
 use sound.WpLaws.{WpFn-mono}
 use types.Kit.{Item, ‵, raw, ◌⊛◌, ◌$◌, ◌∵◌, !, qed, by, move, drop, rewrite, use1, join, split, fsplit, fjoin, fpick, feq_l, feq_i, suffices, done}
 use Rattle.std.proofs.alloc.Calls.{α, handle_tells}
-use types.Part.{whole, sub, agg}
-use types.Run.{unit_lit, stop, fld, no_more, and_then, of_opd, returns, enter}
-use types.ByLocal.{alloc_all, pass_all, free_all, look_at, get, get_in, sets}
+use types.Part.{whole, sub}
+use types.Run.{unit_lit, stop, fld, of_opd, returns, enter}
+use types.ByLocal.{alloc_all, pass_all, free_all, look_at, get_in, sets}
 use denote.Exit.{yes}
 use denote.RawPtr.{ptr_val, rawptr_Lawful}
-use denote.Signature.{type_at}
 use denote.Steps.{nothing, heard}
 use Rattle.std.specs.Prelude.{Option, None}
 use Rattle.cf_store.specs.contracts.held.Log as Held
 use Rattle.confluo_c.specs.contracts.seats.log.LogSeat as Seat
 use denote.Triple.Spec.{triple_of}
 use denote.Triple.Table.{entered}
-use denote.Triple.Walked.{says, Stays, stay_dropped, walk_of, ends_at, Goes-dropped, walk_Meets}
-use Rattle.std.proofs.BoxSteps.Form.{D, word, box_typed}
-use Rattle.std.proofs.BoxSteps.Steps.{box_out, box_in}
+use denote.Triple.Walked.{Stays, stay_dropped, walk_of, ends_at, Goes-dropped, walk_Meets}
 use Rattle.confluo_c.proofs.AsLog.{E, FromSeat as From}
 use Rattle.confluo_c.proofs.Options.{both_tt}
 use Rattle.confluo_c.specs.contracts.seats.log.LogSeat.discard as F

@@ -1,0 +1,64 @@
+/* Logs that are closed, and the reports of their readers: each code, and what a refused call leaves. */
+#include "check.h"
+
+static const char setup[] = "schema records ts:u64,key:u16\nindex keys key\nask all list *\nask sevens find keys 7 7\nask none find keys 9 9\n";
+
+static void append(confluo_writer *writer, uint32_t number, uint64_t key) {
+    uint32_t offset = 99;
+    is(confluo_append_values(writer, number, (const uint64_t[]){1, key}, 2, &offset), CONFLUO_OK, "append");
+}
+
+static void report_is(confluo_reader *reader, const char *wanted) {
+    uint8_t text[200];
+    size_t count = 7, whole = 7;
+    is(confluo_report(reader, text, 0, &whole), CONFLUO_OK, "report without room");
+    is(whole, strlen(wanted), "how long it is");
+    is(confluo_report(reader, text, sizeof text, &count), CONFLUO_OK, "report");
+    is(count == whole && memcmp(text, wanted, count) == 0, 1, wanted);
+    memset(text, '.', 9);
+    is(confluo_report(reader, text, 7, &count), CONFLUO_OK, "report with some room");
+    is(count == whole && memcmp(text, "records..", 9) == 0, 1, "its front");
+}
+
+static void *closes(void *given) {
+    confluo_log log = CONFLUO_LOG_INIT;
+    confluo_writer writers[3] = {CONFLUO_WRITER_INIT, CONFLUO_WRITER_INIT, CONFLUO_WRITER_INIT};
+    confluo_reader early = CONFLUO_READER_INIT, last = CONFLUO_READER_INIT;
+    confluo_head head;
+    uint32_t number = 7, tail = 7;
+    uint8_t text[2] = {'.', '.'};
+    size_t count = 7;
+    is(confluo_close(&log, &last), CONFLUO_NOTHING, "close nothing");
+    is(confluo_report(&last, text, 2, &count), CONFLUO_NOTHING, "report of nothing");
+    is(count == 7 && text[0] == '.' && !last.full, 1, "which leaves all");
+    is(opened(&log, setup, 4, 3, 64), CONFLUO_OK, "open");
+    for (int k = 0; k < 3; k++) is(confluo_take_writer(&log, &writers[k], &number), CONFLUO_OK, "writer");
+    is(confluo_take_reader(&log, &early), CONFLUO_OK, "reader");
+    append(&writers[0], 30, 7);
+    append(&writers[2], 10, 8);
+    is(confluo_tail(&early, &tail), CONFLUO_OK, "tail");
+    append(&writers[2], 20, 7);
+    report_is(&early, "records 2\nask all list 2: 10 30\nask sevens find 1: 30\nask none find 0:\norder 2*1 0*1\n");
+    for (int k = 0; k < 3; k++) {
+        is(confluo_close(&log, &last), CONFLUO_BUSY, "close with a writer");
+        is(log.full && !last.full, 1, "which leaves both");
+        confluo_free_writer(&writers[k]);
+    }
+    is(confluo_take_writer(&log, &writers[1], &number), CONFLUO_OK, "a writer of an open log");
+    is(confluo_close(&log, &last), CONFLUO_BUSY, "close with a writer again");
+    confluo_free_writer(&writers[1]);
+    is(confluo_close(&log, &last), CONFLUO_OK, "close");
+    is(!log.full && last.full, 1, "the log leads to nothing");
+    is(confluo_close(&log, &last), CONFLUO_NOTHING, "close twice");
+    report_is(&last, "records 3\nask all list 3: 10 20 30\nask sevens find 2: 20 30\nask none find 0:\norder 2*1 0*2\n");
+    is(confluo_ask_seen(&last, 1, &head), CONFLUO_OK, "a final answer");
+    is(head.tail == 3 && head.count == 2, 1, "on all records");
+    report_is(&early, "records 2\nask all list 2: 10 30\nask sevens find 1: 30\nask none find 0:\norder 2*1 0*1\n");
+    is(confluo_tail(&early, &tail) == CONFLUO_OK && tail == 3, 1, "the tail of a closed log");
+    confluo_free_reader(&last);
+    report_is(&early, "records 3\nask all list 3: 10 20 30\nask sevens find 2: 20 30\nask none find 0:\norder 2*1 0*2\n");
+    confluo_free_reader(&early);
+    return given;
+}
+
+int main(void) { return in_a_small_stack(closes); }
