@@ -62,7 +62,8 @@ mod writer;
 
 pub use answer::{merge, Answer, Body, Group, Groups, Mark, Quad, Top};
 pub use error::{
-    AppendError, AskError, CloseError, Fault, GroupsError, LineError, MergeError, OpenError, ReportError, RowError, TakeError,
+    AppendError, AskError, CloseError, Fault, GroupsError, LineError, MergeError, OpenError, ReportError, RowError,
+    TakeError,
 };
 pub use log::{check, Log, Sizes};
 pub use names::{Asks, Attribute, Lane, LaneKind, Op, Part, Question, Trigger};

@@ -134,7 +134,7 @@ impl Log {
     /// ```
     /// use confluo::{CloseError, Log, Sizes};
     ///
-    /// let mut log = Log::open("schema records n:u64\nask all list *\n", Sizes::default())?;
+    /// let mut log = Log::open("schema records ts:u64\nask all list *\n", Sizes::default())?;
     /// let mut writer = log.writer()?;
     /// writer.append_values(7, &[1_000])?;
     /// let (log, refused) = log.close().unwrap_err();

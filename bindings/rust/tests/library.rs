@@ -3,7 +3,8 @@
 
 use confluo::{
     check, merge, Answer, AppendError, AskError, Asks, Body, Capture, CloseError, Fault, Group, Groups, GroupsError,
-    LaneKind, Log, Mark, MergeError, Op, OpenError, Part, Quad, Reader, Row, RowError, Sizes, TakeError, Top, Trigger, Value, Writer,
+    LaneKind, Log, Mark, MergeError, Op, OpenError, Part, Quad, Reader, Row, RowError, Sizes, TakeError, Top, Trigger,
+    Value, Writer,
 };
 use std::error::Error;
 use std::sync::mpsc;

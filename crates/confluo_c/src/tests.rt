@@ -509,42 +509,55 @@ fn a_setup_names_its_parts(rt: HostRuntime) {
 }
 
 // A log with two writers, each of which has appended one row.
-fn two_rows(alloc: Global, log: &mut LogHandle, writers: &mut [WriterHandle; 2]) -> u32 {
+fn two_rows(
+    alloc: Global,
+    log: &mut LogHandle,
+    first: &mut WriterHandle,
+    second: &mut WriterHandle,
+) -> u32 {
     let mut fault = Fault { line: 0, code: 0 };
     let (mut number, mut offset) = (9, 9);
-    let setup = b"schema records n:u8\nask all list *\n";
-    let mut codes = confluo_open(alloc, log, setup, &sizes_of(4, 2), &mut fault);
-    let [first, second] = writers;
-    codes += confluo_take_writer(alloc, log, first, &mut number);
-    codes += confluo_append_values(alloc, first, 8, &[1], &mut offset);
-    codes += confluo_take_writer(alloc, log, second, &mut number);
-    codes + confluo_append_values(alloc, second, 7, &[2], &mut offset)
+    let setup = b"schema records ts:u64\nask all list *\n";
+    let opened = confluo_open(alloc, log, setup, &sizes_of(4, 2), &mut fault);
+    let taken = confluo_take_writer(alloc, log, first, &mut number);
+    let appended = confluo_append_values(alloc, first, 8, &[1], &mut offset);
+    let taken_too = confluo_take_writer(alloc, log, second, &mut number);
+    let appended_too = confluo_append_values(alloc, second, 7, &[2], &mut offset);
+    opened | taken | appended | taken_too | appended_too
 }
 
 #[test]
 fn a_log_is_closed(rt: HostRuntime) {
     let alloc = rt.alloc();
     let mut log = LogHandle::none(alloc);
-    let mut writers = [WriterHandle::none(alloc), WriterHandle::none(alloc)];
+    let mut first = WriterHandle::none(alloc);
+    let mut second = WriterHandle::none(alloc);
     let mut reader = ReaderHandle::none(alloc);
-    let mut text = [b'.'; 50];
+    let mut text = [b'.'; 45];
     let mut count = 99;
     assert_eq!(rt; confluo_close(alloc, &mut log, &mut reader), 4);
-    assert_eq!(rt; two_rows(alloc, &mut log, &mut writers), 0);
+    assert_eq!(rt;
+        two_rows(alloc, &mut log, &mut first, &mut second),
+        0
+    );
     assert_eq!(rt; confluo_close(alloc, &mut log, &mut reader), 15);
-    assert_eq!(rt; confluo_report(alloc, &mut reader, &mut text, &mut count), 4);
+    assert_eq!(rt;
+        confluo_report(alloc, &mut reader, &mut text, &mut count),
+        4
+    );
     assert_eq!(rt; count, 99);
-    let [first, second] = &mut writers;
-    confluo_free_writer(alloc, second);
+    confluo_free_writer(alloc, &mut second);
     assert_eq!(rt; confluo_close(alloc, &mut log, &mut reader), 15);
-    confluo_free_writer(alloc, first);
+    confluo_free_writer(alloc, &mut first);
     assert_eq!(rt; confluo_close(alloc, &mut log, &mut reader), 0);
     assert_eq!(rt; confluo_close(alloc, &mut log, &mut reader), 4);
-    assert_eq!(rt; confluo_report(alloc, &mut reader, &mut text, &mut count), 0);
-    let whole = b"records 2\nask all list 2: 7 8\norder 1*1 0*1\n";
-    assert_eq!(rt; count, whole.len());
-    assert_eq!(rt; &text[..count], whole.as_slice());
-    let mut front = [b'.'; 9];
-    assert_eq!(rt; confluo_report(alloc, &mut reader, &mut front, &mut count), 0);
-    assert_eq!(rt; (count, &front[..]), (whole.len(), b"records 2".as_slice()));
+    assert_eq!(rt;
+        confluo_report(alloc, &mut reader, &mut text, &mut count),
+        0
+    );
+    assert_eq!(rt; count, 44);
+    assert_eq!(rt;
+        &text[..],
+        b"records 2\nask all list 2: 7 8\norder 1*1 0*1\n.".as_slice()
+    );
 }
