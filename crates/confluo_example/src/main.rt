@@ -39,7 +39,6 @@ struct Found {
 
 // The rows of a source.
 fn rows_of(alloc: Global, schema: &Schema, source: u64, count: u32) -> Result<Vec<Row>>
-    requires { count < 100000 }
     ensures rows { IfOk result (λ rows. rows.items ≡ map (sent source) (range_with_len 0 count)) }
     ensures fit { IfOk result (λ rows. All (Fits schema.now) rows.items) }
 {
