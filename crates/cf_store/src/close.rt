@@ -44,10 +44,7 @@ impl Log {
 
     /// Closes a log whose writers are all free: their passes come home, and what comes back is a reader that has seen all that they have
     /// appended. A log that is not closed comes back.
-    pub fn close(
-        mut log: Box<Log>,
-        alloc: Global,
-    ) -> Result<Box<Reader>, (Box<Log>, CloseRefusal)>
+    pub fn close(mut log: Box<Log>, alloc: Global) -> Result<Box<Reader>, (Box<Log>, CloseRefusal)>
         ensures { Closes log.value (result_map_both box_value (λ back. (box_value back.0, back.1)) result) }
     {
         if !log.is_free() {

@@ -5,8 +5,8 @@ ghost use Rattle.cf_store.specs.Parts.{IsAware};
 ghost use Rattle.cf_store.specs.Asks.{AnswersLine, AsksLine, IsNewQuestion, ReadsLine, with_line as with_line_of};
 
 use crate::held::{Reader, Shared};
-use cf_calls::LineRefusal;
 use crate::shown::Head;
+use cf_calls::LineRefusal;
 use cf_log::ask;
 use cf_plain::{Answer, Ask, suits};
 use cf_row::Memory;

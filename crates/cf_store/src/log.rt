@@ -13,8 +13,8 @@ ghost use Rattle.cf_calls.specs.declared.refusals.OpenRefusal.TheVariants.{Memor
 ghost use Rattle.cf_store.specs.Opens.{AreSizes, IsNew, BySetup, Opens, Measures, Takes, TakesAt, Forks, refusal_by, sized};
 
 use crate::held::{Log, Reader, Shared, Writer};
-use cf_calls::{OpenRefusal, TakeRefusal};
 use crate::shown::Sizes;
+use cf_calls::{OpenRefusal, TakeRefusal};
 use cf_home::{Place, find_home, places_of};
 use cf_row::Memory;
 use cf_setup::{Setup, SetupFault, parse_setup, shape_of};

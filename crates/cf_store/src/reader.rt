@@ -9,9 +9,9 @@ ghost use Rattle.cf_store.specs.Asks.{Answers, AnswersSeen, AsksAt, AsksSeen, As
 ghost use Rattle.cf_store.specs.Reports.{Reports};
 
 use crate::held::{Reader, Shared};
-use cf_calls::{AskRefusal, LaneRefusal, RowRefusal};
 use crate::shown::{Head, PlainValue, Shown};
 use crate::values::show_row;
+use cf_calls::{AskRefusal, LaneRefusal, RowRefusal};
 use cf_fold::Quad;
 use cf_log::{ask, ask_seen, groups_seen, row, tail};
 use cf_plain::{Answer, Body, Fired, Group};

@@ -8,9 +8,9 @@ ghost use Rattle.cf_log.specs.Appended.{HasAppended};
 ghost use Rattle.cf_store.specs.Appends.{AppendsFrame, AppendsFramed, AppendsFrames, AppendsPlain, AppendsRow, AppendsValues, HasRoom, IsFrame, StandsIn, numbers_row, frame_of, frame_row, reads_link, bytes_in as bytes_in_of};
 
 use crate::held::Writer;
-use cf_calls::AppendRefusal;
 use crate::shown::{Capture, Framed, PlainValue, Room};
 use crate::values::{are_values, row_of_values};
+use cf_calls::AppendRefusal;
 use cf_headers::{packet_row, packet6_row};
 use cf_log::{AppendFault, Leaves, append_near};
 use cf_packet6::PacketSchema;

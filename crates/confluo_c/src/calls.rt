@@ -6,8 +6,8 @@ ghost use Rattle.cf_store.specs.Asks.{AsksAt, AsksSeen, AsksTail, ShowsRowAt, Te
 ghost use Rattle.cf_calls.specs.Copied.{Copies};
 ghost use Rattle.confluo_c.specs.Calls.{BatchBy, ByHandle, ForksTo, IsCoded, IsRoom, IsTail, LineBy, OpensAt, TakesTo};
 
-use cf_calls::copy_part;
 use crate::handles::{LogHandle, ReaderHandle, WriterHandle};
+use cf_calls::copy_part;
 use cf_store::{
     Capture, Code, Framed, Head, LineRefusal, Log, OpenRefusal, PlainValue, Room, Shown, Sizes,
 };

@@ -15,8 +15,8 @@ ghost use Rattle.cf_store.specs.Asks.{AsksAt, AsksSeen, ShowsRowAt, TellsGroups}
 ghost use Rattle.cf_calls.specs.Copied.{Copies};
 ghost use Rattle.confluo_c.specs.Calls.{BatchBy, ByHandle, ForksTo, IsCoded, IsRoom, IsTail, LineBy, MergesTo, OpensAt, TakesTo, Tells, TellsFault, coded, count_or, fault_after, line_fault, line_fault_after, line_head, line_number, number_of, number_or, told_or};
 
-use cf_calls::{copy_part, put_all};
 use crate::handles::{LogHandle, ReaderHandle, WriterHandle};
+use cf_calls::{copy_part, put_all};
 use cf_store::{
     Capture, Code, Fault, Framed, Head, LineRefusal, OpenRefusal, PlainValue, Room, Sizes, measure,
     merge, message_of,

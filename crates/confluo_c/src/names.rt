@@ -4,9 +4,9 @@ ghost use Rattle.std.specs.Arc.{arc_value};
 ghost use Rattle.confluo_c.specs.Calls.{Tells};
 ghost use Rattle.confluo_c.specs.Named.{CopiesName, IsAbout, IsQuestion, IsWidth, NamesTo};
 
-use cf_calls::copy_part;
 use crate::handles::LogHandle;
 use cf_about::{About, about_in, name_in, question_in};
+use cf_calls::copy_part;
 use cf_store::{Code, Log};
 use std::alloc::Global;
 

@@ -536,10 +536,7 @@ fn a_log_is_closed(rt: HostRuntime) {
     let mut text = [b'.'; 45];
     let mut count = 99;
     assert_eq!(rt; confluo_close(alloc, &mut log, &mut reader), 4);
-    assert_eq!(rt;
-        two_rows(alloc, &mut log, &mut first, &mut second),
-        0
-    );
+    assert_eq!(rt; two_rows(alloc, &mut log, &mut first, &mut second), 0);
     assert_eq!(rt; confluo_close(alloc, &mut log, &mut reader), 15);
     assert_eq!(rt;
         confluo_report(alloc, &mut reader, &mut text, &mut count),

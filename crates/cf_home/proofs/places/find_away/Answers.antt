@@ -28,7 +28,7 @@ returns-then-not-is_home-clause-found c =
       c.look.new.self,
       get_set_same c.loop-k.places k c.look.new.self _ (slice_get-get_or c.loop-k.places k c.look.new.self lt),
       none_of c.look.new.self.home
-      (home_is c.loop-k.places k c.look.new.self c.index-places-k-in-loop-k.result lt (sym c.is_home.ensures ∙ c.if-not-is_home.true)),
+          (home_is c.loop-k.places k c.look.new.self c.index-places-k-in-loop-k.result lt (sym c.is_home.ensures ∙ c.if-not-is_home.true)),
     )
 
 pub loop-k-preserved : goal.loop-k-preserved

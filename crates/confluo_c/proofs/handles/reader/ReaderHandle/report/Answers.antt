@@ -7,8 +7,7 @@ use Rattle.confluo_c.proofs.handles.reader.ReaderHandle.report.Goals as goal
 pub returns-in-Ok-clause-told : goal.returns-in-Ok-clause-told
 returns-in-Ok-clause-told c =
     by_handle (ReportsTo c.args.out.now c.copy_part.new.out) c.args.self.now.seat.held c.put.new.self.seat.held c.in-Some.reader.value
-    c.deref_mut.result.now c.report-made.new.self _ c.in-Some.ensures.taken c.deref_mut.ensures.value c.put.ensures
-    (
+    c.deref_mut.result.now c.report-made.new.self _ c.in-Some.ensures.taken c.deref_mut.ensures.value c.put.ensures (
       c.in-Ok.text.items,
       c.in-Ok.ensures.0,
       c.in-Ok.ensures.1,
