@@ -1,5 +1,5 @@
 pub mod Options
-pub mod AsLog
-pub mod AsWriter
-pub mod AsReader
-pub mod Called
+pub mod Steps
+pub mod LeadsReader
+pub mod LeadsLog
+pub mod LeadsWriter

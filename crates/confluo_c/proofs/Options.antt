@@ -1,14 +1,23 @@
--- Options that are not empty, and tests that both hold.
-use mathlib.Core.Path.{◌≡◌, refl}
-use mathlib.Core.Bool.{Bool, true, false, ◌&&◌}
+-- Tests of whether an option is empty.
+use mathlib.Core.Path.{◌≡◌, refl, subst, sym}
+use mathlib.Core.Bool.{Bool, true, false}
 use lib.Dec.{T}
-use Rattle.std.specs.Prelude.{Option, Some, None}
+use Rattle.std.specs.Prelude.{◌≢◌, ◌↔◌, IsTrue, Option, Some, None}
 
-pub some_of : {A : Type 0} (o : Option A) → (o ≡ None → ⊥) → (x : A) × (o ≡ Some x)
-some_of None h = absurd (h refl)
-some_of (Some x) h = (x, refl)
+abbrev Full : {A : Type 0} → Option A → Type 0
+Full None = ⊥
+Full (Some x) = Unit {0}
 
-pub both_tt : (a b : Bool) → T a → T b → T (a && (b && true))
-both_tt true true p q = tt
-both_tt true false p q = q
-both_tt false b p q = p
+pub ties_none : (A : Type 0) (full : Bool) → full ≡ false → IsTrue full ↔ (◌≢◌ {A = Option A} None None)
+ties_none A true e = absurd (subst (λ (b : Bool). T b) e tt)
+ties_none A false e = (λ t. absurd (subst (λ (b : Bool). T b) (sym t) tt), λ n. absurd (n refl))
+
+pub ties_some : {A : Type 0} (x : A) (full : Bool) → full ≡ true → IsTrue full ↔ (Some x ≢ None)
+ties_some x full e = (λ t n. subst Full n tt, λ _. e)
+
+pub none_ties : (A : Type 0) (full : Bool) → IsTrue full ↔ (◌≢◌ {A = Option A} None None) → full ≡ false
+none_ties A true t = absurd (t.0 refl refl)
+none_ties A false t = refl
+
+pub some_ties : {A : Type 0} (x : A) (full : Bool) → IsTrue full ↔ (Some x ≢ None) → full ≡ true
+some_ties x full t = t.1 (λ n. subst Full n tt)

@@ -1,4 +1,2 @@
-pub mod Seats
-pub mod Calls
-pub mod Named
-pub mod Ends
+pub mod Leads
+pub mod Told

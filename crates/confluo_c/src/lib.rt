@@ -1,12 +1,9 @@
-//! The log for programs in C, and in what can call C: handles of a log, of its writers and of its readers.
+//! The log for programs in C, and in what can call C: what C calls.
 #![tactic(auto)]
 
-mod calls;
-mod ends;
-mod exports;
-mod handles;
-mod names;
-mod parts;
-mod seats;
+mod lent;
+mod plain;
+mod pointers;
+mod raw;
 #[cfg(test)]
 mod tests;

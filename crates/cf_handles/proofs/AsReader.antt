@@ -1,0 +1,25 @@
+-- A seat of a reader and its parts own what a box at the same types owns.
+use mir.Syntax.{impl, tnil, dnil}
+use mathlib.Core.List.{[]}
+use denote.Signature.{Slot, plain}
+use Rattle.std.proofs.BoxSteps.Form.{Bx}
+use Rattle.std.specs.contracts.alloc.Global as Heap
+use Rattle.std.specs.contracts.impls.GlobalAllocator.TheImpl.{ghosts, dict}
+use Rattle.std.proofs.alloc.Global.TheLaws as heap
+use Rattle.cf_store.specs.contracts.held.Reader as Held
+use Rattle.cf_store.proofs.held.Reader.TheLaws as held
+use Rattle.cf_handles.specs.contracts.parts.Parts as Parts
+use Rattle.cf_handles.specs.contracts.seats.reader.ReaderSeat as Seat
+
+abbrev pub E : Bx
+E = record {
+  row = Held.the_row;
+  laws = held.the_row_laws;
+  al = record { row = Heap.the_row; laws = heap.the_row_laws; g = ghosts; d = dict; drops = impl [] tnil dnil };
+}
+
+abbrev pub FromParts : Slot 0
+FromParts = plain (λ _. Parts.the_row Held.the_row Heap.the_row ghosts)
+
+abbrev pub FromSeat : Slot 0
+FromSeat = plain (λ _. Seat.the_row)
