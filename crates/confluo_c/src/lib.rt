@@ -1,7 +1,6 @@
 //! The log for programs in C, and in what can call C: what C calls.
 #![tactic(auto)]
 
-mod lent;
 mod plain;
 mod pointers;
 mod raw;

@@ -1,14 +1,12 @@
--- `confluo_take_reader` lends what is owned at the two pointers to the function of that name in `cf_handles`, and hands it back.
-use Rattle.confluo_c.proofs.Steps.{◌≡◌, ◌∙◌, ℕ, List, [], ◌∷◌, ◌++◌, refl, sym, ap, subst, w32, MutBor, proved_at, handle_tells, full_share, id⊢, ent, sep, ex, ftrue, flft, flent, fsep, fact, tables, named, Val, vptr, WpFn, sem, Body, lft_new, lft_end, at_ret, split3, Item, ⋆, some, later, pick, use1, use2, use3, await, rewrite, show, suffices, group, done, keep, ‵, raw, ◌⊛◌, ◌$◌, ◌∵◌, !, qed, by, move, drop, split, join, fsplit, fjoin, fpick, feq_l, of_opd, addr, stop, no_more, and_then, first, blocks, exec, returns, enter, free_all, look_at, get, through, sets, sets_last, lands_as, env, alloc_all, pass_all, yes, u32, Is, shows, lends_ref, ref_back, mem, part_at, uint_Lawful, RattleType, owns, Ptr, RawPtr, block_ptr, in_a_block, lies_at, ptr_val, MutRef, plain, nothing, heard, peeks, calls_at, lasts, triple_of, framed, Stays, walk_of, stay_dropped, Goes-dropped, ends_at, says, Option}
-use Rattle.std.specs.Prelude.{Result}
-use Rattle.cf_calls.specs.declared.code.Code.{Code}
+-- `confluo_take_reader` lends what is owned at the pointers to the function of that name in `cf_handles`, and hands it back.
+use Rattle.confluo_c.proofs.Steps.{◌≡◌, ◌∙◌, ℕ, List, [], ◌∷◌, ◌++◌, refl, sym, ap, subst, w32, MutBor, proved_at, handle_tells, full_share, id⊢, ent, sep, ex, ftrue, flft, flent, fsep, fact, tables, named, Val, vptr, WpFn, sem, Body, lft_new, lft_end, at_ret, Item, ⋆, some, later, pick, use1, use2, use3, await, rewrite, show, suffices, group, done, ‵, raw, ◌⊛◌, ◌$◌, ◌∵◌, !, qed, by, move, drop, split, join, fsplit, fjoin, fpick, feq_l, of_opd, addr, stop, no_more, and_then, first, blocks, exec, returns, enter, free_all, look_at, get, through, sets, sets_last, lands_as, env, alloc_all, pass_all, yes, u32, Is, shows, lends_ref, ref_back, mem, part_at, uint_Lawful, RattleType, owns, Ptr, RawPtr, block_ptr, in_a_block, lies_at, ptr_val, MutRef, plain, nothing, heard, peeks, calls_at, lasts, triple_of, framed, Stays, walk_of, stay_dropped, Goes-dropped, ends_at, says, Option}
+use Rattle.confluo_c.specs.Told.{ForksBy}
 use Rattle.cf_store.specs.declared.held.Log.{Log}
 use Rattle.cf_store.specs.declared.held.Reader.{Reader}
 use Rattle.std.specs.contracts.alloc.Global as Heap
 use Rattle.cf_handles.proofs.AsReader.{E}
 use Rattle.confluo_c.proofs.LeadsLog as logs
 use Rattle.confluo_c.proofs.LeadsReader as readers
-use Rattle.cf_handles.specs.Calls.{ByHandle, ForksTo, number_of}
 use Rattle.confluo_c.specs.Leads.{handle_owns, leads_to, log_at, reader_at}
 use Rattle.cf_store.specs.contracts.held.Log as HeldLog
 use Rattle.cf_store.specs.contracts.held.Reader as HeldReader
@@ -30,9 +28,6 @@ R = LogHandle.the_row
 abbrev S : RattleType
 S = ReaderHandle.the_row
 
-abbrev Says : Option Log → Option Log → Option Reader → Option Reader → ℕ → Type 0
-Says l l' m m' n = (r : Result (Unit {0}) Code) × ByHandle (ForksTo m m') l l' r × (n ≡ number_of r)
-
 pub confluo_take_reader_spec : {M : Type 1} → statement M
 confluo_take_reader_spec 𝓤 𝓛 𝓜 𝓡 wired =
     let c = f.clauses 𝓛 𝓜.mem 𝓡.returns in let W = walk_of 𝓛 f.ended stayed c in let 𝓣 = tables 𝓤 𝓛.H 𝓜 𝓡 𝓡.env in
@@ -41,26 +36,24 @@ confluo_take_reader_spec 𝓤 𝓛 𝓜 𝓡 wired =
     f.Key.name code.function (code.unfolded 𝓤 𝓛.H 𝓜 𝓡 wired)
     (λ z are. let a = z.0.3.0 in let p = z.0.3.1.0 in let p₂ = z.0.3.1.1.0 in let x = z.1.0 in let x₂ = z.1.1 in let Post = W.post z in
     qed 𝓛 ((‵ ftrue ⊛ ‵ (owns (Heap.the_row ∷ RawPtr ∷ RawPtr ∷ []) (a, (p, (p₂, tt))) z.0.4)) ∷ ‵ (fsep (log_at p x) (reader_at p₂ x₂)) ∷ []) ∵
-    split ! $ move ! (1 ∷ []) $ fsplit ! $ handle_tells E.al ! a z.0.4.0 (λ hv eh fa. move ! (1 ∷ []) $ fsplit ! $ feq_l ! (λ ep. fsplit ! $ feq_l ! (λ ep₂.
-    -- [true; the allocator; no tokens; what lies at the pointers]
-    move ! (3 ∷ []) $ fsplit ! $ fpick ! (λ h. fsplit ! $ in_a_block ! p (λ r. lies_at Bytes.the_row full_share r h) (id⊢ 𝓤 _) (λ b o e. fjoin ! $
+    split ! $ move ! (1 ∷ []) $ fsplit ! $ handle_tells E.al ! a z.0.4.0 (λ hv eh fa. move ! (1 ∷ []) $ fsplit ! $ feq_l ! (λ ep. fsplit ! $ feq_l ! (λ ep₂. move ! (3 ∷ []) $ fsplit ! $ fpick ! (λ h. fsplit ! $ in_a_block ! p (λ r. lies_at Bytes.the_row full_share r h) (id⊢ 𝓤 _) (λ b o e. fjoin ! $
     move ! (1 ∷ []) $ fpick ! (λ h₂. fsplit ! $ in_a_block ! p₂ (λ r. lies_at Bytes.the_row full_share r h₂) (id⊢ 𝓤 _) (λ b₂ o₂ e₂. fjoin ! $
     let Γ : List (Item 𝓤) = ‵ (fsep (part_at Bytes.the_row full_share h₂ b₂ o₂) (handle_owns HeldReader.the_row h₂ x₂))
-    ∷ ‵ (fsep (part_at Bytes.the_row full_share h b o) (handle_owns HeldLog.the_row h x)) ∷ ‵ ftrue ∷ ‵ (Heap.the_row.own_val a (hv ∷ [])) ∷ ‵ ftrue ∷ [] in
+    ∷ ‵ (fsep (part_at Bytes.the_row full_share h b o) (handle_owns HeldLog.the_row h x))
+    ∷ ‵ ftrue
+    ∷ ‵ (Heap.the_row.own_val a (hv ∷ []))
+    ∷ ‵ ftrue ∷ [] in
     by ! (subst (λ (us : List Val). ent 𝓤 (⋆ 𝓛 Γ) (WpFn 𝓤 𝓛.H 𝓣.C 𝓣.Λ code.function us Post))
     (sym (λ i. eh i ++ ((ep ∙ ap (λ (r : Ptr). ptr_val r ∷ []) e) i ++ ((ep₂ ∙ ap (λ (r : Ptr). ptr_val r ∷ []) e₂) i ++ []))))
-    (qed 𝓛 Γ ∵ keep ! (0 ∷ 1 ∷ 3 ∷ []) $
-    use1 𝓛 (some (λ (k : S.Denot). ‵ (part_at S full_share k b₂ o₂) ⊛ raw (fact 𝓤 (k.seat.held ≡ x₂)))) (readers.opens 𝓛 b₂ o₂ h₂ x₂) $ pick ! (λ k₂. split ! $ move ! (1 ∷ []) $ heard ! _ (λ led₂.
-    move ! (1 ∷ []) $
-    use1 𝓛 (some (λ (k : R.Denot). ‵ (part_at R full_share k b o) ⊛ raw (fact 𝓤 (k.seat.held ≡ x)))) (logs.opens 𝓛 b o h x) $ pick ! (λ k. split ! $ move ! (1 ∷ []) $ heard ! _ (λ led.
-    -- [the log's handle; the reader's; the allocator]
+    (qed 𝓛 Γ ∵ move ! (2 ∷ []) $ drop ! $
+    move ! (1 ∷ []) $ use1 𝓛 (some (λ (k : R.Denot). ‵ (part_at R full_share k b o) ⊛ raw (fact 𝓤 (k.seat.held ≡ x)))) (logs.opens 𝓛 b o h x) $ pick ! (λ k. split ! $ move ! (1 ∷ []) $ heard ! _ (λ led.
+    move ! (1 ∷ []) $ use1 𝓛 (some (λ (k : S.Denot). ‵ (part_at S full_share k b₂ o₂) ⊛ raw (fact 𝓤 (k.seat.held ≡ x₂)))) (readers.opens 𝓛 b₂ o₂ h₂ x₂) $ pick ! (λ k₂. split ! $ move ! (1 ∷ []) $ heard ! _ (λ led₂.
     enter ! 𝓣.C 𝓣.Λ code.function (hv ∷ vptr b o ∷ vptr b₂ o₂ ∷ []) _ $ alloc_all ! (λ ls. pass_all ! refl (fa, ((tt, tt), ((tt, tt), tt))) $
-    lft_new ! tt (λ α. move ! (1 ∷ []) $
+    lft_new ! tt (λ α. move ! (2 ∷ []) $
     use1 𝓛 (later (some (λ (δ : ℕ). ‵ ((MutRef (named 0) (α ∷ []) R).own_val (record { ref_ptr = (b, o); ghost_name = δ; now = k }) (vptr b o ∷ [])) ⊛ ‵ (flent (α ∷ []) (Body (mem R) b o δ)))))
     (lends_ref 𝓛 R (named 0) (α ∷ []) k b o) $ await ! tt $ pick ! (λ δ. split ! $ lft_new ! tt (λ β. move ! (4 ∷ []) $
     use1 𝓛 (later (some (λ (δ : ℕ). ‵ ((MutRef (named 1) (β ∷ []) S).own_val (record { ref_ptr = (b₂, o₂); ghost_name = δ; now = k₂ }) (vptr b₂ o₂ ∷ [])) ⊛ ‵ (flent (β ∷ []) (Body (mem S) b₂ o₂ δ)))))
     (lends_ref 𝓛 S (named 1) (β ∷ []) k₂ b₂ o₂) $ await ! tt $ pick ! (λ δ₂. split ! $
-    -- [the second loan; what comes back; the token of β; the first loan; what comes back; the token of α; the allocator]
     sets ! (of_opd ! (get ! refl)) refl fa $ first ! $ blocks ! $ sets_last ! (addr ! (through ! refl (stop !))) refl (tt, tt) $
     exec ! 𝓣.C 𝓣.Λ (env code.Mir.locals ls) code.Mir.t-3 (at_ret (env code.Mir.locals ls) Post) $
     sets ! (of_opd ! (get ! refl)) refl (tt, tt) $ first ! $ blocks ! $ sets_last ! (addr ! (through ! refl (stop !))) refl (tt, tt) $
@@ -70,30 +63,26 @@ confluo_take_reader_spec 𝓤 𝓛 𝓜 𝓡 wired =
     let loan : MutBor R.Denot = record { ref_ptr = (b, o); ghost_name = δ; now = k } in
     let loan₂ : MutBor S.Denot = record { ref_ptr = (b₂, o₂); ghost_name = δ₂; now = k₂ } in
     let y : G.Ghost = (((α ∷ [], (β ∷ [], tt)), (full_share, (full_share, tt)), tt, (a, (loan, (loan₂, tt))), (hv ∷ [], (vptr b o ∷ [], (vptr b₂ o₂ ∷ [], tt)))), tt) in
-    nothing ! $ move ! (1 ∷ 0 ∷ []) $ join ! $ move ! (3 ∷ 0 ∷ []) $ join ! $ move ! (5 ∷ 0 ∷ []) $ join ! $
-    nothing ! $ move ! (3 ∷ 0 ∷ []) $ join ! $ move ! (4 ∷ 0 ∷ []) $ join ! $ join ! $
+    nothing ! $ move ! (1 ∷ 0 ∷ []) $ join ! $ move ! (3 ∷ 0 ∷ []) $ join ! $ move ! (5 ∷ 0 ∷ []) $ join ! $ move ! (2 ∷ 5 ∷ []) $ join ! $ move ! (4 ∷ 0 ∷ []) $ join ! $ join ! $
     nothing ! $ move ! (1 ∷ 0 ∷ []) $ use2 𝓛 (raw (G.pre y)) (id⊢ 𝓤 _) $
     calls_at ! (framed 𝓤 𝓛.H 𝓜 𝓣) G (met 𝓤 𝓛 𝓜 𝓡 (code.calls-cf_handles::numbered::confluo_take_reader 𝓡.env wired)) y
     (and_then ! (get ! refl) (and_then ! (get ! refl) (and_then ! (get ! refl) (no_more !)))) (λ v.
-    use1 𝓛 (later (some (λ (r : ℕ). ((‵ (flft (α ∷ []) full_share) ⊛ ‵ (flft (β ∷ []) full_share) ⊛ ‵ ftrue) ⊛ ‵ (u32.own_val r (v ∷ []))) ⊛
+    use1 𝓛 (later (some (λ (r : ℕ). ((‵ (flft (α ∷ []) full_share) ⊛ (‵ (flft (β ∷ []) full_share) ⊛ ‵ ftrue)) ⊛ ‵ (u32.own_val r (v ∷ []))) ⊛
     some (λ (ws : Unit {0} × (R.Denot × (S.Denot × Unit {0}))). ‵ (lasts g.ended y.0.0 y.0.3 ws) ⊛
-    raw (fact 𝓤 (Says k.seat.held ws.1.0.seat.held k₂.seat.held ws.1.1.0.seat.held r)))))) (id⊢ 𝓤 _) $
-    await ! tt $ pick ! (λ r. split ! $ split ! $ split3 ! $ lft_end ! tt $ move ! (1 ∷ []) $ lft_end ! tt $ move ! (4 ∷ []) $ pick ! (λ ws. split ! $ move ! (1 ∷ []) $ heard ! _ (λ did.
-    let k' = ws.1.0 in let k₂' = ws.1.1.0 in
-    -- [the last values; β is over; α is over; nothing; the result; what comes back of the reader's; of the log's]
-    fsplit ! $ drop ! $ fsplit ! $ fsplit ! $ move ! (4 ∷ 8 ∷ 0 ∷ []) $
+    raw (fact 𝓤 (ForksBy (k.seat.held, k₂.seat.held) (ws.1.0.seat.held, ws.1.1.0.seat.held) r)))))) (id⊢ 𝓤 _) $
+    await ! tt $ pick ! (λ r. split ! $ split ! $ split ! $ move ! (1 ∷ []) $ split ! $ move ! (2 ∷ []) $ lft_end ! tt $ move ! (1 ∷ []) $ lft_end ! tt $ move ! (4 ∷ []) $ pick ! (λ ws. split ! $ move ! (1 ∷ []) $ heard ! _ (λ did. let k' = ws.1.0 in let k₂' = ws.1.1.0 in
+    fsplit ! $ drop ! $ fsplit ! $ fsplit ! $ move ! (1 ∷ []) $ drop ! $ move ! (3 ∷ 7 ∷ 0 ∷ []) $
     use3 𝓛 (later (‵ (part_at R full_share k' b o))) (ref_back 𝓛 R (α ∷ []) δ k' b o) $ await ! tt $
     use1 𝓛 (‵ (leads_to HeldLog.the_row (block_ptr b o) k'.seat.held)) (logs.closes 𝓛 b o k') $
-    move ! (2 ∷ []) $ fsplit ! $ fsplit ! $ move ! (5 ∷ 8 ∷ 0 ∷ []) $
+    rewrite ! 0 (λ (r : Ptr). ‵ (leads_to HeldLog.the_row r k'.seat.held)) (sym e) refl $ move ! (1 ∷ []) $ fsplit ! $ fsplit ! $ move ! (1 ∷ []) $ drop ! $ move ! (3 ∷ 6 ∷ 0 ∷ []) $
     use3 𝓛 (later (‵ (part_at S full_share k₂' b₂ o₂))) (ref_back 𝓛 S (β ∷ []) δ₂ k₂' b₂ o₂) $ await ! tt $
     use1 𝓛 (‵ (leads_to HeldReader.the_row (block_ptr b₂ o₂) k₂'.seat.held)) (readers.closes 𝓛 b₂ o₂ k₂') $
-    rewrite ! 0 (λ (r : Ptr). ‵ (leads_to HeldReader.the_row r k₂'.seat.held)) (sym e₂) refl $ move ! (3 ∷ []) $
-    rewrite ! 0 (λ (r : Ptr). ‵ (leads_to HeldLog.the_row r k'.seat.held)) (sym e) refl $ fjoin ! $
-    move ! (5 ∷ []) $ peeks ! u32 (Is u32) (shows 𝓛 u32) r (v ∷ []) (λ is. lands_as ! refl refl ((uint_Lawful 𝓛 w32).typed r _ is).0 $
-    returns ! (look_at ! 0 refl) $ free_all ! refl $ keep ! (1 ∷ 0 ∷ []) $
+    rewrite ! 0 (λ (r : Ptr). ‵ (leads_to HeldReader.the_row r k₂'.seat.held)) (sym e₂) refl $ move ! (4 ∷ []) $
+    peeks ! u32 (Is u32) (shows 𝓛 u32) r (v ∷ []) (λ is. lands_as ! refl refl ((uint_Lawful 𝓛 w32).typed r _ is).0 $
+    returns ! (look_at ! 0 refl) $ free_all ! refl $ move ! (3 ∷ 1 ∷ []) $ fjoin ! $
     suffices ! _ (ends_at 𝓛 f.ended stayed c z v r (tt, (tt, (tt, tt))) (tt, (tt, (tt, tt)))) $
-    let Told = λ (n : Option Log × Option Reader). sep 𝓤 (sem 𝓛 (fsep (log_at p n.0) (reader_at p₂ n.1))) (fact 𝓤 (Says x n.0 x₂ n.1 r)) in
+    let Told = λ (n : Option Log × Option Reader). sep 𝓤 (sem 𝓛 (fsep (log_at p n.0) (reader_at p₂ n.1))) (fact 𝓤 (ForksBy (x, x₂) (n.0, n.1) r)) in
     use1 𝓛 (raw (ex 𝓤 Told))
     (qed 𝓛 (‵ (fsep (log_at p k'.seat.held) (reader_at p₂ k₂'.seat.held)) ∷ []) ∵ show ! Told (k'.seat.held, k₂'.seat.held) $
-    says ! (subst (λ (m : Option Log). Says m k'.seat.held x₂ k₂'.seat.held r) led (subst (λ (m : Option Reader). Says k.seat.held k'.seat.held m k₂'.seat.held r) led₂ did)) $ done !) $
-    move ! (1 ∷ []) $ nothing ! $ nothing ! $ join ! $ nothing ! $ join ! $ nothing ! $ join ! $ nothing ! $ group ! 3 $ done !))))))))))))))))))))))))
+    says ! (subst (λ (m : Option Log). ForksBy (m, x₂) (k'.seat.held, k₂'.seat.held) r) led (subst (λ (m : Option Reader). ForksBy (k.seat.held, m) (k'.seat.held, k₂'.seat.held) r) led₂ did)) $ done !) $
+    move ! (2 ∷ []) $ nothing ! $ join ! $ nothing ! $ join ! $ nothing ! $ join ! $ move ! (3 ∷ 0 ∷ 2 ∷ 1 ∷ []) $ group ! 3 $ done !))))))))))))))))))))))))

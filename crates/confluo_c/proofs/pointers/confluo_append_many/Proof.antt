@@ -1,0 +1,81 @@
+-- `confluo_append_many` lends what is owned at the pointer to the function of that name in `cf_handles`, and hands it back.
+use Rattle.confluo_c.proofs.Steps.{◌≡◌, ◌∙◌, ℕ, List, [], ◌∷◌, ◌++◌, length, refl, sym, ap, subst, w32, MutBor, proved_at, handle_tells, full_share, id⊢, ent, sep, ex, ftrue, flft, flent, fsep, fact, tables, named, Val, vptr, WpFn, sem, Body, lft_new, lft_end, at_ret, Item, ⋆, some, later, pick, use1, use2, use3, await, rewrite, show, suffices, group, done, ‵, raw, ◌⊛◌, ◌$◌, ◌∵◌, !, qed, by, move, drop, split, join, fsplit, fjoin, fpick, feq_l, agg, sub, whole, of_opd, addr, stop, from, fld, hop, no_more, and_then, first, blocks, exec, returns, enter, free_all, look_at, look_in_at, get, get_in, through, sets, sets_last, lands_as, env, alloc_all, pass_all, yes, u8, u32, usize, Is, shows, lends_ref, ref_back, mem, part_at, uint_Lawful, RattleType, owns, Ptr, RawPtr, block_ptr, in_a_block, lies_at, ptr_val, MutRef, MutSlice, ShrSlice, slice_val, plain, shr_slice_of, nothing, heard, peeks, calls_at, lasts, triple_of, framed, Stays, walk_of, stay_dropped, Goes-dropped, gave_ref, gave_slice, Goes-gave_ref, Goes-gave_slice, ends_at, says, Option}
+use Rattle.cf_store.specs.contracts.shown.Framed.{the_row as framed_row}
+use Rattle.confluo_c.specs.Told.{BatchTold}
+use Rattle.cf_store.specs.declared.held.Writer.{Writer}
+use Rattle.std.specs.contracts.alloc.Global as Heap
+use Rattle.cf_handles.proofs.AsReader.{E}
+use Rattle.confluo_c.proofs.LeadsWriter as writers
+use Rattle.confluo_c.specs.Leads.{handle_owns, leads_to, writer_at}
+use Rattle.cf_store.specs.contracts.held.Writer as HeldWriter
+use Rattle.confluo_c.specs.contracts.raw.RawHandle as Bytes
+use Rattle.cf_handles.specs.contracts.handles.writer.WriterHandle as WriterHandle
+use Rattle.confluo_c.specs.contracts.pointers.confluo_append_many as f
+use Rattle.confluo_c.proofs.pointers.confluo_append_many.Statement.{statement}
+use Rattle.confluo_c.proofs.pointers.confluo_append_many.Code as code
+use Rattle.cf_handles.specs.contracts.numbered.confluo_append_many as g
+use Rattle.cf_handles.proofs.numbered.confluo_append_many.Met.{met}
+
+abbrev stayed : Stays f.ended.signature.params f.ended.kept
+stayed = (stay_dropped _ yes, (stay_dropped _ yes, (stay_dropped _ yes, (stay_dropped _ yes, (gave_slice (2 ∷ []) tt (plain (λ _. u32)), (gave_ref (3 ∷ []) tt (plain (λ _. usize)), tt))))))
+
+abbrev R : RattleType
+R = WriterHandle.the_row
+
+pub confluo_append_many_spec : {M : Type 1} → statement M
+confluo_append_many_spec 𝓤 𝓛 𝓜 𝓡 wired =
+    let c = f.clauses 𝓛 𝓜.mem 𝓡.returns in let W = walk_of 𝓛 f.ended stayed c in let 𝓣 = tables 𝓤 𝓛.H 𝓜 𝓡 𝓡.env in
+    proved_at 𝓛 f.ended stayed c 𝓜 𝓡
+    (Goes-dropped 𝓛 4 (plain (λ _. Heap.the_row)) yes (λ κs x w. refl), (Goes-dropped 𝓛 4 (plain (λ _. RawPtr)) yes (λ κs x w. refl), (Goes-dropped 𝓛 4 (shr_slice_of (0 ∷ []) tt (plain (λ _. framed_row))) yes (λ κs x w. refl), (Goes-dropped 𝓛 4 (shr_slice_of (1 ∷ []) tt (plain (λ _. u8))) yes (λ κs x w. refl), (Goes-gave_slice 𝓛 4 2 tt (plain (λ _. u32)), (Goes-gave_ref 𝓛 4 3 tt (plain (λ _. usize)), tt))))))
+    f.Key.name code.function (code.unfolded 𝓤 𝓛.H 𝓜 𝓡 wired)
+    (λ z are. let κ = z.0.0.0 in let q = z.0.1.0 in let κ₂ = z.0.0.1.0 in let q₂ = z.0.1.1.0 in let κ₃ = z.0.0.1.1.0 in let q₃ = z.0.1.1.1.0 in let κ₄ = z.0.0.1.1.1.0 in let q₄ = z.0.1.1.1.1.0 in let a = z.0.3.0 in let p = z.0.3.1.0 in let frames = z.0.3.1.1.0 in let bytes = z.0.3.1.1.1.0 in let offsets = z.0.3.1.1.1.1.0 in let many = z.0.3.1.1.1.1.1.0 in let x = z.1 in let Post = W.post z in
+    qed 𝓛 (((‵ (flft κ q) ⊛ (‵ (flft κ₂ q₂) ⊛ (‵ (flft κ₃ q₃) ⊛ (‵ (flft κ₄ q₄) ⊛ ‵ ftrue)))) ⊛ ‵ (owns (Heap.the_row ∷ RawPtr ∷ ShrSlice (named 0) κ framed_row ∷ ShrSlice (named 1) κ₂ u8 ∷ MutSlice (named 2) κ₃ u32 ∷ MutRef (named 3) κ₄ usize ∷ []) (a, (p, (frames, (bytes, (offsets, (many, tt)))))) z.0.4)) ∷ ‵ (writer_at p x) ∷ []) ∵
+    split ! $ move ! (1 ∷ []) $ fsplit ! $ handle_tells E.al ! a z.0.4.0 (λ hv eh fa. move ! (1 ∷ []) $ fsplit ! $ feq_l ! (λ ep. fsplit ! $ rewrite ! 0 (λ (us : List Val). ‵ ((ShrSlice (named 0) κ framed_row).own_val frames us)) (are.1.1.0.0.0) refl $
+    move ! (1 ∷ []) $ fsplit ! $ rewrite ! 0 (λ (us : List Val). ‵ ((ShrSlice (named 1) κ₂ u8).own_val bytes us)) (are.1.1.1.0.0.0) refl $
+    move ! (1 ∷ []) $ fsplit ! $ rewrite ! 0 (λ (us : List Val). ‵ ((MutSlice (named 2) κ₃ u32).own_val offsets us)) (are.1.1.1.1.0.0.0) refl $
+    move ! (1 ∷ []) $ fsplit ! $ rewrite ! 0 (λ (us : List Val). ‵ ((MutRef (named 3) κ₄ usize).own_val many us)) (are.1.1.1.1.1.0.0) refl $
+    move ! (7 ∷ []) $ fpick ! (λ h. fsplit ! $ in_a_block ! p (λ r. lies_at Bytes.the_row full_share r h) (id⊢ 𝓤 _) (λ b o e. fjoin ! $
+    let Γ : List (Item 𝓤) = ‵ (fsep (part_at Bytes.the_row full_share h b o) (handle_owns HeldWriter.the_row h x))
+    ∷ ‵ ((MutRef (named 3) κ₄ usize).own_val many (vptr many.ref_ptr.0 many.ref_ptr.1 ∷ []))
+    ∷ ‵ ftrue
+    ∷ ‵ ((MutSlice (named 2) κ₃ u32).own_val offsets (slice_val offsets.ref_ptr (length offsets.now) ∷ []))
+    ∷ ‵ ((ShrSlice (named 1) κ₂ u8).own_val bytes (slice_val bytes.ref_ptr (length bytes.now) ∷ []))
+    ∷ ‵ ((ShrSlice (named 0) κ framed_row).own_val frames (slice_val frames.ref_ptr (length frames.now) ∷ []))
+    ∷ ‵ (Heap.the_row.own_val a (hv ∷ []))
+    ∷ (‵ (flft κ q) ⊛ (‵ (flft κ₂ q₂) ⊛ (‵ (flft κ₃ q₃) ⊛ (‵ (flft κ₄ q₄) ⊛ ‵ ftrue)))) ∷ [] in
+    by ! (subst (λ (us : List Val). ent 𝓤 (⋆ 𝓛 Γ) (WpFn 𝓤 𝓛.H 𝓣.C 𝓣.Λ code.function us Post))
+    (sym (λ i. eh i ++ ((ep ∙ ap (λ (r : Ptr). ptr_val r ∷ []) e) i ++ (are.1.1.0.0.0 i ++ (are.1.1.1.0.0.0 i ++ (are.1.1.1.1.0.0.0 i ++ (are.1.1.1.1.1.0.0 i ++ [])))))))
+    (qed 𝓛 Γ ∵ move ! (2 ∷ []) $ drop ! $
+    use1 𝓛 (some (λ (k : R.Denot). ‵ (part_at R full_share k b o) ⊛ raw (fact 𝓤 (k.seat.held ≡ x)))) (writers.opens 𝓛 b o h x) $ pick ! (λ k. split ! $ move ! (1 ∷ []) $ heard ! _ (λ led.
+    enter ! 𝓣.C 𝓣.Λ code.function (hv ∷ vptr b o ∷ slice_val frames.ref_ptr (length frames.now) ∷ slice_val bytes.ref_ptr (length bytes.now) ∷ slice_val offsets.ref_ptr (length offsets.now) ∷ vptr many.ref_ptr.0 many.ref_ptr.1 ∷ []) _ $ alloc_all ! (λ ls. pass_all ! refl (fa, ((tt, tt), ((tt, (tt, (record { fits = are.1.1.0.0.1.0 }, tt))), ((tt, (tt, (record { fits = are.1.1.1.0.0.1.0 }, tt))), ((tt, (tt, (record { fits = are.1.1.1.1.0.0.1.0 }, tt))), ((tt, tt), tt)))))) $
+    lft_new ! tt (λ α. move ! (1 ∷ []) $
+    use1 𝓛 (later (some (λ (δ : ℕ). ‵ ((MutRef (named 0) (α ∷ []) R).own_val (record { ref_ptr = (b, o); ghost_name = δ; now = k }) (vptr b o ∷ [])) ⊛ ‵ (flent (α ∷ []) (Body (mem R) b o δ)))))
+    (lends_ref 𝓛 R (named 0) (α ∷ []) k b o) $ await ! tt $ pick ! (λ δ. split ! $
+    sets ! (of_opd ! (get ! refl)) refl fa $ first ! $ blocks ! $ sets_last ! (addr ! (through ! refl (stop !))) refl (tt, tt) $
+    exec ! 𝓣.C 𝓣.Λ (env code.Mir.locals ls) code.Mir.t-3 (at_ret (env code.Mir.locals ls) Post) $
+    sets ! (of_opd ! (get ! refl)) refl (tt, tt) $ sets ! (of_opd ! (get ! refl)) refl (tt, (tt, (record { fits = are.1.1.0.0.1.0 }, tt))) $ sets ! (of_opd ! (get ! refl)) refl (tt, (tt, (record { fits = are.1.1.1.0.0.1.0 }, tt))) $ sets ! (addr ! (from ! (fld ! refl (hop ! (look_in_at ! 5 (sub ! 0 refl (whole !))) (stop !))))) refl (tt, tt) $
+    sets ! (agg ! (and_then ! (get ! refl) (and_then ! (get_in ! (fld ! refl (stop !)) (sub ! 1 refl (whole !))) (no_more !)))) refl (tt, (tt, (record { fits = are.1.1.1.1.0.0.1.0 }, tt))) $ sets ! (addr ! (through ! refl (stop !))) refl (tt, tt) $
+    let G = triple_of 𝓛 g.signature (g.spec 𝓛 𝓜.mem 𝓡.returns) in
+    let loan : MutBor R.Denot = record { ref_ptr = (b, o); ghost_name = δ; now = k } in
+    let y : G.Ghost = (((α ∷ [], (κ, (κ₂, (κ₃, (κ₄, tt))))), (full_share, (q, (q₂, (q₃, (q₄, tt))))), tt, (a, (loan, (frames, (bytes, (offsets, (many, tt)))))), (hv ∷ [], (vptr b o ∷ [], (slice_val frames.ref_ptr (length frames.now) ∷ [], (slice_val bytes.ref_ptr (length bytes.now) ∷ [], (slice_val offsets.ref_ptr (length offsets.now) ∷ [], (vptr many.ref_ptr.0 many.ref_ptr.1 ∷ [], tt))))))), tt) in
+    nothing ! $ move ! (4 ∷ 0 ∷ []) $ join ! $ move ! (4 ∷ 0 ∷ []) $ join ! $ move ! (4 ∷ 0 ∷ []) $ join ! $ move ! (4 ∷ 0 ∷ []) $ join ! $ move ! (1 ∷ 0 ∷ []) $ join ! $ move ! (3 ∷ 0 ∷ []) $ join ! $ move ! (2 ∷ 3 ∷ []) $ join ! $ join ! $
+    nothing ! $ move ! (1 ∷ 0 ∷ []) $ use2 𝓛 (raw (G.pre y)) (id⊢ 𝓤 _) $
+    calls_at ! (framed 𝓤 𝓛.H 𝓜 𝓣) G (met 𝓤 𝓛 𝓜 𝓡 (code.calls-cf_handles::numbered::confluo_append_many 𝓡.env wired)) y
+    (and_then ! (get ! refl) (and_then ! (get ! refl) (and_then ! (get ! refl) (and_then ! (get ! refl) (and_then ! (get ! refl) (and_then ! (get ! refl) (no_more !))))))) (λ v.
+    use1 𝓛 (later (some (λ (r : ℕ). ((‵ (flft (α ∷ []) full_share) ⊛ (‵ (flft κ q) ⊛ (‵ (flft κ₂ q₂) ⊛ (‵ (flft κ₃ q₃) ⊛ (‵ (flft κ₄ q₄) ⊛ ‵ ftrue))))) ⊛ ‵ (u32.own_val r (v ∷ []))) ⊛
+    some (λ (ws : Unit {0} × (R.Denot × (Unit {0} × (Unit {0} × (List ℕ × (ℕ × Unit {0})))))). ‵ (lasts g.ended y.0.0 y.0.3 ws) ⊛
+    raw (fact 𝓤 (BatchTold bytes.now frames.now offsets.now ws.1.1.1.1.0 ws.1.1.1.1.1.0 k.seat.held ws.1.0.seat.held r)))))) (id⊢ 𝓤 _) $
+    await ! tt $ pick ! (λ r. split ! $ split ! $ split ! $ lft_end ! tt $ move ! (3 ∷ []) $ pick ! (λ ws. split ! $ move ! (1 ∷ []) $ heard ! _ (λ did. let k' = ws.1.0 in
+    fsplit ! $ drop ! $ fsplit ! $ fsplit ! $ move ! (1 ∷ []) $ drop ! $ move ! (2 ∷ 5 ∷ 0 ∷ []) $
+    use3 𝓛 (later (‵ (part_at R full_share k' b o))) (ref_back 𝓛 R (α ∷ []) δ k' b o) $ await ! tt $
+    use1 𝓛 (‵ (leads_to HeldWriter.the_row (block_ptr b o) k'.seat.held)) (writers.closes 𝓛 b o k') $
+    rewrite ! 0 (λ (r : Ptr). ‵ (leads_to HeldWriter.the_row r k'.seat.held)) (sym e) refl $ move ! (1 ∷ []) $ fsplit ! $ move ! (1 ∷ []) $ fsplit ! $ move ! (1 ∷ []) $ fsplit ! $ fsplit ! $ fsplit ! $ move ! (1 ∷ []) $ feq_l ! (λ same. fjoin ! $
+    join ! $ move ! (1 ∷ 0 ∷ []) $ join ! $ move ! (1 ∷ 0 ∷ []) $ join ! $ move ! (3 ∷ []) $
+    peeks ! u32 (Is u32) (shows 𝓛 u32) r (v ∷ []) (λ is. lands_as ! refl refl ((uint_Lawful 𝓛 w32).typed r _ is).0 $
+    returns ! (look_at ! 0 refl) $ free_all ! refl $ move ! (2 ∷ []) $
+    suffices ! _ (ends_at 𝓛 f.ended stayed c z v r (tt, (tt, (tt, (tt, (ws.1.1.1.1.0, (ws.1.1.1.1.1.0, tt)))))) (tt, (tt, (tt, (tt, (same, (tt, tt))))))) $
+    let Told = λ (n : Option Writer). sep 𝓤 (sem 𝓛 (writer_at p n)) (fact 𝓤 (BatchTold bytes.now frames.now offsets.now ws.1.1.1.1.0 ws.1.1.1.1.1.0 x n r)) in
+    use1 𝓛 (raw (ex 𝓤 Told))
+    (qed 𝓛 (‵ (writer_at p k'.seat.held) ∷ []) ∵ show ! Told k'.seat.held $
+    says ! (subst (λ (m : Option Writer). BatchTold bytes.now frames.now offsets.now ws.1.1.1.1.0 ws.1.1.1.1.1.0 m k'.seat.held r) led did) $ done !) $
+    move ! (2 ∷ []) $ nothing ! $ join ! $ nothing ! $ join ! $ move ! (3 ∷ 0 ∷ 2 ∷ 1 ∷ []) $ group ! 3 $ done !))))))))))))))))))
