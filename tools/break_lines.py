@@ -4,9 +4,9 @@
     tools/break_lines.py [--check] FILE..
 
 A line of more than 160 columns, or a clause of more than 200, goes on below, where rt fmt then indents it: before an arrow, a product, a sum or a step of an
-equation, behind a comma, a semicolon, `in` or `=`, or before an argument in parentheses, as far out as one fits. Comments are
-broken between words; a line of `use` stays. With --check nothing is written: ends with 1 if a line would be broken. Needs the
-standard library alone.
+equation, behind a comma, a semicolon, `in` or `=`, or before an argument in parentheses, as far out as one fits; if there is no such
+place, before any argument. Comments are broken between words; a line of `use` and text between quotes stay. With --check nothing is
+written: ends with 1 if a line would be broken. Needs the standard library alone.
 """
 
 import pathlib
@@ -16,11 +16,15 @@ import sys
 WIDEST = 160
 WIDEST_CLAUSE = 200
 INDENT = 4
-CLAUSE = re.compile(r"\s*(requires|ensures)\b")
+CLAUSE = re.compile(r"\s*(requires\b|ensures\b|ghost (?!use\b)|[(×])")
 OPEN, CLOSE = "([{", ")]}"
 BEFORE = re.compile(r" (?=(→|×|⊎|↔|∙) )")
 BEHIND = re.compile(r"(?<=[,;]) (?=\S)|(?<= in) (?=\S)|(?<= =) (?=\S)")
 ARGUMENT = re.compile(r" (?=[(])")
+# A name behind a name or a closed bracket, which is an argument if neither is a word of the language or an operator.
+PLAIN = re.compile(r"(?<=[\w)\]}']) (?=[\w])")
+WORDS = {"in", "let", "if", "then", "else", "where", "record", "rw", "at", "of", "pub", "abbrev", "ghost", "ensures", "requires"}
+QUOTED = re.compile(r'"(?:[^"\\]|\\.)*"')
 
 
 def depths_of(line):
@@ -36,11 +40,16 @@ def depths_of(line):
 def place_to_break(line, indent, widest):
     """The column of a space at which the line is broken best, or None."""
     depths = depths_of(line)
+    quotes = [range(*it.span()) for it in QUOTED.finditer(line)]
     ranked = []
-    for rank, kind in enumerate((BEFORE, BEHIND, ARGUMENT)):
+    for rank, kind in enumerate((BEFORE, BEHIND, ARGUMENT, PLAIN)):
+        if kind is PLAIN and ranked:
+            break
         for found in kind.finditer(line[: widest + 1]):
             at = found.start()
-            if line[at - 1] == "=" and depths[at]:
+            if line[at - 1] == "=" and depths[at] or any(at in it for it in quotes):
+                continue
+            if kind is PLAIN and WORDS & {line[:at].split()[-1], line[at:].split()[0]}:
                 continue
             if at > indent + 12:
                 ranked.append((depths[at], rank == 2, -at))
@@ -81,7 +90,7 @@ def broken(line):
 
 
 def broken_clause(line):
-    """A clause as lines of at most 200 columns, where that is possible. Other lines of a program stay."""
+    """A clause, a ghost member, or a line by which one goes on, as lines of at most 200 columns, where that is possible. Other lines of a program stay."""
     if not CLAUSE.match(line):
         return [line]
     return continued(line, len(line) - len(line.lstrip()), WIDEST_CLAUSE)
