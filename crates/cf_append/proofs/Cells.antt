@@ -29,7 +29,7 @@ use Rattle.cf_append.specs.Appends.{with_own}
 use Rattle.cf_append.specs.Paths.{KeepsSeen}
 use Rattle.cf_append.specs.Linking.{HasFilled, HasLinked, IsBookOf, IsPassedOver, with_flight, cell_from, linked_to}
 use Rattle.cf_append.proofs.Walking.{strides_by}
-use Rattle.cf_law.proofs.Paths.{path_none, skips_any}
+use Rattle.cf_law.proofs.Paths.{path_none, skips_any, some_path}
 
 -- Where the cells stand.
 count_more : (xs : List Lane) (l : ℕ) → l < length xs → cell_count (take (suc l) xs) ≡ cell_count (take l xs) + cell_words (get_or xs l no_lane)
@@ -304,13 +304,6 @@ linked_then shape o row j k m n z K L = record {
 pub linked_writer : (shape : ShapeValue) (o : ℕ) (row : RowValue) (k : ℕ) (m n : PassValue) → HasLinked shape o row k m n
     → (book_of n.view).writer ≡ (book_of m.view).writer
 linked_writer shape o row k m n L = ap (λ (b : Book). b.writer) (the_book n.view (with_flight o row L.filled (linked_to shape row k) (book_of m.view)) L.books)
-
--- The record is finished.
-pub some_path : (s : ShapeValue) (row : RowValue) (l : ℕ) (q : List ℕ) → path_in s row l ≡ Some q → selected_by s l row ≡ true
-some_path s row l q h = elim (cases_Bool (selected_by s l row)) [
-  | inl e ↦ e
-  | inr e ↦ absurd (let f : Some q ≡ None = sym h ∙ path_none s row l e in cc f)
-]
 
 pub may_close : (shape : ShapeValue) (m n : PassValue) (o : ℕ) (row : RowValue) → IsShape shape → HasLinked shape o row (length shape.lanes) m n
     → IsLawfulStep shape n.view (finish_record o) (finish_effect shape n.view o)

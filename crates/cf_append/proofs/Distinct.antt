@@ -11,8 +11,7 @@ use Rattle.cf_law.specs.Shapes.{path_in}
 use Rattle.cf_law.proofs.Nibbles.{length-nibbles, drop-nibbles}
 use Rattle.cf_law.proofs.Shapes.{layout_law}
 use Rattle.cf_append.specs.Paths.{IsOnPath}
-use Rattle.cf_law.proofs.Paths.{path_some}
-use Rattle.cf_append.proofs.Cells.{some_path}
+use Rattle.cf_law.proofs.Paths.{path_some, some_path}
 
 drop_front : (xs ys : List ℕ) → drop (length xs) (xs ++ ys) ≡ ys
 drop_front [] ys = refl

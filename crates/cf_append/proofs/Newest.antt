@@ -1,5 +1,5 @@
 -- The newest own record in a leaf, and what the cells of measured lanes want: the quad of all in the leaf.
-use Rattle.std.proofs.Common.{◌≡◌, ℕ, ◌+◌, ◌*◌, ◌/◌, ◌%◌, ◌^◌, ◌<◌, ◌≤◌, zero, suc, inl, inr, List, [], ◌∷◌, ◌++◌, length, length-append, map, take, Bool, true, false, cond, Option, Some, None, slice_get, refl, ap, sym, subst, ◌∙◌, arith}
+use Rattle.std.proofs.Common.{◌≡◌, ℕ, ◌+◌, ◌*◌, ◌/◌, ◌%◌, ◌^◌, ◌<◌, ◌≤◌, zero, suc, inl, inr, List, [], ◌∷◌, ◌++◌, length, map, take, Bool, true, false, cond, Some, slice_get, refl, ap, sym, subst, ◌∙◌, arith}
 use Rattle.std.proofs.lemmas.Bool.{cases_Bool}
 use Rattle.std.proofs.lemmas.List.{length-map}
 use Rattle.cf_row.specs.Row.{RowValue}
@@ -23,18 +23,10 @@ use Rattle.cf_law.specs.Passes.{Own, Book, Pass}
 use Rattle.cf_law.specs.Steps.{IsOwn, mine_chain, pass_with_cell}
 use Rattle.cf_law.specs.Shapes.{layout}
 use Rattle.cf_append.specs.Linking.{IsNewest, IsBookOf, IsCell, amounts_in_chain}
-
-chain_nil : (sh : Layout) (s : Spot) → mine_chain sh s [] ≡ []
-unfolding mine_chain
-chain_nil sh s = refl
+use Rattle.cf_law.proofs.Owned.{chain_nil, chain_cons, chain_few}
 
 abbrev here_if : Own → Bool → List (ℕ × RowValue)
 here_if x b = cond b ((x.offset, x.row) ∷ []) []
-
-chain_cons : (sh : Layout) (s : Spot) (x : Own) (xs : List Own)
-    → mine_chain sh s (x ∷ xs) ≡ mine_chain sh s xs ++ here_if x (same_path (sh.path x.row s.lane) s.path)
-unfolding mine_chain
-chain_cons sh s x xs = refl
 
 newest_step : (sh : Layout) (s : Spot) (x : Own) (xs : List Own) (o : ℕ) → (link_to_newest (mine_chain sh s xs) ≡ suc o → IsNewest sh s xs o)
     → (c : List (ℕ × RowValue)) → mine_chain sh s xs ≡ c → link_to_newest (mine_chain sh s (x ∷ xs)) ≡ suc o → IsNewest sh s (x ∷ xs) o
@@ -75,18 +67,6 @@ newest_step sh s x xs o more (y ∷ ys) is e =
 pub newest : (sh : Layout) (s : Spot) (mine : List Own) (o : ℕ) → link_to_newest (mine_chain sh s mine) ≡ suc o → IsNewest sh s mine o
 newest sh s [] o e = absurd (let f : 0 ≡ suc o = ap link_to_newest (sym (chain_nil sh s)) ∙ e in omega (arith, f))
 newest sh s (x ∷ xs) o e = newest_step sh s x xs o (λ f. newest sh s xs o f) (mine_chain sh s xs) refl e
-
--- a chain is no longer than what the writer has finished
-at_most_one : (x : Own) (b : Bool) → length (here_if x b) ≤ 1
-at_most_one x true = omega arith
-at_most_one x false = omega arith
-
-pub chain_few : (sh : Layout) (s : Spot) (mine : List Own) → length (mine_chain sh s mine) ≤ length mine
-chain_few sh s [] = (let e = ap (λ (c : List (ℕ × RowValue)). length c) (chain_nil sh s) in omega (arith, e))
-chain_few sh s (x ∷ xs) =
-    let tail = here_if x (same_path (sh.path x.row s.lane) s.path) in
-    let e = ap (λ (c : List (ℕ × RowValue)). length c) (chain_cons sh s x xs) in
-    omega (arith, e, length-append (mine_chain sh s xs) tail, at_most_one x (same_path (sh.path x.row s.lane) s.path), chain_few sh s xs)
 
 -- the words of a measured cell, by the quad
 pub first_word : (shape : ShapeValue) (l : ℕ) (c : List (ℕ × RowValue)) (row : RowValue) → is_measured shape l ≡ true

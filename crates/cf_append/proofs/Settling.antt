@@ -15,10 +15,11 @@ use Rattle.cf_law.specs.Readers.{AtHome, EndsThere, IsBounded}
 use Rattle.cf_table.specs.Values.{PassValue, book_of}
 use Rattle.cf_table.specs.Moves.{Begins, HasAll, SeenFirst, AreFit, HasPaths, MarkedIsFull}
 use Rattle.cf_table.specs.Effects.{HasStepped, HasSteppedUnseen, tail_effect, done_effect, advance_effect}
-use Rattle.cf_table.proofs.Seen.{grown, sees_books, advance_seen}
+use Rattle.cf_table.proofs.Seen.{grown, advance_seen}
 use Rattle.cf_table.proofs.Folds.{sees_told, tail_entries}
 use Rattle.cf_table.proofs.Settling.{Moved, moved_none, settled_by, begins_then, last_word}
 use Rattle.cf_append.specs.Appends.{PassGoesOn, IsUnfinished, Stops, Rests}
+use Rattle.cf_law.proofs.Steps.{sees_books, sees_known}
 
 -- the nodes that the pass knows stay known
 pub knows_still : (p q : Pass) → q.known ≡ p.known → (s : Spot) (node : ℕ) → Knows p s node → Knows q s node
@@ -94,13 +95,6 @@ counts_tail shape m n found made =
     let same = ap (λ (l : Look). l.count) (sees_look found told.entries m.view) in
     let count = ap (λ (q : Pass). (q.look).count) told.is in
     omega (arith, same, count)
-
--- the nodes that the pass knows stay the same
-sees_known : (n : ℕ) (es : List Entry) (p : Pass) → (pass_that_sees n es p).known ≡ p.known
-sees_known n es p = elim (cases_Bool (nat_lt (length p.seen) n)) [
-  | inl e ↦ ap (λ (b : Bool). (grown n es p b).known) e
-  | inr e ↦ ap (λ (b : Bool). (grown n es p b).known) e
-]
 
 pub known_tail : (shape : ShapeValue) (m n : PassValue) (found : ℕ) → HasStepped shape (tail_effect m.view false) m found n → (n.view).known ≡ (m.view).known
 known_tail shape m n found made = ap (λ (q : Pass). q.known) made.told.is ∙ sees_known found made.told.entries m.view

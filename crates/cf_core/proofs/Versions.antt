@@ -1,7 +1,7 @@
 -- Own versions: what a writer's finished tickets say of the cell of its next one.
-use Rattle.std.proofs.Common.{◌≡◌, ℕ, ◌+◌, ◌*◌, ◌-◌, ◌^◌, ◌<◌, ◌≤◌, ◌==◌, zero, suc, List, [], ◌∷◌, ◌++◌, length, map, take, drop, get_or, cond, Bool, true, false, Option, Some, None, slice_get, inl, inr, refl, arith, ap, ap₂, sym, ◌∙◌, subst, length-append}
+use Rattle.std.proofs.Common.{◌≡◌, ℕ, ◌+◌, ◌*◌, ◌-◌, ◌^◌, ◌<◌, ◌≤◌, ◌==◌, zero, suc, List, [], ◌∷◌, ◌++◌, length, map, drop, get_or, cond, Bool, true, false, Some, None, slice_get, inl, inr, refl, arith, ap, ap₂, sym, ◌∙◌, subst}
 use Rattle.std.proofs.lemmas.Bool.{cases_Bool, eq-eqb, ne_eqb}
-use Rattle.std.proofs.lemmas.List.{take_all, drop_more, drop_all, map_push}
+use Rattle.std.proofs.lemmas.List.{drop_more, drop_all, map_push}
 use Rattle.cf_fold.specs.Quads.{QuadValue, quad_of, IsQuad}
 use Rattle.cf_fold.proofs.Lawful.{AreLow, quad_is_lawful}
 use Rattle.cf_row.specs.Row.{RowValue, Fits, values_fit}
@@ -17,34 +17,8 @@ use Rattle.cf_law.specs.Shapes.{layout, path_in}
 use Rattle.cf_law.proofs.Owning.{mine_before}
 use Rattle.cf_core.specs.Worlds.{WorldValue, IsLawfulWorld, IsLivePass, AreOwn, amounts_with_row, cell_word_of, IsCellUse, IsPlainUse}
 use Rattle.cf_core.proofs.Children.{bounds}
-
--- what a held book has finished
-mine_none : (w k : ℕ) → mine_in w k [] ≡ []
-unfolding mine_in
-mine_none w k = refl
-
-mine_one : (w k : ℕ) (t : Ticket) (ts : List Ticket) → length (mine_in w k (t ∷ ts)) ≤ suc (length (mine_in w (suc k) ts))
-unfolding mine_in
-mine_one w k t ts = elim (cases_Bool (t.writer == w)) [
-  | inr e ↦ subst
-      (λ (b : Bool). length
-      (cond b (cond t.is_done (record { offset = k; row = t.row } ∷ mine_in w (suc k) ts) (mine_in w (suc k) ts)) (mine_in w (suc k) ts)) ≤ suc
-      (length (mine_in w (suc k) ts))) (sym e) (omega arith)
-  | inl e ↦ subst
-      (λ (b : Bool). length
-      (cond b (cond t.is_done (record { offset = k; row = t.row } ∷ mine_in w (suc k) ts) (mine_in w (suc k) ts)) (mine_in w (suc k) ts)) ≤ suc
-      (length (mine_in w (suc k) ts))) (sym e) (done t.is_done)
-]
-  where
-    done : (b : Bool)
-        → length (cond {A = List Own} b (record { offset = k; row = t.row } ∷ mine_in w (suc k) ts) (mine_in w (suc k) ts)) ≤ suc
-        (length (mine_in w (suc k) ts))
-    done true = omega arith
-    done false = omega arith
-
-pub mine_few : (w k : ℕ) (log : List Ticket) → length (mine_in w k log) ≤ length log
-mine_few w k [] = omega (arith, ap (length {A = Own}) (mine_none w k))
-mine_few w k (t ∷ ts) = omega (arith, mine_one w k t ts, mine_few w (suc k) ts)
+use Rattle.cf_law.proofs.Owned.{chain_nil, chain_cons, chain_few}
+use Rattle.cf_law.proofs.Homes.{mine_few}
 
 pub own_are : (h : WorldValue) (k j : ℕ) (p : Pass) (b : Book) → IsLawfulWorld h → IsLivePass h k p → Holds p j b → AreOwn h.shape b.mine
 own_are h k j p b is live held =
@@ -62,18 +36,8 @@ own_are h k j p b is live held =
       offset = λ i x at. (let lt = (bounds h k p is live).offset j i b x held at in omega (arith, lt, low));
     }
 
--- the chain of a book in a leaf, from its end
-chain_none : (sh : Layout) (s : Spot) → mine_chain sh s [] ≡ []
-unfolding mine_chain
-chain_none sh s = refl
-
-chain_cons : (sh : Layout) (s : Spot) (x : Own) (xs : List Own)
-    → mine_chain sh s (x ∷ xs) ≡ mine_chain sh s xs ++ cond (same_path (sh.path x.row s.lane) s.path) ((x.offset, x.row) ∷ []) []
-unfolding mine_chain
-chain_cons sh s x xs = refl
-
 pub chain_end : (sh : Layout) (s : Spot) (mine : List Own) (n : ℕ) → length mine ≤ n → mine_chain sh s (drop n mine) ≡ []
-chain_end sh s mine n le = ap (mine_chain sh s) (drop_all n mine le) ∙ chain_none sh s
+chain_end sh s mine n le = ap (mine_chain sh s) (drop_all n mine le) ∙ chain_nil sh s
 
 chain_from : (sh : Layout) (s : Spot) (mine : List Own) (i : ℕ) (x : Own) → i < length mine → x ≡ get_or mine i x
     → mine_chain sh s (drop i mine) ≡ mine_chain sh s (x ∷ drop (i + 1) mine)
@@ -120,21 +84,6 @@ amounts_long shape lane row c =
       Rattle.std.proofs.lemmas.List.length-map {A = ℕ × RowValue} {B = RowValue} c (λ y. y.1),
     )
 
-chain_few : (sh : Layout) (s : Spot) (mine : List Own) → length (mine_chain sh s mine) ≤ length mine
-chain_few sh s [] = omega (arith, ap (length {A = ℕ × RowValue}) (chain_none sh s))
-chain_few sh s (x ∷ xs) =
-    omega (
-      arith,
-      ap (length {A = ℕ × RowValue}) (chain_cons sh s x xs),
-      length-append (mine_chain sh s xs) (cond (same_path (sh.path x.row s.lane) s.path) ((x.offset, x.row) ∷ []) []),
-      one (same_path (sh.path x.row s.lane) s.path),
-      chain_few sh s xs,
-    )
-  where
-    one : (b : Bool) → length (cond {A = List (ℕ × RowValue)} b ((x.offset, x.row) ∷ []) []) ≤ 1
-    one true = omega arith
-    one false = omega arith
-
 pub quad_few : (shape : ShapeValue) (lane : ℕ) (row : RowValue) (s : Spot) (mine : List Own) (i : ℕ) (q : QuadValue)
     → q ≡ quad_of (amounts_with_row shape lane row (mine_chain (layout shape) s (drop i mine))) → length mine ≤ 65536 → q.count ≤ 65537
 quad_few shape lane row s mine i q e few =
@@ -160,7 +109,7 @@ rest_own shape x xs own =
 pub amounts_low : (shape : ShapeValue) (lane : ℕ) (row : RowValue) (s : Spot) (mine : List Own) → IsShape shape → lane < length shape.lanes
     → Fits shape.schema row → AreOwn shape mine → AreLow (amounts_with_row shape lane row (mine_chain (layout shape) s mine))
 amounts_low shape lane row s [] is lt fits own =
-    subst AreLow (sym (amounts_first shape lane row (mine_chain (layout shape) s []) (chain_none (layout shape) s))) (measure_low shape lane row is lt fits, tt)
+    subst AreLow (sym (amounts_first shape lane row (mine_chain (layout shape) s []) (chain_nil (layout shape) s))) (measure_low shape lane row is lt fits, tt)
 amounts_low shape lane row s (x ∷ xs) is lt fits own = elim (cases_Bool (same_path (path_in shape x.row s.lane) s.path)) [
   | inl e ↦
       let whole : mine_chain (layout shape) s (x ∷ xs) ≡ mine_chain (layout shape) s xs ++ (x.offset, x.row) ∷ [] = chain_cons (layout shape) s x xs
@@ -183,7 +132,7 @@ quad_lawful shape lane row s mine q is lt fits own e =
 
 -- links are low
 pub top_low : (sh : Layout) (s : Spot) (mine : List Own) (shape : ShapeValue) → AreOwn shape mine → link_to_newest (mine_chain sh s mine) ≤ 65536
-top_low sh s [] shape own = omega (arith, ap link_to_newest (chain_none sh s))
+top_low sh s [] shape own = omega (arith, ap link_to_newest (chain_nil sh s))
 top_low sh s (x ∷ xs) shape own = elim (cases_Bool (same_path (sh.path x.row s.lane) s.path)) [
   | inl e ↦
       let whole : mine_chain sh s (x ∷ xs) ≡ mine_chain sh s xs ++ (x.offset, x.row) ∷ [] = chain_cons sh s x xs

@@ -40,7 +40,7 @@ numbers_part : (m j n : ℕ) → take m (drop j (range_with_len 0 n)) ≡ range_
 numbers_part m j n = let e : 0 + j ≡ j = omega arith in ap (take m) (range_drop j 0 n) ∙ rw e (range_take m j (n - j))
 
 -- what one writer wrote, in two parts, and how much it is
-written_append : (w : ℕ) (es fs : List Entry) → written_by w (es ++ fs) ≡ written_by w es ++ written_by w fs
+pub written_append : (w : ℕ) (es fs : List Entry) → written_by w (es ++ fs) ≡ written_by w es ++ written_by w fs
 written_append w [] fs = refl
 written_append w (e ∷ es) fs = elim (cases_eq e.writer w) [
   | inl own ↦ written_own w e (es ++ fs) own ∙ rw (written_own w e es own) (ap (λ rs. e.row ∷ rs) (written_append w es fs))

@@ -1,5 +1,5 @@
 -- Splits and joins keep the law, the opening has it, and so every list of events does.
-use Rattle.std.proofs.Common.{◌≡◌, ◌≢◌, ℕ, ◌+◌, ◌<◌, ◌≤◌, ◌⊎◌, ◌==◌, zero, suc, List, [], ◌∷◌, ◌++◌, length, set, get_or, take, Option, Some, None, slice_get, cond, Bool, true, false, inl, inr, refl, arith, ap, ap₂, sym, ◌∙◌, subst, length-set, length-append}
+use Rattle.std.proofs.Common.{◌≡◌, ◌≢◌, ℕ, ◌+◌, ◌<◌, ◌≤◌, ◌⊎◌, ◌==◌, zero, suc, List, [], ◌∷◌, ◌++◌, length, set, take, Option, Some, None, slice_get, cond, Bool, true, false, inl, inr, refl, arith, ap, sym, ◌∙◌, subst, length-set}
 use Rattle.cf_lemmas.proofs.Truths.{lt_false, lt_true}
 use Rattle.cf_row.specs.declared.row.Entry.{Entry}
 use Rattle.std.proofs.lemmas.Bool.{cases_eq, cases_lt}
@@ -11,6 +11,7 @@ use Rattle.cf_law.specs.Lawful.{Base, front, book_at, PassLaw, HoldsAt, Stands, 
 use Rattle.cf_words.proofs.Heads.{get_set_same, get_set_other}
 use Rattle.cf_law.proofs.Bases.{get_from_set, get_from_push}
 use Rattle.cf_law.proofs.Fronts.{front_take}
+use Rattle.cf_lemmas.proofs.Lists.{has_left}
 
 -- the place in the whole list
 abbrev skip : ℕ → ℕ → ℕ
@@ -49,11 +50,6 @@ unskip zero zero ne = absurd (ne refl)
 unskip zero (suc i) ne = (i, refl)
 unskip (suc k) zero ne = (0, refl)
 unskip (suc k) (suc i) ne = let h = unskip k i (λ e. ne (ap suc e)) in (suc h.0, ap suc h.1)
-
-at_front : {A : Type 0} (l m : List A) (k : ℕ) (b : A) → slice_get l k ≡ Some b → slice_get (l ++ m) k ≡ Some b
-at_front [] m k b e = absurd (cc e)
-at_front (x ∷ xs) m zero b e = e
-at_front (x ∷ xs) m (suc k) b e = at_front xs m k b e
 
 at_back : {A : Type 0} (l m : List A) (k : ℕ) → slice_get (l ++ m) (length l + k) ≡ slice_get m k
 at_back [] m k = ap (slice_get m) (let e : 0 + k ≡ k = omega arith in e)
@@ -178,7 +174,7 @@ split_keeps sh m passes kk p left right w S at bare = record {
         record {
           pass = h.2.pass;
           book = h.2.book;
-          at = at_front (set passes kk p) (new_pass [] p.seen ∷ []) h.0 h.2.pass (kept h.0 h.2.pass h.2.at);
+          at = has_left (set passes kk p) (new_pass [] p.seen ∷ []) h.0 h.2.pass (kept h.0 h.2.pass h.2.at);
           held = h.2.held;
           writer = h.2.writer;
         },
@@ -250,7 +246,7 @@ split_keeps sh m passes kk p left right w S at (hands k b held) = record {
         record {
           pass = h.2.pass;
           book = h.2.book;
-          at = at_front (set passes kk (record p { books = without k p.books })) (new_pass (b ∷ []) p.seen ∷ []) h.0 h.2.pass
+          at = has_left (set passes kk (record p { books = without k p.books })) (new_pass (b ∷ []) p.seen ∷ []) h.0 h.2.pass
               (get_set_other passes kk h.0 (record p { books = without k p.books }) ne ∙ h.2.at);
           held = h.2.held;
           writer = h.2.writer;
@@ -276,7 +272,7 @@ split_keeps sh m passes kk p left right w S at (hands k b held) = record {
                   record {
                     pass = record p { books = without k p.books };
                     book = h.2.book;
-                    at = at_front (set passes kk (record p { books = without k p.books })) (new_pass (b ∷ []) p.seen ∷ []) kk
+                    at = has_left (set passes kk (record p { books = without k p.books })) (new_pass (b ∷ []) p.seen ∷ []) kk
                         (record p { books = without k p.books }) (get_set_same passes kk (record p { books = without k p.books }) p at);
                     held = but_at k p.books j.0 ∙ (ap (slice_get p.books) j.1 ∙ mine);
                     writer = h.2.writer;
@@ -431,7 +427,7 @@ join_keeps sh m passes kk jj p q S at there ne live = record {
               pass = joined_pass p q;
               book = h.2.book;
               at = home;
-              held = at_front p.books q.books h.1 h.2.book (ap (λ (z : Pass). slice_get z.books h.1) same ∙ h.2.held);
+              held = has_left p.books q.books h.1 h.2.book (ap (λ (z : Pass). slice_get z.books h.1) same ∙ h.2.held);
               writer = h.2.writer;
             },
           )

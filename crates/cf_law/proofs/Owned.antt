@@ -1,12 +1,11 @@
 -- A writer's chains are made by what it has finished.
-use Rattle.std.proofs.Common.{◌≡◌, ℕ, ◌+◌, ◌<◌, ◌≤◌, ◌⊎◌, ◌==◌, zero, suc, cond, Bool, true, false, List, [], ◌∷◌, ◌++◌, Option, Some, None, slice_get, inl, inr, refl, arith, ap, ap₂, sym, ◌∙◌, subst, append_assoc}
+use Rattle.std.proofs.Common.{◌≡◌, ℕ, ◌+◌, ◌<◌, ◌≤◌, ◌⊎◌, ◌==◌, zero, suc, cond, Bool, true, false, List, [], ◌∷◌, ◌++◌, Option, Some, None, slice_get, inl, inr, refl, arith, ap, ap₂, sym, ◌∙◌, subst, append_assoc, length, length-append}
 use Rattle.cf_lemmas.proofs.Truths.{eq_from, eq_true, lt_false, lt_true}
 use Rattle.cf_row.specs.Row.{RowValue}
 use Rattle.cf_shape.specs.Uses.{Use}
 use Rattle.std.proofs.lemmas.List.{append-nil}
 use Rattle.std.specs.Bool.{nat_lt}
 use Rattle.std.proofs.lemmas.Bool.{cases_Bool, cases_eq, cases_lt}
-use Rattle.std.proofs.lemmas.Bool.Decides.{nat_tests}
 use Rattle.cf_words.specs.Words.{Spot, spot, Layout, Ticket, has, same_path, links, entry_at, chain, used_word, lane_word, version_word}
 use Rattle.cf_shape.specs.Uses.Use.{plain, version}
 use Rattle.cf_law.specs.Passes.{Own, Flight, Book}
@@ -61,10 +60,27 @@ chain_walk sh log w s (suc o) = ap (λ (c : List (ℕ × RowValue)). entry_at sh
 abbrev pub Settled : Layout → ℕ → ℕ → ℕ → Ticket → Type 0
 Settled sh l o k t = ((t.is_done ≡ true) × (k < o) × ((p : List ℕ) → sh.path t.row l ≡ Some p → has t.linked l ≡ true)) ⊎ ((t.is_done ≡ false) × (o ≤ k))
 
-mine_more : (sh : Layout) (s : Spot) (x : Own) (xs : List Own)
+-- a writer's chain in a leaf: of nothing finished, of one record more, and how long it is
+pub chain_nil : (sh : Layout) (s : Spot) → mine_chain sh s [] ≡ []
+unfolding mine_chain
+chain_nil sh s = refl
+
+pub chain_cons : (sh : Layout) (s : Spot) (x : Own) (xs : List Own)
     → mine_chain sh s (x ∷ xs) ≡ mine_chain sh s xs ++ cond (same_path (sh.path x.row s.lane) s.path) ((x.offset, x.row) ∷ []) []
 unfolding mine_chain
-mine_more sh s x xs = refl
+chain_cons sh s x xs = refl
+
+at_most_one : (x : Own) (b : Bool) → length (cond {A = List (ℕ × RowValue)} b ((x.offset, x.row) ∷ []) []) ≤ 1
+at_most_one x true = omega arith
+at_most_one x false = omega arith
+
+pub chain_few : (sh : Layout) (s : Spot) (mine : List Own) → length (mine_chain sh s mine) ≤ length mine
+chain_few sh s [] = (let e = ap (λ (c : List (ℕ × RowValue)). length c) (chain_nil sh s) in omega (arith, e))
+chain_few sh s (x ∷ xs) =
+    let here = same_path (sh.path x.row s.lane) s.path in
+    let tail : List (ℕ × RowValue) = cond here ((x.offset, x.row) ∷ []) [] in
+    let e = ap (λ (c : List (ℕ × RowValue)). length c) (chain_cons sh s x xs) in
+    omega (arith, e, length-append (mine_chain sh s xs) tail, at_most_one x here, chain_few sh s xs)
 
 mine_none : (sh : Layout) (s : Spot) (w k : ℕ) → mine_chain sh s (mine_in w k []) ≡ []
 unfolding mine_chain mine_in
@@ -115,7 +131,7 @@ mine_walk sh w s k (t ∷ ts) o h =
           ∙ sym (walk_cons sh w s k t ts o (nat_lt k o) refl))))
       | inl e ↦ elim (here (eq_from t.writer w e)) [
         | inl g ↦
-            ap (mine_chain sh s) (done_cons w k t ts e g.0).0 ∙ (mine_more sh s (own_of k t) (mine_in w (suc k) ts)
+            ap (mine_chain sh s) (done_cons w k t ts e g.0).0 ∙ (chain_cons sh s (own_of k t) (mine_in w (suc k) ts)
             ∙ (ap₂ (λ (a c : List (ℕ × RowValue)). a ++ c) rest (entry_done sh w s k t (eq_from t.writer w e) g.2)
             ∙ sym (walk_cons sh w s k t ts o true (lt_true k o g.1))))
         | inr g ↦

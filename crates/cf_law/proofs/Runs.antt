@@ -1,4 +1,4 @@
--- From the opening, every list of events keeps the law.
+-- The opening is lawful, and each event keeps the law.
 use Rattle.std.proofs.Common.{◌≡◌, ℕ, ◌/◌, ◌%◌, ◌<◌, ◌==◌, zero, suc, List, [], ◌∷◌, length, set, Option, Some, None, slice_get, cond, Bool, true, false, inl, inr, refl, arith, ap, sym, ◌∙◌, subst}
 use Rattle.std.proofs.Math.ListN.{replicate}
 use Rattle.std.proofs.lemmas.List.{get_or-replicate, get_or_past, length-replicate}
@@ -11,9 +11,8 @@ use Rattle.cf_words.specs.Law.{LayoutLaw}
 use Rattle.cf_law.specs.Passes.{Book, Pass}
 use Rattle.cf_law.specs.Steps.{new_pass}
 use Rattle.cf_law.specs.Lawful.{Base, BaseLaw, mine_in, flight_in, book_at, PassLaw, HoldsAt, Stands, World, Lawful}
-use Rattle.cf_law.specs.Events.{tabulated, word_at, no_book, opening, WorldEvent, IsEvent, Runs, RunsAreLawful, ShapesAreLawful}
+use Rattle.cf_law.specs.Events.{tabulated, word_at, no_book, opening, WorldEvent, IsEvent}
 use Rattle.cf_law.specs.Shapes.{layout}
-use Rattle.cf_law.proofs.Shapes.{layout_law}
 use Rattle.cf_law.specs.Events.IsEvent.{steps, parts, meets}
 use Rattle.cf_shape.proofs.Slots.{place_within}
 use Rattle.cf_law.proofs.Keeps.{made_book}
@@ -168,14 +167,3 @@ kept sh x k e y shaped law (parts p left right w live split) =
     record { base = law.base; stands = split_keeps sh law.base x.passes k p left right w law.stands live.0 split; spelled = law.spelled }
 kept sh x k e y shaped law (meets p q j live other ne rest) =
     record { base = law.base; stands = join_keeps sh law.base x.passes k j p q law.stands live.0 other.0 ne live.1; spelled = law.spelled }
-
-pub runs_kept : (sh : Layout) (x : World) (es : List (ℕ × WorldEvent)) (y : World) → LayoutLaw sh → Lawful sh x.words x.passes → Runs sh x es y
-    → Lawful sh y.words y.passes
-runs_kept sh x [] y shaped law run = subst (λ (z : World). Lawful sh z.words z.passes) (sym run) law
-runs_kept sh x (e ∷ es) y shaped law run = runs_kept sh run.0 es y shaped (kept sh x e.0 e.1 run.0 shaped law run.1) run.2
-
-pub runs_are_lawful : RunsAreLawful
-runs_are_lawful sh es y shaped run = runs_kept sh (opening sh) es y shaped (opening_lawful sh) run
-
-pub shapes_are_lawful : ShapesAreLawful
-shapes_are_lawful s es y is run = runs_kept (layout s) (opening (layout s)) es y (layout_law s is) (opening_lawful (layout s)) run

@@ -43,7 +43,7 @@ some_words : (m : Option ℕ) → 0 < cond (has_measure m) 3 1
 some_words None = omega arith
 some_words (Some a) = omega arith
 
-some_cell : (s : ShapeValue) (l : ℕ) → 0 < cell_words (lane_at s l)
+pub some_cell : (s : ShapeValue) (l : ℕ) → 0 < cell_words (lane_at s l)
 some_cell s l = some_words (lane_at s l).measure
 
 pub layout_law : (s : ShapeValue) → IsShape s → LayoutLaw (layout s)

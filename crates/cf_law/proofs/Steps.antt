@@ -1,5 +1,5 @@
 -- Every lawful step keeps the law.
-use Rattle.std.proofs.Common.{◌≡◌, ℕ, ◌+◌, ◌*◌, ◌%◌, ◌^◌, ◌<◌, ◌≤◌, ◌⊎◌, ◌==◌, zero, suc, List, [], ◌∷◌, ◌++◌, length, set, get_or, take, Option, Some, None, slice_get, cond, Bool, true, false, inl, inr, refl, arith, ap, ap₂, sym, ◌∙◌, subst}
+use Rattle.std.proofs.Common.{◌≡◌, ℕ, ◌+◌, ◌*◌, ◌%◌, ◌^◌, ◌<◌, ◌≤◌, ◌⊎◌, ◌==◌, zero, suc, List, [], ◌∷◌, ◌++◌, length, set, get_or, take, Some, None, slice_get, cond, Bool, true, false, inl, inr, refl, arith, ap, sym, ◌∙◌, subst}
 use Rattle.cf_lemmas.proofs.Truths.{eq_false, eq_true, lt_false}
 use Rattle.cf_row.specs.declared.row.Entry.{Entry}
 use Rattle.cf_shape.specs.Places.{head_slot}
@@ -29,10 +29,17 @@ load_step : (sh : Layout) (m : Base) (passes : List Pass) (kk : ℕ) (p q : Pass
 load_step sh m passes kk p q t S at same new =
     (m, sym (set-get_or m.words (place sh.sizes t) 0), knows_more sh m passes kk p q S at same new, (evolves_self m.log, omega arith))
 
-sees_books : (n : ℕ) (es : List Entry) (p : Pass) → (pass_that_sees n es p).books ≡ p.books
+pub sees_books : (n : ℕ) (es : List Entry) (p : Pass) → (pass_that_sees n es p).books ≡ p.books
 sees_books n es p = go (Rattle.std.specs.Bool.nat_lt (length p.seen) n)
   where
     go : (b : Bool) → (cond b (record p { seen = take n es; cursor = Rattle.std.proofs.Common.None }) p).books ≡ p.books
+    go true = refl
+    go false = refl
+
+pub sees_known : (n : ℕ) (es : List Entry) (p : Pass) → (pass_that_sees n es p).known ≡ p.known
+sees_known n es p = go (Rattle.std.specs.Bool.nat_lt (length p.seen) n)
+  where
+    go : (b : Bool) → (cond b (record p { seen = take n es; cursor = Rattle.std.proofs.Common.None }) p).known ≡ p.known
     go true = refl
     go false = refl
 

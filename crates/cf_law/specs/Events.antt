@@ -62,17 +62,3 @@ pub data IsEvent (sh : Layout) (x : World) (k : ℕ) : WorldEvent → World → 
       → IsEvent sh x k (splits w) (record { words = x.words; passes = set x.passes k left ++ right ∷ [] })
   meets : (p q : Pass) (j : ℕ) → IsLive x k p → IsLive x j q → (j ≡ k → ⊥) → IsAtRest q
       → IsEvent sh x k (joins j) (record { words = x.words; passes = set (set x.passes k (joined_pass p q)) j spent_pass })
-
--- a list of events, each with its pass
-abbrev pub Runs : Layout → World → List (ℕ × WorldEvent) → World → Type 0
-Runs sh x [] y = y ≡ x
-Runs sh x (e ∷ es) y = (z : World) × IsEvent sh x e.0 e.1 z × Runs sh z es y
-
--- From the opening, every list of events keeps the law.
-abbrev pub RunsAreLawful : Type 0
-RunsAreLawful = (sh : Layout) (es : List (ℕ × WorldEvent)) (y : World) → LayoutLaw sh → Runs sh (opening sh) es y → Lawful sh y.words y.passes
-
--- the same over lawful shapes
-abbrev pub ShapesAreLawful : Type 0
-ShapesAreLawful = (s : ShapeValue) (es : List (ℕ × WorldEvent)) (y : World) → IsShape s → Runs (layout s) (opening (layout s)) es y
-    → Lawful (layout s) y.words y.passes

@@ -18,19 +18,20 @@ use Rattle.cf_law.specs.Steps.{Holds, IsAtRest}
 use Rattle.cf_law.specs.Readers.{mine_from}
 use Rattle.cf_table.specs.Values.{PassValue, LogValue, IsOf, book_of}
 use Rattle.cf_table.specs.Moves.{Begins, AreDealt, AreAll, HasGathered, books_of, told_by}
-use Rattle.cf_table.proofs.Homing.{still_one, get_front}
+use Rattle.cf_table.proofs.Homing.{still_one}
 use Rattle.cf_append.specs.Appends.{Rests}
 use Rattle.cf_segments.specs.Needed.{IsNeeded, IsOut, HasNodes, HasRunOut}
 use Rattle.cf_load.specs.Writing.{rows_of_book, IsReady, RanOut, RunsOut, Wrote}
 use Rattle.cf_segments.specs.Loaded.{IsLogFrom, HasLoaded}
 use Rattle.cf_load.specs.Loading.{IsShort}
 use Rattle.cf_segments.proofs.Alls.{all_drop}
-use Rattle.cf_segments.proofs.Parts.{written_append, rows_append}
+use Rattle.cf_segments.proofs.Parts.{rows_append}
 use Rattle.cf_load.proofs.Written.{WrotePart, all_written, log_more}
 use Rattle.cf_segments.proofs.Pigeons.{in_either}
 use Rattle.cf_segments.proofs.Nodes.{too_many}
 use Rattle.cf_segments.proofs.Zips.{zip_at, zip_back, zip_long}
 use Rattle.cf_segments.proofs.Loaded.{settled_still}
+use Rattle.cf_history.proofs.Orders.{written_append}
 
 -- the rows of a book's tickets are what its writer wrote
 pub mine_rows : (w k : ℕ) (es : List Entry) → map (λ (own : Own). own.row) (mine_from w k es) ≡ written_by w es
@@ -60,7 +61,7 @@ unfolding books_of
 book_in [] k h b at holds = absurd (cc at)
 book_in (x ∷ xs) zero h b at holds =
     let e : x ≡ h = cc at in
-    (0, get_front (x.view).books (books_of xs) 0 b (ap (λ (y : PassValue). slice_get (y.view).books 0) e ∙ holds))
+    (0, has_left (x.view).books (books_of xs) 0 b (ap (λ (y : PassValue). slice_get (y.view).books 0) e ∙ holds))
 book_in (x ∷ xs) (suc k) h b at holds =
     let r = book_in xs k h b at holds in
     (length (x.view).books + r.0, get_back (x.view).books (books_of xs) r.0 b r.1)

@@ -25,7 +25,8 @@ use Rattle.cf_load.specs.declared.loads.LoadFault.TheVariants.{Full, NodesFull, 
 use Rattle.cf_segments.specs.declared.segments.Segment.{Segment}
 use Rattle.cf_segments.proofs.Chains.{rows_are_log, told_push}
 use Rattle.cf_segments.proofs.Kept.{kept_base, kept_holds}
-use Rattle.cf_segments.proofs.Parts.{part_before, rows_append, written_append}
+use Rattle.cf_segments.proofs.Parts.{part_before, rows_append}
+use Rattle.cf_history.proofs.Orders.{written_append}
 
 -- the segments, with that root in the current one
 abbrev pub filled : SegmentsValue → PassValue → SegmentsValue

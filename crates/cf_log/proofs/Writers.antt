@@ -4,7 +4,7 @@ use Rattle.std.proofs.lemmas.Bool.{cases_Bool}
 use Rattle.std.proofs.lemmas.List.{drop_all, map-append, take-append-drop}
 use Rattle.std.proofs.lemmas.Option.{slice_get_within}
 use Rattle.std.specs.List.{AllByRecursion}
-use Rattle.cf_lemmas.proofs.Lists.{get_back}
+use Rattle.cf_lemmas.proofs.Lists.{get_back, has_left}
 use Rattle.cf_row.specs.Row.{RowValue}
 use Rattle.cf_row.specs.declared.row.Entry.{Entry}
 use Rattle.cf_shape.specs.Lanes.{ShapeValue}
@@ -17,7 +17,6 @@ use Rattle.cf_law.proofs.Fronts.{table_length, table_at}
 use Rattle.cf_table.specs.Values.{PassValue, LogValue, IsOf, book_of}
 use Rattle.cf_table.specs.Rule.{root_pass}
 use Rattle.cf_table.specs.Moves.{AreDealt, AreAll, HasGathered, books_of}
-use Rattle.cf_table.proofs.Homing.{get_front}
 use Rattle.cf_append.specs.Appends.{PassGoesOn, Rests, HasAppendAnswer}
 use Rattle.cf_append.specs.declared.appends.AppendFault.{AppendFault}
 use Rattle.cf_append.specs.declared.appends.AppendFault.TheVariants.{Full, NodesFull}
@@ -166,7 +165,7 @@ unfolding books_of
 book_in [] k h b at holds = absurd (cc at)
 book_in (x ∷ xs) zero h b at holds =
     let e : x ≡ h = cc at in
-    (0, get_front (x.view).books (books_of xs) 0 b (ap (λ (y : PassValue). slice_get (y.view).books 0) e ∙ holds))
+    (0, has_left (x.view).books (books_of xs) 0 b (ap (λ (y : PassValue). slice_get (y.view).books 0) e ∙ holds))
 book_in (x ∷ xs) (suc k) h b at holds =
     let r = book_in xs k h b at holds in
     (length (x.view).books + r.0, get_back (x.view).books (books_of xs) r.0 b r.1)

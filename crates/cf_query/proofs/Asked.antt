@@ -1,7 +1,6 @@
 -- The read tail is loaded for an ask.
-use Rattle.std.proofs.Common.{◌≡◌, ◌∙◌, ℕ, List, [], ◌∷◌, ◌++◌, Bool, true, inl, inr, length, take, slice_get, ap, sym}
+use Rattle.std.proofs.Common.{◌≡◌, ◌∙◌, ℕ, List, [], ◌∷◌, ◌++◌, true, length, take, slice_get, ap, sym}
 use Rattle.std.specs.Bool.{nat_lt}
-use Rattle.std.proofs.lemmas.Bool.{cases_Bool}
 use Rattle.cf_row.specs.declared.row.Entry.{Entry}
 use Rattle.cf_shape.specs.Lanes.{ShapeValue}
 use Rattle.cf_words.specs.Words.{Spot}
@@ -10,16 +9,9 @@ use Rattle.cf_law.specs.Steps.{pass_that_sees}
 use Rattle.cf_table.specs.Values.{PassValue}
 use Rattle.cf_table.specs.Effects.{HasStepped, tail_effect}
 use Rattle.cf_table.specs.Moves.{HoldsAllBooks}
-use Rattle.cf_table.proofs.Seen.{grown, sees_books}
 use Rattle.cf_table.proofs.Folds.{sees_told, tail_entries}
 use Rattle.cf_query.specs.Asking.{HasAsked}
-
--- the nodes that the pass knows stay the same
-sees_known : (n : ℕ) (es : List Entry) (p : Pass) → (pass_that_sees n es p).known ≡ p.known
-sees_known n es p = elim (cases_Bool (nat_lt (length p.seen) n)) [
-  | inl e ↦ ap (λ (b : Bool). (grown n es p b).known) e
-  | inr e ↦ ap (λ (b : Bool). (grown n es p b).known) e
-]
+use Rattle.cf_law.proofs.Steps.{sees_books, sees_known}
 
 pub has_asked : (shape : ShapeValue) (m n : PassValue) (found : ℕ) → HasStepped shape (tail_effect m.view true) m found n
     → (HoldsAllBooks shape m.view → (n.view).seen ≡ (m.view).seen) → length (n.view).seen ≡ found → HasAsked shape m n

@@ -22,7 +22,8 @@ use Rattle.cf_segments.proofs.Alls.{all_append}
 use Rattle.cf_segments.proofs.Loaded.{opened, settled_still}
 use Rattle.cf_segments.proofs.Zips.{zip_back, zip_long, zip_append}
 use Rattle.cf_segments.proofs.Blocks.{first_block, whole_block, next_block}
-use Rattle.cf_segments.proofs.Parts.{part_after, part_before, rows_append, written_append}
+use Rattle.cf_segments.proofs.Parts.{part_after, part_before, rows_append}
+use Rattle.cf_history.proofs.Orders.{written_append}
 
 -- a part of what lies behind a list
 part_behind : {X : Type 0} (m i j : ℕ) (xs ys : List X) → i ≡ length xs + j → take m (drop i (xs ++ ys)) ≡ take m (drop j ys)

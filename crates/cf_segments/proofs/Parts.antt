@@ -1,19 +1,10 @@
 -- Parts of a log and of the rows in it.
-use Rattle.std.proofs.Common.{◌≡◌, ℕ, suc, ◌+◌, ◌%◌, ◌≤◌, List, [], ◌∷◌, ◌++◌, length, take, drop, refl, ap, ◌∙◌, inl, inr, arith}
+use Rattle.std.proofs.Common.{◌≡◌, ℕ, suc, ◌+◌, ◌%◌, ◌≤◌, List, [], ◌∷◌, ◌++◌, length, take, drop, ap, ◌∙◌, inl, inr, arith}
 use Rattle.std.proofs.lemmas.Bool.{eq-eqb, ne_eqb, cases_eq}
 use Rattle.std.proofs.lemmas.List.{length-drop, take_all, take-append-le, drop_at, drop_all, drop-append-le}
 use Rattle.cf_row.specs.Row.{RowValue}
 use Rattle.cf_row.specs.declared.row.Entry.{Entry}
 use Rattle.cf_history.specs.Order.{rows_of, written_by}
-use Rattle.cf_history.proofs.Logs.{written_own, written_other}
-
--- what a writer wrote in two parts of a log
-pub written_append : (w : ℕ) (es fs : List Entry) → written_by w (es ++ fs) ≡ written_by w es ++ written_by w fs
-written_append w [] fs = refl
-written_append w (e ∷ es) fs = elim (cases_eq e.writer w) [
-  | inl own ↦ written_own w e (es ++ fs) own ∙ rw (written_own w e es own) (ap (λ rs. e.row ∷ rs) (written_append w es fs))
-  | inr other ↦ written_other w e (es ++ fs) other ∙ rw (written_other w e es other) (written_append w es fs)
-]
 
 -- a writer's rows of two parts
 pub rows_append : (writers w k : ℕ) (rows more : List RowValue)

@@ -14,7 +14,8 @@ use Rattle.cf_law.specs.Readers.{StepTells, AtHome}
 use Rattle.cf_table.specs.Values.{PassValue}
 use Rattle.cf_table.specs.Effects.{HasStepped, tail_effect}
 use Rattle.cf_table.specs.Moves.{HasFolded, HoldsAllBooks, HasAll}
-use Rattle.cf_table.proofs.Seen.{sees_books, grown}
+use Rattle.cf_table.proofs.Seen.{grown}
+use Rattle.cf_law.proofs.Steps.{sees_books}
 
 same_told : (n : ℕ) (es : List Entry) (p : Pass) (b : Bool) → ((grown n es p b).told ≡ p.told) × ((grown n es p b).tails ≡ p.tails)
 same_told n es p b = elim (cases_Bool b) [

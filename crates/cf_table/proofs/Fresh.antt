@@ -2,14 +2,13 @@
 use Rattle.std.proofs.Common.{◌≡◌, ◌<◌, suc, List, [], ◌∷◌, ◌++◌, length, Option, Some, slice_get, refl, sym, ap, subst, ◌∙◌, arith}
 use Rattle.std.specs.Option.{option_to_list}
 use Rattle.std.proofs.lemmas.Option.{slice_get_within}
-use Rattle.cf_lemmas.proofs.Lists.{get_push_same}
+use Rattle.cf_lemmas.proofs.Lists.{get_push_same, has_left}
 use Rattle.cf_law.specs.Passes.{Book, Pass}
 use Rattle.cf_law.specs.Events.{tabulated, no_book}
 use Rattle.cf_law.proofs.Fronts.{table_length, table_at}
 use Rattle.cf_table.specs.Values.{PassValue, LogValue}
 use Rattle.cf_table.specs.Rule.{root_pass}
 use Rattle.cf_table.specs.Moves.{AreDealt}
-use Rattle.cf_table.proofs.Homing.{get_front}
 use Rattle.cf_table.specs.Fresh.{IsFresh, AreFresh}
 
 pub fresh_first : (log : LogValue) (h : PassValue) (hs : List PassValue) → AreFresh log (h ∷ hs) → IsFresh log h
@@ -23,7 +22,7 @@ pub fresh_last : (log : LogValue) (xs ys : List PassValue) (o : Option PassValue
 fresh_last log xs ys o x all is last =
     let end : xs ≡ ys ++ x ∷ [] = is ∙ ap (λ (q : Option PassValue). ys ++ option_to_list q) last in
     let both : AreFresh log (ys ++ x ∷ []) = subst (AreFresh log) end all in
-    (both (length ys) x (get_push_same ys x), λ k h at. both k h (get_front ys (x ∷ []) k h at))
+    (both (length ys) x (get_push_same ys x), λ k h at. both k h (has_left ys (x ∷ []) k h at))
 
 pub dealt_fresh : (log : LogValue) (m n : PassValue) (hs : List PassValue) → m.view ≡ root_pass log.shape → AreDealt log m hs n → AreFresh log hs
 dealt_fresh log m n hs is dealt k h at =

@@ -1,7 +1,7 @@
 -- The passes come home one by one.
 use Rattle.std.proofs.Common.{◌≡◌, ℕ, ◌+◌, ◌<◌, inl, inr, zero, suc, List, [], ◌∷◌, ◌++◌, length, get_or, take, append_assoc, append-nil, Some, None, slice_get, refl, sym, ap, subst, ◌∙◌, arith}
 use Rattle.std.proofs.Math.Seq.{take-length}
-use Rattle.cf_lemmas.proofs.Lists.{get_back}
+use Rattle.cf_lemmas.proofs.Lists.{get_back, has_left}
 use Rattle.cf_shape.specs.Lanes.{ShapeValue}
 use Rattle.cf_law.specs.Passes.{Book, Pass}
 use Rattle.cf_law.specs.Steps.{IsAtRest, Holds}
@@ -27,11 +27,6 @@ homeward_next log h hs H = record { of = λ k g at. H.of (suc k) g at; rest = λ
 
 pub still_one : (log : LogValue) (m n : PassValue) → IsOf m log → n ≡ record m { view = n.view } → IsOf n log
 still_one log m n is same = record { table = ap (λ (h : PassValue). h.table) same ∙ is.table; nodes = ap (λ (h : PassValue). h.nodes) same ∙ is.nodes }
-
-pub get_front : {A : Type 0} (xs ys : List A) (i : ℕ) (x : A) → slice_get xs i ≡ Some x → slice_get (xs ++ ys) i ≡ Some x
-get_front [] ys i x h = absurd (cc h)
-get_front (y ∷ xs) ys zero x h = h
-get_front (y ∷ xs) ys (suc i) x h = get_front xs ys i x h
 
 -- what is known once all have come home
 pub record Homes (m n : PassValue) (passes : List PassValue) : Type 0 where
@@ -76,7 +71,7 @@ unfolding books_of
 in_books [] k j h b at holds = absurd (cc at)
 in_books (x ∷ xs) zero j h b at holds =
     let e : x ≡ h = cc at in
-    (j, get_front (x.view).books (books_of xs) j b (ap (λ (y : PassValue). slice_get (y.view).books j) e ∙ holds))
+    (j, has_left (x.view).books (books_of xs) j b (ap (λ (y : PassValue). slice_get (y.view).books j) e ∙ holds))
 in_books (x ∷ xs) (suc k) j h b at holds =
     let r = in_books xs k j h b at holds in
     (length (x.view).books + r.0, get_back (x.view).books (books_of xs) r.0 b r.1)

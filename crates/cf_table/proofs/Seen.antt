@@ -1,5 +1,5 @@
 -- What is seen after the read tail was loaded or moved.
-use Rattle.std.proofs.Common.{◌≡◌, ℕ, ◌+◌, ◌==◌, ◌<◌, ◌≤◌, max, inl, inr, cond, suc, List, [], length, take, length-take-le, Bool, None, false, refl, sym, ap, subst, ◌∙◌, arith}
+use Rattle.std.proofs.Common.{◌≡◌, ℕ, ◌+◌, ◌==◌, ◌<◌, ◌≤◌, max, inl, inr, cond, suc, List, [], length, take, length-take-le, Bool, None, false, refl, ap, subst, ◌∙◌, arith}
 use Rattle.std.specs.Bool.{nat_lt}
 use Rattle.std.proofs.lemmas.Bool.{cases_lt, cases_Bool}
 use Rattle.std.proofs.lemmas.Bool.Decides.{nat_tests}
@@ -18,9 +18,6 @@ grown n es p b = cond b (record p { seen = take n es; cursor = None }) p
 
 grown_books : (n : ℕ) (es : List Entry) (p : Pass) (b : Bool) → (grown n es p b).books ≡ p.books
 grown_books n es p b = elim (cases_Bool b) [ inl e ↦ ap (λ (c : Bool). (grown n es p c).books) e | inr e ↦ ap (λ (c : Bool). (grown n es p c).books) e ]
-
-pub sees_books : (n : ℕ) (es : List Entry) (p : Pass) → (pass_that_sees n es p).books ≡ p.books
-sees_books n es p = grown_books n es p (nat_lt (length p.seen) n)
 
 pub sees_length : (n : ℕ) (es : List Entry) (p : Pass) → n ≤ length es → length (pass_that_sees n es p).seen ≡ max (length p.seen) n
 sees_length n es p le = elim (cases_lt (length p.seen) n) [

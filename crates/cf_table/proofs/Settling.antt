@@ -20,9 +20,10 @@ use Rattle.cf_law.specs.Readers.{StepTells, AtHome, EndsThere}
 use Rattle.cf_table.specs.Values.{PassValue}
 use Rattle.cf_table.specs.Effects.{IsLawfulStep, HasStepped, HasSteppedUnseen, done_effect, advance_effect}
 use Rattle.cf_table.specs.Moves.{Begins, HasAll, MarkedIsFull, HasPaths, AreFit, HoldsAllBooks, HasSettled}
-use Rattle.cf_table.proofs.Seen.{sees_books, grown, advance_asks}
+use Rattle.cf_table.proofs.Seen.{grown, advance_asks}
 use Rattle.cf_table.proofs.Counting.{AreBelow, nothing_new}
 use Rattle.cf_table.proofs.Folds.{sees_told}
+use Rattle.cf_law.proofs.Steps.{sees_books}
 
 -- the pass has its books, and has seen no less
 pub record Moved (m n : PassValue) : Type 0 where

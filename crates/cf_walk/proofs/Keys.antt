@@ -1,5 +1,5 @@
 -- The keys of lanes, and how many nibbles they have.
-use Rattle.std.proofs.Common.{◌≡◌, ◌∙◌, ℕ, zero, suc, ◌^◌, ◌<◌, ◌≤◌, List, [], ◌∷◌, length, get_or, true, ◌&&◌, cond, Option, Some, None, slice_get, refl, sym, ap, arith}
+use Rattle.std.proofs.Common.{◌≡◌, ◌∙◌, ℕ, zero, suc, ◌^◌, ◌<◌, ◌≤◌, List, [], ◌∷◌, length, get_or, true, ◌&&◌, Option, Some, None, slice_get, refl, sym, ap, arith}
 use Rattle.std.specs.List.{list_all}
 use Rattle.std.proofs.lemmas.Bool.{ltb-true}
 use Rattle.std.proofs.Math.Nat.{div-le_self}
@@ -51,13 +51,6 @@ key_levels attrs keys.Bucket h = (omega arith, omega arith)
 -- a lane's keys have between 2 and 16 nibbles
 pub some_levels : (shape : ShapeValue) (l : ℕ) → IsShape shape → l < length shape.lanes → (2 ≤ levels_of shape l) × (levels_of shape l ≤ 16)
 some_levels shape l is lt = key_levels shape.schema (lane_at shape l).key (lawful_key shape l is lt)
-
-some_words : (m : Option ℕ) → 0 < cond (has_measure m) 3 1
-some_words None = omega arith
-some_words (Some a) = omega arith
-
-pub some_cell : (shape : ShapeValue) (l : ℕ) → 0 < cell_words (lane_at shape l)
-some_cell shape l = some_words (lane_at shape l).measure
 
 -- A key of a row that fits is below all numbers of more nibbles.
 number_small : (k : Kind) (v : Value) → is_of_kind k v ≡ true → is_number k ≡ true → number_of v < 16 ^ nibbles_of_kind k

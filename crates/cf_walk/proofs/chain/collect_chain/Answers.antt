@@ -3,11 +3,12 @@ use Rattle.cf_row.specs.Row.{RowValue}
 use Rattle.cf_table.proofs.Mays.{may_walk}
 use Rattle.cf_table.proofs.Looks.{head_loads, cell_loads}
 use Rattle.cf_walk.specs.Walks.{leaf_of}
-use Rattle.cf_walk.proofs.Keys.{some_levels, some_cell}
+use Rattle.cf_walk.proofs.Keys.{some_levels}
 use Rattle.cf_walk.proofs.Counted.{counting_begins, counting_known, counting_new, counting_ends}
 use Rattle.cf_walk.proofs.Walked.{IsWalking, HasBegun, HasWalkedOn, begun, may_step, walked_then, walked_seen, below, kept_known, kept_new, kept_all, above_long, stepped_from, below_next}
 use Rattle.cf_walk.proofs.chain.collect_chain.Goals as goal
 use Rattle.cf_walk.proofs.chain.collect_chain.Goals.{then-place-covered+in_ok-push, else-place-covered}
+use Rattle.cf_law.proofs.Shapes.{some_cell}
 
 pub begin-link-requires : goal.begin-link-requires
 begin-link-requires g c κs within =

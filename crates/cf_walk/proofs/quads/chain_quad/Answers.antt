@@ -4,11 +4,12 @@ use Rattle.cf_fold.specs.Quads.{quad_of}
 use Rattle.cf_walk.specs.Walks.{leaf_of, amounts_below}
 use Rattle.cf_table.proofs.Mays.{may_walk}
 use Rattle.cf_table.proofs.Looks.{head_loads, cell_loads}
-use Rattle.cf_walk.proofs.Keys.{some_levels, some_cell}
+use Rattle.cf_walk.proofs.Keys.{some_levels}
 use Rattle.cf_walk.proofs.Counted.{counting_begins, counting_new}
 use Rattle.cf_walk.proofs.Walked.{IsWalking, HasBegun, HasWalkedOn, begun, stepped_from, may_step, walked_then, walked_seen, above_long, picks_from}
 use Rattle.cf_walk.proofs.Versions.{no_amounts, same_amounts, entry_of, quad_steps}
 use Rattle.cf_walk.proofs.quads.chain_quad.Goals as goal
+use Rattle.cf_law.proofs.Shapes.{some_cell}
 
 pub begin-link-requires : goal.begin-link-requires
 begin-link-requires g c κs within =
