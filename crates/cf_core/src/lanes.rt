@@ -14,6 +14,14 @@ use cf_row::{Memory, Row};
 use cf_shape::{levels, place_cell, place_child, place_head, place_label, place_root};
 use std::alloc::Global;
 
+// The child word or head of a node under a nibble, in a lane.
+#[derive(Clone, Copy, Drop)]
+struct Branch {
+    lane: u8,
+    node: u32,
+    nibble: u8,
+}
+
 // Which of the 16 places from the first one on it is.
 fn nibble_at(first: u64, place: u64) -> Option<u8>
     ensures { MatchOption result ((d : ℕ) → d < 16 → first + d ≡ place → ⊥) (λ d. (d < 16) × (first + d ≡ place)) }
@@ -254,34 +262,32 @@ impl World {
         Ok(true)
     }
 
-    // Whether nibble d of that known node is the row's leaf in the lane.
+    // Whether the branch of that known node is the row's leaf in its lane.
     fn leads(
         &self,
         alloc: Global,
         number: u32,
         pass: &PassState,
         row: &Row,
-        lane: u8,
-        node: u32,
-        d: u8,
+        at: Branch,
     ) -> Result<bool, Memory>
         requires live { IsLivePass self.now number pass.now }
         requires fits { Fits self.now.shape.schema row.now }
-        ensures some { IfOk result (λ leads. leads ≡ true → LeadsTo self.now pass.now row.now lane node d) }
-        ensures none { IfOk result (λ leads. leads ≡ false → LeadsTo self.now pass.now row.now lane node d → ⊥) }
+        ensures some { IfOk result (λ leads. leads ≡ true → LeadsTo self.now pass.now row.now at.lane at.node at.nibble) }
+        ensures none { IfOk result (λ leads. leads ≡ false → LeadsTo self.now pass.now row.now at.lane at.node at.nibble → ⊥) }
     {
         let shape = self.shape();
-        if lane as usize >= shape.lanes().len() {
+        if at.lane as usize >= shape.lanes().len() {
             return Ok(false);
         }
-        let Some(above) = pass.spot_of(node) else {
+        let Some(above) = pass.spot_of(at.node) else {
             return Ok(false);
         };
-        let Some(path) = path_of(alloc, shape, row, lane)? else {
+        let Some(path) = path_of(alloc, shape, row, at.lane)? else {
             return Ok(false);
         };
-        let leaf = above.child(alloc, d)?;
-        Ok(leaf.is(lane, &path))
+        let leaf = above.child(alloc, at.nibble)?;
+        Ok(leaf.is(at.lane, &path))
     }
 
     pub(crate) fn store_head(
@@ -309,7 +315,12 @@ impl World {
         if !is_whole(shape, row, ticket.filled()) {
             return Ok(false);
         }
-        if !self.leads(alloc, number, pass, row, lane, node, d)? {
+        let at_leaf = Branch {
+            lane,
+            node,
+            nibble: d,
+        };
+        if !self.leads(alloc, number, pass, row, at_leaf)? {
             return Ok(false);
         }
         let place = place_head(shape, node, d, book.writer());
