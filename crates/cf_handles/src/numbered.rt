@@ -184,7 +184,8 @@ pub fn confluo_ask_text(
     head: &mut Head,
     fault: &mut Fault,
 ) -> u32
-    ensures { (r : Option (Result HeadValue LineRefusalValue)) × LineBy line.now reader.old.seat.held reader.new.seat.held r × (head.new ≡ line_head r head.old) × (fault.new ≡ line_fault r fault.old) × (result ≡ line_number r) }
+    ensures { (r : Option (Result HeadValue LineRefusalValue)) × LineBy line.now reader.old.seat.held reader.new.seat.held r × (head.new ≡ line_head r head.old)
+        × (fault.new ≡ line_fault r fault.old) × (result ≡ line_number r) }
 {
     match reader.ask_line(alloc, line) {
         None => Code::Nothing.number(),
@@ -287,7 +288,8 @@ pub fn confluo_row(
     values: &mut [PlainValue],
     count: &mut usize,
 ) -> u32
-    ensures { (r : Result ShownValue CodeValue) × ByHandle (λ m n. IsCoded row_code (ShowsRowAt offset m n values.old values.new)) reader.old.seat.held reader.new.seat.held r × IfErr r (λ _. values.new ≡ values.old) × (result ≡ number_of r) × (number.new ≡ number_or r number.old) × (count.new ≡ count_or r count.old) }
+    ensures { (r : Result ShownValue CodeValue) × ByHandle (λ m n. IsCoded row_code (ShowsRowAt offset m n values.old values.new)) reader.old.seat.held reader.new.seat.held r
+        × IfErr r (λ _. values.new ≡ values.old) × (result ≡ number_of r) × (number.new ≡ number_or r number.old) × (count.new ≡ count_or r count.old) }
 {
     match reader.show_row(alloc, offset, values) {
         Ok(shown) => {

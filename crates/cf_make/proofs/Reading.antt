@@ -197,7 +197,8 @@ made_is_capture seed count most =
       header = the_header;
       whole = record {
         begin = header_first Basic the_header file_header (records seed 0 count) is_header;
-        records = subst (λ (xs : List ℕ). AreRecordsThen (limited Basic).length the_header 0 (frames seed 0 count) xs []) (sym next) (are_records seed 0 count (omega (arith, most)));
+        records = subst (λ (xs : List ℕ). AreRecordsThen (limited Basic).length the_header 0 (frames seed 0 count) xs []) (sym next)
+            (are_records seed 0 count (omega (arith, most)));
       };
     }
 

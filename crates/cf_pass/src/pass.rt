@@ -99,7 +99,17 @@ impl Model for PassState {
 
     ghost Value = { Pass };
 
-    ghost view = { λ p. record { books = p.books.items; seen = p.seen.items; olds = p.olds.items; tails = p.tails.items; told = p.told.items; look = record { word = p.look_place; value = p.look_value; count = p.look_count }; known = p.known.items; cursor = p.cursor; spent = p.spent } };
+    ghost view = { λ p. record {
+      books = p.books.items;
+      seen = p.seen.items;
+      olds = p.olds.items;
+      tails = p.tails.items;
+      told = p.told.items;
+      look = record { word = p.look_place; value = p.look_value; count = p.look_count };
+      known = p.known.items;
+      cursor = p.cursor;
+      spent = p.spent;
+    } };
 }
 
 impl OwnTicket {

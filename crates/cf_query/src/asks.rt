@@ -44,7 +44,9 @@ pub fn ask<P: Pass, L: Ledger>(
 ) -> Result<Answer, Memory>
     requires of { IsOf (P.held pass.old) log.now }
     requires suits { Suits log.now.shape ask.now }
-    ensures ok { IfOk result (λ answer. HasAsked log.now.shape (P.held pass.old) (P.held pass.new) × (answer.tail ≡ length (P.held pass.new).view.seen) × (answer.body ≡ eval log.now.shape ask.now (P.held pass.new).view.seen)) }
+    ensures ok { IfOk result
+        (λ answer. HasAsked log.now.shape (P.held pass.old) (P.held pass.new) × (answer.tail ≡ length (P.held pass.new).view.seen)
+        × (answer.body ≡ eval log.now.shape ask.now (P.held pass.new).view.seen)) }
     ensures memory { IfErr result (λ _. HasAsked log.now.shape (P.held pass.old) (P.held pass.new)) }
     ensures steps { AsksOne ask.now → IfOk result (λ answer. steps.new ≤ steps.old + steps_of_one log.now.shape (lane_of ask.now) answer.body answer.tail) }
     ensures loads { CountsLoads (P.held pass.old) (P.held pass.new) steps.old steps.new }
@@ -119,7 +121,9 @@ pub fn groups<P: Pass, L: Ledger>(
     requires of { IsOf (P.held pass.old) log.now }
     requires lane { lane < length log.now.shape.lanes }
     requires measured { is_measured log.now.shape lane ≡ true }
-    ensures ok { IfOk result (λ found. HasAsked log.now.shape (P.held pass.old) (P.held pass.new) × (found.0 ≡ length (P.held pass.new).view.seen) × (found.1.items ≡ map as_group (groups_by log.now.shape lane (rows_in (P.held pass.new).view.seen)))) }
+    ensures ok { IfOk result
+        (λ found. HasAsked log.now.shape (P.held pass.old) (P.held pass.new) × (found.0 ≡ length (P.held pass.new).view.seen)
+        × (found.1.items ≡ map as_group (groups_by log.now.shape lane (rows_in (P.held pass.new).view.seen)))) }
     ensures memory { IfErr result (λ _. HasAsked log.now.shape (P.held pass.old) (P.held pass.new)) }
     ensures loads { CountsLoads (P.held pass.old) (P.held pass.new) steps.old steps.new }
 {

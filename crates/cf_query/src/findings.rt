@@ -100,7 +100,9 @@ pub fn finding<P: Pass, L: Ledger>(
 ) -> Result<(u32, Finding), Memory>
     requires of { IsOf (P.held pass.old) log.now }
     requires suits { Suits log.now.shape ask.now }
-    ensures ok { IfOk result (λ found. HasAsked log.now.shape (P.held pass.old) (P.held pass.new) × (found.0 ≡ length (P.held pass.new).view.seen) × (found.1 ≡ finding_in log.now.shape ask.now (rows_in (P.held pass.new).view.seen))) }
+    ensures ok { IfOk result
+        (λ found. HasAsked log.now.shape (P.held pass.old) (P.held pass.new) × (found.0 ≡ length (P.held pass.new).view.seen)
+        × (found.1 ≡ finding_in log.now.shape ask.now (rows_in (P.held pass.new).view.seen))) }
     ensures memory { IfErr result (λ _. HasAsked log.now.shape (P.held pass.old) (P.held pass.new)) }
     ensures steps { AsksOne ask.now → IfOk result (λ found. steps.new ≤ steps.old + steps_of_one log.now.shape (lane_of ask.now) (body_of ask.now found.1) found.0) }
     ensures bucket { AsksBucket ask.now → IfOk result (λ found. steps.new ≤ steps.old + steps_of_bucket log.now.shape (lane_of ask.now) found.0) }

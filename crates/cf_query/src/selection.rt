@@ -88,7 +88,8 @@ impl<'a> Model for Selection<'a> {
 
     ghost view = { λ s. record { log = s.log.now; expr = s.expr.now } };
 
-    ghost invariant = { λ s. IsOfSchema s.log.now.shape.schema s.expr.now × ArePlaces s.log.now.shape.schema s.places × (length s.places ≡ 24) × (s.numbers ≡ true → compare_numbers s.log.now.shape.schema s.expr.now ≡ true) };
+    ghost invariant = { λ s. IsOfSchema s.log.now.shape.schema s.expr.now × ArePlaces s.log.now.shape.schema s.places × (length s.places ≡ 24)
+        × (s.numbers ≡ true → compare_numbers s.log.now.shape.schema s.expr.now ≡ true) };
 }
 
 impl<'a> Selection<'a> {

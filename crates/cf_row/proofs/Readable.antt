@@ -244,7 +244,8 @@ pub read_step : (attrs : List Attr) (i : ℕ) (a : Attr) (ws : List ℕ) → i <
     → (words_fit (drop i attrs) ws ≡ (word_fits a.kind ws && words_fit (drop (i + 1) attrs) (drop (words_of_kind a.kind) ws)))
     × (values_read (drop i attrs) ws ≡ value_read a.kind ws ∷ values_read (drop (i + 1) attrs) (drop (words_of_kind a.kind) ws))
 read_step attrs i a ws lt is =
-    let e : drop i attrs ≡ a ∷ drop (i + 1) attrs = Rattle.std.proofs.lemmas.List.drop_more attrs i a lt ∙ ap (λ (b : Attr). b ∷ drop (i + 1) attrs) (sym is) in (
+    let e : drop i attrs ≡ a ∷ drop (i + 1) attrs = Rattle.std.proofs.lemmas.List.drop_more attrs i a lt
+    ∙ ap (λ (b : Attr). b ∷ drop (i + 1) attrs) (sym is) in (
       ap (λ (xs : List Attr). words_fit xs ws) e ∙ fit_cons a (drop (i + 1) attrs) ws,
       ap (λ (xs : List Attr). values_read xs ws) e
           ∙ read_cons a (drop (i + 1) attrs) ws,

@@ -21,7 +21,8 @@ pub legal : SeenReportsAreHistories
 legal shape setup log = report_history setup shape 0 log (answered_on shape setup log) (meant setup shape log)
 
 -- a report can be made of the answers, by the tags alone
-pub answering : (setup : SetupValue) (shape : ShapeValue) (log : List Entry) → IsSetup setup → IsAnswering setup (length (bare log)) (answered_on shape setup log)
+pub answering : (setup : SetupValue) (shape : ShapeValue) (log : List Entry) → IsSetup setup
+    → IsAnswering setup (length (bare log)) (answered_on shape setup log)
 answering setup shape log lawful =
     subst (λ (n : ℕ). IsAnswering setup n (answered_on shape setup log)) (sym (bare_long log))
     (are_answering setup shape 0 log (answered_on shape setup log) lawful (meant setup shape log))

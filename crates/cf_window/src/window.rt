@@ -57,7 +57,8 @@ impl Model for Window {
 
     ghost view = { λ w. record { shape = w.shape; most = w.most; from = w.from; segments = rows_each w.segments.items; is_spent = w.is_spent } };
 
-    ghost invariant = { λ w. IsWindow w.shape w.most w.segments.items × (w.most ≤ vec_capacity w.segments) × (w.is_spent ≡ false → IsOpenLast w.segments.items) × (w.count ≡ w.from + length (rows_in_all (rows_each w.segments.items))) × IfSome w.spare (λ spare. spare ≡ w.shape) };
+    ghost invariant = { λ w. IsWindow w.shape w.most w.segments.items × (w.most ≤ vec_capacity w.segments) × (w.is_spent ≡ false → IsOpenLast w.segments.items)
+        × (w.count ≡ w.from + length (rows_in_all (rows_each w.segments.items))) × IfSome w.spare (λ spare. spare ≡ w.shape) };
 }
 
 // The last segment takes the row, where there is one.

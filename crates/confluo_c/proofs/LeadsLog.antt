@@ -40,10 +40,12 @@ module _ {M : Type 1} {𝓤 : Ura M} (𝓛 : Logic 𝓤) (b o : ℕ) where
   in_one : (k : Handle.the_row.Denot) → ent 𝓤 (sem 𝓛 (fsep (part_at Bytes.the_row full_share (bytes_of k) b o) (log_owns k.seat.alloc k.seat.ptr k.seat.held)))
       (sem 𝓛 (part_at Handle.the_row full_share k b o))
   in_one k = qed 𝓛 (‵ (fsep (part_at Bytes.the_row full_share (bytes_of k) b o) (log_owns k.seat.alloc k.seat.ptr k.seat.held)) ∷ []) ∵ fsplit ! $
-      use1 𝓛 (some (λ (v : Val). ‵ (fat full_share δ b o v) ⊛ ‵ (Bytes.the_row.own_val (bytes_of k) (v ∷ [])))) (part_out_at 𝓛 Bytes.the_row refl full_share (bytes_of k) b o δ refl) $
+      use1 𝓛 (some (λ (v : Val). ‵ (fat full_share δ b o v) ⊛ ‵ (Bytes.the_row.own_val (bytes_of k) (v ∷ []))))
+      (part_out_at 𝓛 Bytes.the_row refl full_share (bytes_of k) b o δ refl) $
       pick ! (λ v. split ! $ move ! (1 ∷ 2 ∷ []) $ fpick ! (λ vss. fsplit ! $ move ! (1 ∷ []) $ fsplit ! $ move ! (1 ∷ []) $ fsplit ! $
       -- [the seat's bytes; true; the bool; the word; the box; the cell]
-      move ! (0 ∷ 4 ∷ []) $ fjoin ! $ use1 𝓛 (‵ (Seat.the_row.own_val k.seat vss.1.0)) (id⊢ 𝓤 _) $ fjoin ! $ move ! (1 ∷ 0 ∷ []) $ fjoin ! $ move ! (1 ∷ 0 ∷ []) $ fjoin ! $
+      move ! (0 ∷ 4 ∷ []) $ fjoin ! $ use1 𝓛 (‵ (Seat.the_row.own_val k.seat vss.1.0)) (id⊢ 𝓤 _) $ fjoin ! $ move ! (1 ∷ 0 ∷ []) $ fjoin ! $ move !
+      (1 ∷ 0 ∷ []) $ fjoin ! $
       fpack ! (Valss (shape Handle.the_type).fields) (within (shape Handle.the_type) (Handle.the_type.to k) (v ∷ [])) vss $
       use1 𝓛 (‵ (Handle.the_row.own_val k (v ∷ []))) (id⊢ 𝓤 _) $ move ! (1 ∷ 0 ∷ []) $
       use2 𝓛 (‵ (part_at Handle.the_row full_share k b o)) (part_in 𝓛 Handle.the_row refl full_share k b o v) $ done !))
@@ -58,14 +60,19 @@ module _ {M : Type 1} {𝓤 : Ura M} (𝓛 : Logic 𝓤) (b o : ℕ) where
       fpack ! (Valss (shape Bytes.the_type).fields) (within (shape Bytes.the_type) (Bytes.the_type.to (bytes_of k)) (v ∷ [])) vss $ move ! (2 ∷ 0 ∷ []) $
       use2 𝓛 (‵ (part_at Bytes.the_row full_share (bytes_of k) b o)) (part_in_at 𝓛 Bytes.the_row refl full_share (bytes_of k) b o δ refl v) $ fjoin ! $ done !))
 
-  pub opens : (h : Bytes.the_row.Denot) (x : Option Held.the_row.Denot) → ent 𝓤 (sem 𝓛 (fsep (part_at Bytes.the_row full_share h b o) (handle_owns Held.the_row h x)))
+  pub opens : (h : Bytes.the_row.Denot) (x : Option Held.the_row.Denot)
+      → ent 𝓤 (sem 𝓛 (fsep (part_at Bytes.the_row full_share h b o) (handle_owns Held.the_row h x)))
       (ex 𝓤 (λ (k : Handle.the_row.Denot). sep 𝓤 (sem 𝓛 (part_at Handle.the_row full_share k b o)) (fact 𝓤 (k.seat.held ≡ x))))
   opens h None = qed 𝓛 (‵ (fsep (part_at Bytes.the_row full_share h b o) (feq Bool h.full false)) ∷ []) ∵ fsplit ! $ move ! (1 ∷ []) $ feq_l ! (λ e.
-      let k : Handle.the_row.Denot = record { full = h.full; seat = record { ptr = h.seat.at; alloc = h.seat.alloc; held = None }; tied = ties_none Held.the_row.Denot h.full e } in
+      let k : Handle.the_row.Denot =
+      record { full = h.full; seat = record { ptr = h.seat.at; alloc = h.seat.alloc; held = None }; tied = ties_none Held.the_row.Denot h.full e } in
       nothing ! $ move ! (1 ∷ 0 ∷ []) $ fjoin ! $ use1 𝓛 (‵ (part_at Handle.the_row full_share k b o)) (in_one k) $
       show ! (λ (k : Handle.the_row.Denot). sep 𝓤 (sem 𝓛 (part_at Handle.the_row full_share k b o)) (fact 𝓤 (k.seat.held ≡ None))) k $ says ! refl $ done !)
-  opens h (Some x) = qed 𝓛 (‵ (fsep (part_at Bytes.the_row full_share h b o) (handle_owns Held.the_row h (Some x))) ∷ []) ∵ fsplit ! $ move ! (1 ∷ []) $ fsplit ! $ feq_l ! (λ e.
-      let k : Handle.the_row.Denot = record { full = h.full; seat = record { ptr = h.seat.at; alloc = h.seat.alloc; held = Some x }; tied = ties_some x h.full e } in
+  opens h (Some x) =
+      qed 𝓛 (‵ (fsep (part_at Bytes.the_row full_share h b o) (handle_owns Held.the_row h (Some x))) ∷ []) ∵ fsplit ! $ move ! (1 ∷ []) $ fsplit ! $ feq_l !
+      (λ e.
+      let k : Handle.the_row.Denot =
+      record { full = h.full; seat = record { ptr = h.seat.at; alloc = h.seat.alloc; held = Some x }; tied = ties_some x h.full e } in
       move ! (1 ∷ 0 ∷ []) $ fjoin ! $ use1 𝓛 (‵ (part_at Handle.the_row full_share k b o)) (in_one k) $
       show ! (λ (k : Handle.the_row.Denot). sep 𝓤 (sem 𝓛 (part_at Handle.the_row full_share k b o)) (fact 𝓤 (k.seat.held ≡ Some x))) k $ says ! refl $ done !)
 
@@ -76,6 +83,8 @@ module _ {M : Type 1} {𝓤 : Ura M} (𝓛 : Logic 𝓤) (b o : ℕ) where
 
   pub closes : (k : Handle.the_row.Denot) → ent 𝓤 (sem 𝓛 (part_at Handle.the_row full_share k b o)) (sem 𝓛 (leads_to Held.the_row (block_ptr b o) k.seat.held))
   closes k = qed 𝓛 (‵ (part_at Handle.the_row full_share k b o) ∷ []) ∵
-      use1 𝓛 (‵ (fsep (part_at Bytes.the_row full_share (bytes_of k) b o) (log_owns k.seat.alloc k.seat.ptr k.seat.held))) (out_one k) $ fsplit ! $ move ! (1 ∷ []) $
-      use1 𝓛 (‵ (handle_owns Held.the_row (bytes_of k) k.seat.held)) (owns_of k.full k.seat.ptr k.seat.alloc k.seat.held k.tied) $ move ! (1 ∷ 0 ∷ []) $ fjoin ! $
+      use1 𝓛 (‵ (fsep (part_at Bytes.the_row full_share (bytes_of k) b o) (log_owns k.seat.alloc k.seat.ptr k.seat.held))) (out_one k) $ fsplit ! $ move !
+      (1 ∷ []) $
+      use1 𝓛 (‵ (handle_owns Held.the_row (bytes_of k) k.seat.held)) (owns_of k.full k.seat.ptr k.seat.alloc k.seat.held k.tied) $ move !
+      (1 ∷ 0 ∷ []) $ fjoin ! $
       fpack ! Bytes.the_row.Denot (λ h. fsep (points_to Bytes.the_row (block_ptr b o) h) (handle_owns Held.the_row h k.seat.held)) (bytes_of k) $ done !

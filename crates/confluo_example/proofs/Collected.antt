@@ -27,7 +27,8 @@ map_more f a (suc n) =
     let next : a + suc n ≡ a + 1 + n = omega arith in
     rw (more, next) (ap (λ xs. f a ∷ xs) (map_more f (a + 1) n))
 
-pub sent_more : {X : Type 0} (f : ℕ → X) (n : ℕ) (old new : List X) → old ≡ map f (range_with_len 0 n) → new ≡ old ++ f n ∷ [] → new ≡ map f (range_with_len 0 (n + 1))
+pub sent_more : {X : Type 0} (f : ℕ → X) (n : ℕ) (old new : List X) → old ≡ map f (range_with_len 0 n) → new ≡ old ++ f n ∷ []
+    → new ≡ map f (range_with_len 0 (n + 1))
 sent_more f n old new is more =
     let same : 0 + n ≡ n = omega arith in
     more ∙ (ap (λ xs. xs ++ f n ∷ []) is ∙ sym (rw same at (map_more f 0 n)))

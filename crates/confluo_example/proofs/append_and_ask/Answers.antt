@@ -4,7 +4,9 @@ use Rattle.confluo_example.proofs.append_and_ask.Goals as goal
 
 pub join_mut-live-requires-after_bounds : goal.join_mut-live-requires-after_bounds
 join_mut-live-requires-after_bounds g c κs within =
-    let writers = both_writers c.args.opened.now.log.shape c.args.opened.now c.take_both-left.result.0 c.take_both-left.result.1 c.requires.opened.0 c.take_both-left.ensures.both in
+    let writers =
+    both_writers c.args.opened.now.log.shape c.args.opened.now c.take_both-left.result.0 c.take_both-left.result.1 c.requires.opened.0
+    c.take_both-left.ensures.both in
     search (rules, writers)
 
 pub returns-clause-done : goal.returns-clause-done

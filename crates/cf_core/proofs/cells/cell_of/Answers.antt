@@ -18,7 +18,8 @@ loop-lane-init c =
 
 pub returns-then-left-count : goal.returns-then-left-count
 returns-then-left-count c =
-    let lane = lane_is c.args.shape.now c.lanes-lanes.result.now c.loop-lane.lane c.index-lanes-lane.result c.lanes-lanes.ensures.lanes c.loop-lane-test.true c.index-lanes-lane.is in
+    let lane = lane_is c.args.shape.now c.lanes-lanes.result.now c.loop-lane.lane c.index-lanes-lane.result c.lanes-lanes.ensures.lanes c.loop-lane-test.true
+    c.index-lanes-lane.is in
     let words : c.from-count.result ≡ cell_words (lane_at c.args.shape.now c.loop-lane.lane) = c.from-count.ensures
     ∙ (c.cell_words.ensures ∙ ap cell_words (sym lane)) in
     let low : c.loop-lane.lane < length c.args.shape.now.lanes = omega (arith, c.loop-lane-test.true, ap (length {A = Lane}) c.lanes-lanes.ensures.lanes) in
@@ -26,7 +27,8 @@ returns-then-left-count c =
 
 pub loop-lane-preserved : goal.loop-lane-preserved
 loop-lane-preserved c =
-    let lane = lane_is c.args.shape.now c.lanes-lanes.result.now c.loop-lane.lane c.index-lanes-lane.result c.lanes-lanes.ensures.lanes c.loop-lane-test.true c.index-lanes-lane.is in
+    let lane = lane_is c.args.shape.now c.lanes-lanes.result.now c.loop-lane.lane c.index-lanes-lane.result c.lanes-lanes.ensures.lanes c.loop-lane-test.true
+    c.index-lanes-lane.is in
     let words : c.from-count.result ≡ cell_words (lane_at c.args.shape.now c.loop-lane.lane) = c.from-count.ensures
     ∙ (c.cell_words.ensures ∙ ap cell_words (sym lane)) in
     let low : c.loop-lane.lane < length c.args.shape.now.lanes = omega (arith, c.loop-lane-test.true, ap (length {A = Lane}) c.lanes-lanes.ensures.lanes) in

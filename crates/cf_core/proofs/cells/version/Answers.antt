@@ -59,7 +59,8 @@ cell_word-requires-clause-quad c =
     search (rules, c.in_ok-previous.ensures.quad) in
     g ∙ ap₂ (λ (q : List ℕ) (xs : List Own). quad_of
     (amounts_with_row c.args.shape.now c.args.lane c.args.row.now (mine_chain sh (spot c.args.lane q) xs))) c.deref.ensures.value c.mine.ensures) in
-    quad_lawful c.args.shape.now c.args.lane c.args.row.now s c.args.book.now.mine c.in_ok-previous.quad c.lanes-held.ensures.lawful c.requires.exists c.requires.fits c.requires.own quad
+    quad_lawful c.args.shape.now c.args.lane c.args.row.now s c.args.book.now.mine c.in_ok-previous.quad c.lanes-held.ensures.lawful c.requires.exists
+    c.requires.fits c.requires.own quad
 
 pub returns : goal.returns
 returns c =
@@ -76,4 +77,5 @@ returns c =
     g ∙ ap₂ (λ (q : List ℕ) (xs : List Own). quad_of
     (amounts_with_row c.args.shape.now c.args.lane c.args.row.now (mine_chain sh (spot c.args.lane q) xs))) c.deref.ensures.value c.mine.ensures) in
     let leads : path_in c.args.shape.now c.args.row.now c.args.lane ≡ Some c.in-Some.path.items = rw c.in-Some.is at c.in_ok-path.ensures in
-    version_is_word c.args.shape.now c.args.book.now c.args.row.now c.args.lane c.args.index c.cell_word.result c.in-Some.path.items c.measures.result c.in_ok-previous.previous c.in_ok-previous.quad leads c.measures.ensures previous quad c.cell_word.ensures
+    version_is_word c.args.shape.now c.args.book.now c.args.row.now c.args.lane c.args.index c.cell_word.result c.in-Some.path.items c.measures.result
+    c.in_ok-previous.previous c.in_ok-previous.quad leads c.measures.ensures previous quad c.cell_word.ensures

@@ -8,7 +8,8 @@ use Rattle.cf_handles.proofs.names.confluo_name.Goals as goal
 
 pub returns-in_default-clause-named : goal.returns-in_default-clause-named
 returns-in_default-clause-named c =
-    nothing_told (NamesTo c.args.sort c.args.number c.args.name.now c.args.name.now) c.args.log.now.seat.held c.take.new.self.seat.held c.args.count.now c.number.result
+    nothing_told (NamesTo c.args.sort c.args.number c.args.name.now c.args.name.now) c.args.log.now.seat.held c.take.new.self.seat.held c.args.count.now
+    c.number.result
     c.in_default.ensures.taken c.in_default.ensures.nothing c.number.ensures
 
 pub returns-in-Some-found-clause-named : goal.returns-in-Some-found-clause-named

@@ -10,7 +10,8 @@ use Rattle.cf_handles.proofs.names.confluo_tell.Goals as goal
 
 pub returns-in_default : goal.returns-in_default
 returns-in_default c =
-    nothing_told (IsAbout c.args.sort c.args.number) c.args.log.now.seat.held c.take.new.self.seat.held c.args.about.now c.number.result c.in_default.ensures.taken
+    nothing_told (IsAbout c.args.sort c.args.number) c.args.log.now.seat.held c.take.new.self.seat.held c.args.about.now c.number.result
+    c.in_default.ensures.taken
     c.in_default.ensures.nothing c.number.ensures
 
 pub returns-in-Some-found : goal.returns-in-Some-found

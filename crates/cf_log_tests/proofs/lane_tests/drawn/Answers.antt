@@ -3,4 +3,5 @@ use Rattle.cf_log_tests.proofs.lane_tests.drawn.Goals as goal
 
 pub compare-requires-clause-ready : goal.compare-requires-clause-ready
 compare-requires-clause-ready g c =
-    both_ready c.in_ok-shape.shape c.in_ok-log.log c.in_ok-log.root c.two_of-first.result.0 c.two_of-first.result.1 c.in_ok-log.passes.items c.two_of-first.ensures.0 c.in_ok-log.ensures c.two_of-first.ensures.1
+    both_ready c.in_ok-shape.shape c.in_ok-log.log c.in_ok-log.root c.two_of-first.result.0 c.two_of-first.result.1 c.in_ok-log.passes.items
+    c.two_of-first.ensures.0 c.in_ok-log.ensures c.two_of-first.ensures.1

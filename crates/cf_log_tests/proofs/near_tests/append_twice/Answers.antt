@@ -19,7 +19,8 @@ append_again-requires-clause-ready g c =
     let settled = c.settle-settled.ensures in
     same_books log 0 o q
     (same_books log 0 n o
-    (appended log 0 c.in_ok-row.row m n c.append_near-first.result c.requires.ready e.goes_on e.rest e.answer) asked.same asked.books) settled.goes_on.same settled.books
+    (appended log 0 c.in_ok-row.row m n c.append_near-first.result c.requires.ready e.goes_on e.rest e.answer) asked.same asked.books) settled.goes_on.same
+    settled.books
 
 pub append_again-requires-clause-near : goal.append_again-requires-clause-near
 append_again-requires-clause-near g c =

@@ -6,7 +6,8 @@ use Rattle.cf_log_tests.proofs.tests.at_once.Goals as goal
 
 pub beside-first-requires-clause-ready : goal.beside-first-requires-clause-ready
 beside-first-requires-clause-ready g c κs within =
-    both_ready c.in_ok-shape.shape c.in_ok-log.log c.in_ok-log.root c.two_of-first.result.0 c.two_of-first.result.1 c.in_ok-log.passes.items c.two_of-first.ensures.0 c.in_ok-log.ensures c.two_of-first.ensures.1
+    both_ready c.in_ok-shape.shape c.in_ok-log.log c.in_ok-log.root c.two_of-first.result.0 c.two_of-first.result.1 c.in_ok-log.passes.items
+    c.two_of-first.ensures.0 c.in_ok-log.ensures c.two_of-first.ensures.1
 
 pub gather-requires-clause-all : goal.gather-requires-clause-all
 gather-requires-clause-all g c =

@@ -9,19 +9,25 @@ use Rattle.cf_log_tests.proofs.tests.two_readers.Goals as goal
 pub append-requires-clause-of : goal.append-requires-clause-of
 append-requires-clause-of g c =
     let o = c.in_ok-log.ensures in
-    (forked_first c.in_ok-shape.shape c.in_ok-log.log c.in_ok-log.root c.fork-first.new.root c.fork-second.new.root c.deal.new.root c.first_of-writer.result c.in_ok-deal.field-0.items c.first_of-writer.ensures.0 o.shape o.root c.fork-first.ensures.root c.fork-second.ensures.root c.in_ok-deal.ensures.dealt c.first_of-writer.ensures.1).of
+    (forked_first c.in_ok-shape.shape c.in_ok-log.log c.in_ok-log.root c.fork-first.new.root c.fork-second.new.root c.deal.new.root c.first_of-writer.result
+    c.in_ok-deal.field-0.items c.first_of-writer.ensures.0 o.shape o.root c.fork-first.ensures.root c.fork-second.ensures.root c.in_ok-deal.ensures.dealt
+    c.first_of-writer.ensures.1).of
 
 pub append-requires-clause-rest : goal.append-requires-clause-rest
 append-requires-clause-rest g c =
     let o = c.in_ok-log.ensures in
-    (forked_first c.in_ok-shape.shape c.in_ok-log.log c.in_ok-log.root c.fork-first.new.root c.fork-second.new.root c.deal.new.root c.first_of-writer.result c.in_ok-deal.field-0.items c.first_of-writer.ensures.0 o.shape o.root c.fork-first.ensures.root c.fork-second.ensures.root c.in_ok-deal.ensures.dealt c.first_of-writer.ensures.1).rest
+    (forked_first c.in_ok-shape.shape c.in_ok-log.log c.in_ok-log.root c.fork-first.new.root c.fork-second.new.root c.deal.new.root c.first_of-writer.result
+    c.in_ok-deal.field-0.items c.first_of-writer.ensures.0 o.shape o.root c.fork-first.ensures.root c.fork-second.ensures.root c.in_ok-deal.ensures.dealt
+    c.first_of-writer.ensures.1).rest
 
 pub gather-requires-clause-all : goal.gather-requires-clause-all
 gather-requires-clause-all g c =
     let log = c.in_ok-log.log in
     let o = c.in_ok-log.ensures in
     let e = c.append.ensures in
-    let ready = forked_first c.in_ok-shape.shape log c.in_ok-log.root c.fork-first.new.root c.fork-second.new.root c.deal.new.root c.first_of-writer.result c.in_ok-deal.field-0.items c.first_of-writer.ensures.0 o.shape o.root c.fork-first.ensures.root c.fork-second.ensures.root c.in_ok-deal.ensures.dealt c.first_of-writer.ensures.1 in
+    let ready = forked_first c.in_ok-shape.shape log c.in_ok-log.root c.fork-first.new.root c.fork-second.new.root c.deal.new.root c.first_of-writer.result
+    c.in_ok-deal.field-0.items c.first_of-writer.ensures.0 o.shape o.root c.fork-first.ensures.root c.fork-second.ensures.root c.in_ok-deal.ensures.dealt
+    c.first_of-writer.ensures.1 in
     let one = ap (λ (s : ShapeValue). s.writers) o.shape ∙ c.in_ok-shape.ensures in
     let all = all_one log c.append.new.pass one
     (appended log 0 c.in_ok-sent.sent c.first_of-writer.result c.append.new.pass c.append.result ready e.goes_on e.rest e.answer) in

@@ -46,14 +46,16 @@ returns-clause-read c =
     let cut : c.in_ok-values.values ≡ values_read c.args.schema.now (take c.word_count-count.result c.args.words.now) =
     search (rules, c.in_ok-values.ensures, c.attrs.ensures.attrs) in
     let vs = cut ∙ (alone c.args.schema.now c.args.words.now c.word_count-count.result c.word_count-count.ensures.count c.requires).2 in
-    made c.args.schema.now c.args.words.now c.word_count-count.result c.in_ok-values.values c.spelled.result c.word_count-count.ensures.count vs c.spelled.ensures
+    made c.args.schema.now c.args.words.now c.word_count-count.result c.in_ok-values.values c.spelled.result c.word_count-count.ensures.count vs
+    c.spelled.ensures
 
 pub returns-clause-entry : goal.returns-clause-entry
 returns-clause-entry c =
     let cut : c.in_ok-values.values ≡ values_read c.args.schema.now (take c.word_count-count.result c.args.words.now) =
     search (rules, c.in_ok-values.ensures, c.attrs.ensures.attrs) in
     let vs = cut ∙ (alone c.args.schema.now c.args.words.now c.word_count-count.result c.word_count-count.ensures.count c.requires).2 in
-    let is = made c.args.schema.now c.args.words.now c.word_count-count.result c.in_ok-values.values c.spelled.result c.word_count-count.ensures.count vs c.spelled.ensures in
+    let is = made c.args.schema.now c.args.words.now c.word_count-count.result c.in_ok-values.values c.spelled.result c.word_count-count.ensures.count vs
+    c.spelled.ensures in
     let s = c.requires in
     subst (λ (e : Entry). IsEntry c.args.schema.now e × (c.args.words.now ≡ spelled e))
     (sym (is ∙ spelled_read c.args.schema.now c.args.words.now s.entry s.lawful s.spells)) (s.lawful, s.spells)
@@ -63,5 +65,6 @@ returns-clause-inverse c =
     let cut : c.in_ok-values.values ≡ values_read c.args.schema.now (take c.word_count-count.result c.args.words.now) =
     search (rules, c.in_ok-values.ensures, c.attrs.ensures.attrs) in
     let vs = cut ∙ (alone c.args.schema.now c.args.words.now c.word_count-count.result c.word_count-count.ensures.count c.requires).2 in
-    let is = made c.args.schema.now c.args.words.now c.word_count-count.result c.in_ok-values.values c.spelled.result c.word_count-count.ensures.count vs c.spelled.ensures in
+    let is = made c.args.schema.now c.args.words.now c.word_count-count.result c.in_ok-values.values c.spelled.result c.word_count-count.ensures.count vs
+    c.spelled.ensures in
     λ entry lawful words. is ∙ spelled_read c.args.schema.now c.args.words.now entry lawful words

@@ -16,7 +16,8 @@ tag g c =
     let place : c.min-place.result ≡ min o (s.capacity - 1) = c.min-place.ensures ∙ ap (λ (k : ℕ). min o (k - 1)) cap in
     let schema = c.schema.ensures ∙ ap (λ (x : ShapeValue). x.schema) c.shape.ensures.shape in
     let last = c.word_count-last.ensures.count ∙ ap (λ (attrs : List Attr). word_count attrs) schema in
-    tag_read s c.args.pass.now c.load_word-tag.new.pass o c.min-place.result c.word_count-last.result c.load_word-tag.result c.shape.ensures.lawful place c.requires.covered last c.load_word-tag.ensures.made
+    tag_read s c.args.pass.now c.load_word-tag.new.pass o c.min-place.result c.word_count-last.result c.load_word-tag.result c.shape.ensures.lawful place
+    c.requires.covered last c.load_word-tag.ensures.made
 
 pub overflow_cast-result : goal.overflow_cast-result
 overflow_cast-result g c = let low = (tag g c).low in search (rules, low)

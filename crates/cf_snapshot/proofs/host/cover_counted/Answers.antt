@@ -9,22 +9,27 @@ settle-requires-clause-of g c =
 pub settle-requires-clause-place : goal.settle-requires-clause-place
 settle-requires-clause-place g c =
     let is = c.unwrap_or-offset.ensures in
-    let low = placed c.args.log.now.shape c.args.row.now c.args.pass.now c.append-answer.new.pass c.append-answer.result c.shape-lawful.ensures.lawful.capacity.0 c.append-answer.ensures.answer in
+    let low = placed c.args.log.now.shape c.args.row.now c.args.pass.now c.append-answer.new.pass c.append-answer.result
+    c.shape-lawful.ensures.lawful.capacity.0 c.append-answer.ensures.answer in
     omega (arith, is, low)
 
 pub returns-clause-alone : goal.returns-clause-alone
 returns-clause-alone g c =
     let a = c.append-answer.ensures in
     let s = c.settle.ensures in
-    alone_then c.args.log.now c.args.row.now c.args.pass.now c.append-answer.new.pass c.settle.new.pass c.append-answer.result c.requires.alone a.goes_on a.rest a.answer s.goes_on s.books s.fit s.alone s.full
+    alone_then c.args.log.now c.args.row.now c.args.pass.now c.append-answer.new.pass c.settle.new.pass c.append-answer.result c.requires.alone a.goes_on
+    a.rest a.answer s.goes_on s.books s.fit s.alone s.full
 
 pub returns-clause-answer : goal.returns-clause-answer
 returns-clause-answer g c =
     let a = c.append-answer.ensures in
     let s = c.settle.ensures in
-    let now = alone_then c.args.log.now c.args.row.now c.args.pass.now c.append-answer.new.pass c.settle.new.pass c.append-answer.result c.requires.alone a.goes_on a.rest a.answer s.goes_on s.books s.fit s.alone s.full in
-    covered c.args.log.now c.args.row.now c.args.pass.now c.append-answer.new.pass c.settle.new.pass c.append-answer.result c.requires.alone a.goes_on s.goes_on a.answer now s.books
+    let now = alone_then c.args.log.now c.args.row.now c.args.pass.now c.append-answer.new.pass c.settle.new.pass c.append-answer.result c.requires.alone
+    a.goes_on a.rest a.answer s.goes_on s.books s.fit s.alone s.full in
+    covered c.args.log.now c.args.row.now c.args.pass.now c.append-answer.new.pass c.settle.new.pass c.append-answer.result c.requires.alone a.goes_on
+    s.goes_on a.answer now s.books
 
 pub returns-clause-nodes : goal.returns-clause-nodes
 returns-clause-nodes g c =
-    used_for c.args.log.now.shape c.args.row.now c.args.pass.now c.append-answer.new.pass c.settle.new.pass c.append-answer.result c.append-answer.ensures.answer c.settle.ensures.books
+    used_for c.args.log.now.shape c.args.row.now c.args.pass.now c.append-answer.new.pass c.settle.new.pass c.append-answer.result
+    c.append-answer.ensures.answer c.settle.ensures.books

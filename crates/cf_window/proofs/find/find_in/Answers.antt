@@ -15,7 +15,10 @@ join-requires c =
     let shape = subst (λ (ys : List SegmentValue). (get_or ys i d).shape ≡ c.args.shape.now) (sym v.same)
     (c.requires.shapes i d (subst (λ (ys : List SegmentValue). i < length ys) v.same low)) in
     let f = c.in_ok-tail.ensures.found in
-    record { can = can c.args.shape.now c.args.ask.now xs now i d low v.same c.requires.few c.loop-segment.count c.loop-segment.found v.count v.found c.in_ok-tail.tail c.in_ok-tail.more shape f.0 f.1 v.low c.find.ensures.few }
+    record {
+      can = can c.args.shape.now c.args.ask.now xs now i d low v.same c.requires.few c.loop-segment.count c.loop-segment.found v.count v.found
+          c.in_ok-tail.tail c.in_ok-tail.more shape f.0 f.1 v.low c.find.ensures.few;
+    }
 
 pub overflow_add-count : goal.overflow_add-count
 overflow_add-count c =
@@ -28,7 +31,8 @@ overflow_add-count c =
     let shape = subst (λ (ys : List SegmentValue). (get_or ys i d).shape ≡ c.args.shape.now) (sym v.same)
     (c.requires.shapes i d (subst (λ (ys : List SegmentValue). i < length ys) v.same low)) in
     let f = c.in_ok-tail.ensures.found in
-    let few = count_few c.args.shape.now c.args.ask.now xs now i d low v.same c.requires.few c.loop-segment.count c.loop-segment.found v.count v.found c.in_ok-tail.tail c.in_ok-tail.more shape f.0 f.1 v.low c.find.ensures.few in
+    let few = count_few c.args.shape.now c.args.ask.now xs now i d low v.same c.requires.few c.loop-segment.count c.loop-segment.found v.count v.found
+    c.in_ok-tail.tail c.in_ok-tail.more shape f.0 f.1 v.low c.find.ensures.few in
     omega (arith, few)
 
 pub loop-segment-preserved : goal.loop-segment-preserved
@@ -44,7 +48,10 @@ loop-segment-preserved c =
     let f = c.in_ok-tail.ensures.found in
     record {
       same = ap (λ (x : SegmentValue). set now i x) c.in_ok-tail.ensures.stays ∙ (set-get_or now i d ∙ v.same);
-      count = count_next c.args.shape.now c.args.ask.now xs now i d low v.same c.requires.few c.loop-segment.count c.loop-segment.found v.count v.found c.in_ok-tail.tail c.in_ok-tail.more shape f.0 f.1 v.low c.find.ensures.few;
-      low = low_next c.args.shape.now c.args.ask.now xs now i d low v.same c.requires.few c.loop-segment.count c.loop-segment.found v.count v.found c.in_ok-tail.tail c.in_ok-tail.more shape f.0 f.1 v.low c.find.ensures.few;
-      found = found_next c.args.shape.now c.args.ask.now xs now i d low v.same c.requires.few c.loop-segment.count c.loop-segment.found v.count v.found c.in_ok-tail.tail c.in_ok-tail.more shape f.0 f.1 v.low c.find.ensures.few c.in_ok-found.found c.in_ok-found.ensures;
+      count = count_next c.args.shape.now c.args.ask.now xs now i d low v.same c.requires.few c.loop-segment.count c.loop-segment.found v.count v.found
+          c.in_ok-tail.tail c.in_ok-tail.more shape f.0 f.1 v.low c.find.ensures.few;
+      low = low_next c.args.shape.now c.args.ask.now xs now i d low v.same c.requires.few c.loop-segment.count c.loop-segment.found v.count v.found
+          c.in_ok-tail.tail c.in_ok-tail.more shape f.0 f.1 v.low c.find.ensures.few;
+      found = found_next c.args.shape.now c.args.ask.now xs now i d low v.same c.requires.few c.loop-segment.count c.loop-segment.found v.count v.found
+          c.in_ok-tail.tail c.in_ok-tail.more shape f.0 f.1 v.low c.find.ensures.few c.in_ok-found.found c.in_ok-found.ensures;
     }

@@ -7,12 +7,14 @@ use Rattle.cf_window.proofs.segment.take_counted.Goals as goal
 
 pub settle-requires-clause-of : goal.settle-requires-clause-of
 settle-requires-clause-of g c =
-    Rattle.cf_append.proofs.Answering.of_then c.args.log.now c.args.pass.now c.append-answer.new.pass c.requires.segment.alone.of c.append-answer.ensures.goes_on.same
+    Rattle.cf_append.proofs.Answering.of_then c.args.log.now c.args.pass.now c.append-answer.new.pass c.requires.segment.alone.of
+    c.append-answer.ensures.goes_on.same
 
 pub settle-requires-clause-place : goal.settle-requires-clause-place
 settle-requires-clause-place g c =
     let is = c.unwrap_or-offset.ensures in
-    let low = placed c.args.log.now.shape c.args.row.now c.args.pass.now c.append-answer.new.pass c.append-answer.result c.shape-lawful.ensures.lawful.capacity.0 c.append-answer.ensures.answer in
+    let low = placed c.args.log.now.shape c.args.row.now c.args.pass.now c.append-answer.new.pass c.append-answer.result
+    c.shape-lawful.ensures.lawful.capacity.0 c.append-answer.ensures.answer in
     omega (arith, is, low)
 
 pub returns-clause-segment : goal.returns-clause-segment

@@ -18,7 +18,10 @@ use Rattle.cf_handles.specs.contracts.numbered.confluo_ask_text as g
 use Rattle.cf_handles.proofs.numbered.confluo_ask_text.Met.{met}
 
 abbrev stayed : Stays f.ended.signature.params f.ended.kept
-stayed = (stay_dropped _ yes, (stay_dropped _ yes, (stay_dropped _ yes, (gave_ref (1 ∷ []) tt (plain (λ _. head_row)), (gave_ref (2 ∷ []) tt (plain (λ _. fault_row)), tt)))))
+stayed = (
+  stay_dropped _ yes,
+  (stay_dropped _ yes, (stay_dropped _ yes, (gave_ref (1 ∷ []) tt (plain (λ _. head_row)), (gave_ref (2 ∷ []) tt (plain (λ _. fault_row)), tt)))),
+)
 
 abbrev R : RattleType
 R = ReaderHandle.the_row
@@ -26,12 +29,26 @@ R = ReaderHandle.the_row
 pub confluo_ask_text_spec : {M : Type 1} → statement M
 confluo_ask_text_spec 𝓤 𝓛 𝓜 𝓡 wired =
     let c = f.clauses 𝓛 𝓜.mem 𝓡.returns in let W = walk_of 𝓛 f.ended stayed c in let 𝓣 = tables 𝓤 𝓛.H 𝓜 𝓡 𝓡.env in
-    proved_at 𝓛 f.ended stayed c 𝓜 𝓡
-    (Goes-dropped 𝓛 3 (plain (λ _. Heap.the_row)) yes (λ κs x w. refl), (Goes-dropped 𝓛 3 (plain (λ _. RawPtr)) yes (λ κs x w. refl), (Goes-dropped 𝓛 3 (shr_slice_of (0 ∷ []) tt (plain (λ _. u8))) yes (λ κs x w. refl), (Goes-gave_ref 𝓛 3 1 tt (plain (λ _. head_row)), (Goes-gave_ref 𝓛 3 2 tt (plain (λ _. fault_row)), tt)))))
+    proved_at 𝓛 f.ended stayed c 𝓜 𝓡 (
+      Goes-dropped 𝓛 3 (plain (λ _. Heap.the_row)) yes (λ κs x w. refl),
+      (
+        Goes-dropped 𝓛 3 (plain (λ _. RawPtr)) yes (λ κs x w. refl),
+        (
+          Goes-dropped 𝓛 3 (shr_slice_of (0 ∷ []) tt (plain (λ _. u8))) yes (λ κs x w. refl),
+          (Goes-gave_ref 𝓛 3 1 tt (plain (λ _. head_row)), (Goes-gave_ref 𝓛 3 2 tt (plain (λ _. fault_row)), tt)),
+        ),
+      ),
+    )
     f.Key.name code.function (code.unfolded 𝓤 𝓛.H 𝓜 𝓡 wired)
-    (λ z are. let κ = z.0.0.0 in let q = z.0.1.0 in let κ₂ = z.0.0.1.0 in let q₂ = z.0.1.1.0 in let κ₃ = z.0.0.1.1.0 in let q₃ = z.0.1.1.1.0 in let a = z.0.3.0 in let p = z.0.3.1.0 in let line = z.0.3.1.1.0 in let head = z.0.3.1.1.1.0 in let fault = z.0.3.1.1.1.1.0 in let x = z.1 in let Post = W.post z in
-    qed 𝓛 (((‵ (flft κ q) ⊛ (‵ (flft κ₂ q₂) ⊛ (‵ (flft κ₃ q₃) ⊛ ‵ ftrue))) ⊛ ‵ (owns (Heap.the_row ∷ RawPtr ∷ ShrSlice (named 0) κ u8 ∷ MutRef (named 1) κ₂ head_row ∷ MutRef (named 2) κ₃ fault_row ∷ []) (a, (p, (line, (head, (fault, tt))))) z.0.4)) ∷ ‵ (reader_at p x) ∷ []) ∵
-    split ! $ move ! (1 ∷ []) $ fsplit ! $ handle_tells E.al ! a z.0.4.0 (λ hv eh fa. move ! (1 ∷ []) $ fsplit ! $ feq_l ! (λ ep. fsplit ! $ rewrite ! 0 (λ (us : List Val). ‵ ((ShrSlice (named 0) κ u8).own_val line us)) (are.1.1.0.0.0) refl $
+    (λ z are. let κ = z.0.0.0 in let q = z.0.1.0 in let κ₂ = z.0.0.1.0 in let q₂ = z.0.1.1.0 in let κ₃ = z.0.0.1.1.0 in let q₃ = z.0.1.1.1.0 in
+    let a = z.0.3.0 in let p = z.0.3.1.0 in let line = z.0.3.1.1.0 in let head = z.0.3.1.1.1.0 in let fault = z.0.3.1.1.1.1.0 in let x = z.1 in let Post =
+    W.post z in
+    qed 𝓛 (((‵ (flft κ q) ⊛ (‵ (flft κ₂ q₂) ⊛ (‵ (flft κ₃ q₃) ⊛ ‵ ftrue))) ⊛ ‵
+    (owns (Heap.the_row ∷ RawPtr ∷ ShrSlice (named 0) κ u8 ∷ MutRef (named 1) κ₂ head_row ∷ MutRef (named 2) κ₃ fault_row ∷ [])
+    (a, (p, (line, (head, (fault, tt))))) z.0.4)) ∷ ‵ (reader_at p x) ∷ []) ∵
+    split ! $ move ! (1 ∷ []) $ fsplit ! $ handle_tells E.al ! a z.0.4.0
+    (λ hv eh fa. move ! (1 ∷ []) $ fsplit ! $ feq_l !
+    (λ ep. fsplit ! $ rewrite ! 0 (λ (us : List Val). ‵ ((ShrSlice (named 0) κ u8).own_val line us)) (are.1.1.0.0.0) refl $
     move ! (1 ∷ []) $ fsplit ! $ rewrite ! 0 (λ (us : List Val). ‵ ((MutRef (named 1) κ₂ head_row).own_val head us)) (are.1.1.1.0.0) refl $
     move ! (1 ∷ []) $ fsplit ! $ rewrite ! 0 (λ (us : List Val). ‵ ((MutRef (named 2) κ₃ fault_row).own_val fault us)) (are.1.1.1.1.0.0) refl $
     move ! (6 ∷ []) $ fpick ! (λ h. fsplit ! $ in_a_block ! p (λ r. lies_at Bytes.the_row full_share r h) (id⊢ 𝓤 _) (λ b o e. fjoin ! $
@@ -45,25 +62,50 @@ confluo_ask_text_spec 𝓤 𝓛 𝓜 𝓡 wired =
     by ! (subst (λ (us : List Val). ent 𝓤 (⋆ 𝓛 Γ) (WpFn 𝓤 𝓛.H 𝓣.C 𝓣.Λ code.function us Post))
     (sym (λ i. eh i ++ ((ep ∙ ap (λ (r : Ptr). ptr_val r ∷ []) e) i ++ (are.1.1.0.0.0 i ++ (are.1.1.1.0.0 i ++ (are.1.1.1.1.0.0 i ++ []))))))
     (qed 𝓛 Γ ∵ move ! (2 ∷ []) $ drop ! $
-    use1 𝓛 (some (λ (k : R.Denot). ‵ (part_at R full_share k b o) ⊛ raw (fact 𝓤 (k.seat.held ≡ x)))) (readers.opens 𝓛 b o h x) $ pick ! (λ k. split ! $ move ! (1 ∷ []) $ heard ! _ (λ led.
-    enter ! 𝓣.C 𝓣.Λ code.function (hv ∷ vptr b o ∷ slice_val line.ref_ptr (length line.now) ∷ vptr head.ref_ptr.0 head.ref_ptr.1 ∷ vptr fault.ref_ptr.0 fault.ref_ptr.1 ∷ []) _ $ alloc_all ! (λ ls. pass_all ! refl (fa, ((tt, tt), ((tt, (tt, (record { fits = are.1.1.0.0.1.0 }, tt))), ((tt, tt), ((tt, tt), tt))))) $
+    use1 𝓛 (some (λ (k : R.Denot). ‵ (part_at R full_share k b o) ⊛ raw (fact 𝓤 (k.seat.held ≡ x)))) (readers.opens 𝓛 b o h x) $ pick !
+    (λ k. split ! $ move ! (1 ∷ []) $ heard ! _ (λ led.
+    enter ! 𝓣.C 𝓣.Λ code.function
+    (hv ∷ vptr b o ∷ slice_val line.ref_ptr
+    (length line.now) ∷ vptr head.ref_ptr.0 head.ref_ptr.1 ∷ vptr fault.ref_ptr.0 fault.ref_ptr.1 ∷ []) _ $ alloc_all !
+    (λ ls. pass_all ! refl (fa, ((tt, tt), ((tt, (tt, (record { fits = are.1.1.0.0.1.0 }, tt))), ((tt, tt), ((tt, tt), tt))))) $
     lft_new ! tt (λ α. move ! (1 ∷ []) $
-    use1 𝓛 (later (some (λ (δ : ℕ). ‵ ((MutRef (named 0) (α ∷ []) R).own_val (record { ref_ptr = (b, o); ghost_name = δ; now = k }) (vptr b o ∷ [])) ⊛ ‵ (flent (α ∷ []) (Body (mem R) b o δ)))))
+    use1 𝓛 (later
+    (some (λ (δ : ℕ). ‵ ((MutRef (named 0) (α ∷ []) R).own_val (record { ref_ptr = (b, o); ghost_name = δ; now = k }) (vptr b o ∷ [])) ⊛ ‵
+    (flent (α ∷ []) (Body (mem R) b o δ)))))
     (lends_ref 𝓛 R (named 0) (α ∷ []) k b o) $ await ! tt $ pick ! (λ δ. split ! $
     sets ! (of_opd ! (get ! refl)) refl fa $ first ! $ blocks ! $ sets_last ! (addr ! (through ! refl (stop !))) refl (tt, tt) $
     exec ! 𝓣.C 𝓣.Λ (env code.Mir.locals ls) code.Mir.t-3 (at_ret (env code.Mir.locals ls) Post) $
-    sets ! (of_opd ! (get ! refl)) refl (tt, tt) $ sets ! (of_opd ! (get ! refl)) refl (tt, (tt, (record { fits = are.1.1.0.0.1.0 }, tt))) $ sets ! (addr ! (through ! refl (stop !))) refl (tt, tt) $ sets ! (addr ! (through ! refl (stop !))) refl (tt, tt) $
+    sets ! (of_opd ! (get ! refl)) refl (tt, tt) $ sets ! (of_opd ! (get ! refl)) refl (tt, (tt, (record { fits = are.1.1.0.0.1.0 }, tt))) $ sets !
+    (addr ! (through ! refl (stop !))) refl (tt, tt) $ sets ! (addr ! (through ! refl (stop !))) refl (tt, tt) $
     let G = triple_of 𝓛 g.signature (g.spec 𝓛 𝓜.mem 𝓡.returns) in
     let loan : MutBor R.Denot = record { ref_ptr = (b, o); ghost_name = δ; now = k } in
-    let y : G.Ghost = (((α ∷ [], (κ, (κ₂, (κ₃, tt)))), (full_share, (q, (q₂, (q₃, tt)))), tt, (a, (loan, (line, (head, (fault, tt))))), (hv ∷ [], (vptr b o ∷ [], (slice_val line.ref_ptr (length line.now) ∷ [], (vptr head.ref_ptr.0 head.ref_ptr.1 ∷ [], (vptr fault.ref_ptr.0 fault.ref_ptr.1 ∷ [], tt)))))), tt) in
-    nothing ! $ move ! (4 ∷ 0 ∷ []) $ join ! $ move ! (4 ∷ 0 ∷ []) $ join ! $ move ! (4 ∷ 0 ∷ []) $ join ! $ move ! (1 ∷ 0 ∷ []) $ join ! $ move ! (3 ∷ 0 ∷ []) $ join ! $ move ! (2 ∷ 3 ∷ []) $ join ! $ join ! $
+    let y : G.Ghost = (
+      (
+        (α ∷ [], (κ, (κ₂, (κ₃, tt)))),
+        (full_share, (q, (q₂, (q₃, tt)))),
+        tt,
+        (a, (loan, (line, (head, (fault, tt))))),
+        (
+          hv ∷ [],
+          (
+            vptr b o ∷ [],
+            (slice_val line.ref_ptr (length line.now) ∷ [], (vptr head.ref_ptr.0 head.ref_ptr.1 ∷ [], (vptr fault.ref_ptr.0 fault.ref_ptr.1 ∷ [], tt))),
+          ),
+        ),
+      ),
+      tt,
+    ) in
+    nothing ! $ move ! (4 ∷ 0 ∷ []) $ join ! $ move ! (4 ∷ 0 ∷ []) $ join ! $ move ! (4 ∷ 0 ∷ []) $ join ! $ move ! (1 ∷ 0 ∷ []) $ join ! $ move !
+    (3 ∷ 0 ∷ []) $ join ! $ move ! (2 ∷ 3 ∷ []) $ join ! $ join ! $
     nothing ! $ move ! (1 ∷ 0 ∷ []) $ use2 𝓛 (raw (G.pre y)) (id⊢ 𝓤 _) $
     calls_at ! (framed 𝓤 𝓛.H 𝓜 𝓣) G (met 𝓤 𝓛 𝓜 𝓡 (code.calls-cf_handles::numbered::confluo_ask_text 𝓡.env wired)) y
     (and_then ! (get ! refl) (and_then ! (get ! refl) (and_then ! (get ! refl) (and_then ! (get ! refl) (and_then ! (get ! refl) (no_more !)))))) (λ v.
-    use1 𝓛 (later (some (λ (r : ℕ). ((‵ (flft (α ∷ []) full_share) ⊛ (‵ (flft κ q) ⊛ (‵ (flft κ₂ q₂) ⊛ (‵ (flft κ₃ q₃) ⊛ ‵ ftrue)))) ⊛ ‵ (u32.own_val r (v ∷ []))) ⊛
+    use1 𝓛 (later
+    (some (λ (r : ℕ). ((‵ (flft (α ∷ []) full_share) ⊛ (‵ (flft κ q) ⊛ (‵ (flft κ₂ q₂) ⊛ (‵ (flft κ₃ q₃) ⊛ ‵ ftrue)))) ⊛ ‵ (u32.own_val r (v ∷ []))) ⊛
     some (λ (ws : Unit {0} × (R.Denot × (Unit {0} × (head_row.Denot × (fault_row.Denot × Unit {0}))))). ‵ (lasts g.ended y.0.0 y.0.3 ws) ⊛
     raw (fact 𝓤 (AsksBy line.now head.now ws.1.1.1.0 fault.now ws.1.1.1.1.0 k.seat.held ws.1.0.seat.held r)))))) (id⊢ 𝓤 _) $
-    await ! tt $ pick ! (λ r. split ! $ split ! $ split ! $ lft_end ! tt $ move ! (3 ∷ []) $ pick ! (λ ws. split ! $ move ! (1 ∷ []) $ heard ! _ (λ did. let k' = ws.1.0 in
+    await ! tt $ pick !
+    (λ r. split ! $ split ! $ split ! $ lft_end ! tt $ move ! (3 ∷ []) $ pick ! (λ ws. split ! $ move ! (1 ∷ []) $ heard ! _ (λ did. let k' = ws.1.0 in
     fsplit ! $ drop ! $ fsplit ! $ fsplit ! $ move ! (1 ∷ []) $ drop ! $ move ! (2 ∷ 5 ∷ 0 ∷ []) $
     use3 𝓛 (later (‵ (part_at R full_share k' b o))) (ref_back 𝓛 R (α ∷ []) δ k' b o) $ await ! tt $
     use1 𝓛 (‵ (leads_to HeldReader.the_row (block_ptr b o) k'.seat.held)) (readers.closes 𝓛 b o k') $

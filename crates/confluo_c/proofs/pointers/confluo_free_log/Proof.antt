@@ -31,13 +31,18 @@ confluo_free_log_spec 𝓤 𝓛 𝓜 𝓡 wired =
     split ! $ move ! (1 ∷ []) $ fsplit ! $ handle_tells E.al ! a z.0.4.0 (λ hv eh fa. move ! (1 ∷ []) $ fsplit ! $ feq_l ! (λ ep.
     -- [true; the allocator; no tokens; what lies at p]
     move ! (3 ∷ []) $ fpick ! (λ h. fsplit ! $ in_a_block ! p (λ r. lies_at Bytes.the_row full_share r h) (id⊢ 𝓤 _) (λ b o e. fjoin ! $
-    let Γ : List (Item 𝓤) = ‵ (fsep (part_at Bytes.the_row full_share h b o) (handle_owns Held.the_row h x)) ∷ ‵ ftrue ∷ ‵ (Heap.the_row.own_val a (hv ∷ [])) ∷ ‵ ftrue ∷ [] in
-    by ! (subst (λ (us : List Val). ent 𝓤 (⋆ 𝓛 Γ) (WpFn 𝓤 𝓛.H 𝓣.C 𝓣.Λ code.function us Post)) (sym (λ i. eh i ++ ((ep ∙ ap (λ (r : Ptr). ptr_val r ∷ []) e) i ++ [])))
+    let Γ : List (Item 𝓤) =
+    ‵ (fsep (part_at Bytes.the_row full_share h b o) (handle_owns Held.the_row h x)) ∷ ‵ ftrue ∷ ‵ (Heap.the_row.own_val a (hv ∷ [])) ∷ ‵ ftrue ∷ [] in
+    by ! (subst (λ (us : List Val). ent 𝓤 (⋆ 𝓛 Γ) (WpFn 𝓤 𝓛.H 𝓣.C 𝓣.Λ code.function us Post))
+    (sym (λ i. eh i ++ ((ep ∙ ap (λ (r : Ptr). ptr_val r ∷ []) e) i ++ [])))
     (qed 𝓛 Γ ∵ keep ! (0 ∷ 2 ∷ []) $
-    use1 𝓛 (some (λ (k : R.Denot). ‵ (part_at R full_share k b o) ⊛ raw (fact 𝓤 (k.seat.held ≡ x)))) (opens 𝓛 b o h x) $ pick ! (λ k. split ! $ move ! (1 ∷ []) $ heard ! _ (λ led.
+    use1 𝓛 (some (λ (k : R.Denot). ‵ (part_at R full_share k b o) ⊛ raw (fact 𝓤 (k.seat.held ≡ x)))) (opens 𝓛 b o h x) $ pick !
+    (λ k. split ! $ move ! (1 ∷ []) $ heard ! _ (λ led.
     enter ! 𝓣.C 𝓣.Λ code.function (hv ∷ vptr b o ∷ []) _ $ alloc_all ! (λ ls. pass_all ! refl (fa, ((tt, tt), tt)) $
     lft_new ! tt (λ α. move ! (1 ∷ []) $
-    use1 𝓛 (later (some (λ (δ : ℕ). ‵ ((MutRef (named 0) (α ∷ []) R).own_val (record { ref_ptr = (b, o); ghost_name = δ; now = k }) (vptr b o ∷ [])) ⊛ ‵ (flent (α ∷ []) (Body (mem R) b o δ)))))
+    use1 𝓛 (later
+    (some (λ (δ : ℕ). ‵ ((MutRef (named 0) (α ∷ []) R).own_val (record { ref_ptr = (b, o); ghost_name = δ; now = k }) (vptr b o ∷ [])) ⊛ ‵
+    (flent (α ∷ []) (Body (mem R) b o δ)))))
     (lends_ref 𝓛 R (named 0) (α ∷ []) k b o) $ await ! tt $ pick ! (λ δ. split ! $
     -- [the loan; what comes back; the token of α; the allocator]
     sets ! (of_opd ! (get ! refl)) refl fa $ first ! $ blocks ! $ sets_last ! (addr ! (through ! refl (stop !))) refl (tt, tt) $

@@ -49,11 +49,14 @@ put-requires-clause-lawful c =
     let low : c.args.tail < c.args.self.now.shape.capacity = rw c.shape-shape.ensures.shape at (rw c.capacity.ensures.capacity at c.if-tail-capacity.false) in
     let entries : c.in_ok-entries.entries.items ≡ entries_spelled (layout c.args.self.now.shape) c.args.self.now.words (c.args.tail + 1) =
     search (rules, c.in_ok-entries.ensures) in
-    let after : c.in_ok-after.after ≡ pass_that_sees (c.args.tail + 1) c.in_ok-entries.entries.items c.in-Some.pass.now = search (rules, c.in_ok-after.ensures) in
+    let after : c.in_ok-after.after ≡ pass_that_sees (c.args.tail + 1) c.in_ok-entries.entries.items c.in-Some.pass.now =
+    search (rules, c.in_ok-after.ensures) in
     let left : c.advanced-left.result ≡ cond (c.read_tail.result == c.args.tail) (c.args.tail + 1) c.read_tail.result = c.advanced-left.ensures
     ∙ ap (λ (n : ℕ). cond (c.read_tail.result == n) (n + 1) c.read_tail.result) c.from.ensures in
     let does = advance_does c.args.self.now c.args.number c.args.tail c.ticket_place-place.result
-    (c.ticket_words.result - 1) c.read_tail.result c.advanced-left.result c.in-Some.pass.now c.in_ok-after.after c.in_ok-entries.entries.items c.read_tail.ensures.lawful c.in-Some.ensures seen low last c.ticket_place-place.ensures.at found.0 found.1 c.read_tail.ensures.tail left entries after in
+    (c.ticket_words.result - 1) c.read_tail.result c.advanced-left.result c.in-Some.pass.now c.in_ok-after.after c.in_ok-entries.entries.items
+    c.read_tail.ensures.lawful c.in-Some.ensures seen low last c.ticket_place-place.ensures.at found.0 found.1 c.read_tail.ensures.tail left entries
+    after in
     made_lawful c.args.self.now c.args.number (acts (advance c.args.tail)) _ c.read_tail.ensures.lawful does
 
 pub returns : goal.returns
@@ -65,9 +68,12 @@ returns c =
     let low : c.args.tail < c.args.self.now.shape.capacity = rw c.shape-shape.ensures.shape at (rw c.capacity.ensures.capacity at c.if-tail-capacity.false) in
     let entries : c.in_ok-entries.entries.items ≡ entries_spelled (layout c.args.self.now.shape) c.args.self.now.words (c.args.tail + 1) =
     search (rules, c.in_ok-entries.ensures) in
-    let after : c.in_ok-after.after ≡ pass_that_sees (c.args.tail + 1) c.in_ok-entries.entries.items c.in-Some.pass.now = search (rules, c.in_ok-after.ensures) in
+    let after : c.in_ok-after.after ≡ pass_that_sees (c.args.tail + 1) c.in_ok-entries.entries.items c.in-Some.pass.now =
+    search (rules, c.in_ok-after.ensures) in
     let left : c.advanced-left.result ≡ cond (c.read_tail.result == c.args.tail) (c.args.tail + 1) c.read_tail.result = c.advanced-left.ensures
     ∙ ap (λ (n : ℕ). cond (c.read_tail.result == n) (n + 1) c.read_tail.result) c.from.ensures in
     let does = advance_does c.args.self.now c.args.number c.args.tail c.ticket_place-place.result
-    (c.ticket_words.result - 1) c.read_tail.result c.advanced-left.result c.in-Some.pass.now c.in_ok-after.after c.in_ok-entries.entries.items c.read_tail.ensures.lawful c.in-Some.ensures seen low last c.ticket_place-place.ensures.at found.0 found.1 c.read_tail.ensures.tail left entries after in
+    (c.ticket_words.result - 1) c.read_tail.result c.advanced-left.result c.in-Some.pass.now c.in_ok-after.after c.in_ok-entries.entries.items
+    c.read_tail.ensures.lawful c.in-Some.ensures seen low last c.ticket_place-place.ensures.at found.0 found.1 c.read_tail.ensures.tail left entries
+    after in
     made c.args.self.now c.put.new.self c.args.number (acts (advance c.args.tail)) _ _ c.put.ensures does

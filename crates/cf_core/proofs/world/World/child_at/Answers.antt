@@ -13,4 +13,5 @@ returns c =
     let child : c.in_ok-child.field-0 ≡ spot c.in-Some-below.known.now.0.lane (c.in-Some-below.nibble ∷ c.in-Some-below.known.now.0.path) =
     search (rules, c.in_ok-child.ensures, c.spot.ensures) in
     subst (IsChildAt c.args.self.now c.args.pass.now c.args.place) (sym child)
-    (below_found c.args.self.now c.args.number c.args.place b.0 c.in-Some-below.nibble c.args.pass.now c.in-Some-below.known.now c.shape-held.ensures.lawful c.requires b.1 b.2)
+    (below_found c.args.self.now c.args.number c.args.place b.0 c.in-Some-below.nibble c.args.pass.now c.in-Some-below.known.now c.shape-held.ensures.lawful
+    c.requires b.1 b.2)

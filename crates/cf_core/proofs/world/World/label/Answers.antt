@@ -27,7 +27,8 @@ pub place_label-place-requires : goal.place_label-place-requires
 place_label-place-requires c =
     let free : IsFree c.args.self.now.shape.nodes c.in-Some.pass.now c.args.node c.in-Some-free.at c.in-Some-free.book.now =
     rw c.shape-shape.ensures.shape at (rw c.nodes.ensures.nodes at c.in-Some-free.ensures) in
-    let low = free_within c.args.self.now c.args.number c.args.node c.in-Some-free.at c.in-Some.pass.now c.in-Some-free.book.now c.shape-shape.ensures.lawful c.in-Some.ensures free in
+    let low = free_within c.args.self.now c.args.number c.args.node c.in-Some-free.at c.in-Some.pass.now c.in-Some-free.book.now c.shape-shape.ensures.lawful
+    c.in-Some.ensures free in
     record { node = rw c.shape-shape.ensures.shape low }
 
 pub at_book-requires : goal.at_book-requires
@@ -42,7 +43,8 @@ put-requires-clause-word c =
     rw c.shape-shape.ensures.shape at (rw c.nodes.ensures.nodes at c.in-Some-free.ensures) in
     let at : c.place_label-place.result ≡ place_of c.args.self.now.shape (label_word c.args.node) =
     rw c.shape-shape.ensures.shape at c.place_label-place.ensures in
-    rw at (label_there c.args.self.now c.args.number c.args.node c.in-Some-free.at c.in-Some.pass.now c.in-Some-free.book.now c.shape-shape.ensures.lawful c.in-Some.ensures free)
+    rw at (label_there c.args.self.now c.args.number c.args.node c.in-Some-free.at c.in-Some.pass.now c.in-Some-free.book.now c.shape-shape.ensures.lawful
+    c.in-Some.ensures free)
 
 pub put-requires-clause-lawful : goal.put-requires-clause-lawful
 put-requires-clause-lawful c =
@@ -54,7 +56,8 @@ put-requires-clause-lawful c =
     search (rules, c.in_ok-is_label.ensures.some c.if-not-branch.false) in
     let after : c.in_ok-after.after ≡ pass_with_book c.in-Some-free.at (book_with_label c.args.value c.in-Some-free.book.now) c.in-Some.pass.now =
     search (rules, c.in_ok-after.ensures, c.in_ok-labelled.ensures) in
-    let does = label_does c.args.self.now c.args.number c.place_label-place.result c.args.node c.args.value c.in-Some-free.at c.in-Some.pass.now c.in_ok-after.after c.in-Some-free.book.now named.0 c.in-Some.ensures free named.1 at after in
+    let does = label_does c.args.self.now c.args.number c.place_label-place.result c.args.node c.args.value c.in-Some-free.at c.in-Some.pass.now
+    c.in_ok-after.after c.in-Some-free.book.now named.0 c.in-Some.ensures free named.1 at after in
     made_lawful c.args.self.now c.args.number (acts (label c.args.node c.args.value)) _ c.shape-shape.ensures.lawful does
 
 pub returns : goal.returns
@@ -67,5 +70,6 @@ returns c =
     search (rules, c.in_ok-is_label.ensures.some c.if-not-branch.false) in
     let after : c.in_ok-after.after ≡ pass_with_book c.in-Some-free.at (book_with_label c.args.value c.in-Some-free.book.now) c.in-Some.pass.now =
     search (rules, c.in_ok-after.ensures, c.in_ok-labelled.ensures) in
-    let does = label_does c.args.self.now c.args.number c.place_label-place.result c.args.node c.args.value c.in-Some-free.at c.in-Some.pass.now c.in_ok-after.after c.in-Some-free.book.now named.0 c.in-Some.ensures free named.1 at after in
+    let does = label_does c.args.self.now c.args.number c.place_label-place.result c.args.node c.args.value c.in-Some-free.at c.in-Some.pass.now
+    c.in_ok-after.after c.in-Some-free.book.now named.0 c.in-Some.ensures free named.1 at after in
     made c.args.self.now c.put.new.self c.args.number (acts (label c.args.node c.args.value)) _ _ c.put.ensures does

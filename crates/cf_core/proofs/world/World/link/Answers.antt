@@ -27,7 +27,8 @@ returns-then-not-is_labelled c =
     let free : IsFree c.args.self.now.shape.nodes c.in-Some.pass.now c.args.node c.in-Some-free.at c.in-Some-free.book.now =
     rw c.shape-shape.ensures.shape at (rw c.nodes.ensures.nodes at c.in-Some-free.ensures) in (
       refl,
-      λ y does. (let o = link_label c.args.self.now c.args.number c.args.place c.args.node c.in-Some-free.at c.in-Some.pass.now c.in-Some-free.book.now c.in-Some-2.spot y c.shape-shape.ensures.lawful c.in-Some.ensures free child does in
+      λ y does. (let o = link_label c.args.self.now c.args.number c.args.place c.args.node c.in-Some-free.at c.in-Some.pass.now c.in-Some-free.book.now
+          c.in-Some-2.spot y c.shape-shape.ensures.lawful c.in-Some.ensures free child does in
           let found : c.is_labelled.result ≡ true = (c.is_labelled.ensures).1 o in absurd (cc (found, c.if-not-is_labelled.true))),
     )
 
@@ -52,8 +53,11 @@ put-requires-clause-lawful c =
     let child : IsChildAt c.args.self.now c.in-Some.pass.now c.args.place c.in-Some-2.spot = rw c.in-Some-2.is at c.in_ok-spot.ensures in
     let free : IsFree c.args.self.now.shape.nodes c.in-Some.pass.now c.args.node c.in-Some-free.at c.in-Some-free.book.now =
     rw c.shape-shape.ensures.shape at (rw c.nodes.ensures.nodes at c.in-Some-free.ensures) in
-    let after : c.in_ok-after.after ≡ pass_with_link c.in-Some-free.at c.in-Some-free.book.now c.in-Some-2.spot c.args.node c.in-Some.pass.now c.word-found.result = search (rules, c.in_ok-after.ensures c.in-Some-free.book.now free.0) in
-    let does = link_does c.args.self.now c.args.number c.args.place c.args.node c.word-found.result c.linked_word.result c.in-Some-free.at c.in-Some.pass.now c.in_ok-after.after c.in-Some-free.book.now c.in-Some-2.spot c.in-Some.ensures free child ((c.is_labelled.ensures).0 c.if-not-is_labelled.false) c.word-found.ensures c.linked_word.ensures after in
+    let after : c.in_ok-after.after ≡ pass_with_link c.in-Some-free.at c.in-Some-free.book.now c.in-Some-2.spot c.args.node c.in-Some.pass.now
+    c.word-found.result = search (rules, c.in_ok-after.ensures c.in-Some-free.book.now free.0) in
+    let does = link_does c.args.self.now c.args.number c.args.place c.args.node c.word-found.result c.linked_word.result c.in-Some-free.at c.in-Some.pass.now
+    c.in_ok-after.after c.in-Some-free.book.now c.in-Some-2.spot c.in-Some.ensures free child
+    ((c.is_labelled.ensures).0 c.if-not-is_labelled.false) c.word-found.ensures c.linked_word.ensures after in
     made_lawful c.args.self.now c.args.number (acts (link c.args.place c.args.node)) _ c.shape-shape.ensures.lawful does
 
 pub returns : goal.returns
@@ -61,6 +65,9 @@ returns c =
     let child : IsChildAt c.args.self.now c.in-Some.pass.now c.args.place c.in-Some-2.spot = rw c.in-Some-2.is at c.in_ok-spot.ensures in
     let free : IsFree c.args.self.now.shape.nodes c.in-Some.pass.now c.args.node c.in-Some-free.at c.in-Some-free.book.now =
     rw c.shape-shape.ensures.shape at (rw c.nodes.ensures.nodes at c.in-Some-free.ensures) in
-    let after : c.in_ok-after.after ≡ pass_with_link c.in-Some-free.at c.in-Some-free.book.now c.in-Some-2.spot c.args.node c.in-Some.pass.now c.word-found.result = search (rules, c.in_ok-after.ensures c.in-Some-free.book.now free.0) in
-    let does = link_does c.args.self.now c.args.number c.args.place c.args.node c.word-found.result c.linked_word.result c.in-Some-free.at c.in-Some.pass.now c.in_ok-after.after c.in-Some-free.book.now c.in-Some-2.spot c.in-Some.ensures free child ((c.is_labelled.ensures).0 c.if-not-is_labelled.false) c.word-found.ensures c.linked_word.ensures after in
+    let after : c.in_ok-after.after ≡ pass_with_link c.in-Some-free.at c.in-Some-free.book.now c.in-Some-2.spot c.args.node c.in-Some.pass.now
+    c.word-found.result = search (rules, c.in_ok-after.ensures c.in-Some-free.book.now free.0) in
+    let does = link_does c.args.self.now c.args.number c.args.place c.args.node c.word-found.result c.linked_word.result c.in-Some-free.at c.in-Some.pass.now
+    c.in_ok-after.after c.in-Some-free.book.now c.in-Some-2.spot c.in-Some.ensures free child
+    ((c.is_labelled.ensures).0 c.if-not-is_labelled.false) c.word-found.ensures c.linked_word.ensures after in
     made c.args.self.now c.put.new.self c.args.number (acts (link c.args.place c.args.node)) _ _ c.put.ensures does

@@ -61,7 +61,8 @@ put-requires-clause-lawful c =
     rw c.shape-shape.ensures.shape at (rw c.capacity.ensures.capacity at c.if-offset-capacity.false) in
     let after : c.in_ok-after.after ≡ pass_with_cell c.place_cell-place.result c.args.offset c.args.lane c.args.index c.in-Some.pass.now c.word-found.result =
     search (rules, c.in_ok-after.ensures) in
-    let does = cell_load_does c.args.self.now c.args.number c.place_cell-place.result c.args.offset c.args.lane c.args.index c.word-found.result c.in-Some.pass.now c.in_ok-after.after c.in-Some.ensures low has ((c.may_read.ensures).0 c.if-not-may_read.false) at c.word-found.ensures after in
+    let does = cell_load_does c.args.self.now c.args.number c.place_cell-place.result c.args.offset c.args.lane c.args.index c.word-found.result
+    c.in-Some.pass.now c.in_ok-after.after c.in-Some.ensures low has ((c.may_read.ensures).0 c.if-not-may_read.false) at c.word-found.ensures after in
     made_lawful c.args.self.now c.args.number (acts (load_cell c.args.offset c.args.lane c.args.index)) _ c.shape-shape.ensures.lawful does
 
 pub returns : goal.returns
@@ -73,5 +74,6 @@ returns c =
     rw c.shape-shape.ensures.shape at (rw c.capacity.ensures.capacity at c.if-offset-capacity.false) in
     let after : c.in_ok-after.after ≡ pass_with_cell c.place_cell-place.result c.args.offset c.args.lane c.args.index c.in-Some.pass.now c.word-found.result =
     search (rules, c.in_ok-after.ensures) in
-    let does = cell_load_does c.args.self.now c.args.number c.place_cell-place.result c.args.offset c.args.lane c.args.index c.word-found.result c.in-Some.pass.now c.in_ok-after.after c.in-Some.ensures low has ((c.may_read.ensures).0 c.if-not-may_read.false) at c.word-found.ensures after in
+    let does = cell_load_does c.args.self.now c.args.number c.place_cell-place.result c.args.offset c.args.lane c.args.index c.word-found.result
+    c.in-Some.pass.now c.in_ok-after.after c.in-Some.ensures low has ((c.may_read.ensures).0 c.if-not-may_read.false) at c.word-found.ensures after in
     made c.args.self.now c.put.new.self c.args.number (acts (load_cell c.args.offset c.args.lane c.args.index)) _ _ c.put.ensures does

@@ -30,7 +30,8 @@ put-requires-clause-lawful c =
     let child : IsChildAt c.args.self.now c.in-Some.pass.now c.args.place c.in-Some-2.spot = rw c.in-Some-2.is at c.in_ok-spot.ensures in
     let after : c.in_ok-after.after ≡ pass_with_child c.args.place c.in-Some-2.spot c.in-Some.pass.now c.word-found.result =
     search (rules, c.in_ok-after.ensures) in
-    let does = child_does c.args.self.now c.args.number c.args.place c.word-found.result c.in-Some.pass.now c.in_ok-after.after c.in-Some-2.spot c.in-Some.ensures child c.word-found.ensures after in
+    let does = child_does c.args.self.now c.args.number c.args.place c.word-found.result c.in-Some.pass.now c.in_ok-after.after c.in-Some-2.spot
+    c.in-Some.ensures child c.word-found.ensures after in
     made_lawful c.args.self.now c.args.number (acts (load_child c.args.place)) _ c.shape-held.ensures.lawful does
 
 pub returns : goal.returns
@@ -38,5 +39,6 @@ returns c =
     let child : IsChildAt c.args.self.now c.in-Some.pass.now c.args.place c.in-Some-2.spot = rw c.in-Some-2.is at c.in_ok-spot.ensures in
     let after : c.in_ok-after.after ≡ pass_with_child c.args.place c.in-Some-2.spot c.in-Some.pass.now c.word-found.result =
     search (rules, c.in_ok-after.ensures) in
-    let does = child_does c.args.self.now c.args.number c.args.place c.word-found.result c.in-Some.pass.now c.in_ok-after.after c.in-Some-2.spot c.in-Some.ensures child c.word-found.ensures after in
+    let does = child_does c.args.self.now c.args.number c.args.place c.word-found.result c.in-Some.pass.now c.in_ok-after.after c.in-Some-2.spot
+    c.in-Some.ensures child c.word-found.ensures after in
     made c.args.self.now c.put.new.self c.args.number (acts (load_child c.args.place)) _ _ c.put.ensures does

@@ -15,7 +15,8 @@ put-requires-clause-lawful c =
     search (rules, c.in_ok-entries.ensures) in
     let after : c.in_ok-after.after ≡ pass_with_tail c.args.asked c.read_tail-tail.result c.in_ok-entries.entries.items c.in-Some.pass.now =
     search (rules, c.in_ok-after.ensures) in
-    let does = tail_does c.args.self.now c.args.number c.read_tail-tail.result c.args.asked c.in-Some.pass.now c.in_ok-after.after c.in_ok-entries.entries.items c.read_tail-tail.ensures.lawful c.in-Some.ensures c.read_tail-tail.ensures.tail entries after in
+    let does = tail_does c.args.self.now c.args.number c.read_tail-tail.result c.args.asked c.in-Some.pass.now c.in_ok-after.after
+    c.in_ok-entries.entries.items c.read_tail-tail.ensures.lawful c.in-Some.ensures c.read_tail-tail.ensures.tail entries after in
     made_lawful c.args.self.now c.args.number (acts (load_tail c.args.asked)) _ c.read_tail-tail.ensures.lawful does
 
 pub returns : goal.returns
@@ -24,7 +25,8 @@ returns c =
     search (rules, c.in_ok-entries.ensures) in
     let after : c.in_ok-after.after ≡ pass_with_tail c.args.asked c.read_tail-tail.result c.in_ok-entries.entries.items c.in-Some.pass.now =
     search (rules, c.in_ok-after.ensures) in
-    let does = tail_does c.args.self.now c.args.number c.read_tail-tail.result c.args.asked c.in-Some.pass.now c.in_ok-after.after c.in_ok-entries.entries.items c.read_tail-tail.ensures.lawful c.in-Some.ensures c.read_tail-tail.ensures.tail entries after in
+    let does = tail_does c.args.self.now c.args.number c.read_tail-tail.result c.args.asked c.in-Some.pass.now c.in_ok-after.after
+    c.in_ok-entries.entries.items c.read_tail-tail.ensures.lawful c.in-Some.ensures c.read_tail-tail.ensures.tail entries after in
     made c.args.self.now c.put.new.self c.args.number (acts (load_tail c.args.asked)) _ _ c.put.ensures does
 
 pub tail_loaded-requires : goal.tail_loaded-requires

@@ -11,7 +11,10 @@ put-requires-clause-lawful c =
     let words = rw c.shape.ensures.shape at c.ticket_words.ensures.words in
     let after : c.in_ok-after.after ≡ pass_with_look c.ticket_place-place.result c.word-found.result c.in-Some.pass.now =
     search (rules, c.in_ok-after.ensures) in
-    let does = load_does c.args.self.now c.args.number c.args.offset c.ticket_place-place.result c.args.index c.word-found.result c.in-Some.pass.now c.in_ok-after.after c.in-Some.ensures (omega (arith, c.if-offset-covered.false, c.covered.ensures)) (omega (arith, words, c.if-from-ticket_words.false, c.from.ensures)) (search (rules, c.ticket_place-place.ensures.at, c.from-2.ensures)) c.word-found.ensures after in
+    let does = load_does c.args.self.now c.args.number c.args.offset c.ticket_place-place.result c.args.index c.word-found.result c.in-Some.pass.now
+    c.in_ok-after.after c.in-Some.ensures (omega (arith, c.if-offset-covered.false, c.covered.ensures))
+    (omega (arith, words, c.if-from-ticket_words.false, c.from.ensures))
+    (search (rules, c.ticket_place-place.ensures.at, c.from-2.ensures)) c.word-found.ensures after in
     made_lawful c.args.self.now c.args.number (acts (load_word c.args.offset c.args.index)) _ c.shape.ensures.lawful does
 
 pub returns : goal.returns
@@ -19,7 +22,10 @@ returns c =
     let words = rw c.shape.ensures.shape at c.ticket_words.ensures.words in
     let after : c.in_ok-after.after ≡ pass_with_look c.ticket_place-place.result c.word-found.result c.in-Some.pass.now =
     search (rules, c.in_ok-after.ensures) in
-    let does = load_does c.args.self.now c.args.number c.args.offset c.ticket_place-place.result c.args.index c.word-found.result c.in-Some.pass.now c.in_ok-after.after c.in-Some.ensures (omega (arith, c.if-offset-covered.false, c.covered.ensures)) (omega (arith, words, c.if-from-ticket_words.false, c.from.ensures)) (search (rules, c.ticket_place-place.ensures.at, c.from-2.ensures)) c.word-found.ensures after in
+    let does = load_does c.args.self.now c.args.number c.args.offset c.ticket_place-place.result c.args.index c.word-found.result c.in-Some.pass.now
+    c.in_ok-after.after c.in-Some.ensures (omega (arith, c.if-offset-covered.false, c.covered.ensures))
+    (omega (arith, words, c.if-from-ticket_words.false, c.from.ensures))
+    (search (rules, c.ticket_place-place.ensures.at, c.from-2.ensures)) c.word-found.ensures after in
     made c.args.self.now c.put.new.self c.args.number (acts (load_word c.args.offset c.args.index)) _ _ c.put.ensures does
 
 pub returns-then-offset-covered : goal.returns-then-offset-covered

@@ -20,7 +20,8 @@ returns-in_ok-part-in-None c =
     let does = bare_does c.args.self.now c.args.number c.in-Some.pass.now c.in_ok-left-in-None.left c.in_ok-right-in-None.right c.in-Some.ensures l r in
     subst (λ (w : Option ℕ). Answers c.args.self.now c.args.number (splits w) c.part.new.self true) (sym c.in-None.is)
     (made c.args.self.now c.part.new.self c.args.number (splits None) c.args.self.now.words
-    (set c.args.self.now.passes c.args.number c.in_ok-left-in-None.left ++ c.in_ok-right-in-None.right ∷ []) (search (rules, c.in_ok-part-in-None.ensures)) does)
+    (set c.args.self.now.passes c.args.number c.in_ok-left-in-None.left ++ c.in_ok-right-in-None.right ∷ [])
+    (search (rules, c.in_ok-part-in-None.ensures)) does)
 
 pub handed-requires : goal.handed-requires
 handed-requires c =
@@ -37,7 +38,8 @@ part-requires-in-Some-writer-clause-lawful c =
     search (rules, c.in_ok-left-in-Some-writer.ensures.stays) in
     let r : c.in_ok-left-in-Some-writer.right ≡ new_pass (c.in-Some-book_of.ensures.0 ∷ []) c.in-Some.pass.now.seen =
     search (rules, c.in_ok-left-in-Some-writer.ensures.goes c.in-Some-book_of.ensures.0 held) in
-    let does = hands_does c.args.self.now c.args.number c.in-Some-book_of.place c.in-Some-writer.writer c.in-Some.pass.now c.in_ok-left-in-Some-writer.left c.in_ok-left-in-Some-writer.right c.in-Some-book_of.ensures.0 c.in-Some.ensures held own l r in
+    let does = hands_does c.args.self.now c.args.number c.in-Some-book_of.place c.in-Some-writer.writer c.in-Some.pass.now c.in_ok-left-in-Some-writer.left
+    c.in_ok-left-in-Some-writer.right c.in-Some-book_of.ensures.0 c.in-Some.ensures held own l r in
     made_lawful c.args.self.now c.args.number (splits (Some c.in-Some-writer.writer)) _ c.shape-held.ensures.lawful does
 
 pub returns-in_ok-part-in-Some-writer : goal.returns-in_ok-part-in-Some-writer
@@ -48,7 +50,8 @@ returns-in_ok-part-in-Some-writer c =
     search (rules, c.in_ok-left-in-Some-writer.ensures.stays) in
     let r : c.in_ok-left-in-Some-writer.right ≡ new_pass (c.in-Some-book_of.ensures.0 ∷ []) c.in-Some.pass.now.seen =
     search (rules, c.in_ok-left-in-Some-writer.ensures.goes c.in-Some-book_of.ensures.0 held) in
-    let does = hands_does c.args.self.now c.args.number c.in-Some-book_of.place c.in-Some-writer.writer c.in-Some.pass.now c.in_ok-left-in-Some-writer.left c.in_ok-left-in-Some-writer.right c.in-Some-book_of.ensures.0 c.in-Some.ensures held own l r in
+    let does = hands_does c.args.self.now c.args.number c.in-Some-book_of.place c.in-Some-writer.writer c.in-Some.pass.now c.in_ok-left-in-Some-writer.left
+    c.in_ok-left-in-Some-writer.right c.in-Some-book_of.ensures.0 c.in-Some.ensures held own l r in
     subst (λ (w : Option ℕ). Answers c.args.self.now c.args.number (splits w) c.part-in-Some-writer.new.self true) (sym c.in-Some-writer.is)
     (made c.args.self.now c.part-in-Some-writer.new.self c.args.number (splits (Some c.in-Some-writer.writer)) c.args.self.now.words
     (set c.args.self.now.passes c.args.number c.in_ok-left-in-Some-writer.left ++ c.in_ok-left-in-Some-writer.right ∷ [])

@@ -15,7 +15,8 @@ put-requires-clause-lawful c =
     let after : (b : Book) → c.in-Some.pass.now.books ≡ b ∷ []
     → c.in_ok-after.after ≡ record c.in-Some.pass.now { books = ticketed_at c.args.self.now.shape.capacity c.args.row.now c.write_tail-tail.result b ∷ [] } =
     λ b one. search (rules, c.in_ok-after.ensures b one, c.capacity.ensures.capacity, c.shape-shape.ensures.shape) in
-    let does = ticket_does c.args.self.now c.args.number c.write_tail-tail.result c.args.row.now c.in-Some.pass.now c.in_ok-after.after c.in-Some.ensures fits may c.write_tail-tail.ensures.tail after in
+    let does = ticket_does c.args.self.now c.args.number c.write_tail-tail.result c.args.row.now c.in-Some.pass.now c.in_ok-after.after c.in-Some.ensures fits
+    may c.write_tail-tail.ensures.tail after in
     made_lawful c.args.self.now c.args.number (acts (take_ticket c.args.row.now)) _ c.write_tail-tail.ensures.lawful does
 
 pub returns : goal.returns
@@ -25,5 +26,6 @@ returns c =
     let after : (b : Book) → c.in-Some.pass.now.books ≡ b ∷ []
     → c.in_ok-after.after ≡ record c.in-Some.pass.now { books = ticketed_at c.args.self.now.shape.capacity c.args.row.now c.write_tail-tail.result b ∷ [] } =
     λ b one. search (rules, c.in_ok-after.ensures b one, c.capacity.ensures.capacity, c.shape-shape.ensures.shape) in
-    let does = ticket_does c.args.self.now c.args.number c.write_tail-tail.result c.args.row.now c.in-Some.pass.now c.in_ok-after.after c.in-Some.ensures fits may c.write_tail-tail.ensures.tail after in
+    let does = ticket_does c.args.self.now c.args.number c.write_tail-tail.result c.args.row.now c.in-Some.pass.now c.in_ok-after.after c.in-Some.ensures fits
+    may c.write_tail-tail.ensures.tail after in
     made c.args.self.now c.put.new.self c.args.number (acts (take_ticket c.args.row.now)) _ _ c.put.ensures does

@@ -47,12 +47,14 @@ kept vs lens words i at le ge few long fit spells =
 
 pub invariant_of-result : goal.invariant_of-result
 invariant_of-result c =
-    let k = kept c.args.values.now c.loop-place.lens c.loop-place.words c.loop-place.place c.loop-place.at c.loop-place.auto.place-end c.loop-place-test.false c.if-values-gt-FEW.false c.loop-place.invariant.long c.loop-place.invariant.fit c.loop-place.invariant.spelled in
+    let k = kept c.args.values.now c.loop-place.lens c.loop-place.words c.loop-place.place c.loop-place.at c.loop-place.auto.place-end c.loop-place-test.false
+    c.if-values-gt-FEW.false c.loop-place.invariant.long c.loop-place.invariant.fit c.loop-place.invariant.spelled in
     (k.0, omega (arith, c.if-values-gt-FEW.false, c.loop-place.invariant.long))
 
 pub returns-clause-same : goal.returns-clause-same
 returns-clause-same c =
-    (kept c.args.values.now c.loop-place.lens c.loop-place.words c.loop-place.place c.loop-place.at c.loop-place.auto.place-end c.loop-place-test.false c.if-values-gt-FEW.false c.loop-place.invariant.long c.loop-place.invariant.fit c.loop-place.invariant.spelled).1
+    (kept c.args.values.now c.loop-place.lens c.loop-place.words c.loop-place.place c.loop-place.at c.loop-place.auto.place-end c.loop-place-test.false
+    c.if-values-gt-FEW.false c.loop-place.invariant.long c.loop-place.invariant.fit c.loop-place.invariant.spelled).1
 
 pub returns-then-at-kind_words-gt-FEW-clause-none : goal.returns-then-at-kind_words-gt-FEW-clause-none
 returns-then-at-kind_words-gt-FEW-clause-none c =

@@ -13,6 +13,7 @@ returns-clause-event c =
     let q = c.cover_counted.new.pass.view in
     let before = ap (λ (m : HostValue). m.is_frozen) c.self.view_is ∙ c.requires.free in
     let event = covered_event (host_with shape inside.is_frozen p.seen p.books)
-    (host_with shape inside.is_frozen q.seen q.books) c.args.row.now c.cover_counted.result c.shape-lawful.ensures.lawful.capacity.1 before before c.cover_counted.ensures.answer in
+    (host_with shape inside.is_frozen q.seen q.books) c.args.row.now c.cover_counted.result c.shape-lawful.ensures.lawful.capacity.1 before before
+    c.cover_counted.ensures.answer in
     subst (λ (m : HostValue). IfOk c.cover_counted.result
     (λ _. IsEvent Cover (λ _. true) m (host_with shape inside.is_frozen q.seen q.books))) c.self.view_is event

@@ -18,4 +18,5 @@ returns-in-Err c =
     (AsksSeen c.args.question m n)) c.args.self.now.seat.held c.put.new.self.seat.held c.in-Some.reader.value c.deref_mut.result.now
     c.ask_seen-answer.new.self _ c.in-Some.ensures.taken c.deref_mut.ensures.value c.put.ensures
     (coded_err ask_code
-    (AsksSeen c.args.question c.deref_mut.result.now c.ask_seen-answer.new.self) c.ask_seen-answer.result _ _ c.ask_seen-answer.ensures c.in-Err.is c.of_ask.ensures)
+    (AsksSeen c.args.question c.deref_mut.result.now c.ask_seen-answer.new.self) c.ask_seen-answer.result _ _ c.ask_seen-answer.ensures c.in-Err.is
+    c.of_ask.ensures)

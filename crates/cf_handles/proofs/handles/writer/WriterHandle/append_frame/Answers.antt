@@ -10,7 +10,8 @@ returns-in-Ok c =
     (AppendsFrame c.args.capture c.args.bytes.now m n)) c.args.self.now.seat.held c.put.new.self.seat.held c.in-Some.writer.value c.deref_mut.result.now
     c.append_frame-answer.new.self _ c.in-Some.ensures.taken c.deref_mut.ensures.value c.put.ensures
     (coded_ok append_code
-    (AppendsFrame c.args.capture c.args.bytes.now c.deref_mut.result.now c.append_frame-answer.new.self) c.append_frame-answer.result _ c.append_frame-answer.ensures c.in-Ok.is)
+    (AppendsFrame c.args.capture c.args.bytes.now c.deref_mut.result.now c.append_frame-answer.new.self) c.append_frame-answer.result _
+    c.append_frame-answer.ensures c.in-Ok.is)
 
 pub returns-in-Err : goal.returns-in-Err
 returns-in-Err c =
@@ -18,4 +19,5 @@ returns-in-Err c =
     (AppendsFrame c.args.capture c.args.bytes.now m n)) c.args.self.now.seat.held c.put.new.self.seat.held c.in-Some.writer.value c.deref_mut.result.now
     c.append_frame-answer.new.self _ c.in-Some.ensures.taken c.deref_mut.ensures.value c.put.ensures
     (coded_err append_code
-    (AppendsFrame c.args.capture c.args.bytes.now c.deref_mut.result.now c.append_frame-answer.new.self) c.append_frame-answer.result _ _ c.append_frame-answer.ensures c.in-Err.is c.of_append.ensures)
+    (AppendsFrame c.args.capture c.args.bytes.now c.deref_mut.result.now c.append_frame-answer.new.self) c.append_frame-answer.result _ _
+    c.append_frame-answer.ensures c.in-Err.is c.of_append.ensures)

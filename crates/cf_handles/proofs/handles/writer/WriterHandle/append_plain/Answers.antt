@@ -10,7 +10,8 @@ returns-in-Ok c =
     (AppendsPlain c.args.number c.args.values.now m n)) c.args.self.now.seat.held c.put.new.self.seat.held c.in-Some.writer.value c.deref_mut.result.now
     c.append_plain-answer.new.self _ c.in-Some.ensures.taken c.deref_mut.ensures.value c.put.ensures
     (coded_ok append_code
-    (AppendsPlain c.args.number c.args.values.now c.deref_mut.result.now c.append_plain-answer.new.self) c.append_plain-answer.result _ c.append_plain-answer.ensures c.in-Ok.is)
+    (AppendsPlain c.args.number c.args.values.now c.deref_mut.result.now c.append_plain-answer.new.self) c.append_plain-answer.result _
+    c.append_plain-answer.ensures c.in-Ok.is)
 
 pub returns-in-Err : goal.returns-in-Err
 returns-in-Err c =
@@ -18,4 +19,5 @@ returns-in-Err c =
     (AppendsPlain c.args.number c.args.values.now m n)) c.args.self.now.seat.held c.put.new.self.seat.held c.in-Some.writer.value c.deref_mut.result.now
     c.append_plain-answer.new.self _ c.in-Some.ensures.taken c.deref_mut.ensures.value c.put.ensures
     (coded_err append_code
-    (AppendsPlain c.args.number c.args.values.now c.deref_mut.result.now c.append_plain-answer.new.self) c.append_plain-answer.result _ _ c.append_plain-answer.ensures c.in-Err.is c.of_append.ensures)
+    (AppendsPlain c.args.number c.args.values.now c.deref_mut.result.now c.append_plain-answer.new.self) c.append_plain-answer.result _ _
+    c.append_plain-answer.ensures c.in-Err.is c.of_append.ensures)

@@ -10,7 +10,8 @@ returns-in-Ok c =
     (AppendsValues c.args.number c.args.values.now m n)) c.args.self.now.seat.held c.put.new.self.seat.held c.in-Some.writer.value c.deref_mut.result.now
     c.append_values-answer.new.self _ c.in-Some.ensures.taken c.deref_mut.ensures.value c.put.ensures
     (coded_ok append_code
-    (AppendsValues c.args.number c.args.values.now c.deref_mut.result.now c.append_values-answer.new.self) c.append_values-answer.result _ c.append_values-answer.ensures c.in-Ok.is)
+    (AppendsValues c.args.number c.args.values.now c.deref_mut.result.now c.append_values-answer.new.self) c.append_values-answer.result _
+    c.append_values-answer.ensures c.in-Ok.is)
 
 pub returns-in-Err : goal.returns-in-Err
 returns-in-Err c =
@@ -18,4 +19,5 @@ returns-in-Err c =
     (AppendsValues c.args.number c.args.values.now m n)) c.args.self.now.seat.held c.put.new.self.seat.held c.in-Some.writer.value c.deref_mut.result.now
     c.append_values-answer.new.self _ c.in-Some.ensures.taken c.deref_mut.ensures.value c.put.ensures
     (coded_err append_code
-    (AppendsValues c.args.number c.args.values.now c.deref_mut.result.now c.append_values-answer.new.self) c.append_values-answer.result _ _ c.append_values-answer.ensures c.in-Err.is c.of_append.ensures)
+    (AppendsValues c.args.number c.args.values.now c.deref_mut.result.now c.append_values-answer.new.self) c.append_values-answer.result _ _
+    c.append_values-answer.ensures c.in-Err.is c.of_append.ensures)
