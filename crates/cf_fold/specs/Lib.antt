@@ -1,3 +1,4 @@
+pub mod Cells
 pub mod Quads
 pub mod Sort
 pub mod Triggers

@@ -3,7 +3,6 @@ use Rattle.std.proofs.Common.{◌≡◌, ℕ, ◌<◌, ◌≤◌, ◌⊎◌, ◌
 use Rattle.cf_lemmas.proofs.Truths.{eq_from, eq_true}
 use Rattle.cf_row.specs.Row.{RowValue}
 use Rattle.std.proofs.lemmas.Bool.{cases_Bool, cases_eq, cases_lt}
-use Rattle.std.proofs.lemmas.Bool.Decides.{nat_tests}
 use Rattle.cf_words.specs.Words.{Spot, Layout, Ticket, has, same_path, links, entry_at, chain, link_to_newest, fresh_ticket}
 
 -- a conjunction of two tests

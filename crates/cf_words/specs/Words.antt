@@ -1,8 +1,9 @@
 -- What the words mean.
-use Rattle.std.specs.Prelude.{ℕ, ◌+◌, ◌*◌, ◌/◌, ◌%◌, ◌^◌, ◌<◌, ◌≤◌, ◌≡◌, ◌==◌, ◌⊎◌, suc, zero, List, [], ◌∷◌, ◌++◌, set, nat_lt, Bool, true, false, cond, length, get_or, Option, Some, None, slice_get, map}
+use Rattle.std.specs.Prelude.{ℕ, ◌+◌, ◌*◌, ◌/◌, ◌%◌, ◌<◌, ◌≤◌, ◌≡◌, ◌==◌, ◌⊎◌, suc, zero, List, [], ◌∷◌, ◌++◌, set, nat_lt, Bool, true, false, cond, length, get_or, Option, Some, None, slice_get, map}
 use Rattle.cf_row.specs.Row.{RowValue}
 use Rattle.cf_shape.specs.Places.{Sizes, Slot, place, IsReal}
-use Rattle.cf_fold.specs.Quads.{QuadValue, quad_of}
+use Rattle.cf_fold.specs.Quads.{quad_of}
+use Rattle.cf_fold.specs.Cells.{halves, measure_word}
 use Rattle.cf_row.specs.declared.row.Entry.{Entry}
 use Rattle.cf_shape.specs.Uses.{Use}
 use Rattle.cf_shape.specs.Uses.Use.{plain, version}
@@ -94,11 +95,6 @@ tail_word ts (suc k) = ts.1
 abbrev pub done_word : Bool → ℕ
 done_word b = cond b 1 0
 
--- the words of a measure after the first: the sum, then the least and the greatest
-abbrev pub measure_word : ℕ → QuadValue → ℕ
-measure_word zero q = q.sum
-measure_word (suc j) q = q.least + 2 ^ 32 * q.greatest
-
 -- book w gets the label v
 unfoldable pub stocks_with_label : ℕ → ℕ → List Stock → List Stock
 stocks_with_label w v bs = set bs w (record { used = (stock_of bs w).used; label = v; over = (stock_of bs w).over })
@@ -157,7 +153,7 @@ link_to_newest (x ∷ xs) = suc x.0
 
 -- word j of the cell of lane l, for a row whose chain before it is c: the previous offset and the count, the sum, and the least and greatest
 unfoldable pub version_word : Layout → ℕ → ℕ → List (ℕ × RowValue) → RowValue → ℕ
-version_word layout l zero c r = link_to_newest c + 2 ^ 32 * cond (layout.is_measured l) (length c + 1) 0
+version_word layout l zero c r = halves (link_to_newest c) (cond (layout.is_measured l) (length c + 1) 0)
 version_word layout l (suc j) c r = measure_word j (quad_of (map (λ x. layout.amount x l) (r ∷ map (λ x. x.1) c)))
 
 -- word j of the cell of lane l of ticket t at offset o, by its path there; 0 for None, where the lane does not select the row
