@@ -41,7 +41,7 @@ count_every p [] every = refl
 count_every p (x ∷ xs) every = let rest : count_by p xs ≡ length xs = count_every p xs every.1 in sum_by-cons (λ y. cond (p y) 1 0) x xs
     ∙ rw every.0 (omega (arith, rest))
 
-every_take : {X : Type 0} (P : X → Type 0) (n : ℕ) (xs : List X) → AllByRecursion P xs → AllByRecursion P (take n xs)
+pub every_take : {X : Type 0} (P : X → Type 0) (n : ℕ) (xs : List X) → AllByRecursion P xs → AllByRecursion P (take n xs)
 every_take P zero xs every = tt
 every_take P (suc n) [] every = tt
 every_take P (suc n) (x ∷ xs) every = (every.0, every_take P n xs every.1)

@@ -47,7 +47,7 @@ agree p q a (suc n) same =
     ap (λ b. cond b (a ∷ filter p (range_with_len (a + 1) n)) (filter p (range_with_len (a + 1) n))) (same a (omega arith))
     ∙ ap (λ ns. cond (q a) (a ∷ ns) ns) rest
 
-range_append : (a m n : ℕ) → range_with_len a (m + n) ≡ range_with_len a m ++ range_with_len (a + m) n
+pub range_append : (a m n : ℕ) → range_with_len a (m + n) ≡ range_with_len a m ++ range_with_len (a + m) n
 range_append a zero n = let e : 0 + n ≡ n = omega arith in rw (add-zero a, e) refl
 range_append a (suc m) n =
     let e : suc m + n ≡ suc (m + n) = omega arith in

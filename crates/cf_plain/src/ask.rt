@@ -1,11 +1,11 @@
 // Questions.
-ghost use Rattle.std.specs.Prelude.{◌≡◌, ◌↔◌, IsTrue, IfOk, slice_get};
-ghost use Rattle.cf_plain.specs.Asks.{Suits, is_attr as is_attr_of, is_indexed as is_indexed_of, is_bucketed as is_bucketed_of, is_aggregate as is_aggregate_of, is_tally as is_tally_of, suits_trigger as suits_trigger_of};
-ghost use Rattle.cf_shape.specs.Lanes.{option_passes, is_narrow as is_narrow_of};
+ghost use Rattle.std.specs.Prelude.{◌≡◌, ◌↔◌, IsTrue, IfOk};
+ghost use Rattle.cf_plain.specs.Asks.{Suits, is_attr as is_attr_of, is_indexed as is_indexed_of, is_bucketed as is_bucketed_of};
+ghost use Rattle.cf_plain.specs.Asks.{is_aggregate as is_aggregate_of, is_tally as is_tally_of, suits_trigger as suits_trigger_of};
 
 use cf_fold::{Part, Trigger};
-use cf_row::{Expr, Kind, Memory, Op, Schema, is_of_schema};
-use cf_shape::{Key, Shape};
+use cf_row::{Expr, Memory, Op, is_of_schema};
+use cf_shape::{Key, Shape, is_lawful_measure};
 use std::alloc::Global;
 
 /// A question. A lane goes by its number. Ranges take in both ends; one whose first end is above its last is empty.
@@ -43,6 +43,17 @@ impl Ask {
             Ask::Total(attr, expr) => Ok(Ask::Total(*attr, expr.copy(alloc)?)),
         }
     }
+}
+
+/// Equal questions.
+pub fn copy_asks(alloc: Global, asks: &[Ask]) -> Result<Vec<Ask>, Memory>
+    ensures { IfOk result (λ copied. copied.items ≡ asks.now) }
+{
+    let mut copied = Vec::with_capacity(alloc, asks.len())?;
+    for ask in asks {
+        copied.push(ask.copy(alloc)?)?;
+    }
+    Ok(copied)
 }
 
 fn is_attr(key: Key) -> bool
@@ -94,19 +105,6 @@ fn is_tally(shape: &Shape, lane: u8) -> bool
     }
 }
 
-// Whether the attribute exists and its numbers are below 2^32.
-fn is_narrow(schema: &Schema, attr: u8) -> bool
-    ensures { result ≡ option_passes is_narrow_of (slice_get schema.now attr) }
-{
-    match schema.attrs().get(attr as usize) {
-        Some(attr) => match attr.kind {
-            Kind::U8 | Kind::U16 | Kind::U32 => true,
-            Kind::U64 | Kind::Bytes(_) => false,
-        },
-        None => false,
-    }
-}
-
 fn suits_trigger(shape: &Shape, trigger: &Trigger) -> bool
     ensures { result ≡ suits_trigger_of shape.now trigger.now }
 {
@@ -134,7 +132,8 @@ pub fn suits(shape: &Shape, ask: &Ask) -> bool
         Ask::Fired(trigger) => suits_trigger(shape, trigger),
         Ask::Top(lane, _, count) => is_tally(shape, *lane) && 1 <= *count && *count <= 1000,
         Ask::Total(attr, expr) => {
-            is_of_schema(shape.schema(), expr) && is_narrow(shape.schema(), *attr)
+            let schema = shape.schema();
+            is_of_schema(schema, expr) && is_lawful_measure(schema.attrs(), Some(*attr))
         }
     }
 }

@@ -1,7 +1,8 @@
 // What a question finds in rows that stand in several logs, end to end.
-ghost use Rattle.std.specs.Prelude.{◌≡◌, ◌+◌, ◌<◌, ◌≤◌, ◌^◌, ◌++◌, All, map, IfOk};
+ghost use Rattle.std.specs.Prelude.{◌≡◌, ◌+◌, ◌<◌, ◌≤◌, ◌^◌, ◌++◌, [], All, map, IfOk};
+ghost use Rattle.cf_shape.specs.Lanes.{ShapeValue};
 ghost use Rattle.cf_plain.specs.Groups.{pair_of};
-ghost use Rattle.cf_plain.specs.Segments.{body_of, body_of_groups as body_of_groups_as, joined, merged, numbers_in, CanJoin};
+ghost use Rattle.cf_plain.specs.Segments.{body_of, body_of_groups as body_of_groups_as, finding_in, joined, merged, numbers_in, CanJoin};
 
 use crate::segments::{marks_of_groups, merge_groups, push_places};
 use crate::{Ask, Body, Group, Groups, Marks, Places, top};
@@ -22,6 +23,19 @@ pub enum Finding {
 }
 
 impl Finding {
+    /// What the question finds in no row.
+    pub fn nothing(alloc: Global, ask: &Ask) -> Finding
+        ensures { (shape : ShapeValue) → result ≡ finding_in shape ask.now [] }
+    {
+        match ask {
+            Ask::List(_) | Ask::Find(..) | Ask::Between(..) => {
+                Finding::Places(Places::new(Vec::new(alloc)))
+            }
+            Ask::Measure(..) | Ask::Total(..) => Finding::Total(Quad::EMPTY),
+            Ask::Fired(_) | Ask::Top(..) => Finding::Groups(Groups::new(Vec::new(alloc))),
+        }
+    }
+
     /// An equal finding.
     pub fn copy(&self, alloc: Global) -> Result<Finding, Memory>
         ensures { IfOk result (λ finding. finding ≡ self.now) }

@@ -16,7 +16,7 @@ mod tests;
 mod total;
 
 pub use answer::{Answer, Body, Fired, Group, Groups, Marks, Places};
-pub use ask::{Ask, suits};
+pub use ask::{Ask, copy_asks, suits};
 pub use calls::{Call, Reply, run_calls};
 pub use finding::Finding;
 pub use heaviest::{top, tops_are_heaviest};

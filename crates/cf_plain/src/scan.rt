@@ -5,12 +5,13 @@ ghost use Rattle.std.specs.Ordering.{nat_cmp};
 ghost use Rattle.cf_row.specs.Row.{Fits};
 ghost use Rattle.cf_fold.specs.Quads.{quad_of};
 ghost use Rattle.cf_shape.specs.Lanes.{selected_by, key_of, measure_of};
-ghost use Rattle.cf_plain.specs.Asks.{Suits, SuitsTrigger, FitAll, rows_in, row_at, places, counts_for, is_between, total_over, marks_over, marks_in};
+ghost use Rattle.cf_plain.specs.Asks.{Suits, SuitsTrigger, FitAll, rows_in, row_at, places, counts_for, is_between, total_over, marks_over};
 ghost use Rattle.cf_plain.specs.Groups.{groups, quad_at, as_group};
 ghost use Rattle.cf_plain.specs.Tops.{top_over};
 
-use crate::{Ask, Fired, Group, Marks, Places, top};
-use cf_fold::{Part, Quad, Trigger, fires};
+use crate::segments::marks_of_groups;
+use crate::{Ask, Group, Marks, Places, top};
+use cf_fold::{Part, Quad, Trigger};
 use cf_row::{Entry, Memory, Row, holds};
 use cf_shape::{Shape, key, measure, selects};
 use std::alloc::Global;
@@ -108,7 +109,8 @@ pub(crate) fn marks_of(
     ensures { IfOk result (λ found. found ≡ marks_over shape.now trigger.now (rows_in entries.now)) }
 {
     let grouped = grouped_by(alloc, shape, trigger.agg, entries)?;
-    marked(alloc, trigger, &grouped)
+    let groups = listed(alloc, &grouped)?;
+    Ok(Marks::new(marks_of_groups(alloc, trigger, &groups)?))
 }
 
 // The marks of the lane's heaviest groups.
@@ -175,20 +177,4 @@ fn add_to(grouped: &mut BTreeMap<u64, Quad>, key: u64, value: u32) -> Result<(),
     let before = grouped.get(&key).copied().unwrap_or(Quad::EMPTY);
     grouped.insert(key, before.add(value))?;
     Ok(())
-}
-
-// The groups in which the trigger fires.
-fn marked(alloc: Global, trigger: &Trigger, grouped: &BTreeMap<u64, Quad>) -> Result<Marks, Memory>
-    ensures { IfOk result (λ found. found ≡ marks_in trigger.now grouped.now.entries) }
-{
-    let mut items = Vec::new(alloc);
-    for (key, quad) in grouped {
-        if fires(trigger, quad) {
-            items.push(Fired {
-                bucket: *key,
-                value: trigger.part.of(*quad),
-            })?;
-        }
-    }
-    Ok(Marks::new(items))
 }

@@ -55,7 +55,7 @@ pub fn cell_size(shape: &Shape, lane: u8) -> u8
     requires exists { lane < length shape.now.lanes }
     ensures { result ≡ cell_words (lane_at shape.now lane) }
 {
-    if measures(shape, lane) { 3 } else { 1 }
+    shape.lane(lane).cell_words()
 }
 
 /// How many nibbles the lane's keys have: 2, 4, 8 or 16 for keys of 1, 2, 4 or 8 bytes, and 16 for buckets.

@@ -6,7 +6,8 @@ ghost use Rattle.cf_shape.specs.Nodes.{nibbles_of_kind, nibbles_of_key as nibble
 use crate::Key;
 use cf_row::{Attr, Kind};
 
-fn is_number(kind: Kind) -> bool
+/// Whether the kind is one of numbers.
+pub fn is_number(kind: Kind) -> bool
     ensures { result ≡ is_number_of kind }
 {
     match kind {
@@ -15,7 +16,8 @@ fn is_number(kind: Kind) -> bool
     }
 }
 
-fn is_narrow(kind: Kind) -> bool
+/// Whether the kind is one of numbers below 2^32.
+pub fn is_narrow(kind: Kind) -> bool
     ensures { result ≡ is_narrow_of kind }
 {
     match kind {
@@ -37,8 +39,8 @@ pub(crate) fn is_lawful_key(attrs: &[Attr], key: Key) -> bool
     }
 }
 
-// Whether the measure is none or an attribute with numbers below 2^32.
-pub(crate) fn is_lawful_measure(attrs: &[Attr], measure: Option<u8>) -> bool
+/// Whether the measure is none, or one of the attributes and of numbers below 2^32.
+pub fn is_lawful_measure(attrs: &[Attr], measure: Option<u8>) -> bool
     ensures { result ≡ is_lawful_measure_of attrs.now measure }
 {
     match measure {

@@ -34,7 +34,7 @@ impl Lane {
     }
 
     // How many words the lane's cell has.
-    pub(crate) fn cell_words(&self) -> u64
+    pub(crate) fn cell_words(&self) -> u8
         ensures { result ≡ cell_words_of self.now }
     {
         match self.measure {
@@ -52,12 +52,13 @@ pub(crate) fn cell_count(lanes: &[Lane]) -> u64
 {
     let mut count = 0;
     for lane in lanes {
-        count += lane.cell_words();
+        count += u64::from(lane.cell_words());
     }
     count
 }
 
-pub(crate) fn copies(alloc: Global, lanes: &[Lane]) -> Result<Vec<Lane>, Memory>
+/// Equal lanes.
+pub fn copy_lanes(alloc: Global, lanes: &[Lane]) -> Result<Vec<Lane>, Memory>
     ensures { IfOk result (λ copied. copied.items ≡ lanes.now) }
 {
     let mut copied = Vec::with_capacity(alloc, lanes.len())?;

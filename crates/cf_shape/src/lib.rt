@@ -14,7 +14,8 @@ mod shape;
 mod tests;
 
 pub use keys::{cell_size, key, levels, measure, measures, selects};
-pub use lane::{Key, Lane, belongs};
+pub use kinds::{is_lawful_measure, is_narrow, is_number};
+pub use lane::{Key, Lane, belongs, copy_lanes};
 pub use laws::places_differ;
 pub use places::{
     place_cell, place_child, place_done, place_head, place_label, place_read_tail, place_root,

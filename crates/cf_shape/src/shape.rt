@@ -10,7 +10,7 @@ ghost use Rattle.cf_shape.specs.Faults.{AreLanesOf, HasFault, AreGoodNumbers, Ha
 
 use crate::Lane;
 use crate::kinds::{is_lawful_key, is_lawful_measure};
-use crate::lane::{cell_count, copies};
+use crate::lane::{cell_count, copy_lanes};
 use cf_row::{Memory, Schema, word_count};
 use std::alloc::Global;
 use std::marker::Model;
@@ -43,7 +43,8 @@ impl Model for Shape {
     ghost use Rattle.cf_shape.specs.Uses.{TakesWords};
     ghost use Rattle.cf_shape.specs.Places.{StandsAt};
 
-    ghost invariant = { λ s. IsShape (record { schema = s.schema; lanes = s.lanes.items; capacity = s.capacity; writers = s.writers; nodes = s.nodes; width = s.width }) × TakesWords (record { schema = s.schema; lanes = s.lanes.items; capacity = s.capacity; writers = s.writers; nodes = s.nodes; width = s.width }) s.ticket_words × StandsAt (record { schema = s.schema; lanes = s.lanes.items; capacity = s.capacity; writers = s.writers; nodes = s.nodes; width = s.width }) s.roots s.nodes_from };
+    ghost invariant = { λ s. let value : ShapeValue = record { schema = s.schema; lanes = s.lanes.items; capacity = s.capacity; writers = s.writers; nodes = s.nodes; width = s.width } in
+        IsShape value × TakesWords value s.ticket_words × StandsAt value s.roots s.nodes_from };
 }
 
 /// Why a shape was refused.
@@ -130,7 +131,8 @@ impl Shape {
         width: u64,
     ) -> Result<Shape, ShapeFault>
         requires belong { AreLanesOf schema lanes.items }
-        ensures answer { MatchResult result (λ shape. shape ≡ record { schema = schema; lanes = lanes.items; capacity = capacity; writers = writers; nodes = nodes; width = width }) (HasFault (record { schema = schema; lanes = lanes.items; capacity = capacity; writers = writers; nodes = nodes; width = width })) }
+        ensures answer { MatchResult result (λ shape. shape ≡ record { schema = schema; lanes = lanes.items; capacity = capacity; writers = writers; nodes = nodes; width = width })
+            (HasFault (record { schema = schema; lanes = lanes.items; capacity = capacity; writers = writers; nodes = nodes; width = width })) }
         ensures lawful { IfOk result IsShape }
     {
         check_numbers(lanes.len(), capacity, writers, nodes, width)?;
@@ -176,7 +178,7 @@ impl Shape {
         ensures { IfOk result (λ shape. shape ≡ self.now) }
     {
         let schema = self.schema.copy(alloc)?;
-        let lanes = copies(alloc, &self.lanes)?;
+        let lanes = copy_lanes(alloc, &self.lanes)?;
         Ok(Shape::lawful(
             schema,
             lanes,
