@@ -3,3 +3,4 @@ pub mod Nodes
 pub mod Chains
 pub mod Links
 pub mod Heads
+pub mod Cells
