@@ -10,7 +10,7 @@ use Rattle.cf_shape.specs.Places.WordName.{done}
 use Rattle.cf_words.specs.Words.{Spot}
 use Rattle.cf_law.specs.Passes.{Own, Book, Pass}
 use Rattle.cf_law.specs.Steps.{Holds, Knows}
-use Rattle.cf_table.specs.Values.{PassValue, book_of}
+use Rattle.cf_table.specs.Values.{PassValue, LogValue, IsOf, book_of}
 use Rattle.cf_table.specs.Effects.{HasStepped, take_effect}
 use Rattle.cf_table.specs.Moves.{Begins}
 use Rattle.cf_append.specs.Paths.{KeepsSeen, HasUsed, IsOnPath, LacksNode, HasLeaves, with_nodes}
@@ -54,6 +54,11 @@ IsSettledTo shape offset p q (Behind b) = (length q.seen ≤ offset) × (b ≤ o
 pub record Rests (pass : Pass) : Type 0 where
   pub one : pass.books ≡ book_of pass ∷ []
   pub free : (book_of pass).flight ≡ None
+
+-- the pass is one of the log's, with one book and no ticket in flight
+pub record IsReady (log : LogValue) (pass : PassValue) : Type 0 where
+  pub of : IsOf pass log
+  pub rest : Rests pass.view
 
 -- with that book alone
 abbrev pub with_book : Book → PassValue → PassValue

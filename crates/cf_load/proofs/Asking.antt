@@ -22,7 +22,8 @@ use Rattle.cf_walk.specs.Walks.{OnlyWalked}
 use Rattle.cf_query.proofs.Walking.{walked_seen}
 use Rattle.cf_load.specs.Planned.{IsMarks, as_marks, body_of, marks_on}
 use Rattle.cf_load.specs.Readers.{AreReaders, CanBeAsked, IsQuestion, answer_by, seen_by}
-use Rattle.cf_segments.specs.Readers.{IsReader, Reads, behind, log_of}
+use Rattle.cf_table.specs.Moves.{IsReading}
+use Rattle.cf_segments.specs.Readers.{Reads, behind, log_in}
 use Rattle.cf_segments.specs.Segments.{SegmentsValue, IsSegments, KeepsAll, KeepsSegment, all_of, entries_of, seen_of}
 use Rattle.cf_load.specs.declared.finals.Question.{Question}
 use Rattle.cf_segments.specs.declared.segments.Segment.{Segment}
@@ -30,7 +31,7 @@ use Rattle.cf_segments.proofs.Zips.{zip_at, zip_long, zip_get}
 use Rattle.cf_segments.proofs.Kept.{kept_each}
 
 -- a pass that walked reads the log as before
-pub reader_walked : (log : LogValue) (m n : PassValue) → IsReader log m → OnlyWalked m n → IsReader log n
+pub reader_walked : (log : LogValue) (m n : PassValue) → IsReading log m → OnlyWalked m n → IsReading log n
 reader_walked log m n is walked =
     let seen = walked_seen m n walked in record {
       of = record {
@@ -43,7 +44,7 @@ reader_walked log m n is walked =
 
 -- what reads a segment read it before too, where the segment keeps what it holds
 pub reads_before : (f g : Segment) (r : PassValue) → KeepsSegment f g → Reads g r → Reads f r
-reads_before f g r keeps reads = record { is = subst (λ (l : LogValue). IsReader l r) keeps.log reads.is; seen = reads.seen ∙ keeps.root.seen }
+reads_before f g r keeps reads = record { is = subst (λ (l : LogValue). IsReading l r) keeps.log reads.is; seen = reads.seen ∙ keeps.root.seen }
 
 pub all_before : (fs gs : List Segment) (rs : List PassValue) → AllZip KeepsSegment fs gs → AllZip Reads gs rs → AllZip Reads fs rs
 all_before [] [] rs keeps reads = reads
@@ -59,10 +60,10 @@ all_seen [] (r ∷ rs) reads = absurd reads
 all_seen (g ∷ gs) [] reads = absurd reads
 all_seen (g ∷ gs) (r ∷ rs) reads = ap₂ (λ (es fs : List Entry). es ++ fs) (reads.0).seen (all_seen gs rs reads.1)
 
-module _ (s : SegmentsValue) (is : IsSegments s) (logs : List (Bor LogValue)) (same : map behind logs ≡ map log_of (all_of s)) where
+module _ (s : SegmentsValue) (is : IsSegments s) (logs : List (Bor LogValue)) (same : map behind logs ≡ map log_in (all_of s)) where
   -- there is a log for each segment
   logs_long : length logs ≡ length s.closed + 1
-  logs_long = sym (length-map logs behind) ∙ (ap length same ∙ (length-map (all_of s) log_of ∙ length-append s.closed (s.current ∷ [])))
+  logs_long = sym (length-map logs behind) ∙ (ap length same ∙ (length-map (all_of s) log_in ∙ length-append s.closed (s.current ∷ [])))
 
   -- the log at a place is the segment's
   log_at : (k : ℕ) (l : Bor LogValue) → k < length logs → (get_or logs k l).now ≡ (get_or (all_of s) k s.current).log
@@ -70,7 +71,7 @@ module _ (s : SegmentsValue) (is : IsSegments s) (logs : List (Bor LogValue)) (s
       let long = logs_long in
       let all = length-append s.closed (s.current ∷ []) in
       sym (get_or-map behind logs k l l.now lt)
-      ∙ (ap (λ (ls : List LogValue). get_or ls k l.now) same ∙ get_or-map log_of (all_of s) k s.current l.now (omega (arith, lt, long, all)))
+      ∙ (ap (λ (ls : List LogValue). get_or ls k l.now) same ∙ get_or-map log_in (all_of s) k s.current l.now (omega (arith, lt, long, all)))
 
   -- passes that read the segments read the logs
   logs_read : (rs : List PassValue) → AllZip Reads (all_of s) rs → AreReaders s.shape logs rs
@@ -90,7 +91,7 @@ module _ (s : SegmentsValue) (is : IsSegments s) (logs : List (Bor LogValue)) (s
         few = omega (arith, room, rows, swap);
         shapes = λ k l lt. ap (λ (h : LogValue). h.shape) (log_at k l (within k lt))
             ∙ (is.each k (get_or (all_of s) k s.current) (slice_get-get_or (all_of s) k s.current (all k lt))).shape_is;
-        each = λ k l p lt. subst (λ (h : LogValue). IsReader h (get_or rs k p)) (sym (log_at k l (within k lt)))
+        each = λ k l p lt. subst (λ (h : LogValue). IsReading h (get_or rs k p)) (sym (log_at k l (within k lt)))
             (zip_get Reads (all_of s) rs k s.current p reads lt).is;
       }
 
@@ -139,7 +140,7 @@ all_after [] (g ∷ gs) rs keeps reads = absurd keeps
 all_after (f ∷ fs) [] rs keeps reads = absurd keeps
 all_after (f ∷ fs) (g ∷ gs) [] keeps reads = absurd reads
 all_after (f ∷ fs) (g ∷ gs) (r ∷ rs) keeps reads = (
-  record { is = subst (λ (l : LogValue). IsReader l r) (sym (keeps.0).log) (reads.0).is; seen = (reads.0).seen ∙ sym (keeps.0).root.seen },
+  record { is = subst (λ (l : LogValue). IsReading l r) (sym (keeps.0).log) (reads.0).is; seen = (reads.0).seen ∙ sym (keeps.0).root.seen },
   all_after fs gs rs keeps.1 reads.1,
 )
 

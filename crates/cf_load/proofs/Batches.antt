@@ -6,7 +6,7 @@ use Rattle.std.proofs.lemmas.List.Concat.{flat_map-append}
 use Rattle.std.proofs.lemmas.List.Sums.{fold-append}
 use Rattle.std.proofs.lemmas.Option.{slice_get_within, slice_get-get_or}
 use Rattle.std.specs.List.{All, AllZip, AllByRecursion, flat_map, list_any}
-use Rattle.cf_lemmas.proofs.Lists.{get_back, has_left, has_right}
+use Rattle.cf_lemmas.proofs.Lists.{has_left, has_right}
 use Rattle.cf_row.specs.Row.{RowValue}
 use Rattle.cf_row.specs.declared.row.Entry.{Entry}
 use Rattle.cf_history.specs.Order.{rows_of, written_by}
@@ -18,10 +18,10 @@ use Rattle.cf_law.specs.Steps.{Holds, IsAtRest}
 use Rattle.cf_law.specs.Readers.{mine_from}
 use Rattle.cf_table.specs.Values.{PassValue, LogValue, IsOf, book_of}
 use Rattle.cf_table.specs.Moves.{Begins, AreDealt, AreAll, HasGathered, books_of, told_by}
-use Rattle.cf_table.proofs.Homing.{still_one}
-use Rattle.cf_append.specs.Appends.{Rests}
+use Rattle.cf_table.proofs.Homing.{still_one, book_in}
+use Rattle.cf_append.specs.Appends.{Rests, IsReady}
 use Rattle.cf_segments.specs.Needed.{IsNeeded, IsOut, HasNodes, HasRunOut}
-use Rattle.cf_load.specs.Writing.{rows_of_book, IsReady, RanOut, RunsOut, Wrote}
+use Rattle.cf_load.specs.Writing.{rows_of_book, RanOut, RunsOut, Wrote}
 use Rattle.cf_segments.specs.Loaded.{IsLogFrom, HasLoaded}
 use Rattle.cf_load.specs.Loading.{IsShort}
 use Rattle.cf_segments.proofs.Alls.{all_drop}
@@ -32,15 +32,7 @@ use Rattle.cf_segments.proofs.Nodes.{too_many}
 use Rattle.cf_segments.proofs.Zips.{zip_at, zip_back, zip_long}
 use Rattle.cf_segments.proofs.Loaded.{settled_still}
 use Rattle.cf_history.proofs.Orders.{written_append}
-
--- the rows of a book's tickets are what its writer wrote
-pub mine_rows : (w k : ℕ) (es : List Entry) → map (λ (own : Own). own.row) (mine_from w k es) ≡ written_by w es
-unfolding mine_from
-mine_rows w k [] = refl
-mine_rows w k (e ∷ es) = elim (cases_Bool (e.writer == w)) [
-  | inl own ↦ rw own (ap (λ rs. e.row ∷ rs) (mine_rows w (suc k) es))
-  | inr other ↦ rw other (mine_rows w (suc k) es)
-]
+use Rattle.cf_walk.proofs.Written.{mine_rows, fit_exist}
 
 -- the one book of a pass at rest
 pub only_book : (p : Pass) → Rests p → (j : ℕ) (b : Book) → Holds p j b → b ≡ book_of p
@@ -53,24 +45,6 @@ only_book p rests j b at = one j (ap (λ (bs : List Book). slice_get bs j) (sym 
 -- a pass at rest holds its book
 pub first_book : (p : Pass) → Rests p → Holds p 0 (book_of p)
 first_book p rests = ap (λ (bs : List Book). slice_get bs 0) rests.one
-
--- a pass's book is among those of all
-pub book_in : (passes : List PassValue) (k : ℕ) (h : PassValue) (b : Book) → slice_get passes k ≡ Some h → Holds h.view 0 b → (i : ℕ)
-    × (slice_get (books_of passes) i ≡ Some b)
-unfolding books_of
-book_in [] k h b at holds = absurd (cc at)
-book_in (x ∷ xs) zero h b at holds =
-    let e : x ≡ h = cc at in
-    (0, has_left (x.view).books (books_of xs) 0 b (ap (λ (y : PassValue). slice_get (y.view).books 0) e ∙ holds))
-book_in (x ∷ xs) (suc k) h b at holds =
-    let r = book_in xs k h b at holds in
-    (length (x.view).books + r.0, get_back (x.view).books (books_of xs) r.0 b r.1)
-
--- each entry that was seen is of a writer
-pub fit_exist : (writers : ℕ) (es : List Entry) → ((o : ℕ) (e : Entry) → slice_get es o ≡ Some e → e.writer < writers)
-    → AllByRecursion (λ e. e.writer < writers) es
-fit_exist writers [] each = tt
-fit_exist writers (e ∷ es) each = (each 0 e refl, fit_exist writers es (λ o x at. each (suc o) x at))
 
 -- a pass that was dealt is ready to write
 pub ready_one : (log : LogValue) (first : ℕ) (rows : List RowValue) (m r : PassValue) (passes : List PassValue) → HasLoaded log first rows m

@@ -17,12 +17,12 @@ use Rattle.cf_table.specs.Moves.{Begins}
 use Rattle.cf_table.proofs.Settling.{begins_then}
 use Rattle.cf_words.specs.Words.{Spot}
 use Rattle.cf_append.specs.Paths.{IsOnPath, with_nodes}
-use Rattle.cf_append.specs.Appends.{PassGoesOn, Rests, IsAppended, IsNodesFull, HasAppendAnswer, with_own, with_mark}
+use Rattle.cf_append.specs.Appends.{PassGoesOn, Rests, IsAppended, IsNodesFull, HasAppendAnswer, with_own, with_mark, IsReady}
 use Rattle.cf_append.specs.declared.appends.AppendFault.{AppendFault}
 use Rattle.cf_append.specs.declared.appends.AppendFault.TheVariants.{Full, NodesFull}
 use Rattle.cf_history.specs.Order.{rows_of}
 use Rattle.cf_segments.specs.Needed.{IsNeeded}
-use Rattle.cf_load.specs.Writing.{rows_of_book, IsReady, RanOut, RunsOut, Wrote}
+use Rattle.cf_load.specs.Writing.{rows_of_book, RanOut, RunsOut, Wrote}
 use Rattle.cf_segments.proofs.Pigeons.{in_either}
 use Rattle.cf_segments.proofs.Zips.{zip_append}
 

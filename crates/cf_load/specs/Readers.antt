@@ -9,7 +9,8 @@ use Rattle.cf_plain.specs.Answered.{answer_on}
 use Rattle.cf_plain.specs.declared.answer.Answer.{Answer}
 use Rattle.cf_plain.specs.declared.ask.Ask.{Ask}
 use Rattle.cf_table.specs.Values.{PassValue, LogValue}
-use Rattle.cf_segments.specs.Readers.{IsReader, Reads}
+use Rattle.cf_table.specs.Moves.{IsReading}
+use Rattle.cf_segments.specs.Readers.{Reads}
 use Rattle.cf_segments.specs.Segments.{SegmentsValue, all_of}
 use Rattle.cf_load.specs.declared.finals.Question.{Question}
 
@@ -23,7 +24,7 @@ pub record AreReaders (shape : ShapeValue) (logs : List (Bor LogValue)) (passes 
   pub few : shape.capacity * length passes ≤ 2 ^ 20
   pub shapes : (k : ℕ) (log : Bor LogValue) → k < length passes → ((slice_index_or logs k log).now).shape ≡ shape
   pub each : (k : ℕ) (log : Bor LogValue) (pass : PassValue) → k < length passes
-      → IsReader (slice_index_or logs k log).now (slice_index_or passes k pass)
+      → IsReading (slice_index_or logs k log).now (slice_index_or passes k pass)
 
 -- the question can be asked by its passes of these logs
 pub record CanBeAsked (shape : ShapeValue) (logs : List (Bor LogValue)) (question : Question) : Type 0 where

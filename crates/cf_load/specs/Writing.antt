@@ -14,11 +14,6 @@ use Rattle.cf_segments.specs.Needed.{IsNeeded, IsOut}
 abbrev pub rows_of_book : Book → List RowValue
 rows_of_book b = map (λ own. own.row) b.mine
 
--- the pass is one of the log's, with one book and no ticket in flight
-pub record IsReady (log : LogValue) (pass : PassValue) : Type 0 where
-  pub of : IsOf pass log
-  pub rest : Rests pass.view
-
 -- A writer's pass has appended the first of its rows of a batch whose first row is number `first`, and where the batch is whole all of
 -- them, or its book is marked. The nodes that it used are needed by rows of the batch.
 pub record Wrote (whole : Bool) (log : LogValue) (first : ℕ) (batch : List RowValue) (before after : PassValue) : Type 0 where

@@ -10,7 +10,8 @@ ghost use Rattle.cf_load.specs.Loads.{outcome_of};
 ghost use Rattle.cf_load.specs.Planned.{IsPlan, tails_of};
 ghost use Rattle.cf_load.specs.Priors.{IsFoundBefore, entries_before};
 ghost use Rattle.cf_load.specs.Rounds.{HasAskedAll};
-ghost use Rattle.cf_load.specs.Writing.{IsReady, RanOut, Wrote};
+ghost use Rattle.cf_append.specs.Appends.{IsReady};
+ghost use Rattle.cf_load.specs.Writing.{RanOut, Wrote};
 
 use crate::LoadFault;
 use crate::reader::{Beside, ask_counted};

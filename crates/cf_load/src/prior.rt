@@ -6,7 +6,7 @@ ghost use Rattle.cf_plain.specs.Asks.{Suits};
 ghost use Rattle.cf_plain.specs.Answered.{answer_on};
 ghost use Rattle.cf_plain.specs.Segments.{finding_in};
 ghost use Rattle.cf_table.specs.Values.{IsOf};
-ghost use Rattle.cf_table.specs.Moves.{HoldsAllBooks};
+ghost use Rattle.cf_table.specs.Moves.{HoldsAllBooks, IsReading};
 ghost use Rattle.cf_table.specs.Loads.{CountsLoads};
 ghost use Rattle.cf_walk.specs.Walks.{OnlyWalked};
 ghost use Rattle.cf_query.specs.Asking.{HasAsked};
@@ -14,7 +14,6 @@ ghost use Rattle.cf_query.specs.Walking.{AsksOne, AsksBucket};
 ghost use Rattle.cf_load.specs.Costs.{bucket_steps, key_steps};
 ghost use Rattle.cf_load.specs.Planned.{IsPlan, findings_on};
 ghost use Rattle.cf_load.specs.Priors.{HasFound, IsFoundBefore, entries_before};
-ghost use Rattle.cf_segments.specs.Readers.{IsReader};
 ghost use Rattle.cf_segments.specs.Segments.{Keeps};
 
 use crate::LivePlan;
@@ -93,7 +92,7 @@ pub(crate) fn find_behind<P: Pass, L: Ledger>(
     before: (u32, Finding),
     steps: &mut Steps<L>,
 ) -> Result<(u32, Finding), Memory>
-    requires reader { IsReader log.now (P.held pass.old) }
+    requires reader { IsReading log.now (P.held pass.old) }
     requires suits { Suits log.now.shape ask.now }
     requires few { before.0 + log.now.shape.capacity ≤ 2 ^ 20 }
     requires found { (entries : List Entry) × HasFound log.now.shape ask.now entries before.0 before.1 }

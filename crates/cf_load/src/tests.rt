@@ -5,7 +5,7 @@ ghost use Rattle.cf_law.specs.Readers.{AtHome};
 ghost use Rattle.cf_law.specs.Shapes.{layout};
 ghost use Rattle.cf_table.specs.Moves.{AreAll};
 ghost use Rattle.cf_segments.specs.Segments.{AllowsSegments, HoldsRows};
-ghost use Rattle.cf_load.specs.Writing.{IsReady};
+ghost use Rattle.cf_append.specs.Appends.{IsReady};
 
 use crate::gates::{NoteGate, SecondGate};
 use crate::writers::run_writers;

@@ -3,7 +3,8 @@ ghost use Rattle.std.specs.Prelude.{◌≡◌, ◌+◌, ◌<◌, ◌^◌, All, l
 ghost use Rattle.std.specs.List.{AllZip};
 ghost use Rattle.std.specs.Thread.{IsSync};
 ghost use Rattle.cf_row.specs.Row.{Fits};
-ghost use Rattle.cf_load.specs.Writing.{IsReady, RanOut, RunsOut, Wrote};
+ghost use Rattle.cf_append.specs.Appends.{IsReady};
+ghost use Rattle.cf_load.specs.Writing.{RanOut, RunsOut, Wrote};
 
 use cf_append::{AppendFault, Leaves, append_near};
 use cf_outside::Gate;

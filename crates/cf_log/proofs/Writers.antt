@@ -1,10 +1,8 @@
 -- A log's writers: their passes are dealt, append rows, and come home.
 use Rattle.std.proofs.Common.{◌≡◌, ◌∙◌, ◌+◌, ◌<◌, ◌≤◌, ◌++◌, ◌==◌, get_or, ℕ, zero, suc, List, [], ◌∷◌, length, map, take, drop, Some, slice_get, Ok, Err, inl, inr, refl, ap, sym, arith, append-nil, append_assoc}
-use Rattle.std.proofs.lemmas.Bool.{cases_Bool}
 use Rattle.std.proofs.lemmas.List.{drop_all, map-append, take-append-drop}
 use Rattle.std.proofs.lemmas.Option.{slice_get_within}
 use Rattle.std.specs.List.{AllByRecursion}
-use Rattle.cf_lemmas.proofs.Lists.{get_back, has_left}
 use Rattle.cf_row.specs.Row.{RowValue}
 use Rattle.cf_row.specs.declared.row.Entry.{Entry}
 use Rattle.cf_shape.specs.Lanes.{ShapeValue}
@@ -27,6 +25,8 @@ use Rattle.cf_log.specs.Appended.{HasAppended}
 use Rattle.cf_log.specs.Writers.{rows_by, IsWriter, AreWriters, IsOpened, AppendsRows, HasJoined}
 use Rattle.cf_log.specs.declared.passes.Opened.{Opened}
 use Rattle.cf_log.proofs.Chained.{took_more}
+use Rattle.cf_table.proofs.Homing.{book_in, some_at}
+use Rattle.cf_walk.proofs.Written.{mine_rows, fit_exist}
 
 -- the rows of a book's tickets
 abbrev pub rows_in_book : Book → List RowValue
@@ -141,12 +141,6 @@ goes_refused log rows m n p i f row goes at done = record {
   refused = (n, row, drop (suc i) rows, next_left rows i row at, done);
 }
 
--- The passes come home.
-some_at : (hs : List PassValue) (k : ℕ) → k < length hs → (h : PassValue) × (slice_get hs k ≡ Some h)
-some_at [] k lt = absurd (omega (arith, lt))
-some_at (h ∷ hs) zero lt = (h, refl)
-some_at (h ∷ hs) (suc k) lt = some_at hs k (omega (arith, lt))
-
 pub all_writers : (log : LogValue) (hs : List PassValue) → AreWriters log hs → AreAll log hs
 all_writers log hs are = record {
   of = λ k h at. (are.each k h at).of;
@@ -157,31 +151,6 @@ all_writers log hs are = record {
       let is = are.each w there.0 there.1 in
       (w, there.0, 0, book_of (there.0).view, there.1, book_first (there.0).view is.rest, is.writer_is);
 }
-
--- a pass's book is among those of all
-book_in : (passes : List PassValue) (k : ℕ) (h : PassValue) (b : Book) → slice_get passes k ≡ Some h → Holds h.view 0 b → (i : ℕ)
-    × (slice_get (books_of passes) i ≡ Some b)
-unfolding books_of
-book_in [] k h b at holds = absurd (cc at)
-book_in (x ∷ xs) zero h b at holds =
-    let e : x ≡ h = cc at in
-    (0, has_left (x.view).books (books_of xs) 0 b (ap (λ (y : PassValue). slice_get (y.view).books 0) e ∙ holds))
-book_in (x ∷ xs) (suc k) h b at holds =
-    let r = book_in xs k h b at holds in
-    (length (x.view).books + r.0, get_back (x.view).books (books_of xs) r.0 b r.1)
-
-mine_rows : (w k : ℕ) (es : List Entry) → map (λ (own : Own). own.row) (mine_from w k es) ≡ written_by w es
-unfolding mine_from
-mine_rows w k [] = refl
-mine_rows w k (e ∷ es) = elim (cases_Bool (e.writer == w)) [
-  | inl own ↦ rw own (ap (λ rs. e.row ∷ rs) (mine_rows w (suc k) es))
-  | inr other ↦ rw other (mine_rows w (suc k) es)
-]
-
-fit_exist : (writers : ℕ) (es : List Entry) → ((o : ℕ) (e : Entry) → slice_get es o ≡ Some e → e.writer < writers)
-    → AllByRecursion (λ e. e.writer < writers) es
-fit_exist writers [] each = tt
-fit_exist writers (e ∷ es) each = (each 0 e refl, fit_exist writers es (λ o x at. each (suc o) x at))
 
 pub joined : (log : LogValue) (m n : PassValue) (hs : List PassValue) → IsOf m log → AreWriters log hs → HasGathered log.shape m hs n → HasJoined log m hs n
 joined log m n hs of are gathered = record {

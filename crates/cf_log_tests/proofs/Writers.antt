@@ -19,6 +19,7 @@ use Rattle.cf_append.proofs.Appending.{rests_by, rests_all}
 use Rattle.cf_append.proofs.Answering.{of_then, rests_same, same_writer}
 use Rattle.cf_query.specs.Asking.{HasAsked}
 use Rattle.cf_log_tests.specs.Writers.{IsWriters, AreDealtOut, AreWritersFrom}
+use Rattle.cf_table.proofs.Homing.{some_at}
 
 -- All books are dealt.
 dealt_at : (log : LogValue) (m n : PassValue) (hs : List PassValue) (k : ℕ) (h : PassValue) → m.view ≡ root_pass log.shape → AreDealt log m hs n
@@ -157,11 +158,6 @@ from_push log n (y ∷ ys) x all last zero h at = all 0 h at
 from_push log n (y ∷ ys) x all last (suc k) h at =
     subst (λ (w : ℕ). IsWriters log w h) (omega arith)
     (from_push log (n + 1) ys x (from_rest log n y ys all) (subst (λ (w : ℕ). IsWriters log w x) (omega arith) last) k h at)
-
-some_at : (hs : List PassValue) (k : ℕ) → k < length hs → (h : PassValue) × (slice_get hs k ≡ Some h)
-some_at [] k lt = absurd (omega (arith, lt))
-some_at (h ∷ hs) zero lt = (h, refl)
-some_at (h ∷ hs) (suc k) lt = some_at hs k (omega (arith, lt))
 
 pub all_from : (log : LogValue) (hs : List PassValue) → length hs ≡ (log.shape).writers → AreWritersFrom log 0 hs → AreAll log hs
 all_from log hs count all = record {

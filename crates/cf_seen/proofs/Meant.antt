@@ -1,5 +1,5 @@
 -- The answers are meant, and make a report.
-use Rattle.std.proofs.Common.{◌≡◌, ◌∙◌, ◌≤◌, ℕ, List, Some, length, slice_get, ap, refl, sym, subst}
+use Rattle.std.proofs.Common.{◌≡◌, ◌∙◌, ◌≤◌, ℕ, List, length, slice_get, ap, refl, sym, subst}
 use Rattle.cf_row.specs.declared.row.Entry.{Entry}
 use Rattle.cf_shape.specs.Lanes.{ShapeValue}
 use Rattle.cf_setup.specs.Setups.{IsSetup, SetupValue}
@@ -12,7 +12,8 @@ use Rattle.cf_report.proofs.Answering.{are_answering}
 use Rattle.cf_report.proofs.Bare.{bare_long}
 use Rattle.cf_report.proofs.Legal.{report_history}
 use Rattle.cf_report.proofs.Reported.{meant_alone}
-use Rattle.cf_seen.specs.Seen.{IsReading, SeenReportsAreHistories, answered_on}
+use Rattle.cf_table.specs.Moves.{IsReading}
+use Rattle.cf_seen.specs.Seen.{SeenReportsAreHistories, answered_on}
 
 meant : (setup : SetupValue) (shape : ShapeValue) (log : List Entry) → AreMeant setup shape 0 log (answered_on shape setup log)
 meant setup shape log = meant_alone setup shape log (answered_on shape setup log) refl refl refl

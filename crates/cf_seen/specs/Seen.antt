@@ -13,12 +13,6 @@ use Rattle.cf_report.specs.Meaning.{alerts_on, passes_of}
 use Rattle.cf_report.specs.Text.{text_of}
 use Rattle.cf_report.specs.declared.text.Form.TheVariants.{Whole}
 
--- the pass is one of the log's, and what it has seen are entries that the log may have
-pub record IsReading (log : LogValue) (pass : PassValue) : Type 0 where
-  pub of : IsOf pass log
-  pub few : length (pass.view).seen ≤ log.shape.capacity
-  pub fit : AreFit log.shape pass.view
-
 -- what each question and each trigger of the setup means on these entries; none was asked live
 abbrev pub answered_on : ShapeValue → SetupValue → List Entry → LoadedValue
 answered_on shape setup log = record { finals = map (answer_on shape log) setup.asks; alerts = alerts_on shape setup (rows_in log); lives = [] }

@@ -3,9 +3,8 @@ ghost use Rattle.std.specs.Prelude.{◌≡◌, ◌≤◌, All, length, map, IfOk
 ghost use Rattle.cf_plain.specs.Asks.{Suits, SuitsTrigger, marks_over, rows_in};
 ghost use Rattle.cf_plain.specs.Answered.{answer_on};
 ghost use Rattle.cf_table.specs.Values.{IsOf};
-ghost use Rattle.cf_table.specs.Moves.{AreFit};
+ghost use Rattle.cf_table.specs.Moves.{AreFit, IsReading};
 ghost use Rattle.cf_walk.specs.Walks.{OnlyWalked};
-ghost use Rattle.cf_seen.specs.Seen.{IsReading};
 
 use cf_fold::Trigger;
 use cf_log::ask_seen;

@@ -3,7 +3,8 @@ ghost use Rattle.std.specs.Prelude.{◌≡◌, All, IfOk};
 ghost use Rattle.cf_plain.specs.Asks.{Suits, SuitsTrigger};
 ghost use Rattle.cf_setup.specs.Setups.{IsSetup};
 ghost use Rattle.cf_walk.specs.Walks.{OnlyWalked};
-ghost use Rattle.cf_seen.specs.Seen.{IsReading, answered_on, seen_text};
+ghost use Rattle.cf_table.specs.Moves.{IsReading};
+ghost use Rattle.cf_seen.specs.Seen.{answered_on, seen_text};
 
 use crate::answers::{alerts_seen, answers_seen};
 use crate::tags::tags_seen;

@@ -2,7 +2,7 @@
 ghost use Rattle.std.specs.Prelude.{◌≡◌, ◌∷◌, [], ◌++◌, All, map, IfOk};
 ghost use Rattle.std.specs.List.{AllZip};
 ghost use Rattle.cf_shape.specs.Lanes.{ShapeValue};
-ghost use Rattle.cf_segments.specs.Readers.{Reads, behind, log_of};
+ghost use Rattle.cf_segments.specs.Readers.{Reads, behind, log_in};
 ghost use Rattle.cf_segments.specs.Segments.{IsSegment, IsSegments, KeepsAll, KeepsSegment, all_of};
 
 use crate::Segments;
@@ -61,7 +61,7 @@ impl Segments {
 
     /// The logs of all segments, in order.
     pub fn logs<'a>(&'a self, alloc: Global) -> Result<Vec<&'a MultiLog>, Memory>
-        ensures logs { IfOk result (λ logs. map behind logs.items ≡ map log_of (all_of self.now)) }
+        ensures logs { IfOk result (λ logs. map behind logs.items ≡ map log_in (all_of self.now)) }
         ensures lawful { IsSegments self.now }
     {
         let mut logs = Vec::new(alloc);

@@ -8,14 +8,13 @@ use Rattle.cf_law.specs.Passes.{Pass}
 use Rattle.cf_law.specs.Steps.{new_pass}
 use Rattle.cf_plain.specs.Asks.{row_at, rows_in}
 use Rattle.cf_table.specs.Values.{PassValue, LogValue, IsOf}
-use Rattle.cf_table.specs.Moves.{AreFit, OnlyLooked}
+use Rattle.cf_table.specs.Moves.{AreFit, OnlyLooked, IsReading}
 use Rattle.cf_walk.specs.Walks.{OnlyWalked}
 use Rattle.cf_query.specs.Asking.{HasAsked}
 use Rattle.cf_query.proofs.Loaded.{no_entry, entry_fits, row_is}
 use Rattle.cf_query.proofs.Walking.{walked_looked}
-use Rattle.cf_store.specs.Parts.{IsAware}
 
-pub new_aware : (log : LogValue) (n : PassValue) → IsOf n log → n.view ≡ new_pass [] [] → IsAware log n
+pub new_aware : (log : LogValue) (n : PassValue) → IsOf n log → n.view ≡ new_pass [] [] → IsReading log n
 new_aware log n of is =
     let none : (n.view).seen ≡ [] = ap (λ (p : Pass). p.seen) is in
     record {
@@ -24,14 +23,14 @@ new_aware log n of is =
       fit = λ o e at. absurd (cc (ap (λ (es : List Entry). slice_get es o) (sym none) ∙ at));
     }
 
-pub asked_aware : (log : LogValue) (m n : PassValue) → IsOf m log → HasAsked log.shape m n → IsAware log n
+pub asked_aware : (log : LogValue) (m n : PassValue) → IsOf m log → HasAsked log.shape m n → IsReading log n
 asked_aware log m n of asked = record {
   of = record { table = ap (λ (h : PassValue). h.table) asked.same ∙ of.table; nodes = ap (λ (h : PassValue). h.nodes) asked.same ∙ of.nodes };
   few = asked.few;
   fit = asked.fit;
 }
 
-pub walked_aware : (log : LogValue) (m n : PassValue) → IsAware log m → OnlyWalked m n → IsAware log n
+pub walked_aware : (log : LogValue) (m n : PassValue) → IsReading log m → OnlyWalked m n → IsReading log n
 walked_aware log m n aware walked =
     let seen : (n.view).seen ≡ (m.view).seen = ap (λ (h : PassValue). (h.view).seen) walked.same in
     record {
@@ -43,7 +42,7 @@ walked_aware log m n aware walked =
       fit = λ o e at. aware.fit o e (ap (λ (es : List Entry). slice_get es o) (sym seen) ∙ at);
     }
 
-pub looked_aware : (log : LogValue) (m n : PassValue) → IsAware log m → OnlyLooked m n → IsAware log n
+pub looked_aware : (log : LogValue) (m n : PassValue) → IsReading log m → OnlyLooked m n → IsReading log n
 looked_aware log m n aware looked = walked_aware log m n aware (walked_looked m n looked)
 
 -- the row of a record that was seen fits

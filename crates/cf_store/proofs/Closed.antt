@@ -11,13 +11,14 @@ use Rattle.cf_law.specs.Passes.{Book, Pass}
 use Rattle.cf_law.specs.Steps.{Holds, new_pass}
 use Rattle.cf_shape.specs.Lanes.{ShapeValue}
 use Rattle.cf_table.specs.Values.{IsOf, LogValue, PassValue, book_of}
-use Rattle.cf_table.specs.Moves.{AreAll, HasGathered}
+use Rattle.cf_table.specs.Moves.{AreAll, HasGathered, IsReading}
 use Rattle.cf_append.proofs.Appending.{rests_all}
 use Rattle.cf_home.specs.Homes.{AreAtHome, Comes, HaveLooked, IsHome, Keeps, PlaceValue, home_at, some_pass}
-use Rattle.cf_seen.specs.Seen.{IsReading, seen_text}
+use Rattle.cf_seen.specs.Seen.{seen_text}
 use Rattle.cf_store.specs.Closes.{IsClosed, IsEnd}
 use Rattle.cf_store.specs.Opens.{IsLogWith}
-use Rattle.cf_store.specs.Parts.{AreNumbered, IsAware, IsPlaceOf, IsReady}
+use Rattle.cf_append.specs.Appends.{IsReady}
+use Rattle.cf_store.specs.Parts.{AreNumbered, IsPlaceOf}
 use Rattle.cf_store.specs.Reports.{HasWalked, Reports}
 use Rattle.cf_store.specs.declared.held.Log.{Log}
 use Rattle.cf_store.specs.declared.held.Reader.{Reader}
@@ -25,7 +26,7 @@ use Rattle.cf_store.specs.declared.held.Shared.{Shared}
 use Rattle.cf_store.proofs.Homeward.{placed_at}
 use Rattle.cf_store.proofs.Taken.{keeps_all, looked_comes}
 
-pub reading : (log : LogValue) (pass : PassValue) → IsAware log pass → IsReading log pass
+pub reading : (log : LogValue) (pass : PassValue) → IsReading log pass → IsReading log pass
 reading log pass aware = record { of = aware.of; few = aware.few; fit = aware.fit }
 
 pub reported : (m n : Reader) (r : Result (Vec ℕ Global) AllocError) → HasWalked m n
@@ -85,7 +86,7 @@ all_home log ps hs placed numbered home = record {
 
 -- a pass that has seen what the root has gathered
 pub gathered_aware : (log : LogValue) (m root n : PassValue) (hs : List PassValue) → HasGathered log.shape m hs root → IsOf n log
-    → n.view ≡ new_pass [] (root.view).seen → IsAware log n
+    → n.view ≡ new_pass [] (root.view).seen → IsReading log n
 gathered_aware log m root n hs gathered of is =
     let seen : (n.view).seen ≡ (root.view).seen = ap (λ (p : Pass). p.seen) is in
     record {

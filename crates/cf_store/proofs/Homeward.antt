@@ -8,7 +8,8 @@ use Rattle.cf_append.specs.declared.appends.AppendFault.{AppendFault}
 use Rattle.cf_append.proofs.Answering.{same_writer}
 use Rattle.cf_log.specs.Appended.{HasAppended}
 use Rattle.cf_home.specs.Homes.{Comes, HasLooked, HaveLooked, IsSuccessor, MayCome, PlaceValue, at_home}
-use Rattle.cf_store.specs.Parts.{IsPlaceOf, IsReady}
+use Rattle.cf_append.specs.Appends.{IsReady}
+use Rattle.cf_store.specs.Parts.{IsPlaceOf}
 
 -- a pass may come home as before when it has appended
 pub may_still : (shape : ShapeValue) (row : RowValue) (m n : PassValue) (r : Result ℕ AppendFault) (way way' : List PassValue) → way' ≡ way → MayCome way m

@@ -16,7 +16,7 @@ use Rattle.cf_setup.specs.Reading.{Answers}
 use Rattle.cf_setup.specs.declared.parse.SetupFault.{SetupFault}
 use Rattle.cf_setup.specs.declared.parse.SetupFault.TheVariants.{Bad, Memory as FaultMemory}
 use Rattle.std.specs.Arc.{arc_value}
-use Rattle.cf_store.specs.Parts.{IsReady}
+use Rattle.cf_append.specs.Appends.{IsReady}
 use Rattle.cf_store.specs.Opens.{BySetup, IsNew, refusal_by, sized}
 use Rattle.cf_store.specs.declared.held.Log.{Log}
 use Rattle.cf_store.specs.declared.held.Shared.{Shared}

@@ -2,19 +2,8 @@
 use Rattle.std.specs.Prelude.{◌≡◌, ◌≤◌, ℕ, List, Some, None, length, slice_get}
 use Rattle.cf_table.specs.Values.{PassValue, LogValue, IsOf, book_of}
 use Rattle.cf_table.specs.Moves.{AreFit}
-use Rattle.cf_append.specs.Appends.{Rests}
+use Rattle.cf_append.specs.Appends.{Rests, IsReady}
 use Rattle.cf_home.specs.Homes.{PlaceValue}
-
--- the pass is one of the log's, with one book and no ticket in flight
-pub record IsReady (log : LogValue) (pass : PassValue) : Type 0 where
-  pub of : IsOf pass log
-  pub rest : Rests pass.view
-
--- the pass is one of the log's, and what it has seen are records that the log may have
-pub record IsAware (log : LogValue) (pass : PassValue) : Type 0 where
-  pub of : IsOf pass log
-  pub few : length (pass.view).seen ≤ log.shape.capacity
-  pub fit : AreFit log.shape pass.view
 
 -- the place is that of a writer of the log: its pass is ready, or it was taken from there
 pub record IsPlaceOf (log : LogValue) (place : PlaceValue) : Type 0 where

@@ -6,7 +6,7 @@ ghost use Rattle.std.specs.Result.{result_map_both};
 ghost use Rattle.cf_home.specs.Homes.{HaveLooked, IsHome};
 ghost use Rattle.cf_store.specs.Closes.{Closes, IsEnd, IsTaken};
 ghost use Rattle.cf_store.specs.Opens.{IsLogWith};
-ghost use Rattle.cf_store.specs.Parts.{IsAware};
+ghost use Rattle.cf_table.specs.Moves.{IsReading};
 
 use crate::held::{Log, Reader};
 use cf_calls::CloseRefusal;
@@ -29,7 +29,7 @@ impl Log {
     fn into_last(self, mut passes: Vec<WriterPass>) -> ReaderPass
         requires home { All IsHome self.places.items }
         requires room { (passes.items ≡ []) × (length self.places.items ≤ vec_capacity passes) }
-        ensures aware { IsAware (arc_value self.of).log result }
+        ensures aware { IsReading (arc_value self.of).log result }
         ensures end { IsEnd self result }
     {
         let Log {

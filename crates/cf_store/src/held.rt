@@ -6,7 +6,9 @@ ghost use Rattle.cf_law.specs.Steps.{new_pass};
 ghost use Rattle.cf_table.specs.Values.{IsOf};
 ghost use Rattle.cf_plain.specs.Asks.{suits_of, suits_trigger};
 ghost use Rattle.cf_home.specs.Homes.{MayCome};
-ghost use Rattle.cf_store.specs.Parts.{AreNumbered, IsReady, IsAware, IsPlaceOf};
+ghost use Rattle.cf_table.specs.Moves.{IsReading};
+ghost use Rattle.cf_append.specs.Appends.{IsReady};
+ghost use Rattle.cf_store.specs.Parts.{AreNumbered, IsPlaceOf};
 
 use cf_home::{Place, Way};
 use cf_setup::Setup;
@@ -71,5 +73,5 @@ pub struct Reader {
     pub(crate) of: Arc<Shared>,
     pub(crate) pass: ReaderPass,
     pub(crate) words: Vec<u64>,
-    ghost aware: { IsAware (arc_value of).log pass },
+    ghost aware: { IsReading (arc_value of).log pass },
 }

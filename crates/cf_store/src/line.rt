@@ -1,7 +1,7 @@
 // The question that a line says, behind the text of a setup.
 ghost use Rattle.std.specs.Prelude.{◌≡◌, ◌++◌, ◌∷◌, IfOk, MatchOption, Ok};
 ghost use Rattle.cf_setup.specs.SetupText.{SetupText};
-ghost use Rattle.cf_store.specs.Parts.{IsAware};
+ghost use Rattle.cf_table.specs.Moves.{IsReading};
 ghost use Rattle.cf_store.specs.Asks.{AnswersLine, AsksLine, IsNewQuestion, ReadsLine, with_line as with_line_of};
 
 use crate::held::{Reader, Shared};
@@ -57,9 +57,9 @@ fn ask_line_of(
     pass: &mut ReaderPass,
     line: &[u8],
 ) -> Result<Answer, LineRefusal>
-    requires { IsAware shared.now.log pass.old }
+    requires { IsReading shared.now.log pass.old }
     ensures answers { AnswersLine shared.now line.now pass.old pass.new result }
-    ensures aware { IsAware shared.now.log pass.new }
+    ensures aware { IsReading shared.now.log pass.new }
 {
     if line.contains(&10) {
         return Err(LineRefusal::NoQuestion);

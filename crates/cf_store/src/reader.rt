@@ -3,7 +3,7 @@ ghost use Rattle.std.specs.Prelude.{◌≡◌, ◌<◌, [], ◌∷◌, length, m
 ghost use Rattle.std.specs.List.{flat_map};
 ghost use Rattle.std.specs.Arc.{arc_value};
 ghost use Rattle.cf_plain.specs.Groups.{pair_of};
-ghost use Rattle.cf_store.specs.Parts.{IsAware};
+ghost use Rattle.cf_table.specs.Moves.{IsReading};
 ghost use Rattle.cf_calls.specs.declared.refusals.AskRefusal.TheVariants.{Memory};
 ghost use Rattle.cf_store.specs.Asks.{Answers, AnswersSeen, AsksAt, AsksSeen, AsksTail, FindsGroups, IsMeasured, IsTold, ReadsRow, ShowsRowAt, TellsGroups, groups_words, mark_words as mark_words_of, body_words as body_words_of, body_kind as body_kind_of};
 ghost use Rattle.cf_store.specs.Reports.{Reports};
@@ -92,9 +92,9 @@ fn ask_of(
     pass: &mut ReaderPass,
     q: u32,
 ) -> Result<Answer, AskRefusal>
-    requires { IsAware shared.now.log pass.old }
+    requires { IsReading shared.now.log pass.old }
     ensures answers { Answers shared.now q pass.old pass.new result }
-    ensures aware { IsAware shared.now.log pass.new }
+    ensures aware { IsReading shared.now.log pass.new }
 {
     let Some(question) = shared.setup.asks().get(q as usize) else {
         return Err(AskRefusal::NoQuestion);
@@ -112,9 +112,9 @@ fn ask_seen_of(
     pass: &mut ReaderPass,
     q: u32,
 ) -> Result<Answer, AskRefusal>
-    requires { IsAware shared.now.log pass.old }
+    requires { IsReading shared.now.log pass.old }
     ensures answers { AnswersSeen shared.now q pass.old pass.new result }
-    ensures aware { IsAware shared.now.log pass.new }
+    ensures aware { IsReading shared.now.log pass.new }
 {
     let asks = shared.setup.asks();
     let Some(question) = asks.get(q as usize) else {
@@ -144,9 +144,9 @@ fn groups_of(
     pass: &mut ReaderPass,
     lane: u32,
 ) -> Result<Vec<u64>, LaneRefusal>
-    requires { IsAware shared.now.log pass.old }
+    requires { IsReading shared.now.log pass.old }
     ensures found { FindsGroups shared.now lane pass.old pass.new result }
-    ensures aware { IsAware shared.now.log pass.new }
+    ensures aware { IsReading shared.now.log pass.new }
 {
     let Some(lane) = measured(shared, lane) else {
         return Err(LaneRefusal::NoLane);

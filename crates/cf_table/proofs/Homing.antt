@@ -175,3 +175,21 @@ dealt_all log m n passes settled dealt = record {
         let d = dealt.each k h at in
         let same : d.book ≡ r.1 = (let f : Some d.book ≡ Some r.1 = sym d.at ∙ r.2 in cc f) in
         (k, h, 0, d.book, at, ap (λ (p : Pass). slice_get p.books 0) d.view, ap (λ (c : Book). c.writer) same ∙ r.3)
+
+-- a place of the list has a pass
+pub some_at : (hs : List PassValue) (k : ℕ) → k < length hs → (h : PassValue) × (slice_get hs k ≡ Some h)
+some_at [] k lt = absurd (omega (arith, lt))
+some_at (h ∷ hs) zero lt = (h, refl)
+some_at (h ∷ hs) (suc k) lt = some_at hs k (omega (arith, lt))
+
+-- a pass's book is among those of all
+pub book_in : (passes : List PassValue) (k : ℕ) (h : PassValue) (b : Book) → slice_get passes k ≡ Some h → Holds h.view 0 b → (i : ℕ)
+    × (slice_get (books_of passes) i ≡ Some b)
+unfolding books_of
+book_in [] k h b at holds = absurd (cc at)
+book_in (x ∷ xs) zero h b at holds =
+    let e : x ≡ h = cc at in
+    (0, has_left (x.view).books (books_of xs) 0 b (ap (λ (y : PassValue). slice_get (y.view).books 0) e ∙ holds))
+book_in (x ∷ xs) (suc k) h b at holds =
+    let r = book_in xs k h b at holds in
+    (length (x.view).books + r.0, get_back (x.view).books (books_of xs) r.0 b r.1)

@@ -92,6 +92,12 @@ tickets_in (b ∷ bs) = length b.mine + tickets_in bs
 abbrev pub AreFit : ShapeValue → Pass → Type 0
 AreFit shape p = (o : ℕ) (e : Entry) → slice_get p.seen o ≡ Some e → IsFit (layout shape) e
 
+-- the pass is one of the log's, and what it has seen are entries that the log may have
+pub record IsReading (log : LogValue) (pass : PassValue) : Type 0 where
+  pub of : IsOf pass log
+  pub few : length (pass.view).seen ≤ (log.shape).capacity
+  pub fit : AreFit log.shape pass.view
+
 -- a book is marked only where all places are taken
 abbrev pub MarkedIsFull : ShapeValue → Pass → Type 0
 MarkedIsFull shape p = (k : ℕ) (b : Book) → Holds p k b → b.over ≡ true → length p.seen ≡ shape.capacity

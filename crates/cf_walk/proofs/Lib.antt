@@ -9,3 +9,4 @@ pub mod Versions
 pub mod Measured
 pub mod Grouping
 pub mod Paths
+pub mod Written

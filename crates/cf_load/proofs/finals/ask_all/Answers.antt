@@ -8,7 +8,7 @@ use Rattle.cf_table.specs.Values.{LogValue, PassValue}
 use Rattle.cf_walk.specs.Walks.{OnlyWalked}
 use Rattle.cf_load.specs.Costs.{bucket_steps, key_steps}
 use Rattle.cf_load.specs.Priors.{HasFound}
-use Rattle.cf_segments.specs.Readers.{IsReader}
+use Rattle.cf_table.specs.Moves.{IsReading}
 use Rattle.cf_load.specs.Readers.{seen_by}
 use Rattle.cf_load.proofs.Costs.{costs_more, loads_more}
 use Rattle.cf_segments.proofs.Changing.{changed_at, changed_long, changed_more}
@@ -27,8 +27,8 @@ find_behind-requires-clause-reader g c =
     let same : get_or old c.loop-reader.place d ≡ get_or now i d =
     ap (λ (k : ℕ). get_or old k d) place ∙ sym (changed_at OnlyWalked i old now d v.walked) in
     let log = c.index-logs-place.result in
-    subst (IsReader log.now) same
-    (subst (λ (b : Bor LogValue). IsReader b.now (get_or old c.loop-reader.place d)) (sym c.index-logs-place.is)
+    subst (IsReading log.now) same
+    (subst (λ (b : Bor LogValue). IsReading b.now (get_or old c.loop-reader.place d)) (sym c.index-logs-place.is)
     (c.requires.readers.each c.loop-reader.place log d (omega (arith, place, there))))
 
 pub loop-reader-preserved : goal.loop-reader-preserved

@@ -1,6 +1,6 @@
 use Rattle.std.proofs.Common.{◌≡◌, map, take}
-use Rattle.cf_segments.specs.Readers.{behind, log_of}
+use Rattle.cf_segments.specs.Readers.{behind, log_in}
 use Rattle.cf_segments.proofs.segments.Segments.logs.Given as goal
 
 abbrev pub invariant-loop-segment : goal.invariant-loop-segment
-invariant-loop-segment l = record { logs : map behind l.logs.items ≡ map log_of (take l.segment-index (l.self).closed) }
+invariant-loop-segment l = record { logs : map behind l.logs.items ≡ map log_in (take l.segment-index (l.self).closed) }

@@ -2,7 +2,8 @@ use Rattle.std.proofs.Common.{◌≡◌, ◌∙◌, All, ◌∷◌, [], Some, No
 use Rattle.std.specs.Arc.{arc_value}
 use Rattle.std.proofs.lemmas.Option.{slice_get_within}
 use Rattle.cf_home.specs.Homes.{PlaceValue}
-use Rattle.cf_store.specs.Parts.{AreNumbered, IsOfWriter, IsPlaceOf, IsReady}
+use Rattle.cf_append.specs.Appends.{IsReady}
+use Rattle.cf_store.specs.Parts.{AreNumbered, IsOfWriter, IsPlaceOf}
 use Rattle.cf_store.specs.declared.held.Shared.{Shared}
 use Rattle.cf_store.specs.declared.held.Writer.{Writer}
 use Rattle.cf_store.proofs.Homeward.{away_placed, home_placed, may_first, placed_at, set_placed}
