@@ -1,7 +1,8 @@
 // Which questions go by the log, and which by scans.
 ghost use Rattle.std.specs.Prelude.{◌≡◌, ◌<◌, ◌≤◌, nat_eq, true, length, All, IfOk};
 ghost use Rattle.std.specs.List.{position};
-ghost use Rattle.cf_scan.specs.Split.{IsSplit, is_scan as is_scan_of, is_one_of as is_one_of_these, goes_by_log as goes_by_log_of, logged_places as logged_places_of, asks_at as asks_at_these, numbers_at};
+ghost use Rattle.cf_scan.specs.Split.{IsSplit, is_scan as is_scan_of, is_one_of as is_one_of_these, numbers_at};
+ghost use Rattle.cf_scan.specs.Split.{goes_by_log as goes_by_log_of, logged_places as logged_places_of, asks_at as asks_at_these};
 
 use cf_plain::Ask;
 use cf_row::Memory;

@@ -1,5 +1,4 @@
-ghost use Rattle.std.specs.Prelude.{◌≡◌, ◌↔◌, IsTrue, slice_get};
-ghost use Rattle.cf_shape.specs.Lanes.{option_passes, is_narrow as is_narrow_kind};
+ghost use Rattle.std.specs.Prelude.{◌↔◌, IsTrue};
 ghost use Rattle.cf_scan.specs.Scans.{FitAll};
 
 use super::*;
@@ -9,6 +8,7 @@ use cf_row::{
     Atom, Attr, Conjunction, Entry, Expr, Kind, Memory, Name, Op, Row, Schema, Value, fits,
     is_of_schema,
 };
+use cf_shape::is_lawful_measure;
 use std::alloc::Global;
 use std::process::Abort;
 use std::test::Fail;
@@ -57,18 +57,6 @@ fn all_fit(schema: &Schema, entries: &[Entry]) -> bool
     entries.iter().all(|entry| fits(schema, &entry.row))
 }
 
-fn is_narrow(schema: &Schema, attr: u8) -> bool
-    ensures { result ≡ option_passes is_narrow_kind (slice_get schema.now attr) }
-{
-    match schema.attrs().get(attr as usize) {
-        Some(attr) => match attr.kind {
-            Kind::U8 | Kind::U16 | Kind::U32 => true,
-            _ => false,
-        },
-        None => false,
-    }
-}
-
 // The places of the short entries, and the quad of that attribute over them.
 fn scans<R: Threads + Sync + Abort>(
     rt: &R,
@@ -80,7 +68,7 @@ fn scans<R: Threads + Sync + Abort>(
     let short = short(alloc)?;
     assert!(rt; all_fit(&schema, entries));
     assert!(rt; is_of_schema(&schema, &short));
-    assert!(rt; is_narrow(&schema, attr));
+    assert!(rt; is_lawful_measure(schema.attrs(), Some(attr)));
     assert!(rt; entries.len() <= 1 << 20);
     let places = scan(rt, alloc, &schema, &short, entries)?;
     let total = scan_total(rt, alloc, &schema, attr, &short, entries)?;
