@@ -7,8 +7,9 @@ use Rattle.std.proofs.lemmas.Bool.{cases_eq, cases_lt}
 use Rattle.std.proofs.lemmas.Option.{slice_get_within}
 use Rattle.cf_shape.specs.Places.{Slot, place}
 use Rattle.cf_shape.specs.Places.Slot.{tail, cell, body}
-use Rattle.cf_words.specs.Words.{Spot, Layout, Ticket, Stock, stock_of, Spells, has, stocks_with_label, stocks_with_node, stocks_with_mark, marked_books, free_of, ticket_with_word, ticket_with_head, ticket_with_done, fresh_ticket, full_word}
-use Rattle.cf_words.specs.Law.{LayoutLaw, HasLeaf, CanLink, CanHead, CanFill, Skips, IsWhole}
+use Rattle.cf_words.proofs.Forms.{stocks_with_label, stocks_with_node, stocks_with_mark, ticket_with_word, ticket_with_head, ticket_with_done, CanFill, CanHead, CanLink}
+use Rattle.cf_words.specs.Words.{Spot, Layout, Ticket, Stock, stock_of, Spells, has, marked_books, free_of, fresh_ticket, full_word}
+use Rattle.cf_words.specs.Law.{LayoutLaw, HasLeaf, Skips, IsWhole}
 use Rattle.cf_law.specs.Lawful.{Base, BaseLaw, IsFilledIn}
 use Rattle.cf_words.proofs.Nodes.{over_node_at, relabel_marked, use_marked, over_marked, relabel_over, use_over}
 use Rattle.cf_words.proofs.Chains.{has_nothing, has_more, has_rest}

@@ -9,8 +9,9 @@ use Rattle.std.proofs.lemmas.Bool.Decides.{nat_tests}
 use Rattle.std.proofs.lemmas.Option.{slice_get_within}
 use Rattle.cf_shape.specs.Places.{Slot, place}
 use Rattle.cf_shape.specs.Places.Slot.{tail, cell}
-use Rattle.cf_words.specs.Words.{Spot, spot, Layout, Ticket, Stock, stock_of, marked_books, node_at, has, IsNamedBy, is_inner, stocks_with_label, stocks_with_node, stocks_with_mark, ticket_with_word, ticket_with_head, ticket_with_done, fresh_ticket, full_word, free_of, ticket_word, done_word}
-use Rattle.cf_words.specs.Law.{LayoutLaw, CanHead, CanFill, IsWhole}
+use Rattle.cf_words.proofs.Forms.{stocks_with_label, stocks_with_node, stocks_with_mark, ticket_with_word, ticket_with_head, ticket_with_done, CanFill, CanHead}
+use Rattle.cf_words.specs.Words.{Spot, spot, Layout, Ticket, Stock, stock_of, marked_books, node_at, has, IsNamedBy, is_inner, fresh_ticket, full_word, free_of, ticket_word, done_word}
+use Rattle.cf_words.specs.Law.{LayoutLaw, IsWhole}
 use Rattle.cf_law.specs.Passes.{Own, Flight, Book, Pass}
 use Rattle.cf_law.specs.Steps.{Holds, HoldsInFlight, ticket_of, book_with_flight, book_with_ticket, book_with_word, book_with_record, book_with_head, book_with_label, book_with_node, own_word, pass_with_book, pass_with_look, pass_that_sees, pass_with_tail, pass_with_node, IsNext, IsChild, Reaches, Knows, label_of, free_node}
 use Rattle.cf_law.specs.Lawful.{Base, BaseLaw, mine_in, flight_in, book_at, PassLaw, Stands}

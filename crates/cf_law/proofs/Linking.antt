@@ -3,8 +3,8 @@ use Rattle.std.proofs.Common.{◌≡◌, ℕ, ◌+◌, ◌*◌, ◌<◌, zero, s
 use Rattle.std.proofs.lemmas.List.{set-get_or}
 use Rattle.cf_shape.specs.Places.{Slot, place}
 use Rattle.cf_shape.specs.Places.Slot.{body}
-use Rattle.cf_words.specs.Words.{Spot, Layout, stock_of, node_at, free_of, stocks_with_node}
-use Rattle.cf_words.specs.Law.{CanLink}
+use Rattle.cf_words.proofs.Forms.{stocks_with_node, CanLink}
+use Rattle.cf_words.specs.Words.{Spot, Layout, stock_of, node_at, free_of}
 use Rattle.cf_law.specs.Passes.{Book, Pass}
 use Rattle.cf_law.specs.Steps.{Holds, book_with_label, book_with_node, pass_with_book, pass_with_node, IsChild, label_of, free_node, pass_with_link, child_word}
 use Rattle.cf_law.specs.Lawful.{Base, BaseLaw, mine_in, flight_in, book_at, PassLaw, Stands}

@@ -95,18 +95,6 @@ tail_word ts (suc k) = ts.1
 abbrev pub done_word : Bool → ℕ
 done_word b = cond b 1 0
 
--- book w gets the label v
-unfoldable pub stocks_with_label : ℕ → ℕ → List Stock → List Stock
-stocks_with_label w v bs = set bs w (record { used = (stock_of bs w).used; label = v; over = (stock_of bs w).over })
-
--- the least unused node of writer w is used for s
-unfoldable pub stocks_with_node : ℕ → Spot → List Stock → List Stock
-stocks_with_node w s bs = set bs w (record { used = (stock_of bs w).used ++ s ∷ []; label = 0; over = (stock_of bs w).over })
-
--- book w is marked over
-unfoldable pub stocks_with_mark : ℕ → List Stock → List Stock
-stocks_with_mark w bs = set bs w (record { used = (stock_of bs w).used; label = (stock_of bs w).label; over = true })
-
 -- how many books are marked
 unfoldable pub marked_books : List Stock → ℕ
 marked_books [] = 0
@@ -115,18 +103,6 @@ marked_books (b ∷ bs) = cond b.over 1 0 + marked_books bs
 -- the number of the least unused node of writer w; m is the number of nodes of each writer
 abbrev pub free_of : ℕ → List Stock → ℕ → ℕ
 free_of m bs w = w * m + length (stock_of bs w).used
-
--- the ticket after its word i was stored
-abbrev pub ticket_with_word : ℕ → Ticket → Ticket
-ticket_with_word i t = record t { filled = suc i }
-
--- the ticket after it was linked in lane l
-abbrev pub ticket_with_head : ℕ → Ticket → Ticket
-ticket_with_head l t = record t { linked = l ∷ t.linked }
-
--- the ticket after it was finished
-abbrev pub ticket_with_done : Ticket → Ticket
-ticket_with_done t = record t { is_done = true }
 
 -- the ticket that writer w has just taken for row r: no word is filled, and it is linked in no lane
 abbrev pub fresh_ticket : ℕ → RowValue → Ticket
