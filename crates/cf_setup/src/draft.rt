@@ -40,7 +40,19 @@ impl Model for Draft {
 
     ghost Value = { DraftValue };
 
-    ghost view = { λ s. record { source = s.source; schema_line = s.schema_line; schema = s.schema; width = s.width; lanes = s.lanes.items; triggers = s.triggers.items; asks = s.asks.items; lives = s.lives.items; lane_names = s.lane_names.items; trigger_names = s.trigger_names.items; ask_names = s.ask_names.items } };
+    ghost view = { λ s. record {
+      source = s.source;
+      schema_line = s.schema_line;
+      schema = s.schema;
+      width = s.width;
+      lanes = s.lanes.items;
+      triggers = s.triggers.items;
+      asks = s.asks.items;
+      lives = s.lives.items;
+      lane_names = s.lane_names.items;
+      trigger_names = s.trigger_names.items;
+      ask_names = s.ask_names.items;
+    } };
 }
 
 /// The kinds of lanes that statements make.

@@ -7,7 +7,7 @@ use crate::source::Source;
 use cf_fold::Trigger;
 use cf_plain::Ask;
 use cf_row::{Memory, Name, Schema};
-use cf_shape::{Lane, Shape};
+use cf_shape::{Lane, Shape, copy_lanes};
 use std::alloc::Global;
 use std::marker::Model;
 
@@ -32,9 +32,34 @@ impl Model for Setup {
 
     ghost Value = { SetupValue };
 
-    ghost view = { λ s. record { source = s.source; schema_line = s.schema_line; schema = s.schema; width = s.width; lanes = s.lanes.items; triggers = s.triggers.items; asks = s.asks.items; lives = s.lives.items; lane_names = s.lane_names.items; trigger_names = s.trigger_names.items; ask_names = s.ask_names.items } };
+    ghost view = { λ s. record {
+      source = s.source;
+      schema_line = s.schema_line;
+      schema = s.schema;
+      width = s.width;
+      lanes = s.lanes.items;
+      triggers = s.triggers.items;
+      asks = s.asks.items;
+      lives = s.lives.items;
+      lane_names = s.lane_names.items;
+      trigger_names = s.trigger_names.items;
+      ask_names = s.ask_names.items;
+    } };
 
-    ghost invariant = { λ s. IsSetup (record { source = s.source; schema_line = s.schema_line; schema = s.schema; width = s.width; lanes = s.lanes.items; triggers = s.triggers.items; asks = s.asks.items; lives = s.lives.items; lane_names = s.lane_names.items; trigger_names = s.trigger_names.items; ask_names = s.ask_names.items }) };
+    ghost invariant = { λ s. IsSetup
+        (record {
+          source = s.source;
+          schema_line = s.schema_line;
+          schema = s.schema;
+          width = s.width;
+          lanes = s.lanes.items;
+          triggers = s.triggers.items;
+          asks = s.asks.items;
+          lives = s.lives.items;
+          lane_names = s.lane_names.items;
+          trigger_names = s.trigger_names.items;
+          ask_names = s.ask_names.items;
+        }) };
 }
 
 impl Setup {
@@ -123,16 +148,6 @@ impl Setup {
     }
 }
 
-fn copies(alloc: Global, lanes: &[Lane]) -> Result<Vec<Lane>, Memory>
-    ensures { IfOk result (λ copied. copied.items ≡ lanes.now) }
-{
-    let mut copied = Vec::with_capacity(alloc, lanes.len())?;
-    for lane in lanes {
-        copied.push(lane.copy(alloc)?)?;
-    }
-    Ok(copied)
-}
-
 // The shape of these lawful parts.
 fn shape_with(
     schema: Schema,
@@ -165,6 +180,6 @@ pub fn shape_of(
     ensures { IfOk result (λ shape. shape ≡ shaped setup.now capacity writers nodes) }
 {
     let schema = setup.schema.copy(alloc)?;
-    let lanes = copies(alloc, setup.lanes())?;
+    let lanes = copy_lanes(alloc, setup.lanes())?;
     Ok(shape_with(schema, lanes, capacity, writers, nodes, setup.width))
 }
