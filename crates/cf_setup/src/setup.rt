@@ -7,7 +7,7 @@ use crate::source::Source;
 use cf_fold::Trigger;
 use cf_plain::Ask;
 use cf_row::{Memory, Name, Schema};
-use cf_shape::{Lane, Shape};
+use cf_shape::{Lane, Shape, copy_lanes};
 use std::alloc::Global;
 use std::marker::Model;
 
@@ -148,16 +148,6 @@ impl Setup {
     }
 }
 
-fn copies(alloc: Global, lanes: &[Lane]) -> Result<Vec<Lane>, Memory>
-    ensures { IfOk result (λ copied. copied.items ≡ lanes.now) }
-{
-    let mut copied = Vec::with_capacity(alloc, lanes.len())?;
-    for lane in lanes {
-        copied.push(lane.copy(alloc)?)?;
-    }
-    Ok(copied)
-}
-
 // The shape of these lawful parts.
 fn shape_with(
     schema: Schema,
@@ -190,6 +180,6 @@ pub fn shape_of(
     ensures { IfOk result (λ shape. shape ≡ shaped setup.now capacity writers nodes) }
 {
     let schema = setup.schema.copy(alloc)?;
-    let lanes = copies(alloc, setup.lanes())?;
+    let lanes = copy_lanes(alloc, setup.lanes())?;
     Ok(shape_with(schema, lanes, capacity, writers, nodes, setup.width))
 }

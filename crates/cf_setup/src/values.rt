@@ -2,7 +2,7 @@
 ghost use Rattle.std.specs.Prelude.{◌≡◌, ◌≤◌, IfOk, true, false, Some, None};
 ghost use Rattle.std.specs.Result.{IfErr};
 ghost use Rattle.cf_row.specs.declared.schema.Kind.TheVariants.{U64};
-ghost use Rattle.cf_shape.specs.Lanes.{is_number, is_narrow};
+ghost use Rattle.cf_shape.specs.Lanes.{is_number as is_number_of, is_narrow as is_narrow_of};
 ghost use Rattle.cf_filter.specs.Values.{value_at};
 ghost use Rattle.cf_setup.specs.declared.fault.Code.TheVariants.{BadNumber, BadAttribute};
 ghost use Rattle.cf_setup.specs.Reading.{number_of as number_in, number_from as number_from_in, key_in};
@@ -10,6 +10,7 @@ ghost use Rattle.cf_setup.specs.Reading.{number_of as number_in, number_from as 
 use crate::fault::Code;
 use cf_filter::read_value;
 use cf_row::{Kind, Value};
+use cf_shape::{is_narrow, is_number};
 
 fn value_of(kind: Kind, text: &[u8]) -> Option<Value>
     ensures { result ≡ value_at kind text.now }
@@ -69,22 +70,24 @@ pub(crate) fn key_of(kind: Option<Kind>, text: &[u8]) -> Result<u64, Code>
 
 /// The kind is one of numbers.
 pub(crate) fn must_be_number(kind: Kind) -> Result<(), Code>
-    ensures yes { IfOk result (λ _. is_number kind ≡ true) }
-    ensures no { IfErr result (λ code. (is_number kind ≡ false) × (code ≡ BadAttribute)) }
+    ensures yes { IfOk result (λ _. is_number_of kind ≡ true) }
+    ensures no { IfErr result (λ code. (is_number_of kind ≡ false) × (code ≡ BadAttribute)) }
 {
-    match kind {
-        Kind::Bytes(_) => Err(Code::BadAttribute),
-        _ => Ok(()),
+    if is_number(kind) {
+        Ok(())
+    } else {
+        Err(Code::BadAttribute)
     }
 }
 
 /// The kind is one of numbers of at most 32 bits.
 pub(crate) fn must_be_narrow(kind: Kind) -> Result<(), Code>
-    ensures yes { IfOk result (λ _. is_narrow kind ≡ true) }
-    ensures no { IfErr result (λ code. (is_narrow kind ≡ false) × (code ≡ BadAttribute)) }
+    ensures yes { IfOk result (λ _. is_narrow_of kind ≡ true) }
+    ensures no { IfErr result (λ code. (is_narrow_of kind ≡ false) × (code ≡ BadAttribute)) }
 {
-    match kind {
-        Kind::U8 | Kind::U16 | Kind::U32 => Ok(()),
-        _ => Err(Code::BadAttribute),
+    if is_narrow(kind) {
+        Ok(())
+    } else {
+        Err(Code::BadAttribute)
     }
 }
