@@ -1,5 +1,5 @@
 -- When a device may say that it failed: only where its count of faults rose.
-use Rattle.std.specs.Prelude.{ℕ, ◌+◌, ◌-◌, ◌^◌, ◌<◌, ◌≤◌, min, Bool, true, false, List, length, Result, Ok, Err, OnErr, IfOk, IsErrOf}
+use Rattle.std.specs.Prelude.{◌≡◌, ℕ, ◌+◌, ◌-◌, ◌^◌, ◌<◌, ◌≤◌, min, Bool, true, false, List, length, Result, Ok, Err, OnErr, IfOk}
 use Rattle.cf_outside.specs.declared.shelf.OpenFault.{OpenFault}
 use Rattle.cf_outside.specs.declared.shelf.OpenFault.TheVariants.{Missing, Failed, Memory}
 
@@ -11,15 +11,22 @@ count_up count = min (count + 1) (2 ^ 64 - 1)
 abbrev pub Rose : ℕ → ℕ → Type 0
 Rose before now = count_up before ≤ now
 
--- the count never falls, and rose where the call failed
-pub record HasCause {T E : Type 0} (before now : ℕ) (result : Result T E) : Type 0 where
+-- the count never falls, and rose if the call failed: `if_failed` says of a fact that it is so then
+pub record HasCauseIf (if_failed : Type 0 → Type 0) (before now : ℕ) : Type 0 where
   pub later : before ≤ now
-  pub failed : OnErr result (Rose before now)
+  pub failed : if_failed (Rose before now)
 
--- the same of an `open`, whose other refusals are no faults
-pub record HasOpenCause (before now : ℕ) (result : Result (Unit {0}) OpenFault) : Type 0 where
-  pub later : before ≤ now
-  pub failed : IsErrOf result Failed → Rose before now
+-- of a call whose every error is a failure of the device,
+abbrev pub HasCause : {T E : Type 0} → ℕ → ℕ → Result T E → Type 0
+HasCause before now result = HasCauseIf (OnErr result) before now
+
+-- of one whose other errors are none,
+abbrev pub HasCauseWhen : {T E : Type 0} → E → ℕ → ℕ → Result T E → Type 0
+HasCauseWhen failure before now result = HasCauseIf (λ fact. result ≡ Err failure → fact) before now
+
+-- as an `open`
+abbrev pub HasOpenCause : ℕ → ℕ → Result (Unit {0}) OpenFault → Type 0
+HasOpenCause before now result = HasCauseWhen Failed before now result
 
 -- whether an `open` was refused because the device failed
 abbrev pub is_failed : Result (Unit {0}) OpenFault → Bool

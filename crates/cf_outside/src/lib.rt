@@ -24,7 +24,7 @@ use std::alloc::AllocError;
 pub use steady::{SteadyShelf, SteadySink};
 pub use system::{FileShelf, StdSink};
 
-/// Want of memory, of a call that is refused for no other cause.
+/// Out of memory, of a call that fails for no other reason.
 pub type Memory = AllocError;
 
 #[cfg(test)]

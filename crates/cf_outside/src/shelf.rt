@@ -22,7 +22,7 @@ pub enum OpenFault {
     /// The device has failed.
     #[error("the device has failed")]
     Failed,
-    /// Want of memory, which is no fault of the device.
+    /// Out of memory, which is no fault of the device.
     #[error("out of memory")]
     Memory,
 }

@@ -1,5 +1,5 @@
-// The real devices. As shelves and sinks they tell nothing of content. They count each error but
-// that a file is missing and, at an open, want of memory.
+// The real devices. As shelves and sinks they say nothing about content. They count every error
+// except, at an open, a missing file and running out of memory.
 ghost use Rattle.std.specs.Prelude.{◌≡◌, ◌↔◌, [], take, if◌then◌else◌, is_err, IfOk, OnErr, OnOk, Some};
 ghost use Rattle.std.specs.Io.{ReadsAtMost};
 ghost use Rattle.std.specs.Io.KnownBytes.{Appends, ReadConsumes, WriteAppends};
@@ -63,7 +63,7 @@ impl<'a, R: Files> Shelf for FileShelf<'a, R> {
 
     ghost faults = { λ s. s.faults };
 
-    /// `Missing` is the system's answer that there is no such file, and `Memory` its want of memory.
+    /// `Missing` is the system's answer that there is no such file, and `Memory` that it is out of memory.
     fn open(&mut self, name: &str) -> Result<(), OpenFault>
         ensures opens { Opens None name.now None None result }
         ensures cause { HasOpenCause self.old.faults self.new.faults result }

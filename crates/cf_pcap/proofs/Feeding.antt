@@ -7,7 +7,7 @@ use Rattle.cf_lemmas.proofs.Lists.{take_past}
 use Rattle.cf_stream.specs.declared.limit.Length.{Length}
 use Rattle.cf_stream.specs.declared.limit.Length.TheVariants.{Limited, Any}
 use Rattle.cf_stream.specs.Limits.{IsShort, IsLong, IsAtLimit, HasRoom, IsTotal, total_on, count_on}
-use Rattle.cf_stream.proofs.Limits.{limit_long, limit_after}
+use Rattle.cf_stream.proofs.Limits.{limit_long, limit_after, total_same}
 use Rattle.cf_stream.specs.Format.{Wants, Bad, Takes, ReadsTo}
 use Rattle.cf_stream.specs.Stream.{Runs}
 use Rattle.cf_stream.proofs.Units.{reads_nothing, reads_one, reads_count, sizes}
@@ -84,10 +84,6 @@ total_more Limited total n more is = omega (arith, is)
 total_self : (l : Length) (total : ℕ) → IsTotal l total total
 total_self Any total = tt
 total_self Limited total = refl
-
-total_same : (l : Length) (total n m : ℕ) → n ≡ m → IsTotal l total n → IsTotal l total m
-total_same Any total n m same is = tt
-total_same Limited total n m same is = is ∙ same
 
 wants_of : (scope : Scope) (t : State) (rest : List ℕ) (found : Shown) → step scope t rest ≡ found
     → ((n : ℕ) (more : List FrameValue) (u : State) → step scope t rest ≡ Takes n more u → ⊥) → ((fault : PcapFault) → step scope t rest ≡ Bad fault → ⊥)
@@ -228,7 +224,8 @@ fed_last before stream early byte later given t held fault total run full now =
     fed_limit before stream early byte later given t now.rest held fault total limit stage_is (step before.scope t now.rest)
     (step before.scope t (now.rest ++ (byte ∷ []))) refl refl
 
-fed_up_to : (before : PcapValue) (stream early : List ℕ) (byte : ℕ) (later : List ℕ) (given : List FrameValue) (t : State) (held : List ℕ) (stage : Stage PcapFault)
+fed_up_to : (before : PcapValue) (stream early : List ℕ) (byte : ℕ) (later : List ℕ) (given : List FrameValue) (t : State) (held : List ℕ)
+    (stage : Stage PcapFault)
     (total : ℕ) → IsRunning before stream → IsAtLimit before.scope.length (length stream + length early + 1)
     → AreTaken before.scope before.state 1 (before.held ++ (early ++ (byte ∷ []))) given t stage held
     → IsFed stream (early ++ (byte ∷ later)) given (answer_at stage) (Later before.scope stage total t held)
@@ -366,7 +363,8 @@ sound_taken before piece taken late given t held Running sound taken_is late_is 
       | UpTo early byte later one taken_by piece_by full ↦ absurd (let none : late ≡ 0 = are.stage_is.0 in omega (arith, none, one))
     ]
 
-pub sound_call : (before : PcapValue) (piece taken : List ℕ) (late : ℕ) (given : List FrameValue) (t : State) (held : List ℕ) (stage : Stage PcapFault) (total : ℕ)
+pub sound_call : (before : PcapValue) (piece taken : List ℕ) (late : ℕ) (given : List FrameValue) (t : State) (held : List ℕ) (stage : Stage PcapFault)
+    (total : ℕ)
     → IsSoundAt Running before → taken ≡ front_of before.scope.length before.total piece
     → total ≡ total_on before.scope.length before.total (length taken) → late ≡ late_of before.scope.length total
     → AreTaken before.scope before.state late (before.held ++ taken) given t stage held → IsSound (Later before.scope stage total t held)

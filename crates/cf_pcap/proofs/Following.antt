@@ -7,6 +7,9 @@ use Rattle.cf_pcap.specs.declared.form.Order.TheVariants.{Little, Big}
 use Rattle.cf_pcap.specs.declared.form.FileHeader.{FileHeader}
 use Rattle.cf_pcap.specs.Capture.{FrameValue, number_in, tick_of, caplen_at, frame_at, HasRecord, HasLongRecord}
 
+pub longer : (n : ℕ) (xs ys : List ℕ) → n ≤ length xs → n ≤ length (xs ++ ys)
+longer n xs ys h = rw (length-append xs ys) (omega (arith, h))
+
 -- what comes later doesn't change a number
 pub number_first : (order : Order) (n : ℕ) (xs ys : List ℕ) → n ≤ length xs → number_in order n (xs ++ ys) ≡ number_in order n xs
 number_first Little n xs ys h = little_from-append n xs ys h

@@ -1,5 +1,5 @@
 -- The file header.
-use Rattle.std.proofs.Common.{◌≡◌, ◌⊎◌, inl, inr, ℕ, ◌==◌, ◌<◌, ◌≤◌, ◌%◌, ◌^◌, nat_lt, Bool, true, false, List, ◌++◌, length, drop, Option, Some, None, refl, sym, ap, subst, ◌∙◌, arith, length-append}
+use Rattle.std.proofs.Common.{◌≡◌, ◌⊎◌, inl, inr, ℕ, ◌==◌, ◌<◌, ◌≤◌, ◌%◌, ◌^◌, nat_lt, Bool, true, false, List, ◌++◌, length, drop, Option, Some, None, refl, sym, ap, subst, ◌∙◌, arith}
 use Rattle.std.proofs.lemmas.Bool.{cases_lt, cases_eq, true≢false}
 use Rattle.std.proofs.lemmas.Bool.Decides.{nat_tests}
 use Rattle.cf_lemmas.proofs.Truths.{lt_true, lt_false}
@@ -14,7 +14,7 @@ use Rattle.cf_pcap.specs.Capture.{number_in, layout_of, link_at, IsVersion, IsFi
 use Rattle.cf_pcap.specs.Links.{is_link}
 use Rattle.cf_pcap.specs.declared.head.Head.TheVariants.{Short, Faulty, Stands}
 use Rattle.cf_pcap.specs.File.{is_version, by_link, by_layout, head_of}
-use Rattle.cf_pcap.proofs.Following.{number_first, number_later}
+use Rattle.cf_pcap.proofs.Following.{longer, number_first, number_later}
 
 -- a fault of the file header
 abbrev pub HasHeaderFault : LinkSet → List ℕ → PcapFault → Type 0
@@ -48,9 +48,6 @@ version_back layout xs ys h v =
 
 link_first : (layout : Layout) (xs ys : List ℕ) → 24 ≤ length xs → link_at layout (xs ++ ys) ≡ link_at layout xs
 link_first layout xs ys h = ap (λ n. n % 2 ^ 16) (number_later layout.order 4 20 xs ys (omega (arith, h)))
-
-longer : (n : ℕ) (xs ys : List ℕ) → n ≤ length xs → n ≤ length (xs ++ ys)
-longer n xs ys h = rw (length-append xs ys) (omega (arith, h))
 
 pub header_first : (links : LinkSet) (header : FileHeader) (xs ys : List ℕ) → IsFileHeader links header xs → IsFileHeader links header (xs ++ ys)
 header_first links header xs ys h =

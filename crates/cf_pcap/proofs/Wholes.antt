@@ -5,7 +5,7 @@ use Rattle.cf_stream.specs.Limits.{IsShort, count_on, number_of}
 use Rattle.cf_stream.proofs.Limits.{short_less, count_first}
 use Rattle.cf_stream.specs.Format.{Found, Wants, Bad, Takes, Format, Part, items_of, AreUnitsThen, ReadsTo, IsWhole, IsCut, IsFound}
 use Rattle.cf_stream.specs.Stream.{IsStepper, AreGiven, Runs}
-use Rattle.cf_stream.proofs.Units.{NoUnit, sizes, more_after, reads_count, one_read, wants_none}
+use Rattle.cf_stream.proofs.Units.{NoUnit, sizes, more_after, reads_count, one_read, wants_none, taken_size, taken_state}
 use Rattle.cf_stream.proofs.Cases.{none_found}
 use Rattle.cf_stream.proofs.Seen.{early_short}
 use Rattle.cf_stream.proofs.Given.{given_of}
@@ -72,12 +72,6 @@ rest_is f s (part ∷ parts) bytes t rest h =
       sym (take-append-drop part.size bytes) ∙ ap (λ xs. take part.size bytes ++ xs) more.1
           ∙ sym (append_assoc (take part.size bytes) more.0 rest),
     )
-
-taken_size : {S I F : Type 0} (n m : ℕ) (a b : List I) (t u : S) → ◌≡◌ {A = Found S I F} (Takes n a t) (Takes m b u) → n ≡ m
-taken_size n m a b t u h = cc
-
-taken_state : {S I F : Type 0} (n m : ℕ) (a b : List I) (t u : S) → ◌≡◌ {A = Found S I F} (Takes n a t) (Takes m b u) → t ≡ u
-taken_state n m a b t u h = cc
 
 -- a reading up to where no unit begins goes as far as any
 furthest : {S I F : Type 0} (f : Format S I F) (is : IsStepper f) (s : S) (a b : List (Part S I)) (bytes : List ℕ) (t : S) (rest : List ℕ) (u : S)

@@ -26,7 +26,7 @@ pub enum PcapFault {
     /// The stream has 2^32 bytes or more, and these are too many ([`crate::Scope`]).
     #[error("the stream has 2^32 bytes or more")]
     TooManyBytes,
-    /// Want of memory, which is no fault of the stream.
+    /// Out of memory, which is no fault of the stream.
     #[error("out of memory")]
     Memory,
 }

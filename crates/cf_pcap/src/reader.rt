@@ -9,7 +9,7 @@ ghost use Rattle.cf_stream.specs.Stages.{found_at};
 ghost use Rattle.cf_pcap.specs.Truncated.{Says, Breaks};
 
 use crate::form::FileHeader;
-use crate::taking::{Place, late_of, take_in};
+use crate::taking::{Place, late_of, take_piece};
 use crate::{Frame, LinkSet, PcapFault, Scope};
 use cf_stream::{LIMIT, Length, Stage};
 use std::alloc::{AllocError, Global};
@@ -99,7 +99,7 @@ impl Pcap {
             header: self.header,
             count: self.count,
         };
-        let given = take_in(self.alloc, place, late, &mut self.held, taken, out)?;
+        let given = take_piece(self.alloc, place, late, &mut self.held, taken, out)?;
         self.stage = given.stage;
         self.total = total;
         self.header = given.header;

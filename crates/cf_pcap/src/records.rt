@@ -143,8 +143,8 @@ fn read_first(alloc: Global, scope: Scope, num: u32, bytes: &[u8]) -> Result<Rea
     }
 }
 
-// Reads the bytes that come after so many frames, of a file whose header states this, if it was read.
-pub(crate) fn go_on(
+// Reads the frames of the bytes that come after so many frames, of a file whose header states this, if it was read.
+pub(crate) fn read_frames(
     alloc: Global,
     scope: Scope,
     header: Option<FileHeader>,

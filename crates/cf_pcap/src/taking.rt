@@ -4,7 +4,7 @@ ghost use Rattle.cf_stream.specs.Limits.{HasRoom};
 ghost use Rattle.cf_pcap.specs.Reading.{state_of, IsStageAfter, AreTaken, IsTaken, IsOneRecord, late_of as late_of_total};
 
 use crate::form::FileHeader;
-use crate::records::{RECORD_HEADER, caplen_of, fault_at, first_frame, go_on, is_one_record};
+use crate::records::{RECORD_HEADER, caplen_of, fault_at, first_frame, is_one_record, read_frames};
 use crate::{Frame, PcapFault, Scope};
 use cf_stream::{LIMIT, Length, Stage};
 use std::alloc::{AllocError, Global};
@@ -62,8 +62,13 @@ fn stage_after(
     }
 }
 
-// Reads the bytes at hand.
-fn read(alloc: Global, place: Place, late: usize, bytes: &[u8]) -> Result<Given, AllocError>
+// Reads the bytes at hand, and the stage at which they leave the reader.
+fn read_with_stage(
+    alloc: Global,
+    place: Place,
+    late: usize,
+    bytes: &[u8],
+) -> Result<Given, AllocError>
     requires late { late ≤ length bytes.now }
     requires room { HasRoom place.scope.length (16 * place.count + length bytes.now) }
     ensures taken { IfOk result (λ given. AreTaken place.scope (state_of place.header place.count) late bytes.now given.frames.items
@@ -71,7 +76,7 @@ fn read(alloc: Global, place: Place, late: usize, bytes: &[u8]) -> Result<Given,
     ensures used { IfOk result (λ given. given.used ≤ length bytes.now) }
 {
     let early = bytes.split_at(bytes.len() - late).0;
-    let read = go_on(alloc, place.scope, place.header, place.count, early)?;
+    let read = read_frames(alloc, place.scope, place.header, place.count, early)?;
     let stage = stage_after(
         place.scope,
         read.header,
@@ -106,7 +111,7 @@ fn drop_front(bytes: &mut Vec<u8>, count: usize)
 }
 
 // Reads the bytes at hand, adds their frames to `out`, and leaves them where they are.
-fn give(
+fn read_into(
     alloc: Global,
     place: Place,
     late: usize,
@@ -119,7 +124,7 @@ fn give(
     ensures used { IfOk result (λ given. given.1 ≤ length bytes.now) }
     ensures memory { OnErr result (out.new.items ≡ out.old.items) }
 {
-    let mut given = read(alloc, place, late, bytes)?;
+    let mut given = read_with_stage(alloc, place, late, bytes)?;
     out.append(&mut given.frames)?;
     let reached = Reached {
         stage: given.stage,
@@ -129,8 +134,8 @@ fn give(
     Ok((reached, given.used))
 }
 
-// The same where nothing is held: the bytes that come are read where they are.
-fn take_alone(
+// Takes a piece when nothing is held: its bytes are read where they are.
+fn take_with_none_held(
     alloc: Global,
     place: Place,
     late: usize,
@@ -144,7 +149,7 @@ fn take_alone(
     ensures given { IfOk result (λ reached. IsTaken place late bytes.now out.old.items out.new.items reached held.new.items) }
     ensures memory { OnErr result ((out.new.items ≡ out.old.items) × (held.new.items ≡ held.old.items)) }
 {
-    let mut given = read(alloc, place, late, bytes)?;
+    let mut given = read_with_stage(alloc, place, late, bytes)?;
     held.extend_from_slice(bytes.split_at(given.used).1)?;
     match out.append(&mut given.frames) {
         Ok(()) => Ok(Reached {
@@ -152,9 +157,9 @@ fn take_alone(
             header: given.header,
             count: given.count,
         }),
-        Err(wanting) => {
+        Err(error) => {
             held.clear();
-            Err(wanting)
+            Err(error)
         }
     }
 }
@@ -182,9 +187,9 @@ fn complete(header: FileHeader, held: &mut Vec<u8>, more: &[u8]) -> Result<usize
     let size = RECORD_HEADER + caplen_of(header, held) as usize;
     match fill(held, size, more.split_at(first).1) {
         Ok(second) => Ok(first + second),
-        Err(wanting) => {
+        Err(error) => {
             held.truncate(before);
-            Err(wanting)
+            Err(error)
         }
     }
 }
@@ -213,7 +218,7 @@ fn take_after(
         header: place.header,
         count: place.scope.length.number_after(place.count),
     };
-    let mut given = read(alloc, next, late, more)?;
+    let mut given = read_with_stage(alloc, next, late, more)?;
     let kept = more.split_at(given.used).1.to_vec(alloc)?;
     let mut frames = Vec::new(alloc);
     frames.push(frame)?;
@@ -243,20 +248,20 @@ fn take_joined(
 {
     let before = held.len();
     held.extend_from_slice(more)?;
-    match give(alloc, place, late, held, out) {
+    match read_into(alloc, place, late, held, out) {
         Ok((reached, used)) => {
             drop_front(held, used);
             Ok(reached)
         }
-        Err(wanting) => {
+        Err(error) => {
             held.truncate(before);
-            Err(wanting)
+            Err(error)
         }
     }
 }
 
-// Reads the held bytes, which mostly are one record, and then those that come.
-fn take_on(
+// Takes what is left of a piece when some bytes are held, which mostly are one record.
+fn take_with_held(
     alloc: Global,
     place: Place,
     late: usize,
@@ -275,9 +280,9 @@ fn take_on(
     take_joined(alloc, place, late, held, more, out)
 }
 
-// Reads the bytes that are held and those that come, adds their frames to `out`, and holds what is left. Where memory is
-// wanting it does none of this. No more of what comes is copied than completes the record that is held.
-pub(crate) fn take_in(
+// Takes a piece: reads the held bytes and those of the piece, adds their frames to `out`, and holds what is left. If memory
+// runs out, nothing changes. Of the piece no more is copied than completes the held record.
+pub(crate) fn take_piece(
     alloc: Global,
     place: Place,
     late: usize,
@@ -291,18 +296,18 @@ pub(crate) fn take_in(
     ensures memory { OnErr result ((out.new.items ≡ out.old.items) × (held.new.items ≡ held.old.items)) }
 {
     if held.is_empty() {
-        return take_alone(alloc, place, late, held, more, out);
+        return take_with_none_held(alloc, place, late, held, more, out);
     }
     let Some(header) = place.header else {
         return take_joined(alloc, place, late, held, more, out);
     };
     let before = held.len();
     let count = complete(header, held, more)?;
-    match take_on(alloc, place, late, held, more.split_at(count).1, out) {
+    match take_with_held(alloc, place, late, held, more.split_at(count).1, out) {
         Ok(reached) => Ok(reached),
-        Err(wanting) => {
+        Err(error) => {
             held.truncate(before);
-            Err(wanting)
+            Err(error)
         }
     }
 }

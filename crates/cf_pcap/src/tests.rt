@@ -49,7 +49,7 @@ struct Told {
     end: Result<u32, PcapFault>,
 }
 
-/// Feeds a piece, and once more where memory is wanting.
+/// Feeds a piece, and once more if memory runs out.
 fn feed_again(pcap: &mut Pcap, piece: &[u8], out: &mut Vec<Frame>) -> Result<(), PcapFault> {
     match pcap.feed(piece, out) {
         Err(PcapFault::Memory) => pcap.feed(piece, out),

@@ -74,13 +74,13 @@ pub record Same {S I : Type 0} (a b : List I) (t u : S) (rest end : List ℕ) : 
   pub state : t ≡ u
   pub left : rest ≡ end
 
-taken_size : {S I F : Type 0} (n m : ℕ) (a b : List I) (t u : S) → ◌≡◌ {A = Found S I F} (Takes n a t) (Takes m b u) → n ≡ m
+pub taken_size : {S I F : Type 0} (n m : ℕ) (a b : List I) (t u : S) → ◌≡◌ {A = Found S I F} (Takes n a t) (Takes m b u) → n ≡ m
 taken_size n m a b t u h = cc
 
 taken_items : {S I F : Type 0} (n m : ℕ) (a b : List I) (t u : S) → ◌≡◌ {A = Found S I F} (Takes n a t) (Takes m b u) → a ≡ b
 taken_items n m a b t u h = cc
 
-taken_state : {S I F : Type 0} (n m : ℕ) (a b : List I) (t u : S) → ◌≡◌ {A = Found S I F} (Takes n a t) (Takes m b u) → t ≡ u
+pub taken_state : {S I F : Type 0} (n m : ℕ) (a b : List I) (t u : S) → ◌≡◌ {A = Found S I F} (Takes n a t) (Takes m b u) → t ≡ u
 taken_state n m a b t u h = cc
 
 -- there is one reading

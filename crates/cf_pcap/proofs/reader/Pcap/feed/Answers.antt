@@ -19,7 +19,8 @@ returns-in-Stopped-clause-fed c =
     λ _. (
       [],
       sym (append-nil c.args.out.now.items),
-      λ stream state. fed_stopped (pcap reader.scope) (stepper reader.scope) c.in-Stopped.fault reader.stage (IsRunning reader) stream c.args.piece.now is state,
+      λ stream state. fed_stopped (pcap reader.scope) (stepper reader.scope) c.in-Stopped.fault reader.stage
+          (IsRunning reader) stream c.args.piece.now is state,
     )
 
 pub returns-in-Stopped-clause-stopped : goal.returns-in-Stopped-clause-stopped
@@ -46,8 +47,9 @@ invariant_of-self-2 c =
       held = inside.held.items;
     } in
     let given = c.in_ok-given.ensures.given in
-    let sound : IsSoundAt Running reader = subst (λ (s : Stage PcapFault). IsSoundAt s reader) (running_of inside.stage c.in_default.not-Stopped) c.self.invariant in
-    sound_call reader c.args.piece.now c.front-taken.result.now c.late_of-late.result given.0 _ c.take_in.new.held.items c.in_ok-given.given.stage
+    let sound : IsSoundAt Running reader =
+    subst (λ (s : Stage PcapFault). IsSoundAt s reader) (running_of inside.stage c.in_default.not-Stopped) c.self.invariant in
+    sound_call reader c.args.piece.now c.front-taken.result.now c.late_of-late.result given.0 _ c.take_piece.new.held.items c.in_ok-given.given.stage
     c.total_after-total.result sound c.front-taken.ensures c.total_after-total.ensures c.late_of-late.ensures given.2
 
 pub returns-clause-fed : goal.returns-clause-fed
@@ -65,7 +67,7 @@ returns-clause-fed c =
     let t = state_of c.in_ok-given.given.header c.in_ok-given.given.count in
     let stage = c.in_ok-given.given.stage in
     let taken = c.front-taken.result.now in
-    let after : PcapValue = Later inside.scope stage c.total_after-total.result t c.take_in.new.held.items in
+    let after : PcapValue = Later inside.scope stage c.total_after-total.result t c.take_piece.new.held.items in
     let is : inside.stage ≡ Running = running_of inside.stage c.in_default.not-Stopped in
     let sound : IsSoundAt Running reader = subst (λ (s : Stage PcapFault). IsSoundAt s reader) is c.self.invariant in
     λ _. (
@@ -73,9 +75,11 @@ returns-clause-fed c =
       given.1,
       λ stream state.
           let run : IsRunning reader stream =
-          at_running (pcap reader.scope) stream inside.stage (IsRunning reader stream) is (subst (λ (r : PcapValue). IsStateOf r stream) (sym c.self.view_is) state) in
+          at_running (pcap reader.scope) stream inside.stage (IsRunning reader stream) is
+          (subst (λ (r : PcapValue). IsStateOf r stream) (sym c.self.view_is) state) in
           subst (λ (answer : Result (Unit {0}) PcapFault). IsFed stream c.args.piece.now given.0 answer after) (sym c.answer.ensures)
-          (fed_call reader stream c.args.piece.now taken c.late_of-late.result given.0 t c.take_in.new.held.items stage c.total_after-total.result run sound.0 c.front-taken.ensures c.total_after-total.ensures c.late_of-late.ensures given.2),
+          (fed_call reader stream c.args.piece.now taken c.late_of-late.result given.0 t c.take_piece.new.held.items stage c.total_after-total.result run
+          sound.0 c.front-taken.ensures c.total_after-total.ensures c.late_of-late.ensures given.2),
     )
 
 pub returns-clause-stopped : goal.returns-clause-stopped
@@ -99,7 +103,9 @@ returns-clause-memory c = λ memory.
     let t = state_of c.in_ok-given.given.header c.in_ok-given.given.count in
     let stage = c.in_ok-given.given.stage in
     let taken = c.front-taken.result.now in
-    let sound : IsSoundAt Running reader = subst (λ (s : Stage PcapFault). IsSoundAt s reader) (running_of inside.stage c.in_default.not-Stopped) c.self.invariant in
-    let later : IsSound (Later inside.scope stage c.total_after-total.result t c.take_in.new.held.items) =
-    sound_call reader c.args.piece.now taken c.late_of-late.result given.0 t c.take_in.new.held.items stage c.total_after-total.result sound c.front-taken.ensures c.total_after-total.ensures c.late_of-late.ensures given.2 in
-    absurd (no_memory Memory c.take_in.new.held.items stage _ later (sym c.answer.ensures ∙ memory))
+    let sound : IsSoundAt Running reader =
+    subst (λ (s : Stage PcapFault). IsSoundAt s reader) (running_of inside.stage c.in_default.not-Stopped) c.self.invariant in
+    let later : IsSound (Later inside.scope stage c.total_after-total.result t c.take_piece.new.held.items) =
+    sound_call reader c.args.piece.now taken c.late_of-late.result given.0 t c.take_piece.new.held.items stage c.total_after-total.result sound
+    c.front-taken.ensures c.total_after-total.ensures c.late_of-late.ensures given.2 in
+    absurd (no_memory Memory c.take_piece.new.held.items stage _ later (sym c.answer.ensures ∙ memory))
