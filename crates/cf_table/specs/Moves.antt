@@ -1,8 +1,7 @@
 -- How passes are dealt, gathered, forked and joined, and what a log is closed with.
 use Rattle.std.specs.Prelude.{ℕ, ◌+◌, ◌<◌, ◌≤◌, ◌≡◌, List, [], ◌∷◌, ◌++◌, true, false, length, map, take, Some, slice_get}
-use Rattle.cf_row.specs.declared.schema.Attr.{Attr}
 use Rattle.cf_row.specs.declared.row.Entry.{Entry}
-use Rattle.cf_row.specs.Words.{IsEntry}
+use Rattle.cf_row.specs.Words.{IsEntry, spelled}
 use Rattle.cf_shape.specs.Lanes.{ShapeValue}
 use Rattle.cf_words.specs.Words.{spot}
 use Rattle.cf_law.specs.Passes.{Book, Pass}
@@ -143,6 +142,9 @@ pub record SealValue : Type 0 where
   pub entries : List Entry
   pub told : List ℕ
 
--- each of the entries is one of the schema
-abbrev pub AreEntries : List Attr → List Entry → Type 0
-AreEntries attrs entries = (o : ℕ) (e : Entry) → slice_get entries o ≡ Some e → IsEntry attrs e
+-- the words are those of the entry at that offset, which is lawful
+pub record AreWordsAt (shape : ShapeValue) (seen : List Entry) (offset : ℕ) (words : List ℕ) : Type 0 where
+  pub entry : Entry
+  pub at : slice_get seen offset ≡ Some entry
+  pub lawful : IsEntry shape.schema entry
+  pub spells : words ≡ spelled entry
