@@ -1,20 +1,17 @@
--- The words of an entry that was seen are loaded.
-use Rattle.std.proofs.Common.{◌≡◌, ◌∙◌, ◌+◌, ◌-◌, ◌<◌, ◌^◌, ℕ, zero, suc, min, Bool, true, false, cond, List, [], ◌∷◌, ◌++◌, length, filter, take, get_or, Some, slice_get, ap, ap₂, sym, subst, arith, append-nil}
+-- Entries that were seen fit, and are gone over.
+use Rattle.std.proofs.Common.{◌≡◌, ◌∙◌, ◌+◌, ◌<◌, ◌^◌, ℕ, zero, suc, Bool, true, false, cond, List, [], ◌∷◌, ◌++◌, length, filter, take, get_or, Some, slice_get, ap, ap₂, sym, subst, append-nil}
 use Rattle.std.specs.List.{range_with_len}
 use Rattle.std.specs.Bool.{nat_lt}
-use Rattle.std.proofs.lemmas.Bool.Decides.{nat_tests}
 use Rattle.std.proofs.lemmas.Option.{slice_get-get_or}
 use Rattle.cf_row.specs.Row.{Fits, RowValue, values_fit}
 use Rattle.cf_row.specs.Expr.{holds_of}
 use Rattle.cf_row.specs.declared.expr.Atom.{Atom}
 use Rattle.cf_row.specs.declared.schema.Attr.{Attr}
 use Rattle.cf_row.specs.Times.{number_at}
-use Rattle.cf_row.specs.Words.{IsEntry, word_count, spelled}
 use Rattle.cf_fold.specs.Quads.{QuadValue, quad_of}
 use Rattle.cf_row.specs.declared.row.Entry.{Entry}
 use Rattle.cf_row.proofs.Bytes.{both}
-use Rattle.cf_shape.specs.Lanes.{ShapeValue, IsShape}
-use Rattle.cf_law.specs.Passes.{Pass}
+use Rattle.cf_shape.specs.Lanes.{ShapeValue}
 use Rattle.cf_law.specs.Shapes.{layout}
 use Rattle.cf_law.specs.Readers.{IsFit}
 use Rattle.cf_plain.specs.Asks.{rows_in, row_at}
@@ -22,7 +19,6 @@ use Rattle.cf_plain.proofs.Scanned.{place_more}
 use Rattle.cf_plain.specs.Totals.{total}
 use Rattle.cf_plain.proofs.Amounts.{amounts_in, amounts_more}
 use Rattle.cf_table.specs.Values.{PassValue}
-use Rattle.cf_table.specs.Effects.{HasStepped, word_effect}
 use Rattle.cf_table.specs.Moves.{OnlyLooked, AreFit}
 use Rattle.cf_table.proofs.Reading.{no_entry}
 

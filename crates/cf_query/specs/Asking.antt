@@ -1,6 +1,5 @@
--- What an ask does to the pass that makes it, and what it reads.
-use Rattle.std.specs.Prelude.{ℕ, ◌≡◌, ◌≤◌, List, [], ◌∷◌, ◌++◌, length, Some, slice_get}
-use Rattle.cf_row.specs.declared.row.Entry.{Entry}
+-- What an ask does to the pass that makes it.
+use Rattle.std.specs.Prelude.{ℕ, ◌≡◌, ◌≤◌, [], ◌∷◌, ◌++◌, length}
 use Rattle.cf_shape.specs.Lanes.{ShapeValue}
 use Rattle.cf_words.specs.Words.{Spot}
 use Rattle.cf_law.specs.Steps.{Knows}
