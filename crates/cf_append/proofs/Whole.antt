@@ -16,8 +16,8 @@ use Rattle.cf_law.specs.Steps.{Holds}
 use Rattle.cf_table.specs.Values.{PassValue, book_of}
 use Rattle.cf_table.specs.Effects.{HasStepped, HasSteppedUnseen, take_effect, finish_effect}
 use Rattle.cf_table.proofs.Mays.{the_book}
-use Rattle.cf_table.specs.Moves.{SeenFirst}
-use Rattle.cf_append.specs.Appends.{PassGoesOn, Stops, Rests, HasMade, IsAppended, IsLate, with_own, flying, with_mark}
+use Rattle.cf_table.specs.Moves.{SeenFirst, Stops}
+use Rattle.cf_append.specs.Appends.{PassGoesOn, Rests, HasMade, IsAppended, IsLate, with_own, flying, with_mark}
 use Rattle.cf_append.specs.Paths.{KeepsSeen, HasFilings, with_nodes, path_steps}
 use Rattle.cf_append.specs.declared.paths.Filing.{Filing}
 use Rattle.cf_append.specs.Linking.{HasFilled, HasLinked, IsBookOf, lane_steps}

@@ -1,18 +1,16 @@
 -- What appending and settling do to a writer's pass.
-use Rattle.std.specs.Prelude.{ℕ, ◌+◌, ◌-◌, ◌*◌, ◌≡◌, ◌<◌, ◌≤◌, ◌⊎◌, List, [], ◌∷◌, ◌++◌, true, false, length, Some, None, slice_get}
+use Rattle.std.specs.Prelude.{ℕ, ◌+◌, ◌-◌, ◌*◌, ◌≡◌, ◌<◌, ◌≤◌, ◌⊎◌, List, [], ◌∷◌, ◌++◌, true, false, length, Some, None}
 use Rattle.std.specs.declared.result.Result.{Result}
 use Rattle.std.specs.declared.result.Result.TheVariants.{Ok, Err}
 use Rattle.cf_row.specs.Row.{RowValue}
 use Rattle.cf_row.specs.Words.{word_count}
 use Rattle.cf_shape.specs.Lanes.{ShapeValue}
-use Rattle.cf_shape.specs.Places.{place_of}
-use Rattle.cf_shape.specs.Places.WordName.{done}
 use Rattle.cf_words.specs.Words.{Spot}
-use Rattle.cf_law.specs.Passes.{Own, Book, Pass}
-use Rattle.cf_law.specs.Steps.{Holds, Knows}
+use Rattle.cf_law.specs.Passes.{Book, Pass}
+use Rattle.cf_law.specs.Steps.{Knows}
 use Rattle.cf_table.specs.Values.{PassValue, LogValue, IsOf, book_of}
 use Rattle.cf_table.specs.Effects.{HasStepped, take_effect}
-use Rattle.cf_table.specs.Moves.{Begins}
+use Rattle.cf_table.specs.Moves.{Begins, IsUnfinished}
 use Rattle.cf_append.specs.Paths.{KeepsSeen, HasUsed, IsOnPath, LacksNode, HasLeaves, with_nodes}
 use Rattle.cf_append.specs.Linking.{lane_steps}
 use Rattle.cf_append.specs.declared.appends.AppendFault.{AppendFault}
@@ -28,22 +26,10 @@ pub record PassGoesOn (before after : PassValue) : Type 0 where
   pub told : (after.view).told ≡ (before.view).told
   pub knows : (s : Spot) (node : ℕ) → Knows before.view s node → Knows after.view s node
 
--- the last look, which was made since p, found the record at b unfinished
-pub record IsUnfinished (shape : ShapeValue) (b : ℕ) (p q : Pass) : Type 0 where
-  pub word : (q.look).word ≡ place_of shape (done b)
-  pub value : (q.look).value ≡ 0
-  pub since : (p.look).count < (q.look).count
-  -- it is none that the pass itself finished
-  pub other : (k j : ℕ) (book : Book) (x : Own) → Holds q k book → slice_get book.mine j ≡ Some x → x.offset ≡ b → ⊥
-
 -- the steps of an append at most: for the row's words and lanes, and two for each place by which the read tail is moved and for one more
 abbrev pub append_steps : ShapeValue → Pass → Pass → ℕ
 append_steps shape before after =
     word_count shape.schema + 3 + lane_steps shape (length shape.lanes) + 2 * (length after.seen - length before.seen + 1)
-
--- all places are covered, or the one after the last covered was found unfinished
-abbrev pub Stops : ShapeValue → Pass → Pass → Type 0
-Stops shape p q = (shape.capacity ≤ length q.seen) ⊎ IsUnfinished shape (length q.seen) p q
 
 -- covered exactly where the offset is below the entries seen, and behind only a record found unfinished, not above the offset
 abbrev pub IsSettledTo : ShapeValue → ℕ → Pass → Pass → Settled → Type 0

@@ -4,8 +4,8 @@ ghost use Rattle.cf_row.specs.Row.{Fits};
 ghost use Rattle.cf_row.specs.Words.{word_count as word_count_of, spelled};
 ghost use Rattle.cf_table.specs.Loads.{CountsLoads};
 ghost use Rattle.cf_table.specs.Values.{IsOf, book_of};
-ghost use Rattle.cf_table.specs.Moves.{HasAll, SeenFirst};
-ghost use Rattle.cf_append.specs.Appends.{PassGoesOn, Stops, Rests, HasAppendAnswer, append_steps, flying};
+ghost use Rattle.cf_table.specs.Moves.{HasAll, SeenFirst, Stops};
+ghost use Rattle.cf_append.specs.Appends.{PassGoesOn, Rests, HasAppendAnswer, append_steps, flying};
 ghost use Rattle.cf_append.specs.Paths.{Remembers, KeepsLeaves};
 
 use crate::leaves::Leaves;

@@ -4,8 +4,8 @@ ghost use Rattle.cf_table.specs.Loads.{CountsLoads};
 ghost use Rattle.cf_table.specs.Values.{IsOf};
 ghost use Rattle.cf_law.specs.Readers.{IsBounded};
 ghost use Rattle.cf_law.specs.Shapes.{layout};
-ghost use Rattle.cf_table.specs.Moves.{HasAll, HasPaths, SeenFirst, AreFit, MarkedIsFull};
-ghost use Rattle.cf_append.specs.Appends.{PassGoesOn, Stops, Rests, IsSettledTo};
+ghost use Rattle.cf_table.specs.Moves.{HasAll, HasPaths, SeenFirst, AreFit, MarkedIsFull, Stops};
+ghost use Rattle.cf_append.specs.Appends.{PassGoesOn, Rests, IsSettledTo};
 
 use cf_table::{MultiLog, Pass, Steps, WriterPass};
 use std::sync::Wait;
@@ -19,8 +19,7 @@ pub enum Settled {
     Behind(u32),
 }
 
-// Loads the read tail, and moves it over each finished record, up to the first that isn't. Where all places are covered a
-// last look shows it.
+// Loads the read tail, and moves it over each finished record, up to the first that isn't.
 pub(crate) fn move_tail<L: Ledger>(log: &MultiLog, pass: &mut WriterPass, steps: &mut Steps<L>)
     requires of { IsOf pass.old log.now }
     ensures goes_on { PassGoesOn pass.old pass.new }
@@ -37,15 +36,7 @@ pub(crate) fn move_tail<L: Ledger>(log: &MultiLog, pass: &mut WriterPass, steps:
     ensures loads { CountsLoads pass.old pass.new steps.old steps.new }
 {
     log.load_tail(pass, false, steps);
-    let capacity = log.shape().capacity();
-    while pass.covered() < capacity {
-        let t = pass.covered();
-        if !log.look_done(pass, t, steps) {
-            return;
-        }
-        log.advance(pass, t, steps);
-    }
-    log.look_done(pass, 0, steps);
+    log.settle_tail(pass, steps);
 }
 
 /// Moves the read tail over each finished record, up to the first that isn't. Says whether the record at that offset is

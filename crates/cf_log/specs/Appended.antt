@@ -5,8 +5,8 @@ use Rattle.cf_shape.specs.Lanes.{ShapeValue}
 use Rattle.cf_law.specs.Readers.{IsBounded}
 use Rattle.cf_law.specs.Shapes.{layout}
 use Rattle.cf_table.specs.Values.{PassValue, book_of}
-use Rattle.cf_table.specs.Moves.{HasAll, HasPaths, SeenFirst, AreFit, MarkedIsFull}
-use Rattle.cf_append.specs.Appends.{PassGoesOn, Rests, Stops, HasAppendAnswer, IsSettledTo}
+use Rattle.cf_table.specs.Moves.{HasAll, HasPaths, SeenFirst, AreFit, MarkedIsFull, Stops}
+use Rattle.cf_append.specs.Appends.{PassGoesOn, Rests, HasAppendAnswer, IsSettledTo}
 use Rattle.cf_append.specs.declared.appends.AppendFault.{AppendFault}
 use Rattle.cf_append.specs.declared.settles.Settled.{Settled}
 use Rattle.cf_log.specs.Chains.{GoesOn}

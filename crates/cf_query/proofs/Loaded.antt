@@ -1,20 +1,17 @@
--- The words of an entry that was seen are loaded.
-use Rattle.std.proofs.Common.{◌≡◌, ◌∙◌, ◌+◌, ◌-◌, ◌<◌, ◌^◌, ℕ, zero, suc, min, Bool, true, false, cond, List, [], ◌∷◌, ◌++◌, length, filter, take, get_or, Some, slice_get, ap, ap₂, sym, subst, arith, append-nil}
+-- Entries that were seen fit, and are gone over.
+use Rattle.std.proofs.Common.{◌≡◌, ◌∙◌, ◌+◌, ◌<◌, ◌^◌, ℕ, zero, suc, Bool, true, false, cond, List, [], ◌∷◌, ◌++◌, length, filter, take, get_or, Some, slice_get, ap, ap₂, sym, subst, append-nil}
 use Rattle.std.specs.List.{range_with_len}
 use Rattle.std.specs.Bool.{nat_lt}
-use Rattle.std.proofs.lemmas.Bool.Decides.{nat_tests}
 use Rattle.std.proofs.lemmas.Option.{slice_get-get_or}
 use Rattle.cf_row.specs.Row.{Fits, RowValue, values_fit}
 use Rattle.cf_row.specs.Expr.{holds_of}
 use Rattle.cf_row.specs.declared.expr.Atom.{Atom}
 use Rattle.cf_row.specs.declared.schema.Attr.{Attr}
 use Rattle.cf_row.specs.Times.{number_at}
-use Rattle.cf_row.specs.Words.{IsEntry, word_count, spelled}
 use Rattle.cf_fold.specs.Quads.{QuadValue, quad_of}
 use Rattle.cf_row.specs.declared.row.Entry.{Entry}
 use Rattle.cf_row.proofs.Bytes.{both}
-use Rattle.cf_shape.specs.Lanes.{ShapeValue, IsShape}
-use Rattle.cf_law.specs.Passes.{Pass}
+use Rattle.cf_shape.specs.Lanes.{ShapeValue}
 use Rattle.cf_law.specs.Shapes.{layout}
 use Rattle.cf_law.specs.Readers.{IsFit}
 use Rattle.cf_plain.specs.Asks.{rows_in, row_at}
@@ -22,15 +19,8 @@ use Rattle.cf_plain.proofs.Scanned.{place_more}
 use Rattle.cf_plain.specs.Totals.{total}
 use Rattle.cf_plain.proofs.Amounts.{amounts_in, amounts_more}
 use Rattle.cf_table.specs.Values.{PassValue}
-use Rattle.cf_table.specs.Effects.{HasStepped, word_effect}
 use Rattle.cf_table.specs.Moves.{OnlyLooked, AreFit}
-use Rattle.cf_table.proofs.Reading.{word_is, looked_word}
-
-abbrev pub no_entry : Entry
-no_entry = record { writer = 0; row = record { num = 0; values = [] } }
-
-abbrev pub entry_at : Pass → ℕ → Entry
-entry_at p o = get_or p.seen o no_entry
+use Rattle.cf_table.proofs.Reading.{no_entry}
 
 pub entry_fits : (shape : ShapeValue) (e : Entry) → IsFit (layout shape) e → Fits shape.schema e.row
 entry_fits shape e fit = (both (values_fit shape.schema (e.row).values) (nat_lt (e.row).num (2 ^ 32)) fit.0).0
@@ -41,35 +31,6 @@ pub held_fits : (shape : ShapeValue) (attrs : List Attr) (m n : PassValue) (o : 
 held_fits shape attrs m n o e fit looked schema at =
     subst (λ (kinds : List Attr). Fits kinds e.row) (sym schema)
     (entry_fits shape e (fit o e (sym (ap (λ (h : PassValue). slice_get (h.view).seen o) looked) ∙ at)))
-
-entry_by : (shape : ShapeValue) (e : Entry) → IsShape shape → IsFit (layout shape) e → IsEntry shape.schema e
-entry_by shape e is fit =
-    let b = both (values_fit shape.schema (e.row).values) (nat_lt (e.row).num (2 ^ 32)) fit.0 in
-    let low = b.1 in
-    let few = is.writers in
-    let writer = fit.1 in
-    record { fits = b.0; num = grind (arith, nat_tests); writer = omega (arith, few, writer) }
-
--- what a load of word i tells of the entry at o
-pub record IsLoaded (shape : ShapeValue) (m n : PassValue) (o i found : ℕ) : Type 0 where
-  pub lawful : IsEntry shape.schema (entry_at m.view o)
-  pub word : found ≡ get_or (spelled (entry_at m.view o)) i 0
-  pub looked : OnlyLooked m n
-
-pub loaded : (shape : ShapeValue) (m n : PassValue) (o place i found : ℕ) → IsShape shape → place ≡ min o (shape.capacity - 1) → o < length (m.view).seen
-    → i < word_count shape.schema + 1 → HasStepped shape (word_effect shape m.view place i) m found n → IsLoaded shape m n o i found
-loaded shape m n o place i found is at lt low made =
-    let told = made.told in
-    let same : length (n.view).seen ≡ length (m.view).seen = ap (λ (q : Pass). length q.seen) told.is in
-    let few = told.bounds.seen in
-    let room = is.capacity in
-    let here : place ≡ o = omega (arith, at, lt, few, same, room) in
-    let get : slice_get (m.view).seen o ≡ Some (entry_at m.view o) = slice_get-get_or (m.view).seen o no_entry lt in
-    record {
-      lawful = entry_by shape (entry_at m.view o) is (told.tells.fit o (entry_at m.view o) get);
-      word = word_is shape m n place i found (entry_at m.view o) made (ap (λ (k : ℕ). slice_get (m.view).seen k) here ∙ get) low;
-      looked = looked_word shape m n place i found made;
-    }
 
 pub row_is : (seen : List Entry) (o : ℕ) (e : Entry) → slice_get seen o ≡ Some e → e.row ≡ row_at (rows_in seen) o
 row_is [] zero e at = absurd (cc at)

@@ -27,7 +27,8 @@ use Rattle.cf_plain.specs.Asks.{row_at, rows_in}
 use Rattle.cf_plain.specs.Totals.{IsNarrow}
 use Rattle.cf_plain.proofs.Amounts.{amount_low}
 use Rattle.cf_query.specs.Selecting.{ArePlaces, compare_numbers, compares_number, is_plain}
-use Rattle.cf_query.proofs.Loaded.{no_entry, entry_at, entry_fits, loaded, row_is}
+use Rattle.cf_table.proofs.Reading.{no_entry, entry_at, loaded}
+use Rattle.cf_query.proofs.Loaded.{entry_fits, row_is}
 
 -- one attribute's words more
 pub count_front : (attrs : List Attr) (k : ℕ) (attr : Attr) → slice_get attrs k ≡ Some attr

@@ -1,7 +1,5 @@
--- What an ask does to the pass that makes it, and what it reads.
-use Rattle.std.specs.Prelude.{ℕ, ◌≡◌, ◌≤◌, List, [], ◌∷◌, ◌++◌, length, Some, slice_get}
-use Rattle.cf_row.specs.declared.row.Entry.{Entry}
-use Rattle.cf_row.specs.Words.{IsEntry, spelled}
+-- What an ask does to the pass that makes it.
+use Rattle.std.specs.Prelude.{ℕ, ◌≡◌, ◌≤◌, [], ◌∷◌, ◌++◌, length}
 use Rattle.cf_shape.specs.Lanes.{ShapeValue}
 use Rattle.cf_words.specs.Words.{Spot}
 use Rattle.cf_law.specs.Steps.{Knows}
@@ -22,10 +20,3 @@ pub record HasAsked (shape : ShapeValue) (before after : PassValue) : Type 0 whe
   pub fit : AreFit shape after.view
   pub first : SeenFirst after.view
   pub knows : (s : Spot) (node : ℕ) → Knows before.view s node → Knows after.view s node
-
--- the words are those of the entry at that offset, which is lawful
-pub record AreWordsAt (shape : ShapeValue) (seen : List Entry) (offset : ℕ) (words : List ℕ) : Type 0 where
-  pub entry : Entry
-  pub at : slice_get seen offset ≡ Some entry
-  pub lawful : IsEntry shape.schema entry
-  pub spells : words ≡ spelled entry

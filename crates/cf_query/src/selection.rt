@@ -12,7 +12,6 @@ ghost use Rattle.cf_table.specs.Moves.{AreFit, OnlyLooked};
 ghost use Rattle.cf_plain.specs.Asks.{row_at, rows_in};
 ghost use Rattle.cf_query.specs.Selecting.{ArePlaces, compare_numbers, compares_number, is_plain as is_plain_of};
 
-use crate::rows::load_entry;
 use cf_row::{Atom, Conjunction, Expr, Kind, Memory, Schema, Value, holds};
 use cf_table::{MultiLog, Pass, Steps};
 use std::alloc::Global;
@@ -209,7 +208,7 @@ impl<'a> Selection<'a> {
         ensures looked { OnlyLooked (P.held pass.old) (P.held pass.new) }
         ensures loads { CountsLoads (P.held pass.old) (P.held pass.new) steps.old steps.new }
     {
-        let entry = load_entry(self.log, self.alloc, pass, offset, steps)?;
+        let entry = self.log.load_entry(self.alloc, pass, offset, steps)?;
         Ok(holds(self.log.shape().schema(), self.expr, &entry.row))
     }
 

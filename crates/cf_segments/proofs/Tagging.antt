@@ -11,7 +11,7 @@ use Rattle.cf_shape.specs.Lanes.{ShapeValue, IsShape}
 use Rattle.cf_table.specs.Effects.{HasStepped, word_effect}
 use Rattle.cf_table.specs.Moves.{OnlyLooked}
 use Rattle.cf_table.specs.Values.{PassValue}
-use Rattle.cf_query.proofs.Loaded.{no_entry, entry_at, loaded}
+use Rattle.cf_table.proofs.Reading.{no_entry, entry_at, loaded}
 use Rattle.cf_segments.specs.Segments.{seen_of}
 use Rattle.cf_segments.specs.declared.segments.Segment.{Segment}
 

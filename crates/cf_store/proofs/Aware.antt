@@ -11,7 +11,8 @@ use Rattle.cf_table.specs.Values.{PassValue, LogValue, IsOf}
 use Rattle.cf_table.specs.Moves.{AreFit, OnlyLooked, IsReading}
 use Rattle.cf_walk.specs.Walks.{OnlyWalked}
 use Rattle.cf_query.specs.Asking.{HasAsked}
-use Rattle.cf_query.proofs.Loaded.{no_entry, entry_fits, row_is}
+use Rattle.cf_table.proofs.Reading.{no_entry}
+use Rattle.cf_query.proofs.Loaded.{entry_fits, row_is}
 use Rattle.cf_query.proofs.Walking.{walked_looked}
 
 pub new_aware : (log : LogValue) (n : PassValue) → IsOf n log → n.view ≡ new_pass [] [] → IsReading log n

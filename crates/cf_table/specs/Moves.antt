@@ -1,11 +1,12 @@
 -- How passes are dealt, gathered, forked and joined, and what a log is closed with.
-use Rattle.std.specs.Prelude.{ℕ, ◌+◌, ◌<◌, ◌≤◌, ◌≡◌, List, [], ◌∷◌, ◌++◌, true, false, length, map, take, Some, slice_get}
-use Rattle.cf_row.specs.declared.schema.Attr.{Attr}
+use Rattle.std.specs.Prelude.{ℕ, ◌+◌, ◌<◌, ◌≤◌, ◌≡◌, ◌⊎◌, List, [], ◌∷◌, ◌++◌, true, false, length, map, take, Some, slice_get}
 use Rattle.cf_row.specs.declared.row.Entry.{Entry}
-use Rattle.cf_row.specs.Words.{IsEntry}
+use Rattle.cf_row.specs.Words.{IsEntry, spelled}
 use Rattle.cf_shape.specs.Lanes.{ShapeValue}
+use Rattle.cf_shape.specs.Places.{place_of}
+use Rattle.cf_shape.specs.Places.WordName.{done}
 use Rattle.cf_words.specs.Words.{spot}
-use Rattle.cf_law.specs.Passes.{Book, Pass}
+use Rattle.cf_law.specs.Passes.{Own, Book, Pass}
 use Rattle.cf_law.specs.Steps.{Holds, IsAtRest, joined_pass, new_pass}
 use Rattle.cf_law.specs.Shapes.{layout}
 use Rattle.cf_law.specs.Readers.{AtHome, HasNode, IsBounded, IsFit, mine_from}
@@ -107,6 +108,18 @@ abbrev pub HasPaths : ShapeValue → Pass → Type 0
 HasPaths shape p = (o l d e : ℕ) (xs q : List ℕ) (x : Entry) → slice_get p.seen o ≡ Some x → (layout shape).path x.row l ≡ Some (d ∷ (xs ++ e ∷ q))
     → HasNode p (spot l (e ∷ q))
 
+-- the last look, which was made since p, found the record at b unfinished
+pub record IsUnfinished (shape : ShapeValue) (b : ℕ) (p q : Pass) : Type 0 where
+  pub word : (q.look).word ≡ place_of shape (done b)
+  pub value : (q.look).value ≡ 0
+  pub since : (p.look).count < (q.look).count
+  -- it is none that the pass itself finished
+  pub other : (k j : ℕ) (book : Book) (x : Own) → Holds q k book → slice_get book.mine j ≡ Some x → x.offset ≡ b → ⊥
+
+-- all places are covered, or the one after the last covered was found unfinished
+abbrev pub Stops : ShapeValue → Pass → Pass → Type 0
+Stops shape p q = (shape.capacity ≤ length q.seen) ⊎ IsUnfinished shape (length q.seen) p q
+
 -- The read tail was moved up to the first ticket that isn't finished.
 pub record HasSettled (shape : ShapeValue) (before after : PassValue) : Type 0 where
   pub same : after ≡ record before { view = after.view }
@@ -149,6 +162,9 @@ pub record SealValue : Type 0 where
   pub entries : List Entry
   pub told : List ℕ
 
--- each of the entries is one of the schema
-abbrev pub AreEntries : List Attr → List Entry → Type 0
-AreEntries attrs entries = (o : ℕ) (e : Entry) → slice_get entries o ≡ Some e → IsEntry attrs e
+-- the words are those of the entry at that offset, which is lawful
+pub record AreWordsAt (shape : ShapeValue) (seen : List Entry) (offset : ℕ) (words : List ℕ) : Type 0 where
+  pub entry : Entry
+  pub at : slice_get seen offset ≡ Some entry
+  pub lawful : IsEntry shape.schema entry
+  pub spells : words ≡ spelled entry

@@ -7,8 +7,11 @@ ghost use Rattle.cf_table.specs.Moves.{AreNoted, AreDealt, AreAll, HasFolded, Ga
 use crate::log::MultiLog;
 use crate::pass::{Note, Root, WriterPass};
 use crate::rule::Token;
+use crate::settles::settle_counted;
 use cf_row::Memory;
 use std::alloc::Global;
+use std::marker::Brand;
+use std::sync::ledger::Blank;
 
 impl MultiLog {
     // The first book goes to a writer's pass, by what was noted of it.
@@ -95,6 +98,6 @@ impl MultiLog {
     {
         let _lawful = self.shape();
         self.take_all(root, passes);
-        self.settle_token(&mut root.token);
+        settle_counted::<Brand>(self, root, Blank::new(1));
     }
 }

@@ -14,6 +14,7 @@ mod loads;
 mod log;
 mod moves;
 mod pass;
+mod reads;
 mod rule;
 mod settles;
 mod steps;

@@ -1,47 +1,44 @@
 // The read tail is moved over all that is finished.
-ghost use Rattle.std.specs.Prelude.{◌≡◌, ◌+◌, ◌<◌, ◌≤◌};
+ghost use Rattle.std.specs.Prelude.{◌≡◌, ◌+◌, ◌-◌, ◌*◌, ◌<◌, ◌≤◌, length};
+ghost use Rattle.cf_table.specs.Loads.{CountsLoads};
 ghost use Rattle.cf_table.specs.Values.{IsOf};
-ghost use Rattle.cf_table.specs.Effects.{HasStepped, done_effect};
-ghost use Rattle.cf_table.specs.Rule.{AsksOnWord};
-ghost use Rattle.cf_table.specs.Moves.{HasSettled};
+ghost use Rattle.cf_table.specs.Moves.{HasSettled, SeenFirst, Stops};
 
+use crate::count::Steps;
 use crate::log::MultiLog;
-use crate::rule::{Gives, Token};
-use cf_shape::place_done;
-use std::marker::Brand;
+use crate::pass::{Pass, Root};
+use std::sync::ledger::{Blank, Ledger};
 
 impl MultiLog {
-    pub(crate) fn look_token(&self, token: &mut Token, offset: u32) -> u64
-        requires of { IsOf token.old self.now }
-        requires place { offset < self.now.shape.capacity }
-        ensures made { HasStepped self.now.shape (done_effect self.now.shape token.old.view offset) token.old result token.new }
-    {
-        let word = place_done(&self.shape, offset);
-        look_as::<Brand>(self, token, offset, word)
-    }
-
-    // Moves the read tail up to the first ticket that isn't finished.
-    pub(crate) fn settle_token(&self, token: &mut Token)
-        requires of { IsOf token.old self.now }
-        ensures { HasSettled self.now.shape token.old token.new }
+    /// Moves the read tail over each finished ticket, up to the first that isn't. Where all places are covered a last look
+    /// shows it.
+    pub fn settle_tail<P: Pass, L: Ledger>(&self, pass: &mut P, steps: &mut Steps<L>)
+        requires of { IsOf (P.held pass.old) self.now }
+        ensures settled { HasSettled self.now.shape (P.held pass.old) (P.held pass.new) }
+        ensures known { (P.held pass.new).view.known ≡ (P.held pass.old).view.known }
+        ensures stops { Stops self.now.shape (P.held pass.old).view (P.held pass.new).view }
+        ensures begins { SeenFirst (P.held pass.new).view }
+        ensures steps { steps.new ≤ steps.old + 2 * (length (P.held pass.new).view.seen - length (P.held pass.old).view.seen) + 1 }
+        ensures loads { CountsLoads (P.held pass.old) (P.held pass.new) steps.old steps.new }
     {
         let capacity = self.shape().capacity();
-        while token.known() < capacity {
-            let t = token.known();
-            if self.look_token(token, t) != 1 {
+        while pass.covered() < capacity {
+            let t = pass.covered();
+            if !self.look_done(pass, t, steps) {
                 return;
             }
-            self.advance_token(token, t);
+            self.advance(pass, t, steps);
         }
-        self.look_token(token, 0);
+        self.look_done(pass, 0, steps);
     }
 }
 
-// `_offset` is for the proof: what a call gives its step is picked from the step's own arguments.
-fn look_as<N: Gives>(log: &MultiLog, token: &mut Token, _offset: u32, word: u64) -> u64
-    requires of { IsOf token.old log.now }
-    requires lawful { AsksOnWord log.now.shape N.given token.old.view word (λ n. n) }
-    ensures made { HasStepped log.now.shape (N.given).effect token.old result token.new }
+// Moves the read tail of the root, whose steps no one counts.
+pub(crate) fn settle_counted<L: Ledger>(log: &MultiLog, root: &mut Root, blank: Blank)
+    requires of { IsOf root.old log.now }
+    requires blank { (blank.name ≡ L.name) × (blank.parts ≡ L.parts) × (0 < L.parts) }
+    ensures { HasSettled log.now.shape root.old root.new }
 {
-    log.load_token::<N>(token, word)
+    let mut steps = Steps::<L>::new(blank);
+    log.settle_tail(root, &mut steps);
 }

@@ -1,7 +1,7 @@
 use Rattle.std.proofs.Common.{◌≡◌, ◌⊎◌}
-use Rattle.cf_append.specs.Appends.{PassGoesOn, Stops, Rests}
+use Rattle.cf_append.specs.Appends.{PassGoesOn, Rests}
 use Rattle.cf_table.specs.Loads.{CountsLoads}
-use Rattle.cf_table.specs.Moves.{HasAll, SeenFirst}
+use Rattle.cf_table.specs.Moves.{HasAll, SeenFirst, Stops}
 use Rattle.cf_append.proofs.settles.wait_for.Given as goal
 
 abbrev pub invariant-loop : goal.invariant-loop

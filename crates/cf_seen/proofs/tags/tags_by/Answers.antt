@@ -6,8 +6,7 @@ use Rattle.cf_row.specs.declared.row.Entry.{Entry}
 use Rattle.cf_report.specs.Tags.{bare_log}
 use Rattle.cf_report.proofs.Bare.{bare_of}
 use Rattle.cf_table.specs.Values.{PassValue}
-use Rattle.cf_table.proofs.Reading.{looked_then}
-use Rattle.cf_query.proofs.Loaded.{no_entry}
+use Rattle.cf_table.proofs.Reading.{no_entry, looked_then}
 use Rattle.cf_seen.proofs.Tagged.{more_of}
 use Rattle.cf_seen.proofs.tags.tags_by.Goals as goal
 

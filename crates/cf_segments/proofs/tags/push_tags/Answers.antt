@@ -2,8 +2,7 @@ use Rattle.std.proofs.Common.{◌≡◌, ◌∙◌, ◌<◌, length, get_or, Som
 use Rattle.std.proofs.lemmas.Option.{slice_get-get_or}
 use Rattle.cf_row.specs.declared.row.Entry.{Entry}
 use Rattle.cf_table.specs.Values.{PassValue}
-use Rattle.cf_table.proofs.Reading.{looked_then}
-use Rattle.cf_query.proofs.Loaded.{no_entry}
+use Rattle.cf_table.proofs.Reading.{no_entry, looked_then}
 use Rattle.cf_segments.proofs.Tagging.{more_of}
 use Rattle.cf_segments.proofs.tags.push_tags.Goals as goal
 

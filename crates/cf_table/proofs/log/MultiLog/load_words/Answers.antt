@@ -7,13 +7,12 @@ use Rattle.cf_row.proofs.Spelling.{spelled_long}
 use Rattle.cf_shape.specs.Lanes.{ShapeValue}
 use Rattle.cf_table.specs.Values.{PassValue}
 use Rattle.cf_table.proofs.Looks.{word_loads}
-use Rattle.cf_table.proofs.Reading.{looked_then, read_more}
-use Rattle.cf_query.proofs.Loaded.{no_entry, entry_at, loaded}
-use Rattle.cf_query.proofs.rows.load_words.Goals as goal
+use Rattle.cf_table.proofs.Reading.{no_entry, entry_at, loaded, looked_then, read_more}
+use Rattle.cf_table.proofs.log.MultiLog.load_words.Goals as goal
 
 pub loop-i-preserved : goal.loop-i-preserved
 loop-i-preserved g c =
-    let s = c.args.log.now.shape in
+    let s = c.args.self.now.shape in
     let o = c.args.offset in
     let i = c.loop-i.i in
     let v = c.loop-i.invariant in
@@ -56,6 +55,6 @@ returns-clause-words g c =
       entry = e;
       at = slice_get-get_or p.seen o no_entry c.requires.covered;
       lawful = lawful;
-      spells = same_number_lists c.loop-i.words (spelled e) (long ∙ (wide ∙ sym (spelled_long c.args.log.now.shape.schema e lawful.fits)))
+      spells = same_number_lists c.loop-i.words (spelled e) (long ∙ (wide ∙ sym (spelled_long c.args.self.now.shape.schema e lawful.fits)))
           (λ k lt. v.read k (omega (arith, long, past)));
     }

@@ -1,0 +1,4 @@
+use Rattle.cf_table.proofs.log.MultiLog.entries.Given as goal
+
+abbrev pub ghosts-entries_counted : goal.ghosts-entries_counted
+ghosts-entries_counted a = record { name = a.blank.name; parts = a.blank.parts }
