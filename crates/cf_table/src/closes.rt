@@ -50,7 +50,8 @@ impl MultiLog {
     pub fn close(self, alloc: Global, mut root: Root) -> Result<Closed, (MultiLog, Root)>
         requires of { IsOf root self }
         requires home { AtHome (layout self.shape) root.view }
-        ensures { MatchResult result (λ closed. (closed.entries.items ≡ root.view.seen) × (closed.seal ≡ record { entries = root.view.seen; told = root.view.told })) (λ back. (back.0 ≡ self) × OnlyLooked root back.1) }
+        ensures { MatchResult result (λ closed. (closed.entries.items ≡ root.view.seen) × (closed.seal ≡ record { entries = root.view.seen; told = root.view.told }))
+            (λ back. (back.0 ≡ self) × OnlyLooked root back.1) }
     {
         match self.entries(alloc, &mut root) {
             Ok(entries) => Ok(Closed {

@@ -139,7 +139,8 @@ impl WriterPass {
 
     /// The least own node that isn't used, none exactly where all are.
     pub fn free_node(&self) -> Option<u32>
-        ensures { MatchOption result (length (book_of self.now.view).used ≡ self.now.nodes) (λ node. (length (book_of self.now.view).used < self.now.nodes) × (node ≡ (book_of self.now.view).writer * self.now.nodes + length (book_of self.now.view).used)) }
+        ensures { MatchOption result (length (book_of self.now.view).used ≡ self.now.nodes)
+            (λ node. (length (book_of self.now.view).used < self.now.nodes) × (node ≡ (book_of self.now.view).writer * self.now.nodes + length (book_of self.now.view).used)) }
     {
         if self.used == self.token.nodes {
             return None;

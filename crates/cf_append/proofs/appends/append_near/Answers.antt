@@ -127,7 +127,8 @@ link_all-requires-clause-filed g c =
 
 pub finish_record-requires-clause-lawful : goal.finish_record-requires-clause-lawful
 finish_record-requires-clause-lawful g c =
-    may_close c.args.log.now.shape c.fill_cells.new.pass c.link_all.new.pass c.take_ticket-found.result c.args.row.now c.shape.ensures.lawful c.link_all.ensures.linked
+    may_close c.args.log.now.shape c.fill_cells.new.pass c.link_all.new.pass c.take_ticket-found.result c.args.row.now c.shape.ensures.lawful
+    c.link_all.ensures.linked
 
 pub returns-clause-answer : goal.returns-clause-answer
 returns-clause-answer g c =
@@ -186,7 +187,8 @@ returns-clause-stops g c =
       linked = c.link_all.ensures.linked;
       finishes = c.finish_record.ensures.made;
     } in
-    appended_stops s row m p c.take_ticket-found.new.pass c.fill.new.pass c.fill_cells.new.pass c.link_all.new.pass c.finish_record.new.pass c.move_tail.new.pass o P E c.move_tail.ensures.stops
+    appended_stops s row m p c.take_ticket-found.new.pass c.fill.new.pass c.fill_cells.new.pass c.link_all.new.pass c.finish_record.new.pass
+    c.move_tail.new.pass o P E c.move_tail.ensures.stops
 
 pub returns-then-found-from-clause-goes_on : goal.returns-then-found-from-clause-goes_on
 returns-then-found-from-clause-goes_on g c =

@@ -98,14 +98,17 @@ store_cell-requires-clause-lawful g c =
 pub returns-clause-strides : goal.returns-clause-strides
 returns-clause-strides g c =
     strides_then c.args.pass.now c.own_head-previous.new.pass c.store_cell.new.pass c.own_head-previous.ensures.strides
-    (store_strides c.args.log.now.shape c.own_head-previous.new.pass c.store_cell.new.pass c.args.cell.offset c.args.cell.from c.own_head-previous.result c.store_cell.ensures.made)
+    (store_strides c.args.log.now.shape c.own_head-previous.new.pass c.store_cell.new.pass c.args.cell.offset c.args.cell.from c.own_head-previous.result
+    c.store_cell.ensures.made)
 
 pub returns-clause-filled : goal.returns-clause-filled
 returns-clause-filled g c =
     let s = c.args.log.now.shape in
     let bare : is_measured s c.args.cell.lane ≡ false = ap (λ (h : ShapeValue). is_measured h c.args.cell.lane) (sym c.shape-shape.ensures.shape)
     ∙ (sym c.measures.ensures ∙ c.if-measures.false) in
-    filled_more c.args.log.now.shape c.args.pass.now c.own_head-previous.new.pass c.store_cell.new.pass c.args.cell.offset c.args.cell.lane c.args.cell.from c.own_head-previous.result c.args.row.now c.requires.filled c.own_head-previous.ensures.books c.requires.lane bare c.requires.at c.store_cell.ensures.made
+    filled_more c.args.log.now.shape c.args.pass.now c.own_head-previous.new.pass c.store_cell.new.pass c.args.cell.offset c.args.cell.lane c.args.cell.from
+    c.own_head-previous.result c.args.row.now c.requires.filled c.own_head-previous.ensures.books c.requires.lane bare c.requires.at
+    c.store_cell.ensures.made
 
 pub quad_with-quad-requires-clause-previous : goal.quad_with-quad-requires-clause-previous
 quad_with-quad-requires-clause-previous g c =

@@ -42,7 +42,8 @@ returns-in_default-make_node-clause-used g c =
     let row = c.args.row.now in
     let l = c.args.lane in
     let at : Prefix = record { lane = l; level = c.levels.result - 1; front = c.key-key.result / 16 } in
-    let w = whole_at s c.shape-shape.result.now row l c.levels.result c.key-key.result c.shape-shape.ensures.shape c.shape-shape.ensures.lawful c.requires.lane c.requires.selects c.levels.ensures c.key-key.ensures in
+    let w = whole_at s c.shape-shape.result.now row l c.levels.result c.key-key.result c.shape-shape.ensures.shape c.shape-shape.ensures.lawful c.requires.lane
+    c.requires.selects c.levels.ensures c.key-key.ensures in
     used_by (IsAlong at) (IsOnPath s row) c.args.pass.now c.make_node.new.pass (on_path s row l at w) c.make_node.ensures.used
 
 pub returns-in_default-make_node-clause-answer : goal.returns-in_default-make_node-clause-answer
@@ -52,7 +53,8 @@ returns-in_default-make_node-clause-answer g c =
     let l = c.args.lane in
     let m = c.args.pass.now in
     let at : Prefix = record { lane = l; level = c.levels.result - 1; front = c.key-key.result / 16 } in
-    let w = whole_at s c.shape-shape.result.now row l c.levels.result c.key-key.result c.shape-shape.ensures.shape c.shape-shape.ensures.lawful c.requires.lane c.requires.selects c.levels.ensures c.key-key.ensures in
+    let w = whole_at s c.shape-shape.result.now row l c.levels.result c.key-key.result c.shape-shape.ensures.shape c.shape-shape.ensures.lawful c.requires.lane
+    c.requires.selects c.levels.ensures c.key-key.ensures in
     stuck_by s (IsAlong at) (IsOnPath s row) m m c.make_node.new.pass (on_path s row l at w) (strides_none m) c.in_default-make_node.ensures.answer
 
 pub returns-in_default-make_node-clause-near : goal.returns-in_default-make_node-clause-near
@@ -66,7 +68,8 @@ returns-clause-used g c =
     let row = c.args.row.now in
     let l = c.args.lane in
     let at : Prefix = record { lane = l; level = c.levels.result - 1; front = c.key-key.result / 16 } in
-    let w = whole_at s c.shape-shape.result.now row l c.levels.result c.key-key.result c.shape-shape.ensures.shape c.shape-shape.ensures.lawful c.requires.lane c.requires.selects c.levels.ensures c.key-key.ensures in
+    let w = whole_at s c.shape-shape.result.now row l c.levels.result c.key-key.result c.shape-shape.ensures.shape c.shape-shape.ensures.lawful c.requires.lane
+    c.requires.selects c.levels.ensures c.key-key.ensures in
     used_by (IsAlong at) (IsOnPath s row) c.args.pass.now c.make_node.new.pass (on_path s row l at w) c.make_node.ensures.used
 
 pub returns-clause-answer : goal.returns-clause-answer

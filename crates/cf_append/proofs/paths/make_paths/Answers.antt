@@ -23,7 +23,8 @@ loop-lane-init g c = record {
 
 pub returns-in_default-clause-used : goal.returns-in_default-clause-used
 returns-in_default-clause-used g c =
-    used_then (IsOnPath c.args.log.now.shape c.args.row.now) c.args.pass.now c.loop-lane.pass c.make_path.new.pass c.loop-lane.invariant.used c.make_path.ensures.used
+    used_then (IsOnPath c.args.log.now.shape c.args.row.now) c.args.pass.now c.loop-lane.pass c.make_path.new.pass c.loop-lane.invariant.used
+    c.make_path.ensures.used
 
 pub returns-in_default-clause-steps : goal.returns-in_default-clause-steps
 returns-in_default-clause-steps g c =

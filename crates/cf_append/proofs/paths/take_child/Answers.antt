@@ -17,7 +17,8 @@ load_child-found-requires g c κs within =
 pub overflow_cast-result : goal.overflow_cast-result
 overflow_cast-result g c =
     let s = c.args.log.now.shape in
-    let low = (load_node s c.args.pass.now c.load_child-found.new.pass g.to.0 g.to.1 c.load_child-found.result c.load_child-found.ensures.made c.if-found-ne0.true).low in
+    let low = (load_node s c.args.pass.now c.load_child-found.new.pass g.to.0 g.to.1 c.load_child-found.result c.load_child-found.ensures.made
+    c.if-found-ne0.true).low in
     let few = writers_nodes_small s c.shape-lawful.ensures.lawful in
     omega (arith, low, few)
 
@@ -32,7 +33,8 @@ returns-then-found-ne0-clause-used g c =
 
 pub returns-then-found-ne0-clause-answer : goal.returns-then-found-ne0-clause-answer
 returns-then-found-ne0-clause-answer g c =
-    load_node c.args.log.now.shape c.args.pass.now c.load_child-found.new.pass g.to.0 g.to.1 c.load_child-found.result c.load_child-found.ensures.made c.if-found-ne0.true
+    load_node c.args.log.now.shape c.args.pass.now c.load_child-found.new.pass g.to.0 g.to.1 c.load_child-found.result c.load_child-found.ensures.made
+    c.if-found-ne0.true
 
 pub returns-in_default-clause-used : goal.returns-in_default-clause-used
 returns-in_default-clause-used g c =
@@ -43,7 +45,8 @@ pub returns-in_default-clause-answer : goal.returns-in_default-clause-answer
 returns-in_default-clause-answer g c =
     let m = c.args.pass.now in
     let n = c.load_child-found.new.pass in
-    load_stuck c.args.log.now.shape m n g.to.0 g.to.1 c.load_child-found.result c.if-found-ne0.false c.load_child-found.ensures.made c.requires.1.1.1.0 c.requires.1.1.0
+    load_stuck c.args.log.now.shape m n g.to.0 g.to.1 c.load_child-found.result c.if-found-ne0.false c.load_child-found.ensures.made c.requires.1.1.1.0
+    c.requires.1.1.0
     (c.in_default.ensures ∙ (ap (λ (h : PassValue). h.nodes) c.load_child-found.ensures.made.same ∙ c.requires.1.0.nodes))
 
 pub overflow_mul-place : goal.overflow_mul-place
@@ -112,7 +115,8 @@ link-named-requires g c κs within =
 pub overflow_cast-result-then-named-ne0 : goal.overflow_cast-result-then-named-ne0
 overflow_cast-result-then-named-ne0 g c =
     let s = c.args.log.now.shape in
-    let low = (lost_node s c.label.new.pass c.link-named.new.pass g.to.0 g.to.1 c.in-Some.node c.link-named.result c.link-named.ensures.made c.if-named-ne0.true).low in
+    let low = (lost_node s c.label.new.pass c.link-named.new.pass g.to.0 g.to.1 c.in-Some.node c.link-named.result c.link-named.ensures.made
+    c.if-named-ne0.true).low in
     let few = writers_nodes_small s c.shape-lawful.ensures.lawful in
     omega (arith, low, few)
 
@@ -140,7 +144,8 @@ returns-then-named-ne0-clause-used g c =
 
 pub returns-then-named-ne0-clause-answer : goal.returns-then-named-ne0-clause-answer
 returns-then-named-ne0-clause-answer g c =
-    lost_node c.args.log.now.shape c.label.new.pass c.link-named.new.pass g.to.0 g.to.1 c.in-Some.node c.link-named.result c.link-named.ensures.made c.if-named-ne0.true
+    lost_node c.args.log.now.shape c.label.new.pass c.link-named.new.pass g.to.0 g.to.1 c.in-Some.node c.link-named.result c.link-named.ensures.made
+    c.if-named-ne0.true
 
 pub returns-clause-strides : goal.returns-clause-strides
 returns-clause-strides g c =
@@ -155,4 +160,5 @@ returns-clause-strides g c =
 
 pub returns-clause-answer : goal.returns-clause-answer
 returns-clause-answer g c =
-    won_node c.args.log.now.shape c.label.new.pass c.link-named.new.pass g.to.0 g.to.1 c.in-Some.node c.link-named.result c.link-named.ensures.made c.if-named-ne0.false
+    won_node c.args.log.now.shape c.label.new.pass c.link-named.new.pass g.to.0 g.to.1 c.in-Some.node c.link-named.result c.link-named.ensures.made
+    c.if-named-ne0.false

@@ -8,4 +8,5 @@ load_child-found-requires g c κs within =
 
 pub returns-clause-known : goal.returns-clause-known
 returns-clause-known g c =
-    found_view c.args.log.now.shape c.args.pass.now c.load_child-found.new.pass c.load_child-found.result c.requires.view c.if-found-ne1.false c.load_child-found.ensures.made
+    found_view c.args.log.now.shape c.args.pass.now c.load_child-found.new.pass c.load_child-found.result c.requires.view c.if-found-ne1.false
+    c.load_child-found.ensures.made
