@@ -9,9 +9,9 @@ ghost use Rattle.cf_load.specs.Planned.{IsMarks, IsPlan, as_marks, body_of, mark
 ghost use Rattle.cf_load.specs.Readers.{AreReaders, CanBeAsked, IsQuestion, answer_by, seen_by};
 ghost use Rattle.cf_segments.specs.Segments.{KeepsAll, entries_of};
 
-use crate::prior::{find_behind, nothing};
+use crate::prior::find_behind;
 use crate::{LivePlan, Segments};
-use cf_plain::{Answer, Ask, Body, Live, Loaded, Marks};
+use cf_plain::{Answer, Ask, Body, Finding, Live, Loaded, Marks};
 use cf_row::Memory;
 use cf_shape::Shape;
 use cf_table::{MultiLog, ReaderPass, Steps};
@@ -44,7 +44,7 @@ fn ask_all<L: Ledger>(
     ensures loads { CountLoads readers.old readers.new steps.old steps.new }
 {
     let _shape = shape;
-    let mut found = (0, nothing(alloc, ask));
+    let mut found = (0, Finding::nothing(alloc, ask));
     let mut place = 0;
     for reader in readers.iter_mut() {
         let log = logs[place];

@@ -4,7 +4,7 @@ ghost use Rattle.cf_plain.specs.Asks.{Suits, SuitsTrigger};
 ghost use Rattle.cf_load.specs.Planned.{IsPlan, IsSamePlan, asks_of};
 
 use cf_fold::Trigger;
-use cf_plain::{Ask, suits};
+use cf_plain::{Ask, copy_asks, suits};
 use cf_row::Memory;
 use cf_shape::Shape;
 use std::alloc::Global;
@@ -18,16 +18,6 @@ pub struct LivePlan {
     pub lives: Vec<u8>,
     /// How many rounds the reader makes beside each batch, also if no question is live.
     pub rounds: u32,
-}
-
-fn copies(alloc: Global, asks: &[Ask]) -> Result<Vec<Ask>, Memory>
-    ensures { IfOk result (λ copied. copied.items ≡ asks.now) }
-{
-    let mut copied = Vec::with_capacity(alloc, asks.len())?;
-    for ask in asks {
-        copied.push(ask.copy(alloc)?)?;
-    }
-    Ok(copied)
 }
 
 fn suit_all(shape: &Shape, asks: &[Ask]) -> bool
@@ -72,7 +62,7 @@ impl LivePlan {
     pub(crate) fn questions(&self, alloc: Global) -> Result<Vec<Ask>, Memory>
         ensures { IfOk result (λ asks. asks.items ≡ asks_of self.now) }
     {
-        let mut asks = copies(alloc, &self.asks)?;
+        let mut asks = copy_asks(alloc, &self.asks)?;
         for trigger in &self.triggers {
             asks.push(Ask::Fired(*trigger))?;
         }
@@ -84,7 +74,7 @@ impl LivePlan {
         ensures { IfOk result (IsSamePlan self.now) }
     {
         Ok(LivePlan {
-            asks: copies(alloc, &self.asks)?,
+            asks: copy_asks(alloc, &self.asks)?,
             triggers: self.triggers.to_vec(alloc)?,
             lives: self.lives.to_vec(alloc)?,
             rounds: self.rounds,

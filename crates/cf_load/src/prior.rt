@@ -1,10 +1,8 @@
 // What questions find in logs that stand one behind the other.
 ghost use Rattle.std.specs.Prelude.{◌≡◌, ◌+◌, ◌<◌, ◌≤◌, ◌^◌, ◌++◌, [], List, IfOk};
 ghost use Rattle.cf_row.specs.declared.row.Entry.{Entry};
-ghost use Rattle.cf_shape.specs.Lanes.{ShapeValue};
 ghost use Rattle.cf_plain.specs.Asks.{Suits};
 ghost use Rattle.cf_plain.specs.Answered.{answer_on};
-ghost use Rattle.cf_plain.specs.Segments.{finding_in};
 ghost use Rattle.cf_table.specs.Values.{IsOf};
 ghost use Rattle.cf_table.specs.Moves.{HoldsAllBooks, IsReading};
 ghost use Rattle.cf_table.specs.Loads.{CountsLoads};
@@ -17,8 +15,7 @@ ghost use Rattle.cf_load.specs.Priors.{HasFound, IsFoundBefore, entries_before};
 ghost use Rattle.cf_segments.specs.Segments.{Keeps};
 
 use crate::LivePlan;
-use cf_fold::Quad;
-use cf_plain::{Answer, Ask, Finding, Groups, Places};
+use cf_plain::{Answer, Ask, Finding};
 use cf_query::{finding_seen, tail};
 use cf_row::Memory;
 use cf_segments::Segment;
@@ -39,19 +36,6 @@ pub(crate) struct FoundBefore {
     pub(crate) closed: Snapshot<Vec<Segment>>,
 }
 
-// What the question finds in no row.
-pub(crate) fn nothing(alloc: Global, ask: &Ask) -> Finding
-    ensures { (shape : ShapeValue) → result ≡ finding_in shape ask.now [] }
-{
-    match ask {
-        Ask::List(_) | Ask::Find(..) | Ask::Between(..) => {
-            Finding::Places(Places::new(Vec::new(alloc)))
-        }
-        Ask::Measure(..) | Ask::Total(..) => Finding::Total(Quad::EMPTY),
-        Ask::Fired(_) | Ask::Top(..) => Finding::Groups(Groups::new(Vec::new(alloc))),
-    }
-}
-
 // What each live question finds in no row.
 fn nothings(alloc: Global, _shape: &Shape, plan: &LivePlan) -> Result<Vec<Finding>, Memory>
     requires plan { IsPlan _shape.now plan.now }
@@ -60,7 +44,7 @@ fn nothings(alloc: Global, _shape: &Shape, plan: &LivePlan) -> Result<Vec<Findin
     let mut findings = Vec::new(alloc);
     for place in &plan.lives {
         let question = &plan.asks[*place as usize];
-        findings.push(nothing(alloc, question))?;
+        findings.push(Finding::nothing(alloc, question))?;
     }
     Ok(findings)
 }

@@ -63,22 +63,22 @@ impl MultiLog {
         load_as::<Brand, P, L>(self, pass, (offset, 0, 0), word, steps) == 1
     }
 
-    /// Loads word i of a ticket that was seen.
+    /// Loads the word of that index of a ticket that was seen.
     pub fn load_word<P: Pass, L: Ledger>(
         &self,
         pass: &mut P,
         offset: u32,
-        i: u8,
+        index: u8,
         steps: &mut Steps<L>,
     ) -> u64
         requires of { IsOf (P.held pass.old) self.now }
-        requires place { (offset < self.now.shape.capacity) × (i < ticket_words self.now.shape) }
+        requires place { (offset < self.now.shape.capacity) × (index < ticket_words self.now.shape) }
         requires lawful { offset < length (P.held pass.old).view.seen }
-        ensures made { HasStepped self.now.shape (word_effect self.now.shape (P.held pass.old).view offset i) (P.held pass.old) result (P.held pass.new) }
+        ensures made { HasStepped self.now.shape (word_effect self.now.shape (P.held pass.old).view offset index) (P.held pass.old) result (P.held pass.new) }
         ensures steps { steps.new ≡ steps.old + 1 }
     {
-        let word = place_ticket(&self.shape, offset, u64::from(i));
-        load_as::<Brand, P, L>(self, pass, (offset, i, 0), word, steps)
+        let word = place_ticket(&self.shape, offset, u64::from(index));
+        load_as::<Brand, P, L>(self, pass, (offset, index, 0), word, steps)
     }
 
     /// Loads the child word at that place, which stands for the spot `to.0`.
@@ -103,38 +103,38 @@ impl MultiLog {
         &self,
         pass: &mut P,
         node: u32,
-        d: u8,
+        nibble: u8,
         writer: u8,
         steps: &mut Steps<L>,
     ) -> u64
         ghost of_node: { Spot }
         requires of { IsOf (P.held pass.old) self.now }
-        requires place { (node < self.now.shape.writers * self.now.shape.nodes) × (d < 16) × (writer < self.now.shape.writers) }
-        requires lawful { IsLawfulStep self.now.shape (P.held pass.old).view (loads_head node d writer) (walk_effect self.now.shape (P.held pass.old).view of_node node d writer) }
-        ensures made { HasStepped self.now.shape (walk_effect self.now.shape (P.held pass.old).view of_node node d writer) (P.held pass.old) result (P.held pass.new) }
+        requires place { (node < self.now.shape.writers * self.now.shape.nodes) × (nibble < 16) × (writer < self.now.shape.writers) }
+        requires lawful { IsLawfulStep self.now.shape (P.held pass.old).view (loads_head node nibble writer) (walk_effect self.now.shape (P.held pass.old).view of_node node nibble writer) }
+        ensures made { HasStepped self.now.shape (walk_effect self.now.shape (P.held pass.old).view of_node node nibble writer) (P.held pass.old) result (P.held pass.new) }
         ensures steps { steps.new ≡ steps.old + 1 }
     {
-        let word = place_head(&self.shape, node, d, writer);
-        load_as::<Brand, P, L>(self, pass, (node, d, writer), word, steps)
+        let word = place_head(&self.shape, node, nibble, writer);
+        load_as::<Brand, P, L>(self, pass, (node, nibble, writer), word, steps)
     }
 
-    /// Loads word i of a lane's cell of a ticket. A walk goes on by word 0 of the cell that the cursor names.
+    /// Loads the word of that index of a lane's cell of a ticket. A walk goes on by word 0 of the cell that the cursor names.
     pub fn load_cell<P: Pass, L: Ledger>(
         &self,
         pass: &mut P,
         offset: u32,
         lane: u8,
-        i: u8,
+        index: u8,
         steps: &mut Steps<L>,
     ) -> u64
         requires of { IsOf (P.held pass.old) self.now }
-        requires place { (offset < self.now.shape.capacity) × (lane < length self.now.shape.lanes) × (i < cell_words (lane_at self.now.shape lane)) }
-        requires lawful { IsLawfulStep self.now.shape (P.held pass.old).view (loads_cell offset lane i) (cell_effect self.now.shape (P.held pass.old).view offset lane i) }
-        ensures made { HasStepped self.now.shape (cell_effect self.now.shape (P.held pass.old).view offset lane i) (P.held pass.old) result (P.held pass.new) }
+        requires place { (offset < self.now.shape.capacity) × (lane < length self.now.shape.lanes) × (index < cell_words (lane_at self.now.shape lane)) }
+        requires lawful { IsLawfulStep self.now.shape (P.held pass.old).view (loads_cell offset lane index) (cell_effect self.now.shape (P.held pass.old).view offset lane index) }
+        ensures made { HasStepped self.now.shape (cell_effect self.now.shape (P.held pass.old).view offset lane index) (P.held pass.old) result (P.held pass.new) }
         ensures steps { steps.new ≡ steps.old + 1 }
     {
-        let word = place_cell(&self.shape, offset, lane, i);
-        load_as::<Brand, P, L>(self, pass, (offset, lane, i), word, steps)
+        let word = place_cell(&self.shape, offset, lane, index);
+        load_as::<Brand, P, L>(self, pass, (offset, lane, index), word, steps)
     }
 }
 

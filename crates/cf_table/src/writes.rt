@@ -43,19 +43,19 @@ impl MultiLog {
         &self,
         pass: &mut WriterPass,
         offset: u32,
-        i: u8,
+        index: u8,
         value: u64,
         steps: &mut Steps<L>,
     )
         requires of { IsOf pass.old self.now }
-        requires place { (offset < self.now.shape.capacity) × (i < ticket_words self.now.shape) }
-        requires lawful { IsLawfulStep self.now.shape pass.old.view (stores_cell offset i value) (store_effect pass.old.view offset i value) }
-        ensures made { HasSteppedUnseen self.now.shape (store_effect pass.old.view offset i value) pass.old pass.new }
+        requires place { (offset < self.now.shape.capacity) × (index < ticket_words self.now.shape) }
+        requires lawful { IsLawfulStep self.now.shape pass.old.view (stores_cell offset index value) (store_effect pass.old.view offset index value) }
+        ensures made { HasSteppedUnseen self.now.shape (store_effect pass.old.view offset index value) pass.old pass.new }
         ensures steps { steps.new ≡ steps.old + 1 }
     {
         steps.tick();
-        let word = place_ticket(&self.shape, offset, u64::from(i));
-        store_as::<Brand>(self, &mut pass.token, (offset, i, 0), word, value);
+        let word = place_ticket(&self.shape, offset, u64::from(index));
+        store_as::<Brand>(self, &mut pass.token, (offset, index, 0), word, value);
     }
 
     /// Marks the ticket in flight as finished.
@@ -118,23 +118,23 @@ impl MultiLog {
         &self,
         pass: &mut WriterPass,
         node: u32,
-        d: u8,
+        nibble: u8,
         offset: u32,
         steps: &mut Steps<L>,
     )
         ghost lane: { ℕ }
         requires of { IsOf pass.old self.now }
-        requires place { (node < self.now.shape.writers * self.now.shape.nodes) × (d < 16) × ((book_of pass.old.view).writer < self.now.shape.writers) }
-        requires lawful { IsLawfulStep self.now.shape pass.old.view (stores_head lane node d offset) (head_effect self.now.shape pass.old.view lane node d offset) }
-        ensures made { HasSteppedUnseen self.now.shape (head_effect self.now.shape pass.old.view lane node d offset) pass.old pass.new }
+        requires place { (node < self.now.shape.writers * self.now.shape.nodes) × (nibble < 16) × ((book_of pass.old.view).writer < self.now.shape.writers) }
+        requires lawful { IsLawfulStep self.now.shape pass.old.view (stores_head lane node nibble offset) (head_effect self.now.shape pass.old.view lane node nibble offset) }
+        ensures made { HasSteppedUnseen self.now.shape (head_effect self.now.shape pass.old.view lane node nibble offset) pass.old pass.new }
         ensures steps { steps.new ≡ steps.old + 1 }
     {
         steps.tick();
-        let word = place_head(&self.shape, node, d, pass.writer());
+        let word = place_head(&self.shape, node, nibble, pass.writer());
         store_as::<Brand>(
             self,
             &mut pass.token,
-            (node, d, offset),
+            (node, nibble, offset),
             word,
             offset as u64 + 1,
         );

@@ -1,30 +1,15 @@
 // What questions find in segments that stand one behind the other.
-ghost use Rattle.std.specs.Prelude.{◌≡◌, ◌*◌, ◌≤◌, ◌^◌, [], All, length, IfOk};
-ghost use Rattle.cf_shape.specs.Lanes.{ShapeValue};
+ghost use Rattle.std.specs.Prelude.{◌≡◌, ◌*◌, ◌≤◌, ◌^◌, All, length, IfOk};
 ghost use Rattle.cf_plain.specs.Asks.{Suits};
 ghost use Rattle.cf_plain.specs.Segments.{finding_in};
 ghost use Rattle.cf_window.specs.Held.{IsOfShape, rows_each};
 ghost use Rattle.cf_window.specs.Windows.{rows_in_all};
 
 use crate::Segment;
-use cf_fold::Quad;
-use cf_plain::{Ask, Finding, Groups, Places};
+use cf_plain::{Ask, Finding};
 use cf_row::Memory;
 use cf_shape::Shape;
 use std::alloc::Global;
-
-// What the question finds in no row.
-fn nothing(alloc: Global, ask: &Ask) -> Finding
-    ensures { (shape : ShapeValue) → result ≡ finding_in shape ask.now [] }
-{
-    match ask {
-        Ask::List(_) | Ask::Find(..) | Ask::Between(..) => {
-            Finding::Places(Places::new(Vec::new(alloc)))
-        }
-        Ask::Measure(..) | Ask::Total(..) => Finding::Total(Quad::EMPTY),
-        Ask::Fired(_) | Ask::Top(..) => Finding::Groups(Groups::new(Vec::new(alloc))),
-    }
-}
 
 // What the question finds in the rows of all segments.
 pub(crate) fn find_in(
@@ -41,7 +26,7 @@ pub(crate) fn find_in(
 {
     let _shape = shape;
     let mut count = 0;
-    let mut found = nothing(alloc, ask);
+    let mut found = Finding::nothing(alloc, ask);
     for segment in segments.iter_mut() {
         let (tail, more) = segment.find(alloc, ask)?;
         found = found.join(alloc, count, more)?;

@@ -12,6 +12,6 @@ load_as-requires-clause-lawful g c =
     let p = (g.P.Pass.held c.args.pass.now).view in
     let shape : c.self.inside.shape ≡ s = ap (λ (m : LogValue). m.shape) c.self.view_is in
     let r = c.requires in
-    calls_cell s p c.args.offset c.args.lane c.args.i c.place_cell-word.result r.place.0 r.place.1 r.place.2
+    calls_cell s p c.args.offset c.args.lane c.args.index c.place_cell-word.result r.place.0 r.place.1 r.place.2
     (subst (λ (x : ShapeValue). c.place_cell-word.result ≡ place_of x
-    (version c.args.offset c.args.lane c.args.i)) shape c.place_cell-word.ensures) r.lawful
+    (version c.args.offset c.args.lane c.args.index)) shape c.place_cell-word.ensures) r.lawful

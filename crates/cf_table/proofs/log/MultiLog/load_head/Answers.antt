@@ -12,5 +12,5 @@ load_as-requires-clause-lawful g c =
     let p = (g.P.Pass.held c.args.pass.now).view in
     let shape : c.self.inside.shape ≡ s = ap (λ (m : LogValue). m.shape) c.self.view_is in
     let r = c.requires in
-    calls_walk s p g.of_node c.args.node c.args.d c.args.writer c.place_head-word.result r.1.1.1.0.0 r.1.1.1.0.1 r.1.1.1.0.2
-    (subst (λ (x : ShapeValue). c.place_head-word.result ≡ place_of x (head c.args.node c.args.d c.args.writer)) shape c.place_head-word.ensures) r.1.1.1.1
+    calls_walk s p g.of_node c.args.node c.args.nibble c.args.writer c.place_head-word.result r.1.1.1.0.0 r.1.1.1.0.1 r.1.1.1.0.2
+    (subst (λ (x : ShapeValue). c.place_head-word.result ≡ place_of x (head c.args.node c.args.nibble c.args.writer)) shape c.place_head-word.ensures) r.1.1.1.1

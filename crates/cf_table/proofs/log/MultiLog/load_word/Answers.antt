@@ -11,6 +11,6 @@ load_as-requires-clause-lawful g c =
     let s = c.args.self.now.shape in
     let p = (g.P.Pass.held c.args.pass.now).view in
     let shape : c.self.inside.shape ≡ s = ap (λ (m : LogValue). m.shape) c.self.view_is in
-    calls_word s p c.args.offset c.args.i c.place_ticket-word.result c.requires.place.0 c.requires.place.1 c.requires.lawful
-    (subst (λ (x : ShapeValue). c.place_ticket-word.result ≡ place (sizes_of x) (cell c.args.offset c.args.i)) shape
+    calls_word s p c.args.offset c.args.index c.place_ticket-word.result c.requires.place.0 c.requires.place.1 c.requires.lawful
+    (subst (λ (x : ShapeValue). c.place_ticket-word.result ≡ place (sizes_of x) (cell c.args.offset c.args.index)) shape
     (c.place_ticket-word.ensures ∙ ap (λ (i : ℕ). place (sizes_of c.self.inside.shape) (cell c.args.offset i)) c.from.ensures))

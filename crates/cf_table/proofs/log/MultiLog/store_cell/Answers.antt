@@ -14,14 +14,14 @@ store_as-requires-clause-lawful g c =
     let p = c.args.pass.now.view in
     let shape : c.self.inside.shape ≡ s = ap (λ (m : LogValue). m.shape) c.self.view_is in
     rw c.pass.view_is
-    (calls_store s p c.args.offset c.args.i c.args.value c.place_ticket-word.result c.requires.place.0 c.requires.place.1
-    (subst (λ (x : ShapeValue). c.place_ticket-word.result ≡ place (sizes_of x) (cell c.args.offset c.args.i)) shape
+    (calls_store s p c.args.offset c.args.index c.args.value c.place_ticket-word.result c.requires.place.0 c.requires.place.1
+    (subst (λ (x : ShapeValue). c.place_ticket-word.result ≡ place (sizes_of x) (cell c.args.offset c.args.index)) shape
     (c.place_ticket-word.ensures ∙ ap (λ (i : ℕ). place (sizes_of c.self.inside.shape) (cell c.args.offset i)) c.from.ensures)) c.requires.lawful)
 
 pub invariant_of-pass : goal.invariant_of-pass
 invariant_of-pass g c =
     let w = c.pass.inside in
     let m = w.token in
-    kept_by c.args.self.now.shape (store_effect m.view c.args.offset c.args.i c.args.value) w.writer w.over w.used
-    (book_with_word c.args.i (book_of m.view) (flight_of m.view)) m c.store_as.new.token c.pass.invariant c.store_as.ensures.made
+    kept_by c.args.self.now.shape (store_effect m.view c.args.offset c.args.index c.args.value) w.writer w.over w.used
+    (book_with_word c.args.index (book_of m.view) (flight_of m.view)) m c.store_as.new.token c.pass.invariant c.store_as.ensures.made
     (λ found es. refl) refl refl refl
