@@ -3,7 +3,9 @@ use Rattle.std.proofs.Common.{◌≡◌, ℕ, ◌+◌, ◌*◌, ◌/◌, ◌%◌
 use Rattle.std.proofs.lemmas.Bool.{cases_Bool}
 use Rattle.std.proofs.lemmas.List.{length-map}
 use Rattle.cf_row.specs.Row.{RowValue}
-use Rattle.cf_fold.specs.Quads.{QuadValue, IsQuad, quad_of}
+use Rattle.cf_fold.specs.Quads.{QuadValue, quad_of}
+use Rattle.cf_fold.specs.Cells.{AreWordsOf}
+use Rattle.cf_fold.specs.declared.cell.CellWords.{CellWords}
 use Rattle.cf_fold.proofs.Lawful.{AreLow, quad_is_lawful}
 use Rattle.cf_shape.specs.Lanes.{ShapeValue, IsShape, lane_at, measure_of}
 use Rattle.cf_shape.specs.Places.{place_of}
@@ -19,6 +21,7 @@ use Rattle.cf_append.proofs.Walking.{strides_by}
 use Rattle.cf_shape.specs.Uses.{is_measured, cell_words, cells_before}
 use Rattle.cf_words.specs.Words.{Spot, spot, Layout, same_path, link_to_newest, version_word}
 use Rattle.cf_words.proofs.Chains.{same_path_true}
+use Rattle.cf_words.proofs.Cells.{version_to_cell, cell_to_version}
 use Rattle.cf_law.specs.Passes.{Own, Book, Pass}
 use Rattle.cf_law.specs.Steps.{IsOwn, mine_chain, pass_with_cell}
 use Rattle.cf_law.specs.Shapes.{layout}
@@ -68,23 +71,6 @@ pub newest : (sh : Layout) (s : Spot) (mine : List Own) (o : ℕ) → link_to_ne
 newest sh s [] o e = absurd (let f : 0 ≡ suc o = ap link_to_newest (sym (chain_nil sh s)) ∙ e in omega (arith, f))
 newest sh s (x ∷ xs) o e = newest_step sh s x xs o (λ f. newest sh s xs o f) (mine_chain sh s xs) refl e
 
--- the words of a measured cell, by the quad
-pub first_word : (shape : ShapeValue) (l : ℕ) (c : List (ℕ × RowValue)) (row : RowValue) → is_measured shape l ≡ true
-    → version_word (layout shape) l 0 c row ≡ link_to_newest c + 2 ^ 32 * (length c + 1)
-unfolding version_word
-first_word shape l c row takes = ap (λ (b : Bool). link_to_newest c + 2 ^ 32 * cond {A = ℕ} b (length c + 1) 0) takes
-
-pub sum_word : (shape : ShapeValue) (l : ℕ) (c : List (ℕ × RowValue)) (row : RowValue)
-    → version_word (layout shape) l 1 c row ≡ (quad_of (map (λ (r : RowValue). measure_of shape l r) (row ∷ map (λ (x : ℕ × RowValue). x.1) c))).sum
-unfolding version_word
-sum_word shape l c row = refl
-
-pub ends_word : (shape : ShapeValue) (l : ℕ) (c : List (ℕ × RowValue)) (row : RowValue) → let q =
-    quad_of (map (λ (r : RowValue). measure_of shape l r) (row ∷ map (λ (x : ℕ × RowValue). x.1) c)) in
-    version_word (layout shape) l 2 c row ≡ q.least + 2 ^ 32 * q.greatest
-unfolding version_word
-ends_word shape l c row = refl
-
 -- numbers below 2^32
 low_append : (xs ys : List ℕ) → AreLow xs → AreLow ys → AreLow (xs ++ ys)
 low_append [] ys a b = b
@@ -120,26 +106,6 @@ pub top_most : (sh : Layout) (s : Spot) (mine : List Own) (n : ℕ) → ((j : �
     → link_to_newest (mine_chain sh s mine) ≡ k → k ≤ n
 top_most sh s mine n low zero e = omega arith
 top_most sh s mine n low (suc o) e = (let r = newest sh s mine o e in let at = low r.place r.own r.at in let is = r.offset in omega (arith, at, is))
-
-pub quad_read : (shape : ShapeValue) (l : ℕ) (c : List (ℕ × RowValue)) (row : RowValue) (first sum ends : ℕ) → IsCell shape l c row first sum ends
-    → is_measured shape l ≡ true → link_to_newest c < 2 ^ 32 → AreLow (measure_of shape l row ∷ amounts_in_chain shape l c)
-    → record { count = first / 4294967296; sum = sum; least = ends % 4294967296; greatest = ends / 4294967296 } ≡ quad_of
-    (measure_of shape l row ∷ amounts_in_chain shape l c)
-quad_read shape l c row first sum ends w takes small low =
-    let xs = measure_of shape l row ∷ amounts_in_chain shape l c in
-    let lawful = quad_is_lawful xs low in
-    let many : length (amounts_in_chain shape l c) ≡ length c = length-map (map (λ (x : ℕ × RowValue). x.1) c) (λ (r : RowValue). measure_of shape l r)
-    ∙ length-map c (λ (x : ℕ × RowValue). x.1) in
-    let one = w.first_is ∙ first_word shape l c row takes in
-    let three = w.ends_is ∙ ends_word shape l c row in
-    let least = lawful.least_is_low in
-    let count : first / 4294967296 ≡ (quad_of xs).count = omega (arith, one, small, many) in
-    let two : sum ≡ (quad_of xs).sum = w.sum_is ∙ sum_word shape l c row in
-    let low_end : ends % 4294967296 ≡ (quad_of xs).least = omega (arith, three, least) in
-    let high_end : ends / 4294967296 ≡ (quad_of xs).greatest = omega (arith, three, least) in
-    ap (λ (n : ℕ). record { count = n; sum = sum; least = ends % 4294967296; greatest = ends / 4294967296 }) count
-    ∙ (ap (λ (n : ℕ). record (quad_of xs) { sum = n; least = ends % 4294967296; greatest = ends / 4294967296 }) two
-    ∙ (ap (λ (n : ℕ). record (quad_of xs) { least = n; greatest = ends / 4294967296 }) low_end ∙ ap (λ (n : ℕ). record (quad_of xs) { greatest = n }) high_end))
 
 -- no record is in the leaf
 pub top_none : (c : List (ℕ × RowValue)) → link_to_newest c ≡ 0 → c ≡ []
@@ -191,12 +157,12 @@ read_word shape m n b q o l h found made one N there low =
 pub three_words : (shape : ShapeValue) (l : ℕ) → is_measured shape l ≡ true → cell_words (lane_at shape l) ≡ 3
 three_words shape l takes = ap (λ (b : Bool). cond {A = ℕ} b 3 1) takes
 
-pub quad_there : (shape : ShapeValue) (b : Book) (q : List ℕ) (o l first sum ends : ℕ) → IsShape shape → l < length shape.lanes → is_measured shape l ≡ true
-    → IsBookOf shape b → (N : IsNewest (layout shape) (spot l q) b.mine o)
-    → IsCell shape l (mine_chain (layout shape) (spot l q) (take N.place b.mine)) N.own.row first sum ends
-    → record { count = first / 4294967296; sum = sum; least = ends % 4294967296; greatest = ends / 4294967296 } ≡ quad_of
-    (amounts_in_chain shape l (mine_chain (layout shape) (spot l q) b.mine))
-quad_there shape b q o l first sum ends lawful there takes own N w =
+pub quad_there : (shape : ShapeValue) (b : Book) (q : List ℕ) (o l : ℕ) (words : CellWords) → IsShape shape → l < length shape.lanes
+    → is_measured shape l ≡ true → IsBookOf shape b → (N : IsNewest (layout shape) (spot l q) b.mine o)
+    → IsCell shape l (mine_chain (layout shape) (spot l q) (take N.place b.mine)) N.own.row words.first words.sum words.ends
+    → AreWordsOf words (link_to_newest (mine_chain (layout shape) (spot l q) (take N.place b.mine)))
+    (quad_of (amounts_in_chain shape l (mine_chain (layout shape) (spot l q) b.mine)))
+quad_there shape b q o l words lawful there takes own N w =
     let sh = layout shape in
     let s = spot l q in
     let c = mine_chain sh s (take N.place b.mine) in
@@ -204,28 +170,14 @@ quad_there shape b q o l first sum ends lawful there takes own N w =
     let room = lawful.capacity in
     let low : AreLow (measure_of shape l N.own.row ∷ amounts_in_chain shape l c) =
     subst (λ (d : List (ℕ × RowValue)). AreLow (amounts_in_chain shape l d)) N.chain (all_low shape l s b lawful there own) in
-    quad_read shape l c N.own.row first sum ends w takes (omega (arith, small, room)) low
-    ∙ ap (λ (d : List (ℕ × RowValue)). quad_of (amounts_in_chain shape l d)) (sym N.chain)
-
-pub counts_there : (shape : ShapeValue) (b : Book) (q : List ℕ) (o l first sum ends : ℕ) → IsShape shape → l < length shape.lanes → is_measured shape l ≡ true
-    → IsBookOf shape b → (N : IsNewest (layout shape) (spot l q) b.mine o)
-    → IsCell shape l (mine_chain (layout shape) (spot l q) (take N.place b.mine)) N.own.row first sum ends
-    → IsQuad (record { count = first / 4294967296; sum = sum; least = ends % 4294967296; greatest = ends / 4294967296 })
-counts_there shape b q o l first sum ends lawful there takes own N w =
-    subst IsQuad (sym (quad_there shape b q o l first sum ends lawful there takes own N w))
-    (quad_is_lawful (amounts_in_chain shape l (mine_chain (layout shape) (spot l q) b.mine)) (all_low shape l (spot l q) b lawful there own))
+    subst (λ (d : List (ℕ × RowValue)). AreWordsOf words (link_to_newest c) (quad_of (amounts_in_chain shape l d))) (sym N.chain)
+    (version_to_cell sh l c N.own.row words takes (omega (arith, small, room)) (quad_is_lawful (measure_of shape l N.own.row ∷ amounts_in_chain shape l c) low)
+    w.first_is w.sum_is w.ends_is)
 
 -- the words of a new cell
-pub quad_cell : (shape : ShapeValue) (l : ℕ) (c : List (ℕ × RowValue)) (row : RowValue) (q : QuadValue) (previous first ends : ℕ) → is_measured shape l ≡ true
-    → previous ≡ link_to_newest c → q ≡ quad_of (measure_of shape l row ∷ amounts_in_chain shape l c)
-    → first ≡ previous + q.count * 4294967296 → ends ≡ q.least + q.greatest * 4294967296 → IsCell shape l c row first q.sum ends
-quad_cell shape l c row q previous first ends takes at is one three =
-    let many : length (amounts_in_chain shape l c) ≡ length c = length-map (map (λ (x : ℕ × RowValue). x.1) c) (λ (r : RowValue). measure_of shape l r)
-    ∙ length-map c (λ (x : ℕ × RowValue). x.1) in
-    let count = ap (λ (k : QuadValue). k.count) is in
-    let least = ap (λ (k : QuadValue). k.least) is in
-    let greatest = ap (λ (k : QuadValue). k.greatest) is in record {
-      first_is = omega (arith, one, at, count, many, first_word shape l c row takes);
-      sum_is = ap (λ (k : QuadValue). k.sum) is ∙ sym (sum_word shape l c row);
-      ends_is = omega (arith, three, least, greatest, ends_word shape l c row);
-    }
+pub quad_cell : (shape : ShapeValue) (l : ℕ) (c : List (ℕ × RowValue)) (row : RowValue) (q : QuadValue) (previous : ℕ) (words : CellWords)
+    → is_measured shape l ≡ true → previous ≡ link_to_newest c → q ≡ quad_of (measure_of shape l row ∷ amounts_in_chain shape l c)
+    → AreWordsOf words previous q → IsCell shape l c row words.first words.sum words.ends
+quad_cell shape l c row q previous words takes at is w =
+    let version = cell_to_version (layout shape) l c row words previous q takes at is w in
+    record { first_is = version.0; sum_is = version.1; ends_is = version.2 }

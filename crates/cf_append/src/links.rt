@@ -18,7 +18,7 @@ ghost use Rattle.cf_append.specs.Paths.{KeepsSeen, IsNodeOf, IsFiledIn, HasFilin
 ghost use Rattle.cf_append.specs.Linking.{HasFilled, HasLinked, IsBookOf, IsNewest, IsCell, amounts_in_chain, key_path, row_chain, cell_from};
 
 use crate::paths::Filing;
-use cf_fold::Quad;
+use cf_fold::{CellWords, Quad};
 use cf_row::{Row, word_count};
 use cf_shape::{cell_size, measure, measures};
 use cf_table::{MultiLog, Steps, WriterPass};
@@ -91,12 +91,7 @@ fn cell_quad<L: Ledger>(
     let first = log.load_cell(pass, offset, lane, 0, steps);
     let sum = log.load_cell(pass, offset, lane, 1, steps);
     let ends = log.load_cell(pass, offset, lane, 2, steps);
-    Quad::new(
-        first / 4_294_967_296,
-        sum,
-        ends % 4_294_967_296,
-        ends / 4_294_967_296,
-    )
+    CellWords { first, sum, ends }.quad()
 }
 
 // The quad of what a lane measures of the writer's records in the row's leaf and of the row. `previous` names the newest
@@ -137,7 +132,7 @@ fn store_three<L: Ledger>(
     pass: &mut WriterPass,
     _row: &Row,
     cell: Cell,
-    words: (u64, u64, u64),
+    words: CellWords,
     steps: &mut Steps<L>,
 )
     requires of { IsOf pass.old log.now }
@@ -146,7 +141,7 @@ fn store_three<L: Ledger>(
     requires at { cell.from ≡ cell_from log.now.shape cell.lane }
     requires leads { path_in log.now.shape _row.now cell.lane ≡ Some (key_path log.now.shape cell.lane (key_of log.now.shape cell.lane _row.now)) }
     requires filled { HasFilled log.now.shape cell.offset _row.now (cell_from log.now.shape cell.lane) pass.old pass.old }
-    requires words { IsCell log.now.shape cell.lane (row_chain log.now.shape cell.lane _row.now (book_of pass.old.view)) _row.now words.0 words.1 words.2 }
+    requires words { IsCell log.now.shape cell.lane (row_chain log.now.shape cell.lane _row.now (book_of pass.old.view)) _row.now words.first words.sum words.ends }
     ensures of { IsOf pass.new log.now }
     ensures strides { KeepsSeen pass.old pass.new }
     ensures filled { HasFilled log.now.shape cell.offset _row.now (cell_from log.now.shape (cell.lane + 1)) pass.old pass.new }
@@ -154,9 +149,9 @@ fn store_three<L: Ledger>(
     ensures loads { CountsLoads pass.old pass.new steps.old steps.new }
 {
     let _lawful = log.shape();
-    log.store_cell(pass, cell.offset, cell.from, words.0, steps);
-    log.store_cell(pass, cell.offset, cell.from + 1, words.1, steps);
-    log.store_cell(pass, cell.offset, cell.from + 2, words.2, steps);
+    log.store_cell(pass, cell.offset, cell.from, words.first, steps);
+    log.store_cell(pass, cell.offset, cell.from + 1, words.sum, steps);
+    log.store_cell(pass, cell.offset, cell.from + 2, words.ends, steps);
 }
 
 // Stores the cell of a lane of the ticket in flight: it names the newest record of the writer in the row's leaf. It is passed
@@ -191,9 +186,7 @@ fn store_version<L: Ledger>(
     let previous = own_head(log, pass, cell.lane, at.key, at.leaf, steps);
     if measures(shape, cell.lane) {
         let quad = quad_with(log, pass, row, cell.lane, previous, steps);
-        let first = previous + quad.count() * 4_294_967_296;
-        let ends = quad.least() + quad.greatest() * 4_294_967_296;
-        let words = (first, quad.sum(), ends);
+        let words = CellWords::of(previous, quad);
         store_three(log, pass, row, cell, words, steps);
         return cell.from + 3;
     }

@@ -1,11 +1,12 @@
 use Rattle.std.proofs.Common.{◌∙◌, ◌<◌, take, inl, arith}
-use Rattle.cf_words.specs.Words.{spot}
+use Rattle.cf_fold.specs.Quads.{quad_of}
+use Rattle.cf_words.specs.Words.{spot, link_to_newest}
 use Rattle.cf_law.specs.Steps.{mine_chain}
 use Rattle.cf_law.specs.Shapes.{layout}
 use Rattle.cf_table.specs.Values.{book_of}
 use Rattle.cf_table.proofs.Mays.{may_cell}
-use Rattle.cf_append.proofs.Newest.{own_at, read_books, read_word, three_words, quad_there, counts_there}
-use Rattle.cf_append.specs.Linking.{IsCell}
+use Rattle.cf_append.proofs.Newest.{own_at, read_books, read_word, three_words, quad_there}
+use Rattle.cf_append.specs.Linking.{IsCell, amounts_in_chain}
 use Rattle.cf_append.proofs.links.cell_quad.Goals as goal
 
 pub load_cell-first-requires-clause-place : goal.load_cell-first-requires-clause-place
@@ -116,8 +117,8 @@ load_cell-ends-requires-clause-lawful g c =
     let two = read_books s m1 m2 o l 1 c.load_cell-sum.result c.load_cell-sum.ensures.made ∙ one in
     may_cell s m2.view o l 2 low there (omega (arith, three)) (inl (own_at s m2.view b (spot l g.path) o two N))
 
-pub new-requires : goal.new-requires
-new-requires g c =
+pub quad-requires : goal.quad-requires
+quad-requires g c =
     let s = c.args.log.now.shape in
     let r = c.requires.1 in
     let m = c.args.pass.now in
@@ -143,8 +144,11 @@ new-requires g c =
       first_is = read_word s m m1 b g.path o l 0 c.load_cell-first.result c.load_cell-first.ensures.made r.1.0 N there (omega (arith, three));
       sum_is = read_word s m1 m2 b g.path o l 1 c.load_cell-sum.result c.load_cell-sum.ensures.made one N there (omega (arith, three));
       ends_is = read_word s m2 m3 b g.path o l 2 c.load_cell-ends.result c.load_cell-ends.ensures.made two N there (omega (arith, three));
-    } in
-    counts_there s b g.path o l c.load_cell-first.result c.load_cell-sum.result c.load_cell-ends.result lawful there takes r.1.1.0 N w
+    } in (
+      link_to_newest (mine_chain (layout s) (spot l g.path) (take N.place b.mine)),
+      quad_of (amounts_in_chain s l (mine_chain (layout s) (spot l g.path) b.mine)),
+      quad_there s b g.path o l _ lawful there takes r.1.1.0 N w,
+    )
 
 pub returns-clause-quad : goal.returns-clause-quad
 returns-clause-quad g c =
@@ -174,4 +178,4 @@ returns-clause-quad g c =
       sum_is = read_word s m1 m2 b g.path o l 1 c.load_cell-sum.result c.load_cell-sum.ensures.made one N there (omega (arith, three));
       ends_is = read_word s m2 m3 b g.path o l 2 c.load_cell-ends.result c.load_cell-ends.ensures.made two N there (omega (arith, three));
     } in
-    c.new.ensures ∙ quad_there s b g.path o l c.load_cell-first.result c.load_cell-sum.result c.load_cell-ends.result lawful there takes r.1.1.0 N w
+    c.quad.ensures _ _ (quad_there s b g.path o l _ lawful there takes r.1.1.0 N w)

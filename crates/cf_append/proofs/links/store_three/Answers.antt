@@ -41,7 +41,7 @@ store_cell-requires-clause-lawful g c =
     let fits = cell_low s l there in
     let p = c.args.pass.now in
     let F = filled_at s o row (cell_from s l) i p p (sym at) c.requires.filled in
-    may_word s p o l 0 i c.args.words.0 row q F there (omega (arith, three)) (omega (arith, at)) c.requires.leads c.requires.words.first_is
+    may_word s p o l 0 i c.args.words.first row q F there (omega (arith, three)) (omega (arith, at)) c.requires.leads c.requires.words.first_is
 
 pub store_cell-requires-2-clause-place : goal.store_cell-requires-2-clause-place
 store_cell-requires-2-clause-place g c =
@@ -74,10 +74,10 @@ store_cell-requires-2-clause-lawful g c =
     let p = c.args.pass.now in
     let F = filled_at s o row (cell_from s l) i p p (sym at) c.requires.filled in
     let m = c.store_cell.new.pass in
-    let G = filled_at s o row (suc i) (i + 1) p m (omega arith) (word_filled s p m o i c.args.words.0 row F c.store_cell.ensures.made) in
+    let G = filled_at s o row (suc i) (i + 1) p m (omega arith) (word_filled s p m o i c.args.words.first row F c.store_cell.ensures.made) in
     let A = filled_self s o row (i + 1) p m G in
     let mine_a = filled_mine s o row (i + 1) p m G in
-    may_word s m o l 1 (i + 1) c.args.words.1 row q A there (omega (arith, three)) (omega (arith, at)) c.requires.leads
+    may_word s m o l 1 (i + 1) c.args.words.sum row q A there (omega (arith, three)) (omega (arith, at)) c.requires.leads
     (c.requires.words.sum_is ∙ ap (λ (xs : List Own). version_word (layout s) l 1 (mine_chain (layout s) (spot l q) xs) row) (sym mine_a))
 
 pub store_cell-requires-3-clause-place : goal.store_cell-requires-3-clause-place
@@ -111,14 +111,14 @@ store_cell-requires-3-clause-lawful g c =
     let p = c.args.pass.now in
     let F = filled_at s o row (cell_from s l) i p p (sym at) c.requires.filled in
     let m = c.store_cell.new.pass in
-    let G = filled_at s o row (suc i) (i + 1) p m (omega arith) (word_filled s p m o i c.args.words.0 row F c.store_cell.ensures.made) in
+    let G = filled_at s o row (suc i) (i + 1) p m (omega arith) (word_filled s p m o i c.args.words.first row F c.store_cell.ensures.made) in
     let A = filled_self s o row (i + 1) p m G in
     let mine_a = filled_mine s o row (i + 1) p m G in
     let n = c.store_cell-2.new.pass in
-    let H = filled_at s o row (suc (i + 1)) (i + 2) m n (omega arith) (word_filled s m n o (i + 1) c.args.words.1 row A c.store_cell-2.ensures.made) in
+    let H = filled_at s o row (suc (i + 1)) (i + 2) m n (omega arith) (word_filled s m n o (i + 1) c.args.words.sum row A c.store_cell-2.ensures.made) in
     let B = filled_self s o row (i + 2) m n H in
     let mine_b = filled_mine s o row (i + 2) m n H ∙ mine_a in
-    may_word s n o l 2 (i + 2) c.args.words.2 row q B there (omega (arith, three)) (omega (arith, at)) c.requires.leads
+    may_word s n o l 2 (i + 2) c.args.words.ends row q B there (omega (arith, three)) (omega (arith, at)) c.requires.leads
     (c.requires.words.ends_is ∙ ap (λ (xs : List Own). version_word (layout s) l 2 (mine_chain (layout s) (spot l q) xs) row) (sym mine_b))
 
 pub returns-clause-filled : goal.returns-clause-filled
@@ -136,15 +136,15 @@ returns-clause-filled g c =
     let p = c.args.pass.now in
     let F = filled_at s o row (cell_from s l) i p p (sym at) c.requires.filled in
     let m = c.store_cell.new.pass in
-    let G = filled_at s o row (suc i) (i + 1) p m (omega arith) (word_filled s p m o i c.args.words.0 row F c.store_cell.ensures.made) in
+    let G = filled_at s o row (suc i) (i + 1) p m (omega arith) (word_filled s p m o i c.args.words.first row F c.store_cell.ensures.made) in
     let A = filled_self s o row (i + 1) p m G in
     let mine_a = filled_mine s o row (i + 1) p m G in
     let n = c.store_cell-2.new.pass in
-    let H = filled_at s o row (suc (i + 1)) (i + 2) m n (omega arith) (word_filled s m n o (i + 1) c.args.words.1 row A c.store_cell-2.ensures.made) in
+    let H = filled_at s o row (suc (i + 1)) (i + 2) m n (omega arith) (word_filled s m n o (i + 1) c.args.words.sum row A c.store_cell-2.ensures.made) in
     let B = filled_self s o row (i + 2) m n H in
     let mine_b = filled_mine s o row (i + 2) m n H ∙ mine_a in
     let z = c.store_cell-3.new.pass in
-    let I = word_filled s n z o (i + 2) c.args.words.2 row B c.store_cell-3.ensures.made in
+    let I = word_filled s n z o (i + 2) c.args.words.ends row B c.store_cell-3.ensures.made in
     filled_at s o row (suc (i + 2)) (cell_from s (l + 1)) p z (omega (arith, at, three, cell_next s l there))
     (filled_then s o row (i + 2) (suc (i + 2)) p n z (filled_then s o row (i + 1) (i + 2) p m n G H) I)
 
@@ -159,9 +159,9 @@ returns-clause-strides g c =
     let m = c.store_cell.new.pass in
     let n = c.store_cell-2.new.pass in
     let z = c.store_cell-3.new.pass in
-    strides_then p m z (store_strides s p m o i c.args.words.0 c.store_cell.ensures.made)
-    (strides_then m n z (store_strides s m n o (i + 1) c.args.words.1 c.store_cell-2.ensures.made)
-    (store_strides s n z o (i + 2) c.args.words.2 c.store_cell-3.ensures.made))
+    strides_then p m z (store_strides s p m o i c.args.words.first c.store_cell.ensures.made)
+    (strides_then m n z (store_strides s m n o (i + 1) c.args.words.sum c.store_cell-2.ensures.made)
+    (store_strides s n z o (i + 2) c.args.words.ends c.store_cell-3.ensures.made))
 
 pub overflow_add-cell : goal.overflow_add-cell
 overflow_add-cell g c =

@@ -125,23 +125,8 @@ quad_with-quad-requires-clause-previous g c =
     (spot l (key_path s l c.in-Some.at.key)) c.requires.filled c.own_head-previous.ensures.books c.own_head-previous.ensures.head) in
     previous
 
-pub overflow_mul-first : goal.overflow_mul-first
-overflow_mul-first g c =
-    let s = c.args.log.now.shape in
-    let l = c.args.cell.lane in
-    let key = key_of s l c.args.row.now in
-    let m = c.args.pass.now in
-    let n = c.own_head-previous.new.pass in
-    let own = book_same s m n c.requires.book c.own_head-previous.ensures.books in
-    let quad = c.quad_with-quad.ensures.quad in
-    let count = ap (λ (q : QuadValue). q.count) quad in
-    let counted = c.count.ensures in
-    let few = amounts_few s l (spot l (key_path s l key)) (book_of n.view) own in
-    let room = c.shape-shape.ensures.lawful.capacity in
-    omega (arith, count, counted, few, room)
-
-pub overflow_add-first : goal.overflow_add-first
-overflow_add-first g c =
+pub of-words-requires-clause-link : goal.of-words-requires-clause-link
+of-words-requires-clause-link g c =
     let s = c.args.log.now.shape in
     let l = c.args.cell.lane in
     let row = c.args.row.now in
@@ -154,13 +139,23 @@ overflow_add-first g c =
     (head_chain s m n c.args.cell.offset (cell_from s l) c.own_head-previous.result row
     (spot l (key_path s l c.in-Some.at.key)) c.requires.filled c.own_head-previous.ensures.books c.own_head-previous.ensures.head) in
     let own = book_same s m n c.requires.book c.own_head-previous.ensures.books in
-    let quad = c.quad_with-quad.ensures.quad in
-    let count = ap (λ (q : QuadValue). q.count) quad in
-    let counted = c.count.ensures in
-    let few = amounts_few s l (spot l (key_path s l key)) (book_of n.view) own in
     let room = c.shape-shape.ensures.lawful.capacity in
     let most = top_few s (spot l (key_path s l key)) (book_of n.view) own in
-    omega (arith, count, counted, few, room, previous, most)
+    omega (arith, room, previous, most)
+
+pub of-words-requires-clause-few : goal.of-words-requires-clause-few
+of-words-requires-clause-few g c =
+    let s = c.args.log.now.shape in
+    let l = c.args.cell.lane in
+    let key = key_of s l c.args.row.now in
+    let m = c.args.pass.now in
+    let n = c.own_head-previous.new.pass in
+    let own = book_same s m n c.requires.book c.own_head-previous.ensures.books in
+    let quad = c.quad_with-quad.ensures.quad in
+    let count = ap (λ (q : QuadValue). q.count) quad in
+    let few = amounts_few s l (spot l (key_path s l key)) (book_of n.view) own in
+    let room = c.shape-shape.ensures.lawful.capacity in
+    omega (arith, count, few, room)
 
 pub store_three-requires-clause-leads : goal.store_three-requires-clause-leads
 store_three-requires-clause-leads g c =
@@ -189,11 +184,10 @@ store_three-requires-clause-words g c =
     let measured : is_measured s l ≡ true = ap (λ (x : ShapeValue). is_measured x l) (sym same) ∙ (sym c.measures.ensures ∙ c.if-measures.true) in
     let kept = same_book n z c.quad_with-quad.ensures.books in
     let chain = ap (λ (b : Book). leaf_chain s l key b) (sym kept) in
-    let cell = quad_cell s l (leaf_chain s l key (book_of z.view)) row c.quad_with-quad.result c.own_head-previous.result _ _ measured
+    quad_cell s l (leaf_chain s l key (book_of z.view)) row c.quad_with-quad.result c.own_head-previous.result c.of-words.result measured
     (previous ∙ ap link_to_newest chain)
     (c.quad_with-quad.ensures.quad ∙ ap (λ (d : List (ℕ × RowValue)). quad_of (measure_of s l row ∷ amounts_in_chain s l d)) chain)
-    (ap (λ (k : ℕ). c.own_head-previous.result + k * 4294967296) c.count.ensures) (ap₂ (λ (x y : ℕ). x + y * 4294967296) c.least.ensures c.greatest.ensures) in
-    record { first_is = cell.first_is; sum_is = c.sum.ensures ∙ cell.sum_is; ends_is = cell.ends_is }
+    c.of-words.ensures
 
 pub overflow_add-result-then-measures : goal.overflow_add-result-then-measures
 overflow_add-result-then-measures g c =
