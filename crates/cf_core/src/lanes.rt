@@ -212,10 +212,10 @@ impl World {
         alloc: Global,
         number: u32,
         node: u32,
-        d: u8,
+        nibble: u8,
         writer: u8,
     ) -> Result<bool, Memory>
-        ensures { MatchResult result (Answers self.old number (acts (load_head node d writer)) self.new) (λ _. self.new ≡ self.old) }
+        ensures { MatchResult result (Answers self.old number (acts (load_head node nibble writer)) self.new) (λ _. self.new ≡ self.old) }
     {
         let shape = self.shape();
         let Some(pass) = self.live(number) else {
@@ -224,12 +224,12 @@ impl World {
         let Some(above) = pass.spot_of(node) else {
             return Ok(false);
         };
-        if d >= 16 || writer >= shape.writers() || !self.is_leaf(above) {
+        if nibble >= 16 || writer >= shape.writers() || !self.is_leaf(above) {
             return Ok(false);
         }
-        let place = place_head(shape, node, d, writer);
+        let place = place_head(shape, node, nibble, writer);
         let found = self.word(place);
-        let leaf = above.child(alloc, d)?;
+        let leaf = above.child(alloc, nibble)?;
         let after = pass.head_loaded(alloc, place, writer, leaf, found)?;
         self.put(number, place, found, after);
         Ok(true)
@@ -296,10 +296,10 @@ impl World {
         number: u32,
         lane: u8,
         node: u32,
-        d: u8,
+        nibble: u8,
         offset: u32,
     ) -> Result<bool, Memory>
-        ensures { MatchResult result (Answers self.old number (acts (store_head lane node d offset)) self.new) (λ _. self.new ≡ self.old) }
+        ensures { MatchResult result (Answers self.old number (acts (store_head lane node nibble offset)) self.new) (λ _. self.new ≡ self.old) }
     {
         let shape = self.shape();
         let Some(pass) = self.live(number) else {
@@ -315,15 +315,11 @@ impl World {
         if !is_whole(shape, row, ticket.filled()) {
             return Ok(false);
         }
-        let at_leaf = Branch {
-            lane,
-            node,
-            nibble: d,
-        };
+        let at_leaf = Branch { lane, node, nibble };
         if !self.leads(alloc, number, pass, row, at_leaf)? {
             return Ok(false);
         }
-        let place = place_head(shape, node, d, book.writer());
+        let place = place_head(shape, node, nibble, book.writer());
         let after = pass.at_book(alloc, at, book.headed(alloc, ticket, lane)?)?;
         self.put(number, place, u64::from(offset) + 1, after);
         Ok(true)

@@ -216,20 +216,20 @@ pub(crate) fn copy_walk(alloc: Global, walk: &Option<Walk>) -> Result<Option<Wal
     }
 }
 
-// The walk after a load of word i of a cell.
+// The walk after a load of the word of that index of a cell.
 pub(crate) fn walk_on(
     alloc: Global,
     walk: &Option<Walk>,
     offset: u32,
     lane: u8,
-    i: u8,
+    index: u8,
     found: u64,
 ) -> Result<Option<Walk>, Memory>
-    ensures { IfOk result (λ left. left ≡ walk_on_of offset lane i found walk.now) }
+    ensures { IfOk result (λ left. left ≡ walk_on_of offset lane index found walk.now) }
 {
     match walk {
         Some(walk) => {
-            if i == 0 && walk.names(offset, lane) {
+            if index == 0 && walk.names(offset, lane) {
                 return Ok(Some(walk.gone_on(alloc, offset, found)?));
             }
             Ok(Some(walk.copy(alloc)?))

@@ -261,14 +261,19 @@ impl WriterBook {
         self.writer
     }
 
-    /// The book once the ticket's words up to word i are filled.
-    pub fn filled(&self, alloc: Global, ticket: &OpenTicket, i: u32) -> Result<WriterBook, Memory>
-        requires { i < 2 ^ 32 - 1 }
-        ensures { IfOk result (λ book. book ≡ book_with_word i self.now ticket.now) }
+    /// The book once the ticket's words up to that index are filled.
+    pub fn filled(
+        &self,
+        alloc: Global,
+        ticket: &OpenTicket,
+        index: u32,
+    ) -> Result<WriterBook, Memory>
+        requires { index < 2 ^ 32 - 1 }
+        ensures { IfOk result (λ book. book ≡ book_with_word index self.now ticket.now) }
     {
         let mut book = self.copy(alloc)?;
         let mut ticket = ticket.copy(alloc)?;
-        ticket.filled = i + 1;
+        ticket.filled = index + 1;
         book.flight = Some(ticket);
         Ok(book)
     }
@@ -575,20 +580,20 @@ impl PassState {
         Ok(pass)
     }
 
-    /// The pass after a load of word i of the cell of that ticket and lane.
+    /// The pass after a load of the word of that index of the cell of that ticket and lane.
     pub fn cell_loaded(
         &self,
         alloc: Global,
         place: u64,
         offset: u32,
         lane: u8,
-        i: u8,
+        index: u8,
         found: u64,
     ) -> Result<PassState, Memory>
-        ensures { IfOk result (λ pass. pass ≡ pass_with_cell place offset lane i self.now found) }
+        ensures { IfOk result (λ pass. pass ≡ pass_with_cell place offset lane index self.now found) }
     {
         let mut pass = self.looked(alloc, place, found)?;
-        pass.cursor = walk_on(alloc, &self.cursor, offset, lane, i, found)?;
+        pass.cursor = walk_on(alloc, &self.cursor, offset, lane, index, found)?;
         Ok(pass)
     }
 
@@ -641,13 +646,18 @@ impl PassState {
         Ok(pass)
     }
 
-    /// The pass once the read tail is above t, where these are the entries up to t.
-    pub fn advanced(&self, alloc: Global, t: u32, entries: Vec<Entry>) -> Result<PassState, Memory>
-        requires { length entries.items ≤ t + 1 }
-        ensures { IfOk result (λ pass. pass ≡ pass_that_sees (t + 1) entries.items self.now) }
+    /// The pass once the read tail is above `tail`, where these are the entries up to that.
+    pub fn advanced(
+        &self,
+        alloc: Global,
+        tail: u32,
+        entries: Vec<Entry>,
+    ) -> Result<PassState, Memory>
+        requires { length entries.items ≤ tail + 1 }
+        ensures { IfOk result (λ pass. pass ≡ pass_that_sees (tail + 1) entries.items self.now) }
     {
         let mut pass = self.copy(alloc)?;
-        if pass.seen.len() <= t as usize {
+        if pass.seen.len() <= tail as usize {
             pass.seen = entries;
             pass.cursor = None;
         }

@@ -85,18 +85,18 @@ pub(crate) fn group_words(alloc: Global, groups: &[Group]) -> Result<Vec<u64>, N
     Ok(words)
 }
 
-// Asks question q of the setup at the tail.
+// Asks the question of that number in the setup at the tail.
 fn ask_of(
     shared: &Shared,
     alloc: Global,
     pass: &mut ReaderPass,
-    q: u32,
+    number: u32,
 ) -> Result<Answer, AskRefusal>
     requires { IsReading shared.now.log pass.old }
-    ensures answers { Answers shared.now q pass.old pass.new result }
+    ensures answers { Answers shared.now number pass.old pass.new result }
     ensures aware { IsReading shared.now.log pass.new }
 {
-    let Some(question) = shared.setup.asks().get(q as usize) else {
+    let Some(question) = shared.setup.asks().get(number as usize) else {
         return Err(AskRefusal::NoQuestion);
     };
     match ask(&shared.log, alloc, pass, question) {
@@ -105,19 +105,19 @@ fn ask_of(
     }
 }
 
-// Asks question q of the setup of what the pass has seen.
+// Asks the question of that number in the setup of what the pass has seen.
 fn ask_seen_of(
     shared: &Shared,
     alloc: Global,
     pass: &mut ReaderPass,
-    q: u32,
+    number: u32,
 ) -> Result<Answer, AskRefusal>
     requires { IsReading shared.now.log pass.old }
-    ensures answers { AnswersSeen shared.now q pass.old pass.new result }
+    ensures answers { AnswersSeen shared.now number pass.old pass.new result }
     ensures aware { IsReading shared.now.log pass.new }
 {
     let asks = shared.setup.asks();
-    let Some(question) = asks.get(q as usize) else {
+    let Some(question) = asks.get(number as usize) else {
         return Err(AskRefusal::NoQuestion);
     };
     match ask_seen(&shared.log, alloc, pass, question) {
@@ -178,21 +178,21 @@ impl Reader {
         Ok(head)
     }
 
-    /// Asks question q of the setup at the tail, and keeps the words of the answer.
-    pub fn ask(&mut self, alloc: Global, q: u32) -> Result<Head, AskRefusal>
-        ensures { AsksAt q self.old self.new result }
+    /// Asks the question of that number in the setup at the tail, and keeps the words of the answer.
+    pub fn ask(&mut self, alloc: Global, number: u32) -> Result<Head, AskRefusal>
+        ensures { AsksAt number self.old self.new result }
     {
-        match ask_of(&self.of, alloc, &mut self.pass, q) {
+        match ask_of(&self.of, alloc, &mut self.pass, number) {
             Ok(answer) => self.keep(alloc, &answer),
             Err(refusal) => Err(refusal),
         }
     }
 
-    /// Asks question q of the setup of what the reader has seen, and keeps the words of the answer.
-    pub fn ask_seen(&mut self, alloc: Global, q: u32) -> Result<Head, AskRefusal>
-        ensures { AsksSeen q self.old self.new result }
+    /// Asks the question of that number in the setup of what the reader has seen, and keeps the words of the answer.
+    pub fn ask_seen(&mut self, alloc: Global, number: u32) -> Result<Head, AskRefusal>
+        ensures { AsksSeen number self.old self.new result }
     {
-        let answer = ask_seen_of(&self.of, alloc, &mut self.pass, q)?;
+        let answer = ask_seen_of(&self.of, alloc, &mut self.pass, number)?;
         self.keep(alloc, &answer)
     }
 
